@@ -1,0 +1,3 @@
+pub use Rattle.sap_terms.specs.Tree
+pub use Rattle.sap_terms.specs.Reserved
+pub mod Proc

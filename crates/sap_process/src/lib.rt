@@ -1,0 +1,6 @@
+//! Processes.
+#![tactic(auto)]
+
+mod process;
+
+pub use process::Process;

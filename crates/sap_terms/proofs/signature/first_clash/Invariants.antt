@@ -1,0 +1,6 @@
+use Rattle.std.proofs.Common.{◌≡◌, drop}
+use Rattle.sap_terms.specs.Signature.{first_clash}
+use Rattle.sap_terms.proofs.signature.first_clash.Given as goal
+
+abbrev pub invariant-loop-s : goal.invariant-loop-s
+invariant-loop-s l = first_clash l.symbols l.added ≡ first_clash l.symbols (drop l.s-index l.s-items)

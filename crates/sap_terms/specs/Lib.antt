@@ -1,0 +1,9 @@
+pub mod Tree
+pub mod View
+pub mod Code
+pub mod Falls
+pub mod Subst
+pub mod Signature
+pub mod Same
+pub mod Path
+pub mod Reserved

@@ -1,0 +1,96 @@
+-- A signature: its symbols in order of first declaration, and the builtins that were added.
+use Rattle.std.specs.Prelude.{◌≡◌, ℕ, Bool, true, false, not, ◌&&◌, ◌||◌, nat_eq, codes, List, [], ◌∷◌, ◌++◌, Option, Some, None, MatchOption, if◌then◌else◌, option_map, is_some}
+use Rattle.std.specs.Option.{option_map_or}
+use Rattle.std.specs.Str.{bytes_eq}
+use Rattle.sap_terms.specs.declared.signature.Symbol.{Symbol}
+use Rattle.sap_terms.specs.declared.signature.Builtin.{Builtin}
+use Rattle.sap_terms.specs.declared.signature.Builtin.TheVariants.{Hashing, Symmetric, Asymmetric, Signing}
+
+-- which builtins were added
+pub record Builtins : Type 0 where
+  pub hashing : Bool
+  pub symmetric : Bool
+  pub asymmetric : Bool
+  pub signing : Bool
+
+pub record Sig : Type 0 where
+  pub symbols : List Symbol
+  pub builtins : Builtins
+
+abbrev pub has_builtin : Sig → Builtin → Bool
+has_builtin g Hashing = g.builtins.hashing
+has_builtin g Symmetric = g.builtins.symmetric
+has_builtin g Asymmetric = g.builtins.asymmetric
+has_builtin g Signing = g.builtins.signing
+
+-- the held symbol of this name
+abbrev pub find_symbol : List Symbol → List ℕ → Option Symbol
+find_symbol [] n = None
+find_symbol (s ∷ ss) n = if bytes_eq s.name n then Some s else find_symbol ss n
+
+abbrev pub arity_of : Sig → List ℕ → Option ℕ
+arity_of g n = option_map (λ (s : Symbol). s.arity) (find_symbol g.symbols n)
+
+-- the name is held and isn't private
+abbrev pub IsPublic : Sig → List ℕ → Type 0
+IsPublic g n = MatchOption (find_symbol g.symbols n) ⊥ (λ (s : Symbol). s.private ≡ false)
+
+-- the name is held with another arity or privacy
+abbrev pub Clashes : List Symbol → List ℕ → ℕ → Bool → Type 0
+Clashes ss n a p = MatchOption (find_symbol ss n) ⊥ (λ (s : Symbol). ¬ ((s.arity ≡ a) × (s.private ≡ p)))
+
+-- the symbol, last, unless its name is held
+abbrev pub declared : List Symbol → List ℕ → ℕ → Bool → List Symbol
+declared ss n a p = if is_some (find_symbol ss n) then ss else ss ++ record { name = n; arity = a; private = p } ∷ []
+
+abbrev pub is_destructor_of : Sig → List ℕ → Bool
+is_destructor_of g n =
+    bytes_eq n (codes "fst") || bytes_eq n (codes "snd") || (bytes_eq n (codes "sdec") && g.builtins.symmetric) || (bytes_eq n (codes "adec") && g.builtins.asymmetric) || (bytes_eq n (codes "verify") && g.builtins.signing)
+
+abbrev public_symbol : List ℕ → ℕ → Symbol
+public_symbol n a = record { name = n; arity = a; private = false }
+
+-- a builtin's symbols, in order
+abbrev pub builtin_symbols : Builtin → List Symbol
+builtin_symbols Hashing = public_symbol (codes "h") 1 ∷ []
+builtin_symbols Symmetric = public_symbol (codes "senc") 2 ∷ public_symbol (codes "sdec") 2 ∷ []
+builtin_symbols Asymmetric = public_symbol (codes "aenc") 2 ∷ public_symbol (codes "adec") 2 ∷ public_symbol (codes "pk") 1 ∷ []
+builtin_symbols Signing =
+    public_symbol (codes "sign") 2 ∷ public_symbol (codes "verify") 3 ∷ public_symbol (codes "pk") 1 ∷ public_symbol (codes "true") 0 ∷ []
+
+-- these symbols, one after another
+abbrev pub declared_all : List Symbol → List Symbol → List Symbol
+declared_all ss [] = ss
+declared_all ss (x ∷ xs) = declared_all (declared ss x.name x.arity x.private) xs
+
+abbrev pub same_bool : Bool → Bool → Bool
+same_bool true b = b
+same_bool false b = not b
+
+-- the name is held with another arity or privacy
+abbrev pub is_held_otherwise : List Symbol → Symbol → Bool
+is_held_otherwise ss x = option_map_or (λ (s : Symbol). not (nat_eq s.arity x.arity && same_bool s.private x.private)) (find_symbol ss x.name) false
+
+-- the first of these names that is held otherwise
+abbrev pub first_clash : List Symbol → List Symbol → Option (List ℕ)
+first_clash ss [] = None
+first_clash ss (x ∷ xs) = if is_held_otherwise ss x then Some x.name else first_clash ss xs
+
+abbrev pub with_builtin : Builtins → Builtin → Builtins
+with_builtin s Hashing = record s { hashing = true }
+with_builtin s Symmetric = record s { symmetric = true }
+with_builtin s Asymmetric = record s { asymmetric = true }
+with_builtin s Signing = record s { signing = true }
+
+abbrev pub added : Sig → Builtin → Sig
+added g b = record {
+  symbols = declared_all g.symbols (builtin_symbols b);
+  builtins = with_builtin g.builtins b;
+}
+
+-- pairs alone: what every signature begins with
+abbrev pub pairs_alone : Sig
+pairs_alone = record {
+  symbols = public_symbol (codes "pair") 2 ∷ public_symbol (codes "fst") 1 ∷ public_symbol (codes "snd") 1 ∷ [];
+  builtins = record { hashing = false; symmetric = false; asymmetric = false; signing = false };
+}

@@ -1,0 +1,26 @@
+//! Names, terms, facts, substitutions and signatures, on which everything else stands.
+#![tactic(auto)]
+
+mod binding;
+mod fact;
+mod items;
+mod mem;
+mod name;
+mod path;
+mod reserved;
+mod signature;
+mod substitution;
+mod term;
+mod var;
+
+pub use binding::{Binding, Bindings};
+pub use fact::{Fact, FactList, Trace};
+pub use items::{Copied, Items, Numbers};
+pub use mem::Mem;
+pub use name::{Name, NameList};
+pub use path::Path;
+pub use reserved::is_reserved;
+pub use signature::{Builtin, SigFault, Signature, Symbol};
+pub use substitution::subst;
+pub use term::{Term, TermList};
+pub use var::{Sort, Var, Vars};

@@ -1,0 +1,279 @@
+ghost use Rattle.std.specs.Prelude.{◌≡◌, ℕ, ◌↔◌, ◌≢◌, List, [], length, IsTrue, IsErrOf, IfErr, OnOk, OnErr, IfOk, MatchOption, option_map, slice_get, None, Some, false};
+ghost use Rattle.std.specs.Option.{option_copied};
+ghost use Rattle.sap_terms.specs.Signature.{Sig, Builtins, find_symbol, arity_of, IsPublic, Clashes, declared, has_builtin, is_destructor_of, builtin_symbols, declared_all, is_held_otherwise, first_clash, added, pairs_alone};
+ghost use Rattle.sap_terms.specs.declared.signature.SigFault.TheVariants.{Mem as OutOfMemory};
+
+use crate::{Copied, Items, Mem, Name};
+use std::alloc::{AllocError, AllocFailed, Global};
+use std::marker::Model;
+
+/// A symbol of a signature.
+#[derive(Drop)]
+pub struct Symbol {
+    pub name: Name,
+    pub arity: u64,
+    pub private: bool,
+}
+
+/// What can be added with its equations.
+#[derive(Clone, Copy, Debug, PartialEq, Eq)]
+pub enum Builtin {
+    Hashing,
+    Symmetric,
+    Asymmetric,
+    Signing,
+}
+
+/// Why a declaration is refused.
+#[derive(Drop)]
+pub enum SigFault {
+    Mem,
+    Clash { name: Name },
+}
+
+impl From<Mem> for SigFault {
+    ghost from_gives = { λ _ e. e ≡ OutOfMemory };
+
+    fn from(_e: Mem) -> SigFault {
+        SigFault::Mem
+    }
+}
+
+/// Symbols with their arities, and the builtins.
+#[derive(Drop)]
+pub struct Signature {
+    symbols: Items<Symbol>,
+    hashing: bool,
+    symmetric: bool,
+    asymmetric: bool,
+    signing: bool,
+}
+
+impl Model for Signature {
+    ghost use Rattle.sap_terms.specs.Signature.{Sig};
+
+    ghost Value = { Sig };
+
+    ghost view = { λ a. record {
+      symbols = a.symbols;
+      builtins = record { hashing = a.hashing; symmetric = a.symmetric; asymmetric = a.asymmetric; signing = a.signing };
+    } };
+}
+
+// The held symbol of a name.
+fn find<'a>(symbols: &'a Items<Symbol>, name: &Name) -> Option<&'a Symbol>
+    ensures { option_copied result ≡ find_symbol symbols.now name.now }
+{
+    for s in symbols.as_slice() {
+        if s.name.same(name) {
+            return Some(s);
+        }
+    }
+    None
+}
+
+impl Signature {
+    /// The signature of pairs: `pair/2`, `fst/1` and `snd/1`, all public, and no builtin.
+    pub fn new(alloc: Global) -> Result<Signature, Mem>
+        ensures { IfOk result (λ g. g ≡ pairs_alone) }
+    {
+        let mut symbols = Items::new(alloc);
+        symbols.push(public_symbol(alloc, b"pair", 2)?)?;
+        symbols.push(public_symbol(alloc, b"fst", 1)?)?;
+        symbols.push(public_symbol(alloc, b"snd", 1)?)?;
+        Ok(Signature {
+            symbols,
+            hashing: false,
+            symmetric: false,
+            asymmetric: false,
+            signing: false,
+        })
+    }
+
+    pub fn has(&self, b: Builtin) -> bool
+        ensures { result ≡ has_builtin self.now b }
+    {
+        match b {
+            Builtin::Hashing => self.hashing,
+            Builtin::Symmetric => self.symmetric,
+            Builtin::Asymmetric => self.asymmetric,
+            Builtin::Signing => self.signing,
+        }
+    }
+
+    pub fn arity(&self, name: &Name) -> Option<u64>
+        ensures { result ≡ arity_of self.now name.now }
+    {
+        match find(&self.symbols, name) {
+            Some(s) => Some(s.arity),
+            None => None,
+        }
+    }
+
+    pub fn is_public(&self, name: &Name) -> bool
+        ensures { IsTrue result ↔ IsPublic self.now name.now }
+    {
+        match find(&self.symbols, name) {
+            Some(s) => !s.private,
+            None => false,
+        }
+    }
+
+    pub fn symbol(&self, k: u64) -> Option<&Name>
+        ensures { option_copied result ≡ option_map (λ s. s.name) (slice_get self.now.symbols k) }
+    {
+        match self.symbols.get(k) {
+            Some(s) => Some(&s.name),
+            None => None,
+        }
+    }
+
+    pub fn declare(&mut self, name: Name, arity: u64, private: bool) -> Result<(), SigFault>
+        ensures ok { OnOk result (self.new ≡ record self.old { symbols = declared self.old.symbols name arity private }) }
+        ensures clash { IsErrOf result (SigFault.Clash name) ↔ Clashes self.old.symbols name arity private }
+        ensures other { (n : List ℕ) → IsErrOf result (SigFault.Clash n) → n ≡ name }
+        ensures err { OnErr result (self.new ≡ self.old) }
+    {
+        match find(&self.symbols, &name) {
+            Some(s) => {
+                if s.arity == arity && s.private == private {
+                    Ok(())
+                } else {
+                    Err(SigFault::Clash { name })
+                }
+            }
+            None => {
+                self.symbols.push(Symbol {
+                    name,
+                    arity,
+                    private,
+                })?;
+                Ok(())
+            }
+        }
+    }
+}
+
+impl Copied for Symbol {
+    fn copy(&self, alloc: Global) -> Result<Symbol, Mem> {
+        Ok(Symbol {
+            name: self.name.copy(alloc)?,
+            arity: self.arity,
+            private: self.private,
+        })
+    }
+}
+
+fn public_symbol(alloc: Global, name: &[u8], arity: u64) -> Result<Symbol, Mem>
+    ensures { IfOk result (λ s. s ≡ record { name = name.now; arity = arity; private = false }) }
+{
+    Ok(Symbol {
+        name: Name::from_bytes(alloc, name)?,
+        arity,
+        private: false,
+    })
+}
+
+// A builtin's symbols, in order.
+fn symbols_of(alloc: Global, b: Builtin) -> Result<Items<Symbol>, Mem>
+    ensures { IfOk result (λ ss. ss ≡ builtin_symbols b) }
+{
+    let mut symbols = Items::new(alloc);
+    match b {
+        Builtin::Hashing => {
+            symbols.push(public_symbol(alloc, b"h", 1)?)?;
+            Ok(symbols)
+        }
+        Builtin::Symmetric => {
+            symbols.push(public_symbol(alloc, b"senc", 2)?)?;
+            symbols.push(public_symbol(alloc, b"sdec", 2)?)?;
+            Ok(symbols)
+        }
+        Builtin::Asymmetric => {
+            symbols.push(public_symbol(alloc, b"aenc", 2)?)?;
+            symbols.push(public_symbol(alloc, b"adec", 2)?)?;
+            symbols.push(public_symbol(alloc, b"pk", 1)?)?;
+            Ok(symbols)
+        }
+        Builtin::Signing => {
+            symbols.push(public_symbol(alloc, b"sign", 2)?)?;
+            symbols.push(public_symbol(alloc, b"verify", 3)?)?;
+            symbols.push(public_symbol(alloc, b"pk", 1)?)?;
+            symbols.push(public_symbol(alloc, b"true", 0)?)?;
+            Ok(symbols)
+        }
+    }
+}
+
+fn is_held_otherwise(symbols: &Items<Symbol>, symbol: &Symbol) -> bool
+    ensures { result ≡ is_held_otherwise symbols.now symbol.now }
+{
+    match find(symbols, &symbol.name) {
+        Some(s) => !(s.arity == symbol.arity && s.private == symbol.private),
+        None => false,
+    }
+}
+
+// The first of these symbols that is held otherwise.
+fn first_clash<'a>(symbols: &Items<Symbol>, added: &'a Items<Symbol>) -> Option<&'a Symbol>
+    ensures { option_map (λ s. s.name) (option_copied result) ≡ first_clash symbols.now added.now }
+{
+    for s in added.as_slice() {
+        if is_held_otherwise(symbols, s) {
+            return Some(s);
+        }
+    }
+    None
+}
+
+// The symbols with these, one after another, where their names are not held.
+fn declare_all(
+    alloc: Global,
+    symbols: &Items<Symbol>,
+    added: &Items<Symbol>,
+) -> Result<Items<Symbol>, Mem>
+    ensures { IfOk result (λ ss. ss ≡ declared_all symbols.now added.now) }
+{
+    let mut all = symbols.copy(alloc)?;
+    for s in added.as_slice() {
+        if find(&all, &s.name).is_none() {
+            all.push(s.copy(alloc)?)?;
+        }
+    }
+    Ok(all)
+}
+
+impl Signature {
+    pub fn is_destructor(&self, name: &Name) -> bool
+        ensures { result ≡ is_destructor_of self.now name.now }
+    {
+        name.is(b"fst")
+            || name.is(b"snd")
+            || (name.is(b"sdec") && self.symmetric)
+            || (name.is(b"adec") && self.asymmetric)
+            || (name.is(b"verify") && self.signing)
+    }
+
+    pub fn add_builtin(&mut self, alloc: Global, b: Builtin) -> Result<(), SigFault>
+        ensures ok { OnOk result (self.new ≡ added self.old b) }
+        ensures no_clash { OnOk result (first_clash self.old.symbols (builtin_symbols b) ≡ None) }
+        ensures clash { (n : List ℕ) → IsErrOf result (SigFault.Clash n)
+            → first_clash self.old.symbols (builtin_symbols b) ≡ Some n }
+        ensures err { OnErr result (self.new ≡ self.old) }
+    {
+        let symbols = symbols_of(alloc, b)?;
+        if let Some(s) = first_clash(&self.symbols, &symbols) {
+            return Err(SigFault::Clash {
+                name: s.name.copy(alloc)?,
+            });
+        }
+        self.symbols = declare_all(alloc, &self.symbols, &symbols)?;
+        match b {
+            Builtin::Hashing => self.hashing = true,
+            Builtin::Symmetric => self.symmetric = true,
+            Builtin::Asymmetric => self.asymmetric = true,
+            Builtin::Signing => self.signing = true,
+        }
+        Ok(())
+    }
+}

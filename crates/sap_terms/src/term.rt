@@ -1,0 +1,186 @@
+ghost use Rattle.std.specs.Prelude.{◌≡◌, ◌<◌, ◌↔◌, [], ◌∷◌, ◌++◌, length, IsTrue, IfOk, OnOk, OnErr, slice_get, option_map, min, map, Some, slice_index_or};
+ghost use Rattle.std.specs.Option.{option_copied};
+ghost use Rattle.sap_terms.specs.Same.{same_tree};
+
+use crate::{Copied, Mem, Name, Var};
+use std::alloc::Global;
+use std::marker::Model;
+
+/// A term: a variable, a public name, a fresh name by its number, or a symbol on terms.
+#[cycle(term)]
+#[derive(Drop)]
+pub enum Term {
+    Var(Var),
+    Public(Name),
+    Fresh(u64),
+    App(Name, TermList),
+}
+
+/// A list of terms, which contracts see as the list of their trees.
+#[cycle(term)]
+#[derive(Drop)]
+pub struct TermList {
+    items: Vec<Term>,
+}
+
+impl Model for TermList {
+    ghost use Rattle.std.specs.Prelude.{List, map};
+    ghost use Rattle.sap_terms.specs.Tree.{Tree};
+    ghost use Rattle.sap_terms.specs.Code.{list_code};
+
+    ghost Value = { List Tree };
+
+    ghost coded = { list_code };
+
+    ghost use Rattle.sap_terms.specs.View.{tree};
+    ghost use Rattle.sap_terms.specs.Tree.{trees_of, trees_count};
+
+    ghost view = { λ a. map tree a.items.items };
+
+    ghost size = { λ ts. trees_count (trees_of ts) };
+
+    ghost use Rattle.std.proofs.Common.{arith};
+    ghost use Rattle.sap_terms.specs.Falls.{most_le-trees_count};
+
+    ghost size_decreases = { λ a h. omega (arith, most_le-trees_count a.items.items) };
+}
+
+impl TermList {
+    ghost use Rattle.sap_terms.specs.View.{tree};
+    ghost use Rattle.sap_terms.specs.Tree.{trees_of, trees_count};
+
+    /// The empty list. It takes no memory.
+    pub fn new(alloc: Global) -> TermList
+        ensures { result ≡ [] }
+    {
+        TermList {
+            items: Vec::new(alloc),
+        }
+    }
+
+    /// Puts the term last; a refused term is dropped, and the list is as it was.
+    pub fn push(&mut self, item: Term) -> Result<(), Mem>
+        ensures ok { OnOk result (self.new ≡ self.old ++ tree item ∷ []) }
+        ensures err { OnErr result (self.new ≡ self.old) }
+    {
+        self.items.push(item)?;
+        Ok(())
+    }
+
+    /// The number of terms.
+    pub fn len(&self) -> u64
+        ensures { result ≡ length self.now }
+    {
+        self.items.len() as u64
+    }
+
+    /// The term at place k, from 0.
+    pub fn get(&self, k: u64) -> Option<&Term>
+        ensures { option_map tree (option_copied result) ≡ slice_get self.now k }
+    {
+        self.items.get(k as usize)
+    }
+
+    /// The term at a place that the list has.
+    pub fn at(&self, k: u64) -> &Term
+        requires { k < length self.now }
+        ensures got { slice_get self.now k ≡ Some (tree result.now) }
+        ensures item { tree result.now ≡ slice_index_or self.now k (tree result.now) }
+    {
+        &self.items[k as usize]
+    }
+
+    /// The terms side by side.
+    pub fn as_slice(&self) -> &[Term]
+        ensures { map tree result.now ≡ self.now }
+    {
+        self.items.as_slice()
+    }
+
+    #[cycle(nodes)]
+    #[tactic(auto, using(crate::proofs::TreeLemmas::list_laws))]
+    fn nodes(&self) -> u64
+        ensures { result ≡ min (trees_count (trees_of self.now)) u64.MAX }
+    {
+        let mut total: u64 = 0;
+        for t in &self.items {
+            total = total.saturating_add(t.nodes());
+        }
+        total
+    }
+
+    #[cycle(same)]
+    fn is(&self, other: &TermList) -> bool
+        ensures { IsTrue result ↔ (self.now ≡ other.now) }
+    {
+        if self.items.len() != other.items.len() {
+            return false;
+        }
+        for k in 0..self.items.len() {
+            if !self.items[k].is(&other.items[k]) {
+                return false;
+            }
+        }
+        true
+    }
+}
+
+impl Term {
+    ghost use Rattle.sap_terms.specs.View.{tree};
+    ghost use Rattle.sap_terms.specs.Tree.{node_count};
+
+    /// The nodes of the tree; from the greatest u64 on, that number.
+    #[cycle(nodes)]
+    pub fn nodes(&self) -> u64
+        ensures { result ≡ min (node_count (tree self.now)) u64.MAX }
+    {
+        match self {
+            Term::Var(_) | Term::Public(_) | Term::Fresh(_) => 1,
+            Term::App(_, args) => args.nodes().saturating_add(1),
+        }
+    }
+
+    /// Whether the two are the same tree.
+    pub fn same(&self, other: &Term) -> bool
+        ensures equal { IsTrue result ↔ (self.now ≡ other.now) }
+        ensures test { result ≡ same_tree (tree self.now) (tree other.now) }
+    {
+        self.is(other)
+    }
+
+    #[cycle(same)]
+    fn is(&self, other: &Term) -> bool
+        ensures { IsTrue result ↔ (self.now ≡ other.now) }
+    {
+        match (self, other) {
+            (Term::Var(v), Term::Var(w)) => v.same(w),
+            (Term::Public(a), Term::Public(b)) => a.same(b),
+            (Term::Fresh(j), Term::Fresh(k)) => *j == *k,
+            (Term::App(f, ts), Term::App(g, us)) => f.same(g) && ts.is(us),
+            _ => false,
+        }
+    }
+}
+
+impl Copied for Term {
+    #[cycle(copy)]
+    fn copy(&self, alloc: Global) -> Result<Term, Mem> {
+        match self {
+            Term::Var(v) => Ok(Term::Var(v.copy(alloc)?)),
+            Term::Public(n) => Ok(Term::Public(n.copy(alloc)?)),
+            Term::Fresh(k) => Ok(Term::Fresh(*k)),
+            Term::App(f, args) => Ok(Term::App(f.copy(alloc)?, args.copy(alloc)?)),
+        }
+    }
+}
+
+impl Copied for TermList {
+    #[cycle(copy)]
+    fn copy(&self, alloc: Global) -> Result<TermList, Mem> {
+        let mut items = Vec::new(alloc);
+        for t in &self.items {
+            items.push(t.copy(alloc)?)?;
+        }
+        Ok(TermList { items })
+    }
+}
