@@ -1,0 +1,10 @@
+pub mod Reduce
+pub mod Large
+pub mod Fit
+pub mod Laws
+pub use Rattle.sap_terms.specs.Tree
+pub use Rattle.sap_terms.specs.View
+pub use Rattle.sap_terms.specs.Signature
+pub use Rattle.sap_terms.specs.Theory
+pub use Rattle.sap_terms.specs.Equal
+pub use Rattle.sap_terms.specs.Normal
