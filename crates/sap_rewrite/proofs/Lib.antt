@@ -6,3 +6,6 @@ pub mod Shapes
 pub mod ListLaws
 pub mod Parts
 pub mod Fits
+pub mod WalkLemmas
+pub mod Choices
+pub mod Only

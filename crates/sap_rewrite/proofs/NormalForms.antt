@@ -46,7 +46,7 @@ right-normal e (symmetric h) n = n.0.1.0
 right-normal e (asymmetric h) n = n.0.1.0
 right-normal e (signing h) n = (no_instance e true_name none refl, tt)
 
-leaf-normal : (e : Theory) (t : Tree) → contracted_tree e t ≡ None → IsNoLeftSide e t
+pub leaf-normal : (e : Theory) (t : Tree) → contracted_tree e t ≡ None → IsNoLeftSide e t
 leaf-normal e t h b i = let c = contracted-complete e i in cc
 
 reduced-normal : (e : Theory) (f : List ℕ) (ts : Trees) → AreNormal e ts → IsNormal e (reduced e f ts)
