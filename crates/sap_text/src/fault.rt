@@ -1,0 +1,14 @@
+/// Why bytes have no tokens. `at` is an offset in bytes, from 0.
+#[derive(Clone, Copy, Debug, PartialEq, Eq)]
+pub enum Lex {
+    /// Want of memory.
+    Mem,
+    /// No token, blank or comment begins here, or this byte may not stand in the quote round it, which is closed.
+    BadByte { at: u64 },
+    /// The `/*` here isn't closed.
+    OpenComment { at: u64 },
+    /// The `'` here isn't closed before the end of its line.
+    OpenQuote { at: u64 },
+    /// The identifier, number or quoted content of the token here has more bytes than are allowed.
+    NameLong { at: u64 },
+}
