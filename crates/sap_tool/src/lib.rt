@@ -1,9 +1,12 @@
 //! The top call of the program, and what it reads from and writes to.
 #![tactic(auto)]
 
+mod compile;
 mod file_shelf;
 mod mem_shelf;
 mod mem_sink;
+mod printer;
+mod reader;
 mod shelf;
 mod sink;
 mod stream_sink;
