@@ -10,3 +10,5 @@ pub mod Control
 pub mod Kept
 pub mod Forward
 pub mod Back
+pub mod Example
+pub mod AnyMoment
