@@ -4,7 +4,7 @@ use Rattle.sap_terms.specs.Reserved.{is_reserved}
 use Rattle.sap_terms.specs.declared.fact.Fact.{Fact}
 use Rattle.sap_process.specs.Proc.{Proc, nil, parallel, event, events}
 use Rattle.sap_gen.specs.Faithful.{AreFree, NoReservedEvents}
-use Rattle.sap_gen.specs.Places.{Spot, root, first_child, second_child, child, spot_at}
+use Rattle.sap_gen.specs.Places.{Spot, bare, root, first_child, second_child, child, spot_at}
 
 free_append : (xs ys : List Fact) → AreFree (xs ++ ys) → AreFree xs × AreFree ys
 free_append [] ys h = (tt, h)
@@ -33,6 +33,6 @@ spot_free (Some s) [] b h e = h b e
 spot_free (Some s) (d ∷ path) b h e = spot_free (child s d) path b (λ k g. child_free s k d (h s refl) g) e
 
 -- an event at a place
-pub event_free : (p : Proc) (path : List ℕ) (f : Fact) (q : Proc) → NoReservedEvents p → spot_at (root p) path ≡ Some (record { scope = []; body = event f q }) → is_reserved f.name ≡ false
+pub event_free : (p : Proc) (path : List ℕ) (f : Fact) (q : Proc) → NoReservedEvents p → spot_at (root p) path ≡ Some (bare (event f q)) → is_reserved f.name ≡ false
 event_free p path f q h e =
-    (spot_free (root p) path (record { scope = []; body = event f q }) (λ s g. let same : record { scope = []; body = p } ≡ s = cc in subst (λ (x : Spot). NoReservedEvents x.body) same h) e).0
+    (spot_free (root p) path (bare (event f q)) (λ s g. let same : bare p ≡ s = cc in subst (λ (x : Spot). NoReservedEvents x.body) same h) e).0

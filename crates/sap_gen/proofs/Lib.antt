@@ -6,3 +6,9 @@ pub mod StateFacts
 pub mod PlaceRules
 pub mod Free
 pub mod Visible
+pub mod Control
+pub mod Kept
+pub mod Forward
+pub mod Back
+pub mod Example
+pub mod AnyMoment

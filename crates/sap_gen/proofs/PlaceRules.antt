@@ -4,7 +4,7 @@ use Rattle.sap_terms.specs.declared.var.Var.{Var}
 use Rattle.sap_process.specs.Proc.{Proc, nil, parallel, event}
 use Rattle.sap_gen.specs.declared.rule.Rule.{Rule}
 use Rattle.sap_gen.specs.Members.{Member}
-use Rattle.sap_gen.specs.Places.{Spot, root, first_child, second_child, child, spot_at}
+use Rattle.sap_gen.specs.Places.{Spot, bare, root, first_child, second_child, child, spot_at}
 use Rattle.sap_gen.specs.Templates.{own_rules, place_rules, first_of, second_of}
 use Rattle.sap_gen.proofs.Lookups.{member_left, member_right, member_cases, in_left, in_right}
 
@@ -107,13 +107,13 @@ spot_scope (Some s) (d ∷ path) b h e = spot_scope (child s d) path b (λ k g. 
 pub record Home (p : Proc) (r : Rule) : Type 0 where
   pub path : List ℕ
   pub body : Proc
-  pub is : spot_at (root p) path ≡ Some (record { scope = []; body = body })
+  pub is : spot_at (root p) path ≡ Some (bare body)
   pub own : Member r (own_rules path [] body)
 
 pub home : (p : Proc) (r : Rule) → Member r (place_rules [] [] p) → Home p r
 home p r m =
     let h = source [] p [] r m in
-    let empty : h.spot.scope ≡ [] = spot_scope (root p) h.path h.spot (λ s e. let same : record { scope = []; body = p } ≡ s = cc in ap (λ (x : Spot). x.scope) (sym same)) h.is in
+    let empty : h.spot.scope ≡ [] = spot_scope (root p) h.path h.spot (λ s e. let same : bare p ≡ s = cc in ap (λ (x : Spot). x.scope) (sym same)) h.is in
     record {
       path = h.path;
       body = h.spot.body;

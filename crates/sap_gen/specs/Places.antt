@@ -8,8 +8,12 @@ pub record Spot : Type 0 where
   pub scope : List Var
   pub body : Proc
 
+-- with no variable in scope
+abbrev pub bare : Proc → Spot
+bare p = record { scope = []; body = p }
+
 abbrev pub root : Proc → Option Spot
-root p = Some (record { scope = []; body = p })
+root p = Some (bare p)
 
 abbrev pub first_child : List Var → Proc → Option Spot
 first_child scope nil = None

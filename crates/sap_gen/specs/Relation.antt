@@ -9,7 +9,7 @@ use Rattle.sap_terms.specs.Tree.{Tree, trees_of}
 use Rattle.sap_terms.specs.declared.fact.Fact.{Fact}
 use Rattle.sap_process.specs.Proc.{Proc}
 use Rattle.sap_gen.specs.Members.{Member}
-use Rattle.sap_gen.specs.Places.{root, spot_at}
+use Rattle.sap_gen.specs.Places.{bare, root, spot_at}
 use Rattle.sap_gen.specs.ProcessSteps.{Config, Deducible}
 use Rattle.sap_gen.specs.ReservedFacts.{k_fact, init_fact}
 use Rattle.sap_gen.specs.RuleSteps.{RuleState}
@@ -46,7 +46,7 @@ stands_as (running path body) = state_fact path [] ∷ []
 -- it stands where the process has what it runs as
 abbrev pub IsPlaced : Proc → Agent → Type 0
 IsPlaced p (unborn body) = body ≡ p
-IsPlaced p (running path body) = spot_at (root p) path ≡ Some (record { scope = []; body = body })
+IsPlaced p (running path body) = spot_at (root p) path ≡ Some (bare body)
 
 -- a fact that stands for a thread
 abbrev pub is_control : Fact → Bool

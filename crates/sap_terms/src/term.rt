@@ -163,8 +163,8 @@ impl Term {
         ensures { result ≡ min (level_count (tree self.now)) u64.MAX }
     {
         match self {
-            Term::Var(_) | Term::Public(_) | Term::Fresh(_) => 1,
             Term::App(_, args) => args.levels().saturating_add(1),
+            _ => 1,
         }
     }
 

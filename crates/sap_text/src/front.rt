@@ -39,7 +39,7 @@ fn behind_quote(at: u64, bytes: &[u8]) -> Front
 }
 
 #[tactic(auto, unfolding(crate::specs::Front::front_at))]
-fn first_piece(at: u64, b: u8, rest: &[u8], bytes: &[u8]) -> Front
+fn front_by_byte(at: u64, b: u8, rest: &[u8], bytes: &[u8]) -> Front
     requires fits { at + length bytes.now < 2 ^ 63 }
     requires whole { bytes.now ≡ b ∷ rest.now }
     ensures { result ≡ front_at at b rest.now }
@@ -69,12 +69,12 @@ fn first_piece(at: u64, b: u8, rest: &[u8], bytes: &[u8]) -> Front
     }
 }
 
-/// What stands first among these bytes, b and the rest, where b stands at this offset.
-pub fn front_piece(at: u64, b: u8, rest: &[u8], bytes: &[u8]) -> Front
+/// What stands first among these bytes, the first of which stands at this offset.
+pub fn front_of(at: u64, bytes: &[u8]) -> Front
+    requires some { 0 < length bytes.now }
     requires fits { at + length bytes.now < 2 ^ 63 }
-    requires whole { bytes.now ≡ b ∷ rest.now }
     ensures stands { Stands at bytes.now result }
     ensures within { Within (length bytes.now) result }
 {
-    first_piece(at, b, rest, bytes)
+    front_by_byte(at, bytes[0], &bytes[1..], bytes)
 }

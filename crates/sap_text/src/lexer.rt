@@ -5,7 +5,7 @@ ghost use Rattle.sap_text.specs.Told.{Told};
 ghost use Rattle.sap_text.specs.Spans.{AreTokens, InOrder, IsWithin, text_of};
 
 use crate::bytes::{feeds_in, from_place};
-use crate::front::{Front, front_piece};
+use crate::front::{Front, front_of};
 use crate::{Kind, Lex, Token};
 use std::alloc::Global;
 
@@ -28,7 +28,7 @@ fn read_tokens(alloc: Global, bytes: &[u8], longest: u64) -> Result<Vec<Token>, 
     let mut line: u64 = 1;
     while at < bytes.len() {
         let rest = from_place(bytes, at);
-        match front_piece(at as u64, rest[0], &rest[1..], rest) {
+        match front_of(at as u64, rest) {
             Front::Skip(n) => {
                 line += feeds_in(&rest[..n]) as u64;
                 at += n;
@@ -43,9 +43,7 @@ fn read_tokens(alloc: Global, bytes: &[u8], longest: u64) -> Result<Vec<Token>, 
                     to: (at + n) as u64,
                     line,
                 };
-                if out.push(token).is_err() {
-                    return Err(Lex::Mem);
-                }
+                out.push(token)?;
                 at += n;
             }
             Front::Fault(fault) => return Err(fault),
@@ -81,3 +79,6 @@ pub fn token_bytes<'a>(bytes: &'a [u8], tokens: &[Token], k: usize) -> &'a [u8]
 {
     part(bytes, tokens[k])
 }
+
+#[cfg(test)]
+mod tests;

@@ -1,46 +1,38 @@
-ghost use Rattle.std.specs.Prelude.{◌≡◌};
-ghost use Rattle.std.specs.Str.{bytes_eq};
+ghost use Rattle.std.specs.Prelude.{◌≡◌, ◌∷◌, []};
 ghost use Rattle.sap_text.specs.Tokens.{is_symbol};
 ghost use Rattle.sap_text.specs.Front.{symbol_len};
 
 use crate::bytes::first;
 
-fn is(s: &[u8], t: &str) -> bool
-    ensures { result ≡ bytes_eq s.now t.now }
+fn is_one_symbol(a: u8) -> bool
+    ensures { result ≡ is_symbol (a ∷ []) }
 {
-    s == t.as_bytes()
+    match a {
+        b'(' | b')' | b'[' | b']' | b'<' | b'>' | b',' | b';' | b':' | b'.' | b'|' | b'&' => true,
+        b'=' | b'@' | b'#' | b'~' | b'$' | b'!' | b'/' | b'"' | b'-' => true,
+        _ => false,
+    }
+}
+
+fn is_three_symbol(a: u8, b: u8, c: u8) -> bool
+    ensures { result ≡ is_symbol (a ∷ b ∷ c ∷ []) }
+{
+    match (a, b, c) {
+        (b'=', b'=', b'>') | (b'<', b'=', b'>') => true,
+        (b'-', b'-', b'[') | (b']', b'-', b'>') | (b'-', b'-', b'>') => true,
+        _ => false,
+    }
 }
 
 fn is_symbol_text(s: &[u8]) -> bool
     ensures { result ≡ is_symbol s.now }
 {
-    is(s, "(")
-        || is(s, ")")
-        || is(s, "[")
-        || is(s, "]")
-        || is(s, "<")
-        || is(s, ">")
-        || is(s, ",")
-        || is(s, ";")
-        || is(s, ":")
-        || is(s, ".")
-        || is(s, "|")
-        || is(s, "||")
-        || is(s, "&")
-        || is(s, "=")
-        || is(s, "==>")
-        || is(s, "<=>")
-        || is(s, "@")
-        || is(s, "#")
-        || is(s, "~")
-        || is(s, "$")
-        || is(s, "!")
-        || is(s, "/")
-        || is(s, "\"")
-        || is(s, "-")
-        || is(s, "--[")
-        || is(s, "]->")
-        || is(s, "-->")
+    match s {
+        [a] => is_one_symbol(*a),
+        [a, b] => *a == b'|' && *b == b'|',
+        [a, b, c] => is_three_symbol(*a, *b, *c),
+        _ => false,
+    }
 }
 
 /// How many bytes the longest symbol has that stands first, or 0.

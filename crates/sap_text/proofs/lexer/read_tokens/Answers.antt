@@ -13,7 +13,7 @@ further at n z = grind (arith, common_steps)
 pub loop-at-preserved-in-Skip : goal.loop-at-preserved-in-Skip
 loop-at-preserved-in-Skip c =
     let rest = drop c.loop-at.at c.args.bytes.now in
-    let given : Stands c.loop-at.at rest c.front_piece.result = subst (λ (y : List ℕ). Stands c.loop-at.at y c.front_piece.result) c.from_place-rest.ensures c.front_piece.ensures.stands in
+    let given : Stands c.loop-at.at rest c.front_of.result = subst (λ (y : List ℕ). Stands c.loop-at.at y c.front_of.result) c.from_place-rest.ensures c.front_of.ensures.stands in
     let is : AtFront IsSkip rest c.in-Skip.n = rw c.in-Skip.is at given in
     let counts : c.feeds_in.result ≡ line_feeds (take c.in-Skip.n rest) = grind (arith, common_steps) in
     let few : line_feeds (take c.in-Skip.n rest) ≤ c.in-Skip.n = grind (arith, common_steps, feeds_most (take c.in-Skip.n rest)) in
@@ -29,7 +29,7 @@ loop-at-preserved-in-Skip c =
 pub returns-then-counted_bytes-longest : goal.returns-then-counted_bytes-longest
 returns-then-counted_bytes-longest c =
     let rest = drop c.loop-at.at c.args.bytes.now in
-    let given : Stands c.loop-at.at rest c.front_piece.result = subst (λ (y : List ℕ). Stands c.loop-at.at y c.front_piece.result) c.from_place-rest.ensures c.front_piece.ensures.stands in
+    let given : Stands c.loop-at.at rest c.front_of.result = subst (λ (y : List ℕ). Stands c.loop-at.at y c.front_of.result) c.from_place-rest.ensures c.front_of.ensures.stands in
     let is : AtFront (IsLongest c.in-Taken.kind) rest c.in-Taken.n = rw c.in-Taken.is at given in
     let lt : c.args.longest < counted c.in-Taken.kind c.in-Taken.n = subst (λ (k : ℕ). c.args.longest < k) c.counted_bytes.ensures c.if-counted_bytes-longest.true in
     c.loop-at.invariant.joined (Err (fault.NameLong c.loop-at.at)) (step_long c.args.longest c.loop-at.at c.loop-at.line c.in-Taken.n rest c.in-Taken.kind is lt)
@@ -38,7 +38,7 @@ pub loop-at-preserved : goal.loop-at-preserved
 loop-at-preserved c =
     let rest = drop c.loop-at.at c.args.bytes.now in
     let token : Token = record { kind = c.in-Taken.kind; from = c.loop-at.at; to = c.loop-at.at + c.in-Taken.n; line = c.loop-at.line } in
-    let given : Stands c.loop-at.at rest c.front_piece.result = subst (λ (y : List ℕ). Stands c.loop-at.at y c.front_piece.result) c.from_place-rest.ensures c.front_piece.ensures.stands in
+    let given : Stands c.loop-at.at rest c.front_of.result = subst (λ (y : List ℕ). Stands c.loop-at.at y c.front_of.result) c.from_place-rest.ensures c.front_of.ensures.stands in
     let is : AtFront (IsLongest c.in-Taken.kind) rest c.in-Taken.n = rw c.in-Taken.is at given in
     let le : counted c.in-Taken.kind c.in-Taken.n ≤ c.args.longest = subst (λ (k : ℕ). k ≤ c.args.longest) c.counted_bytes.ensures c.if-counted_bytes-longest.false in
     let pushed : c.push.new.self.items ≡ c.loop-at.out.items ++ (token ∷ []) = grind (arith, common_steps) in
@@ -56,7 +56,7 @@ loop-at-preserved c =
 pub returns-in-Fault : goal.returns-in-Fault
 returns-in-Fault c =
     let rest = drop c.loop-at.at c.args.bytes.now in
-    let is : Stands c.loop-at.at rest c.front_piece.result = subst (λ (y : List ℕ). Stands c.loop-at.at y c.front_piece.result) c.from_place-rest.ensures c.front_piece.ensures.stands in
+    let is : Stands c.loop-at.at rest c.front_of.result = subst (λ (y : List ℕ). Stands c.loop-at.at y c.front_of.result) c.from_place-rest.ensures c.front_of.ensures.stands in
     let bad = rw c.in-Fault.is at is in
     fault_told c.args.longest c.loop-at.at rest c.args.bytes.now c.in-Fault.fault bad (c.loop-at.invariant.joined (Err c.in-Fault.fault) (failed bad))
 
