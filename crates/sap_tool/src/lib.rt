@@ -10,6 +10,7 @@ mod reader;
 mod shelf;
 mod sink;
 mod stream_sink;
+mod top;
 
 pub use file_shelf::FileShelf;
 pub use mem_shelf::MemShelf;
@@ -17,3 +18,4 @@ pub use mem_sink::MemSink;
 pub use shelf::{Shelf, ShelfFault};
 pub use sink::{Sink, SinkFault};
 pub use stream_sink::StreamSink;
+pub use top::sapic;
