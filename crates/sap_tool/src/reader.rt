@@ -1,4 +1,5 @@
 mod look;
+mod process;
 
 
 ghost use Rattle.std.specs.Prelude.{◌≡◌, ℕ, List, [], ◌∷◌, codes, IfOk, IfSome, IfNone};
@@ -9,6 +10,7 @@ ghost use Rattle.sap_tool.specs.FirstFile.{IsFile};
 
 use sap_process::Process;
 use sap_terms::{Mem, Name};
+use sap_text::one_answer;
 use std::alloc::Global;
 
 /// A file as it is written: the theory's name and its process.
@@ -31,7 +33,9 @@ pub fn one_file()
     ensures {
         (z n m : List ℕ) (p q : Proc) → IsFile z n p → IsFile z m q → (n ≡ m) × (p ≡ q)
     }
-{}
+{
+    one_answer();
+}
 
 /// A law: words with `end` behind them spell at most one process, with one number of levels.
 pub fn one_process()
