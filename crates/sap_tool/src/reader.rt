@@ -1,3 +1,5 @@
+mod blanks;
+mod limits;
 mod look;
 mod process;
 

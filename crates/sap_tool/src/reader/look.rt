@@ -56,12 +56,19 @@ fn is_grammar_word(text: &[u8]) -> bool
     is_item_word(text) || is_process_word(text)
 }
 
+/// The bytes from one place up to another, as far as there are any.
+pub fn part(bytes: &[u8], from: u64, to: u64) -> &[u8]
+    ensures { result.now ≡ take (to - from) (drop from bytes.now) }
+{
+    let end = (to as usize).min(bytes.len());
+    let start = (from as usize).min(end);
+    &bytes[start..end]
+}
+
 fn text_at(bytes: &[u8], token: Token) -> &[u8]
     ensures { result.now ≡ text_of bytes.now token }
 {
-    let end = (token.to as usize).min(bytes.len());
-    let start = (token.from as usize).min(end);
-    &bytes[start..end]
+    part(bytes, token.from, token.to)
 }
 
 fn unquoted(text: &[u8]) -> &[u8]

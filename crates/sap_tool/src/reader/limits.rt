@@ -1,0 +1,72 @@
+ghost use Rattle.std.specs.Prelude.{◌≡◌, ◌≤◌, ◌∷◌, ◌↔◌, [], IsTrue, IfOk, true};
+ghost use Rattle.sap_process.specs.Proc.{proc, events, node_count};
+ghost use Rattle.sap_tool.specs.Events.{HaveOneArity, NoReservedEvents};
+ghost use Rattle.sap_tool.specs.Arities.{Takes};
+
+use sap_process::Process;
+use sap_terms::{Copied, Fact, Mem, Name, is_reserved};
+use std::alloc::Global;
+use std::collections::BTreeMap;
+
+fn takes_fact(alloc: Global, seen: &mut BTreeMap<Name, u64>, fact: &Fact) -> Result<bool, Mem>
+    ensures { IfOk result (Takes seen.old seen.new (fact.now ∷ [])) }
+{
+    let name = fact.name.copy(alloc)?;
+    let number = fact.args.len();
+    match seen.insert(name, number)? {
+        None => Ok(true),
+        Some(before) => Ok(before == number),
+    }
+}
+
+fn takes_events(alloc: Global, seen: &mut BTreeMap<Name, u64>, p: &Process) -> Result<bool, Mem>
+    ensures { IfOk result (Takes seen.old seen.new (events (proc p.now))) }
+{
+    match p {
+        Process::Nil => Ok(true),
+        Process::Par(left, right) => {
+            if takes_events(alloc, seen, left)? {
+                takes_events(alloc, seen, right)
+            } else {
+                Ok(false)
+            }
+        }
+        Process::Event(fact, then) => {
+            if takes_fact(alloc, seen, fact)? {
+                takes_events(alloc, seen, then)
+            } else {
+                Ok(false)
+            }
+        }
+    }
+}
+
+fn has_one_arity(alloc: Global, p: &Process) -> Result<bool, Mem>
+    ensures { IfOk result (λ b. IsTrue b ↔ HaveOneArity (events (proc p.now))) }
+{
+    let mut seen: BTreeMap<Name, u64> = BTreeMap::new(alloc);
+    takes_events(alloc, &mut seen, p)
+}
+
+fn has_free_names(p: &Process) -> bool
+    ensures { IsTrue result ↔ NoReservedEvents (proc p.now) }
+{
+    match p {
+        Process::Nil => true,
+        Process::Par(left, right) => has_free_names(left) && has_free_names(right),
+        Process::Event(fact, then) => !is_reserved(&fact.name) && has_free_names(then),
+    }
+}
+
+/// Whether a process has few nodes, no event of a reserved name, and no event name with two arities.
+pub fn is_within_limits(alloc: Global, p: &Process) -> Result<bool, Mem>
+    ensures {
+        IfOk result (λ b. IsTrue b ↔ ((node_count (proc p.now) ≤ 4000) × NoReservedEvents (proc p.now) × HaveOneArity (events (proc p.now))))
+    }
+{
+    if p.nodes() > 4000 || !has_free_names(p) {
+        Ok(false)
+    } else {
+        has_one_arity(alloc, p)
+    }
+}
