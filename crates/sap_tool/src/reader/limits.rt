@@ -1,4 +1,7 @@
 ghost use Rattle.std.specs.Prelude.{◌≡◌, ◌≤◌, ◌∷◌, ◌↔◌, [], IsTrue, IfOk, true};
+ghost use Rattle.std.specs.Prelude.{not};
+ghost use Rattle.std.specs.List.{list_all};
+ghost use Rattle.sap_terms.specs.Reserved.{is_reserved};
 ghost use Rattle.sap_process.specs.Proc.{proc, events, node_count};
 ghost use Rattle.sap_tool.specs.Events.{HaveOneArity, NoReservedEvents};
 ghost use Rattle.sap_tool.specs.Arities.{Takes};
@@ -48,14 +51,21 @@ fn has_one_arity(alloc: Global, p: &Process) -> Result<bool, Mem>
     takes_events(alloc, &mut seen, p)
 }
 
-fn has_free_names(p: &Process) -> bool
-    ensures { IsTrue result ↔ NoReservedEvents (proc p.now) }
+#[tactic(auto, using(crate::proofs::Names::names))]
+fn are_names_free(p: &Process) -> bool
+    ensures { result ≡ list_all (λ f. not (is_reserved f.name)) (events (proc p.now)) }
 {
     match p {
         Process::Nil => true,
-        Process::Par(left, right) => has_free_names(left) && has_free_names(right),
-        Process::Event(fact, then) => !is_reserved(&fact.name) && has_free_names(then),
+        Process::Par(left, right) => are_names_free(left) && are_names_free(right),
+        Process::Event(fact, then) => !is_reserved(&fact.name) && are_names_free(then),
     }
+}
+
+fn has_free_names(p: &Process) -> bool
+    ensures { IsTrue result ↔ NoReservedEvents (proc p.now) }
+{
+    are_names_free(p)
 }
 
 /// Whether a process has few nodes, no event of a reserved name, and no event name with two arities.
