@@ -1,5 +1,5 @@
 -- Reading words from the left, within a number of levels.
-use Rattle.std.specs.Prelude.{◌≡◌, ℕ, zero, suc, ◌+◌, max, Bool, true, false, nat_le, if◌then◌else◌, codes, List, [], ◌∷◌, ◌++◌, length, drop, Option, Some, None}
+use Rattle.std.specs.Prelude.{ℕ, zero, suc, ◌+◌, max, Bool, false, ◌&&◌, ◌==◌, nat_le, if◌then◌else◌, codes, List, [], ◌∷◌, ◌++◌, length, drop, Option, Some, None}
 use Rattle.std.specs.Str.{bytes_eq}
 use Rattle.sap_terms.specs.declared.fact.Fact.{Fact}
 use Rattle.sap_terms.specs.Tree.{Tree, public}
@@ -127,17 +127,20 @@ unfoldable mutual
   par zero = λ ws. None
   par (suc d) = par_at (seq_at (seq d) (par d) d) (par d) d
 
--- the process, where `end` alone is left
-abbrev pub ended : List ℕ → Read Written → Option (List ℕ × Written)
-ended n None = None
-ended n (Some p) = if starts (codes "end") p.1 then only (drop 1 p.1) (n, p.0) else None
-  where
-    only : List Word → List ℕ × Written → Option (List ℕ × Written)
-    only [] w = Some w
-    only (x ∷ xs) w = None
+-- `end` alone is left
+abbrev pub is_end : List Word → Bool
+is_end ws = starts (codes "end") ws && length ws == 1
 
 -- whether the header stands first, but for the theory's name
 abbrev pub has_header : List Word → Bool
-has_header ws =
-    if starts (codes "theory") ws then (if starts (codes "begin") (drop 2 ws) then (if starts (codes "process") (drop 3 ws) then starts (codes ":") (drop 4 ws) else false) else false)
-    else false
+has_header ws = starts (codes "theory") ws && starts (codes "begin") (drop 2 ws) && starts (codes "process") (drop 3 ws) && starts (codes ":") (drop 4 ws)
+
+-- the name and the process, where `end` alone is left behind it
+abbrev pub theory : Option (List ℕ) → Read Written → Option (List ℕ × Written)
+theory None r = None
+theory (Some n) None = None
+theory (Some n) (Some p) = if is_end p.1 then Some (n, p.0) else None
+
+-- all of the words: a theory's name, and its process of at most 300 levels
+abbrev pub whole : List Word → Option (List ℕ × Written)
+whole ws = if has_header ws then theory (name_at (drop 1 ws)) (par 300 (drop 5 ws)) else None

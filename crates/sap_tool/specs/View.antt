@@ -7,6 +7,7 @@ use Rattle.sap_terms.specs.Tree.{Tree}
 use Rattle.sap_process.specs.declared.process.Process.{Process}
 use Rattle.sap_process.specs.Proc.{proc}
 use Rattle.sap_text.specs.declared.token.Token.{Token}
+use Rattle.sap_tool.specs.declared.reader.FirstFile.{FirstFile}
 use Rattle.sap_tool.specs.Words.{words_of}
 use Rattle.sap_tool.specs.Reading.{Read, Written}
 
@@ -32,3 +33,9 @@ Gives bytes (Ok (Some p)) read = read ≡ Some ((proc p.0, p.1), words_of bytes 
 abbrev pub MayGive : List ℕ → Option (Process × ℕ × Bor (List Token)) → Read Written → Type 0
 MayGive bytes None read = read ≡ None
 MayGive bytes (Some p) read = read ≡ Some ((proc p.0, p.1), words_of bytes p.2.now)
+
+-- the same name and process, with some number of levels
+abbrev pub GivesTheory : Result (Option FirstFile) Mem → Option (List ℕ × Written) → Type 0
+GivesTheory (Err e) read = ⊤
+GivesTheory (Ok None) read = read ≡ None
+GivesTheory (Ok (Some f)) read = (levels : ℕ) × (read ≡ Some (f.name, (proc f.process, levels)))
