@@ -83,7 +83,7 @@ pub whole_sound : (ws : List Word) (n : List ℕ) (p : Proc) (l : ℕ) → whole
 whole_sound ws n p l e = by_header (has_header ws) refl e
   where
     by_end : (m : List ℕ) (w : Written) (b : List Word) (c : Bool) → has_header ws ≡ true → name_at (drop 1 ws) ≡ Some m → IsPar w.0 w.1 (drop 5 ws) b × (w.1 ≤ 300) → is_end b ≡ c
-        → (if c then Some (m, w) else None) ≡ Some (n, (p, l)) → SpellsTheory ws n p l × (l ≤ 300)
+        → if◌then◌else◌ {A = Option (List ℕ × Written)} c (Some (m, w)) None ≡ Some (n, (p, l)) → SpellsTheory ws n p l × (l ≤ 300)
     by_end m w b true h o s i f =
         let both : ◌≡◌ {A = List ℕ × Written} (m, w) (n, (p, l)) = cc in
         let found : SpellsTheory ws m w.0 w.1 × (w.1 ≤ 300) =
