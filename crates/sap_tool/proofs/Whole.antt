@@ -6,7 +6,8 @@ use Rattle.sap_text.specs.Tokens.{Lexed, IsLexed}
 use Rattle.sap_process.specs.Proc.{Proc, node_count, events}
 use Rattle.sap_tool.specs.Words.{Word, mark, name, words_of}
 use Rattle.sap_tool.specs.Grammar.{IsPar}
-use Rattle.sap_tool.specs.Events.{NoReservedEvents, HaveOneArity}
+use Rattle.sap_gen.specs.Faithful.{NoReservedEvents}
+use Rattle.sap_tool.specs.Events.{HaveOneArity}
 use Rattle.sap_tool.specs.FirstFile.{IsFile, SpellsTheory, only_blanks}
 use Rattle.sap_tool.specs.Reading.{Read, Written, has_header, is_end, name_at, par, starts, theory, whole}
 use Rattle.sap_tool.proofs.Complete.{Ends, one_reading, par_read}
@@ -109,11 +110,6 @@ whole_complete ws n p l s le = rw s.header (rw (par_read s.spelled 300 le at_end
 module _ (z : List ℕ) (ts : List Token) (only : (us : List Token) → IsLexed 64 0 1 z (Ok us) → us ≡ ts) where
   same_spelling : (n : List ℕ) (p : Proc) (f : IsFile z n p) → SpellsTheory (words_of z ts) n p f.levels
   same_spelling n p f = subst (λ (y : List Token). SpellsTheory (words_of z y) n p f.levels) (only f.tokens f.lexed) f.spelled
-
-  pub no_blanks : only_blanks z 0 ts ≡ false → (n : List ℕ) (p : Proc) → IsFile z n p → ⊥
-  no_blanks e n p f =
-      let clear : only_blanks z 0 ts ≡ true = subst (λ (y : List Token). only_blanks z 0 y ≡ true) (only f.tokens f.lexed) f.uncommented in
-      cc (clear, e)
 
   pub no_theory : whole (words_of z ts) ≡ None → (n : List ℕ) (p : Proc) → IsFile z n p → ⊥
   no_theory e n p f = let read = whole_complete (words_of z ts) n p f.levels (same_spelling n p f) f.few_levels in cc (read, e)

@@ -3,16 +3,13 @@ use Rattle.std.specs.Prelude.{◌≡◌, ℕ, ◌+◌, Bool, true, false, ◌&&�
 use Rattle.sap_terms.specs.declared.fact.Fact.{Fact}
 use Rattle.sap_terms.specs.Tree.{Tree, public}
 use Rattle.sap_process.specs.Proc.{Proc, nil, parallel, event}
+use Rattle.sap_gen.specs.ReservedFacts.{linear}
 use Rattle.sap_tool.specs.Words.{Word, mark, name, number, quoted}
 
 -- it begins with a capital letter
 abbrev pub is_upper : List ℕ → Bool
 is_upper [] = false
 is_upper (b ∷ rest) = nat_le 65 b && nat_le b 90
-
--- the linear fact of this name
-abbrev pub linear : List ℕ → List Tree → Fact
-linear f args = record { name = f; persistent = false; args = args }
 
 -- quoted names, one or more, with commas between them and a closing parenthesis behind
 pub data IsArgList : List Tree → List Word → List Word → Type 0 where

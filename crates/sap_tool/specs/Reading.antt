@@ -4,8 +4,9 @@ use Rattle.std.specs.Str.{bytes_eq}
 use Rattle.sap_terms.specs.declared.fact.Fact.{Fact}
 use Rattle.sap_terms.specs.Tree.{Tree, public}
 use Rattle.sap_process.specs.Proc.{Proc, nil, parallel, event}
+use Rattle.sap_gen.specs.ReservedFacts.{linear}
 use Rattle.sap_tool.specs.Words.{Word, mark, name, number, quoted}
-use Rattle.sap_tool.specs.Grammar.{is_upper, linear}
+use Rattle.sap_tool.specs.Grammar.{is_upper}
 
 abbrev pub is_mark : List ℕ → Word → Bool
 is_mark m (mark s) = bytes_eq s m

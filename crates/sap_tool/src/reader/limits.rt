@@ -3,7 +3,8 @@ ghost use Rattle.std.specs.Prelude.{not};
 ghost use Rattle.std.specs.List.{list_all};
 ghost use Rattle.sap_terms.specs.Reserved.{is_reserved};
 ghost use Rattle.sap_process.specs.Proc.{proc, events, node_count};
-ghost use Rattle.sap_tool.specs.Events.{HaveOneArity, NoReservedEvents};
+ghost use Rattle.sap_gen.specs.Faithful.{NoReservedEvents};
+ghost use Rattle.sap_tool.specs.Events.{HaveOneArity};
 ghost use Rattle.sap_tool.specs.Arities.{Takes};
 
 use sap_process::Process;
