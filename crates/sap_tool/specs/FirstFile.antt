@@ -4,9 +4,9 @@ use Rattle.std.specs.List.{list_all}
 use Rattle.sap_text.specs.declared.token.Token.{Token}
 use Rattle.sap_text.specs.Tokens.{IsLexed, is_blank}
 use Rattle.sap_process.specs.Proc.{Proc, node_count, events}
+use Rattle.sap_gen.specs.Faithful.{NoReservedEvents}
 use Rattle.sap_tool.specs.Words.{Word, mark, name, words_of}
 use Rattle.sap_tool.specs.Grammar.{IsPar}
-use Rattle.sap_gen.specs.Faithful.{NoReservedEvents}
 use Rattle.sap_tool.specs.Events.{HaveOneArity}
 
 -- from this place on, the bytes outside of the tokens are blanks

@@ -15,6 +15,7 @@ mod top;
 pub use file_shelf::FileShelf;
 pub use mem_shelf::MemShelf;
 pub use mem_sink::MemSink;
+pub use reader::{one_file, one_process};
 pub use shelf::{Shelf, ShelfFault};
 pub use sink::{Sink, SinkFault};
 pub use stream_sink::StreamSink;
