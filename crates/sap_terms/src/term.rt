@@ -71,6 +71,15 @@ impl TermList {
         Ok(())
     }
 
+    /// Takes the term at a place that the list has, from 0, out of it; the other terms are dropped.
+    pub fn into_item(self, k: u64) -> Term
+        requires { k < length self }
+        ensures { slice_get self k ≡ Some (tree result) }
+    {
+        let mut items = self.items;
+        items.swap_remove(k as usize)
+    }
+
     /// The number of terms.
     pub fn len(&self) -> u64
         ensures { result ≡ length self.now }
