@@ -47,9 +47,9 @@ trace_pending full tr x e =
 trace_shown : (full tr : Trace) (acts : List Fact) (f : Fact) → hide full ≡ tr ++ [] → visible acts ≡ f ∷ [] → hide (full ++ acts ∷ []) ≡ (tr ++ shown (f ∷ [])) ++ []
 trace_shown full tr acts f e h =
     hide_push full acts
-        ∙ ap (λ v. hide full ++ shown v) h
-        ∙ ap (λ x. x ++ shown (f ∷ [])) (e ∙ append-nil tr)
-        ∙ sym (append-nil (tr ++ shown (f ∷ [])))
+    ∙ ap (λ v. hide full ++ shown v) h
+    ∙ ap (λ x. x ++ shown (f ∷ [])) (e ∙ append-nil tr)
+    ∙ sym (append-nil (tr ++ shown (f ∷ [])))
 
 -- an agent is placed where one that equals it is
 placed_as : (start : Proc) {a b : Agent} → Some a ≡ Some b → IsPlaced start a → IsPlaced start b

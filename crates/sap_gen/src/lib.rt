@@ -9,3 +9,6 @@ mod rule;
 pub use faithful::rules_show_the_process;
 pub use generation::generate;
 pub use rule::{Rule, RuleList};
+
+#[cfg(test)]
+mod tests;
