@@ -1,0 +1,16 @@
+//! The top call of the program, and what it reads from and writes to.
+#![tactic(auto)]
+
+mod file_shelf;
+mod mem_shelf;
+mod mem_sink;
+mod shelf;
+mod sink;
+mod stream_sink;
+
+pub use file_shelf::FileShelf;
+pub use mem_shelf::MemShelf;
+pub use mem_sink::MemSink;
+pub use shelf::{Shelf, ShelfFault};
+pub use sink::{Sink, SinkFault};
+pub use stream_sink::StreamSink;
