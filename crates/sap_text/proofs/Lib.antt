@@ -6,3 +6,4 @@ pub mod Unique
 pub mod Ordered
 pub mod Placed
 pub mod Digits
+pub mod Total

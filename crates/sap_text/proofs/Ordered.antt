@@ -1,6 +1,6 @@
 -- The tokens' spans are in order.
 use Rattle.std.proofs.Common.{◌≡◌, ◌≤◌, ◌<◌, ◌+◌, ℕ, zero, suc, List, [], ◌∷◌, ◌++◌, length, refl, sym, ap, ◌∙◌, subst, arith}
-use Rattle.std.specs.Prelude.{Result, Ok, Err, Some, slice_get, IfOk, Vec, slice_index_or}
+use Rattle.std.specs.Prelude.{Result, Ok, Err, Some, slice_get, IfOk, ⊤, Vec, slice_index_or}
 use Rattle.std.specs.declared.alloc.Global.{Global}
 use Rattle.sap_text.specs.declared.fault.Lex.{Lex}
 use Rattle.sap_text.specs.Told.{Told}
@@ -8,8 +8,13 @@ use Rattle.std.specs.List.{All}
 use Rattle.std.proofs.lemmas.Grind.{common_steps}
 use Rattle.sap_text.specs.declared.token.Token.{Token}
 use Rattle.sap_text.specs.Tokens.{Lexed, before, IsLexed, ended, skipped, taken, long, failed}
-use Rattle.sap_text.specs.Spans.{InOrder, AreInOrder, AreTokens, IsWithin, text_of}
+use Rattle.sap_text.specs.Spans.{InOrder, AreTokens, IsWithin, text_of}
 use Rattle.sap_text.proofs.Classes.{token_some}
+
+-- the spans of an answer are in order
+abbrev pub AreInOrder : ℕ → ℕ → Lexed → Type 0
+AreInOrder at end (Ok ts) = InOrder at end ts
+AreInOrder at end (Err f) = ⊤
 
 size : (p b : List ℕ) → length (p ++ b) ≡ length p + length b
 size p b = grind (arith, common_steps)

@@ -381,7 +381,7 @@ module _ (at b : ℕ) (z : List ℕ) (none : begins_comment (b ∷ z) ≡ false)
       below_two (x ∷ y ∷ u ∷ []) c three two e t = absurd (three (x ∷ y ∷ u ∷ []) c e refl t)
       below_two (x ∷ y ∷ u ∷ w ∷ q) c three two e t = absurd (omega (arith, symbol_small (x ∷ y ∷ u ∷ w ∷ q) t))
 
-stands : (at b : ℕ) (z : List ℕ) → Stands at (b ∷ z) (front_at at b z)
+pub stands : (at b : ℕ) (z : List ℕ) → Stands at (b ∷ z) (front_at at b z)
 unfolding front_at
 stands at b z =
     let P : Front → Type 0 = Stands at (b ∷ z) in
@@ -417,7 +417,7 @@ front_within at z (front.Taken k n) s =
     (omega (arith, token_some s.is.is, s.counts), omega (arith, whole, s.counts))
 front_within at z (front.Fault f) s = tt
 
-front_fits : (at b : ℕ) (z : List ℕ) → Within (length (b ∷ z)) (front_at at b z)
+pub front_fits : (at b : ℕ) (z : List ℕ) → Within (length (b ∷ z)) (front_at at b z)
 front_fits at b z = front_within at (b ∷ z) (front_at at b z) (stands at b z)
 
 pub stands_whole : (at : ℕ) {b : ℕ} {z : List ℕ} {f : Front} (w : List ℕ) → f ≡ front_at at b z → w ≡ b ∷ z → Stands at w f

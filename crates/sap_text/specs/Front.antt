@@ -1,4 +1,4 @@
--- What stands first among the bytes, computed.
+-- What stands first among the bytes, as the code finds it. No public contract cites this file.
 use Rattle.std.specs.Prelude.{◌≡◌, ◌≤◌, ℕ, ◌+◌, ◌&&◌, ◌==◌, nat_lt, if◌then◌else◌, List, [], ◌∷◌, ◌++◌, length, take, drop, slice_index, Option, Some, None, option_map, Ok, Err, ⊤}
 use Rattle.std.specs.List.{prefix_len}
 use Rattle.std.specs.Char.{is_ascii_alphabetic, is_ascii_digit}
@@ -14,6 +14,7 @@ abbrev pub close_at : List ℕ → Option ℕ
 close_at [] = None
 close_at (b ∷ z) = if starts_two 42 47 (b ∷ z) then Some 0 else option_map (λ n. n + 1) (close_at z)
 
+-- the length of the longest symbol that stands first, or 0
 abbrev pub symbol_len : List ℕ → ℕ
 symbol_len z =
     if is_symbol (take 3 z) then length (take 3 z)
@@ -29,10 +30,12 @@ quote_front at z =
     else front.Fault (fault.BadByte (at + (prefix_len is_content z + 1))))
     else front.Fault (fault.OpenQuote at)
 
+-- a comment at this place, whose end stands so far behind its `/*`
 abbrev pub comment_front : ℕ → Option ℕ → Front
 comment_front at None = front.Fault (fault.OpenComment at)
 comment_front at (Some n) = front.Skip (n + 4)
 
+-- what stands at this place, b and then z
 unfoldable pub front_at : ℕ → ℕ → List ℕ → Front
 front_at at b z =
     if is_blank b then front.Skip 1
@@ -44,7 +47,7 @@ front_at at b z =
     else if symbol_len (b ∷ z) == 0 then front.Fault (fault.BadByte at)
     else front.Taken kind.Symbol (symbol_len (b ∷ z))
 
--- the n first bytes are a part of this kind
+-- the n first bytes of z, and what follows them, are as R says
 pub record AtFront (R : List ℕ → List ℕ → Type 0) (z : List ℕ) (n : ℕ) : Type 0 where
   pub part : List ℕ
   pub rest : List ℕ
@@ -52,16 +55,19 @@ pub record AtFront (R : List ℕ → List ℕ → Type 0) (z : List ℕ) (n : �
   pub counts : length part ≡ n
   pub is : R part rest
 
+-- this front stands first in z, which stands at this place
 abbrev pub Stands : ℕ → List ℕ → Front → Type 0
 Stands at z (front.Skip n) = AtFront IsSkip z n
 Stands at z (front.Taken k n) = AtFront (IsLongest k) z n
 Stands at z (front.Fault f) = IsFault at z f
 
+-- it has at least one byte, and at most so many
 abbrev pub Within : ℕ → Front → Type 0
 Within most (front.Skip n) = (1 ≤ n) × (n ≤ most)
 Within most (front.Taken k n) = (1 ≤ n) × (n ≤ most)
 Within most (front.Fault f) = ⊤
 
+-- the tokens before those of an answer
 abbrev pub all_before : List Token → Lexed → Lexed
 all_before ts (Ok us) = Ok (ts ++ us)
 all_before ts (Err f) = Err f

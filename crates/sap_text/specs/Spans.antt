@@ -1,16 +1,12 @@
--- Spans in order.
-use Rattle.std.specs.Prelude.{◌≤◌, ◌<◌, ℕ, ◌-◌, List, [], ◌∷◌, take, drop, Ok, Err, ⊤}
+-- Spans of tokens, and the bytes in them.
+use Rattle.std.specs.Prelude.{◌≤◌, ◌<◌, ℕ, ◌-◌, List, [], ◌∷◌, take, drop, Ok}
 use Rattle.sap_text.specs.declared.token.Token.{Token}
-use Rattle.sap_text.specs.Tokens.{Lexed, IsLexed}
+use Rattle.sap_text.specs.Tokens.{IsLexed}
 
 -- none empty, none over another, all from this place up to this end
 abbrev pub InOrder : ℕ → ℕ → List Token → Type 0
 InOrder at end [] = at ≤ end
 InOrder at end (t ∷ ts) = (at ≤ t.from) × (t.from < t.to) × InOrder t.to end ts
-
-abbrev pub AreInOrder : ℕ → ℕ → Lexed → Type 0
-AreInOrder at end (Ok ts) = InOrder at end ts
-AreInOrder at end (Err f) = ⊤
 
 -- not empty, and inside bytes of this length
 abbrev pub IsWithin : ℕ → Token → Type 0

@@ -1,4 +1,4 @@
--- What `tokens` answers.
+-- The answer is what the bytes give; of want of memory nothing is said.
 use Rattle.std.specs.Prelude.{ℕ, List, Result, Ok, Err, ⊤, Vec}
 use Rattle.std.specs.declared.alloc.Global.{Global}
 use Rattle.sap_text.specs.declared.token.Token.{Token}

@@ -4,6 +4,11 @@ ghost use Rattle.sap_text.specs.declared.token.Token.{Token};
 ghost use Rattle.sap_text.specs.Tokens.{IsToken, Lexed, IsLexed, line_feeds};
 ghost use Rattle.sap_text.specs.Spans.{AreTokens, InOrder, text_of};
 
+/// A law: any bytes give an answer.
+pub fn some_answer()
+    ensures { (most : ℕ) (z : List ℕ) → ((o : Lexed) × IsLexed most 0 1 z o) }
+{}
+
 /// A law: the bytes give at most one answer.
 pub fn one_answer()
     ensures { (most : ℕ) (z : List ℕ) (o u : Lexed) → IsLexed most 0 1 z o → IsLexed most 0 1 z u → o ≡ u }

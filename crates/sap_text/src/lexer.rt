@@ -52,9 +52,10 @@ fn read_tokens(alloc: Global, bytes: &[u8], longest: u64) -> Result<Vec<Token>, 
     Ok(out)
 }
 
-/// The tokens of the bytes in order, where no identifier, number or quoted content has more than `longest` bytes,
-/// or the fault that stands first. Blanks and comments (`//` to the line's end, `/*` to the next `*/`) stand between
-/// tokens, and the longest token is taken.
+/// The tokens of the bytes in order, where no identifier, number or quoted content has more than `longest` bytes.
+/// Between them stand blanks and comments alone: `//` to the end of the line, `/*` to the next `*/`, neither of them
+/// nested. The longest token is taken. The work is linear in the bytes, the memory in the tokens. Of several faults the
+/// one that stands first is answered; want of memory can come before it.
 pub fn tokens(alloc: Global, bytes: &[u8], longest: u64) -> Result<Vec<Token>, Lex>
     ensures told { Told longest bytes.now result }
     ensures in_order { IfOk result (λ v. InOrder 0 (length bytes.now) v.items) }
@@ -71,7 +72,7 @@ fn part(bytes: &[u8], token: Token) -> &[u8]
     &bytes[token.from as usize..token.to as usize]
 }
 
-/// The bytes of the k-th token, from 0.
+/// The bytes of the k-th token, from 0, lent from those that the tokens were read from.
 pub fn token_bytes<'a>(bytes: &'a [u8], tokens: &[Token], k: usize) -> &'a [u8]
     requires tokens { AreTokens bytes.now tokens.now }
     requires inside { k < length tokens.now }

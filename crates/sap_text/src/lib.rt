@@ -11,7 +11,9 @@ mod text;
 mod token;
 
 pub use fault::Lex;
-pub use laws::{lines_are_counted, longest_is_taken, one_answer, spans_are_tokens, spans_in_order};
+pub use laws::{
+    lines_are_counted, longest_is_taken, one_answer, some_answer, spans_are_tokens, spans_in_order,
+};
 pub use lexer::{token_bytes, tokens};
 pub use text::Text;
 pub use token::{Kind, Token};

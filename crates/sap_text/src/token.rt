@@ -1,4 +1,5 @@
-/// What kind of token some bytes are.
+/// What kind of token some bytes are. The kinds, the symbols and the two forms of comment are those of theories and SAPIC
+/// processes as the manual of the Tamarin prover writes them; names are plain ASCII here.
 #[derive(Clone, Copy, Debug, PartialEq, Eq)]
 pub enum Kind {
     /// A letter from a to z or A to Z, then letters, digits and `_`.

@@ -129,7 +129,11 @@ fn tokens_of_bytes(rt: HostRuntime) {
     ];
     for (bytes, longest, expected) in cases {
         let found = shown(rt.alloc(), bytes, longest).expect(&rt, "memory");
-        assert_eq!(rt; found.as_str(), expected, "of {longest}");
+        assert_eq!(rt;
+            found.as_str(),
+            expected,
+            "names of at most {longest} bytes"
+        );
     }
 }
 
