@@ -135,4 +135,3 @@ a_file z ts n p l short lexed clear e limits =
       free = limits.1;
       one_arity = limits.2;
     }
-
