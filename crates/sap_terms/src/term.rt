@@ -1,4 +1,4 @@
-ghost use Rattle.std.specs.Prelude.{◌≡◌, ◌<◌, ◌↔◌, [], ◌∷◌, ◌++◌, length, IsTrue, OnOk, OnErr, slice_get, option_map, min, map, Some, slice_index_or};
+ghost use Rattle.std.specs.Prelude.{◌≡◌, ◌<◌, ◌↔◌, [], ◌∷◌, ◌++◌, length, IsTrue, IfOk, OnOk, OnErr, slice_get, option_map, min, map, Some, slice_index_or, ◌≤◌};
 ghost use Rattle.std.specs.Option.{option_copied};
 ghost use Rattle.sap_terms.specs.Same.{same_tree};
 
@@ -51,7 +51,7 @@ impl Model for TermList {
 
 impl TermList {
     ghost use Rattle.sap_terms.specs.View.{tree};
-    ghost use Rattle.sap_terms.specs.Tree.{trees_of, trees_count, trees_levels};
+    ghost use Rattle.sap_terms.specs.Tree.{node_count, trees_of, trees_count, trees_levels};
 
     /// The empty list. It takes no memory.
     pub fn new(alloc: Global) -> TermList
@@ -94,11 +94,13 @@ impl TermList {
         self.items.get(k as usize)
     }
 
-    /// The term at a place that the list has.
+    /// The term at a place that the list has, which is smaller than the list.
+    #[tactic(auto, using(crate::proofs::TreeLemmas::list_laws))]
     pub fn at(&self, k: u64) -> &Term
         requires { k < length self.now }
         ensures got { slice_get self.now k ≡ Some (tree result.now) }
         ensures item { tree result.now ≡ slice_index_or self.now k (tree result.now) }
+        ensures smaller { node_count (tree result.now) ≤ trees_count (trees_of self.now) }
     {
         &self.items[k as usize]
     }

@@ -1,0 +1,14 @@
+pub mod Joins
+pub mod Totals
+pub mod Lookups
+pub mod FactTests
+pub mod StateFacts
+pub mod PlaceRules
+pub mod Free
+pub mod Visible
+pub mod Control
+pub mod Kept
+pub mod Forward
+pub mod Back
+pub mod Example
+pub mod AnyMoment

@@ -1,0 +1,106 @@
+-- What is hidden, and which traces are admitted, after one more place.
+use Rattle.std.proofs.Common.{◌≡◌, ℕ, zero, suc, ◌+◌, ◌<◌, ◌≤◌, ◌⊎◌, inl, inr, List, [], ◌∷◌, ◌++◌, Some, refl, sym, ap, ◌∙◌, arith, Bool, true, false, cond, append_assoc, append-nil, slice_get, length, not, subst, ◌&&◌}
+use Rattle.std.specs.Prelude.{codes}
+use Rattle.std.specs.Str.{bytes_eq}
+use Rattle.sap_terms.specs.Reserved.{is_reserved}
+use Rattle.sap_terms.specs.declared.fact.Fact.{Fact}
+use Rattle.sap_gen.specs.Members.{Member}
+use Rattle.sap_gen.specs.ReservedFacts.{init_fact, event_fact}
+use Rattle.sap_gen.specs.Shown.{Trace, shown}
+use Rattle.sap_gen.specs.Traces.{hide, visible, is_hidden, HasFact, IsAdmitted}
+use Rattle.sap_gen.specs.Relation.{has_init, same_fact, total}
+use Rattle.sap_gen.proofs.Totals.{total-append, total_found, Found}
+use Rattle.sap_gen.proofs.FactTests.{same_fact_true}
+
+pub hide_push : (full : Trace) (place : List Fact) → hide (full ++ place ∷ []) ≡ hide full ++ shown (visible place)
+hide_push [] place = append-nil (shown (visible place))
+hide_push (x ∷ full) place =
+    ap (λ tr. shown (visible x) ++ tr) (hide_push full place) ∙ sym (append_assoc (shown (visible x)) (hide full) (shown (visible place)))
+
+not_hidden : (name : List ℕ) → is_reserved name ≡ false → is_hidden name ≡ false
+not_hidden name e = ap (λ b. b && not (bytes_eq name (codes "K"))) e
+
+not_init : (f : Fact) → is_reserved f.name ≡ false → same_fact f init_fact ≡ false
+not_init f e = go (same_fact f init_fact) refl
+  where
+    go : (b : Bool) → same_fact f init_fact ≡ b → b ≡ false
+    go true h = sym (ap (λ (g : Fact). is_reserved g.name) (same_fact_true f init_fact h)) ∙ e
+    go false h = refl
+
+-- the acts of an event
+pub event_visible : (f : Fact) → is_reserved f.name ≡ false → visible (event_fact ∷ f ∷ []) ≡ f ∷ []
+event_visible f e = ap (λ b. cond (not b) (f ∷ []) []) (not_hidden f.name e)
+
+pub event_no_init : (f : Fact) → is_reserved f.name ≡ false → has_init (event_fact ∷ f ∷ []) ≡ 0
+event_no_init f e = ap (λ b. cond b 1 0) (not_init f e)
+
+-- look-ups in longer lists
+get-append_left : {A : Type 0} (xs ys : List A) (i : ℕ) (x : A) → slice_get xs i ≡ Some x → slice_get (xs ++ ys) i ≡ Some x
+get-append_left [] ys i x e = cc
+get-append_left (y ∷ xs) ys zero x e = e
+get-append_left (y ∷ xs) ys (suc i) x e = get-append_left xs ys i x e
+
+get_last : {A : Type 0} (xs : List A) (x : A) → slice_get (xs ++ x ∷ []) (length xs) ≡ Some x
+get_last [] x = refl
+get_last (y ∷ xs) x = get_last xs x
+
+get_within : {A : Type 0} (xs : List A) (i : ℕ) (x : A) → slice_get xs i ≡ Some x → i < length xs
+get_within [] i x e = cc
+get_within (y ∷ xs) zero x e = omega arith
+get_within (y ∷ xs) (suc i) x e = let h = get_within xs i x e in omega arith
+
+pub admitted_before : (full : Trace) (place : List Fact) → IsAdmitted (full ++ place ∷ []) → IsAdmitted full
+admitted_before full place h i j a b =
+    h i j (a.0, get-append_left full (place ∷ []) i a.0 a.1, a.2) (b.0, get-append_left full (place ∷ []) j b.0 b.1, b.2)
+
+has_init_member : (place : List Fact) → 0 < has_init place → Member init_fact place
+has_init_member [] h = absurd (omega arith)
+has_init_member (f ∷ fs) h = go (same_fact f init_fact) refl (has_init_member fs)
+  where
+    go : (b : Bool) → same_fact f init_fact ≡ b → (0 < has_init fs → Member init_fact fs) → Member init_fact (f ∷ fs)
+    go true e more = subst (λ g. Member g (f ∷ fs)) (same_fact_true f init_fact e) Member.here
+    go false e more = Member.later (more (subst (λ b. 0 < cond b 1 (has_init fs)) e h))
+
+member_has_init : (place : List Fact) → Member init_fact place → has_init place ≡ 1
+member_has_init [] m = elim m [ ]
+member_has_init (f ∷ fs) Member.here = refl
+member_has_init (f ∷ fs) (Member.later m) = go (same_fact f init_fact) (member_has_init fs m)
+  where
+    go : (b : Bool) → has_init fs ≡ 1 → cond b 1 (has_init fs) ≡ 1
+    go true e = refl
+    go false e = e
+
+-- one place weighs at most what all do
+one_place : {A : Type 0} (w : A → ℕ) (xs : List A) (i : ℕ) (x : A) → slice_get xs i ≡ Some x → w x ≤ total w xs
+one_place w [] i x e = cc
+one_place w (z ∷ xs) zero x e = let a : w z ≡ w x = cc in omega arith
+one_place w (z ∷ xs) (suc i) x e = let h = one_place w xs i x e in omega arith
+
+-- and so do two
+two_places : {A : Type 0} (w : A → ℕ) (xs : List A) (i j : ℕ) (x y : A) → slice_get xs i ≡ Some x → slice_get xs j ≡ Some y → (i ≡ j) ⊎ (w x + w y ≤ total w xs)
+two_places w [] i j x y e f = cc
+two_places w (z ∷ xs) zero zero x y e f = inl refl
+two_places w (z ∷ xs) zero (suc j) x y e f = let a : w z ≡ w x = cc in inr (let b = one_place w xs j y f in omega arith)
+two_places w (z ∷ xs) (suc i) zero x y e f = let a : w z ≡ w y = cc in inr (let b = one_place w xs i x e in omega arith)
+two_places w (z ∷ xs) (suc i) (suc j) x y e f = elim (two_places w xs i j x y e f) [ inl a ↦ inl (ap suc a) | inr b ↦ inr (omega arith) ]
+
+pub admitted_by_count : (full : Trace) → total has_init full ≤ 1 → IsAdmitted full
+admitted_by_count full h i j a b =
+    let p : has_init a.0 ≡ 1 = member_has_init a.0 a.2 in
+    let q : has_init b.0 ≡ 1 = member_has_init b.0 b.2 in
+    elim (two_places has_init full i j a.0 b.0 a.1 b.1) [ inl e ↦ e | inr g ↦ absurd (omega arith) ]
+
+-- the first Init()
+pub first_init : (full : Trace) → IsAdmitted (full ++ (init_fact ∷ []) ∷ []) → total has_init full ≡ 0
+first_init full h = go (total has_init full) refl
+  where
+    clash : 0 < total has_init full → length full < length full
+    clash g =
+        let f = total_found has_init full g in
+        let same : f.number ≡ length full = h f.number (length full) (f.item, get-append_left full ((init_fact ∷ []) ∷ []) f.number f.item f.is, has_init_member f.item f.counts) (init_fact ∷ [], get_last full (init_fact ∷ []), Member.here) in
+        let within = get_within full f.number f.item f.is in
+        omega arith
+
+    go : (n : ℕ) → total has_init full ≡ n → n ≡ 0
+    go zero e = refl
+    go (suc n) e = absurd (let c = clash (omega arith) in omega arith)

@@ -1,0 +1,26 @@
+-- What the rules of a process show is what the process shows.
+use Rattle.std.specs.Prelude.{◌≡◌, false, List, [], ◌∷◌}
+use Rattle.sap_terms.specs.Reserved.{is_reserved}
+use Rattle.sap_terms.specs.declared.fact.Fact.{Fact}
+use Rattle.sap_process.specs.Proc.{Proc, events}
+use Rattle.sap_gen.specs.declared.rule.Rule.{Rule}
+use Rattle.sap_gen.specs.ProcessSteps.{IsProcessTrace}
+use Rattle.sap_gen.specs.Shown.{Trace}
+use Rattle.sap_gen.specs.Traces.{IsVisibleTrace}
+
+-- no fact has a reserved name
+abbrev pub AreFree : List Fact → Type 0
+AreFree [] = Unit {0}
+AreFree (f ∷ fs) = (is_reserved f.name ≡ false) × AreFree fs
+
+-- no event of the process has a reserved name
+abbrev pub NoReservedEvents : Proc → Type 0
+NoReservedEvents p = AreFree (events p)
+
+-- each trace of the process is seen of an admitted run of the rules
+abbrev pub ShowsAll : Proc → List Rule → Type 0
+ShowsAll p rules = (tr : Trace) → IsProcessTrace p tr → IsVisibleTrace rules tr
+
+-- and nothing else is
+abbrev pub ShowsOnly : Proc → List Rule → Type 0
+ShowsOnly p rules = (tr : Trace) → IsVisibleTrace rules tr → IsProcessTrace p tr

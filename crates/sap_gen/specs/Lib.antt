@@ -1,0 +1,13 @@
+pub use Rattle.sap_process.specs.Proc
+pub use Rattle.sap_terms.specs.Tree
+pub use Rattle.sap_terms.specs.Reserved
+pub mod Members
+pub mod ReservedFacts
+pub mod Shown
+pub mod ProcessSteps
+pub mod RuleSteps
+pub mod Traces
+pub mod Templates
+pub mod Places
+pub mod Faithful
+pub mod Relation

@@ -1,0 +1,44 @@
+ghost use Rattle.std.specs.Prelude.{◌≡◌, [], ◌∷◌, ◌++◌, IfOk, OnOk};
+ghost use Rattle.sap_process.specs.Proc.{proc};
+ghost use Rattle.sap_gen.specs.Templates.{place_rules, rules_of};
+
+use crate::RuleList;
+use crate::place::{event_rule, init_rule, nil_rule, parallel_rule, path_below};
+use sap_process::Process;
+use sap_terms::{Items, Mem, Path, Signature};
+use std::alloc::Global;
+
+/// The rules of a process: `Init`, and then those of its places in preorder. Want of memory is the only error.
+///
+/// No form of today looks at the signature.
+pub fn generate(alloc: Global, _sig: &Signature, p: &Process) -> Result<RuleList, Mem>
+    ensures { IfOk result (λ rules. rules ≡ rules_of (proc p.now)) }
+{
+    let mut rules = Items::new(alloc);
+    rules.push(init_rule(alloc)?)?;
+    let root = Path::new(alloc);
+    add_places(alloc, &root, p, &mut rules)?;
+    Ok(rules)
+}
+
+/// Puts the rules of the places from this path on last.
+fn add_places(alloc: Global, path: &Path, p: &Process, rules: &mut RuleList) -> Result<(), Mem>
+    ensures { OnOk result (rules.new ≡ rules.old ++ place_rules path.now [] (proc p.now)) }
+{
+    match p {
+        Process::Nil => rules.push(nil_rule(alloc, path)?),
+        Process::Par(left, right) => {
+            rules.push(parallel_rule(alloc, path)?)?;
+            let first = path_below(alloc, path, 1)?;
+            add_places(alloc, &first, left, rules)?;
+            let second = path_below(alloc, path, 2)?;
+            add_places(alloc, &second, right, rules)?;
+            Ok(())
+        }
+        Process::Event(fact, next) => {
+            rules.push(event_rule(alloc, path, fact)?)?;
+            let first = path_below(alloc, path, 1)?;
+            add_places(alloc, &first, next, rules)
+        }
+    }
+}
