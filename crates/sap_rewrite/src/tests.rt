@@ -232,7 +232,7 @@ fn chain_ends(alloc: Global, times: u64) -> Option<bool> {
     Some(normal(alloc, &g, &t).ok()?.same(&term(alloc, "'a'")?))
 }
 
-// A symbol on so many names, beside 'a' in a pair of which the first part is taken.
+// A symbol on so many names.
 fn wide(alloc: Global, names: u64) -> Option<Term> {
     let mut args = TermList::new(alloc);
     for k in 0..names {
@@ -241,19 +241,17 @@ fn wide(alloc: Global, names: u64) -> Option<Term> {
     Some(Term::App(Name::from_bytes(alloc, b"f").ok()?, args))
 }
 
-// Whether the normal form of so many nodes is within the limit.
-fn is_within(alloc: Global, names: u64, most: u64) -> Option<bool>
-    requires { most < 1000 }
-{
+// Whether a normal form with so many names below one symbol is within 256 nodes.
+fn is_within(alloc: Global, names: u64) -> Option<bool> {
     let g = Signature::new(alloc).ok()?;
-    match normal_within(alloc, &g, &wide(alloc, names)?, most) {
+    match normal_within(alloc, &g, &wide(alloc, names)?, 256) {
         Ok(_) => Some(true),
         Err(Cut::Large) => Some(false),
         Err(Cut::Mem) => None,
     }
 }
 
-// The same of the first part of a pair whose second part is as wide.
+// The same of the first part of a pair whose second part has so many names.
 fn is_beside_within(alloc: Global, names: u64) -> Option<bool> {
     let g = Signature::new(alloc).ok()?;
     let mut stack: Vec<Term> = Vec::new(alloc);
@@ -269,13 +267,8 @@ fn is_beside_within(alloc: Global, names: u64) -> Option<bool> {
 fn limits_and_chains(rt: HostRuntime) -> Result<(), Fail> {
     let alloc = rt.alloc();
     assert_eq!(rt; chain_ends(alloc, 60), Some(true));
-    for (names, most, want) in [
-        (254, 256, true),
-        (255, 256, true),
-        (256, 256, false),
-        (0, 0, false),
-    ] {
-        assert_eq!(rt; is_within(alloc, names, most), Some(want), "{names}");
+    for (names, want) in [(254, true), (255, true), (256, false)] {
+        assert_eq!(rt; is_within(alloc, names), Some(want), "{names}");
     }
     // the pair has 2 nodes more than its second part
     for (names, want) in [(253, true), (254, false), (300, false)] {
