@@ -2,8 +2,15 @@ pub mod Tree
 pub mod View
 pub mod Code
 pub mod Falls
-pub mod Subst
-pub mod Signature
 pub mod Same
+pub mod Ground
+pub mod Choice
+pub mod Subst
+pub mod Variables
+pub mod Signature
+pub mod Theory
+pub mod Equal
+pub mod Normal
+pub mod Deduce
 pub mod Path
 pub mod Reserved

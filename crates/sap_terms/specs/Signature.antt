@@ -1,5 +1,5 @@
--- A signature: its symbols in order of first declaration, and the builtins that were added.
-use Rattle.std.specs.Prelude.{◌≡◌, ℕ, Bool, true, false, not, ◌&&◌, ◌||◌, nat_eq, codes, List, [], ◌∷◌, ◌++◌, Option, Some, None, MatchOption, if◌then◌else◌, option_map, is_some}
+-- Signatures: symbols with their arities and privacy, and builtins.
+use Rattle.std.specs.Prelude.{◌≡◌, ◌<◌, ℕ, Bool, true, false, not, ◌&&◌, ◌||◌, nat_eq, codes, List, [], ◌∷◌, ◌++◌, length, slice_get, Option, Some, None, MatchOption, if◌then◌else◌, option_map, is_some}
 use Rattle.std.specs.Option.{option_map_or}
 use Rattle.std.specs.Str.{bytes_eq}
 use Rattle.sap_terms.specs.declared.signature.Symbol.{Symbol}
@@ -13,10 +13,12 @@ pub record Builtins : Type 0 where
   pub asymmetric : Bool
   pub signing : Bool
 
+-- a finite map from names to symbols, in order of first declaration, and the builtins that were added
 pub record Sig : Type 0 where
   pub symbols : List Symbol
   pub builtins : Builtins
 
+-- the builtin was added
 abbrev pub has_builtin : Sig → Builtin → Bool
 has_builtin g Hashing = g.builtins.hashing
 has_builtin g Symmetric = g.builtins.symmetric
@@ -28,8 +30,14 @@ abbrev pub find_symbol : List Symbol → List ℕ → Option Symbol
 find_symbol [] n = None
 find_symbol (s ∷ ss) n = if bytes_eq s.name n then Some s else find_symbol ss n
 
+-- the arity of a held name
 abbrev pub arity_of : Sig → List ℕ → Option ℕ
 arity_of g n = option_map (λ (s : Symbol). s.arity) (find_symbol g.symbols n)
+
+-- no name stands twice
+abbrev pub IsMap : List Symbol → Type 0
+IsMap [] = Unit {0}
+IsMap (s ∷ ss) = (find_symbol ss s.name ≡ None) × IsMap ss
 
 -- the name is held and isn't private
 abbrev pub IsPublic : Sig → List ℕ → Type 0
@@ -43,10 +51,12 @@ Clashes ss n a p = MatchOption (find_symbol ss n) ⊥ (λ (s : Symbol). ¬ ((s.a
 abbrev pub declared : List Symbol → List ℕ → ℕ → Bool → List Symbol
 declared ss n a p = if is_some (find_symbol ss n) then ss else ss ++ record { name = n; arity = a; private = p } ∷ []
 
+-- the name heads the left side of an equation of pairs or of an added builtin
 abbrev pub is_destructor_of : Sig → List ℕ → Bool
 is_destructor_of g n =
     bytes_eq n (codes "fst") || bytes_eq n (codes "snd") || (bytes_eq n (codes "sdec") && g.builtins.symmetric) || (bytes_eq n (codes "adec") && g.builtins.asymmetric) || (bytes_eq n (codes "verify") && g.builtins.signing)
 
+-- a public symbol of this name and arity
 abbrev public_symbol : List ℕ → ℕ → Symbol
 public_symbol n a = record { name = n; arity = a; private = false }
 
@@ -58,16 +68,17 @@ builtin_symbols Asymmetric = public_symbol (codes "aenc") 2 ∷ public_symbol (c
 builtin_symbols Signing =
     public_symbol (codes "sign") 2 ∷ public_symbol (codes "verify") 3 ∷ public_symbol (codes "pk") 1 ∷ public_symbol (codes "true") 0 ∷ []
 
--- these symbols, one after another
+-- these symbols, one after another, each unless its name is held
 abbrev pub declared_all : List Symbol → List Symbol → List Symbol
 declared_all ss [] = ss
 declared_all ss (x ∷ xs) = declared_all (declared ss x.name x.arity x.private) xs
 
+-- both true or both false
 abbrev pub same_bool : Bool → Bool → Bool
 same_bool true b = b
 same_bool false b = not b
 
--- the name is held with another arity or privacy
+-- the symbol's name is held with another arity or privacy
 abbrev pub is_held_otherwise : List Symbol → Symbol → Bool
 is_held_otherwise ss x = option_map_or (λ (s : Symbol). not (nat_eq s.arity x.arity && same_bool s.private x.private)) (find_symbol ss x.name) false
 
@@ -76,12 +87,19 @@ abbrev pub first_clash : List Symbol → List Symbol → Option (List ℕ)
 first_clash ss [] = None
 first_clash ss (x ∷ xs) = if is_held_otherwise ss x then Some x.name else first_clash ss xs
 
+-- at place k stands the first of these symbols that is held otherwise
+pub record IsFirstClash (ss added : List Symbol) (k : ℕ) : Type 0 where
+  pub here : k < length added
+  pub name : first_clash ss added ≡ option_map (λ (s : Symbol). s.name) (slice_get added k)
+
+-- these builtins and this one
 abbrev pub with_builtin : Builtins → Builtin → Builtins
 with_builtin s Hashing = record s { hashing = true }
 with_builtin s Symmetric = record s { symmetric = true }
 with_builtin s Asymmetric = record s { asymmetric = true }
 with_builtin s Signing = record s { signing = true }
 
+-- the signature with a builtin's symbols and its equations
 abbrev pub added : Sig → Builtin → Sig
 added g b = record {
   symbols = declared_all g.symbols (builtin_symbols b);

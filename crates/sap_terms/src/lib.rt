@@ -11,6 +11,8 @@ mod reserved;
 mod signature;
 mod substitution;
 mod term;
+#[cfg(test)]
+mod tests;
 mod var;
 
 pub use binding::{Binding, Bindings};

@@ -1,13 +1,13 @@
 ghost use Rattle.std.specs.Prelude.{◌≡◌, ℕ, ◌↔◌, ◌≢◌, List, [], length, IsTrue, IsErrOf, IfErr, OnOk, OnErr, IfOk, MatchOption, option_map, slice_get, None, Some, false};
 ghost use Rattle.std.specs.Option.{option_copied};
-ghost use Rattle.sap_terms.specs.Signature.{Sig, Builtins, find_symbol, arity_of, IsPublic, Clashes, declared, has_builtin, is_destructor_of, builtin_symbols, declared_all, is_held_otherwise, first_clash, added, pairs_alone};
+ghost use Rattle.sap_terms.specs.Signature.{Sig, Builtins, find_symbol, arity_of, IsPublic, Clashes, declared, has_builtin, is_destructor_of, builtin_symbols, declared_all, is_held_otherwise, first_clash, added, pairs_alone, IsMap, IsFirstClash};
 ghost use Rattle.sap_terms.specs.declared.signature.SigFault.TheVariants.{Mem as OutOfMemory};
 
 use crate::{Copied, Items, Mem, Name};
 use std::alloc::{AllocError, AllocFailed, Global};
 use std::marker::Model;
 
-/// A symbol of a signature.
+/// A symbol of a signature. A private one is none that the adversary applies.
 #[derive(Drop)]
 pub struct Symbol {
     pub name: Name,
@@ -15,19 +15,25 @@ pub struct Symbol {
     pub private: bool,
 }
 
-/// What can be added with its equations.
+/// Symbols that are added together with the equations between them.
 #[derive(Clone, Copy, Debug, PartialEq, Eq)]
 pub enum Builtin {
+    /// `h/1`, without equations.
     Hashing,
+    /// `senc/2` and `sdec/2`: `sdec(senc(m,k),k) = m`.
     Symmetric,
+    /// `aenc/2`, `adec/2` and `pk/1`: `adec(aenc(m,pk(k)),k) = m`.
     Asymmetric,
+    /// `sign/2`, `verify/3`, `pk/1` and `true/0`: `verify(sign(m,k),m,pk(k)) = true`.
     Signing,
 }
 
-/// Why a declaration is refused.
+/// Why a symbol or a builtin is refused.
 #[derive(Drop)]
 pub enum SigFault {
+    /// Want of memory.
     Mem,
+    /// This name is held with another arity or privacy.
     Clash { name: Name },
 }
 
@@ -39,7 +45,7 @@ impl From<Mem> for SigFault {
     }
 }
 
-/// Symbols with their arities, and the builtins.
+/// Symbols with their arities and privacy, in order of first declaration, and builtins. No name stands twice.
 #[derive(Drop)]
 pub struct Signature {
     symbols: Items<Symbol>,
@@ -50,7 +56,7 @@ pub struct Signature {
 }
 
 impl Model for Signature {
-    ghost use Rattle.sap_terms.specs.Signature.{Sig};
+    ghost use Rattle.sap_terms.specs.Signature.{Sig, IsMap};
 
     ghost Value = { Sig };
 
@@ -58,6 +64,8 @@ impl Model for Signature {
       symbols = a.symbols;
       builtins = record { hashing = a.hashing; symmetric = a.symmetric; asymmetric = a.asymmetric; signing = a.signing };
     } };
+
+    ghost invariant = { λ a. IsMap a.symbols };
 }
 
 // The held symbol of a name.
@@ -90,6 +98,7 @@ impl Signature {
         })
     }
 
+    /// Whether the builtin was added.
     pub fn has(&self, b: Builtin) -> bool
         ensures { result ≡ has_builtin self.now b }
     {
@@ -101,6 +110,7 @@ impl Signature {
         }
     }
 
+    /// The arity of a held name; None where the name isn't held.
     pub fn arity(&self, name: &Name) -> Option<u64>
         ensures { result ≡ arity_of self.now name.now }
     {
@@ -110,6 +120,7 @@ impl Signature {
         }
     }
 
+    /// Whether the name is held and isn't private.
     pub fn is_public(&self, name: &Name) -> bool
         ensures { IsTrue result ↔ IsPublic self.now name.now }
     {
@@ -119,8 +130,10 @@ impl Signature {
         }
     }
 
+    /// The k-th held name, from 0, in order of first declaration; None where at most k names are held.
     pub fn symbol(&self, k: u64) -> Option<&Name>
-        ensures { option_copied result ≡ option_map (λ s. s.name) (slice_get self.now.symbols k) }
+        ensures name { option_copied result ≡ option_map (λ s. s.name) (slice_get self.now.symbols k) }
+        ensures once { IsMap self.now.symbols }
     {
         match self.symbols.get(k) {
             Some(s) => Some(&s.name),
@@ -128,6 +141,9 @@ impl Signature {
         }
     }
 
+    /// Adds a symbol, where its name isn't held yet. A symbol that is held as it is asked for changes nothing.
+    /// Refused, the signature is as it was.
+    #[tactic(auto, using(crate::proofs::SignatureLemmas::signature_laws))]
     pub fn declare(&mut self, name: Name, arity: u64, private: bool) -> Result<(), SigFault>
         ensures ok { OnOk result (self.new ≡ record self.old { symbols = declared self.old.symbols name arity private }) }
         ensures clash { IsErrOf result (SigFault.Clash name) ↔ Clashes self.old.symbols name arity private }
@@ -164,6 +180,7 @@ impl Copied for Symbol {
     }
 }
 
+// A public symbol of this name and arity.
 fn public_symbol(alloc: Global, name: &[u8], arity: u64) -> Result<Symbol, Mem>
     ensures { IfOk result (λ s. s ≡ record { name = name.now; arity = arity; private = false }) }
 {
@@ -205,6 +222,7 @@ fn symbols_of(alloc: Global, b: Builtin) -> Result<Items<Symbol>, Mem>
     }
 }
 
+// Whether the symbol's name is held with another arity or privacy.
 fn is_held_otherwise(symbols: &Items<Symbol>, symbol: &Symbol) -> bool
     ensures { result ≡ is_held_otherwise symbols.now symbol.now }
 {
@@ -214,13 +232,14 @@ fn is_held_otherwise(symbols: &Items<Symbol>, symbol: &Symbol) -> bool
     }
 }
 
-// The first of these symbols that is held otherwise.
-fn first_clash<'a>(symbols: &Items<Symbol>, added: &'a Items<Symbol>) -> Option<&'a Symbol>
-    ensures { option_map (λ s. s.name) (option_copied result) ≡ first_clash symbols.now added.now }
+// The place of the first of these symbols that is held otherwise.
+fn first_clash(symbols: &Items<Symbol>, added: &Items<Symbol>) -> Option<u64>
+    ensures { MatchOption result (first_clash symbols.now added.now ≡ None)
+        (λ k. IsFirstClash symbols.now added.now k) }
 {
-    for s in added.as_slice() {
-        if is_held_otherwise(symbols, s) {
-            return Some(s);
+    for k in 0..added.len() {
+        if is_held_otherwise(symbols, added.at(k)) {
+            return Some(k);
         }
     }
     None
@@ -244,7 +263,19 @@ fn declare_all(
 }
 
 impl Signature {
+    ghost use Rattle.sap_terms.specs.Theory.{theory, IsDestructor};
+
+    /// Whether the name heads the left side of an equation that is switched on.
+    #[tactic(auto, using(crate::proofs::SignatureLemmas::signature_laws))]
     pub fn is_destructor(&self, name: &Name) -> bool
+        ensures heads { IsTrue result ↔ IsDestructor (theory self.now) name.now }
+        ensures test { result ≡ is_destructor_of self.now name.now }
+    {
+        self.is_left_head(name)
+    }
+
+    // The five tests of `is_destructor`.
+    fn is_left_head(&self, name: &Name) -> bool
         ensures { result ≡ is_destructor_of self.now name.now }
     {
         name.is(b"fst")
@@ -254,18 +285,21 @@ impl Signature {
             || (name.is(b"verify") && self.signing)
     }
 
-    pub fn add_builtin(&mut self, alloc: Global, b: Builtin) -> Result<(), SigFault>
+    /// Adds a builtin's symbols, in their order, and switches on its equations. A clash names the first of these
+    /// symbols that is held with another arity or privacy. Refused, the signature is as it was.
+    #[tactic(auto, using(crate::proofs::SignatureLemmas::signature_laws))]
+    pub fn add_builtin(&mut self, b: Builtin) -> Result<(), SigFault>
         ensures ok { OnOk result (self.new ≡ added self.old b) }
         ensures no_clash { OnOk result (first_clash self.old.symbols (builtin_symbols b) ≡ None) }
         ensures clash { (n : List ℕ) → IsErrOf result (SigFault.Clash n)
             → first_clash self.old.symbols (builtin_symbols b) ≡ Some n }
         ensures err { OnErr result (self.new ≡ self.old) }
     {
+        let alloc = self.symbols.allocator();
         let symbols = symbols_of(alloc, b)?;
-        if let Some(s) = first_clash(&self.symbols, &symbols) {
-            return Err(SigFault::Clash {
-                name: s.name.copy(alloc)?,
-            });
+        if let Some(k) = first_clash(&self.symbols, &symbols) {
+            let symbol = symbols.into_item(k);
+            return Err(SigFault::Clash { name: symbol.name });
         }
         self.symbols = declare_all(alloc, &self.symbols, &symbols)?;
         match b {
@@ -275,5 +309,17 @@ impl Signature {
             Builtin::Signing => self.signing = true,
         }
         Ok(())
+    }
+}
+
+impl Copied for Signature {
+    fn copy(&self, alloc: Global) -> Result<Signature, Mem> {
+        Ok(Signature {
+            symbols: self.symbols.copy(alloc)?,
+            hashing: self.hashing,
+            symmetric: self.symmetric,
+            asymmetric: self.asymmetric,
+            signing: self.signing,
+        })
     }
 }

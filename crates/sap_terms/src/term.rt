@@ -1,4 +1,4 @@
-ghost use Rattle.std.specs.Prelude.{◌≡◌, ◌<◌, ◌↔◌, [], ◌∷◌, ◌++◌, length, IsTrue, IfOk, OnOk, OnErr, slice_get, option_map, min, map, Some, slice_index_or};
+ghost use Rattle.std.specs.Prelude.{◌≡◌, ◌<◌, ◌↔◌, [], ◌∷◌, ◌++◌, length, IsTrue, IfOk, OnOk, OnErr, slice_get, option_map, min, map, Some, slice_index_or, ◌≤◌};
 ghost use Rattle.std.specs.Option.{option_copied};
 ghost use Rattle.sap_terms.specs.Same.{same_tree};
 
@@ -6,13 +6,17 @@ use crate::{Copied, Mem, Name, Var};
 use std::alloc::Global;
 use std::marker::Model;
 
-/// A term: a variable, a public name, a fresh name by its number, or a symbol on terms.
+/// A term of the symbolic model. Contracts see it as a plain tree, by `tree` of the specs' `View`.
 #[cycle(term)]
 #[derive(Drop)]
 pub enum Term {
+    /// `x`, `~x` or `$x`.
     Var(Var),
+    /// A name that everybody knows, as `'a'`.
     Public(Name),
+    /// A name that somebody made, by its number.
     Fresh(u64),
+    /// A symbol on terms. A symbol without terms is a constant.
     App(Name, TermList),
 }
 
@@ -47,7 +51,7 @@ impl Model for TermList {
 
 impl TermList {
     ghost use Rattle.sap_terms.specs.View.{tree};
-    ghost use Rattle.sap_terms.specs.Tree.{trees_of, trees_count};
+    ghost use Rattle.sap_terms.specs.Tree.{node_count, trees_of, trees_count, trees_levels};
 
     /// The empty list. It takes no memory.
     pub fn new(alloc: Global) -> TermList
@@ -67,6 +71,15 @@ impl TermList {
         Ok(())
     }
 
+    /// Takes the term at a place that the list has, from 0, out of it; the other terms are dropped.
+    pub fn into_item(self, k: u64) -> Term
+        requires { k < length self }
+        ensures { slice_get self k ≡ Some (tree result) }
+    {
+        let mut items = self.items;
+        items.swap_remove(k as usize)
+    }
+
     /// The number of terms.
     pub fn len(&self) -> u64
         ensures { result ≡ length self.now }
@@ -81,11 +94,13 @@ impl TermList {
         self.items.get(k as usize)
     }
 
-    /// The term at a place that the list has.
+    /// The term at a place that the list has, which is smaller than the list.
+    #[tactic(auto, using(crate::proofs::TreeLemmas::list_laws))]
     pub fn at(&self, k: u64) -> &Term
         requires { k < length self.now }
         ensures got { slice_get self.now k ≡ Some (tree result.now) }
         ensures item { tree result.now ≡ slice_index_or self.now k (tree result.now) }
+        ensures smaller { node_count (tree result.now) ≤ trees_count (trees_of self.now) }
     {
         &self.items[k as usize]
     }
@@ -109,6 +124,17 @@ impl TermList {
         total
     }
 
+    #[cycle(levels)]
+    fn levels(&self) -> u64
+        ensures { result ≡ min (trees_levels (trees_of self.now)) u64.MAX }
+    {
+        let mut deepest: u64 = 0;
+        for t in &self.items {
+            deepest = deepest.max(t.levels());
+        }
+        deepest
+    }
+
     #[cycle(same)]
     fn is(&self, other: &TermList) -> bool
         ensures { IsTrue result ↔ (self.now ≡ other.now) }
@@ -127,9 +153,9 @@ impl TermList {
 
 impl Term {
     ghost use Rattle.sap_terms.specs.View.{tree};
-    ghost use Rattle.sap_terms.specs.Tree.{node_count};
+    ghost use Rattle.sap_terms.specs.Tree.{node_count, level_count};
 
-    /// The nodes of the tree; from the greatest u64 on, that number.
+    /// The number of the tree's nodes; from the greatest u64 on, that number. It recurses as deep as the tree.
     #[cycle(nodes)]
     pub fn nodes(&self) -> u64
         ensures { result ≡ min (node_count (tree self.now)) u64.MAX }
@@ -140,7 +166,18 @@ impl Term {
         }
     }
 
-    /// Whether the two are the same tree.
+    /// How deep the tree is, 1 for a leaf; from the greatest u64 on, that number. It recurses as deep as the tree.
+    #[cycle(levels)]
+    pub fn levels(&self) -> u64
+        ensures { result ≡ min (level_count (tree self.now)) u64.MAX }
+    {
+        match self {
+            Term::App(_, args) => args.levels().saturating_add(1),
+            _ => 1,
+        }
+    }
+
+    /// Whether the two are the same tree, sorts of variables included. It recurses as deep as the trees.
     pub fn same(&self, other: &Term) -> bool
         ensures equal { IsTrue result ↔ (self.now ≡ other.now) }
         ensures test { result ≡ same_tree (tree self.now) (tree other.now) }

@@ -2,5 +2,5 @@ use Rattle.std.proofs.Common.{◌≡◌, drop}
 use Rattle.sap_terms.specs.Signature.{first_clash}
 use Rattle.sap_terms.proofs.signature.first_clash.Given as goal
 
-abbrev pub invariant-loop-s : goal.invariant-loop-s
-invariant-loop-s l = first_clash l.symbols l.added ≡ first_clash l.symbols (drop l.s-index l.s-items)
+abbrev pub invariant-loop-k : goal.invariant-loop-k
+invariant-loop-k l = first_clash l.symbols l.added ≡ first_clash l.symbols (drop l.k l.added)

@@ -1,0 +1,9 @@
+pub mod Splits
+pub mod Classes
+pub mod Sound
+pub mod Joins
+pub mod Unique
+pub mod Ordered
+pub mod Placed
+pub mod Digits
+pub mod Total

@@ -1,0 +1,4 @@
+pub mod Tokens
+pub mod Spans
+pub mod Told
+pub mod Front

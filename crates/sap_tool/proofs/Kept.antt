@@ -1,0 +1,209 @@
+-- Each way in which a call ends keeps the promises.
+use Rattle.std.proofs.Common.{◌≡◌, ◌≤◌, ◌+◌, ℕ, List, [], ◌∷◌, take, length, Option, Some, None, sym, ap, subst, ◌∙◌, inl, inr, ◌⊎◌, arith, lit<}
+use Rattle.std.specs.Prelude.{codes, Contains}
+use Rattle.std.proofs.lemmas.Grind.{common_steps}
+use Rattle.std.specs.FinMap as files
+use Rattle.sap_process.specs.Proc.{Proc}
+use Rattle.sap_gen.specs.Templates.{rules_of}
+use Rattle.sap_gen.specs.Faithful.{NoReservedEvents, ShowsAll, ShowsOnly}
+use Rattle.sap_tool.specs.Outside.{Files, IsFetched, IsFirstPart}
+use Rattle.sap_tool.specs.FirstFile.{IsFile}
+use Rattle.sap_tool.specs.Call.{Call, Gained, Failed, FailedOn, IsCompile, IsUnknown, IsRefused, Fetched, Holds, Theory, Cause, refused, usage, unread, Outcome, written, told, untold, unwritten, wanting, wanting_err, wanting_out, most_bytes}
+use Rattle.sap_tool.specs.Promises as promised
+
+-- the rules of every process without reserved events show it
+pub record Shown : Type 0 where
+  pub all : (p : Proc) → NoReservedEvents p → ShowsAll p (rules_of p)
+  pub only : (p : Proc) → NoReservedEvents p → ShowsOnly p (rules_of p)
+
+statuses : (c : Call) (s : ℕ) → Outcome c s → Contains (0 ∷ 1 ∷ 3 ∷ 4 ∷ 5 ∷ 6 ∷ []) s
+statuses c s (written text is theory out err) = (0, lit< tt, sym is)
+statuses c s (told text (refused bytes is t f r) out err) = (1, lit< tt, sym is)
+statuses c s (told text (usage is t u) out err) = (2, lit< tt, sym is)
+statuses c s (told text (unread file is t n f) out err) = (3, lit< tt, sym is)
+statuses c s (untold cause text i j is why f out err) = (4, lit< tt, sym is)
+statuses c s (unwritten text i j is theory f out err) = (4, lit< tt, sym is)
+statuses c s (wanting j is out err) = (5, lit< tt, sym is)
+statuses c s (wanting_err cause text i j is why out err) = (5, lit< tt, sym is)
+statuses c s (wanting_out text i j is theory out err) = (5, lit< tt, sym is)
+
+compiled_of : Shown → (c : Call) (text : List ℕ) → Theory c text → Gained c.out text → Gained c.err [] → promised.Compiled c
+compiled_of shown c text theory out err = record {
+  bytes = theory.bytes;
+  name = theory.is.name;
+  process = theory.is.process;
+  fetched = theory.fetched;
+  file = theory.is.file;
+  out = subst (λ z. Gained c.out z) theory.is.layout out;
+  err = err;
+  all = shown.all theory.is.process theory.is.file.free;
+  only = shown.only theory.is.process theory.is.file.free;
+}
+
+compiled : Shown → (c : Call) (s : ℕ) → Outcome c s → s ≡ 0 → promised.Compiled c
+compiled shown c s (written text is theory out err) e = compiled_of shown c text theory out err
+compiled shown c s (told text (refused bytes is t f r) out err) e = absurd (omega arith)
+compiled shown c s (told text (usage is t u) out err) e = absurd (omega arith)
+compiled shown c s (told text (unread file is t n f) out err) e = absurd (omega arith)
+compiled shown c s (untold cause text i j is why f out err) e = absurd (omega arith)
+compiled shown c s (unwritten text i j is theory f out err) e = absurd (omega arith)
+compiled shown c s (wanting j is out err) e = absurd (omega arith)
+compiled shown c s (wanting_err cause text i j is why out err) e = absurd (omega arith)
+compiled shown c s (wanting_out text i j is theory out err) e = absurd (omega arith)
+
+refused_of : (c : Call) (s : ℕ) → Outcome c s → s ≡ 1 → promised.Refused c
+refused_of c s (written text is theory out err) e = absurd (omega arith)
+refused_of c s (told text (refused bytes is t f r) out err) e =
+    record { bytes = bytes; fetched = f; refused = r; out = out; err = subst (λ z. Gained c.err z) t err }
+refused_of c s (told text (usage is t u) out err) e = absurd (omega arith)
+refused_of c s (told text (unread file is t n f) out err) e = absurd (omega arith)
+refused_of c s (untold cause text i j is why f out err) e = absurd (omega arith)
+refused_of c s (unwritten text i j is theory f out err) e = absurd (omega arith)
+refused_of c s (wanting j is out err) e = absurd (omega arith)
+refused_of c s (wanting_err cause text i j is why out err) e = absurd (omega arith)
+refused_of c s (wanting_out text i j is theory out err) e = absurd (omega arith)
+
+usage_of : (c : Call) (s : ℕ) → Outcome c s → s ≡ 3 → promised.Usage c
+usage_of c s (written text is theory out err) e = absurd (omega arith)
+usage_of c s (told text (refused bytes is t f r) out err) e = absurd (omega arith)
+usage_of c s (told text (usage is t u) out err) e = record { unknown = u; out = out; err = subst (λ z. Gained c.err z) t err }
+usage_of c s (told text (unread file is t n f) out err) e = absurd (omega arith)
+usage_of c s (untold cause text i j is why f out err) e = absurd (omega arith)
+usage_of c s (unwritten text i j is theory f out err) e = absurd (omega arith)
+usage_of c s (wanting j is out err) e = absurd (omega arith)
+usage_of c s (wanting_err cause text i j is why out err) e = absurd (omega arith)
+usage_of c s (wanting_out text i j is theory out err) e = absurd (omega arith)
+
+unread_of : (c : Call) (s : ℕ) → Outcome c s → s ≡ 4 → promised.Unread c
+unread_of c s (written text is theory out err) e = absurd (omega arith)
+unread_of c s (told text (refused bytes is t f r) out err) e = absurd (omega arith)
+unread_of c s (told text (usage is t u) out err) e = absurd (omega arith)
+unread_of c s (told text (unread file is t n f) out err) e =
+    record { file = file; named = n; failed = f; out = out; err = subst (λ z. Gained c.err z) t err }
+unread_of c s (untold cause text i j is why f out err) e = absurd (omega arith)
+unread_of c s (unwritten text i j is theory f out err) e = absurd (omega arith)
+unread_of c s (wanting j is out err) e = absurd (omega arith)
+unread_of c s (wanting_err cause text i j is why out err) e = absurd (omega arith)
+unread_of c s (wanting_out text i j is theory out err) e = absurd (omega arith)
+
+unwritten_of : (c : Call) (s : ℕ) → Outcome c s → s ≡ 5 → promised.Unwritten c
+unwritten_of c s (written text is theory out err) e = absurd (omega arith)
+unwritten_of c s (told text (refused bytes is t f r) out err) e = absurd (omega arith)
+unwritten_of c s (told text (usage is t u) out err) e = absurd (omega arith)
+unwritten_of c s (told text (unread file is t n f) out err) e = absurd (omega arith)
+unwritten_of c s (untold cause text i j is why f out err) e = promised.err_failed cause text i j why f out err
+unwritten_of c s (unwritten text i j is theory f out err) e = promised.out_failed text i j theory f out err
+unwritten_of c s (wanting j is out err) e = absurd (omega arith)
+unwritten_of c s (wanting_err cause text i j is why out err) e = absurd (omega arith)
+unwritten_of c s (wanting_out text i j is theory out err) e = absurd (omega arith)
+
+wanting_of : (c : Call) (s : ℕ) → Outcome c s → s ≡ 6 → promised.Wanting c
+wanting_of c s (written text is theory out err) e = absurd (omega arith)
+wanting_of c s (told text (refused bytes is t f r) out err) e = absurd (omega arith)
+wanting_of c s (told text (usage is t u) out err) e = absurd (omega arith)
+wanting_of c s (told text (unread file is t n f) out err) e = absurd (omega arith)
+wanting_of c s (untold cause text i j is why f out err) e = absurd (omega arith)
+wanting_of c s (unwritten text i j is theory f out err) e = absurd (omega arith)
+wanting_of c s (wanting j is out err) e = promised.before_all j out err
+wanting_of c s (wanting_err cause text i j is why out err) e = promised.while_err cause text i j why out err
+wanting_of c s (wanting_out text i j is theory out err) e = promised.while_out text i j theory out err
+
+-- what is fetched of a file that is held
+fetched_part : (holds : Option Files) (limit : ℕ) (file bytes z : List ℕ) → Holds holds file bytes → IsFetched holds file limit z → z ≡ take (limit + 1) bytes
+fetched_part None limit file bytes z held part = absurd held
+fetched_part (Some all) limit file bytes z held part = at (files.get all file) held part where
+  at : (o : Option (List ℕ)) → o ≡ Some bytes → IsFirstPart o limit z → z ≡ take (limit + 1) bytes
+  at None h k = absurd k
+  at (Some other) h k = let e : other ≡ bytes = cc in k ∙ ap (λ y. take (limit + 1) y) e
+
+-- a part of a file that is short enough is all of it
+whole_part : (most : ℕ) (bytes : List ℕ) → length (take (most + 1) bytes) ≤ most → take (most + 1) bytes ≡ bytes
+whole_part most bytes h = grind (arith, common_steps)
+
+fetched_file : (bytes z name : List ℕ) (p : Proc) → z ≡ take (most_bytes + 1) bytes → IsFile z name p → IsFile bytes name p
+fetched_file bytes z name p e file =
+    let short : length (take (most_bytes + 1) bytes) ≤ most_bytes = subst (λ y. length y ≤ most_bytes) e file.short in
+    subst (λ y. IsFile y name p) (e ∙ whole_part most_bytes bytes short) file
+
+whole_of_short : (most : ℕ) (bytes : List ℕ) → length bytes ≤ most → take (most + 1) bytes ≡ bytes
+whole_of_short most bytes h = grind (arith, common_steps)
+
+held_file : (bytes z name : List ℕ) (p : Proc) → z ≡ take (most_bytes + 1) bytes → IsFile bytes name p → IsFile z name p
+held_file bytes z name p e file =
+    let whole : take (most_bytes + 1) bytes ≡ bytes = whole_of_short most_bytes bytes file.short in
+    subst (λ y. IsFile y name p) (sym (e ∙ whole)) file
+
+-- the words name one file
+one_file : (words : List (List ℕ)) (f g : List ℕ) → IsCompile words f → IsCompile words g → f ≡ g
+one_file words f g h k = let e : codes "compile" ∷ f ∷ [] ≡ codes "compile" ∷ g ∷ [] = sym h ∙ k in cc
+
+-- what was fetched is a part of the file that is held
+fetched_of : (c : Call) (file bytes z : List ℕ) → IsCompile c.words file → Holds c.holds file bytes → Fetched c z → z ≡ take (most_bytes + 1) bytes
+fetched_of c file bytes z named held fetched =
+    let same = one_file c.words fetched.file file fetched.named named in
+    fetched_part c.holds most_bytes file bytes z held (subst (λ f. IsFetched c.holds f most_bytes z) same fetched.told)
+
+must_tell_usage : (c : Call) (s : ℕ) → Outcome c s → IsUnknown c.words → (s ≡ 3) ⊎ ((s ≡ 5) × Failed c.err) ⊎ (s ≡ 6)
+must_tell_usage c s (written text is theory out err) unknown = absurd (unknown theory.fetched.file theory.fetched.named)
+must_tell_usage c s (told text (refused bytes is t f r) out err) unknown = absurd (unknown f.file f.named)
+must_tell_usage c s (told text (usage is t u) out err) unknown = inl is
+must_tell_usage c s (told text (unread file is t n f) out err) unknown = absurd (unknown file n)
+must_tell_usage c s (untold cause text i j is why f out err) unknown = inr (inl (is, f))
+must_tell_usage c s (unwritten text i j is theory f out err) unknown = absurd (unknown theory.fetched.file theory.fetched.named)
+must_tell_usage c s (wanting j is out err) unknown = inr (inr is)
+must_tell_usage c s (wanting_err cause text i j is why out err) unknown = inr (inr is)
+must_tell_usage c s (wanting_out text i j is theory out err) unknown = inr (inr is)
+
+-- a refused file has no theory
+no_theory : (c : Call) (file bytes text : List ℕ) → IsCompile c.words file → Holds c.holds file bytes → IsRefused bytes → Theory c text → ⊥
+no_theory c file bytes text named held refusal theory =
+    refusal theory.is.name theory.is.process
+    (fetched_file bytes theory.bytes theory.is.name theory.is.process (fetched_of c file bytes theory.bytes named held theory.fetched) theory.is.file)
+
+must_refuse : (c : Call) (s : ℕ) → Outcome c s → (file bytes : List ℕ) → IsCompile c.words file → Holds c.holds file bytes → IsRefused bytes
+    → (s ≡ 1) ⊎ ((s ≡ 4) × FailedOn c file) ⊎ ((s ≡ 5) × Failed c.err) ⊎ (s ≡ 6)
+must_refuse c s (written text is theory out err) file bytes named held refusal = absurd (no_theory c file bytes text named held refusal theory)
+must_refuse c s (told text (refused z is t f r) out err) file bytes named held refusal = inl is
+must_refuse c s (told text (usage is t u) out err) file bytes named held refusal = absurd (u file named)
+must_refuse c s (told text (unread other is t n f) out err) file bytes named held refusal =
+    inr (inl (is, subst (λ g. FailedOn c g) (one_file c.words other file n named) f))
+must_refuse c s (untold cause text i j is why f out err) file bytes named held refusal = inr (inr (inl (is, f)))
+must_refuse c s (unwritten text i j is theory f out err) file bytes named held refusal = absurd (no_theory c file bytes text named held refusal theory)
+must_refuse c s (wanting j is out err) file bytes named held refusal = inr (inr (inr is))
+must_refuse c s (wanting_err cause text i j is why out err) file bytes named held refusal = inr (inr (inr is))
+must_refuse c s (wanting_out text i j is theory out err) file bytes named held refusal = inr (inr (inr is))
+
+-- a file that is held is not refused
+no_cause : (c : Call) (s : ℕ) (text : List ℕ) → Cause c s text → (file bytes name : List ℕ) (p : Proc) → IsCompile c.words file → Holds c.holds file bytes
+    → IsFile bytes name p → (FailedOn c file → ⊥) → ⊥
+no_cause c s text (refused z is t f r) file bytes name p named held spelled sound =
+    r name p (held_file bytes z name p (fetched_of c file bytes z named held f) spelled)
+no_cause c s text (usage is t u) file bytes name p named held spelled sound = u file named
+no_cause c s text (unread other is t n f) file bytes name p named held spelled sound =
+    sound (subst (λ g. FailedOn c g) (one_file c.words other file n named) f)
+
+must_compile : (c : Call) (s : ℕ) → Outcome c s → (file bytes name : List ℕ) (p : Proc) → IsCompile c.words file → Holds c.holds file bytes
+    → IsFile bytes name p → (FailedOn c file → ⊥) → (Failed c.out → ⊥) → (s ≡ 0) ⊎ (s ≡ 6)
+must_compile c s (written text is theory out err) file bytes name p named held spelled sound open_out = inl is
+must_compile c s (told text cause out err) file bytes name p named held spelled sound open_out =
+    absurd (no_cause c s text cause file bytes name p named held spelled sound)
+must_compile c s (untold cause text i j is why f out err) file bytes name p named held spelled sound open_out =
+    absurd (no_cause c cause text why file bytes name p named held spelled sound)
+must_compile c s (unwritten text i j is theory f out err) file bytes name p named held spelled sound open_out = absurd (open_out f)
+must_compile c s (wanting j is out err) file bytes name p named held spelled sound open_out = inr is
+must_compile c s (wanting_err cause text i j is why out err) file bytes name p named held spelled sound open_out = inr is
+must_compile c s (wanting_out text i j is theory out err) file bytes name p named held spelled sound open_out = inr is
+
+pub kept : Shown → (c : Call) (s : ℕ) → Outcome c s → promised.Promises c s
+kept shown c s o = record {
+  statuses = statuses c s o;
+  compiled = compiled shown c s o;
+  refused = refused_of c s o;
+  usage = usage_of c s o;
+  unread = unread_of c s o;
+  unwritten = unwritten_of c s o;
+  wanting = wanting_of c s o;
+  must_tell_usage = must_tell_usage c s o;
+  must_refuse = must_refuse c s o;
+  must_compile = must_compile c s o;
+}

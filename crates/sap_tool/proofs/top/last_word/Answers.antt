@@ -1,0 +1,5 @@
+use Rattle.sap_tool.proofs.Outcomes.{appends_whole}
+use Rattle.sap_tool.proofs.top.last_word.Goals as goal
+
+pub returns-in-Ok-clause-some : goal.returns-in-Ok-clause-some
+returns-in-Ok-clause-some g c = appends_whole _ _ _ c.in-Ok.ensures.whole

@@ -1,0 +1,22 @@
+//! The top call of the program, and what it reads from and writes to.
+#![tactic(auto)]
+
+mod compile;
+mod file_shelf;
+mod mem_shelf;
+mod mem_sink;
+mod printer;
+mod reader;
+mod shelf;
+mod sink;
+mod stream_sink;
+mod top;
+
+pub use file_shelf::FileShelf;
+pub use mem_shelf::MemShelf;
+pub use mem_sink::MemSink;
+pub use reader::{one_file, one_process};
+pub use shelf::{Shelf, ShelfFault};
+pub use sink::{Sink, SinkFault};
+pub use stream_sink::StreamSink;
+pub use top::sapic;

@@ -1,0 +1,69 @@
+ghost use Rattle.std.specs.Prelude.{◌≡◌, ◌≤◌, ◌+◌, ◌-◌, ◌^◌, ◌↔◌, ◌⊎◌, length, take, min, Contains, IsNone, IfOk, IsErrOf, OnErr, OnOk, Some};
+ghost use Rattle.std.specs.FinMap as map;
+ghost use Rattle.sap_tool.specs.Outside.{Rose, IsFetched, files_of};
+
+use crate::{Shelf, ShelfFault};
+use std::alloc::{AllocError, Global};
+use std::collections::BTreeMap;
+
+/// A shelf in memory, which tells its files.
+#[derive(Drop)]
+pub struct MemShelf {
+    /// The files by name.
+    pub files: BTreeMap<String, Vec<u8>>,
+    /// The numbers, from 1, of the calls that fail.
+    pub fail_on: Vec<u64>,
+    /// How many calls there were; it stops at the greatest u64.
+    pub calls: u64,
+    /// How many of them failed; it stops at the greatest u64.
+    pub count: u64,
+}
+
+fn first_bytes(alloc: Global, bytes: &[u8], limit: u64) -> Result<Vec<u8>, AllocError>
+    requires { limit ≤ 16777216 }
+    ensures { IfOk result (λ v. v.items ≡ take (limit + 1) bytes.now) }
+{
+    let most = (limit + 1) as usize;
+    if bytes.len() <= most {
+        bytes.to_vec(alloc)
+    } else {
+        bytes[..most].to_vec(alloc)
+    }
+}
+
+impl Shelf for MemShelf {
+    ghost holds = { λ s. Some (files_of s.files) };
+
+    ghost faults = { λ s _. s.count };
+
+    // It fails exactly where the call is one of `fail_on`, or the name isn't held.
+    #[tactic(auto, using(crate::proofs::Held::held))]
+    fn fetch(&mut self, alloc: Global, name: &str, limit: u64) -> Result<Vec<u8>, ShelfFault>
+        requires { limit ≤ 16777216 }
+        ensures most { IfOk result (λ v. length v.items ≤ limit + 1) }
+        ensures told { IfOk result (λ v. IsFetched (Some (files_of self.old.files)) name.now limit v.items) }
+        ensures same { self.new.files ≡ self.old.files }
+        ensures later { self.old.count ≤ self.new.count }
+        ensures cause { IsErrOf result ShelfFault.Failed → Rose self.old.count self.new.count }
+        ensures calls { self.new.calls ≡ min (self.old.calls + 1) (2 ^ 64 - 1) }
+        ensures list { self.new.fail_on.items ≡ self.old.fail_on.items }
+        ensures exactly { IsErrOf result ShelfFault.Failed
+            ↔ (Contains self.old.fail_on.items self.new.calls ⊎ IsNone (map.get (files_of self.old.files) name.now)) }
+        ensures counted { IsErrOf result ShelfFault.Failed → self.new.count ≡ min (self.old.count + 1) (2 ^ 64 - 1) }
+        ensures uncounted { OnOk result (self.new.count ≡ self.old.count) }
+        ensures mem { IsErrOf result ShelfFault.Mem → self.new.count ≡ self.old.count }
+    {
+        self.calls = self.calls.saturating_add(1);
+        if self.fail_on.contains(&self.calls) {
+            self.count = self.count.saturating_add(1);
+            return Err(ShelfFault::Failed);
+        }
+        match self.files.get(name) {
+            None => {
+                self.count = self.count.saturating_add(1);
+                Err(ShelfFault::Failed)
+            }
+            Some(bytes) => Ok(first_bytes(alloc, bytes, limit)?),
+        }
+    }
+}

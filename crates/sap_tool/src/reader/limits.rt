@@ -1,0 +1,81 @@
+ghost use Rattle.std.specs.Prelude.{◌≡◌, ◌≤◌, ◌∷◌, ◌↔◌, [], IsTrue, IfOk, true};
+ghost use Rattle.std.specs.Prelude.{not};
+ghost use Rattle.std.specs.List.{list_all};
+ghost use Rattle.sap_terms.specs.Reserved.{is_reserved};
+ghost use Rattle.sap_process.specs.Proc.{proc, events, node_count};
+ghost use Rattle.sap_gen.specs.Faithful.{NoReservedEvents};
+ghost use Rattle.sap_tool.specs.Events.{HaveOneArity};
+ghost use Rattle.sap_tool.specs.Arities.{Takes};
+
+use sap_process::Process;
+use sap_terms::{Copied, Fact, Mem, Name, is_reserved};
+use std::alloc::Global;
+use std::collections::BTreeMap;
+
+fn takes_fact(alloc: Global, seen: &mut BTreeMap<Name, u64>, fact: &Fact) -> Result<bool, Mem>
+    ensures { IfOk result (Takes seen.old seen.new (fact.now ∷ [])) }
+{
+    let name = fact.name.copy(alloc)?;
+    let number = fact.args.len();
+    match seen.insert(name, number)? {
+        None => Ok(true),
+        Some(before) => Ok(before == number),
+    }
+}
+
+fn takes_events(alloc: Global, seen: &mut BTreeMap<Name, u64>, p: &Process) -> Result<bool, Mem>
+    ensures { IfOk result (Takes seen.old seen.new (events (proc p.now))) }
+{
+    match p {
+        Process::Nil => Ok(true),
+        Process::Par(left, right) => {
+            if takes_events(alloc, seen, left)? {
+                takes_events(alloc, seen, right)
+            } else {
+                Ok(false)
+            }
+        }
+        Process::Event(fact, then) => {
+            if takes_fact(alloc, seen, fact)? {
+                takes_events(alloc, seen, then)
+            } else {
+                Ok(false)
+            }
+        }
+    }
+}
+
+fn has_one_arity(alloc: Global, p: &Process) -> Result<bool, Mem>
+    ensures { IfOk result (λ b. IsTrue b ↔ HaveOneArity (events (proc p.now))) }
+{
+    let mut seen: BTreeMap<Name, u64> = BTreeMap::new(alloc);
+    takes_events(alloc, &mut seen, p)
+}
+
+#[tactic(auto, using(crate::proofs::Names::names))]
+fn are_names_free(p: &Process) -> bool
+    ensures { result ≡ list_all (λ f. not (is_reserved f.name)) (events (proc p.now)) }
+{
+    match p {
+        Process::Nil => true,
+        Process::Par(left, right) => are_names_free(left) && are_names_free(right),
+        Process::Event(fact, then) => !is_reserved(&fact.name) && are_names_free(then),
+    }
+}
+
+fn has_free_names(p: &Process) -> bool
+    ensures { IsTrue result ↔ NoReservedEvents (proc p.now) }
+{
+    are_names_free(p)
+}
+
+/// Whether a process has few nodes, no event of a reserved name, and no event name with two arities.
+pub fn is_within_limits(alloc: Global, p: &Process) -> Result<bool, Mem>
+    ensures { IfOk result (λ b. IsTrue b ↔ ((node_count (proc p.now) ≤ 4000) × NoReservedEvents (proc p.now) × HaveOneArity (events (proc p.now)))) }
+{
+    if p.nodes() > 4000 || !has_free_names(p) {
+        Ok(false)
+    } else {
+        has_one_arity(alloc, p)
+    }
+}

@@ -1,0 +1,40 @@
+ghost use Rattle.std.specs.Prelude.{◌≡◌, ◌≤◌, ℕ, List, [], IsOk, OnOk, OnErr, IsErrOf, Option};
+ghost use Rattle.std.specs.Io.KnownBytes.{Appends};
+ghost use Rattle.sap_tool.specs.declared.sink.SinkFault.TheVariants.{Mem};
+ghost use Rattle.sap_tool.specs.Outside.{Rose, AppendsSome};
+
+use std::alloc::AllocError;
+
+/// Why a put didn't take all its bytes.
+#[derive(Clone, Copy, Debug, PartialEq, Eq)]
+pub enum SinkFault {
+    /// Want of memory.
+    Mem,
+    /// The bytes couldn't be written.
+    Failed,
+}
+
+impl From<AllocError> for SinkFault {
+    ghost from_gives = { λ _ e. e ≡ Mem };
+
+    fn from(_: AllocError) -> Self {
+        SinkFault::Mem
+    }
+}
+
+/// Where bytes go to.
+pub trait Sink {
+    /// What was written, where it tells.
+    ghost written: { Self → Option (List ℕ) };
+
+    /// How often it has failed; it stops at the greatest u64.
+    ghost faults: { Self → ℕ };
+
+    /// Appends the bytes; after a fault, some first ones of them. No bytes at all are always taken.
+    fn put(&mut self, bytes: &[u8]) -> Result<(), SinkFault>
+        ensures whole { OnOk result (Appends (written self.old) (written self.new) bytes.now) }
+        ensures part { OnErr result (AppendsSome (written self.old) (written self.new) bytes.now) }
+        ensures later { faults self.old ≤ faults self.new }
+        ensures cause { IsErrOf result SinkFault.Failed → Rose (faults self.old) (faults self.new) }
+        ensures empty { bytes.now ≡ [] → IsOk result };
+}

@@ -1,0 +1,132 @@
+//! The top call.
+
+ghost use Rattle.std.specs.Prelude.{◌≡◌, ◌≤◌, ℕ, List, [], MatchOption, take};
+ghost use Rattle.sap_tool.specs.Outside.{AppendsSome};
+ghost use Rattle.sap_tool.specs.Call.{bytes_of, call, stream, IsCompile, IsUnknown, Outcome};
+ghost use Rattle.sap_tool.specs.Telling.{IsTold, IsWritten, IsDelivered};
+ghost use Rattle.sap_tool.specs.Promises.{Promises};
+
+use crate::compile::theory_of;
+use crate::{Shelf, ShelfFault, Sink, SinkFault};
+use sap_gen::rules_show_the_process;
+use std::alloc::Global;
+
+const MOST_BYTES: u64 = 1_048_576;
+
+/// Runs the program on its words, those after its name, and answers its status.
+///
+/// - 0: out gained the theory of the file, whole.
+/// - 1: the file is refused.
+/// - 3: the words are none of the program's.
+/// - 4: the file couldn't be read.
+/// - 5: out or err failed.
+/// - 6: memory was wanting.
+///
+/// The text of a status from 1 to 6 goes to err, ended by a line feed; a fault while that of 5 or 6 is
+/// written is passed over.
+pub fn sapic<S: Shelf, O: Sink, E: Sink>(
+    alloc: Global,
+    words: &Vec<String>,
+    shelf: &mut S,
+    out: &mut O,
+    err: &mut E,
+) -> u8
+    ensures { Promises
+        (call words.now.items (S.holds shelf.old) (S.faults shelf.old) (S.faults shelf.new)
+        (stream (O.written out.old) (O.written out.new) (O.faults out.old) (O.faults out.new))
+        (stream (E.written err.old) (E.written err.new) (E.faults err.old) (E.faults err.new)))
+        result }
+{
+    rules_show_the_process();
+    run(alloc, words, shelf, out, err)
+}
+
+fn run<S: Shelf, O: Sink, E: Sink>(
+    alloc: Global,
+    words: &Vec<String>,
+    shelf: &mut S,
+    out: &mut O,
+    err: &mut E,
+) -> u8
+    ensures { Outcome
+        (call words.now.items (S.holds shelf.old) (S.faults shelf.old) (S.faults shelf.new)
+        (stream (O.written out.old) (O.written out.new) (O.faults out.old) (O.faults out.new))
+        (stream (E.written err.old) (E.written err.new) (E.faults err.old) (E.faults err.new)))
+        result }
+{
+    let Some(file) = file_to_compile(words) else {
+        return tell(err, 3, b"usage: sapic COMMAND ARGUMENTS\n");
+    };
+    match shelf.fetch(alloc, file, MOST_BYTES) {
+        Ok(bytes) => deliver(alloc, &bytes, out, err),
+        Err(ShelfFault::Failed) => tell(err, 4, b"read fault\n"),
+        Err(ShelfFault::Mem) => last_word(err, 6, b"out of memory\n"),
+    }
+}
+
+// The file that the words ask to compile.
+fn file_to_compile(words: &Vec<String>) -> Option<&str>
+    ensures { MatchOption result (IsUnknown (bytes_of words.now.items)) (λ file. IsCompile (bytes_of words.now.items) file.now) }
+{
+    match words.as_slice() {
+        [command, file] => if command.as_str() == "compile" {
+            Some(file.as_str())
+        } else {
+            None
+        },
+        _ => None,
+    }
+}
+
+// Puts the theory of the bytes on out, or on err why there is none.
+fn deliver<O: Sink, E: Sink>(alloc: Global, bytes: &[u8], out: &mut O, err: &mut E) -> u8
+    ensures { IsDelivered bytes.now
+        (stream (O.written out.old) (O.written out.new) (O.faults out.old) (O.faults out.new))
+        (stream (E.written err.old) (E.written err.new) (E.faults err.old) (E.faults err.new))
+        result }
+{
+    match theory_of(alloc, bytes) {
+        Ok(Some(text)) => write(out, err, text.as_bytes()),
+        Ok(None) => tell(err, 1, b"file refused: not in the first grammar\n"),
+        Err(_) => last_word(err, 6, b"out of memory\n"),
+    }
+}
+
+// Puts a text on out.
+fn write<O: Sink, E: Sink>(out: &mut O, err: &mut E, text: &[u8]) -> u8
+    ensures { IsWritten text.now
+        (stream (O.written out.old) (O.written out.new) (O.faults out.old) (O.faults out.new))
+        (stream (E.written err.old) (E.written err.new) (E.faults err.old) (E.faults err.new))
+        result }
+{
+    match out.put(text) {
+        Ok(()) => 0,
+        Err(SinkFault::Failed) => last_word(err, 5, b"write fault\n"),
+        Err(SinkFault::Mem) => last_word(err, 6, b"out of memory\n"),
+    }
+}
+
+// Puts the text of a status on err.
+fn tell<E: Sink>(err: &mut E, status: u8, text: &[u8]) -> u8
+    ensures { IsTold status text.now
+        (stream (E.written err.old) (E.written err.new) (E.faults err.old) (E.faults err.new))
+        result }
+{
+    match err.put(text) {
+        Ok(()) => status,
+        Err(SinkFault::Failed) => last_word(err, 5, b"write fault\n"),
+        Err(SinkFault::Mem) => last_word(err, 6, b"out of memory\n"),
+    }
+}
+
+// Puts the text of a fault on err, where err still takes it.
+fn last_word<E: Sink>(err: &mut E, status: u8, text: &[u8]) -> u8
+    ensures status { result ≡ status }
+    ensures some { AppendsSome (E.written err.old) (E.written err.new) text.now }
+    ensures later { E.faults err.old ≤ E.faults err.new }
+{
+    match err.put(text) {
+        Ok(()) => status,
+        Err(_) => status,
+    }
+}
