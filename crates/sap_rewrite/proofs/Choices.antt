@@ -1,5 +1,5 @@
 -- Substitutions as choices, and matches.
-use Rattle.std.proofs.Common.{◌≡◌, ℕ, Bool, true, false, ◌||◌, List, [], ◌∷◌, ◌++◌, map, refl, sym, ap, subst, ◌∙◌}
+use Rattle.std.proofs.Common.{◌≡◌, ℕ, true, false, ◌||◌, List, [], ◌∷◌, ◌++◌, map, refl, sym, ap, subst, ◌∙◌}
 use Rattle.std.specs.Prelude.{if◌then◌else◌}
 use Rattle.std.specs.Str.{bytes_eq}
 use Rattle.std.proofs.lemmas.Slice.Eq.{bytes_eq-Decides}
@@ -9,7 +9,7 @@ use Rattle.sap_terms.specs.Tree.{Tree, variable, public, fresh, apply, Trees, no
 use Rattle.sap_terms.specs.View.{tree, term, tree-term}
 use Rattle.sap_terms.specs.Ground.{IsGround, AreGround}
 use Rattle.sap_terms.specs.Choice.{Choice, fits_sort, IsSorted, IsByName, instance, instances}
-use Rattle.sap_terms.specs.Subst.{bound_to, subst_tree}
+use Rattle.sap_terms.specs.Subst.{bound_to}
 use Rattle.sap_terms.specs.Variables.{tree_vars, trees_vars}
 use Rattle.sap_terms.specs.Theory.{Theory, IsInstance, IsDestructor}
 use Rattle.sap_terms.specs.Equal.{IsTheoryEqual, same}

@@ -1,14 +1,12 @@
 -- Normal forms under a limit.
-use Rattle.std.proofs.Common.{◌≡◌, ℕ, zero, suc, ◌+◌, ◌<◌, ◌≤◌, List, [], ◌∷◌, ◌++◌, Bool, true, false, ◌&&◌, nat_le, Some, map, drop, add-one, refl, sym, ap, subst, ◌∙◌, arith}
+use Rattle.std.proofs.Common.{◌≡◌, ℕ, zero, suc, ◌+◌, ◌<◌, ◌≤◌, List, [], ◌∷◌, ◌++◌, Bool, true, false, ◌&&◌, nat_le, Some, drop, add-one, refl, ap, subst, arith}
 use Rattle.std.specs.Prelude.{slice_get, min, Result, Ok, Err, OnOk, OnErr, IsErrOf}
 use Rattle.std.proofs.lemmas.Bool.Decides.{nat_tests}
-use Rattle.sap_terms.specs.declared.var.Var.{Var}
 use Rattle.sap_terms.specs.Tree.{Tree, variable, public, fresh, apply, Trees, none, more, node_count, trees_count, trees_of}
 use Rattle.sap_terms.specs.Theory.{Theory}
-use Rattle.sap_terms.specs.Normal.{IsNormalForm}
 use Rattle.sap_terms.proofs.SameLemmas.{and_left, and_right, and_true}
-use Rattle.sap_terms.proofs.TreeLemmas.{item_le-trees_count, map_got}
-use Rattle.sap_rewrite.specs.Reduce.{nf, nfs, reduced}
+use Rattle.sap_terms.proofs.TreeLemmas.{item_le-trees_count}
+use Rattle.sap_rewrite.specs.Reduce.{nf}
 use Rattle.sap_rewrite.specs.Fit.{form_fits, each_fits, all_fit}
 use Rattle.sap_rewrite.specs.Large.{SomeSubterm, itself, below, SomeSubtermWithin, here, later, HasLargeForm}
 use Rattle.sap_rewrite.proofs.NormalForms.{has_normal_form, one_normal_form}

@@ -2,7 +2,7 @@
 use Rattle.std.proofs.Common.{◌≡◌, ℕ, List, [], ◌∷◌, map, refl, ap}
 use Rattle.sap_terms.specs.declared.var.Var.{Var}
 use Rattle.sap_terms.specs.Tree.{Tree, variable, public, fresh, apply, more, trees_of}
-use Rattle.sap_terms.proofs.TreeLemmas.{item_le-trees_count, map_got}
+use Rattle.sap_terms.proofs.TreeLemmas.{item_le-trees_count}
 use Rattle.sap_terms.specs.Theory.{Theory}
 use Rattle.sap_rewrite.specs.Reduce.{nf, nfs, reduced}
 

@@ -1,14 +1,12 @@
 -- What the walk gives is the one match, and where it gives none there is none.
-use Rattle.std.proofs.Common.{◌≡◌, List, ◌++◌, Option, Some, None, sym, subst, ◌∙◌}
+use Rattle.std.proofs.Common.{◌≡◌, List, Some, None, sym, subst, ◌∙◌}
 use Rattle.std.proofs.lemmas.Option.{same_Some}
 use Rattle.sap_terms.specs.declared.binding.Binding.{Binding}
 use Rattle.sap_terms.specs.Tree.{Tree}
-use Rattle.sap_terms.specs.Choice.{Choice}
-use Rattle.sap_terms.specs.Variables.{tree_vars}
-use Rattle.sap_rewrite.specs.Match.{names, new_vars, IsMatch, Agrees, Turns, IsOnlyMatch, HasNoMatch}
+use Rattle.sap_rewrite.specs.Match.{IsMatch, Agrees, IsOnlyMatch, HasNoMatch}
 use Rattle.sap_rewrite.specs.Walk.{match_tree}
 use Rattle.sap_rewrite.proofs.WalkLemmas.{match_sound, match_complete}
-use Rattle.sap_rewrite.proofs.Choices.{chosen, match_of_choice, agrees_of_choice}
+use Rattle.sap_rewrite.proofs.Choices.{match_of_choice, agrees_of_choice}
 
 one_of : (p t : Tree) (b c d : List Binding) → match_tree p t b ≡ Some c → IsMatch p t b d → d ≡ c
 one_of p t b c d h m = same_Some _ _ (sym (match_complete p t b d m) ∙ h)

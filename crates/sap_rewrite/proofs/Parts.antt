@@ -4,12 +4,12 @@ use Rattle.std.specs.Prelude.{option_map, slice_get, IsSome, if◌then◌else◌
 use Rattle.std.specs.Bool.{OnFalse}
 use Rattle.std.specs.Str.{bytes_eq}
 use Rattle.std.proofs.lemmas.Option.{slice_get_within}
-use Rattle.sap_terms.specs.Tree.{Tree, variable, public, fresh, apply, Trees, none, more, trees_of, list_of, list_of-trees_of}
+use Rattle.sap_terms.specs.Tree.{Tree, variable, public, fresh, apply, Trees, more, trees_of, list_of-trees_of}
 use Rattle.sap_terms.specs.View.{tree}
 use Rattle.sap_terms.specs.declared.term.Term.{Term}
 use Rattle.sap_terms.specs.declared.term.Term.TheVariants.{Var, Public, Fresh, App}
 use Rattle.sap_terms.specs.Theory.{Theory, app0, true_name, fst_name, snd_name, sdec_name, adec_name}
-use Rattle.sap_rewrite.specs.Reduce.{guard, or_else, first_part, second_part, opened, opened_by_key, by_first, by_second, by_symmetric, by_asymmetric, by_part, by_signing, inner_part, place, reduced}
+use Rattle.sap_rewrite.specs.Reduce.{guard, or_else, first_part, second_part, opened, opened_by_key, by_part, by_signing, inner_part, place, reduced}
 use Rattle.sap_rewrite.proofs.Sound.{first_part-shape, second_part-shape, opened-shape, opened_by_key-shape}
 
 -- there is no part, or it stands at the place

@@ -1,6 +1,6 @@
 ghost use Rattle.std.specs.Prelude.{◌≡◌, ◌<◌, ◌≤◌, IfOk, OnOk, OnErr, IsErrOf, map, min, true, false};
 ghost use Rattle.sap_terms.specs.View.{tree};
-ghost use Rattle.sap_terms.specs.Tree.{apply, node_count, trees_of, trees_count};
+ghost use Rattle.sap_terms.specs.Tree.{node_count, trees_of, trees_count};
 ghost use Rattle.sap_terms.specs.Theory.{theory};
 ghost use Rattle.sap_terms.specs.Normal.{IsNormalForm};
 ghost use Rattle.sap_rewrite.specs.Reduce.{nf, reduced};

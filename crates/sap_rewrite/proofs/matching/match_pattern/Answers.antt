@@ -1,7 +1,5 @@
-use Rattle.std.proofs.Common.{◌≡◌, true, false, Some, None, List, sym, subst, ◌∙◌}
-use Rattle.sap_terms.specs.declared.binding.Binding.{Binding}
+use Rattle.std.proofs.Common.{true, false}
 use Rattle.sap_terms.specs.View.{tree}
-use Rattle.sap_rewrite.specs.Match.{IsMatch, Agrees}
 use Rattle.sap_rewrite.specs.Walk.{match_tree}
 use Rattle.sap_rewrite.proofs.WalkLemmas.{answered}
 use Rattle.sap_rewrite.proofs.Only.{only_match, no_match}

@@ -1,5 +1,5 @@
 use Rattle.std.proofs.Common.{◌+◌, ◌∷◌, [], ◌++◌, ◌&&◌, map, take, drop, ap, sym, ◌∙◌, arith}
-use Rattle.sap_terms.specs.Tree.{apply, node_count, trees_of, trees_count}
+use Rattle.sap_terms.specs.Tree.{node_count, trees_of, trees_count}
 use Rattle.sap_terms.specs.View.{tree}
 use Rattle.sap_terms.specs.Theory.{theory}
 use Rattle.sap_terms.proofs.TreeLemmas.{map_got}
