@@ -1,4 +1,6 @@
 use crate::*;
+use sap_process::Process;
+use sap_terms::{Fact, Mem, Name, TermList};
 use std::test::Fail;
 
 const REFUSED: &[u8] = b"file refused: not in the first grammar\n";
@@ -264,5 +266,25 @@ fn limits(rt: HostRuntime) -> Result<(), Fail> {
         assert_eq!(rt; run.status, status, "file {k}");
         k = k.saturating_add(1);
     }
+    Ok(())
+}
+
+// `event A() | 0`.
+fn event_beside_nil(alloc: Global) -> Result<Process, Mem> {
+    let fact = Fact {
+        name: Name::from_bytes(alloc, b"A")?,
+        persistent: false,
+        args: TermList::new(alloc),
+    };
+    let left = Process::Event(fact, Box::new(alloc, Process::Nil)?);
+    Ok(Process::Par(Box::new(alloc, left)?, Box::new(alloc, Process::Nil)?))
+}
+
+#[test]
+fn process_is_copied(rt: HostRuntime) -> Result<(), Fail> {
+    let alloc = rt.alloc();
+    let process = event_beside_nil(alloc)?;
+    assert_eq!(rt; process.nodes(), 4);
+    assert_eq!(rt; process.copy(alloc)?.nodes(), 4);
     Ok(())
 }
