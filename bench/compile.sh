@@ -5,7 +5,7 @@
 set -e
 cd "$(dirname "$0")/.."
 turns=${1:-50}
-(cd crates/sap_main && rt run >/dev/null)
+(cd crates/sap_main && rt run -- compile ../../examples/go.spthy >/dev/null 2>&1)
 program=$PWD/crates/sap_main/out/sap_main
 work=$(mktemp -d)
 trap 'rm -rf "$work"' EXIT

@@ -1,10 +1,10 @@
 -- Each live state fact has its thread, and each thread its state fact.
-use Rattle.std.proofs.Common.{◌≡◌, ℕ, zero, suc, ◌+◌, ◌<◌, ◌≤◌, List, [], ◌∷◌, Option, Some, None, refl, sym, ap, ◌∙◌, arith, Bool, true, false, cond, slice_get, slice_set, subst}
+use Rattle.std.proofs.Common.{◌≡◌, ℕ, ◌+◌, ◌<◌, List, [], ◌∷◌, Option, Some, None, refl, sym, ap, ◌∙◌, arith, Bool, true, false, cond, slice_get, slice_set, subst}
 use Rattle.sap_terms.specs.declared.fact.Fact.{Fact}
 use Rattle.sap_process.specs.Proc.{Proc}
 use Rattle.sap_gen.specs.RuleSteps.{RuleState, Takes, nothing, one}
 use Rattle.sap_gen.specs.Templates.{state_fact}
-use Rattle.sap_gen.specs.Relation.{Agent, unborn, running, SameFacts, count_one, count_live, count_owed, is_control, same_fact, total}
+use Rattle.sap_gen.specs.Relation.{Agent, unborn, running, SameFacts, count_one, count_live, count_owed, is_control, same_fact}
 use Rattle.sap_gen.proofs.Totals.{total-set, total_found, Found}
 use Rattle.sap_gen.proofs.FactTests.{same_fact_self, same_fact_true}
 use Rattle.sap_gen.proofs.StateFacts.{state_fact_same}

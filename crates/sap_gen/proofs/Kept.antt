@@ -1,12 +1,12 @@
 -- The relation is kept when both sides move.
-use Rattle.std.proofs.Common.{◌≡◌, ℕ, zero, suc, ◌+◌, List, [], ◌∷◌, ◌++◌, Option, Some, None, refl, sym, ap, ◌∙◌, arith, false, slice_get, slice_set, subst, append-nil, map}
+use Rattle.std.proofs.Common.{◌≡◌, ℕ, zero, suc, List, [], ◌∷◌, ◌++◌, Option, Some, None, refl, sym, ap, ◌∙◌, arith, false, slice_get, slice_set, subst, append-nil}
 use Rattle.std.specs.Option.{option_map}
 use Rattle.sap_terms.specs.Reserved.{is_reserved}
 use Rattle.sap_terms.specs.Tree.{Tree, public}
 use Rattle.sap_terms.specs.declared.fact.Fact.{Fact}
 use Rattle.sap_process.specs.Proc.{Proc, nil, parallel, event}
 use Rattle.sap_gen.specs.Members.{Member}
-use Rattle.sap_gen.specs.Places.{bare, root, spot_at}
+use Rattle.sap_gen.specs.Places.{bare, root}
 use Rattle.sap_gen.specs.ProcessSteps.{Config, initial, becomes, spawns, Deducible}
 use Rattle.sap_gen.specs.ReservedFacts.{k_fact, in_fact, init_fact, event_fact}
 use Rattle.sap_gen.specs.RuleSteps.{RuleState, empty_state, adds}

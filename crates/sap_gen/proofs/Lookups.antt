@@ -1,5 +1,5 @@
--- Look-ups in lists of options after a write and after a push.
-use Rattle.std.proofs.Common.{◌≡◌, ℕ, zero, suc, ◌+◌, ◌<◌, List, [], ◌∷◌, ◌++◌, Option, Some, None, refl, sym, ap, ◌∙◌, arith, slice_get, slice_set, Bool, true, false, cond, map, length, subst}
+-- Look-ups in lists after a write and after a push, and members of joined lists.
+use Rattle.std.proofs.Common.{◌≡◌, ℕ, zero, suc, List, [], ◌∷◌, ◌++◌, Option, Some, None, refl, ap, slice_get, slice_set, map, subst}
 use Rattle.std.specs.Option.{option_map}
 use Rattle.sap_gen.specs.Members.{Member}
 
@@ -62,23 +62,13 @@ pub data Either {A : Type 0} (x : A) (xs ys : List A) : Type 0 where
 pub member_cases : {A : Type 0} {x : A} (xs ys : List A) → Member x (xs ++ ys) → Either x xs ys
 member_cases [] ys m = in_right m
 member_cases (y ∷ xs) ys Member.here = in_left Member.here
-member_cases {x = x} (y ∷ xs) ys (Member.later m) = elim (member_cases xs ys m) [ in_left a ↦ in_left (Member.later a) | in_right b ↦ in_right b ]
+member_cases (y ∷ xs) ys (Member.later m) = elim (member_cases xs ys m) [ in_left a ↦ in_left (Member.later a) | in_right b ↦ in_right b ]
 
 -- a write that f can't tell from what was there
 pub map-set_same : {A B : Type 0} (f : A → B) (xs : List A) (t : ℕ) (x y : A) → slice_get xs t ≡ Some x → f y ≡ f x → map f (slice_set xs t y) ≡ map f xs
 map-set_same f [] t x y e h = refl
 map-set_same f (z ∷ xs) zero x y e h = let same : f z ≡ f x = cc in cc
 map-set_same f (z ∷ xs) (suc t) x y e h = ap (λ ys. f z ∷ ys) (map-set_same f xs t x y e h)
-
-pub member_last : {A : Type 0} (xs : List A) (x : A) → Member x (xs ++ x ∷ [])
-member_last xs x = member_right xs Member.here
-
--- a member is the last or one before
-pub every_member_push : {A : Type 0} (P : A → Type 0) (xs : List A) (y : A) → ((x : A) → Member x xs → P x) → P y → (x : A) → Member x (xs ++ y ∷ []) → P x
-every_member_push P [] y all h x Member.here = h
-every_member_push P [] y all h x (Member.later m) = elim m [ ]
-every_member_push P (z ∷ xs) y all h x Member.here = all z Member.here
-every_member_push P (z ∷ xs) y all h x (Member.later m) = every_member_push P xs y (λ w n. all w (Member.later n)) h x m
 
 pub map_get : {A B : Type 0} (f : A → B) (xs : List A) (t : ℕ) (x : A) → slice_get xs t ≡ Some x → slice_get (map f xs) t ≡ Some (f x)
 map_get f [] t x e = cc

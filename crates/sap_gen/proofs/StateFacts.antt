@@ -1,8 +1,7 @@
 -- State facts are told apart by their paths.
-use Rattle.std.proofs.Common.{◌≡◌, ℕ, ◌+◌, List, [], ◌∷◌, ◌++◌, refl, ap, arith, true, false, map}
+use Rattle.std.proofs.Common.{◌≡◌, ℕ, ◌+◌, List, [], ◌∷◌, ◌++◌, refl, ap, arith, true}
 use Rattle.std.specs.Prelude.{codes}
 use Rattle.sap_terms.specs.declared.fact.Fact.{Fact}
-use Rattle.sap_terms.specs.declared.var.Var.{Var}
 use Rattle.sap_gen.specs.Templates.{digits, state_fact}
 use Rattle.sap_gen.specs.Relation.{is_control}
 

@@ -7,9 +7,9 @@ use Rattle.sap_terms.specs.declared.fact.Fact.{Fact}
 use Rattle.sap_gen.specs.Members.{Member}
 use Rattle.sap_gen.specs.ReservedFacts.{init_fact, event_fact}
 use Rattle.sap_gen.specs.Shown.{Trace, shown}
-use Rattle.sap_gen.specs.Traces.{hide, visible, is_hidden, HasFact, IsAdmitted}
+use Rattle.sap_gen.specs.Traces.{hide, visible, is_hidden, IsAdmitted}
 use Rattle.sap_gen.specs.Relation.{has_init, same_fact, total}
-use Rattle.sap_gen.proofs.Totals.{total-append, total_found, Found}
+use Rattle.sap_gen.proofs.Totals.{total_found}
 use Rattle.sap_gen.proofs.FactTests.{same_fact_true}
 
 pub hide_push : (full : Trace) (place : List Fact) → hide (full ++ place ∷ []) ≡ hide full ++ shown (visible place)

@@ -1,5 +1,5 @@
 -- Which full traces count, and what is seen of them.
-use Rattle.std.specs.Prelude.{◌≡◌, ℕ, Bool, ◌&&◌, not, List, [], ◌∷◌, Some, slice_get, codes, filter}
+use Rattle.std.specs.Prelude.{◌≡◌, ℕ, Bool, ◌&&◌, not, List, Some, slice_get, codes, filter}
 use Rattle.std.specs.List.{flat_map}
 use Rattle.std.specs.Str.{bytes_eq}
 use Rattle.sap_terms.specs.Reserved.{is_reserved}

@@ -24,6 +24,7 @@ pub fn init_rule(alloc: Global) -> Result<Rule, Mem>
     })
 }
 
+/// The rule by which a place with nothing left ends.
 pub fn nil_rule(alloc: Global, path: &Path) -> Result<Rule, Mem>
     ensures { IfOk result (λ rule. rule ≡ templates.nil_rule path.now []) }
 {
@@ -37,6 +38,7 @@ pub fn nil_rule(alloc: Global, path: &Path) -> Result<Rule, Mem>
     })
 }
 
+/// The rule by which a place gives way to its two children.
 pub fn parallel_rule(alloc: Global, path: &Path) -> Result<Rule, Mem>
     ensures { IfOk result (λ rule. rule ≡ templates.parallel_rule path.now []) }
 {
@@ -54,6 +56,7 @@ pub fn parallel_rule(alloc: Global, path: &Path) -> Result<Rule, Mem>
     })
 }
 
+/// The rule by which a place shows its fact, beside `Event()`, and gives way to its child.
 pub fn event_rule(alloc: Global, path: &Path, fact: &Fact) -> Result<Rule, Mem>
     ensures { IfOk result (λ rule. rule ≡ templates.event_rule path.now [] fact.now) }
 {

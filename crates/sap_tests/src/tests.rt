@@ -1,4 +1,6 @@
 use crate::*;
+use sap_process::Process;
+use sap_terms::{Fact, Mem, Name, TermList};
 use std::test::Fail;
 
 const REFUSED: &[u8] = b"file refused: not in the first grammar\n";
@@ -42,30 +44,67 @@ const ACCEPTED: [(&str, &str); 9] = [
     ),
 ];
 
-// Processes that are in no grammar.
-const REFUSED_PROCESSES: [&str; 22] = [
-    "",
-    "( 0",
-    "0 )",
-    "| 0",
-    "0 |",
-    "0 0",
-    "0 || 0",
-    "00",
-    "1",
-    "event go()",
-    "event Go",
-    "event Go(a)",
-    "event Go('a',)",
-    "event Go('a' 'b')",
-    "event Go();",
-    "event Go() event Go()",
-    "event Init('a')",
-    "event State_1()",
-    "event A('a'); event A()",
-    "event A('a') | event A('b','c')",
-    "0 // the end",
-    "/* none */ 0",
+// Files that are in no grammar.
+const REFUSED_FILES: [&[u8]; 59] = [
+    b"",
+    b" ",
+    b"theory A begin process: end",
+    b"theory A begin process: (0 end",
+    b"theory A begin process: 0) end",
+    b"theory A begin process: ((0) end",
+    b"theory A begin process: () end",
+    b"theory A begin process: | 0 end",
+    b"theory A begin process: 0 | end",
+    b"theory A begin process: 0 0 end",
+    b"theory A begin process: 0 || 0 end",
+    b"theory A begin process: 00 end",
+    b"theory A begin process: 1 end",
+    b"theory A begin process: 0; 0 end",
+    b"theory A begin process: (0); 0 end",
+    b"theory A begin process: event A(); end",
+    b"theory A begin process: ; event A() end",
+    b"theory A begin process: event A() event B() end",
+    b"theory A begin process: event A end",
+    b"theory A begin process: event a() end",
+    b"theory A begin process: event All() end",
+    b"theory A begin process: event A('x',) end",
+    b"theory A begin process: event A(,'x') end",
+    b"theory A begin process: event A('x' 'y') end",
+    b"theory A begin process: event A('x'; 'y') end",
+    b"theory A begin process: event A(x) end",
+    b"theory A begin process: event A('x' end",
+    b"theory A begin process: event A( end",
+    b"theory A begin process: event 'A'() end",
+    b"theory A begin process: new n end",
+    b"theory A begin process: 0",
+    b"theory A begin process: 0 end end",
+    b"theory A begin process: 0 end 0",
+    b"theory A begin process 0 end",
+    b"theory A begin : 0 end",
+    b"theory A process: 0 end",
+    b"theory begin process: 0 end",
+    b"A begin process: 0 end",
+    b"theory 'A' begin process: 0 end",
+    b"theory end begin process: 0 end",
+    b"theory not begin process: 0 end",
+    b"theory 1 begin process: 0 end",
+    b"Theory A begin process: 0 end",
+    b"theory A begin",
+    b"theory",
+    b"theory A begin process: 0 process: 0 end",
+    b"theory A begin process: event Init() end",
+    b"theory A begin process: 0 | event A(); event K('x') end",
+    b"theory A begin process: event State_1() end",
+    b"theory A begin process: event A() | event A('x') end",
+    b"theory A begin process: event A('x'); event B(); event A('x', 'y') end",
+    b"theory A begin process: 0 end // x",
+    b"// x\ntheory A begin process: 0 end",
+    b"theory A begin process: /* x */ 0 end",
+    b"theory A begin process: 0 end /**/",
+    b"theory A begin process: 0 end %",
+    b"theory A begin process: 0 end\x0b",
+    b"theory A begin process: event A('x end",
+    b"theory A begin process: event A('\xc3') end",
 ];
 
 #[test]
@@ -78,11 +117,17 @@ fn processes_and_their_rules(rt: HostRuntime) -> Result<(), Fail> {
         assert_eq!(rt; run.out.as_slice(), theory.as_slice(), "{process}");
         assert!(rt; run.err.is_empty(), "{process}");
     }
-    for process in REFUSED_PROCESSES {
-        let run = compile(alloc, file_of(alloc, process)?.as_slice())?;
-        assert_eq!(rt; run.status, 1, "{process}");
-        assert_eq!(rt; run.err.as_slice(), REFUSED, "{process}");
-        assert!(rt; run.out.is_empty(), "{process}");
+    Ok(())
+}
+
+#[test]
+fn files_that_are_none(rt: HostRuntime) -> Result<(), Fail> {
+    let alloc = rt.alloc();
+    for k in 0..REFUSED_FILES.len() {
+        let run = compile(alloc, REFUSED_FILES[k])?;
+        assert_eq!(rt; run.status, 1, "file {k}");
+        assert_eq!(rt; run.err.as_slice(), REFUSED, "file {k}");
+        assert!(rt; run.out.is_empty(), "file {k}");
     }
     Ok(())
 }
@@ -221,5 +266,25 @@ fn limits(rt: HostRuntime) -> Result<(), Fail> {
         assert_eq!(rt; run.status, status, "file {k}");
         k = k.saturating_add(1);
     }
+    Ok(())
+}
+
+// `event A() | 0`.
+fn event_beside_nil(alloc: Global) -> Result<Process, Mem> {
+    let fact = Fact {
+        name: Name::from_bytes(alloc, b"A")?,
+        persistent: false,
+        args: TermList::new(alloc),
+    };
+    let left = Process::Event(fact, Box::new(alloc, Process::Nil)?);
+    Ok(Process::Par(Box::new(alloc, left)?, Box::new(alloc, Process::Nil)?))
+}
+
+#[test]
+fn process_is_copied(rt: HostRuntime) -> Result<(), Fail> {
+    let alloc = rt.alloc();
+    let process = event_beside_nil(alloc)?;
+    assert_eq!(rt; process.nodes(), 4);
+    assert_eq!(rt; process.copy(alloc)?.nodes(), 4);
     Ok(())
 }
