@@ -86,7 +86,9 @@ pub fn repeated(alloc: Global, text: &[u8], times: usize) -> Result<Vec<u8>, All
 
 /// The theory of these rules.
 pub fn theory_with(alloc: Global, rules: &str) -> Result<Vec<u8>, AllocError> {
-    let mut text = b"theory A\nbegin\n\nrule Init:\n  [ ] --[ Init() ]-> [ State_() ]\n".to_vec(alloc)?;
+    let mut text = b"theory A\nbegin\n\nrule Init:\n  [ ] --[ Init() ]-> [ State_() ]\n".to_vec(
+        alloc,
+    )?;
     text.extend_from_slice(rules.as_bytes())?;
     text.extend_from_slice(b"\nrestriction sapic_init:\n")?;
     text.extend_from_slice(b"  \"All #i #j. Init()@i & Init()@j ==> #i = #j\"\n\nend\n")?;

@@ -5,7 +5,8 @@ const REFUSED: &[u8] = b"file refused: not in the first grammar\n";
 
 const GO: &[u8] = b"theory A begin process: event Go('a') end";
 
-const GO_THEORY: &[u8] = b"theory A\nbegin\n\nrule Init:\n  [ ] --[ Init() ]-> [ State_() ]\n\nrule Event_:\n  [ State_() ] --[ Event(), Go('a') ]-> [ State_1() ]\n\nrule Nil_1:\n  [ State_1() ] --> [ ]\n\nrestriction sapic_init:\n  \"All #i #j. Init()@i & Init()@j ==> #i = #j\"\n\nend\n";
+const GO_THEORY: &[u8] =
+    b"theory A\nbegin\n\nrule Init:\n  [ ] --[ Init() ]-> [ State_() ]\n\nrule Event_:\n  [ State_() ] --[ Event(), Go('a') ]-> [ State_1() ]\n\nrule Nil_1:\n  [ State_1() ] --> [ ]\n\nrestriction sapic_init:\n  \"All #i #j. Init()@i & Init()@j ==> #i = #j\"\n\nend\n";
 
 // Each accepted process with its rules behind `Init`, written by hand.
 const ACCEPTED: [(&str, &str); 9] = [
@@ -100,7 +101,10 @@ fn statuses_and_texts(rt: HostRuntime) -> Result<(), Fail> {
     let mut err = empty_sink(alloc);
     let none = Vec::new(alloc);
     assert_eq!(rt; sapic(alloc, &none, &mut shelf, &mut out, &mut err), 3);
-    assert_eq!(rt; err.bytes.as_slice(), b"usage: sapic COMMAND ARGUMENTS\n".as_slice());
+    assert_eq!(rt;
+        err.bytes.as_slice(),
+        b"usage: sapic COMMAND ARGUMENTS\n".as_slice()
+    );
     assert_eq!(rt; shelf.calls, 0);
 
     let mut err = empty_sink(alloc);

@@ -1,12 +1,12 @@
 -- What is spelled so is read.
-use Rattle.std.proofs.Common.{rules, ◌≡◌, ◌≤◌, ◌<◌, ◌+◌, max, ℕ, zero, suc, Bool, true, false, List, [], ◌∷◌, length, Some, refl, sym, ap, ◌∙◌, arith}
+use Rattle.std.proofs.Common.{rules, ◌≡◌, ◌≤◌, max, ℕ, zero, suc, true, false, List, ◌∷◌, length, Some, refl, sym, ap, ◌∙◌, arith}
 use Rattle.std.specs.Prelude.{codes, nat_le}
 use Rattle.sap_terms.specs.declared.fact.Fact.{Fact}
 use Rattle.sap_terms.specs.Tree.{Tree}
 use Rattle.sap_process.specs.Proc.{Proc}
 use Rattle.sap_tool.specs.Words.{Word, mark}
 use Rattle.sap_tool.specs.Grammar.{IsArgList, IsArgs, IsEvent, IsPar, IsSeq, event_fact, last_arg, next_arg, no_args, par_more, par_one, seq_event, seq_nil, seq_parentheses, seq_then, some_args}
-use Rattle.sap_tool.specs.Reading.{Read, Written, after, given, behind, arg_list, args, event_at, par, seq, starts, starts_zero}
+use Rattle.sap_tool.specs.Reading.{Read, Written, after, given, arg_list, args, event_at, par, seq, starts, starts_zero}
 
 list_read : {us : List Tree} {a b : List Word} → IsArgList us a b → (n : ℕ) → length a ≤ n → arg_list n a ≡ Some (us, b)
 unfolding given

@@ -1,5 +1,5 @@
 -- A process, a bar and a process behind it.
-use Rattle.std.proofs.Common.{rules, ◌≡◌, ◌≤◌, ◌<◌, ◌-◌, ◌+◌, max, ℕ, List, Some, true, drop, refl, arith}
+use Rattle.std.proofs.Common.{rules, ◌≡◌, ◌≤◌, ◌<◌, ◌-◌, ◌+◌, max, ℕ, List, Some, true, drop, refl}
 use Rattle.std.specs.Prelude.{nat_le, codes}
 use Rattle.sap_process.specs.Proc.{Proc, parallel}
 use Rattle.sap_text.specs.declared.token.Token.{Token}

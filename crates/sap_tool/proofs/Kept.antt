@@ -1,5 +1,5 @@
 -- Each way in which a call ends keeps the promises.
-use Rattle.std.proofs.Common.{◌≡◌, ◌≤◌, ◌<◌, ◌+◌, ℕ, List, [], ◌∷◌, ◌++◌, take, length, Option, Some, None, refl, sym, ap, subst, ◌∙◌, inl, inr, ◌⊎◌, arith, lit<}
+use Rattle.std.proofs.Common.{◌≡◌, ◌≤◌, ◌+◌, ℕ, List, [], ◌∷◌, take, length, Option, Some, None, sym, ap, subst, ◌∙◌, inl, inr, ◌⊎◌, arith, lit<}
 use Rattle.std.specs.Prelude.{codes, Contains}
 use Rattle.std.proofs.lemmas.Grind.{common_steps}
 use Rattle.std.specs.FinMap as files
@@ -8,8 +8,7 @@ use Rattle.sap_gen.specs.Templates.{rules_of}
 use Rattle.sap_gen.specs.Faithful.{NoReservedEvents, ShowsAll, ShowsOnly}
 use Rattle.sap_tool.specs.Outside.{Files, IsFetched, IsFirstPart}
 use Rattle.sap_tool.specs.FirstFile.{IsFile}
-use Rattle.sap_tool.specs.Layout.{theory_text}
-use Rattle.sap_tool.specs.Call.{Call, Gained, Failed, FailedOn, IsCompile, IsUnknown, IsRefused, IsTheoryOf, Fetched, Holds, Theory, Cause, refused, usage, unread, Outcome, written, told, untold, unwritten, wanting, wanting_err, wanting_out, most_bytes}
+use Rattle.sap_tool.specs.Call.{Call, Gained, Failed, FailedOn, IsCompile, IsUnknown, IsRefused, Fetched, Holds, Theory, Cause, refused, usage, unread, Outcome, written, told, untold, unwritten, wanting, wanting_err, wanting_out, most_bytes}
 use Rattle.sap_tool.specs.Promises as promised
 
 -- the rules of every process without reserved events show it

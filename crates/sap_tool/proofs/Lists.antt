@@ -40,7 +40,6 @@ pub behind_push : (xs : List Tree) (x : Tree) (r : Read (List Tree)) → behind 
 behind_push xs x None = refl
 behind_push xs x (Some p) = ap (λ (y : List Tree). Some (y, p.1)) (sym (append_assoc xs (x ∷ []) p.0))
 
-
 words-length : (z : List ℕ) (ts : List Token) → length (words_of z ts) ≡ length ts
 words-length z ts = length-map ts (word_of z)
 

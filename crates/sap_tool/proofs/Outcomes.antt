@@ -1,10 +1,10 @@
 -- From what was put to how a call ends.
-use Rattle.std.proofs.Common.{◌≡◌, ◌≤◌, ℕ, List, [], ◌∷◌, ◌++◌, take, length, Option, Some, None, refl, sym, ap, subst, ◌∙◌, append_assoc, arith}
+use Rattle.std.proofs.Common.{◌≡◌, ◌≤◌, ℕ, List, [], ◌++◌, take, length, Option, Some, None, refl, sym, ap, subst, ◌∙◌, append_assoc, arith}
 use Rattle.std.proofs.lemmas.List.{append-nil}
 use Rattle.std.specs.Io.KnownBytes.{Appends}
 use Rattle.std.proofs.lemmas.Grind.{common_steps}
 use Rattle.sap_tool.specs.Outside.{Rose, AppendsSome}
-use Rattle.sap_tool.specs.Call.{Stream, stream, Call, Gained, Failed, IsRefused, IsTheoryOf, Fetched, Theory, Cause, refused, Outcome, written, told, untold, unwritten, wanting, wanting_err, wanting_out, refused_text, write_fault_text, memory_text}
+use Rattle.sap_tool.specs.Call.{stream, Call, Gained, Fetched, Cause, refused, Outcome, written, told, untold, unwritten, wanting, wanting_err, wanting_out, refused_text, write_fault_text, memory_text}
 use Rattle.sap_tool.specs.Telling as telling
 
 -- nothing was put

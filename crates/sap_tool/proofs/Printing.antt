@@ -3,8 +3,7 @@ use Rattle.std.proofs.Common.{◌≡◌, ◌≢◌, ◌<◌, ◌≤◌, ◌+◌,
 use Rattle.std.specs.Prelude.{slice_get, codes}
 use Rattle.std.specs.Str.{bytes_eq}
 use Rattle.std.proofs.lemmas.List.{append-nil}
-use Rattle.std.proofs.lemmas.Grind.{common_steps}
-use Rattle.sap_terms.specs.Tree.{Tree, Trees, none, more, trees_of}
+use Rattle.sap_terms.specs.Tree.{Tree, trees_of}
 use Rattle.sap_tool.specs.Separators.{separator_before}
 use Rattle.sap_tool.specs.Layout.{joined, is_pair, term_text, pair_text, term_texts, tree_text, applied}
 

@@ -1,16 +1,16 @@
 -- What is read is spelled so.
-use Rattle.std.proofs.Common.{rules, ◌≡◌, ◌≤◌, ◌+◌, max, ℕ, zero, suc, Bool, true, false, List, [], ◌∷◌, ◌++◌, length, drop, Option, Some, None, refl, sym, ap, subst, ◌∙◌, arith}
+use Rattle.std.proofs.Common.{rules, ◌≡◌, ◌≤◌, ◌+◌, ℕ, zero, suc, Bool, true, false, List, [], ◌∷◌, ◌++◌, length, drop, Option, Some, None, refl, sym, ap, subst, ◌∙◌, arith}
 use Rattle.std.specs.Prelude.{nat_le, codes, if◌then◌else◌, ⊤}
 use Rattle.std.specs.Str.{bytes_eq}
 use Rattle.std.proofs.lemmas.List.{drop-drop}
 use Rattle.std.proofs.lemmas.Slice.Eq.{bytes_eq-Decides}
 use Rattle.sap_terms.specs.declared.fact.Fact.{Fact}
 use Rattle.sap_terms.specs.Tree.{Tree, public}
-use Rattle.sap_process.specs.Proc.{Proc, event, nil, parallel}
+use Rattle.sap_process.specs.Proc.{nil}
 use Rattle.sap_gen.specs.ReservedFacts.{linear}
 use Rattle.sap_tool.specs.Words.{Word, mark, name, number, quoted}
 use Rattle.sap_tool.specs.Grammar.{IsArgList, IsArgs, IsEvent, IsPar, IsSeq, event_fact, is_upper, last_arg, next_arg, no_args, par_more, par_one, seq_event, seq_nil, seq_parentheses, seq_then, some_args}
-use Rattle.sap_tool.specs.Reading.{Read, Reader, Written, after, given, behind, arg_list, args, closed, event_args, event_at, going_on, name_at, par, par_at, quoted_at, seq, seq_at, starts, starts_zero}
+use Rattle.sap_tool.specs.Reading.{Read, Reader, Written, after, given, behind, arg_list, args, event_at, going_on, name_at, par, par_at, quoted_at, seq, seq_at, starts, starts_zero}
 
 abbrev pub Says : Type 0 → Type 1
 Says A = A → List Word → Type 0

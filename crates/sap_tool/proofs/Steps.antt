@@ -1,11 +1,9 @@
 -- What reading does at each depth.
-use Rattle.std.proofs.Common.{rules, ◌≡◌, ◌≤◌, ◌<◌, ◌-◌, ◌+◌, max, ℕ, zero, suc, List, Some, None, true, false, drop, map, refl, sym, arith}
-use Rattle.std.specs.Prelude.{nat_le, codes}
+use Rattle.std.proofs.Common.{◌≡◌, ◌<◌, ◌-◌, ℕ, zero, suc, List, None, drop, refl, sym, arith}
 use Rattle.std.proofs.lemmas.List.{drop-map}
-use Rattle.sap_process.specs.Proc.{Proc, parallel}
 use Rattle.sap_text.specs.declared.token.Token.{Token}
 use Rattle.sap_tool.specs.Words.{Word, word_of, words_of}
-use Rattle.sap_tool.specs.Reading.{after, given, par, par_at, seq, seq_at, starts}
+use Rattle.sap_tool.specs.Reading.{par, par_at, seq, seq_at}
 
 pub seq_zero : (ws : List Word) → seq 0 ws ≡ None
 unfolding seq par

@@ -90,7 +90,7 @@ event_args f ws = after (args ws) (λ us r. Some (linear f us, r))
 abbrev pub event_at : Reader Fact
 event_at ws =
     if starts (codes "event") ws then given (name_at (drop 1 ws)) (λ f.
-        if is_upper f then (if starts (codes "(") (drop 2 ws) then event_args f (drop 3 ws) else None) else None)
+    if is_upper f then (if starts (codes "(") (drop 2 ws) then event_args f (drop 3 ws) else None) else None)
     else None
 
 -- a process and the levels of its text

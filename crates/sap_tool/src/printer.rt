@@ -20,7 +20,9 @@ pub fn theory_text(alloc: Global, name: &Name, rules: &RuleList) -> Result<Text,
     text.push_bytes(name.as_bytes())?;
     text.push_bytes(b"\nbegin\n")?;
     push_rules(&mut text, rules)?;
-    text.push_bytes(b"\nrestriction sapic_init:\n  \"All #i #j. Init()@i & Init()@j ==> #i = #j\"\n")?;
+    text.push_bytes(
+        b"\nrestriction sapic_init:\n  \"All #i #j. Init()@i & Init()@j ==> #i = #j\"\n",
+    )?;
     text.push_bytes(b"\nend\n")?;
     Ok(text)
 }

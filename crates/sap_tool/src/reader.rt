@@ -3,7 +3,6 @@ mod limits;
 mod look;
 mod process;
 
-
 ghost use Rattle.std.specs.Prelude.{◌≡◌, ℕ, List, [], ◌∷◌, codes, IfOk, IfSome, IfNone};
 ghost use Rattle.sap_process.specs.Proc.{Proc, proc};
 ghost use Rattle.sap_tool.specs.Words.{Word, mark, words_of};
@@ -109,17 +108,13 @@ pub fn read_first(alloc: Global, bytes: &[u8]) -> Result<Option<FirstFile>, Mem>
 
 /// A law: bytes are a file of at most one theory name and process.
 pub fn one_file()
-    ensures {
-        (z n m : List ℕ) (p q : Proc) → IsFile z n p → IsFile z m q → (n ≡ m) × (p ≡ q)
-    }
+    ensures { (z n m : List ℕ) (p q : Proc) → IsFile z n p → IsFile z m q → (n ≡ m) × (p ≡ q) }
 {
     one_answer();
 }
 
 /// A law: words with `end` behind them spell at most one process, with one number of levels.
 pub fn one_process()
-    ensures {
-        (a : List Word) (p q : Proc) (n k : ℕ) → IsPar p n a (mark (codes "end") ∷ []) → IsPar q k a (mark (codes "end") ∷ [])
-            → (p ≡ q) × (n ≡ k)
-    }
+    ensures { (a : List Word) (p q : Proc) (n k : ℕ) → IsPar p n a (mark (codes "end") ∷ []) → IsPar q k a (mark (codes "end") ∷ [])
+        → (p ≡ q) × (n ≡ k) }
 {}

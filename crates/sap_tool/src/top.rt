@@ -33,8 +33,8 @@ pub fn sapic<S: Shelf, O: Sink, E: Sink>(
 ) -> u8
     ensures { Promises
         (call words.now.items (S.holds shelf.old) (S.faults shelf.old) (S.faults shelf.new)
-            (stream (O.written out.old) (O.written out.new) (O.faults out.old) (O.faults out.new))
-            (stream (E.written err.old) (E.written err.new) (E.faults err.old) (E.faults err.new)))
+        (stream (O.written out.old) (O.written out.new) (O.faults out.old) (O.faults out.new))
+        (stream (E.written err.old) (E.written err.new) (E.faults err.old) (E.faults err.new)))
         result }
 {
     rules_show_the_process();
@@ -50,8 +50,8 @@ fn run<S: Shelf, O: Sink, E: Sink>(
 ) -> u8
     ensures { Outcome
         (call words.now.items (S.holds shelf.old) (S.faults shelf.old) (S.faults shelf.new)
-            (stream (O.written out.old) (O.written out.new) (O.faults out.old) (O.faults out.new))
-            (stream (E.written err.old) (E.written err.new) (E.faults err.old) (E.faults err.new)))
+        (stream (O.written out.old) (O.written out.new) (O.faults out.old) (O.faults out.new))
+        (stream (E.written err.old) (E.written err.new) (E.faults err.old) (E.faults err.new)))
         result }
 {
     let Some(file) = file_to_compile(words) else {

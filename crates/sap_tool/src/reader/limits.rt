@@ -71,9 +71,7 @@ fn has_free_names(p: &Process) -> bool
 
 /// Whether a process has few nodes, no event of a reserved name, and no event name with two arities.
 pub fn is_within_limits(alloc: Global, p: &Process) -> Result<bool, Mem>
-    ensures {
-        IfOk result (λ b. IsTrue b ↔ ((node_count (proc p.now) ≤ 4000) × NoReservedEvents (proc p.now) × HaveOneArity (events (proc p.now))))
-    }
+    ensures { IfOk result (λ b. IsTrue b ↔ ((node_count (proc p.now) ≤ 4000) × NoReservedEvents (proc p.now) × HaveOneArity (events (proc p.now)))) }
 {
     if p.nodes() > 4000 || !has_free_names(p) {
         Ok(false)

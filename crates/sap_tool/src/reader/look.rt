@@ -106,7 +106,11 @@ fn as_name<'a>(bytes: &'a [u8], token: Token) -> Option<&'a [u8]>
 {
     let text = text_at(bytes, token);
     match token.kind {
-        Kind::Ident => if is_grammar_word(text) { None } else { Some(text) },
+        Kind::Ident => if is_grammar_word(text) {
+            None
+        } else {
+            Some(text)
+        },
         Kind::Number | Kind::Quoted | Kind::Symbol => None,
     }
 }

@@ -1,6 +1,5 @@
 use Rattle.std.proofs.Common.{◌≡◌, ◌<◌, ◌++◌, length, map, ap, ◌∙◌, arith}
 use Rattle.std.specs.Prelude.{codes}
-use Rattle.std.proofs.lemmas.Grind.{common_steps}
 use Rattle.sap_terms.specs.View.{tree}
 use Rattle.sap_tool.specs.Layout.{joined, tree_text}
 use Rattle.sap_tool.specs.Separators.{separator_before}

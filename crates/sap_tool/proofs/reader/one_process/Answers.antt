@@ -1,5 +1,5 @@
 use Rattle.std.proofs.Common.{refl}
-use Rattle.sap_tool.proofs.Complete.{Ends, one_reading}
+use Rattle.sap_tool.proofs.Complete.{one_reading}
 use Rattle.sap_tool.proofs.reader.one_process.Goals as goal
 
 pub returns : goal.returns

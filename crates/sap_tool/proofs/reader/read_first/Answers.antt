@@ -1,10 +1,9 @@
-use Rattle.std.proofs.Common.{◌≡◌, ◌≤◌, ℕ, List, Some, None, Ok, true, sym, ◌∙◌, arith}
+use Rattle.std.proofs.Common.{◌≡◌, ℕ, List, Some, None, Ok, true, sym, ◌∙◌, arith}
 use Rattle.sap_text.specs.declared.token.Token.{Token}
 use Rattle.sap_text.specs.Tokens.{IsLexed}
 use Rattle.sap_process.specs.Proc.{proc}
 use Rattle.sap_tool.specs.FirstFile.{only_blanks}
 use Rattle.sap_tool.specs.Words.{words_of}
-use Rattle.sap_tool.specs.View.{GivesTheory}
 use Rattle.sap_tool.specs.Reading.{whole}
 use Rattle.sap_tool.proofs.Whole.{no_theory, beyond_limits, a_file}
 use Rattle.sap_tool.proofs.reader.read_first.Goals as goal

@@ -1,5 +1,4 @@
-use Rattle.std.proofs.Common.{subst, ◌≡◌, sym}
-use Rattle.sap_tool.specs.Telling.{refused, given, wanting, IsWritten}
+use Rattle.sap_tool.specs.Telling.{refused, given, wanting}
 use Rattle.sap_tool.proofs.Outcomes.{appends_nothing}
 use Rattle.sap_tool.proofs.top.deliver.Goals as goal
 

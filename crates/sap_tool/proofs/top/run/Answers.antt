@@ -1,4 +1,4 @@
-use Rattle.std.proofs.Common.{rules, refl, sym, ap, ◌∙◌}
+use Rattle.std.proofs.Common.{rules, refl}
 use Rattle.sap_tool.specs.Call.{usage, unread, usage_text, read_fault_text, wanting}
 use Rattle.sap_tool.proofs.Outcomes.{appends_nothing, of_told, of_delivered}
 use Rattle.sap_tool.proofs.top.run.Goals as goal

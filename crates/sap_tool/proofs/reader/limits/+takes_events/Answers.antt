@@ -1,6 +1,5 @@
 use Rattle.std.proofs.Common.{◌≡◌, ◌∷◌, ◌++◌, [], refl}
 use Rattle.sap_process.specs.Proc.{proc, events}
-use Rattle.sap_tool.specs.Arities.{Takes}
 use Rattle.sap_tool.proofs.Seen.{takes_all, takes_first}
 use Rattle.sap_tool.proofs.reader.limits.+takes_events.Goals as goal
 

@@ -1,6 +1,5 @@
-use Rattle.std.proofs.Common.{◌≡◌, List, ◌∷◌, [], Some, None, length, true, nat_eq, arith}
+use Rattle.std.proofs.Common.{◌≡◌, length, arith}
 use Rattle.std.proofs.lemmas.Grind.{common_steps}
-use Rattle.sap_tool.specs.Arities.{Takes, held}
 use Rattle.sap_tool.proofs.Seen.{takes_new, takes_again}
 use Rattle.sap_tool.proofs.reader.limits.takes_fact.Goals as goal
 

@@ -1,7 +1,6 @@
-use Rattle.std.proofs.Common.{◌≡◌, ◌<◌, List, [], ◌∷◌, ◌++◌, length, Some, None, arith}
+use Rattle.std.proofs.Common.{◌≡◌, ◌<◌, [], ◌∷◌, ◌++◌, length, Some, None, arith}
 use Rattle.std.proofs.lemmas.Grind.{common_steps}
-use Rattle.sap_terms.specs.Tree.{Tree, public}
-use Rattle.sap_text.specs.declared.token.Token.{Token}
+use Rattle.sap_terms.specs.Tree.{public}
 use Rattle.sap_tool.specs.Words.{words_of}
 use Rattle.sap_tool.specs.Reading.{quoted_at}
 use Rattle.sap_tool.proofs.Lists.{turn_stop, turn_end, turn_last, turn_bad, turn_go}

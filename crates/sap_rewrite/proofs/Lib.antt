@@ -1,0 +1,11 @@
+pub mod Respects
+pub mod Sound
+pub mod Reach
+pub mod NormalForms
+pub mod Shapes
+pub mod ListLaws
+pub mod Parts
+pub mod Fits
+pub mod WalkLemmas
+pub mod Choices
+pub mod Only

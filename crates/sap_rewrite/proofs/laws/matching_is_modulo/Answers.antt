@@ -1,0 +1,5 @@
+use Rattle.sap_rewrite.proofs.Choices.{modulo_iff}
+use Rattle.sap_rewrite.proofs.laws.matching_is_modulo.Goals as goal
+
+pub returns : goal.returns
+returns c = modulo_iff

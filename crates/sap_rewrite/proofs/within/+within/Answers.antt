@@ -1,0 +1,47 @@
+use Rattle.std.proofs.Common.{◌+◌, ◌∷◌, [], ◌++◌, ◌&&◌, map, take, drop, ap, sym, ◌∙◌, arith}
+use Rattle.sap_terms.specs.Tree.{node_count, trees_of, trees_count}
+use Rattle.sap_terms.specs.View.{tree}
+use Rattle.sap_terms.specs.Theory.{theory}
+use Rattle.sap_terms.proofs.TreeLemmas.{map_got}
+use Rattle.sap_rewrite.specs.Reduce.{nf, reduced}
+use Rattle.sap_rewrite.specs.Fit.{all_fit}
+use Rattle.sap_rewrite.proofs.ListLaws.{nf-apply}
+use Rattle.sap_rewrite.proofs.Fits.{trees_count-push, all_fit-got, whole_within, whole_large, on_ok, on_error}
+use Rattle.sap_rewrite.proofs.within.+within.Goals as goal
+
+pub within_all-loop-k-preserved : goal.within_all-loop-k-preserved
+within_all-loop-k-preserved t c =
+    let e = theory c.args.sig.now in
+    let ts = c.args.ts.now in
+    let k = c.loop-k.k in
+    let u = tree c.at.result.now in
+    let x = tree c.in_ok-form.form.term in
+    let pushed = ap (λ us. trees_count (trees_of us)) c.in_ok-push.ensures.ok ∙ trees_count-push c.loop-k.terms x in
+    let nodes = ap node_count c.in_ok-form.ensures.form in
+    record {
+      forms =
+          c.in_ok-push.ensures.ok ∙ ap (λ us. us ++ x ∷ []) c.loop-k.invariant.forms ∙ ap (λ y. map (nf e) (take k ts) ++ y ∷ []) c.in_ok-form.ensures.form ∙ sym (map_got (nf e) ts k u c.at.ensures.got);
+      count = omega (arith, pushed, nodes, c.in_ok-form.ensures.count, c.loop-k.invariant.count);
+      fits =
+          c.loop-k.invariant.fits ∙ all_fit-got e c.args.most ts k u c.at.ensures.got ∙ ap (λ b. b && all_fit e c.args.most (trees_of (drop (k + 1) ts))) c.in_ok-form.ensures.fits;
+    }
+
+pub within_term-returns-in_ok-reduce_counted-in-App-clause-fits : goal.within_term-returns-in_ok-reduce_counted-in-App-clause-fits
+within_term-returns-in_ok-reduce_counted-in-App-clause-fits t c =
+    let e = theory c.args.sig.now in
+    let f = c.in-App.f in
+    let ts = c.in-App.args in
+    let form = c.in_ok-reduce_counted-in-App.ensures.form ∙ ap (λ us. reduced e f (trees_of us)) c.in_ok-parts-in-App.ensures.forms ∙ sym (nf-apply e f ts) in
+    let nodes = ap node_count form in
+    on_ok c.limited.result
+    (λ h. whole_within e c.args.most 18446744073709551615 c.in_ok-reduce_counted-in-App.field-0.nodes (tree c.args.t.now) f (trees_of ts) (ap tree c.in-App.is) c.in_ok-parts-in-App.ensures.fits (omega (arith, nodes, c.in_ok-reduce_counted-in-App.ensures.count)) (omega arith) h)
+    c.limited.ensures.within
+
+pub within_term-returns-in_ok-reduce_counted-in-App-clause-large : goal.within_term-returns-in_ok-reduce_counted-in-App-clause-large
+within_term-returns-in_ok-reduce_counted-in-App-clause-large t c = λ i.
+    let e = theory c.args.sig.now in
+    let f = c.in-App.f in
+    let ts = c.in-App.args in
+    let form = c.in_ok-reduce_counted-in-App.ensures.form ∙ ap (λ us. reduced e f (trees_of us)) c.in_ok-parts-in-App.ensures.forms ∙ sym (nf-apply e f ts) in
+    let nodes = ap node_count form in
+    whole_large e c.args.most 18446744073709551615 c.in_ok-reduce_counted-in-App.field-0.nodes (tree c.args.t.now) f (trees_of ts) (ap tree c.in-App.is) (omega (arith, nodes, c.in_ok-reduce_counted-in-App.ensures.count)) (on_error c.limited.result _ i c.limited.ensures.large)

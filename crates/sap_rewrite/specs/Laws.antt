@@ -1,0 +1,18 @@
+-- What holds of all terms and their normal forms.
+use Rattle.std.specs.Prelude.{◌≡◌, ◌↔◌}
+use Rattle.sap_terms.specs.Tree.{Tree}
+use Rattle.sap_terms.specs.Theory.{Theory}
+use Rattle.sap_terms.specs.Equal.{IsTheoryEqual}
+use Rattle.sap_terms.specs.Normal.{IsNormalForm}
+
+-- every term has a normal form
+abbrev pub EachHasForm : Type 0
+EachHasForm = (e : Theory) (t : Tree) → (n : Tree) × IsNormalForm e t n
+
+-- and no two
+abbrev pub FormIsOne : Type 0
+FormIsOne = (e : Theory) (t m n : Tree) → IsNormalForm e t m → IsNormalForm e t n → m ≡ n
+
+-- two terms are theory-equal exactly where their normal forms are the same tree
+abbrev pub FormsDecide : Type 0
+FormsDecide = (e : Theory) (t u m n : Tree) → IsNormalForm e t m → IsNormalForm e u n → IsTheoryEqual e t u ↔ (m ≡ n)

@@ -1,0 +1,17 @@
+pub mod Reduce
+pub mod Large
+pub mod Fit
+pub mod Laws
+pub mod Match
+pub mod Walk
+pub mod Pattern
+pub use Rattle.sap_terms.specs.Tree
+pub use Rattle.sap_terms.specs.View
+pub use Rattle.sap_terms.specs.Signature
+pub use Rattle.sap_terms.specs.Theory
+pub use Rattle.sap_terms.specs.Equal
+pub use Rattle.sap_terms.specs.Normal
+pub use Rattle.sap_terms.specs.Ground
+pub use Rattle.sap_terms.specs.Choice
+pub use Rattle.sap_terms.specs.Subst
+pub use Rattle.sap_terms.specs.Variables

@@ -1,0 +1,65 @@
+-- Matches of a pattern.
+use Rattle.std.specs.Prelude.{◌≡◌, ℕ, Bool, true, false, ◌||◌, List, [], ◌∷◌, ◌++◌, map, if◌then◌else◌}
+use Rattle.std.specs.Str.{bytes_eq}
+use Rattle.sap_terms.specs.declared.var.Var.{Var}
+use Rattle.sap_terms.specs.declared.binding.Binding.{Binding}
+use Rattle.sap_terms.specs.Tree.{Tree}
+use Rattle.sap_terms.specs.View.{tree}
+use Rattle.sap_terms.specs.Choice.{Choice, fits_sort, IsSorted, IsByName, instance}
+use Rattle.sap_terms.specs.Subst.{subst_tree}
+use Rattle.sap_terms.specs.Variables.{tree_vars}
+
+-- each variable is bound to a term that its sort allows
+abbrev pub AllSorted : List Binding → Type 0
+AllSorted [] = Unit {0}
+AllSorted (e ∷ es) = (fits_sort e.var.sort (tree e.term) ≡ true) × AllSorted es
+
+-- the names of the bound variables
+abbrev pub names : List Binding → List (List ℕ)
+names b = map (λ (e : Binding). e.var.name) b
+
+-- the name is one of these
+abbrev pub is_known : List (List ℕ) → List ℕ → Bool
+is_known [] n = false
+is_known (m ∷ ms) n = bytes_eq m n || is_known ms n
+
+-- the first occurrences of variables whose names are not known
+abbrev pub new_vars : List (List ℕ) → List Var → List Var
+new_vars known [] = []
+new_vars known (v ∷ vs) = if is_known known v.name then new_vars known vs else v ∷ new_vars (known ++ v.name ∷ []) vs
+
+-- c is b and then a term that its sort allows for each of these variables that b doesn't bind, in order of first
+-- occurrence
+pub record Extends (b : List Binding) (vs : List Var) (c : List Binding) : Type 0 where
+  pub added : List Binding
+  pub is : c ≡ b ++ added
+  pub on : map (λ (e : Binding). e.var) added ≡ new_vars (names b) vs
+  pub sorted : AllSorted added
+
+-- c extends b on the pattern's variables, and turns the pattern p into the tree t
+pub record IsMatch (p t : Tree) (b c : List Binding) : Type 0 where
+  pub extends : Extends b (tree_vars p) c
+  pub turns : subst_tree c p ≡ t
+
+-- the substitution gives each bound variable the term that it is bound to
+abbrev pub Agrees : List Binding → Choice → Type 0
+Agrees [] σ = Unit {0}
+Agrees (e ∷ es) σ = (σ e.var ≡ tree e.term) × Agrees es σ
+
+-- a sorted substitution, which knows variables by their names, agrees with b and turns the pattern into the tree
+pub record Turns (p t : Tree) (b : List Binding) (σ : Choice) : Type 0 where
+  pub sorted : IsSorted σ
+  pub by_name : IsByName σ
+  pub agrees : Agrees b σ
+  pub is : instance σ p ≡ t
+
+-- c is the one match, and every substitution that turns the pattern into the tree agrees with it
+pub record IsOnlyMatch (p t : Tree) (b c : List Binding) : Type 0 where
+  pub is_match : IsMatch p t b c
+  pub only : (d : List Binding) → IsMatch p t b d → d ≡ c
+  pub of_all : (σ : Choice) → Turns p t b σ → Agrees c σ
+
+-- there is no match, and no substitution turns the pattern into the tree
+pub record HasNoMatch (p t : Tree) (b : List Binding) : Type 0 where
+  pub none : (c : List Binding) → IsMatch p t b c → ⊥
+  pub of_none : (σ : Choice) → Turns p t b σ → ⊥

@@ -1,0 +1,71 @@
+// One symbol on normal terms, made normal.
+ghost use Rattle.std.specs.Prelude.{◌≡◌, IfOk, IsSome, Some, None, if◌then◌else◌};
+ghost use Rattle.std.specs.Bool.{OnFalse};
+ghost use Rattle.sap_terms.specs.View.{tree};
+ghost use Rattle.sap_terms.specs.Tree.{apply, trees_of};
+ghost use Rattle.sap_terms.specs.Theory.{theory, app0, true_name};
+ghost use Rattle.sap_rewrite.specs.Reduce.{inner_part, place, by_signing, reduced};
+
+use crate::shape::{first_part, opened, opened_by_key, second_part, verifies};
+use sap_terms::{Builtin, Copied, Mem, Name, Signature, Term, TermList};
+use std::alloc::Global;
+
+// Where in the first argument the part stands that an equation leaves.
+fn place_of_part(sig: &Signature, f: &Name, args: &TermList) -> Option<u64>
+    ensures { result ≡ place (theory sig.now) f.now (trees_of args.now) }
+{
+    if f.is(b"fst") {
+        first_part(args).map(|_| 0)
+    } else if f.is(b"snd") {
+        second_part(args).map(|_| 1)
+    } else if f.is(b"sdec") && sig.has(Builtin::Symmetric) {
+        opened(args).map(|_| 0)
+    } else if f.is(b"adec") && sig.has(Builtin::Asymmetric) {
+        opened_by_key(args).map(|_| 0)
+    } else {
+        None
+    }
+}
+
+// The part of the first argument at this place, taken out of it.
+#[tactic(auto, using(crate::proofs::Parts::part_laws))]
+fn into_part(args: TermList, k: u64) -> Term
+    requires { IsSome (inner_part (trees_of args) k) }
+    ensures { inner_part (trees_of args) k ≡ Some (tree result) }
+{
+    match args.into_item(0) {
+        Term::App(_, parts) => parts.into_item(k),
+        other => other,
+    }
+}
+
+// Whether the symbol on these terms is a check of a signature that holds.
+fn is_verified(sig: &Signature, f: &Name, args: &TermList) -> bool
+    ensures { (if result then Some (app0 true_name) else None) ≡ by_signing (theory sig.now) f.now (trees_of args.now) }
+{
+    f.is(b"verify") && sig.has(Builtin::Signing) && verifies(args).is_some()
+}
+
+// Whether the symbol on these terms is the left side of an equation. The one way is all that is said.
+pub(crate) fn is_left_side(sig: &Signature, f: &Name, args: &TermList) -> bool
+    ensures { OnFalse result (reduced (theory sig.now) f.now (trees_of args.now) ≡ apply f.now (trees_of args.now)) }
+{
+    match place_of_part(sig, f, args) {
+        Some(_) => true,
+        None => is_verified(sig, f, args),
+    }
+}
+
+// The normal form of a symbol on normal terms. What an equation leaves is moved out of them, not copied.
+pub(crate) fn reduce(alloc: Global, sig: &Signature, f: &Name, args: TermList) -> Result<Term, Mem>
+    ensures { IfOk result (λ r. tree r ≡ reduced (theory sig.now) f.now (trees_of args)) }
+{
+    if let Some(k) = place_of_part(sig, f, &args) {
+        return Ok(into_part(args, k));
+    }
+    if is_verified(sig, f, &args) {
+        let name = Name::from_bytes(alloc, b"true")?;
+        return Ok(Term::App(name, TermList::new(alloc)));
+    }
+    Ok(Term::App(f.copy(alloc)?, args))
+}

@@ -1,0 +1,97 @@
+// The shapes of left sides: what stands under a symbol, where it does.
+ghost use Rattle.std.specs.Prelude.{◌≡◌, option_map};
+ghost use Rattle.std.specs.Option.{option_copied};
+ghost use Rattle.sap_terms.specs.View.{tree};
+ghost use Rattle.sap_terms.specs.Tree.{trees_of};
+ghost use Rattle.sap_terms.specs.Theory.{app0, true_name};
+ghost use Rattle.sap_rewrite.specs.Reduce.{args1, args2, args3, under, first_part, second_part, opened, opened_by_key, verified};
+
+use sap_terms::{Term, TermList};
+
+// The term that stands alone.
+fn one(ts: &TermList) -> Option<&Term>
+    ensures { option_map tree (option_copied result) ≡ args1 (trees_of ts.now) }
+{
+    if ts.len() == 1 { ts.get(0) } else { None }
+}
+
+// The two terms of a list of two.
+fn two(ts: &TermList) -> Option<(&Term, &Term)>
+    ensures { option_map (λ p. (tree p.0.now, tree p.1.now)) result ≡ args2 (trees_of ts.now) }
+{
+    if ts.len() == 2 {
+        Some((ts.at(0), ts.at(1)))
+    } else {
+        None
+    }
+}
+
+// The three terms of a list of three.
+fn three(ts: &TermList) -> Option<(&Term, &Term, &Term)>
+    ensures { option_map (λ p. (tree p.0.now, tree p.1.now, tree p.2.now)) result ≡ args3 (trees_of ts.now) }
+{
+    if ts.len() == 3 {
+        Some((ts.at(0), ts.at(1), ts.at(2)))
+    } else {
+        None
+    }
+}
+
+// The arguments of a symbol of this name.
+fn under<'a>(name: &[u8], t: &'a Term) -> Option<&'a TermList>
+    ensures { option_map trees_of (option_copied result) ≡ under name.now (tree t.now) }
+{
+    match t {
+        Term::App(f, args) => { if f.is(name) { Some(args) } else { None } }
+        _ => None,
+    }
+}
+
+// The first part of a pair.
+pub(crate) fn first_part(ts: &TermList) -> Option<&Term>
+    ensures { option_map tree (option_copied result) ≡ first_part (trees_of ts.now) }
+{
+    let (a, _) = two(under(b"pair", one(ts)?)?)?;
+    Some(a)
+}
+
+// The second part of a pair.
+pub(crate) fn second_part(ts: &TermList) -> Option<&Term>
+    ensures { option_map tree (option_copied result) ≡ second_part (trees_of ts.now) }
+{
+    let (_, b) = two(under(b"pair", one(ts)?)?)?;
+    Some(b)
+}
+
+// The message that was sealed with the key it is opened with.
+pub(crate) fn opened(ts: &TermList) -> Option<&Term>
+    ensures { option_map tree (option_copied result) ≡ opened (trees_of ts.now) }
+{
+    let (sealed, key) = two(ts)?;
+    let (message, own) = two(under(b"senc", sealed)?)?;
+    if own.same(key) { Some(message) } else { None }
+}
+
+// The message that was sealed with the public key of the key it is opened with.
+pub(crate) fn opened_by_key(ts: &TermList) -> Option<&Term>
+    ensures { option_map tree (option_copied result) ≡ opened_by_key (trees_of ts.now) }
+{
+    let (sealed, key) = two(ts)?;
+    let (message, public) = two(under(b"aenc", sealed)?)?;
+    let own = one(under(b"pk", public)?)?;
+    if own.same(key) { Some(message) } else { None }
+}
+
+// Whether the signature is one of the message by the key whose public key is given.
+pub(crate) fn verifies(ts: &TermList) -> Option<()>
+    ensures { option_map (λ _. app0 true_name) result ≡ verified (trees_of ts.now) }
+{
+    let (signed, claimed, public) = three(ts)?;
+    let (message, own) = two(under(b"sign", signed)?)?;
+    let key = one(under(b"pk", public)?)?;
+    if message.same(claimed) && own.same(key) {
+        Some(())
+    } else {
+        None
+    }
+}
