@@ -1,0 +1,70 @@
+-- Small formulas and traces, to try the definition of truth by hand.
+use Rattle.std.specs.Prelude.{ℕ, Bool, false, codes, List, [], ◌∷◌, ◌≡◌, ◌⊎◌}
+use Rattle.sap_terms.specs.Tree.{Tree, variable, public}
+use Rattle.sap_terms.specs.Theory.{app1, app2, fst_name, pair_name}
+use Rattle.sap_terms.specs.declared.var.Var.{Var}
+use Rattle.sap_terms.specs.declared.var.Sort.TheVariants.{Msg, Fresh}
+use Rattle.sap_terms.specs.declared.fact.Fact.{Fact}
+use Rattle.sap_formula.specs.Form.{Form, action, equal, earlier, both, implies, every, exists}
+use Rattle.sap_formula.specs.Message.{Trace}
+use Rattle.sap_formula.specs.declared.binder.Binder.TheVariants.{Message, Time}
+
+-- 'a' and 'b'
+abbrev pub a : Tree
+a = public (codes "a")
+
+abbrev pub b : Tree
+b = public (codes "b")
+
+-- x and ~x
+abbrev pub x : Var
+x = record { name = codes "x"; sort = Msg }
+
+abbrev pub fresh_x : Var
+fresh_x = record { name = codes "x"; sort = Fresh }
+
+abbrev pub i : List ℕ
+i = codes "i"
+
+abbrev pub j : List ℕ
+j = codes "j"
+
+-- A on these terms, linear or persistent
+abbrev pub fact : Bool → List Tree → Fact
+fact persistent args = record { name = codes "A"; persistent = persistent; args = args }
+
+-- A('a'); then A('a'), A('b')
+abbrev pub trace_a : Trace
+trace_a = (fact false (a ∷ []) ∷ []) ∷ []
+
+abbrev pub trace_ab : Trace
+trace_ab = (fact false (a ∷ []) ∷ []) ∷ (fact false (b ∷ []) ∷ []) ∷ []
+
+-- one of these two
+abbrev pub IsEither : Trace → Type 0
+IsEither tr = (tr ≡ trace_a) ⊎ (tr ≡ trace_ab)
+
+-- All x #i. A(x)@i ==> x = 'a'
+abbrev pub only_a : Form
+only_a = every (Message x ∷ Time i ∷ []) (implies (action (fact false (variable x ∷ [])) i) (equal (variable x) a))
+
+-- Ex #i. A(t)@i
+abbrev pub some_place : Tree → Form
+some_place t = exists (Time i ∷ []) (action (fact false (t ∷ [])) i)
+
+-- Ex #i #j. #i < #j
+abbrev pub two_places : Form
+two_places = exists (Time i ∷ Time j ∷ []) (earlier i j)
+
+-- Ex v. v = 'b'
+abbrev pub some_b : Var → Form
+some_b v = exists (Message v ∷ []) (equal (variable v) b)
+
+-- Ex x #i. A(x)@i & (Ex x #j. A(x)@j & #i < #j)
+abbrev pub two_binders : Form
+two_binders =
+    exists (Message x ∷ Time i ∷ []) (both (action (fact false (variable x ∷ [])) i) (exists (Message x ∷ Time j ∷ []) (both (action (fact false (variable x ∷ [])) j) (earlier i j))))
+
+-- fst(<'a','b'>)
+abbrev pub first_of_pair : Tree
+first_of_pair = app1 fst_name (app2 pair_name a b)

@@ -1,0 +1,14 @@
+pub use Rattle.sap_terms.specs.Tree
+pub use Rattle.sap_terms.specs.Signature
+pub use Rattle.sap_terms.specs.Theory
+pub use Rattle.sap_terms.specs.Equal
+pub use Rattle.sap_terms.specs.Normal
+pub use Rattle.sap_terms.specs.Ground
+pub use Rattle.sap_terms.specs.Choice
+pub mod Form
+pub mod View
+pub mod Code
+pub mod Message
+pub mod Truth
+pub mod Holds
+pub mod Examples

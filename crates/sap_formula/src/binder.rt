@@ -1,0 +1,23 @@
+use sap_terms::{Copied, Items, Mem, Name, Var};
+use std::alloc::Global;
+
+/// A variable that a quantifier binds.
+#[derive(Drop)]
+pub enum Binder {
+    /// It ranges over messages.
+    Message(Var),
+    /// It ranges over the places of the trace; written `#i`.
+    Time(Name),
+}
+
+/// The variables of a quantifier, in order.
+pub type Binders = Items<Binder>;
+
+impl Copied for Binder {
+    fn copy(&self, alloc: Global) -> Result<Binder, Mem> {
+        match self {
+            Binder::Message(var) => Ok(Binder::Message(var.copy(alloc)?)),
+            Binder::Time(name) => Ok(Binder::Time(name.copy(alloc)?)),
+        }
+    }
+}

@@ -1,0 +1,100 @@
+ghost use Rattle.std.specs.Prelude.{◌≡◌, IfOk};
+ghost use Rattle.sap_formula.specs.View.{form};
+
+use crate::Binders;
+use sap_terms::{Copied, Fact, Mem, Name, Term};
+use std::alloc::Global;
+
+/// A formula over a trace, in first-order logic with message variables and time variables. Contracts see it as a plain
+/// tree, by `form` of the specs' `View`.
+#[derive(Drop)]
+pub enum Formula {
+    True,
+    False,
+    /// `F(s)@i`: the place i shows the fact.
+    Action(Fact, Name),
+    /// `s = t`
+    Equal(Term, Term),
+    /// `#i = #j`
+    Same(Name, Name),
+    /// `#i < #j`
+    Less(Name, Name),
+    Not(Box<Formula>),
+    And(Box<Formula>, Box<Formula>),
+    Or(Box<Formula>, Box<Formula>),
+    /// `f ==> g`
+    Imp(Box<Formula>, Box<Formula>),
+    /// `f <=> g`
+    Iff(Box<Formula>, Box<Formula>),
+    All(Binders, Box<Formula>),
+    Ex(Binders, Box<Formula>),
+}
+
+impl Formula {
+    /// An equal formula. Want of memory is the only error. It recurses as deep as the formula.
+    #[cycle(copy)]
+    pub fn copy(&self, alloc: Global) -> Result<Formula, Mem>
+        ensures { IfOk result (λ f. form f ≡ form self.now) }
+    {
+        match self {
+            Formula::True => Ok(Formula::True),
+            Formula::False => Ok(Formula::False),
+            Formula::Action(fact, i) => copy_action(alloc, fact, i),
+            Formula::Equal(s, t) => copy_equal(alloc, s, t),
+            Formula::Same(i, j) => {
+                let i = i.copy(alloc)?;
+                Ok(Formula::Same(i, j.copy(alloc)?))
+            }
+            Formula::Less(i, j) => {
+                let i = i.copy(alloc)?;
+                Ok(Formula::Less(i, j.copy(alloc)?))
+            }
+            Formula::Not(f) => Ok(Formula::Not(f.boxed_copy(alloc)?)),
+            Formula::And(f, g) => {
+                let left = f.boxed_copy(alloc)?;
+                Ok(Formula::And(left, g.boxed_copy(alloc)?))
+            }
+            Formula::Or(f, g) => {
+                let left = f.boxed_copy(alloc)?;
+                Ok(Formula::Or(left, g.boxed_copy(alloc)?))
+            }
+            Formula::Imp(f, g) => {
+                let left = f.boxed_copy(alloc)?;
+                Ok(Formula::Imp(left, g.boxed_copy(alloc)?))
+            }
+            Formula::Iff(f, g) => {
+                let left = f.boxed_copy(alloc)?;
+                Ok(Formula::Iff(left, g.boxed_copy(alloc)?))
+            }
+            Formula::All(binders, f) => {
+                let body = f.boxed_copy(alloc)?;
+                Ok(Formula::All(binders.copy(alloc)?, body))
+            }
+            Formula::Ex(binders, f) => {
+                let body = f.boxed_copy(alloc)?;
+                Ok(Formula::Ex(binders.copy(alloc)?, body))
+            }
+        }
+    }
+
+    #[cycle(copy)]
+    fn boxed_copy(&self, alloc: Global) -> Result<Box<Formula>, Mem>
+        ensures { IfOk result (λ f. form f.value ≡ form self.now) }
+    {
+        Ok(Box::new(alloc, self.copy(alloc)?)?)
+    }
+}
+
+fn copy_action(alloc: Global, fact: &Fact, i: &Name) -> Result<Formula, Mem>
+    ensures { IfOk result (λ f. f ≡ Formula.Action fact.now i.now) }
+{
+    let fact = fact.copy(alloc)?;
+    Ok(Formula::Action(fact, i.copy(alloc)?))
+}
+
+fn copy_equal(alloc: Global, s: &Term, t: &Term) -> Result<Formula, Mem>
+    ensures { IfOk result (λ f. f ≡ Formula.Equal s.now t.now) }
+{
+    let s = s.copy(alloc)?;
+    Ok(Formula::Equal(s, t.copy(alloc)?))
+}

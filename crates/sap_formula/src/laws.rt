@@ -1,0 +1,36 @@
+// Worked examples of truth, as contracts of functions that do nothing.
+ghost use Rattle.std.specs.Prelude.{[], ◌∷◌, true, false};
+ghost use Rattle.sap_terms.specs.Signature.{Sig};
+ghost use Rattle.sap_formula.specs.Form.{negation};
+ghost use Rattle.sap_formula.specs.Truth.{IsTrueOn};
+ghost use Rattle.sap_formula.specs.Holds.{Holds};
+ghost use Rattle.sap_formula.specs.Examples.{a, b, x, fresh_x, fact, trace_a, trace_ab, IsEither, only_a, some_place, two_places, some_b, two_binders, first_of_pair};
+
+use crate::Mode;
+use sap_rewrite::normal_forms_decide;
+
+/// Truth of small formulas on small traces: an action atom is true up to the theory, persistence isn't looked at and
+/// the number of arguments is; quantifiers range over terms that stand nowhere in the trace, by sort, and over the
+/// trace's places alone; the innermost binder of a name counts.
+pub fn truth_by_hand()
+    ensures one_place { (g : Sig) → IsTrueOn g only_a trace_a }
+    ensures other_place { (g : Sig) → ¬ IsTrueOn g only_a trace_ab }
+    ensures up_to_theory { (g : Sig) → IsTrueOn g (some_place first_of_pair) trace_a }
+    ensures persistent { (g : Sig) → IsTrueOn g (some_place a) ((fact true (a ∷ []) ∷ []) ∷ []) }
+    ensures arity { (g : Sig) → ¬ IsTrueOn g (some_place a) ((fact false (a ∷ b ∷ []) ∷ []) ∷ []) }
+    ensures all_terms { (g : Sig) → IsTrueOn g (some_b x) [] }
+    ensures sorts { (g : Sig) → ¬ IsTrueOn g (some_b fresh_x) [] }
+    ensures innermost { (g : Sig) → IsTrueOn g two_binders trace_ab }
+{
+    normal_forms_decide();
+}
+
+/// A lemma of the two traces `A('a')` and `A('a'), A('b')`: in both modes the restrictions decide of which it speaks.
+pub fn lemmas_by_hand()
+    ensures all_of_each { (g : Sig) → ¬ Holds g IsEither [] Mode.AllTraces only_a }
+    ensures all_restricted { (g : Sig) → Holds g IsEither (negation two_places ∷ []) Mode.AllTraces only_a }
+    ensures some_one { (g : Sig) → Holds g IsEither [] Mode.ExistsTrace only_a }
+    ensures some_restricted { (g : Sig) → ¬ Holds g IsEither (two_places ∷ []) Mode.ExistsTrace only_a }
+{
+    truth_by_hand();
+}
