@@ -113,9 +113,10 @@ derivation : (g : Sig) (names : List ℕ) (frame : List Tree) (es : List Entry) 
 derivation g names frame _ none_yet has_name has_output = tt
 derivation g names frame _ (one_more es t line h a) has_name has_output =
     let e : Entry = record { term = t; line = line } in
-    rw (terms_of-push es e) (rw (reverse-append (terms_of es) (t ∷ []))
-    (derived g names frame es t line a has_name has_output,
-    derivation g names frame es h (λ n c. has_name n (names_kept es e n c)) (λ u c. has_output u (outputs_kept es e u c))))
+    rw (terms_of-push es e) (rw (reverse-append (terms_of es) (t ∷ [])) (
+      derived g names frame es t line a has_name has_output,
+      derivation g names frame es h (λ n c. has_name n (names_kept es e n c)) (λ u c. has_output u (outputs_kept es e u c)),
+    ))
 
 -- each term of a derivation of normal terms is deducible
 step_deducible : (g : Sig) (names : List ℕ) (frame ts : List Tree) → IsDerivation g names frame ts → (k : ℕ) (t : Tree) → slice_get ts k ≡ Some t → IsNormal (theory g) t → IsDeducible g names frame t
@@ -161,7 +162,7 @@ entered_more g names frame ts r t line a n o =
       entered = one_more r.entries t line r.entered a;
       terms = terms_of-push r.entries e ∙ ap (λ us. us ++ t ∷ []) r.terms ∙ sym (reverse-append (t ∷ []) ts);
       only_names =
-        rw (filter_map-append (λ (x : Entry). name_of x.line) r.entries (e ∷ [])) (All-append (Contains names) (names_given r.entries) (names_given (e ∷ [])) r.only_names n);
+          rw (filter_map-append (λ (x : Entry). name_of x.line) r.entries (e ∷ [])) (All-append (Contains names) (names_given r.entries) (names_given (e ∷ [])) r.only_names n);
       only_outputs = rw (outputs_given-push r.entries e) (All-append (Contains frame) (outputs_given r.entries) (outputs_given (e ∷ [])) r.only_outputs o);
     }
 

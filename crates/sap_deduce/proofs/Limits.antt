@@ -51,22 +51,26 @@ large-form one e most f ts n small (below w) = absurd (within_large one e most t
 pub form-within : (e : Theory) (most : ℕ) (t form : Tree) → IsNormalForm e t form → (HasLargeSubterm e most t → ⊥) → node_count form ≤ most
 form-within e most t form is none_large =
     at (node_count form) refl (nat_le (node_count form) most) refl where
-  at : (n : ℕ) → node_count form ≡ n → (b : Bool) → nat_le n most ≡ b → n ≤ most
-  at n h true b = search (rules, b)
-  at n h false b = absurd (none_large (itself (record { form = form; is_form = is; large = rw h (search (rules, b)) })))
+      at : (n : ℕ) → node_count form ≡ n → (b : Bool) → nat_le n most ≡ b → n ≤ most
+      at n h true b = search (rules, b)
+      at n h false b = absurd (none_large (itself (record { form = form; is_form = is; large = rw h (search (rules, b)) })))
 
 pub form-within_on_ok : (e : Theory) (most : ℕ) (t : Tree) (r : Result Term Cut) → IfOk r (λ form. IsNormalForm e t (tree form))
     → OnOk r (HasLargeSubterm e most t → ⊥) → IfOk r (λ form. node_count (tree form) ≤ most)
 form-within_on_ok e most t (Ok form) is none_large = form-within e most t (tree form) is none_large
 form-within_on_ok e most t (Err cut) is none_large = tt
 
--- a limit on entries is one on the terms of some of them
+-- a limit on entries is one on their terms
+pub entries-small : (es : List Entry) → All (λ (e : Entry). node_count e.term ≤ 256) es → All (λ t. node_count t ≤ 256) (terms_of es)
+entries-small es h = All-map (λ t. node_count t ≤ 256) (λ (e : Entry). e.term) es h
+
+-- and on those at some numbers
 pub args-small : (es : List Entry) (ks : List ℕ) (ts : List Tree) → All (λ (e : Entry). node_count e.term ≤ 256) es → AreTermsAt es ks ts → All (λ t. node_count t ≤ 256) ts
 args-small es ks ts h at k d in_range =
-    All-contains (λ t. node_count t ≤ 256) (terms_of es) (slice_index_or ts k d)
-    (All-map (λ t. node_count t ≤ 256) (λ (e : Entry). e.term) es h) (terms_at-contained (terms_of es) ks ts at k d in_range)
+    All-contains (λ t. node_count t ≤ 256) (terms_of es) (slice_index_or ts k d) (entries-small es h)
+    (terms_at-contained (terms_of es) ks ts at k d in_range)
 
--- and so are they normal
+-- which are normal
 pub args-normal : (g : Sig) (es : List Entry) (ks : List ℕ) (ts : List Tree) → AreEntered g es → AreTermsAt es ks ts → All (IsNormal (theory g)) ts
 args-normal g es ks ts h at k d in_range =
     All-contains (IsNormal (theory g)) (terms_of es) (slice_index_or ts k d) (entered-normal g es h)

@@ -5,7 +5,7 @@ ghost use Rattle.sap_terms.specs.Tree.{node_count, fresh, public, apply, trees_o
 ghost use Rattle.sap_terms.specs.Theory.{theory};
 ghost use Rattle.sap_terms.specs.Normal.{IsNormal, IsNormalForm};
 ghost use Rattle.sap_rewrite.specs.Large.{HasLargeForm};
-ghost use Rattle.sap_deduce.specs.Entries.{Gains, Adds, terms_of, AreTermsAt, AreHeld, IsApplication, Applies, IsCause, IsLarge};
+ghost use Rattle.sap_deduce.specs.Entries.{Gains, Adds, terms_of, AreTermsAt, IsApplication, Applies, IsCause, IsLarge};
 ghost use Rattle.sap_terms.specs.Signature.{IsPublic, arity_of};
 ghost use Rattle.sap_deduce.specs.declared.line.Line.TheVariants.{Name as NameLine, Public as PublicLine, Output as OutputLine, Apply as ApplyLine};
 
@@ -37,6 +37,19 @@ impl Model for Knowledge {
     ghost view = { λ a. record { sig = a.sig; entries = entries_of a.entries } };
 
     ghost invariant = { λ a. AreHeld (record { sig = a.sig; entries = entries_of a.entries }) };
+}
+
+// The normal form of a symbol on normal terms, if it has no more than 256 nodes.
+fn small_form(alloc: Global, sig: &Signature, f: &Name, args: TermList) -> Result<Term, Cut>
+    requires normal { All (IsNormal (theory sig.now)) args }
+    requires small { All (λ t. node_count t ≤ 256) args }
+    ensures form { IfOk result (λ t. IsNormalForm (theory sig.now) (apply f.now (trees_of args)) (tree t)) }
+    ensures within { IfOk result (λ t. node_count (tree t) ≤ 256) }
+    ensures large { IsErrOf result Cut.Large → HasLargeForm (theory sig.now) 256 (apply f.now (trees_of args)) }
+{
+    normal_forms_are_unique();
+    let whole = Term::App(f.copy(alloc)?, args);
+    normal_within(alloc, sig, &whole, 256)
 }
 
 impl Knowledge {
@@ -147,26 +160,6 @@ impl Knowledge {
         Ok(terms)
     }
 
-    // What the struct keeps.
-    fn keep(&self)
-        ensures { AreHeld self.now }
-    {
-        let _entries = &self.entries;
-    }
-
-    // The normal form of a symbol on some entries' terms.
-    fn normal_form(&self, alloc: Global, f: &Name, args: TermList) -> Result<Term, Cut>
-        requires normal { All (IsNormal (theory self.now.sig)) args }
-        requires small { All (λ t. node_count t ≤ 256) args }
-        ensures form { IfOk result (λ t. IsNormalForm (theory self.now.sig) (apply f.now (trees_of args)) (tree t)) }
-        ensures within { IfOk result (λ t. node_count (tree t) ≤ 256) }
-        ensures large { IsErrOf result Cut.Large → HasLargeForm (theory self.now.sig) 256 (apply f.now (trees_of args)) }
-    {
-        normal_forms_are_unique();
-        let whole = Term::App(f.copy(alloc)?, args);
-        normal_within(alloc, &self.sig, &whole, 256)
-    }
-
     // The normal form of a symbol on the entries of these numbers.
     fn form_at(&self, alloc: Global, f: &Name, numbers: &Numbers) -> Result<Term, Deny>
         requires public_symbol { IsPublic self.now.sig f.now }
@@ -176,9 +169,8 @@ impl Knowledge {
         ensures within { IfOk result (λ t. node_count (tree t) ≤ 256) }
         ensures denied { IfErr result (IsLarge self.now f.now numbers.now) }
     {
-        self.keep();
         let args = self.terms_at(alloc, numbers)?;
-        match self.normal_form(alloc, f, args) {
+        match small_form(alloc, &self.sig, f, args) {
             Ok(term) => Ok(term),
             Err(Cut::Large) => Err(Deny::TermLarge),
             Err(Cut::Mem) => Err(Deny::Mem),
@@ -218,11 +210,16 @@ impl Knowledge {
         Ok(number)
     }
 
+    ghost use Rattle.sap_deduce.specs.Entries.{AreEntered};
     ghost use Rattle.sap_deduce.specs.Laws.{AreDeducible};
 
-    /// Each entry is deducible from the names and the outputs that were given.
+    /// What is true of the entries, whatever was called: lines added them one after another, and each is a normal term of
+    /// at most 256 nodes, which is deducible from the names and the outputs that were given.
     pub fn each_is_deducible(&self)
-        ensures { AreDeducible self.now }
+        ensures entered { AreEntered self.now.sig self.now.entries }
+        ensures normal { All (IsNormal (theory self.now.sig)) (terms_of self.now.entries) }
+        ensures within { All (λ t. node_count t ≤ 256) (terms_of self.now.entries) }
+        ensures deducible { AreDeducible self.now }
     {
         let _entries = &self.entries;
     }
