@@ -6,6 +6,8 @@ mod entry;
 mod knowledge;
 mod laws;
 mod line;
+#[cfg(test)]
+mod tests;
 
 pub use deny::Deny;
 pub use knowledge::Knowledge;
