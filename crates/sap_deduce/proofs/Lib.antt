@@ -1,0 +1,4 @@
+pub mod Entered
+pub mod Derivations
+pub mod Limits
+pub mod Numbers

@@ -1,0 +1,6 @@
+use Rattle.std.proofs.Common.{take}
+use Rattle.sap_deduce.specs.Entries.{AreTermsAt}
+use Rattle.sap_deduce.proofs.knowledge.Knowledge.terms_at.Given as goal
+
+abbrev pub invariant-loop-k : goal.invariant-loop-k
+invariant-loop-k l = AreTermsAt l.self.entries (take l.k l.numbers) l.terms

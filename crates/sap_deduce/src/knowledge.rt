@@ -1,0 +1,226 @@
+ghost use Rattle.std.specs.Prelude.{◌≡◌, ◌+◌, ◌<◌, ◌≤◌, [], ◌∷◌, ◌++◌, length, IfOk, OnOk, OnErr, IfErr, IfSome, option_map, slice_get, find, nat_le, All, IsErrOf, Some};
+ghost use Rattle.std.specs.Option.{option_copied};
+ghost use Rattle.sap_terms.specs.View.{tree};
+ghost use Rattle.sap_terms.specs.Tree.{node_count, fresh, public, apply, trees_of};
+ghost use Rattle.sap_terms.specs.Theory.{theory};
+ghost use Rattle.sap_terms.specs.Normal.{IsNormal, IsNormalForm};
+ghost use Rattle.sap_rewrite.specs.Large.{HasLargeForm};
+ghost use Rattle.sap_deduce.specs.Entries.{Gains, Adds, terms_of, AreTermsAt, IsApplication, Applies, IsCause, IsLarge};
+ghost use Rattle.sap_terms.specs.Signature.{IsPublic, arity_of};
+ghost use Rattle.sap_deduce.specs.declared.line.Line.TheVariants.{Name as NameLine, Public as PublicLine, Output as OutputLine, Apply as ApplyLine};
+
+use crate::entry::Entry;
+use crate::{Deny, Line};
+use sap_rewrite::{Cut, normal_forms_are_unique, normal_within};
+use sap_terms::{Copied, Items, Mem, Name, Numbers, Signature, Term, TermList};
+use std::alloc::Global;
+use std::marker::Model;
+
+/// The terms that an adversary knows, as entries that are numbered from 0 and stay. Each keeps the line that added it.
+#[derive(Drop)]
+pub struct Knowledge {
+    sig: Signature,
+    entries: Items<Entry>,
+}
+
+impl Model for Knowledge {
+    ghost use Rattle.std.specs.Coded.{codes};
+    ghost use Rattle.sap_terms.specs.Code.{tree_code};
+    ghost use Rattle.sap_deduce.specs.Entries.{Entries, AreHeld};
+
+    ghost Value = { Entries };
+
+    ghost coded = { Prim.hlevel (codes, tree_code) };
+
+    ghost use Rattle.sap_deduce.specs.Views.{entries_of};
+
+    ghost view = { λ a. record { sig = a.sig; entries = entries_of a.entries } };
+
+    ghost invariant = { λ a. AreHeld (record { sig = a.sig; entries = entries_of a.entries }) };
+}
+
+// The normal form of a symbol on normal terms, if it has no more than 256 nodes.
+fn small_form(alloc: Global, sig: &Signature, f: &Name, args: TermList) -> Result<Term, Cut>
+    requires normal { All (IsNormal (theory sig.now)) args }
+    requires small { All (λ t. node_count t ≤ 256) args }
+    ensures form { IfOk result (λ t. IsNormalForm (theory sig.now) (apply f.now (trees_of args)) (tree t)) }
+    ensures within { IfOk result (λ t. node_count (tree t) ≤ 256) }
+    ensures large { IsErrOf result Cut.Large → HasLargeForm (theory sig.now) 256 (apply f.now (trees_of args)) }
+{
+    normal_forms_are_unique();
+    let whole = Term::App(f.copy(alloc)?, args);
+    normal_within(alloc, sig, &whole, 256)
+}
+
+impl Knowledge {
+    /// Knowledge without entries, of terms over a signature.
+    pub fn new(alloc: Global, sig: &Signature) -> Result<Knowledge, Mem>
+        ensures { IfOk result (λ k. (k.sig ≡ sig.now) × (k.entries ≡ [])) }
+    {
+        let sig = sig.copy(alloc)?;
+        Ok(Knowledge {
+            sig,
+            entries: Items::new(alloc),
+        })
+    }
+
+    /// The number of entries.
+    pub fn len(&self) -> u64
+        ensures { result ≡ length self.now.entries }
+    {
+        self.entries.len()
+    }
+
+    /// The term of an entry; None where no entry has the number.
+    #[tactic(auto, using(crate::proofs::Entered::entry_laws))]
+    pub fn at(&self, k: u64) -> Option<&Term>
+        ensures { option_map tree (option_copied result) ≡ slice_get (terms_of self.now.entries) k }
+    {
+        match self.entries.get(k) {
+            Some(e) => Some(&e.term),
+            None => None,
+        }
+    }
+
+    // Adds the entry that a line adds.
+    #[tactic(auto, using(crate::proofs::Entered::entry_laws))]
+    fn enter(&mut self, term: Term, line: Line) -> Result<u64, Mem>
+        requires adds { Adds self.old.sig self.old.entries line (tree term) }
+        requires within { node_count (tree term) ≤ 256 }
+        ensures number { IfOk result (λ k. k ≡ length self.old.entries) }
+        ensures ok { OnOk result (Gains self.old self.new line (tree term)) }
+        ensures err { OnErr result (self.new ≡ self.old) }
+    {
+        let number = self.entries.len();
+        self.entries.push(Entry { term, line })?;
+        Ok(number)
+    }
+
+    /// Adds a name that the adversary made, and gives the entry's number.
+    pub fn name(&mut self, n: u64) -> Result<u64, Mem>
+        ensures number { IfOk result (λ k. k ≡ length self.old.entries) }
+        ensures ok { OnOk result (Gains self.old self.new (NameLine n) (fresh n)) }
+        ensures err { OnErr result (self.new ≡ self.old) }
+    {
+        self.enter(Term::Fresh(n), Line::Name(n))
+    }
+
+    /// Adds a public name, and gives the entry's number.
+    pub fn public(&mut self, a: Name) -> Result<u64, Mem>
+        ensures number { IfOk result (λ k. k ≡ length self.old.entries) }
+        ensures ok { OnOk result (Gains self.old self.new PublicLine (public a)) }
+        ensures err { OnErr result (self.new ≡ self.old) }
+    {
+        self.enter(Term::Public(a), Line::Public)
+    }
+
+    /// Adds a term that was sent, and gives the entry's number.
+    pub fn output(&mut self, t: Term) -> Result<u64, Mem>
+        requires normal { IsNormal (theory self.old.sig) (tree t) }
+        requires within { node_count (tree t) ≤ 256 }
+        ensures number { IfOk result (λ k. k ≡ length self.old.entries) }
+        ensures ok { OnOk result (Gains self.old self.new OutputLine (tree t)) }
+        ensures err { OnErr result (self.new ≡ self.old) }
+    {
+        self.enter(t, Line::Output)
+    }
+
+    // The first of these numbers that isn't an entry.
+    fn first_unknown(&self, numbers: &Numbers) -> Option<u64>
+        ensures { result ≡ find (nat_le (length self.now.entries)) numbers.now }
+    {
+        let count = self.entries.len();
+        for k in numbers.as_slice() {
+            if *k >= count {
+                return Some(*k);
+            }
+        }
+        None
+    }
+
+    // The term of an entry.
+    #[tactic(auto, using(crate::proofs::Entered::entry_laws))]
+    fn term_at(&self, k: u64) -> &Term
+        requires { k < length self.now.entries }
+        ensures { slice_get (terms_of self.now.entries) k ≡ Some (tree result.now) }
+    {
+        &self.entries.at(k).term
+    }
+
+    // The terms of these entries, copied.
+    fn terms_at(&self, alloc: Global, numbers: &Numbers) -> Result<TermList, Mem>
+        requires { All (λ k. k < length self.now.entries) numbers.now }
+        ensures { IfOk result (λ ts. AreTermsAt self.now.entries numbers.now ts) }
+    {
+        let mut terms = TermList::new(alloc);
+        for k in 0..numbers.len() {
+            let term = self.term_at(*numbers.at(k)).copy(alloc)?;
+            terms.push(term)?;
+        }
+        Ok(terms)
+    }
+
+    // The normal form of a symbol on the entries of these numbers.
+    fn form_at(&self, alloc: Global, f: &Name, numbers: &Numbers) -> Result<Term, Deny>
+        requires public_symbol { IsPublic self.now.sig f.now }
+        requires arity { arity_of self.now.sig f.now ≡ Some (length numbers.now) }
+        requires known { All (λ k. k < length self.now.entries) numbers.now }
+        ensures application { IfOk result (λ t. IsApplication self.now.sig self.now.entries f.now numbers.now (tree t)) }
+        ensures within { IfOk result (λ t. node_count (tree t) ≤ 256) }
+        ensures denied { IfErr result (IsLarge self.now f.now numbers.now) }
+    {
+        let args = self.terms_at(alloc, numbers)?;
+        match small_form(alloc, &self.sig, f, args) {
+            Ok(term) => Ok(term),
+            Err(Cut::Large) => Err(Deny::TermLarge),
+            Err(Cut::Mem) => Err(Deny::Mem),
+        }
+    }
+
+    // The term of a symbol on these entries.
+    fn applied(&self, alloc: Global, f: &Name, numbers: &Numbers) -> Result<Term, Deny>
+        ensures application { IfOk result (λ t. IsApplication self.now.sig self.now.entries f.now numbers.now (tree t)) }
+        ensures within { IfOk result (λ t. node_count (tree t) ≤ 256) }
+        ensures denied { IfErr result (IsCause self.now f.now numbers.now) }
+    {
+        if !self.sig.is_public(f) {
+            return Err(Deny::NotPublic { f: f.copy(alloc)? });
+        }
+        if self.sig.arity(f) != Some(numbers.len()) {
+            return Err(Deny::Arity { f: f.copy(alloc)? });
+        }
+        match self.first_unknown(numbers) {
+            Some(k) => Err(Deny::NoEntry { k }),
+            None => self.form_at(alloc, f, numbers),
+        }
+    }
+
+    /// Adds the normal form of a symbol on the entries of these numbers, and gives the new entry's number.
+    /// Refused, the knowledge is as it was.
+    pub fn apply(&mut self, f: &Name, numbers: &Numbers) -> Result<u64, Deny>
+        ensures number { IfOk result (λ k. k ≡ length self.old.entries) }
+        ensures ok { OnOk result (Applies self.old self.new f.now numbers.now) }
+        ensures denied { IfErr result (IsCause self.old f.now numbers.now) }
+        ensures err { OnErr result (self.new ≡ self.old) }
+    {
+        let alloc = self.entries.allocator();
+        let term = self.applied(alloc, f, numbers)?;
+        let line = Line::Apply(f.copy(alloc)?, numbers.copy(alloc)?);
+        let number = self.enter(term, line)?;
+        Ok(number)
+    }
+
+    ghost use Rattle.sap_deduce.specs.Entries.{AreEntered};
+    ghost use Rattle.sap_deduce.specs.Laws.{AreDeducible};
+
+    /// What is true of the entries, whatever was called: lines added them one after another, and each is a normal term of
+    /// at most 256 nodes, which is deducible from the names and the outputs that were given.
+    pub fn each_is_deducible(&self)
+        ensures entered { AreEntered self.now.sig self.now.entries }
+        ensures normal { All (IsNormal (theory self.now.sig)) (terms_of self.now.entries) }
+        ensures within { All (λ t. node_count t ≤ 256) (terms_of self.now.entries) }
+        ensures deducible { AreDeducible self.now }
+    {
+        let _entries = &self.entries;
+    }
+}
