@@ -9,7 +9,7 @@ use Rattle.sap_terms.specs.Theory.{theory, first}
 use Rattle.sap_terms.specs.Equal.{same, next, forward}
 use Rattle.sap_terms.specs.declared.var.Sort.TheVariants.{Fresh}
 use Rattle.sap_rewrite.specs.Laws.{FormsDecide}
-use Rattle.sap_formula.specs.Message.{Trace}
+use Rattle.sap_terms.specs.Trace.{Trace}
 use Rattle.sap_formula.specs.Truth.{IsTrueOn}
 use Rattle.sap_formula.specs.Holds.{AreTrueOn}
 use Rattle.sap_formula.specs.Examples.{a, b, x, fresh_x, fact, trace_a, trace_ab, IsEither, only_a, some_place, two_places, some_b, two_binders, first_of_pair}

@@ -7,7 +7,7 @@ use Rattle.sap_terms.specs.Equal.{IsTheoryEqual, same}
 use Rattle.sap_terms.specs.Normal.{IsNormal}
 use Rattle.sap_terms.specs.declared.var.Sort.TheVariants.{Msg}
 use Rattle.sap_rewrite.specs.Laws.{FormsDecide}
-use Rattle.sap_formula.specs.Message.{IsMessage}
+use Rattle.sap_terms.specs.Message.{IsMessage}
 
 abbrev is_application : Tree → Bool
 is_application (variable v) = false

@@ -6,7 +6,7 @@ use Rattle.sap_terms.specs.declared.var.Var.{Var}
 use Rattle.sap_terms.specs.declared.var.Sort.TheVariants.{Msg, Fresh}
 use Rattle.sap_terms.specs.declared.fact.Fact.{Fact}
 use Rattle.sap_formula.specs.Form.{Form, action, equal, earlier, both, implies, every, exists}
-use Rattle.sap_formula.specs.Message.{Trace}
+use Rattle.sap_terms.specs.Trace.{Trace}
 use Rattle.sap_formula.specs.declared.binder.Binder.TheVariants.{Message, Time}
 
 -- 'a' and 'b'

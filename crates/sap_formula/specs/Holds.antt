@@ -2,7 +2,7 @@
 use Rattle.std.specs.Prelude.{List}
 use Rattle.sap_terms.specs.Signature.{Sig}
 use Rattle.sap_formula.specs.Form.{Form}
-use Rattle.sap_formula.specs.Message.{Trace}
+use Rattle.sap_terms.specs.Trace.{Trace}
 use Rattle.sap_formula.specs.Truth.{EachIn, IsTrueOn}
 use Rattle.sap_formula.specs.declared.lemma.Mode.{Mode}
 use Rattle.sap_formula.specs.declared.lemma.Mode.TheVariants.{AllTraces, ExistsTrace}

@@ -8,7 +8,7 @@ pub use Rattle.sap_terms.specs.Choice
 pub mod Form
 pub mod View
 pub mod Code
-pub mod Message
+pub mod Places
 pub mod Truth
 pub mod Holds
 pub mod Examples

@@ -11,7 +11,9 @@ use Rattle.sap_terms.specs.declared.var.Var.{Var}
 use Rattle.sap_terms.specs.declared.var.Sort.{Sort}
 use Rattle.sap_terms.specs.declared.fact.Fact.{Fact}
 use Rattle.sap_formula.specs.Form.{Form, truth, falsity, action, equal, same_place, earlier, negation, both, either, implies, equivalent, every, exists}
-use Rattle.sap_formula.specs.Message.{Trace, IsMessage, IsPlace}
+use Rattle.sap_terms.specs.Message.{IsMessage}
+use Rattle.sap_terms.specs.Trace.{Trace}
+use Rattle.sap_formula.specs.Places.{IsPlace}
 use Rattle.sap_formula.specs.declared.binder.Binder.{Binder}
 use Rattle.sap_formula.specs.declared.binder.Binder.TheVariants.{Message, Time}
 

@@ -9,9 +9,11 @@ use Rattle.sap_gen.specs.Faithful.{NoReservedEvents, ShowsOnly}
 use Rattle.sap_gen.specs.Members.{Member}
 use Rattle.sap_gen.specs.Places.{bare, root, spot_at}
 use Rattle.sap_gen.specs.ProcessSteps.{Config, Runs, initial, ProcessStep, ProcessRun}
-use Rattle.sap_gen.specs.ReservedFacts.{k_fact, in_fact, init_fact, event_fact}
-use Rattle.sap_gen.specs.RuleSteps.{RuleState, RuleStep, RuleRun, Takes, adds}
-use Rattle.sap_gen.specs.Shown.{Trace, shown}
+use Rattle.sap_terms.specs.AdversaryFacts.{k_fact, in_fact}
+use Rattle.sap_gen.specs.ReservedFacts.{init_fact, event_fact}
+use Rattle.sap_terms.specs.Piles.{Takes, adds}
+use Rattle.sap_gen.specs.RuleSteps.{RuleState, RuleStep, RuleRun}
+use Rattle.sap_terms.specs.Trace.{Trace, shown}
 use Rattle.sap_gen.specs.Templates.{state_fact, first_of, second_of, rules_of, init_rule, own_rules}
 use Rattle.sap_gen.specs.Traces.{IsAdmitted}
 use Rattle.sap_gen.specs.Relation.{Agent, unborn, running, process_of, Related, is_unborn}

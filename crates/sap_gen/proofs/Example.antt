@@ -8,8 +8,8 @@ use Rattle.sap_process.specs.Proc.{Proc, nil, parallel, event, events}
 use Rattle.sap_gen.specs.Faithful.{NoReservedEvents}
 use Rattle.sap_gen.specs.Members.{Member}
 use Rattle.sap_gen.specs.ProcessSteps.{Config, initial, ProcessStep, ProcessRun, IsProcessTrace}
-use Rattle.sap_gen.specs.ReservedFacts.{k_fact}
-use Rattle.sap_gen.specs.Shown.{Trace, shown}
+use Rattle.sap_terms.specs.AdversaryFacts.{k_fact}
+use Rattle.sap_terms.specs.Trace.{Trace, shown}
 use Rattle.sap_gen.specs.Templates.{rules_of}
 use Rattle.sap_gen.specs.Traces.{IsVisibleTrace}
 use Rattle.sap_gen.specs.Relation.{same_fact}

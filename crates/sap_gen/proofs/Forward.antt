@@ -7,9 +7,9 @@ use Rattle.sap_gen.specs.Faithful.{NoReservedEvents, ShowsAll}
 use Rattle.sap_gen.specs.Members.{Member}
 use Rattle.sap_gen.specs.Places.{bare}
 use Rattle.sap_gen.specs.ProcessSteps.{Config, Runs, initial, becomes, spawns, Deducible, ProcessStep, ProcessRun}
-use Rattle.sap_gen.specs.ReservedFacts.{k_fact}
+use Rattle.sap_terms.specs.AdversaryFacts.{k_fact}
 use Rattle.sap_gen.specs.RuleSteps.{RuleState, RuleStep, RuleRun, nothing, empty_state}
-use Rattle.sap_gen.specs.Shown.{Trace, shown}
+use Rattle.sap_terms.specs.Trace.{Trace, shown}
 use Rattle.sap_gen.specs.Templates.{state_fact, rules_of, nil_rule, parallel_rule, event_rule}
 use Rattle.sap_gen.specs.Relation.{Agent, unborn, running, process_of, Related}
 use Rattle.sap_gen.proofs.Control.{fact_of, LiveFact, takes_state}

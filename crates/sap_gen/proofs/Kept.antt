@@ -8,9 +8,11 @@ use Rattle.sap_process.specs.Proc.{Proc, nil, parallel, event}
 use Rattle.sap_gen.specs.Members.{Member}
 use Rattle.sap_gen.specs.Places.{bare, root}
 use Rattle.sap_gen.specs.ProcessSteps.{Config, initial, becomes, spawns, Deducible}
-use Rattle.sap_gen.specs.ReservedFacts.{k_fact, in_fact, init_fact, event_fact}
-use Rattle.sap_gen.specs.RuleSteps.{RuleState, empty_state, adds}
-use Rattle.sap_gen.specs.Shown.{Trace, shown}
+use Rattle.sap_terms.specs.AdversaryFacts.{k_fact, in_fact}
+use Rattle.sap_gen.specs.ReservedFacts.{init_fact, event_fact}
+use Rattle.sap_terms.specs.Piles.{adds}
+use Rattle.sap_gen.specs.RuleSteps.{RuleState, empty_state}
+use Rattle.sap_terms.specs.Trace.{Trace, shown}
 use Rattle.sap_gen.specs.Templates.{state_fact, first_of, second_of}
 use Rattle.sap_gen.specs.Traces.{hide, visible}
 use Rattle.sap_gen.specs.Relation.{Agent, unborn, running, process_of, IsPlaced, count_live, count_owed, is_unborn, has_init, pending_place, Related}

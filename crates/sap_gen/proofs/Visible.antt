@@ -6,7 +6,7 @@ use Rattle.sap_terms.specs.Reserved.{is_reserved}
 use Rattle.sap_terms.specs.declared.fact.Fact.{Fact}
 use Rattle.sap_gen.specs.Members.{Member}
 use Rattle.sap_gen.specs.ReservedFacts.{init_fact, event_fact}
-use Rattle.sap_gen.specs.Shown.{Trace, shown}
+use Rattle.sap_terms.specs.Trace.{Trace, shown}
 use Rattle.sap_gen.specs.Traces.{hide, visible, is_hidden, IsAdmitted}
 use Rattle.sap_gen.specs.Relation.{has_init, same_fact, total}
 use Rattle.sap_gen.proofs.Totals.{total_found}

@@ -5,7 +5,7 @@ use Rattle.sap_terms.specs.declared.fact.Fact.{Fact}
 use Rattle.sap_process.specs.Proc.{Proc, events}
 use Rattle.sap_gen.specs.declared.rule.Rule.{Rule}
 use Rattle.sap_gen.specs.ProcessSteps.{IsProcessTrace}
-use Rattle.sap_gen.specs.Shown.{Trace}
+use Rattle.sap_terms.specs.Trace.{Trace}
 use Rattle.sap_gen.specs.Traces.{IsVisibleTrace}
 
 -- no fact has a reserved name

@@ -3,7 +3,6 @@ pub use Rattle.sap_terms.specs.Tree
 pub use Rattle.sap_terms.specs.Reserved
 pub mod Members
 pub mod ReservedFacts
-pub mod Shown
 pub mod ProcessSteps
 pub mod RuleSteps
 pub mod Traces

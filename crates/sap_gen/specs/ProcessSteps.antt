@@ -3,8 +3,8 @@ use Rattle.std.specs.Prelude.{◌≡◌, ℕ, List, [], ◌∷◌, ◌++◌, Opt
 use Rattle.sap_terms.specs.Tree.{Tree, public}
 use Rattle.sap_terms.specs.declared.fact.Fact.{Fact}
 use Rattle.sap_process.specs.Proc.{Proc, nil, parallel, event}
-use Rattle.sap_gen.specs.ReservedFacts.{k_fact}
-use Rattle.sap_gen.specs.Shown.{Trace, shown}
+use Rattle.sap_terms.specs.AdversaryFacts.{k_fact}
+use Rattle.sap_terms.specs.Trace.{Trace, shown}
 
 -- the running processes by their numbers: none where one has ended
 pub record Config : Type 0 where

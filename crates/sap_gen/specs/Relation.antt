@@ -11,9 +11,10 @@ use Rattle.sap_process.specs.Proc.{Proc}
 use Rattle.sap_gen.specs.Members.{Member}
 use Rattle.sap_gen.specs.Places.{bare, root, spot_at}
 use Rattle.sap_gen.specs.ProcessSteps.{Config, Deducible}
-use Rattle.sap_gen.specs.ReservedFacts.{k_fact, init_fact}
+use Rattle.sap_terms.specs.AdversaryFacts.{k_fact}
+use Rattle.sap_gen.specs.ReservedFacts.{init_fact}
 use Rattle.sap_gen.specs.RuleSteps.{RuleState}
-use Rattle.sap_gen.specs.Shown.{Trace}
+use Rattle.sap_terms.specs.Trace.{Trace}
 use Rattle.sap_gen.specs.Templates.{state_fact}
 use Rattle.sap_gen.specs.Traces.{hide}
 

@@ -1,33 +1,21 @@
 -- Rules run: states, steps and full traces.
 use Rattle.std.specs.Prelude.{◌≡◌, ℕ, List, [], ◌∷◌, ◌++◌, Option, Some, None, slice_get, slice_set, map, if◌then◌else◌}
+use Rattle.sap_terms.specs.Piles.{Pile, Takes, adds}
 use Rattle.sap_terms.specs.Tree.{Tree, public}
 use Rattle.sap_terms.specs.declared.fact.Fact.{Fact}
 use Rattle.sap_gen.specs.declared.rule.Rule.{Rule}
 use Rattle.sap_gen.specs.Members.{Member}
-use Rattle.sap_gen.specs.ReservedFacts.{k_fact, in_fact}
-use Rattle.sap_gen.specs.Shown.{Trace}
+use Rattle.sap_terms.specs.AdversaryFacts.{k_fact, in_fact}
+use Rattle.sap_terms.specs.Trace.{Trace}
 
 pub record RuleState : Type 0 where
   -- the facts by their numbers: none where one was taken
-  pub facts : List (Option Fact)
+  pub facts : Pile
   -- the terms of the facts !K, the newest first
   pub known : List Tree
 
 abbrev pub empty_state : RuleState
 empty_state = record { facts = []; known = [] }
-
--- what is live once fact k, which is f, was used: a linear one is taken
-abbrev pub used : List (Option Fact) → ℕ → Fact → List (Option Fact)
-used facts k f = if f.persistent then facts else slice_set facts k None
-
--- the facts with these numbers are live and are these, each taken before the next is looked for, and this is left
-pub data Takes : List (Option Fact) → List ℕ → List Fact → List (Option Fact) → Type 0 where
-  nothing : {facts : List (Option Fact)} → Takes facts [] [] facts
-  one : {facts rest : List (Option Fact)} {k : ℕ} {ks : List ℕ} {f : Fact} {fs : List Fact} → slice_get facts k ≡ Some (Some f) → Takes (used facts k f) ks fs rest → Takes facts (k ∷ ks) (f ∷ fs) rest
-
--- new facts, with the next numbers
-abbrev pub adds : List (Option Fact) → List Fact → List (Option Fact)
-adds facts added = facts ++ map (λ f. Some f) added
 
 -- the old state, the acts, the new state
 pub data RuleStep (rules : List Rule) : RuleState → List Fact → RuleState → Type 0 where
@@ -36,7 +24,7 @@ pub data RuleStep (rules : List Rule) : RuleState → List Fact → RuleState �
   -- the adversary gives a term that it knows
   know : {s : RuleState} (x : Tree) → Member x s.known → RuleStep rules s (k_fact x ∷ []) (record s { facts = adds s.facts (in_fact x ∷ []) })
   -- a rule takes its left side, shows its acts and adds its right side
-  named : {s : RuleState} {r : Rule} {rest : List (Option Fact)} (ks : List ℕ) → Member r rules → Takes s.facts ks r.left rest → RuleStep rules s r.acts (record s { facts = adds rest r.right })
+  named : {s : RuleState} {r : Rule} {rest : Pile} (ks : List ℕ) → Member r rules → Takes s.facts ks r.left rest → RuleStep rules s r.acts (record s { facts = adds rest r.right })
 
 -- from the empty state a run leads to this state, and the acts of its steps are this full trace
 pub data RuleRun (rules : List Rule) : RuleState → Trace → Type 0 where

@@ -5,7 +5,8 @@ use Rattle.sap_terms.specs.declared.var.Var.{Var}
 use Rattle.sap_terms.specs.declared.fact.Fact.{Fact}
 use Rattle.sap_process.specs.Proc.{Proc, nil, parallel, event}
 use Rattle.sap_gen.specs.declared.rule.Rule.{Rule}
-use Rattle.sap_gen.specs.ReservedFacts.{linear, init_fact, event_fact}
+use Rattle.sap_terms.specs.AdversaryFacts.{linear}
+use Rattle.sap_gen.specs.ReservedFacts.{init_fact, event_fact}
 
 -- a path in decimal digits
 abbrev pub digits : List ℕ → List ℕ

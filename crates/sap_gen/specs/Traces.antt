@@ -8,7 +8,7 @@ use Rattle.sap_gen.specs.declared.rule.Rule.{Rule}
 use Rattle.sap_gen.specs.Members.{Member}
 use Rattle.sap_gen.specs.ReservedFacts.{init_fact}
 use Rattle.sap_gen.specs.RuleSteps.{RuleState, RuleRun}
-use Rattle.sap_gen.specs.Shown.{Trace, shown}
+use Rattle.sap_terms.specs.Trace.{Trace, shown}
 
 -- reserved, and not K
 abbrev pub is_hidden : List ℕ → Bool

@@ -1,7 +1,7 @@
 //! The rules of one place.
 ghost use Rattle.std.specs.Prelude.{◌≡◌, [], ◌∷◌, ◌++◌, IfOk};
 ghost use Rattle.sap_terms.specs.Path.{IsDigit};
-ghost use Rattle.sap_gen.specs.ReservedFacts.{linear};
+ghost use Rattle.sap_terms.specs.AdversaryFacts.{linear};
 ghost use Rattle.sap_gen.specs.Templates as templates;
 
 use crate::Rule;

@@ -14,3 +14,8 @@ pub mod Normal
 pub mod Deduce
 pub mod Path
 pub mod Reserved
+pub mod Message
+pub mod Trace
+pub mod AdversaryFacts
+pub mod Piles
+pub mod Modulo

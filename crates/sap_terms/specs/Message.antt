@@ -1,17 +1,13 @@
--- Over what the variables of formulas range.
-use Rattle.std.specs.Prelude.{◌≡◌, ℕ, ◌<◌, List, length, Some, IsTrue}
+-- Messages: the terms that runs send, store and show, and over which the variables of rules and formulas range.
+use Rattle.std.specs.Prelude.{◌≡◌, List, length, Some, IsTrue}
 use Rattle.sap_terms.specs.Tree.{Tree, variable, public, fresh, apply, Trees, none, more, list_of}
-use Rattle.sap_terms.specs.Choice.{fits_sort}
+use Rattle.sap_terms.specs.Choice.{Choice, fits_sort}
 use Rattle.sap_terms.specs.Ground.{IsGround}
 use Rattle.sap_terms.specs.Normal.{IsNormal}
 use Rattle.sap_terms.specs.Signature.{Sig, arity_of}
 use Rattle.sap_terms.specs.Theory.{theory}
 use Rattle.sap_terms.specs.declared.var.Sort.{Sort}
-use Rattle.sap_terms.specs.declared.fact.Fact.{Fact}
-
--- what a run shows: the facts of each place
-abbrev pub Trace : Type 0
-Trace = List (List Fact)
+use Rattle.sap_terms.specs.declared.var.Var.{Var}
 
 abbrev mutual
   -- each symbol is held with its arity
@@ -33,6 +29,6 @@ pub record IsMessage (g : Sig) (s : Sort) (t : Tree) : Type 0 where
   pub normal : IsNormal (theory g) t
   pub sorted : IsTrue (fits_sort s t)
 
--- the number of a place
-abbrev pub IsPlace : Trace → ℕ → Type 0
-IsPlace tr k = k < length tr
+-- each variable stands for such a term
+abbrev pub IsMessageChoice : Sig → Choice → Type 0
+IsMessageChoice g σ = (v : Var) → IsMessage g v.sort (σ v)

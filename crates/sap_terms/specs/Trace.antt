@@ -1,4 +1,4 @@
--- What a run shows.
+-- What runs show.
 use Rattle.std.specs.Prelude.{List, [], ◌∷◌}
 use Rattle.sap_terms.specs.declared.fact.Fact.{Fact}
 
