@@ -5,6 +5,7 @@ pub mod Laws
 pub mod Match
 pub mod Walk
 pub mod Pattern
+pub mod Around
 pub use Rattle.sap_terms.specs.Tree
 pub use Rattle.sap_terms.specs.View
 pub use Rattle.sap_terms.specs.Signature

@@ -1,11 +1,11 @@
 -- Matches of a pattern.
-use Rattle.std.specs.Prelude.{◌≡◌, ℕ, Bool, true, false, ◌||◌, List, [], ◌∷◌, ◌++◌, map, if◌then◌else◌}
+use Rattle.std.specs.Prelude.{◌≡◌, ℕ, Bool, true, false, ◌||◌, List, [], ◌∷◌, ◌++◌, map, Contains, if◌then◌else◌}
 use Rattle.std.specs.Str.{bytes_eq}
 use Rattle.sap_terms.specs.declared.var.Var.{Var}
 use Rattle.sap_terms.specs.declared.binding.Binding.{Binding}
 use Rattle.sap_terms.specs.Tree.{Tree}
 use Rattle.sap_terms.specs.View.{tree}
-use Rattle.sap_terms.specs.Choice.{Choice, fits_sort, IsSorted, IsByName, instance}
+use Rattle.sap_terms.specs.Choice.{Choice, fits_sort, IsSorted, instance}
 use Rattle.sap_terms.specs.Subst.{subst_tree}
 use Rattle.sap_terms.specs.Variables.{tree_vars}
 
@@ -46,20 +46,28 @@ abbrev pub Agrees : List Binding → Choice → Type 0
 Agrees [] σ = Unit {0}
 Agrees (e ∷ es) σ = (σ e.var ≡ tree e.term) × Agrees es σ
 
--- a sorted substitution, which knows variables by their names, agrees with b and turns the pattern into the tree
+-- the bound variables
+abbrev pub bound_vars : List Binding → List Var
+bound_vars b = map (λ (e : Binding). e.var) b
+
+-- no name stands with two sorts
+abbrev pub HaveOneSort : List Var → Type 0
+HaveOneSort vs = (v w : Var) → Contains vs v → Contains vs w → v.name ≡ w.name → v ≡ w
+
+-- a sorted substitution agrees with b and turns the pattern into the tree
 pub record Turns (p t : Tree) (b : List Binding) (σ : Choice) : Type 0 where
   pub sorted : IsSorted σ
-  pub by_name : IsByName σ
   pub agrees : Agrees b σ
   pub is : instance σ p ≡ t
 
--- c is the one match, and every substitution that turns the pattern into the tree agrees with it
+-- c is the one match; and every sorted substitution that agrees with b and turns the pattern into the tree agrees with c,
+-- if no name has two sorts
 pub record IsOnlyMatch (p t : Tree) (b c : List Binding) : Type 0 where
   pub is_match : IsMatch p t b c
   pub only : (d : List Binding) → IsMatch p t b d → d ≡ c
-  pub of_all : (σ : Choice) → Turns p t b σ → Agrees c σ
+  pub of_all : HaveOneSort (bound_vars b ++ tree_vars p) → (σ : Choice) → Turns p t b σ → Agrees c σ
 
--- there is no match, and no substitution turns the pattern into the tree
+-- there is no match, and no such substitution
 pub record HasNoMatch (p t : Tree) (b : List Binding) : Type 0 where
   pub none : (c : List Binding) → IsMatch p t b c → ⊥
-  pub of_none : (σ : Choice) → Turns p t b σ → ⊥
+  pub of_none : HaveOneSort (bound_vars b ++ tree_vars p) → (σ : Choice) → Turns p t b σ → ⊥
