@@ -36,8 +36,8 @@ reduced_plain g f ts h p = at (contracted (theory g) f ts) refl where
   at (Some r) e = right_plain g (apply f ts) r h (contracted-sound (theory g) f ts r e) p
 
 mutual
+  unfolding nf nfs
   form_plain : (g : Sig) (t : Tree) → HoldsBuiltins g → IsPlain g t → IsPlain g (nf (theory g) t)
-  unfolding nf
   form_plain g (variable v) h p = absurd p.0
   form_plain g (public n) h p = p
   form_plain g (fresh k) h p = p
@@ -46,7 +46,6 @@ mutual
       reduced_plain g f (nfs (theory g) ts) h (r.0, (p.1.0 ∙ ap (λ n. Some n) (forms_length g ts), r.1))
 
   forms_plain : (g : Sig) (ts : Trees) → HoldsBuiltins g → ArePlain g ts → ArePlain g (nfs (theory g) ts)
-  unfolding nfs
   forms_plain g none h p = p
   forms_plain g (more t ts) h p =
       let a = form_plain g t h (p.0.0, p.1.0) in
@@ -54,7 +53,6 @@ mutual
       ((a.0, b.0), (a.1, b.1))
 
   forms_length : (g : Sig) (ts : Trees) → length (list_of ts) ≡ length (list_of (nfs (theory g) ts))
-  unfolding nfs
   forms_length g none = refl
   forms_length g (more t ts) = ap (λ n. suc n) (forms_length g ts)
 
