@@ -6,6 +6,7 @@ pub mod Match
 pub mod Walk
 pub mod Pattern
 pub mod Around
+pub mod Bound
 pub use Rattle.sap_terms.specs.Tree
 pub use Rattle.sap_terms.specs.View
 pub use Rattle.sap_terms.specs.Signature
