@@ -141,6 +141,9 @@ agrees_each : (d : List Binding) (σ : Choice) → ((e : Binding) → Contains d
 agrees_each [] σ h = tt
 agrees_each (e ∷ es) σ h = (h e (first_item e es), agrees_each es σ (λ x m. h x (later_item e x es m)))
 
+pub agrees_itself : (b : List Binding) → AreNamedOnce (bound_vars b) → Agrees b (bound_to b)
+agrees_itself b o = agrees_each b (bound_to b) (λ e m. bound_once b e o m)
+
 -- a choice of messages that agrees
 chosen_by : List Binding → Choice
 chosen_by c v = cond (is_known (names c) v.name && fits_sort v.sort (bound_to c v)) (bound_to c v) (some_term v.sort)

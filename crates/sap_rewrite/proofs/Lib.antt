@@ -14,3 +14,4 @@ pub mod Only
 pub mod Around
 pub mod Bound
 pub mod Forms
+pub mod Messages

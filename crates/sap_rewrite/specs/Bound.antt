@@ -5,7 +5,7 @@ use Rattle.sap_terms.specs.declared.binding.Binding.{Binding}
 use Rattle.sap_terms.specs.Choice.{Choice, instance}
 use Rattle.sap_terms.specs.Message.{IsMessage, IsMessageChoice}
 use Rattle.sap_terms.specs.Signature.{Sig}
-use Rattle.sap_terms.specs.Subst.{subst_tree}
+use Rattle.sap_terms.specs.Subst.{bound_to, subst_tree}
 use Rattle.sap_terms.specs.Tree.{Tree}
 use Rattle.sap_terms.specs.Variables.{tree_vars}
 use Rattle.sap_terms.specs.View.{tree}
@@ -21,10 +21,11 @@ abbrev pub ExtensionsJoin : Type 0
 ExtensionsJoin =
     ((b : List Binding) → Extends b [] b) × ((b c d : List Binding) (vs ws : List Var) → Extends b vs c → Extends c ws d → Extends b (vs ++ ws) d)
 
--- first occurrences are named once; and where bindings name each variable once, so does what extends them
+-- first occurrences are named once; where bindings name each variable once, so does what extends them, and they agree with
+-- the choice that they make
 abbrev pub NamedOnceStay : Type 0
 NamedOnceStay =
-    ((known : List (List ℕ)) (vs : List Var) → AreNamedOnce (new_vars known vs)) × ((b c : List Binding) (vs : List Var) → Extends b vs c → AreNamedOnce (bound_vars b) → AreNamedOnce (bound_vars c))
+    ((known : List (List ℕ)) (vs : List Var) → AreNamedOnce (new_vars known vs)) × ((b c : List Binding) (vs : List Var) → Extends b vs c → AreNamedOnce (bound_vars b) → AreNamedOnce (bound_vars c)) × ((b : List Binding) → AreNamedOnce (bound_vars b) → Agrees b (bound_to b))
 
 -- some choice of messages agrees with bindings to messages that name each variable once
 abbrev pub BindingsGiveChoices : Type 0

@@ -43,7 +43,7 @@ pub fn extensions_join()
 {}
 
 /// First occurrences of variables are named once, and where bindings name each variable once, so do those that extend
-/// them.
+/// them, and they agree with the substitution that they make.
 pub fn variables_named_once_stay_so()
     ensures { NamedOnceStay }
 {}

@@ -4,6 +4,7 @@
 mod cut;
 mod laws;
 mod matching;
+mod message;
 mod normal_form;
 mod reduce;
 mod shape;
@@ -18,5 +19,6 @@ pub use laws::{
     matching_is_modulo, normal_forms_are_unique, normal_forms_decide, variables_named_once_stay_so,
 };
 pub use matching::{match_around, match_pattern};
+pub use message::is_message;
 pub use normal_form::{normal, same_modulo};
 pub use within::normal_within;

@@ -57,7 +57,7 @@ pub fn match_around(
 }
 
 // Whether a variable of this sort may stand for the term.
-fn fits(sort: Sort, t: &Term) -> bool
+pub(crate) fn fits(sort: Sort, t: &Term) -> bool
     ensures { result ≡ fits_sort sort (tree t.now) }
 {
     match sort {
