@@ -16,10 +16,11 @@ abbrev pub AreNamedOnce : List Var → Type 0
 AreNamedOnce [] = Unit {0}
 AreNamedOnce (v ∷ vs) = (is_known (map (λ (w : Var). w.name) vs) v.name ≡ false) × AreNamedOnce vs
 
--- bindings extend themselves by no variables; and what extends what extends them, extends them by both lists
+-- bindings extend themselves by no variables; what extends what extends them, extends them by both lists; and what extends
+-- them by some variables binds no others
 abbrev pub ExtensionsJoin : Type 0
 ExtensionsJoin =
-    ((b : List Binding) → Extends b [] b) × ((b c d : List Binding) (vs ws : List Var) → Extends b vs c → Extends c ws d → Extends b (vs ++ ws) d)
+    ((b : List Binding) → Extends b [] b) × ((b c d : List Binding) (vs ws : List Var) → Extends b vs c → Extends c ws d → Extends b (vs ++ ws) d) × ((b c : List Binding) (vs : List Var) → Extends b vs c → (v : Var) → Contains (bound_vars c) v → Contains (bound_vars b ++ vs) v)
 
 -- first occurrences are named once; where bindings name each variable once, so does what extends them, and they agree with
 -- the choice that they make

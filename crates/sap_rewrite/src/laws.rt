@@ -37,7 +37,8 @@ pub fn fitting_gives_messages()
     ensures { FittingGivesMessages }
 {}
 
-/// Bindings extend themselves by no variables, and extensions one after another are one by all the variables.
+/// Bindings extend themselves by no variables, extensions one after another are one by all the variables, and what extends
+/// bindings by some variables binds no others.
 pub fn extensions_join()
     ensures { ExtensionsJoin }
 {}
