@@ -4,6 +4,7 @@
 mod cut;
 mod laws;
 mod matching;
+mod message;
 mod normal_form;
 mod reduce;
 mod shape;
@@ -13,9 +14,11 @@ mod within;
 
 pub use cut::Cut;
 pub use laws::{
-    each_term_has_a_normal_form, matching_is_modulo, normal_forms_are_unique, normal_forms_decide,
-    normal_forms_stay_over,
+    agreeing_choices_substitute, bindings_give_choices, each_term_has_a_normal_form,
+    extensions_join, fitting_gives_messages, forms_are_messages, matching_around_is_modulo,
+    matching_is_modulo, normal_forms_are_unique, normal_forms_decide, variables_named_once_stay_so,
 };
-pub use matching::match_pattern;
+pub use matching::{match_around, match_pattern};
+pub use message::is_message;
 pub use normal_form::{normal, same_modulo};
 pub use within::normal_within;

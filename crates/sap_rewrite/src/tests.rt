@@ -1,4 +1,4 @@
-use crate::{Cut, match_pattern, normal, normal_within, same_modulo};
+use crate::{Cut, match_around, match_pattern, normal, normal_within, same_modulo};
 use sap_terms::{
     Binding, Bindings, Builtin, Copied, Mem, Name, Signature, Sort, Term, TermList, Var,
 };
@@ -301,11 +301,25 @@ fn matches(alloc: Global, row: &(&str, &str, &str, Option<&str>)) -> Option<bool
     let t = term(alloc, t)?;
     let b = bindings(alloc, b)?;
     let found = match_pattern(alloc, &pattern, &t, &b).ok()?;
+    is_wanted(alloc, found, want)
+}
+
+// Whether the bindings are those that are wanted, or none where none are.
+fn is_wanted(alloc: Global, found: Option<Bindings>, want: Option<&str>) -> Option<bool> {
     match (found, want) {
         (Some(c), Some(text)) => Some(same_bindings(&c, &bindings(alloc, text)?)),
         (None, None) => Some(true),
         _ => Some(false),
     }
+}
+
+// The same around the destructors of a signature.
+fn fits(alloc: Global, g: &Signature, row: &(&str, &str, &str, Option<&str>)) -> Option<bool> {
+    let (pattern, t, b, want) = *row;
+    let pattern = term(alloc, pattern)?;
+    let t = term(alloc, t)?;
+    let found = match_around(alloc, g, &pattern, &t, bindings(alloc, b)?).ok()?;
+    is_wanted(alloc, found, want)
 }
 
 // The pattern, the term, the bindings before, and those after.
@@ -359,11 +373,38 @@ const MATCHES: [(&str, &str, &str, Option<&str>); 22] = [
     ),
 ];
 
+// The pattern, the term, the bindings before, and those after: with all builtins.
+const FITS: [(&str, &str, &str, Option<&str>); 6] = [
+    ("x fst/1", "'a' h/1", "", Some("")),
+    ("x y fst/1 pair/2", "'a' 'b' pair/2", "", Some("x 'a' =")),
+    (
+        "c k sdec/2 k pair/2",
+        "'a' 'b' pair/2",
+        "c 'c' =",
+        Some("c 'c' = k 'b' ="),
+    ),
+    ("'a' y fst/1 pair/2", "'b' 'c' pair/2", "", None),
+    (
+        "y fst/1 x x pair/2 pair/2",
+        "'c' 'a' 'b' pair/2 pair/2",
+        "",
+        None,
+    ),
+    ("$x h/1", "~1 h/1", "", None),
+];
+
 #[test]
 fn patterns(rt: HostRuntime) -> Result<(), Fail> {
     let alloc = rt.alloc();
     for row in &MATCHES {
         assert_eq!(rt; matches(alloc, row), Some(true), "{}", row.0);
     }
+    let on = all_builtins(alloc).ok_or("no memory")?;
+    for row in &FITS {
+        assert_eq!(rt; fits(alloc, &on, row), Some(true), "{}", row.0);
+    }
+    let off = Signature::new(alloc)?;
+    let row = ("c k sdec/2", "'a' 'b' sdec/2", "", Some("c 'a' = k 'b' ="));
+    assert_eq!(rt; fits(alloc, &off, &row), Some(true), "no destructor");
     Ok(())
 }
