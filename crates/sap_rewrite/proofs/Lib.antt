@@ -9,3 +9,4 @@ pub mod Fits
 pub mod WalkLemmas
 pub mod Choices
 pub mod Only
+pub mod Lent

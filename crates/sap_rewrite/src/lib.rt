@@ -3,10 +3,12 @@
 
 mod cut;
 mod laws;
+mod lends;
 mod matching;
 mod normal_form;
 mod reduce;
 mod shape;
+mod symbol;
 #[cfg(test)]
 mod tests;
 mod within;
@@ -17,4 +19,5 @@ pub use laws::{
 };
 pub use matching::match_pattern;
 pub use normal_form::{normal, same_modulo};
+pub use symbol::normal_on;
 pub use within::normal_within;
