@@ -105,9 +105,9 @@ fn small_reduced<L: Lends>(
     Ok(holds)
 }
 
-/// The normal form of a symbol on normal terms that are lent, if it has at most so many nodes; if it has more, `Large`.
-/// It is counted before anything is copied, and of the terms no more is copied than it has. The equations are used at
-/// the symbol alone: no term is looked at further than its left sides do.
+/// The normal form of a symbol on normal terms that are lent, if it has at most `most` nodes; `Large` if it has more.
+/// Since the terms are normal, the equations are tried at the symbol alone. The normal form is counted before anything
+/// is copied, and only what stands in it is copied.
 pub fn normal_on(
     alloc: Global,
     sig: &Signature,
