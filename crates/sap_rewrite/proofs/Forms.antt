@@ -1,5 +1,6 @@
 -- The normal forms of ground terms over a signature are messages.
 use Rattle.std.proofs.Common.{◌≡◌, ℕ, suc, List, Option, Some, None, unwrap_or, length, refl, sym, ap, subst, ◌∙◌}
+use Rattle.std.specs.Prelude.{option_map}
 use Rattle.sap_terms.specs.declared.var.Sort.TheVariants.{Msg}
 use Rattle.sap_terms.specs.Ground.{IsGround, AreGround}
 use Rattle.sap_terms.specs.Message.{IsMessage, IsOver, AreOver}

@@ -3,11 +3,13 @@
 
 mod cut;
 mod laws;
+mod lends;
 mod matching;
 mod message;
 mod normal_form;
 mod reduce;
 mod shape;
+mod symbol;
 #[cfg(test)]
 mod tests;
 mod within;
@@ -21,4 +23,5 @@ pub use laws::{
 pub use matching::{match_around, match_pattern};
 pub use message::is_message;
 pub use normal_form::{normal, same_modulo};
+pub use symbol::normal_on;
 pub use within::normal_within;
