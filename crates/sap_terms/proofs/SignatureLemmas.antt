@@ -1,16 +1,16 @@
 -- Names stand once in a signature, and its destructors head left sides.
-use Rattle.std.proofs.Common.{◌≡◌, ℕ, List, [], ◌∷◌, ◌++◌, Bool, true, false, ◌&&◌, ◌||◌, Option, Some, None, codes, zero, suc, ◌+◌, add-one, drop, refl, sym, ap, subst, ◌∙◌, IsTrue, is_some, not}
+use Rattle.std.proofs.Common.{◌≡◌, ℕ, List, [], ◌∷◌, ◌++◌, Bool, true, false, ◌&&◌, ◌||◌, Some, None, zero, suc, ◌+◌, add-one, drop, refl, sym, ap, subst, ◌∙◌, IsTrue, is_some, not}
 use Rattle.std.proofs.lemmas.Slice.Eq.{bytes_eq-Decides}
 use Rattle.std.specs.Prelude.{if◌then◌else◌, slice_get, nat_eq}
 use Rattle.std.specs.Option.{option_map_or}
 use Rattle.std.proofs.lemmas.Bool.Decides.{Decides-eqb}
 use Rattle.std.specs.Str.{bytes_eq}
 use Rattle.sap_terms.specs.declared.signature.Symbol.{Symbol}
-use Rattle.sap_terms.specs.Tree.{Tree, Trees, variable, public, fresh, apply, none, more}
+use Rattle.sap_terms.specs.Tree.{Tree, apply, none, more}
 use Rattle.sap_terms.specs.Signature.{Sig, find_symbol, IsMap, declared, declared_all, is_destructor_of, first_clash, is_held_otherwise, same_bool, added, AreHeld, HoldsBuiltins, has_builtin, builtin_symbols}
 use Rattle.sap_terms.specs.declared.signature.Builtin.{Builtin}
 use Rattle.sap_terms.specs.declared.signature.Builtin.TheVariants.{Hashing, Symmetric, Asymmetric, Signing}
-use Rattle.sap_terms.specs.Theory.{Theory, theory, IsInstance, first, second, symmetric, asymmetric, signing, IsDestructor, app0, app1, app2, pair_name, fst_name, snd_name, senc_name, sdec_name, aenc_name, adec_name, pk_name, sign_name, verify_name, true_name}
+use Rattle.sap_terms.specs.Theory.{theory, IsInstance, first, second, symmetric, asymmetric, signing, IsDestructor, app0, app1, app2, pair_name, fst_name, snd_name, senc_name, sdec_name, aenc_name, adec_name, pk_name, sign_name, verify_name, true_name}
 use Rattle.sap_terms.proofs.SameLemmas.{and_left, and_right, same_name}
 
 -- names that differ differ the other way round

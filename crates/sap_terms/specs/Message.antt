@@ -1,5 +1,5 @@
 -- Messages: the terms that runs send, store and show, and over which the variables of rules and formulas range.
-use Rattle.std.specs.Prelude.{◌≡◌, List, length, Some, IsTrue}
+use Rattle.std.specs.Prelude.{◌≡◌, length, Some, IsTrue}
 use Rattle.sap_terms.specs.Tree.{Tree, variable, public, fresh, apply, Trees, none, more, list_of}
 use Rattle.sap_terms.specs.Choice.{Choice, fits_sort}
 use Rattle.sap_terms.specs.Ground.{IsGround}

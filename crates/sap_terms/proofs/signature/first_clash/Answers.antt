@@ -1,7 +1,6 @@
-use Rattle.std.proofs.Common.{◌≡◌, Some, ap, sym, ◌∙◌, arith}
+use Rattle.std.proofs.Common.{ap, sym, ◌∙◌}
 use Rattle.std.proofs.lemmas.Option.{slice_get_within}
 use Rattle.std.specs.Prelude.{option_map}
-use Rattle.sap_terms.specs.Signature.{IsFirstClash}
 use Rattle.sap_terms.specs.declared.signature.Symbol.{Symbol}
 use Rattle.sap_terms.proofs.SignatureLemmas.{first_clash-here, first_clash-later}
 use Rattle.sap_terms.proofs.signature.first_clash.Goals as goal
