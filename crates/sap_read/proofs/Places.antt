@@ -1,12 +1,12 @@
 -- Where a spelling ends.
-use Rattle.std.proofs.Common.{◌≡◌, ◌≤◌, ◌<◌, ◌-◌, ◌+◌, ℕ, zero, suc, true, false, List, [], ◌∷◌, length, drop, Option, Some, None, refl, sym, ap, subst, ◌∙◌, arith}
+use Rattle.std.proofs.Common.{◌≡◌, ◌≤◌, ◌<◌, ◌-◌, ◌+◌, ℕ, suc, false, List, ◌∷◌, length, drop, Some, None, refl, sym, ap, subst, ◌∙◌, arith}
 use Rattle.std.specs.Prelude.{codes}
 use Rattle.std.proofs.lemmas.List.{drop-drop, length-drop}
 use Rattle.sap_terms.specs.declared.fact.Fact.{Fact}
-use Rattle.sap_terms.specs.Tree.{Tree, trees_of, level_count, trees_levels}
+use Rattle.sap_terms.specs.Tree.{Tree, level_count}
 use Rattle.sap_terms.specs.Signature.{Sig}
 use Rattle.sap_text.specs.declared.token.Token.{Token}
-use Rattle.sap_read.specs.Words.{Word, mark, starts, words_of}
+use Rattle.sap_read.specs.Words.{Word, starts, words_of}
 use Rattle.sap_read.specs.Places.{IsAt, fact_levels}
 use Rattle.sap_read.specs.TermGrammar.{IsTerm, IsRest, IsList, IsArgs, args_none, args_some, list_last, list_more, rest_last, rest_more, term_constant, term_fresh, term_message, term_pub, term_quoted, term_symbol, term_tuple}
 use Rattle.sap_read.specs.FactGrammar.{IsFact, fact_linear, fact_persistent}

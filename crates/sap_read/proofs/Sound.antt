@@ -1,18 +1,17 @@
 -- What is read is spelled so.
-use Rattle.std.proofs.Common.{◌≡◌, ◌+◌, ℕ, zero, suc, Bool, true, false, List, [], ◌∷◌, ◌++◌, length, drop, Option, Some, None, refl, sym, ap, subst, ◌∙◌, arith}
+use Rattle.std.proofs.Common.{◌≡◌, ℕ, zero, suc, Bool, true, false, List, [], ◌∷◌, ◌++◌, length, drop, Option, Some, None, refl, sym, ap, subst, ◌∙◌}
 use Rattle.std.specs.Prelude.{codes, if◌then◌else◌, ⊤}
 use Rattle.std.specs.Str.{bytes_eq}
 use Rattle.std.proofs.lemmas.List.{drop-drop}
 use Rattle.std.proofs.lemmas.Slice.Eq.{bytes_eq-Decides}
 use Rattle.sap_terms.specs.declared.fact.Fact.{Fact}
-use Rattle.sap_terms.specs.declared.var.Sort.{Sort}
-use Rattle.sap_terms.specs.declared.var.Sort.TheVariants.{Msg, Fresh, Pub}
-use Rattle.sap_terms.specs.Tree.{Tree, public, apply, none, trees_of}
+use Rattle.sap_terms.specs.declared.var.Sort.TheVariants.{Msg}
+use Rattle.sap_terms.specs.Tree.{Tree, apply, none}
 use Rattle.sap_terms.specs.Signature.{Sig, arity_of}
 use Rattle.sap_read.specs.Words.{Word, mark, name, number, quoted, starts, is_lower, is_upper}
-use Rattle.sap_read.specs.TermGrammar.{IsTerm, IsRest, IsList, IsArgs, IsConstant, sorted, pair, args_none, args_some, list_last, list_more, rest_last, rest_more, term_constant, term_fresh, term_message, term_pub, term_quoted, term_symbol, term_tuple}
+use Rattle.sap_read.specs.TermGrammar.{IsTerm, IsRest, IsList, IsArgs, sorted, args_none, args_some, list_last, list_more, rest_last, rest_more, term_constant, term_fresh, term_message, term_pub, term_quoted, term_symbol, term_tuple}
 use Rattle.sap_read.specs.FactGrammar.{IsFact, fact, fact_linear, fact_persistent}
-use Rattle.sap_read.specs.Reading.{Read, Reader, after, given, behind, name_at, quoted_at, is_no_arity, plain, signed, list_of, args, symbol, named, tuple, leaf, term_at, rest_at, term, rest, fact_args, fact_from, fact_at}
+use Rattle.sap_read.specs.Reading.{Read, Reader, after, given, behind, name_at, quoted_at, is_no_arity, plain, list_of, args, named, tuple, leaf, term_at, rest_at, term, rest, fact_from, fact_at}
 use Rattle.sap_read.proofs.Complete.{no_zero}
 
 abbrev pub Says : Type 0 → Type 1
@@ -23,17 +22,17 @@ abbrev pub OnRead : {A : Type 0} → Says A → Read A → Type 0
 OnRead P None = ⊤
 OnRead P (Some p) = P p.0 p.1
 
-after_on : {A B : Type 0} (P : Says A) (Q : Says B) (r : Read A) (k : A → Reader B) → OnRead P r → ((v : A) (b : List Word) → P v b → OnRead Q (k v b)) → OnRead Q (after r k)
+pub after_on : {A B : Type 0} (P : Says A) (Q : Says B) (r : Read A) (k : A → Reader B) → OnRead P r → ((v : A) (b : List Word) → P v b → OnRead Q (k v b)) → OnRead Q (after r k)
 unfolding after
 after_on P Q None k h f = tt
 after_on P Q (Some p) k h f = f p.0 p.1 h
 
-given_on : {A B : Type 0} (Q : Says B) (o : Option A) (k : A → Read B) → ((x : A) → o ≡ Some x → OnRead Q (k x)) → OnRead Q (given o k)
+pub given_on : {A B : Type 0} (Q : Says B) (o : Option A) (k : A → Read B) → ((x : A) → o ≡ Some x → OnRead Q (k x)) → OnRead Q (given o k)
 unfolding given
 given_on Q None k f = tt
 given_on Q (Some x) k f = f x refl
 
-if_on : {B : Type 0} (Q : Says B) (c : Bool) (x y : Read B) → (c ≡ true → OnRead Q x) → (c ≡ false → OnRead Q y) → OnRead Q (if c then x else y)
+pub if_on : {B : Type 0} (Q : Says B) (c : Bool) (x y : Read B) → (c ≡ true → OnRead Q x) → (c ≡ false → OnRead Q y) → OnRead Q (if c then x else y)
 if_on Q true x y t f = t refl
 if_on Q false x y t f = f refl
 
@@ -41,7 +40,7 @@ behind_on : (P Q : Says (List Tree)) (xs : List Tree) (r : Read (List Tree)) →
 behind_on P Q xs None h f = tt
 behind_on P Q xs (Some p) h f = f p.0 p.1 h
 
-same_bytes : (m s : List ℕ) → bytes_eq m s ≡ true → m ≡ s
+pub same_bytes : (m s : List ℕ) → bytes_eq m s ≡ true → m ≡ s
 same_bytes m s e = (bytes_eq-Decides m s).0 e
 
 pub starts_is : (m : List ℕ) (ts : List Word) → starts m ts ≡ true → ts ≡ mark m ∷ drop 1 ts
@@ -51,7 +50,7 @@ starts_is m (name s ∷ ts) e = absurd (cc)
 starts_is m (number s ∷ ts) e = absurd (cc)
 starts_is m (quoted s ∷ ts) e = absurd (cc)
 
-name_is : (ts : List Word) (x : List ℕ) → name_at ts ≡ Some x → ts ≡ name x ∷ drop 1 ts
+pub name_is : (ts : List Word) (x : List ℕ) → name_at ts ≡ Some x → ts ≡ name x ∷ drop 1 ts
 name_is [] x e = absurd (cc)
 name_is (mark s ∷ ts) x e = absurd (cc)
 name_is (name s ∷ ts) x e = cc
@@ -90,7 +89,7 @@ on {g = g} {t = t} {a = a} r e = subst (λ (y : List Word). IsTerm g t a y) e r
 from : {g : Sig} {t : Tree} {a b c : List Word} → IsTerm g t a b → c ≡ a → IsTerm g t c b
 from {g = g} {t = t} {b = b} r e = subst (λ (y : List Word). IsTerm g t y b) (sym e) r
 
-abbrev SoundTerms : Sig → Reader Tree → Type 0
+abbrev pub SoundTerms : Sig → Reader Tree → Type 0
 SoundTerms g u = (ts : List Word) → OnRead (λ t b. IsTerm g t ts b) (u ts)
 
 abbrev SoundRests : Sig → Reader Tree → Type 0

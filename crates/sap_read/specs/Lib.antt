@@ -4,5 +4,8 @@ pub mod Words
 pub mod TermGrammar
 pub mod FactGrammar
 pub mod Places
+pub mod Written
+pub mod ProcessGrammar
 pub mod Reading
 pub mod View
+pub mod ProcessExamples

@@ -68,7 +68,15 @@ fn read_behind_sign<'a>(
         return Ok(None);
     };
     if is_upper(name) && starts(bytes, beyond(1, tokens), "(") {
-        read_fact_args(alloc, sig, bytes, depth, persistent, name, beyond(2, tokens))
+        read_fact_args(
+            alloc,
+            sig,
+            bytes,
+            depth,
+            persistent,
+            name,
+            beyond(2, tokens),
+        )
     } else {
         Ok(None)
     }

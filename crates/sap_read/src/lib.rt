@@ -5,7 +5,9 @@ mod fact;
 mod laws;
 mod look;
 mod term;
+#[cfg(test)]
+mod tests;
 
 pub use fact::read_fact;
-pub use laws::{one_fact, one_term};
+pub use laws::{one_fact, one_process, one_term, processes_by_hand};
 pub use term::read_term;

@@ -1,4 +1,4 @@
-use Rattle.std.proofs.Common.{◌≡◌, drop, Some, None, arith}
+use Rattle.std.proofs.Common.{◌≡◌, drop, Some, None}
 use Rattle.sap_terms.specs.View.{tree}
 use Rattle.sap_read.specs.Words.{words_of}
 use Rattle.sap_read.specs.Reading.{term}
