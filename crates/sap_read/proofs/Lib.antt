@@ -8,3 +8,4 @@ pub mod ProcessReading
 pub mod Processes
 pub mod ByHand
 pub mod SoundProcesses
+pub mod Signatures

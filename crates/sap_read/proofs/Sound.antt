@@ -73,7 +73,7 @@ name_open : (x : List ℕ) (ts : List Word) → name_at ts ≡ Some x → starts
 name_open x ts e f = name_is ts x e ∙ ap (λ q. name x ∷ q) (starts_is (codes "(") (drop 1 ts) f)
 
 -- an identifier without sign
-plain_is : (g : Sig) (x : List ℕ) (a : List Word) → IsTerm g (plain g x) (name x ∷ a) a
+pub plain_is : (g : Sig) (x : List ℕ) (a : List Word) → IsTerm g (plain g x) (name x ∷ a) a
 plain_is g x a = go (arity_of g x) refl
   where
     go : (o : Option ℕ) → arity_of g x ≡ o → IsTerm g (if is_no_arity o then apply x none else sorted Msg x) (name x ∷ a) a

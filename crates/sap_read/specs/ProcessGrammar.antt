@@ -100,7 +100,7 @@ mutual
     par_more : {e : Ending} {p q : Written} {n k : ℕ} {w : List ℕ} {a b c : List Word} → IsBar w → IsSeq g m e p n a (mark w ∷ b) → IsPar g m q k b c
         → IsPar g m (parallel p q) (max n k + 1) a c
 
--- what goes on with no process: the words are at their end, or begin with nothing that could belong to the process before
+-- nothing goes on with a process that ends here: the words are at their end, or begin with something else
 pub record EndsProcess (b : List Word) : Type 0 where
   pub no_parenthesis : starts (codes "(") b ≡ false
   pub no_semicolon : starts (codes ";") b ≡ false

@@ -106,7 +106,7 @@ fn is_whole(bytes: &[u8], fact: &Fact, rest: &[Token]) -> bool
 }
 
 /// The fact that the tokens spell from number `at`, counted from 0, and the number of the token behind it, which is no `(`;
-/// None where they spell none whose terms have at most 100 levels. The work is linear in the tokens that are looked at.
+/// None where they spell none whose terms have at most 100 levels. The work is as that of `read_term`.
 pub fn read_fact(
     alloc: Global,
     sig: &Signature,

@@ -1,11 +1,11 @@
 ghost use Rattle.std.specs.Prelude.{◌≡◌, ℕ, List, [], false, codes};
 ghost use Rattle.sap_terms.specs.declared.fact.Fact.{Fact};
-ghost use Rattle.sap_terms.specs.Tree.{Tree};
+ghost use Rattle.sap_terms.specs.Tree.{Tree, level_count};
 ghost use Rattle.sap_terms.specs.Signature.{Sig, pairs_alone};
 ghost use Rattle.sap_read.specs.Words.{Word, starts};
 ghost use Rattle.sap_read.specs.TermGrammar.{IsTerm};
 ghost use Rattle.sap_read.specs.FactGrammar.{IsFact};
-ghost use Rattle.sap_read.specs.Places.{IsTermAt, IsFactAt};
+ghost use Rattle.sap_read.specs.Places.{IsTermAt, IsFactAt, fact_levels};
 ghost use Rattle.sap_read.specs.Written.{Written};
 ghost use Rattle.sap_read.specs.ProcessGrammar.{IsPar, EndsProcess};
 ghost use Rattle.sap_read.specs.ProcessExamples.{dangling_words, dangling_process, parted_words, parted_process, parallel_words, parallel_process, action_words, action_process, rule_words, rule_process, lookup_words, lookup_process};
@@ -32,6 +32,17 @@ pub fn one_process()
         → EndsProcess b → EndsProcess c → (p ≡ q) × (n ≡ k) × (b ≡ c) }
     ensures whole { (g : Sig) (m n k : ℕ) (p q : Written) (a : List Word) → IsPar g m p n a [] → IsPar g m q k a []
         → (p ≡ q) × (n ≡ k) }
+{}
+
+/// A law: which words are a term, a fact or a process, and of how many levels, is the same under each signature. The
+/// signature says only which identifiers are constants.
+pub fn grammar_is_one()
+    ensures terms { (g h : Sig) (t : Tree) (a b : List Word) → IsTerm g t a b
+        → (u : Tree) × IsTerm h u a b × (level_count u ≡ level_count t) }
+    ensures facts { (g h : Sig) (f : Fact) (a b : List Word) → IsFact g f a b
+        → (u : Fact) × IsFact h u a b × (fact_levels u ≡ fact_levels f) }
+    ensures processes { (g h : Sig) (m n : ℕ) (p : Written) (a b : List Word) → IsPar g m p n a b
+        → (q : Written) × IsPar h m q n a b }
 {}
 
 /// A law: six worked examples of which words spell which process, with how many levels.

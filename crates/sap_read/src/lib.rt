@@ -1,4 +1,4 @@
-//! Terms and facts of a file, read from its tokens.
+//! Terms and facts of a file, read from its tokens, and the grammar of its processes.
 #![tactic(auto)]
 
 mod fact;
@@ -9,5 +9,5 @@ mod term;
 mod tests;
 
 pub use fact::read_fact;
-pub use laws::{one_fact, one_process, one_term, processes_by_hand};
+pub use laws::{grammar_is_one, one_fact, one_process, one_term, processes_by_hand};
 pub use term::read_term;
