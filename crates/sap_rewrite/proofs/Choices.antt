@@ -1,27 +1,31 @@
--- Substitutions as choices, and matches.
-use Rattle.std.proofs.Common.{◌≡◌, ℕ, true, false, ◌||◌, List, [], ◌∷◌, ◌++◌, map, refl, sym, ap, subst, ◌∙◌}
-use Rattle.std.specs.Prelude.{if◌then◌else◌}
+-- Substitutions as choices, and what a walk finds.
+use Rattle.std.proofs.Common.{◌≡◌, ℕ, true, false, ◌||◌, List, [], ◌∷◌, ◌++◌, map, Some, None, inl, inr, refl, sym, ap, subst, ◌∙◌, cond}
+use Rattle.std.specs.Prelude.{Contains, if◌then◌else◌, Bool}
 use Rattle.std.specs.Str.{bytes_eq}
+use Rattle.std.proofs.lemmas.List.{append-nil, map-append}
+use Rattle.std.proofs.lemmas.List.Elements.{Contains-push, Contains-append_left, Contains-append_right, Contains-append_cases}
+use Rattle.std.proofs.lemmas.Option.{same_Some}
 use Rattle.std.proofs.lemmas.Slice.Eq.{bytes_eq-Decides}
 use Rattle.sap_terms.specs.declared.var.Var.{Var}
 use Rattle.sap_terms.specs.declared.binding.Binding.{Binding}
 use Rattle.sap_terms.specs.Tree.{Tree, variable, public, fresh, apply, Trees, none, more}
 use Rattle.sap_terms.specs.View.{tree, term, tree-term}
-use Rattle.sap_terms.specs.Ground.{IsGround, AreGround}
-use Rattle.sap_terms.specs.Choice.{Choice, fits_sort, IsSorted, IsByName, instance, instances}
+use Rattle.sap_terms.specs.Choice.{Choice, fits_sort, IsSorted}
 use Rattle.sap_terms.specs.Subst.{bound_to}
-use Rattle.sap_terms.specs.Variables.{tree_vars, trees_vars}
-use Rattle.sap_terms.specs.Theory.{Theory, IsInstance, IsDestructor}
-use Rattle.sap_terms.specs.Equal.{IsTheoryEqual, same}
-use Rattle.sap_terms.specs.Normal.{IsNormal, AreNormal, IsNoLeftSide, EachSubtermWithin}
 use Rattle.sap_terms.proofs.SameLemmas.{same_name}
-use Rattle.sap_rewrite.specs.Match.{AllSorted, names, is_known, new_vars, IsMatch, Agrees, Turns}
-use Rattle.sap_rewrite.specs.Pattern.{HasDestructor, IsPattern, IsNormalChoice}
-use Rattle.sap_rewrite.proofs.NormalForms.{leaf-normal, nf-fixed}
-use Rattle.sap_rewrite.proofs.Respects.{nf-equal}
+use Rattle.sap_rewrite.specs.Match.{AllSorted, names, is_known, new_vars, Extends, Agrees, HaveOneSort, bound_vars}
+use Rattle.sap_rewrite.specs.Walk.{match_tree}
+use Rattle.sap_rewrite.proofs.Skips.{met_vars, all_met_vars, FitsBut, AllFitBut}
+use Rattle.sap_rewrite.proofs.WalkLemmas.{added_names, walk, walk_finds}
+
+pub first_item : {X : Type 0} (x : X) (xs : List X) → Contains (x ∷ xs) x
+first_item x xs = Contains-append_left (x ∷ []) xs x (Contains-push [] x)
+
+pub later_item : {X : Type 0} (x y : X) (xs : List X) → Contains xs y → Contains (x ∷ xs) y
+later_item x y xs h = Contains-append_right (x ∷ []) xs y h
 
 -- two choices that are the same for these variables
-abbrev SameFor : Choice → Choice → List Var → Type 0
+abbrev pub SameFor : Choice → Choice → List Var → Type 0
 SameFor τ σ [] = Unit {0}
 SameFor τ σ (v ∷ vs) = (τ v ≡ σ v) × SameFor τ σ vs
 
@@ -33,20 +37,29 @@ same_back : (τ σ : Choice) (vs ws : List Var) → SameFor τ σ (vs ++ ws) →
 same_back τ σ [] ws h = h
 same_back τ σ (v ∷ vs) ws h = same_back τ σ vs ws h.1
 
-mutual
-  -- an instance is made by the tree's own variables alone
-  same_instance : (τ σ : Choice) (t : Tree) → SameFor τ σ (tree_vars t) → instance τ t ≡ instance σ t
-  same_instance τ σ (variable v) h = h.0
-  same_instance τ σ (public n) h = refl
-  same_instance τ σ (fresh k) h = refl
-  same_instance τ σ (apply f ts) h = ap (apply f) (same_instances τ σ ts h)
+same_back_again : (τ σ : Choice) (vs : List Var) → SameFor τ σ vs → SameFor σ τ vs
+same_back_again τ σ [] h = tt
+same_back_again τ σ (v ∷ vs) h = (sym h.0, same_back_again τ σ vs h.1)
 
-  same_instances : (τ σ : Choice) (ts : Trees) → SameFor τ σ (trees_vars ts) → instances τ ts ≡ instances σ ts
-  same_instances τ σ none h = refl
-  same_instances τ σ (more t ts) h =
-      let head = same_instance τ σ t (same_front τ σ (tree_vars t) (trees_vars ts) h) in
-      let tail = same_instances τ σ ts (same_back τ σ (tree_vars t) (trees_vars ts) h) in
-      λ i. more (head i) (tail i)
+mutual
+  -- whether a choice fits depends on the variables met alone
+  pub same_fit : (s : List ℕ → Bool) (τ σ : Choice) (p t : Tree) → SameFor τ σ (met_vars s p) → FitsBut s σ p t → FitsBut s τ p t
+  same_fit s τ σ (variable v) t m h = m.0 ∙ h
+  same_fit s τ σ (public n) t m h = h
+  same_fit s τ σ (fresh k) t m h = h
+  same_fit s τ σ (apply f ps) t m (inl h) = inl h
+  same_fit s τ σ (apply f ps) t m (inr h) =
+      elim (s f) as (λ r. s f ≡ r → SameFor τ σ (cond r [] (all_met_vars s ps)) → FitsBut s τ (apply f ps) t) [
+        | true ↦ λ e m. inl e
+        | false ↦ λ e m. inr (h.0, h.1, same_all_fit s τ σ ps h.0 m h.2)
+      ] refl m
+
+  same_all_fit : (s : List ℕ → Bool) (τ σ : Choice) (ps ts : Trees) → SameFor τ σ (all_met_vars s ps) → AllFitBut s σ ps ts → AllFitBut s τ ps ts
+  same_all_fit s τ σ none none m h = tt
+  same_all_fit s τ σ (more p ps) (more t ts) m h =
+      (same_fit s τ σ p t (same_front τ σ (met_vars s p) (all_met_vars s ps) m) h.0, same_all_fit s τ σ ps ts (same_back τ σ (met_vars s p) (all_met_vars s ps) m) h.1)
+  same_all_fit s τ σ none (more t ts) m h = absurd h
+  same_all_fit s τ σ (more p ps) none m h = absurd h
 
 -- the variables bound to what the choice gives them
 abbrev pub chosen : Choice → List Var → List Binding
@@ -65,95 +78,103 @@ agrees_chosen σ [] [] a = tt
 agrees_chosen σ [] (v ∷ vs) a = (sym (tree-term (σ v)), agrees_chosen σ [] vs tt)
 agrees_chosen σ (e ∷ es) vs a = (a.0, agrees_chosen σ es vs a.1)
 
--- a name that is bound is bound to what an agreeing choice gives it
-bound_as_chosen : (σ : Choice) (c : List Binding) (v : Var) → IsByName σ → Agrees c σ → is_known (names c) v.name ≡ true → bound_to c v ≡ σ v
+-- a name that is bound is bound to what an agreeing choice gives it, if the name has one sort
+pub bound_as_chosen : (σ : Choice) (c : List Binding) (v : Var) → ((w : Var) → Contains (bound_vars c) w → w.name ≡ v.name → w ≡ v) → Agrees c σ → is_known (names c) v.name ≡ true → bound_to c v ≡ σ v
 bound_as_chosen σ [] v n a k = cc
 bound_as_chosen σ (e ∷ es) v n a k =
     elim (bytes_eq e.var.name v.name) as (λ r. bytes_eq e.var.name v.name ≡ r → (r || is_known (names es) v.name) ≡ true → (if r then tree e.term else bound_to es v) ≡ σ v) [
-      | true ↦ λ h k. sym a.0 ∙ n e.var v ((bytes_eq-Decides e.var.name v.name).0 h)
-      | false ↦ λ h k. bound_as_chosen σ es v n a.1 k
+      | true ↦ λ h k. sym a.0 ∙ ap σ (n e.var (first_item e.var (bound_vars es)) ((bytes_eq-Decides e.var.name v.name).0 h))
+      | false ↦ λ h k. bound_as_chosen σ es v (λ w i. n w (later_item e.var w (bound_vars es) i)) a.1 k
     ] refl k
 
-known_front : (ms ns : List (List ℕ)) (n : List ℕ) → is_known ms n ≡ true → is_known (ms ++ ns) n ≡ true
+pub known_front : (ms ns : List (List ℕ)) (n : List ℕ) → is_known ms n ≡ true → is_known (ms ++ ns) n ≡ true
 known_front [] ns n h = cc
 known_front (m ∷ ms) ns n h =
     elim (bytes_eq m n) as (λ r. (r || is_known ms n) ≡ true → (r || is_known (ms ++ ns) n) ≡ true) [ true ↦ λ h. refl | false ↦ λ h. known_front ms ns n h ] h
 
-known_here : (ms ns : List (List ℕ)) (n : List ℕ) → is_known (ms ++ n ∷ ns) n ≡ true
+pub known_here : (ms ns : List (List ℕ)) (n : List ℕ) → is_known (ms ++ n ∷ ns) n ≡ true
 known_here [] ns n = ap (λ r. r || is_known ns n) (same_name n)
 known_here (m ∷ ms) ns n =
     elim (bytes_eq m n) as (λ r. (r || is_known (ms ++ n ∷ ns) n) ≡ true) [ true ↦ refl | false ↦ known_here ms ns n ]
 
-names_append : (b d : List Binding) → names (b ++ d) ≡ names b ++ names d
-names_append [] d = refl
-names_append (e ∷ es) d = ap (λ ns. e.var.name ∷ ns) (names_append es d)
-
-assoc : (ms ns ks : List (List ℕ)) → (ms ++ ns) ++ ks ≡ ms ++ (ns ++ ks)
+pub assoc : (ms ns ks : List (List ℕ)) → (ms ++ ns) ++ ks ≡ ms ++ (ns ++ ks)
 assoc [] ns ks = refl
 assoc (m ∷ ms) ns ks = ap (λ xs. m ∷ xs) (assoc ms ns ks)
 
--- where a choice agrees with the bindings and the new variables are bound to what it gives, all are
-all_bound : (σ τ : Choice) (known : List (List ℕ)) (vs : List Var) → ((v : Var) → is_known (known ++ names (chosen σ (new_vars known vs))) v.name ≡ true → τ v ≡ σ v) → SameFor τ σ vs
-all_bound σ τ known [] h = tt
-all_bound σ τ known (v ∷ vs) h =
-    elim (is_known known v.name) as (λ r. is_known known v.name ≡ r → ((w : Var) → is_known (known ++ names (chosen σ (if r then new_vars known vs else v ∷ new_vars (known ++ v.name ∷ []) vs))) w.name ≡ true → τ w ≡ σ w) → (τ v ≡ σ v) × SameFor τ σ vs) [
-      | true ↦ λ k h. (h v (known_front known _ v.name k), all_bound σ τ known vs h)
+-- what holds of these variables wherever their names are known once the new ones are, holds of all
+all_known : (τ σ : Choice) (known : List (List ℕ)) (vs : List Var) → ((v : Var) → Contains vs v → is_known (known ++ map (λ (w : Var). w.name) (new_vars known vs)) v.name ≡ true → τ v ≡ σ v) → SameFor τ σ vs
+all_known τ σ known [] h = tt
+all_known τ σ known (v ∷ vs) h =
+    elim (is_known known v.name) as (λ r. is_known known v.name ≡ r → ((u : Var) → Contains (v ∷ vs) u → is_known (known ++ map (λ (w : Var). w.name) (if r then new_vars known vs else v ∷ new_vars (known ++ v.name ∷ []) vs)) u.name ≡ true → τ u ≡ σ u) → (τ v ≡ σ v) × SameFor τ σ vs) [
+      | true ↦ λ k h. (
+        h v (first_item v vs) (known_front known _ v.name k),
+        all_known τ σ known vs (λ u m i. h u (later_item v u vs m) i),
+      )
       | false ↦ λ k h. (
-        h v (known_here known _ v.name),
-        all_bound σ τ (known ++ v.name ∷ []) vs (λ w i. h w (subst (λ ns. is_known ns w.name ≡ true) (assoc known (v.name ∷ []) (names (chosen σ (new_vars (known ++ v.name ∷ []) vs)))) i)),
+        h v (first_item v vs) (known_here known _ v.name),
+        all_known τ σ (known ++ v.name ∷ []) vs (λ u m i. h u (later_item v u vs m) (subst (λ ns. is_known ns u.name ≡ true) (assoc known (v.name ∷ []) (map (λ (w : Var). w.name) (new_vars (known ++ v.name ∷ []) vs))) i)),
       )
     ] refl h
 
--- a choice that turns the pattern into the tree gives a match
-pub match_of_choice : (p t : Tree) (b : List Binding) (σ : Choice) → Turns p t b σ → IsMatch p t b (b ++ chosen σ (new_vars (names b) (tree_vars p)))
-match_of_choice p t b σ h =
-    let vs = new_vars (names b) (tree_vars p) in
-    let c = b ++ chosen σ vs in
-    let each : (v : Var) → is_known (names b ++ names (chosen σ vs)) v.name ≡ true → bound_to c v ≡ σ v = λ v k. bound_as_chosen σ c v h.by_name (agrees_chosen σ b vs h.agrees) (subst (λ ns. is_known ns v.name ≡ true) (sym (names_append b (chosen σ vs))) k) in
-    record {
-      extends = record { added = chosen σ vs; is = refl; on = chosen_vars σ vs; sorted = chosen_sorted σ vs h.sorted };
-      turns = same_instance (bound_to c) σ p (all_bound σ (bound_to c) (names b) (tree_vars p) each) ∙ h.is;
-    }
+new_among : (known : List (List ℕ)) (vs : List Var) (w : Var) → Contains (new_vars known vs) w → Contains vs w
+new_among known [] w h = h
+new_among known (v ∷ vs) w h =
+    elim (is_known known v.name) as (λ r. Contains (if r then new_vars known vs else v ∷ new_vars (known ++ v.name ∷ []) vs) w → Contains (v ∷ vs) w) [
+      | true ↦ λ h. later_item v w vs (new_among known vs w h)
+      | false ↦ λ h. elim (Contains-append_cases (v ∷ []) (new_vars (known ++ v.name ∷ []) vs) w h) as (λ _. Contains (v ∷ vs) w) [ inl a ↦ Contains-append_left (v ∷ []) vs w a | inr b ↦ later_item v w vs (new_among (known ++ v.name ∷ []) vs w b) ]
+    ] h
 
--- and agrees with it
-pub agrees_of_choice : (p t : Tree) (b : List Binding) (σ : Choice) → Turns p t b σ → Agrees (b ++ chosen σ (new_vars (names b) (tree_vars p))) σ
-agrees_of_choice p t b σ h = agrees_chosen σ b (new_vars (names b) (tree_vars p)) h.agrees
+-- what extended bindings bind
+pub extended_names : (b : List Binding) (vs : List Var) (c : List Binding) → Extends b vs c → names c ≡ names b ++ map (λ (v : Var). v.name) (new_vars (names b) vs)
+extended_names b vs c x =
+    ap names x.is ∙ map-append (λ (e : Binding). e.var.name) b x.added ∙ ap (λ ns. names b ++ ns) (added_names x.added (new_vars (names b) vs) x.on)
 
-mutual
-  instance-ground : (σ : Choice) (t : Tree) → IsGround t → instance σ t ≡ t
-  instance-ground σ (variable v) g = absurd g
-  instance-ground σ (public n) g = refl
-  instance-ground σ (fresh k) g = refl
-  instance-ground σ (apply f ts) g = ap (apply f) (instances-ground σ ts g)
+pub extended_vars : (b : List Binding) (vs : List Var) (c : List Binding) → Extends b vs c → bound_vars c ≡ bound_vars b ++ new_vars (names b) vs
+extended_vars b vs c x =
+    ap bound_vars x.is ∙ map-append (λ (e : Binding). e.var) b x.added ∙ ap (λ vs. bound_vars b ++ vs) x.on
 
-  instances-ground : (σ : Choice) (ts : Trees) → AreGround ts → instances σ ts ≡ ts
-  instances-ground σ none g = refl
-  instances-ground σ (more t ts) g = λ i. more (instance-ground σ t g.0 i) (instances-ground σ ts g.1 i)
+pub extended_among : (b : List Binding) (vs : List Var) (c : List Binding) (w : Var) → Extends b vs c → Contains (bound_vars c) w → Contains (bound_vars b ++ vs) w
+extended_among b vs c w x h =
+    let among = subst (λ us. Contains us w) (extended_vars b vs c x) h in
+    elim (Contains-append_cases (bound_vars b) (new_vars (names b) vs) w among) as (λ _. Contains (bound_vars b ++ vs) w) [ inl a ↦ Contains-append_left (bound_vars b) vs w a | inr n ↦ Contains-append_right (bound_vars b) vs w (new_among (names b) vs w n) ]
 
-abbrev ArePatterns : Theory → Trees → Type 0
-ArePatterns e ps = EachSubtermWithin (λ t. HasDestructor e t → IsGround t × IsNormal e t) ps
+-- extended bindings and a choice that agrees with them are the same for the variables, if no name has two sorts
+pub agreeing : (σ : Choice) (b : List Binding) (vs : List Var) (c : List Binding) → Extends b vs c → HaveOneSort (bound_vars b ++ vs) → Agrees c σ → SameFor (bound_to c) σ vs
+agreeing σ b vs c x one a = all_known (bound_to c) σ (names b) vs (λ v m k.
+    let known : is_known (names c) v.name ≡ true = subst (λ ns. is_known ns v.name ≡ true) (sym (extended_names b vs c x)) k in
+    bound_as_chosen σ c v (λ w h e. one w v (extended_among b vs c w x h) (Contains-append_right (bound_vars b) vs v m) e) a known)
 
--- an instance whose head is a destructor is the ground normal subterm itself
-no_left_side : (e : Theory) (σ : Choice) (f : List ℕ) (ts : Trees) → (IsDestructor e f → IsGround (apply f ts) × IsNormal e (apply f ts)) → IsNoLeftSide e (apply f (instances σ ts))
-no_left_side e σ f ts h b i =
-    let q = h (record { args = instances σ ts; right = b; is_left = i }) in
-    q.1.0 b (subst (λ t. IsInstance e t b) (instance-ground σ (apply f ts) q.0) i)
+-- the bindings that a sorted choice gives
+pub chosen_extends : (σ : Choice) (b : List Binding) (vs : List Var) → IsSorted σ → Extends b vs (b ++ chosen σ (new_vars (names b) vs))
+chosen_extends σ b vs s =
+    let ws = new_vars (names b) vs in
+    record { added = chosen σ ws; is = refl; on = chosen_vars σ ws; sorted = chosen_sorted σ ws s }
 
-mutual
-  -- the instance of a pattern under a normal choice is normal
-  pattern-normal : (e : Theory) (σ : Choice) (p : Tree) → IsNormalChoice e σ → IsPattern e p → IsNormal e (instance σ p)
-  pattern-normal e σ (variable v) n h = n v
-  pattern-normal e σ (public m) n h = leaf-normal e (public m) refl
-  pattern-normal e σ (fresh k) n h = leaf-normal e (fresh k) refl
-  pattern-normal e σ (apply f ts) n h = (no_left_side e σ f ts h.0, patterns-normal e σ ts n h.1)
+module _ (s : List ℕ → Bool) (p t : Tree) (b : List Binding) where
+  abbrev OneSort : Type 0
+  OneSort = HaveOneSort (bound_vars b ++ met_vars s p)
 
-  patterns-normal : (e : Theory) (σ : Choice) (ps : Trees) → IsNormalChoice e σ → ArePatterns e ps → AreNormal e (instances σ ps)
-  patterns-normal e σ none n h = tt
-  patterns-normal e σ (more p ps) n h = (pattern-normal e σ p n h.0, patterns-normal e σ ps n h.1)
+  -- a choice that fits gives what the walk finds
+  choice_found : OneSort → (σ : Choice) → IsSorted σ → Agrees b σ → FitsBut s σ p t → match_tree s p t b ≡ Some (b ++ chosen σ (new_vars (names b) (met_vars s p)))
+  choice_found one σ o a h =
+      let vs = met_vars s p in
+      let c = b ++ chosen σ (new_vars (names b) vs) in
+      let x = chosen_extends σ b vs o in
+      walk_finds s p t b c x (same_fit s (bound_to c) σ p t (agreeing σ b vs c x one (agrees_chosen σ b (new_vars (names b) vs) a)) h)
 
-equal_from_same : (e : Theory) (t u : Tree) → t ≡ u → IsTheoryEqual e t u
-equal_from_same e t u h = subst (λ v. IsTheoryEqual e t v) h same
+  -- so it agrees with what the walk finds
+  pub found_agrees : (c : List Binding) → match_tree s p t b ≡ Some c → OneSort → (σ : Choice) → IsSorted σ → Agrees b σ → FitsBut s σ p t → Agrees c σ
+  found_agrees c m one σ o a h =
+      let is = same_Some _ _ (sym (choice_found one σ o a h) ∙ m) in
+      subst (λ d. Agrees d σ) is (agrees_chosen σ b (new_vars (names b) (met_vars s p)) a)
 
-pub modulo_iff : (e : Theory) (σ : Choice) (p t : Tree) → IsNormalChoice e σ → IsPattern e p → IsNormal e t → (IsTheoryEqual e (instance σ p) t → instance σ p ≡ t) × (instance σ p ≡ t → IsTheoryEqual e (instance σ p) t)
-modulo_iff e σ p t n h m =
-    (λ q. sym (nf-fixed e (instance σ p) (pattern-normal e σ p n h)) ∙ nf-equal e q ∙ nf-fixed e t m, λ q. equal_from_same e (instance σ p) t q)
+  -- and there is none where it finds nothing
+  pub none_fits : match_tree s p t b ≡ None → OneSort → (σ : Choice) → IsSorted σ → Agrees b σ → FitsBut s σ p t → ⊥
+  none_fits m one σ o a h = let found = choice_found one σ o a h in cc
+
+  -- what agrees with what the walk finds fits
+  pub agreeing_fits : (c : List Binding) → match_tree s p t b ≡ Some c → OneSort → (σ : Choice) → Agrees c σ → FitsBut s σ p t
+  agreeing_fits c m one σ a =
+      let f = walk s p t b c m in
+      let here = subst (λ d. FitsBut s (bound_to d) p t) (append-nil c) (f.fits []) in
+      same_fit s σ (bound_to c) p t (same_back_again (bound_to c) σ (met_vars s p) (agreeing σ b (met_vars s p) c f.extends one a)) here

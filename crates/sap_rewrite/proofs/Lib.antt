@@ -6,6 +6,13 @@ pub mod Shapes
 pub mod ListLaws
 pub mod Parts
 pub mod Fits
+pub mod Skips
 pub mod WalkLemmas
 pub mod Choices
+pub mod Patterns
 pub mod Only
+pub mod Around
+pub mod Bound
+pub mod Forms
+pub mod Messages
+pub mod Lent

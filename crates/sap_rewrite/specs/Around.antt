@@ -1,9 +1,11 @@
 -- Matching around the subterms that a destructor heads, which no match can look into.
-use Rattle.std.specs.Prelude.{◌≡◌, ◌↔◌, ◌⊎◌, true, false, List, [], ◌∷◌, ◌++◌, if◌then◌else◌}
+use Rattle.std.specs.Prelude.{◌≡◌, ◌↔◌, ◌⊎◌, true, false, List, [], ◌∷◌, ◌++◌, if◌then◌else◌, Contains, IsTrue}
 use Rattle.sap_terms.specs.declared.var.Var.{Var}
 use Rattle.sap_terms.specs.declared.binding.Binding.{Binding}
-use Rattle.sap_terms.specs.Choice.{Choice, IsSorted, instance}
+use Rattle.sap_terms.specs.declared.var.Sort.TheVariants.{Msg}
+use Rattle.sap_terms.specs.Choice.{Choice, IsSorted, fits_sort, instance}
 use Rattle.sap_terms.specs.Equal.{IsTheoryEqual}
+use Rattle.sap_terms.specs.Message.{IsMessage}
 use Rattle.sap_terms.specs.Normal.{IsNormal}
 use Rattle.sap_terms.specs.Signature.{Sig, is_destructor_of}
 use Rattle.sap_terms.specs.Theory.{theory}
@@ -69,3 +71,8 @@ HasNoFit g p t b =
 abbrev pub MatchingAroundIsModulo : Type 0
 MatchingAroundIsModulo =
     (g : Sig) (σ : Choice) (p t : Tree) → IsNormalChoice (theory g) σ → IsNormal (theory g) t → IsTheoryEqual (theory g) (instance σ p) t ↔ (Fits g σ p t × Holds g σ p t)
+
+-- what a choice that fits gives an outer variable is a message, where the tree is one and the variable's sort allows it
+abbrev pub FittingGivesMessages : Type 0
+FittingGivesMessages =
+    (g : Sig) (σ : Choice) (p t : Tree) → Fits g σ p t → IsMessage g Msg t → (v : Var) → Contains (outer_vars g p) v → IsTrue (fits_sort v.sort (σ v)) → IsMessage g v.sort (σ v)

@@ -1,5 +1,7 @@
 // Laws of the equational theory, each as the contract of a function that does nothing.
-ghost use Rattle.sap_rewrite.specs.Laws.{EachHasForm, FormIsOne, FormsDecide};
+ghost use Rattle.sap_rewrite.specs.Around.{FittingGivesMessages, MatchingAroundIsModulo};
+ghost use Rattle.sap_rewrite.specs.Bound.{AgreeingSubstitutes, BindingsGiveChoices, ExtensionsJoin, NamedOnceStay};
+ghost use Rattle.sap_rewrite.specs.Laws.{EachHasForm, FormIsOne, FormsAreMessages, FormsDecide};
 ghost use Rattle.sap_rewrite.specs.Pattern.{MatchingIsModulo};
 
 /// Every term has a normal form under every signature's equations.
@@ -21,4 +23,44 @@ pub fn normal_forms_decide()
 /// term: so matching trees is matching modulo the equations.
 pub fn matching_is_modulo()
     ensures { MatchingIsModulo }
+{}
+
+/// Under a normal substitution, the instance of a pattern is theory-equal to a normal term exactly where it fits around
+/// the destructors and what stands under each of these is theory-equal to it.
+pub fn matching_around_is_modulo()
+    ensures { MatchingAroundIsModulo }
+{}
+
+/// What a substitution that fits around the destructors gives a variable outside them is a message, where the term is one
+/// and the variable's sort allows it.
+pub fn fitting_gives_messages()
+    ensures { FittingGivesMessages }
+{}
+
+/// Bindings extend themselves by no variables, extensions one after another are one by all the variables, and what extends
+/// bindings by some variables binds no others.
+pub fn extensions_join()
+    ensures { ExtensionsJoin }
+{}
+
+/// First occurrences of variables are named once, and where bindings name each variable once, so do those that extend
+/// them, and they agree with the substitution that they make.
+pub fn variables_named_once_stay_so()
+    ensures { NamedOnceStay }
+{}
+
+/// Some substitution by messages agrees with bindings to messages that name each variable once.
+pub fn bindings_give_choices()
+    ensures { BindingsGiveChoices }
+{}
+
+/// Bindings, and each substitution that agrees with them, turn a term of bound variables into one term, if no name has two
+/// sorts.
+pub fn agreeing_choices_substitute()
+    ensures { AgreeingSubstitutes }
+{}
+
+/// The normal form of a ground term over a signature is a message, if the signature holds its builtins' symbols.
+pub fn forms_are_messages()
+    ensures { FormsAreMessages }
 {}

@@ -1,4 +1,4 @@
-use crate::{Cut, match_pattern, normal, normal_within, same_modulo};
+use crate::{Cut, match_around, match_pattern, normal, normal_on, normal_within, same_modulo};
 use sap_terms::{
     Binding, Bindings, Builtin, Copied, Mem, Name, Signature, Sort, Term, TermList, Var,
 };
@@ -277,6 +277,48 @@ fn limits_and_chains(rt: HostRuntime) -> Result<(), Fail> {
     Ok(())
 }
 
+// Whether the symbol on the normal term has this form within so many nodes, or is too large where none is given.
+fn has_form_on(alloc: Global, row: &(&str, &str, u64, Option<&str>)) -> Option<bool> {
+    let (f, t, most, want) = *row;
+    let g = Signature::new(alloc).ok()?;
+    let f = Name::from_bytes(alloc, f.as_bytes()).ok()?;
+    match on_form(alloc, &g, &f, &term(alloc, t)?, most) {
+        Ok(form) => Some(form.same(&term(alloc, want?)?)),
+        Err(Cut::Large) => Some(want.is_none()),
+        Err(Cut::Mem) => None,
+    }
+}
+
+fn on_form(alloc: Global, g: &Signature, f: &Name, t: &Term, most: u64) -> Result<Term, Cut> {
+    let form = normal(alloc, g, t)?;
+    let mut lent: Vec<&Term> = Vec::new(alloc);
+    if lent.push(&form).is_err() {
+        return Err(Cut::Mem);
+    }
+    normal_on(alloc, g, f, &lent, most.min(1000))
+}
+
+#[test]
+fn one_symbol_on_normal_terms(rt: HostRuntime) -> Result<(), Fail> {
+    let alloc = rt.alloc();
+    for row in [
+        ("fst", "'a' 'b' h/1 pair/2", 1, Some("'a'")),
+        ("snd", "'a' 'b' h/1 pair/2", 2, Some("'b' h/1")),
+        ("snd", "'a' 'b' h/1 pair/2", 1, None),
+        ("h", "'a' h/1", 3, Some("'a' h/1 h/1")),
+        ("h", "'a' h/1", 2, None),
+    ] {
+        assert_eq!(rt;
+            has_form_on(alloc, &row),
+            Some(true),
+            "{} on {}",
+            row.0,
+            row.1
+        );
+    }
+    Ok(())
+}
+
 fn same_bindings(a: &Bindings, b: &Bindings) -> bool {
     if a.len() != b.len() {
         return false;
@@ -301,11 +343,25 @@ fn matches(alloc: Global, row: &(&str, &str, &str, Option<&str>)) -> Option<bool
     let t = term(alloc, t)?;
     let b = bindings(alloc, b)?;
     let found = match_pattern(alloc, &pattern, &t, &b).ok()?;
+    is_wanted(alloc, found, want)
+}
+
+// Whether the bindings are those that are wanted, or none where none are.
+fn is_wanted(alloc: Global, found: Option<Bindings>, want: Option<&str>) -> Option<bool> {
     match (found, want) {
         (Some(c), Some(text)) => Some(same_bindings(&c, &bindings(alloc, text)?)),
         (None, None) => Some(true),
         _ => Some(false),
     }
+}
+
+// The same around the destructors of a signature.
+fn fits(alloc: Global, g: &Signature, row: &(&str, &str, &str, Option<&str>)) -> Option<bool> {
+    let (pattern, t, b, want) = *row;
+    let pattern = term(alloc, pattern)?;
+    let t = term(alloc, t)?;
+    let found = match_around(alloc, g, &pattern, &t, bindings(alloc, b)?).ok()?;
+    is_wanted(alloc, found, want)
 }
 
 // The pattern, the term, the bindings before, and those after.
@@ -359,11 +415,38 @@ const MATCHES: [(&str, &str, &str, Option<&str>); 22] = [
     ),
 ];
 
+// The pattern, the term, the bindings before, and those after: with all builtins.
+const FITS: [(&str, &str, &str, Option<&str>); 6] = [
+    ("x fst/1", "'a' h/1", "", Some("")),
+    ("x y fst/1 pair/2", "'a' 'b' pair/2", "", Some("x 'a' =")),
+    (
+        "c k sdec/2 k pair/2",
+        "'a' 'b' pair/2",
+        "c 'c' =",
+        Some("c 'c' = k 'b' ="),
+    ),
+    ("'a' y fst/1 pair/2", "'b' 'c' pair/2", "", None),
+    (
+        "y fst/1 x x pair/2 pair/2",
+        "'c' 'a' 'b' pair/2 pair/2",
+        "",
+        None,
+    ),
+    ("$x h/1", "~1 h/1", "", None),
+];
+
 #[test]
 fn patterns(rt: HostRuntime) -> Result<(), Fail> {
     let alloc = rt.alloc();
     for row in &MATCHES {
         assert_eq!(rt; matches(alloc, row), Some(true), "{}", row.0);
     }
+    let on = all_builtins(alloc).ok_or("no memory")?;
+    for row in &FITS {
+        assert_eq!(rt; fits(alloc, &on, row), Some(true), "{}", row.0);
+    }
+    let off = Signature::new(alloc)?;
+    let row = ("c k sdec/2", "'a' 'b' sdec/2", "", Some("c 'a' = k 'b' ="));
+    assert_eq!(rt; fits(alloc, &off, &row), Some(true), "no destructor");
     Ok(())
 }

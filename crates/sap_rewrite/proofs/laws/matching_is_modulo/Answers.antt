@@ -1,4 +1,4 @@
-use Rattle.sap_rewrite.proofs.Choices.{modulo_iff}
+use Rattle.sap_rewrite.proofs.Patterns.{modulo_iff}
 use Rattle.sap_rewrite.proofs.laws.matching_is_modulo.Goals as goal
 
 pub returns : goal.returns

@@ -1,0 +1,6 @@
+use Rattle.sap_rewrite.proofs.Choices.{extended_among}
+use Rattle.sap_rewrite.proofs.WalkLemmas.{extends_none, extends_join}
+use Rattle.sap_rewrite.proofs.laws.extensions_join.Goals as goal
+
+pub returns : goal.returns
+returns c = (extends_none, extends_join, λ b c vs x v m. extended_among b vs c v x m)

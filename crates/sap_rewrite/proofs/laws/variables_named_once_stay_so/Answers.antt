@@ -1,0 +1,5 @@
+use Rattle.sap_rewrite.proofs.Bound.{new_once, extended_once, agrees_itself}
+use Rattle.sap_rewrite.proofs.laws.variables_named_once_stay_so.Goals as goal
+
+pub returns : goal.returns
+returns c = (new_once, extended_once, agrees_itself)

@@ -1,0 +1,4 @@
+pub mod Named
+pub mod Variables
+pub mod RuleSteps
+pub mod WellMade

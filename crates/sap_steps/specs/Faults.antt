@@ -1,0 +1,109 @@
+-- Why a line is refused: the first test that fails.
+use Rattle.std.specs.Prelude.{◌≡◌, ◌⊎◌, ◌+◌, ◌<◌, ◌≤◌, ℕ, nat_le, List, [], ◌∷◌, ◌++◌, length, Option, Some, None, map, find, slice_get, All, Contains, take, ⊤}
+use Rattle.std.specs.List.{AllZip}
+use Rattle.sap_terms.specs.AdversaryFacts.{out_fact, fr_fact}
+use Rattle.sap_terms.specs.Choice.{Choice, IsSorted}
+use Rattle.sap_terms.specs.Message.{IsMessage, IsMessageChoice}
+use Rattle.sap_terms.specs.Normal.{IsNormalForm}
+use Rattle.sap_terms.specs.Piles.{Pile, Takes}
+use Rattle.sap_terms.specs.Signature.{Sig, IsPublic, arity_of}
+use Rattle.sap_terms.specs.Theory.{theory}
+use Rattle.sap_terms.specs.Tree.{Tree, apply, trees_of, node_count}
+use Rattle.sap_terms.specs.View.{tree}
+use Rattle.sap_terms.specs.declared.binding.Binding.{Binding}
+use Rattle.sap_terms.specs.declared.fact.Fact.{Fact}
+use Rattle.sap_facts.specs.Facts.{fact_at}
+use Rattle.sap_rewrite.specs.Around.{FitAll, HoldAll}
+use Rattle.sap_rewrite.specs.Match.{Agrees, bound_vars}
+use Rattle.sap_rule.specs.Named.{rule_named}
+use Rattle.sap_rule.specs.RuleSteps.{RuleState}
+use Rattle.sap_rule.specs.Variables.{open_variables}
+use Rattle.sap_rule.specs.declared.rule.Rule.{Rule}
+use Rattle.sap_runs.specs.declared.rule_step.RStep.{RStep}
+use Rattle.sap_runs.specs.declared.rule_step.RStep.TheVariants.{Fresh, Learn, Own, Public, Apply, Know, Rule as RuleLine}
+use Rattle.sap_steps.specs.Lines.{IsEvaluated, IsSmall}
+use Rattle.sap_steps.specs.declared.fault.RFault.{RFault}
+use Rattle.sap_steps.specs.declared.fault.RFault.TheVariants.{Mem, NoRule, FactCount, FactMissing, BadBinding, NoMatch, TermLarge, Unequal, UsedName, WrongFact, NoEntry, NotPublic, Arity}
+
+-- the bindings are of the rule's open variables, in order, each to a message of its sort
+pub record AreRight (g : Sig) (r : Rule) (b : List Binding) : Type 0 where
+  pub vars : bound_vars b ≡ open_variables g r
+  pub terms : All (λ (e : Binding). IsMessage g e.var.sort (tree e.term)) b
+
+-- around the destructors the choice turns the fact into the other
+pub record FactFits (g : Sig) (σ : Choice) (f h : Fact) : Type 0 where
+  pub name : h.name ≡ f.name
+  pub persistent : h.persistent ≡ f.persistent
+  pub args : FitAll g σ (trees_of f.args) (trees_of h.args)
+
+-- what a destructor heads in the fact has under the choice the normal form that stands there in the other
+abbrev pub FactHolds : Sig → Choice → Fact → Fact → Type 0
+FactHolds g σ f h = HoldAll g σ (trees_of f.args) (trees_of h.args)
+
+-- a choice of messages that agrees with the bindings and turns the rule's left side into the cited facts around destructors
+pub record IsFitting (g : Sig) (r : Rule) (b : List Binding) (cited : List Fact) (σ : Choice) : Type 0 where
+  pub messages : IsMessageChoice g σ
+  pub agrees : Agrees b σ
+  pub facts : AllZip (FactFits g σ) r.left cited
+
+-- a rule is not used on the cited facts with these bindings, for this cause; each comes only where none before it does
+abbrev pub IsRefusal : Sig → Rule → List Binding → List Fact → RFault → Type 0
+IsRefusal g r b cited BadBinding = ¬ AreRight g r b
+IsRefusal g r b cited NoMatch = AreRight g r b × ((σ : Choice) → IsSorted σ → Agrees b σ → AllZip (FactFits g σ) r.left cited → ⊥)
+IsRefusal g r b cited TermLarge = AreRight g r b × ((σ : Choice) × IsFitting g r b cited σ × ((n : Tree) × IsEvaluated g r σ n × (256 < node_count n)))
+IsRefusal g r b cited Unequal = AreRight g r b × ((σ : Choice) × IsFitting g r b cited σ × ((n : Tree) → IsEvaluated g r σ n → IsSmall n) × ¬ AllZip (FactHolds g σ) r.left cited)
+IsRefusal g r b cited Mem = ⊤
+IsRefusal g r b cited NoRule = ⊥
+IsRefusal g r b cited FactCount = ⊥
+IsRefusal g r b cited (FactMissing p) = ⊥
+IsRefusal g r b cited (UsedName n) = ⊥
+IsRefusal g r b cited (WrongFact f) = ⊥
+IsRefusal g r b cited (NoEntry k) = ⊥
+IsRefusal g r b cited (NotPublic f) = ⊥
+IsRefusal g r b cited (Arity f) = ⊥
+
+-- at this place, from 1, stands the first number of which no fact is left once those before it were taken
+pub record IsFirstMissing (facts : Pile) (ks : List ℕ) (place : ℕ) : Type 0 where
+  pub before : List Fact
+  pub rest : Pile
+  pub at : ℕ
+  pub number : ℕ
+  pub place_is : place ≡ at + 1
+  pub here : slice_get ks at ≡ Some number
+  pub takes : Takes facts (take at ks) before rest
+  pub gone : fact_at rest number ≡ None
+
+-- why a rule line is refused, once its rule is found
+abbrev pub IsRuleFault : Sig → Rule → Pile → List ℕ → List Binding → RFault → Type 0
+IsRuleFault g r facts ks b FactCount = ¬ (length ks ≡ length r.left)
+IsRuleFault g r facts ks b (FactMissing p) = (length ks ≡ length r.left) × IsFirstMissing facts ks p
+IsRuleFault g r facts ks b fault = (length ks ≡ length r.left) × ((cited : List Fact) × (rest : Pile) × Takes facts ks cited rest × IsRefusal g r b cited fault)
+
+-- no entry has the number
+abbrev pub IsUnknown : RuleState → ℕ → Type 0
+IsUnknown s k = slice_get s.known k ≡ None
+
+-- the first of these numbers that is no entry's
+abbrev pub IsFirstUnknown : RuleState → List ℕ → ℕ → Type 0
+IsFirstUnknown s ks k = find (nat_le (length s.known)) ks ≡ Some k
+
+-- why a symbol on entries is refused
+abbrev pub IsApplyFault : Sig → RuleState → List ℕ → List ℕ → RFault → Type 0
+IsApplyFault g s f ks (NotPublic n) = (n ≡ f) × ¬ IsPublic g f
+IsApplyFault g s f ks (Arity n) = (n ≡ f) × IsPublic g f × ¬ (arity_of g f ≡ Some (length ks))
+IsApplyFault g s f ks (NoEntry n) = IsPublic g f × (arity_of g f ≡ Some (length ks)) × IsFirstUnknown s ks n
+IsApplyFault g s f ks TermLarge =
+    IsPublic g f × (arity_of g f ≡ Some (length ks)) × ((ts : List Tree) × (n : Tree) × (map (slice_get s.known) ks ≡ map Some ts) × IsNormalForm (theory g) (apply f (trees_of ts)) n × (256 < node_count n))
+IsApplyFault g s f ks _ = ⊥
+
+-- the fault is want of memory, or the first test of the line that fails
+abbrev pub IsFault : Sig → List Rule → RuleState → RStep → RFault → Type 0
+IsFault g rules s line Mem = ⊤
+IsFault g rules s (Fresh n) (UsedName m) = (m ≡ n) × Contains s.made n
+IsFault g rules s (Learn k) (WrongFact f) = (f ≡ k) × ((t : Tree) (rest : Pile) → ¬ Takes s.facts (k ∷ []) (out_fact t ∷ []) rest)
+IsFault g rules s (Own k) (WrongFact f) = (f ≡ k) × ((n : ℕ) (rest : Pile) → ¬ Takes s.facts (k ∷ []) (fr_fact n ∷ []) rest)
+IsFault g rules s (Apply f ks) fault = IsApplyFault g s f ks fault
+IsFault g rules s (Know k) (NoEntry n) = (n ≡ k) × IsUnknown s k
+IsFault g rules s (RuleLine name ks b) NoRule = rule_named rules name ≡ None
+IsFault g rules s (RuleLine name ks b) fault = (r : Rule) × (rule_named rules name ≡ Some r) × IsRuleFault g r s.facts ks b fault
+IsFault g rules s _ _ = ⊥

@@ -1,0 +1,5 @@
+pub mod State
+pub mod Lines
+pub mod Runs
+pub mod Faults
+pub mod Held

@@ -1,0 +1,43 @@
+ghost use Rattle.std.specs.Prelude.{◌≡◌};
+ghost use Rattle.sap_steps.specs.declared.fault.RFault.TheVariants.{Mem as OutOfMemory};
+
+use sap_terms::{Mem, Name};
+
+/// Why a step of rules is refused. A line's tests come in the order of its step, and the first that fails is answered.
+#[derive(Drop)]
+pub enum RFault {
+    /// Want of memory.
+    Mem,
+    /// No rule has the name.
+    NoRule,
+    /// Another number of facts is cited than the rule's left side has.
+    FactCount,
+    /// At this place, from 1, stands the first cited number that is no live fact's, or a linear fact's that was cited before.
+    FactMissing { place: u64 },
+    /// The bindings aren't of the rule's open variables, in order, each to a ground normal term of its sort.
+    BadBinding,
+    /// No substitution turns the left side into the cited facts.
+    NoMatch,
+    /// A normal form has more than 256 nodes.
+    TermLarge,
+    /// Where a destructor stands in the left side, a cited fact holds another normal form.
+    Unequal,
+    /// The name was made before.
+    UsedName { n: u64 },
+    /// The number isn't that of a live fact of the kind that the step takes.
+    WrongFact { f: u64 },
+    /// The first number that isn't an entry.
+    NoEntry { k: u64 },
+    /// The symbol isn't held, or it is private.
+    NotPublic { f: Name },
+    /// So many entries are not the symbol's arity.
+    Arity { f: Name },
+}
+
+impl From<Mem> for RFault {
+    ghost from_gives = { λ _ e. e ≡ OutOfMemory };
+
+    fn from(_e: Mem) -> RFault {
+        RFault::Mem
+    }
+}
