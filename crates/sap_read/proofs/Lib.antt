@@ -1,0 +1,11 @@
+pub mod Complete
+pub mod Sound
+pub mod Places
+pub mod Steps
+pub mod Lists
+pub mod Levels
+pub mod ProcessReading
+pub mod Processes
+pub mod ByHand
+pub mod SoundProcesses
+pub mod Signatures

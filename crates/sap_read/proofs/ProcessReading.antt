@@ -1,0 +1,134 @@
+-- Reading processes from the left, within a number of levels.
+use Rattle.std.specs.Prelude.{ℕ, zero, suc, ◌+◌, max, Bool, true, false, not, ◌&&◌, ◌||◌, nat_le, if◌then◌else◌, codes, List, [], ◌∷◌, length, drop, Option, Some, None}
+use Rattle.std.specs.Str.{bytes_eq}
+use Rattle.sap_terms.specs.declared.fact.Fact.{Fact}
+use Rattle.sap_terms.specs.declared.var.Sort.TheVariants.{Msg, Fresh}
+use Rattle.sap_terms.specs.Tree.{Tree, level_count}
+use Rattle.sap_terms.specs.Signature.{Sig}
+use Rattle.sap_read.specs.Words.{Word, mark, name, number, quoted, starts}
+use Rattle.sap_read.specs.Places.{fact_levels}
+use Rattle.sap_read.specs.Reading.{Read, Reader, after, given, name_at, term, fact_at}
+use Rattle.sap_read.specs.ProcessGrammar.{var}
+use Rattle.sap_read.specs.Written.{Written, nil, call, parallel, replicated, new, out, send, input, receive, test, event, insert, delete, lookup, lock, unlock, embedded}
+
+abbrev pub is_zero : Word → Bool
+is_zero (mark s) = false
+is_zero (name s) = false
+is_zero (number s) = bytes_eq s (codes "0")
+is_zero (quoted s) = false
+
+-- the first word is the number 0
+abbrev pub starts_zero : List Word → Bool
+starts_zero [] = false
+starts_zero (w ∷ ws) = is_zero w
+
+-- goes on behind this mark
+unfoldable pub past : {B : Type 0} → List ℕ → List Word → Reader B → Read B
+past m ws k = if starts m ws then k (drop 1 ws) else None
+
+-- a term within the levels
+abbrev pub short_term : Sig → ℕ → Reader Tree
+short_term g m ws = after (term g m ws) (λ t r. if nat_le (level_count t) m then Some (t, r) else None)
+
+-- a fact within the levels, persistent only where that is allowed
+abbrev pub short_fact : Sig → ℕ → Bool → Reader Fact
+short_fact g m allowed ws = after (fact_at (term g m) ws) (λ f r.
+    if nat_le (fact_levels f) m then (if f.persistent && not allowed then None else Some (f, r)) else None)
+
+-- facts up to the closing mark; the number bounds the turns
+abbrev pub facts_list : Sig → ℕ → Bool → List ℕ → ℕ → Reader (List Fact)
+facts_list g m allowed closing zero ws = None
+facts_list g m allowed closing (suc n) ws = after (short_fact g m allowed ws) (λ f r.
+    if starts closing r then Some (f ∷ [], drop 1 r)
+    else past (codes ",") r (λ s. after (facts_list g m allowed closing n s) (λ fs z. Some (f ∷ fs, z))))
+
+abbrev pub facts : Sig → ℕ → Bool → List ℕ → Reader (List Fact)
+facts g m allowed closing ws = if starts closing ws then Some ([], drop 1 ws) else facts_list g m allowed closing (length ws) ws
+
+-- an action: what it makes of the process that follows it
+abbrev pub Action : Type 0
+Action = Written → Written
+
+-- one term or two in parentheses
+abbrev pub channel : Sig → ℕ → (Tree → Action) → (Tree → Tree → Action) → Reader Action
+channel g m one two ws = past (codes "(") ws (λ r. after (short_term g m r) (λ t z.
+    if starts (codes ")") z then Some (one t, drop 1 z)
+    else past (codes ",") z (λ y. after (short_term g m y) (λ u x. past (codes ")") x (λ w. Some (two t u, w))))))
+
+-- the variable behind `new`
+abbrev pub bound : Reader Action
+bound ws =
+    if starts (codes "~") ws then given (name_at (drop 1 ws)) (λ x. Some (new (var Fresh x), drop 2 ws))
+    else given (name_at ws) (λ x. Some (new (var Msg x), drop 1 ws))
+
+-- the right side of an embedded rule
+abbrev pub right_side : Sig → ℕ → List Fact → List Fact → Reader Action
+right_side g m l e ws = past (codes "[") ws (λ r. after (facts g m true (codes "]") r) (λ fs z. Some (embedded l e fs, z)))
+
+abbrev pub embedded_rule : Sig → ℕ → Reader Action
+embedded_rule g m ws = after (facts g m true (codes "]") ws) (λ l r.
+    if starts (codes "-->") r then right_side g m l [] (drop 1 r)
+    else past (codes "--[") r (λ z. after (facts g m false (codes "]->") z) (λ e y. right_side g m l e y)))
+
+abbrev pub action_of : Sig → ℕ → Reader Action
+action_of g m ws =
+    if starts (codes "new") ws then bound (drop 1 ws)
+    else if starts (codes "out") ws then channel g m out send (drop 1 ws)
+    else if starts (codes "in") ws then channel g m input receive (drop 1 ws)
+    else if starts (codes "event") ws then after (short_fact g m false (drop 1 ws)) (λ f r. Some (event f, r))
+    else if starts (codes "insert") ws then after (short_term g m (drop 1 ws)) (λ t r. past (codes ",") r (λ z. after (short_term g m z) (λ u y. Some (insert t u, y))))
+    else if starts (codes "delete") ws then after (short_term g m (drop 1 ws)) (λ t r. Some (delete t, r))
+    else if starts (codes "lock") ws then after (short_term g m (drop 1 ws)) (λ t r. Some (lock t, r))
+    else if starts (codes "unlock") ws then after (short_term g m (drop 1 ws)) (λ t r. Some (unlock t, r))
+    else past (codes "[") ws (embedded_rule g m)
+
+-- a process with the levels of its text
+abbrev pub Levelled : Type 0
+Levelled = Written × ℕ
+
+-- the second branch, if one stands
+abbrev pub branches : Reader Levelled → (Written → Written → Written) → Reader Levelled
+branches seq made ws = after (seq ws) (λ p r.
+    if starts (codes "else") r then after (seq (drop 1 r)) (λ q z. Some ((made p.0 q.0, max p.1 q.1 + 1), z))
+    else Some ((made p.0 nil, max p.1 1 + 1), r))
+
+abbrev pub condition : Sig → ℕ → Reader Levelled → Reader Levelled
+condition g m seq ws = after (short_term g m ws) (λ t r. past (codes "=") r (λ z. after (short_term g m z) (λ u y. past (codes "then") y (branches seq (test t u)))))
+
+abbrev pub looking : Sig → ℕ → Reader Levelled → Reader Levelled
+looking g m seq ws = after (short_term g m ws) (λ t r. past (codes "as") r (λ z. given (name_at z) (λ x. past (codes "in") (drop 1 z) (branches seq (lookup t (var Msg x))))))
+
+-- behind an action; a missing continuation has one level too
+abbrev pub going_on : Reader Levelled → ℕ → Action → Reader Levelled
+going_on seq d k ws =
+    if starts (codes ";") ws then after (seq (drop 1 ws)) (λ p z. Some ((k p.0, p.1 + 1), z))
+    else if nat_le 1 d then Some ((k nil, 2), ws) else None
+
+-- the name of a process, or what an action begins
+abbrev pub call_or_action : Sig → ℕ → Reader Levelled → ℕ → Option (List ℕ) → Reader Levelled
+call_or_action g m seq d (Some x) ws = Some ((call x, 1), drop 1 ws)
+call_or_action g m seq d None ws = after (action_of g m ws) (going_on seq d)
+
+abbrev pub seq_at : Sig → ℕ → Reader Levelled → Reader Levelled → ℕ → Reader Levelled
+seq_at g m seq par d ws =
+    if starts (codes "(") ws then after (par (drop 1 ws)) (λ p r. past (codes ")") r (λ z. Some ((p.0, p.1 + 1), z)))
+    else if starts (codes "!") ws then after (seq (drop 1 ws)) (λ p r. Some ((replicated p.0, p.1 + 1), r))
+    else if starts (codes "if") ws then condition g m seq (drop 1 ws)
+    else if starts (codes "lookup") ws then looking g m seq (drop 1 ws)
+    else if starts_zero ws then Some ((nil, 1), drop 1 ws)
+    else call_or_action g m seq d (name_at ws) ws
+
+-- `here` reads as many levels, `par` one less, `d` the levels of `par`
+abbrev pub par_at : Reader Levelled → Reader Levelled → ℕ → Reader Levelled
+par_at here par d ws = after (here ws) (λ p r.
+    if starts (codes "|") r || starts (codes "||") r then (if nat_le p.1 d then after (par (drop 1 r)) (λ q z. Some ((parallel p.0 q.0, max p.1 q.1 + 1), z)) else None)
+    else Some (p, r))
+
+unfoldable mutual
+  pub seq : Sig → ℕ → ℕ → Reader Levelled
+  seq g m zero = λ ws. None
+  seq g m (suc d) = seq_at g m (seq g m d) (par g m d) d
+
+  pub par : Sig → ℕ → ℕ → Reader Levelled
+  par g m zero = λ ws. None
+  par g m (suc d) = par_at (seq_at g m (seq g m d) (par g m d) d) (par g m d) d

@@ -1,0 +1,6 @@
+use Rattle.std.proofs.Common.{◌≤◌, take}
+use Rattle.sap_terms.specs.Tree.{trees_of, trees_levels}
+use Rattle.sap_read.proofs.fact.has_few_levels.Given as goal
+
+abbrev pub invariant-loop-k : goal.invariant-loop-k
+invariant-loop-k l = trees_levels (trees_of (take l.k l.args)) ≤ 100

@@ -1,0 +1,11 @@
+pub use Rattle.sap_text.specs.Tokens
+pub use Rattle.sap_text.specs.Spans
+pub mod Words
+pub mod TermGrammar
+pub mod FactGrammar
+pub mod Places
+pub mod Written
+pub mod ProcessGrammar
+pub mod Reading
+pub mod View
+pub mod ProcessExamples

@@ -1,0 +1,109 @@
+-- Which words spell a process under a signature, where terms have at most so many levels: the process as written, the levels
+-- of its text, the words from its first on, the words behind its last.
+use Rattle.std.specs.Prelude.{◌≡◌, ◌≤◌, ℕ, ◌+◌, max, Bool, true, false, codes, List, [], ◌∷◌}
+use Rattle.sap_terms.specs.declared.fact.Fact.{Fact}
+use Rattle.sap_terms.specs.declared.var.Sort.{Sort}
+use Rattle.sap_terms.specs.declared.var.Sort.TheVariants.{Msg, Fresh}
+use Rattle.sap_terms.specs.declared.var.Var.{Var}
+use Rattle.sap_terms.specs.Tree.{Tree, level_count}
+use Rattle.sap_terms.specs.Signature.{Sig}
+use Rattle.sap_read.specs.Words.{Word, mark, name, number, starts}
+use Rattle.sap_read.specs.TermGrammar.{IsTerm}
+use Rattle.sap_read.specs.FactGrammar.{IsFact}
+use Rattle.sap_read.specs.Places.{fact_levels}
+use Rattle.sap_read.specs.Written.{Written, nil, call, parallel, replicated, new, out, send, input, receive, test, event, insert, delete, lookup, lock, unlock, embedded}
+
+-- the variable of this name and sort
+abbrev pub var : Sort → List ℕ → Var
+var s x = record { name = x; sort = s }
+
+-- a term within the levels
+pub record IsShort (g : Sig) (m : ℕ) (t : Tree) (a b : List Word) : Type 0 where
+  pub spelled : IsTerm g t a b
+  pub few_levels : level_count t ≤ m
+
+-- a fact whose terms are within the levels, persistent only where that is allowed
+pub record IsShortFact (g : Sig) (m : ℕ) (allowed : Bool) (f : Fact) (a b : List Word) : Type 0 where
+  pub spelled : IsFact g f a b
+  pub few_levels : fact_levels f ≤ m
+  pub sign : f.persistent ≡ true → allowed ≡ true
+
+-- such facts, one or more, with commas between them and this mark behind
+pub data AreSomeFacts (g : Sig) (m : ℕ) (allowed : Bool) (closing : List ℕ) : List Fact → List Word → List Word → Type 0 where
+  facts_last : {f : Fact} {a b : List Word} → IsShortFact g m allowed f a (mark closing ∷ b) → AreSomeFacts g m allowed closing (f ∷ []) a b
+  facts_more : {f : Fact} {fs : List Fact} {a b c : List Word} → IsShortFact g m allowed f a (mark (codes ",") ∷ b) → AreSomeFacts g m allowed closing fs b c
+      → AreSomeFacts g m allowed closing (f ∷ fs) a c
+
+-- such facts, none or more
+pub data AreFacts (g : Sig) (m : ℕ) (allowed : Bool) (closing : List ℕ) : List Fact → List Word → List Word → Type 0 where
+  facts_none : {a : List Word} → AreFacts g m allowed closing [] (mark closing ∷ a) a
+  facts_some : {fs : List Fact} {a b : List Word} → AreSomeFacts g m allowed closing fs a b → AreFacts g m allowed closing fs a b
+
+-- an action: what it makes of the process that follows it
+pub data IsAction (g : Sig) (m : ℕ) : (Written → Written) → List Word → List Word → Type 0 where
+  action_new : {x : List ℕ} {a : List Word} → IsAction g m (new (var Msg x)) (mark (codes "new") ∷ name x ∷ a) a
+  action_new_fresh : {x : List ℕ} {a : List Word} → IsAction g m (new (var Fresh x)) (mark (codes "new") ∷ mark (codes "~") ∷ name x ∷ a) a
+  action_out : {t : Tree} {a b : List Word} → IsShort g m t a (mark (codes ")") ∷ b)
+      → IsAction g m (out t) (mark (codes "out") ∷ mark (codes "(") ∷ a) b
+  action_send : {t u : Tree} {a b c : List Word} → IsShort g m t a (mark (codes ",") ∷ b) → IsShort g m u b (mark (codes ")") ∷ c)
+      → IsAction g m (send t u) (mark (codes "out") ∷ mark (codes "(") ∷ a) c
+  action_input : {t : Tree} {a b : List Word} → IsShort g m t a (mark (codes ")") ∷ b)
+      → IsAction g m (input t) (mark (codes "in") ∷ mark (codes "(") ∷ a) b
+  action_receive : {t u : Tree} {a b c : List Word} → IsShort g m t a (mark (codes ",") ∷ b) → IsShort g m u b (mark (codes ")") ∷ c)
+      → IsAction g m (receive t u) (mark (codes "in") ∷ mark (codes "(") ∷ a) c
+  action_event : {f : Fact} {a b : List Word} → IsShortFact g m false f a b → IsAction g m (event f) (mark (codes "event") ∷ a) b
+  action_insert : {t u : Tree} {a b c : List Word} → IsShort g m t a (mark (codes ",") ∷ b) → IsShort g m u b c
+      → IsAction g m (insert t u) (mark (codes "insert") ∷ a) c
+  action_delete : {t : Tree} {a b : List Word} → IsShort g m t a b → IsAction g m (delete t) (mark (codes "delete") ∷ a) b
+  action_lock : {t : Tree} {a b : List Word} → IsShort g m t a b → IsAction g m (lock t) (mark (codes "lock") ∷ a) b
+  action_unlock : {t : Tree} {a b : List Word} → IsShort g m t a b → IsAction g m (unlock t) (mark (codes "unlock") ∷ a) b
+  action_rule : {l r : List Fact} {a b c : List Word} → AreFacts g m true (codes "]") l a (mark (codes "-->") ∷ mark (codes "[") ∷ b)
+      → AreFacts g m true (codes "]") r b c → IsAction g m (embedded l [] r) (mark (codes "[") ∷ a) c
+  action_acts : {l e r : List Fact} {a b c d : List Word} → AreFacts g m true (codes "]") l a (mark (codes "--[") ∷ b)
+      → AreFacts g m false (codes "]->") e b (mark (codes "[") ∷ c) → AreFacts g m true (codes "]") r c d
+      → IsAction g m (embedded l e r) (mark (codes "[") ∷ a) d
+
+-- how the words of a process end: in an `if` or `lookup` without `else`, to which an `else` behind it would belong, or not
+pub data Ending : Type 0 where
+  closed : Ending
+  dangling : Ending
+
+-- the two signs of the parallel
+pub data IsBar : List ℕ → Type 0 where
+  one_bar : IsBar (codes "|")
+  two_bars : IsBar (codes "||")
+
+mutual
+  -- a process that is no parallel without parentheses; what is missing behind an action or for `else` is `0`, and counts as
+  -- one level
+  pub data IsSeq (g : Sig) (m : ℕ) : Ending → Written → ℕ → List Word → List Word → Type 0 where
+    seq_nil : {a : List Word} → IsSeq g m closed nil 1 (number (codes "0") ∷ a) a
+    seq_call : {x : List ℕ} {a : List Word} → IsSeq g m closed (call x) 1 (name x ∷ a) a
+    seq_parentheses : {p : Written} {n : ℕ} {a b : List Word} → IsPar g m p n a (mark (codes ")") ∷ b) → IsSeq g m closed p (n + 1) (mark (codes "(") ∷ a) b
+    seq_replicated : {e : Ending} {p : Written} {n : ℕ} {a b : List Word} → IsSeq g m e p n a b → IsSeq g m e (replicated p) (n + 1) (mark (codes "!") ∷ a) b
+    seq_action : {k : Written → Written} {a b : List Word} → IsAction g m k a b → IsSeq g m closed (k nil) 2 a b
+    seq_then : {e : Ending} {k : Written → Written} {p : Written} {n : ℕ} {a b c : List Word} → IsAction g m k a (mark (codes ";") ∷ b) → IsSeq g m e p n b c
+        → IsSeq g m e (k p) (n + 1) a c
+    seq_if : {e : Ending} {t u : Tree} {p : Written} {n : ℕ} {a b c d : List Word} → IsShort g m t a (mark (codes "=") ∷ b) → IsShort g m u b (mark (codes "then") ∷ c)
+        → IsSeq g m e p n c d → IsSeq g m dangling (test t u p nil) (max n 1 + 1) (mark (codes "if") ∷ a) d
+    seq_if_else : {e : Ending} {t u : Tree} {p q : Written} {n k : ℕ} {a b c d f : List Word} → IsShort g m t a (mark (codes "=") ∷ b)
+        → IsShort g m u b (mark (codes "then") ∷ c) → IsSeq g m closed p n c (mark (codes "else") ∷ d) → IsSeq g m e q k d f
+        → IsSeq g m e (test t u p q) (max n k + 1) (mark (codes "if") ∷ a) f
+    seq_lookup : {e : Ending} {t : Tree} {x : List ℕ} {p : Written} {n : ℕ} {a b c : List Word} → IsShort g m t a (mark (codes "as") ∷ name x ∷ mark (codes "in") ∷ b)
+        → IsSeq g m e p n b c → IsSeq g m dangling (lookup t (var Msg x) p nil) (max n 1 + 1) (mark (codes "lookup") ∷ a) c
+    seq_lookup_else : {e : Ending} {t : Tree} {x : List ℕ} {p q : Written} {n k : ℕ} {a b c d : List Word} → IsShort g m t a (mark (codes "as") ∷ name x ∷ mark (codes "in") ∷ b)
+        → IsSeq g m closed p n b (mark (codes "else") ∷ c) → IsSeq g m e q k c d → IsSeq g m e (lookup t (var Msg x) p q) (max n k + 1) (mark (codes "lookup") ∷ a) d
+
+  -- a process, where a parallel groups to the right
+  pub data IsPar (g : Sig) (m : ℕ) : Written → ℕ → List Word → List Word → Type 0 where
+    par_one : {e : Ending} {p : Written} {n : ℕ} {a b : List Word} → IsSeq g m e p n a b → IsPar g m p n a b
+    par_more : {e : Ending} {p q : Written} {n k : ℕ} {w : List ℕ} {a b c : List Word} → IsBar w → IsSeq g m e p n a (mark w ∷ b) → IsPar g m q k b c
+        → IsPar g m (parallel p q) (max n k + 1) a c
+
+-- nothing goes on with a process that ends here: the words are at their end, or begin with something else
+pub record EndsProcess (b : List Word) : Type 0 where
+  pub no_parenthesis : starts (codes "(") b ≡ false
+  pub no_semicolon : starts (codes ";") b ≡ false
+  pub no_else : starts (codes "else") b ≡ false
+  pub no_bar : starts (codes "|") b ≡ false
+  pub no_bars : starts (codes "||") b ≡ false
