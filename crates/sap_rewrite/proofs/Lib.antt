@@ -13,5 +13,4 @@ pub mod Patterns
 pub mod Only
 pub mod Around
 pub mod Bound
-pub mod Forms
-pub mod Messages
+pub mod Closed

@@ -1,13 +1,9 @@
 -- What holds of all terms and their normal forms.
-use Rattle.std.specs.Prelude.{◌≡◌, ◌↔◌, true, Some}
+use Rattle.std.specs.Prelude.{◌≡◌, ◌↔◌}
 use Rattle.sap_terms.specs.Tree.{Tree}
-use Rattle.sap_terms.specs.Theory.{Theory, theory, true_name}
+use Rattle.sap_terms.specs.Theory.{Theory}
 use Rattle.sap_terms.specs.Equal.{IsTheoryEqual}
-use Rattle.sap_terms.specs.Ground.{IsGround}
-use Rattle.sap_terms.specs.Message.{IsMessage, IsOver}
 use Rattle.sap_terms.specs.Normal.{IsNormalForm}
-use Rattle.sap_terms.specs.Signature.{Sig, arity_of}
-use Rattle.sap_terms.specs.declared.var.Sort.TheVariants.{Msg}
 
 -- every term has a normal form
 abbrev pub EachHasForm : Type 0
@@ -20,11 +16,3 @@ FormIsOne = (e : Theory) (t m n : Tree) → IsNormalForm e t m → IsNormalForm 
 -- two terms are theory-equal exactly where their normal forms are the same tree
 abbrev pub FormsDecide : Type 0
 FormsDecide = (e : Theory) (t u m n : Tree) → IsNormalForm e t m → IsNormalForm e u n → IsTheoryEqual e t u ↔ (m ≡ n)
-
--- where signatures are checked, the signature holds the constant that the check gives
-abbrev pub HoldsTrue : Sig → Type 0
-HoldsTrue g = g.builtins.signing ≡ true → arity_of g true_name ≡ Some 0
-
--- the normal form of a ground term over such a signature is a message
-abbrev pub FormsAreMessages : Type 0
-FormsAreMessages = (g : Sig) (t n : Tree) → HoldsTrue g → IsGround t → IsOver g t → IsNormalForm (theory g) t n → IsMessage g Msg n

@@ -1,7 +1,7 @@
 // Laws of the equational theory, each as the contract of a function that does nothing.
 ghost use Rattle.sap_rewrite.specs.Around.{FittingGivesMessages, MatchingAroundIsModulo};
 ghost use Rattle.sap_rewrite.specs.Bound.{AgreeingSubstitutes, BindingsGiveChoices, ExtensionsJoin, NamedOnceStay};
-ghost use Rattle.sap_rewrite.specs.Laws.{EachHasForm, FormIsOne, FormsAreMessages, FormsDecide};
+ghost use Rattle.sap_rewrite.specs.Laws.{EachHasForm, FormIsOne, FormsDecide};
 ghost use Rattle.sap_rewrite.specs.Pattern.{MatchingIsModulo};
 
 /// Every term has a normal form under every signature's equations.
@@ -58,10 +58,4 @@ pub fn bindings_give_choices()
 /// sorts.
 pub fn agreeing_choices_substitute()
     ensures { AgreeingSubstitutes }
-{}
-
-/// The normal form of a ground term over a signature is a message, if the signature holds the constant `true` where
-/// signatures are checked.
-pub fn forms_are_messages()
-    ensures { FormsAreMessages }
 {}
