@@ -1,7 +1,10 @@
 -- What holds of all terms and their normal forms.
 use Rattle.std.specs.Prelude.{◌≡◌, ◌↔◌}
 use Rattle.sap_terms.specs.Tree.{Tree}
-use Rattle.sap_terms.specs.Theory.{Theory}
+use Rattle.sap_terms.specs.Ground.{IsGround}
+use Rattle.sap_terms.specs.Message.{IsOver}
+use Rattle.sap_terms.specs.Signature.{Sig, HoldsBuiltins}
+use Rattle.sap_terms.specs.Theory.{Theory, theory}
 use Rattle.sap_terms.specs.Equal.{IsTheoryEqual}
 use Rattle.sap_terms.specs.Normal.{IsNormalForm}
 
@@ -16,3 +19,8 @@ FormIsOne = (e : Theory) (t m n : Tree) → IsNormalForm e t m → IsNormalForm 
 -- two terms are theory-equal exactly where their normal forms are the same tree
 abbrev pub FormsDecide : Type 0
 FormsDecide = (e : Theory) (t u m n : Tree) → IsNormalForm e t m → IsNormalForm e u n → IsTheoryEqual e t u ↔ (m ≡ n)
+
+-- the normal form of a ground term over a signature is one too
+abbrev pub FormsStayOver : Type 0
+FormsStayOver =
+    (g : Sig) (t n : Tree) → HoldsBuiltins g → IsGround t → IsOver g t → IsNormalForm (theory g) t n → IsGround n × IsOver g n

@@ -40,9 +40,9 @@ leaves s rest = record { facts = rest; known = s.known; made = s.made }
 -- forms of its other sides
 pub record IsUse (g : Sig) (r : Rule) (σ : Choice) (left acts right : List Fact) : Type 0 where
   pub messages : IsMessageChoice g σ
-  pub left : AreEqualFacts (theory g) (instance_facts σ r.left) left
-  pub acts : AreFormsOfFacts (theory g) (instance_facts σ r.acts) acts
-  pub right : AreFormsOfFacts (theory g) (instance_facts σ r.right) right
+  pub takes : AreEqualFacts (theory g) (instance_facts σ r.left) left
+  pub shows : AreFormsOfFacts (theory g) (instance_facts σ r.acts) acts
+  pub adds : AreFormsOfFacts (theory g) (instance_facts σ r.right) right
 
 -- the old state, what is shown, the new state
 pub data RuleStep (g : Sig) (rules : List Rule) : RuleState → List Fact → RuleState → Type 0 where

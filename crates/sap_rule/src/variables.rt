@@ -1,14 +1,152 @@
-ghost use Rattle.std.specs.Prelude.{◌≡◌, IfOk};
-ghost use Rattle.sap_rule.specs.Variables.{open_variables};
+ghost use Rattle.std.specs.Prelude.{◌≡◌, ℕ, ◌++◌, ◌∷◌, [], IfOk, OnOk, List, not, map, if◌then◌else◌};
+ghost use Rattle.sap_terms.specs.Tree.{trees_of};
+ghost use Rattle.sap_terms.specs.Variables.{tree_vars, trees_vars};
+ghost use Rattle.sap_terms.specs.View.{tree};
+ghost use Rattle.sap_rewrite.specs.Around.{outer_vars, all_outer_vars};
+ghost use Rattle.sap_rewrite.specs.Match.{is_known, new_vars};
+ghost use Rattle.sap_rule.specs.Variables.{facts_vars, facts_outer_vars, rule_vars, open_variables};
 
 use crate::Rule;
-use sap_terms::{Mem, Signature, Vars};
+use indexmap::IndexSet;
+use sap_terms::{Copied, FactList, Mem, Name, Signature, Term, TermList, Vars};
 use std::alloc::Global;
 
 /// The open variables of a rule: those that stand nowhere on its left side outside a subterm that a destructor of the
-/// signature heads. They come in order of first occurrence over the left side, the acts and the right side.
+/// signature heads. They come in order of first occurrence over the left side, the acts and the right side. It takes
+/// time in proportion to the rule, and recurses as deep as its terms.
 pub fn open_vars(alloc: Global, sig: &Signature, r: &Rule) -> Result<Vars, Mem>
     ensures { IfOk result (λ vs. vs ≡ open_variables sig.now r.now) }
 {
-    Err(Mem)
+    let mut outer = Vars::new(alloc);
+    push_facts_outer_vars(alloc, sig, &r.left, &mut outer)?;
+    let known = names_of(alloc, &outer)?;
+    let all = vars_of(alloc, r)?;
+    let open_vars = first_occurrences(alloc, known, &all)?;
+    Ok(open_vars)
+}
+
+// Each occurrence of a variable in the rule.
+fn vars_of(alloc: Global, r: &Rule) -> Result<Vars, Mem>
+    ensures { IfOk result (λ vs. vs ≡ rule_vars r.now) }
+{
+    let mut all = Vars::new(alloc);
+    push_facts_vars(alloc, &r.left, &mut all)?;
+    push_facts_vars(alloc, &r.acts, &mut all)?;
+    push_facts_vars(alloc, &r.right, &mut all)?;
+    Ok(all)
+}
+
+// Adds a name to the known ones; true where it wasn't known.
+fn note(alloc: Global, known: &mut IndexSet<Name>, name: &Name) -> Result<bool, Mem>
+    ensures new { IfOk result (λ r. r ≡ not (is_known known.old.keys name.now)) }
+    ensures keys { OnOk result (known.new.keys ≡ (if is_known known.old.keys name.now then known.old.keys else known.old.keys ++ name.now ∷ [])) }
+{
+    let name = name.copy(alloc)?;
+    let new = known.insert(name)?;
+    Ok(new)
+}
+
+// The names of these variables.
+fn names_of(alloc: Global, vars: &Vars) -> Result<IndexSet<Name>, Mem>
+    ensures { IfOk result (λ s. (n : List ℕ) → is_known s.keys n ≡ is_known (map (λ v. v.name) vars.now) n) }
+{
+    let mut names = IndexSet::new(alloc);
+    for v in vars.as_slice() {
+        note(alloc, &mut names, &v.name)?;
+    }
+    Ok(names)
+}
+
+// The first occurrences of variables whose names are not known.
+fn first_occurrences(alloc: Global, known: IndexSet<Name>, vars: &Vars) -> Result<Vars, Mem>
+    ensures { IfOk result (λ out. out ≡ new_vars known.keys vars.now) }
+{
+    let mut known = known;
+    let mut out = Vars::new(alloc);
+    for v in vars.as_slice() {
+        if note(alloc, &mut known, &v.name)? {
+            out.push(v.copy(alloc)?)?;
+        }
+    }
+    Ok(out)
+}
+
+// Each occurrence of a variable in the term, added to these.
+#[cycle(push)]
+fn push_vars(alloc: Global, t: &Term, out: &mut Vars) -> Result<(), Mem>
+    ensures { OnOk result (out.new ≡ out.old ++ tree_vars (tree t.now)) }
+{
+    match t {
+        Term::Var(v) => out.push(v.copy(alloc)?)?,
+        Term::App(_, ts) => push_all_vars(alloc, ts, out)?,
+        _ => {}
+    }
+    Ok(())
+}
+
+#[cycle(push)]
+fn push_all_vars(alloc: Global, ts: &TermList, out: &mut Vars) -> Result<(), Mem>
+    ensures { OnOk result (out.new ≡ out.old ++ trees_vars (trees_of ts.now)) }
+{
+    for k in 0..ts.len() {
+        push_vars(alloc, ts.at(k), out)?;
+    }
+    Ok(())
+}
+
+// The same of facts.
+fn push_facts_vars(alloc: Global, fs: &FactList, out: &mut Vars) -> Result<(), Mem>
+    ensures { OnOk result (out.new ≡ out.old ++ facts_vars fs.now) }
+{
+    for f in fs.as_slice() {
+        push_all_vars(alloc, &f.args, out)?;
+    }
+    Ok(())
+}
+
+// Each occurrence outside the subterms that a destructor heads, added to these.
+#[cycle(push_outer)]
+fn push_outer_vars(alloc: Global, sig: &Signature, t: &Term, out: &mut Vars) -> Result<(), Mem>
+    ensures { OnOk result (out.new ≡ out.old ++ outer_vars sig.now (tree t.now)) }
+{
+    match t {
+        Term::Var(v) => out.push(v.copy(alloc)?)?,
+        Term::App(f, ts) => {
+            if !sig.is_destructor(f) {
+                push_all_outer_vars(alloc, sig, ts, out)?;
+            }
+        }
+        _ => {}
+    }
+    Ok(())
+}
+
+#[cycle(push_outer)]
+fn push_all_outer_vars(
+    alloc: Global,
+    sig: &Signature,
+    ts: &TermList,
+    out: &mut Vars,
+) -> Result<(), Mem>
+    ensures { OnOk result (out.new ≡ out.old ++ all_outer_vars sig.now (trees_of ts.now)) }
+{
+    for k in 0..ts.len() {
+        push_outer_vars(alloc, sig, ts.at(k), out)?;
+    }
+    Ok(())
+}
+
+// The same of facts.
+fn push_facts_outer_vars(
+    alloc: Global,
+    sig: &Signature,
+    fs: &FactList,
+    out: &mut Vars,
+) -> Result<(), Mem>
+    ensures { OnOk result (out.new ≡ out.old ++ facts_outer_vars sig.now fs.now) }
+{
+    for f in fs.as_slice() {
+        push_all_outer_vars(alloc, sig, &f.args, out)?;
+    }
+    Ok(())
 }

@@ -6,7 +6,7 @@ use Rattle.std.proofs.lemmas.List.Elements.{All-append, Contains-append_left, Co
 use Rattle.sap_terms.specs.Choice.{Choice, fits_sort, instance}
 use Rattle.sap_terms.specs.Message.{IsMessage, IsMessageChoice}
 use Rattle.sap_terms.specs.Modulo.{instance_facts, AreFormsOfFacts}
-use Rattle.sap_terms.specs.Signature.{Sig}
+use Rattle.sap_terms.specs.Signature.{Sig, HoldsBuiltins}
 use Rattle.sap_terms.specs.Subst.{bound_to}
 use Rattle.sap_terms.specs.Theory.{theory}
 use Rattle.sap_terms.specs.Tree.{Tree, trees_of}
@@ -16,7 +16,6 @@ use Rattle.sap_terms.specs.declared.binding.Binding.{Binding}
 use Rattle.sap_terms.specs.declared.fact.Fact.{Fact}
 use Rattle.sap_terms.specs.declared.var.Var.{Var}
 use Rattle.sap_rewrite.specs.Bound.{AreNamedOnce}
-use Rattle.sap_rewrite.specs.Laws.{HoldsTrue}
 use Rattle.sap_rewrite.specs.Match.{Agrees, HaveOneSort, bound_vars, names}
 use Rattle.sap_rule.specs.Variables.{facts_vars, facts_outer_vars, rule_vars}
 use Rattle.sap_rule.specs.WellMade.{IsWellMade}
@@ -110,14 +109,14 @@ module _ (laws : Laws) (g : Sig) (r : Rule) (b c : List Binding) (cited : List F
     binds = record { vars = good.vars; agrees = fitting.agrees };
     use_ = record {
       messages = chosen.1;
-      left = facts_equal g chosen.0 r.left e.left cited (subst (λ xs. AreFormsOfFacts (theory g) xs e.left) same_left e.left_forms) e.same fit;
-      acts = subst (λ xs. AreFormsOfFacts (theory g) xs acts) same_acts e.acts_forms;
-      right = subst (λ xs. AreFormsOfFacts (theory g) xs right) same_right e.right_forms;
+      takes = facts_equal g chosen.0 r.left e.left cited (subst (λ xs. AreFormsOfFacts (theory g) xs e.left) same_left e.left_forms) e.same fit;
+      shows = subst (λ xs. AreFormsOfFacts (theory g) xs acts) same_acts e.acts_forms;
+      adds = subst (λ xs. AreFormsOfFacts (theory g) xs right) same_right e.right_forms;
     };
     within = evaluated_small g r chosen.0 (small e.small);
   }
 
-  pub right_held : HoldsTrue g → (acts right : List Fact) → Evaluates g (bound_to c) r cited acts right → All (IsHeldFact g) right
+  pub right_held : HoldsBuiltins g → (acts right : List Fact) → Evaluates g (bound_to c) r cited acts right → All (IsHeldFact g) right
   right_held k acts right e =
       facts_held laws g chosen.0 r.right right k chosen.1 well.right (λ s. small e.small (in_right g chosen.0 r s)) (subst (λ xs. AreFormsOfFacts (theory g) xs right) same_right e.right_forms)
 

@@ -11,7 +11,7 @@ use Rattle.sap_terms.specs.Ground.{IsGround, AreGround}
 use Rattle.sap_terms.specs.Message.{IsMessage, IsMessageChoice, IsOver, AreOver}
 use Rattle.sap_terms.specs.Modulo.{instance_fact, instance_facts, IsEqualFact, AreEqualFacts, IsFormOfFact, AreFormsOfFacts}
 use Rattle.sap_terms.specs.Normal.{IsNormalForm}
-use Rattle.sap_terms.specs.Signature.{Sig}
+use Rattle.sap_terms.specs.Signature.{Sig, HoldsBuiltins}
 use Rattle.sap_terms.specs.Subst.{bound_to}
 use Rattle.sap_terms.specs.Theory.{Theory, theory}
 use Rattle.sap_terms.specs.Tree.{Tree, variable, public, fresh, apply, Trees, none, more, trees_of, list_of, node_count}
@@ -24,7 +24,7 @@ use Rattle.sap_terms.specs.declared.var.Var.{Var}
 use Rattle.sap_rewrite.specs.Around.{Fits, HoldAll, outer_vars, all_outer_vars, MatchingAroundIsModulo, FittingGivesMessages}
 use Rattle.sap_rewrite.specs.Bound.{NamedOnceStay, BindingsGiveChoices, AgreeingSubstitutes}
 use Rattle.sap_rewrite.specs.Large.{SomeSubterm, SomeSubtermWithin, itself, below, here, later, HasLargeForm}
-use Rattle.sap_rewrite.specs.Laws.{FormIsOne, FormsAreMessages, HoldsTrue}
+use Rattle.sap_rewrite.specs.Laws.{FormIsOne, FormsStayOver}
 use Rattle.sap_rewrite.specs.Match.{AllSorted, Agrees, HaveOneSort, bound_vars, names}
 use Rattle.sap_rule.specs.RuleSteps.{IsUse}
 use Rattle.sap_rule.specs.Variables.{facts_vars, facts_outer_vars, rule_vars, open_variables}
@@ -46,7 +46,7 @@ pub record Laws : Type 0 where
   pub choices : BindingsGiveChoices
   pub substitutes : AgreeingSubstitutes
   pub one_form : FormIsOne
-  pub forms : FormsAreMessages
+  pub forms : FormsStayOver
 
 -- each element is so
 pub each_item : {X : Type 0} (P : X → Type 0) (xs : List X) → ((x : X) → Contains xs x → P x) → All P xs
@@ -229,15 +229,16 @@ small_form e t n h s = elim (cases_lt 256 (node_count n)) as (λ _. node_count n
   whole : (t : Tree) → HasLargeForm e 256 t → SomeSubterm (HasLargeForm e 256) t
   whole t l = itself l
 
-args_held : Laws → (g : Sig) (σ : Choice) (ts ns : List Tree) → HoldsTrue g → IsMessageChoice g σ → AreOver g (trees_of ts) → (SomeLarge g (map (instance σ) ts) → ⊥) → AllZip (IsNormalForm (theory g)) (map (instance σ) ts) ns → All (IsHeldTerm g) ns
+args_held : Laws → (g : Sig) (σ : Choice) (ts ns : List Tree) → HoldsBuiltins g → IsMessageChoice g σ → AreOver g (trees_of ts) → (SomeLarge g (map (instance σ) ts) → ⊥) → AllZip (IsNormalForm (theory g)) (map (instance σ) ts) ns → All (IsHeldTerm g) ns
 args_held laws g σ [] [] k m o s a = All-nil (IsHeldTerm g)
 args_held laws g σ (t ∷ ts) (n ∷ ns) k m o s a =
     let q = instance_closed g σ t m o.0 in
-    All-cons (IsHeldTerm g) n ns (record { message = laws.forms g (instance σ t) n k q.0 q.1 a.0; small = small_form (theory g) (instance σ t) n a.0 (λ l. s (here l)) }) (args_held laws g σ ts ns k m o.1 (λ l. s (later l)) a.1)
+    let f = laws.forms g (instance σ t) n k q.0 q.1 a.0 in
+    All-cons (IsHeldTerm g) n ns (record { message = record { ground = f.0; over = f.1; normal = a.0.normal; sorted = refl }; small = small_form (theory g) (instance σ t) n a.0 (λ l. s (here l)) }) (args_held laws g σ ts ns k m o.1 (λ l. s (later l)) a.1)
 args_held laws g σ [] (n ∷ ns) k m o s a = absurd a
 args_held laws g σ (t ∷ ts) [] k m o s a = absurd a
 
-pub facts_held : Laws → (g : Sig) (σ : Choice) (fs ns : List Fact) → HoldsTrue g → IsMessageChoice g σ → All (IsRightFact g) fs → (SomeLarge g (map (instance σ) (terms_of fs)) → ⊥) → AreFormsOfFacts (theory g) (instance_facts σ fs) ns → All (IsHeldFact g) ns
+pub facts_held : Laws → (g : Sig) (σ : Choice) (fs ns : List Fact) → HoldsBuiltins g → IsMessageChoice g σ → All (IsRightFact g) fs → (SomeLarge g (map (instance σ) (terms_of fs)) → ⊥) → AreFormsOfFacts (theory g) (instance_facts σ fs) ns → All (IsHeldFact g) ns
 facts_held laws g σ [] [] k m o s a = All-nil (IsHeldFact g)
 facts_held laws g σ (f ∷ fs) (n ∷ ns) k m o s a =
     All-cons (IsHeldFact g) n ns

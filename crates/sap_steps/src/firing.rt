@@ -16,8 +16,9 @@ use crate::forms::forms_of_facts;
 use crate::prepared::Prepared;
 use sap_facts::Pile;
 use sap_rewrite::{
-    agreeing_choices_substitute, bindings_give_choices, fitting_gives_messages, forms_are_messages,
-    matching_around_is_modulo, normal_forms_are_unique, variables_named_once_stay_so,
+    agreeing_choices_substitute, bindings_give_choices, fitting_gives_messages,
+    matching_around_is_modulo, normal_forms_are_unique, normal_forms_stay_over,
+    variables_named_once_stay_so,
 };
 use sap_rule::Rule;
 use sap_terms::{Bindings, Copied, FactList, Numbers, Signature};
@@ -53,8 +54,9 @@ pub(crate) fn fire(
     variables_named_once_stay_so();
     bindings_give_choices();
     agreeing_choices_substitute();
-    forms_are_messages();
+    normal_forms_stay_over();
     normal_forms_are_unique();
+    sig.builtins_are_held();
     if !are_of(b, &rule.open_vars) {
         return Err(RFault::BadBinding);
     }

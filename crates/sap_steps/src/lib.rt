@@ -8,7 +8,5 @@ mod firing;
 mod fitting;
 mod forms;
 mod prepared;
-mod state;
 
 pub use fault::RFault;
-pub use state::RuleState;

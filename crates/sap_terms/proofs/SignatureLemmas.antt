@@ -1,11 +1,15 @@
 -- Names stand once in a signature, and its destructors head left sides.
-use Rattle.std.proofs.Common.{◌≡◌, ℕ, List, [], ◌∷◌, ◌++◌, Bool, true, false, ◌&&◌, ◌||◌, Option, Some, None, codes, zero, suc, ◌+◌, add-one, drop, refl, sym, ap, subst, ◌∙◌, IsTrue, is_some}
+use Rattle.std.proofs.Common.{◌≡◌, ℕ, List, [], ◌∷◌, ◌++◌, Bool, true, false, ◌&&◌, ◌||◌, Option, Some, None, codes, zero, suc, ◌+◌, add-one, drop, refl, sym, ap, subst, ◌∙◌, IsTrue, is_some, not}
 use Rattle.std.proofs.lemmas.Slice.Eq.{bytes_eq-Decides}
-use Rattle.std.specs.Prelude.{if◌then◌else◌, slice_get}
+use Rattle.std.specs.Prelude.{if◌then◌else◌, slice_get, nat_eq}
+use Rattle.std.specs.Option.{option_map_or}
+use Rattle.std.proofs.lemmas.Bool.Decides.{Decides-eqb}
 use Rattle.std.specs.Str.{bytes_eq}
 use Rattle.sap_terms.specs.declared.signature.Symbol.{Symbol}
 use Rattle.sap_terms.specs.Tree.{Tree, Trees, variable, public, fresh, apply, none, more}
-use Rattle.sap_terms.specs.Signature.{Sig, find_symbol, IsMap, declared, declared_all, is_destructor_of, first_clash, is_held_otherwise}
+use Rattle.sap_terms.specs.Signature.{Sig, find_symbol, IsMap, declared, declared_all, is_destructor_of, first_clash, is_held_otherwise, same_bool, added, AreHeld, HoldsBuiltins, has_builtin, builtin_symbols}
+use Rattle.sap_terms.specs.declared.signature.Builtin.{Builtin}
+use Rattle.sap_terms.specs.declared.signature.Builtin.TheVariants.{Hashing, Symmetric, Asymmetric, Signing}
 use Rattle.sap_terms.specs.Theory.{Theory, theory, IsInstance, first, second, symmetric, asymmetric, signing, IsDestructor, app0, app1, app2, pair_name, fst_name, snd_name, senc_name, sdec_name, aenc_name, adec_name, pk_name, sign_name, verify_name, true_name}
 use Rattle.sap_terms.proofs.SameLemmas.{and_left, and_right, same_name}
 
@@ -46,6 +50,146 @@ IsMap-declared ss x m =
 pub IsMap-declared_all : (ss xs : List Symbol) → IsMap ss → IsMap (declared_all ss xs)
 IsMap-declared_all ss [] m = m
 IsMap-declared_all ss (x ∷ xs) m = IsMap-declared_all (declared ss x.name x.arity x.private) xs (IsMap-declared ss x m)
+
+-- what is found is found when one more symbol stands last
+find-kept_push : (ss : List Symbol) (x : Symbol) (n : List ℕ) (s : Symbol) → find_symbol ss n ≡ Some s → find_symbol (ss ++ x ∷ []) n ≡ Some s
+find-kept_push [] x n s h = cc
+find-kept_push (r ∷ rs) x n s h =
+    elim (bytes_eq r.name n) as (λ t. (if t then Some r else find_symbol rs n) ≡ Some s → (if t then Some r else find_symbol (rs ++ x ∷ []) n) ≡ Some s) [
+      | true ↦ λ h. h
+      | false ↦ λ h. find-kept_push rs x n s h
+    ] h
+
+find-kept : (ss : List Symbol) (x : Symbol) (n : List ℕ) (s : Symbol) → find_symbol ss n ≡ Some s → find_symbol (declared ss x.name x.arity x.private) n ≡ Some s
+find-kept ss x n s h =
+    elim (find_symbol ss x.name) as (λ o. find_symbol (if is_some o then ss else ss ++ x ∷ []) n ≡ Some s) [
+      | None ↦ find-kept_push ss x n s h
+      | Some r ↦ h
+    ]
+
+find-kept_all : (ss xs : List Symbol) (n : List ℕ) (s : Symbol) → find_symbol ss n ≡ Some s → find_symbol (declared_all ss xs) n ≡ Some s
+find-kept_all ss [] n s h = h
+find-kept_all ss (x ∷ xs) n s h = find-kept_all (declared ss x.name x.arity x.private) xs n s (find-kept ss x n s h)
+
+-- a symbol that stands last and is not found before it is found
+find-last : (ss : List Symbol) (x : Symbol) → find_symbol ss x.name ≡ None → find_symbol (ss ++ x ∷ []) x.name ≡ Some x
+find-last [] x h = rw (same_name x.name) refl
+find-last (r ∷ rs) x h =
+    elim (bytes_eq r.name x.name) as (λ t. (if t then Some r else find_symbol rs x.name) ≡ None → (if t then Some r else find_symbol (rs ++ x ∷ []) x.name) ≡ Some x) [
+      | true ↦ λ h. cc
+      | false ↦ λ h. find-last rs x h
+    ] h
+
+-- what is found has the name
+found_name : (ss : List Symbol) (n : List ℕ) (s : Symbol) → find_symbol ss n ≡ Some s → s.name ≡ n
+found_name [] n s h = cc
+found_name (r ∷ rs) n s h =
+    elim (bytes_eq r.name n) as (λ t. bytes_eq r.name n ≡ t → (if t then Some r else find_symbol rs n) ≡ Some s → s.name ≡ n) [
+      | true ↦ λ e h. let same : r ≡ s = cc in ap (λ (q : Symbol). q.name) (sym same) ∙ (bytes_eq-Decides r.name n).0 e
+      | false ↦ λ e h. found_name rs n s h
+    ] refl h
+
+not_false : (b : Bool) → not b ≡ false → b ≡ true
+not_false true h = refl
+not_false false h = cc
+
+same_bool_is : (b c : Bool) → same_bool b c ≡ true → b ≡ c
+same_bool_is true c e = sym e
+same_bool_is false true e = cc
+same_bool_is false false e = refl
+
+-- a symbol that isn't held otherwise is held once it is declared
+declared_held : (ss : List Symbol) (x : Symbol) → is_held_otherwise ss x ≡ false → find_symbol (declared ss x.name x.arity x.private) x.name ≡ Some x
+declared_held ss x h =
+    elim (find_symbol ss x.name) as (λ o. find_symbol ss x.name ≡ o → option_map_or (λ (s : Symbol). not (nat_eq s.arity x.arity && same_bool s.private x.private)) o false ≡ false → find_symbol (if is_some o then ss else ss ++ x ∷ []) x.name ≡ Some x) [
+      | None ↦ λ e h. find-last ss x e
+      | Some s ↦ λ e h. let t = not_false _ h in
+          let arities = (Decides-eqb s.arity x.arity).0 (and_left _ _ t) in
+          let kinds = same_bool_is s.private x.private (and_right _ _ t) in
+          let names = found_name ss x.name s e in
+          e ∙ λ i. Some (record { name = names i; arity = arities i; private = kinds i })
+    ] refl h
+
+-- another symbol is found as before
+find-other : (ss : List Symbol) (x : Symbol) (n : List ℕ) → bytes_eq x.name n ≡ false → find_symbol (declared ss x.name x.arity x.private) n ≡ find_symbol ss n
+find-other ss x n o =
+    elim (find_symbol ss x.name) as (λ r. find_symbol (if is_some r then ss else ss ++ x ∷ []) n ≡ find_symbol ss n) [ None ↦ pushed ss | Some s ↦ refl ]
+  where
+    pushed : (ss : List Symbol) → find_symbol (ss ++ x ∷ []) n ≡ find_symbol ss n
+    pushed [] = rw o refl
+    pushed (r ∷ rs) = ap (λ q. if bytes_eq r.name n then Some r else q) (pushed rs)
+
+-- the parts of "none is held otherwise"
+clash_parts : (ss : List Symbol) (x : Symbol) (xs : List Symbol) → first_clash ss (x ∷ xs) ≡ None → (is_held_otherwise ss x ≡ false) × (first_clash ss xs ≡ None)
+clash_parts ss x xs h =
+    elim (is_held_otherwise ss x) as (λ b. (if b then Some x.name else first_clash ss xs) ≡ None → (b ≡ false) × (first_clash ss xs ≡ None)) [
+      | true ↦ λ h. cc
+      | false ↦ λ h. (refl, h)
+    ] h
+
+-- a symbol of another name makes none of these held otherwise
+no_clash_after : (ss : List Symbol) (x : Symbol) (xs : List Symbol) → find_symbol xs x.name ≡ None → first_clash ss xs ≡ None → first_clash (declared ss x.name x.arity x.private) xs ≡ None
+no_clash_after ss x [] f h = refl
+no_clash_after ss x (y ∷ ys) f h =
+    elim (bytes_eq y.name x.name) as (λ t. bytes_eq y.name x.name ≡ t → (if t then Some y else find_symbol ys x.name) ≡ None → first_clash (declared ss x.name x.arity x.private) (y ∷ ys) ≡ None) [
+      | true ↦ λ e f. cc
+      | false ↦ λ e f. let p = clash_parts ss y ys h in
+          let same = find-other ss x y.name (other_name y.name x.name e) in
+          let free : is_held_otherwise (declared ss x.name x.arity x.private) y ≡ false = ap (λ o. option_map_or (λ (s : Symbol). not (nat_eq s.arity y.arity && same_bool s.private y.private)) o false) same ∙ p.0 in
+          ap (λ b. if b then Some y.name else first_clash (declared ss x.name x.arity x.private) ys) free ∙ no_clash_after ss x ys f p.1
+    ] refl f
+
+-- symbols of names of their own that aren't held otherwise are held once they are declared
+declared_all_held : (ss xs : List Symbol) → IsMap xs → first_clash ss xs ≡ None → AreHeld (declared_all ss xs) xs
+declared_all_held ss [] m h = tt
+declared_all_held ss (x ∷ xs) m h =
+    let p = clash_parts ss x xs h in
+    let next = declared ss x.name x.arity x.private in
+    (find-kept_all next xs x.name x (declared_held ss x p.0), declared_all_held next xs m.1 (no_clash_after ss x xs m.0 p.1))
+
+held-kept : (ss rs xs : List Symbol) → ((n : List ℕ) (s : Symbol) → find_symbol ss n ≡ Some s → find_symbol rs n ≡ Some s) → AreHeld ss xs → AreHeld rs xs
+held-kept ss rs [] k h = tt
+held-kept ss rs (x ∷ xs) k h = (k x.name x h.0, held-kept ss rs xs k h.1)
+
+-- one more symbol leaves builtins held
+pub HoldsBuiltins-push : (g : Sig) (x : Symbol) → HoldsBuiltins g → HoldsBuiltins (record { symbols = g.symbols ++ x ∷ []; builtins = g.builtins })
+HoldsBuiltins-push g x h Hashing b = held-kept g.symbols _ (builtin_symbols Hashing) (find-kept_push g.symbols x) (h Hashing b)
+HoldsBuiltins-push g x h Symmetric b = held-kept g.symbols _ (builtin_symbols Symmetric) (find-kept_push g.symbols x) (h Symmetric b)
+HoldsBuiltins-push g x h Asymmetric b = held-kept g.symbols _ (builtin_symbols Asymmetric) (find-kept_push g.symbols x) (h Asymmetric b)
+HoldsBuiltins-push g x h Signing b = held-kept g.symbols _ (builtin_symbols Signing) (find-kept_push g.symbols x) (h Signing b)
+
+builtin_map : (b : Builtin) → IsMap (builtin_symbols b)
+builtin_map Hashing = (refl, tt)
+builtin_map Symmetric = (refl, (refl, tt))
+builtin_map Asymmetric = (refl, (refl, (refl, tt)))
+builtin_map Signing = (refl, (refl, (refl, (refl, tt))))
+
+-- a builtin's symbols are held once it is added, and those of the others stay held
+pub HoldsBuiltins-added : (g : Sig) (b : Builtin) → HoldsBuiltins g → first_clash g.symbols (builtin_symbols b) ≡ None → HoldsBuiltins (added g b)
+HoldsBuiltins-added g b h f c t = at b c f t where
+  new : (b : Builtin) → first_clash g.symbols (builtin_symbols b) ≡ None → AreHeld (declared_all g.symbols (builtin_symbols b)) (builtin_symbols b)
+  new b f = declared_all_held g.symbols (builtin_symbols b) (builtin_map b) f
+
+  old : (b c : Builtin) → has_builtin g c ≡ true → AreHeld (declared_all g.symbols (builtin_symbols b)) (builtin_symbols c)
+  old b c t = held-kept g.symbols _ (builtin_symbols c) (find-kept_all g.symbols (builtin_symbols b)) (h c t)
+
+  at : (b c : Builtin) → first_clash g.symbols (builtin_symbols b) ≡ None → has_builtin (added g b) c ≡ true → AreHeld (declared_all g.symbols (builtin_symbols b)) (builtin_symbols c)
+  at Hashing Hashing f t = new Hashing f
+  at Hashing Symmetric f t = old Hashing Symmetric t
+  at Hashing Asymmetric f t = old Hashing Asymmetric t
+  at Hashing Signing f t = old Hashing Signing t
+  at Symmetric Hashing f t = old Symmetric Hashing t
+  at Symmetric Symmetric f t = new Symmetric f
+  at Symmetric Asymmetric f t = old Symmetric Asymmetric t
+  at Symmetric Signing f t = old Symmetric Signing t
+  at Asymmetric Hashing f t = old Asymmetric Hashing t
+  at Asymmetric Symmetric f t = old Asymmetric Symmetric t
+  at Asymmetric Asymmetric f t = new Asymmetric f
+  at Asymmetric Signing f t = old Asymmetric Signing t
+  at Signing Hashing f t = old Signing Hashing t
+  at Signing Symmetric f t = old Signing Symmetric t
+  at Signing Asymmetric f t = old Signing Asymmetric t
+  at Signing Signing f t = new Signing f
 
 drop_got : {X : Type 0} (xs : List X) (k : ℕ) (x : X) → slice_get xs k ≡ Some x → drop k xs ≡ x ∷ drop (k + 1) xs
 drop_got {X} xs k x h = rw add-one (at xs k h) where
@@ -102,4 +246,4 @@ heads-back g f d = left_head g (apply f d.args) d.right d.is_left
 pub heads-iff : (g : Sig) (f : List ℕ) (r : Bool) → r ≡ is_destructor_of g f → (IsTrue r → IsDestructor (theory g) f) × (IsDestructor (theory g) f → IsTrue r)
 heads-iff g f r e = (λ h. heads g f (sym e ∙ h), λ d. e ∙ heads-back g f d)
 
-pub ruleset signature_laws = (IsMap-push, IsMap-declared_all, heads-iff)
+pub ruleset signature_laws = (IsMap-push, IsMap-declared_all, HoldsBuiltins-push, HoldsBuiltins-added, heads-iff)

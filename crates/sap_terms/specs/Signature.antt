@@ -106,6 +106,15 @@ added g b = record {
   builtins = with_builtin g.builtins b;
 }
 
+-- these symbols are held as they are
+abbrev pub AreHeld : List Symbol → List Symbol → Type 0
+AreHeld ss [] = Unit {0}
+AreHeld ss (x ∷ xs) = (find_symbol ss x.name ≡ Some x) × AreHeld ss xs
+
+-- the symbols of each builtin that was added are held
+abbrev pub HoldsBuiltins : Sig → Type 0
+HoldsBuiltins g = (b : Builtin) → has_builtin g b ≡ true → AreHeld g.symbols (builtin_symbols b)
+
 -- pairs alone: what every signature begins with
 abbrev pub pairs_alone : Sig
 pairs_alone = record {

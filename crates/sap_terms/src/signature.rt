@@ -1,6 +1,6 @@
 ghost use Rattle.std.specs.Prelude.{◌≡◌, ℕ, ◌↔◌, ◌≢◌, List, [], length, IsTrue, IsErrOf, IfErr, OnOk, OnErr, IfOk, MatchOption, option_map, slice_get, None, Some, false};
 ghost use Rattle.std.specs.Option.{option_copied};
-ghost use Rattle.sap_terms.specs.Signature.{Sig, Builtins, find_symbol, arity_of, IsPublic, Clashes, declared, has_builtin, is_destructor_of, builtin_symbols, declared_all, is_held_otherwise, first_clash, added, pairs_alone, IsMap, IsFirstClash};
+ghost use Rattle.sap_terms.specs.Signature.{Sig, Builtins, find_symbol, arity_of, IsPublic, Clashes, declared, has_builtin, is_destructor_of, builtin_symbols, declared_all, is_held_otherwise, first_clash, added, pairs_alone, IsMap, IsFirstClash, HoldsBuiltins};
 ghost use Rattle.sap_terms.specs.declared.signature.SigFault.TheVariants.{Mem as OutOfMemory};
 
 use crate::{Copied, Items, Mem, Name};
@@ -56,7 +56,7 @@ pub struct Signature {
 }
 
 impl Model for Signature {
-    ghost use Rattle.sap_terms.specs.Signature.{Sig, IsMap};
+    ghost use Rattle.sap_terms.specs.Signature.{Sig, IsMap, HoldsBuiltins};
 
     ghost Value = { Sig };
 
@@ -65,7 +65,10 @@ impl Model for Signature {
       builtins = record { hashing = a.hashing; symmetric = a.symmetric; asymmetric = a.asymmetric; signing = a.signing };
     } };
 
-    ghost invariant = { λ a. IsMap a.symbols };
+    ghost invariant = { λ a. IsMap a.symbols × HoldsBuiltins (record {
+      symbols = a.symbols;
+      builtins = record { hashing = a.hashing; symmetric = a.symmetric; asymmetric = a.asymmetric; signing = a.signing };
+    }) };
 }
 
 // The held symbol of a name.
@@ -283,6 +286,13 @@ impl Signature {
             || (name.is(b"sdec") && self.symmetric)
             || (name.is(b"adec") && self.asymmetric)
             || (name.is(b"verify") && self.signing)
+    }
+
+    /// The symbols of each builtin that was added are held, with their arities, and public.
+    pub fn builtins_are_held(&self)
+        ensures { HoldsBuiltins self.now }
+    {
+        let _symbols = &self.symbols;
     }
 
     /// Adds a builtin's symbols, in their order, and switches on its equations. A clash names the first of these

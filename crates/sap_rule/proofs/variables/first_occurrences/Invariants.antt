@@ -1,0 +1,6 @@
+use Rattle.std.proofs.Common.{◌≡◌, ◌++◌, drop}
+use Rattle.sap_rewrite.specs.Match.{new_vars}
+use Rattle.sap_rule.proofs.variables.first_occurrences.Given as goal
+
+abbrev pub invariant-loop-v : goal.invariant-loop-v
+invariant-loop-v l = l.out ++ new_vars l.known.keys (drop l.v-index l.v-items) ≡ new_vars l.initial.known.keys l.vars

@@ -1,0 +1,6 @@
+use Rattle.std.proofs.Common.{◌≡◌, ◌++◌, drop}
+use Rattle.sap_rule.specs.Variables.{facts_outer_vars}
+use Rattle.sap_rule.proofs.variables.push_facts_outer_vars.Given as goal
+
+abbrev pub invariant-loop-f : goal.invariant-loop-f
+invariant-loop-f l = l.out ++ facts_outer_vars l.sig (drop l.f-index l.f-items) ≡ l.initial.out ++ facts_outer_vars l.sig l.fs
