@@ -62,8 +62,11 @@ no_message g s t h m = h m.sorted (closed-complete g t m.ground m.over)
 
 -- one that passes them is one exactly where it is its normal form
 pub is_message_where : (g : Sig) (s : Sort) (t n : Term) → fits_sort s (tree t) ≡ true → is_closed g (tree t) ≡ true → IsNormalForm (theory g) (tree t) (tree n) → (n ≡ t → IsMessage g s (tree t)) × (IsMessage g s (tree t) → n ≡ t)
-is_message_where g s t n h i f = (λ e.
-    let q = closed-sound g (tree t) i in
-    record { ground = q.0; over = q.1; normal = subst (λ (u : Term). IsNormal (theory g) (tree u)) e f.normal; sorted = h }, λ m.
-    let same : tree n ≡ tree t = one_normal_form (theory g) (tree t) (tree n) f ∙ nf-fixed (theory g) (tree t) m.normal in
-    sym (term-tree n) ∙ ap term same ∙ term-tree t)
+is_message_where g s t n h i f = (
+  λ e.
+      let q = closed-sound g (tree t) i in
+      record { ground = q.0; over = q.1; normal = subst (λ (u : Term). IsNormal (theory g) (tree u)) e f.normal; sorted = h },
+  λ m.
+      let same : tree n ≡ tree t = one_normal_form (theory g) (tree t) (tree n) f ∙ nf-fixed (theory g) (tree t) m.normal in
+      sym (term-tree n) ∙ ap term same ∙ term-tree t,
+)

@@ -37,6 +37,7 @@ reduced_plain g f ts h p = at (contracted (theory g) f ts) refl where
 
 mutual
   unfolding nf nfs
+
   form_plain : (g : Sig) (t : Tree) → HoldsBuiltins g → IsPlain g t → IsPlain g (nf (theory g) t)
   form_plain g (variable v) h p = absurd p.0
   form_plain g (public n) h p = p

@@ -27,9 +27,9 @@ in_right g τ r s = large_back g τ r.left (r.acts ++ r.right) (large_back g τ 
 
 pub none_large : (g : Sig) (τ : Choice) (r : Rule) → (SomeLarge g (map (instance τ) (terms_of r.left)) → ⊥) → (SomeLarge g (map (instance τ) (terms_of r.acts)) → ⊥) → (SomeLarge g (map (instance τ) (terms_of r.right)) → ⊥) → SomeLarge g (map (instance τ) (rule_terms r)) → ⊥
 none_large g τ r a b c s = elim (large_cases g τ r.left (r.acts ++ r.right) s) as (λ _. ⊥) [
-    | inl x ↦ a x
-    | inr y ↦ elim (large_cases g τ r.acts r.right y) as (λ _. ⊥) [ inl u ↦ b u | inr v ↦ c v ]
-  ]
+  | inl x ↦ a x
+  | inr y ↦ elim (large_cases g τ r.acts r.right y) as (λ _. ⊥) [ inl u ↦ b u | inr v ↦ c v ]
+]
 
 -- a fault that is passed on
 pub passed : {T : Type 0} (r : Result T RFault) (P : RFault → Type 0) (k : Cut) → P (fault_of k) → IsErrAnd r (λ e. e ≡ fault_of k) → IfErr r P

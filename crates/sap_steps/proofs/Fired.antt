@@ -1,7 +1,6 @@
 -- What the bindings found and the forms made say of the rule's use.
-use Rattle.std.proofs.Common.{◌≡◌, ℕ, ◌<◌, List, [], ◌∷◌, ◌++◌, map, refl, sym, ap, subst, ◌∙◌, append_assoc, true}
+use Rattle.std.proofs.Common.{◌≡◌, List, [], ◌∷◌, ◌++◌, map, refl, sym, ap, subst, ◌∙◌, append_assoc}
 use Rattle.std.specs.Prelude.{All, Contains, Result, Ok, Err, IfOk, IfErr}
-use Rattle.std.specs.List.{AllZip}
 use Rattle.std.proofs.lemmas.List.Elements.{All-append, Contains-append_left, Contains-append_right}
 use Rattle.sap_terms.specs.Choice.{Choice, fits_sort, instance}
 use Rattle.sap_terms.specs.Message.{IsMessage, IsMessageChoice}
@@ -9,8 +8,8 @@ use Rattle.sap_terms.specs.Modulo.{instance_facts, AreFormsOfFacts}
 use Rattle.sap_terms.specs.Signature.{Sig, HoldsBuiltins}
 use Rattle.sap_terms.specs.Subst.{bound_to}
 use Rattle.sap_terms.specs.Theory.{theory}
-use Rattle.sap_terms.specs.Tree.{Tree, trees_of}
-use Rattle.sap_terms.specs.Variables.{tree_vars, trees_vars}
+use Rattle.sap_terms.specs.Tree.{trees_of}
+use Rattle.sap_terms.specs.Variables.{trees_vars}
 use Rattle.sap_terms.specs.View.{tree}
 use Rattle.sap_terms.specs.declared.binding.Binding.{Binding}
 use Rattle.sap_terms.specs.declared.fact.Fact.{Fact}
@@ -20,7 +19,7 @@ use Rattle.sap_rewrite.specs.Match.{Agrees, HaveOneSort, bound_vars, names}
 use Rattle.sap_rule.specs.Variables.{facts_vars, facts_outer_vars, rule_vars}
 use Rattle.sap_rule.specs.WellMade.{IsWellMade}
 use Rattle.sap_rule.specs.declared.rule.Rule.{Rule}
-use Rattle.sap_steps.specs.Faults.{AreRight, FactHolds, IsFitting, IsRefusal}
+use Rattle.sap_steps.specs.Faults.{AreRight, IsFitting, IsRefusal}
 use Rattle.sap_steps.specs.Firing.{IsOnlyChoice, HasNoChoice, FactsFit, SomeLarge, terms_of, Evaluates, IsEvaluationFault}
 use Rattle.sap_steps.specs.Held.{IsHeldFact}
 use Rattle.sap_steps.specs.Lines.{Fires, IsSmall, rule_terms}

@@ -1,18 +1,17 @@
 -- Choices that are found part by part.
-use Rattle.std.proofs.Common.{◌≡◌, ℕ, suc, ◌+◌, drop, List, [], ◌∷◌, ◌++◌, length, Option, Some, None, inl, inr, refl, sym, ap, subst, ◌∙◌}
+use Rattle.std.proofs.Common.{◌≡◌, ℕ, suc, ◌+◌, drop, List, [], ◌∷◌, ◌++◌, length, Option, Some, None, inl, inr, refl, ap, subst}
 use Rattle.std.specs.Prelude.{slice_get, Contains, Result, Ok, Err, IfOk, MatchOption}
 use Rattle.std.proofs.lemmas.List.Elements.{Contains-append_left, Contains-append_right, Contains-append_cases}
-use Rattle.sap_terms.specs.Choice.{Choice, IsSorted}
+use Rattle.sap_terms.specs.Choice.{Choice}
 use Rattle.sap_terms.specs.Signature.{Sig}
 use Rattle.sap_terms.specs.Tree.{Tree, trees_of}
 use Rattle.sap_terms.specs.declared.binding.Binding.{Binding}
 use Rattle.sap_terms.specs.declared.fact.Fact.{Fact}
 use Rattle.sap_terms.specs.declared.var.Var.{Var}
-use Rattle.sap_rewrite.specs.Around.{Fits, FitAll, outer_vars, all_outer_vars, IsOnlyFit, HasNoFit}
+use Rattle.sap_rewrite.specs.Around.{Fits, outer_vars, all_outer_vars, IsOnlyFit, HasNoFit}
 use Rattle.sap_rule.specs.Variables.{facts_outer_vars}
 use Rattle.sap_rewrite.specs.Bound.{ExtensionsJoin}
 use Rattle.sap_rewrite.specs.Match.{Extends, Agrees, HaveOneSort, bound_vars}
-use Rattle.sap_steps.specs.Faults.{FactFits}
 use Rattle.sap_steps.specs.Firing.{IsOnlyChoice, HasNoChoice, ArgsFit, FactFit, FactsFit}
 use Rattle.sap_steps.proofs.Lists.{drop_got, drop_all}
 
@@ -38,9 +37,9 @@ back_sorts : ExtensionsJoin → (c d : List Binding) (us xs : List Var) → Exte
 back_sorts j c d us xs x one = fewer_sorts (bound_vars d ++ xs) (bound_vars c ++ (us ++ xs)) (λ v m.
     elim (Contains-append_cases (bound_vars d) xs v m) as (λ _. Contains (bound_vars c ++ (us ++ xs)) v) [
       | inl here ↦ elim (Contains-append_cases (bound_vars c) us v (j.2 c d us x v here)) as (λ _. Contains (bound_vars c ++ (us ++ xs)) v) [
-          | inl before ↦ Contains-append_left (bound_vars c) (us ++ xs) v before
-          | inr new ↦ Contains-append_right (bound_vars c) (us ++ xs) v (Contains-append_left us xs v new)
-        ]
+        | inl before ↦ Contains-append_left (bound_vars c) (us ++ xs) v before
+        | inr new ↦ Contains-append_right (bound_vars c) (us ++ xs) v (Contains-append_left us xs v new)
+      ]
       | inr later ↦ Contains-append_right (bound_vars c) (us ++ xs) v (Contains-append_right us xs v later)
     ]) one
 

@@ -1,11 +1,10 @@
 -- Lists by their places.
-use Rattle.std.proofs.Common.{◌≡◌, ℕ, zero, suc, ◌+◌, ◌<◌, List, [], ◌∷◌, ◌++◌, Option, Some, None, length, map, take, drop, add-one, refl, sym, ap, subst, ◌∙◌, arith}
-use Rattle.std.specs.Prelude.{All, IsSome, slice_get, ⊤}
-use Rattle.std.specs.List.{AllZip, cons_option, filter_map}
+use Rattle.std.proofs.Common.{◌≡◌, ℕ, zero, suc, ◌+◌, List, [], ◌∷◌, ◌++◌, Option, Some, None, length, map, take, drop, add-one, refl, sym, ap, subst, ◌∙◌}
+use Rattle.std.specs.Prelude.{All, IsSome, slice_get}
+use Rattle.std.specs.List.{AllZip, cons_option}
 use Rattle.std.proofs.Math.Seq.{take-length}
 use Rattle.std.proofs.lemmas.List.Elements.{All-head, All-tail, All-nil, All-cons}
 use Rattle.sap_terms.specs.declared.fact.Fact.{Fact}
-use Rattle.sap_terms.specs.Tree.{Tree}
 use Rattle.sap_facts.specs.Facts.{fact_at}
 use Rattle.sap_steps.specs.Held.{cited_at}
 
@@ -101,6 +100,6 @@ cited_length places (m ∷ ms) a =
 pub cited_all : (P : Fact → Type 0) (places : List (Option Fact)) (ns : List ℕ) → ((k : ℕ) (f : Fact) → fact_at places k ≡ Some f → P f) → All P (cited_at places ns)
 cited_all P places [] h = All-nil P
 cited_all P places (m ∷ ms) h = elim (fact_at places m) as (λ o. fact_at places m ≡ o → All P (cons_option o (cited_at places ms))) [
-    | None ↦ λ e. cited_all P places ms h
-    | Some f ↦ λ e. All-cons P f (cited_at places ms) (h m f e) (cited_all P places ms h)
-  ] refl
+  | None ↦ λ e. cited_all P places ms h
+  | Some f ↦ λ e. All-cons P f (cited_at places ms) (h m f e) (cited_all P places ms h)
+] refl

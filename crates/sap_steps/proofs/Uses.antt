@@ -1,42 +1,38 @@
 -- What is evaluated under the bindings found is a use of the rule.
-use Rattle.std.proofs.Common.{◌≡◌, ℕ, ◌<◌, ◌≤◌, suc, List, [], ◌∷◌, ◌++◌, length, map, Some, ◌⊎◌, inl, inr, refl, sym, ap, subst, ◌∙◌, arith, true, IsTrue}
+use Rattle.std.proofs.Common.{◌≡◌, ℕ, ◌<◌, ◌≤◌, suc, List, [], ◌∷◌, ◌++◌, length, map, Some, inl, inr, refl, sym, ap, subst, ◌∙◌, true, IsTrue}
 use Rattle.std.specs.Prelude.{All, Contains}
 use Rattle.std.specs.List.{AllZip}
 use Rattle.std.proofs.lemmas.Bool.{cases_lt}
 use Rattle.std.proofs.lemmas.List.{map-append}
-use Rattle.std.proofs.lemmas.List.Elements.{All-head, All-tail, All-nil, All-cons, All-append, All-weaker, All-contains_itself, All-contains, Contains-append_left, Contains-append_right, Contains-append_cases}
+use Rattle.std.proofs.lemmas.List.Elements.{All-head, All-tail, All-nil, All-cons, All-weaker, All-contains_itself, Contains-append_left, Contains-append_right, Contains-append_cases}
 use Rattle.sap_terms.specs.Choice.{Choice, fits_sort, instance, instances}
 use Rattle.sap_terms.specs.Equal.{IsTheoryEqual}
 use Rattle.sap_terms.specs.Ground.{IsGround, AreGround}
 use Rattle.sap_terms.specs.Message.{IsMessage, IsMessageChoice, IsOver, AreOver}
-use Rattle.sap_terms.specs.Modulo.{instance_fact, instance_facts, IsEqualFact, AreEqualFacts, IsFormOfFact, AreFormsOfFacts}
+use Rattle.sap_terms.specs.Modulo.{instance_facts, AreEqualFacts, AreFormsOfFacts}
 use Rattle.sap_terms.specs.Normal.{IsNormalForm}
 use Rattle.sap_terms.specs.Signature.{Sig, HoldsBuiltins}
-use Rattle.sap_terms.specs.Subst.{bound_to}
 use Rattle.sap_terms.specs.Theory.{Theory, theory}
 use Rattle.sap_terms.specs.Tree.{Tree, variable, public, fresh, apply, Trees, none, more, trees_of, list_of, node_count}
 use Rattle.sap_terms.specs.Variables.{tree_vars, trees_vars}
 use Rattle.sap_terms.specs.View.{tree}
 use Rattle.sap_terms.specs.declared.binding.Binding.{Binding}
 use Rattle.sap_terms.specs.declared.fact.Fact.{Fact}
-use Rattle.sap_terms.specs.declared.var.Sort.TheVariants.{Msg}
 use Rattle.sap_terms.specs.declared.var.Var.{Var}
-use Rattle.sap_rewrite.specs.Around.{Fits, HoldAll, outer_vars, all_outer_vars, MatchingAroundIsModulo, FittingGivesMessages}
+use Rattle.sap_rewrite.specs.Around.{HoldAll, outer_vars, all_outer_vars, MatchingAroundIsModulo, FittingGivesMessages}
 use Rattle.sap_rewrite.specs.Bound.{NamedOnceStay, BindingsGiveChoices, AgreeingSubstitutes}
 use Rattle.sap_rewrite.specs.Large.{SomeSubterm, SomeSubtermWithin, itself, below, here, later, HasLargeForm}
 use Rattle.sap_rewrite.specs.Laws.{FormIsOne, FormsStayOver}
-use Rattle.sap_rewrite.specs.Match.{AllSorted, Agrees, HaveOneSort, bound_vars, names}
-use Rattle.sap_rule.specs.RuleSteps.{IsUse}
-use Rattle.sap_rule.specs.Variables.{facts_vars, facts_outer_vars, rule_vars, open_variables}
-use Rattle.sap_rule.specs.WellMade.{IsWellMade, IsRightFact}
+use Rattle.sap_rewrite.specs.Match.{AllSorted, Agrees, bound_vars}
+use Rattle.sap_rule.specs.Variables.{facts_vars, facts_outer_vars}
+use Rattle.sap_rule.specs.WellMade.{IsRightFact}
 use Rattle.sap_rule.specs.declared.rule.Rule.{Rule}
-use Rattle.sap_steps.specs.Faults.{AreRight, FactFits, FactHolds, IsFitting}
-use Rattle.sap_steps.specs.Firing.{IsOnlyChoice, ArgsFit, FactsFit, SomeLarge, terms_of, HaveArgs, Evaluates, EvaluatesOtherwise}
+use Rattle.sap_steps.specs.Faults.{FactHolds}
+use Rattle.sap_steps.specs.Firing.{ArgsFit, FactsFit, SomeLarge, terms_of, HaveArgs}
 use Rattle.sap_steps.specs.Held.{IsHeldTerm, IsHeldFact}
-use Rattle.sap_steps.specs.Lines.{Fires, Binds, IsEvaluated, IsSmall, rule_terms}
+use Rattle.sap_steps.specs.Lines.{IsEvaluated, IsSmall, rule_terms}
 use Rattle.sap_steps.proofs.Formed.{within_front, within_back}
-use Rattle.sap_steps.proofs.Found.{agrees_extended}
-use Rattle.sap_steps.proofs.Vars.{nothing_in, item_cases, first_item, later_item, new_among, one_sort, covered}
+use Rattle.sap_steps.proofs.Vars.{nothing_in, item_cases, first_item, later_item}
 
 -- the laws of the layer below
 pub record Laws : Type 0 where
@@ -55,23 +51,23 @@ each_item P xs h = All-weaker (Contains xs) P h xs (All-contains_itself xs)
 pub agrees_at : (c : List Binding) (σ : Choice) (e : Binding) → Agrees c σ → Contains c e → σ e.var ≡ tree e.term
 agrees_at [] σ e a m = absurd (nothing_in e m)
 agrees_at (x ∷ xs) σ e a m = elim (item_cases x e xs m) as (λ _. σ e.var ≡ tree e.term) [
-    | inl is ↦ subst (λ (y : Binding). σ y.var ≡ tree y.term) is a.0
-    | inr further ↦ agrees_at xs σ e a.1 further
-  ]
+  | inl is ↦ subst (λ (y : Binding). σ y.var ≡ tree y.term) is a.0
+  | inr further ↦ agrees_at xs σ e a.1 further
+]
 
 pub sorted_at : (c : List Binding) (e : Binding) → AllSorted c → Contains c e → fits_sort e.var.sort (tree e.term) ≡ true
 sorted_at [] e s m = absurd (nothing_in e m)
 sorted_at (x ∷ xs) e s m = elim (item_cases x e xs m) as (λ _. fits_sort e.var.sort (tree e.term) ≡ true) [
-    | inl is ↦ subst (λ (y : Binding). fits_sort y.var.sort (tree y.term) ≡ true) is s.0
-    | inr further ↦ sorted_at xs e s.1 further
-  ]
+  | inl is ↦ subst (λ (y : Binding). fits_sort y.var.sort (tree y.term) ≡ true) is s.0
+  | inr further ↦ sorted_at xs e s.1 further
+]
 
 pub var_at : (c : List Binding) (e : Binding) → Contains c e → Contains (bound_vars c) e.var
 var_at [] e m = absurd (nothing_in e m)
 var_at (x ∷ xs) e m = elim (item_cases x e xs m) as (λ _. Contains (bound_vars (x ∷ xs)) e.var) [
-    | inl is ↦ subst (λ (y : Binding). Contains (bound_vars (x ∷ xs)) y.var) is (first_item x.var (bound_vars xs))
-    | inr further ↦ later_item x.var e.var (bound_vars xs) (var_at xs e further)
-  ]
+  | inl is ↦ subst (λ (y : Binding). Contains (bound_vars (x ∷ xs)) y.var) is (first_item x.var (bound_vars xs))
+  | inr further ↦ later_item x.var e.var (bound_vars xs) (var_at xs e further)
+]
 
 -- what a fitting choice gives the outer variables are messages, where the facts' arguments are
 args_message : FittingGivesMessages → (g : Sig) (σ : Choice) (ps ts : List Tree) → ArgsFit g ps ts σ → All (IsHeldTerm g) ts → (v : Var) → Contains (all_outer_vars g (trees_of ps)) v → IsTrue (fits_sort v.sort (σ v)) → IsMessage g v.sort (σ v)
@@ -148,9 +144,9 @@ large_evaluated g r σ s = large_form_within (theory g) 256 _ (subst (SomeSubter
 
 pub evaluated_small : (g : Sig) (r : Rule) (σ : Choice) → (SomeLarge g (map (instance σ) (rule_terms r)) → ⊥) → (n : Tree) → IsEvaluated g r σ n → IsSmall n
 evaluated_small g r σ h n s = elim (cases_lt 256 (node_count n)) as (λ _. node_count n ≤ 256) [
-    | inl l ↦ absurd (h (subst (SomeSubtermWithin (HasLargeForm (theory g) 256)) (instances-list σ (rule_terms r)) (form_large_within (theory g) 256 n _ l s)))
-    | inr k ↦ k
-  ]
+  | inl l ↦ absurd (h (subst (SomeSubtermWithin (HasLargeForm (theory g) 256)) (instances-list σ (rule_terms r)) (form_large_within (theory g) 256 n _ l s)))
+  | inr k ↦ k
+]
 
 -- facts whose forms have the arguments of those that they fit are theory-equal to these
 args_equal : (e : Theory) (us ns : List Tree) → AllZip (IsNormalForm e) us ns → AllZip (IsTheoryEqual e) us ns
@@ -223,9 +219,9 @@ mutual
 -- forms of terms over the signature are held, where none is large
 small_form : (e : Theory) (t n : Tree) → IsNormalForm e t n → (SomeSubterm (HasLargeForm e 256) t → ⊥) → node_count n ≤ 256
 small_form e t n h s = elim (cases_lt 256 (node_count n)) as (λ _. node_count n ≤ 256) [
-    | inl l ↦ absurd (s (whole t (record { form = n; is_form = h; large = l })))
-    | inr k ↦ k
-  ] where
+  | inl l ↦ absurd (s (whole t (record { form = n; is_form = h; large = l })))
+  | inr k ↦ k
+] where
   whole : (t : Tree) → HasLargeForm e 256 t → SomeSubterm (HasLargeForm e 256) t
   whole t l = itself l
 

@@ -1,5 +1,5 @@
 -- The use of a rule in its parts: the choices that are found, and the normal forms that are made.
-use Rattle.std.specs.Prelude.{◌≡◌, ℕ, List, ◌++◌, map, ⊤}
+use Rattle.std.specs.Prelude.{◌≡◌, List, ◌++◌, map, ⊤}
 use Rattle.std.specs.List.{AllZip, flat_map}
 use Rattle.sap_terms.specs.Choice.{Choice, IsSorted, instance}
 use Rattle.sap_terms.specs.Modulo.{instance_facts, AreFormsOfFacts}
@@ -18,7 +18,7 @@ use Rattle.sap_rule.specs.declared.rule.Rule.{Rule}
 use Rattle.sap_steps.specs.Faults.{FactFits}
 use Rattle.sap_steps.specs.Lines.{rule_terms}
 use Rattle.sap_steps.specs.declared.fault.RFault.{RFault}
-use Rattle.sap_steps.specs.declared.fault.RFault.TheVariants.{Mem, NoRule, FactCount, FactMissing, BadBinding, NoMatch, TermLarge, Unequal, UsedName, WrongFact, NoEntry, NotPublic, Arity}
+use Rattle.sap_steps.specs.declared.fault.RFault.TheVariants.{Mem, TermLarge, Unequal}
 
 -- c is b and then terms for these variables; what agrees with c is as F says; what is sorted, agrees with b and is as F says
 -- agrees with c, if no name has two sorts

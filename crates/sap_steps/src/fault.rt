@@ -1,6 +1,5 @@
 ghost use Rattle.std.specs.Prelude.{◌≡◌};
 ghost use Rattle.sap_steps.specs.declared.fault.RFault.TheVariants.{Mem as OutOfMemory};
-
 ghost use Rattle.sap_steps.specs.Firing.{fault_of};
 
 use sap_rewrite::Cut;

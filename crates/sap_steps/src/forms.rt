@@ -47,7 +47,12 @@ fn form_of_fact(alloc: Global, sig: &Signature, f: &Fact, c: &Bindings) -> Resul
 }
 
 // Those of arguments.
-fn forms_of_args(alloc: Global, sig: &Signature, ts: &TermList, c: &Bindings) -> Result<TermList, Cut>
+fn forms_of_args(
+    alloc: Global,
+    sig: &Signature,
+    ts: &TermList,
+    c: &Bindings,
+) -> Result<TermList, Cut>
     ensures forms { IfOk result (λ r. AllZip (IsNormalForm (theory sig.now)) (map (subst_tree c.now) ts.now) r) }
     ensures within { OnOk result (SomeLarge sig.now (map (subst_tree c.now) ts.now) → ⊥) }
     ensures large { IsErrOf result Cut.Large → SomeLarge sig.now (map (subst_tree c.now) ts.now) }

@@ -1,4 +1,4 @@
-use Rattle.std.proofs.Common.{◌≡◌, length, sym, subst, ◌∙◌, arith, refl}
+use Rattle.std.proofs.Common.{◌≡◌, length, sym, subst, arith, refl}
 use Rattle.std.specs.Prelude.{All}
 use Rattle.std.proofs.lemmas.List.Elements.{All-push}
 use Rattle.sap_terms.specs.Message.{IsMessage}
@@ -19,9 +19,12 @@ loop-k-preserved c =
     subst (All P) (sym (take_got b c.loop-k.k c.at-e.result.now c.at-e.ensures)) (All-push P (take c.loop-k.k b) c.at-e.result.now c.loop-k.invariant (c.in_ok-is_message.ensures.0 c.if-not-branch.false))
 
 pub returns-then-not-branch : goal.returns-then-not-branch
-returns-then-not-branch c = (λ h. cc, λ a.
-    let same = c.in_ok-is_message.ensures.1 (all_at (Good c.args.sig.now) c.args.b.now c.loop-k.k c.at-e.result.now a c.at-e.ensures) in
-    cc (same, c.if-not-branch.true))
+returns-then-not-branch c = (
+  λ h. cc,
+  λ a.
+      let same = c.in_ok-is_message.ensures.1 (all_at (Good c.args.sig.now) c.args.b.now c.loop-k.k c.at-e.result.now a c.at-e.ensures) in
+      cc (same, c.if-not-branch.true),
+)
 
 pub returns : goal.returns
 returns c =

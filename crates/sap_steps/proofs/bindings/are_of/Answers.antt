@@ -1,4 +1,3 @@
-use Rattle.std.proofs.Common.{◌≡◌}
 use Rattle.sap_rewrite.specs.Match.{bound_vars}
 use Rattle.sap_terms.specs.declared.binding.Binding.{Binding}
 use Rattle.sap_steps.proofs.Lists.{same_further, get_map}

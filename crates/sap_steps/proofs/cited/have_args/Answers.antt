@@ -1,4 +1,4 @@
-use Rattle.std.proofs.Common.{◌≡◌, ◌<◌, length, Some, sym, ap, subst, ◌∙◌, arith, true, take, refl}
+use Rattle.std.proofs.Common.{◌≡◌, length, sym, subst, ◌∙◌, arith, take, refl}
 use Rattle.sap_terms.specs.declared.fact.Fact.{Fact}
 use Rattle.sap_steps.specs.Firing.{HaveArgs}
 use Rattle.sap_steps.specs.Held.{cited_at}
@@ -12,10 +12,12 @@ loop-k-preserved c =
 
 pub returns-then-not-are_same : goal.returns-then-not-are_same
 returns-then-not-are_same c =
-    let hs = cited_at c.args.facts.now.places c.args.numbers.now in
-    (λ h. cc, λ a.
-    let same = c.are_same.ensures.1 (zip_at (λ (f h : Fact). f.args ≡ h.args) c.args.fs.now hs c.loop-k.k c.at.result.now c.cited.result.now a c.at.ensures c.cited.ensures) in
-    cc (same, c.if-not-are_same.true))
+    let hs = cited_at c.args.facts.now.places c.args.numbers.now in (
+      λ h. cc,
+      λ a.
+          let same = c.are_same.ensures.1 (zip_at (λ (f h : Fact). f.args ≡ h.args) c.args.fs.now hs c.loop-k.k c.at.result.now c.cited.result.now a c.at.ensures c.cited.ensures) in
+          cc (same, c.if-not-are_same.true),
+    )
 
 pub returns : goal.returns
 returns c =

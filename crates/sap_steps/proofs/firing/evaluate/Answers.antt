@@ -1,4 +1,4 @@
-use Rattle.std.proofs.Common.{rules, ◌≡◌, length, map, sym, ap, ◌∙◌, arith, Err}
+use Rattle.std.proofs.Common.{sym, ap, ◌∙◌, Err}
 use Rattle.std.proofs.lemmas.List.{length-map}
 use Rattle.sap_terms.specs.Modulo.{instance_fact, instance_facts, IsFormOfFact}
 use Rattle.sap_terms.specs.Subst.{bound_to}
