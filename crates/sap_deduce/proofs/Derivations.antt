@@ -1,7 +1,6 @@
 -- Entries are derivations, and derivations can be entered.
-use Rattle.std.proofs.Common.{◌≡◌, ◌<◌, ℕ, zero, suc, List, [], ◌∷◌, ◌++◌, length, map, reverse, Option, Some, None, slice_get, slice_index_or, refl, ap, sym, subst, ◌∙◌}
+use Rattle.std.proofs.Common.{◌≡◌, ℕ, zero, suc, List, [], ◌∷◌, ◌++◌, length, map, reverse, Some, slice_get, slice_index_or, refl, ap, sym, subst, ◌∙◌}
 use Rattle.std.specs.Prelude.{All, Contains, filter}
-use Rattle.std.specs.List.{filter_map}
 use Rattle.std.proofs.lemmas.List.{map-append, length-map, reverse-append}
 use Rattle.std.proofs.lemmas.List.Elements.{All-nil, All-cons, All-head, All-tail, All-push, All-append, All-contains, Contains-push, Contains-append_left, Contains-append_right, Contains-append_cases, Contains-get_or, filter_map-append, filter-append}
 use Rattle.std.proofs.lemmas.Option.{slice_get_within, get_or_from_slice_get, slice_get-get_or}
@@ -15,7 +14,7 @@ use Rattle.sap_terms.specs.Normal.{IsNormal}
 use Rattle.sap_terms.specs.Deduce.{IsDerived, a_public, a_name, given, applied, IsDerivation, IsDeducible}
 use Rattle.sap_deduce.specs.declared.line.Line.{Line}
 use Rattle.sap_deduce.specs.declared.line.Line.TheVariants.{Name, Public, Output, Apply}
-use Rattle.sap_deduce.specs.Entries.{Entry, Entries, terms_of, name_of, is_output, names_given, outputs_given, AreTermsAt, IsApplication, Adds, AreEntered, none_yet, one_more}
+use Rattle.sap_deduce.specs.Entries.{Entry, Entries, terms_of, name_of, is_output, names_given, outputs_given, Adds, AreEntered, none_yet, one_more}
 use Rattle.sap_deduce.specs.Laws.{AreDeducible, CanBeEntered}
 
 -- a leaf is normal

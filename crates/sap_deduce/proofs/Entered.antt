@@ -1,5 +1,5 @@
 -- Entries as they are stored, and what a line more keeps.
-use Rattle.std.proofs.Common.{◌≡◌, ◌≤◌, ℕ, List, [], ◌∷◌, ◌++◌, length, map, Option, Some, option_map, slice_get, refl, ap, sym, ◌∙◌}
+use Rattle.std.proofs.Common.{◌≡◌, ◌≤◌, ℕ, List, [], ◌∷◌, ◌++◌, length, option_map, slice_get, ap, ◌∙◌}
 use Rattle.std.proofs.lemmas.List.{map-append, length-map}
 use Rattle.std.proofs.lemmas.Simd.{map-map}
 use Rattle.std.proofs.lemmas.List.Elements.{All-nil, All-push}
@@ -9,7 +9,7 @@ use Rattle.sap_terms.specs.View.{tree}
 use Rattle.sap_terms.specs.Signature.{Sig}
 use Rattle.sap_deduce.specs.declared.line.Line.{Line}
 use Rattle.sap_deduce.specs.declared.entry.Entry.{Entry as StoredEntry}
-use Rattle.sap_deduce.specs.Entries.{Entry, Entries, terms_of, Adds, AreEntered, none_yet, one_more, AreHeld}
+use Rattle.sap_deduce.specs.Entries.{Entry, Entries, terms_of, Adds, none_yet, one_more, AreHeld}
 use Rattle.sap_deduce.specs.Views.{entry_of, entries_of}
 
 pub entries_of-push : (es : List StoredEntry) (e : StoredEntry) → entries_of (es ++ e ∷ []) ≡ entries_of es ++ entry_of e ∷ []

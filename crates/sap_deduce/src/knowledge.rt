@@ -1,18 +1,17 @@
-ghost use Rattle.std.specs.Prelude.{◌≡◌, ◌+◌, ◌<◌, ◌≤◌, [], ◌∷◌, ◌++◌, length, IfOk, OnOk, OnErr, IfErr, IfSome, option_map, slice_get, find, nat_le, All, IsErrOf, Some};
+ghost use Rattle.std.specs.Prelude.{◌≡◌, ◌+◌, ◌<◌, ◌≤◌, [], ◌∷◌, ◌++◌, length, IfOk, OnOk, OnErr, IfErr, IfSome, option_map, slice_get, find, map, nat_le, All, Some};
 ghost use Rattle.std.specs.Option.{option_copied};
 ghost use Rattle.sap_terms.specs.View.{tree};
-ghost use Rattle.sap_terms.specs.Tree.{node_count, fresh, public, apply, trees_of};
+ghost use Rattle.sap_terms.specs.Tree.{node_count, fresh, public};
 ghost use Rattle.sap_terms.specs.Theory.{theory};
-ghost use Rattle.sap_terms.specs.Normal.{IsNormal, IsNormalForm};
-ghost use Rattle.sap_rewrite.specs.Large.{HasLargeForm};
+ghost use Rattle.sap_terms.specs.Normal.{IsNormal};
 ghost use Rattle.sap_deduce.specs.Entries.{Gains, Adds, terms_of, AreTermsAt, IsApplication, Applies, IsCause, IsLarge};
 ghost use Rattle.sap_terms.specs.Signature.{IsPublic, arity_of};
 ghost use Rattle.sap_deduce.specs.declared.line.Line.TheVariants.{Name as NameLine, Public as PublicLine, Output as OutputLine, Apply as ApplyLine};
 
 use crate::entry::Entry;
 use crate::{Deny, Line};
-use sap_rewrite::{Cut, normal_forms_are_unique, normal_within};
-use sap_terms::{Copied, Items, Mem, Name, Numbers, Signature, Term, TermList};
+use sap_rewrite::{Cut, normal_on};
+use sap_terms::{Copied, Items, Mem, Name, Numbers, Signature, Term};
 use std::alloc::Global;
 use std::marker::Model;
 
@@ -37,19 +36,6 @@ impl Model for Knowledge {
     ghost view = { λ a. record { sig = a.sig; entries = entries_of a.entries } };
 
     ghost invariant = { λ a. AreHeld (record { sig = a.sig; entries = entries_of a.entries }) };
-}
-
-// The normal form of a symbol on normal terms, if it has no more than 256 nodes.
-fn small_form(alloc: Global, sig: &Signature, f: &Name, args: TermList) -> Result<Term, Cut>
-    requires normal { All (IsNormal (theory sig.now)) args }
-    requires small { All (λ t. node_count t ≤ 256) args }
-    ensures form { IfOk result (λ t. IsNormalForm (theory sig.now) (apply f.now (trees_of args)) (tree t)) }
-    ensures within { IfOk result (λ t. node_count (tree t) ≤ 256) }
-    ensures large { IsErrOf result Cut.Large → HasLargeForm (theory sig.now) 256 (apply f.now (trees_of args)) }
-{
-    normal_forms_are_unique();
-    let whole = Term::App(f.copy(alloc)?, args);
-    normal_within(alloc, sig, &whole, 256)
 }
 
 impl Knowledge {
@@ -147,20 +133,19 @@ impl Knowledge {
         &self.entries.at(k).term
     }
 
-    // The terms of these entries, copied.
-    fn terms_at(&self, alloc: Global, numbers: &Numbers) -> Result<TermList, Mem>
+    // The terms of these entries, lent.
+    fn terms_at(&self, alloc: Global, numbers: &Numbers) -> Result<Vec<&Term>, Mem>
         requires { All (λ k. k < length self.now.entries) numbers.now }
-        ensures { IfOk result (λ ts. AreTermsAt self.now.entries numbers.now ts) }
+        ensures { IfOk result (λ ts. AreTermsAt self.now.entries numbers.now (map (λ t. tree t.now) ts.items)) }
     {
-        let mut terms = TermList::new(alloc);
+        let mut terms = Vec::new(alloc);
         for k in 0..numbers.len() {
-            let term = self.term_at(*numbers.at(k)).copy(alloc)?;
-            terms.push(term)?;
+            terms.push(self.term_at(*numbers.at(k)))?;
         }
         Ok(terms)
     }
 
-    // The normal form of a symbol on the entries of these numbers.
+    // The normal form of a symbol on the entries of these numbers. No entry is copied but for what the form needs.
     fn form_at(&self, alloc: Global, f: &Name, numbers: &Numbers) -> Result<Term, Deny>
         requires public_symbol { IsPublic self.now.sig f.now }
         requires arity { arity_of self.now.sig f.now ≡ Some (length numbers.now) }
@@ -169,9 +154,9 @@ impl Knowledge {
         ensures within { IfOk result (λ t. node_count (tree t) ≤ 256) }
         ensures denied { IfErr result (IsLarge self.now f.now numbers.now) }
     {
-        let args = self.terms_at(alloc, numbers)?;
-        match small_form(alloc, &self.sig, f, args) {
-            Ok(term) => Ok(term),
+        let terms = self.terms_at(alloc, numbers)?;
+        match normal_on(alloc, &self.sig, f, &terms, 256) {
+            Ok(form) => Ok(form),
             Err(Cut::Large) => Err(Deny::TermLarge),
             Err(Cut::Mem) => Err(Deny::Mem),
         }

@@ -2,7 +2,6 @@ pub mod Respects
 pub mod Sound
 pub mod Reach
 pub mod NormalForms
-pub mod Messages
 pub mod Shapes
 pub mod ListLaws
 pub mod Parts
@@ -14,4 +13,6 @@ pub mod Patterns
 pub mod Only
 pub mod Around
 pub mod Bound
-pub mod Closed
+pub mod Forms
+pub mod Messages
+pub mod Lent

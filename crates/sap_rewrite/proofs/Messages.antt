@@ -1,61 +1,72 @@
--- Normal forms of ground terms over a signature are ground and over it.
-use Rattle.std.proofs.Common.{◌≡◌, suc, List, length, Option, Some, None, unwrap_or, refl, sym, ap, subst, ◌∙◌}
-use Rattle.std.specs.Prelude.{option_map}
+-- The test of messages.
+use Rattle.std.proofs.Common.{◌≡◌, ℕ, List, Bool, true, false, ◌&&◌, Option, Some, None, length, refl, sym, ap, subst, ◌∙◌, IsTrue}
+use Rattle.std.proofs.lemmas.Bool.Decides.{Decides-eqb}
+use Rattle.sap_terms.specs.declared.var.Sort.{Sort}
+use Rattle.sap_terms.specs.declared.term.Term.{Term}
+use Rattle.sap_terms.specs.Choice.{fits_sort}
 use Rattle.sap_terms.specs.Ground.{IsGround, AreGround}
-use Rattle.sap_terms.specs.Message.{IsOver, AreOver}
-use Rattle.sap_terms.specs.Normal.{IsNormalForm}
-use Rattle.sap_terms.specs.Signature.{Sig, HoldsBuiltins, arity_of}
-use Rattle.sap_terms.specs.Theory.{theory, IsInstance, first, second, symmetric, asymmetric, signing, true_name}
-use Rattle.sap_terms.specs.Tree.{Tree, variable, public, fresh, apply, Trees, none, more, list_of}
-use Rattle.sap_terms.specs.declared.signature.Builtin.TheVariants.{Signing}
-use Rattle.sap_terms.specs.declared.signature.Symbol.{Symbol}
-use Rattle.sap_rewrite.specs.Reduce.{nf, nfs, contracted, reduced}
-use Rattle.sap_rewrite.proofs.NormalForms.{one_normal_form}
-use Rattle.sap_rewrite.proofs.Sound.{contracted-sound}
+use Rattle.sap_terms.specs.Message.{IsMessage, IsOver, AreOver}
+use Rattle.sap_terms.specs.Normal.{IsNormal, IsNormalForm}
+use Rattle.sap_terms.specs.Signature.{Sig, arity_of}
+use Rattle.sap_terms.specs.Theory.{theory}
+use Rattle.sap_terms.specs.Tree.{Tree, variable, public, fresh, apply, Trees, none, more, trees_of, list_of, list_of-trees_of}
+use Rattle.sap_terms.specs.View.{tree, term, term-tree}
+use Rattle.sap_terms.proofs.SameLemmas.{and_left, and_right, and_true}
+use Rattle.sap_terms.proofs.TreeLemmas.{item_le-trees_count}
+use Rattle.sap_rewrite.specs.Closed.{has_arity, is_closed, all_closed}
+use Rattle.sap_rewrite.proofs.NormalForms.{one_normal_form, nf-fixed}
 
--- the tree is ground and over the signature
-abbrev IsPlain : Sig → Tree → Type 0
-IsPlain g t = IsGround t × IsOver g t
+pub closed-apply : (g : Sig) (f : List ℕ) (ts : List Tree) → is_closed g (apply f (trees_of ts)) ≡ (has_arity (arity_of g f) (length ts) && all_closed g (trees_of ts))
+closed-apply g f ts = ap (λ us. has_arity (arity_of g f) (length us) && all_closed g (trees_of ts)) (list_of-trees_of ts)
 
-abbrev ArePlain : Sig → Trees → Type 0
-ArePlain g ts = AreGround ts × AreOver g ts
+pub ruleset closed_laws = (closed-apply, item_le-trees_count)
 
--- what an equation makes of such a tree is one
-right_plain : (g : Sig) (a b : Tree) → HoldsBuiltins g → IsInstance (theory g) a b → IsPlain g a → IsPlain g b
-right_plain g _ _ h first p = (p.0.0.0, p.1.1.0.1.0)
-right_plain g _ _ h second p = (p.0.0.1.0, p.1.1.0.1.1.0)
-right_plain g _ _ h (symmetric on) p = (p.0.0.0, p.1.1.0.1.0)
-right_plain g _ _ h (asymmetric on) p = (p.0.0.0, p.1.1.0.1.0)
-right_plain g _ _ h (signing on) p = (tt, (ap (option_map (λ (s : Symbol). s.arity)) (h Signing on).1.1.1.0, tt))
+arity_there : (o : Option ℕ) (k : ℕ) → has_arity o k ≡ true → o ≡ Some k
+arity_there None k h = cc
+arity_there (Some n) k h = ap Some ((Decides-eqb n k).0 h)
 
--- so is what is made of a symbol on such trees
-reduced_plain : (g : Sig) (f : _) (ts : Trees) → HoldsBuiltins g → IsPlain g (apply f ts) → IsPlain g (reduced (theory g) f ts)
-reduced_plain g f ts h p = at (contracted (theory g) f ts) refl where
-  at : (o : Option Tree) → contracted (theory g) f ts ≡ o → IsPlain g (unwrap_or o (apply f ts))
-  at None e = p
-  at (Some r) e = right_plain g (apply f ts) r h (contracted-sound (theory g) f ts r e) p
+arity_tested : (o : Option ℕ) (k : ℕ) → o ≡ Some k → has_arity o k ≡ true
+arity_tested o k h = rw h ((Decides-eqb k k).1 refl)
 
 mutual
-  unfolding nf nfs
+  closed-sound : (g : Sig) (t : Tree) → is_closed g t ≡ true → IsGround t × IsOver g t
+  closed-sound g (variable v) h = cc
+  closed-sound g (public n) h = (tt, tt)
+  closed-sound g (fresh k) h = (tt, tt)
+  closed-sound g (apply f ts) h =
+      let q = all_closed-sound g ts (and_right _ _ h) in
+      (q.0, (arity_there (arity_of g f) (length (list_of ts)) (and_left _ _ h), q.1))
 
-  form_plain : (g : Sig) (t : Tree) → HoldsBuiltins g → IsPlain g t → IsPlain g (nf (theory g) t)
-  form_plain g (variable v) h p = absurd p.0
-  form_plain g (public n) h p = p
-  form_plain g (fresh k) h p = p
-  form_plain g (apply f ts) h p =
-      let r = forms_plain g ts h (p.0, p.1.1) in
-      reduced_plain g f (nfs (theory g) ts) h (r.0, (p.1.0 ∙ ap (λ n. Some n) (forms_length g ts), r.1))
+  all_closed-sound : (g : Sig) (ts : Trees) → all_closed g ts ≡ true → AreGround ts × AreOver g ts
+  all_closed-sound g none h = (tt, tt)
+  all_closed-sound g (more t ts) h =
+      let x = closed-sound g t (and_left _ _ h) in
+      let y = all_closed-sound g ts (and_right _ _ h) in
+      ((x.0, y.0), (x.1, y.1))
 
-  forms_plain : (g : Sig) (ts : Trees) → HoldsBuiltins g → ArePlain g ts → ArePlain g (nfs (theory g) ts)
-  forms_plain g none h p = p
-  forms_plain g (more t ts) h p =
-      let a = form_plain g t h (p.0.0, p.1.0) in
-      let b = forms_plain g ts h (p.0.1, p.1.1) in
-      ((a.0, b.0), (a.1, b.1))
+mutual
+  closed-complete : (g : Sig) (t : Tree) → IsGround t → IsOver g t → is_closed g t ≡ true
+  closed-complete g (variable v) a o = absurd a
+  closed-complete g (public n) a o = refl
+  closed-complete g (fresh k) a o = refl
+  closed-complete g (apply f ts) a o =
+      and_true _ _ (arity_tested (arity_of g f) (length (list_of ts)) o.0) (all_closed-complete g ts a o.1)
 
-  forms_length : (g : Sig) (ts : Trees) → length (list_of ts) ≡ length (list_of (nfs (theory g) ts))
-  forms_length g none = refl
-  forms_length g (more t ts) = ap (λ n. suc n) (forms_length g ts)
+  all_closed-complete : (g : Sig) (ts : Trees) → AreGround ts → AreOver g ts → all_closed g ts ≡ true
+  all_closed-complete g none a o = refl
+  all_closed-complete g (more t ts) a o = and_true _ _ (closed-complete g t a.0 o.0) (all_closed-complete g ts a.1 o.1)
 
-pub form_stays_over : (g : Sig) (t n : Tree) → HoldsBuiltins g → IsGround t → IsOver g t → IsNormalForm (theory g) t n → IsGround n × IsOver g n
-form_stays_over g t n h ground over form = subst (IsPlain g) (sym (one_normal_form (theory g) t n form)) (form_plain g t h (ground, over))
+-- a term that fails the first two tests is no message
+pub no_message : (g : Sig) (s : Sort) (t : Tree) → (fits_sort s t ≡ true → is_closed g t ≡ true → ⊥) → IsMessage g s t → ⊥
+no_message g s t h m = h m.sorted (closed-complete g t m.ground m.over)
+
+-- one that passes them is one exactly where it is its normal form
+pub is_message_where : (g : Sig) (s : Sort) (t n : Term) → fits_sort s (tree t) ≡ true → is_closed g (tree t) ≡ true → IsNormalForm (theory g) (tree t) (tree n) → (n ≡ t → IsMessage g s (tree t)) × (IsMessage g s (tree t) → n ≡ t)
+is_message_where g s t n h i f = (
+  λ e.
+      let q = closed-sound g (tree t) i in
+      record { ground = q.0; over = q.1; normal = subst (λ (u : Term). IsNormal (theory g) (tree u)) e f.normal; sorted = h },
+  λ m.
+      let same : tree n ≡ tree t = one_normal_form (theory g) (tree t) (tree n) f ∙ nf-fixed (theory g) (tree t) m.normal in
+      sym (term-tree n) ∙ ap term same ∙ term-tree t,
+)

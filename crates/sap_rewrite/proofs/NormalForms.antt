@@ -10,7 +10,7 @@ use Rattle.sap_rewrite.proofs.Reach.{AreTheoryEqual, done, join, join_all, at_he
 use Rattle.sap_rewrite.proofs.Respects.{nf-equal}
 
 -- a term is theory-equal to its normal form
-reduced-equal : (e : Theory) (f : List ℕ) (ts : Trees) → IsTheoryEqual e (apply f ts) (reduced e f ts)
+pub reduced-equal : (e : Theory) (f : List ℕ) (ts : Trees) → IsTheoryEqual e (apply f ts) (reduced e f ts)
 reduced-equal e f ts = at (contracted e f ts) refl where
   at : (o : Option Tree) → contracted e f ts ≡ o → IsTheoryEqual e (apply f ts) (unwrap_or o (apply f ts))
   at None h = same
@@ -49,7 +49,7 @@ right-normal e (signing h) n = (no_instance e true_name none refl, tt)
 pub leaf-normal : (e : Theory) (t : Tree) → contracted_tree e t ≡ None → IsNoLeftSide e t
 leaf-normal e t h b i = let c = contracted-complete e i in cc
 
-reduced-normal : (e : Theory) (f : List ℕ) (ts : Trees) → AreNormal e ts → IsNormal e (reduced e f ts)
+pub reduced-normal : (e : Theory) (f : List ℕ) (ts : Trees) → AreNormal e ts → IsNormal e (reduced e f ts)
 reduced-normal e f ts n = at (contracted e f ts) refl where
   at : (o : Option Tree) → contracted e f ts ≡ o → IsNormal e (unwrap_or o (apply f ts))
   at None h = (no_instance e f ts h, n)

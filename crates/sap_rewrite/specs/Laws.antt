@@ -1,12 +1,13 @@
 -- What holds of all terms and their normal forms.
 use Rattle.std.specs.Prelude.{◌≡◌, ◌↔◌}
 use Rattle.sap_terms.specs.Tree.{Tree}
-use Rattle.sap_terms.specs.Ground.{IsGround}
-use Rattle.sap_terms.specs.Message.{IsOver}
-use Rattle.sap_terms.specs.Signature.{Sig, HoldsBuiltins}
 use Rattle.sap_terms.specs.Theory.{Theory, theory}
 use Rattle.sap_terms.specs.Equal.{IsTheoryEqual}
+use Rattle.sap_terms.specs.Ground.{IsGround}
+use Rattle.sap_terms.specs.Message.{IsMessage, IsOver}
 use Rattle.sap_terms.specs.Normal.{IsNormalForm}
+use Rattle.sap_terms.specs.Signature.{Sig, HoldsBuiltins}
+use Rattle.sap_terms.specs.declared.var.Sort.TheVariants.{Msg}
 
 -- every term has a normal form
 abbrev pub EachHasForm : Type 0
@@ -20,7 +21,6 @@ FormIsOne = (e : Theory) (t m n : Tree) → IsNormalForm e t m → IsNormalForm 
 abbrev pub FormsDecide : Type 0
 FormsDecide = (e : Theory) (t u m n : Tree) → IsNormalForm e t m → IsNormalForm e u n → IsTheoryEqual e t u ↔ (m ≡ n)
 
--- the normal form of a ground term over a signature is one too
-abbrev pub FormsStayOver : Type 0
-FormsStayOver =
-    (g : Sig) (t n : Tree) → HoldsBuiltins g → IsGround t → IsOver g t → IsNormalForm (theory g) t n → IsGround n × IsOver g n
+-- the normal form of a ground term over a signature that holds its builtins' symbols is a message
+abbrev pub FormsAreMessages : Type 0
+FormsAreMessages = (g : Sig) (t n : Tree) → HoldsBuiltins g → IsGround t → IsOver g t → IsNormalForm (theory g) t n → IsMessage g Msg n

@@ -8,7 +8,7 @@ use sap_terms::Mem;
 pub enum Cut {
     /// Want of memory.
     Mem,
-    /// The normal form of some subterm, the whole term included, has more nodes than the limit.
+    /// The normal form has more nodes than the limit; at a whole term, that of some subterm, itself included.
     Large,
 }
 

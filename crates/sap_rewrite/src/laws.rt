@@ -1,7 +1,7 @@
 // Laws of the equational theory, each as the contract of a function that does nothing.
 ghost use Rattle.sap_rewrite.specs.Around.{FittingGivesMessages, MatchingAroundIsModulo};
 ghost use Rattle.sap_rewrite.specs.Bound.{AgreeingSubstitutes, BindingsGiveChoices, ExtensionsJoin, NamedOnceStay};
-ghost use Rattle.sap_rewrite.specs.Laws.{EachHasForm, FormIsOne, FormsDecide, FormsStayOver};
+ghost use Rattle.sap_rewrite.specs.Laws.{EachHasForm, FormIsOne, FormsAreMessages, FormsDecide};
 ghost use Rattle.sap_rewrite.specs.Pattern.{MatchingIsModulo};
 
 /// Every term has a normal form under every signature's equations.
@@ -17,11 +17,6 @@ pub fn normal_forms_are_unique()
 /// Two terms are theory-equal exactly where their normal forms are the same tree.
 pub fn normal_forms_decide()
     ensures { FormsDecide }
-{}
-
-/// The normal form of a ground term over a signature is ground and over it.
-pub fn normal_forms_stay_over()
-    ensures { FormsStayOver }
 {}
 
 /// Under a normal substitution, the instance of a pattern is theory-equal to a normal term exactly where it is that
@@ -63,4 +58,9 @@ pub fn bindings_give_choices()
 /// sorts.
 pub fn agreeing_choices_substitute()
     ensures { AgreeingSubstitutes }
+{}
+
+/// The normal form of a ground term over a signature is a message, if the signature holds its builtins' symbols.
+pub fn forms_are_messages()
+    ensures { FormsAreMessages }
 {}

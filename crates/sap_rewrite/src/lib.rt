@@ -3,11 +3,13 @@
 
 mod cut;
 mod laws;
+mod lends;
 mod matching;
 mod message;
 mod normal_form;
 mod reduce;
 mod shape;
+mod symbol;
 #[cfg(test)]
 mod tests;
 mod within;
@@ -15,11 +17,11 @@ mod within;
 pub use cut::Cut;
 pub use laws::{
     agreeing_choices_substitute, bindings_give_choices, each_term_has_a_normal_form,
-    extensions_join, fitting_gives_messages, matching_around_is_modulo, matching_is_modulo,
-    normal_forms_are_unique, normal_forms_decide, normal_forms_stay_over,
-    variables_named_once_stay_so,
+    extensions_join, fitting_gives_messages, forms_are_messages, matching_around_is_modulo,
+    matching_is_modulo, normal_forms_are_unique, normal_forms_decide, variables_named_once_stay_so,
 };
 pub use matching::{match_around, match_pattern};
 pub use message::is_message;
 pub use normal_form::{normal, same_modulo};
+pub use symbol::normal_on;
 pub use within::normal_within;

@@ -26,7 +26,7 @@ pub fn is_message(alloc: Global, sig: &Signature, sort: Sort, t: &Term) -> Resul
 
 // Whether the term is ground and over the signature.
 #[cycle(is_closed)]
-#[tactic(auto, using(crate::proofs::Closed::closed_laws))]
+#[tactic(auto, using(crate::proofs::Messages::closed_laws))]
 fn is_closed(sig: &Signature, t: &Term) -> bool
     ensures { result ≡ is_closed sig.now (tree t.now) }
 {
@@ -41,7 +41,7 @@ fn is_closed(sig: &Signature, t: &Term) -> bool
 }
 
 #[cycle(is_closed)]
-#[tactic(auto, using(crate::proofs::Closed::closed_laws))]
+#[tactic(auto, using(crate::proofs::Messages::closed_laws))]
 fn all_closed(sig: &Signature, ts: &TermList) -> bool
     ensures { result ≡ all_closed sig.now (trees_of ts.now) }
 {

@@ -6,13 +6,14 @@ ghost use Rattle.sap_terms.specs.Tree.{apply, trees_of};
 ghost use Rattle.sap_terms.specs.Theory.{theory, app0, true_name};
 ghost use Rattle.sap_rewrite.specs.Reduce.{inner_part, place, by_signing, reduced};
 
+use crate::lends::Lends;
 use crate::shape::{first_part, opened, opened_by_key, second_part, verifies};
 use sap_terms::{Builtin, Copied, Mem, Name, Signature, Term, TermList};
 use std::alloc::Global;
 
 // Where in the first argument the part stands that an equation leaves.
-fn place_of_part(sig: &Signature, f: &Name, args: &TermList) -> Option<u64>
-    ensures { result ≡ place (theory sig.now) f.now (trees_of args.now) }
+pub(crate) fn place_of_part<L: Lends>(sig: &Signature, f: &Name, args: &L) -> Option<u64>
+    ensures { result ≡ place (theory sig.now) f.now (trees_of (L.lent args.now)) }
 {
     if f.is(b"fst") {
         first_part(args).map(|_| 0)
@@ -40,10 +41,18 @@ fn into_part(args: TermList, k: u64) -> Term
 }
 
 // Whether the symbol on these terms is a check of a signature that holds.
-fn is_verified(sig: &Signature, f: &Name, args: &TermList) -> bool
-    ensures { (if result then Some (app0 true_name) else None) ≡ by_signing (theory sig.now) f.now (trees_of args.now) }
+pub(crate) fn is_verified<L: Lends>(sig: &Signature, f: &Name, args: &L) -> bool
+    ensures { (if result then Some (app0 true_name) else None) ≡ by_signing (theory sig.now) f.now (trees_of (L.lent args.now)) }
 {
     f.is(b"verify") && sig.has(Builtin::Signing) && verifies(args).is_some()
+}
+
+// The constant that a check of a signature gives where it holds.
+pub(crate) fn true_constant(alloc: Global) -> Result<Term, Mem>
+    ensures { IfOk result (λ t. tree t ≡ app0 true_name) }
+{
+    let name = Name::from_bytes(alloc, b"true")?;
+    Ok(Term::App(name, TermList::new(alloc)))
 }
 
 // Whether the symbol on these terms is the left side of an equation. The one way is all that is said.
@@ -64,8 +73,7 @@ pub(crate) fn reduce(alloc: Global, sig: &Signature, f: &Name, args: TermList) -
         return Ok(into_part(args, k));
     }
     if is_verified(sig, f, &args) {
-        let name = Name::from_bytes(alloc, b"true")?;
-        return Ok(Term::App(name, TermList::new(alloc)));
+        return true_constant(alloc);
     }
     Ok(Term::App(f.copy(alloc)?, args))
 }

@@ -6,32 +6,37 @@ ghost use Rattle.sap_terms.specs.Tree.{trees_of};
 ghost use Rattle.sap_terms.specs.Theory.{app0, true_name};
 ghost use Rattle.sap_rewrite.specs.Reduce.{args1, args2, args3, under, first_part, second_part, opened, opened_by_key, verified};
 
+use crate::lends::Lends;
 use sap_terms::{Term, TermList};
 
 // The term that stands alone.
-fn one(ts: &TermList) -> Option<&Term>
-    ensures { option_map tree (option_copied result) ≡ args1 (trees_of ts.now) }
+fn one<L: Lends>(ts: &L) -> Option<&Term>
+    ensures { option_map tree (option_copied result) ≡ args1 (trees_of (L.lent ts.now)) }
 {
-    if ts.len() == 1 { ts.get(0) } else { None }
+    if ts.count() == 1 {
+        Some(ts.lend(0))
+    } else {
+        None
+    }
 }
 
 // The two terms of a list of two.
-fn two(ts: &TermList) -> Option<(&Term, &Term)>
-    ensures { option_map (λ p. (tree p.0.now, tree p.1.now)) result ≡ args2 (trees_of ts.now) }
+fn two<L: Lends>(ts: &L) -> Option<(&Term, &Term)>
+    ensures { option_map (λ p. (tree p.0.now, tree p.1.now)) result ≡ args2 (trees_of (L.lent ts.now)) }
 {
-    if ts.len() == 2 {
-        Some((ts.at(0), ts.at(1)))
+    if ts.count() == 2 {
+        Some((ts.lend(0), ts.lend(1)))
     } else {
         None
     }
 }
 
 // The three terms of a list of three.
-fn three(ts: &TermList) -> Option<(&Term, &Term, &Term)>
-    ensures { option_map (λ p. (tree p.0.now, tree p.1.now, tree p.2.now)) result ≡ args3 (trees_of ts.now) }
+fn three<L: Lends>(ts: &L) -> Option<(&Term, &Term, &Term)>
+    ensures { option_map (λ p. (tree p.0.now, tree p.1.now, tree p.2.now)) result ≡ args3 (trees_of (L.lent ts.now)) }
 {
-    if ts.len() == 3 {
-        Some((ts.at(0), ts.at(1), ts.at(2)))
+    if ts.count() == 3 {
+        Some((ts.lend(0), ts.lend(1), ts.lend(2)))
     } else {
         None
     }
@@ -48,24 +53,24 @@ fn under<'a>(name: &[u8], t: &'a Term) -> Option<&'a TermList>
 }
 
 // The first part of a pair.
-pub(crate) fn first_part(ts: &TermList) -> Option<&Term>
-    ensures { option_map tree (option_copied result) ≡ first_part (trees_of ts.now) }
+pub(crate) fn first_part<L: Lends>(ts: &L) -> Option<&Term>
+    ensures { option_map tree (option_copied result) ≡ first_part (trees_of (L.lent ts.now)) }
 {
     let (a, _) = two(under(b"pair", one(ts)?)?)?;
     Some(a)
 }
 
 // The second part of a pair.
-pub(crate) fn second_part(ts: &TermList) -> Option<&Term>
-    ensures { option_map tree (option_copied result) ≡ second_part (trees_of ts.now) }
+pub(crate) fn second_part<L: Lends>(ts: &L) -> Option<&Term>
+    ensures { option_map tree (option_copied result) ≡ second_part (trees_of (L.lent ts.now)) }
 {
     let (_, b) = two(under(b"pair", one(ts)?)?)?;
     Some(b)
 }
 
 // The message that was sealed with the key it is opened with.
-pub(crate) fn opened(ts: &TermList) -> Option<&Term>
-    ensures { option_map tree (option_copied result) ≡ opened (trees_of ts.now) }
+pub(crate) fn opened<L: Lends>(ts: &L) -> Option<&Term>
+    ensures { option_map tree (option_copied result) ≡ opened (trees_of (L.lent ts.now)) }
 {
     let (sealed, key) = two(ts)?;
     let (message, own) = two(under(b"senc", sealed)?)?;
@@ -73,8 +78,8 @@ pub(crate) fn opened(ts: &TermList) -> Option<&Term>
 }
 
 // The message that was sealed with the public key of the key it is opened with.
-pub(crate) fn opened_by_key(ts: &TermList) -> Option<&Term>
-    ensures { option_map tree (option_copied result) ≡ opened_by_key (trees_of ts.now) }
+pub(crate) fn opened_by_key<L: Lends>(ts: &L) -> Option<&Term>
+    ensures { option_map tree (option_copied result) ≡ opened_by_key (trees_of (L.lent ts.now)) }
 {
     let (sealed, key) = two(ts)?;
     let (message, public) = two(under(b"aenc", sealed)?)?;
@@ -83,8 +88,8 @@ pub(crate) fn opened_by_key(ts: &TermList) -> Option<&Term>
 }
 
 // Whether the signature is one of the message by the key whose public key is given.
-pub(crate) fn verifies(ts: &TermList) -> Option<()>
-    ensures { option_map (λ _. app0 true_name) result ≡ verified (trees_of ts.now) }
+pub(crate) fn verifies<L: Lends>(ts: &L) -> Option<()>
+    ensures { option_map (λ _. app0 true_name) result ≡ verified (trees_of (L.lent ts.now)) }
 {
     let (signed, claimed, public) = three(ts)?;
     let (message, own) = two(under(b"sign", signed)?)?;

@@ -1,4 +1,6 @@
-use crate::{Cut, is_message, match_around, match_pattern, normal, normal_within, same_modulo};
+use crate::{
+    Cut, is_message, match_around, match_pattern, normal, normal_on, normal_within, same_modulo,
+};
 use sap_terms::{
     Binding, Bindings, Builtin, Copied, Mem, Name, Signature, Sort, Term, TermList, Var,
 };
@@ -273,6 +275,48 @@ fn limits_and_chains(rt: HostRuntime) -> Result<(), Fail> {
     // the pair has 2 nodes more than its second part
     for (names, want) in [(253, true), (254, false), (300, false)] {
         assert_eq!(rt; is_beside_within(alloc, names), Some(want), "{names}");
+    }
+    Ok(())
+}
+
+// Whether the symbol on the normal term has this form within so many nodes, or is too large where none is given.
+fn has_form_on(alloc: Global, row: &(&str, &str, u64, Option<&str>)) -> Option<bool> {
+    let (f, t, most, want) = *row;
+    let g = Signature::new(alloc).ok()?;
+    let f = Name::from_bytes(alloc, f.as_bytes()).ok()?;
+    match on_form(alloc, &g, &f, &term(alloc, t)?, most) {
+        Ok(form) => Some(form.same(&term(alloc, want?)?)),
+        Err(Cut::Large) => Some(want.is_none()),
+        Err(Cut::Mem) => None,
+    }
+}
+
+fn on_form(alloc: Global, g: &Signature, f: &Name, t: &Term, most: u64) -> Result<Term, Cut> {
+    let form = normal(alloc, g, t)?;
+    let mut lent: Vec<&Term> = Vec::new(alloc);
+    if lent.push(&form).is_err() {
+        return Err(Cut::Mem);
+    }
+    normal_on(alloc, g, f, &lent, most.min(1000))
+}
+
+#[test]
+fn one_symbol_on_normal_terms(rt: HostRuntime) -> Result<(), Fail> {
+    let alloc = rt.alloc();
+    for row in [
+        ("fst", "'a' 'b' h/1 pair/2", 1, Some("'a'")),
+        ("snd", "'a' 'b' h/1 pair/2", 2, Some("'b' h/1")),
+        ("snd", "'a' 'b' h/1 pair/2", 1, None),
+        ("h", "'a' h/1", 3, Some("'a' h/1 h/1")),
+        ("h", "'a' h/1", 2, None),
+    ] {
+        assert_eq!(rt;
+            has_form_on(alloc, &row),
+            Some(true),
+            "{} on {}",
+            row.0,
+            row.1
+        );
     }
     Ok(())
 }

@@ -22,7 +22,7 @@ use Rattle.sap_terms.specs.declared.var.Var.{Var}
 use Rattle.sap_rewrite.specs.Around.{HoldAll, outer_vars, all_outer_vars, MatchingAroundIsModulo, FittingGivesMessages}
 use Rattle.sap_rewrite.specs.Bound.{NamedOnceStay, BindingsGiveChoices, AgreeingSubstitutes}
 use Rattle.sap_rewrite.specs.Large.{SomeSubterm, SomeSubtermWithin, itself, below, here, later, HasLargeForm}
-use Rattle.sap_rewrite.specs.Laws.{FormIsOne, FormsStayOver}
+use Rattle.sap_rewrite.specs.Laws.{FormIsOne, FormsAreMessages}
 use Rattle.sap_rewrite.specs.Match.{AllSorted, Agrees, bound_vars}
 use Rattle.sap_rule.specs.Variables.{facts_vars, facts_outer_vars}
 use Rattle.sap_rule.specs.WellMade.{IsRightFact}
@@ -42,7 +42,7 @@ pub record Laws : Type 0 where
   pub choices : BindingsGiveChoices
   pub substitutes : AgreeingSubstitutes
   pub one_form : FormIsOne
-  pub forms : FormsStayOver
+  pub forms : FormsAreMessages
 
 -- each element is so
 pub each_item : {X : Type 0} (P : X → Type 0) (xs : List X) → ((x : X) → Contains xs x → P x) → All P xs
@@ -229,8 +229,7 @@ args_held : Laws → (g : Sig) (σ : Choice) (ts ns : List Tree) → HoldsBuilti
 args_held laws g σ [] [] k m o s a = All-nil (IsHeldTerm g)
 args_held laws g σ (t ∷ ts) (n ∷ ns) k m o s a =
     let q = instance_closed g σ t m o.0 in
-    let f = laws.forms g (instance σ t) n k q.0 q.1 a.0 in
-    All-cons (IsHeldTerm g) n ns (record { message = record { ground = f.0; over = f.1; normal = a.0.normal; sorted = refl }; small = small_form (theory g) (instance σ t) n a.0 (λ l. s (here l)) }) (args_held laws g σ ts ns k m o.1 (λ l. s (later l)) a.1)
+    All-cons (IsHeldTerm g) n ns (record { message = laws.forms g (instance σ t) n k q.0 q.1 a.0; small = small_form (theory g) (instance σ t) n a.0 (λ l. s (here l)) }) (args_held laws g σ ts ns k m o.1 (λ l. s (later l)) a.1)
 args_held laws g σ [] (n ∷ ns) k m o s a = absurd a
 args_held laws g σ (t ∷ ts) [] k m o s a = absurd a
 

@@ -16,9 +16,8 @@ use crate::forms::forms_of_facts;
 use crate::prepared::Prepared;
 use sap_facts::Pile;
 use sap_rewrite::{
-    agreeing_choices_substitute, bindings_give_choices, fitting_gives_messages,
-    matching_around_is_modulo, normal_forms_are_unique, normal_forms_stay_over,
-    variables_named_once_stay_so,
+    agreeing_choices_substitute, bindings_give_choices, fitting_gives_messages, forms_are_messages,
+    matching_around_is_modulo, normal_forms_are_unique, variables_named_once_stay_so,
 };
 use sap_rule::Rule;
 use sap_terms::{Bindings, Copied, FactList, Numbers, Signature};
@@ -54,7 +53,7 @@ pub(crate) fn fire(
     variables_named_once_stay_so();
     bindings_give_choices();
     agreeing_choices_substitute();
-    normal_forms_stay_over();
+    forms_are_messages();
     normal_forms_are_unique();
     sig.builtins_are_held();
     if !are_of(b, &rule.open_vars) {

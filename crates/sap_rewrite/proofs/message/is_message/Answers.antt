@@ -1,6 +1,6 @@
 use Rattle.std.proofs.Common.{◌≡◌, true, false, IsTrue, sym, ◌∙◌}
 use Rattle.sap_terms.specs.View.{tree}
-use Rattle.sap_rewrite.proofs.Closed.{no_message, is_message_where}
+use Rattle.sap_rewrite.proofs.Messages.{no_message, is_message_where}
 use Rattle.sap_rewrite.proofs.message.is_message.Goals as goal
 
 pub returns-then-not-fits : goal.returns-then-not-fits

@@ -1,6 +1,9 @@
-use Rattle.std.proofs.Common.{sym, ap, ◌∙◌}
-use Rattle.sap_terms.specs.Tree.{apply, trees_of}
-use Rattle.sap_terms.specs.Theory.{theory, true_name}
+use Rattle.std.proofs.Common.{◌≡◌, sym, subst, ◌∙◌}
+use Rattle.std.specs.Prelude.{IfOk}
+use Rattle.sap_terms.specs.View.{tree}
+use Rattle.sap_terms.specs.declared.term.Term.{Term}
+use Rattle.sap_terms.specs.Tree.{trees_of}
+use Rattle.sap_terms.specs.Theory.{theory}
 use Rattle.sap_rewrite.proofs.Parts.{part_there, part_left, left_as_is, left_true}
 use Rattle.sap_rewrite.proofs.reduce.reduce.Goals as goal
 
@@ -19,4 +22,4 @@ returns c =
 pub returns-then-is_verified : goal.returns-then-is_verified
 returns-then-is_verified c =
     let left = left_true (theory c.args.sig.now) c.args.f.now (trees_of c.args.args) c.is_verified.result (sym c.place_of_part.ensures ∙ c.in_default.is) c.is_verified.ensures c.if-is_verified.true in
-    ap (λ n. apply n (trees_of c.new.result)) c.in_ok-name.ensures ∙ ap (λ us. apply true_name (trees_of us)) c.new.ensures ∙ left
+    subst (λ u. IfOk c.true_constant.result (λ (r : Term). tree r ≡ u)) left c.true_constant.ensures

@@ -27,7 +27,7 @@ returns-in-Some-clause-fires c =
       choices = c.bindings_give_choices.ensures;
       substitutes = c.agreeing_choices_substitute.ensures;
       one_form = c.normal_forms_are_unique.ensures;
-      forms = c.normal_forms_stay_over.ensures;
+      forms = c.forms_are_messages.ensures;
     } in
     let good : AreRight g r b = record {
       vars = c.are_of.ensures.0 c.if-not-are_of.false ∙ c.requires.open_variables;
@@ -50,7 +50,7 @@ returns-in-Some-clause-held c =
       choices = c.bindings_give_choices.ensures;
       substitutes = c.agreeing_choices_substitute.ensures;
       one_form = c.normal_forms_are_unique.ensures;
-      forms = c.normal_forms_stay_over.ensures;
+      forms = c.forms_are_messages.ensures;
     } in
     let good : AreRight g r b = record {
       vars = c.are_of.ensures.0 c.if-not-are_of.false ∙ c.requires.open_variables;
@@ -73,7 +73,7 @@ returns-in-Some-clause-refused c =
       choices = c.bindings_give_choices.ensures;
       substitutes = c.agreeing_choices_substitute.ensures;
       one_form = c.normal_forms_are_unique.ensures;
-      forms = c.normal_forms_stay_over.ensures;
+      forms = c.forms_are_messages.ensures;
     } in
     let good : AreRight g r b = record {
       vars = c.are_of.ensures.0 c.if-not-are_of.false ∙ c.requires.open_variables;
