@@ -1,4 +1,6 @@
-use crate::{Cut, match_around, match_pattern, normal, normal_on, normal_within, same_modulo};
+use crate::{
+    Cut, is_message, match_around, match_pattern, normal, normal_on, normal_within, same_modulo,
+};
 use sap_terms::{
     Binding, Bindings, Builtin, Copied, Mem, Name, Signature, Sort, Term, TermList, Var,
 };
@@ -448,5 +450,29 @@ fn patterns(rt: HostRuntime) -> Result<(), Fail> {
     let off = Signature::new(alloc)?;
     let row = ("c k sdec/2", "'a' 'b' sdec/2", "", Some("c 'a' = k 'b' ="));
     assert_eq!(rt; fits(alloc, &off, &row), Some(true), "no destructor");
+    Ok(())
+}
+
+fn is_sorted_message(alloc: Global, g: &Signature, sort: Sort, t: &str) -> Option<bool> {
+    is_message(alloc, g, sort, &term(alloc, t)?).ok()
+}
+
+#[test]
+fn messages(rt: HostRuntime) -> Result<(), Fail> {
+    let alloc = rt.alloc();
+    let g = all_builtins(alloc).ok_or("no memory")?;
+    for (sort, t, want) in [
+        (Sort::Msg, "'a' ~1 pair/2 h/1", true),
+        (Sort::Fresh, "~1", true),
+        (Sort::Fresh, "'a'", false),
+        (Sort::Pub, "'a'", true),
+        (Sort::Msg, "x h/1", false),
+        (Sort::Msg, "'a' f/1", false),
+        (Sort::Msg, "'a' 'b' h/2", false),
+        (Sort::Msg, "'a' fst/1", true),
+        (Sort::Msg, "'a' 'b' pair/2 fst/1", false),
+    ] {
+        assert_eq!(rt; is_sorted_message(alloc, &g, sort, t), Some(want), "{t}");
+    }
     Ok(())
 }

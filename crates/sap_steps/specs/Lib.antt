@@ -3,3 +3,4 @@ pub mod Lines
 pub mod Runs
 pub mod Faults
 pub mod Held
+pub mod Firing

@@ -1,6 +1,8 @@
 ghost use Rattle.std.specs.Prelude.{◌≡◌};
 ghost use Rattle.sap_steps.specs.declared.fault.RFault.TheVariants.{Mem as OutOfMemory};
+ghost use Rattle.sap_steps.specs.Firing.{fault_of};
 
+use sap_rewrite::Cut;
 use sap_terms::{Mem, Name};
 
 /// Why a step of rules is refused. A line's tests come in the order of its step, and the first that fails is answered.
@@ -39,5 +41,16 @@ impl From<Mem> for RFault {
 
     fn from(_e: Mem) -> RFault {
         RFault::Mem
+    }
+}
+
+impl From<Cut> for RFault {
+    ghost from_gives = { λ c e. e ≡ fault_of c };
+
+    fn from(c: Cut) -> RFault {
+        match c {
+            Cut::Mem => RFault::Mem,
+            Cut::Large => RFault::TermLarge,
+        }
     }
 }

@@ -1,10 +1,12 @@
 //! Runs of multiset rewrite rules, step by step.
 #![tactic(auto)]
 
+mod bindings;
+mod cited;
 mod fault;
 mod firing;
+mod fitting;
+mod forms;
 mod prepared;
-mod state;
 
 pub use fault::RFault;
-pub use state::RuleState;

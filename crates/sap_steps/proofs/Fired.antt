@@ -1,0 +1,143 @@
+-- What the bindings found and the forms made say of the rule's use.
+use Rattle.std.proofs.Common.{◌≡◌, List, [], ◌∷◌, ◌++◌, map, refl, sym, ap, subst, ◌∙◌, append_assoc}
+use Rattle.std.specs.Prelude.{All, Contains, Result, Ok, Err, IfOk, IfErr}
+use Rattle.std.proofs.lemmas.List.Elements.{All-append, Contains-append_left, Contains-append_right}
+use Rattle.sap_terms.specs.Choice.{Choice, fits_sort, instance}
+use Rattle.sap_terms.specs.Message.{IsMessage, IsMessageChoice}
+use Rattle.sap_terms.specs.Modulo.{instance_facts, AreFormsOfFacts}
+use Rattle.sap_terms.specs.Signature.{Sig, HoldsBuiltins}
+use Rattle.sap_terms.specs.Subst.{bound_to}
+use Rattle.sap_terms.specs.Theory.{theory}
+use Rattle.sap_terms.specs.Tree.{trees_of}
+use Rattle.sap_terms.specs.Variables.{trees_vars}
+use Rattle.sap_terms.specs.View.{tree}
+use Rattle.sap_terms.specs.declared.binding.Binding.{Binding}
+use Rattle.sap_terms.specs.declared.fact.Fact.{Fact}
+use Rattle.sap_terms.specs.declared.var.Var.{Var}
+use Rattle.sap_rewrite.specs.Bound.{AreNamedOnce}
+use Rattle.sap_rewrite.specs.Match.{Agrees, HaveOneSort, bound_vars, names}
+use Rattle.sap_rule.specs.Variables.{facts_vars, facts_outer_vars, rule_vars}
+use Rattle.sap_rule.specs.WellMade.{IsWellMade}
+use Rattle.sap_rule.specs.declared.rule.Rule.{Rule}
+use Rattle.sap_steps.specs.Faults.{AreRight, IsFitting, IsRefusal}
+use Rattle.sap_steps.specs.Firing.{IsOnlyChoice, HasNoChoice, FactsFit, SomeLarge, terms_of, Evaluates, IsEvaluationFault}
+use Rattle.sap_steps.specs.Held.{IsHeldFact}
+use Rattle.sap_steps.specs.Lines.{Fires, IsSmall, rule_terms}
+use Rattle.sap_steps.specs.declared.fault.RFault.{RFault}
+use Rattle.sap_steps.specs.declared.fault.RFault.TheVariants.{Mem, NoRule, FactCount, FactMissing, BadBinding, NoMatch, TermLarge, Unequal, UsedName, WrongFact, NoEntry, NotPublic, Arity}
+use Rattle.sap_steps.proofs.Evaluated.{in_right}
+use Rattle.sap_steps.proofs.Found.{agrees_extended}
+use Rattle.sap_steps.proofs.Uses.{Laws, each_item, agrees_at, sorted_at, var_at, facts_message, facts_same, terms_instance, facts_equal, facts_hold, facts_held, large_evaluated, evaluated_small}
+use Rattle.sap_steps.proofs.Vars.{new_among, one_sort, covered}
+
+pub if_ok : {T E : Type 0} (P Q : T → Type 0) (r : Result T E) → ((x : T) → P x → Q x) → IfOk r P → IfOk r Q
+if_ok P Q (Ok x) f h = f x h
+if_ok P Q (Err e) f h = tt
+
+pub if_err : {T E : Type 0} (P Q : E → Type 0) (r : Result T E) → ((e : E) → P e → Q e) → IfErr r P → IfErr r Q
+if_err P Q (Ok x) f h = tt
+if_err P Q (Err e) f h = f e h
+
+facts_vars_append : (fs hs : List Fact) → facts_vars (fs ++ hs) ≡ facts_vars fs ++ facts_vars hs
+facts_vars_append [] hs = refl
+facts_vars_append (f ∷ fs) hs =
+    ap (λ vs. trees_vars (trees_of f.args) ++ vs) (facts_vars_append fs hs) ∙ sym (append_assoc (trees_vars (trees_of f.args)) (facts_vars fs) (facts_vars hs))
+
+abbrev IsGood : Sig → Binding → Type 0
+IsGood g e = IsMessage g e.var.sort (tree e.term)
+
+-- no choice fits, so none matches
+pub no_match : (g : Sig) (r : Rule) (b : List Binding) (cited : List Fact) → IsWellMade g r → AreRight g r b → HasNoChoice (FactsFit g r.left cited) (facts_outer_vars g r.left) b → IsRefusal g r b cited NoMatch
+no_match g r b cited well good h = (good, λ σ s a f. h (one_sort g r b well.sorts good.vars) σ s a f)
+
+module _ (laws : Laws) (g : Sig) (r : Rule) (b c : List Binding) (cited : List Fact) (well : IsWellMade g r) (good : AreRight g r b) (found : IsOnlyChoice (FactsFit g r.left cited) (facts_outer_vars g r.left) b c) (held : All (IsHeldFact g) cited) where
+  one : HaveOneSort (bound_vars b ++ facts_outer_vars g r.left)
+  one = one_sort g r b well.sorts good.vars
+
+  named_once : AreNamedOnce (bound_vars c)
+  named_once = laws.once.1 b c (facts_outer_vars g r.left) found.extends (subst AreNamedOnce (sym good.vars) (laws.once.0 (map (λ (v : Var). v.name) (facts_outer_vars g r.left)) (rule_vars r)))
+
+  agrees_itself : Agrees c (bound_to c)
+  agrees_itself = laws.once.2 c named_once
+
+  -- what was found are messages
+  messages : All (IsGood g) c
+  messages =
+      let added = found.extends.added in
+      subst (All (IsGood g)) (sym found.extends.is) (All-append (IsGood g) b added good.terms (each_item (IsGood g) added (λ e m.
+      let bound = subst (λ xs. Contains xs e) (sym found.extends.is) (Contains-append_right b added e m) in
+      let is = agrees_at c (bound_to c) e agrees_itself bound in
+      let outer = new_among (names b) (facts_outer_vars g r.left) e.var (subst (λ vs. Contains vs e.var) found.extends.on (var_at added e m)) in
+      let sorted = ap (fits_sort e.var.sort) is ∙ sorted_at added e found.extends.sorted m in
+      subst (IsMessage g e.var.sort) is (facts_message laws.messages g (bound_to c) r.left cited (found.is one (bound_to c) agrees_itself) held e.var outer sorted))))
+
+  chosen : (σ : Choice) × IsMessageChoice g σ × Agrees c σ
+  chosen = laws.choices g c named_once messages
+
+  fit : FactsFit g r.left cited chosen.0
+  fit = found.is one chosen.0 chosen.2
+
+  fitting : IsFitting g r b cited chosen.0
+  fitting = record { messages = chosen.1; agrees = agrees_extended b c (facts_outer_vars g r.left) chosen.0 found.extends chosen.2; facts = fit }
+
+  same_facts : (fs : List Fact) → ((v : Var) → Contains (facts_vars fs) v → Contains (rule_vars r) v) → instance_facts (bound_to c) fs ≡ instance_facts chosen.0 fs
+  same_facts fs h = facts_same (bound_to c) chosen.0 fs (λ t k.
+      laws.substitutes b c (facts_outer_vars g r.left) found.extends one chosen.0 chosen.2 t (λ v m. covered g r b well.sorts good.vars v (h v (k v m))))
+
+  same_left : instance_facts (bound_to c) r.left ≡ instance_facts chosen.0 r.left
+  same_left = same_facts r.left (λ v m. Contains-append_left (facts_vars r.left) (facts_vars r.acts ++ facts_vars r.right) v m)
+
+  same_acts : instance_facts (bound_to c) r.acts ≡ instance_facts chosen.0 r.acts
+  same_acts = same_facts r.acts (λ v m. Contains-append_right (facts_vars r.left) (facts_vars r.acts ++ facts_vars r.right) v (Contains-append_left (facts_vars r.acts) (facts_vars r.right) v m))
+
+  same_right : instance_facts (bound_to c) r.right ≡ instance_facts chosen.0 r.right
+  same_right = same_facts r.right (λ v m. Contains-append_right (facts_vars r.left) (facts_vars r.acts ++ facts_vars r.right) v (Contains-append_right (facts_vars r.acts) (facts_vars r.right) v m))
+
+  same_terms : map (instance (bound_to c)) (rule_terms r) ≡ map (instance chosen.0) (rule_terms r)
+  same_terms =
+      let fs = r.left ++ (r.acts ++ r.right) in
+      let vars : facts_vars fs ≡ rule_vars r = facts_vars_append r.left (r.acts ++ r.right) ∙ ap (λ vs. facts_vars r.left ++ vs) (facts_vars_append r.acts r.right) in
+      terms_instance (bound_to c) fs ∙ ap terms_of (same_facts fs (λ v m. subst (λ vs. Contains vs v) vars m)) ∙ sym (terms_instance chosen.0 fs)
+
+  small : (SomeLarge g (map (instance (bound_to c)) (rule_terms r)) → ⊥) → SomeLarge g (map (instance chosen.0) (rule_terms r)) → ⊥
+  small h s = h (subst (SomeLarge g) (sym same_terms) s)
+
+  pub fires : (acts right : List Fact) → Evaluates g (bound_to c) r cited acts right → Fires g IsSmall r b cited acts right
+  fires acts right e = record {
+    choice = chosen.0;
+    binds = record { vars = good.vars; agrees = fitting.agrees };
+    use_ = record {
+      messages = chosen.1;
+      takes = facts_equal g chosen.0 r.left e.left cited (subst (λ xs. AreFormsOfFacts (theory g) xs e.left) same_left e.left_forms) e.same fit;
+      shows = subst (λ xs. AreFormsOfFacts (theory g) xs acts) same_acts e.acts_forms;
+      adds = subst (λ xs. AreFormsOfFacts (theory g) xs right) same_right e.right_forms;
+    };
+    within = evaluated_small g r chosen.0 (small e.small);
+  }
+
+  pub right_held : HoldsBuiltins g → (acts right : List Fact) → Evaluates g (bound_to c) r cited acts right → All (IsHeldFact g) right
+  right_held k acts right e =
+      facts_held laws g chosen.0 r.right right k chosen.1 well.right (λ s. small e.small (in_right g chosen.0 r s)) (subst (λ xs. AreFormsOfFacts (theory g) xs right) same_right e.right_forms)
+
+  pub refused : (k : RFault) → IsEvaluationFault g (bound_to c) r cited k → IsRefusal g r b cited k
+  refused Mem h = tt
+  refused TermLarge h = (good, (chosen.0, fitting, large_evaluated g r chosen.0 (subst (SomeLarge g) same_terms h)))
+  refused Unequal h = (
+    good,
+    (
+      chosen.0,
+      fitting,
+      evaluated_small g r chosen.0 (small h.small),
+      λ q. h.other (facts_hold laws g chosen.0 r.left h.left cited chosen.1 held (subst (λ xs. AreFormsOfFacts (theory g) xs h.left) same_left h.left_forms) fit q),
+    ),
+  )
+  refused NoRule h = absurd h
+  refused FactCount h = absurd h
+  refused (FactMissing p) h = absurd h
+  refused BadBinding h = absurd h
+  refused NoMatch h = absurd h
+  refused (UsedName n) h = absurd h
+  refused (WrongFact n) h = absurd h
+  refused (NoEntry n) h = absurd h
+  refused (NotPublic n) h = absurd h
+  refused (Arity n) h = absurd h
