@@ -1,7 +1,7 @@
 -- The rules of a parallel, put last piece by piece.
 use Rattle.std.proofs.Common.{◌≡◌, ℕ, List, [], ◌∷◌, ◌++◌, ◌∙◌, append_assoc}
 use Rattle.sap_process.specs.Proc.{Proc, parallel}
-use Rattle.sap_gen.specs.declared.rule.Rule.{Rule}
+use Rattle.sap_rule.specs.declared.rule.Rule.{Rule}
 use Rattle.sap_gen.specs.Templates.{place_rules, parallel_rule, first_of, second_of}
 
 append_four : {A : Type 0} (xs own first second : List A) → xs ++ own ++ first ++ second ≡ xs ++ (own ++ (first ++ second))

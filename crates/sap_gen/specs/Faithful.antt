@@ -3,7 +3,7 @@ use Rattle.std.specs.Prelude.{◌≡◌, false, List, [], ◌∷◌}
 use Rattle.sap_terms.specs.Reserved.{is_reserved}
 use Rattle.sap_terms.specs.declared.fact.Fact.{Fact}
 use Rattle.sap_process.specs.Proc.{Proc, events}
-use Rattle.sap_gen.specs.declared.rule.Rule.{Rule}
+use Rattle.sap_rule.specs.declared.rule.Rule.{Rule}
 use Rattle.sap_gen.specs.ProcessSteps.{IsProcessTrace}
 use Rattle.sap_terms.specs.Trace.{Trace}
 use Rattle.sap_gen.specs.Traces.{IsVisibleTrace}

@@ -4,7 +4,7 @@ use Rattle.sap_terms.specs.Tree.{variable}
 use Rattle.sap_terms.specs.declared.var.Var.{Var}
 use Rattle.sap_terms.specs.declared.fact.Fact.{Fact}
 use Rattle.sap_process.specs.Proc.{Proc, nil, parallel, event}
-use Rattle.sap_gen.specs.declared.rule.Rule.{Rule}
+use Rattle.sap_rule.specs.declared.rule.Rule.{Rule}
 use Rattle.sap_terms.specs.AdversaryFacts.{linear}
 use Rattle.sap_gen.specs.ReservedFacts.{init_fact, event_fact}
 

@@ -4,7 +4,7 @@ use Rattle.std.specs.List.{flat_map}
 use Rattle.std.specs.Str.{bytes_eq}
 use Rattle.sap_terms.specs.Reserved.{is_reserved}
 use Rattle.sap_terms.specs.declared.fact.Fact.{Fact}
-use Rattle.sap_gen.specs.declared.rule.Rule.{Rule}
+use Rattle.sap_rule.specs.declared.rule.Rule.{Rule}
 use Rattle.sap_gen.specs.Members.{Member}
 use Rattle.sap_gen.specs.ReservedFacts.{init_fact}
 use Rattle.sap_gen.specs.RuleSteps.{RuleState, RuleRun}

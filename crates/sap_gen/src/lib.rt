@@ -4,11 +4,9 @@
 mod faithful;
 mod generation;
 mod place;
-mod rule;
 
 pub use faithful::rules_show_the_process;
 pub use generation::generate;
-pub use rule::{Rule, RuleList};
 
 #[cfg(test)]
 mod tests;

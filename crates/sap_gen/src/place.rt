@@ -4,7 +4,7 @@ ghost use Rattle.sap_terms.specs.Path.{IsDigit};
 ghost use Rattle.sap_terms.specs.AdversaryFacts.{linear};
 ghost use Rattle.sap_gen.specs.Templates as templates;
 
-use crate::Rule;
+use sap_rule::Rule;
 use sap_terms::{Copied, Fact, FactList, Items, Mem, Name, Path, TermList};
 use std::alloc::Global;
 

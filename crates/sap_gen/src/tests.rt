@@ -1,4 +1,5 @@
-use crate::{RuleList, generate};
+use crate::generate;
+use sap_rule::RuleList;
 use sap_process::Process;
 use sap_terms::{Copied, Fact, FactList, Mem, Name, Signature, Term, TermList};
 use std::alloc::Global;

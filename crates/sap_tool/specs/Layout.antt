@@ -5,7 +5,7 @@ use Rattle.sap_terms.specs.declared.var.Sort.{Sort}
 use Rattle.sap_terms.specs.declared.var.Sort.TheVariants.{Msg, Fresh, Pub}
 use Rattle.sap_terms.specs.declared.fact.Fact.{Fact}
 use Rattle.sap_terms.specs.Tree.{Tree, variable, public, fresh, apply, Trees, none, more}
-use Rattle.sap_gen.specs.declared.rule.Rule.{Rule}
+use Rattle.sap_rule.specs.declared.rule.Rule.{Rule}
 
 -- the pieces with a separator between them
 abbrev pub joined : List ℕ → List (List ℕ) → List ℕ

@@ -6,7 +6,7 @@ ghost use Rattle.sap_terms.specs.View.{tree};
 ghost use Rattle.sap_tool.specs.Layout.{sign_of, is_pair, term_text, pair_text, applied, tree_text, joined, in_brackets, term_texts, fact_text, facts_text, arrow_text, rule_text, rules_text, theory_text};
 ghost use Rattle.sap_tool.specs.Separators.{separator_before};
 
-use sap_gen::{Rule, RuleList};
+use sap_rule::{Rule, RuleList};
 use sap_terms::{Fact, FactList, Mem, Name, Sort, Term, TermList, Var};
 use sap_text::Text;
 use std::alloc::Global;
