@@ -2,9 +2,9 @@ ghost use Rattle.std.specs.Prelude.{◌≡◌, [], ◌∷◌, ◌++◌, IfOk, On
 ghost use Rattle.sap_process.specs.Proc.{proc};
 ghost use Rattle.sap_gen.specs.Templates.{place_rules, rules_of};
 
-use sap_rule::RuleList;
 use crate::place::{event_rule, init_rule, nil_rule, parallel_rule, path_below};
 use sap_process::Process;
+use sap_rule::RuleList;
 use sap_terms::{Items, Mem, Path, Signature};
 use std::alloc::Global;
 

@@ -1,6 +1,6 @@
 use crate::generate;
-use sap_rule::RuleList;
 use sap_process::Process;
+use sap_rule::RuleList;
 use sap_terms::{Copied, Fact, FactList, Mem, Name, Signature, Term, TermList};
 use std::alloc::Global;
 use std::test::Fail;

@@ -5,3 +5,12 @@ pub mod Evaluated
 pub mod Vars
 pub mod Uses
 pub mod Fired
+pub mod Named
+pub mod Runs
+pub mod Ready
+pub mod Left
+pub mod Tied
+pub mod Applied
+pub mod Names
+pub mod Used
+pub mod Plain

@@ -4,3 +4,8 @@ pub mod Runs
 pub mod Faults
 pub mod Held
 pub mod Firing
+pub mod Ready
+pub mod Left
+pub mod Tied
+pub mod Denied
+pub mod Plain

@@ -2,6 +2,7 @@ ghost use Rattle.std.specs.Prelude.{◌≡◌};
 ghost use Rattle.sap_steps.specs.declared.fault.RFault.TheVariants.{Mem as OutOfMemory};
 ghost use Rattle.sap_steps.specs.Firing.{fault_of};
 
+use sap_deduce::Deny;
 use sap_rewrite::Cut;
 use sap_terms::{Mem, Name};
 
@@ -51,6 +52,22 @@ impl From<Cut> for RFault {
         match c {
             Cut::Mem => RFault::Mem,
             Cut::Large => RFault::TermLarge,
+        }
+    }
+}
+
+impl From<Deny> for RFault {
+    ghost use Rattle.sap_steps.specs.Denied.{denied_fault};
+
+    ghost from_gives = { λ d e. e ≡ denied_fault d };
+
+    fn from(d: Deny) -> RFault {
+        match d {
+            Deny::Mem => RFault::Mem,
+            Deny::NotPublic { f } => RFault::NotPublic { f },
+            Deny::Arity { f } => RFault::Arity { f },
+            Deny::NoEntry { k } => RFault::NoEntry { k },
+            Deny::TermLarge => RFault::TermLarge,
         }
     }
 }

@@ -1,6 +1,7 @@
 //! Runs of multiset rewrite rules, step by step.
 #![tactic(auto)]
 
+mod adversary;
 mod bindings;
 mod cited;
 mod fault;
@@ -8,5 +9,12 @@ mod firing;
 mod fitting;
 mod forms;
 mod prepared;
+mod rules;
+mod state;
+mod taking;
+#[cfg(test)]
+mod tests;
+mod using;
 
 pub use fault::RFault;
+pub use state::RuleState;

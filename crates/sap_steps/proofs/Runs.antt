@@ -1,0 +1,89 @@
+-- Runs and the lines that write them.
+use Rattle.std.proofs.Common.{◌≡◌, ℕ, List, [], ◌∷◌, ◌++◌, length, map, Some, slice_get, refl, ap, sym, ◌∙◌}
+use Rattle.std.specs.List.{All, Contains}
+use Rattle.sap_terms.specs.Signature.{Sig, arity_of}
+use Rattle.sap_terms.specs.Trace.{Trace}
+use Rattle.sap_terms.specs.declared.fact.Fact.{Fact}
+use Rattle.sap_rule.specs.Named.{HaveNamesOfTheirOwn}
+use Rattle.sap_rule.specs.RuleSteps.{RuleState, RuleRun, RuleStep, starts, further, makes_name, learns, owns, knows_public, applies, gives, uses}
+use Rattle.sap_rule.specs.Variables.{open_variables}
+use Rattle.sap_rule.specs.declared.rule.Rule.{Rule}
+use Rattle.sap_runs.specs.declared.rule_step.RStep.{RStep}
+use Rattle.sap_runs.specs.declared.rule_step.RStep.TheVariants.{Fresh, Learn, Own, Public, Apply, Know, Rule as RuleLine}
+use Rattle.sap_steps.specs.Lines.{IsLine, AnySize}
+use Rattle.sap_steps.specs.Runs.{IsLegalRun, starts as legal_start, further as legal_further, RunsCanBeWritten, LinesAreRuns}
+use Rattle.sap_steps.proofs.Named.{Contains-get, get-Contains, rule_named-Contains, Contains-rule_named, numbers_of, Contains-numbers, bindings_of, bound_vars-bindings_of, Agrees-bindings_of}
+
+step-line : (g : Sig) (rules : List Rule) (s z : RuleState) (acts : List Fact) → HaveNamesOfTheirOwn rules → RuleStep g rules s acts z → (line : RStep) × IsLine g rules AnySize s line acts z
+step-line g rules s z acts own (makes_name n h) = (Fresh n, (h, refl, refl))
+step-line g rules s z acts own (learns {rest = rest} k t takes) = (Learn k, (t, record { rest = rest; takes = takes; silent = refl; becomes = refl }))
+step-line g rules s z acts own (owns {rest = rest} k n takes) = (Own k, (n, record { rest = rest; takes = takes; silent = refl; becomes = refl }))
+step-line g rules s z acts own (knows_public a) = (Public a, (refl, refl))
+step-line g rules s z acts own (applies f ts t is_public arity known form) =
+    let numbers = numbers_of s.known ts known in (
+      Apply f numbers.0,
+      record {
+        terms = ts;
+        form = t;
+        public_symbol = is_public;
+        arity = arity ∙ ap Some (sym numbers.2);
+        entries = numbers.1;
+        is_form = form;
+        within = tt;
+        silent = refl;
+        becomes = refl;
+      },
+    )
+step-line g rules s z acts own (gives t known) = let at = get-Contains s.known t known in (Know at.0, (t, at.1, refl, refl))
+step-line g rules s z acts own (uses {rest = rest} r ks σ left shown right among takes used) = (
+  RuleLine r.name ks (bindings_of σ (open_variables g r)),
+  record {
+    rule = r;
+    named = rule_named-Contains rules r own among;
+    left = left;
+    right = right;
+    rest = rest;
+    takes = takes;
+    fires = record {
+      choice = σ;
+      binds = record {
+        vars = bound_vars-bindings_of σ (open_variables g r);
+        agrees = Agrees-bindings_of σ (open_variables g r);
+      };
+      use_ = used;
+      within = λ n h. tt;
+    };
+    becomes = refl;
+  },
+)
+
+line-step : (g : Sig) (rules : List Rule) (s z : RuleState) (acts : List Fact) (line : RStep) → IsLine g rules AnySize s line acts z → RuleStep g rules s acts z
+line-step g rules s z acts (Fresh n) h = rw (h.1, h.2) (makes_name n h.0)
+line-step g rules s z acts (Learn k) (t, h) = rw (h.silent, h.becomes) (learns k t h.takes)
+line-step g rules s z acts (Own k) (n, h) = rw (h.silent, h.becomes) (owns k n h.takes)
+line-step g rules s z acts (Public a) h = rw (h.0, h.1) (knows_public a)
+line-step g rules s z acts (Apply f ks) h =
+    let at = Contains-numbers s.known ks h.terms h.entries in
+    rw (h.silent, h.becomes) (applies f h.terms h.form h.public_symbol (h.arity ∙ ap Some at.1) at.0 h.is_form)
+line-step g rules s z acts (Know k) h = rw (h.2, h.3) (gives h.0 (Contains-get s.known h.0 k h.1))
+line-step g rules s z acts (RuleLine name ks b) h =
+    let at = Contains-rule_named rules h.rule name h.named in
+    rw h.becomes (uses h.rule ks h.fires.choice h.left acts h.right (Contains-get rules h.rule at.0 at.1) h.takes h.fires.use_)
+
+run-written : (g : Sig) (rules : List Rule) (s : RuleState) (full : Trace) → HaveNamesOfTheirOwn rules → RuleRun g rules s full → (lines : List RStep) × IsLegalRun g rules lines s full
+run-written g rules s full own starts = ([], legal_start)
+run-written g rules z full own (further {s = s} {full = before} {acts = acts} run step) =
+    let lines = run-written g rules s before own run in
+    let line = step-line g rules s z acts own step in
+    (lines.0 ++ line.0 ∷ [], legal_further line.0 acts lines.1 line.1)
+
+pub runs_can_be_written : (g : Sig) (rules : List Rule) → RunsCanBeWritten g rules
+runs_can_be_written g rules own made s full run = run-written g rules s full own run
+
+legal-run : (g : Sig) (rules : List Rule) (lines : List RStep) (s : RuleState) (full : Trace) → IsLegalRun g rules lines s full → RuleRun g rules s full
+legal-run g rules lines s full legal_start = starts
+legal-run g rules lines z full (legal_further {lines = before} {s = s} {full = shown} line acts legal is) =
+    further (legal-run g rules before s shown legal) (line-step g rules s z acts line is)
+
+pub lines_are_runs : (g : Sig) (rules : List Rule) → LinesAreRuns g rules
+lines_are_runs g rules lines s full legal = legal-run g rules lines s full legal

@@ -1,0 +1,110 @@
+-- What the parts of a state keep having to do with each other.
+use Rattle.std.proofs.Common.{◌≡◌, ◌<◌, ◌≤◌, ◌≢◌, ℕ, zero, suc, Bool, true, false, List, [], ◌∷◌, ◌++◌, length, map, Option, Some, None, slice_get, slice_set, IsSome, IsTrue, refl, ap, sym, ◌∙◌, append_assoc, inl, inr, ◌⊎◌, nat_eq, arith}
+use Rattle.std.specs.List.{All, fold, Contains}
+use Rattle.std.proofs.lemmas.List.{map-append, append-nil}
+use Rattle.std.proofs.lemmas.Option.{same_Some}
+use Rattle.std.proofs.lemmas.List.Elements.{All-nil, All-cons, All-head, All-tail, All-push, All-weaker}
+use Rattle.sap_terms.specs.AdversaryFacts.{linear, out_fact, fr_fact}
+use Rattle.sap_terms.specs.Message.{IsMessage, IsOver}
+use Rattle.sap_terms.specs.Ground.{IsGround}
+use Rattle.sap_terms.specs.Normal.{IsNormal, IsNormalForm, IsNoLeftSide}
+use Rattle.sap_terms.specs.Piles.{Pile, Takes, nothing, one, used, adds}
+use Rattle.sap_terms.specs.Signature.{Sig}
+use Rattle.sap_terms.specs.Theory.{theory, Theory, IsInstance}
+use Rattle.sap_terms.specs.Tree.{Tree, public, fresh, node_count}
+use Rattle.sap_terms.specs.declared.fact.Fact.{Fact}
+use Rattle.sap_deduce.specs.Entries.{Entry, Entries, terms_of, Gains}
+use Rattle.sap_deduce.specs.declared.line.Line.{Line}
+use Rattle.sap_facts.specs.Facts.{standing, fact_at, if_linear, places_without}
+use Rattle.sap_rule.specs.RuleSteps.{RuleState, gains, leaves}
+use Rattle.sap_steps.specs.Held.{IsHeldTerm, IsHeldFact, AreHeld}
+use Rattle.sap_steps.specs.Left.{left_of}
+use Rattle.sap_steps.specs.Tied.{IsTied}
+use Rattle.sap_steps.specs.declared.prepared.Prepared.{Prepared}
+use Rattle.sap_steps.proofs.Left.{gone_at, get-set_other, nat_cases, used-without, take_one, fact_at-live}
+
+-- no equation has a name for its left side
+fresh-normal : (e : Theory) (n : ℕ) (b : Tree) → IsInstance e (fresh n) b → ⊥
+fresh-normal e n b h = elim h [ ]
+
+public-normal : (e : Theory) (a : List ℕ) (b : Tree) → IsInstance e (public a) b → ⊥
+public-normal e a b h = elim h [ ]
+
+pub held_fresh : (g : Sig) (n : ℕ) → IsHeldTerm g (fresh n)
+held_fresh g n = record { message = record { ground = tt; over = tt; normal = fresh-normal (theory g) n; sorted = refl }; small = omega arith }
+
+pub held_public : (g : Sig) (a : List ℕ) → IsHeldTerm g (public a)
+held_public g a = record { message = record { ground = tt; over = tt; normal = public-normal (theory g) a; sorted = refl }; small = omega arith }
+
+pub held_single : (g : Sig) (name : List ℕ) (t : Tree) → IsHeldTerm g t → IsHeldFact g (linear name (t ∷ []))
+held_single g name t h = All-cons (IsHeldTerm g) t [] h (All-nil (IsHeldTerm g))
+
+pub held_argument : (g : Sig) (facts : Pile) (k : ℕ) (name : List ℕ) (t : Tree) → AreHeld g facts → fact_at facts k ≡ Some (linear name (t ∷ [])) → IsHeldTerm g t
+held_argument g facts k name t held e = All-head (IsHeldTerm g) t [] (held k (linear name (t ∷ [])) e)
+
+without-live : (facts : Pile) (k j : ℕ) (f : Fact) → fact_at (places_without facts k) j ≡ Some f → fact_at facts j ≡ Some f
+without-live facts k j f e = by (if_linear (fact_at facts k)) refl where
+  by : (o : Option Fact) → if_linear (fact_at facts k) ≡ o → fact_at facts j ≡ Some f
+  by None p = rw p at e
+  by (Some x) p =
+      let still = rw p at e in
+      elim (nat_cases k j) [ inl same ↦ let gone : fact_at (slice_set facts k None) j ≡ None = rw (← same.1) (gone_at facts k) in cc | inr other ↦ rw (get-set_other facts k j None other.1) at still ]
+
+held_without : (g : Sig) (facts : Pile) (k : ℕ) → AreHeld g facts → AreHeld g (places_without facts k)
+held_without g facts k held j f e = held j f (without-live facts k j f e)
+
+held_left : (g : Sig) (facts : Pile) (ks : List ℕ) → AreHeld g facts → AreHeld g (left_of facts ks)
+held_left g facts [] held = held
+held_left g facts (k ∷ ks) held = held_left g (places_without facts k) ks (held_without g facts k held)
+
+push-live : (facts : Pile) (f h : Fact) (j : ℕ) → fact_at (facts ++ Some f ∷ []) j ≡ Some h → (fact_at facts j ≡ Some h) ⊎ (f ≡ h)
+push-live [] f h zero e = inr (same_Some f h e)
+push-live [] f h (suc j) e = cc
+push-live (z ∷ zs) f h zero e = inl e
+push-live (z ∷ zs) f h (suc j) e = push-live zs f h j e
+
+held_push : (g : Sig) (facts : Pile) (f : Fact) → AreHeld g facts → IsHeldFact g f → AreHeld g (facts ++ Some f ∷ [])
+held_push g facts f held new j h e = elim (push-live facts f h j e) [ inl before ↦ held j h before | inr same ↦ rw (← same) new ]
+
+held_adds : (g : Sig) (facts : Pile) (fs : List Fact) → AreHeld g facts → All (IsHeldFact g) fs → AreHeld g (adds facts fs)
+held_adds g facts [] held all = rw (append-nil facts) held
+held_adds g facts (f ∷ fs) held all =
+    let apart : adds (facts ++ Some f ∷ []) fs ≡ adds facts (f ∷ fs) = append_assoc facts (Some f ∷ []) (map (λ f. Some f) fs) in
+    rw (← apart) (held_adds g (facts ++ Some f ∷ []) fs (held_push g facts f held (All-head (IsHeldFact g) f fs all)) (All-tail (IsHeldFact g) f fs all))
+
+pub tied_knows : (g : Sig) (rules : List Prepared) (facts : Pile) (old new : Entries) (line : Line) (t : Tree) → IsTied g rules facts old → Gains old new line t → IsHeldTerm g t → IsTied g rules facts new
+tied_knows g rules facts old new line t tied more held = record {
+  ready = tied.ready;
+  held = tied.held;
+  signature = more.sig ∙ tied.signature;
+  known = rw (more.entries, map-append (λ (e : Entry). e.term) old.entries (record { term = t; line = line } ∷ [])) (All-push (IsHeldTerm g) (terms_of old.entries) t tied.known held);
+}
+
+tied_facts : (g : Sig) (rules : List Prepared) (facts after : Pile) (known : Entries) → IsTied g rules facts known → AreHeld g after → IsTied g rules after known
+tied_facts g rules facts after known tied held = record { ready = tied.ready; held = held; signature = tied.signature; known = tied.known }
+
+pub tied_without : (g : Sig) (rules : List Prepared) (facts : Pile) (known : Entries) (k : ℕ) → IsTied g rules facts known → IsTied g rules (places_without facts k) known
+tied_without g rules facts known k tied = tied_facts g rules facts (places_without facts k) known tied (held_without g facts k tied.held)
+
+pub tied_push : (g : Sig) (rules : List Prepared) (facts : Pile) (known : Entries) (f : Fact) → IsTied g rules facts known → IsHeldFact g f → IsTied g rules (facts ++ Some f ∷ []) known
+tied_push g rules facts known f tied held = tied_facts g rules facts (facts ++ Some f ∷ []) known tied (held_push g facts f tied.held held)
+
+pub tied_used : (g : Sig) (rules : List Prepared) (facts : Pile) (known : Entries) (ks : List ℕ) (fs : List Fact) → IsTied g rules facts known → All (IsHeldFact g) fs → IsTied g rules (adds (left_of facts ks) fs) known
+tied_used g rules facts known ks fs tied held = tied_facts g rules facts (adds (left_of facts ks) fs) known tied (held_adds g (left_of facts ks) fs (held_left g facts ks tied.held) held)
+
+is_some-of : (o p : Option Fact) → ((f : Fact) → o ≡ Some f → p ≡ Some f) → IsSome o → IsSome p
+is_some-of None p f h = cc
+is_some-of (Some x) p f h = rw (f x refl) refl
+
+-- facts that can be taken are live
+pub taken-live : {facts rest : Pile} {ks : List ℕ} {fs : List Fact} → Takes facts ks fs rest → All (λ (k : ℕ). IsSome (fact_at facts k)) ks
+taken-live nothing = All-nil (λ (k : ℕ). IsSome (fact_at _ k))
+taken-live {facts = facts} (one {k = k} {ks = ks} {f = f} h t) =
+    All-cons (λ (k : ℕ). IsSome (fact_at facts k)) k ks (rw h refl)
+    (All-weaker (λ (j : ℕ). IsSome (fact_at (used facts k f) j)) (λ (j : ℕ). IsSome (fact_at facts j)) (λ j. is_some-of (fact_at (used facts k f) j) (fact_at facts j) (λ x e. without-live facts k j x (rw (used-without facts k f (ap standing h)) e))) ks (taken-live t))
+
+-- the state after the adversary learnt a term
+pub knows_more : (facts : Pile) (old new : Entries) (line : Line) (t : Tree) (made : List ℕ) → Gains old new line t → let before : RuleState = record { facts = facts; known = terms_of old.entries; made = made } in let after : RuleState = record { facts = facts; known = terms_of new.entries; made = made } in after ≡ gains before t
+knows_more facts old new line t made more =
+    let known : terms_of new.entries ≡ terms_of old.entries ++ t ∷ [] = ap terms_of more.entries ∙ map-append (λ (e : Entry). e.term) old.entries (record { term = t; line = line } ∷ []) in
+    λ i. record { facts = facts; known = known i; made = made }

@@ -1,0 +1,9 @@
+use Rattle.std.specs.Prelude.{codes}
+use Rattle.sap_terms.specs.Tree.{fresh}
+use Rattle.sap_steps.proofs.Tied.{tied_push, held_single, held_fresh}
+use Rattle.sap_steps.proofs.state.RuleState.fresh.Goals as goal
+
+pub invariant_of-self-2 : goal.invariant_of-self-2
+invariant_of-self-2 c =
+    rw (c.add_one.ensures.places, c.in_ok-reserve.ensures.places, c.in_ok-fr.ensures)
+    (tied_push _ _ _ _ _ c.self.invariant (held_single _ (codes "Fr") (fresh c.args.n) (held_fresh _ c.args.n)))

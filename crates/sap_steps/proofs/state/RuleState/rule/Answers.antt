@@ -1,0 +1,38 @@
+use Rattle.std.proofs.Common.{refl, ap, sym, ◌∙◌}
+use Rattle.std.specs.Option.{option_copied}
+use Rattle.std.proofs.lemmas.Result.{err_from_is_err_and}
+use Rattle.sap_deduce.specs.Entries.{terms_of}
+use Rattle.sap_rule.specs.RuleSteps.{RuleState}
+use Rattle.sap_steps.specs.Ready.{IsReady, rules_of}
+use Rattle.sap_steps.proofs.Ready.{no_rule, its_rule, ready-all}
+use Rattle.sap_steps.proofs.Tied.{tied_used}
+use Rattle.sap_steps.proofs.Used.{rule_fault, rule_line}
+use Rattle.sap_steps.proofs.state.RuleState.rule.Goals as goal
+
+pub returns-in_default-clause-refused : goal.returns-in_default-clause-refused
+returns-in_default-clause-refused c =
+    rw (← c.self.view_is) (no_rule c.self.inside.rules c.args.name.now (sym c.named.ensures ∙ ap option_copied c.in_default.is))
+
+pub use_rule-requires-clause-ready : goal.use_rule-requires-clause-ready
+use_rule-requires-clause-ready c =
+    ready-all (IsReady c.self.inside.sig) c.self.inside.rules c.args.name.now c.in-Some.rule.now c.self.invariant.ready (sym c.in-Some.ensures)
+
+pub returns-in_err-fired-clause-refused : goal.returns-in_err-fired-clause-refused
+returns-in_err-fired-clause-refused c =
+    let p = err_from_is_err_and c.from_residual.result c.from_residual.ensures.1 in
+    let s : RuleState = record { facts = c.self.inside.facts.places; known = terms_of c.self.inside.knowledge.entries; made = c.self.inside.made.keys } in
+    let named = its_rule c.self.inside.rules c.args.name.now c.in-Some.rule.now (sym c.in-Some.ensures) in
+    rw (p.1, p.2, ← c.self.view_is)
+    (rule_fault c.self.inside.sig (rules_of c.self.inside.rules) s c.args.name.now c.args.numbers.now c.args.b.now c.in-Some.rule.now.rule _ named c.in_err-fired.ensures.refused)
+
+pub invariant_of-self-2 : goal.invariant_of-self-2
+invariant_of-self-2 c =
+    rw (c.add_each.ensures, c.take_each.ensures.places, c.in_ok-reserve.ensures.places, c.in_ok-added.ensures)
+    (tied_used c.self.inside.sig c.self.inside.rules c.self.inside.facts.places c.self.inside.knowledge c.args.numbers.now c.in_ok-fired.fired.right c.self.invariant c.in_ok-fired.ensures.held)
+
+pub returns-clause-ok : goal.returns-clause-ok
+returns-clause-ok c =
+    let named = its_rule c.self.inside.rules c.args.name.now c.in-Some.rule.now (sym c.in-Some.ensures) in
+    rw (← c.self.view_is)
+    (rule_line c.self.inside.sig (rules_of c.self.inside.rules) c.self.inside.facts.places c.add_each.new.facts.places (terms_of c.self.inside.knowledge.entries) c.self.inside.made.keys c.args.name.now c.args.numbers.now c.args.b.now c.in-Some.rule.now.rule c.in_ok-fired.fired.acts c.in_ok-fired.fired.right named c.in_ok-fired.ensures.taken c.in_ok-fired.ensures.fires
+    (rw (c.add_each.ensures, c.take_each.ensures.places, c.in_ok-reserve.ensures.places, c.in_ok-added.ensures) refl))

@@ -1,0 +1,72 @@
+ghost use Rattle.std.specs.Prelude.{◌≡◌, ℕ, ◌<◌, [], ◌∷◌, ◌++◌, length, Some, false, IfOk, MatchOption};
+ghost use Rattle.sap_terms.specs.AdversaryFacts.{linear, out_fact, fr_fact};
+ghost use Rattle.sap_terms.specs.Tree.{Tree};
+ghost use Rattle.sap_terms.specs.View.{tree};
+ghost use Rattle.sap_facts.specs.Facts.{fact_at};
+
+use sap_facts::Pile;
+use sap_terms::{Fact, FactList, Mem, Name, Term, TermList};
+use std::alloc::Global;
+
+// The linear fact of this name with one argument.
+pub(crate) fn single(alloc: Global, name: &[u8], t: Term) -> Result<Fact, Mem>
+    ensures { IfOk result (λ f. f ≡ linear name.now (tree t ∷ [])) }
+{
+    let name = Name::from_bytes(alloc, name)?;
+    let mut args = TermList::new(alloc);
+    args.push(t)?;
+    Ok(Fact {
+        name,
+        persistent: false,
+        args,
+    })
+}
+
+// The fact alone.
+pub(crate) fn alone(alloc: Global, f: Fact) -> Result<FactList, Mem>
+    ensures { IfOk result (λ fs. fs ≡ f ∷ []) }
+{
+    let mut facts = FactList::new(alloc);
+    facts.push(f)?;
+    Ok(facts)
+}
+
+// The argument of a linear fact of this name with one argument; None for another fact.
+fn argument<'a>(f: &'a Fact, name: &[u8]) -> Option<&'a Term>
+    ensures { MatchOption result ((t : Tree) → ¬ (f.now ≡ linear name.now (t ∷ []))) (λ t. f.now ≡ linear name.now (tree t.now ∷ [])) }
+{
+    if f.persistent || f.args.len() != 1 || !f.name.is(name) {
+        return None;
+    }
+    Some(f.args.at(0))
+}
+
+// The argument of the fact of this number, if it is linear, has this name and one argument.
+fn argument_at<'a>(facts: &'a Pile, k: u64, name: &[u8]) -> Option<&'a Term>
+    ensures { MatchOption result ((t : Tree) → ¬ (fact_at facts.now.places k ≡ Some (linear name.now (t ∷ [])))) (λ t. fact_at facts.now.places k ≡ Some (linear name.now (tree t.now ∷ []))) }
+{
+    match facts.get(k) {
+        Some(f) => argument(f, name),
+        None => None,
+    }
+}
+
+// What the fact of this number puts out; None where it is no such fact.
+pub(crate) fn put_out(facts: &Pile, k: u64) -> Option<&Term>
+    ensures { MatchOption result ((t : Tree) → ¬ (fact_at facts.now.places k ≡ Some (out_fact t))) (λ t. fact_at facts.now.places k ≡ Some (out_fact (tree t.now))) }
+{
+    argument_at(facts, k, b"Out")
+}
+
+// The name that the fact of this number was made of; None where it is no such fact.
+pub(crate) fn name_made(facts: &Pile, k: u64) -> Option<u64>
+    ensures { MatchOption result ((n : ℕ) → ¬ (fact_at facts.now.places k ≡ Some (fr_fact n))) (λ n. fact_at facts.now.places k ≡ Some (fr_fact n)) }
+{
+    match argument_at(facts, k, b"Fr") {
+        Some(Term::Fresh(n)) => Some(*n),
+        Some(Term::Var(_)) => None,
+        Some(Term::Public(_)) => None,
+        Some(Term::App(_, _)) => None,
+        None => None,
+    }
+}
