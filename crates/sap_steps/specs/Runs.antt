@@ -13,7 +13,7 @@ use Rattle.sap_steps.specs.Lines.{IsLine, AnySize}
 -- each of these lines in turn is possible, from the empty state on; the last leads to this state, and this is the full trace
 pub data IsLegalRun (g : Sig) (rules : List Rule) : List RStep → RuleState → Trace → Type 0 where
   starts : IsLegalRun g rules [] empty_state []
-  further : {lines : List RStep} {s z : RuleState} {full : Trace} (acts : List Fact) (line : RStep) → IsLegalRun g rules lines s full → IsLine g rules AnySize s line acts z → IsLegalRun g rules (lines ++ line ∷ []) z (full ++ acts ∷ [])
+  further : {lines : List RStep} {s z : RuleState} {full : Trace} (line : RStep) (acts : List Fact) → IsLegalRun g rules lines s full → IsLine g rules AnySize s line acts z → IsLegalRun g rules (lines ++ line ∷ []) z (full ++ acts ∷ [])
 
 -- each run of rules with names of their own can be written: some lines are legal, lead to the same state and show the same
 abbrev pub RunsCanBeWritten : Sig → List Rule → Type 0
