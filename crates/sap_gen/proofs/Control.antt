@@ -2,8 +2,8 @@
 use Rattle.std.proofs.Common.{◌≡◌, ℕ, ◌+◌, ◌<◌, List, [], ◌∷◌, Option, Some, None, refl, sym, ap, ◌∙◌, arith, Bool, true, false, cond, slice_get, slice_set, subst}
 use Rattle.sap_terms.specs.declared.fact.Fact.{Fact}
 use Rattle.sap_process.specs.Proc.{Proc}
-use Rattle.sap_terms.specs.Piles.{Takes}
-use Rattle.sap_gen.specs.RuleSteps.{RuleState, nothing, one}
+use Rattle.sap_terms.specs.Piles.{Takes, nothing, one}
+use Rattle.sap_gen.specs.RuleSteps.{RuleState}
 use Rattle.sap_gen.specs.Templates.{state_fact}
 use Rattle.sap_gen.specs.Relation.{Agent, unborn, running, SameFacts, count_one, count_live, count_owed, is_control, same_fact}
 use Rattle.sap_gen.proofs.Totals.{total-set, total_found, Found}

@@ -8,7 +8,8 @@ use Rattle.sap_gen.specs.Members.{Member}
 use Rattle.sap_gen.specs.Places.{bare}
 use Rattle.sap_gen.specs.ProcessSteps.{Config, Runs, initial, becomes, spawns, Deducible, ProcessStep, ProcessRun}
 use Rattle.sap_terms.specs.AdversaryFacts.{k_fact}
-use Rattle.sap_gen.specs.RuleSteps.{RuleState, RuleStep, RuleRun, nothing, empty_state}
+use Rattle.sap_terms.specs.Piles.{nothing}
+use Rattle.sap_gen.specs.RuleSteps.{RuleState, RuleStep, RuleRun, empty_state}
 use Rattle.sap_terms.specs.Trace.{Trace, shown}
 use Rattle.sap_gen.specs.Templates.{state_fact, rules_of, nil_rule, parallel_rule, event_rule}
 use Rattle.sap_gen.specs.Relation.{Agent, unborn, running, process_of, Related}
