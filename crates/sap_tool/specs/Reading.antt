@@ -4,7 +4,7 @@ use Rattle.std.specs.Str.{bytes_eq}
 use Rattle.sap_terms.specs.declared.fact.Fact.{Fact}
 use Rattle.sap_terms.specs.Tree.{Tree, public}
 use Rattle.sap_process.specs.Proc.{Proc, nil, parallel, event}
-use Rattle.sap_gen.specs.ReservedFacts.{linear}
+use Rattle.sap_terms.specs.AdversaryFacts.{linear}
 use Rattle.sap_tool.specs.Words.{Word, mark, name, number, quoted}
 use Rattle.sap_tool.specs.Grammar.{is_upper}
 

@@ -2,7 +2,7 @@ ghost use Rattle.std.specs.Prelude.{◌≡◌, ◌≤◌, ◌<◌, ◌+◌, ◌^
 ghost use Rattle.sap_terms.specs.Tree.{public};
 ghost use Rattle.sap_terms.specs.View.{tree};
 ghost use Rattle.sap_process.specs.Proc.{proc, parallel, event};
-ghost use Rattle.sap_gen.specs.ReservedFacts.{linear};
+ghost use Rattle.sap_terms.specs.AdversaryFacts.{linear};
 ghost use Rattle.sap_tool.specs.Words.{words_of};
 ghost use Rattle.sap_tool.specs.Grammar.{is_upper};
 ghost use Rattle.sap_tool.specs.Reading.{args, arg_list, event_args, event_at, closed, going_on, seq, par};
