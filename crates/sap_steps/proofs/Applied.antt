@@ -1,9 +1,9 @@
 -- Symbols on messages.
-use Rattle.std.proofs.Common.{◌≡◌, ◌≤◌, ℕ, List, [], ◌∷◌, length, map, Some, refl, ap, sym, ◌∙◌}
+use Rattle.std.proofs.Common.{◌≡◌, ◌≤◌, ℕ, List, [], ◌∷◌, length, Some}
 use Rattle.std.specs.List.{All, Contains}
 use Rattle.std.proofs.lemmas.List.Elements.{All-head, All-tail, All-contains, All-weaker}
-use Rattle.sap_terms.specs.Ground.{IsGround, AreGround}
-use Rattle.sap_terms.specs.Message.{IsMessage, IsOver, AreOver}
+use Rattle.sap_terms.specs.Ground.{AreGround}
+use Rattle.sap_terms.specs.Message.{AreOver}
 use Rattle.sap_terms.specs.Signature.{Sig, HoldsBuiltins, arity_of}
 use Rattle.sap_terms.specs.Tree.{Tree, apply, trees_of, list_of, list_of-trees_of, node_count}
 use Rattle.sap_rewrite.specs.Laws.{FormsAreMessages}

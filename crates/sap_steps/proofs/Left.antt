@@ -1,16 +1,14 @@
 -- What is left of facts that are taken one by one.
-use Rattle.std.proofs.Common.{◌≡◌, ◌<◌, ◌≢◌, ℕ, zero, suc, Bool, true, false, ◌||◌, nat_eq, List, [], ◌∷◌, ◌++◌, length, map, Option, Some, None, slice_get, get_or, slice_set, take, ◌+◌, if◌then◌else◌, ◌⊎◌, inl, inr, refl, ap, sym, ◌∙◌, append_assoc, arith}
-use Rattle.std.specs.List.{All, fold, filter_map}
-use Rattle.std.proofs.lemmas.List.Elements.{All-head, All-tail, filter_map-append}
+use Rattle.std.proofs.Common.{◌≡◌, ◌<◌, ◌≢◌, ℕ, zero, suc, Bool, true, false, ◌||◌, nat_eq, List, [], ◌∷◌, ◌++◌, length, Option, Some, None, slice_get, get_or, slice_set, take, ◌+◌, if◌then◌else◌, ◌⊎◌, inl, inr, refl, ap, ◌∙◌, arith}
+use Rattle.std.proofs.lemmas.List.Elements.{filter_map-append}
 use Rattle.std.proofs.lemmas.List.Sums.{fold_push}
 use Rattle.std.proofs.lemmas.List.{take_more}
 use Rattle.std.proofs.lemmas.Option.{slice_get-get_or}
-use Rattle.sap_terms.specs.Piles.{Pile, used, Takes, nothing, one, adds}
-use Rattle.sap_terms.specs.Signature.{Sig}
+use Rattle.sap_terms.specs.Piles.{Pile, used, Takes, nothing, one}
 use Rattle.sap_terms.specs.declared.fact.Fact.{Fact}
-use Rattle.sap_facts.specs.Facts.{standing, fact_at, if_linear, places_without}
+use Rattle.sap_facts.specs.Facts.{standing, fact_at, places_without}
 use Rattle.sap_steps.specs.Faults.{IsFirstMissing}
-use Rattle.sap_steps.specs.Held.{IsHeldFact, AreHeld, cited_at}
+use Rattle.sap_steps.specs.Held.{cited_at}
 use Rattle.sap_steps.specs.Left.{left_of, AreTaken, unless, IsLeft, IsCited}
 
 standing-some : (o : Option (Option Fact)) (f : Fact) → standing o ≡ Some f → o ≡ Some (Some f)

@@ -13,4 +13,3 @@ pub mod Tied
 pub mod Applied
 pub mod Names
 pub mod Used
-pub mod Plain

@@ -1,7 +1,6 @@
 -- Runs and the lines that write them.
-use Rattle.std.proofs.Common.{◌≡◌, ℕ, List, [], ◌∷◌, ◌++◌, length, map, Some, slice_get, refl, ap, sym, ◌∙◌}
-use Rattle.std.specs.List.{All, Contains}
-use Rattle.sap_terms.specs.Signature.{Sig, arity_of}
+use Rattle.std.proofs.Common.{List, [], ◌∷◌, ◌++◌, Some, refl, ap, sym, ◌∙◌}
+use Rattle.sap_terms.specs.Signature.{Sig}
 use Rattle.sap_terms.specs.Trace.{Trace}
 use Rattle.sap_terms.specs.declared.fact.Fact.{Fact}
 use Rattle.sap_rule.specs.Named.{HaveNamesOfTheirOwn}

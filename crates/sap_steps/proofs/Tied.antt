@@ -1,27 +1,24 @@
 -- What the parts of a state keep having to do with each other.
-use Rattle.std.proofs.Common.{◌≡◌, ◌<◌, ◌≤◌, ◌≢◌, ℕ, zero, suc, Bool, true, false, List, [], ◌∷◌, ◌++◌, length, map, Option, Some, None, slice_get, slice_set, IsSome, IsTrue, refl, ap, sym, ◌∙◌, append_assoc, inl, inr, ◌⊎◌, nat_eq, arith}
-use Rattle.std.specs.List.{All, fold, Contains}
+use Rattle.std.proofs.Common.{◌≡◌, ℕ, zero, suc, List, [], ◌∷◌, ◌++◌, map, Option, Some, None, slice_set, IsSome, refl, ap, ◌∙◌, append_assoc, inl, inr, ◌⊎◌, arith}
+use Rattle.std.specs.List.{All}
 use Rattle.std.proofs.lemmas.List.{map-append, append-nil}
 use Rattle.std.proofs.lemmas.Option.{same_Some}
 use Rattle.std.proofs.lemmas.List.Elements.{All-nil, All-cons, All-head, All-tail, All-push, All-weaker}
-use Rattle.sap_terms.specs.AdversaryFacts.{linear, out_fact, fr_fact}
-use Rattle.sap_terms.specs.Message.{IsMessage, IsOver}
-use Rattle.sap_terms.specs.Ground.{IsGround}
-use Rattle.sap_terms.specs.Normal.{IsNormal, IsNormalForm, IsNoLeftSide}
+use Rattle.sap_terms.specs.AdversaryFacts.{linear}
 use Rattle.sap_terms.specs.Piles.{Pile, Takes, nothing, one, used, adds}
 use Rattle.sap_terms.specs.Signature.{Sig}
 use Rattle.sap_terms.specs.Theory.{theory, Theory, IsInstance}
-use Rattle.sap_terms.specs.Tree.{Tree, public, fresh, node_count}
+use Rattle.sap_terms.specs.Tree.{Tree, public, fresh}
 use Rattle.sap_terms.specs.declared.fact.Fact.{Fact}
 use Rattle.sap_deduce.specs.Entries.{Entry, Entries, terms_of, Gains}
 use Rattle.sap_deduce.specs.declared.line.Line.{Line}
 use Rattle.sap_facts.specs.Facts.{standing, fact_at, if_linear, places_without}
-use Rattle.sap_rule.specs.RuleSteps.{RuleState, gains, leaves}
+use Rattle.sap_rule.specs.RuleSteps.{RuleState, gains}
 use Rattle.sap_steps.specs.Held.{IsHeldTerm, IsHeldFact, AreHeld}
 use Rattle.sap_steps.specs.Left.{left_of}
 use Rattle.sap_steps.specs.Tied.{IsTied}
 use Rattle.sap_steps.specs.declared.prepared.Prepared.{Prepared}
-use Rattle.sap_steps.proofs.Left.{gone_at, get-set_other, nat_cases, used-without, take_one, fact_at-live}
+use Rattle.sap_steps.proofs.Left.{gone_at, get-set_other, nat_cases, used-without}
 
 -- no equation has a name for its left side
 fresh-normal : (e : Theory) (n : ℕ) (b : Tree) → IsInstance e (fresh n) b → ⊥

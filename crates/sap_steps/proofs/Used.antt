@@ -1,18 +1,18 @@
 -- Lines that use a rule.
-use Rattle.std.proofs.Common.{◌≡◌, ℕ, List, [], ◌∷◌, ◌++◌, length, Some, None, ◌⊎◌, inl, inr, refl, ap, sym, ◌∙◌}
-use Rattle.sap_terms.specs.Piles.{Pile, Takes, adds}
+use Rattle.std.proofs.Common.{◌≡◌, ℕ, List, Some, ◌⊎◌, inl, inr}
+use Rattle.sap_terms.specs.Piles.{Pile, adds}
 use Rattle.sap_terms.specs.Signature.{Sig}
 use Rattle.sap_terms.specs.Tree.{Tree}
 use Rattle.sap_terms.specs.declared.binding.Binding.{Binding}
 use Rattle.sap_terms.specs.declared.fact.Fact.{Fact}
 use Rattle.sap_rule.specs.Named.{rule_named}
-use Rattle.sap_rule.specs.RuleSteps.{RuleState, leaves}
+use Rattle.sap_rule.specs.RuleSteps.{RuleState}
 use Rattle.sap_rule.specs.declared.rule.Rule.{Rule}
 use Rattle.sap_runs.specs.declared.rule_step.RStep.TheVariants.{Rule as RuleLine}
 use Rattle.sap_steps.specs.Faults.{IsFault, IsRuleFault}
 use Rattle.sap_steps.specs.Held.{cited_at}
 use Rattle.sap_steps.specs.Left.{left_of, AreTaken}
-use Rattle.sap_steps.specs.Lines.{IsLine, IsRuleLine, Fires, IsSmall}
+use Rattle.sap_steps.specs.Lines.{IsLine, Fires, IsSmall}
 use Rattle.sap_steps.specs.declared.fault.RFault.{RFault}
 use Rattle.sap_steps.specs.declared.fault.RFault.TheVariants.{Mem, NoRule, FactCount, FactMissing, BadBinding, NoMatch, TermLarge, Unequal, UsedName, WrongFact, NoEntry, NotPublic, Arity}
 

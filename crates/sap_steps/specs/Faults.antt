@@ -1,5 +1,5 @@
 -- Why a line is refused: the first test that fails.
-use Rattle.std.specs.Prelude.{◌≡◌, ◌⊎◌, ◌+◌, ◌<◌, ◌≤◌, ℕ, nat_le, List, [], ◌∷◌, ◌++◌, length, Option, Some, None, map, find, slice_get, All, Contains, take, ⊤}
+use Rattle.std.specs.Prelude.{◌≡◌, ◌+◌, ◌<◌, ℕ, nat_le, List, [], ◌∷◌, length, Some, None, map, find, slice_get, All, Contains, take, ⊤}
 use Rattle.std.specs.List.{AllZip}
 use Rattle.sap_terms.specs.AdversaryFacts.{out_fact, fr_fact}
 use Rattle.sap_terms.specs.Choice.{Choice, IsSorted}
@@ -20,7 +20,7 @@ use Rattle.sap_rule.specs.RuleSteps.{RuleState}
 use Rattle.sap_rule.specs.Variables.{open_variables}
 use Rattle.sap_rule.specs.declared.rule.Rule.{Rule}
 use Rattle.sap_runs.specs.declared.rule_step.RStep.{RStep}
-use Rattle.sap_runs.specs.declared.rule_step.RStep.TheVariants.{Fresh, Learn, Own, Public, Apply, Know, Rule as RuleLine}
+use Rattle.sap_runs.specs.declared.rule_step.RStep.TheVariants.{Fresh, Learn, Own, Apply, Know, Rule as RuleLine}
 use Rattle.sap_steps.specs.Lines.{IsEvaluated, IsSmall}
 use Rattle.sap_steps.specs.declared.fault.RFault.{RFault}
 use Rattle.sap_steps.specs.declared.fault.RFault.TheVariants.{Mem, NoRule, FactCount, FactMissing, BadBinding, NoMatch, TermLarge, Unequal, UsedName, WrongFact, NoEntry, NotPublic, Arity}

@@ -8,4 +8,3 @@ pub mod Ready
 pub mod Left
 pub mod Tied
 pub mod Denied
-pub mod Plain

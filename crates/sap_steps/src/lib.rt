@@ -12,8 +12,6 @@ mod prepared;
 mod rules;
 mod state;
 mod taking;
-#[cfg(test)]
-mod tests;
 mod using;
 
 pub use fault::RFault;

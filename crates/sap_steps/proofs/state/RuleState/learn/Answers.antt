@@ -1,5 +1,3 @@
-use Rattle.std.proofs.Common.{refl, ap, ◌∙◌}
-use Rattle.sap_terms.specs.Tree.{Tree}
 use Rattle.sap_terms.specs.View.{tree}
 use Rattle.sap_facts.specs.Facts.{places_without}
 use Rattle.sap_steps.proofs.Left.{take_one}

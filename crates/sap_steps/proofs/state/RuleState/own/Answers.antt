@@ -1,5 +1,3 @@
-use Rattle.std.proofs.Common.{refl}
-use Rattle.sap_terms.specs.Tree.{fresh}
 use Rattle.sap_facts.specs.Facts.{places_without}
 use Rattle.sap_steps.proofs.Left.{take_one}
 use Rattle.sap_steps.proofs.Tied.{tied_knows, tied_without, held_fresh, knows_more}
