@@ -2,6 +2,8 @@
 #![tactic(auto)]
 
 mod rule;
+#[cfg(test)]
+mod tests;
 mod theory;
 mod variables;
 mod well_made;
