@@ -2,9 +2,13 @@
 #![tactic(auto)]
 
 mod rule;
+#[cfg(test)]
+mod tests;
 mod theory;
 mod variables;
+mod well_made;
 
 pub use rule::{Rule, RuleList};
 pub use theory::Theory;
 pub use variables::open_vars;
+pub use well_made::is_well_made;

@@ -26,7 +26,7 @@ pub fn open_vars(alloc: Global, sig: &Signature, r: &Rule) -> Result<Vars, Mem>
 }
 
 // Each occurrence of a variable in the rule.
-fn vars_of(alloc: Global, r: &Rule) -> Result<Vars, Mem>
+pub(crate) fn vars_of(alloc: Global, r: &Rule) -> Result<Vars, Mem>
     ensures { IfOk result (λ vs. vs ≡ rule_vars r.now) }
 {
     let mut all = Vars::new(alloc);

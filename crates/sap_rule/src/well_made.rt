@@ -1,0 +1,166 @@
+ghost use Rattle.std.specs.Prelude.{◌≡◌, ◌↔◌, ℕ, List, All, IfOk, IsTrue, true, false, Some, if◌then◌else◌};
+ghost use Rattle.std.specs.Str.{bytes_eq};
+ghost use Rattle.indexmap.specs.IndexMap.{get};
+ghost use Rattle.sap_terms.specs.Message.{AreOver};
+ghost use Rattle.sap_terms.specs.Tree.{trees_of};
+ghost use Rattle.sap_terms.specs.View.{tree};
+ghost use Rattle.sap_rewrite.specs.Match.{HaveOneSort};
+ghost use Rattle.sap_rule.specs.Checks.{is_over, all_over, IsOtherSort};
+ghost use Rattle.sap_rule.specs.WellMade.{IsSingle, IsKnowledge, IsRuleFact, IsLeftFact, IsRightFact, IsActFact, IsWellMade};
+
+use crate::Rule;
+use crate::variables::vars_of;
+use indexmap::IndexMap;
+use sap_terms::{Copied, Fact, FactList, Mem, Name, Signature, Sort, Term, TermList, Var, Vars};
+use std::alloc::Global;
+
+/// Whether the rule can be run: each symbol is held with its arity; `Fr` and `In` stand only on its left side, `Out`
+/// only on its right side, each linear with one argument; `K`, `KU` and `KD` nowhere; and no name of a variable stands
+/// with two sorts. It takes time in proportion to the rule, and recurses as deep as its terms.
+pub fn is_well_made(alloc: Global, sig: &Signature, r: &Rule) -> Result<bool, Mem>
+    ensures { IfOk result (λ b. IsTrue b ↔ IsWellMade sig.now r.now) }
+{
+    if !are_left_facts(sig, &r.left) {
+        return Ok(false);
+    }
+    if !are_act_facts(sig, &r.acts) {
+        return Ok(false);
+    }
+    if !are_right_facts(sig, &r.right) {
+        return Ok(false);
+    }
+    let all = vars_of(alloc, r)?;
+    let one_sort = have_one_sort(alloc, &all)?;
+    Ok(one_sort)
+}
+
+fn are_left_facts(sig: &Signature, fs: &FactList) -> bool
+    ensures { IsTrue result ↔ All (IsLeftFact sig.now) fs.now }
+{
+    fs.as_slice().iter().all(|f| is_left_fact(sig, f))
+}
+
+fn are_act_facts(sig: &Signature, fs: &FactList) -> bool
+    ensures { IsTrue result ↔ All (IsActFact sig.now) fs.now }
+{
+    fs.as_slice().iter().all(|f| is_act_fact(sig, f))
+}
+
+fn are_right_facts(sig: &Signature, fs: &FactList) -> bool
+    ensures { IsTrue result ↔ All (IsRightFact sig.now) fs.now }
+{
+    fs.as_slice().iter().all(|f| is_right_fact(sig, f))
+}
+
+// Whether the fact may stand on a left side.
+fn is_left_fact(sig: &Signature, f: &Fact) -> bool
+    ensures { IsTrue result ↔ IsLeftFact sig.now f.now }
+{
+    if !is_rule_fact(sig, f) || f.name.is(b"Out") {
+        return false;
+    }
+    if f.name.is(b"Fr") || f.name.is(b"In") {
+        return is_single(f);
+    }
+    true
+}
+
+// Whether it may be shown.
+fn is_act_fact(sig: &Signature, f: &Fact) -> bool
+    ensures { IsTrue result ↔ IsActFact sig.now f.now }
+{
+    if f.name.is(b"Fr") || f.name.is(b"In") || f.name.is(b"Out") {
+        return false;
+    }
+    is_rule_fact(sig, f)
+}
+
+// Whether it may stand on a right side.
+fn is_right_fact(sig: &Signature, f: &Fact) -> bool
+    ensures { IsTrue result ↔ IsRightFact sig.now f.now }
+{
+    if !is_rule_fact(sig, f) || f.name.is(b"Fr") || f.name.is(b"In") {
+        return false;
+    }
+    if f.name.is(b"Out") {
+        return is_single(f);
+    }
+    true
+}
+
+// Whether the fact is over the signature, and no knowledge of the adversary's.
+fn is_rule_fact(sig: &Signature, f: &Fact) -> bool
+    ensures { IsTrue result ↔ IsRuleFact sig.now f.now }
+{
+    if is_knowledge(&f.name) {
+        return false;
+    }
+    all_over(sig, &f.args)
+}
+
+fn is_knowledge(name: &Name) -> bool
+    ensures { IsTrue result ↔ IsKnowledge name.now }
+{
+    name.is(b"K") || name.is(b"KU") || name.is(b"KD")
+}
+
+// Whether the fact is linear and has one argument.
+fn is_single(f: &Fact) -> bool
+    ensures { IsTrue result ↔ IsSingle f.now }
+{
+    !f.persistent && f.args.len() == 1
+}
+
+// Whether each symbol of the term is held with its arity.
+#[cycle(is_over)]
+#[tactic(auto, using(crate::proofs::Over::over_laws))]
+fn is_over(sig: &Signature, t: &Term) -> bool
+    ensures { result ≡ is_over sig.now (tree t.now) }
+{
+    match t {
+        Term::App(f, ts) => match sig.arity(f) {
+            Some(n) => n == ts.len() && all_over(sig, ts),
+            None => false,
+        },
+        _ => true,
+    }
+}
+
+#[cycle(is_over)]
+#[tactic(auto, using(crate::proofs::Over::over_laws))]
+fn all_over(sig: &Signature, ts: &TermList) -> bool
+    ensures { result ≡ all_over sig.now (trees_of ts.now) }
+{
+    for k in 0..ts.len() {
+        if !is_over(sig, ts.at(k)) {
+            return false;
+        }
+    }
+    true
+}
+
+// Whether no name stands with two sorts.
+fn have_one_sort(alloc: Global, vars: &Vars) -> Result<bool, Mem>
+    ensures { IfOk result (λ b. IsTrue b ↔ HaveOneSort vars.now) }
+{
+    let mut sorts = IndexMap::new(alloc);
+    for v in vars.as_slice() {
+        if !note_sort(alloc, &mut sorts, v)? {
+            return Ok(false);
+        }
+    }
+    Ok(true)
+}
+
+// Notes the sort of the variable's name; false where another one is noted.
+fn note_sort(alloc: Global, sorts: &mut IndexMap<Name, Sort>, v: &Var) -> Result<bool, Mem>
+    ensures other { IfOk result (λ b. b ≡ false ↔ IsOtherSort (get bytes_eq sorts.old v.now.name) v.now.sort) }
+    ensures noted { IfOk result (λ b. b ≡ true → (n : List ℕ) → get bytes_eq sorts.new n ≡ (if bytes_eq v.now.name n then Some v.now.sort else get bytes_eq sorts.old n)) }
+{
+    if let Some(s) = sorts.get(&v.name) {
+        return Ok(*s == v.sort);
+    }
+    let name = v.name.copy(alloc)?;
+    sorts.insert(name, v.sort)?;
+    Ok(true)
+}
