@@ -1,10 +1,12 @@
-ghost use Rattle.std.specs.Prelude.{◌≡◌};
+ghost use Rattle.std.specs.Prelude.{◌≡◌, ◌↔◌, All, IfOk, IsTrue};
 ghost use Rattle.std.specs.Option.{option_copied};
 ghost use Rattle.sap_rule.specs.Named.{rule_named};
+ghost use Rattle.sap_rule.specs.WellMade.{IsWellMade};
 
-use crate::{Rule, RuleList};
+use crate::{Rule, RuleList, is_well_made};
 use sap_formula::{LemmaList, RestrictionList};
-use sap_terms::{Name, Signature};
+use sap_terms::{Mem, Name, Signature};
+use std::alloc::Global;
 
 /// Rules over a signature, with the restrictions that a trace has to keep to count, and lemmas on the traces.
 #[derive(Drop)]
@@ -27,5 +29,17 @@ impl Theory {
             }
         }
         None
+    }
+
+    /// Whether each rule is well made, so that the theory's rules can be run. It takes time in proportion to the rules.
+    pub fn can_run(&self, alloc: Global) -> Result<bool, Mem>
+        ensures { IfOk result (λ b. IsTrue b ↔ All (IsWellMade self.now.signature) self.now.rules) }
+    {
+        for k in 0..self.rules.len() {
+            if !is_well_made(alloc, &self.signature, self.rules.at(k))? {
+                return Ok(false);
+            }
+        }
+        Ok(true)
     }
 }

@@ -6,8 +6,8 @@ use sap_rule::{Rule, RuleList, Theory};
 use sap_runs::RStep;
 use sap_steps::{RFault, RuleState};
 use sap_terms::{
-    Binding, Bindings, Builtin, Copied, Fact, FactList, Items, Name, Numbers, Signature, Sort, Term,
-    Var,
+    Binding, Bindings, Builtin, Copied, Fact, FactList, Items, Name, Numbers, Signature, Sort,
+    Term, Var,
 };
 use sap_text::tokens;
 use std::alloc::Global;

@@ -1,7 +1,6 @@
+use crate::Want::{Refused, Shows};
 use crate::{RuleText, Want, gives, start};
 use std::test::Fail;
-
-use crate::Want::{Refused, Shows};
 
 type Row<'a> = (&'a str, &'a [(&'a str, &'a str)], Want<'a>);
 
@@ -48,9 +47,17 @@ fn open_variables_are_bound_by_the_line(rt: HostRuntime) -> Result<(), Fail> {
         ("rule Insert_ 0", &[], Shows("Insert('k','v')")),
         ("rule Delete_1 1", &[], Shows("Delete('k')")),
         ("rule Found_11 2", &[], Refused("bad binding", 0)),
-        ("rule Found_11 2", &[("y", "'v'")], Refused("bad binding", 0)),
+        (
+            "rule Found_11 2",
+            &[("y", "'v'")],
+            Refused("bad binding", 0),
+        ),
         ("rule Found_11 2", &[("x", "y")], Refused("bad binding", 0)),
-        ("rule Found_11 2", &[("x", "fst(<'v','w'>)")], Refused("bad binding", 0)),
+        (
+            "rule Found_11 2",
+            &[("x", "fst(<'v','w'>)")],
+            Refused("bad binding", 0),
+        ),
         ("rule Found_11 2", &[("x", "'v'")], Shows("IsIn('k','v')")),
     ];
     let mut found = start(alloc, &STORE).ok_or("no state")?;
@@ -76,13 +83,43 @@ const CHANNEL: [RuleText; 11] = [
     ("New_", "State_(), Fr(~c)", "", "State_1(~c)"),
     ("Par_1", "State_1(~c)", "", "State_11(~c), State_12(~c)"),
     ("Par_12", "State_12(~c)", "", "State_121(~c), State_122(~c)"),
-    ("OutMsg_11", "State_11(~c), Fr(~g)", "", "Msg(~g,~c,'m'), Semi_11(~c,~g)"),
+    (
+        "OutMsg_11",
+        "State_11(~c), Fr(~g)",
+        "",
+        "Msg(~g,~c,'m'), Semi_11(~c,~g)",
+    ),
     ("OutAck_11", "Semi_11(~c,~g), Ack(~g)", "", "State_111(~c)"),
-    ("InMsg_121", "State_121(~c), Msg(~g,~c,'m')", "", "Ack(~g), State_1211(~c)"),
-    ("Event_1211", "State_1211(~c)", "Event(), G()", "State_12111(~c)"),
-    ("Event_122", "State_122(~c)", "Event(), E1()", "State_1221(~c)"),
-    ("OutMsg_1221", "State_1221(~c), Fr(~g)", "", "Msg(~g,~c,'m'), Semi_1221(~c,~g)"),
-    ("OutAck_1221", "Semi_1221(~c,~g), Ack(~g)", "", "State_12211(~c)"),
+    (
+        "InMsg_121",
+        "State_121(~c), Msg(~g,~c,'m')",
+        "",
+        "Ack(~g), State_1211(~c)",
+    ),
+    (
+        "Event_1211",
+        "State_1211(~c)",
+        "Event(), G()",
+        "State_12111(~c)",
+    ),
+    (
+        "Event_122",
+        "State_122(~c)",
+        "Event(), E1()",
+        "State_1221(~c)",
+    ),
+    (
+        "OutMsg_1221",
+        "State_1221(~c), Fr(~g)",
+        "",
+        "Msg(~g,~c,'m'), Semi_1221(~c,~g)",
+    ),
+    (
+        "OutAck_1221",
+        "Semi_1221(~c,~g), Ack(~g)",
+        "",
+        "State_12211(~c)",
+    ),
 ];
 
 #[test]
@@ -114,7 +151,12 @@ fn an_acknowledgement_has_one_sender(rt: HostRuntime) -> Result<(), Fail> {
 }
 
 const NAMES: [RuleText; 7] = [
-    ("Init", "", "Init()", "State_(), !P('a'), F('c','a'), G('a')"),
+    (
+        "Init",
+        "",
+        "Init()",
+        "State_(), !P('a'), F('c','a'), G('a')",
+    ),
     ("New_", "State_(), Fr(~n)", "", "State_1(~n)"),
     ("First", "F(x,fst(y))", "A(y)", "H(x)"),
     ("Twice", "!P(x), !P(y)", "B(x,fst(<y,x>))", ""),
@@ -160,7 +202,10 @@ fn each_fault_comes_in_its_order(rt: HostRuntime) -> Result<(), Fail> {
 fn a_large_instance_is_refused(rt: HostRuntime) -> Result<(), Fail> {
     let alloc = rt.alloc();
     let mut state = start(alloc, &NAMES).ok_or("no state")?;
-    assert_eq!(rt; gives(alloc, &mut state, "rule Init", &[], Shows("Init()")), Some(true));
+    assert_eq!(rt;
+        gives(alloc, &mut state, "rule Init", &[], Shows("Init()")),
+        Some(true)
+    );
     let lines = [
         "rule Double 3",
         "rule Double 4",
@@ -174,7 +219,13 @@ fn a_large_instance_is_refused(rt: HostRuntime) -> Result<(), Fail> {
         assert_eq!(rt; gives(alloc, &mut state, text, &[], Shows("")), Some(true));
     }
     let large = Refused("term is large", 0);
-    assert_eq!(rt; gives(alloc, &mut state, "rule Double 10", &[], large), Some(true));
-    assert_eq!(rt; gives(alloc, &mut state, "rule Double 10", &[], large), Some(true));
+    assert_eq!(rt;
+        gives(alloc, &mut state, "rule Double 10", &[], large),
+        Some(true)
+    );
+    assert_eq!(rt;
+        gives(alloc, &mut state, "rule Double 10", &[], large),
+        Some(true)
+    );
     Ok(())
 }
