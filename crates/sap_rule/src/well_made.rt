@@ -16,7 +16,8 @@ use std::alloc::Global;
 
 /// Whether the rule can be run: each symbol is held with its arity; `Fr` and `In` stand only on its left side, `Out`
 /// only on its right side, each linear with one argument; `K`, `KU` and `KD` nowhere; and no name of a variable stands
-/// with two sorts. It takes time in proportion to the rule, and recurses as deep as its terms.
+/// with two sorts. It takes time in proportion to the rule, where each symbol in it is looked for among those of the
+/// signature, and recurses as deep as its terms.
 pub fn is_well_made(alloc: Global, sig: &Signature, r: &Rule) -> Result<bool, Mem>
     ensures { IfOk result (λ b. IsTrue b ↔ IsWellMade sig.now r.now) }
 {
