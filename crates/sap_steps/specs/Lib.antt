@@ -2,6 +2,7 @@ pub mod State
 pub mod Lines
 pub mod Runs
 pub mod Faults
+pub mod Inner
 pub mod Held
 pub mod Firing
 pub mod Ready

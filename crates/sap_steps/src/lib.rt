@@ -8,6 +8,7 @@ mod fault;
 mod firing;
 mod fitting;
 mod forms;
+mod laws;
 mod prepared;
 mod rules;
 mod state;
@@ -15,4 +16,5 @@ mod taking;
 mod using;
 
 pub use fault::RFault;
+pub use laws::inner_actions_by_hand;
 pub use state::RuleState;

@@ -1,0 +1,39 @@
+-- The inner actions of rules, read off what their steps show.
+use Rattle.std.specs.Prelude.{ℕ, Bool, ◌||◌, List, [], ◌∷◌, Option, Some, None, codes, if◌then◌else◌, true, false}
+use Rattle.std.specs.List.{filter_map, flat_map}
+use Rattle.std.specs.Str.{bytes_eq}
+use Rattle.sap_terms.specs.AdversaryFacts.{linear, k_fact}
+use Rattle.sap_terms.specs.Trace.{Trace}
+use Rattle.sap_terms.specs.Tree.{Tree, public, fresh}
+use Rattle.sap_terms.specs.declared.fact.Fact.{Fact}
+use Rattle.sap_runs.specs.Inner.{InnerAction, equal, different, found, missing, inserted, deleted, locked, unlocked}
+
+-- what a fact with one argument, or with two, says by its name; a lock's label, which comes first, is left out
+abbrev pub inner_of_one : List ℕ → Tree → Option InnerAction
+inner_of_one n t = if bytes_eq n (codes "IsNotSet") then Some (missing t) else if bytes_eq n (codes "Delete") then Some (deleted t) else None
+
+abbrev pub inner_of_two : List ℕ → Tree → Tree → Option InnerAction
+inner_of_two n t u =
+    if bytes_eq n (codes "Eq") then Some (equal t u) else if bytes_eq n (codes "NotEq") then Some (different t u) else if bytes_eq n (codes "IsIn") then Some (found t u) else if bytes_eq n (codes "Insert") then Some (inserted t u) else if bytes_eq n (codes "Lock") then Some (locked u) else if bytes_eq n (codes "Unlock") then Some (unlocked u) else None
+
+-- the inner action that a fact says, if it says one
+abbrev pub inner_of : Fact → Option InnerAction
+inner_of f = of f.args where
+  of : List Tree → Option InnerAction
+  of (t ∷ []) = inner_of_one f.name t
+  of (t ∷ u ∷ []) = inner_of_two f.name t u
+  of _ = None
+
+-- the inner actions that a full trace shows, in order
+abbrev pub inner_actions : Trace → List InnerAction
+inner_actions full = flat_map (filter_map inner_of) full
+
+-- a full trace for an example: of the store, of a branch, of an event, of a lock and of the adversary
+abbrev pub shown_by_hand : Trace
+shown_by_hand =
+    (linear (codes "Insert") (public (codes "k") ∷ public (codes "v") ∷ []) ∷ []) ∷ [] ∷ (linear (codes "IsIn") (public (codes "k") ∷ public (codes "v") ∷ []) ∷ []) ∷ (linear (codes "NotEq") (public (codes "k") ∷ public (codes "v") ∷ []) ∷ []) ∷ (linear (codes "Event") [] ∷ linear (codes "A") (public (codes "k") ∷ []) ∷ []) ∷ (linear (codes "Lock") (fresh 1 ∷ public (codes "k") ∷ []) ∷ []) ∷ (k_fact (public (codes "k")) ∷ []) ∷ []
+
+-- and what it did inside
+abbrev pub inner_by_hand : List InnerAction
+inner_by_hand =
+    inserted (public (codes "k")) (public (codes "v")) ∷ found (public (codes "k")) (public (codes "v")) ∷ different (public (codes "k")) (public (codes "v")) ∷ locked (public (codes "k")) ∷ []
