@@ -48,7 +48,8 @@ pub data Unwritten (c : Call) : Type 0 where
   out_failed : (text : List ℕ) (i j : ℕ) → Theory c text → Failed c.out → Gained c.out (take i text)
       → Gained c.err (take j write_fault_text) → Unwritten c
 
--- memory was wanting: out has nothing or a first part of the theory, and nothing where another status has its cause
+-- memory was wanting: out has nothing, or a first part of the theory, which is there only where the file is one; so nothing
+-- where the words or the file are refused
 pub data Wanting (c : Call) : Type 0 where
   before_all : (j : ℕ) → Gained c.out [] → Gained c.err (take j memory_text) → Wanting c
   while_err : (cause : ℕ) (text : List ℕ) (i j : ℕ) → Cause c cause text → Gained c.out []
