@@ -6,7 +6,7 @@ use sap_rule::{Rule, RuleList, Theory};
 use sap_runs::RStep;
 use sap_steps::{RFault, RuleState};
 use sap_terms::{
-    Binding, Bindings, Builtin, Copied, Fact, FactList, Items, Name, Numbers, Signature, Sort,
+    Binding, Bindings, Builtin, Copied, Fact, FactList, Items, Mem, Name, Numbers, Signature, Sort,
     Term, Var,
 };
 use sap_text::tokens;
@@ -84,13 +84,18 @@ pub fn theory(alloc: Global, texts: &[RuleText]) -> Option<Theory> {
     })
 }
 
+fn started(alloc: Global, theory: &Theory) -> Result<Option<RuleState>, Mem> {
+    if !theory.can_run(alloc)? {
+        return Ok(None);
+    }
+    let state = RuleState::start(alloc, theory)?;
+    Ok(Some(state))
+}
+
 /// Where the runs of these rules start.
 pub fn start(alloc: Global, texts: &[RuleText]) -> Option<RuleState> {
     let theory = theory(alloc, texts)?;
-    if !theory.can_run(alloc).ok()? {
-        return None;
-    }
-    RuleState::start(alloc, &theory).ok()
+    started(alloc, &theory).ok()?
 }
 
 fn numbers(alloc: Global, words: &[&str]) -> Option<Numbers> {
