@@ -1,34 +1,5 @@
 #!/bin/sh
-# Times a pile of facts: so many are put on, and what can be taken is taken. The numbers double.
-# Run it anywhere: it builds the program crates/bench_facts first. Each line has the number of facts, the milliseconds,
-# the best of three, and the ratio to the line before, which is about 2 where time grows with the number.
+# Times a pile of facts: so many are put on, and what can be taken is taken. `growth.sh` says what is printed.
 set -eu
-top=$(cd "$(dirname "$0")/.." && pwd)
-program="$top/crates/bench_facts/out/bench_facts"
-(cd "$top/crates/bench_facts" && rt run -- 20000) > /dev/null 2>&1 || {
-    echo "facts.sh: bench_facts cannot be built" >&2
-    exit 1
-}
-
-# milliseconds FACTS: the least of three runs
-milliseconds() {
-    best=
-    for _ in 1 2 3; do
-        start=$(date +%s%N)
-        "$program" "$1" > /dev/null
-        end=$(date +%s%N)
-        took=$(((end - start) / 1000))
-        if [ -z "$best" ] || [ "$took" -lt "$best" ]; then
-            best=$took
-        fi
-    done
-    awk "BEGIN { printf \"%.1f\", $best / 1000 }"
-}
-
-before=
-for facts in 20000 40000 80000 160000 320000 640000; do
-    now=$(milliseconds "$facts")
-    ratio=$([ -z "$before" ] && echo '-' || awk "BEGIN { printf \"%.2f\", $now / $before }")
-    printf '%8d facts %9s ms  ratio %5s\n' "$facts" "$now" "$ratio"
-    before=$now
-done
+. "$(dirname "$0")/growth.sh"
+growth bench_facts facts '20000 40000 80000 160000 320000 640000'
