@@ -106,9 +106,9 @@ fn numbers(alloc: Global, words: &[&str]) -> Option<Numbers> {
     Some(numbers)
 }
 
-/// The line of these words: `fresh 3`, `app pair 0 1`, `rule R 0 4`, without marks round names. A rule's plain variables
-/// are bound to these terms.
-pub fn line(alloc: Global, text: &str, bound: &[(&str, &str)]) -> Option<RStep> {
+/// The line of these words: `fresh 3`, `app pair 0 1`, `rule R 0 4`, without marks round names. A rule's plain variable, if
+/// one is named, is bound to the term.
+pub fn line(alloc: Global, text: &str, var: &str, term: &str) -> Option<RStep> {
     let mut words: Vec<&str> = Vec::new(alloc);
     for word in text.split(' ') {
         words.push(word).ok()?;
@@ -123,21 +123,21 @@ pub fn line(alloc: Global, text: &str, bound: &[(&str, &str)]) -> Option<RStep> 
         "know" => Some(RStep::Know(number)),
         "pub" => Some(RStep::Public(name(alloc, first)?)),
         "app" => Some(RStep::Apply(name(alloc, first)?, numbers(alloc, rest)?)),
-        "rule" => rule_line(alloc, first, rest, bound),
+        "rule" => rule_line(alloc, first, rest, var, term),
         _ => None,
     }
 }
 
-fn rule_line(alloc: Global, rule: &str, facts: &[&str], bound: &[(&str, &str)]) -> Option<RStep> {
+fn rule_line(alloc: Global, rule: &str, facts: &[&str], var: &str, bound: &str) -> Option<RStep> {
     let rule = name(alloc, rule)?;
     let facts = numbers(alloc, facts)?;
     let mut bindings = Bindings::new(alloc);
-    for (var, text) in bound {
+    if !var.is_empty() {
         let var = Var {
             name: name(alloc, var)?,
             sort: Sort::Msg,
         };
-        let term = term(alloc, text)?;
+        let term = term(alloc, bound)?;
         bindings.push(Binding { var, term }).ok()?;
     }
     Some(RStep::Rule(rule, facts, bindings))
@@ -195,30 +195,33 @@ pub fn told(fault: &RFault) -> (&'static str, u64) {
     }
 }
 
-/// What a line is to give: the facts that it shows, or its fault with the number that it names.
-#[derive(Clone, Copy)]
-pub enum Want<'a> {
-    Shows(&'a str),
-    Refused(&'a str, u64),
-}
+/// A line, the one variable that it binds with its term, if there is one, and what it is to give: the facts that it shows,
+/// or its fault in words with the number that it names.
+pub type Row<'a> = (&'a str, &'a str, &'a str, &'a str, u64);
 
 /// Whether the line gives what is wanted.
-pub fn gives(
-    alloc: Global,
-    state: &mut RuleState,
-    text: &str,
-    bound: &[(&str, &str)],
-    want: Want,
-) -> Option<bool> {
-    let step = line(alloc, text, bound)?;
-    match (state.step(alloc, &step), want) {
-        (Ok(acts), Want::Shows(text)) => Some(same_facts(&acts, &facts(alloc, text)?)),
-        (Err(fault), Want::Refused(words, number)) => {
+pub fn gives(alloc: Global, state: &mut RuleState, row: &Row) -> Option<bool> {
+    let (text, var, term, want, number) = *row;
+    let step = line(alloc, text, var, term)?;
+    match state.step(alloc, &step) {
+        Ok(acts) => Some(same_facts(&acts, &facts(alloc, want)?)),
+        Err(fault) => {
             let answer = told(&fault);
-            Some(answer.0 == words && answer.1 == number)
+            Some(answer.0 == want && answer.1 == number)
         }
-        _ => Some(false),
     }
+}
+
+/// The place of the first line that doesn't give what is wanted, from 0.
+pub fn first_wrong(alloc: Global, state: &mut RuleState, rows: &[Row]) -> Option<u64> {
+    let mut place: u64 = 0;
+    for row in rows {
+        if gives(alloc, state, row) != Some(true) {
+            return Some(place);
+        }
+        place = place.saturating_add(1);
+    }
+    None
 }
 
 /// A copy of the facts is the same.

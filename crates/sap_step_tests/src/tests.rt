@@ -1,8 +1,5 @@
-use crate::Want::{Refused, Shows};
-use crate::{RuleText, Want, gives, start};
+use crate::{Row, RuleText, first_wrong, start};
 use std::test::Fail;
-
-type Row<'a> = (&'a str, &'a [(&'a str, &'a str)], Want<'a>);
 
 const INPUT: [RuleText; 2] = [
     ("Init", "", "Init()", "State_()"),
@@ -14,19 +11,17 @@ fn an_input_has_to_match(rt: HostRuntime) -> Result<(), Fail> {
     let alloc = rt.alloc();
     let mut state = start(alloc, &INPUT).ok_or("no state")?;
     let rows: [Row; 9] = [
-        ("rule Init", &[], Shows("Init()")),
-        ("pub a", &[], Shows("")),
-        ("app pair 0 0", &[], Shows("")),
-        ("know 1", &[], Shows("K(<'a','a'>)")),
-        ("pub b", &[], Shows("")),
-        ("app pair 0 2", &[], Shows("")),
-        ("know 3", &[], Shows("K(<'a','b'>)")),
-        ("rule In_ 0 2", &[], Refused("no match", 0)),
-        ("rule In_ 0 1", &[], Shows("InEvent(<'a','a'>)")),
+        ("rule Init", "", "", "Init()", 0),
+        ("pub a", "", "", "", 0),
+        ("app pair 0 0", "", "", "", 0),
+        ("know 1", "", "", "K(<'a','a'>)", 0),
+        ("pub b", "", "", "", 0),
+        ("app pair 0 2", "", "", "", 0),
+        ("know 3", "", "", "K(<'a','b'>)", 0),
+        ("rule In_ 0 2", "", "", "no match", 0),
+        ("rule In_ 0 1", "", "", "InEvent(<'a','a'>)", 0),
     ];
-    for (text, bound, want) in rows {
-        assert_eq!(rt; gives(alloc, &mut state, text, bound, want), Some(true));
-    }
+    assert_eq!(rt; first_wrong(alloc, &mut state, &rows), None);
     Ok(())
 }
 
@@ -43,38 +38,26 @@ const STORE: [RuleText; 6] = [
 fn open_variables_are_bound_by_the_line(rt: HostRuntime) -> Result<(), Fail> {
     let alloc = rt.alloc();
     let rows: [Row; 8] = [
-        ("rule Init", &[], Shows("Init()")),
-        ("rule Insert_ 0", &[], Shows("Insert('k','v')")),
-        ("rule Delete_1 1", &[], Shows("Delete('k')")),
-        ("rule Found_11 2", &[], Refused("bad binding", 0)),
-        (
-            "rule Found_11 2",
-            &[("y", "'v'")],
-            Refused("bad binding", 0),
-        ),
-        ("rule Found_11 2", &[("x", "y")], Refused("bad binding", 0)),
-        (
-            "rule Found_11 2",
-            &[("x", "fst(<'v','w'>)")],
-            Refused("bad binding", 0),
-        ),
-        ("rule Found_11 2", &[("x", "'v'")], Shows("IsIn('k','v')")),
+        ("rule Init", "", "", "Init()", 0),
+        ("rule Insert_ 0", "", "", "Insert('k','v')", 0),
+        ("rule Delete_1 1", "", "", "Delete('k')", 0),
+        ("rule Found_11 2", "", "", "bad binding", 0),
+        ("rule Found_11 2", "y", "'v'", "bad binding", 0),
+        ("rule Found_11 2", "x", "y", "bad binding", 0),
+        ("rule Found_11 2", "x", "fst(<'v','w'>)", "bad binding", 0),
+        ("rule Found_11 2", "x", "'v'", "IsIn('k','v')", 0),
     ];
     let mut found = start(alloc, &STORE).ok_or("no state")?;
-    for (text, bound, want) in rows {
-        assert_eq!(rt; gives(alloc, &mut found, text, bound, want), Some(true));
-    }
+    assert_eq!(rt; first_wrong(alloc, &mut found, &rows), None);
     let rows: [Row; 5] = [
-        ("rule Init", &[], Shows("Init()")),
-        ("rule Insert_ 0", &[], Shows("Insert('k','v')")),
-        ("rule Delete_1 1", &[], Shows("Delete('k')")),
-        ("rule Missing_11 2", &[], Shows("IsNotSet('k')")),
-        ("rule Event_112 3", &[], Shows("Event(), No()")),
+        ("rule Init", "", "", "Init()", 0),
+        ("rule Insert_ 0", "", "", "Insert('k','v')", 0),
+        ("rule Delete_1 1", "", "", "Delete('k')", 0),
+        ("rule Missing_11 2", "", "", "IsNotSet('k')", 0),
+        ("rule Event_112 3", "", "", "Event(), No()", 0),
     ];
     let mut missing = start(alloc, &STORE).ok_or("no state")?;
-    for (text, bound, want) in rows {
-        assert_eq!(rt; gives(alloc, &mut missing, text, bound, want), Some(true));
-    }
+    assert_eq!(rt; first_wrong(alloc, &mut missing, &rows), None);
     Ok(())
 }
 
@@ -127,26 +110,24 @@ fn an_acknowledgement_has_one_sender(rt: HostRuntime) -> Result<(), Fail> {
     let alloc = rt.alloc();
     let mut state = start(alloc, &CHANNEL).ok_or("no state")?;
     let rows: [Row; 16] = [
-        ("rule Init", &[], Shows("Init()")),
-        ("fresh 1", &[], Shows("")),
-        ("fresh 1", &[], Refused("used name", 1)),
-        ("rule New_ 0 1", &[], Shows("")),
-        ("rule Par_1 2", &[], Shows("")),
-        ("rule Par_12 4", &[], Shows("")),
-        ("fresh 2", &[], Shows("")),
-        ("rule OutMsg_11 3 7", &[], Shows("")),
-        ("rule InMsg_121 5 8", &[], Shows("")),
-        ("rule Event_1211 11", &[], Shows("Event(), G()")),
-        ("rule Event_122 6", &[], Shows("Event(), E1()")),
-        ("fresh 3", &[], Shows("")),
-        ("rule OutMsg_1221 13 14", &[], Shows("")),
-        ("rule OutAck_1221 16 10", &[], Refused("no match", 0)),
-        ("rule OutAck_11 9 10", &[], Shows("")),
-        ("rule OutAck_11 9 10", &[], Refused("fact missing", 1)),
+        ("rule Init", "", "", "Init()", 0),
+        ("fresh 1", "", "", "", 0),
+        ("fresh 1", "", "", "used name", 1),
+        ("rule New_ 0 1", "", "", "", 0),
+        ("rule Par_1 2", "", "", "", 0),
+        ("rule Par_12 4", "", "", "", 0),
+        ("fresh 2", "", "", "", 0),
+        ("rule OutMsg_11 3 7", "", "", "", 0),
+        ("rule InMsg_121 5 8", "", "", "", 0),
+        ("rule Event_1211 11", "", "", "Event(), G()", 0),
+        ("rule Event_122 6", "", "", "Event(), E1()", 0),
+        ("fresh 3", "", "", "", 0),
+        ("rule OutMsg_1221 13 14", "", "", "", 0),
+        ("rule OutAck_1221 16 10", "", "", "no match", 0),
+        ("rule OutAck_11 9 10", "", "", "", 0),
+        ("rule OutAck_11 9 10", "", "", "fact missing", 1),
     ];
-    for (text, bound, want) in rows {
-        assert_eq!(rt; gives(alloc, &mut state, text, bound, want), Some(true));
-    }
+    assert_eq!(rt; first_wrong(alloc, &mut state, &rows), None);
     Ok(())
 }
 
@@ -170,31 +151,29 @@ fn each_fault_comes_in_its_order(rt: HostRuntime) -> Result<(), Fail> {
     let alloc = rt.alloc();
     let mut state = start(alloc, &NAMES).ok_or("no state")?;
     let rows: [Row; 21] = [
-        ("rule Init", &[], Shows("Init()")),
-        ("fresh 3", &[], Shows("")),
-        ("own 4", &[], Shows("")),
-        ("fresh 3", &[], Refused("used name", 3)),
-        ("own 4", &[], Refused("wrong fact", 4)),
-        ("learn 0", &[], Refused("wrong fact", 0)),
-        ("rule Nobody 9", &[], Refused("no rule", 0)),
-        ("rule Both 9", &[("z", "'a'")], Refused("fact count", 0)),
-        ("rule Both 3 3", &[("z", "'a'")], Refused("fact missing", 2)),
-        ("rule Both 8 9", &[("z", "'a'")], Refused("fact missing", 1)),
-        ("rule First 0", &[("x", "'a'")], Refused("bad binding", 0)),
-        ("rule First 0", &[("y", "'a'")], Refused("no match", 0)),
-        ("rule First 2", &[("y", "<'b','a'>")], Refused("unequal", 0)),
-        ("rule First 2", &[("y", "'a'")], Refused("unequal", 0)),
-        ("rule First 2", &[("y", "<'a','b'>")], Shows("A(<'a','b'>)")),
-        ("rule Twice 1 1", &[], Shows("B('a','a')")),
-        ("rule Twice 1 1", &[], Shows("B('a','a')")),
-        ("know 1", &[], Refused("no entry", 1)),
-        ("app fst 0 1", &[], Refused("arity", 0)),
-        ("app g 0", &[], Refused("not public", 0)),
-        ("rule Double 3", &[], Shows("")),
+        ("rule Init", "", "", "Init()", 0),
+        ("fresh 3", "", "", "", 0),
+        ("own 4", "", "", "", 0),
+        ("fresh 3", "", "", "used name", 3),
+        ("own 4", "", "", "wrong fact", 4),
+        ("learn 0", "", "", "wrong fact", 0),
+        ("rule Nobody 9", "", "", "no rule", 0),
+        ("rule Both 9", "z", "'a'", "fact count", 0),
+        ("rule Both 3 3", "z", "'a'", "fact missing", 2),
+        ("rule Both 8 9", "z", "'a'", "fact missing", 1),
+        ("rule First 0", "x", "'a'", "bad binding", 0),
+        ("rule First 0", "y", "'a'", "no match", 0),
+        ("rule First 2", "y", "<'b','a'>", "unequal", 0),
+        ("rule First 2", "y", "'a'", "unequal", 0),
+        ("rule First 2", "y", "<'a','b'>", "A(<'a','b'>)", 0),
+        ("rule Twice 1 1", "", "", "B('a','a')", 0),
+        ("rule Twice 1 1", "", "", "B('a','a')", 0),
+        ("know 1", "", "", "no entry", 1),
+        ("app fst 0 1", "", "", "arity", 0),
+        ("app g 0", "", "", "not public", 0),
+        ("rule Double 3", "", "", "", 0),
     ];
-    for (text, bound, want) in rows {
-        assert_eq!(rt; gives(alloc, &mut state, text, bound, want), Some(true));
-    }
+    assert_eq!(rt; first_wrong(alloc, &mut state, &rows), None);
     Ok(())
 }
 
@@ -202,30 +181,18 @@ fn each_fault_comes_in_its_order(rt: HostRuntime) -> Result<(), Fail> {
 fn a_large_instance_is_refused(rt: HostRuntime) -> Result<(), Fail> {
     let alloc = rt.alloc();
     let mut state = start(alloc, &NAMES).ok_or("no state")?;
-    assert_eq!(rt;
-        gives(alloc, &mut state, "rule Init", &[], Shows("Init()")),
-        Some(true)
-    );
-    let lines = [
-        "rule Double 3",
-        "rule Double 4",
-        "rule Double 5",
-        "rule Double 6",
-        "rule Double 7",
-        "rule Double 8",
-        "rule Double 9",
+    let rows: [Row; 10] = [
+        ("rule Init", "", "", "Init()", 0),
+        ("rule Double 3", "", "", "", 0),
+        ("rule Double 4", "", "", "", 0),
+        ("rule Double 5", "", "", "", 0),
+        ("rule Double 6", "", "", "", 0),
+        ("rule Double 7", "", "", "", 0),
+        ("rule Double 8", "", "", "", 0),
+        ("rule Double 9", "", "", "", 0),
+        ("rule Double 10", "", "", "term is large", 0),
+        ("rule Double 10", "", "", "term is large", 0),
     ];
-    for text in lines {
-        assert_eq!(rt; gives(alloc, &mut state, text, &[], Shows("")), Some(true));
-    }
-    let large = Refused("term is large", 0);
-    assert_eq!(rt;
-        gives(alloc, &mut state, "rule Double 10", &[], large),
-        Some(true)
-    );
-    assert_eq!(rt;
-        gives(alloc, &mut state, "rule Double 10", &[], large),
-        Some(true)
-    );
+    assert_eq!(rt; first_wrong(alloc, &mut state, &rows), None);
     Ok(())
 }
