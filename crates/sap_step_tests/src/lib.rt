@@ -195,14 +195,17 @@ pub fn told(fault: &RFault) -> (&'static str, u64) {
     }
 }
 
-/// A line, the one variable that it binds with its term, if there is one, and what it is to give: the facts that it shows,
-/// or its fault in words with the number that it names.
-pub type Row<'a> = (&'a str, &'a str, &'a str, &'a str, u64);
-
-/// Whether the line gives what is wanted.
-pub fn gives(alloc: Global, state: &mut RuleState, row: &Row) -> Option<bool> {
-    let (text, var, term, want, number) = *row;
-    let step = line(alloc, text, var, term)?;
+/// Whether a line gives what is wanted. The row has five parts with bars between them: the line; the one variable that it
+/// binds and its term, or nothing; the facts that it is to show, or its fault in words; and the number that the fault
+/// names.
+pub fn gives(alloc: Global, state: &mut RuleState, row: &str) -> Option<bool> {
+    let mut parts: Vec<&str> = Vec::new(alloc);
+    for part in row.split('|') {
+        parts.push(part.trim()).ok()?;
+    }
+    let want = *parts.get(3)?;
+    let number = parts.get(4)?.parse::<u64>().ok()?;
+    let step = line(alloc, *parts.get(0)?, *parts.get(1)?, *parts.get(2)?)?;
     match state.step(alloc, &step) {
         Ok(acts) => Some(same_facts(&acts, &facts(alloc, want)?)),
         Err(fault) => {
@@ -212,10 +215,10 @@ pub fn gives(alloc: Global, state: &mut RuleState, row: &Row) -> Option<bool> {
     }
 }
 
-/// The place of the first line that doesn't give what is wanted, from 0.
-pub fn first_wrong(alloc: Global, state: &mut RuleState, rows: &[Row]) -> Option<u64> {
+/// The place of the first row that isn't as it is wanted, from 0. Rows are lines of the text.
+pub fn first_wrong(alloc: Global, state: &mut RuleState, rows: &str) -> Option<u64> {
     let mut place: u64 = 0;
-    for row in rows {
+    for row in rows.split('\n') {
         if gives(alloc, state, row) != Some(true) {
             return Some(place);
         }

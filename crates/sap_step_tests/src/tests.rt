@@ -1,4 +1,4 @@
-use crate::{Row, RuleText, first_wrong, start};
+use crate::{RuleText, first_wrong, start};
 use std::test::Fail;
 
 const INPUT: [RuleText; 2] = [
@@ -10,18 +10,16 @@ const INPUT: [RuleText; 2] = [
 fn an_input_has_to_match(rt: HostRuntime) -> Result<(), Fail> {
     let alloc = rt.alloc();
     let mut state = start(alloc, &INPUT).ok_or("no state")?;
-    let rows: [Row; 9] = [
-        ("rule Init", "", "", "Init()", 0),
-        ("pub a", "", "", "", 0),
-        ("app pair 0 0", "", "", "", 0),
-        ("know 1", "", "", "K(<'a','a'>)", 0),
-        ("pub b", "", "", "", 0),
-        ("app pair 0 2", "", "", "", 0),
-        ("know 3", "", "", "K(<'a','b'>)", 0),
-        ("rule In_ 0 2", "", "", "no match", 0),
-        ("rule In_ 0 1", "", "", "InEvent(<'a','a'>)", 0),
-    ];
-    assert_eq!(rt; first_wrong(alloc, &mut state, &rows), None);
+    let rows = "rule Init |  |  | Init() | 0\n\
+        pub a |  |  |  | 0\n\
+        app pair 0 0 |  |  |  | 0\n\
+        know 1 |  |  | K(<'a','a'>) | 0\n\
+        pub b |  |  |  | 0\n\
+        app pair 0 2 |  |  |  | 0\n\
+        know 3 |  |  | K(<'a','b'>) | 0\n\
+        rule In_ 0 2 |  |  | no match | 0\n\
+        rule In_ 0 1 |  |  | InEvent(<'a','a'>) | 0";
+    assert_eq!(rt; first_wrong(alloc, &mut state, rows), None);
     Ok(())
 }
 
@@ -37,27 +35,23 @@ const STORE: [RuleText; 6] = [
 #[test]
 fn open_variables_are_bound_by_the_line(rt: HostRuntime) -> Result<(), Fail> {
     let alloc = rt.alloc();
-    let rows: [Row; 8] = [
-        ("rule Init", "", "", "Init()", 0),
-        ("rule Insert_ 0", "", "", "Insert('k','v')", 0),
-        ("rule Delete_1 1", "", "", "Delete('k')", 0),
-        ("rule Found_11 2", "", "", "bad binding", 0),
-        ("rule Found_11 2", "y", "'v'", "bad binding", 0),
-        ("rule Found_11 2", "x", "y", "bad binding", 0),
-        ("rule Found_11 2", "x", "fst(<'v','w'>)", "bad binding", 0),
-        ("rule Found_11 2", "x", "'v'", "IsIn('k','v')", 0),
-    ];
+    let rows = "rule Init |  |  | Init() | 0\n\
+        rule Insert_ 0 |  |  | Insert('k','v') | 0\n\
+        rule Delete_1 1 |  |  | Delete('k') | 0\n\
+        rule Found_11 2 |  |  | bad binding | 0\n\
+        rule Found_11 2 | y | 'v' | bad binding | 0\n\
+        rule Found_11 2 | x | y | bad binding | 0\n\
+        rule Found_11 2 | x | fst(<'v','w'>) | bad binding | 0\n\
+        rule Found_11 2 | x | 'v' | IsIn('k','v') | 0";
     let mut found = start(alloc, &STORE).ok_or("no state")?;
-    assert_eq!(rt; first_wrong(alloc, &mut found, &rows), None);
-    let rows: [Row; 5] = [
-        ("rule Init", "", "", "Init()", 0),
-        ("rule Insert_ 0", "", "", "Insert('k','v')", 0),
-        ("rule Delete_1 1", "", "", "Delete('k')", 0),
-        ("rule Missing_11 2", "", "", "IsNotSet('k')", 0),
-        ("rule Event_112 3", "", "", "Event(), No()", 0),
-    ];
+    assert_eq!(rt; first_wrong(alloc, &mut found, rows), None);
+    let rows = "rule Init |  |  | Init() | 0\n\
+        rule Insert_ 0 |  |  | Insert('k','v') | 0\n\
+        rule Delete_1 1 |  |  | Delete('k') | 0\n\
+        rule Missing_11 2 |  |  | IsNotSet('k') | 0\n\
+        rule Event_112 3 |  |  | Event(), No() | 0";
     let mut missing = start(alloc, &STORE).ok_or("no state")?;
-    assert_eq!(rt; first_wrong(alloc, &mut missing, &rows), None);
+    assert_eq!(rt; first_wrong(alloc, &mut missing, rows), None);
     Ok(())
 }
 
@@ -109,25 +103,23 @@ const CHANNEL: [RuleText; 11] = [
 fn an_acknowledgement_has_one_sender(rt: HostRuntime) -> Result<(), Fail> {
     let alloc = rt.alloc();
     let mut state = start(alloc, &CHANNEL).ok_or("no state")?;
-    let rows: [Row; 16] = [
-        ("rule Init", "", "", "Init()", 0),
-        ("fresh 1", "", "", "", 0),
-        ("fresh 1", "", "", "used name", 1),
-        ("rule New_ 0 1", "", "", "", 0),
-        ("rule Par_1 2", "", "", "", 0),
-        ("rule Par_12 4", "", "", "", 0),
-        ("fresh 2", "", "", "", 0),
-        ("rule OutMsg_11 3 7", "", "", "", 0),
-        ("rule InMsg_121 5 8", "", "", "", 0),
-        ("rule Event_1211 11", "", "", "Event(), G()", 0),
-        ("rule Event_122 6", "", "", "Event(), E1()", 0),
-        ("fresh 3", "", "", "", 0),
-        ("rule OutMsg_1221 13 14", "", "", "", 0),
-        ("rule OutAck_1221 16 10", "", "", "no match", 0),
-        ("rule OutAck_11 9 10", "", "", "", 0),
-        ("rule OutAck_11 9 10", "", "", "fact missing", 1),
-    ];
-    assert_eq!(rt; first_wrong(alloc, &mut state, &rows), None);
+    let rows = "rule Init |  |  | Init() | 0\n\
+        fresh 1 |  |  |  | 0\n\
+        fresh 1 |  |  | used name | 1\n\
+        rule New_ 0 1 |  |  |  | 0\n\
+        rule Par_1 2 |  |  |  | 0\n\
+        rule Par_12 4 |  |  |  | 0\n\
+        fresh 2 |  |  |  | 0\n\
+        rule OutMsg_11 3 7 |  |  |  | 0\n\
+        rule InMsg_121 5 8 |  |  |  | 0\n\
+        rule Event_1211 11 |  |  | Event(), G() | 0\n\
+        rule Event_122 6 |  |  | Event(), E1() | 0\n\
+        fresh 3 |  |  |  | 0\n\
+        rule OutMsg_1221 13 14 |  |  |  | 0\n\
+        rule OutAck_1221 16 10 |  |  | no match | 0\n\
+        rule OutAck_11 9 10 |  |  |  | 0\n\
+        rule OutAck_11 9 10 |  |  | fact missing | 1";
+    assert_eq!(rt; first_wrong(alloc, &mut state, rows), None);
     Ok(())
 }
 
@@ -150,30 +142,28 @@ const NAMES: [RuleText; 7] = [
 fn each_fault_comes_in_its_order(rt: HostRuntime) -> Result<(), Fail> {
     let alloc = rt.alloc();
     let mut state = start(alloc, &NAMES).ok_or("no state")?;
-    let rows: [Row; 21] = [
-        ("rule Init", "", "", "Init()", 0),
-        ("fresh 3", "", "", "", 0),
-        ("own 4", "", "", "", 0),
-        ("fresh 3", "", "", "used name", 3),
-        ("own 4", "", "", "wrong fact", 4),
-        ("learn 0", "", "", "wrong fact", 0),
-        ("rule Nobody 9", "", "", "no rule", 0),
-        ("rule Both 9", "z", "'a'", "fact count", 0),
-        ("rule Both 3 3", "z", "'a'", "fact missing", 2),
-        ("rule Both 8 9", "z", "'a'", "fact missing", 1),
-        ("rule First 0", "x", "'a'", "bad binding", 0),
-        ("rule First 0", "y", "'a'", "no match", 0),
-        ("rule First 2", "y", "<'b','a'>", "unequal", 0),
-        ("rule First 2", "y", "'a'", "unequal", 0),
-        ("rule First 2", "y", "<'a','b'>", "A(<'a','b'>)", 0),
-        ("rule Twice 1 1", "", "", "B('a','a')", 0),
-        ("rule Twice 1 1", "", "", "B('a','a')", 0),
-        ("know 1", "", "", "no entry", 1),
-        ("app fst 0 1", "", "", "arity", 0),
-        ("app g 0", "", "", "not public", 0),
-        ("rule Double 3", "", "", "", 0),
-    ];
-    assert_eq!(rt; first_wrong(alloc, &mut state, &rows), None);
+    let rows = "rule Init |  |  | Init() | 0\n\
+        fresh 3 |  |  |  | 0\n\
+        own 4 |  |  |  | 0\n\
+        fresh 3 |  |  | used name | 3\n\
+        own 4 |  |  | wrong fact | 4\n\
+        learn 0 |  |  | wrong fact | 0\n\
+        rule Nobody 9 |  |  | no rule | 0\n\
+        rule Both 9 | z | 'a' | fact count | 0\n\
+        rule Both 3 3 | z | 'a' | fact missing | 2\n\
+        rule Both 8 9 | z | 'a' | fact missing | 1\n\
+        rule First 0 | x | 'a' | bad binding | 0\n\
+        rule First 0 | y | 'a' | no match | 0\n\
+        rule First 2 | y | <'b','a'> | unequal | 0\n\
+        rule First 2 | y | 'a' | unequal | 0\n\
+        rule First 2 | y | <'a','b'> | A(<'a','b'>) | 0\n\
+        rule Twice 1 1 |  |  | B('a','a') | 0\n\
+        rule Twice 1 1 |  |  | B('a','a') | 0\n\
+        know 1 |  |  | no entry | 1\n\
+        app fst 0 1 |  |  | arity | 0\n\
+        app g 0 |  |  | not public | 0\n\
+        rule Double 3 |  |  |  | 0";
+    assert_eq!(rt; first_wrong(alloc, &mut state, rows), None);
     Ok(())
 }
 
@@ -181,18 +171,16 @@ fn each_fault_comes_in_its_order(rt: HostRuntime) -> Result<(), Fail> {
 fn a_large_instance_is_refused(rt: HostRuntime) -> Result<(), Fail> {
     let alloc = rt.alloc();
     let mut state = start(alloc, &NAMES).ok_or("no state")?;
-    let rows: [Row; 10] = [
-        ("rule Init", "", "", "Init()", 0),
-        ("rule Double 3", "", "", "", 0),
-        ("rule Double 4", "", "", "", 0),
-        ("rule Double 5", "", "", "", 0),
-        ("rule Double 6", "", "", "", 0),
-        ("rule Double 7", "", "", "", 0),
-        ("rule Double 8", "", "", "", 0),
-        ("rule Double 9", "", "", "", 0),
-        ("rule Double 10", "", "", "term is large", 0),
-        ("rule Double 10", "", "", "term is large", 0),
-    ];
-    assert_eq!(rt; first_wrong(alloc, &mut state, &rows), None);
+    let rows = "rule Init |  |  | Init() | 0\n\
+        rule Double 3 |  |  |  | 0\n\
+        rule Double 4 |  |  |  | 0\n\
+        rule Double 5 |  |  |  | 0\n\
+        rule Double 6 |  |  |  | 0\n\
+        rule Double 7 |  |  |  | 0\n\
+        rule Double 8 |  |  |  | 0\n\
+        rule Double 9 |  |  |  | 0\n\
+        rule Double 10 |  |  | term is large | 0\n\
+        rule Double 10 |  |  | term is large | 0";
+    assert_eq!(rt; first_wrong(alloc, &mut state, rows), None);
     Ok(())
 }
