@@ -1,6 +1,7 @@
 //! Processes.
 #![tactic(auto)]
 
+mod copying;
 mod process;
 
 pub use process::Process;

@@ -1,51 +1,96 @@
-ghost use Rattle.std.specs.Prelude.{◌≡◌, IfOk, min};
-ghost use Rattle.sap_process.specs.Proc.{proc, node_count};
+ghost use Rattle.std.specs.Prelude.{◌≡◌, min};
+ghost use Rattle.sap_process.specs.Proc.{proc, node_count, level_count};
 
-use sap_terms::{Copied, Fact, Mem};
-use std::alloc::Global;
+use sap_terms::{Fact, FactList, Term, Var};
 
-/// A process: nothing more, two in parallel, or an event and what follows it.
+/// A process of the applied pi calculus with a global store, locks, and embedded multiset rewrite rules (the calculus of
+/// Kremer and Künnemann). Contracts see it as a plain tree, by `proc` of the specs' `Proc`.
+///
+/// Before sorts are set, a variable has the sort of its sign as it is written, and `Msg` where it has none.
 #[derive(Drop)]
 pub enum Process {
+    /// `0`: nothing more.
     Nil,
+    /// `P | Q`
     Par(Box<Process>, Box<Process>),
+    /// `! P`
+    Rep(Box<Process>),
+    /// `new x; P`
+    New(Var, Box<Process>),
+    /// `out(N); P`, to the adversary.
+    Out(Term, Box<Process>),
+    /// `out(M, N); P`: the message N on the channel M.
+    Send(Term, Term, Box<Process>),
+    /// `in(N); P`, from the adversary; N is a pattern.
+    In(Term, Box<Process>),
+    /// `in(M, N); P`: on the channel M, by the pattern N.
+    Recv(Term, Term, Box<Process>),
+    /// `if M = N then P else Q`
+    If(Term, Term, Box<Process>, Box<Process>),
+    /// `event F; P`
     Event(Fact, Box<Process>),
+    /// `insert M, N; P`: the store has N at the key M.
+    Insert(Term, Term, Box<Process>),
+    /// `delete M; P`
+    Delete(Term, Box<Process>),
+    /// `lookup M as x in P else Q`
+    Lookup(Term, Var, Box<Process>, Box<Process>),
+    /// `lock M; P`. The number is the lock's label, 0 before locks are annotated.
+    Lock(Term, u32, Box<Process>),
+    /// `unlock M; P`. The number is its lock's label, 0 before locks are annotated.
+    Unlock(Term, u32, Box<Process>),
+    /// `[ L ] --[ A ]-> [ R ]; P`: the facts that are taken, shown and added.
+    Embedded(FactList, FactList, FactList, Box<Process>),
 }
 
 impl Process {
-    /// The places of the process; from the greatest u64 on, that number.
+    /// The places of the process; from the greatest u64 on, that number. It takes no memory, and recurses as deep as the
+    /// process.
     pub fn nodes(&self) -> u64
         ensures { result ≡ min (node_count (proc self.now)) u64.MAX }
     {
         match self {
             Process::Nil => 1,
-            Process::Par(p, q) => p.nodes().saturating_add(q.nodes()).saturating_add(1),
-            Process::Event(_, p) => p.nodes().saturating_add(1),
+            Process::Par(p, q) | Process::If(_, _, p, q) | Process::Lookup(_, _, p, q) => {
+                p.nodes().saturating_add(q.nodes()).saturating_add(1)
+            }
+            Process::Rep(p)
+            | Process::New(_, p)
+            | Process::Out(_, p)
+            | Process::Send(_, _, p)
+            | Process::In(_, p)
+            | Process::Recv(_, _, p)
+            | Process::Event(_, p)
+            | Process::Insert(_, _, p)
+            | Process::Delete(_, p)
+            | Process::Lock(_, _, p)
+            | Process::Unlock(_, _, p)
+            | Process::Embedded(_, _, _, p) => p.nodes().saturating_add(1),
         }
     }
 
-    /// An equal process. Want of memory is the only error.
-    #[cycle(copy)]
-    pub fn copy(&self, alloc: Global) -> Result<Process, Mem>
-        ensures { IfOk result (λ p. proc p ≡ proc self.now) }
+    /// The depth of its tree, 1 for `Nil`; from the greatest u64 on, that number. It takes no memory, and recurses as deep
+    /// as the process.
+    pub fn levels(&self) -> u64
+        ensures { result ≡ min (level_count (proc self.now)) u64.MAX }
     {
         match self {
-            Process::Nil => Ok(Process::Nil),
-            Process::Par(p, q) => {
-                let left = p.boxed_copy(alloc)?;
-                Ok(Process::Par(left, q.boxed_copy(alloc)?))
+            Process::Nil => 1,
+            Process::Par(p, q) | Process::If(_, _, p, q) | Process::Lookup(_, _, p, q) => {
+                p.levels().max(q.levels()).saturating_add(1)
             }
-            Process::Event(fact, p) => {
-                let shown = fact.copy(alloc)?;
-                Ok(Process::Event(shown, p.boxed_copy(alloc)?))
-            }
+            Process::Rep(p)
+            | Process::New(_, p)
+            | Process::Out(_, p)
+            | Process::Send(_, _, p)
+            | Process::In(_, p)
+            | Process::Recv(_, _, p)
+            | Process::Event(_, p)
+            | Process::Insert(_, _, p)
+            | Process::Delete(_, p)
+            | Process::Lock(_, _, p)
+            | Process::Unlock(_, _, p)
+            | Process::Embedded(_, _, _, p) => p.levels().saturating_add(1),
         }
-    }
-
-    #[cycle(copy)]
-    fn boxed_copy(&self, alloc: Global) -> Result<Box<Process>, Mem>
-        ensures { IfOk result (λ p. proc p.value ≡ proc self.now) }
-    {
-        Ok(Box::new(alloc, self.copy(alloc)?)?)
     }
 }
