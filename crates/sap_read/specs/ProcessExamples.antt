@@ -6,7 +6,8 @@ use Rattle.sap_read.specs.Words.{Word, mark, name, number, quoted}
 use Rattle.sap_read.specs.TermGrammar.{sorted}
 use Rattle.sap_read.specs.FactGrammar.{fact}
 use Rattle.sap_read.specs.ProcessGrammar.{var}
-use Rattle.sap_read.specs.Written.{Written, nil, call, parallel, replicated, new, send, input, test, lookup, lock, unlock, embedded}
+use Rattle.sap_process.specs.Action.{new, send, input, lock, unlock, embedded}
+use Rattle.sap_read.specs.Written.{Written, nil, call, parallel, replicated, act, test, lookup}
 
 -- `'a'`
 abbrev pub a : Tree
@@ -49,7 +50,7 @@ action_words =
     ∷ mark (codes "(") ∷ name (codes "y") ∷ mark (codes ")") ∷ []
 
 abbrev pub action_process : Written
-action_process = new (var Fresh (codes "x")) (send (sorted Fresh (codes "x")) a (replicated (input (sorted Msg (codes "y")) nil)))
+action_process = act (new (var Fresh (codes "x"))) (act (send (sorted Fresh (codes "x")) a) (replicated (act (input (sorted Msg (codes "y"))) nil)))
 
 -- `[ F ( 'a' ) , ! G ( ) ] --[ E ( ) ]-> [ ]`
 abbrev pub rule_words : List Word
@@ -59,7 +60,7 @@ rule_words =
     ∷ mark (codes ")") ∷ mark (codes "]->") ∷ mark (codes "[") ∷ mark (codes "]") ∷ []
 
 abbrev pub rule_process : Written
-rule_process = embedded (fact false (codes "F") (a ∷ []) ∷ fact true (codes "G") [] ∷ []) (fact false (codes "E") [] ∷ []) [] nil
+rule_process = act (embedded (fact false (codes "F") (a ∷ []) ∷ fact true (codes "G") [] ∷ []) (fact false (codes "E") [] ∷ []) []) nil
 
 -- `lookup 'a' as x in lock 'a' else unlock 'a'`
 abbrev pub lookup_words : List Word
@@ -68,4 +69,4 @@ lookup_words =
     ∷ mark (codes "else") ∷ mark (codes "unlock") ∷ quoted (codes "a") ∷ []
 
 abbrev pub lookup_process : Written
-lookup_process = lookup a (var Msg (codes "x")) (lock a nil) (unlock a nil)
+lookup_process = lookup a (var Msg (codes "x")) (act (lock a 0) nil) (act (unlock a 0) nil)

