@@ -3,3 +3,7 @@ pub use Rattle.sap_terms.specs.View
 pub use Rattle.sap_terms.specs.Reserved
 pub mod Action
 pub mod Proc
+pub mod Heads
+pub mod Sites
+pub mod Flaws
+pub mod Sorted

@@ -1,0 +1,169 @@
+-- The nine flaws of a process.
+use Rattle.std.specs.Prelude.{◌≡◌, ◌<◌, ◌⊎◌, ℕ, ◌+◌, Bool, true, false, not, ◌&&◌, List, [], ◌∷◌, ◌++◌, length, take, filter, slice_get, Option, Some, None, Contains, IsTrue, codes, nat_eq, map}
+use Rattle.std.specs.List.{flat_map, starts_with, find}
+use Rattle.std.specs.Str.{bytes_eq}
+use Rattle.sap_terms.specs.Message.{IsOver}
+use Rattle.sap_terms.specs.Reserved.{is_reserved}
+use Rattle.sap_terms.specs.Same.{same_sort}
+use Rattle.sap_terms.specs.Signature.{Sig, arity_of, is_destructor_of}
+use Rattle.sap_terms.specs.Tree.{Tree, variable, public, fresh, apply, Trees, none, more}
+use Rattle.sap_terms.specs.Variables.{tree_vars}
+use Rattle.sap_terms.specs.declared.fact.Fact.{Fact}
+use Rattle.sap_terms.specs.declared.var.Sort.{Sort}
+use Rattle.sap_terms.specs.declared.var.Sort.TheVariants.{Msg, Fresh, Pub}
+use Rattle.sap_terms.specs.declared.var.Var.{Var}
+use Rattle.sap_process.specs.declared.flaw.Flaw.{Flaw}
+use Rattle.sap_process.specs.declared.flaw.Flaw.TheVariants.{BadFunction, ReservedVar, ReservedFact, FactClash, PatternDestructor, Unbound, Rebound, SortClash, ScopeFull}
+use Rattle.sap_process.specs.Action.{Action, embedded}
+use Rattle.sap_process.specs.Proc.{Proc, nil, parallel, replicated, act, test, lookup}
+use Rattle.sap_process.specs.Heads.{facts_terms, terms_vars, head_terms, head_vars, binder, patterns, stored_facts, shown_facts, action_used}
+use Rattle.sap_process.specs.Sites.{has_name, new_vars, bound_by, message_var, Site, sites}
+
+-- a term at the head applies a symbol that isn't held, or not with its arity
+pub record AppliesBadly (g : Sig) (s : Site) : Type 0 where
+  pub term : Tree
+  pub stands : Contains (head_terms s.body) term
+  pub bad : ¬ IsOver g term
+
+-- `new` or `lookup` binds a plain identifier that is a constant
+pub record BindsConstant (g : Sig) (s : Site) : Type 0 where
+  pub var : Var
+  pub stands : binder s.body ≡ Some var
+  pub plain : var.sort ≡ Msg
+  pub constant : arity_of g var.name ≡ Some 0
+
+-- a variable's name begins as those that the rules use themselves
+pub record HasReservedVar (s : Site) : Type 0 where
+  pub var : Var
+  pub stands : Contains (head_vars s.body) var
+  pub reserved : starts_with nat_eq var.name (codes "sapic_") ≡ true
+
+-- an event or a fact of an embedded rule has a reserved name
+pub record HasReservedFact (s : Site) : Type 0 where
+  pub fact : Fact
+  pub stands : Contains (stored_facts s.body ++ shown_facts s.body) fact
+  pub reserved : is_reserved fact.name ≡ true
+
+-- one of the facts has the name of one before it, of these or of those met, and differs from it
+pub record HasClash (differ : Fact → Fact → Type 0) (met facts : List Fact) : Type 0 where
+  pub at : ℕ
+  pub fact : Fact
+  pub stands : slice_get facts at ≡ Some fact
+  pub earlier : Fact
+  pub before : Contains (met ++ take at facts) earlier
+  pub name : earlier.name ≡ fact.name
+  pub other : differ earlier fact
+
+-- they have different numbers of arguments
+abbrev pub HasOtherArity : Fact → Fact → Type 0
+HasOtherArity f h = ¬ (length f.args ≡ length h.args)
+
+-- or one of them is persistent and the other not
+abbrev pub HasOtherForm : Fact → Fact → Type 0
+HasOtherForm f h = HasOtherArity f h ⊎ (¬ (f.persistent ≡ h.persistent))
+
+-- a destructor stands in the term
+abbrev mutual
+  pub HasDestructor : Sig → Tree → Type 0
+  HasDestructor g (variable v) = ⊥
+  HasDestructor g (public n) = ⊥
+  HasDestructor g (fresh k) = ⊥
+  HasDestructor g (apply f ts) = (is_destructor_of g f ≡ true) ⊎ AnyHasDestructor g ts
+
+  pub AnyHasDestructor : Sig → Trees → Type 0
+  AnyHasDestructor g none = ⊥
+  AnyHasDestructor g (more t ts) = HasDestructor g t ⊎ AnyHasDestructor g ts
+
+-- a pattern has one
+pub record HasPatternDestructor (g : Sig) (s : Site) : Type 0 where
+  pub term : Tree
+  pub stands : Contains (patterns s.body) term
+  pub destructor : HasDestructor g term
+
+-- the occurrences in these terms that nothing in scope binds
+abbrev pub unbound_in : List Var → List Tree → List Var
+unbound_in scope ts = filter (λ (v : Var). not (has_name scope v.name)) (terms_vars ts)
+
+-- those of an action: in an embedded rule the first ones of names that are neither in scope nor on its left side, but for
+-- `$x`, which the rule binds itself
+abbrev pub unbound_at : List Var → Action → List Var
+unbound_at scope (embedded l e r) =
+    filter (λ (v : Var). not (same_sort v.sort Pub)) (new_vars (scope ++ terms_vars (facts_terms l)) (terms_vars (facts_terms (e ++ r))))
+unbound_at scope a = unbound_in scope (action_used a)
+
+-- those at the head of a process
+abbrev pub unbound : List Var → Proc → List Var
+unbound scope nil = []
+unbound scope (parallel p q) = []
+unbound scope (replicated p) = []
+unbound scope (act a p) = unbound_at scope a
+unbound scope (test t u p q) = unbound_in scope (t ∷ u ∷ [])
+unbound scope (lookup t x p q) = unbound_in scope (t ∷ [])
+
+-- `new` or `lookup` binds a name that is in scope
+pub record Rebinds (s : Site) : Type 0 where
+  pub var : Var
+  pub stands : binder s.body ≡ Some var
+  pub in_scope : has_name s.scope var.name ≡ true
+
+-- what is in scope at the head, with what a pattern or an embedded rule there binds
+abbrev pub scope_at : List Var → Proc → List Var
+scope_at scope (act a p) = scope ++ bound_by scope a
+scope_at scope _ = scope
+
+-- the binder of a name
+abbrev pub binder_of : List Var → List ℕ → Option Var
+binder_of scope n = find (λ (v : Var). bytes_eq v.name n) scope
+
+-- a variable has a sign that isn't the sort of its binder
+pub record HasSortClash (s : Site) : Type 0 where
+  pub var : Var
+  pub stands : Contains (terms_vars (head_terms s.body)) var
+  pub signed : ¬ (var.sort ≡ Msg)
+  pub bound : Var
+  pub binder : binder_of (scope_at s.scope s.body) var.name ≡ Some bound
+  pub other : ¬ (bound.sort ≡ var.sort)
+
+-- the place has the flaw, where these places stand before it
+abbrev pub HasFlaw : Sig → List Site → Site → Flaw → Type 0
+HasFlaw g before s BadFunction = AppliesBadly g s ⊎ BindsConstant g s
+HasFlaw g before s ReservedVar = HasReservedVar s
+HasFlaw g before s ReservedFact = HasReservedFact s
+HasFlaw g before s FactClash =
+    HasClash HasOtherForm (flat_map (λ (b : Site). stored_facts b.body) before) (stored_facts s.body)
+    ⊎ HasClash HasOtherArity (flat_map (λ (b : Site). shown_facts b.body) before) (shown_facts s.body)
+HasFlaw g before s PatternDestructor = HasPatternDestructor g s
+HasFlaw g before s Unbound = ¬ (unbound s.scope s.body ≡ [])
+HasFlaw g before s Rebound = Rebinds s
+HasFlaw g before s SortClash = HasSortClash s
+HasFlaw g before s ScopeFull = 64 < length s.scope + s.locks
+
+-- place k, counted from 0 in preorder, has the flaw
+pub record IsFlawedAt (g : Sig) (p : Proc) (w : Flaw) (k : ℕ) : Type 0 where
+  pub site : Site
+  pub stands : slice_get (sites p) k ≡ Some site
+  pub flaw : HasFlaw g (take k (sites p)) site w
+
+-- the flaws in the order in which they count
+abbrev pub rank : Flaw → ℕ
+rank BadFunction = 1
+rank ReservedVar = 2
+rank ReservedFact = 3
+rank FactClash = 4
+rank PatternDestructor = 5
+rank Unbound = 6
+rank Rebound = 7
+rank SortClash = 8
+rank ScopeFull = 9
+
+-- the process has no flaw anywhere
+abbrev pub IsWellFormed : Sig → Proc → Type 0
+IsWellFormed g p = (w : Flaw) (k : ℕ) → ¬ IsFlawedAt g p w k
+
+-- the flaw counts: no place has one that counts before it, and this is the first place that has it
+pub record IsFirstFlaw (g : Sig) (p : Proc) (w : Flaw) (path : List ℕ) : Type 0 where
+  pub place : ℕ
+  pub at : IsFlawedAt g p w place
+  pub path_is : at.site.path ≡ path
+  pub first : (k : ℕ) → k < place → ¬ IsFlawedAt g p w k
+  pub least : (u : Flaw) → rank u < rank w → (k : ℕ) → ¬ IsFlawedAt g p u k

@@ -1,0 +1,65 @@
+-- The places of a process, each with what is in scope there.
+use Rattle.std.specs.Prelude.{ℕ, ◌+◌, Bool, ◌||◌, false, if◌then◌else◌, List, [], ◌∷◌, ◌++◌, map}
+use Rattle.std.specs.Str.{bytes_eq}
+use Rattle.std.specs.List.{list_any}
+use Rattle.sap_terms.specs.declared.fact.Fact.{Fact}
+use Rattle.sap_terms.specs.declared.var.Sort.TheVariants.{Msg, Fresh}
+use Rattle.sap_terms.specs.declared.var.Var.{Var}
+use Rattle.sap_terms.specs.Variables.{tree_vars}
+use Rattle.sap_process.specs.Action.{Action, new, out, send, input, receive, event, insert, delete, lock, unlock, embedded}
+use Rattle.sap_process.specs.Proc.{Proc, nil, parallel, replicated, act, test, lookup}
+use Rattle.sap_process.specs.Heads.{facts_terms, terms_vars, locks_set}
+
+-- one of the variables has this name
+abbrev pub has_name : List Var → List ℕ → Bool
+has_name vs n = list_any (λ (v : Var). bytes_eq v.name n) vs
+
+-- those of the variables that come first with a name which these don't have
+abbrev pub new_vars : List Var → List Var → List Var
+new_vars known [] = []
+new_vars known (v ∷ vs) = if has_name known v.name then new_vars known vs else v ∷ new_vars (known ++ v ∷ []) vs
+
+abbrev pub fresh_var : Var → Var
+fresh_var x = record { name = x.name; sort = Fresh }
+
+abbrev pub message_var : Var → Var
+message_var x = record { name = x.name; sort = Msg }
+
+-- what an action binds where these are in scope, each variable with the sort of its binder: `new` a fresh name; a pattern
+-- its names that are not in scope, as they are first written; an embedded rule those of its sides, left side first
+abbrev pub bound_by : List Var → Action → List Var
+bound_by scope (new x) = fresh_var x ∷ []
+bound_by scope (input t) = new_vars scope (tree_vars t)
+bound_by scope (receive t u) = new_vars scope (tree_vars u)
+bound_by scope (embedded l e r) = new_vars scope (terms_vars (facts_terms (l ++ (e ++ r))))
+bound_by scope _ = []
+
+-- a place: its path, the variables that the places above it bind, in order of binding, how many locks the places above set,
+-- and the process there
+pub record Site : Type 0 where
+  pub path : List ℕ
+  pub scope : List Var
+  pub locks : ℕ
+  pub body : Proc
+
+-- the places from this one on, in preorder; `lookup` binds in its first branch only
+abbrev pub sites_from : List ℕ → List Var → ℕ → Proc → List Site
+sites_from path scope k nil = record { path = path; scope = scope; locks = k; body = nil } ∷ []
+sites_from path scope k (parallel p q) =
+    record { path = path; scope = scope; locks = k; body = parallel p q }
+    ∷ (sites_from (path ++ 1 ∷ []) scope k p ++ sites_from (path ++ 2 ∷ []) scope k q)
+sites_from path scope k (replicated p) =
+    record { path = path; scope = scope; locks = k; body = replicated p } ∷ sites_from (path ++ 1 ∷ []) scope k p
+sites_from path scope k (act a p) =
+    record { path = path; scope = scope; locks = k; body = act a p }
+    ∷ sites_from (path ++ 1 ∷ []) (scope ++ bound_by scope a) (k + locks_set a) p
+sites_from path scope k (test t u p q) =
+    record { path = path; scope = scope; locks = k; body = test t u p q }
+    ∷ (sites_from (path ++ 1 ∷ []) scope k p ++ sites_from (path ++ 2 ∷ []) scope k q)
+sites_from path scope k (lookup t x p q) =
+    record { path = path; scope = scope; locks = k; body = lookup t x p q }
+    ∷ (sites_from (path ++ 1 ∷ []) (scope ++ message_var x ∷ []) k p ++ sites_from (path ++ 2 ∷ []) scope k q)
+
+-- all places
+abbrev pub sites : Proc → List Site
+sites p = sites_from [] [] 0 p

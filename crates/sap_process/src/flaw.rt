@@ -1,0 +1,36 @@
+use sap_terms::Path;
+
+/// What can be wrong at a place of a process, in the order in which flaws count: the first that holds anywhere is told, at
+/// its first place in preorder.
+#[derive(Clone, Copy, Debug, PartialEq, Eq)]
+pub enum Flaw {
+    /// A term applies a symbol that isn't held, or not with its arity; or `new` or `lookup` binds a plain identifier that is
+    /// a held symbol of arity 0.
+    BadFunction,
+    /// A variable's name begins with `sapic_`.
+    ReservedVar,
+    /// An event or a fact of an embedded rule has a reserved name.
+    ReservedFact,
+    /// A fact that an embedded rule takes or adds has the name of an earlier such fact, but another arity or persistence;
+    /// or a fact that is shown has that of an earlier such fact, but another arity.
+    FactClash,
+    /// A pattern, of an input or of an embedded left side, holds a destructor.
+    PatternDestructor,
+    /// A name is used that nothing above binds.
+    Unbound,
+    /// `new` or `lookup` binds a name that is in scope.
+    Rebound,
+    /// A sign `~` or `$` isn't the sort of the name's binder.
+    SortClash,
+    /// More than 64 variables are in scope, one more for each lock above.
+    ScopeFull,
+}
+
+/// Why a process isn't well-formed.
+#[derive(Drop)]
+pub enum Ill {
+    /// Want of memory.
+    Mem,
+    /// The flaw that counts, and the path of its first place.
+    At { which: Flaw, path: Path },
+}
