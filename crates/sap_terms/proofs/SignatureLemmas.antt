@@ -7,7 +7,7 @@ use Rattle.std.proofs.lemmas.Bool.Decides.{Decides-eqb}
 use Rattle.std.specs.Str.{bytes_eq}
 use Rattle.sap_terms.specs.declared.signature.Symbol.{Symbol}
 use Rattle.sap_terms.specs.Tree.{Tree, apply, none, more}
-use Rattle.sap_terms.specs.Signature.{Sig, find_symbol, IsMap, declared, declared_all, is_destructor_of, first_clash, is_held_otherwise, same_bool, added, with_builtin, AreHeld, HoldsBuiltins, has_builtin, builtin_symbols}
+use Rattle.sap_terms.specs.Signature.{Sig, find_symbol, IsMap, declared, declared_all, is_destructor_of, first_clash, is_held_otherwise, same_bool, added, AreHeld, HoldsBuiltins, has_builtin, builtin_symbols}
 use Rattle.sap_terms.specs.declared.signature.Builtin.{Builtin}
 use Rattle.sap_terms.specs.declared.signature.Builtin.TheVariants.{Hashing, Symmetric, Asymmetric, Signing}
 use Rattle.sap_terms.specs.Theory.{theory, IsInstance, first, second, symmetric, asymmetric, signing, IsDestructor, app0, app1, app2, pair_name, fst_name, snd_name, senc_name, sdec_name, aenc_name, adec_name, pk_name, sign_name, verify_name, true_name}
@@ -190,36 +190,6 @@ HoldsBuiltins-added g b h f c t = at b c f t where
   at Signing Symmetric f t = old Signing Symmetric t
   at Signing Asymmetric f t = old Signing Asymmetric t
   at Signing Signing f t = new Signing f
-
--- symbols that are held as they are bring nothing new, and none of them is held otherwise
-held_before : (ss xs : List Symbol) → AreHeld ss xs → (declared_all ss xs ≡ ss) × (first_clash ss xs ≡ None)
-held_before ss [] h = (refl, refl)
-held_before ss (x ∷ xs) h = let p = held_before ss xs h.1 in (one ∙ p.0, ap (λ b. if b then Some x.name else first_clash ss xs) same ∙ p.1) where
-  one : declared_all (declared ss x.name x.arity x.private) xs ≡ declared_all ss xs
-  one = rw (h.0) refl
-
-  alike : (b : Bool) → same_bool b b ≡ true
-  alike true = refl
-  alike false = refl
-
-  same : is_held_otherwise ss x ≡ false
-  same = rw (h.0, (Decides-eqb x.arity x.arity).1 refl, alike x.private) refl
-
-with_itself : (g : Sig) (b : Builtin) → has_builtin g b ≡ true → with_builtin g.builtins b ≡ g.builtins
-with_itself g Hashing t = λ i. record g.builtins { hashing = sym t i }
-with_itself g Symmetric t = λ i. record g.builtins { symmetric = sym t i }
-with_itself g Asymmetric t = λ i. record g.builtins { asymmetric = sym t i }
-with_itself g Signing t = λ i. record g.builtins { signing = sym t i }
-
--- a builtin that was added adds nothing once more
-pub added_before : (g : Sig) (b : Builtin) → HoldsBuiltins g → has_builtin g b ≡ true → added g b ≡ g
-added_before g b h t = let symbols = (held_before g.symbols (builtin_symbols b) (h b t)).0 in
-    let on = with_itself g b t in
-    λ i. record { symbols = symbols i; builtins = on i }
-
--- and none of its symbols is held otherwise
-pub no_clash_before : (g : Sig) (b : Builtin) → HoldsBuiltins g → has_builtin g b ≡ true → first_clash g.symbols (builtin_symbols b) ≡ None
-no_clash_before g b h t = (held_before g.symbols (builtin_symbols b) (h b t)).1
 
 drop_got : {X : Type 0} (xs : List X) (k : ℕ) (x : X) → slice_get xs k ≡ Some x → drop k xs ≡ x ∷ drop (k + 1) xs
 drop_got {X} xs k x h = rw add-one (at xs k h) where

@@ -47,6 +47,7 @@ impl From<Mem> for SigFault {
 }
 
 /// Symbols with their arities and privacy, in order of first declaration, and builtins. No name stands twice.
+/// A look-up by a name takes time in the length of the name on average, however many symbols are held.
 #[derive(Drop)]
 pub struct Signature {
     symbols: Symbols,
@@ -238,11 +239,7 @@ fn first_clash(symbols: &Symbols, added: &Items<Symbol>) -> Option<u64>
 }
 
 // The symbols with these, one after another, where their names are not held.
-fn declare_all(
-    alloc: Global,
-    symbols: &Symbols,
-    added: &Items<Symbol>,
-) -> Result<Symbols, Mem>
+fn declare_all(alloc: Global, symbols: &Symbols, added: &Items<Symbol>) -> Result<Symbols, Mem>
     ensures { IfOk result (λ ss. ss ≡ declared_all symbols.now added.now) }
 {
     let mut all = symbols.copy(alloc)?;
