@@ -274,7 +274,7 @@ fn is_whole(bytes: &[u8], term: &Term, rest: &[Token]) -> bool
 /// The term that the tokens spell from number `at`, counted from 0, and the number of the token behind it, which is no
 /// `(`; None where they spell none of at most 100 levels. An identifier without sign is the constant of that name where the
 /// signature holds one, and a variable otherwise. Nothing is asked of the tokens: each stands for the bytes in its span.
-/// The work is linear in the tokens that are looked at, but for the look-ups in the signature.
+/// The work is linear in the tokens that are looked at.
 pub fn read_term(
     alloc: Global,
     sig: &Signature,

@@ -1,5 +1,5 @@
 -- Substitutions as choices of a tree for each variable, and instances.
-use Rattle.std.specs.Prelude.{◌≡◌, Bool, true, false, IsTrue}
+use Rattle.std.specs.Prelude.{Bool, true, false, IsTrue}
 use Rattle.sap_terms.specs.declared.var.Sort.{Sort}
 use Rattle.sap_terms.specs.declared.var.Sort.TheVariants.{Msg, Fresh, Pub}
 use Rattle.sap_terms.specs.declared.var.Var.{Var}
@@ -19,10 +19,6 @@ fits_sort _ _ = false
 -- each variable stands for a term that its sort allows
 abbrev pub IsSorted : Choice → Type 0
 IsSorted σ = (v : Var) → IsTrue (fits_sort v.sort (σ v))
-
--- variables of one name stand for one term, whatever their sorts
-abbrev pub IsByName : Choice → Type 0
-IsByName σ = (v w : Var) → v.name ≡ w.name → σ v ≡ σ w
 
 abbrev mutual
   -- the tree with each of its variables replaced by what it stands for

@@ -8,6 +8,7 @@ pub mod Choice
 pub mod Subst
 pub mod Variables
 pub mod Signature
+pub mod Symbols
 pub mod Theory
 pub mod Equal
 pub mod Normal

@@ -10,6 +10,7 @@ mod path;
 mod reserved;
 mod signature;
 mod substitution;
+mod symbols;
 mod term;
 #[cfg(test)]
 mod tests;

@@ -3,6 +3,7 @@ ghost use Rattle.std.specs.Option.{option_copied};
 ghost use Rattle.sap_terms.specs.Signature.{Sig, Builtins, find_symbol, arity_of, IsPublic, Clashes, declared, has_builtin, is_destructor_of, builtin_symbols, declared_all, is_held_otherwise, first_clash, added, pairs_alone, IsMap, IsFirstClash, HoldsBuiltins};
 ghost use Rattle.sap_terms.specs.declared.signature.SigFault.TheVariants.{Mem as OutOfMemory};
 
+use crate::symbols::Symbols;
 use crate::{Copied, Items, Mem, Name};
 use std::alloc::{AllocError, AllocFailed, Global};
 use std::marker::Model;
@@ -46,9 +47,10 @@ impl From<Mem> for SigFault {
 }
 
 /// Symbols with their arities and privacy, in order of first declaration, and builtins. No name stands twice.
+/// A look-up by a name takes time in the length of the name on average, however many symbols are held.
 #[derive(Drop)]
 pub struct Signature {
-    symbols: Items<Symbol>,
+    symbols: Symbols,
     hashing: bool,
     symmetric: bool,
     asymmetric: bool,
@@ -71,24 +73,12 @@ impl Model for Signature {
     }) };
 }
 
-// The held symbol of a name.
-fn find<'a>(symbols: &'a Items<Symbol>, name: &Name) -> Option<&'a Symbol>
-    ensures { option_copied result ≡ find_symbol symbols.now name.now }
-{
-    for s in symbols.as_slice() {
-        if s.name.same(name) {
-            return Some(s);
-        }
-    }
-    None
-}
-
 impl Signature {
     /// The signature of pairs: `pair/2`, `fst/1` and `snd/1`, all public, and no builtin.
     pub fn new(alloc: Global) -> Result<Signature, Mem>
         ensures { IfOk result (λ g. g ≡ pairs_alone) }
     {
-        let mut symbols = Items::new(alloc);
+        let mut symbols = Symbols::new(alloc);
         symbols.push(public_symbol(alloc, b"pair", 2)?)?;
         symbols.push(public_symbol(alloc, b"fst", 1)?)?;
         symbols.push(public_symbol(alloc, b"snd", 1)?)?;
@@ -117,7 +107,7 @@ impl Signature {
     pub fn arity(&self, name: &Name) -> Option<u64>
         ensures { result ≡ arity_of self.now name.now }
     {
-        match find(&self.symbols, name) {
+        match self.symbols.named(name) {
             Some(s) => Some(s.arity),
             None => None,
         }
@@ -127,7 +117,7 @@ impl Signature {
     pub fn is_public(&self, name: &Name) -> bool
         ensures { IsTrue result ↔ IsPublic self.now name.now }
     {
-        match find(&self.symbols, name) {
+        match self.symbols.named(name) {
             Some(s) => !s.private,
             None => false,
         }
@@ -153,7 +143,7 @@ impl Signature {
         ensures other { (n : List ℕ) → IsErrOf result (SigFault.Clash n) → n ≡ name }
         ensures err { OnErr result (self.new ≡ self.old) }
     {
-        match find(&self.symbols, &name) {
+        match self.symbols.named(&name) {
             Some(s) => {
                 if s.arity == arity && s.private == private {
                     Ok(())
@@ -226,17 +216,17 @@ fn symbols_of(alloc: Global, b: Builtin) -> Result<Items<Symbol>, Mem>
 }
 
 // Whether the symbol's name is held with another arity or privacy.
-fn is_held_otherwise(symbols: &Items<Symbol>, symbol: &Symbol) -> bool
+fn is_held_otherwise(symbols: &Symbols, symbol: &Symbol) -> bool
     ensures { result ≡ is_held_otherwise symbols.now symbol.now }
 {
-    match find(symbols, &symbol.name) {
+    match symbols.named(&symbol.name) {
         Some(s) => !(s.arity == symbol.arity && s.private == symbol.private),
         None => false,
     }
 }
 
 // The place of the first of these symbols that is held otherwise.
-fn first_clash(symbols: &Items<Symbol>, added: &Items<Symbol>) -> Option<u64>
+fn first_clash(symbols: &Symbols, added: &Items<Symbol>) -> Option<u64>
     ensures { MatchOption result (first_clash symbols.now added.now ≡ None)
         (λ k. IsFirstClash symbols.now added.now k) }
 {
@@ -249,16 +239,12 @@ fn first_clash(symbols: &Items<Symbol>, added: &Items<Symbol>) -> Option<u64>
 }
 
 // The symbols with these, one after another, where their names are not held.
-fn declare_all(
-    alloc: Global,
-    symbols: &Items<Symbol>,
-    added: &Items<Symbol>,
-) -> Result<Items<Symbol>, Mem>
+fn declare_all(alloc: Global, symbols: &Symbols, added: &Items<Symbol>) -> Result<Symbols, Mem>
     ensures { IfOk result (λ ss. ss ≡ declared_all symbols.now added.now) }
 {
     let mut all = symbols.copy(alloc)?;
     for s in added.as_slice() {
-        if find(&all, &s.name).is_none() {
+        if all.named(&s.name).is_none() {
             all.push(s.copy(alloc)?)?;
         }
     }
@@ -305,6 +291,9 @@ impl Signature {
             → first_clash self.old.symbols (builtin_symbols b) ≡ Some n }
         ensures err { OnErr result (self.new ≡ self.old) }
     {
+        if self.has(b) {
+            return Ok(());
+        }
         let alloc = self.symbols.allocator();
         let symbols = symbols_of(alloc, b)?;
         if let Some(k) = first_clash(&self.symbols, &symbols) {
