@@ -7,7 +7,7 @@ use Rattle.sap_terms.specs.Reserved.{is_reserved}
 use Rattle.sap_terms.specs.Same.{same_sort}
 use Rattle.sap_terms.specs.Signature.{Sig, arity_of, is_destructor_of}
 use Rattle.sap_terms.specs.Tree.{Tree, variable, public, fresh, apply, Trees, none, more}
-use Rattle.sap_terms.specs.Variables.{tree_vars}
+use Rattle.sap_terms.specs.Variables.{facts_vars, is_known, new_vars}
 use Rattle.sap_terms.specs.declared.fact.Fact.{Fact}
 use Rattle.sap_terms.specs.declared.var.Sort.{Sort}
 use Rattle.sap_terms.specs.declared.var.Sort.TheVariants.{Msg, Fresh, Pub}
@@ -16,8 +16,8 @@ use Rattle.sap_process.specs.declared.flaw.Flaw.{Flaw}
 use Rattle.sap_process.specs.declared.flaw.Flaw.TheVariants.{BadFunction, ReservedVar, ReservedFact, FactClash, PatternDestructor, Unbound, Rebound, SortClash, ScopeFull}
 use Rattle.sap_process.specs.Action.{Action, embedded}
 use Rattle.sap_process.specs.Proc.{Proc, nil, parallel, replicated, act, test, lookup}
-use Rattle.sap_process.specs.Heads.{facts_terms, terms_vars, head_terms, head_vars, binder, patterns, stored_facts, shown_facts, action_used}
-use Rattle.sap_process.specs.Sites.{has_name, new_vars, bound_by, message_var, Site, sites}
+use Rattle.sap_process.specs.Heads.{terms_vars, head_terms, head_vars, binder, patterns, stored_facts, shown_facts, action_used}
+use Rattle.sap_process.specs.Sites.{var_names, bound_by, Site, sites}
 
 -- a term at the head applies a symbol that isn't held, or not with its arity
 pub record AppliesBadly (g : Sig) (s : Site) : Type 0 where
@@ -82,13 +82,13 @@ pub record HasPatternDestructor (g : Sig) (s : Site) : Type 0 where
 
 -- the occurrences in these terms that nothing in scope binds
 abbrev pub unbound_in : List Var → List Tree → List Var
-unbound_in scope ts = filter (λ (v : Var). not (has_name scope v.name)) (terms_vars ts)
+unbound_in scope ts = filter (λ (v : Var). not (is_known (var_names scope) v.name)) (terms_vars ts)
 
 -- those of an action: in an embedded rule the first ones of names that are neither in scope nor on its left side, but for
 -- `$x`, which the rule binds itself
 abbrev pub unbound_at : List Var → Action → List Var
 unbound_at scope (embedded l e r) =
-    filter (λ (v : Var). not (same_sort v.sort Pub)) (new_vars (scope ++ terms_vars (facts_terms l)) (terms_vars (facts_terms (e ++ r))))
+    filter (λ (v : Var). not (same_sort v.sort Pub)) (new_vars (var_names (scope ++ facts_vars l)) (facts_vars (e ++ r)))
 unbound_at scope a = unbound_in scope (action_used a)
 
 -- those at the head of a process
@@ -104,7 +104,7 @@ unbound scope (lookup t x p q) = unbound_in scope (t ∷ [])
 pub record Rebinds (s : Site) : Type 0 where
   pub var : Var
   pub stands : binder s.body ≡ Some var
-  pub in_scope : has_name s.scope var.name ≡ true
+  pub in_scope : is_known (var_names s.scope) var.name ≡ true
 
 -- what is in scope at the head, with what a pattern or an embedded rule there binds
 abbrev pub scope_at : List Var → Proc → List Var

@@ -1,8 +1,8 @@
 -- What stands at the head of a process: its terms, facts and variables, without those of what follows.
 use Rattle.std.specs.Prelude.{ℕ, ◌+◌, List, [], ◌∷◌, ◌++◌, Option, Some, None}
 use Rattle.std.specs.List.{flat_map}
-use Rattle.sap_terms.specs.Tree.{Tree, list_of, trees_of}
-use Rattle.sap_terms.specs.Variables.{tree_vars, trees_vars}
+use Rattle.sap_terms.specs.Tree.{Tree}
+use Rattle.sap_terms.specs.Variables.{tree_vars}
 use Rattle.sap_terms.specs.declared.fact.Fact.{Fact}
 use Rattle.sap_terms.specs.declared.var.Var.{Var}
 use Rattle.sap_process.specs.Action.{Action, new, out, send, input, receive, event, insert, delete, lock, unlock, embedded}

@@ -6,4 +6,7 @@ pub mod Proc
 pub mod Heads
 pub mod Sites
 pub mod Flaws
+pub mod Instance
 pub mod Sorted
+pub mod Configuration
+pub mod ProcessSteps

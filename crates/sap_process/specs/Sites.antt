@@ -1,23 +1,15 @@
 -- The places of a process, each with what is in scope there.
-use Rattle.std.specs.Prelude.{ℕ, ◌+◌, Bool, ◌||◌, false, if◌then◌else◌, List, [], ◌∷◌, ◌++◌, map}
-use Rattle.std.specs.Str.{bytes_eq}
-use Rattle.std.specs.List.{list_any}
-use Rattle.sap_terms.specs.declared.fact.Fact.{Fact}
+use Rattle.std.specs.Prelude.{ℕ, ◌+◌, List, [], ◌∷◌, ◌++◌, map}
 use Rattle.sap_terms.specs.declared.var.Sort.TheVariants.{Msg, Fresh}
 use Rattle.sap_terms.specs.declared.var.Var.{Var}
-use Rattle.sap_terms.specs.Variables.{tree_vars}
+use Rattle.sap_terms.specs.Variables.{tree_vars, facts_vars, new_vars}
 use Rattle.sap_process.specs.Action.{Action, new, out, send, input, receive, event, insert, delete, lock, unlock, embedded}
 use Rattle.sap_process.specs.Proc.{Proc, nil, parallel, replicated, act, test, lookup}
-use Rattle.sap_process.specs.Heads.{facts_terms, terms_vars, locks_set}
+use Rattle.sap_process.specs.Heads.{locks_set}
 
--- one of the variables has this name
-abbrev pub has_name : List Var → List ℕ → Bool
-has_name vs n = list_any (λ (v : Var). bytes_eq v.name n) vs
-
--- those of the variables that come first with a name which these don't have
-abbrev pub new_vars : List Var → List Var → List Var
-new_vars known [] = []
-new_vars known (v ∷ vs) = if has_name known v.name then new_vars known vs else v ∷ new_vars (known ++ v ∷ []) vs
+-- their names
+abbrev pub var_names : List Var → List (List ℕ)
+var_names vs = map (λ (v : Var). v.name) vs
 
 abbrev pub fresh_var : Var → Var
 fresh_var x = record { name = x.name; sort = Fresh }
@@ -29,9 +21,9 @@ message_var x = record { name = x.name; sort = Msg }
 -- its names that are not in scope, as they are first written; an embedded rule those of its sides, left side first
 abbrev pub bound_by : List Var → Action → List Var
 bound_by scope (new x) = fresh_var x ∷ []
-bound_by scope (input t) = new_vars scope (tree_vars t)
-bound_by scope (receive t u) = new_vars scope (tree_vars u)
-bound_by scope (embedded l e r) = new_vars scope (terms_vars (facts_terms (l ++ (e ++ r))))
+bound_by scope (input t) = new_vars (var_names scope) (tree_vars t)
+bound_by scope (receive t u) = new_vars (var_names scope) (tree_vars u)
+bound_by scope (embedded l e r) = new_vars (var_names scope) (facts_vars (l ++ (e ++ r)))
 bound_by scope _ = []
 
 -- a place: its path, the variables that the places above it bind, in order of binding, how many locks the places above set,

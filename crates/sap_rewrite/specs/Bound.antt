@@ -7,9 +7,9 @@ use Rattle.sap_terms.specs.Message.{IsMessage, IsMessageChoice}
 use Rattle.sap_terms.specs.Signature.{Sig}
 use Rattle.sap_terms.specs.Subst.{bound_to, subst_tree}
 use Rattle.sap_terms.specs.Tree.{Tree}
-use Rattle.sap_terms.specs.Variables.{tree_vars}
+use Rattle.sap_terms.specs.Variables.{tree_vars, is_known, new_vars}
 use Rattle.sap_terms.specs.View.{tree}
-use Rattle.sap_rewrite.specs.Match.{Extends, Agrees, HaveOneSort, bound_vars, is_known, new_vars}
+use Rattle.sap_rewrite.specs.Match.{Extends, Agrees, HaveOneSort, bound_vars}
 
 -- no two of the variables have one name
 abbrev pub AreNamedOnce : List Var → Type 0

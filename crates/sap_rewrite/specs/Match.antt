@@ -1,13 +1,12 @@
 -- Matches of a pattern.
-use Rattle.std.specs.Prelude.{◌≡◌, ℕ, Bool, true, false, ◌||◌, List, [], ◌∷◌, ◌++◌, map, Contains, if◌then◌else◌}
-use Rattle.std.specs.Str.{bytes_eq}
+use Rattle.std.specs.Prelude.{◌≡◌, ℕ, true, List, [], ◌∷◌, ◌++◌, map, Contains}
 use Rattle.sap_terms.specs.declared.var.Var.{Var}
 use Rattle.sap_terms.specs.declared.binding.Binding.{Binding}
 use Rattle.sap_terms.specs.Tree.{Tree}
 use Rattle.sap_terms.specs.View.{tree}
 use Rattle.sap_terms.specs.Choice.{Choice, fits_sort, IsSorted, instance}
 use Rattle.sap_terms.specs.Subst.{subst_tree}
-use Rattle.sap_terms.specs.Variables.{tree_vars}
+use Rattle.sap_terms.specs.Variables.{tree_vars, new_vars}
 
 -- each variable is bound to a term that its sort allows
 abbrev pub AllSorted : List Binding → Type 0
@@ -17,16 +16,6 @@ AllSorted (e ∷ es) = (fits_sort e.var.sort (tree e.term) ≡ true) × AllSorte
 -- the names of the bound variables
 abbrev pub names : List Binding → List (List ℕ)
 names b = map (λ (e : Binding). e.var.name) b
-
--- the name is one of these
-abbrev pub is_known : List (List ℕ) → List ℕ → Bool
-is_known [] n = false
-is_known (m ∷ ms) n = bytes_eq m n || is_known ms n
-
--- the first occurrences of variables whose names are not known
-abbrev pub new_vars : List (List ℕ) → List Var → List Var
-new_vars known [] = []
-new_vars known (v ∷ vs) = if is_known known v.name then new_vars known vs else v ∷ new_vars (known ++ v.name ∷ []) vs
 
 -- c is b and then a term that its sort allows for each of these variables that b doesn't bind, in order of first
 -- occurrence

@@ -5,7 +5,7 @@ use Rattle.std.specs.List.{list_any}
 use Rattle.std.specs.Str.{bytes_eq}
 use Rattle.std.proofs.lemmas.Slice.Eq.{bytes_eq-Decides}
 use Rattle.sap_terms.specs.declared.var.Var.{Var}
-use Rattle.sap_rewrite.specs.Match.{is_known, new_vars}
+use Rattle.sap_terms.specs.Variables.{is_known, new_vars}
 
 -- names are the same both ways round
 same_both : (m n : List ℕ) → bytes_eq m n ≡ bytes_eq n m

@@ -3,16 +3,11 @@ use Rattle.std.specs.Prelude.{List, ◌++◌, map}
 use Rattle.std.specs.List.{flat_map}
 use Rattle.sap_terms.specs.Signature.{Sig}
 use Rattle.sap_terms.specs.Tree.{trees_of}
-use Rattle.sap_terms.specs.Variables.{trees_vars}
+use Rattle.sap_terms.specs.Variables.{facts_vars, new_vars}
 use Rattle.sap_terms.specs.declared.fact.Fact.{Fact}
 use Rattle.sap_terms.specs.declared.var.Var.{Var}
 use Rattle.sap_rewrite.specs.Around.{all_outer_vars}
-use Rattle.sap_rewrite.specs.Match.{new_vars}
 use Rattle.sap_rule.specs.declared.rule.Rule.{Rule}
-
--- each occurrence of a variable in the facts, from the left
-abbrev pub facts_vars : List Fact → List Var
-facts_vars fs = flat_map (λ (f : Fact). trees_vars (trees_of f.args)) fs
 
 -- those outside the subterms that a destructor heads
 abbrev pub facts_outer_vars : Sig → List Fact → List Var

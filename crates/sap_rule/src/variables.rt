@@ -1,10 +1,9 @@
 ghost use Rattle.std.specs.Prelude.{◌≡◌, ℕ, ◌++◌, ◌∷◌, [], IfOk, OnOk, List, not, map, if◌then◌else◌};
 ghost use Rattle.sap_terms.specs.Tree.{trees_of};
-ghost use Rattle.sap_terms.specs.Variables.{tree_vars, trees_vars};
+ghost use Rattle.sap_terms.specs.Variables.{facts_vars, tree_vars, trees_vars, is_known, new_vars};
 ghost use Rattle.sap_terms.specs.View.{tree};
 ghost use Rattle.sap_rewrite.specs.Around.{outer_vars, all_outer_vars};
-ghost use Rattle.sap_rewrite.specs.Match.{is_known, new_vars};
-ghost use Rattle.sap_rule.specs.Variables.{facts_vars, facts_outer_vars, rule_vars, open_variables};
+ghost use Rattle.sap_rule.specs.Variables.{facts_outer_vars, rule_vars, open_variables};
 
 use crate::Rule;
 use indexmap::IndexSet;

@@ -9,14 +9,14 @@ use Rattle.sap_terms.specs.Signature.{Sig, HoldsBuiltins}
 use Rattle.sap_terms.specs.Subst.{bound_to}
 use Rattle.sap_terms.specs.Theory.{theory}
 use Rattle.sap_terms.specs.Tree.{trees_of}
-use Rattle.sap_terms.specs.Variables.{trees_vars}
+use Rattle.sap_terms.specs.Variables.{facts_vars, trees_vars}
 use Rattle.sap_terms.specs.View.{tree}
 use Rattle.sap_terms.specs.declared.binding.Binding.{Binding}
 use Rattle.sap_terms.specs.declared.fact.Fact.{Fact}
 use Rattle.sap_terms.specs.declared.var.Var.{Var}
 use Rattle.sap_rewrite.specs.Bound.{AreNamedOnce}
 use Rattle.sap_rewrite.specs.Match.{Agrees, HaveOneSort, bound_vars, names}
-use Rattle.sap_rule.specs.Variables.{facts_vars, facts_outer_vars, rule_vars}
+use Rattle.sap_rule.specs.Variables.{facts_outer_vars, rule_vars}
 use Rattle.sap_rule.specs.WellMade.{IsWellMade}
 use Rattle.sap_rule.specs.declared.rule.Rule.{Rule}
 use Rattle.sap_steps.specs.Faults.{AreRight, IsFitting, IsRefusal}

@@ -14,7 +14,7 @@ use Rattle.sap_terms.specs.Normal.{IsNormalForm}
 use Rattle.sap_terms.specs.Signature.{Sig, HoldsBuiltins}
 use Rattle.sap_terms.specs.Theory.{Theory, theory}
 use Rattle.sap_terms.specs.Tree.{Tree, variable, public, fresh, apply, Trees, none, more, trees_of, list_of, node_count}
-use Rattle.sap_terms.specs.Variables.{tree_vars, trees_vars}
+use Rattle.sap_terms.specs.Variables.{facts_vars, tree_vars, trees_vars}
 use Rattle.sap_terms.specs.View.{tree}
 use Rattle.sap_terms.specs.declared.binding.Binding.{Binding}
 use Rattle.sap_terms.specs.declared.fact.Fact.{Fact}
@@ -24,7 +24,7 @@ use Rattle.sap_rewrite.specs.Bound.{NamedOnceStay, BindingsGiveChoices, Agreeing
 use Rattle.sap_rewrite.specs.Large.{SomeSubterm, SomeSubtermWithin, itself, below, here, later, HasLargeForm}
 use Rattle.sap_rewrite.specs.Laws.{FormIsOne, FormsAreMessages}
 use Rattle.sap_rewrite.specs.Match.{AllSorted, Agrees, bound_vars}
-use Rattle.sap_rule.specs.Variables.{facts_vars, facts_outer_vars}
+use Rattle.sap_rule.specs.Variables.{facts_outer_vars}
 use Rattle.sap_rule.specs.WellMade.{IsRightFact}
 use Rattle.sap_rule.specs.declared.rule.Rule.{Rule}
 use Rattle.sap_steps.specs.Faults.{FactHolds}

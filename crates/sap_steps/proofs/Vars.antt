@@ -6,13 +6,13 @@ use Rattle.std.proofs.lemmas.List.Elements.{Contains-push, Contains-push_cases, 
 use Rattle.std.proofs.lemmas.Slice.Eq.{bytes_eq-Decides}
 use Rattle.sap_terms.specs.Signature.{Sig, is_destructor_of}
 use Rattle.sap_terms.specs.Tree.{Tree, variable, public, fresh, apply, Trees, none, more, trees_of}
-use Rattle.sap_terms.specs.Variables.{tree_vars, trees_vars}
+use Rattle.sap_terms.specs.Variables.{facts_vars, tree_vars, trees_vars, is_known, new_vars}
 use Rattle.sap_terms.specs.declared.binding.Binding.{Binding}
 use Rattle.sap_terms.specs.declared.fact.Fact.{Fact}
 use Rattle.sap_terms.specs.declared.var.Var.{Var}
 use Rattle.sap_rewrite.specs.Around.{outer_vars, all_outer_vars}
-use Rattle.sap_rewrite.specs.Match.{HaveOneSort, bound_vars, is_known, new_vars}
-use Rattle.sap_rule.specs.Variables.{facts_vars, facts_outer_vars, rule_vars, open_variables}
+use Rattle.sap_rewrite.specs.Match.{HaveOneSort, bound_vars}
+use Rattle.sap_rule.specs.Variables.{facts_outer_vars, rule_vars, open_variables}
 use Rattle.sap_rule.specs.declared.rule.Rule.{Rule}
 use Rattle.sap_steps.proofs.Found.{fewer_sorts}
 

@@ -1,5 +1,5 @@
 use Rattle.std.proofs.Common.{◌≡◌, ◌++◌, drop}
-use Rattle.sap_rewrite.specs.Match.{new_vars}
+use Rattle.sap_terms.specs.Variables.{new_vars}
 use Rattle.sap_rule.proofs.variables.first_occurrences.Given as goal
 
 abbrev pub invariant-loop-v : goal.invariant-loop-v

@@ -1,6 +1,6 @@
 use Rattle.std.proofs.Common.{◌≡◌, ℕ, List, map, take}
 use Rattle.sap_terms.specs.declared.var.Var.{Var}
-use Rattle.sap_rewrite.specs.Match.{is_known}
+use Rattle.sap_terms.specs.Variables.{is_known}
 use Rattle.sap_rule.proofs.variables.names_of.Given as goal
 
 abbrev pub invariant-loop-v : goal.invariant-loop-v

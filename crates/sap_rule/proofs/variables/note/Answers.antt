@@ -1,6 +1,6 @@
 use Rattle.std.proofs.Common.{◌∙◌, ap, not, ◌++◌, ◌∷◌, []}
 use Rattle.std.specs.Prelude.{if◌then◌else◌}
-use Rattle.sap_rewrite.specs.Match.{is_known}
+use Rattle.sap_terms.specs.Variables.{is_known}
 use Rattle.sap_rule.proofs.Known.{any_known}
 use Rattle.sap_rule.proofs.variables.note.Goals as goal
 

@@ -1,6 +1,6 @@
 use Rattle.std.proofs.Common.{◌≡◌, List, ℕ, ◌++◌, ◌∙◌, ap, map}
 use Rattle.sap_terms.specs.declared.var.Var.{Var}
-use Rattle.sap_rewrite.specs.Match.{is_known, new_vars}
+use Rattle.sap_terms.specs.Variables.{is_known, new_vars}
 use Rattle.sap_rule.specs.Variables.{facts_outer_vars, rule_vars}
 use Rattle.sap_rule.proofs.Known.{same_new}
 use Rattle.sap_rule.proofs.variables.open_vars.Goals as goal

@@ -1,5 +1,5 @@
 use Rattle.std.proofs.Common.{◌≡◌, ◌++◌, drop}
-use Rattle.sap_rule.specs.Variables.{facts_vars}
+use Rattle.sap_terms.specs.Variables.{facts_vars}
 use Rattle.sap_rule.proofs.variables.push_facts_vars.Given as goal
 
 abbrev pub invariant-loop-f : goal.invariant-loop-f

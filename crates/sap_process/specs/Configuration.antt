@@ -1,0 +1,76 @@
+-- Configurations: what there is while a process runs.
+use Rattle.std.specs.Prelude.{◌≡◌, ℕ, Bool, false, List, [], ◌∷◌, ◌++◌, Option, Some, None, slice_get, slice_set, Contains, if◌then◌else◌}
+use Rattle.sap_terms.specs.Deduce.{IsDeducible}
+use Rattle.sap_terms.specs.Normal.{IsNormal}
+use Rattle.sap_terms.specs.Piles.{Pile}
+use Rattle.sap_terms.specs.Same.{same_tree}
+use Rattle.sap_terms.specs.Signature.{Sig}
+use Rattle.sap_terms.specs.Theory.{theory}
+use Rattle.sap_terms.specs.Tree.{Tree}
+use Rattle.sap_process.specs.Proc.{Proc}
+
+pub record Config : Type 0 where
+  -- the names that processes made, and those that the adversary made
+  pub made : List ℕ
+  pub own : List ℕ
+  -- what the store has at a key
+  pub store : Tree → Option Tree
+  -- the facts of embedded rules by their numbers: none where one was taken
+  pub facts : Pile
+  -- the running processes by their numbers: none where one has ended
+  pub threads : List (Option Proc)
+  -- the terms that were sent, in order
+  pub frame : List Tree
+  -- whether a term is held
+  pub held : Tree → Bool
+
+-- one process runs, and there is nothing else
+abbrev pub initial : Proc → Config
+initial p = record { made = []; own = []; store = λ x. None; facts = []; threads = Some p ∷ []; frame = []; held = λ x. false }
+
+-- thread t is running, as p
+abbrev pub Runs : Config → ℕ → Proc → Type 0
+Runs c t p = slice_get c.threads t ≡ Some (Some p)
+
+-- thread t is this from now on
+abbrev pub becomes : Config → ℕ → Option Proc → Config
+becomes c t o = record c { threads = slice_set c.threads t o }
+
+-- there is a new thread, with the next number
+abbrev pub spawns : Config → Proc → Config
+spawns c p = record c { threads = c.threads ++ Some p ∷ [] }
+
+abbrev pub makes : Config → ℕ → Config
+makes c n = record c { made = c.made ++ n ∷ [] }
+
+abbrev pub owns : Config → ℕ → Config
+owns c n = record c { own = c.own ++ n ∷ [] }
+
+abbrev pub sends_out : Config → Tree → Config
+sends_out c t = record c { frame = c.frame ++ t ∷ [] }
+
+abbrev pub stored : (Tree → Option Tree) → Tree → Option Tree → Tree → Option Tree
+stored store x o y = if same_tree x y then o else store y
+
+-- the store has this at x, or nothing
+abbrev pub stores : Config → Tree → Option Tree → Config
+stores c x o = record c { store = stored c.store x o }
+
+abbrev pub marked : (Tree → Bool) → Tree → Bool → Tree → Bool
+marked held x b y = if same_tree x y then b else held y
+
+-- x is held, or isn't
+abbrev pub holds : Config → Tree → Bool → Config
+holds c x b = record c { held = marked c.held x b }
+
+abbrev pub leaves : Config → Pile → Config
+leaves c facts = record c { facts = facts }
+
+-- nobody has the name
+abbrev pub IsUnused : Config → ℕ → Type 0
+IsUnused c n = (¬ Contains c.made n) × (¬ Contains c.own n)
+
+-- the adversary can give t: it is deducible, and normal
+pub record CanGive (g : Sig) (c : Config) (t : Tree) : Type 0 where
+  pub deducible : IsDeducible g c.own c.frame t
+  pub normal : IsNormal (theory g) t
