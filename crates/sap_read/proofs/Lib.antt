@@ -2,6 +2,9 @@ pub mod Complete
 pub mod Sound
 pub mod Places
 pub mod Steps
+pub mod Cuts
+pub mod Headers
+pub mod Parts
 pub mod Lists
 pub mod Levels
 pub mod ProcessReading

@@ -16,6 +16,8 @@ pub mod Signatures
 pub mod Causes
 pub mod Drafts
 pub mod Files
+pub mod ItemReading
+pub mod Judged
 pub mod Reading
 pub mod View
 pub mod ProcessExamples

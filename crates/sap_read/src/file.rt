@@ -1,13 +1,24 @@
-ghost use Rattle.std.specs.Prelude.{◌≡◌, [], Ok, Err, IfOk, IsErrOf};
+ghost use Rattle.std.specs.Prelude.{◌≡◌, ℕ, List, [], Ok, Err, IfOk, IsErrOf};
+ghost use Rattle.std.specs.Option.{option_copied};
+ghost use Rattle.sap_text.specs.Tokens.{IsLexed};
+ghost use Rattle.sap_text.specs.declared.fault.Lex.{Lex};
+ghost use Rattle.sap_read.specs.Cut.{Placed, placed, IsCut, last_line};
+ghost use Rattle.sap_read.specs.Words.{words_of};
+ghost use Rattle.sap_read.specs.Judged.{IsAccepted, IsRefused, header_of};
+ghost use Rattle.sap_read.specs.Files.{AreTokens};
 ghost use Rattle.sap_process.specs.Proc.{proc};
 ghost use Rattle.sap_read.specs.Files.{IsRead};
 ghost use Rattle.sap_read.specs.declared.fault.ReadFault.{ReadFault};
-ghost use Rattle.sap_read.specs.declared.fault.ReadFault.TheVariants.{Mem as OutOfMemory};
+ghost use Rattle.sap_read.specs.declared.fault.ReadFault.TheVariants.{Mem as OutOfMemory, Lex as LexFault};
 
 use crate::fault::ReadFault;
+use crate::items::{Declared, read_declarations, read_items};
+use crate::look::{beyond, name_at, starts};
+use crate::whole::whole_process;
 use sap_formula::{LemmaList, RestrictionList};
 use sap_process::Process;
 use sap_terms::{Name, Signature};
+use sap_text::{Lex, Token, tokens};
 use std::alloc::Global;
 
 /// What a file tells.
@@ -31,5 +42,82 @@ pub fn read_file(alloc: Global, bytes: &[u8]) -> Result<File, ReadFault>
         × (f.restrictions ≡ []) × (f.lemmas ≡ [])) }
     ensures refused { (e : ReadFault) → IsErrOf result e → (e ≡ OutOfMemory → ⊥) → IsRead bytes.now (Err e) }
 {
-    Err(ReadFault::Mem)
+    let tokens = read_tokens(alloc, bytes)?;
+    read_parts(alloc, bytes, tokens.as_slice())
+}
+
+/// The file of these tokens of the bytes.
+fn read_parts(alloc: Global, bytes: &[u8], tokens: &[Token]) -> Result<File, ReadFault>
+    requires { AreTokens bytes.now tokens.now }
+    ensures accepted { IfOk result (λ f. IsRead bytes.now (Ok (record { name = f.name; signature = f.signature; process = proc f.process }))
+        × (f.restrictions ≡ []) × (f.lemmas ≡ [])) }
+    ensures refused { (e : ReadFault) → IsErrOf result e → (e ≡ OutOfMemory → ⊥) → IsRead bytes.now (Err e) }
+{
+    let Some(name) = header_name(bytes, tokens) else {
+        return Err(ReadFault::Header);
+    };
+    let rest = beyond(3, tokens);
+    let name = Name::from_bytes(alloc, name)?;
+    let Declared { signature, clash } = read_declarations(alloc, bytes, rest)?;
+    let process = read_process_of(alloc, &signature, clash, bytes, rest, last_line(tokens))?;
+    Ok(File {
+        name,
+        signature,
+        process,
+        restrictions: RestrictionList::new(alloc),
+        lemmas: LemmaList::new(alloc),
+    })
+}
+
+/// The process of the items that these tokens are, under a signature and with the first clash of what they declare; or why
+/// they are refused. The last line is that of the file's last token.
+fn read_process_of(
+    alloc: Global,
+    sig: &Signature,
+    clash: Option<Name>,
+    bytes: &[u8],
+    tokens: &[Token],
+    last: u64,
+) -> Result<Process, ReadFault>
+    ensures accepted { IfOk result (λ p. (cut : List (List Placed)) → IsCut (placed bytes.now tokens.now) cut → IsAccepted sig.now clash cut (proc p)) }
+    ensures refused { (e : ReadFault) → IsErrOf result e → (e ≡ OutOfMemory → ⊥) → (cut : List (List Placed)) → IsCut (placed bytes.now tokens.now) cut
+        → IsRefused sig.now clash last cut e }
+{
+    let entries = read_items(alloc, sig, bytes, tokens, last)?;
+    whole_process(alloc, &entries, clash)
+}
+
+/// The tokens of a file, the longest of 64 bytes.
+fn read_tokens(alloc: Global, bytes: &[u8]) -> Result<Vec<Token>, ReadFault>
+    ensures found { IfOk result (λ v. AreTokens bytes.now v.items) }
+    ensures refused { (e : ReadFault) → IsErrOf result e → (e ≡ OutOfMemory → ⊥)
+        → (f : Lex) × (e ≡ LexFault f) × IsLexed 64 0 1 bytes.now (Err f) }
+{
+    match tokens(alloc, bytes, 64) {
+        Ok(tokens) => Ok(tokens),
+        Err(Lex::Mem) => Err(ReadFault::Mem),
+        Err(fault) => Err(ReadFault::Lex(fault)),
+    }
+}
+
+/// The name in the header, where the tokens begin with one.
+fn header_name<'a>(bytes: &'a [u8], tokens: &[Token]) -> Option<&'a [u8]>
+    ensures { option_copied result ≡ header_of (words_of bytes.now tokens.now) }
+{
+    if starts(bytes, tokens, "theory") && starts(bytes, beyond(2, tokens), "begin") {
+        name_at(bytes, beyond(1, tokens))
+    } else {
+        None
+    }
+}
+
+/// The line of the last token.
+#[tactic(auto, using(crate::proofs::Headers::last_lines))]
+fn last_line(tokens: &[Token]) -> u64
+    ensures { (bytes : List ℕ) → result ≡ last_line (placed bytes tokens.now) }
+{
+    match tokens.last() {
+        Some(token) => token.line,
+        None => 1,
+    }
 }
