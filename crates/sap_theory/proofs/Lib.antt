@@ -1,0 +1,6 @@
+pub mod Printing
+pub mod Listing
+pub mod Found
+pub mod Functions
+pub mod Lines
+pub mod Sizes
