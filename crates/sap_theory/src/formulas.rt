@@ -128,7 +128,13 @@ fn push_not(text: &mut Text, f: &Formula) -> Result<(), Mem>
 
 // Two formulas with a sign between them, and what their places ask for.
 #[cycle(push_formula)]
-fn push_two(text: &mut Text, asked: (u64, u64), f: &Formula, sign: &[u8], g: &Formula) -> Result<(), Mem>
+fn push_two(
+    text: &mut Text,
+    asked: (u64, u64),
+    f: &Formula,
+    sign: &[u8],
+    g: &Formula,
+) -> Result<(), Mem>
     ensures { OnOk result (text.new ≡ text.old ++ (formula_text asked.0 (form f.now) ++ (sign.now ++ formula_text asked.1 (form g.now)))) }
 {
     push_formula(text, asked.0, f)?;
