@@ -1,5 +1,5 @@
 -- The line of the symbols that have to be declared, as far as it is written.
-use Rattle.std.proofs.Common.{◌≡◌, ◌+◌, ◌++◌, ◌∙◌, ℕ, Bool, List, not, sym, subst, Option, Some}
+use Rattle.std.proofs.Common.{◌≡◌, ◌+◌, ◌++◌, ◌∙◌, ℕ, Bool, List, not, sym, subst, Some}
 use Rattle.std.specs.Prelude.{codes, slice_get, option_map, if◌then◌else◌, ◌&&◌}
 use Rattle.sap_terms.specs.Signature.{Sig, find_symbol, IsMap}
 use Rattle.sap_terms.specs.declared.signature.Symbol.{Symbol}

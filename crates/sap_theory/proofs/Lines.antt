@@ -1,8 +1,8 @@
 -- The texts of restrictions and lemmas, piece by piece.
-use Rattle.std.proofs.Common.{◌≡◌, ◌++◌, List, ℕ, ap, sym, ◌∙◌, append_assoc, refl}
+use Rattle.std.proofs.Common.{◌≡◌, ◌++◌, List, ℕ, ap, append_assoc}
 use Rattle.std.specs.Prelude.{codes}
-use Rattle.sap_formula.specs.Form.{Form, RestrictionForm, LemmaForm}
-use Rattle.sap_theory.specs.StatementText.{quoted, restriction_text, attributes_text, mode_text, lemma_text}
+use Rattle.sap_formula.specs.Form.{RestrictionForm}
+use Rattle.sap_theory.specs.StatementText.{quoted, restriction_text}
 
 -- the pieces of a restriction behind a text, where r is seen as z
 pub restriction-behind : (text : List ℕ) (r z : RestrictionForm) → r ≡ z

@@ -7,7 +7,7 @@ use Rattle.sap_formula.specs.declared.binder.Binder.TheVariants.{Message, Time}
 use Rattle.sap_theory.specs.TermText.{tree_text, variable_text}
 use Rattle.sap_theory.specs.FactText.{fact_text}
 
--- how strongly a formula holds its parts together: a quantifier least, an atom without blanks most
+-- how strongly a formula holds its parts together: a quantifier least, an atom that is written without blanks most
 abbrev pub strength : Form → ℕ
 strength truth = 6
 strength falsity = 6
@@ -40,7 +40,7 @@ binders_text bs = flat_map (λ (b : Binder). codes " " ++ binder_text b) bs
 abbrev pub places_text : List ℕ → List ℕ → List ℕ → List ℕ
 places_text i sign j = codes "#" ++ (i ++ (sign ++ (codes "#" ++ j)))
 
--- a formula in a place that asks for so much strength
+-- a formula in a place that asks for so much strength: the whole and a quantifier's body ask for none
 abbrev pub formula_text : ℕ → Form → List ℕ
 formula_text asked truth = in_place asked truth (codes "T")
 formula_text asked falsity = in_place asked falsity (codes "F")

@@ -1,5 +1,5 @@
 -- Pieces of text side by side.
-use Rattle.std.specs.Prelude.{ℕ, zero, suc, Bool, true, false, codes, List, [], ◌∷◌, ◌++◌, if◌then◌else◌}
+use Rattle.std.specs.Prelude.{ℕ, zero, suc, Bool, codes, List, [], ◌∷◌, ◌++◌, if◌then◌else◌}
 
 -- the pieces with a separator between them
 abbrev pub joined : List ℕ → List (List ℕ) → List ℕ

@@ -1,4 +1,4 @@
-ghost use Rattle.std.specs.Prelude.{◌≡◌, ◌++◌, IfOk, OnOk, ◌&&◌, Some, if◌then◌else◌, ◌||◌, not, codes, []};
+ghost use Rattle.std.specs.Prelude.{◌≡◌, ◌++◌, IfOk, OnOk, ◌&&◌, Some, if◌then◌else◌, not, codes, []};
 ghost use Rattle.sap_terms.specs.Signature.{find_symbol, has_builtin, builtin_symbols, pairs_alone};
 ghost use Rattle.sap_terms.specs.declared.signature.Symbol.{Symbol};
 ghost use Rattle.sap_theory.specs.Pieces.{lead};
@@ -37,7 +37,7 @@ pub(crate) fn push_builtins(text: &mut Text, sig: &Signature) -> Result<(), Mem>
     Ok(())
 }
 
-// A builtin, if it was added; whether the next one is the first of its line.
+// A builtin, if it was added; true where the next one is the first of its line.
 fn push_builtin(text: &mut Text, sig: &Signature, b: Builtin, is_first: bool) -> Result<bool, Mem>
     ensures first { IfOk result (λ r. r ≡ (not (has_builtin sig.now b) && is_first)) }
     ensures text { OnOk result (text.new ≡ (if has_builtin sig.now b then (text.old ++ lead is_first (codes "\nbuiltins: ")) ++ spelling b else text.old)) }
@@ -113,11 +113,11 @@ pub(crate) fn push_functions(text: &mut Text, sig: &Signature) -> Result<(), Mem
             }
         }
     }
-    // So many symbols have no room in memory.
+    // No memory has room for so many symbols.
     Err(Mem)
 }
 
-// A held symbol, unless it is brought; whether the next one is the first of its line.
+// A held symbol, unless it is brought; true where the next one is the first of its line.
 fn push_function(text: &mut Text, sig: &Signature, name: &Name, is_first: bool) -> Result<bool, Mem>
     ensures first { IfOk result (λ b. b ≡ (is_brought sig.now name.now && is_first)) }
     ensures text { (s : Symbol) → s.name ≡ name.now → find_symbol sig.now.symbols name.now ≡ Some s

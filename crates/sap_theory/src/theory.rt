@@ -10,8 +10,9 @@ use sap_text::Text;
 use std::alloc::Global;
 
 /// The theory as text: under its name the builtins, the symbols that they don't bring, the rules, the restrictions and
-/// the lemmas, each behind a blank line. Want of memory is the only error. It takes time in proportion to the text, and
-/// recurses as deep as the theory's terms and formulas.
+/// the lemmas, each behind a blank line. Want of memory is the only error. It takes time in proportion to the signature
+/// and the text, but for two look-ups in the signature for each symbol that it writes, and recurses as deep as the
+/// theory's terms and formulas.
 pub fn print(alloc: Global, t: &Theory) -> Result<Text, Mem>
     ensures { IfOk result (λ text. text ≡ theory_text t.now) }
 {
@@ -24,6 +25,7 @@ pub fn print(alloc: Global, t: &Theory) -> Result<Text, Mem>
     Ok(text)
 }
 
+// What stands between the head and the end.
 fn push_items(text: &mut Text, t: &Theory) -> Result<(), Mem>
     ensures { OnOk result (text.new ≡ text.old ++ items_text t.now) }
 {
