@@ -1,4 +1,5 @@
-pub mod Printing
+pub mod Pushed
+pub mod Applied
 pub mod Listing
 pub mod Found
 pub mod Functions

@@ -1,9 +1,10 @@
 -- Lines of pieces, as far as they are written.
-use Rattle.std.proofs.Common.{◌≡◌, ◌+◌, ℕ, Bool, true, false, not, List, [], ◌∷◌, ◌++◌, take, map, Some, refl, sym, ap, ◌∙◌, append_assoc, add-one}
+use Rattle.std.proofs.Common.{◌≡◌, ◌+◌, ℕ, Bool, true, false, not, List, [], ◌∷◌, ◌++◌, take, map, Some, refl, sym, ap, ◌∙◌, append_assoc}
 use Rattle.std.specs.Prelude.{slice_get, codes, filter, if◌then◌else◌, ◌&&◌}
+use Rattle.std.proofs.lemmas.List.{map-append, append-nil}
 use Rattle.std.proofs.lemmas.List.Elements.{filter-append}
 use Rattle.sap_theory.specs.Pieces.{joined, line_of, lead}
-use Rattle.sap_theory.proofs.Printing.{joined-push, take-suc}
+use Rattle.sap_theory.proofs.Pushed.{joined-push, take-next}
 
 -- a line without its end
 abbrev pub begun : List ℕ → List (List ℕ) → List ℕ
@@ -56,25 +57,17 @@ is_nil-push (y ∷ ys) x = refl
 abbrev pub passed : {A : Type 0} → (A → Bool) → (A → List ℕ) → List A → ℕ → List (List ℕ)
 passed p f xs k = map f (filter p (take k xs))
 
-map-append_one : {A : Type 0} (f : A → List ℕ) (xs : List A) (x : A) → map f (xs ++ x ∷ []) ≡ map f xs ++ f x ∷ []
-map-append_one f [] x = refl
-map-append_one f (y ∷ ys) x = ap (λ z. f y ∷ z) (map-append_one f ys x)
-
 -- with one more item, that passes
 passed-kept : {A : Type 0} (p : A → Bool) (f : A → List ℕ) (xs : List A) (k : ℕ) (x : A) → slice_get xs k ≡ Some x → p x ≡ true
     → passed p f xs (k + 1) ≡ passed p f xs k ++ f x ∷ []
 passed-kept p f xs k x h e =
-    rw (add-one k, take-suc xs k x h, filter-append p (take k xs) (x ∷ []), e) (map-append_one f (filter p (take k xs)) x)
+    rw (take-next xs k x h, filter-append p (take k xs) (x ∷ []), e) (map-append f (filter p (take k xs)) (x ∷ []))
 
-append-nothing : {A : Type 0} (xs : List A) → xs ++ [] ≡ xs
-append-nothing [] = refl
-append-nothing (x ∷ xs) = ap (λ z. x ∷ z) (append-nothing xs)
-
--- that doesn't
+-- with one more, that doesn't
 passed-left : {A : Type 0} (p : A → Bool) (f : A → List ℕ) (xs : List A) (k : ℕ) (x : A) → slice_get xs k ≡ Some x → p x ≡ false
     → passed p f xs (k + 1) ≡ passed p f xs k
 passed-left p f xs k x h e =
-    rw (add-one k, take-suc xs k x h, filter-append p (take k xs) (x ∷ []), e, append-nothing (filter p (take k xs))) refl
+    rw (take-next xs k x h, filter-append p (take k xs) (x ∷ []), e, append-nil (filter p (take k xs))) refl
 
 -- the line goes on by an item that passes
 further-kept : {A : Type 0} (heading before : List ℕ) (p : A → Bool) (f : A → List ℕ) (xs : List A) (k : ℕ) (x : A) (text : List ℕ) (is_first : Bool)

@@ -1,5 +1,5 @@
 use Rattle.std.proofs.Common.{◌≡◌, ◌≢◌, length, ◌∙◌, sym, arith}
-use Rattle.sap_theory.proofs.Printing.{is_pair-two, is_pair-not_two}
+use Rattle.sap_theory.proofs.Applied.{is_pair-two, is_pair-not_two}
 use Rattle.sap_theory.proofs.terms.is_pair.Goals as goal
 
 pub returns-then-len-eq2-clause-is : goal.returns-then-len-eq2-clause-is
