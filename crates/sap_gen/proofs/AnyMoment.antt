@@ -2,7 +2,7 @@
 use Rattle.std.proofs.Common.{◌≡◌, ℕ, List, [], ◌∷◌, ◌++◌, refl, sym, ap, ◌∙◌, subst, append-nil, append_assoc}
 use Rattle.sap_terms.specs.Tree.{public}
 use Rattle.sap_terms.specs.declared.fact.Fact.{Fact}
-use Rattle.sap_process.specs.Proc.{Proc}
+use Rattle.sap_gen.specs.Built.{Built}
 use Rattle.sap_gen.specs.Faithful.{NoReservedEvents}
 use Rattle.sap_gen.specs.ProcessSteps.{Config, Deducible, ProcessStep, ProcessRun, IsProcessTrace}
 use Rattle.sap_terms.specs.AdversaryFacts.{k_fact}
@@ -60,9 +60,9 @@ said n ProcessRun.start (y ∷ before) after e = cc
 said {origin = origin} n (ProcessRun.further {c = c} {d = d} {tr = tr} {label = label} run step) before after e =
     said_further origin c d tr n before after run (λ b a g. said n run b a g) label step e
 
-pub any_moment : (p : Proc) (n : List ℕ) (before after : Trace) → IsProcessTrace p (before ++ after) → IsProcessTrace p (before ++ says n ∷ after)
+pub any_moment : (p : Built) (n : List ℕ) (before after : Trace) → IsProcessTrace p (before ++ after) → IsProcessTrace p (before ++ says n ∷ after)
 any_moment p n before after h = (h.0, said n h.1 before after refl)
 
-pub any_moment_seen : (p : Proc) (n : List ℕ) (before after : Trace) → NoReservedEvents p → IsVisibleTrace (rules_of p) (before ++ after) → IsVisibleTrace (rules_of p) (before ++ says n ∷ after)
+pub any_moment_seen : (p : Built) (n : List ℕ) (before after : Trace) → NoReservedEvents p → IsVisibleTrace (rules_of p) (before ++ after) → IsVisibleTrace (rules_of p) (before ++ says n ∷ after)
 any_moment_seen p n before after free h =
     shows_all p free _ (any_moment p n before after (shows_only p free _ h))

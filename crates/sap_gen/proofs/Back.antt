@@ -3,7 +3,7 @@ use Rattle.std.proofs.Common.{◌≡◌, ℕ, ◌<◌, List, [], ◌∷◌, ◌+
 use Rattle.std.specs.Option.{option_map}
 use Rattle.sap_terms.specs.Tree.{Tree, public}
 use Rattle.sap_terms.specs.declared.fact.Fact.{Fact}
-use Rattle.sap_process.specs.Proc.{Proc, nil, parallel, event}
+use Rattle.sap_gen.specs.Built.{Built, nil, parallel, event}
 use Rattle.sap_rule.specs.declared.rule.Rule.{Rule}
 use Rattle.sap_gen.specs.Faithful.{NoReservedEvents, ShowsOnly}
 use Rattle.sap_gen.specs.Members.{Member}
@@ -26,7 +26,7 @@ use Rattle.sap_gen.proofs.Totals.{total_found, Found}
 use Rattle.sap_gen.proofs.Visible.{admitted_before, first_init}
 
 -- a run of the process that stands for this rule state and full trace
-record Followed (start : Proc) (s : RuleState) (full : Trace) : Type 0 where
+record Followed (start : Built) (s : RuleState) (full : Trace) : Type 0 where
   agents : List (Option Agent)
   pending : Option Tree
   c : Config
@@ -35,14 +35,14 @@ record Followed (start : Proc) (s : RuleState) (full : Trace) : Type 0 where
   related : Related start agents pending c tr s full
 
 -- the same with nothing pending
-record Flushed (start : Proc) (s : RuleState) (full : Trace) : Type 0 where
+record Flushed (start : Built) (s : RuleState) (full : Trace) : Type 0 where
   agents : List (Option Agent)
   c : Config
   tr : Trace
   run : ProcessRun (initial start) c tr
   related : Related start agents None c tr s full
 
-flushed : (start : Proc) (s : RuleState) (full : Trace) → Followed start s full → Flushed start s full
+flushed : (start : Built) (s : RuleState) (full : Trace) → Followed start s full → Flushed start s full
 flushed start s full w = go w.pending refl
   where
     go : (o : Option Tree) → w.pending ≡ o → Flushed start s full
@@ -58,12 +58,12 @@ flushed start s full w = go w.pending refl
         }
 
 -- the thread that a live state fact stands for
-record Thread (agents : List (Option Agent)) (c : Config) (path : List ℕ) (body : Proc) : Type 0 where
+record Thread (agents : List (Option Agent)) (c : Config) (path : List ℕ) (body : Built) : Type 0 where
   number : ℕ
   stands : slice_get agents number ≡ Some (Some (running path body))
   runs : Runs c number body
 
-thread_of : {start : Proc} {agents : List (Option Agent)} {pending : Option Tree} {c : Config} {tr : Trace} {s : RuleState} {full : Trace} → Related start agents pending c tr s full → (k : ℕ) (path : List ℕ) (body : Proc) → spot_at (root start) path ≡ Some (bare body) → slice_get s.facts k ≡ Some (Some (state_fact path [])) → Thread agents c path body
+thread_of : {start : Built} {agents : List (Option Agent)} {pending : Option Tree} {c : Config} {tr : Trace} {s : RuleState} {full : Trace} → Related start agents pending c tr s full → (k : ℕ) (path : List ℕ) (body : Built) → spot_at (root start) path ≡ Some (bare body) → slice_get s.facts k ≡ Some (Some (state_fact path [])) → Thread agents c path body
 thread_of {start} {agents} {pending} {c} {tr} {s} {full} r k path body e f =
     let st = agent_of agents s k path r.facts f in
     let there : spot_at (root start) path ≡ Some (bare st.body) = r.placed st.thread (running path st.body) st.is in
@@ -77,15 +77,15 @@ thread_of {start} {agents} {pending} {c} {tr} {s} {full} r k path body e f =
     }
 
 -- a rule is Init or of a place
-data Whence (start : Proc) (r : Rule) : Type 0 where
+data Whence (start : Built) (r : Rule) : Type 0 where
   is_init : r ≡ init_rule → Whence start r
   is_place : Home start r → Whence start r
 
-whence : (start : Proc) (r : Rule) → Member r (rules_of start) → Whence start r
+whence : (start : Built) (r : Rule) → Member r (rules_of start) → Whence start r
 whence start r Member.here = is_init refl
 whence start r (Member.later m) = is_place (home start r m)
 
-module _ (start : Proc) (free : NoReservedEvents start) (s : RuleState) (full : Trace) (w : Followed start s full) where
+module _ (start : Built) (free : NoReservedEvents start) (s : RuleState) (full : Trace) (w : Followed start s full) where
   -- what the process has followed where these facts are live and these acts were shown
   abbrev After : List (Option Fact) → List Fact → Type 0
   After facts acts = Followed start (record s { facts = facts }) (full ++ acts ∷ [])
@@ -146,7 +146,7 @@ module _ (start : Proc) (free : NoReservedEvents start) (s : RuleState) (full : 
         related = kept_nil start w.agents w.pending w.c w.tr s full w.related t.number k path t.stands f;
       }
 
-  law_parallel : (path : List ℕ) (p q : Proc) (k : ℕ) → spot_at (root start) path ≡ Some (bare (parallel p q)) → slice_get s.facts k ≡ Some (Some (state_fact path [])) → After (adds (slice_set s.facts k None) (state_fact (first_of path) [] ∷ state_fact (second_of path) [] ∷ [])) []
+  law_parallel : (path : List ℕ) (p q : Built) (k : ℕ) → spot_at (root start) path ≡ Some (bare (parallel p q)) → slice_get s.facts k ≡ Some (Some (state_fact path [])) → After (adds (slice_set s.facts k None) (state_fact (first_of path) [] ∷ state_fact (second_of path) [] ∷ [])) []
   law_parallel path p q k e f =
       let t = thread_of w.related k path (parallel p q) e f in
       record {
@@ -158,7 +158,7 @@ module _ (start : Proc) (free : NoReservedEvents start) (s : RuleState) (full : 
         related = kept_parallel start w.agents w.pending w.c w.tr s full w.related t.number k path p q t.stands f;
       }
 
-  law_event : (path : List ℕ) (g : Fact) (p : Proc) (k : ℕ) → spot_at (root start) path ≡ Some (bare (event g p)) → slice_get s.facts k ≡ Some (Some (state_fact path [])) → After (adds (slice_set s.facts k None) (state_fact (first_of path) [] ∷ [])) (event_fact ∷ g ∷ [])
+  law_event : (path : List ℕ) (g : Fact) (p : Built) (k : ℕ) → spot_at (root start) path ≡ Some (bare (event g p)) → slice_get s.facts k ≡ Some (Some (state_fact path [])) → After (adds (slice_set s.facts k None) (state_fact (first_of path) [] ∷ [])) (event_fact ∷ g ∷ [])
   law_event path g p k e f =
       let y = flushed start s full w in
       let t = thread_of y.related k path (event g p) e f in
@@ -181,7 +181,7 @@ module _ (start : Proc) (free : NoReservedEvents start) (s : RuleState) (full : 
       let t = took_state takes in
       subst (λ x. After (adds x right) acts) (sym t.left) (h t.number t.is)
 
-  law_place : (ks : List ℕ) (rest : List (Option Fact)) (path : List ℕ) (body : Proc) (r : Rule) → spot_at (root start) path ≡ Some (bare body) → Member r (own_rules path [] body) → Fires ks rest r
+  law_place : (ks : List ℕ) (rest : List (Option Fact)) (path : List ℕ) (body : Built) (r : Rule) → spot_at (root start) path ≡ Some (bare body) → Member r (own_rules path [] body) → Fires ks rest r
   law_place ks rest path nil r e m =
       subst (Fires ks rest) (sym (only_member m)) (fires_alone ks rest path [] [] (λ k f. law_nil path k e f))
   law_place ks rest path (parallel p q) r e m =
@@ -196,16 +196,16 @@ module _ (start : Proc) (free : NoReservedEvents start) (s : RuleState) (full : 
   law_rule ks rest r (is_place b) h = law_place ks rest b.path b.body r b.is b.own
 
 -- the law for any step
-law : {start : Proc} {s z : RuleState} {full : Trace} {acts : List Fact} → NoReservedEvents start → Followed start s full → RuleStep (rules_of start) s acts z → IsAdmitted (full ++ acts ∷ []) → Followed start z (full ++ acts ∷ [])
+law : {start : Built} {s z : RuleState} {full : Trace} {acts : List Fact} → NoReservedEvents start → Followed start s full → RuleStep (rules_of start) s acts z → IsAdmitted (full ++ acts ∷ []) → Followed start z (full ++ acts ∷ [])
 law {start = start} {s = s} {full = full} free w (RuleStep.public_name n) h = law_public start free s full w n
 law {start = start} {s = s} {full = full} free w (RuleStep.know x m) h = law_know start free s full w x m
 law {start = start} {s = s} {full = full} free w (RuleStep.named {r = r} {rest = rest} ks m takes) h = law_rule start free s full w ks rest r (whence start r m) h takes
 
-followed : {start : Proc} {s : RuleState} {full : Trace} → NoReservedEvents start → RuleRun (rules_of start) s full → IsAdmitted full → Followed start s full
+followed : {start : Built} {s : RuleState} {full : Trace} → NoReservedEvents start → RuleRun (rules_of start) s full → IsAdmitted full → Followed start s full
 followed {start = start} free RuleRun.start h = record { agents = Some (unborn start) ∷ []; pending = None; c = initial start; tr = []; run = ProcessRun.start; related = related_start start }
 followed free (RuleRun.further {full = full} {acts = acts} run step) h = law free (followed free run (admitted_before full acts h)) step h
 
-pub shows_only : (start : Proc) → NoReservedEvents start → ShowsOnly start (rules_of start)
+pub shows_only : (start : Built) → NoReservedEvents start → ShowsOnly start (rules_of start)
 shows_only start free tr h =
     let y = flushed start h.0 h.1 (followed free h.2 h.3) in
     let same : y.tr ≡ tr = sym (append-nil y.tr) ∙ sym y.related.traces ∙ h.4 in

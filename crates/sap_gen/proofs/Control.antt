@@ -1,7 +1,7 @@
 -- Each live state fact has its thread, and each thread its state fact.
 use Rattle.std.proofs.Common.{◌≡◌, ℕ, ◌+◌, ◌<◌, List, [], ◌∷◌, Option, Some, None, refl, sym, ap, ◌∙◌, arith, Bool, true, false, cond, slice_get, slice_set, subst}
 use Rattle.sap_terms.specs.declared.fact.Fact.{Fact}
-use Rattle.sap_process.specs.Proc.{Proc}
+use Rattle.sap_gen.specs.Built.{Built}
 use Rattle.sap_terms.specs.Piles.{Takes, nothing, one}
 use Rattle.sap_gen.specs.RuleSteps.{RuleState}
 use Rattle.sap_gen.specs.Templates.{state_fact}
@@ -37,7 +37,7 @@ live_fact facts f x = go x.item refl
         record { number = x.number; is = x.is ∙ ap (λ i. Some i) (e ∙ ap (λ i. Some i) (sym same)) }
 
 -- the state fact of a running thread
-pub fact_of : (agents : List (Option Agent)) (s : RuleState) (t : ℕ) (path : List ℕ) (body : Proc) → SameFacts agents s → slice_get agents t ≡ Some (Some (running path body)) → LiveFact s.facts (state_fact path [])
+pub fact_of : (agents : List (Option Agent)) (s : RuleState) (t : ℕ) (path : List ℕ) (body : Built) → SameFacts agents s → slice_get agents t ≡ Some (Some (running path body)) → LiveFact s.facts (state_fact path [])
 fact_of agents s t path body same e =
     let test = same_fact (state_fact path []) in
     let self = counts_self path in
@@ -48,7 +48,7 @@ fact_of agents s t path body same e =
 -- the thread of a live state fact
 pub record Standing (agents : List (Option Agent)) (path : List ℕ) : Type 0 where
   pub thread : ℕ
-  pub body : Proc
+  pub body : Built
   pub is : slice_get agents thread ≡ Some (Some (running path body))
 
 standing : (agents : List (Option Agent)) (path : List ℕ) → Found (count_owed (same_fact (state_fact path []))) agents → Standing agents path

@@ -2,7 +2,7 @@
 use Rattle.std.proofs.Common.{◌≡◌, ℕ, List, [], ◌∷◌, ◌++◌, Option, Some, None, sym, ap, ◌∙◌, arith, slice_get, slice_set, append-nil}
 use Rattle.sap_terms.specs.Tree.{Tree, public}
 use Rattle.sap_terms.specs.declared.fact.Fact.{Fact}
-use Rattle.sap_process.specs.Proc.{Proc, nil, parallel, event}
+use Rattle.sap_gen.specs.Built.{Built, nil, parallel, event}
 use Rattle.sap_gen.specs.Faithful.{NoReservedEvents, ShowsAll}
 use Rattle.sap_gen.specs.Members.{Member}
 use Rattle.sap_gen.specs.Places.{bare}
@@ -21,7 +21,7 @@ use Rattle.sap_gen.proofs.PlaceRules.{own_in}
 use Rattle.sap_gen.proofs.Visible.{admitted_by_count}
 
 -- a run of the rules that stands for this configuration and trace
-record Answered (start : Proc) (c : Config) (tr : Trace) : Type 0 where
+record Answered (start : Built) (c : Config) (tr : Trace) : Type 0 where
   agents : List (Option Agent)
   s : RuleState
   full : Trace
@@ -29,7 +29,7 @@ record Answered (start : Proc) (c : Config) (tr : Trace) : Type 0 where
   related : Related start agents None c tr s full
 
 -- the same, where thread t is at a place and has its state fact
-record Ready (start : Proc) (c : Config) (tr : Trace) (t : ℕ) (p : Proc) : Type 0 where
+record Ready (start : Built) (c : Config) (tr : Trace) (t : ℕ) (p : Built) : Type 0 where
   agents : List (Option Agent)
   s : RuleState
   full : Trace
@@ -40,7 +40,7 @@ record Ready (start : Proc) (c : Config) (tr : Trace) (t : ℕ) (p : Proc) : Typ
   fact : LiveFact s.facts (state_fact path [])
 
 -- a thread that runs can be made ready, by the rule Init if need be
-ready : (start : Proc) (c : Config) (tr : Trace) (t : ℕ) (p : Proc) → Answered start c tr → Runs c t p → Ready start c tr t p
+ready : (start : Built) (c : Config) (tr : Trace) (t : ℕ) (p : Built) → Answered start c tr → Runs c t p → Ready start c tr t p
 ready start c tr t p w e = go (behind process_of w.agents t p (ap (λ ts. slice_get ts t) (sym w.related.threads) ∙ e))
   where
     born : (agents : List (Option Agent)) (s : RuleState) (full : Trace) → RuleRun (rules_of start) s full → Related start agents None c tr s full → (path : List ℕ) → slice_get agents t ≡ Some (Some (running path p)) → Ready start c tr t p
@@ -58,7 +58,7 @@ ready start c tr t p w e = go (behind process_of w.agents t p (ap (λ ts. slice_
     go : Behind process_of w.agents t p → Ready start c tr t p
     go b = by_case b.item b.is b.gives
 
-module _ (start : Proc) (free : NoReservedEvents start) (c : Config) (tr : Trace) (w : Answered start c tr) where
+module _ (start : Built) (free : NoReservedEvents start) (c : Config) (tr : Trace) (w : Answered start c tr) where
   law_ends : (t : ℕ) → Runs c t nil → Answered start (becomes c t None) (tr ++ shown [])
   law_ends t e =
       let y = ready start c tr t nil w e in
@@ -71,7 +71,7 @@ module _ (start : Proc) (free : NoReservedEvents start) (c : Config) (tr : Trace
         related = kept_nil start y.agents None c tr y.s y.full y.related t y.fact.number y.path y.stands y.fact.is;
       }
 
-  law_splits : (t : ℕ) (p q : Proc) → Runs c t (parallel p q) → Answered start (spawns (becomes c t (Some p)) q) (tr ++ shown [])
+  law_splits : (t : ℕ) (p q : Built) → Runs c t (parallel p q) → Answered start (spawns (becomes c t (Some p)) q) (tr ++ shown [])
   law_splits t p q e =
       let y = ready start c tr t (parallel p q) w e in
       let rule = own_in (bare start) [] y.path (bare (parallel p q)) (parallel_rule y.path []) (y.related.placed t (running y.path (parallel p q)) y.stands) Member.here in
@@ -83,7 +83,7 @@ module _ (start : Proc) (free : NoReservedEvents start) (c : Config) (tr : Trace
         related = kept_parallel start y.agents None c tr y.s y.full y.related t y.fact.number y.path p q y.stands y.fact.is;
       }
 
-  law_shows : (t : ℕ) (f : Fact) (p : Proc) → Runs c t (event f p) → Answered start (becomes c t (Some p)) (tr ++ shown (f ∷ []))
+  law_shows : (t : ℕ) (f : Fact) (p : Built) → Runs c t (event f p) → Answered start (becomes c t (Some p)) (tr ++ shown (f ∷ []))
   law_shows t f p e =
       let y = ready start c tr t (event f p) w e in
       let here = y.related.placed t (running y.path (event f p)) y.stands in
@@ -109,17 +109,17 @@ module _ (start : Proc) (free : NoReservedEvents start) (c : Config) (tr : Trace
       }
 
 -- the law for any step
-law : {start : Proc} {c d : Config} {tr : Trace} {label : List Fact} → NoReservedEvents start → Answered start c tr → ProcessStep c label d → Answered start d (tr ++ shown label)
+law : {start : Built} {c d : Config} {tr : Trace} {label : List Fact} → NoReservedEvents start → Answered start c tr → ProcessStep c label d → Answered start d (tr ++ shown label)
 law {start = start} {c = c} {tr = tr} free w (ProcessStep.ends t e) = law_ends start free c tr w t e
 law {start = start} {c = c} {tr = tr} free w (ProcessStep.splits {p = p} {q = q} t e) = law_splits start free c tr w t p q e
 law {start = start} {c = c} {tr = tr} free w (ProcessStep.shows {f = f} {p = p} t e) = law_shows start free c tr w t f p e
 law {start = start} {c = c} {tr = tr} free w (ProcessStep.knows x h) = law_knows start free c tr w x h
 
-answered : {start : Proc} {c : Config} {tr : Trace} → NoReservedEvents start → ProcessRun (initial start) c tr → Answered start c tr
+answered : {start : Built} {c : Config} {tr : Trace} → NoReservedEvents start → ProcessRun (initial start) c tr → Answered start c tr
 answered {start = start} free ProcessRun.start = record { agents = Some (unborn start) ∷ []; s = empty_state; full = []; run = RuleRun.start; related = related_start start }
 answered free (ProcessRun.further run step) = law free (answered free run) step
 
-pub shows_all : (start : Proc) → NoReservedEvents start → ShowsAll start (rules_of start)
+pub shows_all : (start : Built) → NoReservedEvents start → ShowsAll start (rules_of start)
 shows_all start free tr h =
     let w = answered free h.1 in
     let one = w.related.init in

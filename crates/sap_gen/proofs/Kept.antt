@@ -4,7 +4,7 @@ use Rattle.std.specs.Option.{option_map}
 use Rattle.sap_terms.specs.Reserved.{is_reserved}
 use Rattle.sap_terms.specs.Tree.{Tree, public}
 use Rattle.sap_terms.specs.declared.fact.Fact.{Fact}
-use Rattle.sap_process.specs.Proc.{Proc, nil, parallel, event}
+use Rattle.sap_gen.specs.Built.{Built, nil, parallel, event}
 use Rattle.sap_gen.specs.Members.{Member}
 use Rattle.sap_gen.specs.Places.{bare, root}
 use Rattle.sap_gen.specs.ProcessSteps.{Config, initial, becomes, spawns, Deducible}
@@ -54,11 +54,11 @@ trace_shown full tr acts f e h =
     ∙ sym (append-nil (tr ++ shown (f ∷ [])))
 
 -- an agent is placed where one that equals it is
-placed_as : (start : Proc) {a b : Agent} → Some a ≡ Some b → IsPlaced start a → IsPlaced start b
+placed_as : (start : Built) {a b : Agent} → Some a ≡ Some b → IsPlaced start a → IsPlaced start b
 placed_as start {a} {b} e h = let same : a ≡ b = cc in subst (λ x. IsPlaced start x) same h
 
 -- before any step
-pub related_start : (start : Proc) → Related start (Some (unborn start) ∷ []) None (initial start) [] empty_state []
+pub related_start : (start : Built) → Related start (Some (unborn start) ∷ []) None (initial start) [] empty_state []
 related_start start =
     record {
       placed = λ t a e. first t a e;
@@ -74,9 +74,9 @@ related_start start =
     first zero a e = let same : Some (unborn start) ≡ Some a = cc in placed_as start same refl
     first (suc t) a e = absurd (cc)
 
-module _ (start : Proc) (agents : List (Option Agent)) (pending : Option Tree) (c : Config) (tr : Trace) (s : RuleState) (full : Trace) (r : Related start agents pending c tr s full) where
+module _ (start : Built) (agents : List (Option Agent)) (pending : Option Tree) (c : Config) (tr : Trace) (s : RuleState) (full : Trace) (r : Related start agents pending c tr s full) where
   -- the rule Init
-  pub kept_init : (t : ℕ) (body : Proc) → slice_get agents t ≡ Some (Some (unborn body)) → Related start (slice_set agents t (Some (running [] body))) pending c tr (record s { facts = adds s.facts (state_fact [] [] ∷ []) }) (full ++ (init_fact ∷ []) ∷ [])
+  pub kept_init : (t : ℕ) (body : Built) → slice_get agents t ≡ Some (Some (unborn body)) → Related start (slice_set agents t (Some (running [] body))) pending c tr (record s { facts = adds s.facts (state_fact [] [] ∷ []) }) (full ++ (init_fact ∷ []) ∷ [])
   kept_init t body e =
       let old = Some (unborn body) in
       let new = Some (running [] body) in
@@ -105,7 +105,7 @@ module _ (start : Proc) (agents : List (Option Agent)) (pending : Option Tree) (
       }
 
   -- a thread splits
-  pub kept_parallel : (t k : ℕ) (path : List ℕ) (p q : Proc) → slice_get agents t ≡ Some (Some (running path (parallel p q))) → slice_get s.facts k ≡ Some (Some (state_fact path [])) → Related start (slice_set agents t (Some (running (first_of path) p)) ++ Some (running (second_of path) q) ∷ []) pending (spawns (becomes c t (Some p)) q) (tr ++ shown []) (record s { facts = adds (slice_set s.facts k None) (state_fact (first_of path) [] ∷ state_fact (second_of path) [] ∷ []) }) (full ++ [] ∷ [])
+  pub kept_parallel : (t k : ℕ) (path : List ℕ) (p q : Built) → slice_get agents t ≡ Some (Some (running path (parallel p q))) → slice_get s.facts k ≡ Some (Some (state_fact path [])) → Related start (slice_set agents t (Some (running (first_of path) p)) ++ Some (running (second_of path) q) ∷ []) pending (spawns (becomes c t (Some p)) q) (tr ++ shown []) (record s { facts = adds (slice_set s.facts k None) (state_fact (first_of path) [] ∷ state_fact (second_of path) [] ∷ []) }) (full ++ [] ∷ [])
   kept_parallel t k path p q e f =
       let here = r.placed t (running path (parallel p q)) e in
       let old = Some (running path (parallel p q)) in
@@ -125,8 +125,8 @@ module _ (start : Proc) (agents : List (Option Agent)) (pending : Option Tree) (
       }
 
 -- an event, where nothing is pending
-module _ (start : Proc) (agents : List (Option Agent)) (c : Config) (tr : Trace) (s : RuleState) (full : Trace) (r : Related start agents None c tr s full) where
-  pub kept_event : (t k : ℕ) (path : List ℕ) (f : Fact) (p : Proc) → is_reserved f.name ≡ false → slice_get agents t ≡ Some (Some (running path (event f p))) → slice_get s.facts k ≡ Some (Some (state_fact path [])) → Related start (slice_set agents t (Some (running (first_of path) p))) None (becomes c t (Some p)) (tr ++ shown (f ∷ [])) (record s { facts = adds (slice_set s.facts k None) (state_fact (first_of path) [] ∷ []) }) (full ++ (event_fact ∷ f ∷ []) ∷ [])
+module _ (start : Built) (agents : List (Option Agent)) (c : Config) (tr : Trace) (s : RuleState) (full : Trace) (r : Related start agents None c tr s full) where
+  pub kept_event : (t k : ℕ) (path : List ℕ) (f : Fact) (p : Built) → is_reserved f.name ≡ false → slice_get agents t ≡ Some (Some (running path (event f p))) → slice_get s.facts k ≡ Some (Some (state_fact path [])) → Related start (slice_set agents t (Some (running (first_of path) p))) None (becomes c t (Some p)) (tr ++ shown (f ∷ [])) (record s { facts = adds (slice_set s.facts k None) (state_fact (first_of path) [] ∷ []) }) (full ++ (event_fact ∷ f ∷ []) ∷ [])
   kept_event t k path f p free e g =
       let here = r.placed t (running path (event f p)) e in
       let old = Some (running path (event f p)) in
@@ -154,7 +154,7 @@ module _ (start : Proc) (agents : List (Option Agent)) (c : Config) (tr : Trace)
   }
 
 -- the process shows the K event that waits
-pub kept_flush : (start : Proc) (agents : List (Option Agent)) (x : Tree) (c : Config) (tr : Trace) (s : RuleState) (full : Trace) → Related start agents (Some x) c tr s full → Related start agents None c (tr ++ shown (k_fact x ∷ [])) s full
+pub kept_flush : (start : Built) (agents : List (Option Agent)) (x : Tree) (c : Config) (tr : Trace) (s : RuleState) (full : Trace) → Related start agents (Some x) c tr s full → Related start agents None c (tr ++ shown (k_fact x ∷ [])) s full
 kept_flush start agents x c tr s full r = record {
   placed = r.placed;
   threads = r.threads;
@@ -166,7 +166,7 @@ kept_flush start agents x c tr s full r = record {
 }
 
 -- the rules learn a public name
-pub kept_public : (start : Proc) (agents : List (Option Agent)) (pending : Option Tree) (c : Config) (tr : Trace) (s : RuleState) (full : Trace) (n : List ℕ) → Related start agents pending c tr s full → Related start agents pending c tr (record s { known = public n ∷ s.known }) (full ++ [] ∷ [])
+pub kept_public : (start : Built) (agents : List (Option Agent)) (pending : Option Tree) (c : Config) (tr : Trace) (s : RuleState) (full : Trace) (n : List ℕ) → Related start agents pending c tr s full → Related start agents pending c tr (record s { known = public n ∷ s.known }) (full ++ [] ∷ [])
 kept_public start agents pending c tr s full n r = record {
   placed = r.placed;
   threads = r.threads;

@@ -1,3 +1,4 @@
+pub mod Sites
 pub mod Joins
 pub mod Totals
 pub mod Lookups

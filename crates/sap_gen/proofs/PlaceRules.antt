@@ -1,7 +1,7 @@
 -- The rules of a process are those of its places.
 use Rattle.std.proofs.Common.{◌≡◌, ℕ, zero, suc, List, [], ◌∷◌, ◌++◌, Option, Some, None, refl, sym, ap, ◌∙◌, subst, append_assoc, append-nil}
 use Rattle.sap_terms.specs.declared.var.Var.{Var}
-use Rattle.sap_process.specs.Proc.{Proc, nil, parallel, event}
+use Rattle.sap_gen.specs.Built.{Built, nil, parallel, event}
 use Rattle.sap_rule.specs.declared.rule.Rule.{Rule}
 use Rattle.sap_gen.specs.Members.{Member}
 use Rattle.sap_gen.specs.Places.{Spot, bare, root, first_child, second_child, child, spot_at}
@@ -20,7 +20,7 @@ abbrev kid_rules : Option Spot → List ℕ → List Rule
 kid_rules None path = []
 kid_rules (Some s) path = place_rules path s.scope s.body
 
-place_rules_are : (path : List ℕ) (scope : List Var) (p : Proc) → place_rules path scope p ≡ own_rules path scope p ++ (kid_rules (first_child scope p) (first_of path) ++ kid_rules (second_child scope p) (second_of path))
+place_rules_are : (path : List ℕ) (scope : List Var) (p : Built) → place_rules path scope p ≡ own_rules path scope p ++ (kid_rules (first_child scope p) (first_of path) ++ kid_rules (second_child scope p) (second_of path))
 place_rules_are path scope nil = refl
 place_rules_are path scope (parallel p q) = refl
 place_rules_are path scope (event f p) =
@@ -63,7 +63,7 @@ source_below s k d prefix r e h = record {
   own = rw append_assoc at h.own;
 }
 
-source : (scope : List Var) (p : Proc) (prefix : List ℕ) (r : Rule) → Member r (place_rules prefix scope p) → Source (record { scope = scope; body = p }) prefix r
+source : (scope : List Var) (p : Built) (prefix : List ℕ) (r : Rule) → Member r (place_rules prefix scope p) → Source (record { scope = scope; body = p }) prefix r
 source scope nil prefix r m = source_here (record { scope = scope; body = nil }) prefix r m
 source scope (parallel p q) prefix r m =
     let s : Spot = record { scope = scope; body = parallel p q } in
@@ -86,13 +86,13 @@ child_scope : (s k : Spot) (d : ℕ) → child s d ≡ Some k → k.scope ≡ s.
 child_scope s k zero e = cc
 child_scope s k (suc zero) e = first s.body e
   where
-    first : (p : Proc) → first_child s.scope p ≡ Some k → k.scope ≡ s.scope
+    first : (p : Built) → first_child s.scope p ≡ Some k → k.scope ≡ s.scope
     first nil e = cc
     first (parallel p q) e = let same : record { scope = s.scope; body = p } ≡ k = cc in ap (λ (x : Spot). x.scope) (sym same)
     first (event f p) e = let same : record { scope = s.scope; body = p } ≡ k = cc in ap (λ (x : Spot). x.scope) (sym same)
 child_scope s k (suc (suc zero)) e = second s.body e
   where
-    second : (p : Proc) → second_child s.scope p ≡ Some k → k.scope ≡ s.scope
+    second : (p : Built) → second_child s.scope p ≡ Some k → k.scope ≡ s.scope
     second nil e = cc
     second (parallel p q) e = let same : record { scope = s.scope; body = q } ≡ k = cc in ap (λ (x : Spot). x.scope) (sym same)
     second (event f p) e = cc
@@ -104,13 +104,13 @@ spot_scope (Some s) [] b h e = h b e
 spot_scope (Some s) (d ∷ path) b h e = spot_scope (child s d) path b (λ k g. child_scope s k d g ∙ h s refl) e
 
 -- the place that a rule of a process belongs to
-pub record Home (p : Proc) (r : Rule) : Type 0 where
+pub record Home (p : Built) (r : Rule) : Type 0 where
   pub path : List ℕ
-  pub body : Proc
+  pub body : Built
   pub is : spot_at (root p) path ≡ Some (bare body)
   pub own : Member r (own_rules path [] body)
 
-pub home : (p : Proc) (r : Rule) → Member r (place_rules [] [] p) → Home p r
+pub home : (p : Built) (r : Rule) → Member r (place_rules [] [] p) → Home p r
 home p r m =
     let h = source [] p [] r m in
     let empty : h.spot.scope ≡ [] = spot_scope (root p) h.path h.spot (λ s e. let same : bare p ≡ s = cc in ap (λ (x : Spot). x.scope) (sym same)) h.is in

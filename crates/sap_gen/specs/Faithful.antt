@@ -2,7 +2,7 @@
 use Rattle.std.specs.Prelude.{◌≡◌, false, List, [], ◌∷◌}
 use Rattle.sap_terms.specs.Reserved.{is_reserved}
 use Rattle.sap_terms.specs.declared.fact.Fact.{Fact}
-use Rattle.sap_process.specs.Proc.{Proc, events}
+use Rattle.sap_gen.specs.Built.{Built, events}
 use Rattle.sap_rule.specs.declared.rule.Rule.{Rule}
 use Rattle.sap_gen.specs.ProcessSteps.{IsProcessTrace}
 use Rattle.sap_terms.specs.Trace.{Trace}
@@ -14,13 +14,13 @@ AreFree [] = Unit {0}
 AreFree (f ∷ fs) = (is_reserved f.name ≡ false) × AreFree fs
 
 -- no event of the process has a reserved name
-abbrev pub NoReservedEvents : Proc → Type 0
+abbrev pub NoReservedEvents : Built → Type 0
 NoReservedEvents p = AreFree (events p)
 
 -- each trace of the process is seen of an admitted run of the rules
-abbrev pub ShowsAll : Proc → List Rule → Type 0
+abbrev pub ShowsAll : Built → List Rule → Type 0
 ShowsAll p rules = (tr : Trace) → IsProcessTrace p tr → IsVisibleTrace rules tr
 
 -- and nothing else is
-abbrev pub ShowsOnly : Proc → List Rule → Type 0
+abbrev pub ShowsOnly : Built → List Rule → Type 0
 ShowsOnly p rules = (tr : Trace) → IsVisibleTrace rules tr → IsProcessTrace p tr

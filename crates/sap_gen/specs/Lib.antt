@@ -1,6 +1,9 @@
 pub use Rattle.sap_process.specs.Proc
 pub use Rattle.sap_terms.specs.Tree
 pub use Rattle.sap_terms.specs.Reserved
+pub use Rattle.sap_process.specs.Action
+pub mod Built
+pub mod Sites
 pub mod Members
 pub mod ReservedFacts
 pub mod ProcessSteps

@@ -1,26 +1,26 @@
 -- The places of a process, by their paths.
 use Rattle.std.specs.Prelude.{ℕ, zero, suc, List, [], ◌∷◌, Option, Some, None}
 use Rattle.sap_terms.specs.declared.var.Var.{Var}
-use Rattle.sap_process.specs.Proc.{Proc, nil, parallel, event}
+use Rattle.sap_gen.specs.Built.{Built, nil, parallel, event}
 
 -- a place: the variables in scope, and the process there
 pub record Spot : Type 0 where
   pub scope : List Var
-  pub body : Proc
+  pub body : Built
 
 -- with no variable in scope
-abbrev pub bare : Proc → Spot
+abbrev pub bare : Built → Spot
 bare p = record { scope = []; body = p }
 
-abbrev pub root : Proc → Option Spot
+abbrev pub root : Built → Option Spot
 root p = Some (bare p)
 
-abbrev pub first_child : List Var → Proc → Option Spot
+abbrev pub first_child : List Var → Built → Option Spot
 first_child scope nil = None
 first_child scope (parallel p q) = Some (record { scope = scope; body = p })
 first_child scope (event f p) = Some (record { scope = scope; body = p })
 
-abbrev pub second_child : List Var → Proc → Option Spot
+abbrev pub second_child : List Var → Built → Option Spot
 second_child scope nil = None
 second_child scope (parallel p q) = Some (record { scope = scope; body = q })
 second_child scope (event f p) = None

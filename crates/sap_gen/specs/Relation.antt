@@ -7,7 +7,7 @@ use Rattle.sap_terms.specs.Same.{same_trees}
 use Rattle.sap_terms.specs.Signature.{same_bool}
 use Rattle.sap_terms.specs.Tree.{Tree, trees_of}
 use Rattle.sap_terms.specs.declared.fact.Fact.{Fact}
-use Rattle.sap_process.specs.Proc.{Proc}
+use Rattle.sap_gen.specs.Built.{Built}
 use Rattle.sap_gen.specs.Members.{Member}
 use Rattle.sap_gen.specs.Places.{bare, root, spot_at}
 use Rattle.sap_gen.specs.ProcessSteps.{Config, Deducible}
@@ -30,12 +30,12 @@ total w (x ∷ xs) = w x + total w xs
 -- where a thread stands in the process
 pub data Agent : Type 0 where
   -- before the rule Init
-  unborn : (body : Proc) → Agent
+  unborn : (body : Built) → Agent
   -- at the place with this path
-  running : (path : List ℕ) (body : Proc) → Agent
+  running : (path : List ℕ) (body : Built) → Agent
 
 -- the process that it runs as
-abbrev pub process_of : Agent → Proc
+abbrev pub process_of : Agent → Built
 process_of (unborn body) = body
 process_of (running path body) = body
 
@@ -45,7 +45,7 @@ stands_as (unborn body) = []
 stands_as (running path body) = state_fact path [] ∷ []
 
 -- it stands where the process has what it runs as
-abbrev pub IsPlaced : Proc → Agent → Type 0
+abbrev pub IsPlaced : Built → Agent → Type 0
 IsPlaced p (unborn body) = body ≡ p
 IsPlaced p (running path body) = spot_at (root p) path ≡ Some (bare body)
 
@@ -82,7 +82,7 @@ pending_place None = []
 pending_place (Some x) = (k_fact x ∷ []) ∷ []
 
 -- each thread stands at its place
-abbrev pub AllPlaced : Proc → List (Option Agent) → Type 0
+abbrev pub AllPlaced : Built → List (Option Agent) → Type 0
 AllPlaced p agents = (t : ℕ) (a : Agent) → slice_get agents t ≡ Some (Some a) → IsPlaced p a
 
 -- the threads run as their agents do
@@ -100,7 +100,7 @@ AllKnown c s = (x : Tree) → Member x s.known → Deducible c x
 abbrev pub PendingKnown : Config → Option Tree → Type 0
 PendingKnown c pending = (x : Tree) → pending ≡ Some x → Deducible c x
 
-pub record Related (p : Proc) (agents : List (Option Agent)) (pending : Option Tree) (c : Config) (tr : Trace) (s : RuleState) (full : Trace) : Type 0 where
+pub record Related (p : Built) (agents : List (Option Agent)) (pending : Option Tree) (c : Config) (tr : Trace) (s : RuleState) (full : Trace) : Type 0 where
   pub placed : AllPlaced p agents
   pub threads : SameThreads agents c
   pub facts : SameFacts agents s

@@ -3,7 +3,7 @@ use Rattle.std.specs.Prelude.{ℕ, ◌+◌, List, [], ◌∷◌, ◌++◌, map, 
 use Rattle.sap_terms.specs.Tree.{variable}
 use Rattle.sap_terms.specs.declared.var.Var.{Var}
 use Rattle.sap_terms.specs.declared.fact.Fact.{Fact}
-use Rattle.sap_process.specs.Proc.{Proc, nil, parallel, event}
+use Rattle.sap_gen.specs.Built.{Built, nil, parallel, event}
 use Rattle.sap_rule.specs.declared.rule.Rule.{Rule}
 use Rattle.sap_terms.specs.AdversaryFacts.{linear}
 use Rattle.sap_gen.specs.ReservedFacts.{init_fact, event_fact}
@@ -48,13 +48,13 @@ event_rule path scope f = record {
 }
 
 -- the rules of the place at this path
-abbrev pub own_rules : List ℕ → List Var → Proc → List Rule
+abbrev pub own_rules : List ℕ → List Var → Built → List Rule
 own_rules path scope nil = nil_rule path scope ∷ []
 own_rules path scope (parallel p q) = parallel_rule path scope ∷ []
 own_rules path scope (event f p) = event_rule path scope f ∷ []
 
 -- the rules of the places from this path on, in preorder
-abbrev pub place_rules : List ℕ → List Var → Proc → List Rule
+abbrev pub place_rules : List ℕ → List Var → Built → List Rule
 place_rules path scope nil = own_rules path scope nil
 place_rules path scope (parallel p q) =
     own_rules path scope (parallel p q) ++ (place_rules (first_of path) scope p ++ place_rules (second_of path) scope q)
@@ -68,5 +68,5 @@ init_rule = record {
   right = state_fact [] [] ∷ [];
 }
 
-abbrev pub rules_of : Proc → List Rule
+abbrev pub rules_of : Built → List Rule
 rules_of p = init_rule ∷ place_rules [] [] p

@@ -1,5 +1,6 @@
-ghost use Rattle.std.specs.Prelude.{◌≡◌, [], ◌∷◌, ◌++◌, IfOk, OnOk};
+ghost use Rattle.std.specs.Prelude.{◌≡◌, [], ◌∷◌, ◌++◌, IfOk, OnOk, Some};
 ghost use Rattle.sap_process.specs.Proc.{proc};
+ghost use Rattle.sap_gen.specs.Built.{Built, built, IsBuilt};
 ghost use Rattle.sap_gen.specs.Templates.{place_rules, rules_of};
 
 use crate::place::{event_rule, init_rule, nil_rule, parallel_rule, path_below};
@@ -8,11 +9,12 @@ use sap_rule::RuleList;
 use sap_terms::{Items, Mem, Path, Signature};
 use std::alloc::Global;
 
-/// The rules of a process: `Init`, and then those of its places in preorder. Want of memory is the only error.
+/// The rules of a built process: `Init`, and then those of its places in preorder. Want of memory is the only error.
 ///
-/// No form of today looks at the signature.
+/// `first_unbuilt` tells which processes are built. No form of today looks at the signature.
 pub fn generate(alloc: Global, _sig: &Signature, p: &Process) -> Result<RuleList, Mem>
-    ensures { IfOk result (λ rules. rules ≡ rules_of (proc p.now)) }
+    requires { IsBuilt (proc p.now) }
+    ensures { IfOk result (λ rules. (b : Built) → built (proc p.now) ≡ Some b → rules ≡ rules_of b) }
 {
     let mut rules = Items::new(alloc);
     rules.push(init_rule(alloc)?)?;
@@ -21,9 +23,9 @@ pub fn generate(alloc: Global, _sig: &Signature, p: &Process) -> Result<RuleList
     Ok(rules)
 }
 
-/// Puts the rules of the places from this path on last.
+/// Puts the rules of the places from this path on last, where the process is built.
 fn add_places(alloc: Global, path: &Path, p: &Process, rules: &mut RuleList) -> Result<(), Mem>
-    ensures { OnOk result (rules.new ≡ rules.old ++ place_rules path.now [] (proc p.now)) }
+    ensures { OnOk result ((b : Built) → built (proc p.now) ≡ Some b → rules.new ≡ rules.old ++ place_rules path.now [] b) }
 {
     match p {
         Process::Nil => rules.push(nil_rule(alloc, path)?),
@@ -38,7 +40,9 @@ fn add_places(alloc: Global, path: &Path, p: &Process, rules: &mut RuleList) -> 
         Process::Event(fact, next) => {
             rules.push(event_rule(alloc, path, fact)?)?;
             let first = path_below(alloc, path, 1)?;
-            add_places(alloc, &first, next, rules)
+            add_places(alloc, &first, next, rules)?;
+            Ok(())
         }
+        _ => Ok(()),
     }
 }

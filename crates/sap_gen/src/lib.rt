@@ -4,9 +4,11 @@
 mod faithful;
 mod generation;
 mod place;
+mod unbuilt;
 
 pub use faithful::rules_show_the_process;
 pub use generation::generate;
+pub use unbuilt::first_unbuilt;
 
 #[cfg(test)]
 mod tests;
