@@ -1,12 +1,15 @@
 -- What the bytes of a file are read as.
-use Rattle.std.specs.Prelude.{◌≡◌, ℕ, List, Option, Some, None, Result, Ok, Err}
+use Rattle.std.specs.Prelude.{◌≡◌, ℕ, List, [], Option, Some, None, Result, Ok, Err}
 use Rattle.sap_text.specs.declared.fault.Lex.{Lex}
 use Rattle.sap_text.specs.declared.token.Token.{Token}
 use Rattle.sap_text.specs.Tokens.{IsLexed}
 use Rattle.sap_terms.specs.Signature.{Sig}
 use Rattle.sap_process.specs.Proc.{Proc}
+use Rattle.sap_process.specs.Flaws.{IsFirstFlaw, IsWellFormed}
+use Rattle.sap_process.specs.Sorted.{with_sorts}
+use Rattle.sap_process.specs.declared.flaw.Flaw.{Flaw}
 use Rattle.sap_read.specs.declared.fault.ReadFault.{ReadFault}
-use Rattle.sap_read.specs.declared.fault.ReadFault.TheVariants.{Lex as LexFault, Header, Syntax}
+use Rattle.sap_read.specs.declared.fault.ReadFault.TheVariants.{Lex as LexFault, Header, Syntax, Ill}
 use Rattle.sap_read.specs.Item.{Standing, bodies}
 use Rattle.sap_read.specs.Cut.{Placed, placed, IsCut, IsHeader, last_line}
 use Rattle.sap_read.specs.ItemGrammar.{AreItems, IsFaulty}
@@ -39,6 +42,9 @@ pub data IsRead (z : List ℕ) : Result Told ReadFault → Type 0 where
       → IsRead z (Err (Syntax line))
   refused : {ts : List Token} {x : List ℕ} {cut : List (List Placed)} {is : List Standing} {e : ReadFault} → IsParted z ts x cut
       → AreItems (signature_of is) cut is → cause_of is ≡ Some e → IsRead z (Err e)
+  ill : {ts : List Token} {x : List ℕ} {cut : List (List Placed)} {is : List Standing} {p : Proc} {w : Flaw} {path : List ℕ} → IsParted z ts x cut
+      → AreItems (signature_of is) cut is → cause_of is ≡ None → process_of no_meaning (bodies is) ≡ Some p → IsFirstFlaw (signature_of is) p w path
+      → IsRead z (Err (Ill w path))
   accepted : {ts : List Token} {x : List ℕ} {cut : List (List Placed)} {is : List Standing} {p : Proc} → IsParted z ts x cut
-      → AreItems (signature_of is) cut is → cause_of is ≡ None → process_of no_meaning (bodies is) ≡ Some p
-      → IsRead z (Ok (record { name = x; signature = signature_of is; process = p }))
+      → AreItems (signature_of is) cut is → cause_of is ≡ None → process_of no_meaning (bodies is) ≡ Some p → IsWellFormed (signature_of is) p
+      → IsRead z (Ok (record { name = x; signature = signature_of is; process = with_sorts [] p }))

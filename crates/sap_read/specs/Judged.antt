@@ -1,24 +1,45 @@
 -- What is said of a header, and of the items behind it. No public contract cites this file.
-use Rattle.std.specs.Prelude.{◌≡◌, ◌⊎◌, ◌&&◌, ℕ, codes, drop, if◌then◌else◌, List, Option, Some, None}
+use Rattle.std.specs.Prelude.{◌≡◌, ◌⊎◌, ◌&&◌, ℕ, codes, drop, if◌then◌else◌, List, [], Option, Some, None}
 use Rattle.sap_read.specs.Words.{Word, starts}
 use Rattle.sap_read.specs.Reading.{name_at}
 use Rattle.sap_text.specs.declared.token.Token.{Token}
 use Rattle.sap_terms.specs.Signature.{Sig}
 use Rattle.sap_process.specs.Proc.{Proc}
+use Rattle.sap_process.specs.Flaws.{IsFirstFlaw, IsWellFormed}
+use Rattle.sap_process.specs.Sorted.{with_sorts}
+use Rattle.sap_process.specs.declared.flaw.Flaw.{Flaw}
+use Rattle.sap_process.specs.declared.flaw.Ill as declared_ill
+use Rattle.sap_process.specs.declared.flaw.Ill.TheVariants as ill
 use Rattle.sap_read.specs.declared.fault.ReadFault.{ReadFault}
-use Rattle.sap_read.specs.declared.fault.ReadFault.TheVariants.{Syntax}
+use Rattle.sap_read.specs.declared.fault.ReadFault.TheVariants.{Mem, Syntax, Ill}
 use Rattle.sap_read.specs.Item.{Standing, bodies}
 use Rattle.sap_read.specs.Cut.{Placed}
 use Rattle.sap_read.specs.ItemGrammar.{AreItems, IsFaulty}
 use Rattle.sap_read.specs.Replaced.{process_of, no_meaning}
 use Rattle.sap_read.specs.Causes.{cause}
 
--- these are items under the signature, and with this clash nothing refuses their process
-pub record IsAccepted (g : Sig) (clash : Option (List ℕ)) (cut : List (List Placed)) (p : Proc) : Type 0 where
+-- these are items under the signature, and with this clash nothing refuses them before their process is looked at
+pub record IsWhole (g : Sig) (clash : Option (List ℕ)) (cut : List (List Placed)) (p : Proc) : Type 0 where
   pub standing : List Standing
   pub items : AreItems g cut standing
   pub nothing : cause (bodies standing) clash ≡ None
   pub whole : process_of no_meaning (bodies standing) ≡ Some p
+
+-- their process has no flaw, and this is it with its sorts
+pub record IsAccepted (g : Sig) (clash : Option (List ℕ)) (cut : List (List Placed)) (q : Proc) : Type 0 where
+  pub process : Proc
+  pub whole : IsWhole g clash cut process
+  pub well_formed : IsWellFormed g process
+  pub sorted : q ≡ with_sorts [] process
+
+-- their process has this flaw, which counts
+pub record IsIll (g : Sig) (clash : Option (List ℕ)) (cut : List (List Placed)) (e : ReadFault) : Type 0 where
+  pub process : Proc
+  pub whole : IsWhole g clash cut process
+  pub which : Flaw
+  pub path : List ℕ
+  pub is : e ≡ Ill which path
+  pub flaw : IsFirstFlaw g process which path
 
 -- these are items under the signature, and the first cause that refuses them is this
 pub record IsRefusedAs (g : Sig) (clash : Option (List ℕ)) (cut : List (List Placed)) (e : ReadFault) : Type 0 where
@@ -33,8 +54,13 @@ pub record IsNoItem (last : ℕ) (cut : List (List Placed)) (e : ReadFault) : Ty
   pub faulty : IsFaulty last cut line
 
 abbrev pub IsRefused : Sig → Option (List ℕ) → ℕ → List (List Placed) → ReadFault → Type 0
-IsRefused g clash last cut e = IsNoItem last cut e ⊎ IsRefusedAs g clash cut e
+IsRefused g clash last cut e = IsNoItem last cut e ⊎ IsRefusedAs g clash cut e ⊎ IsIll g clash cut e
 
 -- the name in the header that these words begin with
 abbrev pub header_of : List Word → Option (List ℕ)
 header_of ws = if starts (codes "theory") ws && starts (codes "begin") (drop 2 ws) then name_at (drop 1 ws) else None
+
+-- the fault of a file whose process isn't well-formed
+abbrev pub fault_of : declared_ill.Ill → ReadFault
+fault_of ill.Mem = Mem
+fault_of (ill.At w path) = Ill w path

@@ -1,4 +1,5 @@
-use sap_terms::{Mem, Name};
+use sap_process::{Flaw, Ill};
+use sap_terms::{Mem, Name, Path};
 use sap_text::Lex;
 
 /// Why a file is refused. Of the causes that hold, the one that stands first here is answered; want of memory, which
@@ -28,6 +29,8 @@ pub enum ReadFault {
     TooMany,
     /// That process has more than 300 levels.
     TooDeep,
+    /// That process isn't well-formed: the flaw that counts, and the path of its first place.
+    Ill { which: Flaw, path: Path },
 }
 
 impl From<Mem> for ReadFault {
@@ -38,5 +41,19 @@ impl From<Mem> for ReadFault {
 
     fn from(_e: Mem) -> ReadFault {
         ReadFault::Mem
+    }
+}
+
+impl From<Ill> for ReadFault {
+    ghost use Rattle.std.specs.Prelude.{◌≡◌};
+    ghost use Rattle.sap_read.specs.Judged.{fault_of};
+
+    ghost from_gives = { λ i e. e ≡ fault_of i };
+
+    fn from(i: Ill) -> ReadFault {
+        match i {
+            Ill::Mem => ReadFault::Mem,
+            Ill::At { which, path } => ReadFault::Ill { which, path },
+        }
     }
 }

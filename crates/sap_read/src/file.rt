@@ -1,22 +1,25 @@
-ghost use Rattle.std.specs.Prelude.{◌≡◌, ℕ, List, [], Ok, Err, IfOk, IsErrOf};
+ghost use Rattle.std.specs.Prelude.{◌≡◌, ◌⊎◌, ℕ, List, [], Ok, Err, IfOk, IsErrOf};
 ghost use Rattle.std.specs.Option.{option_copied};
 ghost use Rattle.sap_text.specs.Tokens.{IsLexed};
 ghost use Rattle.sap_text.specs.declared.fault.Lex.{Lex};
 ghost use Rattle.sap_read.specs.Cut.{Placed, placed, IsCut, last_line};
 ghost use Rattle.sap_read.specs.Words.{words_of};
-ghost use Rattle.sap_read.specs.Judged.{IsAccepted, IsRefused, header_of};
+ghost use Rattle.sap_read.specs.Judged.{IsAccepted, IsNoItem, IsRefused, IsRefusedAs, IsWhole, header_of};
 ghost use Rattle.sap_read.specs.Files.{AreTokens};
 ghost use Rattle.sap_process.specs.Proc.{proc};
+ghost use Rattle.sap_process.specs.Flaws.{IsFirstFlaw, IsWellFormed};
+ghost use Rattle.sap_process.specs.Sorted.{with_sorts};
+ghost use Rattle.sap_process.specs.declared.flaw.Flaw.{Flaw};
 ghost use Rattle.sap_read.specs.Files.{IsRead};
 ghost use Rattle.sap_read.specs.declared.fault.ReadFault.{ReadFault};
-ghost use Rattle.sap_read.specs.declared.fault.ReadFault.TheVariants.{Mem as OutOfMemory, Lex as LexFault};
+ghost use Rattle.sap_read.specs.declared.fault.ReadFault.TheVariants.{Mem as OutOfMemory, Lex as LexFault, Ill as IllFault};
 
 use crate::fault::ReadFault;
 use crate::items::{Declared, read_declarations, read_items};
 use crate::look::{beyond, name_at, starts};
 use crate::whole::whole_process;
 use sap_formula::{LemmaList, RestrictionList};
-use sap_process::Process;
+use sap_process::{Process, well_formed};
 use sap_terms::{Name, Signature};
 use sap_text::{Lex, Token, tokens};
 use std::alloc::Global;
@@ -32,8 +35,8 @@ pub struct File {
 }
 
 /// The file of these bytes, or the first cause that refuses it, in the order of `ReadFault`. Names of processes are
-/// replaced by what they stand for; an identifier is a constant where any item of the file declares it so. Restrictions and
-/// lemmas are in no grammar yet, so both lists are empty.
+/// replaced by what they stand for; an identifier is a constant where any item of the file declares it so; each variable has
+/// the sort of its binder. Restrictions and lemmas are in no grammar yet, so both lists are empty.
 ///
 /// The time and the memory are linear in the bytes and in what is written of the process; what is too large is counted, and
 /// never built.
@@ -82,6 +85,33 @@ fn read_process_of(
     ensures accepted { IfOk result (λ p. (cut : List (List Placed)) → IsCut (placed bytes.now tokens.now) cut → IsAccepted sig.now clash cut (proc p)) }
     ensures refused { (e : ReadFault) → IsErrOf result e → (e ≡ OutOfMemory → ⊥) → (cut : List (List Placed)) → IsCut (placed bytes.now tokens.now) cut
         → IsRefused sig.now clash last cut e }
+{
+    let process = read_whole(alloc, sig, clash, bytes, tokens, last)?;
+    sort(alloc, sig, &process)
+}
+
+/// The process with its sorts, where it is well-formed.
+fn sort(alloc: Global, sig: &Signature, p: &Process) -> Result<Process, ReadFault>
+    ensures accepted { IfOk result (λ q. IsWellFormed sig.now (proc p.now) × (proc q ≡ with_sorts [] (proc p.now))) }
+    ensures refused { (e : ReadFault) → IsErrOf result e → (e ≡ OutOfMemory → ⊥)
+        → (w : Flaw) × (path : List ℕ) × (e ≡ IllFault w path) × IsFirstFlaw sig.now (proc p.now) w path }
+{
+    let sorted = well_formed(alloc, sig, p)?;
+    Ok(sorted)
+}
+
+/// The process that the items write, before it is looked at.
+fn read_whole(
+    alloc: Global,
+    sig: &Signature,
+    clash: Option<Name>,
+    bytes: &[u8],
+    tokens: &[Token],
+    last: u64,
+) -> Result<Process, ReadFault>
+    ensures accepted { IfOk result (λ p. (cut : List (List Placed)) → IsCut (placed bytes.now tokens.now) cut → IsWhole sig.now clash cut (proc p)) }
+    ensures refused { (e : ReadFault) → IsErrOf result e → (e ≡ OutOfMemory → ⊥) → (cut : List (List Placed)) → IsCut (placed bytes.now tokens.now) cut
+        → IsNoItem last cut e ⊎ IsRefusedAs sig.now clash cut e }
 {
     let entries = read_items(alloc, sig, bytes, tokens, last)?;
     whole_process(alloc, &entries, clash)

@@ -25,7 +25,7 @@ returns-in_default-clause-refused c = λ e h n.
 -- what the items behind a header declare, where they are read from the tokens behind it
 told : (z : List ℕ) (ts rest : List Token) (g : Sig) (clash : Option (List ℕ)) → rest ≡ drop 3 ts
     → ((h : Sig) (is : List (List Placed)) (standing : List Standing) → IsCut (placed z rest) is → AreItems h is standing
-        → (g ≡ signature_of standing) × (clash ≡ clash_from pairs_alone (declarations standing)))
+    → (g ≡ signature_of standing) × (clash ≡ clash_from pairs_alone (declarations standing)))
     → IsDeclared z ts g clash
 told z ts rest g clash same d = λ h is standing r a. d h is standing (subst (λ (us : List Token). IsCut (placed z us) is) (sym same) r) a
 
@@ -52,7 +52,10 @@ returns-clause-accepted c =
     let rest = c.beyond-rest.result.now in
     let g = c.in_ok-signature.field-0.signature in
     let clash = c.in_ok-signature.field-0.clash in
-    let found = sym c.header_name.ensures ∙ ap option_copied c.in-Some.is ∙ ap Some (sym c.in_ok-name.ensures) in
-    (is_accepted z ts c.in_ok-name.name g clash (proc c.in_ok-process.process) c.requires found
-    (told z ts rest g clash c.beyond-rest.ensures c.in_ok-signature.ensures)
-    (c.in_ok-process.ensures.accepted (items_of z ts) (cut_behind z ts rest c.beyond-rest.ensures)), c.new.ensures, c.new-2.ensures)
+    let found = sym c.header_name.ensures ∙ ap option_copied c.in-Some.is ∙ ap Some (sym c.in_ok-name.ensures) in (
+      is_accepted z ts c.in_ok-name.name g clash (proc c.in_ok-process.process) c.requires found
+          (told z ts rest g clash c.beyond-rest.ensures c.in_ok-signature.ensures)
+          (c.in_ok-process.ensures.accepted (items_of z ts) (cut_behind z ts rest c.beyond-rest.ensures)),
+      c.new.ensures,
+      c.new-2.ensures,
+    )
