@@ -9,3 +9,5 @@ pub mod Processes
 pub mod ByHand
 pub mod SoundProcesses
 pub mod Signatures
+pub mod Meaning
+pub mod Kept

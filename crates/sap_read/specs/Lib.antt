@@ -19,3 +19,4 @@ pub mod Files
 pub mod Reading
 pub mod View
 pub mod ProcessExamples
+pub mod Meaning

@@ -8,6 +8,7 @@ mod file;
 mod items;
 mod laws;
 mod look;
+mod names;
 mod process;
 mod term;
 #[cfg(test)]
