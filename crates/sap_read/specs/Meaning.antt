@@ -1,5 +1,5 @@
 -- What names of processes mean, and what the program keeps of it. No public contract cites this file.
-use Rattle.std.specs.Prelude.{◌≡◌, ℕ, ◌+◌, ◌-◌, ◌^◌, max, min, Bool, true, false, List, [], ◌∷◌, ◌++◌, Option, Some, None, if◌then◌else◌, map, slice_get, is_some}
+use Rattle.std.specs.Prelude.{◌≡◌, ℕ, ◌+◌, ◌-◌, ◌^◌, max, min, Bool, true, false, List, [], ◌∷◌, Option, Some, None, if◌then◌else◌, map, drop, slice_get, is_some}
 use Rattle.std.specs.Str.{bytes_eq}
 use Rattle.indexmap.specs.IndexMap.{IndexMap, get}
 use Rattle.sap_process.specs.Proc as whole
@@ -9,6 +9,7 @@ use Rattle.sap_read.specs.declared.names.Meant.{Meant}
 use Rattle.sap_read.specs.Written.{Written, nil, call, parallel, replicated, act, test, lookup}
 use Rattle.sap_read.specs.Item.{Body}
 use Rattle.sap_read.specs.Replaced.{replaced, after_body, no_meaning}
+use Rattle.sap_read.specs.Causes.{unknown_from, is_among}
 use Rattle.sap_read.specs.Drafts.{written, body}
 
 -- what names mean behind these processes, where they mean this before them
@@ -110,3 +111,10 @@ AreCounted names means = (x : List ℕ) → IsCounted (get bytes_eq names x) (me
 abbrev pub AreTargets : {S : Type 0} → List Entry → IndexMap (List ℕ) Meant S → Type 0
 AreTargets es names =
     (means : List ℕ → Proc) → AreMeant means (map body es) → (x : List ℕ) (m : Meant) → get bytes_eq names x ≡ Some m → IsTarget means es x m.place
+
+-- what is kept of names behind the first processes of a file
+pub record AreBehind {S : Type 0} (es : List Entry) (k : ℕ) (names : IndexMap (List ℕ) Meant S) : Type 0 where
+  -- each is defined by them
+  pub known : (ks : List (List ℕ)) × (unknown_from [] (map body es) ≡ unknown_from ks (map body (drop k es))) × ((x : List ℕ) → is_some (get bytes_eq names x) ≡ is_among ks x)
+  pub counted : (means : List ℕ → Proc) × (meaning_of es ≡ meaning means (map body (drop k es))) × AreCounted names means
+  pub targets : AreTargets es names
