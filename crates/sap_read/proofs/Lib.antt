@@ -11,3 +11,5 @@ pub mod SoundProcesses
 pub mod Signatures
 pub mod Meaning
 pub mod Kept
+pub mod Labelled
+pub mod Caused

@@ -20,3 +20,4 @@ pub mod Reading
 pub mod View
 pub mod ProcessExamples
 pub mod Meaning
+pub mod Label

@@ -118,3 +118,11 @@ pub record AreBehind {S : Type 0} (es : List Entry) (k : ℕ) (names : IndexMap 
   pub known : (ks : List (List ℕ)) × (unknown_from [] (map body es) ≡ unknown_from ks (map body (drop k es))) × ((x : List ℕ) → is_some (get bytes_eq names x) ≡ is_among ks x)
   pub counted : (means : List ℕ → Proc) × (meaning_of es ≡ meaning means (map body (drop k es))) × AreCounted names means
   pub targets : AreTargets es names
+
+-- what is kept of a name tells what it means: that of its target, and `0` where nothing is kept
+abbrev pub IsExpanded : List Entry → List ℕ → Option Meant → Type 0
+IsExpanded es x None = meaning_of es x ≡ whole.nil
+IsExpanded es x (Some m) = IsTarget (meaning_of es) es x m.place
+
+abbrev pub AreExpanded : {S : Type 0} → List Entry → IndexMap (List ℕ) Meant S → Type 0
+AreExpanded es names = (x : List ℕ) → IsExpanded es x (get bytes_eq names x)

@@ -2,10 +2,12 @@
 #![tactic(auto)]
 
 mod draft;
+mod expansion;
 mod fact;
 mod fault;
 mod file;
 mod items;
+mod labels;
 mod laws;
 mod look;
 mod names;
