@@ -1,10 +1,12 @@
 -- What names of processes mean, and what the program keeps of it. No public contract cites this file.
-use Rattle.std.specs.Prelude.{◌≡◌, ℕ, ◌+◌, ◌-◌, ◌^◌, max, min, Bool, true, false, List, [], ◌∷◌, Option, Some, None, if◌then◌else◌, map, drop, slice_get, is_some}
+use Rattle.std.specs.Prelude.{◌≡◌, ℕ, ◌+◌, ◌-◌, ◌^◌, max, min, Bool, true, false, List, [], ◌∷◌, Option, Some, None, if◌then◌else◌, map, drop, slice_get, is_some, nat_lt}
 use Rattle.std.specs.Str.{bytes_eq}
 use Rattle.indexmap.specs.IndexMap.{IndexMap, get}
 use Rattle.sap_process.specs.Proc as whole
 use Rattle.sap_process.specs.Proc.{Proc, node_count, level_count}
 use Rattle.sap_read.specs.declared.draft.Entry.{Entry}
+use Rattle.sap_read.specs.declared.fault.ReadFault.{ReadFault}
+use Rattle.sap_read.specs.declared.fault.ReadFault.TheVariants.{TooMany, TooDeep}
 use Rattle.sap_read.specs.declared.names.Meant.{Meant}
 use Rattle.sap_read.specs.Written.{Written, nil, call, parallel, replicated, act, test, lookup}
 use Rattle.sap_read.specs.Item.{Body}
@@ -126,3 +128,7 @@ IsExpanded es x (Some m) = IsTarget (meaning_of es) es x m.place
 
 abbrev pub AreExpanded : {S : Type 0} → List Entry → IndexMap (List ℕ) Meant S → Type 0
 AreExpanded es names = (x : List ℕ) → IsExpanded es x (get bytes_eq names x)
+
+-- the cause that a process of so many places and levels gives
+abbrev pub size_fault : ℕ → ℕ → Option ReadFault
+size_fault nodes levels = if nat_lt 4000 nodes then Some TooMany else (if nat_lt 300 levels then Some TooDeep else None)
