@@ -1,12 +1,11 @@
 -- Which cause comes first.
-use Rattle.std.proofs.Common.{◌≡◌, ℕ, ◌-◌, ◌^◌, ◌≤◌, ◌<◌, min, List, [], ◌∷◌, Bool, true, false, Option, Some, None, refl, sym, ap, ◌∙◌, arith, map}
+use Rattle.std.proofs.Common.{◌≡◌, ℕ, ◌-◌, ◌^◌, ◌≤◌, ◌<◌, min, List, [], ◌∷◌, Bool, true, false, Option, Some, None, refl, sym, ◌∙◌, arith, map}
 use Rattle.std.specs.Prelude.{nat_lt, if◌then◌else◌}
 use Rattle.std.specs.Str.{bytes_eq}
 use Rattle.std.proofs.lemmas.Bool.{lt-ltb, le-ltb, ltb-true, ltb-false}
 use Rattle.indexmap.specs.IndexMap.{IndexMap, get}
 use Rattle.sap_process.specs.Proc.{Proc, node_count, level_count}
 use Rattle.sap_read.specs.declared.draft.Entry.{Entry}
-use Rattle.sap_read.specs.declared.fault.ReadFault.{ReadFault}
 use Rattle.sap_read.specs.declared.fault.ReadFault.TheVariants.{NoProcess, TwoProcesses, UnknownProcess, DuplicateName, FunctionClash, TooMany, TooDeep}
 use Rattle.sap_read.specs.declared.names.Meant.{Meant}
 use Rattle.sap_read.specs.Item.{Body}
@@ -43,15 +42,6 @@ no_process bs clash e = rw e refl
 
 pub two_processes : (bs cs : List Body) (b c : Body) (clash : Option (List ℕ)) → unlabelled bs ≡ b ∷ c ∷ cs → cause bs clash ≡ Some (TwoProcesses c.place)
 two_processes bs cs b c clash e = rw e refl
-
-pub unknown_name : (bs : List Body) (b : Body) (clash : Option (List ℕ)) (x : List ℕ) → unlabelled bs ≡ b ∷ [] → unknown_from [] bs ≡ Some x → cause bs clash ≡ Some (UnknownProcess x)
-unknown_name bs b clash x e u = rw (e, u) refl
-
-pub name_twice : (bs : List Body) (b : Body) (clash : Option (List ℕ)) (x : List ℕ) → unlabelled bs ≡ b ∷ [] → unknown_from [] bs ≡ None → first_repeated (labels bs) ≡ Some x → cause bs clash ≡ Some (DuplicateName x)
-name_twice bs b clash x e u d = rw (e, u, d) refl
-
-pub clashing : (bs : List Body) (b : Body) (x : List ℕ) → unlabelled bs ≡ b ∷ [] → unknown_from [] bs ≡ None → first_repeated (labels bs) ≡ None → cause bs (Some x) ≡ Some (FunctionClash x)
-clashing bs b x e u d = rw (e, u, d) refl
 
 -- where nothing else is wrong, the size of the process decides
 pub by_size : (bs : List Body) (b : Body) (p : Proc) → unlabelled bs ≡ b ∷ [] → unknown_from [] bs ≡ None → first_repeated (labels bs) ≡ None → process_of no_meaning bs ≡ Some p → cause bs None ≡ size_fault (node_count p) (level_count p)

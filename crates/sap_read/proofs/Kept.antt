@@ -1,7 +1,7 @@
 -- What is kept of names, and what they mean.
 use Rattle.std.proofs.Common.{◌≡◌, ℕ, ◌+◌, ◌-◌, ◌^◌, ◌≤◌, min, max, zero, suc, List, [], ◌∷◌, ◌++◌, Bool, true, false, not, ◌||◌, Option, Some, None, refl, sym, ap, subst, ◌∙◌, arith, map, drop, length, add-one}
-use Rattle.std.specs.Prelude.{if◌then◌else◌, slice_get, is_some, is_none}
-use Rattle.std.specs.List.{list_any, find}
+use Rattle.std.specs.Prelude.{if◌then◌else◌, slice_get, is_some}
+use Rattle.std.specs.List.{find}
 use Rattle.std.specs.Option.{option_map}
 use Rattle.std.specs.Str.{bytes_eq}
 use Rattle.std.proofs.lemmas.List.{drop_all}
@@ -19,7 +19,7 @@ use Rattle.sap_read.specs.Written.{Written, nil, call, parallel, replicated, act
 use Rattle.sap_read.specs.Replaced.{calls, replaced, after_body, no_meaning}
 use Rattle.sap_read.specs.Causes.{first_of, listed, is_among, unknown_from}
 use Rattle.sap_read.specs.Drafts.{written, body}
-use Rattle.sap_read.specs.Meaning.{meaning, meaning_of, AreMeant, nodes_kept, nodes_in, levels_kept, levels_in, unknown_among, place_kept, target, meant, kept_behind, IsCounted, AreCounted, is_call, IsTarget, AreTargets, AreBehind}
+use Rattle.sap_read.specs.Meaning.{meaning, meaning_of, AreMeant, nodes_kept, nodes_in, levels_kept, levels_in, unknown_among, place_kept, target, meant, kept_behind, IsCounted, AreCounted, is_call, IsTarget, AreBehind}
 
 -- the first unknown name of two lists
 pub unknown_append : {S : Type 0} (names : IndexMap (List ℕ) Meant S) (xs ys : List (List ℕ)) → unknown_among names (xs ++ ys) ≡ (if is_some (unknown_among names xs) then unknown_among names xs else unknown_among names ys)
@@ -208,11 +208,3 @@ behind_fault es k e names h there f is = by (unknown_among names (calls (written
   by None q = absurd (let no_fault : option_map UnknownProcess (unknown_among names (calls (written e.draft))) ≡ None = ap (option_map UnknownProcess) q in cc)
   by (Some x) q =
       ap (option_map UnknownProcess) (behind_unknown es k e names h there x q ∙ sym q) ∙ is
-
--- behind all of them
-pub behind_known : {S : Type 0} (es : List Entry) (k : ℕ) (names : IndexMap (List ℕ) Meant S) → AreBehind es k names → length es ≤ k → unknown_from [] (map body es) ≡ None
-behind_known es k names h far = h.known.1 ∙ ap (λ (xs : List Entry). unknown_from h.known.0 (map body xs)) (drop_all k es far)
-
-pub behind_counted : {S : Type 0} (es : List Entry) (k : ℕ) (names : IndexMap (List ℕ) Meant S) → AreBehind es k names → length es ≤ k → AreCounted names (meaning_of es)
-behind_counted es k names h far =
-    subst (AreCounted names) (sym (h.counted.1 ∙ ap (λ (xs : List Entry). meaning h.counted.0 (map body xs)) (drop_all k es far))) h.counted.2

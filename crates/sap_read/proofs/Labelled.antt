@@ -1,14 +1,13 @@
 -- The file's process, and the names that are defined twice.
-use Rattle.std.proofs.Common.{◌≡◌, ℕ, ◌+◌, ◌-◌, ◌≤◌, ◌<◌, List, [], ◌∷◌, ◌++◌, Bool, true, false, ◌||◌, Option, Some, None, refl, sym, ap, ◌∙◌, arith, map, drop, length}
+use Rattle.std.proofs.Common.{◌≡◌, ℕ, ◌+◌, ◌≤◌, List, [], ◌∷◌, ◌++◌, Bool, true, false, ◌||◌, Option, Some, None, refl, sym, ap, ◌∙◌, map, drop, length}
 use Rattle.std.specs.Prelude.{if◌then◌else◌, slice_get, is_none}
 use Rattle.std.specs.List.{list_any}
 use Rattle.std.specs.Str.{bytes_eq}
 use Rattle.std.proofs.lemmas.List.{drop_all}
 use Rattle.sap_read.specs.declared.draft.Entry.{Entry}
-use Rattle.sap_read.specs.Item.{Body}
 use Rattle.sap_read.specs.Causes.{unlabelled, listed, labels, is_among, first_repeated}
 use Rattle.sap_read.specs.Drafts.{body}
-use Rattle.sap_read.specs.Label.{IsProcessAt, is_label_in, is_in_more, label_there, label_of, AreSeen}
+use Rattle.sap_read.specs.Label.{is_label_in, is_in_more, label_there, AreSeen}
 use Rattle.sap_read.proofs.Kept.{drop_at}
 
 -- a process with a label is passed over
@@ -20,18 +19,6 @@ passed es k e there labelled =
 pub stopped : (es : List Entry) (k : ℕ) (e : Entry) → slice_get es k ≡ Some e → is_none e.label ≡ true → unlabelled (map body (drop k es)) ≡ body e ∷ unlabelled (map body (drop (k + 1) es))
 stopped es k e there bare =
     ap (λ (xs : List Entry). unlabelled (map body xs)) (drop_at es k e there) ∙ rw bare refl
-
-pub none_left : (es : List Entry) (k : ℕ) → length es ≤ k → unlabelled (map body (drop k es)) ≡ []
-none_left es k far = ap (λ (xs : List Entry). unlabelled (map body xs)) (drop_all k es far)
-
--- before the first label from behind
-pub none_seen : (es : List Entry) (k : ℕ) (names : List (List ℕ)) → length es ≤ k → ((x : List ℕ) → list_any (bytes_eq x) names ≡ false) → AreSeen es k names None
-none_seen es k names far empty =
-    let nothing : labels (map body (drop k es)) ≡ [] = ap (λ (xs : List Entry). labels (map body xs)) (drop_all k es far) in
-    record {
-      seen = λ x. empty x ∙ sym (ap (λ ls. is_among ls x) nothing);
-      first = ap first_repeated nothing;
-    }
 
 seen_label : (names ls : List (List ℕ)) (l : Option (List ℕ)) → ((x : List ℕ) → list_any (bytes_eq x) names ≡ is_among ls x) → (x : List ℕ) → is_in_more names l x ≡ is_among (listed l ++ ls) x
 seen_label names ls None h x = h x

@@ -1,15 +1,15 @@
 -- Where names are distinct, and each stands behind its definition, a name means what its process is.
-use Rattle.std.proofs.Common.{◌≡◌, ℕ, zero, suc, List, [], ◌∷◌, ◌++◌, Bool, true, false, not, ◌||◌, Option, Some, None, refl, sym, ap, subst, ◌∙◌, arith}
-use Rattle.std.specs.Prelude.{if◌then◌else◌, slice_get, is_some, is_none}
-use Rattle.std.specs.List.{list_any, find}
+use Rattle.std.proofs.Common.{◌≡◌, ℕ, zero, suc, List, [], ◌∷◌, ◌++◌, Bool, true, false, not, ◌||◌, Option, Some, None, refl, sym, ap, subst, ◌∙◌}
+use Rattle.std.specs.Prelude.{is_none}
+use Rattle.std.specs.List.{find}
 use Rattle.std.specs.Str.{bytes_eq}
 use Rattle.std.proofs.lemmas.Slice.Eq.{bytes_eq-Decides}
-use Rattle.std.proofs.lemmas.List.Folds.{list_any-append, find-append}
+use Rattle.std.proofs.lemmas.List.Folds.{list_any-append}
 use Rattle.sap_process.specs.Proc as whole
 use Rattle.sap_process.specs.Proc.{Proc}
 use Rattle.sap_read.specs.Written.{Written, nil, call, parallel, replicated, act, test, lookup}
 use Rattle.sap_read.specs.Item.{Body}
-use Rattle.sap_read.specs.Replaced.{calls, replaced, with_meaning, after_body, process_of, no_meaning}
+use Rattle.sap_read.specs.Replaced.{calls, replaced, with_meaning, after_body, process_of}
 use Rattle.sap_read.specs.Causes.{first_of, unlabelled, listed, labels, is_among, unknown_from, first_repeated}
 use Rattle.sap_read.specs.Meaning.{meaning, AreMeant}
 
@@ -40,7 +40,6 @@ or_none p (x ∷ xs) ys h = by (p x) refl (or_none p xs ys) where
   by false e more =
       let rest : find p (xs ++ ys) ≡ None = rw e at h in
       (rw e (more rest).0, (more rest).1)
-
 
 -- processes are the same by two meanings that agree on known names
 pub agree : (ks : List (List ℕ)) (m n : List ℕ → Proc) → ((x : List ℕ) → is_among ks x ≡ true → m x ≡ n x) → (w : Written) → find (λ x. not (is_among ks x)) (calls w) ≡ None → replaced m w ≡ replaced n w
@@ -137,15 +136,13 @@ process_fixed [] ks m c cs known distinct fresh e = absurd (cc)
 process_fixed (b ∷ bs) ks m c cs known distinct fresh e =
     by (is_none b.label) refl (process_fixed bs (ks ++ listed b.label) (after_body m b.label b.content) c cs (known_behind ks b bs known).1 (rest_distinct b.label (labels bs) distinct) (rest_fresh ks b.label (labels bs) distinct fresh))
   where
-  by : (t : Bool) → is_none b.label ≡ t → (unlabelled bs ≡ c ∷ cs → process_of (after_body m b.label b.content) bs ≡ Some (replaced (meaning (after_body m b.label b.content) bs) c.content)) → process_of m (b ∷ bs) ≡ Some (replaced (meaning m (b ∷ bs)) c.content)
-  by true t more =
-      let first : b ∷ unlabelled bs ≡ c ∷ cs = rw t at e in
-      let same : b ≡ c = cc in
-      let here : process_of m (b ∷ bs) ≡ Some (replaced m b.content) = rw t refl in
-      here ∙ ap Some (sym (first_fixed ks m b bs known fresh) ∙ ap (λ (z : Body). replaced (meaning m (b ∷ bs)) z.content) same)
-  by false t more =
-      let rest : unlabelled bs ≡ c ∷ cs = rw t at e in
-      let here : process_of m (b ∷ bs) ≡ process_of (after_body m b.label b.content) bs = rw t refl in
-      here ∙ more rest
-
-pub ruleset meanings = (fixed, process_fixed)
+    by : (t : Bool) → is_none b.label ≡ t → (unlabelled bs ≡ c ∷ cs → process_of (after_body m b.label b.content) bs ≡ Some (replaced (meaning (after_body m b.label b.content) bs) c.content)) → process_of m (b ∷ bs) ≡ Some (replaced (meaning m (b ∷ bs)) c.content)
+    by true t more =
+        let first : b ∷ unlabelled bs ≡ c ∷ cs = rw t at e in
+        let same : b ≡ c = cc in
+        let here : process_of m (b ∷ bs) ≡ Some (replaced m b.content) = rw t refl in
+        here ∙ ap Some (sym (first_fixed ks m b bs known fresh) ∙ ap (λ (z : Body). replaced (meaning m (b ∷ bs)) z.content) same)
+    by false t more =
+        let rest : unlabelled bs ≡ c ∷ cs = rw t at e in
+        let here : process_of m (b ∷ bs) ≡ process_of (after_body m b.label b.content) bs = rw t refl in
+        here ∙ more rest

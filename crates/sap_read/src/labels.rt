@@ -81,9 +81,12 @@ pub(crate) fn first_repeated(alloc: Global, entries: &Items<Entry>) -> Result<Op
         return Ok(None);
     };
     match entries.get(k) {
-        Some(Entry {
-            label: Some(name), ..
-        }) => Ok(Some(name.copy(alloc)?)),
+        Some(
+            Entry {
+                label: Some(name),
+                ..
+            },
+        ) => Ok(Some(name.copy(alloc)?)),
         _ => Ok(None),
     }
 }

@@ -65,13 +65,7 @@ fn first_unknown<'a>(names: &Names, draft: &'a Draft) -> Option<&'a Name>
 {
     match draft {
         Draft::Nil => None,
-        Draft::Call(x) => {
-            if names.contains_key(x) {
-                None
-            } else {
-                Some(x)
-            }
-        }
+        Draft::Call(x) => { if names.contains_key(x) { None } else { Some(x) } }
         Draft::Par(p, q) | Draft::If(_, _, p, q) | Draft::Lookup(_, _, p, q) => {
             match first_unknown(names, p) {
                 None => first_unknown(names, q),
@@ -122,7 +116,6 @@ fn keep(alloc: Global, names: &mut Names, entry: &Entry, k: u64) -> Result<(), M
     Ok(())
 }
 
-#[tactic(auto, using(crate::proofs::Meaning::meanings))]
 /// The names of the processes; an error where a process has a name that none before it defines. It takes time in proportion
 /// to the processes as they are written.
 pub(crate) fn names_of(alloc: Global, entries: &Items<Entry>) -> Result<Names, ReadFault>

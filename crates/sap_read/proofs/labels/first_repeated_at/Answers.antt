@@ -1,6 +1,6 @@
-use Rattle.std.proofs.Common.{◌≡◌, ◌+◌, ◌-◌, arith, subst, sym, ◌∙◌, List, ℕ}
+use Rattle.std.proofs.Common.{◌+◌, ◌-◌, arith, subst, sym, ◌∙◌}
 use Rattle.sap_read.specs.Label.{AreSeen}
-use Rattle.sap_read.proofs.Labelled.{none_seen, seen_again, seen_once}
+use Rattle.sap_read.proofs.Labelled.{seen_again, seen_once}
 use Rattle.sap_read.proofs.labels.first_repeated_at.Goals as goal
 
 pub loop-k-preserved-then-branch : goal.loop-k-preserved-then-branch

@@ -1,10 +1,9 @@
-use Rattle.std.proofs.Common.{◌≡◌, ◌<◌, get_or, ap, Err, arith, sym, ◌∙◌, length, refl, List, ℕ, Some, subst}
+use Rattle.std.proofs.Common.{◌≡◌, ◌<◌, get_or, ap, Err, arith, length, refl, List, ℕ, Some, subst}
 use Rattle.std.specs.Prelude.{slice_get}
 use Rattle.std.proofs.lemmas.Grind.{common_steps}
 use Rattle.std.proofs.lemmas.Option.{slice_get_read}
 use Rattle.sap_read.specs.declared.draft.Entry.{Entry}
-use Rattle.sap_read.specs.Drafts.{written}
-use Rattle.sap_read.proofs.Kept.{behind_none, behind_more, behind_fault, behind_known, behind_counted}
+use Rattle.sap_read.proofs.Kept.{behind_none, behind_more, behind_fault}
 use Rattle.sap_read.proofs.names.names_of.Goals as goal
 
 pub loop-k-init : goal.loop-k-init

@@ -45,6 +45,6 @@ returns-clause-accepted c =
     let one = one_there es c.in_ok-place.place found.0 c.at.result.now found.1 c.at.ensures found.2 in
     let distinct = sym c.in_ok-name.ensures ∙ c.in_default.is in (
       no_clash (map body es) c.args.clash None c.in_default-clash.is
-      (by_kept_size es c.at.result.now c.in_ok-names.names one c.in_ok-names.ensures.known distinct c.in_ok-names.ensures.counted ∙ sym c.size_fault.ensures ∙ c.in_default-size_fault.is),
+          (by_kept_size es c.at.result.now c.in_ok-names.names one c.in_ok-names.ensures.known distinct c.in_ok-names.ensures.counted ∙ sym c.size_fault.ensures ∙ c.in_default-size_fault.is),
       process_is es c.at.result.now one c.in_ok-names.ensures.known distinct ∙ ap Some (sym c.in_ok-process.ensures),
     )
