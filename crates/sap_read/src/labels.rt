@@ -27,8 +27,8 @@ fn next_process(entries: &Items<Entry>, from: u64) -> Option<u64>
     None
 }
 
-#[tactic(auto, using(crate::proofs::Caused::one_process))]
 /// The place of the file's process; an error where there is none, and where there are several.
+#[tactic(auto, using(crate::proofs::Caused::one_process))]
 pub(crate) fn the_process(entries: &Items<Entry>) -> Result<u64, ReadFault>
     ensures found { IfOk result (λ k. (e : Entry) × (slice_get entries.now k ≡ Some e) × (unlabelled (map body entries.now) ≡ body e ∷ [])) }
     ensures not_one { IfErr result (λ f. (clash : Option (List ℕ)) → cause (map body entries.now) clash ≡ Some f) }

@@ -65,7 +65,8 @@ fn first_unknown<'a>(names: &Names, draft: &'a Draft) -> Option<&'a Name>
 {
     match draft {
         Draft::Nil => None,
-        Draft::Call(x) => { if names.contains_key(x) { None } else { Some(x) } }
+        Draft::Call(x) if names.contains_key(x) => None,
+        Draft::Call(x) => Some(x),
         Draft::Par(p, q) | Draft::If(_, _, p, q) | Draft::Lookup(_, _, p, q) => {
             match first_unknown(names, p) {
                 None => first_unknown(names, q),
