@@ -116,9 +116,11 @@ AreTargets es names =
 
 -- what is kept of names behind the first processes of a file
 pub record AreBehind {S : Type 0} (es : List Entry) (k : ℕ) (names : IndexMap (List ℕ) Meant S) : Type 0 where
-  -- each is defined by them
+  -- of the names that they define, and each of their names was defined before it
   pub known : (ks : List (List ℕ)) × (unknown_from [] (map body es) ≡ unknown_from ks (map body (drop k es))) × ((x : List ℕ) → is_some (get bytes_eq names x) ≡ is_among ks x)
+  -- it counts what they mean there
   pub counted : (means : List ℕ → Proc) × (meaning_of es ≡ meaning means (map body (drop k es))) × AreCounted names means
+  -- and each has its target
   pub targets : AreTargets es names
 
 -- what is kept of a name tells what it means: that of its target, and `0` where nothing is kept
