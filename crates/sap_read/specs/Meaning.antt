@@ -116,7 +116,7 @@ AreTargets es names =
 
 -- what is kept of names behind the first processes of a file
 pub record AreBehind {S : Type 0} (es : List Entry) (k : ℕ) (names : IndexMap (List ℕ) Meant S) : Type 0 where
-  -- of the names that they define, and each of their names was defined before it
+  -- of the names that they define; the first unknown name of the file is the first behind them
   pub known : (ks : List (List ℕ)) × (unknown_from [] (map body es) ≡ unknown_from ks (map body (drop k es))) × ((x : List ℕ) → is_some (get bytes_eq names x) ≡ is_among ks x)
   -- it counts what they mean there
   pub counted : (means : List ℕ → Proc) × (meaning_of es ≡ meaning means (map body (drop k es))) × AreCounted names means
