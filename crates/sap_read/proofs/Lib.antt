@@ -12,3 +12,7 @@ pub mod Processes
 pub mod ByHand
 pub mod SoundProcesses
 pub mod Signatures
+pub mod Meaning
+pub mod Kept
+pub mod Labelled
+pub mod Caused

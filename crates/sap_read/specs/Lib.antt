@@ -21,3 +21,5 @@ pub mod Judged
 pub mod Reading
 pub mod View
 pub mod ProcessExamples
+pub mod Meaning
+pub mod Label

@@ -2,12 +2,15 @@
 #![tactic(auto)]
 
 mod draft;
+mod expansion;
 mod fact;
 mod fault;
 mod file;
 mod items;
+mod labels;
 mod laws;
 mod look;
+mod names;
 mod process;
 mod term;
 #[cfg(test)]

@@ -1,0 +1,83 @@
+-- Which cause comes first.
+use Rattle.std.proofs.Common.{◌≡◌, ℕ, ◌-◌, ◌^◌, ◌≤◌, ◌<◌, min, List, [], ◌∷◌, Bool, true, false, Option, Some, None, refl, sym, ◌∙◌, arith, map}
+use Rattle.std.specs.Prelude.{nat_lt, if◌then◌else◌}
+use Rattle.std.specs.Str.{bytes_eq}
+use Rattle.std.proofs.lemmas.Bool.{lt-ltb, le-ltb, ltb-true, ltb-false}
+use Rattle.indexmap.specs.IndexMap.{IndexMap, get}
+use Rattle.sap_process.specs.Proc.{Proc, node_count, level_count}
+use Rattle.sap_read.specs.declared.draft.Entry.{Entry}
+use Rattle.sap_read.specs.declared.fault.ReadFault.TheVariants.{NoProcess, TwoProcesses, UnknownProcess, DuplicateName, FunctionClash, TooMany, TooDeep}
+use Rattle.sap_read.specs.declared.names.Meant.{Meant}
+use Rattle.sap_read.specs.Item.{Body}
+use Rattle.sap_read.specs.Replaced.{replaced, process_of, no_meaning}
+use Rattle.sap_read.specs.Causes.{first_of, unlabelled, labels, unknown_from, first_repeated, cause}
+use Rattle.sap_read.specs.Drafts.{written, body}
+use Rattle.sap_read.specs.Meaning.{meaning_of, AreMeant, nodes_in, levels_in, IsCounted, AreCounted, AreTargets, IsExpanded, AreExpanded, size_fault}
+use Rattle.sap_read.proofs.Kept.{nodes_counted, levels_counted}
+use Rattle.sap_read.proofs.Levels.{uncut}
+use Rattle.sap_read.proofs.Meaning.{AreFresh, fixed, process_fixed}
+
+-- no name is known before the first process
+nothing_known : (bs : List Body) → AreFresh [] bs
+nothing_known bs x h = absurd (cc)
+
+-- each name means its process
+pub all_meant : (es : List Entry) → unknown_from [] (map body es) ≡ None → first_repeated (labels (map body es)) ≡ None → AreMeant (meaning_of es) (map body es)
+all_meant es known distinct = fixed (map body es) [] no_meaning known distinct (nothing_known (map body es))
+
+-- the file's process, by what names mean behind all of them
+pub process_is : (es : List Entry) (e : Entry) → unlabelled (map body es) ≡ body e ∷ [] → unknown_from [] (map body es) ≡ None → first_repeated (labels (map body es)) ≡ None → process_of no_meaning (map body es) ≡ Some (replaced (meaning_of es) (written e.draft))
+process_is es e one known distinct =
+    process_fixed (map body es) [] no_meaning (body e) [] known distinct (nothing_known (map body es)) one
+
+-- what is kept of names tells what they mean
+pub all_expanded : {S : Type 0} (es : List Entry) (names : IndexMap (List ℕ) Meant S) → unknown_from [] (map body es) ≡ None → first_repeated (labels (map body es)) ≡ None → AreCounted names (meaning_of es) → AreTargets es names → AreExpanded es names
+all_expanded es names known distinct counted targets x = by (get bytes_eq names x) refl (counted x) where
+  by : (o : Option Meant) → get bytes_eq names x ≡ o → IsCounted o (meaning_of es x) → IsExpanded es x o
+  by None q h = h
+  by (Some m) q h = targets (meaning_of es) (all_meant es known distinct) x m q
+
+pub no_process : (bs : List Body) (clash : Option (List ℕ)) → unlabelled bs ≡ [] → cause bs clash ≡ Some NoProcess
+no_process bs clash e = rw e refl
+
+pub two_processes : (bs cs : List Body) (b c : Body) (clash : Option (List ℕ)) → unlabelled bs ≡ b ∷ c ∷ cs → cause bs clash ≡ Some (TwoProcesses c.place)
+two_processes bs cs b c clash e = rw e refl
+
+-- where nothing else is wrong, the size of the process decides
+pub by_size : (bs : List Body) (b : Body) (p : Proc) → unlabelled bs ≡ b ∷ [] → unknown_from [] bs ≡ None → first_repeated (labels bs) ≡ None → process_of no_meaning bs ≡ Some p → cause bs None ≡ size_fault (node_count p) (level_count p)
+by_size bs b p e u d is = rw (e, u, d, is) (at (nat_lt 4000 (node_count p)) (nat_lt 300 (level_count p))) where
+  at : (s t : Bool) → first_of ((if s then Some TooMany else None) ∷ (if t then Some TooDeep else None) ∷ []) ≡ (if s then Some TooMany else (if t then Some TooDeep else None))
+  at true t = refl
+  at false true = refl
+  at false false = refl
+
+-- a number and what is left of it where it was cut are above the same limits
+same_above : (limit n m most : ℕ) → limit < most → min n most ≡ min m most → nat_lt limit (min n most) ≡ nat_lt limit m
+same_above limit n m most below e = by (nat_lt limit m) refl where
+  by : (t : Bool) → nat_lt limit m ≡ t → nat_lt limit (min n most) ≡ t
+  by true q = lt-ltb _ _ (omega (arith, below, e, ltb-true limit m q))
+  by false q = le-ltb _ _ (omega (arith, below, e, ltb-false limit m q))
+
+-- and the numbers that are kept decide it
+pub by_kept_size : {S : Type 0} (es : List Entry) (e : Entry) (names : IndexMap (List ℕ) Meant S) → unlabelled (map body es) ≡ body e ∷ [] → unknown_from [] (map body es) ≡ None → first_repeated (labels (map body es)) ≡ None → AreCounted names (meaning_of es) → cause (map body es) None ≡ size_fault (min (nodes_in names (written e.draft)) (2 ^ 64 - 1)) (min (levels_in names (written e.draft)) (2 ^ 64 - 1))
+by_kept_size es e names one known distinct counted =
+    let p = replaced (meaning_of es) (written e.draft) in
+    let is : process_of no_meaning (map body es) ≡ Some p = process_is es e one known distinct in
+    let nodes : nat_lt 4000 (min (nodes_in names (written e.draft)) (2 ^ 64 - 1)) ≡ nat_lt 4000 (node_count p) = same_above 4000 _ (node_count p) (2 ^ 64 - 1) (omega arith) (nodes_counted names (meaning_of es) counted (written e.draft)) in
+    let levels : nat_lt 300 (min (levels_in names (written e.draft)) (2 ^ 64 - 1)) ≡ nat_lt 300 (level_count p) = same_above 300 _ (level_count p) (2 ^ 64 - 1) (omega arith) (levels_counted names (meaning_of es) counted (written e.draft)) in
+    by_size (map body es) (body e) p one known distinct is ∙ sym (λ i. if nodes i then Some TooMany else (if levels i then Some TooDeep else None))
+
+low_enough : (n l : ℕ) → size_fault n l ≡ None → l ≤ 300
+low_enough n l h = by (nat_lt 4000 n) (nat_lt 300 l) refl h where
+  by : (s t : Bool) → nat_lt 300 l ≡ t → (if s then Some TooMany else (if t then Some TooDeep else None)) ≡ None → l ≤ 300
+  by true t q h = absurd (cc)
+  by false true q h = absurd (cc)
+  by false false q h = ltb-false 300 l q
+
+-- and how deep the process is
+pub few_levels : {S : Type 0} (es : List Entry) (e : Entry) (names : IndexMap (List ℕ) Meant S) → AreCounted names (meaning_of es) → size_fault (min (nodes_in names (written e.draft)) (2 ^ 64 - 1)) (min (levels_in names (written e.draft)) (2 ^ 64 - 1)) ≡ None → level_count (replaced (meaning_of es) (written e.draft)) ≤ 300
+few_levels es e names counted h =
+    let cut : min (levels_in names (written e.draft)) (2 ^ 64 - 1) ≤ 300 = low_enough _ _ h in
+    uncut _ (2 ^ 64 - 1) 300 (rw (← levels_counted names (meaning_of es) counted (written e.draft)) cut) (omega arith)
+
+pub ruleset one_process = (no_process, two_processes)
