@@ -9,3 +9,6 @@ pub mod Processes
 pub mod ByHand
 pub mod SoundProcesses
 pub mod Signatures
+pub mod Cuts
+pub mod ItemWords
+pub mod ItemsRead
