@@ -20,7 +20,7 @@ builtin_read spells_symmetric = refl
 builtin_read spells_asymmetric = refl
 builtin_read spells_signing = refl
 
-builtin_shorter : {b : Builtin} {a r : List Word} → IsBuiltin b a r → length r < length a
+pub builtin_shorter : {b : Builtin} {a r : List Word} → IsBuiltin b a r → length r < length a
 builtin_shorter spells_hashing = omega arith
 builtin_shorter spells_symmetric = omega arith
 builtin_shorter spells_asymmetric = omega arith
@@ -41,7 +41,7 @@ unfolding given
 symbol_read (spells_public {f = f} {n = n} {a = a} low le) follows = rw (arity_read n le, low, follows) refl
 symbol_read (spells_private {f = f} {n = n} {a = a} low le) follows = rw (arity_read n le, low) refl
 
-symbol_shorter : {s : Symbol} {a r : List Word} → IsSymbol s a r → length r < length a
+pub symbol_shorter : {s : Symbol} {a r : List Word} → IsSymbol s a r → length r < length a
 symbol_shorter (spells_public low le) = omega arith
 symbol_shorter (spells_private low le) = omega arith
 

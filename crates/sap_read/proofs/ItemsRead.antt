@@ -1,5 +1,5 @@
 -- Items, what they declare, and their faults.
-use Rattle.std.proofs.Common.{◌≡◌, ◌≤◌, ℕ, suc, Bool, true, false, List, [], ◌∷◌, ◌++◌, length, drop, Option, Some, None, refl, sym, ap, subst, ◌∙◌, arith}
+use Rattle.std.proofs.Common.{◌≡◌, ◌≤◌, ◌+◌, ℕ, Bool, true, false, List, [], ◌∷◌, ◌++◌, length, drop, Option, Some, None, refl, sym, ap, subst, ◌∙◌, arith}
 use Rattle.std.specs.Prelude.{codes, if◌then◌else◌, map, option_map}
 use Rattle.sap_terms.specs.declared.signature.Symbol.{Symbol}
 use Rattle.sap_terms.specs.declared.signature.Builtin.{Builtin}
@@ -39,13 +39,13 @@ same_declarations g h cut is js r s = declared_are r ∙ sym (declared_are s)
 
 -- the words of an item behind its colon, read whole
 colon_is : (m : List ℕ) (of_builtins : Bool) (ws : List Word) (ds : List Declaration) → starts m ws ≡ true → behind_colon of_builtins (drop 1 ws) ≡ Some ds
-    → (a : List Word) × (ws ≡ mark m ∷ mark (codes ":") ∷ a) × (whole_list (declaration_at of_builtins) (suc (length a)) a ≡ Some ds)
+    → (a : List Word) × (ws ≡ mark m ∷ mark (codes ":") ∷ a) × (whole_list (declaration_at of_builtins) (length a + 1) a ≡ Some ds)
 colon_is m of_builtins [] ds s e = absurd (cc)
 colon_is m of_builtins (w ∷ []) ds s e = absurd (cc)
 colon_is m of_builtins (w ∷ v ∷ ws) ds s e = by_test (starts (codes ":") (v ∷ ws)) refl e
   where
-    by_test : (c : Bool) → starts (codes ":") (v ∷ ws) ≡ c → (if c then whole_list (declaration_at of_builtins) (length (v ∷ ws)) ws else None) ≡ Some ds
-        → (a : List Word) × (w ∷ v ∷ ws ≡ mark m ∷ mark (codes ":") ∷ a) × (whole_list (declaration_at of_builtins) (suc (length a)) a ≡ Some ds)
+    by_test : (c : Bool) → starts (codes ":") (v ∷ ws) ≡ c → (if c then whole_list (declaration_at of_builtins) (length ws + 1) ws else None) ≡ Some ds
+        → (a : List Word) × (w ∷ v ∷ ws ≡ mark m ∷ mark (codes ":") ∷ a) × (whole_list (declaration_at of_builtins) (length a + 1) a ≡ Some ds)
     by_test true f e =
         let first = starts_is m (w ∷ v ∷ ws) s in
         let second = starts_is (codes ":") (v ∷ ws) f in
@@ -64,7 +64,7 @@ pub declared_sound : (ws : List Word) (ds : List Declaration) → declared_in ws
     → DeclaresAlone ws ds
 declared_sound ws ds e = by_builtins (starts (codes "builtins") ws) refl e
   where
-    of_builtins : (a : List Word) → ws ≡ mark (codes "builtins") ∷ mark (codes ":") ∷ a → (o : Option (List Builtin)) → whole_list builtin_at (suc (length a)) a ≡ o
+    of_builtins : (a : List Word) → ws ≡ mark (codes "builtins") ∷ mark (codes ":") ∷ a → (o : Option (List Builtin)) → whole_list builtin_at (length a + 1) a ≡ o
         → option_map (map of_builtin) o ≡ Some ds → DeclaresAlone ws ds
     of_builtins a is None f e = absurd (cc)
     of_builtins a is (Some bs) f e =
@@ -75,7 +75,7 @@ declared_sound ws ds e = by_builtins (starts (codes "builtins") ws) refl e
           no_body = λ n. refl;
         }
 
-    of_functions : (a : List Word) → ws ≡ mark (codes "functions") ∷ mark (codes ":") ∷ a → (o : Option (List Symbol)) → whole_list symbol_at (suc (length a)) a ≡ o
+    of_functions : (a : List Word) → ws ≡ mark (codes "functions") ∷ mark (codes ":") ∷ a → (o : Option (List Symbol)) → whole_list symbol_at (length a + 1) a ≡ o
         → option_map (map of_symbol) o ≡ Some ds → DeclaresAlone ws ds
     of_functions a is None f e = absurd (cc)
     of_functions a is (Some ss) f e =
@@ -89,14 +89,14 @@ declared_sound ws ds e = by_builtins (starts (codes "builtins") ws) refl e
     by_functions : (c : Bool) → starts (codes "functions") ws ≡ c → (if c then behind_colon false (drop 1 ws) else None) ≡ Some ds → DeclaresAlone ws ds
     by_functions true s e =
         let one = colon_is (codes "functions") false ws ds s e in
-        of_functions one.0 one.1 (whole_list symbol_at (suc (length one.0)) one.0) refl (sym (list_mapped of_symbol symbol_at (suc (length one.0)) one.0) ∙ one.2)
+        of_functions one.0 one.1 (whole_list symbol_at (length one.0 + 1) one.0) refl (sym (list_mapped of_symbol symbol_at (length one.0 + 1) one.0) ∙ one.2)
     by_functions false s e = absurd (cc)
 
     by_builtins : (c : Bool) → starts (codes "builtins") ws ≡ c
         → (if c then behind_colon true (drop 1 ws) else if starts (codes "functions") ws then behind_colon false (drop 1 ws) else None) ≡ Some ds → DeclaresAlone ws ds
     by_builtins true s e =
         let one = colon_is (codes "builtins") true ws ds s e in
-        of_builtins one.0 one.1 (whole_list builtin_at (suc (length one.0)) one.0) refl (sym (list_mapped of_builtin builtin_at (suc (length one.0)) one.0) ∙ one.2)
+        of_builtins one.0 one.1 (whole_list builtin_at (length one.0 + 1) one.0) refl (sym (list_mapped of_builtin builtin_at (length one.0 + 1) one.0) ∙ one.2)
     by_builtins false s e = by_functions (starts (codes "functions") ws) refl e
 
 -- no item begins with `end`

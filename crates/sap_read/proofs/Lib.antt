@@ -12,3 +12,4 @@ pub mod Signatures
 pub mod Cuts
 pub mod ItemWords
 pub mod ItemsRead
+pub mod Declarations

@@ -1,5 +1,5 @@
 -- Cutting and reading items from the left, as the code does it. No public contract cites this file.
-use Rattle.std.specs.Prelude.{ℕ, zero, suc, Bool, true, false, not, ◌&&◌, nat_le, if◌then◌else◌, codes, List, [], ◌∷◌, ◌++◌, length, drop, Option, Some, None}
+use Rattle.std.specs.Prelude.{ℕ, ◌+◌, zero, suc, Bool, true, false, not, ◌&&◌, nat_le, if◌then◌else◌, codes, List, [], ◌∷◌, ◌++◌, length, drop, Option, Some, None}
 use Rattle.std.specs.List.{prefix_len}
 use Rattle.std.specs.Str.{bytes_eq}
 use Rattle.sap_terms.specs.declared.signature.Symbol.{Symbol}
@@ -128,7 +128,7 @@ whole_list u (suc n) ws = on_read (u ws) (λ x r.
 -- behind the first word of an item
 abbrev pub behind_colon : Bool → List Word → Option (List Declaration)
 behind_colon is_builtins ws =
-    if starts (codes ":") ws then whole_list (declaration_at is_builtins) (length ws) (drop 1 ws) else None
+    if starts (codes ":") ws then whole_list (declaration_at is_builtins) (length (drop 1 ws) + 1) (drop 1 ws) else None
 
 -- what an item of builtins or functions declares, where the words are one
 abbrev pub declared_in : List Word → Option (List Declaration)
