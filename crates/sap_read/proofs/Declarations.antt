@@ -1,6 +1,6 @@
 -- Turns of the readers of arities and of declarations.
-use Rattle.std.proofs.Common.{rules, ◌≡◌, ◌≤◌, ◌<◌, ◌+◌, ◌*◌, ◌-◌, ℕ, zero, suc, Bool, true, false, List, [], ◌∷◌, ◌++◌, append_assoc, length, drop, Option, Some, None, refl, sym, ap, subst, ◌∙◌, arith}
-use Rattle.std.specs.Prelude.{codes, if◌then◌else◌, nat_le, map}
+use Rattle.std.proofs.Common.{rules, ◌≡◌, ◌≤◌, ◌<◌, ◌+◌, ◌*◌, ◌-◌, ℕ, zero, suc, Bool, true, false, List, [], ◌∷◌, ◌++◌, append_assoc, length, drop, Option, Some, None, refl, sym, ap, ◌∙◌, arith}
+use Rattle.std.specs.Prelude.{codes, nat_le, map}
 use Rattle.std.proofs.lemmas.List.{length-drop, map-append}
 use Rattle.sap_terms.specs.declared.signature.Symbol.{Symbol}
 use Rattle.sap_terms.specs.declared.signature.Builtin.{Builtin}
@@ -9,7 +9,7 @@ use Rattle.sap_read.specs.Words.{Word, words_of, starts}
 use Rattle.sap_read.specs.Item.{Declaration, of_builtin, of_symbol}
 use Rattle.sap_read.specs.ItemGrammar.{value_from, value, IsBuiltin, IsSymbol}
 use Rattle.sap_read.specs.Reading.{Read, Reader, given}
-use Rattle.sap_read.specs.ItemReading.{arity_of_digits, builtin_at, symbol_at, mapped, declaration_at, is_over, on_read, in_front, whole_list}
+use Rattle.sap_read.specs.ItemReading.{arity_of_digits, builtin_at, symbol_at, mapped, declaration_at, is_over, in_front, whole_list}
 use Rattle.sap_read.specs.declared.declaration.Declaration as code
 use Rattle.sap_read.specs.ItemView.{declaration}
 use Rattle.sap_read.proofs.Sound.{OnRead}

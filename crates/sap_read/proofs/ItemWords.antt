@@ -1,15 +1,13 @@
 -- What builtins and functions words are read as.
-use Rattle.std.proofs.Common.{rules, ◌≡◌, ◌≤◌, ◌<◌, ℕ, zero, suc, Bool, true, false, List, [], ◌∷◌, ◌++◌, length, drop, Option, Some, None, refl, sym, ap, subst, ◌∙◌, arith}
+use Rattle.std.proofs.Common.{rules, ◌≡◌, ◌≤◌, ◌<◌, ℕ, zero, suc, Bool, true, false, List, [], ◌∷◌, length, drop, Option, Some, None, refl, sym, ap, subst, ◌∙◌, arith}
 use Rattle.std.specs.Prelude.{codes, if◌then◌else◌, ◌&&◌, nat_le, map, option_map}
-use Rattle.std.specs.Str.{bytes_eq}
 use Rattle.sap_terms.specs.declared.signature.Symbol.{Symbol}
 use Rattle.sap_terms.specs.declared.signature.Builtin.{Builtin}
 use Rattle.sap_terms.specs.declared.signature.Builtin.TheVariants.{Hashing, Symmetric, Asymmetric, Signing}
 use Rattle.sap_read.specs.Words.{Word, mark, name, number, quoted, starts, is_lower}
-use Rattle.sap_read.specs.Item.{Declaration, of_builtin, of_symbol}
 use Rattle.sap_read.specs.ItemGrammar.{value, IsBuiltin, AreBuiltins, IsSymbol, AreSymbols, spells_hashing, spells_symmetric, spells_asymmetric, spells_signing, builtins_last, builtins_more, spells_public, spells_private, symbols_last, symbols_more}
 use Rattle.sap_read.specs.Reading.{Read, Reader, given, name_at}
-use Rattle.sap_read.specs.ItemReading.{names, is_encryption, builtin_at, number_at, arity_of_digits, small_value, arity_at, is_private, with_privacy, symbol_at, mapped, declaration_at, is_over, on_read, in_front, whole_list}
+use Rattle.sap_read.specs.ItemReading.{names, is_encryption, builtin_at, number_at, arity_of_digits, small_value, arity_at, is_private, with_privacy, symbol_at, mapped, is_over, on_read, in_front, whole_list}
 use Rattle.sap_read.proofs.Sound.{Says, OnRead, given_on, if_on, same_bytes, starts_is, name_is}
 
 -- What is spelled so is read.
@@ -92,7 +90,6 @@ cipher_is x (w ∷ v ∷ u ∷ ws) e f =
     let second = starts_is (codes "-") (v ∷ u ∷ ws) two.0 in
     let third = names_is (codes "encryption") (u ∷ ws) two.1 in
     cc
-
 
 pub builtin_sound : (ws : List Word) → OnRead (λ b r. IsBuiltin b ws r) (builtin_at ws)
 builtin_sound ws =

@@ -1,22 +1,22 @@
 -- Items, what they declare, and their faults.
-use Rattle.std.proofs.Common.{◌≡◌, ◌≤◌, ◌+◌, ℕ, Bool, true, false, List, [], ◌∷◌, ◌++◌, length, drop, Option, Some, None, refl, sym, ap, subst, ◌∙◌, arith}
+use Rattle.std.proofs.Common.{◌≡◌, ◌≤◌, ◌+◌, ℕ, Bool, true, false, List, [], ◌∷◌, length, drop, Option, Some, None, refl, sym, ap, subst, ◌∙◌, arith}
 use Rattle.std.specs.Prelude.{codes, if◌then◌else◌, map, option_map}
 use Rattle.sap_terms.specs.declared.signature.Symbol.{Symbol}
 use Rattle.sap_terms.specs.declared.signature.Builtin.{Builtin}
 use Rattle.sap_terms.specs.Signature.{Sig}
-use Rattle.sap_read.specs.Words.{Word, mark, name, starts}
+use Rattle.sap_read.specs.Words.{Word, mark, starts}
 use Rattle.sap_read.specs.Written.{Written}
 use Rattle.sap_read.specs.Item.{Item, builtins, functions, definition, process, Standing, Declaration, of_builtin, of_symbol, declared_by, declarations, body_of}
-use Rattle.sap_read.specs.Cut.{Placed, words, first_line}
-use Rattle.sap_read.specs.ItemGrammar.{AreBuiltins, AreSymbols, IsProcess, IsItem, IsEnd, AreItems, IsSomeItem, IsFaulty, item_builtins, item_functions, item_definition, item_process, items_end, items_more, no_end, bad_item, later_item}
-use Rattle.sap_read.specs.ItemReading.{builtin_at, symbol_at, mapped, declaration_at, whole_list, behind_colon, declared_in, told, declared_in_all}
+use Rattle.sap_read.specs.Cut.{Placed, words}
+use Rattle.sap_read.specs.ItemGrammar.{AreBuiltins, AreSymbols, IsProcess, IsItem, IsEnd, AreItems, IsFaulty, item_builtins, item_functions, item_definition, item_process, items_end, items_more, no_end, bad_item, later_item}
+use Rattle.sap_read.specs.ItemReading.{builtin_at, symbol_at, declaration_at, whole_list, behind_colon, declared_in, told, declared_in_all}
 use Rattle.sap_read.proofs.Sound.{starts_is}
 use Rattle.sap_read.proofs.ItemWords.{builtins_read, symbols_read, builtins_sound, symbols_sound, list_mapped}
 
-builtins_declared : {bs : List Builtin} {a : List Word} → AreBuiltins bs a → (n : ℕ) → length a ≤ n → whole_list (declaration_at true) n a ≡ Some (map of_builtin bs)
+pub builtins_declared : {bs : List Builtin} {a : List Word} → AreBuiltins bs a → (n : ℕ) → length a ≤ n → whole_list (declaration_at true) n a ≡ Some (map of_builtin bs)
 builtins_declared {a = a} r n le = list_mapped of_builtin builtin_at n a ∙ ap (λ (o : Option (List Builtin)). option_map (map of_builtin) o) (builtins_read r n le)
 
-symbols_declared : {ss : List Symbol} {a : List Word} → AreSymbols ss a → (n : ℕ) → length a ≤ n → whole_list (declaration_at false) n a ≡ Some (map of_symbol ss)
+pub symbols_declared : {ss : List Symbol} {a : List Word} → AreSymbols ss a → (n : ℕ) → length a ≤ n → whole_list (declaration_at false) n a ≡ Some (map of_symbol ss)
 symbols_declared {a = a} r n le = list_mapped of_symbol symbol_at n a ∙ ap (λ (o : Option (List Symbol)). option_map (map of_symbol) o) (symbols_read r n le)
 
 -- what an item declares is read in its words

@@ -13,3 +13,4 @@ pub mod Cuts
 pub mod ItemWords
 pub mod ItemsRead
 pub mod Declarations
+pub mod ItemTurns

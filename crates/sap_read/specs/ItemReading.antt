@@ -1,5 +1,5 @@
 -- Cutting and reading items from the left, as the code does it. No public contract cites this file.
-use Rattle.std.specs.Prelude.{ℕ, ◌+◌, zero, suc, Bool, true, false, not, ◌&&◌, nat_le, if◌then◌else◌, codes, List, [], ◌∷◌, ◌++◌, length, drop, Option, Some, None}
+use Rattle.std.specs.Prelude.{ℕ, ◌+◌, zero, suc, Bool, true, false, not, ◌&&◌, nat_le, if◌then◌else◌, codes, List, [], ◌∷◌, ◌++◌, length, drop, Option, Some, None, is_some}
 use Rattle.std.specs.List.{prefix_len}
 use Rattle.std.specs.Str.{bytes_eq}
 use Rattle.sap_terms.specs.declared.signature.Symbol.{Symbol}
@@ -52,9 +52,9 @@ builtin_at ws =
     if names (codes "hashing") ws then Some (Hashing, drop 1 ws)
     else if names (codes "signing") ws then Some (Signing, drop 1 ws)
     else if is_encryption (drop 1 ws) then
-      (if names (codes "symmetric") ws then Some (Symmetric, drop 3 ws)
-      else if names (codes "asymmetric") ws then Some (Asymmetric, drop 3 ws)
-      else None)
+    (if names (codes "symmetric") ws then Some (Symmetric, drop 3 ws)
+    else if names (codes "asymmetric") ws then Some (Asymmetric, drop 3 ws)
+    else None)
     else None
 
 abbrev pub as_number : Word → Option (List ℕ)
@@ -146,3 +146,7 @@ told (Some ds) = ds
 abbrev pub declared_in_all : List (List Placed) → List Declaration
 declared_in_all [] = []
 declared_in_all (i ∷ is) = told (declared_in (words i)) ++ declared_in_all is
+
+-- the first of two, if there is one
+abbrev pub kept : {A : Type 0} → Option A → Option A → Option A
+kept a b = if is_some a then a else b

@@ -8,7 +8,7 @@ use Rattle.sap_read.proofs.declaration.read_list.Given as goal
 abbrev pub invariant-loop-rest : goal.invariant-loop-rest
 invariant-loop-rest l =
     (n : ℕ) × (length l.rest < n) × (whole_list (declaration_at l.fn.of_builtins) (length l.fn.tokens + 1) (words_of l.fn.bytes l.fn.tokens)
-        ≡ in_front (map declaration l.list.items) (whole_list (declaration_at l.fn.of_builtins) n (words_of l.fn.bytes l.rest)))
+    ≡ in_front (map declaration l.list.items) (whole_list (declaration_at l.fn.of_builtins) n (words_of l.fn.bytes l.rest)))
 
 abbrev pub decreases-loop-rest : goal.decreases-loop-rest
 decreases-loop-rest l = length l.rest
