@@ -6,6 +6,7 @@ use Rattle.sap_terms.specs.declared.signature.Builtin.{Builtin}
 use Rattle.sap_terms.specs.Signature.{Sig}
 use Rattle.sap_read.specs.Words.{Word, mark, starts}
 use Rattle.sap_read.specs.Written.{Written}
+use Rattle.sap_read.specs.ProcessGrammar.{IsPar, EndsProcess}
 use Rattle.sap_read.specs.Item.{Item, builtins, functions, definition, process, Standing, Declaration, of_builtin, of_symbol, declared_by, declarations, body_of}
 use Rattle.sap_read.specs.Cut.{Placed, words}
 use Rattle.sap_read.specs.ItemGrammar.{AreBuiltins, AreSymbols, IsProcess, IsItem, IsEnd, AreItems, IsFaulty, item_builtins, item_functions, item_definition, item_process, items_end, items_more, no_end, bad_item, later_item}
@@ -124,8 +125,14 @@ one_fault last n k cut (bad_item a b) (later_item s r) = absurd (a s)
 one_fault last n k cut (later_item s r) (bad_item a b) = absurd (a s)
 one_fault last n k cut (later_item {is = is} s r) (later_item t q) = one_fault last n k is r q
 
--- where whole words spell at most one process
-module _ (one_whole : (g : Sig) (p q : Written) (a : List Word) → IsProcess g p a → IsProcess g q a → p ≡ q) where
+-- where words spell at most one process that nothing of it follows
+module _ (one_process : (g : Sig) (m n k : ℕ) (p q : Written) (a b c : List Word) → IsPar g m p n a b → IsPar g m q k a c → EndsProcess b → EndsProcess c
+    → (p ≡ q) × (n ≡ k) × (b ≡ c)) where
+  one_whole : (g : Sig) (p q : Written) (a : List Word) → IsProcess g p a → IsProcess g q a → p ≡ q
+  one_whole g p q a r s =
+      let ends : EndsProcess [] = record { no_parenthesis = refl; no_semicolon = refl; no_else = refl; no_bar = refl; no_bars = refl } in
+      (one_process g 100 r.levels s.levels p q a [] [] r.spelled s.spelled ends ends).0
+
   one_item : {g : Sig} {u v : Item} {a : List Word} → IsItem g u a → IsItem g v a → u ≡ v
   one_item (item_builtins {bs = bs} {a = a} r) (item_builtins {bs = cs} s) =
       let same : ◌≡◌ {A = Option (List Builtin)} (Some bs) (Some cs) = sym (builtins_read r (length a) (omega arith)) ∙ builtins_read s (length a) (omega arith) in
