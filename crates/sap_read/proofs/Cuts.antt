@@ -1,12 +1,9 @@
 -- Words are cut into items in one way.
-use Rattle.std.proofs.Common.{◌≡◌, ◌+◌, ℕ, suc, Bool, true, false, List, [], ◌∷◌, ◌++◌, length, take, drop, refl, sym, ap, ◌∙◌, arith}
-use Rattle.std.specs.Prelude.{codes, if◌then◌else◌, not, map}
-use Rattle.std.specs.List.{prefix_len}
-use Rattle.std.proofs.lemmas.List.{take-map, drop-map}
-use Rattle.sap_text.specs.declared.token.Token.{Token}
-use Rattle.sap_read.specs.Words.{Word, name, mark, word_of, words_of}
-use Rattle.sap_read.specs.Cut.{Placed, placed, words, begins_item, NoItemWord, StartsItem, IsCut, cut_none, cut_one, IsHeader}
-use Rattle.sap_read.specs.ItemReading.{goes_on, count_on, joined, starts_item, cut}
+use Rattle.std.proofs.Common.{◌≡◌, ◌+◌, ℕ, suc, Bool, true, false, List, [], ◌∷◌, ◌++◌, take, drop, refl, sym, ap, ◌∙◌, arith}
+use Rattle.std.specs.Prelude.{if◌then◌else◌}
+use Rattle.sap_read.specs.Words.{Word, name, mark}
+use Rattle.sap_read.specs.Cut.{Placed, begins_item, NoItemWord, StartsItem, IsCut, cut_none, cut_one, IsHeader}
+use Rattle.sap_read.specs.ItemReading.{count_on, joined, starts_item, cut}
 
 starts_there : (ts : List Placed) → StartsItem ts → starts_item ts ≡ true
 starts_there [] s = refl

@@ -16,3 +16,7 @@ pub mod Meaning
 pub mod Kept
 pub mod Labelled
 pub mod Caused
+pub mod ItemWords
+pub mod ItemsRead
+pub mod Declarations
+pub mod ItemTurns

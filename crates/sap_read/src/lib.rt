@@ -1,6 +1,7 @@
 //! Files, read from their bytes: their terms, facts and processes, and what they declare.
 #![tactic(auto)]
 
+mod declaration;
 mod draft;
 mod expansion;
 mod fact;

@@ -5,6 +5,7 @@ ghost use Rattle.std.specs.Option.{option_copied};
 ghost use Rattle.sap_text.specs.Spans.{text_of};
 ghost use Rattle.sap_read.specs.Words.{is_grammar_word, is_mark, item_words, process_words, starts, word_of, words_of, is_lower, is_upper};
 ghost use Rattle.sap_read.specs.Reading.{as_name, as_quoted, name_at, quoted_at};
+ghost use Rattle.sap_read.specs.ItemReading.{as_number, number_at, names};
 
 use sap_text::{Kind, Token};
 
@@ -80,7 +81,7 @@ fn unquoted(text: &[u8]) -> &[u8]
     }
 }
 
-fn is_mark(bytes: &[u8], token: Token, mark: &str) -> bool
+pub fn is_mark(bytes: &[u8], token: Token, mark: &str) -> bool
     ensures { result ≡ is_mark mark.now (word_of bytes.now token) }
 {
     let text = text_at(bytes, token);
@@ -114,6 +115,15 @@ fn as_quoted<'a>(bytes: &'a [u8], token: Token) -> Option<&'a [u8]>
     }
 }
 
+fn as_number<'a>(bytes: &'a [u8], token: Token) -> Option<&'a [u8]>
+    ensures { option_copied result ≡ as_number (word_of bytes.now token) }
+{
+    match token.kind {
+        Kind::Number => Some(text_at(bytes, token)),
+        Kind::Ident | Kind::Quoted | Kind::Symbol => None,
+    }
+}
+
 pub fn starts(bytes: &[u8], tokens: &[Token], mark: &str) -> bool
     ensures { result ≡ starts mark.now (words_of bytes.now tokens.now) }
 {
@@ -135,6 +145,24 @@ pub fn quoted_at<'a>(bytes: &'a [u8], tokens: &[Token]) -> Option<&'a [u8]>
 {
     let (token, _) = tokens.split_first()?;
     as_quoted(bytes, *token)
+}
+
+/// The digits of the number that stands first.
+pub fn number_at<'a>(bytes: &'a [u8], tokens: &[Token]) -> Option<&'a [u8]>
+    ensures { option_copied result ≡ number_at (words_of bytes.now tokens.now) }
+{
+    let (token, _) = tokens.split_first()?;
+    as_number(bytes, *token)
+}
+
+/// Whether this name stands first.
+pub fn names(bytes: &[u8], tokens: &[Token], word: &str) -> bool
+    ensures { result ≡ names word.now (words_of bytes.now tokens.now) }
+{
+    match name_at(bytes, tokens) {
+        Some(name) => is(name, word),
+        None => false,
+    }
 }
 
 /// The tokens behind the first n.
