@@ -20,7 +20,6 @@ pub mod ItemReading
 pub mod Judged
 pub mod Reading
 pub mod View
-pub mod ItemReading
 pub mod ItemView
 pub mod ProcessExamples
 pub mod Meaning
