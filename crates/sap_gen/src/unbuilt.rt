@@ -6,6 +6,7 @@ ghost use Rattle.sap_process.specs.Proc.{proc};
 ghost use Rattle.sap_gen.specs.Built as built;
 ghost use Rattle.sap_gen.specs.Built.{IsBuilt};
 ghost use Rattle.sap_gen.specs.Sites as sites;
+ghost use Rattle.sap_gen.specs.Unbuilt.{first_unbuilt};
 
 use crate::place::path_below;
 use sap_process::Process;
@@ -15,7 +16,7 @@ use std::alloc::Global;
 /// The path of the first place in preorder whose form isn't built; none where there is no such place, and so where
 /// `generate` may be called. Want of memory is the only error. It recurses as deep as the process.
 pub fn first_unbuilt(alloc: Global, p: &Process) -> Result<Option<Path>, Mem>
-    ensures first { IfOk result (λ o. o ≡ sites.first_unbuilt (sites.sites [] (proc p.now))) }
+    ensures first { IfOk result (λ o. o ≡ first_unbuilt (proc p.now)) }
     ensures none { IfOk result (λ o. IsNone o ↔ IsBuilt (proc p.now)) }
 {
     let root = Path::new(alloc);
