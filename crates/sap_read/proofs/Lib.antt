@@ -4,7 +4,6 @@ pub mod Places
 pub mod Steps
 pub mod Lists
 pub mod Levels
-pub mod ProcessReading
 pub mod Processes
 pub mod ByHand
 pub mod SoundProcesses

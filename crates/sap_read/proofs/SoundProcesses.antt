@@ -9,10 +9,11 @@ use Rattle.sap_read.specs.Words.{Word, mark, name, number, quoted, starts}
 use Rattle.sap_read.specs.TermGrammar.{IsTerm}
 use Rattle.sap_read.specs.FactGrammar.{IsFact}
 use Rattle.sap_read.specs.Places.{fact_levels}
-use Rattle.sap_read.specs.Written.{Written, nil, call, parallel, new, out, send, input, receive, test, event, insert, delete, lookup, lock, unlock, embedded}
+use Rattle.sap_process.specs.Action.{Action, new, out, send, input, receive, event, insert, delete, lock, unlock, embedded}
+use Rattle.sap_read.specs.Written.{Written, nil, call, parallel, test, lookup}
 use Rattle.sap_read.specs.ProcessGrammar.{var, IsShort, IsShortFact, AreSomeFacts, AreFacts, IsAction, IsSeq, IsPar, Ending, facts_last, facts_more, facts_none, facts_some, action_acts, action_delete, action_event, action_input, action_insert, action_lock, action_new, action_new_fresh, action_out, action_receive, action_rule, action_send, action_unlock, closed, dangling, one_bar, two_bars, par_more, par_one, seq_action, seq_call, seq_if, seq_if_else, seq_lookup, seq_lookup_else, seq_nil, seq_parentheses, seq_replicated, seq_then}
 use Rattle.sap_read.specs.Reading.{Read, Reader, after, name_at, term, fact_at}
-use Rattle.sap_read.proofs.ProcessReading.{past, short_term, short_fact, facts_list, facts, Action, channel, bound, right_side, embedded_rule, action_of, Levelled, branches, condition, looking, going_on, call_or_action, starts_zero, seq_at, par_at, seq, par}
+use Rattle.sap_read.specs.ProcessReading.{past, short_term, short_fact, facts_list, facts, channel, bound, right_side, embedded_rule, action_of, Levelled, branches, condition, looking, going_on, call_or_action, starts_zero, seq_at, par_at, seq, par}
 use Rattle.sap_read.proofs.Processes.{NoElse, seq_some}
 use Rattle.sap_read.proofs.Sound.{Says, OnRead, after_on, given_on, if_on, starts_is, name_is, same_bytes, term_sound, fact_sound}
 
@@ -173,8 +174,8 @@ module _ (g : Sig) (m : ℕ) where
       if_on Q (starts (codes "event") ts) _ _ (λ e. at_mark (codes "event") ts _ e (event_sound r)) (λ _.
       if_on Q (starts (codes "insert") ts) _ _ (λ e. at_mark (codes "insert") ts _ e (insert_sound r)) (λ _.
       if_on Q (starts (codes "delete") ts) _ _ (λ e. at_mark (codes "delete") ts _ e (one_term_sound (codes "delete") delete (λ t a b h. action_delete h) r)) (λ _.
-      if_on Q (starts (codes "lock") ts) _ _ (λ e. at_mark (codes "lock") ts _ e (one_term_sound (codes "lock") lock (λ t a b h. action_lock h) r)) (λ _.
-      if_on Q (starts (codes "unlock") ts) _ _ (λ e. at_mark (codes "unlock") ts _ e (one_term_sound (codes "unlock") unlock (λ t a b h. action_unlock h) r)) (λ _.
+      if_on Q (starts (codes "lock") ts) _ _ (λ e. at_mark (codes "lock") ts _ e (one_term_sound (codes "lock") (λ t. lock t 0) (λ t a b h. action_lock h) r)) (λ _.
+      if_on Q (starts (codes "unlock") ts) _ _ (λ e. at_mark (codes "unlock") ts _ e (one_term_sound (codes "unlock") (λ t. unlock t 0) (λ t a b h. action_unlock h) r)) (λ _.
       past_on Q (codes "[") ts _ (λ e. subst (λ (y : List Word). OnRead (Acts y) (embedded_rule g m r)) (sym e) (rule_sound r))))))))))
 
 -- a process as read: no `else` follows that would belong to it

@@ -18,4 +18,5 @@ pub mod Drafts
 pub mod Files
 pub mod Reading
 pub mod View
+pub mod ProcessReading
 pub mod ProcessExamples

@@ -1,4 +1,4 @@
--- Reading processes from the left, within a number of levels.
+-- Reading processes from the left, within a number of levels, as the code does it. No public contract cites this file.
 use Rattle.std.specs.Prelude.{ℕ, zero, suc, ◌+◌, max, Bool, true, false, not, ◌&&◌, ◌||◌, nat_le, if◌then◌else◌, codes, List, [], ◌∷◌, length, drop, Option, Some, None}
 use Rattle.std.specs.Str.{bytes_eq}
 use Rattle.sap_terms.specs.declared.fact.Fact.{Fact}
@@ -9,7 +9,8 @@ use Rattle.sap_read.specs.Words.{Word, mark, name, number, quoted, starts}
 use Rattle.sap_read.specs.Places.{fact_levels}
 use Rattle.sap_read.specs.Reading.{Read, Reader, after, given, name_at, term, fact_at}
 use Rattle.sap_read.specs.ProcessGrammar.{var}
-use Rattle.sap_read.specs.Written.{Written, nil, call, parallel, replicated, new, out, send, input, receive, test, event, insert, delete, lookup, lock, unlock, embedded}
+use Rattle.sap_process.specs.Action.{Action, new, out, send, input, receive, event, insert, delete, lock, unlock, embedded}
+use Rattle.sap_read.specs.Written.{Written, nil, call, parallel, replicated, act, test, lookup}
 
 abbrev pub is_zero : Word → Bool
 is_zero (mark s) = false
@@ -45,10 +46,6 @@ facts_list g m allowed closing (suc n) ws = after (short_fact g m allowed ws) (�
 abbrev pub facts : Sig → ℕ → Bool → List ℕ → Reader (List Fact)
 facts g m allowed closing ws = if starts closing ws then Some ([], drop 1 ws) else facts_list g m allowed closing (length ws) ws
 
--- an action: what it makes of the process that follows it
-abbrev pub Action : Type 0
-Action = Written → Written
-
 -- one term or two in parentheses
 abbrev pub channel : Sig → ℕ → (Tree → Action) → (Tree → Tree → Action) → Reader Action
 channel g m one two ws = past (codes "(") ws (λ r. after (short_term g m r) (λ t z.
@@ -78,8 +75,8 @@ action_of g m ws =
     else if starts (codes "event") ws then after (short_fact g m false (drop 1 ws)) (λ f r. Some (event f, r))
     else if starts (codes "insert") ws then after (short_term g m (drop 1 ws)) (λ t r. past (codes ",") r (λ z. after (short_term g m z) (λ u y. Some (insert t u, y))))
     else if starts (codes "delete") ws then after (short_term g m (drop 1 ws)) (λ t r. Some (delete t, r))
-    else if starts (codes "lock") ws then after (short_term g m (drop 1 ws)) (λ t r. Some (lock t, r))
-    else if starts (codes "unlock") ws then after (short_term g m (drop 1 ws)) (λ t r. Some (unlock t, r))
+    else if starts (codes "lock") ws then after (short_term g m (drop 1 ws)) (λ t r. Some (lock t 0, r))
+    else if starts (codes "unlock") ws then after (short_term g m (drop 1 ws)) (λ t r. Some (unlock t 0, r))
     else past (codes "[") ws (embedded_rule g m)
 
 -- a process with the levels of its text
@@ -100,9 +97,9 @@ looking g m seq ws = after (short_term g m ws) (λ t r. past (codes "as") r (λ 
 
 -- behind an action; a missing continuation has one level too
 abbrev pub going_on : Reader Levelled → ℕ → Action → Reader Levelled
-going_on seq d k ws =
-    if starts (codes ";") ws then after (seq (drop 1 ws)) (λ p z. Some ((k p.0, p.1 + 1), z))
-    else if nat_le 1 d then Some ((k nil, 2), ws) else None
+going_on seq d x ws =
+    if starts (codes ";") ws then after (seq (drop 1 ws)) (λ p z. Some ((act x p.0, p.1 + 1), z))
+    else if nat_le 1 d then Some ((act x nil, 2), ws) else None
 
 -- the name of a process, or what an action begins
 abbrev pub call_or_action : Sig → ℕ → Reader Levelled → ℕ → Option (List ℕ) → Reader Levelled
