@@ -12,10 +12,10 @@ use Rattle.sap_read.specs.Places.{fact_levels}
 use Rattle.sap_process.specs.Action.{Action, new, out, send, input, receive, event, insert, delete, lock, unlock, embedded}
 use Rattle.sap_read.specs.Written.{Written, nil, call, parallel, test, lookup}
 use Rattle.sap_read.specs.ProcessGrammar.{var, IsShort, IsShortFact, AreSomeFacts, AreFacts, IsAction, IsSeq, IsPar, Ending, facts_last, facts_more, facts_none, facts_some, action_acts, action_delete, action_event, action_input, action_insert, action_lock, action_new, action_new_fresh, action_out, action_receive, action_rule, action_send, action_unlock, closed, dangling, one_bar, two_bars, par_more, par_one, seq_action, seq_call, seq_if, seq_if_else, seq_lookup, seq_lookup_else, seq_nil, seq_parentheses, seq_replicated, seq_then}
-use Rattle.sap_read.specs.Reading.{Read, Reader, after, name_at, term, fact_at}
-use Rattle.sap_read.specs.ProcessReading.{past, short_term, short_fact, facts_list, facts, channel, bound, right_side, embedded_rule, action_of, Levelled, branches, condition, looking, going_on, call_or_action, starts_zero, seq_at, par_at, seq, par}
+use Rattle.sap_read.specs.Reading.{Read, Reader, after, name_at, list_of, term, fact_at}
+use Rattle.sap_read.specs.ProcessReading.{past, short_term, short_fact, facts, channel, bound, right_side, embedded_rule, action_of, Levelled, branches, condition, looking, going_on, call_or_action, starts_zero, seq_at, par_at, seq, par}
 use Rattle.sap_read.proofs.Processes.{NoElse, seq_some}
-use Rattle.sap_read.proofs.Sound.{Says, OnRead, after_on, given_on, if_on, starts_is, name_is, same_bytes, term_sound, fact_sound}
+use Rattle.sap_read.proofs.Sound.{Says, OnRead, after_on, behind_on, given_on, if_on, starts_is, name_is, same_bytes, term_sound, fact_sound}
 
 -- what goes on behind a mark
 past_on : {B : Type 0} (Q : Says B) (m : List ℕ) (ts : List Word) (k : Reader B) → (ts ≡ mark m ∷ drop 1 ts → OnRead Q (k (drop 1 ts))) → OnRead Q (past m ts k)
@@ -78,22 +78,23 @@ module _ (g : Sig) (m : ℕ) where
   action_from : {k : Action} {a b c : List Word} → IsAction g m k a b → c ≡ a → IsAction g m k c b
   action_from {k = k} {b = b} r e = subst (λ (y : List Word). IsAction g m k y b) (sym e) r
 
-  some_sound : (s : Bool) (w : List ℕ) (n : ℕ) (ts : List Word) → OnRead (λ fs b. AreSomeFacts g m s w fs ts b) (facts_list g m s w n ts)
+  some_sound : (s : Bool) (w : List ℕ) (n : ℕ) (ts : List Word) → OnRead (λ fs b. AreSomeFacts g m s w fs ts b) (list_of w (short_fact g m s) n ts)
   some_sound s w zero ts = tt
   some_sound s w (suc n) ts =
       let Q : Says (List Fact) = λ fs b. AreSomeFacts g m s w fs ts b in
       after_on (ShortFact s ts) Q (short_fact g m s ts) _ (short_fact_sound s ts) (λ f r h.
       if_on Q (starts w r) _ _
       (λ e. facts_last (fact_on h (starts_is w r e)))
-      (λ e. past_on Q (codes ",") r _ (λ x.
-      after_on (λ fs b. AreSomeFacts g m s w fs (drop 1 r) b) Q (facts_list g m s w n (drop 1 r)) _ (some_sound s w n (drop 1 r)) (λ fs y k.
-      facts_more (fact_on h x) k))))
+      (λ e. if_on Q (starts (codes ",") r) _ _
+      (λ c. behind_on (λ fs b. AreSomeFacts g m s w fs (drop 1 r) b) Q (f ∷ []) (list_of w (short_fact g m s) n (drop 1 r)) (some_sound s w n (drop 1 r)) (λ fs y k.
+      facts_more (fact_on h (starts_is (codes ",") r c)) k))
+      (λ c. tt)))
 
   facts_sound : (s : Bool) (w : List ℕ) (ts : List Word) → OnRead (λ fs b. AreFacts g m s w fs ts b) (facts g m s w ts)
   facts_sound s w ts =
       if_on (λ fs b. AreFacts g m s w fs ts b) (starts w ts) _ _
       (λ e. subst (λ (y : List Word). AreFacts g m s w [] y (drop 1 ts)) (sym (starts_is w ts e)) facts_none)
-      (λ e. some (facts_list g m s w (length ts) ts) (some_sound s w (length ts) ts))
+      (λ e. some (list_of w (short_fact g m s) (length ts) ts) (some_sound s w (length ts) ts))
     where
       some : (r : Read (List Fact)) → OnRead (λ fs b. AreSomeFacts g m s w fs ts b) r → OnRead (λ fs b. AreFacts g m s w fs ts b) r
       some None h = tt
@@ -137,13 +138,8 @@ module _ (g : Sig) (m : ℕ) where
       let Q : Says Action = Acts (mark (codes "new") ∷ ts) in
       if_on Q (starts (codes "~") ts) _ _
       (λ e. given_on Q (name_at (drop 1 ts)) _ (λ x f.
-      subst (λ (b : List Word). IsAction g m (new (var Fresh x)) (mark (codes "new") ∷ ts) b) (drop_two ts)
-      (action_from action_new_fresh (ap (λ q. mark (codes "new") ∷ q) (starts_is (codes "~") ts e ∙ ap (λ q. mark (codes "~") ∷ q) (name_is (drop 1 ts) x f))))))
+      action_from action_new_fresh (ap (λ q. mark (codes "new") ∷ q) (starts_is (codes "~") ts e ∙ ap (λ q. mark (codes "~") ∷ q) (name_is (drop 1 ts) x f)))))
       (λ e. given_on Q (name_at ts) _ (λ x f. action_from action_new (ap (λ q. mark (codes "new") ∷ q) (name_is ts x f))))
-    where
-      drop_two : (ts : List Word) → drop 1 (drop 1 ts) ≡ drop 2 ts
-      drop_two [] = refl
-      drop_two (w ∷ ts) = refl
 
   -- a mark and one term behind it
   one_term_sound : (w : List ℕ) (made : Tree → Action) → ((t : Tree) (a b : List Word) → IsShort g m t a b → IsAction g m (made t) (mark w ∷ a) b) → (ts : List Word)

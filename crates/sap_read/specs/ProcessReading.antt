@@ -1,13 +1,14 @@
 -- Reading processes from the left, within a number of levels, as the code does it. No public contract cites this file.
-use Rattle.std.specs.Prelude.{ℕ, zero, suc, ◌+◌, max, Bool, true, false, not, ◌&&◌, ◌||◌, nat_le, if◌then◌else◌, codes, List, [], ◌∷◌, length, drop, Option, Some, None}
+use Rattle.std.specs.Prelude.{ℕ, zero, suc, ◌+◌, max, Bool, true, false, not, ◌&&◌, ◌||◌, nat_le, if◌then◌else◌, codes, List, [], ◌∷◌, drop, Option, Some, None}
 use Rattle.std.specs.Str.{bytes_eq}
 use Rattle.sap_terms.specs.declared.fact.Fact.{Fact}
+use Rattle.sap_terms.specs.declared.var.Sort.{Sort}
 use Rattle.sap_terms.specs.declared.var.Sort.TheVariants.{Msg, Fresh}
 use Rattle.sap_terms.specs.Tree.{Tree, level_count}
 use Rattle.sap_terms.specs.Signature.{Sig}
 use Rattle.sap_read.specs.Words.{Word, mark, name, number, quoted, starts}
 use Rattle.sap_read.specs.Places.{fact_levels}
-use Rattle.sap_read.specs.Reading.{Read, Reader, after, given, name_at, term, fact_at}
+use Rattle.sap_read.specs.Reading.{Read, Reader, after, given, name_at, listed, term, fact_at}
 use Rattle.sap_read.specs.ProcessGrammar.{var}
 use Rattle.sap_process.specs.Action.{Action, new, out, send, input, receive, event, insert, delete, lock, unlock, embedded}
 use Rattle.sap_read.specs.Written.{Written, nil, call, parallel, replicated, act, test, lookup}
@@ -36,15 +37,9 @@ abbrev pub short_fact : Sig → ℕ → Bool → Reader Fact
 short_fact g m allowed ws = after (fact_at (term g m) ws) (λ f r.
     if nat_le (fact_levels f) m then (if f.persistent && not allowed then None else Some (f, r)) else None)
 
--- facts up to the closing mark; the number bounds the turns
-abbrev pub facts_list : Sig → ℕ → Bool → List ℕ → ℕ → Reader (List Fact)
-facts_list g m allowed closing zero ws = None
-facts_list g m allowed closing (suc n) ws = after (short_fact g m allowed ws) (λ f r.
-    if starts closing r then Some (f ∷ [], drop 1 r)
-    else past (codes ",") r (λ s. after (facts_list g m allowed closing n s) (λ fs z. Some (f ∷ fs, z))))
-
+-- facts up to the closing mark
 abbrev pub facts : Sig → ℕ → Bool → List ℕ → Reader (List Fact)
-facts g m allowed closing ws = if starts closing ws then Some ([], drop 1 ws) else facts_list g m allowed closing (length ws) ws
+facts g m allowed closing = listed closing (short_fact g m allowed)
 
 -- one term or two in parentheses
 abbrev pub channel : Sig → ℕ → (Tree → Action) → (Tree → Tree → Action) → Reader Action
@@ -52,11 +47,12 @@ channel g m one two ws = past (codes "(") ws (λ r. after (short_term g m r) (λ
     if starts (codes ")") z then Some (one t, drop 1 z)
     else past (codes ",") z (λ y. after (short_term g m y) (λ u x. past (codes ")") x (λ w. Some (two t u, w))))))
 
--- the variable behind `new`
+-- the variable behind `new` and its sign
+abbrev pub bound_as : Sort → Reader Action
+bound_as sort ws = given (name_at ws) (λ x. Some (new (var sort x), drop 1 ws))
+
 abbrev pub bound : Reader Action
-bound ws =
-    if starts (codes "~") ws then given (name_at (drop 1 ws)) (λ x. Some (new (var Fresh x), drop 2 ws))
-    else given (name_at ws) (λ x. Some (new (var Msg x), drop 1 ws))
+bound ws = if starts (codes "~") ws then bound_as Fresh (drop 1 ws) else bound_as Msg ws
 
 -- the right side of an embedded rule
 abbrev pub right_side : Sig → ℕ → List Fact → List Fact → Reader Action
