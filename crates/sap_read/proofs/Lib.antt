@@ -4,7 +4,9 @@ pub mod Places
 pub mod Steps
 pub mod Lists
 pub mod Levels
+pub mod ProcessSteps
 pub mod Processes
 pub mod ByHand
 pub mod SoundProcesses
+pub mod FactLists
 pub mod Signatures

@@ -1,6 +1,6 @@
 -- What is spelled so is read: facts, actions and processes.
-use Rattle.std.proofs.Common.{rules, ◌≡◌, ◌≤◌, max, ℕ, zero, suc, Bool, true, false, List, ◌∷◌, length, Some, refl, sym, ap, ◌∙◌, arith}
-use Rattle.std.specs.Prelude.{nat_le, codes, ◌&&◌, not, ⊤}
+use Rattle.std.proofs.Common.{◌≡◌, ◌≤◌, max, ℕ, zero, suc, Bool, true, false, List, ◌∷◌, length, Some, refl, sym, ap, ◌∙◌, arith}
+use Rattle.std.specs.Prelude.{codes, ◌&&◌, not, ⊤}
 use Rattle.std.specs.Str.{bytes_eq}
 use Rattle.sap_terms.specs.declared.fact.Fact.{Fact}
 use Rattle.sap_terms.specs.Tree.{Tree, level_count}
@@ -13,10 +13,8 @@ use Rattle.sap_read.specs.ProcessGrammar.{IsShort, IsShortFact, AreSomeFacts, Ar
 use Rattle.sap_read.specs.Places.{fact_levels}
 use Rattle.sap_read.specs.Reading.{Read, Reader, after, given, list_of}
 use Rattle.sap_read.proofs.Complete.{term_read, fact_read, fact_shorter}
+use Rattle.sap_read.proofs.ProcessSteps.{fits}
 use Rattle.sap_read.specs.ProcessReading.{past, short_term, short_fact, facts, Levelled, going_on, seq_at, seq, par}
-
-fits : (m n : ℕ) → m ≤ n → nat_le m n ≡ true
-fits m n le = search rules
 
 short_read : {g : Sig} {m : ℕ} {t : Tree} {a b : List Word} → IsShort g m t a b → starts (codes "(") b ≡ false → short_term g m a ≡ Some (t, b)
 unfolding after

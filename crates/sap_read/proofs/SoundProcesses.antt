@@ -2,14 +2,14 @@
 use Rattle.std.proofs.Common.{rules, ◌≡◌, ◌≤◌, max, ℕ, zero, suc, ◌+◌, Bool, true, false, List, [], ◌∷◌, length, drop, Option, Some, None, refl, sym, ap, subst, ◌∙◌, arith}
 use Rattle.std.specs.Prelude.{nat_le, codes, ◌&&◌, ◌||◌, not}
 use Rattle.sap_terms.specs.declared.fact.Fact.{Fact}
-use Rattle.sap_terms.specs.declared.var.Sort.TheVariants.{Msg, Fresh}
+use Rattle.sap_terms.specs.declared.var.Sort.TheVariants.{Msg}
 use Rattle.sap_terms.specs.Tree.{Tree, level_count}
 use Rattle.sap_terms.specs.Signature.{Sig}
 use Rattle.sap_read.specs.Words.{Word, mark, name, number, quoted, starts}
 use Rattle.sap_read.specs.TermGrammar.{IsTerm}
 use Rattle.sap_read.specs.FactGrammar.{IsFact}
 use Rattle.sap_read.specs.Places.{fact_levels}
-use Rattle.sap_process.specs.Action.{Action, new, out, send, input, receive, event, insert, delete, lock, unlock, embedded}
+use Rattle.sap_process.specs.Action.{Action, out, send, input, receive, event, insert, delete, lock, unlock, embedded}
 use Rattle.sap_read.specs.Written.{Written, nil, call, parallel, test, lookup}
 use Rattle.sap_read.specs.ProcessGrammar.{var, IsShort, IsShortFact, AreSomeFacts, AreFacts, IsAction, IsSeq, IsPar, Ending, facts_last, facts_more, facts_none, facts_some, action_acts, action_delete, action_event, action_input, action_insert, action_lock, action_new, action_new_fresh, action_out, action_receive, action_rule, action_send, action_unlock, closed, dangling, one_bar, two_bars, par_more, par_one, seq_action, seq_call, seq_if, seq_if_else, seq_lookup, seq_lookup_else, seq_nil, seq_parentheses, seq_replicated, seq_then}
 use Rattle.sap_read.specs.Reading.{Read, Reader, after, name_at, list_of, term, fact_at}
@@ -55,7 +55,7 @@ module _ (g : Sig) (m : ℕ) where
       (λ le. record { spelled = h; few_levels = le_of (level_count t) m le })
       (λ le. tt))
 
-  short_fact_sound : (s : Bool) (ts : List Word) → OnRead (ShortFact s ts) (short_fact g m s ts)
+  pub short_fact_sound : (s : Bool) (ts : List Word) → OnRead (ShortFact s ts) (short_fact g m s ts)
   short_fact_sound s ts =
       after_on (λ f b. IsFact g f ts b) (ShortFact s ts) (fact_at (term g m) ts) _ (fact_sound g (term g m) (term_sound g m) ts) (λ f b h.
       if_on (ShortFact s ts) (nat_le (fact_levels f) m) _ _

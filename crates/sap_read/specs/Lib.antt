@@ -19,4 +19,5 @@ pub mod Files
 pub mod Reading
 pub mod View
 pub mod ProcessReading
+pub mod ProcessView
 pub mod ProcessExamples
