@@ -13,7 +13,7 @@ use Rattle.sap_process.specs.Action.{Action, out, send, input, receive, event, i
 use Rattle.sap_read.specs.Written.{Written, nil, call, parallel, test, lookup}
 use Rattle.sap_read.specs.ProcessGrammar.{var, IsShort, IsShortFact, AreSomeFacts, AreFacts, IsAction, IsSeq, IsPar, Ending, facts_last, facts_more, facts_none, facts_some, action_acts, action_delete, action_event, action_input, action_insert, action_lock, action_new, action_new_fresh, action_out, action_receive, action_rule, action_send, action_unlock, closed, dangling, one_bar, two_bars, par_more, par_one, seq_action, seq_call, seq_if, seq_if_else, seq_lookup, seq_lookup_else, seq_nil, seq_parentheses, seq_replicated, seq_then}
 use Rattle.sap_read.specs.Reading.{Read, Reader, after, name_at, list_of, term, fact_at}
-use Rattle.sap_read.specs.ProcessReading.{past, short_term, short_fact, facts, channel, bound, right_side, embedded_rule, action_of, Levelled, branches, condition, looking, going_on, call_or_action, starts_zero, seq_at, par_at, seq, par}
+use Rattle.sap_read.specs.ProcessReading.{past, short_term, short_fact, facts, channel, bound, right_side, embedded_rule, shown_event, inserted, on_term, state_action, action_of, Levelled, branches, condition, looking, going_on, call_or_action, starts_zero, seq_at, par_at, seq, par}
 use Rattle.sap_read.proofs.Processes.{NoElse, seq_some}
 use Rattle.sap_read.proofs.Sound.{Says, OnRead, after_on, behind_on, given_on, if_on, starts_is, name_is, same_bytes, term_sound, fact_sound}
 
@@ -143,22 +143,32 @@ module _ (g : Sig) (m : ℕ) where
 
   -- a mark and one term behind it
   one_term_sound : (w : List ℕ) (made : Tree → Action) → ((t : Tree) (a b : List Word) → IsShort g m t a b → IsAction g m (made t) (mark w ∷ a) b) → (ts : List Word)
-      → OnRead (Acts (mark w ∷ ts)) (after (short_term g m ts) (λ t r. Some (made t, r)))
+      → OnRead (Acts (mark w ∷ ts)) (on_term g m made ts)
   one_term_sound w made one ts = after_on (Short ts) (Acts (mark w ∷ ts)) (short_term g m ts) _ (short_sound ts) (λ t r h. one t ts r h)
 
-  insert_sound : (ts : List Word) → OnRead (Acts (mark (codes "insert") ∷ ts)) (after (short_term g m ts) (λ t r. past (codes ",") r (λ z. after (short_term g m z) (λ u y. Some (insert t u, y)))))
+  insert_sound : (ts : List Word) → OnRead (Acts (mark (codes "insert") ∷ ts)) (inserted g m ts)
   insert_sound ts =
       let Q : Says Action = Acts (mark (codes "insert") ∷ ts) in
       after_on (Short ts) Q (short_term g m ts) _ (short_sound ts) (λ t r h.
       past_on Q (codes ",") r _ (λ w.
       after_on (Short (drop 1 r)) Q (short_term g m (drop 1 r)) _ (short_sound (drop 1 r)) (λ u y k. action_insert (short_on h w) k)))
 
-  event_sound : (ts : List Word) → OnRead (Acts (mark (codes "event") ∷ ts)) (after (short_fact g m false ts) (λ f r. Some (event f, r)))
+  event_sound : (ts : List Word) → OnRead (Acts (mark (codes "event") ∷ ts)) (shown_event g m ts)
   event_sound ts = after_on (ShortFact false ts) (Acts (mark (codes "event") ∷ ts)) (short_fact g m false ts) _ (short_fact_sound false ts) (λ f r h. action_event h)
 
   -- what is read behind a mark, where the mark stands
   at_mark : (w : List ℕ) (ts : List Word) (r : Read Action) → starts w ts ≡ true → OnRead (Acts (mark w ∷ drop 1 ts)) r → OnRead (Acts ts) r
   at_mark w ts r e h = subst (λ (y : List Word). OnRead (Acts y) r) (sym (starts_is w ts e)) h
+
+  state_sound : (ts : List Word) → OnRead (Acts ts) (state_action g m ts)
+  state_sound ts =
+      let Q : Says Action = Acts ts in
+      let r : List Word = drop 1 ts in
+      if_on Q (starts (codes "insert") ts) _ _ (λ e. at_mark (codes "insert") ts _ e (insert_sound r)) (λ _.
+      if_on Q (starts (codes "delete") ts) _ _ (λ e. at_mark (codes "delete") ts _ e (one_term_sound (codes "delete") delete (λ t a b h. action_delete h) r)) (λ _.
+      if_on Q (starts (codes "lock") ts) _ _ (λ e. at_mark (codes "lock") ts _ e (one_term_sound (codes "lock") (λ t. lock t 0) (λ t a b h. action_lock h) r)) (λ _.
+      if_on Q (starts (codes "unlock") ts) _ _ (λ e. at_mark (codes "unlock") ts _ e (one_term_sound (codes "unlock") (λ t. unlock t 0) (λ t a b h. action_unlock h) r)) (λ _.
+      past_on Q (codes "[") ts _ (λ e. subst (λ (y : List Word). OnRead (Acts y) (embedded_rule g m r)) (sym e) (rule_sound r))))))
 
   action_sound : (ts : List Word) → OnRead (Acts ts) (action_of g m ts)
   action_sound ts =
@@ -168,11 +178,7 @@ module _ (g : Sig) (m : ℕ) where
       if_on Q (starts (codes "out") ts) _ _ (λ e. at_mark (codes "out") ts _ e (channel_sound (codes "out") out send (λ t a b h. action_out h) (λ t u a b c h k. action_send h k) r)) (λ _.
       if_on Q (starts (codes "in") ts) _ _ (λ e. at_mark (codes "in") ts _ e (channel_sound (codes "in") input receive (λ t a b h. action_input h) (λ t u a b c h k. action_receive h k) r)) (λ _.
       if_on Q (starts (codes "event") ts) _ _ (λ e. at_mark (codes "event") ts _ e (event_sound r)) (λ _.
-      if_on Q (starts (codes "insert") ts) _ _ (λ e. at_mark (codes "insert") ts _ e (insert_sound r)) (λ _.
-      if_on Q (starts (codes "delete") ts) _ _ (λ e. at_mark (codes "delete") ts _ e (one_term_sound (codes "delete") delete (λ t a b h. action_delete h) r)) (λ _.
-      if_on Q (starts (codes "lock") ts) _ _ (λ e. at_mark (codes "lock") ts _ e (one_term_sound (codes "lock") (λ t. lock t 0) (λ t a b h. action_lock h) r)) (λ _.
-      if_on Q (starts (codes "unlock") ts) _ _ (λ e. at_mark (codes "unlock") ts _ e (one_term_sound (codes "unlock") (λ t. unlock t 0) (λ t a b h. action_unlock h) r)) (λ _.
-      past_on Q (codes "[") ts _ (λ e. subst (λ (y : List Word). OnRead (Acts y) (embedded_rule g m r)) (sym e) (rule_sound r))))))))))
+      state_sound ts))))
 
 -- a process as read: no `else` follows that would belong to it
 pub record Spelled (g : Sig) (m d : ℕ) (ts : List Word) (w : Levelled) (b : List Word) : Type 0 where

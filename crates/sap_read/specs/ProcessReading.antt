@@ -41,11 +41,14 @@ short_fact g m allowed ws = after (fact_at (term g m) ws) (λ f r.
 abbrev pub facts : Sig → ℕ → Bool → List ℕ → Reader (List Fact)
 facts g m allowed closing = listed closing (short_fact g m allowed)
 
+-- a comma, the second of two terms, and a closing parenthesis
+abbrev pub second_term : Sig → ℕ → (Tree → Tree → Action) → Tree → Reader Action
+second_term g m two t ws = past (codes ",") ws (λ r. after (short_term g m r) (λ u z. past (codes ")") z (λ y. Some (two t u, y))))
+
 -- one term or two in parentheses
 abbrev pub channel : Sig → ℕ → (Tree → Action) → (Tree → Tree → Action) → Reader Action
 channel g m one two ws = past (codes "(") ws (λ r. after (short_term g m r) (λ t z.
-    if starts (codes ")") z then Some (one t, drop 1 z)
-    else past (codes ",") z (λ y. after (short_term g m y) (λ u x. past (codes ")") x (λ w. Some (two t u, w))))))
+    if starts (codes ")") z then Some (one t, drop 1 z) else second_term g m two t z))
 
 -- the variable behind `new` and its sign
 abbrev pub bound_as : Sort → Reader Action
@@ -58,22 +61,42 @@ bound ws = if starts (codes "~") ws then bound_as Fresh (drop 1 ws) else bound_a
 abbrev pub right_side : Sig → ℕ → List Fact → List Fact → Reader Action
 right_side g m l e ws = past (codes "[") ws (λ r. after (facts g m true (codes "]") r) (λ fs z. Some (embedded l e fs, z)))
 
+-- the facts that an embedded rule shows, and its right side
+abbrev pub shown_facts : Sig → ℕ → List Fact → Reader Action
+shown_facts g m l ws = past (codes "--[") ws (λ r. after (facts g m false (codes "]->") r) (λ e z. right_side g m l e z))
+
 abbrev pub embedded_rule : Sig → ℕ → Reader Action
 embedded_rule g m ws = after (facts g m true (codes "]") ws) (λ l r.
-    if starts (codes "-->") r then right_side g m l [] (drop 1 r)
-    else past (codes "--[") r (λ z. after (facts g m false (codes "]->") z) (λ e y. right_side g m l e y)))
+    if starts (codes "-->") r then right_side g m l [] (drop 1 r) else shown_facts g m l r)
+
+-- behind `event`
+abbrev pub shown_event : Sig → ℕ → Reader Action
+shown_event g m ws = after (short_fact g m false ws) (λ f r. Some (event f, r))
+
+-- behind `insert`
+abbrev pub inserted : Sig → ℕ → Reader Action
+inserted g m ws = after (short_term g m ws) (λ t r. past (codes ",") r (λ z. after (short_term g m z) (λ u y. Some (insert t u, y))))
+
+-- what is done with one term
+abbrev pub on_term : Sig → ℕ → (Tree → Action) → Reader Action
+on_term g m made ws = after (short_term g m ws) (λ t r. Some (made t, r))
+
+-- what changes the store, holds a term or lets it go, and an embedded rule
+abbrev pub state_action : Sig → ℕ → Reader Action
+state_action g m ws =
+    if starts (codes "insert") ws then inserted g m (drop 1 ws)
+    else if starts (codes "delete") ws then on_term g m delete (drop 1 ws)
+    else if starts (codes "lock") ws then on_term g m (λ t. lock t 0) (drop 1 ws)
+    else if starts (codes "unlock") ws then on_term g m (λ t. unlock t 0) (drop 1 ws)
+    else past (codes "[") ws (embedded_rule g m)
 
 abbrev pub action_of : Sig → ℕ → Reader Action
 action_of g m ws =
     if starts (codes "new") ws then bound (drop 1 ws)
     else if starts (codes "out") ws then channel g m out send (drop 1 ws)
     else if starts (codes "in") ws then channel g m input receive (drop 1 ws)
-    else if starts (codes "event") ws then after (short_fact g m false (drop 1 ws)) (λ f r. Some (event f, r))
-    else if starts (codes "insert") ws then after (short_term g m (drop 1 ws)) (λ t r. past (codes ",") r (λ z. after (short_term g m z) (λ u y. Some (insert t u, y))))
-    else if starts (codes "delete") ws then after (short_term g m (drop 1 ws)) (λ t r. Some (delete t, r))
-    else if starts (codes "lock") ws then after (short_term g m (drop 1 ws)) (λ t r. Some (lock t 0, r))
-    else if starts (codes "unlock") ws then after (short_term g m (drop 1 ws)) (λ t r. Some (unlock t 0, r))
-    else past (codes "[") ws (embedded_rule g m)
+    else if starts (codes "event") ws then shown_event g m (drop 1 ws)
+    else state_action g m ws
 
 -- a process with the levels of its text
 abbrev pub Levelled : Type 0
