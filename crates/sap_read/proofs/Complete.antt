@@ -96,7 +96,7 @@ mutual
   rest_read (rest_last r) (suc d) le = rw (term_read r (suc d) le refl) refl
   rest_read (rest_more r s) (suc d) le = rw (term_read r (suc d) (omega (arith, le)) refl, rest_read s d (omega (arith, le))) refl
 
-  list_read : {g : Sig} {ts : List Tree} {a b : List Word} → IsList g ts a b → (d n : ℕ) → trees_levels (trees_of ts) ≤ d → length a ≤ n → list_of (term g d) n a ≡ Some (ts, b)
+  list_read : {g : Sig} {ts : List Tree} {a b : List Word} → IsList g ts a b → (d n : ℕ) → trees_levels (trees_of ts) ≤ d → length a ≤ n → list_of (codes ")") (term g d) n a ≡ Some (ts, b)
   list_read (list_last r) d zero le long = absurd (omega (arith, long, term_shorter r))
   list_read (list_more r s) d zero le long = absurd (omega (arith, long, term_shorter r))
   list_read (list_last r) d (suc n) le long = rw (term_read r d (omega (arith, le)) refl) refl

@@ -7,10 +7,11 @@ pub mod Headers
 pub mod Parts
 pub mod Lists
 pub mod Levels
-pub mod ProcessReading
+pub mod ProcessSteps
 pub mod Processes
 pub mod ByHand
 pub mod SoundProcesses
+pub mod FactLists
 pub mod Signatures
 pub mod Meaning
 pub mod Kept

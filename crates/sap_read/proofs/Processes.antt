@@ -1,21 +1,20 @@
 -- What is spelled so is read: facts, actions and processes.
-use Rattle.std.proofs.Common.{rules, ◌≡◌, ◌≤◌, max, ℕ, zero, suc, Bool, true, false, List, ◌∷◌, length, Some, refl, sym, ap, ◌∙◌, arith}
-use Rattle.std.specs.Prelude.{nat_le, codes, ◌&&◌, not, ⊤}
+use Rattle.std.proofs.Common.{◌≡◌, ◌≤◌, max, ℕ, zero, suc, Bool, true, false, List, ◌∷◌, length, Some, refl, sym, ap, ◌∙◌, arith}
+use Rattle.std.specs.Prelude.{codes, ◌&&◌, not, ⊤}
 use Rattle.std.specs.Str.{bytes_eq}
 use Rattle.sap_terms.specs.declared.fact.Fact.{Fact}
 use Rattle.sap_terms.specs.Tree.{Tree, level_count}
 use Rattle.sap_terms.specs.Signature.{Sig}
 use Rattle.sap_read.specs.Words.{Word, mark, starts}
 use Rattle.sap_read.specs.FactGrammar.{IsFact, fact_linear, fact_persistent}
+use Rattle.sap_process.specs.Action.{Action}
 use Rattle.sap_read.specs.Written.{Written}
 use Rattle.sap_read.specs.ProcessGrammar.{IsShort, IsShortFact, AreSomeFacts, AreFacts, IsAction, IsSeq, IsPar, Ending, EndsProcess, facts_last, facts_more, facts_none, facts_some, action_acts, action_delete, action_event, action_input, action_insert, action_lock, action_new, action_new_fresh, action_out, action_receive, action_rule, action_send, action_unlock, closed, dangling, one_bar, two_bars, par_more, par_one, seq_action, seq_call, seq_if, seq_if_else, seq_lookup, seq_lookup_else, seq_nil, seq_parentheses, seq_replicated, seq_then}
 use Rattle.sap_read.specs.Places.{fact_levels}
-use Rattle.sap_read.specs.Reading.{Read, Reader, after, given}
+use Rattle.sap_read.specs.Reading.{Read, Reader, after, given, list_of}
 use Rattle.sap_read.proofs.Complete.{term_read, fact_read, fact_shorter}
-use Rattle.sap_read.proofs.ProcessReading.{past, short_term, short_fact, facts_list, facts, Action, Levelled, going_on, seq_at, seq, par}
-
-fits : (m n : ℕ) → m ≤ n → nat_le m n ≡ true
-fits m n le = search rules
+use Rattle.sap_read.proofs.ProcessSteps.{fits}
+use Rattle.sap_read.specs.ProcessReading.{past, short_term, short_fact, facts, Levelled, going_on, seq_at, seq, par}
 
 short_read : {g : Sig} {m : ℕ} {t : Tree} {a b : List Word} → IsShort g m t a b → starts (codes "(") b ≡ false → short_term g m a ≡ Some (t, b)
 unfolding after
@@ -47,8 +46,8 @@ record IsClosing (w : List ℕ) : Type 0 where
   no_sign : bytes_eq (codes "!") w ≡ false
 
 some_read : {g : Sig} {m : ℕ} {s : Bool} {w : List ℕ} {fs : List Fact} {a b : List Word} → IsClosing w → AreSomeFacts g m s w fs a b → (n : ℕ) → length a ≤ n
-    → facts_list g m s w n a ≡ Some (fs, b)
-unfolding after past
+    → list_of w (short_fact g m s) n a ≡ Some (fs, b)
+unfolding after
 some_read is (facts_last r) zero long = absurd (omega (arith, long, fact_shorter r.spelled))
 some_read is (facts_more r rs) zero long = absurd (omega (arith, long, fact_shorter r.spelled))
 some_read is (facts_last r) (suc n) long = rw (one_fact_read r, is.same) refl

@@ -9,7 +9,8 @@ use Rattle.sap_read.specs.Words.{Word}
 use Rattle.sap_read.specs.TermGrammar.{IsTerm, IsRest, IsList, IsArgs, sorted, pair, args_none, args_some, list_last, list_more, rest_last, rest_more, term_constant, term_fresh, term_message, term_pub, term_quoted, term_symbol, term_tuple}
 use Rattle.sap_read.specs.FactGrammar.{IsFact, fact, fact_linear, fact_persistent}
 use Rattle.sap_read.specs.Places.{fact_levels}
-use Rattle.sap_read.specs.Written.{Written, nil, call, parallel, replicated, new, out, send, input, receive, test, event, insert, delete, lookup, lock, unlock, embedded}
+use Rattle.sap_process.specs.Action.{Action, new, out, send, input, receive, event, insert, delete, lock, unlock, embedded}
+use Rattle.sap_read.specs.Written.{Written, nil, call, parallel, replicated, act, test, lookup}
 use Rattle.sap_read.specs.ProcessGrammar.{var, IsShort, IsShortFact, AreSomeFacts, AreFacts, IsAction, IsSeq, IsPar, Ending, facts_last, facts_more, facts_none, facts_some, action_acts, action_delete, action_event, action_input, action_insert, action_lock, action_new, action_new_fresh, action_out, action_receive, action_rule, action_send, action_unlock, par_more, par_one, seq_action, seq_call, seq_if, seq_if_else, seq_lookup, seq_lookup_else, seq_nil, seq_parentheses, seq_replicated, seq_then}
 use Rattle.sap_read.specs.Reading.{is_no_arity, plain}
 use Rattle.sap_read.proofs.Sound.{plain_is}
@@ -100,7 +101,7 @@ module _ (h : Sig) where
   facts_too facts_none = ([], facts_none)
   facts_too (facts_some r) = let us = some_facts_too r in (us.0, facts_some us.1)
 
-  action_too : {g : Sig} {m : ℕ} {k : Written → Written} {a b : List Word} → IsAction g m k a b → (j : Written → Written) × IsAction h m j a b
+  action_too : {g : Sig} {m : ℕ} {k : Action} {a b : List Word} → IsAction g m k a b → (j : Action) × IsAction h m j a b
   action_too (action_new {x = x}) = (new (var Msg x), action_new)
   action_too (action_new_fresh {x = x}) = (new (var Fresh x), action_new_fresh)
   action_too (action_out r) = let u = short_too r in (out u.0, action_out u.1)
@@ -110,8 +111,8 @@ module _ (h : Sig) where
   action_too (action_event r) = let f = short_fact_too r in (event f.0, action_event f.1)
   action_too (action_insert r s) = let u = short_too r in let v = short_too s in (insert u.0 v.0, action_insert u.1 v.1)
   action_too (action_delete r) = let u = short_too r in (delete u.0, action_delete u.1)
-  action_too (action_lock r) = let u = short_too r in (lock u.0, action_lock u.1)
-  action_too (action_unlock r) = let u = short_too r in (unlock u.0, action_unlock u.1)
+  action_too (action_lock r) = let u = short_too r in (lock u.0 0, action_lock u.1)
+  action_too (action_unlock r) = let u = short_too r in (unlock u.0 0, action_unlock u.1)
   action_too (action_rule l r) = let u = facts_too l in let v = facts_too r in (embedded u.0 [] v.0, action_rule u.1 v.1)
   action_too (action_acts l e r) = let u = facts_too l in let v = facts_too e in let w = facts_too r in (embedded u.0 v.0 w.0, action_acts u.1 v.1 w.1)
 
@@ -121,8 +122,8 @@ module _ (h : Sig) where
     seq_too (seq_call {x = x}) = (call x, seq_call)
     seq_too (seq_parentheses r) = let q = par_too r in (q.0, seq_parentheses q.1)
     seq_too (seq_replicated r) = let q = seq_too r in (replicated q.0, seq_replicated q.1)
-    seq_too (seq_action r) = let j = action_too r in (j.0 nil, seq_action j.1)
-    seq_too (seq_then r s) = let j = action_too r in let q = seq_too s in (j.0 q.0, seq_then j.1 q.1)
+    seq_too (seq_action r) = let j = action_too r in (act j.0 nil, seq_action j.1)
+    seq_too (seq_then r s) = let j = action_too r in let q = seq_too s in (act j.0 q.0, seq_then j.1 q.1)
     seq_too (seq_if t u r) = let v = short_too t in let w = short_too u in let q = seq_too r in (test v.0 w.0 q.0 nil, seq_if v.1 w.1 q.1)
     seq_too (seq_if_else t u r s) =
         let v = short_too t in

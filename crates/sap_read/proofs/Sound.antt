@@ -36,7 +36,7 @@ pub if_on : {B : Type 0} (Q : Says B) (c : Bool) (x y : Read B) → (c ≡ true 
 if_on Q true x y t f = t refl
 if_on Q false x y t f = f refl
 
-behind_on : (P Q : Says (List Tree)) (xs : List Tree) (r : Read (List Tree)) → OnRead P r → ((us : List Tree) (b : List Word) → P us b → Q (xs ++ us) b) → OnRead Q (behind xs r)
+pub behind_on : {A : Type 0} (P Q : Says (List A)) (xs : List A) (r : Read (List A)) → OnRead P r → ((us : List A) (b : List Word) → P us b → Q (xs ++ us) b) → OnRead Q (behind xs r)
 behind_on P Q xs None h f = tt
 behind_on P Q xs (Some p) h f = f p.0 p.1 h
 
@@ -96,7 +96,7 @@ abbrev SoundRests : Sig → Reader Tree → Type 0
 SoundRests g u = (ts : List Word) → OnRead (λ t b. IsRest g t ts b) (u ts)
 
 module _ (g : Sig) (u : Reader Tree) (s : SoundTerms g u) where
-  list_sound : (n : ℕ) (ts : List Word) → OnRead (λ us b. IsList g us ts b) (list_of u n ts)
+  list_sound : (n : ℕ) (ts : List Word) → OnRead (λ us b. IsList g us ts b) (list_of (codes ")") u n ts)
   list_sound zero ts = tt
   list_sound (suc n) ts =
       let Q : Says (List Tree) = λ us b. IsList g us ts b in
@@ -104,7 +104,7 @@ module _ (g : Sig) (u : Reader Tree) (s : SoundTerms g u) where
       if_on Q (starts (codes ")") r) _ _
       (λ e. list_last (on h (starts_is (codes ")") r e)))
       (λ e. if_on Q (starts (codes ",") r) _ _
-      (λ c. behind_on (λ us b. IsList g us (drop 1 r) b) Q (t ∷ []) (list_of u n (drop 1 r)) (list_sound n (drop 1 r)) (λ us b k.
+      (λ c. behind_on (λ us b. IsList g us (drop 1 r) b) Q (t ∷ []) (list_of (codes ")") u n (drop 1 r)) (list_sound n (drop 1 r)) (λ us b k.
       list_more (on h (starts_is (codes ",") r c)) k))
       (λ c. tt)))
 
@@ -113,7 +113,7 @@ module _ (g : Sig) (u : Reader Tree) (s : SoundTerms g u) where
       let Q : Says (List Tree) = λ us b. IsArgs g us ts b in
       if_on Q (starts (codes ")") ts) _ _
       (λ e. subst (λ (y : List Word). IsArgs g [] y (drop 1 ts)) (sym (starts_is (codes ")") ts e)) args_none)
-      (λ e. some (list_of u (length ts) ts) (list_sound (length ts) ts))
+      (λ e. some (list_of (codes ")") u (length ts) ts) (list_sound (length ts) ts))
     where
       some : (r : Read (List Tree)) → OnRead (λ us b. IsList g us ts b) r → OnRead (λ us b. IsArgs g us ts b) r
       some None h = tt

@@ -2,19 +2,20 @@
 use Rattle.std.proofs.Common.{rules, ◌≡◌, ◌≤◌, max, ℕ, zero, suc, ◌+◌, Bool, true, false, List, [], ◌∷◌, length, drop, Option, Some, None, refl, sym, ap, subst, ◌∙◌, arith}
 use Rattle.std.specs.Prelude.{nat_le, codes, ◌&&◌, ◌||◌, not}
 use Rattle.sap_terms.specs.declared.fact.Fact.{Fact}
-use Rattle.sap_terms.specs.declared.var.Sort.TheVariants.{Msg, Fresh}
+use Rattle.sap_terms.specs.declared.var.Sort.TheVariants.{Msg}
 use Rattle.sap_terms.specs.Tree.{Tree, level_count}
 use Rattle.sap_terms.specs.Signature.{Sig}
 use Rattle.sap_read.specs.Words.{Word, mark, name, number, quoted, starts}
 use Rattle.sap_read.specs.TermGrammar.{IsTerm}
 use Rattle.sap_read.specs.FactGrammar.{IsFact}
 use Rattle.sap_read.specs.Places.{fact_levels}
-use Rattle.sap_read.specs.Written.{Written, nil, call, parallel, new, out, send, input, receive, test, event, insert, delete, lookup, lock, unlock, embedded}
+use Rattle.sap_process.specs.Action.{Action, out, send, input, receive, event, insert, delete, lock, unlock, embedded}
+use Rattle.sap_read.specs.Written.{Written, nil, call, parallel, test, lookup}
 use Rattle.sap_read.specs.ProcessGrammar.{var, IsShort, IsShortFact, AreSomeFacts, AreFacts, IsAction, IsSeq, IsPar, Ending, facts_last, facts_more, facts_none, facts_some, action_acts, action_delete, action_event, action_input, action_insert, action_lock, action_new, action_new_fresh, action_out, action_receive, action_rule, action_send, action_unlock, closed, dangling, one_bar, two_bars, par_more, par_one, seq_action, seq_call, seq_if, seq_if_else, seq_lookup, seq_lookup_else, seq_nil, seq_parentheses, seq_replicated, seq_then}
-use Rattle.sap_read.specs.Reading.{Read, Reader, after, name_at, term, fact_at}
-use Rattle.sap_read.proofs.ProcessReading.{past, short_term, short_fact, facts_list, facts, Action, channel, bound, right_side, embedded_rule, action_of, Levelled, branches, condition, looking, going_on, call_or_action, starts_zero, seq_at, par_at, seq, par}
+use Rattle.sap_read.specs.Reading.{Read, Reader, after, name_at, list_of, term, fact_at}
+use Rattle.sap_read.specs.ProcessReading.{past, short_term, short_fact, facts, channel, bound, right_side, embedded_rule, shown_event, inserted, on_term, state_action, action_of, Levelled, branches, condition, looking, going_on, call_or_action, starts_zero, seq_at, par_at, seq, par}
 use Rattle.sap_read.proofs.Processes.{NoElse, seq_some}
-use Rattle.sap_read.proofs.Sound.{Says, OnRead, after_on, given_on, if_on, starts_is, name_is, same_bytes, term_sound, fact_sound}
+use Rattle.sap_read.proofs.Sound.{Says, OnRead, after_on, behind_on, given_on, if_on, starts_is, name_is, same_bytes, term_sound, fact_sound}
 
 -- what goes on behind a mark
 past_on : {B : Type 0} (Q : Says B) (m : List ℕ) (ts : List Word) (k : Reader B) → (ts ≡ mark m ∷ drop 1 ts → OnRead Q (k (drop 1 ts))) → OnRead Q (past m ts k)
@@ -54,7 +55,7 @@ module _ (g : Sig) (m : ℕ) where
       (λ le. record { spelled = h; few_levels = le_of (level_count t) m le })
       (λ le. tt))
 
-  short_fact_sound : (s : Bool) (ts : List Word) → OnRead (ShortFact s ts) (short_fact g m s ts)
+  pub short_fact_sound : (s : Bool) (ts : List Word) → OnRead (ShortFact s ts) (short_fact g m s ts)
   short_fact_sound s ts =
       after_on (λ f b. IsFact g f ts b) (ShortFact s ts) (fact_at (term g m) ts) _ (fact_sound g (term g m) (term_sound g m) ts) (λ f b h.
       if_on (ShortFact s ts) (nat_le (fact_levels f) m) _ _
@@ -77,22 +78,23 @@ module _ (g : Sig) (m : ℕ) where
   action_from : {k : Action} {a b c : List Word} → IsAction g m k a b → c ≡ a → IsAction g m k c b
   action_from {k = k} {b = b} r e = subst (λ (y : List Word). IsAction g m k y b) (sym e) r
 
-  some_sound : (s : Bool) (w : List ℕ) (n : ℕ) (ts : List Word) → OnRead (λ fs b. AreSomeFacts g m s w fs ts b) (facts_list g m s w n ts)
+  some_sound : (s : Bool) (w : List ℕ) (n : ℕ) (ts : List Word) → OnRead (λ fs b. AreSomeFacts g m s w fs ts b) (list_of w (short_fact g m s) n ts)
   some_sound s w zero ts = tt
   some_sound s w (suc n) ts =
       let Q : Says (List Fact) = λ fs b. AreSomeFacts g m s w fs ts b in
       after_on (ShortFact s ts) Q (short_fact g m s ts) _ (short_fact_sound s ts) (λ f r h.
       if_on Q (starts w r) _ _
       (λ e. facts_last (fact_on h (starts_is w r e)))
-      (λ e. past_on Q (codes ",") r _ (λ x.
-      after_on (λ fs b. AreSomeFacts g m s w fs (drop 1 r) b) Q (facts_list g m s w n (drop 1 r)) _ (some_sound s w n (drop 1 r)) (λ fs y k.
-      facts_more (fact_on h x) k))))
+      (λ e. if_on Q (starts (codes ",") r) _ _
+      (λ c. behind_on (λ fs b. AreSomeFacts g m s w fs (drop 1 r) b) Q (f ∷ []) (list_of w (short_fact g m s) n (drop 1 r)) (some_sound s w n (drop 1 r)) (λ fs y k.
+      facts_more (fact_on h (starts_is (codes ",") r c)) k))
+      (λ c. tt)))
 
   facts_sound : (s : Bool) (w : List ℕ) (ts : List Word) → OnRead (λ fs b. AreFacts g m s w fs ts b) (facts g m s w ts)
   facts_sound s w ts =
       if_on (λ fs b. AreFacts g m s w fs ts b) (starts w ts) _ _
       (λ e. subst (λ (y : List Word). AreFacts g m s w [] y (drop 1 ts)) (sym (starts_is w ts e)) facts_none)
-      (λ e. some (facts_list g m s w (length ts) ts) (some_sound s w (length ts) ts))
+      (λ e. some (list_of w (short_fact g m s) (length ts) ts) (some_sound s w (length ts) ts))
     where
       some : (r : Read (List Fact)) → OnRead (λ fs b. AreSomeFacts g m s w fs ts b) r → OnRead (λ fs b. AreFacts g m s w fs ts b) r
       some None h = tt
@@ -136,32 +138,37 @@ module _ (g : Sig) (m : ℕ) where
       let Q : Says Action = Acts (mark (codes "new") ∷ ts) in
       if_on Q (starts (codes "~") ts) _ _
       (λ e. given_on Q (name_at (drop 1 ts)) _ (λ x f.
-      subst (λ (b : List Word). IsAction g m (new (var Fresh x)) (mark (codes "new") ∷ ts) b) (drop_two ts)
-      (action_from action_new_fresh (ap (λ q. mark (codes "new") ∷ q) (starts_is (codes "~") ts e ∙ ap (λ q. mark (codes "~") ∷ q) (name_is (drop 1 ts) x f))))))
+      action_from action_new_fresh (ap (λ q. mark (codes "new") ∷ q) (starts_is (codes "~") ts e ∙ ap (λ q. mark (codes "~") ∷ q) (name_is (drop 1 ts) x f)))))
       (λ e. given_on Q (name_at ts) _ (λ x f. action_from action_new (ap (λ q. mark (codes "new") ∷ q) (name_is ts x f))))
-    where
-      drop_two : (ts : List Word) → drop 1 (drop 1 ts) ≡ drop 2 ts
-      drop_two [] = refl
-      drop_two (w ∷ ts) = refl
 
   -- a mark and one term behind it
   one_term_sound : (w : List ℕ) (made : Tree → Action) → ((t : Tree) (a b : List Word) → IsShort g m t a b → IsAction g m (made t) (mark w ∷ a) b) → (ts : List Word)
-      → OnRead (Acts (mark w ∷ ts)) (after (short_term g m ts) (λ t r. Some (made t, r)))
+      → OnRead (Acts (mark w ∷ ts)) (on_term g m made ts)
   one_term_sound w made one ts = after_on (Short ts) (Acts (mark w ∷ ts)) (short_term g m ts) _ (short_sound ts) (λ t r h. one t ts r h)
 
-  insert_sound : (ts : List Word) → OnRead (Acts (mark (codes "insert") ∷ ts)) (after (short_term g m ts) (λ t r. past (codes ",") r (λ z. after (short_term g m z) (λ u y. Some (insert t u, y)))))
+  insert_sound : (ts : List Word) → OnRead (Acts (mark (codes "insert") ∷ ts)) (inserted g m ts)
   insert_sound ts =
       let Q : Says Action = Acts (mark (codes "insert") ∷ ts) in
       after_on (Short ts) Q (short_term g m ts) _ (short_sound ts) (λ t r h.
       past_on Q (codes ",") r _ (λ w.
       after_on (Short (drop 1 r)) Q (short_term g m (drop 1 r)) _ (short_sound (drop 1 r)) (λ u y k. action_insert (short_on h w) k)))
 
-  event_sound : (ts : List Word) → OnRead (Acts (mark (codes "event") ∷ ts)) (after (short_fact g m false ts) (λ f r. Some (event f, r)))
+  event_sound : (ts : List Word) → OnRead (Acts (mark (codes "event") ∷ ts)) (shown_event g m ts)
   event_sound ts = after_on (ShortFact false ts) (Acts (mark (codes "event") ∷ ts)) (short_fact g m false ts) _ (short_fact_sound false ts) (λ f r h. action_event h)
 
   -- what is read behind a mark, where the mark stands
   at_mark : (w : List ℕ) (ts : List Word) (r : Read Action) → starts w ts ≡ true → OnRead (Acts (mark w ∷ drop 1 ts)) r → OnRead (Acts ts) r
   at_mark w ts r e h = subst (λ (y : List Word). OnRead (Acts y) r) (sym (starts_is w ts e)) h
+
+  state_sound : (ts : List Word) → OnRead (Acts ts) (state_action g m ts)
+  state_sound ts =
+      let Q : Says Action = Acts ts in
+      let r : List Word = drop 1 ts in
+      if_on Q (starts (codes "insert") ts) _ _ (λ e. at_mark (codes "insert") ts _ e (insert_sound r)) (λ _.
+      if_on Q (starts (codes "delete") ts) _ _ (λ e. at_mark (codes "delete") ts _ e (one_term_sound (codes "delete") delete (λ t a b h. action_delete h) r)) (λ _.
+      if_on Q (starts (codes "lock") ts) _ _ (λ e. at_mark (codes "lock") ts _ e (one_term_sound (codes "lock") (λ t. lock t 0) (λ t a b h. action_lock h) r)) (λ _.
+      if_on Q (starts (codes "unlock") ts) _ _ (λ e. at_mark (codes "unlock") ts _ e (one_term_sound (codes "unlock") (λ t. unlock t 0) (λ t a b h. action_unlock h) r)) (λ _.
+      past_on Q (codes "[") ts _ (λ e. subst (λ (y : List Word). OnRead (Acts y) (embedded_rule g m r)) (sym e) (rule_sound r))))))
 
   action_sound : (ts : List Word) → OnRead (Acts ts) (action_of g m ts)
   action_sound ts =
@@ -171,11 +178,7 @@ module _ (g : Sig) (m : ℕ) where
       if_on Q (starts (codes "out") ts) _ _ (λ e. at_mark (codes "out") ts _ e (channel_sound (codes "out") out send (λ t a b h. action_out h) (λ t u a b c h k. action_send h k) r)) (λ _.
       if_on Q (starts (codes "in") ts) _ _ (λ e. at_mark (codes "in") ts _ e (channel_sound (codes "in") input receive (λ t a b h. action_input h) (λ t u a b c h k. action_receive h k) r)) (λ _.
       if_on Q (starts (codes "event") ts) _ _ (λ e. at_mark (codes "event") ts _ e (event_sound r)) (λ _.
-      if_on Q (starts (codes "insert") ts) _ _ (λ e. at_mark (codes "insert") ts _ e (insert_sound r)) (λ _.
-      if_on Q (starts (codes "delete") ts) _ _ (λ e. at_mark (codes "delete") ts _ e (one_term_sound (codes "delete") delete (λ t a b h. action_delete h) r)) (λ _.
-      if_on Q (starts (codes "lock") ts) _ _ (λ e. at_mark (codes "lock") ts _ e (one_term_sound (codes "lock") lock (λ t a b h. action_lock h) r)) (λ _.
-      if_on Q (starts (codes "unlock") ts) _ _ (λ e. at_mark (codes "unlock") ts _ e (one_term_sound (codes "unlock") unlock (λ t a b h. action_unlock h) r)) (λ _.
-      past_on Q (codes "[") ts _ (λ e. subst (λ (y : List Word). OnRead (Acts y) (embedded_rule g m r)) (sym e) (rule_sound r))))))))))
+      state_sound ts))))
 
 -- a process as read: no `else` follows that would belong to it
 pub record Spelled (g : Sig) (m d : ℕ) (ts : List Word) (w : Levelled) (b : List Word) : Type 0 where

@@ -21,6 +21,8 @@ pub mod Judged
 pub mod Reading
 pub mod View
 pub mod ItemView
+pub mod ProcessReading
+pub mod ProcessView
 pub mod ProcessExamples
 pub mod Meaning
 pub mod Label

@@ -49,7 +49,7 @@ given None k = None
 given (Some x) k = k x
 
 -- what was read before stands in front
-abbrev pub behind : List Tree → Read (List Tree) → Read (List Tree)
+abbrev pub behind : {A : Type 0} → List A → Read (List A) → Read (List A)
 behind xs None = None
 behind xs (Some p) = Some (xs ++ p.0, p.1)
 
@@ -66,16 +66,21 @@ plain g x = if is_no_arity (arity_of g x) then apply x none else sorted Msg x
 abbrev pub signed : Sort → Reader Tree
 signed s ws = given (name_at ws) (λ x. Some (sorted s x, drop 1 ws))
 
--- terms up to the closing parenthesis; the number bounds the turns
-abbrev pub list_of : Reader Tree → ℕ → Reader (List Tree)
-list_of term zero ws = None
-list_of term (suc n) ws = after (term ws) (λ t r.
-    if starts (codes ")") r then Some (t ∷ [], drop 1 r)
-    else if starts (codes ",") r then behind (t ∷ []) (list_of term n (drop 1 r))
+-- values, one or more, with commas between them and the closing mark behind; the number bounds the turns
+abbrev pub list_of : {A : Type 0} → List ℕ → Reader A → ℕ → Reader (List A)
+list_of closing one zero ws = None
+list_of closing one (suc n) ws = after (one ws) (λ v r.
+    if starts closing r then Some (v ∷ [], drop 1 r)
+    else if starts (codes ",") r then behind (v ∷ []) (list_of closing one n (drop 1 r))
     else None)
 
+-- values, none or more, and the closing mark
+abbrev pub listed : {A : Type 0} → List ℕ → Reader A → Reader (List A)
+listed closing one ws = if starts closing ws then Some ([], drop 1 ws) else list_of closing one (length ws) ws
+
+-- the arguments of a symbol or fact
 abbrev pub args : Reader Tree → Reader (List Tree)
-args term ws = if starts (codes ")") ws then Some ([], drop 1 ws) else list_of term (length ws) ws
+args term = listed (codes ")") term
 
 -- the arguments of this symbol
 abbrev pub symbol : Reader Tree → List ℕ → Reader Tree

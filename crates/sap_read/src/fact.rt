@@ -23,8 +23,9 @@ fn fact(alloc: Global, persistent: bool, name: &[u8], args: TermList) -> Result<
     })
 }
 
+/// Whether each term has at most 100 levels.
 #[tactic(auto, using(crate::proofs::Levels::levels))]
-fn has_few_levels(args: &TermList) -> bool
+pub fn has_few_levels(args: &TermList) -> bool
     ensures { IsTrue result ↔ (trees_levels (trees_of args.now) ≤ 100) }
 {
     for k in 0..args.len() {
@@ -82,8 +83,9 @@ fn read_behind_sign<'a>(
     }
 }
 
+/// A fact whose terms are read so deep at most, and the tokens behind it. As `read_deep` of terms.
 #[tactic(auto, using(crate::proofs::Steps::steps), unfolding(crate::specs::Reading::after))]
-fn read_deep<'a>(
+pub fn read_deep<'a>(
     alloc: Global,
     sig: &Signature,
     bytes: &[u8],

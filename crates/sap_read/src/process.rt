@@ -6,6 +6,9 @@ ghost use Rattle.sap_read.specs.Written.{Written};
 ghost use Rattle.sap_read.specs.ItemGrammar.{IsProcess};
 ghost use Rattle.sap_read.specs.Drafts.{written};
 
+mod actions;
+mod parts;
+
 use crate::draft::Draft;
 use sap_terms::{Mem, Signature};
 use sap_text::Token;

@@ -85,7 +85,7 @@ fn read_list<'a>(
     depth: u32,
     tokens: &'a [Token],
 ) -> Result<Option<(TermList, &'a [Token])>, Mem>
-    ensures { GivesArgs bytes.now result (list_of (term sig.now depth) (length tokens.now) (words_of bytes.now tokens.now)) }
+    ensures { GivesArgs bytes.now result (list_of (codes ")") (term sig.now depth) (length tokens.now) (words_of bytes.now tokens.now)) }
 {
     let mut terms = TermList::new(alloc);
     let mut rest = tokens;

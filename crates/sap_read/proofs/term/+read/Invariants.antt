@@ -1,4 +1,5 @@
 use Rattle.std.proofs.Common.{◌≡◌, ◌≤◌, ◌+◌, ◌*◌, ℕ, length}
+use Rattle.std.specs.Prelude.{codes}
 use Rattle.sap_read.specs.Words.{words_of}
 use Rattle.sap_read.specs.Reading.{behind, list_of, term}
 use Rattle.sap_read.proofs.term.+read.Given as goal
@@ -29,7 +30,7 @@ decreases-read_leaf l = 8 * l.depth + 5
 
 abbrev pub invariant-read_list-loop-rest : goal.invariant-read_list-loop-rest
 invariant-read_list-loop-rest l =
-    (n : ℕ) × (length l.rest ≤ n) × (list_of (term l.fn.sig l.fn.depth) (length l.fn.tokens) (words_of l.fn.bytes l.fn.tokens) ≡ behind l.terms (list_of (term l.fn.sig l.fn.depth) n (words_of l.fn.bytes l.rest)))
+    (n : ℕ) × (length l.rest ≤ n) × (list_of (codes ")") (term l.fn.sig l.fn.depth) (length l.fn.tokens) (words_of l.fn.bytes l.fn.tokens) ≡ behind l.terms (list_of (codes ")") (term l.fn.sig l.fn.depth) n (words_of l.fn.bytes l.rest)))
 
 abbrev pub decreases-read_list-loop-rest : goal.decreases-read_list-loop-rest
 decreases-read_list-loop-rest l = length l.rest

@@ -1,15 +1,17 @@
--- Reading processes from the left, within a number of levels.
-use Rattle.std.specs.Prelude.{ℕ, zero, suc, ◌+◌, max, Bool, true, false, not, ◌&&◌, ◌||◌, nat_le, if◌then◌else◌, codes, List, [], ◌∷◌, length, drop, Option, Some, None}
+-- Reading processes from the left, within a number of levels, as the code does it. No public contract cites this file.
+use Rattle.std.specs.Prelude.{ℕ, zero, suc, ◌+◌, max, Bool, true, false, not, ◌&&◌, ◌||◌, nat_le, if◌then◌else◌, codes, List, [], ◌∷◌, drop, Option, Some, None}
 use Rattle.std.specs.Str.{bytes_eq}
 use Rattle.sap_terms.specs.declared.fact.Fact.{Fact}
+use Rattle.sap_terms.specs.declared.var.Sort.{Sort}
 use Rattle.sap_terms.specs.declared.var.Sort.TheVariants.{Msg, Fresh}
 use Rattle.sap_terms.specs.Tree.{Tree, level_count}
 use Rattle.sap_terms.specs.Signature.{Sig}
 use Rattle.sap_read.specs.Words.{Word, mark, name, number, quoted, starts}
 use Rattle.sap_read.specs.Places.{fact_levels}
-use Rattle.sap_read.specs.Reading.{Read, Reader, after, given, name_at, term, fact_at}
+use Rattle.sap_read.specs.Reading.{Read, Reader, after, given, name_at, listed, term, fact_at}
 use Rattle.sap_read.specs.ProcessGrammar.{var}
-use Rattle.sap_read.specs.Written.{Written, nil, call, parallel, replicated, new, out, send, input, receive, test, event, insert, delete, lookup, lock, unlock, embedded}
+use Rattle.sap_process.specs.Action.{Action, new, out, send, input, receive, event, insert, delete, lock, unlock, embedded}
+use Rattle.sap_read.specs.Written.{Written, nil, call, parallel, replicated, act, test, lookup}
 
 abbrev pub is_zero : Word → Bool
 is_zero (mark s) = false
@@ -35,52 +37,66 @@ abbrev pub short_fact : Sig → ℕ → Bool → Reader Fact
 short_fact g m allowed ws = after (fact_at (term g m) ws) (λ f r.
     if nat_le (fact_levels f) m then (if f.persistent && not allowed then None else Some (f, r)) else None)
 
--- facts up to the closing mark; the number bounds the turns
-abbrev pub facts_list : Sig → ℕ → Bool → List ℕ → ℕ → Reader (List Fact)
-facts_list g m allowed closing zero ws = None
-facts_list g m allowed closing (suc n) ws = after (short_fact g m allowed ws) (λ f r.
-    if starts closing r then Some (f ∷ [], drop 1 r)
-    else past (codes ",") r (λ s. after (facts_list g m allowed closing n s) (λ fs z. Some (f ∷ fs, z))))
-
+-- facts up to the closing mark
 abbrev pub facts : Sig → ℕ → Bool → List ℕ → Reader (List Fact)
-facts g m allowed closing ws = if starts closing ws then Some ([], drop 1 ws) else facts_list g m allowed closing (length ws) ws
+facts g m allowed closing = listed closing (short_fact g m allowed)
 
--- an action: what it makes of the process that follows it
-abbrev pub Action : Type 0
-Action = Written → Written
+-- a comma, the second of two terms, and a closing parenthesis
+abbrev pub second_term : Sig → ℕ → (Tree → Tree → Action) → Tree → Reader Action
+second_term g m two t ws = past (codes ",") ws (λ r. after (short_term g m r) (λ u z. past (codes ")") z (λ y. Some (two t u, y))))
 
 -- one term or two in parentheses
 abbrev pub channel : Sig → ℕ → (Tree → Action) → (Tree → Tree → Action) → Reader Action
 channel g m one two ws = past (codes "(") ws (λ r. after (short_term g m r) (λ t z.
-    if starts (codes ")") z then Some (one t, drop 1 z)
-    else past (codes ",") z (λ y. after (short_term g m y) (λ u x. past (codes ")") x (λ w. Some (two t u, w))))))
+    if starts (codes ")") z then Some (one t, drop 1 z) else second_term g m two t z))
 
--- the variable behind `new`
+-- the variable behind `new` and its sign
+abbrev pub bound_as : Sort → Reader Action
+bound_as sort ws = given (name_at ws) (λ x. Some (new (var sort x), drop 1 ws))
+
 abbrev pub bound : Reader Action
-bound ws =
-    if starts (codes "~") ws then given (name_at (drop 1 ws)) (λ x. Some (new (var Fresh x), drop 2 ws))
-    else given (name_at ws) (λ x. Some (new (var Msg x), drop 1 ws))
+bound ws = if starts (codes "~") ws then bound_as Fresh (drop 1 ws) else bound_as Msg ws
 
 -- the right side of an embedded rule
 abbrev pub right_side : Sig → ℕ → List Fact → List Fact → Reader Action
 right_side g m l e ws = past (codes "[") ws (λ r. after (facts g m true (codes "]") r) (λ fs z. Some (embedded l e fs, z)))
 
+-- the facts that an embedded rule shows, and its right side
+abbrev pub shown_facts : Sig → ℕ → List Fact → Reader Action
+shown_facts g m l ws = past (codes "--[") ws (λ r. after (facts g m false (codes "]->") r) (λ e z. right_side g m l e z))
+
 abbrev pub embedded_rule : Sig → ℕ → Reader Action
 embedded_rule g m ws = after (facts g m true (codes "]") ws) (λ l r.
-    if starts (codes "-->") r then right_side g m l [] (drop 1 r)
-    else past (codes "--[") r (λ z. after (facts g m false (codes "]->") z) (λ e y. right_side g m l e y)))
+    if starts (codes "-->") r then right_side g m l [] (drop 1 r) else shown_facts g m l r)
+
+-- behind `event`
+abbrev pub shown_event : Sig → ℕ → Reader Action
+shown_event g m ws = after (short_fact g m false ws) (λ f r. Some (event f, r))
+
+-- behind `insert`
+abbrev pub inserted : Sig → ℕ → Reader Action
+inserted g m ws = after (short_term g m ws) (λ t r. past (codes ",") r (λ z. after (short_term g m z) (λ u y. Some (insert t u, y))))
+
+-- what is done with one term
+abbrev pub on_term : Sig → ℕ → (Tree → Action) → Reader Action
+on_term g m made ws = after (short_term g m ws) (λ t r. Some (made t, r))
+
+-- what changes the store, holds a term or lets it go, and an embedded rule
+abbrev pub state_action : Sig → ℕ → Reader Action
+state_action g m ws =
+    if starts (codes "insert") ws then inserted g m (drop 1 ws)
+    else if starts (codes "delete") ws then on_term g m delete (drop 1 ws)
+    else if starts (codes "lock") ws then on_term g m (λ t. lock t 0) (drop 1 ws)
+    else if starts (codes "unlock") ws then on_term g m (λ t. unlock t 0) (drop 1 ws)
+    else past (codes "[") ws (embedded_rule g m)
 
 abbrev pub action_of : Sig → ℕ → Reader Action
 action_of g m ws =
     if starts (codes "new") ws then bound (drop 1 ws)
     else if starts (codes "out") ws then channel g m out send (drop 1 ws)
     else if starts (codes "in") ws then channel g m input receive (drop 1 ws)
-    else if starts (codes "event") ws then after (short_fact g m false (drop 1 ws)) (λ f r. Some (event f, r))
-    else if starts (codes "insert") ws then after (short_term g m (drop 1 ws)) (λ t r. past (codes ",") r (λ z. after (short_term g m z) (λ u y. Some (insert t u, y))))
-    else if starts (codes "delete") ws then after (short_term g m (drop 1 ws)) (λ t r. Some (delete t, r))
-    else if starts (codes "lock") ws then after (short_term g m (drop 1 ws)) (λ t r. Some (lock t, r))
-    else if starts (codes "unlock") ws then after (short_term g m (drop 1 ws)) (λ t r. Some (unlock t, r))
-    else past (codes "[") ws (embedded_rule g m)
+    else if starts (codes "event") ws then shown_event g m (drop 1 ws)
+    else state_action g m ws
 
 -- a process with the levels of its text
 abbrev pub Levelled : Type 0
@@ -100,9 +116,9 @@ looking g m seq ws = after (short_term g m ws) (λ t r. past (codes "as") r (λ 
 
 -- behind an action; a missing continuation has one level too
 abbrev pub going_on : Reader Levelled → ℕ → Action → Reader Levelled
-going_on seq d k ws =
-    if starts (codes ";") ws then after (seq (drop 1 ws)) (λ p z. Some ((k p.0, p.1 + 1), z))
-    else if nat_le 1 d then Some ((k nil, 2), ws) else None
+going_on seq d x ws =
+    if starts (codes ";") ws then after (seq (drop 1 ws)) (λ p z. Some ((act x p.0, p.1 + 1), z))
+    else if nat_le 1 d then Some ((act x nil, 2), ws) else None
 
 -- the name of a process, or what an action begins
 abbrev pub call_or_action : Sig → ℕ → Reader Levelled → ℕ → Option (List ℕ) → Reader Levelled

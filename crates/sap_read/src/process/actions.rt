@@ -1,0 +1,296 @@
+//! What a process does before it goes on.
+ghost use Rattle.std.specs.Prelude.{◌≡◌};
+ghost use Rattle.sap_terms.specs.View.{tree};
+ghost use Rattle.sap_read.specs.Words.{words_of};
+ghost use Rattle.sap_read.specs.ProcessReading.{channel, shown_facts, shown_event, second_term, bound_as, bound, right_side, embedded_rule, inserted, on_term, state_action, action_of};
+ghost use Rattle.sap_read.specs.ProcessView.{GivesAction, to_adversary, on_channel, on_one};
+ghost use Rattle.sap_read.specs.Drafts.{doing};
+
+use crate::draft::Doing;
+use crate::look::{beyond, name_at, starts};
+use crate::process::parts::{read_facts, read_short_fact, read_short_term};
+use sap_terms::{FactList, Mem, Name, Signature, Sort, Term, Var};
+use sap_text::Token;
+use std::alloc::Global;
+
+/// Which way a message goes.
+#[derive(Clone, Copy, Debug, PartialEq, Eq)]
+enum Way {
+    Out,
+    In,
+}
+
+/// What is done with one term.
+#[derive(Clone, Copy, Debug, PartialEq, Eq)]
+enum Deed {
+    Delete,
+    Lock,
+    Unlock,
+}
+
+fn alone(way: Way, message: Term) -> Doing
+    ensures { doing result ≡ to_adversary way (tree message) }
+{
+    match way {
+        Way::Out => Doing::Out(message),
+        Way::In => Doing::In(message),
+    }
+}
+
+fn on_channel(way: Way, channel: Term, message: Term) -> Doing
+    ensures { doing result ≡ on_channel way (tree channel) (tree message) }
+{
+    match way {
+        Way::Out => Doing::Send(channel, message),
+        Way::In => Doing::Recv(channel, message),
+    }
+}
+
+fn on_one(deed: Deed, term: Term) -> Doing
+    ensures { doing result ≡ on_one deed (tree term) }
+{
+    match deed {
+        Deed::Delete => Doing::Delete(term),
+        Deed::Lock => Doing::Lock(term),
+        Deed::Unlock => Doing::Unlock(term),
+    }
+}
+
+#[tactic(auto, using(crate::proofs::Steps::steps), unfolding(crate::specs::Reading::after, crate::specs::ProcessReading::past))]
+fn read_message<'a>(
+    alloc: Global,
+    sig: &Signature,
+    bytes: &[u8],
+    way: Way,
+    channel: Term,
+    tokens: &'a [Token],
+) -> Result<Option<(Doing, &'a [Token])>, Mem>
+    ensures { GivesAction bytes.now result (second_term sig.now 100 (on_channel way) (tree channel) (words_of bytes.now tokens.now)) }
+{
+    if !starts(bytes, tokens, ",") {
+        return Ok(None);
+    }
+    let Some((message, rest)) = read_short_term(alloc, sig, bytes, beyond(1, tokens))? else {
+        return Ok(None);
+    };
+    if starts(bytes, rest, ")") {
+        Ok(Some((on_channel(way, channel, message), beyond(1, rest))))
+    } else {
+        Ok(None)
+    }
+}
+
+#[tactic(auto, using(crate::proofs::Steps::steps), unfolding(crate::specs::Reading::after, crate::specs::ProcessReading::past))]
+fn read_channel<'a>(
+    alloc: Global,
+    sig: &Signature,
+    bytes: &[u8],
+    way: Way,
+    tokens: &'a [Token],
+) -> Result<Option<(Doing, &'a [Token])>, Mem>
+    ensures { GivesAction bytes.now result (channel sig.now 100 (to_adversary way) (on_channel way) (words_of bytes.now tokens.now)) }
+{
+    if !starts(bytes, tokens, "(") {
+        return Ok(None);
+    }
+    let Some((term, rest)) = read_short_term(alloc, sig, bytes, beyond(1, tokens))? else {
+        return Ok(None);
+    };
+    if starts(bytes, rest, ")") {
+        Ok(Some((alone(way, term), beyond(1, rest))))
+    } else {
+        read_message(alloc, sig, bytes, way, term, rest)
+    }
+}
+
+#[tactic(auto, using(crate::proofs::Steps::steps), unfolding(crate::specs::Reading::given))]
+fn read_bound_as<'a>(
+    alloc: Global,
+    bytes: &[u8],
+    sort: Sort,
+    tokens: &'a [Token],
+) -> Result<Option<(Doing, &'a [Token])>, Mem>
+    ensures { GivesAction bytes.now result (bound_as sort (words_of bytes.now tokens.now)) }
+{
+    match name_at(bytes, tokens) {
+        None => Ok(None),
+        Some(name) => {
+            let name = Name::from_bytes(alloc, name)?;
+            Ok(Some((Doing::New(Var { name, sort }), beyond(1, tokens))))
+        }
+    }
+}
+
+#[tactic(auto, using(crate::proofs::Steps::steps))]
+fn read_bound<'a>(
+    alloc: Global,
+    bytes: &[u8],
+    tokens: &'a [Token],
+) -> Result<Option<(Doing, &'a [Token])>, Mem>
+    ensures { GivesAction bytes.now result (bound (words_of bytes.now tokens.now)) }
+{
+    if starts(bytes, tokens, "~") {
+        read_bound_as(alloc, bytes, Sort::Fresh, beyond(1, tokens))
+    } else {
+        read_bound_as(alloc, bytes, Sort::Msg, tokens)
+    }
+}
+
+#[tactic(auto, using(crate::proofs::Steps::steps), unfolding(crate::specs::Reading::after, crate::specs::ProcessReading::past))]
+fn read_right_side<'a>(
+    alloc: Global,
+    sig: &Signature,
+    bytes: &[u8],
+    taken: FactList,
+    shown: FactList,
+    tokens: &'a [Token],
+) -> Result<Option<(Doing, &'a [Token])>, Mem>
+    ensures { GivesAction bytes.now result (right_side sig.now 100 taken shown (words_of bytes.now tokens.now)) }
+{
+    if !starts(bytes, tokens, "[") {
+        return Ok(None);
+    }
+    match read_facts(alloc, sig, bytes, true, "]", beyond(1, tokens))? {
+        None => Ok(None),
+        Some((added, rest)) => Ok(Some((Doing::Embedded(taken, shown, added), rest))),
+    }
+}
+
+#[tactic(auto, using(crate::proofs::Steps::steps), unfolding(crate::specs::Reading::after, crate::specs::ProcessReading::past))]
+fn read_shown<'a>(
+    alloc: Global,
+    sig: &Signature,
+    bytes: &[u8],
+    taken: FactList,
+    tokens: &'a [Token],
+) -> Result<Option<(Doing, &'a [Token])>, Mem>
+    ensures { GivesAction bytes.now result (shown_facts sig.now 100 taken (words_of bytes.now tokens.now)) }
+{
+    if !starts(bytes, tokens, "--[") {
+        return Ok(None);
+    }
+    match read_facts(alloc, sig, bytes, false, "]->", beyond(1, tokens))? {
+        None => Ok(None),
+        Some((shown, rest)) => read_right_side(alloc, sig, bytes, taken, shown, rest),
+    }
+}
+
+#[tactic(auto, using(crate::proofs::Steps::steps), unfolding(crate::specs::Reading::after, crate::specs::ProcessReading::past))]
+fn read_rule<'a>(
+    alloc: Global,
+    sig: &Signature,
+    bytes: &[u8],
+    tokens: &'a [Token],
+) -> Result<Option<(Doing, &'a [Token])>, Mem>
+    ensures { GivesAction bytes.now result (embedded_rule sig.now 100 (words_of bytes.now tokens.now)) }
+{
+    let Some((taken, rest)) = read_facts(alloc, sig, bytes, true, "]", tokens)? else {
+        return Ok(None);
+    };
+    if starts(bytes, rest, "-->") {
+        read_right_side(alloc, sig, bytes, taken, FactList::new(alloc), beyond(1, rest))
+    } else {
+        read_shown(alloc, sig, bytes, taken, rest)
+    }
+}
+
+#[tactic(auto, using(crate::proofs::Steps::steps), unfolding(crate::specs::Reading::after))]
+fn read_event<'a>(
+    alloc: Global,
+    sig: &Signature,
+    bytes: &[u8],
+    tokens: &'a [Token],
+) -> Result<Option<(Doing, &'a [Token])>, Mem>
+    ensures { GivesAction bytes.now result (shown_event sig.now 100 (words_of bytes.now tokens.now)) }
+{
+    match read_short_fact(alloc, sig, bytes, false, tokens)? {
+        None => Ok(None),
+        Some((fact, rest)) => Ok(Some((Doing::Event(fact), rest))),
+    }
+}
+
+#[tactic(auto, using(crate::proofs::Steps::steps), unfolding(crate::specs::Reading::after, crate::specs::ProcessReading::past))]
+fn read_insert<'a>(
+    alloc: Global,
+    sig: &Signature,
+    bytes: &[u8],
+    tokens: &'a [Token],
+) -> Result<Option<(Doing, &'a [Token])>, Mem>
+    ensures { GivesAction bytes.now result (inserted sig.now 100 (words_of bytes.now tokens.now)) }
+{
+    let Some((key, next)) = read_short_term(alloc, sig, bytes, tokens)? else {
+        return Ok(None);
+    };
+    if !starts(bytes, next, ",") {
+        return Ok(None);
+    }
+    match read_short_term(alloc, sig, bytes, beyond(1, next))? {
+        None => Ok(None),
+        Some((value, rest)) => Ok(Some((Doing::Insert(key, value), rest))),
+    }
+}
+
+#[tactic(auto, using(crate::proofs::Steps::steps), unfolding(crate::specs::Reading::after))]
+fn read_deed<'a>(
+    alloc: Global,
+    sig: &Signature,
+    bytes: &[u8],
+    deed: Deed,
+    tokens: &'a [Token],
+) -> Result<Option<(Doing, &'a [Token])>, Mem>
+    ensures { GivesAction bytes.now result (on_term sig.now 100 (on_one deed) (words_of bytes.now tokens.now)) }
+{
+    match read_short_term(alloc, sig, bytes, tokens)? {
+        None => Ok(None),
+        Some((term, rest)) => Ok(Some((on_one(deed, term), rest))),
+    }
+}
+
+#[tactic(auto, using(crate::proofs::Steps::steps), unfolding(crate::specs::ProcessReading::past))]
+fn read_state_action<'a>(
+    alloc: Global,
+    sig: &Signature,
+    bytes: &[u8],
+    tokens: &'a [Token],
+) -> Result<Option<(Doing, &'a [Token])>, Mem>
+    ensures { GivesAction bytes.now result (state_action sig.now 100 (words_of bytes.now tokens.now)) }
+{
+    let next = beyond(1, tokens);
+    if starts(bytes, tokens, "insert") {
+        read_insert(alloc, sig, bytes, next)
+    } else if starts(bytes, tokens, "delete") {
+        read_deed(alloc, sig, bytes, Deed::Delete, next)
+    } else if starts(bytes, tokens, "lock") {
+        read_deed(alloc, sig, bytes, Deed::Lock, next)
+    } else if starts(bytes, tokens, "unlock") {
+        read_deed(alloc, sig, bytes, Deed::Unlock, next)
+    } else if starts(bytes, tokens, "[") {
+        read_rule(alloc, sig, bytes, next)
+    } else {
+        Ok(None)
+    }
+}
+
+/// What the tokens begin with that a process does before it goes on, and the tokens behind it.
+#[tactic(auto, using(crate::proofs::Steps::steps))]
+pub fn read_action<'a>(
+    alloc: Global,
+    sig: &Signature,
+    bytes: &[u8],
+    tokens: &'a [Token],
+) -> Result<Option<(Doing, &'a [Token])>, Mem>
+    ensures { GivesAction bytes.now result (action_of sig.now 100 (words_of bytes.now tokens.now)) }
+{
+    let next = beyond(1, tokens);
+    if starts(bytes, tokens, "new") {
+        read_bound(alloc, bytes, next)
+    } else if starts(bytes, tokens, "out") {
+        read_channel(alloc, sig, bytes, Way::Out, next)
+    } else if starts(bytes, tokens, "in") {
+        read_channel(alloc, sig, bytes, Way::In, next)
+    } else if starts(bytes, tokens, "event") {
+        read_event(alloc, sig, bytes, next)
+    } else {
+        read_state_action(alloc, sig, bytes, tokens)
+    }
+}
