@@ -1,4 +1,4 @@
-use Rattle.std.proofs.Common.{◌≡◌, refl}
+use Rattle.std.proofs.Common.{refl}
 use Rattle.sap_terms.specs.Modulo.{instance_fact}
 use Rattle.sap_terms.specs.Subst.{bound_to}
 use Rattle.sap_process.proofs.OtherNames.{map_got}
