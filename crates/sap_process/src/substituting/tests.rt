@@ -293,15 +293,31 @@ fn bindings(alloc: Global) -> Result<Bindings, Mem> {
     Ok(b)
 }
 
+fn changed(alloc: Global, text: &[u8], b: &Bindings) -> Result<Process, Mem> {
+    let p = read(alloc, text)?;
+    substitute(alloc, &p, b)
+}
+
+fn written(alloc: Global, p: &Process) -> Result<Vec<u8>, Mem> {
+    let mut text = Vec::new(alloc);
+    write(&mut text, p)?;
+    Ok(text)
+}
+
+fn changed_text(alloc: Global, text: &[u8], b: &Bindings) -> Result<Vec<u8>, Mem> {
+    let p = changed(alloc, text, b)?;
+    written(alloc, &p)
+}
+
 // Whether the row's first process, with these bindings, is its second.
 fn gives(alloc: Global, b: &Bindings, row: &str) -> Result<bool, Mem> {
-    let Some((before, after)) = row.split_once(" gives ") else {
-        return Ok(false);
-    };
-    let made = substitute(alloc, &read(alloc, before.as_bytes())?, b)?;
-    let mut text = Vec::new(alloc);
-    write(&mut text, &made)?;
-    Ok(text.as_slice() == after.as_bytes())
+    match row.split_once(" gives ") {
+        Some((before, after)) => {
+            let text = changed_text(alloc, before.as_bytes(), b)?;
+            Ok(text.as_slice() == after.as_bytes())
+        }
+        None => Ok(false),
+    }
 }
 
 fn first_wrong(alloc: Global, rows: &str) -> Result<Option<u64>, Mem> {
