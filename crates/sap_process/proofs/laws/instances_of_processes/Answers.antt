@@ -1,0 +1,8 @@
+use Rattle.sap_process.proofs.InstanceLemmas.{process_unchanged, one_instance}
+use Rattle.sap_process.proofs.laws.instances_of_processes.Goals as goal
+
+pub returns-clause-unchanged : goal.returns-clause-unchanged
+returns-clause-unchanged c = process_unchanged
+
+pub returns-clause-agreeing : goal.returns-clause-agreeing
+returns-clause-agreeing c = one_instance
