@@ -1,7 +1,8 @@
 // Laws of the definitions, as contracts of functions that do nothing.
-ghost use Rattle.std.specs.Prelude.{◌≡◌, [], ◌∷◌, Some, None};
+ghost use Rattle.std.specs.Prelude.{◌≡◌, ◌⊎◌, [], ◌∷◌, Some, None};
 ghost use Rattle.sap_terms.specs.AdversaryFacts.{k_fact};
-ghost use Rattle.sap_terms.specs.Choice.{Choice};
+ghost use Rattle.sap_terms.specs.Choice.{Choice, instance};
+ghost use Rattle.sap_terms.specs.Ground.{IsGround};
 ghost use Rattle.sap_terms.specs.Signature.{Sig, pairs_alone};
 ghost use Rattle.sap_terms.specs.Tree.{variable, fresh};
 ghost use Rattle.sap_terms.specs.declared.var.Var.{Var};
@@ -59,9 +60,12 @@ pub fn traces_by_hand()
     ensures { (g : Sig) → IsProcessTrace g input_shown ((k_fact a ∷ []) ∷ (shown_fact a ∷ []) ∷ []) }
 {}
 
-/// A law: the instance of a process under the choice that leaves each variable as it is, is the process; and two choices that
-/// agree on each variable give one instance.
+/// A law: the instance of a process under the choice that leaves each variable as it is, is the process; two choices that
+/// agree on each variable give one instance; and an instance of an instance is one instance, where the first choice has only
+/// ground terms, so that nothing of them is bound by the process.
 pub fn instances_of_processes()
     ensures unchanged { (p : Proc) → process_instance (λ v. variable v) p ≡ p }
     ensures agreeing { (s t : Choice) → ((v : Var) → s v ≡ t v) → (p : Proc) → process_instance s p ≡ process_instance t p }
+    ensures twice { (p : Proc) (s t : Choice) → ((v : Var) → IsGround (s v) ⊎ (s v ≡ variable v))
+        → process_instance t (process_instance s p) ≡ process_instance (λ v. instance t (s v)) p }
 {}
