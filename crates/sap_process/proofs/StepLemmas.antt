@@ -1,5 +1,5 @@
 -- Names and pairs are normal, what the adversary can give, and that 'a' and 'b' differ under each theory.
-use Rattle.std.proofs.Common.{◌≡◌, ◌<◌, ℕ, zero, suc, List, [], ◌∷◌, Bool, true, false, ◌||◌, Some, Option, None, refl, sym, ap, ◌∙◌, inl, inr, lit<, arith}
+use Rattle.std.proofs.Common.{◌≡◌, ◌<◌, ℕ, zero, suc, List, [], ◌∷◌, Bool, true, false, ◌||◌, Option, None, refl, sym, ap, ◌∙◌, inl, inr, lit<, arith}
 use Rattle.std.specs.Prelude.{Contains, slice_index_or, if◌then◌else◌}
 use Rattle.std.specs.Str.{bytes_eq}
 use Rattle.std.proofs.Math.Path.{fun_ext}
@@ -108,12 +108,13 @@ sent_deducible g own k = record {
 pub none_has : (n : ℕ) → ¬ Contains [] n
 none_has n h = let p : h.0 < 0 = h.1 in omega arith
 
-not_there : (k : ℕ) → k < 1 → ¬ (◌≡◌ {A = ℕ} (slice_index_or (4 ∷ []) k 5) 5)
-not_there zero h e = let p : ◌≡◌ {A = ℕ} 4 5 = e in omega arith
-not_there (suc k) h e = omega arith
+alone_at : (m n k : ℕ) → k < 1 → slice_index_or (m ∷ []) k n ≡ n → m ≡ n
+alone_at m n zero h e = e
+alone_at m n (suc k) h e = omega arith
 
-pub four_has_no_five : ¬ Contains {X = ℕ} (4 ∷ []) 5
-four_has_no_five h = not_there h.0 h.1 h.2
+-- a list of one name has no other name
+pub no_other : (m n : ℕ) → ¬ (m ≡ n) → ¬ Contains (m ∷ []) n
+no_other m n other h = other (alone_at m n h.0 h.1 h.2)
 
 -- The value of a tree in a model of all equations: `fst`, `sdec` and `adec` take the first part of their argument, `snd` its
 -- second part, and `verify` holds always.

@@ -12,14 +12,16 @@ ghost use Rattle.sap_process.specs.Proc.{Proc, nil, parallel, replicated, act, t
 ghost use Rattle.sap_process.specs.ProcessSteps.{ProcessStep, IsProcessTrace};
 ghost use Rattle.sap_process.specs.StepExamples.{a, b, c, x, var_x, pair, first_of_pair, shown_fact, left_fact, right_fact, showing, running, alone, only, just, input_shown};
 
-/// A law: a small step of each kind.
+/// A law: a small step of each kind, from one configuration to the next. Where `fst(<'a','b'>)` is written, 'a' is sent, shown,
+/// looked up, held or the key of the store; what an input or an embedded rule binds is put into the process that goes on; a new
+/// name is one that neither processes nor the adversary have; and 'a' and 'b' differ under each theory.
 pub fn steps_by_hand()
     ensures ends { (g : Sig) → ProcessStep g (alone nil) [] (running (None ∷ [])) }
     ensures splits { (g : Sig) → ProcessStep g (alone (parallel (showing a) (showing b))) [] (running (Some (showing a) ∷ Some (showing b) ∷ [])) }
     ensures copies { (g : Sig) → ProcessStep g (alone (replicated (showing a))) []
         (running (Some (replicated (showing a)) ∷ Some (showing a) ∷ [])) }
-    ensures makes_name { (g : Sig) → ProcessStep g (record (alone (act (new x) (showing var_x))) { made = 4 ∷ [] }) []
-        (record (alone (showing (fresh 5))) { made = 4 ∷ 5 ∷ [] }) }
+    ensures makes_name { (g : Sig) → ProcessStep g (record (alone (act (new x) (showing var_x))) { made = 4 ∷ []; own = 3 ∷ [] }) []
+        (record (alone (showing (fresh 5))) { made = 4 ∷ 5 ∷ []; own = 3 ∷ [] }) }
     ensures outputs { (g : Sig) → ProcessStep g (alone (act (out first_of_pair) (showing b))) []
         (record (alone (showing b)) { frame = a ∷ [] }) }
     ensures outputs_on { (g : Sig) → ProcessStep g (alone (act (send c first_of_pair) (showing b))) (k_fact c ∷ [])
@@ -49,8 +51,8 @@ pub fn steps_by_hand()
     ensures embeds { (g : Sig) → ProcessStep g
         (record (alone (act (embedded (left_fact var_x ∷ []) (shown_fact var_x ∷ []) (right_fact var_x ∷ [])) (showing var_x))) { facts = Some (left_fact a) ∷ [] })
         (shown_fact a ∷ []) (record (alone (showing a)) { facts = None ∷ Some (right_fact a) ∷ [] }) }
-    ensures adversary_makes { (g : Sig) → ProcessStep g (record (alone nil) { made = 4 ∷ [] }) []
-        (record (alone nil) { made = 4 ∷ []; own = 5 ∷ [] }) }
+    ensures adversary_makes { (g : Sig) → ProcessStep g (record (alone nil) { made = 4 ∷ []; own = 3 ∷ [] }) []
+        (record (alone nil) { made = 4 ∷ []; own = 3 ∷ 5 ∷ [] }) }
     ensures knows { (g : Sig) → ProcessStep g (record (alone nil) { made = 4 ∷ []; frame = fresh 4 ∷ [] }) (k_fact (fresh 4) ∷ [])
         (record (alone nil) { made = 4 ∷ []; frame = fresh 4 ∷ [] }) }
 {}
@@ -61,8 +63,8 @@ pub fn traces_by_hand()
 {}
 
 /// A law: the instance of a process under the choice that leaves each variable as it is, is the process; two choices that
-/// agree on each variable give one instance; and an instance of an instance is one instance, where the first choice has only
-/// ground terms, so that nothing of them is bound by the process.
+/// agree on each variable give one instance; and an instance of an instance is one instance, where the first choice has a
+/// ground term for each variable that it doesn't leave as it is, so that the process binds nothing of what is put in.
 pub fn instances_of_processes()
     ensures unchanged { (p : Proc) → process_instance (λ v. variable v) p ≡ p }
     ensures agreeing { (s t : Choice) → ((v : Var) → s v ≡ t v) → (p : Proc) → process_instance s p ≡ process_instance t p }

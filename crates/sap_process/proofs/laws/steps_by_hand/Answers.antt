@@ -1,4 +1,4 @@
-use Rattle.std.proofs.Common.{[], ◌∷◌, refl, subst}
+use Rattle.std.proofs.Common.{[], ◌∷◌, refl, subst, arith}
 use Rattle.std.specs.Prelude.{codes}
 use Rattle.sap_terms.specs.Equal.{same, next, forward}
 use Rattle.sap_terms.specs.Piles.{one, nothing}
@@ -8,7 +8,7 @@ use Rattle.sap_process.specs.StepExamples.{a, b, first_of_pair, showing, alone, 
 use Rattle.sap_process.specs.Action.{delete, unlock}
 use Rattle.sap_process.specs.Configuration.{Config}
 use Rattle.sap_process.specs.Proc.{act}
-use Rattle.sap_process.proofs.StepLemmas.{first_form, own_form, names, names_messages, gives_public, gives_pair, sent_deducible, fresh_normal, none_has, four_has_no_five, a_differs, emptied, released}
+use Rattle.sap_process.proofs.StepLemmas.{first_form, own_form, names, names_messages, gives_public, gives_pair, sent_deducible, fresh_normal, no_other, a_differs, emptied, released}
 use Rattle.sap_process.proofs.laws.steps_by_hand.Goals as goal
 
 pub returns-clause-ends : goal.returns-clause-ends
@@ -21,7 +21,7 @@ pub returns-clause-copies : goal.returns-clause-copies
 returns-clause-copies c = λ g. copies 0 refl
 
 pub returns-clause-makes_name : goal.returns-clause-makes_name
-returns-clause-makes_name c = λ g. makes_name 0 5 refl (four_has_no_five, none_has 5)
+returns-clause-makes_name c = λ g. makes_name 0 5 refl (no_other 4 5 (λ e. omega arith), no_other 3 5 (λ e. omega arith))
 
 pub returns-clause-outputs : goal.returns-clause-outputs
 returns-clause-outputs c = λ g. outputs 0 refl (first_form (theory g))
@@ -79,7 +79,7 @@ returns-clause-embeds c = λ g. embeds 0 (0 ∷ []) names (left_fact a ∷ []) (
     (record { name = refl; persistent = refl; args = (own_form (theory g) (codes "a"), tt) }, tt)
 
 pub returns-clause-adversary_makes : goal.returns-clause-adversary_makes
-returns-clause-adversary_makes c = λ g. adversary_makes 5 (four_has_no_five, none_has 5)
+returns-clause-adversary_makes c = λ g. adversary_makes 5 (no_other 4 5 (λ e. omega arith), no_other 3 5 (λ e. omega arith))
 
 pub returns-clause-knows : goal.returns-clause-knows
 returns-clause-knows c = λ g. knows _ (record { deducible = sent_deducible g [] 4; normal = fresh_normal (theory g) 4 })

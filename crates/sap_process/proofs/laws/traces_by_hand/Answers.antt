@@ -1,4 +1,4 @@
-use Rattle.std.proofs.Common.{[], ◌∷◌, refl}
+use Rattle.std.proofs.Common.{refl}
 use Rattle.std.specs.Prelude.{codes}
 use Rattle.sap_terms.specs.Equal.{same}
 use Rattle.sap_terms.specs.Theory.{theory}
