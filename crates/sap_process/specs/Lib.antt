@@ -10,3 +10,4 @@ pub mod Instance
 pub mod Sorted
 pub mod Configuration
 pub mod ProcessSteps
+pub mod StepExamples

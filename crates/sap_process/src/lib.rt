@@ -4,8 +4,12 @@
 mod checking;
 mod copying;
 mod flaw;
+mod laws;
 mod process;
+mod substituting;
 
 pub use checking::well_formed;
 pub use flaw::{Flaw, Ill};
+pub use laws::{instances_of_processes, steps_by_hand, traces_by_hand};
 pub use process::Process;
+pub use substituting::substitute;

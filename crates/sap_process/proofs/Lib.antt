@@ -1,0 +1,3 @@
+pub mod OtherNames
+pub mod InstanceLemmas
+pub mod StepLemmas

@@ -1,0 +1,70 @@
+-- Small processes and configurations, to try the steps of processes by hand.
+use Rattle.std.specs.Prelude.{Bool, true, false, codes, List, [], ◌∷◌, Option, Some, None, if◌then◌else◌}
+use Rattle.sap_terms.specs.AdversaryFacts.{linear}
+use Rattle.sap_terms.specs.Same.{same_tree}
+use Rattle.sap_terms.specs.Theory.{app1, app2, fst_name, pair_name}
+use Rattle.sap_terms.specs.Tree.{Tree, variable, public}
+use Rattle.sap_terms.specs.declared.fact.Fact.{Fact}
+use Rattle.sap_terms.specs.declared.var.Sort.TheVariants.{Msg}
+use Rattle.sap_terms.specs.declared.var.Var.{Var}
+use Rattle.sap_process.specs.Action.{event, input}
+use Rattle.sap_process.specs.Configuration.{Config}
+use Rattle.sap_process.specs.Proc.{Proc, nil, act}
+
+-- 'a', 'b' and 'c'
+abbrev pub a : Tree
+a = public (codes "a")
+
+abbrev pub b : Tree
+b = public (codes "b")
+
+abbrev pub c : Tree
+c = public (codes "c")
+
+-- x, and the term x
+abbrev pub x : Var
+x = record { name = codes "x"; sort = Msg }
+
+abbrev pub var_x : Tree
+var_x = variable x
+
+abbrev pub pair : Tree → Tree → Tree
+pair t u = app2 pair_name t u
+
+-- fst(<'a','b'>), whose normal form is 'a'
+abbrev pub first_of_pair : Tree
+first_of_pair = app1 fst_name (pair a b)
+
+-- A(t), L(t) and M(t)
+abbrev pub shown_fact : Tree → Fact
+shown_fact t = linear (codes "A") (t ∷ [])
+
+abbrev pub left_fact : Tree → Fact
+left_fact t = linear (codes "L") (t ∷ [])
+
+abbrev pub right_fact : Tree → Fact
+right_fact t = linear (codes "M") (t ∷ [])
+
+-- event A(t)
+abbrev pub showing : Tree → Proc
+showing t = act (event (shown_fact t)) nil
+
+-- these threads, and nothing else
+abbrev pub running : List (Option Proc) → Config
+running ps = record { made = []; own = []; store = λ y. None; facts = []; threads = ps; frame = []; held = λ y. false }
+
+-- one thread, and nothing else
+abbrev pub alone : Proc → Config
+alone p = running (Some p ∷ [])
+
+-- the store that has the second at the first, and nothing elsewhere
+abbrev pub only : Tree → Tree → Tree → Option Tree
+only k v y = if same_tree k y then Some v else None
+
+-- of all terms this one is held
+abbrev pub just : Tree → Tree → Bool
+just k y = if same_tree k y then true else false
+
+-- in(x); event A(x)
+abbrev pub input_shown : Proc
+input_shown = act (input var_x) (showing var_x)

@@ -1,0 +1,73 @@
+// Laws of the definitions, as contracts of functions that do nothing.
+ghost use Rattle.std.specs.Prelude.{◌≡◌, ◌⊎◌, [], ◌∷◌, Some, None};
+ghost use Rattle.sap_terms.specs.AdversaryFacts.{k_fact};
+ghost use Rattle.sap_terms.specs.Choice.{Choice, instance};
+ghost use Rattle.sap_terms.specs.Ground.{IsGround};
+ghost use Rattle.sap_terms.specs.Signature.{Sig, pairs_alone};
+ghost use Rattle.sap_terms.specs.Tree.{variable, fresh};
+ghost use Rattle.sap_terms.specs.declared.var.Var.{Var};
+ghost use Rattle.sap_process.specs.Action.{new, out, send, input, receive, insert, delete, lock, unlock, embedded};
+ghost use Rattle.sap_process.specs.Instance.{process_instance};
+ghost use Rattle.sap_process.specs.Proc.{Proc, nil, parallel, replicated, act, test, lookup};
+ghost use Rattle.sap_process.specs.ProcessSteps.{ProcessStep, IsProcessTrace};
+ghost use Rattle.sap_process.specs.StepExamples.{a, b, c, x, var_x, pair, first_of_pair, shown_fact, left_fact, right_fact, showing, running, alone, only, just, input_shown};
+
+/// A law: a small step of each kind, from one configuration to the next. Where `fst(<'a','b'>)` is written, 'a' is sent, shown,
+/// looked up, held or the key of the store; what an input or an embedded rule binds is put into the process that goes on; a new
+/// name is one that neither processes nor the adversary have; and 'a' and 'b' differ under each theory.
+pub fn steps_by_hand()
+    ensures ends { (g : Sig) → ProcessStep g (alone nil) [] (running (None ∷ [])) }
+    ensures splits { (g : Sig) → ProcessStep g (alone (parallel (showing a) (showing b))) [] (running (Some (showing a) ∷ Some (showing b) ∷ [])) }
+    ensures copies { (g : Sig) → ProcessStep g (alone (replicated (showing a))) []
+        (running (Some (replicated (showing a)) ∷ Some (showing a) ∷ [])) }
+    ensures makes_name { (g : Sig) → ProcessStep g (record (alone (act (new x) (showing var_x))) { made = 4 ∷ []; own = 3 ∷ [] }) []
+        (record (alone (showing (fresh 5))) { made = 4 ∷ 5 ∷ []; own = 3 ∷ [] }) }
+    ensures outputs { (g : Sig) → ProcessStep g (alone (act (out first_of_pair) (showing b))) []
+        (record (alone (showing b)) { frame = a ∷ [] }) }
+    ensures outputs_on { (g : Sig) → ProcessStep g (alone (act (send c first_of_pair) (showing b))) (k_fact c ∷ [])
+        (record (alone (showing b)) { frame = a ∷ [] }) }
+    ensures inputs { ProcessStep pairs_alone (alone (act (input (pair var_x b)) (showing var_x))) (k_fact (pair a b) ∷ [])
+        (alone (showing a)) }
+    ensures inputs_on { ProcessStep pairs_alone (alone (act (receive c var_x) (showing var_x))) (k_fact (pair c a) ∷ [])
+        (alone (showing a)) }
+    ensures meets { (g : Sig) → ProcessStep g
+        (record (running (Some (act (send (fresh 4) a) (showing b)) ∷ Some (act (receive (fresh 4) var_x) (showing var_x)) ∷ [])) { made = 4 ∷ [] })
+        [] (record (running (Some (showing b) ∷ Some (showing a) ∷ [])) { made = 4 ∷ [] }) }
+    ensures agrees { (g : Sig) → ProcessStep g (alone (test first_of_pair a (showing a) (showing b))) [] (alone (showing a)) }
+    ensures differs { (g : Sig) → ProcessStep g (alone (test a b (showing a) (showing b))) [] (alone (showing b)) }
+    ensures shows { (g : Sig) → ProcessStep g (alone (showing first_of_pair)) (shown_fact a ∷ []) (alone nil) }
+    ensures inserts { (g : Sig) → ProcessStep g (alone (act (insert first_of_pair b) (showing a))) []
+        (record (alone (showing a)) { store = only a b }) }
+    ensures deletes { (g : Sig) → ProcessStep g (record (alone (act (delete first_of_pair) (showing a))) { store = only a b }) []
+        (alone (showing a)) }
+    ensures finds { (g : Sig) → ProcessStep g (record (alone (lookup first_of_pair x (showing var_x) (showing a))) { store = only a b }) []
+        (record (alone (showing b)) { store = only a b }) }
+    ensures misses { (g : Sig) → ProcessStep g (record (alone (lookup b x (showing var_x) (showing a))) { store = only a b }) []
+        (record (alone (showing a)) { store = only a b }) }
+    ensures locks { (g : Sig) → ProcessStep g (alone (act (lock first_of_pair 0) (showing b))) []
+        (record (alone (showing b)) { held = just a }) }
+    ensures unlocks { (g : Sig) → ProcessStep g (record (alone (act (unlock first_of_pair 0) (showing b))) { held = just a }) []
+        (alone (showing b)) }
+    ensures embeds { (g : Sig) → ProcessStep g
+        (record (alone (act (embedded (left_fact var_x ∷ []) (shown_fact var_x ∷ []) (right_fact var_x ∷ [])) (showing var_x))) { facts = Some (left_fact a) ∷ [] })
+        (shown_fact a ∷ []) (record (alone (showing a)) { facts = None ∷ Some (right_fact a) ∷ [] }) }
+    ensures adversary_makes { (g : Sig) → ProcessStep g (record (alone nil) { made = 4 ∷ []; own = 3 ∷ [] }) []
+        (record (alone nil) { made = 4 ∷ []; own = 3 ∷ 5 ∷ [] }) }
+    ensures knows { (g : Sig) → ProcessStep g (record (alone nil) { made = 4 ∷ []; frame = fresh 4 ∷ [] }) (k_fact (fresh 4) ∷ [])
+        (record (alone nil) { made = 4 ∷ []; frame = fresh 4 ∷ [] }) }
+{}
+
+/// A law: the process `in(x); event A(x)` has the trace `K('a')`, `A('a')`.
+pub fn traces_by_hand()
+    ensures { (g : Sig) → IsProcessTrace g input_shown ((k_fact a ∷ []) ∷ (shown_fact a ∷ []) ∷ []) }
+{}
+
+/// A law: the instance of a process under the choice that leaves each variable as it is, is the process; two choices that
+/// agree on each variable give one instance; and an instance of an instance is one instance, where the first choice has a
+/// ground term for each variable that it doesn't leave as it is, so that the process binds nothing of what is put in.
+pub fn instances_of_processes()
+    ensures unchanged { (p : Proc) → process_instance (λ v. variable v) p ≡ p }
+    ensures agreeing { (s t : Choice) → ((v : Var) → s v ≡ t v) → (p : Proc) → process_instance s p ≡ process_instance t p }
+    ensures twice { (p : Proc) (s t : Choice) → ((v : Var) → IsGround (s v) ⊎ (s v ≡ variable v))
+        → process_instance t (process_instance s p) ≡ process_instance (λ v. instance t (s v)) p }
+{}
