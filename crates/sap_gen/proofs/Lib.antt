@@ -1,3 +1,4 @@
+pub mod PlacesOfProcesses
 pub mod Sites
 pub mod Joins
 pub mod Totals

@@ -1,4 +1,5 @@
--- The places of a process of any form, and the first that isn't built.
+-- The places of a process of any form by their paths alone, as the code finds them. No public contract cites this file but for
+-- what a built form is.
 use Rattle.std.specs.Prelude.{ℕ, Bool, true, false, not, List, [], ◌∷◌, ◌++◌, Option}
 use Rattle.std.specs.List.{find}
 use Rattle.std.specs.Option.{option_map}
