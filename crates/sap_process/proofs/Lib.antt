@@ -1,3 +1,4 @@
 pub mod OtherNames
 pub mod InstanceLemmas
 pub mod StepLemmas
+pub mod OneFlaw

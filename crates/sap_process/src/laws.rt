@@ -1,5 +1,5 @@
 // Laws of the definitions, as contracts of functions that do nothing.
-ghost use Rattle.std.specs.Prelude.{◌≡◌, ◌⊎◌, [], ◌∷◌, Some, None};
+ghost use Rattle.std.specs.Prelude.{◌≡◌, ◌⊎◌, ℕ, List, [], ◌∷◌, Some, None};
 ghost use Rattle.sap_terms.specs.AdversaryFacts.{k_fact};
 ghost use Rattle.sap_terms.specs.Choice.{Choice, instance};
 ghost use Rattle.sap_terms.specs.Ground.{IsGround};
@@ -8,6 +8,8 @@ ghost use Rattle.sap_terms.specs.Tree.{variable, fresh};
 ghost use Rattle.sap_terms.specs.declared.var.Var.{Var};
 ghost use Rattle.sap_process.specs.Action.{new, out, send, input, receive, insert, delete, lock, unlock, embedded};
 ghost use Rattle.sap_process.specs.Instance.{process_instance};
+ghost use Rattle.sap_process.specs.Flaws.{IsFirstFlaw, IsWellFormed};
+ghost use Rattle.sap_process.specs.declared.flaw.Flaw.{Flaw};
 ghost use Rattle.sap_process.specs.Proc.{Proc, nil, parallel, replicated, act, test, lookup};
 ghost use Rattle.sap_process.specs.ProcessSteps.{ProcessStep, IsProcessTrace};
 ghost use Rattle.sap_process.specs.StepExamples.{a, b, c, x, var_x, pair, first_of_pair, shown_fact, left_fact, right_fact, showing, running, alone, only, just, input_shown};
@@ -70,4 +72,11 @@ pub fn instances_of_processes()
     ensures agreeing { (s t : Choice) → ((v : Var) → s v ≡ t v) → (p : Proc) → process_instance s p ≡ process_instance t p }
     ensures twice { (p : Proc) (s t : Choice) → ((v : Var) → IsGround (s v) ⊎ (s v ≡ variable v))
         → process_instance t (process_instance s p) ≡ process_instance (λ v. instance t (s v)) p }
+{}
+
+/// A law: of a process that isn't well-formed one flaw counts, at one place.
+pub fn one_flaw()
+    ensures flaw { (g : Sig) (p : Proc) (w v : Flaw) (path other : List ℕ) → IsFirstFlaw g p w path → IsFirstFlaw g p v other
+        → (w ≡ v) × (path ≡ other) }
+    ensures none { (g : Sig) (p : Proc) (w : Flaw) (path : List ℕ) → IsFirstFlaw g p w path → IsWellFormed g p → ⊥ }
 {}

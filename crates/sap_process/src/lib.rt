@@ -10,6 +10,6 @@ mod substituting;
 
 pub use checking::well_formed;
 pub use flaw::{Flaw, Ill};
-pub use laws::{instances_of_processes, steps_by_hand, traces_by_hand};
+pub use laws::{instances_of_processes, one_flaw, steps_by_hand, traces_by_hand};
 pub use process::Process;
 pub use substituting::substitute;

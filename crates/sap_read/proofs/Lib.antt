@@ -21,3 +21,4 @@ pub mod ItemWords
 pub mod ItemsRead
 pub mod Declarations
 pub mod ItemTurns
+pub mod OneFile

@@ -1,4 +1,4 @@
-ghost use Rattle.std.specs.Prelude.{◌≡◌, ℕ, List, [], false, codes};
+ghost use Rattle.std.specs.Prelude.{◌≡◌, ℕ, List, [], Result, false, codes};
 ghost use Rattle.sap_terms.specs.declared.fact.Fact.{Fact};
 ghost use Rattle.sap_terms.specs.Tree.{Tree, level_count};
 ghost use Rattle.sap_terms.specs.Signature.{Sig, pairs_alone};
@@ -9,6 +9,11 @@ ghost use Rattle.sap_read.specs.Places.{IsTermAt, IsFactAt, fact_levels};
 ghost use Rattle.sap_read.specs.Written.{Written};
 ghost use Rattle.sap_read.specs.ProcessGrammar.{IsPar, EndsProcess};
 ghost use Rattle.sap_read.specs.ProcessExamples.{dangling_words, dangling_process, parted_words, parted_process, parallel_words, parallel_process, action_words, action_process, rule_words, rule_process, lookup_words, lookup_process};
+ghost use Rattle.sap_read.specs.Files.{Told, IsRead};
+ghost use Rattle.sap_read.specs.declared.fault.ReadFault.{ReadFault};
+
+use sap_process::one_flaw;
+use sap_text::one_answer;
 
 /// A law: from one place words spell at most one term that no opening parenthesis follows, and end it at one place.
 pub fn one_term()
@@ -54,3 +59,11 @@ pub fn processes_by_hand()
     ensures rule { (g : Sig) → IsPar g 100 rule_process 2 rule_words [] }
     ensures lookup { (g : Sig) → IsPar g 100 lookup_process 3 lookup_words [] }
 {}
+
+/// A law: bytes are read as one file at most, or refused for one cause, and never both.
+pub fn one_file()
+    ensures { (z : List ℕ) (o u : Result Told ReadFault) → IsRead z o → IsRead z u → o ≡ u }
+{
+    one_answer();
+    one_flaw();
+}

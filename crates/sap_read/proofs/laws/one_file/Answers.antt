@@ -1,0 +1,5 @@
+use Rattle.sap_read.proofs.OneFile.{one_file}
+use Rattle.sap_read.proofs.laws.one_file.Goals as goal
+
+pub returns : goal.returns
+returns c = one_file c.one_flaw.ensures.flaw c.one_flaw.ensures.none c.one_answer.ensures
