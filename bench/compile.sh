@@ -1,47 +1,111 @@
 #!/bin/sh
-# Times `sapic compile` on processes whose nodes double up to the limit, and prints the growth from size to size.
-# The processes are balanced parallels of events, so that paths grow with the logarithm of the nodes.
+# Times `sapic compile` on the largest files of each kind, with sizes that double, and prints for each the growth of the
+# time and of the bytes that are read and written.
+#   nodes   balanced parallels of events, up to 4,000 nodes
+#   events  a name that stands 1,000 times for an event with so many arguments
+#   scopes  64 names in scope, and actions on them, up to 4,000 nodes; its forms aren't built, so the file is read and refused
+#   terms   a name that stands so often for a message of 100 levels; likewise read and refused
+#   names   so many doubling `let` items, of which the process uses the last; counted, and refused
+#   items   so many functions that are declared, up to a file of 1 MiB
 # usage: bench/compile.sh [TURNS]
 set -e
 cd "$(dirname "$0")/.."
-turns=${1:-50}
+turns=${1:-20}
 (cd crates/sap_main && rt run -- compile ../../examples/go.spthy >/dev/null 2>&1)
 program=$PWD/crates/sap_main/out/sap_main
 work=$(mktemp -d)
 trap 'rm -rf "$work"' EXIT
 
-# A balanced parallel of this many events.
-process() {
-    awk -v leaves="$1" '
+# A balanced parallel of so many copies of a process, and what stands before it.
+parallel() {
+    awk -v leaves="$1" -v leaf="$2" -v before="$3" '
         function tree(n,    half) {
-            if (n == 1) { printf "event Shown(\x27value\x27); 0"; return }
+            if (n == 1) { printf "%s", leaf; return }
             half = int(n / 2)
             printf "("; tree(half); printf ") | ("; tree(n - half); printf ")"
         }
-        BEGIN { printf "theory Bench begin process: "; tree(leaves); print " end" }'
+        BEGIN { printf "theory Bench begin %s process: ", before; tree(leaves); print " end" }'
+}
+
+nodes() { parallel "$1" "event Shown('value')" ""; }
+
+events() {
+    args=$(awk -v n="$1" 'BEGIN { for (k = 1; k < n; k++) printf "\047value%d\047,", k; printf "\047last\047" }')
+    parallel 1000 A "let A = event Shown($args)"
+}
+
+scopes() {
+    awk -v n="$1" 'BEGIN {
+        printf "theory Bench begin process: "
+        for (k = 1; k <= 64; k++) printf "new ~n%d; ", k
+        printf "("
+        for (k = 1; k < n / 200; k++) {
+            for (m = 0; m < 200; m++) printf "out(~n%d); ", m % 64 + 1
+            printf "0 | "
+        }
+        print "0) end"
+    }'
+}
+
+terms() {
+    term=$(awk 'BEGIN { for (k = 1; k < 100; k++) printf "f("; printf "\047a\047"; for (k = 1; k < 100; k++) printf ")" }')
+    parallel "$1" A "functions: f/1 let A = out($term)"
+}
+
+names() {
+    awk -v n="$1" 'BEGIN {
+        printf "theory Bench begin let N0 = 0 | 0 "
+        for (k = 1; k <= n; k++) printf "let N%d = N%d | N%d ", k, k - 1, k - 1
+        printf "process: N%d end", n
+    }'
+}
+
+items() {
+    awk -v n="$1" 'BEGIN {
+        printf "theory Bench begin functions: "
+        for (k = 1; k < n; k++) printf "function%d/2, ", k
+        print "last/1 process: 0 end"
+    }'
 }
 
 nanoseconds() { date +%s%N; }
 
-printf '%8s %10s %12s %10s %8s %8s\n' nodes 'file bytes' 'theory bytes' 'ms a turn' time bytes
-before_time=0
-before_bytes=0
-for leaves in 10 20 40 80 160 320 640 1333; do
-    process "$leaves" >"$work/file.spthy"
-    "$program" compile "$work/file.spthy" >"$work/theory"
+# What so many turns on this file take, with the growth since the line before.
+line() {
+    "$program" compile "$work/file.spthy" >"$work/theory" 2>"$work/refusal" || true
     begin=$(nanoseconds)
     turn=0
     while [ "$turn" -lt "$turns" ]; do
-        "$program" compile "$work/file.spthy" >"$work/theory"
+        "$program" compile "$work/file.spthy" >/dev/null 2>&1 || true
         turn=$((turn + 1))
     done
-    end=$(nanoseconds)
-    awk -v nodes=$((3 * leaves - 1)) -v file="$(wc -c <"$work/file.spthy")" -v bytes="$(wc -c <"$work/theory")" \
-        -v time=$((end - begin)) -v turns="$turns" -v before_time="$before_time" -v before_bytes="$before_bytes" 'BEGIN {
-            printf "%8d %10d %12d %10.3f", nodes, file, bytes, time / turns / 1000000
-            if (before_time > 0) printf " %8.2f %8.2f", time / before_time, bytes / before_bytes
-            printf "\n"
+    time=$(($(nanoseconds) - begin))
+    bytes=$(($(wc -c <"$work/file.spthy") + $(wc -c <"$work/theory")))
+    awk -v kind="$1" -v size="$2" -v bytes="$bytes" -v time="$time" -v turns="$turns" -v old_time="$3" -v old_bytes="$4" \
+        -v refusal="$(head -c 60 "$work/refusal")" 'BEGIN {
+            printf "%-7s %7d %11d %10.3f", kind, size, bytes, time / turns / 1000000
+            if (old_time > 0) printf " %6.2f %6.2f", time / old_time, bytes / old_bytes; else printf "      -      -"
+            printf "  %s\n", refusal
         }'
-    before_time=$((end - begin))
-    before_bytes=$(wc -c <"$work/theory")
-done
+}
+
+printf '%-7s %7s %11s %10s %6s %6s\n' kind size bytes 'ms a turn' time bytes
+kind() {
+    old_time=0
+    old_bytes=0
+    what=$1
+    shift
+    for size in "$@"; do
+        "$what" "$size" >"$work/file.spthy"
+        line "$what" "$size" "$old_time" "$old_bytes"
+        old_time=$time
+        old_bytes=$bytes
+    done
+}
+
+kind nodes 80 160 320 640 1333
+kind events 8 16 32 64 128 256
+kind scopes 400 800 1600 3200
+kind terms 80 160 320 640 1333
+kind names 500 1000 2000 4000 8000 16000
+kind items 4000 8000 16000 32000
