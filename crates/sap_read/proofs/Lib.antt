@@ -10,3 +10,4 @@ pub mod ByHand
 pub mod SoundProcesses
 pub mod FactLists
 pub mod Signatures
+pub mod WholeProcesses

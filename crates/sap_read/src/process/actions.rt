@@ -188,7 +188,14 @@ fn read_rule<'a>(
         return Ok(None);
     };
     if starts(bytes, rest, "-->") {
-        read_right_side(alloc, sig, bytes, taken, FactList::new(alloc), beyond(1, rest))
+        read_right_side(
+            alloc,
+            sig,
+            bytes,
+            taken,
+            FactList::new(alloc),
+            beyond(1, rest),
+        )
     } else {
         read_shown(alloc, sig, bytes, taken, rest)
     }
