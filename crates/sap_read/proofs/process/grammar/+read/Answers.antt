@@ -1,4 +1,4 @@
-use Rattle.std.proofs.Common.{◌≡◌, true, drop, arith}
+use Rattle.std.proofs.Common.{◌≡◌, true, drop}
 use Rattle.std.specs.Prelude.{codes}
 use Rattle.sap_terms.specs.View.{tree}
 use Rattle.sap_terms.specs.declared.var.Sort.TheVariants.{Msg}
