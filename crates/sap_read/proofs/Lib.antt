@@ -22,3 +22,4 @@ pub mod ItemsRead
 pub mod Declarations
 pub mod ItemTurns
 pub mod OneFile
+pub mod WholeProcesses

@@ -1,6 +1,15 @@
--- What reading parts of processes does.
-use Rattle.std.proofs.Common.{rules, ◌≡◌, ◌≤◌, ◌<◌, ℕ, true, false}
-use Rattle.std.specs.Prelude.{nat_le}
+-- What reading processes does at each depth.
+use Rattle.std.proofs.Common.{rules, ◌≡◌, ◌≤◌, ◌<◌, ◌-◌, ℕ, zero, suc, List, None, true, false, refl, arith}
+use Rattle.std.specs.Prelude.{nat_le, codes, drop}
+use Rattle.sap_terms.specs.declared.var.Sort.TheVariants.{Msg}
+use Rattle.sap_terms.specs.Tree.{Tree}
+use Rattle.sap_terms.specs.Signature.{Sig}
+use Rattle.sap_read.specs.Words.{Word, starts}
+use Rattle.sap_read.specs.Written.{lookup}
+use Rattle.sap_read.specs.ProcessGrammar.{var}
+use Rattle.sap_read.specs.Reading.{Reader}
+use Rattle.sap_read.specs.ProcessReading.{Levelled, past, branches, found, seq, par, seq_at, par_at}
+use Rattle.sap_read.proofs.Steps.{words-drop}
 
 -- a number within the limit
 pub fits : (m n : ℕ) → m ≤ n → nat_le m n ≡ true
@@ -10,4 +19,33 @@ fits m n le = search rules
 pub over : (m n : ℕ) → n < m → nat_le m n ≡ false
 over m n lt = search rules
 
-pub ruleset limits = (fits, over)
+pub seq_zero : (g : Sig) (m : ℕ) (ws : List Word) → seq g m 0 ws ≡ None
+unfolding seq par
+seq_zero g m ws = refl
+
+pub par_zero : (g : Sig) (m : ℕ) (ws : List Word) → par g m 0 ws ≡ None
+unfolding seq par
+par_zero g m ws = refl
+
+pub seq_step : (g : Sig) (m d : ℕ) (ws : List Word) → 0 < d → seq g m d ws ≡ seq_at g m (seq g m (d - 1)) (par g m (d - 1)) (d - 1) ws
+unfolding seq par
+seq_step g m zero ws lt = absurd (omega (arith, lt))
+seq_step g m (suc d) ws lt = let e : suc d - 1 ≡ d = omega arith in rw e refl
+
+pub par_step : (g : Sig) (m d : ℕ) (ws : List Word) → 0 < d → par g m d ws ≡ par_at (seq g m d) (par g m (d - 1)) (d - 1) ws
+unfolding seq par
+par_step g m zero ws lt = absurd (omega (arith, lt))
+par_step g m (suc d) ws lt = let e : suc d - 1 ≡ d = omega arith in rw e refl
+
+pub ruleset tokens = (words-drop)
+
+pub ruleset limits = (words-drop, fits, over)
+
+pub ruleset seq_steps = (words-drop, seq_zero, seq_step)
+
+pub ruleset par_steps = (words-drop, par_zero, par_step)
+
+-- behind the name in a lookup, where `in` stands
+pub found_is : (s : Reader Levelled) (t : Tree) (x : List ℕ) (ws : List Word) → starts (codes "in") ws ≡ true → found s t x ws ≡ branches s (lookup t (var Msg x)) (drop 1 ws)
+unfolding past
+found_is s t x ws e = rw e refl

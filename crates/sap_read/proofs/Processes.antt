@@ -152,7 +152,7 @@ mutual
   seq_read (seq_lookup_else {c = g} t r s) (suc d) le f =
       rw (short_read t refl, seq_read r d (omega (arith, le)) (at_else g), seq_read s d (omega (arith, le)) f) refl
 
-  par_read : {g : Sig} {m n : ℕ} {p : Written} {a b : List Word} → IsPar g m p n a b → (d : ℕ) → n ≤ d → EndsProcess b → par g m d a ≡ Some ((p, n), b)
+  pub par_read : {g : Sig} {m n : ℕ} {p : Written} {a b : List Word} → IsPar g m p n a b → (d : ℕ) → n ≤ d → EndsProcess b → par g m d a ≡ Some ((p, n), b)
   par_read r zero le f = absurd (omega (arith, le, par_some r))
   par_read (par_one {e = e} r) (suc d) le f = rw (seq_read r (suc d) le (ending e f), f.no_bar, f.no_bars) refl
   par_read (par_more {e = e} {n = n} {b = b} one_bar r s) (suc d) le f =

@@ -102,17 +102,32 @@ action_of g m ws =
 abbrev pub Levelled : Type 0
 Levelled = Written × ℕ
 
--- the second branch, if one stands
+-- the second branch, behind `else`
+abbrev pub second_branch : Reader Levelled → (Written → Written → Written) → Levelled → Reader Levelled
+second_branch seq made p ws = after (seq ws) (λ q r. Some ((made p.0 q.0, max p.1 q.1 + 1), r))
+
+-- a branch, and the second if one stands
 abbrev pub branches : Reader Levelled → (Written → Written → Written) → Reader Levelled
 branches seq made ws = after (seq ws) (λ p r.
-    if starts (codes "else") r then after (seq (drop 1 r)) (λ q z. Some ((made p.0 q.0, max p.1 q.1 + 1), z))
-    else Some ((made p.0 nil, max p.1 1 + 1), r))
+    if starts (codes "else") r then second_branch seq made p (drop 1 r) else Some ((made p.0 nil, max p.1 1 + 1), r))
+
+-- behind `if` and the first term
+abbrev pub equality : Sig → ℕ → Reader Levelled → Tree → Reader Levelled
+equality g m seq t ws = past (codes "=") ws (λ r. after (short_term g m r) (λ u z. past (codes "then") z (branches seq (test t u))))
 
 abbrev pub condition : Sig → ℕ → Reader Levelled → Reader Levelled
-condition g m seq ws = after (short_term g m ws) (λ t r. past (codes "=") r (λ z. after (short_term g m z) (λ u y. past (codes "then") y (branches seq (test t u)))))
+condition g m seq ws = after (short_term g m ws) (λ t r. equality g m seq t r)
+
+-- behind the name in a lookup
+abbrev pub found : Reader Levelled → Tree → List ℕ → Reader Levelled
+found seq t x ws = past (codes "in") ws (branches seq (lookup t (var Msg x)))
+
+-- behind `lookup` and its term
+abbrev pub entry : Reader Levelled → Tree → Reader Levelled
+entry seq t ws = past (codes "as") ws (λ r. given (name_at r) (λ x. found seq t x (drop 1 r)))
 
 abbrev pub looking : Sig → ℕ → Reader Levelled → Reader Levelled
-looking g m seq ws = after (short_term g m ws) (λ t r. past (codes "as") r (λ z. given (name_at z) (λ x. past (codes "in") (drop 1 z) (branches seq (lookup t (var Msg x))))))
+looking g m seq ws = after (short_term g m ws) (λ t r. entry seq t r)
 
 -- behind an action; a missing continuation has one level too
 abbrev pub going_on : Reader Levelled → ℕ → Action → Reader Levelled
@@ -125,20 +140,34 @@ abbrev pub call_or_action : Sig → ℕ → Reader Levelled → ℕ → Option (
 call_or_action g m seq d (Some x) ws = Some ((call x, 1), drop 1 ws)
 call_or_action g m seq d None ws = after (action_of g m ws) (going_on seq d)
 
+-- behind an opening parenthesis
+abbrev pub enclosed : Reader Levelled → Reader Levelled
+enclosed par ws = after (par ws) (λ p r. past (codes ")") r (λ z. Some ((p.0, p.1 + 1), z)))
+
+-- behind `!`
+abbrev pub repeated : Reader Levelled → Reader Levelled
+repeated seq ws = after (seq ws) (λ p r. Some ((replicated p.0, p.1 + 1), r))
+
 abbrev pub seq_at : Sig → ℕ → Reader Levelled → Reader Levelled → ℕ → Reader Levelled
 seq_at g m seq par d ws =
-    if starts (codes "(") ws then after (par (drop 1 ws)) (λ p r. past (codes ")") r (λ z. Some ((p.0, p.1 + 1), z)))
-    else if starts (codes "!") ws then after (seq (drop 1 ws)) (λ p r. Some ((replicated p.0, p.1 + 1), r))
+    if starts (codes "(") ws then enclosed par (drop 1 ws)
+    else if starts (codes "!") ws then repeated seq (drop 1 ws)
     else if starts (codes "if") ws then condition g m seq (drop 1 ws)
     else if starts (codes "lookup") ws then looking g m seq (drop 1 ws)
     else if starts_zero ws then Some ((nil, 1), drop 1 ws)
     else call_or_action g m seq d (name_at ws) ws
 
+-- what stands beside a process
+abbrev pub beside : Reader Levelled → Levelled → Reader Levelled
+beside par p ws = after (par ws) (λ q r. Some ((parallel p.0 q.0, max p.1 q.1 + 1), r))
+
+-- one of the two signs of the parallel stands first
+abbrev pub starts_bar : List Word → Bool
+starts_bar ws = starts (codes "|") ws || starts (codes "||") ws
+
 -- `here` reads as many levels, `par` one less, `d` the levels of `par`
 abbrev pub par_at : Reader Levelled → Reader Levelled → ℕ → Reader Levelled
-par_at here par d ws = after (here ws) (λ p r.
-    if starts (codes "|") r || starts (codes "||") r then (if nat_le p.1 d then after (par (drop 1 r)) (λ q z. Some ((parallel p.0 q.0, max p.1 q.1 + 1), z)) else None)
-    else Some (p, r))
+par_at here par d ws = after (here ws) (λ p r. if starts_bar r then (if nat_le p.1 d then beside par p (drop 1 r) else None) else Some (p, r))
 
 unfoldable mutual
   pub seq : Sig → ℕ → ℕ → Reader Levelled

@@ -1,18 +1,23 @@
 -- What the answers of the reader of processes stand for. No public contract cites this file.
 use Rattle.std.specs.Prelude.{◌≡◌, ℕ, List, Option, Some, None, Result, Ok, Err, ⊤}
+use Rattle.std.specs.Global.{Box}
 use Rattle.std.specs.Borrow.{Bor}
 use Rattle.sap_terms.specs.declared.mem.Mem.{Mem}
 use Rattle.sap_terms.specs.declared.fact.Fact.{Fact}
 use Rattle.sap_text.specs.declared.token.Token.{Token}
 use Rattle.sap_terms.specs.Tree.{Tree}
+use Rattle.sap_terms.specs.View.{tree}
 use Rattle.sap_process.specs.Action.{Action, out, send, input, receive, delete, lock, unlock}
 use Rattle.sap_read.specs.declared.process.actions.Way.{Way}
 use Rattle.sap_read.specs.declared.process.actions.Way.TheVariants.{Out, In}
 use Rattle.sap_read.specs.declared.process.actions.Deed.{Deed}
 use Rattle.sap_read.specs.declared.process.actions.Deed.TheVariants.{Delete, Lock, Unlock}
+use Rattle.sap_read.specs.declared.process.build.Choice.{Choice}
+use Rattle.sap_read.specs.declared.process.build.Choice.TheVariants.{Equality, Entry}
 use Rattle.sap_read.specs.declared.draft.Doing.{Doing}
 use Rattle.sap_read.specs.declared.draft.Draft.{Draft}
 use Rattle.sap_read.specs.Words.{words_of}
+use Rattle.sap_read.specs.Written.{Written, test, lookup}
 use Rattle.sap_read.specs.Reading.{Read}
 use Rattle.sap_read.specs.ProcessReading.{Levelled}
 use Rattle.sap_read.specs.Drafts.{doing, written}
@@ -30,10 +35,10 @@ GivesAction bytes (Ok None) read = read ≡ None
 GivesAction bytes (Ok (Some p)) read = read ≡ Some (doing p.0, words_of bytes p.1.now)
 
 -- the same process with the same levels
-abbrev pub GivesDraft : List ℕ → Result (Option (Draft × ℕ × Bor (List Token))) Mem → Read Levelled → Type 0
+abbrev pub GivesDraft : List ℕ → Result (Option (Box Draft × ℕ × Bor (List Token))) Mem → Read Levelled → Type 0
 GivesDraft bytes (Err e) read = ⊤
 GivesDraft bytes (Ok None) read = read ≡ None
-GivesDraft bytes (Ok (Some p)) read = read ≡ Some ((written p.0, p.1), words_of bytes p.2.now)
+GivesDraft bytes (Ok (Some p)) read = read ≡ Some ((written p.0.value, p.1), words_of bytes p.2.now)
 
 -- what is done with a message that goes this way
 abbrev pub to_adversary : Way → Tree → Action
@@ -49,3 +54,8 @@ abbrev pub on_one : Deed → Tree → Action
 on_one Delete = delete
 on_one Lock = λ t. lock t 0
 on_one Unlock = λ t. unlock t 0
+
+-- the two branches with what chooses between them
+abbrev pub chosen : Choice → Written → Written → Written
+chosen (Equality t u) = test (tree t) (tree u)
+chosen (Entry t x) = lookup (tree t) x

@@ -6,6 +6,7 @@ ghost use Rattle.sap_text.specs.Spans.{text_of};
 ghost use Rattle.sap_read.specs.Words.{is_grammar_word, is_mark, item_words, process_words, starts, word_of, words_of, is_lower, is_upper};
 ghost use Rattle.sap_read.specs.Reading.{as_name, as_quoted, name_at, quoted_at};
 ghost use Rattle.sap_read.specs.ItemReading.{as_number, number_at, names};
+ghost use Rattle.sap_read.specs.ProcessReading.{is_zero, starts_zero};
 
 use sap_text::{Kind, Token};
 
@@ -161,6 +162,25 @@ pub fn names(bytes: &[u8], tokens: &[Token], word: &str) -> bool
 {
     match name_at(bytes, tokens) {
         Some(name) => is(name, word),
+        None => false,
+    }
+}
+
+fn is_zero(bytes: &[u8], token: Token) -> bool
+    ensures { result ≡ is_zero (word_of bytes.now token) }
+{
+    match token.kind {
+        Kind::Number => is(text_at(bytes, token), "0"),
+        Kind::Ident | Kind::Quoted | Kind::Symbol => false,
+    }
+}
+
+/// Whether the first token is the number 0.
+pub fn starts_zero(bytes: &[u8], tokens: &[Token]) -> bool
+    ensures { result ≡ starts_zero (words_of bytes.now tokens.now) }
+{
+    match tokens.split_first() {
+        Some((token, _)) => is_zero(bytes, *token),
         None => false,
     }
 }

@@ -7,9 +7,12 @@ ghost use Rattle.sap_read.specs.ItemGrammar.{IsProcess};
 ghost use Rattle.sap_read.specs.Drafts.{written};
 
 mod actions;
+mod build;
+mod grammar;
 mod parts;
 
 use crate::draft::Draft;
+use crate::process::grammar::read_par;
 use sap_terms::{Mem, Signature};
 use sap_text::Token;
 use std::alloc::Global;
@@ -24,5 +27,12 @@ pub(crate) fn read_process(
     ensures found { IfOk result (λ o. IfSome o (λ p. IsProcess sig.now (written p) (words_of bytes.now tokens.now))) }
     ensures none { IfOk result (λ o. IfNone o ((g : Sig) (p : Written) → IsProcess g p (words_of bytes.now tokens.now) → ⊥)) }
 {
-    Err(Mem)
+    let Some((process, _, rest)) = read_par(alloc, sig, bytes, 300, tokens)? else {
+        return Ok(None);
+    };
+    if rest.is_empty() {
+        Ok(Some(Box::into_inner(process)))
+    } else {
+        Ok(None)
+    }
 }
