@@ -10,3 +10,9 @@ pub mod Instance
 pub mod Sorted
 pub mod Configuration
 pub mod ProcessSteps
+pub mod Binders
+pub mod Tests
+pub mod Places
+pub mod Walks
+pub mod Searches
+pub mod SortedHeads

@@ -6,7 +6,10 @@ ghost use Rattle.sap_process.specs.declared.flaw.Flaw.{Flaw};
 ghost use Rattle.sap_process.specs.declared.flaw.Ill.TheVariants.{At};
 
 use crate::Process;
-use crate::flaw::Ill;
+use crate::flaw::{Flaw, Ill};
+use crate::scope::Scope;
+use crate::sorting::sorted;
+use crate::walk::first_place;
 use sap_terms::Signature;
 use std::alloc::Global;
 
@@ -21,5 +24,22 @@ pub fn well_formed(alloc: Global, sig: &Signature, p: &Process) -> Result<Proces
     ensures sound { IfOk result (λ q. IsWellFormed sig.now (proc p.now)) }
     ensures flawed { (which : Flaw) (path : List ℕ) → IsErrOf result (At which path) → IsFirstFlaw sig.now (proc p.now) which path }
 {
-    Err(Ill::Mem)
+    let flaws = [
+        Flaw::BadFunction,
+        Flaw::ReservedVar,
+        Flaw::ReservedFact,
+        Flaw::FactClash,
+        Flaw::PatternDestructor,
+        Flaw::Unbound,
+        Flaw::Rebound,
+        Flaw::SortClash,
+        Flaw::ScopeFull,
+    ];
+    for which in flaws {
+        if let Some(path) = first_place(alloc, sig, which, p)? {
+            return Err(Ill::At { which, path });
+        }
+    }
+    let mut scope = Scope::new(alloc);
+    Ok(sorted(alloc, &mut scope, p)?)
 }
