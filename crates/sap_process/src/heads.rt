@@ -52,6 +52,7 @@ fn is_constant(sig: &Signature, x: &Var) -> bool
 }
 
 // Whether each symbol of the terms at the head is held with its arity.
+#[tactic(auto, using(crate::proofs::TermTests::over_lists))]
 fn is_head_over(sig: &Signature, p: &Process) -> bool
     ensures { result ≡ are_over sig.now (trees_of (head_terms (proc p.now))) }
 {
@@ -74,6 +75,7 @@ fn is_head_over(sig: &Signature, p: &Process) -> bool
     }
 }
 
+#[tactic(auto, using(crate::proofs::TermTests::over_lists))]
 fn are_facts_over(sig: &Signature, fs: &FactList) -> bool
     ensures { result ≡ are_over sig.now (trees_of (facts_terms fs.now)) }
 {
@@ -86,6 +88,7 @@ fn are_facts_over(sig: &Signature, fs: &FactList) -> bool
 }
 
 #[cycle(is_over)]
+#[tactic(auto, using(crate::proofs::TermTests::over_laws))]
 fn is_over(sig: &Signature, t: &Term) -> bool
     ensures { result ≡ is_over sig.now (tree t.now) }
 {
@@ -99,6 +102,7 @@ fn is_over(sig: &Signature, t: &Term) -> bool
 }
 
 #[cycle(is_over)]
+#[tactic(auto, using(crate::proofs::TermTests::over_laws))]
 fn are_over(sig: &Signature, ts: &TermList) -> bool
     ensures { result ≡ are_over sig.now (trees_of ts.now) }
 {
@@ -149,6 +153,7 @@ fn any_is_reserved(fs: &FactList) -> bool
 }
 
 // Whether a pattern has a destructor.
+#[tactic(auto, using(crate::proofs::TermTests::destructor_lists))]
 pub(crate) fn has_pattern_destructor(sig: &Signature, p: &Process) -> bool
     ensures { result ≡ any_has_destructor sig.now (trees_of (patterns (proc p.now))) }
 {
@@ -159,6 +164,7 @@ pub(crate) fn has_pattern_destructor(sig: &Signature, p: &Process) -> bool
     }
 }
 
+#[tactic(auto, using(crate::proofs::TermTests::destructor_lists))]
 fn any_fact_has_destructor(sig: &Signature, fs: &FactList) -> bool
     ensures { result ≡ any_has_destructor sig.now (trees_of (facts_terms fs.now)) }
 {
@@ -171,6 +177,7 @@ fn any_fact_has_destructor(sig: &Signature, fs: &FactList) -> bool
 }
 
 #[cycle(has_destructor)]
+#[tactic(auto, using(crate::proofs::TermTests::destructor_laws))]
 fn has_destructor(sig: &Signature, t: &Term) -> bool
     ensures { result ≡ has_destructor sig.now (tree t.now) }
 {
@@ -181,6 +188,7 @@ fn has_destructor(sig: &Signature, t: &Term) -> bool
 }
 
 #[cycle(has_destructor)]
+#[tactic(auto, using(crate::proofs::TermTests::destructor_laws))]
 fn any_has_destructor(sig: &Signature, ts: &TermList) -> bool
     ensures { result ≡ any_has_destructor sig.now (trees_of ts.now) }
 {

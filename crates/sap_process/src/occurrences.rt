@@ -12,6 +12,7 @@ use sap_terms::{Copied, FactList, Mem, Term, TermList, Vars};
 use std::alloc::Global;
 
 // Each occurrence of a variable in the terms at the head, from the left.
+#[tactic(auto, using(crate::proofs::VarLists::head_laws))]
 pub(crate) fn vars_of_head(alloc: Global, p: &Process) -> Result<Vars, Mem>
     ensures { IfOk result (λ vs. vs ≡ terms_vars (head_terms (proc p.now))) }
 {
@@ -35,6 +36,7 @@ pub(crate) fn vars_of_head(alloc: Global, p: &Process) -> Result<Vars, Mem>
 }
 
 // Each occurrence in the terms that are evaluated before anything is bound.
+#[tactic(auto, using(crate::proofs::VarLists::head_laws))]
 pub(crate) fn used_vars(alloc: Global, p: &Process) -> Result<Vars, Mem>
     ensures { IfOk result (λ vs. vs ≡ terms_vars (used_terms (proc p.now))) }
 {
@@ -79,6 +81,7 @@ pub(crate) fn vars_of_facts(alloc: Global, fs: &FactList) -> Result<Vars, Mem>
 }
 
 // Each occurrence in the two lists of facts.
+#[tactic(auto, using(crate::proofs::VarLists::facts_laws))]
 pub(crate) fn vars_of_both(alloc: Global, fs: &FactList, hs: &FactList) -> Result<Vars, Mem>
     ensures { IfOk result (λ vs. vs ≡ facts_vars (fs.now ++ hs.now)) }
 {
@@ -102,6 +105,7 @@ pub(crate) fn vars_of_rule(
     Ok(out)
 }
 
+#[tactic(auto, using(crate::proofs::VarLists::facts_laws))]
 fn push_rule_vars(
     alloc: Global,
     l: &FactList,

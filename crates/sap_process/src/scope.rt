@@ -1,4 +1,4 @@
-ghost use Rattle.std.specs.Prelude.{◌≡◌, [], ◌∷◌, ◌++◌, length, take, drop, OnOk, option_map, not};
+ghost use Rattle.std.specs.Prelude.{◌≡◌, [], ◌∷◌, ◌++◌, ◌-◌, length, take, drop, OnOk, option_map, not};
 ghost use Rattle.std.specs.List.{list_any};
 ghost use Rattle.sap_terms.specs.Same.{same_sort};
 ghost use Rattle.sap_terms.specs.Variables.{is_known, new_vars};

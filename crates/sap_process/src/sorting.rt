@@ -1,9 +1,12 @@
 //! Copies with the sorts of binders.
-ghost use Rattle.std.specs.Prelude.{◌≡◌, [], IfOk, OnOk, map};
-ghost use Rattle.sap_terms.specs.Choice.{instance, instances};
+ghost use Rattle.std.specs.Prelude.{◌≡◌, [], ◌∷◌, ◌++◌, IfOk, OnOk, map};
+ghost use Rattle.sap_terms.specs.Choice.{instance};
 ghost use Rattle.sap_terms.specs.Modulo.{instance_fact, instance_facts};
+ghost use Rattle.sap_terms.specs.Tree.{variable};
 ghost use Rattle.sap_terms.specs.View.{tree};
-ghost use Rattle.sap_process.specs.Proc.{proc};
+ghost use Rattle.sap_process.specs.Action.{send, receive, insert, embedded};
+ghost use Rattle.sap_process.specs.Proc.{proc, act, test, lookup};
+ghost use Rattle.sap_process.specs.Sites.{message_var};
 ghost use Rattle.sap_process.specs.Sorted.{by_binder, with_sorts};
 ghost use Rattle.sap_process.specs.SortedHeads.{sorted_below};
 

@@ -5,7 +5,7 @@ ghost use Rattle.sap_process.specs.Proc.{proc};
 ghost use Rattle.sap_process.specs.Flaws.{scope_at};
 ghost use Rattle.sap_process.specs.Places.{head_locks, site, sites_below};
 ghost use Rattle.sap_process.specs.Searches.{Searched};
-ghost use Rattle.sap_process.specs.Sites.{sites, sites_from};
+ghost use Rattle.sap_process.specs.Sites.{sites, sites_from, message_var};
 ghost use Rattle.sap_process.specs.Tests.{has_flaw};
 ghost use Rattle.sap_process.specs.Walks.{first_place, seen_at};
 

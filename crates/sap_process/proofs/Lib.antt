@@ -1,0 +1,2 @@
+pub mod TermTests
+pub mod VarLists
