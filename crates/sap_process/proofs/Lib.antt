@@ -1,2 +1,3 @@
 pub mod TermTests
 pub mod VarLists
+pub mod Scoping

@@ -1,5 +1,8 @@
-ghost use Rattle.std.specs.Prelude.{◌≡◌, [], ◌∷◌, ◌++◌, ◌-◌, length, take, drop, OnOk, option_map, not};
+ghost use Rattle.std.specs.Prelude.{◌≡◌, ◌↔◌, IsTrue, Some, [], ◌∷◌, ◌++◌, ◌-◌, length, take, drop, OnOk, option_map, not, slice_get};
 ghost use Rattle.std.specs.List.{list_any};
+ghost use Rattle.std.specs.Option.{option_copied};
+ghost use Rattle.std.specs.Str.{bytes_eq};
+ghost use Rattle.indexmap.specs.IndexMap.{get};
 ghost use Rattle.sap_terms.specs.Same.{same_sort};
 ghost use Rattle.sap_terms.specs.Variables.{is_known, new_vars};
 ghost use Rattle.sap_terms.specs.declared.var.Sort.TheVariants.{Pub};
@@ -55,7 +58,7 @@ impl Scope {
         ensures { result ≡ option_map (λ v. v.sort) (binder_of self.now name.now) }
     {
         let place = self.places.get(name)?;
-        let v = self.vars.get(*place as usize)?;
+        let v = var_at(self.vars.as_slice(), *place)?;
         Some(v.sort)
     }
 
@@ -87,7 +90,7 @@ impl Scope {
             return Ok(());
         }
         let name = v.name.copy(alloc)?;
-        let place = self.vars.len() as u64;
+        let place = self.vars.as_slice().len() as u64;
         self.places.reserve(1)?;
         self.vars.push(v)?;
         match self.places.insert(name, place) {
@@ -132,14 +135,27 @@ impl Scope {
         ensures { self.new ≡ take (length self.old - 1) self.old }
     {
         if let Some(v) = self.vars.pop() {
-            let place = self.vars.len() as u64;
-            let is_first = match self.places.get(&v.name) {
-                Some(at) => *at == place,
-                None => false,
-            };
-            if is_first {
+            let place = self.vars.as_slice().len() as u64;
+            if is_placed(&self.places, &v.name, place) {
                 self.places.swap_remove(&v.name);
             }
         }
+    }
+}
+
+// The variable at place k, from 0.
+fn var_at(vars: &[Var], k: u64) -> Option<&Var>
+    ensures { option_copied result ≡ slice_get vars.now k }
+{
+    vars.get(k as usize)
+}
+
+// Whether the name has this place.
+fn is_placed(places: &IndexMap<Name, u64>, name: &Name, place: u64) -> bool
+    ensures { IsTrue result ↔ (get bytes_eq places.now name.now ≡ Some place) }
+{
+    match places.get(name) {
+        Some(first) => *first == place,
+        None => false,
     }
 }
