@@ -1,3 +1,5 @@
 pub mod TermTests
 pub mod VarLists
 pub mod Scoping
+pub mod Clashing
+pub mod Instances

@@ -1,5 +1,6 @@
 -- The tests of terms over a signature and of destructors, in lists of terms and of facts.
-use Rattle.std.proofs.Common.{◌≡◌, ℕ, List, [], ◌∷◌, ◌++◌, Bool, true, false, ◌&&◌, ◌||◌, Option, Some, None, length, refl, sym, ap, ◌∙◌}
+use Rattle.std.proofs.Common.{◌≡◌, ℕ, ◌+◌, ◌<◌, List, [], ◌∷◌, ◌++◌, Bool, true, false, ◌&&◌, ◌||◌, Option, Some, None, length, drop, get_or, add-one, refl, sym, ap, ◌∙◌}
+use Rattle.std.proofs.Math.Seq.{drop-cons}
 use Rattle.std.proofs.lemmas.Bool.Decides.{Decides-eqb}
 use Rattle.sap_terms.specs.Message.{IsOver, AreOver}
 use Rattle.sap_terms.specs.Signature.{Sig, arity_of}
@@ -47,6 +48,17 @@ facts_over-append g (f ∷ fs) hs =
 -- the three sides of a rule
 pub rule-over : (g : Sig) (l e r : List Fact) → are_over g (trees_of (facts_terms (l ++ (e ++ r)))) ≡ (are_over g (trees_of (facts_terms l)) && (are_over g (trees_of (facts_terms e)) && are_over g (trees_of (facts_terms r))))
 rule-over g l e r = facts_over-append g l (e ++ r) ∙ ap (λ b. are_over g (trees_of (facts_terms l)) && b) (facts_over-append g e r)
+
+-- the facts from place i on
+pub facts-from : (fs : List Fact) (i : ℕ) (f : Fact) → i < length fs → f ≡ get_or fs i f → facts_terms (drop i fs) ≡ f.args ++ facts_terms (drop (i + 1) fs)
+facts-from fs i f below at =
+    ap facts_terms (drop-cons fs i f below) ∙ rw (add-one, ← at) refl
+
+pub over-from : (g : Sig) (fs : List Fact) (i : ℕ) (f : Fact) → i < length fs → f ≡ get_or fs i f → are_over g (trees_of (facts_terms (drop i fs))) ≡ (are_over g (trees_of f.args) && are_over g (trees_of (facts_terms (drop (i + 1) fs))))
+over-from g fs i f below at = ap (λ ts. are_over g (trees_of ts)) (facts-from fs i f below at) ∙ over-append g f.args (facts_terms (drop (i + 1) fs))
+
+pub destructor-from : (g : Sig) (fs : List Fact) (i : ℕ) (f : Fact) → i < length fs → f ≡ get_or fs i f → any_has_destructor g (trees_of (facts_terms (drop i fs))) ≡ (any_has_destructor g (trees_of f.args) || any_has_destructor g (trees_of (facts_terms (drop (i + 1) fs))))
+destructor-from g fs i f below at = ap (λ ts. any_has_destructor g (trees_of ts)) (facts-from fs i f below at) ∙ destructor-append g f.args (facts_terms (drop (i + 1) fs))
 
 pub ruleset over_laws = (over-apply, item_le-trees_count)
 

@@ -4,13 +4,13 @@ ghost use Rattle.std.specs.List.{list_any};
 ghost use Rattle.std.specs.Option.{option_copied};
 ghost use Rattle.sap_terms.specs.Tree.{trees_of};
 ghost use Rattle.sap_terms.specs.View.{tree};
-ghost use Rattle.sap_process.specs.Heads.{head_terms, head_vars, binder, facts_terms, patterns, stored_facts, shown_facts};
+ghost use Rattle.sap_process.specs.Heads.{head_terms, head_vars, binder, listed, facts_terms, patterns, stored_facts, shown_facts};
 ghost use Rattle.sap_process.specs.Proc.{proc};
 ghost use Rattle.sap_process.specs.Tests.{is_over, are_over, has_destructor, any_has_destructor, is_constant, binds_constant, is_reserved_var, is_reserved_fact};
 
 use crate::Process;
 use crate::occurrences::vars_of_head;
-use sap_terms::{FactList, Mem, Signature, Sort, Term, TermList, Var, is_reserved};
+use sap_terms::{FactList, Mem, Signature, Sort, Term, TermList, Var, Vars, is_reserved};
 use std::alloc::Global;
 
 // The variable that `new` or `lookup` binds.
@@ -115,16 +115,30 @@ fn are_over(sig: &Signature, ts: &TermList) -> bool
 }
 
 // Whether a variable at the head has a reserved name.
+#[tactic(auto, using(crate::proofs::VarLists::any_laws))]
 pub(crate) fn has_reserved_var(alloc: Global, p: &Process) -> Result<bool, Mem>
     ensures { IfOk result (λ b. b ≡ list_any is_reserved_var (head_vars (proc p.now))) }
 {
-    if let Some(x) = binder(p) {
-        if is_reserved_var(x) {
-            return Ok(true);
-        }
+    if binds_reserved_var(p) {
+        return Ok(true);
     }
     let vars = vars_of_head(alloc, p)?;
-    Ok(vars.as_slice().iter().any(|v| is_reserved_var(v)))
+    Ok(any_is_reserved_var(&vars))
+}
+
+fn binds_reserved_var(p: &Process) -> bool
+    ensures { result ≡ list_any is_reserved_var (listed (binder (proc p.now))) }
+{
+    match binder(p) {
+        Some(x) => is_reserved_var(x),
+        None => false,
+    }
+}
+
+fn any_is_reserved_var(vars: &Vars) -> bool
+    ensures { result ≡ list_any is_reserved_var vars.now }
+{
+    vars.as_slice().iter().any(|v| is_reserved_var(v))
 }
 
 fn is_reserved_var(v: &Var) -> bool

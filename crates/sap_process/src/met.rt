@@ -87,6 +87,23 @@ impl Met {
         }
         Ok(clash)
     }
+
+    // The same of two lists of facts.
+    #[tactic(auto, using(crate::proofs::Clashing::clash_lists))]
+    fn note_both(
+        &mut self,
+        alloc: Global,
+        both: bool,
+        fs: &FactList,
+        hs: &FactList,
+    ) -> Result<bool, Mem>
+        ensures clash { IfOk result (λ b. b ≡ has_clash both self.old (fs.now ++ hs.now)) }
+        ensures noted { OnOk result (self.new ≡ noted_all both self.old (fs.now ++ hs.now)) }
+    {
+        let first = self.note_all(alloc, both, fs)?;
+        let second = self.note_all(alloc, both, hs)?;
+        Ok(first || second)
+    }
 }
 
 // The facts that were met: those that are taken and added, by arity and persistence, and those that are shown, by arity.
@@ -128,9 +145,8 @@ impl Seen {
         ensures clash { IfOk result (λ b. b ≡ (has_clash true self.old.stored (l.now ++ r.now) || has_clash false self.old.shown e.now)) }
         ensures noted { OnOk result (self.new ≡ record { stored = noted_all true self.old.stored (l.now ++ r.now); shown = noted_all false self.old.shown e.now }) }
     {
-        let taken = self.stored.note_all(alloc, true, l)?;
-        let added = self.stored.note_all(alloc, true, r)?;
+        let stored = self.stored.note_both(alloc, true, l, r)?;
         let shown = self.shown.note_all(alloc, false, e)?;
-        Ok(taken || added || shown)
+        Ok(stored || shown)
     }
 }

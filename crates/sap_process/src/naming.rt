@@ -1,11 +1,11 @@
 //! What the head of a process binds, and tests of its names against those in scope.
-ghost use Rattle.std.specs.Prelude.{◌≡◌, ◌++◌, IfOk, OnOk, IsErr};
+ghost use Rattle.std.specs.Prelude.{◌≡◌, IfOk, OnOk, filter, not};
 ghost use Rattle.std.specs.List.{list_any};
-ghost use Rattle.sap_terms.specs.declared.var.Sort.TheVariants.{Msg, Fresh};
+ghost use Rattle.sap_terms.specs.Variables.{is_known};
 ghost use Rattle.sap_process.specs.Action.{embedded};
 ghost use Rattle.sap_process.specs.Heads.{terms_vars, head_terms};
 ghost use Rattle.sap_process.specs.Proc.{proc};
-ghost use Rattle.sap_process.specs.Sites.{fresh_var, message_var};
+ghost use Rattle.sap_process.specs.Sites.{var_names};
 ghost use Rattle.sap_process.specs.Flaws.{unbound, unbound_at, scope_at};
 ghost use Rattle.sap_process.specs.Tests.{has_items, rebinds, has_other_sort};
 
@@ -15,7 +15,7 @@ use crate::occurrences::{
     used_vars, vars_of_both, vars_of_facts, vars_of_head, vars_of_rule, vars_of_term,
 };
 use crate::scope::Scope;
-use sap_terms::{Copied, FactList, Mem, Sort, Var};
+use sap_terms::{Copied, FactList, Mem, Sort, Var, Vars};
 use std::alloc::Global;
 
 // A copy of the variable, of this sort.
@@ -47,19 +47,28 @@ pub(crate) fn has_unbound(alloc: Global, scope: &mut Scope, p: &Process) -> Resu
     ensures found { IfOk result (λ b. b ≡ has_items (unbound scope.old (proc p.now))) }
     ensures same { OnOk result (scope.new ≡ scope.old) }
 {
-    if let Process::Embedded(l, e, r, _) = p {
-        return rule_has_unbound(alloc, scope, l, e, r);
-    }
-    let vars = used_vars(alloc, p)?;
-    for v in vars.as_slice() {
-        if !scope.knows(&v.name) {
-            return Ok(true);
+    match p {
+        Process::Embedded(l, e, r, _) => rule_has_unbound(alloc, scope, l, e, r),
+        _ => {
+            let vars = used_vars(alloc, p)?;
+            Ok(any_is_unbound(scope, &vars))
         }
     }
-    Ok(false)
+}
+
+fn any_is_unbound(scope: &Scope, vars: &Vars) -> bool
+    ensures { result ≡ has_items (filter (λ v. not (is_known (var_names scope.now) v.name)) vars.now) }
+{
+    for v in vars.as_slice() {
+        if !scope.knows(&v.name) {
+            return true;
+        }
+    }
+    false
 }
 
 // The same of an embedded rule, which binds what it takes and what is first written `$x`.
+#[tactic(auto, using(crate::proofs::VarLists::unbound_laws))]
 fn rule_has_unbound(
     alloc: Global,
     scope: &mut Scope,

@@ -223,6 +223,7 @@ fn sorted_fact(alloc: Global, scope: &Scope, f: &Fact) -> Result<Fact, Mem>
 }
 
 #[cycle(sorted_term)]
+#[tactic(auto, using(crate::proofs::Instances::instance_laws))]
 fn sorted_term(alloc: Global, scope: &Scope, t: &Term) -> Result<Term, Mem>
     ensures { IfOk result (λ r. tree r ≡ instance (by_binder scope.now) (tree t.now)) }
 {
@@ -235,6 +236,7 @@ fn sorted_term(alloc: Global, scope: &Scope, t: &Term) -> Result<Term, Mem>
 }
 
 #[cycle(sorted_term)]
+#[tactic(auto, using(crate::proofs::Instances::instance_laws))]
 fn sorted_terms(alloc: Global, scope: &Scope, ts: &TermList) -> Result<TermList, Mem>
     ensures { IfOk result (λ us. us ≡ map (instance (by_binder scope.now)) ts.now) }
 {

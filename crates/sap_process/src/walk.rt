@@ -122,11 +122,11 @@ fn search_bound(
     let before = walk.scope.len();
     bind(alloc, &mut walk.scope, p)?;
     let locks = locks_below(p, locks)?;
-    let found = search_child(alloc, sig, which, walk, 1, locks, q)?;
-    if !found {
-        walk.scope.cut(before);
+    if search_child(alloc, sig, which, walk, 1, locks, q)? {
+        return Ok(true);
     }
-    Ok(found)
+    walk.scope.cut(before);
+    Ok(false)
 }
 
 // Searches the places of the first branch of `lookup`, with its binder.
@@ -144,11 +144,11 @@ fn search_with(
 {
     let before = walk.scope.len();
     walk.scope.push(alloc, with_sort(alloc, x, Sort::Msg)?)?;
-    let found = search_child(alloc, sig, which, walk, 1, locks, q)?;
-    if !found {
-        walk.scope.cut(before);
+    if search_child(alloc, sig, which, walk, 1, locks, q)? {
+        return Ok(true);
     }
-    Ok(found)
+    walk.scope.cut(before);
+    Ok(false)
 }
 
 // Searches the places of the child of this digit.
@@ -166,11 +166,11 @@ fn search_child(
     ensures { IfOk result (λ b. Searched sig.now which (sites_from (walk.old.trail ++ digit ∷ []) walk.old.scope locks (proc q.now)) walk.old walk.new b) }
 {
     walk.trail.push(digit)?;
-    let found = search(alloc, sig, which, walk, locks, q)?;
-    if !found {
-        walk.trail.pop();
+    if search(alloc, sig, which, walk, locks, q)? {
+        return Ok(true);
     }
-    Ok(found)
+    walk.trail.pop();
+    Ok(false)
 }
 
 // Whether the place has the flaw. Its facts are noted.
