@@ -3,3 +3,4 @@ pub mod VarLists
 pub mod Scoping
 pub mod Clashing
 pub mod Instances
+pub mod Searching

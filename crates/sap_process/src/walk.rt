@@ -80,17 +80,9 @@ fn search_below(
     match p {
         Process::Nil => Ok(false),
         Process::Par(q, r) | Process::If(_, _, q, r) => {
-            if search_child(alloc, sig, which, walk, 1, locks, q)? {
-                return Ok(true);
-            }
-            search_child(alloc, sig, which, walk, 2, locks, r)
+            search_both(alloc, sig, which, walk, locks, q, r)
         }
-        Process::Lookup(_, x, q, r) => {
-            if search_with(alloc, sig, which, walk, x, locks, q)? {
-                return Ok(true);
-            }
-            search_child(alloc, sig, which, walk, 2, locks, r)
-        }
+        Process::Lookup(_, x, q, r) => search_branches(alloc, sig, which, walk, x, locks, q, r),
         Process::Rep(q)
         | Process::New(_, q)
         | Process::Out(_, q)
@@ -104,6 +96,47 @@ fn search_below(
         | Process::Unlock(_, _, q)
         | Process::Embedded(_, _, _, q) => search_bound(alloc, sig, which, walk, p, locks, q),
     }
+}
+
+// Searches the places of the two children.
+#[cycle(search)]
+fn search_both(
+    alloc: Global,
+    sig: &Signature,
+    which: Flaw,
+    walk: &mut Walk,
+    locks: u64,
+    q: &Process,
+    r: &Process,
+) -> Result<bool, Mem>
+    ensures { IfOk result (λ b. Searched sig.now which (sites_from (walk.old.trail ++ 1 ∷ []) walk.old.scope locks (proc q.now) ++ sites_from (walk.old.trail ++ 2 ∷ []) walk.old.scope locks (proc r.now)) walk.old walk.new b) }
+{
+    if search_child(alloc, sig, which, walk, 1, locks, q)? {
+        return Ok(true);
+    }
+    let found = search_child(alloc, sig, which, walk, 2, locks, r)?;
+    Ok(found)
+}
+
+// Searches the places of the two branches of `lookup`, the first with its binder.
+#[cycle(search)]
+fn search_branches(
+    alloc: Global,
+    sig: &Signature,
+    which: Flaw,
+    walk: &mut Walk,
+    x: &Var,
+    locks: u64,
+    q: &Process,
+    r: &Process,
+) -> Result<bool, Mem>
+    ensures { IfOk result (λ b. Searched sig.now which (sites_from (walk.old.trail ++ 1 ∷ []) (walk.old.scope ++ message_var x.now ∷ []) locks (proc q.now) ++ sites_from (walk.old.trail ++ 2 ∷ []) walk.old.scope locks (proc r.now)) walk.old walk.new b) }
+{
+    if search_with(alloc, sig, which, walk, x, locks, q)? {
+        return Ok(true);
+    }
+    let found = search_child(alloc, sig, which, walk, 2, locks, r)?;
+    Ok(found)
 }
 
 // Searches the places of the child with what the head of its parent binds.

@@ -1,4 +1,4 @@
-use Rattle.std.proofs.Common.{◌∙◌, sym, arith}
+use Rattle.std.proofs.Common.{◌∙◌, refl, sym, arith}
 use Rattle.sap_process.proofs.TermTests.{over-from}
 use Rattle.sap_process.proofs.heads.are_facts_over.Goals as goal
 
