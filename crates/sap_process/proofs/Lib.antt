@@ -1,6 +1,10 @@
 pub mod TermTests
 pub mod VarLists
 pub mod Scoping
+pub mod Members
 pub mod Clashing
+pub mod Clashes
 pub mod Instances
 pub mod Searching
+pub mod Flawed
+pub mod Firsts

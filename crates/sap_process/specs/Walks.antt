@@ -21,3 +21,16 @@ seen_after m (s ∷ ss) = seen_after (seen_at m s.body) ss
 abbrev pub first_place : Sig → Flaw → Seen → List Site → Option (List ℕ)
 first_place g w m [] = None
 first_place g w m (s ∷ ss) = if has_flaw g w m.stored m.shown s then Some s.path else first_place g w (seen_at m s.body) ss
+
+-- nothing is noted
+abbrev pub unseen : Seen
+unseen = record { stored = []; shown = [] }
+
+abbrev pub with_flaw : Flaw → Option (List ℕ) → Option (Flaw × List ℕ) → Option (Flaw × List ℕ)
+with_flaw w None later = later
+with_flaw w (Some path) later = Some (w, path)
+
+-- the first of these flaws that a place has, with the path of the first place that has it
+abbrev pub first_flaw : Sig → List Flaw → List Site → Option (Flaw × List ℕ)
+first_flaw g [] ss = None
+first_flaw g (w ∷ ws) ss = with_flaw w (first_place g w unseen ss) (first_flaw g ws ss)

@@ -1,7 +1,9 @@
 ghost use Rattle.std.specs.Prelude.{◌≡◌, ℕ, List, [], IfOk, IsErrOf};
 ghost use Rattle.sap_process.specs.Proc.{proc};
 ghost use Rattle.sap_process.specs.Flaws.{IsWellFormed, IsFirstFlaw};
+ghost use Rattle.sap_process.specs.Sites.{sites};
 ghost use Rattle.sap_process.specs.Sorted.{with_sorts};
+ghost use Rattle.sap_process.specs.Walks.{first_flaw};
 ghost use Rattle.sap_process.specs.declared.flaw.Flaw.{Flaw};
 ghost use Rattle.sap_process.specs.declared.flaw.Ill.TheVariants.{At};
 
@@ -10,7 +12,7 @@ use crate::flaw::{Flaw, Ill};
 use crate::scope::Scope;
 use crate::sorting::sorted;
 use crate::walk::first_place;
-use sap_terms::Signature;
+use sap_terms::{Mem, Path, Signature};
 use std::alloc::Global;
 
 /// The process with each variable carrying the sort of its binder, where it has no flaw; else the flaw that counts, with
@@ -35,11 +37,28 @@ pub fn well_formed(alloc: Global, sig: &Signature, p: &Process) -> Result<Proces
         Flaw::SortClash,
         Flaw::ScopeFull,
     ];
-    for which in flaws {
-        if let Some(path) = first_place(alloc, sig, which, p)? {
-            return Err(Ill::At { which, path });
+    match first_flaw(alloc, sig, p, &flaws)? {
+        Some((which, path)) => Err(Ill::At { which, path }),
+        None => {
+            let mut scope = Scope::new(alloc);
+            Ok(sorted(alloc, &mut scope, p)?)
         }
     }
-    let mut scope = Scope::new(alloc);
-    Ok(sorted(alloc, &mut scope, p)?)
+}
+
+// The first of the flaws that a place has, with the path of the first place that has it.
+fn first_flaw(
+    alloc: Global,
+    sig: &Signature,
+    p: &Process,
+    flaws: &[Flaw],
+) -> Result<Option<(Flaw, Path)>, Mem>
+    ensures { IfOk result (λ o. o ≡ first_flaw sig.now flaws.now (sites (proc p.now))) }
+{
+    for which in flaws {
+        if let Some(path) = first_place(alloc, sig, *which, p)? {
+            return Ok(Some((*which, path)));
+        }
+    }
+    Ok(None)
 }

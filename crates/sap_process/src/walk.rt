@@ -7,7 +7,7 @@ ghost use Rattle.sap_process.specs.Places.{head_locks, site, sites_below};
 ghost use Rattle.sap_process.specs.Searches.{Searched};
 ghost use Rattle.sap_process.specs.Sites.{sites, sites_from, message_var};
 ghost use Rattle.sap_process.specs.Tests.{has_flaw};
-ghost use Rattle.sap_process.specs.Walks.{first_place, seen_at};
+ghost use Rattle.sap_process.specs.Walks.{first_place, seen_at, unseen};
 
 use crate::heads::{has_pattern_destructor, has_reserved_fact, has_reserved_var, is_bad_head};
 use crate::met::Seen;
@@ -33,7 +33,7 @@ pub(crate) fn first_place(
     which: Flaw,
     p: &Process,
 ) -> Result<Option<Path>, Mem>
-    ensures { IfOk result (λ o. o ≡ first_place sig.now which (record { stored = []; shown = [] }) (sites (proc p.now))) }
+    ensures { IfOk result (λ o. o ≡ first_place sig.now which unseen (sites (proc p.now))) }
 {
     let mut walk = Walk {
         trail: Trail::new(alloc),
