@@ -1,6 +1,6 @@
 -- The shapes that are noted for facts, and the clashes that they tell.
-use Rattle.std.proofs.Common.{◌≡◌, ℕ, zero, suc, List, [], ◌∷◌, ◌++◌, Bool, true, false, not, ◌||◌, ◌&&◌, Option, Some, None, cond, length, take, nat_eq, inl, inr, refl, sym, ap, subst, ◌∙◌}
-use Rattle.std.specs.Prelude.{◌⊎◌, Contains, slice_get, is_some, if◌then◌else◌}
+use Rattle.std.proofs.Common.{◌≡◌, ℕ, zero, suc, List, [], ◌∷◌, ◌++◌, Bool, true, false, ◌||◌, ◌&&◌, Option, Some, None, cond, length, take, nat_eq, inl, inr, refl, sym, ap, subst, ◌∙◌}
+use Rattle.std.specs.Prelude.{Contains, slice_get, is_some, if◌then◌else◌}
 use Rattle.std.specs.Map.{lookup}
 use Rattle.std.specs.Str.{bytes_eq}
 use Rattle.indexmap.specs.IndexMap.{insert_entry}
@@ -13,7 +13,7 @@ use Rattle.sap_terms.specs.declared.fact.Fact.{Fact}
 use Rattle.sap_process.specs.Flaws.{HasClash, HasOtherArity, HasOtherForm}
 use Rattle.sap_process.specs.Tests.{Shapes, is_shape, shape_of, is_other_shape, noted, noted_all, has_clash}
 use Rattle.sap_process.specs.declared.met.Shape.{Shape}
-use Rattle.sap_process.proofs.Members.{member-none, not-true, not-false, or-left, or-right, or-cases}
+use Rattle.sap_process.proofs.Members.{member-none, not-true, not-false, or-left, or-right}
 
 -- how facts of one name differ
 abbrev pub Differ : Bool → Fact → Fact → Type 0
@@ -100,7 +100,7 @@ shapes-more both met fs f are fits = by (lookup (bytes_eq f.name) met) refl wher
       let same : a ≡ shape_of both f = shape-equal a (shape_of both f) (not-false (is_shape a (shape_of both f)) (subst (λ (o : Option Shape). is_other_shape o (shape_of both f) ≡ false) d fits)) in
       record {
         each = λ h k. elim (Contains-push_cases fs f h k) as (λ _. lookup (bytes_eq h.name) met ≡ Some (shape_of both h)) [
-          inl front ↦ are.each h front
+          | inl front ↦ are.each h front
           | inr e ↦ subst (λ (z : Fact). lookup (bytes_eq z.name) met ≡ Some (shape_of both z)) e (d ∙ ap Some same)
         ];
         some = λ n b k. let found = are.some n b k in (found.0, Contains-append_left fs (f ∷ []) found.0 found.1, found.2, found.3);
@@ -126,7 +126,7 @@ shapes-more both met fs f are fits = by (lookup (bytes_eq f.name) met) refl wher
   new : lookup (bytes_eq f.name) met ≡ None → AreShapes both after (fs ++ f ∷ [])
   new d = record {
     each = λ h k. elim (Contains-push_cases fs f h k) as (λ _. lookup (bytes_eq h.name) after ≡ Some (shape_of both h)) [
-      inl front ↦ lookup-insert met f.name h.name (shape_of both f) ∙ kept d h front (bytes_eq h.name f.name) refl
+      | inl front ↦ lookup-insert met f.name h.name (shape_of both f) ∙ kept d h front (bytes_eq h.name f.name) refl
       | inr e ↦ subst (λ (z : Fact). lookup (bytes_eq z.name) after ≡ Some (shape_of both z)) e (lookup-insert met f.name f.name (shape_of both f) ∙ itself)
     ];
     some = λ n a k. known n a (bytes_eq n f.name) refl (sym (lookup-insert met f.name n (shape_of both f)) ∙ k);
@@ -154,29 +154,29 @@ clash-sound both met before [] are h = cc
 clash-sound both met before (f ∷ fs) are h =
     by (is_other_shape (lookup (bytes_eq f.name) met) (shape_of both f)) refl h (clash-sound both (noted met f.name (shape_of both f)) (before ++ f ∷ []) fs)
   where
-  here : (o : Option Shape) → lookup (bytes_eq f.name) met ≡ o → is_other_shape o (shape_of both f) ≡ true → HasClash (Differ both) before (f ∷ fs)
-  here None d k = cc
-  here (Some a) d k =
-      let found = are.some f.name a d in
-      let apart : is_shape a (shape_of both f) ≡ false = not-true (is_shape a (shape_of both f)) k in
-      record {
-        at = 0;
-        fact = f;
-        stands = refl;
-        earlier = found.0;
-        before = Contains-append_left before [] found.0 found.1;
-        name = found.2;
-        other = shape-differ both found.0 f (λ e.
-            let same : a ≡ shape_of both f = sym found.3 ∙ e in
-            let t : is_shape a (shape_of both f) ≡ true = subst (λ (b : Shape). is_shape a b ≡ true) same (shape-same a) in
-            cc);
-      }
+    here : (o : Option Shape) → lookup (bytes_eq f.name) met ≡ o → is_other_shape o (shape_of both f) ≡ true → HasClash (Differ both) before (f ∷ fs)
+    here None d k = cc
+    here (Some a) d k =
+        let found = are.some f.name a d in
+        let apart : is_shape a (shape_of both f) ≡ false = not-true (is_shape a (shape_of both f)) k in
+        record {
+          at = 0;
+          fact = f;
+          stands = refl;
+          earlier = found.0;
+          before = Contains-append_left before [] found.0 found.1;
+          name = found.2;
+          other = shape-differ both found.0 f (λ e.
+              let same : a ≡ shape_of both f = sym found.3 ∙ e in
+              let t : is_shape a (shape_of both f) ≡ true = subst (λ (b : Shape). is_shape a b ≡ true) same (shape-same a) in
+              cc);
+        }
 
-  by : (b : Bool) → is_other_shape (lookup (bytes_eq f.name) met) (shape_of both f) ≡ b → (b || has_clash both (noted met f.name (shape_of both f)) fs) ≡ true
-      → (AreShapes both (noted met f.name (shape_of both f)) (before ++ f ∷ []) → has_clash both (noted met f.name (shape_of both f)) fs ≡ true → HasClash (Differ both) (before ++ f ∷ []) fs)
-      → HasClash (Differ both) before (f ∷ fs)
-  by true e k later = here (lookup (bytes_eq f.name) met) refl e
-  by false e k later = clash-later both before f fs (later (shapes-more both met before f are e) k)
+    by : (b : Bool) → is_other_shape (lookup (bytes_eq f.name) met) (shape_of both f) ≡ b → (b || has_clash both (noted met f.name (shape_of both f)) fs) ≡ true
+        → (AreShapes both (noted met f.name (shape_of both f)) (before ++ f ∷ []) → has_clash both (noted met f.name (shape_of both f)) fs ≡ true → HasClash (Differ both) (before ++ f ∷ []) fs)
+        → HasClash (Differ both) before (f ∷ fs)
+    by true e k later = here (lookup (bytes_eq f.name) met) refl e
+    by false e k later = clash-later both before f fs (later (shapes-more both met before f are e) k)
 
 -- where it finds none, the shapes are those of all facts
 pub shapes-all : (both : Bool) (met : Shapes) (before fs : List Fact) → AreShapes both met before → has_clash both met fs ≡ false → AreShapes both (noted_all both met fs) (before ++ fs)
@@ -192,29 +192,29 @@ clash-complete both met before [] are h c = let stands = c.stands in cc
 clash-complete both met before (f ∷ fs) are h c =
     by (clash-complete both (noted met f.name (shape_of both f)) (before ++ f ∷ []) fs) c.at c.stands c.before
   where
-  fits : is_other_shape (lookup (bytes_eq f.name) met) (shape_of both f) ≡ false
-  fits = or-left (is_other_shape (lookup (bytes_eq f.name) met) (shape_of both f)) (has_clash both (noted met f.name (shape_of both f)) fs) h
+    fits : is_other_shape (lookup (bytes_eq f.name) met) (shape_of both f) ≡ false
+    fits = or-left (is_other_shape (lookup (bytes_eq f.name) met) (shape_of both f)) (has_clash both (noted met f.name (shape_of both f)) fs) h
 
-  rest : has_clash both (noted met f.name (shape_of both f)) fs ≡ false
-  rest = or-right (is_other_shape (lookup (bytes_eq f.name) met) (shape_of both f)) (has_clash both (noted met f.name (shape_of both f)) fs) h
+    rest : has_clash both (noted met f.name (shape_of both f)) fs ≡ false
+    rest = or-right (is_other_shape (lookup (bytes_eq f.name) met) (shape_of both f)) (has_clash both (noted met f.name (shape_of both f)) fs) h
 
-  here : f ≡ c.fact → Contains before c.earlier → ⊥
-  here e front =
-      let named : c.earlier.name ≡ f.name = c.name ∙ ap (λ (z : Fact). z.name) (sym e) in
-      let was : lookup (bytes_eq f.name) met ≡ Some (shape_of both c.earlier) = subst (λ (n : List ℕ). lookup (bytes_eq n) met ≡ Some (shape_of both c.earlier)) named (are.each c.earlier front) in
-      let same : is_shape (shape_of both c.earlier) (shape_of both f) ≡ true = not-false (is_shape (shape_of both c.earlier) (shape_of both f)) (subst (λ (o : Option Shape). is_other_shape o (shape_of both f) ≡ false) was fits) in
-      differ-shape both c.earlier c.fact c.other (shape-equal (shape_of both c.earlier) (shape_of both f) same ∙ ap (shape_of both) e)
+    here : f ≡ c.fact → Contains before c.earlier → ⊥
+    here e front =
+        let named : c.earlier.name ≡ f.name = c.name ∙ ap (λ (z : Fact). z.name) (sym e) in
+        let was : lookup (bytes_eq f.name) met ≡ Some (shape_of both c.earlier) = subst (λ (n : List ℕ). lookup (bytes_eq n) met ≡ Some (shape_of both c.earlier)) named (are.each c.earlier front) in
+        let same : is_shape (shape_of both c.earlier) (shape_of both f) ≡ true = not-false (is_shape (shape_of both c.earlier) (shape_of both f)) (subst (λ (o : Option Shape). is_other_shape o (shape_of both f) ≡ false) was fits) in
+        differ-shape both c.earlier c.fact c.other (shape-equal (shape_of both c.earlier) (shape_of both f) same ∙ ap (shape_of both) e)
 
-  by : (AreShapes both (noted met f.name (shape_of both f)) (before ++ f ∷ []) → has_clash both (noted met f.name (shape_of both f)) fs ≡ false → HasClash (Differ both) (before ++ f ∷ []) fs → ⊥)
-      → (k : ℕ) → slice_get (f ∷ fs) k ≡ Some c.fact → Contains (before ++ take k (f ∷ fs)) c.earlier → ⊥
-  by later zero s k = let e : f ≡ c.fact = cc in here e (subst (λ (hs : List Fact). Contains hs c.earlier) (append-nil before) k)
-  by later (suc j) s k =
-      later (shapes-more both met before f are fits) rest (record {
-        at = j;
-        fact = c.fact;
-        stands = s;
-        earlier = c.earlier;
-        before = subst (λ (hs : List Fact). Contains hs c.earlier) (sym (append_assoc before (f ∷ []) (take j fs))) k;
-        name = c.name;
-        other = c.other;
-      })
+    by : (AreShapes both (noted met f.name (shape_of both f)) (before ++ f ∷ []) → has_clash both (noted met f.name (shape_of both f)) fs ≡ false → HasClash (Differ both) (before ++ f ∷ []) fs → ⊥)
+        → (k : ℕ) → slice_get (f ∷ fs) k ≡ Some c.fact → Contains (before ++ take k (f ∷ fs)) c.earlier → ⊥
+    by later zero s k = let e : f ≡ c.fact = cc in here e (subst (λ (hs : List Fact). Contains hs c.earlier) (append-nil before) k)
+    by later (suc j) s k =
+        later (shapes-more both met before f are fits) rest (record {
+          at = j;
+          fact = c.fact;
+          stands = s;
+          earlier = c.earlier;
+          before = subst (λ (hs : List Fact). Contains hs c.earlier) (sym (append_assoc before (f ∷ []) (take j fs))) k;
+          name = c.name;
+          other = c.other;
+        })

@@ -1,13 +1,12 @@
 -- The tests of a place, and the flaws that they tell.
-use Rattle.std.proofs.Common.{◌≡◌, ℕ, ◌+◌, ◌<◌, List, [], ◌∷◌, ◌++◌, Bool, true, false, not, ◌||◌, ◌&&◌, Option, Some, None, option_map, length, filter, nat_eq, inl, inr, arith, codes, refl, sym, ap, subst, ◌∙◌}
-use Rattle.std.specs.Prelude.{◌⊎◌, Contains, nat_lt}
-use Rattle.std.specs.List.{list_any, flat_map, starts_with}
+use Rattle.std.proofs.Common.{◌≡◌, ℕ, ◌+◌, ◌<◌, List, [], ◌∷◌, ◌++◌, Bool, true, false, not, ◌||◌, ◌&&◌, Option, Some, None, option_map, length, inl, inr, refl, sym, ap, subst, ◌∙◌}
+use Rattle.std.specs.Prelude.{◌⊎◌, nat_lt}
+use Rattle.std.specs.List.{list_any, flat_map}
 use Rattle.std.specs.Option.{option_map_or}
 use Rattle.std.proofs.lemmas.List.{append_assoc, append-nil}
 use Rattle.std.proofs.lemmas.Bool.{ltb-true, lt-ltb}
 use Rattle.std.proofs.lemmas.Bool.Decides.{Decides-eqb}
 use Rattle.sap_terms.specs.Message.{IsOver, AreOver}
-use Rattle.sap_terms.specs.Reserved.{is_reserved}
 use Rattle.sap_terms.specs.Same.{same_sort}
 use Rattle.sap_terms.specs.Signature.{Sig, arity_of, is_destructor_of}
 use Rattle.sap_terms.specs.Tree.{Tree, variable, public, fresh, apply, Trees, none, more, trees_of, list_of}
@@ -24,7 +23,7 @@ use Rattle.sap_process.specs.Walks.{seen_at}
 use Rattle.sap_process.specs.declared.flaw.Flaw.{Flaw}
 use Rattle.sap_process.specs.declared.flaw.Flaw.TheVariants.{BadFunction, ReservedVar, ReservedFact, FactClash, PatternDestructor, Unbound, Rebound, SortClash, ScopeFull}
 use Rattle.sap_process.specs.declared.met.Seen.{Seen}
-use Rattle.sap_process.proofs.Members.{member-head, member-tail, any-found, any-holds, not-true, not-false, or-left, or-right, or-cases}
+use Rattle.sap_process.proofs.Members.{any-found, any-holds, not-true, or-left, or-right, or-cases}
 use Rattle.sap_process.proofs.Clashes.{AreShapes, shapes-none, clash-sound, clash-complete, shapes-all}
 
 -- terms over a signature
@@ -199,7 +198,7 @@ reserved-fact-tells s = (
 pattern-tells : (g : Sig) (s : Site) → Tells (any_has_destructor g (trees_of (patterns s.body))) (HasPatternDestructor g s)
 pattern-tells g s = (
   λ h. let found = any-found (has_destructor g) (patterns s.body) (sym (destructor-any g (patterns s.body)) ∙ h) in
-  record { term = found.0; stands = found.1; destructor = destructor-sound g found.0 found.2 },
+      record { term = found.0; stands = found.1; destructor = destructor-sound g found.0 found.2 },
   λ h r.
       let any = any-holds (has_destructor g) (patterns s.body) r.term r.stands (destructor-complete g r.term r.destructor) in
       let none : list_any (has_destructor g) (patterns s.body) ≡ false = sym (destructor-any g (patterns s.body)) ∙ h in
@@ -219,11 +218,14 @@ rebinds-tells s = (
 -- the sort of a binder
 other-sort : (o : Option Var) (t : Sort) → is_other_sort (option_map (λ (b : Var). b.sort) o) t ≡ true → (b : Var) × (o ≡ Some b) × ¬ (b.sort ≡ t)
 other-sort None t h = cc
-other-sort (Some b) t h =
-    (b, refl, λ e.
-        let same : same_sort b.sort t ≡ true = sort-tested b.sort t e in
-        let apart : same_sort b.sort t ≡ false = not-true (same_sort b.sort t) h in
-        cc)
+other-sort (Some b) t h = (
+  b,
+  refl,
+  λ e.
+      let same : same_sort b.sort t ≡ true = sort-tested b.sort t e in
+      let apart : same_sort b.sort t ≡ false = not-true (same_sort b.sort t) h in
+      cc,
+)
 
 apart-tested : (s t : Sort) → ¬ (s ≡ t) → not (same_sort s t) ≡ true
 apart-tested s t d = by (same_sort s t) refl where

@@ -1,12 +1,9 @@
 -- The tests of terms over a signature and of destructors, in lists of terms and of facts.
-use Rattle.std.proofs.Common.{◌≡◌, ℕ, ◌+◌, ◌<◌, List, [], ◌∷◌, ◌++◌, Bool, true, false, ◌&&◌, ◌||◌, Option, Some, None, length, drop, get_or, add-one, refl, sym, ap, ◌∙◌}
+use Rattle.std.proofs.Common.{◌≡◌, ℕ, ◌+◌, ◌<◌, List, [], ◌∷◌, ◌++◌, Bool, true, false, ◌&&◌, ◌||◌, length, drop, get_or, add-one, refl, sym, ap, ◌∙◌}
 use Rattle.std.proofs.Math.Seq.{drop-cons}
-use Rattle.std.proofs.lemmas.Bool.Decides.{Decides-eqb}
-use Rattle.sap_terms.specs.Message.{IsOver, AreOver}
 use Rattle.sap_terms.specs.Signature.{Sig, arity_of}
-use Rattle.sap_terms.specs.Tree.{Tree, variable, public, fresh, apply, Trees, none, more, trees_of, list_of, list_of-trees_of}
+use Rattle.sap_terms.specs.Tree.{Tree, apply, trees_of, list_of-trees_of}
 use Rattle.sap_terms.specs.declared.fact.Fact.{Fact}
-use Rattle.sap_terms.proofs.SameLemmas.{and_left, and_right, and_true}
 use Rattle.sap_terms.proofs.TreeLemmas.{item_le-trees_count}
 use Rattle.sap_process.specs.Heads.{facts_terms}
 use Rattle.sap_process.specs.Tests.{has_arity, is_over, are_over, has_destructor, any_has_destructor}

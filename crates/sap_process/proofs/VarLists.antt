@@ -6,7 +6,6 @@ use Rattle.std.proofs.lemmas.List.{append_assoc, append-nil}
 use Rattle.sap_terms.specs.Tree.{Tree, trees_of}
 use Rattle.sap_terms.specs.Variables.{tree_vars, trees_vars, facts_vars}
 use Rattle.sap_terms.specs.declared.fact.Fact.{Fact}
-use Rattle.sap_terms.specs.declared.var.Var.{Var}
 use Rattle.sap_process.specs.Heads.{terms_vars, facts_terms}
 use Rattle.sap_process.specs.Tests.{has_items}
 

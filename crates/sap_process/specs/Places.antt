@@ -2,7 +2,6 @@
 use Rattle.std.specs.Prelude.{ℕ, ◌+◌, List, [], ◌∷◌, ◌++◌}
 use Rattle.sap_terms.specs.Tree.{Tree}
 use Rattle.sap_terms.specs.declared.var.Var.{Var}
-use Rattle.sap_process.specs.Action.{Action, new}
 use Rattle.sap_process.specs.Proc.{Proc, nil, parallel, replicated, act, test, lookup}
 use Rattle.sap_process.specs.Heads.{action_used, locks_set}
 use Rattle.sap_process.specs.Sites.{Site, sites_from, bound_by, message_var}

@@ -1,5 +1,5 @@
 -- What a search leaves of its walk: no public contract cites this file.
-use Rattle.std.specs.Prelude.{◌≡◌, ℕ, Bool, true, false, List, Some, None}
+use Rattle.std.specs.Prelude.{◌≡◌, Bool, true, false, List, Some, None}
 use Rattle.sap_terms.specs.Signature.{Sig}
 use Rattle.sap_process.specs.Sites.{Site}
 use Rattle.sap_process.specs.Walks.{seen_after, first_place}

@@ -1,5 +1,5 @@
 -- A walk over the places of a process that looks for one flaw, as the code makes it: no public contract cites this file.
-use Rattle.std.specs.Prelude.{◌≡◌, ℕ, Bool, true, false, List, [], ◌∷◌, Option, Some, None, if◌then◌else◌}
+use Rattle.std.specs.Prelude.{ℕ, true, false, List, [], ◌∷◌, Option, Some, None, if◌then◌else◌}
 use Rattle.sap_terms.specs.Signature.{Sig}
 use Rattle.sap_process.specs.Heads.{stored_facts, shown_facts}
 use Rattle.sap_process.specs.Proc.{Proc}

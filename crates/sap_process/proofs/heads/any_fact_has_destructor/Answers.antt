@@ -1,7 +1,4 @@
 use Rattle.std.proofs.Common.{◌∙◌, refl, sym, arith}
-use Rattle.sap_terms.specs.Tree.{trees_of}
-use Rattle.sap_process.specs.Heads.{facts_terms}
-use Rattle.sap_process.specs.Tests.{any_has_destructor}
 use Rattle.sap_process.proofs.TermTests.{destructor-from}
 use Rattle.sap_process.proofs.heads.any_fact_has_destructor.Goals as goal
 
