@@ -2,3 +2,13 @@ pub mod OtherNames
 pub mod InstanceLemmas
 pub mod StepLemmas
 pub mod OneFlaw
+pub mod TermTests
+pub mod VarLists
+pub mod Scoping
+pub mod Members
+pub mod Clashing
+pub mod Clashes
+pub mod Instances
+pub mod Searching
+pub mod Flawed
+pub mod Firsts

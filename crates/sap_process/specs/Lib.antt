@@ -11,3 +11,9 @@ pub mod Sorted
 pub mod Configuration
 pub mod ProcessSteps
 pub mod StepExamples
+pub mod Binders
+pub mod Tests
+pub mod Places
+pub mod Walks
+pub mod Searches
+pub mod SortedHeads

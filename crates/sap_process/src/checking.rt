@@ -1,13 +1,18 @@
 ghost use Rattle.std.specs.Prelude.{◌≡◌, ℕ, List, [], IfOk, IsErrOf};
 ghost use Rattle.sap_process.specs.Proc.{proc};
 ghost use Rattle.sap_process.specs.Flaws.{IsWellFormed, IsFirstFlaw};
+ghost use Rattle.sap_process.specs.Sites.{sites};
 ghost use Rattle.sap_process.specs.Sorted.{with_sorts};
+ghost use Rattle.sap_process.specs.Walks.{first_flaw};
 ghost use Rattle.sap_process.specs.declared.flaw.Flaw.{Flaw};
 ghost use Rattle.sap_process.specs.declared.flaw.Ill.TheVariants.{At};
 
 use crate::Process;
-use crate::flaw::Ill;
-use sap_terms::Signature;
+use crate::flaw::{Flaw, Ill};
+use crate::scope::Scope;
+use crate::sorting::sorted;
+use crate::walk::first_place;
+use sap_terms::{Mem, Path, Signature};
 use std::alloc::Global;
 
 /// The process with each variable carrying the sort of its binder, where it has no flaw; else the flaw that counts, with
@@ -21,5 +26,39 @@ pub fn well_formed(alloc: Global, sig: &Signature, p: &Process) -> Result<Proces
     ensures sound { IfOk result (λ q. IsWellFormed sig.now (proc p.now)) }
     ensures flawed { (which : Flaw) (path : List ℕ) → IsErrOf result (At which path) → IsFirstFlaw sig.now (proc p.now) which path }
 {
-    Err(Ill::Mem)
+    let flaws = [
+        Flaw::BadFunction,
+        Flaw::ReservedVar,
+        Flaw::ReservedFact,
+        Flaw::FactClash,
+        Flaw::PatternDestructor,
+        Flaw::Unbound,
+        Flaw::Rebound,
+        Flaw::SortClash,
+        Flaw::ScopeFull,
+    ];
+    match first_flaw(alloc, sig, p, &flaws)? {
+        Some((which, path)) => Err(Ill::At { which, path }),
+        None => {
+            let mut scope = Scope::new(alloc);
+            Ok(sorted(alloc, &mut scope, p)?)
+        }
+    }
+}
+
+// The first of the flaws that a place has, with the path of the first place that has it.
+fn first_flaw(
+    alloc: Global,
+    sig: &Signature,
+    p: &Process,
+    flaws: &[Flaw],
+) -> Result<Option<(Flaw, Path)>, Mem>
+    ensures { IfOk result (λ o. o ≡ first_flaw sig.now flaws.now (sites (proc p.now))) }
+{
+    for which in flaws {
+        if let Some(path) = first_place(alloc, sig, *which, p)? {
+            return Ok(Some((*which, path)));
+        }
+    }
+    Ok(None)
 }

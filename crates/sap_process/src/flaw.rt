@@ -1,4 +1,7 @@
-use sap_terms::Path;
+ghost use Rattle.std.specs.Prelude.{◌≡◌};
+ghost use Rattle.sap_process.specs.declared.flaw.Ill.TheVariants.{Mem as OutOfMemory};
+
+use sap_terms::{Mem, Path};
 
 /// What can be wrong at a place of a process, in the order in which flaws count: the first that holds anywhere is told, at
 /// its first place in preorder.
@@ -33,4 +36,12 @@ pub enum Ill {
     Mem,
     /// The flaw that counts, and the path of its first place.
     At { which: Flaw, path: Path },
+}
+
+impl From<Mem> for Ill {
+    ghost from_gives = { λ _ e. e ≡ OutOfMemory };
+
+    fn from(_e: Mem) -> Ill {
+        Ill::Mem
+    }
 }

@@ -4,9 +4,19 @@
 mod checking;
 mod copying;
 mod flaw;
+mod heads;
 mod laws;
+mod met;
+mod naming;
+mod occurrences;
 mod process;
+mod scope;
+mod sorting;
 mod substituting;
+#[cfg(test)]
+mod tests;
+mod trail;
+mod walk;
 
 pub use checking::well_formed;
 pub use flaw::{Flaw, Ill};

@@ -1,0 +1,215 @@
+//! Tests of what stands at the head of a process.
+ghost use Rattle.std.specs.Prelude.{◌≡◌, ◌++◌, IfOk, not, ◌||◌};
+ghost use Rattle.std.specs.List.{list_any};
+ghost use Rattle.std.specs.Option.{option_copied};
+ghost use Rattle.sap_terms.specs.Tree.{trees_of};
+ghost use Rattle.sap_terms.specs.View.{tree};
+ghost use Rattle.sap_process.specs.Heads.{head_terms, head_vars, binder, listed, facts_terms, patterns, stored_facts, shown_facts};
+ghost use Rattle.sap_process.specs.Proc.{proc};
+ghost use Rattle.sap_process.specs.Tests.{is_over, are_over, has_destructor, any_has_destructor, is_constant, binds_constant, is_reserved_var, is_reserved_fact};
+
+use crate::Process;
+use crate::occurrences::vars_of_head;
+use sap_terms::{FactList, Mem, Signature, Sort, Term, TermList, Var, Vars, is_reserved};
+use std::alloc::Global;
+
+// The variable that `new` or `lookup` binds.
+pub(crate) fn binder(p: &Process) -> Option<&Var>
+    ensures { option_copied result ≡ binder (proc p.now) }
+{
+    match p {
+        Process::New(x, _) | Process::Lookup(_, x, _, _) => Some(x),
+        _ => None,
+    }
+}
+
+// Whether a term at the head applies a symbol badly, or a constant is bound.
+pub(crate) fn is_bad_head(sig: &Signature, p: &Process) -> bool
+    ensures { result ≡ (not (are_over sig.now (trees_of (head_terms (proc p.now)))) || binds_constant sig.now (proc p.now)) }
+{
+    !is_head_over(sig, p) || binds_constant(sig, p)
+}
+
+fn binds_constant(sig: &Signature, p: &Process) -> bool
+    ensures { result ≡ binds_constant sig.now (proc p.now) }
+{
+    match binder(p) {
+        Some(x) => is_constant(sig, x),
+        None => false,
+    }
+}
+
+fn is_constant(sig: &Signature, x: &Var) -> bool
+    ensures { result ≡ is_constant sig.now x.now }
+{
+    if x.sort != Sort::Msg {
+        return false;
+    }
+    match sig.arity(&x.name) {
+        Some(n) => n == 0,
+        None => false,
+    }
+}
+
+// Whether each symbol of the terms at the head is held with its arity.
+#[tactic(auto, using(crate::proofs::TermTests::over_lists))]
+fn is_head_over(sig: &Signature, p: &Process) -> bool
+    ensures { result ≡ are_over sig.now (trees_of (head_terms (proc p.now))) }
+{
+    match p {
+        Process::Nil | Process::Par(_, _) | Process::Rep(_) | Process::New(_, _) => true,
+        Process::Out(t, _)
+        | Process::In(t, _)
+        | Process::Delete(t, _)
+        | Process::Lookup(t, _, _, _)
+        | Process::Lock(t, _, _)
+        | Process::Unlock(t, _, _) => is_over(sig, t),
+        Process::Send(t, u, _)
+        | Process::Recv(t, u, _)
+        | Process::If(t, u, _, _)
+        | Process::Insert(t, u, _) => is_over(sig, t) && is_over(sig, u),
+        Process::Event(f, _) => are_over(sig, &f.args),
+        Process::Embedded(l, e, r, _) => {
+            are_facts_over(sig, l) && are_facts_over(sig, e) && are_facts_over(sig, r)
+        }
+    }
+}
+
+#[tactic(auto, using(crate::proofs::TermTests::over_lists))]
+fn are_facts_over(sig: &Signature, fs: &FactList) -> bool
+    ensures { result ≡ are_over sig.now (trees_of (facts_terms fs.now)) }
+{
+    for f in fs.as_slice() {
+        if !are_over(sig, &f.args) {
+            return false;
+        }
+    }
+    true
+}
+
+#[cycle(is_over)]
+#[tactic(auto, using(crate::proofs::TermTests::over_laws))]
+fn is_over(sig: &Signature, t: &Term) -> bool
+    ensures { result ≡ is_over sig.now (tree t.now) }
+{
+    match t {
+        Term::App(f, ts) => match sig.arity(f) {
+            Some(n) => n == ts.len() && are_over(sig, ts),
+            None => false,
+        },
+        _ => true,
+    }
+}
+
+#[cycle(is_over)]
+#[tactic(auto, using(crate::proofs::TermTests::over_laws))]
+fn are_over(sig: &Signature, ts: &TermList) -> bool
+    ensures { result ≡ are_over sig.now (trees_of ts.now) }
+{
+    for k in 0..ts.len() {
+        if !is_over(sig, ts.at(k)) {
+            return false;
+        }
+    }
+    true
+}
+
+// Whether a variable at the head has a reserved name.
+#[tactic(auto, using(crate::proofs::VarLists::any_laws))]
+pub(crate) fn has_reserved_var(alloc: Global, p: &Process) -> Result<bool, Mem>
+    ensures { IfOk result (λ b. b ≡ list_any is_reserved_var (head_vars (proc p.now))) }
+{
+    if binds_reserved_var(p) {
+        return Ok(true);
+    }
+    let vars = vars_of_head(alloc, p)?;
+    Ok(any_is_reserved_var(&vars))
+}
+
+fn binds_reserved_var(p: &Process) -> bool
+    ensures { result ≡ list_any is_reserved_var (listed (binder (proc p.now))) }
+{
+    match binder(p) {
+        Some(x) => is_reserved_var(x),
+        None => false,
+    }
+}
+
+fn any_is_reserved_var(vars: &Vars) -> bool
+    ensures { result ≡ list_any is_reserved_var vars.now }
+{
+    vars.as_slice().iter().any(|v| is_reserved_var(v))
+}
+
+fn is_reserved_var(v: &Var) -> bool
+    ensures { result ≡ is_reserved_var v.now }
+{
+    v.name.as_bytes().starts_with(b"sapic_")
+}
+
+// Whether a fact at the head has a reserved name.
+pub(crate) fn has_reserved_fact(p: &Process) -> bool
+    ensures { result ≡ list_any is_reserved_fact (stored_facts (proc p.now) ++ shown_facts (proc p.now)) }
+{
+    match p {
+        Process::Event(f, _) => is_reserved(&f.name),
+        Process::Embedded(l, e, r, _) => {
+            any_is_reserved(l) || any_is_reserved(r) || any_is_reserved(e)
+        }
+        _ => false,
+    }
+}
+
+fn any_is_reserved(fs: &FactList) -> bool
+    ensures { result ≡ list_any is_reserved_fact fs.now }
+{
+    fs.as_slice().iter().any(|f| is_reserved(&f.name))
+}
+
+// Whether a pattern has a destructor.
+#[tactic(auto, using(crate::proofs::TermTests::destructor_lists))]
+pub(crate) fn has_pattern_destructor(sig: &Signature, p: &Process) -> bool
+    ensures { result ≡ any_has_destructor sig.now (trees_of (patterns (proc p.now))) }
+{
+    match p {
+        Process::In(t, _) | Process::Recv(_, t, _) => has_destructor(sig, t),
+        Process::Embedded(l, _, _, _) => any_fact_has_destructor(sig, l),
+        _ => false,
+    }
+}
+
+#[tactic(auto, using(crate::proofs::TermTests::destructor_lists))]
+fn any_fact_has_destructor(sig: &Signature, fs: &FactList) -> bool
+    ensures { result ≡ any_has_destructor sig.now (trees_of (facts_terms fs.now)) }
+{
+    for f in fs.as_slice() {
+        if any_has_destructor(sig, &f.args) {
+            return true;
+        }
+    }
+    false
+}
+
+#[cycle(has_destructor)]
+#[tactic(auto, using(crate::proofs::TermTests::destructor_laws))]
+fn has_destructor(sig: &Signature, t: &Term) -> bool
+    ensures { result ≡ has_destructor sig.now (tree t.now) }
+{
+    match t {
+        Term::App(f, ts) => sig.is_destructor(f) || any_has_destructor(sig, ts),
+        _ => false,
+    }
+}
+
+#[cycle(has_destructor)]
+#[tactic(auto, using(crate::proofs::TermTests::destructor_laws))]
+fn any_has_destructor(sig: &Signature, ts: &TermList) -> bool
+    ensures { result ≡ any_has_destructor sig.now (trees_of ts.now) }
+{
+    for k in 0..ts.len() {
+        if has_destructor(sig, ts.at(k)) {
+            return true;
+        }
+    }
+    false
+}
