@@ -10,12 +10,12 @@ pub returns-then-starts : goal.returns-then-starts
 returns-then-starts c =
     let is : short_fact c.args.sig.now 100 c.args.allowed (words_of c.args.bytes.now c.loop-rest.rest.now) ≡ Some (c.in-Some.fact, words_of c.args.bytes.now c.in-Some.next.now) = rw c.in-Some.is at c.in_ok-fact.ensures in
     let pushed : c.push.new.self ≡ c.loop-rest.facts ++ (c.in-Some.fact ∷ []) = grind (arith, common_steps) in
-    turn_last _ (short_fact_shrinks c.args.sig.now 100 c.args.allowed) _ _ _ _ _ c.loop-rest.invariant.1 c.loop-rest.invariant.2 _ _ is _ _ pushed c.beyond.ensures (cc)
+    turn_last _ (short_fact_shrinks c.args.sig.now 100 c.args.allowed) c.args.bytes.now c.loop-rest.rest.now c.loop-rest.facts c.loop-rest.invariant.0 _ c.loop-rest.invariant.1 c.loop-rest.invariant.2 _ _ is _ _ pushed c.beyond.ensures (cc)
 
 pub returns-then-not-starts : goal.returns-then-not-starts
 returns-then-not-starts c =
     let is : short_fact c.args.sig.now 100 c.args.allowed (words_of c.args.bytes.now c.loop-rest.rest.now) ≡ Some (c.in-Some.fact, words_of c.args.bytes.now c.in-Some.next.now) = rw c.in-Some.is at c.in_ok-fact.ensures in
-    turn_bad _ (short_fact_shrinks c.args.sig.now 100 c.args.allowed) _ _ _ _ _ c.loop-rest.invariant.1 c.loop-rest.invariant.2 _ _ is (cc) (cc)
+    turn_bad _ (short_fact_shrinks c.args.sig.now 100 c.args.allowed) c.args.bytes.now c.loop-rest.rest.now c.loop-rest.facts c.loop-rest.invariant.0 _ c.loop-rest.invariant.1 c.loop-rest.invariant.2 _ _ is (cc) (cc)
 
 pub loop-rest-smaller : goal.loop-rest-smaller
 loop-rest-smaller c =
@@ -26,10 +26,10 @@ pub loop-rest-preserved : goal.loop-rest-preserved
 loop-rest-preserved c =
     let is : short_fact c.args.sig.now 100 c.args.allowed (words_of c.args.bytes.now c.loop-rest.rest.now) ≡ Some (c.in-Some.fact, words_of c.args.bytes.now c.in-Some.next.now) = rw c.in-Some.is at c.in_ok-fact.ensures in
     let pushed : c.push.new.self ≡ c.loop-rest.facts ++ (c.in-Some.fact ∷ []) = grind (arith, common_steps) in
-    turn_go _ (short_fact_shrinks c.args.sig.now 100 c.args.allowed) _ _ _ _ _ c.loop-rest.invariant.1 c.loop-rest.invariant.2 _ _ is _ _ pushed c.beyond-rest.ensures (cc) (cc)
+    turn_go _ (short_fact_shrinks c.args.sig.now 100 c.args.allowed) c.args.bytes.now c.loop-rest.rest.now c.loop-rest.facts c.loop-rest.invariant.0 _ c.loop-rest.invariant.1 c.loop-rest.invariant.2 _ _ is _ _ pushed c.beyond-rest.ensures (cc) (cc)
 
 pub returns : goal.returns
 returns c =
     let none : c.loop-rest.rest.now ≡ [] = grind (arith, common_steps) in
     let stops : short_fact c.args.sig.now 100 c.args.allowed (words_of c.args.bytes.now c.loop-rest.rest.now) ≡ None = rw none (short_fact_nothing c.args.sig.now 100 c.args.allowed) in
-    turn_stop _ (short_fact_shrinks c.args.sig.now 100 c.args.allowed) _ _ _ _ _ c.loop-rest.invariant.1 c.loop-rest.invariant.2 stops
+    turn_stop _ (short_fact_shrinks c.args.sig.now 100 c.args.allowed) c.args.bytes.now c.loop-rest.rest.now c.loop-rest.facts c.loop-rest.invariant.0 _ c.loop-rest.invariant.1 c.loop-rest.invariant.2 stops
