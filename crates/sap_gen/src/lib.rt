@@ -4,10 +4,12 @@
 mod faithful;
 mod generation;
 mod place;
+mod theory;
 mod unbuilt;
 
 pub use faithful::rules_show_the_process;
 pub use generation::generate;
+pub use theory::theory_of;
 pub use unbuilt::first_unbuilt;
 
 #[cfg(test)]

@@ -1,7 +1,10 @@
-use crate::{first_unbuilt, generate};
+use crate::{first_unbuilt, generate, theory_of};
 use sap_process::Process;
+use sap_read::File;
 use sap_rule::RuleList;
-use sap_terms::{Copied, Fact, FactList, Mem, Name, Path, Signature, Sort, Term, TermList, Var};
+use sap_terms::{
+    Copied, Fact, FactList, Items, Mem, Name, Path, Signature, Sort, Term, TermList, Var,
+};
 use std::alloc::Global;
 use std::test::Fail;
 
@@ -236,5 +239,44 @@ fn first_places_that_are_not_built(rt: HostRuntime) -> Result<(), Fail> {
         0e0n0|e| | unbuilt 211\n\
         0e00?e| | unbuilt 21";
     assert_eq!(rt; first_wrong(rt.alloc(), rows)?, None);
+    Ok(())
+}
+
+fn empty_file(alloc: Global) -> Result<Box<File>, Mem> {
+    let name = Name::from_bytes(alloc, b"A")?;
+    let signature = Signature::new(alloc)?;
+    let file = File {
+        name,
+        signature,
+        process: Process::Nil,
+        restrictions: Items::new(alloc),
+        lemmas: Items::new(alloc),
+    };
+    Ok(Box::new(alloc, file)?)
+}
+
+/// The name of the theory of a file, its rules and the names of its restrictions; nothing where a place isn't built.
+fn theory_text(alloc: Global, f: &File) -> Result<Vec<u8>, Mem> {
+    if first_unbuilt(alloc, &f.process)?.is_some() {
+        return Ok(Vec::new(alloc));
+    }
+    let theory = theory_of(alloc, f, false)?;
+    let mut out = Vec::from_slice(alloc, theory.name.as_bytes())?;
+    for restriction in theory.restrictions.as_slice() {
+        out.push(b' ')?;
+        out.extend_from_slice(restriction.name.as_bytes())?;
+    }
+    out.extend_from_slice(b" ")?;
+    out.extend_from_slice(text(alloc, &theory.rules)?.as_slice())?;
+    Ok(out)
+}
+
+#[test]
+fn theory_of_a_file(rt: HostRuntime) -> Result<(), Fail> {
+    let file = empty_file(rt.alloc())?;
+    assert_eq!(rt;
+        theory_text(rt.alloc(), &file)?.as_slice(),
+        b"A sapic_init Init: -- Init() -> State_() . Nil_: State_() -- -> . ".as_slice()
+    );
     Ok(())
 }
