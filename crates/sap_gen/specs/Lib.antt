@@ -1,5 +1,6 @@
 pub use Rattle.sap_process.specs.Proc
 pub use Rattle.sap_terms.specs.Tree
+pub use Rattle.sap_formula.specs.Form
 pub use Rattle.sap_terms.specs.Reserved
 pub use Rattle.sap_process.specs.Action
 pub mod Built

@@ -1,5 +1,5 @@
 -- Rules run: states, steps and full traces.
-use Rattle.std.specs.Prelude.{◌≡◌, ℕ, List, [], ◌∷◌, ◌++◌, Option, Some, None, slice_get, slice_set, map, if◌then◌else◌}
+use Rattle.std.specs.Prelude.{ℕ, List, [], ◌∷◌, ◌++◌}
 use Rattle.sap_terms.specs.Piles.{Pile, Takes, adds}
 use Rattle.sap_terms.specs.Tree.{Tree, public}
 use Rattle.sap_terms.specs.declared.fact.Fact.{Fact}

@@ -97,7 +97,7 @@ fn state_fact(alloc: Global, path: &Path) -> Result<Fact, Mem>
 }
 
 /// A linear fact without arguments.
-fn plain_fact(alloc: Global, word: &[u8]) -> Result<Fact, Mem>
+pub fn plain_fact(alloc: Global, word: &[u8]) -> Result<Fact, Mem>
     ensures { IfOk result (λ fact. fact ≡ linear word.now []) }
 {
     let name = Name::from_bytes(alloc, word)?;

@@ -270,14 +270,21 @@ fn limits(rt: HostRuntime) -> Result<(), Fail> {
 }
 
 // `event A() | 0`.
-fn event_beside_nil(alloc: Global) -> Result<Process, Mem> {
+fn event_beside_nil(alloc: Global) -> Result<Box<Process>, Mem> {
     let fact = Fact {
         name: Name::from_bytes(alloc, b"A")?,
         persistent: false,
         args: TermList::new(alloc),
     };
-    let left = Process::Event(fact, Box::new(alloc, Process::Nil)?);
-    Ok(Process::Par(Box::new(alloc, left)?, Box::new(alloc, Process::Nil)?))
+    let rest = Box::new(alloc, Process::Nil)?;
+    let left = Box::new(alloc, Process::Event(fact, rest))?;
+    let right = Box::new(alloc, Process::Nil)?;
+    Ok(Box::new(alloc, Process::Par(left, right))?)
+}
+
+fn copied_nodes(alloc: Global, process: &Process) -> Result<u64, Mem> {
+    let copied = process.copy(alloc)?;
+    Ok(copied.nodes())
 }
 
 #[test]
@@ -285,6 +292,6 @@ fn process_is_copied(rt: HostRuntime) -> Result<(), Fail> {
     let alloc = rt.alloc();
     let process = event_beside_nil(alloc)?;
     assert_eq!(rt; process.nodes(), 4);
-    assert_eq!(rt; process.copy(alloc)?.nodes(), 4);
+    assert_eq!(rt; copied_nodes(alloc, &process)?, 4);
     Ok(())
 }

@@ -3,7 +3,7 @@ use Rattle.std.proofs.Common.{◌≡◌, ◌≤◌, ◌+◌, ℕ, List, [], ◌�
 use Rattle.std.specs.Prelude.{codes, Contains}
 use Rattle.std.proofs.lemmas.Grind.{common_steps}
 use Rattle.std.specs.FinMap as files
-use Rattle.sap_process.specs.Proc.{Proc}
+use Rattle.sap_gen.specs.Built.{Built}
 use Rattle.sap_gen.specs.Templates.{rules_of}
 use Rattle.sap_gen.specs.Faithful.{NoReservedEvents, ShowsAll, ShowsOnly}
 use Rattle.sap_tool.specs.Outside.{Files, IsFetched, IsFirstPart}
@@ -13,8 +13,8 @@ use Rattle.sap_tool.specs.Promises as promised
 
 -- the rules of every process without reserved events show it
 pub record Shown : Type 0 where
-  pub all : (p : Proc) → NoReservedEvents p → ShowsAll p (rules_of p)
-  pub only : (p : Proc) → NoReservedEvents p → ShowsOnly p (rules_of p)
+  pub all : (p : Built) → NoReservedEvents p → ShowsAll p (rules_of p)
+  pub only : (p : Built) → NoReservedEvents p → ShowsOnly p (rules_of p)
 
 statuses : (c : Call) (s : ℕ) → Outcome c s → Contains (0 ∷ 1 ∷ 3 ∷ 4 ∷ 5 ∷ 6 ∷ []) s
 statuses c s (written text is theory out err) = (0, lit< tt, sym is)
@@ -120,7 +120,7 @@ fetched_part (Some all) limit file bytes z held part = at (files.get all file) h
 whole_part : (most : ℕ) (bytes : List ℕ) → length (take (most + 1) bytes) ≤ most → take (most + 1) bytes ≡ bytes
 whole_part most bytes h = grind (arith, common_steps)
 
-fetched_file : (bytes z name : List ℕ) (p : Proc) → z ≡ take (most_bytes + 1) bytes → IsFile z name p → IsFile bytes name p
+fetched_file : (bytes z name : List ℕ) (p : Built) → z ≡ take (most_bytes + 1) bytes → IsFile z name p → IsFile bytes name p
 fetched_file bytes z name p e file =
     let short : length (take (most_bytes + 1) bytes) ≤ most_bytes = subst (λ y. length y ≤ most_bytes) e file.short in
     subst (λ y. IsFile y name p) (e ∙ whole_part most_bytes bytes short) file
@@ -128,7 +128,7 @@ fetched_file bytes z name p e file =
 whole_of_short : (most : ℕ) (bytes : List ℕ) → length bytes ≤ most → take (most + 1) bytes ≡ bytes
 whole_of_short most bytes h = grind (arith, common_steps)
 
-held_file : (bytes z name : List ℕ) (p : Proc) → z ≡ take (most_bytes + 1) bytes → IsFile bytes name p → IsFile z name p
+held_file : (bytes z name : List ℕ) (p : Built) → z ≡ take (most_bytes + 1) bytes → IsFile bytes name p → IsFile z name p
 held_file bytes z name p e file =
     let whole : take (most_bytes + 1) bytes ≡ bytes = whole_of_short most_bytes bytes file.short in
     subst (λ y. IsFile y name p) (sym (e ∙ whole)) file
@@ -174,7 +174,7 @@ must_refuse c s (wanting_err cause text i j is why out err) file bytes named hel
 must_refuse c s (wanting_out text i j is theory out err) file bytes named held refusal = inr (inr (inr is))
 
 -- a file that is held is not refused
-no_cause : (c : Call) (s : ℕ) (text : List ℕ) → Cause c s text → (file bytes name : List ℕ) (p : Proc) → IsCompile c.words file → Holds c.holds file bytes
+no_cause : (c : Call) (s : ℕ) (text : List ℕ) → Cause c s text → (file bytes name : List ℕ) (p : Built) → IsCompile c.words file → Holds c.holds file bytes
     → IsFile bytes name p → (FailedOn c file → ⊥) → ⊥
 no_cause c s text (refused z is t f r) file bytes name p named held spelled sound =
     r name p (held_file bytes z name p (fetched_of c file bytes z named held f) spelled)
@@ -182,7 +182,7 @@ no_cause c s text (usage is t u) file bytes name p named held spelled sound = u 
 no_cause c s text (unread other is t n f) file bytes name p named held spelled sound =
     sound (subst (λ g. FailedOn c g) (one_file c.words other file n named) f)
 
-must_compile : (c : Call) (s : ℕ) → Outcome c s → (file bytes name : List ℕ) (p : Proc) → IsCompile c.words file → Holds c.holds file bytes
+must_compile : (c : Call) (s : ℕ) → Outcome c s → (file bytes name : List ℕ) (p : Built) → IsCompile c.words file → Holds c.holds file bytes
     → IsFile bytes name p → (FailedOn c file → ⊥) → (Failed c.out → ⊥) → (s ≡ 0) ⊎ (s ≡ 6)
 must_compile c s (written text is theory out err) file bytes name p named held spelled sound open_out = inl is
 must_compile c s (told text cause out err) file bytes name p named held spelled sound open_out =

@@ -6,7 +6,7 @@ use Rattle.std.proofs.lemmas.List.{drop-drop}
 use Rattle.std.proofs.lemmas.Slice.Eq.{bytes_eq-Decides}
 use Rattle.sap_terms.specs.declared.fact.Fact.{Fact}
 use Rattle.sap_terms.specs.Tree.{Tree, public}
-use Rattle.sap_process.specs.Proc.{nil}
+use Rattle.sap_gen.specs.Built.{nil}
 use Rattle.sap_terms.specs.AdversaryFacts.{linear}
 use Rattle.sap_tool.specs.Words.{Word, mark, name, number, quoted}
 use Rattle.sap_tool.specs.Grammar.{IsArgList, IsArgs, IsEvent, IsPar, IsSeq, event_fact, is_upper, last_arg, next_arg, no_args, par_more, par_one, seq_event, seq_nil, seq_parentheses, seq_then, some_args}

@@ -3,7 +3,7 @@ use Rattle.std.proofs.Common.{◌≡◌, ◌≤◌, ℕ, Bool, true, false, List
 use Rattle.std.specs.Prelude.{codes, ◌&&◌, ◌==◌, ◌+◌, if◌then◌else◌}
 use Rattle.sap_text.specs.declared.token.Token.{Token}
 use Rattle.sap_text.specs.Tokens.{Lexed, IsLexed}
-use Rattle.sap_process.specs.Proc.{Proc, node_count, events}
+use Rattle.sap_gen.specs.Built.{Built, node_count, events}
 use Rattle.sap_tool.specs.Words.{Word, mark, name, words_of}
 use Rattle.sap_tool.specs.Grammar.{IsPar}
 use Rattle.sap_gen.specs.Faithful.{NoReservedEvents}
@@ -24,7 +24,7 @@ same_header n m a b e =
     let names : name n ≡ name m = cc in
     (cc, cc)
 
-pub one_spelling : {ws : List Word} {n m : List ℕ} {p q : Proc} {l k : ℕ} → SpellsTheory ws n p l → SpellsTheory ws m q k → (n ≡ m) × (p ≡ q)
+pub one_spelling : {ws : List Word} {n m : List ℕ} {p q : Built} {l k : ℕ} → SpellsTheory ws n p l → SpellsTheory ws m q k → (n ≡ m) × (p ≡ q)
 one_spelling {n = n} {m = m} {p = p} {l = l} r s =
     let same = same_header n m r.body s.body (sym r.header ∙ s.header) in
     (same.0, (one_reading at_end (subst (λ (y : List Word). IsPar p l y (mark (codes "end") ∷ [])) same.1 r.spelled) s.spelled).0)
@@ -36,7 +36,7 @@ OneAnswer = (most : ℕ) (z : List ℕ) (o u : Lexed) → IsLexed most 0 1 z o �
 pub same_tokens : OneAnswer → (z : List ℕ) (ts us : List Token) → IsLexed 64 0 1 z (Ok ts) → IsLexed 64 0 1 z (Ok us) → ts ≡ us
 same_tokens one z ts us r s = let same : ◌≡◌ {A = Lexed} (Ok ts) (Ok us) = one 64 z (Ok ts) (Ok us) r s in cc
 
-pub one_file : OneAnswer → (z n m : List ℕ) (p q : Proc) → IsFile z n p → IsFile z m q → (n ≡ m) × (p ≡ q)
+pub one_file : OneAnswer → (z n m : List ℕ) (p q : Built) → IsFile z n p → IsFile z m q → (n ≡ m) × (p ≡ q)
 one_file one z n m p q r s =
     one_spelling (subst (λ (y : List Token). SpellsTheory (words_of z y) n p r.levels) (same_tokens one z r.tokens s.tokens r.lexed s.lexed) r.spelled) s.spelled
 
@@ -80,7 +80,7 @@ end_is b e =
     nothing (w ∷ c) t = absurd (omega (arith, t))
 
 -- what is read of all words is spelled by them
-pub whole_sound : (ws : List Word) (n : List ℕ) (p : Proc) (l : ℕ) → whole ws ≡ Some (n, (p, l)) → SpellsTheory ws n p l × (l ≤ 300)
+pub whole_sound : (ws : List Word) (n : List ℕ) (p : Built) (l : ℕ) → whole ws ≡ Some (n, (p, l)) → SpellsTheory ws n p l × (l ≤ 300)
 whole_sound ws n p l e = by_header (has_header ws) refl e
   where
     by_end : (m : List ℕ) (w : Written) (b : List Word) (c : Bool) → has_header ws ≡ true → name_at (drop 1 ws) ≡ Some m → IsPar w.0 w.1 (drop 5 ws) b × (w.1 ≤ 300) → is_end b ≡ c
@@ -103,23 +103,23 @@ whole_sound ws n p l e = by_header (has_header ws) refl e
     by_header false h f = absurd (cc (f))
 
 -- what words spell is read
-pub whole_complete : (ws : List Word) (n : List ℕ) (p : Proc) (l : ℕ) → SpellsTheory ws n p l → l ≤ 300 → whole ws ≡ Some (n, (p, l))
+pub whole_complete : (ws : List Word) (n : List ℕ) (p : Built) (l : ℕ) → SpellsTheory ws n p l → l ≤ 300 → whole ws ≡ Some (n, (p, l))
 whole_complete ws n p l s le = rw s.header (rw (par_read s.spelled 300 le at_end) refl)
 
 -- why bytes are no file, and that they are one
 module _ (z : List ℕ) (ts : List Token) (only : (us : List Token) → IsLexed 64 0 1 z (Ok us) → us ≡ ts) where
-  same_spelling : (n : List ℕ) (p : Proc) (f : IsFile z n p) → SpellsTheory (words_of z ts) n p f.levels
+  same_spelling : (n : List ℕ) (p : Built) (f : IsFile z n p) → SpellsTheory (words_of z ts) n p f.levels
   same_spelling n p f = subst (λ (y : List Token). SpellsTheory (words_of z y) n p f.levels) (only f.tokens f.lexed) f.spelled
 
-  pub no_theory : whole (words_of z ts) ≡ None → (n : List ℕ) (p : Proc) → IsFile z n p → ⊥
+  pub no_theory : whole (words_of z ts) ≡ None → (n : List ℕ) (p : Built) → IsFile z n p → ⊥
   no_theory e n p f = let read = whole_complete (words_of z ts) n p f.levels (same_spelling n p f) f.few_levels in cc (read, e)
 
-  pub beyond_limits : (m : List ℕ) (q : Proc) (l : ℕ) → whole (words_of z ts) ≡ Some (m, (q, l)) → ((node_count q ≤ 4000) × NoReservedEvents q × HaveOneArity (events q) → ⊥) → (n : List ℕ) (p : Proc) → IsFile z n p → ⊥
+  pub beyond_limits : (m : List ℕ) (q : Built) (l : ℕ) → whole (words_of z ts) ≡ Some (m, (q, l)) → ((node_count q ≤ 4000) × NoReservedEvents q × HaveOneArity (events q) → ⊥) → (n : List ℕ) (p : Built) → IsFile z n p → ⊥
   beyond_limits m q l e bad n p f =
       let same = one_spelling (same_spelling n p f) (whole_sound (words_of z ts) m q l e).0 in
-      bad (subst (λ (x : Proc). (node_count x ≤ 4000) × NoReservedEvents x × HaveOneArity (events x)) same.1 (f.few_nodes, f.free, f.one_arity))
+      bad (subst (λ (x : Built). (node_count x ≤ 4000) × NoReservedEvents x × HaveOneArity (events x)) same.1 (f.few_nodes, f.free, f.one_arity))
 
-pub a_file : (z : List ℕ) (ts : List Token) (n : List ℕ) (p : Proc) (l : ℕ) → length z ≤ 1048576 → IsLexed 64 0 1 z (Ok ts) → only_blanks z 0 ts ≡ true → whole (words_of z ts) ≡ Some (n, (p, l))
+pub a_file : (z : List ℕ) (ts : List Token) (n : List ℕ) (p : Built) (l : ℕ) → length z ≤ 1048576 → IsLexed 64 0 1 z (Ok ts) → only_blanks z 0 ts ≡ true → whole (words_of z ts) ≡ Some (n, (p, l))
     → (node_count p ≤ 4000) × NoReservedEvents p × HaveOneArity (events p) → IsFile z n p
 a_file z ts n p l short lexed clear e limits =
     let read = whole_sound (words_of z ts) n p l e in

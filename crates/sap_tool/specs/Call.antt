@@ -3,7 +3,7 @@ use Rattle.std.specs.Prelude.{◌≡◌, ℕ, codes, List, [], ◌∷◌, ◌++�
 use Rattle.std.specs.declared.alloc.Global.{Global}
 use Rattle.std.specs.FinMap as files
 use Rattle.std.specs.Io.KnownBytes.{Appends}
-use Rattle.sap_process.specs.Proc.{Proc}
+use Rattle.sap_gen.specs.Built.{Built}
 use Rattle.sap_gen.specs.Templates.{rules_of}
 use Rattle.sap_tool.specs.Outside.{Files, Rose, IsFetched}
 use Rattle.sap_tool.specs.FirstFile.{IsFile}
@@ -69,12 +69,12 @@ IsUnknown words = (file : List ℕ) → IsCompile words file → ⊥
 
 -- the bytes are no file: they are too long, or no name and process are spelled by them
 abbrev pub IsRefused : List ℕ → Type 0
-IsRefused bytes = (name : List ℕ) (p : Proc) → IsFile bytes name p → ⊥
+IsRefused bytes = (name : List ℕ) (p : Built) → IsFile bytes name p → ⊥
 
 -- the bytes are a file, and the text is the theory of its process
 pub record IsTheoryOf (bytes text : List ℕ) : Type 0 where
   pub name : List ℕ
-  pub process : Proc
+  pub process : Built
   pub file : IsFile bytes name process
   pub layout : text ≡ theory_text name (rules_of process)
 

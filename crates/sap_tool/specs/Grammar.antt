@@ -2,7 +2,7 @@
 use Rattle.std.specs.Prelude.{◌≡◌, ℕ, ◌+◌, Bool, true, false, ◌&&◌, nat_le, max, codes, List, [], ◌∷◌}
 use Rattle.sap_terms.specs.declared.fact.Fact.{Fact}
 use Rattle.sap_terms.specs.Tree.{Tree, public}
-use Rattle.sap_process.specs.Proc.{Proc, nil, parallel, event}
+use Rattle.sap_gen.specs.Built.{Built, nil, parallel, event}
 use Rattle.sap_terms.specs.AdversaryFacts.{linear}
 use Rattle.sap_tool.specs.Words.{Word, mark, name, number, quoted}
 
@@ -28,13 +28,13 @@ pub data IsEvent : Fact → List Word → List Word → Type 0 where
 
 mutual
   -- a process that is no parallel without parentheses, and the levels of its text
-  pub data IsSeq : Proc → ℕ → List Word → List Word → Type 0 where
+  pub data IsSeq : Built → ℕ → List Word → List Word → Type 0 where
     seq_nil : {a : List Word} → IsSeq nil 1 (number (codes "0") ∷ a) a
-    seq_parentheses : {p : Proc} {n : ℕ} {a b : List Word} → IsPar p n a (mark (codes ")") ∷ b) → IsSeq p (n + 1) (mark (codes "(") ∷ a) b
+    seq_parentheses : {p : Built} {n : ℕ} {a b : List Word} → IsPar p n a (mark (codes ")") ∷ b) → IsSeq p (n + 1) (mark (codes "(") ∷ a) b
     seq_event : {f : Fact} {a b : List Word} → IsEvent f a b → IsSeq (event f nil) 2 a b
-    seq_then : {f : Fact} {p : Proc} {n : ℕ} {a b c : List Word} → IsEvent f a (mark (codes ";") ∷ b) → IsSeq p n b c → IsSeq (event f p) (n + 1) a c
+    seq_then : {f : Fact} {p : Built} {n : ℕ} {a b c : List Word} → IsEvent f a (mark (codes ";") ∷ b) → IsSeq p n b c → IsSeq (event f p) (n + 1) a c
 
   -- a process, where a parallel groups to the right, and the levels of its text
-  pub data IsPar : Proc → ℕ → List Word → List Word → Type 0 where
-    par_one : {p : Proc} {n : ℕ} {a b : List Word} → IsSeq p n a b → IsPar p n a b
-    par_more : {p q : Proc} {n k : ℕ} {a b c : List Word} → IsSeq p n a (mark (codes "|") ∷ b) → IsPar q k b c → IsPar (parallel p q) (max n k + 1) a c
+  pub data IsPar : Built → ℕ → List Word → List Word → Type 0 where
+    par_one : {p : Built} {n : ℕ} {a b : List Word} → IsSeq p n a b → IsPar p n a b
+    par_more : {p q : Built} {n k : ℕ} {a b c : List Word} → IsSeq p n a (mark (codes "|") ∷ b) → IsPar q k b c → IsPar (parallel p q) (max n k + 1) a c

@@ -1,6 +1,6 @@
 -- What the program promises of each call.
 use Rattle.std.specs.Prelude.{◌≡◌, ◌⊎◌, ℕ, List, [], ◌∷◌, ◌++◌, take, Contains}
-use Rattle.sap_process.specs.Proc.{Proc}
+use Rattle.sap_gen.specs.Built.{Built}
 use Rattle.sap_gen.specs.Templates.{rules_of}
 use Rattle.sap_gen.specs.Faithful.{ShowsAll, ShowsOnly}
 use Rattle.sap_tool.specs.FirstFile.{IsFile}
@@ -11,7 +11,7 @@ use Rattle.sap_tool.specs.Call.{Call, Gained, Failed, FailedOn, IsCompile, IsUnk
 pub record Compiled (c : Call) : Type 0 where
   pub bytes : List ℕ
   pub name : List ℕ
-  pub process : Proc
+  pub process : Built
   pub fetched : Fetched c bytes
   pub file : IsFile bytes name process
   pub out : Gained c.out (theory_text name (rules_of process))
@@ -68,5 +68,5 @@ pub record Promises (c : Call) (status : ℕ) : Type 0 where
   pub must_tell_usage : IsUnknown c.words → (status ≡ 3) ⊎ ((status ≡ 5) × Failed c.err) ⊎ (status ≡ 6)
   pub must_refuse : (file bytes : List ℕ) → IsCompile c.words file → Holds c.holds file bytes → IsRefused bytes
       → (status ≡ 1) ⊎ ((status ≡ 4) × FailedOn c file) ⊎ ((status ≡ 5) × Failed c.err) ⊎ (status ≡ 6)
-  pub must_compile : (file bytes name : List ℕ) (p : Proc) → IsCompile c.words file → Holds c.holds file bytes → IsFile bytes name p
+  pub must_compile : (file bytes name : List ℕ) (p : Built) → IsCompile c.words file → Holds c.holds file bytes → IsFile bytes name p
       → (FailedOn c file → ⊥) → (Failed c.out → ⊥) → (status ≡ 0) ⊎ (status ≡ 6)

@@ -3,7 +3,7 @@ use Rattle.std.specs.Prelude.{ℕ, zero, suc, ◌+◌, max, Bool, false, ◌&&�
 use Rattle.std.specs.Str.{bytes_eq}
 use Rattle.sap_terms.specs.declared.fact.Fact.{Fact}
 use Rattle.sap_terms.specs.Tree.{Tree, public}
-use Rattle.sap_process.specs.Proc.{Proc, nil, parallel, event}
+use Rattle.sap_gen.specs.Built.{Built, nil, parallel, event}
 use Rattle.sap_terms.specs.AdversaryFacts.{linear}
 use Rattle.sap_tool.specs.Words.{Word, mark, name, number, quoted}
 use Rattle.sap_tool.specs.Grammar.{is_upper}
@@ -95,7 +95,7 @@ event_at ws =
 
 -- a process and the levels of its text
 abbrev pub Written : Type 0
-Written = Proc × ℕ
+Written = Built × ℕ
 
 -- behind a process in parentheses
 abbrev pub closed : Written → Reader Written

@@ -3,6 +3,7 @@
 
 mod compile;
 mod file_shelf;
+mod first_process;
 mod mem_shelf;
 mod mem_sink;
 mod printer;

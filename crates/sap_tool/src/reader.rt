@@ -4,7 +4,8 @@ mod look;
 mod process;
 
 ghost use Rattle.std.specs.Prelude.{◌≡◌, ℕ, List, [], ◌∷◌, codes, IfOk, IfSome, IfNone};
-ghost use Rattle.sap_process.specs.Proc.{Proc, proc};
+ghost use Rattle.sap_gen.specs.Built.{Built};
+ghost use Rattle.sap_tool.specs.First.{first};
 ghost use Rattle.sap_tool.specs.Words.{Word, mark, words_of};
 ghost use Rattle.sap_tool.specs.Grammar.{IsPar};
 ghost use Rattle.sap_tool.specs.FirstFile.{IsFile};
@@ -13,11 +14,11 @@ ghost use Rattle.sap_tool.specs.View.{GivesTheory};
 ghost use Rattle.sap_text.specs.declared.token.Token.{Token};
 ghost use Rattle.sap_text.specs.Tokens.{IsLexed};
 
+use crate::first_process::FirstProcess;
 use blanks::has_only_blanks;
 use limits::is_within_limits;
 use look::{beyond, name_at, starts};
 use process::read_par;
-use sap_process::Process;
 use sap_terms::{Mem, Name};
 use sap_text::{Lex, Token, one_answer, tokens};
 use std::alloc::Global;
@@ -26,7 +27,7 @@ use std::alloc::Global;
 #[derive(Drop)]
 pub struct FirstFile {
     pub name: Name,
-    pub process: Process,
+    pub process: FirstProcess,
 }
 
 /// The tokens of a file, where its bytes have any.
@@ -84,8 +85,8 @@ fn read_theory(alloc: Global, bytes: &[u8], tokens: &[Token]) -> Result<Option<F
 
 /// The file that the bytes are, or nothing where they are none.
 pub fn read_first(alloc: Global, bytes: &[u8]) -> Result<Option<FirstFile>, Mem>
-    ensures found { IfOk result (λ o. IfSome o (λ f. IsFile bytes.now f.name (proc f.process))) }
-    ensures none { IfOk result (λ o. IfNone o ((n : List ℕ) (p : Proc) → IsFile bytes.now n p → ⊥)) }
+    ensures found { IfOk result (λ o. IfSome o (λ f. IsFile bytes.now f.name (first f.process))) }
+    ensures none { IfOk result (λ o. IfNone o ((n : List ℕ) (p : Built) → IsFile bytes.now n p → ⊥)) }
 {
     if bytes.len() > 1_048_576 {
         return Ok(None);
@@ -108,13 +109,13 @@ pub fn read_first(alloc: Global, bytes: &[u8]) -> Result<Option<FirstFile>, Mem>
 
 /// A law: bytes are a file of at most one theory name and process.
 pub fn one_file()
-    ensures { (z n m : List ℕ) (p q : Proc) → IsFile z n p → IsFile z m q → (n ≡ m) × (p ≡ q) }
+    ensures { (z n m : List ℕ) (p q : Built) → IsFile z n p → IsFile z m q → (n ≡ m) × (p ≡ q) }
 {
     one_answer();
 }
 
 /// A law: words with `end` behind them spell at most one process, with one number of levels.
 pub fn one_process()
-    ensures { (a : List Word) (p q : Proc) (n k : ℕ) → IsPar p n a (mark (codes "end") ∷ []) → IsPar q k a (mark (codes "end") ∷ [])
+    ensures { (a : List Word) (p q : Built) (n k : ℕ) → IsPar p n a (mark (codes "end") ∷ []) → IsPar q k a (mark (codes "end") ∷ [])
         → (p ≡ q) × (n ≡ k) }
 {}

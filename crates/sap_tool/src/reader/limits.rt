@@ -2,12 +2,13 @@ ghost use Rattle.std.specs.Prelude.{◌≡◌, ◌≤◌, ◌∷◌, ◌↔◌, 
 ghost use Rattle.std.specs.Prelude.{not};
 ghost use Rattle.std.specs.List.{list_all};
 ghost use Rattle.sap_terms.specs.Reserved.{is_reserved};
-ghost use Rattle.sap_process.specs.Proc.{proc, events, node_count};
+ghost use Rattle.sap_gen.specs.Built.{events, node_count};
+ghost use Rattle.sap_tool.specs.First.{first};
 ghost use Rattle.sap_gen.specs.Faithful.{NoReservedEvents};
 ghost use Rattle.sap_tool.specs.Events.{HaveOneArity};
 ghost use Rattle.sap_tool.specs.Arities.{Takes};
 
-use sap_process::Process;
+use crate::first_process::FirstProcess;
 use sap_terms::{Copied, Fact, Mem, Name, is_reserved};
 use std::alloc::Global;
 use std::collections::BTreeMap;
@@ -23,19 +24,23 @@ fn takes_fact(alloc: Global, seen: &mut BTreeMap<Name, u64>, fact: &Fact) -> Res
     }
 }
 
-fn takes_events(alloc: Global, seen: &mut BTreeMap<Name, u64>, p: &Process) -> Result<bool, Mem>
-    ensures { IfOk result (Takes seen.old seen.new (events (proc p.now))) }
+fn takes_events(
+    alloc: Global,
+    seen: &mut BTreeMap<Name, u64>,
+    p: &FirstProcess,
+) -> Result<bool, Mem>
+    ensures { IfOk result (Takes seen.old seen.new (events (first p.now))) }
 {
     match p {
-        Process::Nil => Ok(true),
-        Process::Par(left, right) => {
+        FirstProcess::Nil => Ok(true),
+        FirstProcess::Par(left, right) => {
             if takes_events(alloc, seen, left)? {
                 takes_events(alloc, seen, right)
             } else {
                 Ok(false)
             }
         }
-        Process::Event(fact, then) => {
+        FirstProcess::Event(fact, then) => {
             if takes_fact(alloc, seen, fact)? {
                 takes_events(alloc, seen, then)
             } else {
@@ -45,33 +50,33 @@ fn takes_events(alloc: Global, seen: &mut BTreeMap<Name, u64>, p: &Process) -> R
     }
 }
 
-fn has_one_arity(alloc: Global, p: &Process) -> Result<bool, Mem>
-    ensures { IfOk result (λ b. IsTrue b ↔ HaveOneArity (events (proc p.now))) }
+fn has_one_arity(alloc: Global, p: &FirstProcess) -> Result<bool, Mem>
+    ensures { IfOk result (λ b. IsTrue b ↔ HaveOneArity (events (first p.now))) }
 {
     let mut seen: BTreeMap<Name, u64> = BTreeMap::new(alloc);
     takes_events(alloc, &mut seen, p)
 }
 
 #[tactic(auto, using(crate::proofs::Names::names))]
-fn are_names_free(p: &Process) -> bool
-    ensures { result ≡ list_all (λ f. not (is_reserved f.name)) (events (proc p.now)) }
+fn are_names_free(p: &FirstProcess) -> bool
+    ensures { result ≡ list_all (λ f. not (is_reserved f.name)) (events (first p.now)) }
 {
     match p {
-        Process::Nil => true,
-        Process::Par(left, right) => are_names_free(left) && are_names_free(right),
-        Process::Event(fact, then) => !is_reserved(&fact.name) && are_names_free(then),
+        FirstProcess::Nil => true,
+        FirstProcess::Par(left, right) => are_names_free(left) && are_names_free(right),
+        FirstProcess::Event(fact, then) => !is_reserved(&fact.name) && are_names_free(then),
     }
 }
 
-fn has_free_names(p: &Process) -> bool
-    ensures { IsTrue result ↔ NoReservedEvents (proc p.now) }
+fn has_free_names(p: &FirstProcess) -> bool
+    ensures { IsTrue result ↔ NoReservedEvents (first p.now) }
 {
     are_names_free(p)
 }
 
 /// Whether a process has few nodes, no event of a reserved name, and no event name with two arities.
-pub fn is_within_limits(alloc: Global, p: &Process) -> Result<bool, Mem>
-    ensures { IfOk result (λ b. IsTrue b ↔ ((node_count (proc p.now) ≤ 4000) × NoReservedEvents (proc p.now) × HaveOneArity (events (proc p.now)))) }
+pub fn is_within_limits(alloc: Global, p: &FirstProcess) -> Result<bool, Mem>
+    ensures { IfOk result (λ b. IsTrue b ↔ ((node_count (first p.now) ≤ 4000) × NoReservedEvents (first p.now) × HaveOneArity (events (first p.now)))) }
 {
     if p.nodes() > 4000 || !has_free_names(p) {
         Ok(false)

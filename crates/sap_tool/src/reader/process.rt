@@ -1,7 +1,8 @@
 ghost use Rattle.std.specs.Prelude.{◌≡◌, ◌≤◌, ◌<◌, ◌+◌, ◌^◌, ◌∷◌, [], codes, length, drop, IfOk, IfSome, None};
 ghost use Rattle.sap_terms.specs.Tree.{public};
 ghost use Rattle.sap_terms.specs.View.{tree};
-ghost use Rattle.sap_process.specs.Proc.{proc, parallel, event};
+ghost use Rattle.sap_gen.specs.Built.{parallel, event};
+ghost use Rattle.sap_tool.specs.First.{first};
 ghost use Rattle.sap_terms.specs.AdversaryFacts.{linear};
 ghost use Rattle.sap_tool.specs.Words.{words_of};
 ghost use Rattle.sap_tool.specs.Grammar.{is_upper};
@@ -9,7 +10,7 @@ ghost use Rattle.sap_tool.specs.Reading.{args, arg_list, event_args, event_at, c
 ghost use Rattle.sap_tool.specs.View.{Gives, GivesArgs, GivesFact, MayGive};
 
 use super::look::{beyond, name_at, quoted_at, starts, starts_zero};
-use sap_process::Process;
+use crate::first_process::FirstProcess;
 use sap_terms::{Fact, Mem, Name, Term, TermList};
 use sap_text::Token;
 use std::alloc::Global;
@@ -117,12 +118,12 @@ fn read_event<'a>(
 
 fn closed_by<'a>(
     bytes: &[u8],
-    p: Process,
+    p: FirstProcess,
     levels: u32,
     tokens: &'a [Token],
-) -> Option<(Process, u32, &'a [Token])>
+) -> Option<(FirstProcess, u32, &'a [Token])>
     requires { levels < 2 ^ 31 }
-    ensures { MayGive bytes.now result (closed (proc p, levels) (words_of bytes.now tokens.now)) }
+    ensures { MayGive bytes.now result (closed (first p, levels) (words_of bytes.now tokens.now)) }
 {
     if starts(bytes, tokens, ")") {
         Some((p, levels + 1, beyond(1, tokens)))
@@ -131,18 +132,18 @@ fn closed_by<'a>(
     }
 }
 
-fn event_then(alloc: Global, fact: Fact, p: Process) -> Result<Process, Mem>
-    ensures { IfOk result (λ q. proc q ≡ event fact (proc p)) }
+fn event_then(alloc: Global, fact: Fact, p: FirstProcess) -> Result<FirstProcess, Mem>
+    ensures { IfOk result (λ q. first q ≡ event fact (first p)) }
 {
-    Ok(Process::Event(fact, Box::new(alloc, p)?))
+    Ok(FirstProcess::Event(fact, Box::new(alloc, p)?))
 }
 
-fn in_parallel(alloc: Global, p: Process, q: Process) -> Result<Process, Mem>
-    ensures { IfOk result (λ r. proc r ≡ parallel (proc p) (proc q)) }
+fn in_parallel(alloc: Global, p: FirstProcess, q: FirstProcess) -> Result<FirstProcess, Mem>
+    ensures { IfOk result (λ r. first r ≡ parallel (first p) (first q)) }
 {
     let left = Box::new(alloc, p)?;
     let right = Box::new(alloc, q)?;
-    Ok(Process::Par(left, right))
+    Ok(FirstProcess::Par(left, right))
 }
 
 #[cycle(read)]
@@ -152,7 +153,7 @@ fn read_seq<'a>(
     bytes: &[u8],
     depth: u32,
     tokens: &'a [Token],
-) -> Result<Option<(Process, u32, &'a [Token])>, Mem>
+) -> Result<Option<(FirstProcess, u32, &'a [Token])>, Mem>
     requires { depth < 2 ^ 30 }
     ensures gives { Gives bytes.now result (seq depth (words_of bytes.now tokens.now)) }
     ensures within { IfOk result (λ o. IfSome o (λ r. (1 ≤ r.1) × (r.1 ≤ depth))) }
@@ -166,7 +167,7 @@ fn read_seq<'a>(
             Some((p, n, rest)) => Ok(closed_by(bytes, p, n, rest)),
         }
     } else if starts_zero(bytes, tokens) {
-        Ok(Some((Process::Nil, 1, beyond(1, tokens))))
+        Ok(Some((FirstProcess::Nil, 1, beyond(1, tokens))))
     } else {
         match read_event(alloc, bytes, tokens)? {
             None => Ok(None),
@@ -183,7 +184,7 @@ fn read_on<'a>(
     depth: u32,
     fact: Fact,
     tokens: &'a [Token],
-) -> Result<Option<(Process, u32, &'a [Token])>, Mem>
+) -> Result<Option<(FirstProcess, u32, &'a [Token])>, Mem>
     requires { depth < 2 ^ 30 }
     ensures gives { Gives bytes.now result (going_on (seq depth) depth fact (words_of bytes.now tokens.now)) }
     ensures within { IfOk result (λ o. IfSome o (λ r. (1 ≤ r.1) × (r.1 ≤ depth + 1))) }
@@ -194,7 +195,7 @@ fn read_on<'a>(
             Some((p, n, rest)) => Ok(Some((event_then(alloc, fact, p)?, n + 1, rest))),
         }
     } else if 1 <= depth {
-        Ok(Some((event_then(alloc, fact, Process::Nil)?, 2, tokens)))
+        Ok(Some((event_then(alloc, fact, FirstProcess::Nil)?, 2, tokens)))
     } else {
         Ok(None)
     }
@@ -208,7 +209,7 @@ pub fn read_par<'a>(
     bytes: &[u8],
     depth: u32,
     tokens: &'a [Token],
-) -> Result<Option<(Process, u32, &'a [Token])>, Mem>
+) -> Result<Option<(FirstProcess, u32, &'a [Token])>, Mem>
     requires { depth < 2 ^ 30 }
     ensures gives { Gives bytes.now result (par depth (words_of bytes.now tokens.now)) }
     ensures within { IfOk result (λ o. IfSome o (λ r. (1 ≤ r.1) × (r.1 ≤ depth))) }

@@ -1,5 +1,5 @@
-use Rattle.std.proofs.Common.{◌≡◌, ◌∷◌, Some, None, sym, ◌∙◌, rules}
-use Rattle.sap_process.specs.Proc.{proc, parallel}
+use Rattle.std.proofs.Common.{◌≡◌, Some, None, sym, ◌∙◌}
+use Rattle.sap_process.specs.Proc.{proc}
 use Rattle.sap_gen.specs.Sites as sites
 use Rattle.sap_gen.specs.Templates.{first_of}
 use Rattle.sap_gen.proofs.Sites.{in_left, in_right}
