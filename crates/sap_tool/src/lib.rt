@@ -2,11 +2,12 @@
 #![tactic(auto)]
 
 mod compile;
+mod fault_text;
 mod file_shelf;
+mod laws;
 mod mem_shelf;
 mod mem_sink;
-mod printer;
-mod reader;
+mod refusal;
 mod shelf;
 mod sink;
 mod stream_sink;
@@ -15,7 +16,6 @@ mod top;
 pub use file_shelf::FileShelf;
 pub use mem_shelf::MemShelf;
 pub use mem_sink::MemSink;
-pub use reader::{one_file, one_process};
 pub use shelf::{Shelf, ShelfFault};
 pub use sink::{Sink, SinkFault};
 pub use stream_sink::StreamSink;

@@ -1,9 +1,0 @@
-use Rattle.std.proofs.Common.{sym, ◌∙◌}
-use Rattle.sap_process.specs.Proc.{proc, events}
-use Rattle.sap_tool.proofs.Names.{all_free, free_all}
-use Rattle.sap_tool.proofs.reader.limits.has_free_names.Goals as goal
-
-pub returns : goal.returns
-returns c =
-    let is = c.are_names_free.ensures in
-    (λ e. all_free (events (proc c.args.p.now)) (sym is ∙ e), λ a. is ∙ free_all (events (proc c.args.p.now)) a)

@@ -1,0 +1,8 @@
+ghost use Rattle.std.specs.Prelude.{◌≡◌, ℕ, List, Result};
+ghost use Rattle.sap_read.specs.Files.{Told, IsRead};
+ghost use Rattle.sap_read.specs.declared.fault.ReadFault.{ReadFault};
+
+/// A law: bytes are read as one file, or refused for one cause.
+pub fn one_file_read()
+    ensures { (z : List ℕ) (o u : Result Told ReadFault) → IsRead z o → IsRead z u → o ≡ u }
+{}
