@@ -19,14 +19,15 @@ use sap_text::Text;
 use sap_theory::print;
 use std::alloc::Global;
 
-const MOST_BYTES: usize = 1_048_576;
+/// How many bytes a file may have.
+pub const MOST_BYTES: u64 = 1_048_576;
 
 /// The text of the theory of these bytes, or why they have none.
 pub fn theory_text_of(alloc: Global, bytes: &[u8]) -> Result<Text, Refusal>
     ensures given { IfOk result (IsTheoryOf bytes.now) }
     ensures refused { (line : List ℕ) → IsErrOf result (refusals.Told line) → IsRefusal bytes.now line }
 {
-    if bytes.len() > MOST_BYTES {
+    if bytes.len() as u64 > MOST_BYTES {
         return Err(Refusal::Told(long_line(alloc)?));
     }
     let file = read(alloc, bytes)?;

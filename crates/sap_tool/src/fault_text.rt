@@ -19,10 +19,25 @@ pub fn push_fault(text: &mut Text, fault: &ReadFault) -> Result<(), Mem>
         ReadFault::Header => text.push_bytes(b"no theory header"),
         ReadFault::Syntax { line } => push_numbered(text, b"line ", *line, b": not in the grammar"),
         ReadFault::NoProcess => text.push_bytes(b"no process"),
-        ReadFault::TwoProcesses { line } => push_numbered(text, b"line ", *line, b": second process"),
-        ReadFault::UnknownProcess { name } => push_named(text, b"process ", name, b" is not defined"),
+        ReadFault::TwoProcesses { line } => push_numbered(
+            text,
+            b"line ",
+            *line,
+            b": second process",
+        ),
+        ReadFault::UnknownProcess { name } => push_named(
+            text,
+            b"process ",
+            name,
+            b" is not defined",
+        ),
         ReadFault::DuplicateName { name } => push_named(text, b"name ", name, b" stands twice"),
-        ReadFault::FunctionClash { name } => push_named(text, b"function ", name, b" is declared otherwise"),
+        ReadFault::FunctionClash { name } => push_named(
+            text,
+            b"function ",
+            name,
+            b" is declared otherwise",
+        ),
         ReadFault::TooMany => text.push_bytes(b"more than 4000 nodes"),
         ReadFault::TooDeep => text.push_bytes(b"more than 300 levels"),
         ReadFault::Ill { which, path } => push_placed(text, path, flaw_words(*which)),
@@ -38,7 +53,12 @@ fn push_lex(text: &mut Text, fault: Lex) -> Result<(), Mem>
         Lex::BadByte { at } => push_numbered(text, b"byte ", at, b" begins no token"),
         Lex::OpenComment { at } => push_numbered(text, b"comment at byte ", at, b" is not closed"),
         Lex::OpenQuote { at } => push_numbered(text, b"quote at byte ", at, b" is not closed"),
-        Lex::NameLong { at } => push_numbered(text, b"name at byte ", at, b" is longer than 64 bytes"),
+        Lex::NameLong { at } => push_numbered(
+            text,
+            b"name at byte ",
+            at,
+            b" is longer than 64 bytes",
+        ),
     }
 }
 

@@ -6,14 +6,12 @@ ghost use Rattle.sap_tool.specs.Call.{bytes_of, call, stream, IsCompile, IsUnkno
 ghost use Rattle.sap_tool.specs.Telling.{IsTold, IsWritten, IsDelivered};
 ghost use Rattle.sap_tool.specs.Promises.{Promises};
 
-use crate::compile::theory_text_of;
+use crate::compile::{MOST_BYTES, theory_text_of};
+use crate::laws::one_file_read;
 use crate::refusal::Refusal;
 use crate::{Shelf, ShelfFault, Sink, SinkFault};
 use sap_gen::rules_show_the_process;
-use crate::laws::one_file_read;
 use std::alloc::Global;
-
-const MOST_BYTES: u64 = 1_048_576;
 
 /// Runs the program on its words, those after its name, and answers its status.
 ///

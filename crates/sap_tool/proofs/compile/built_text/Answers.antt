@@ -1,4 +1,4 @@
-use Rattle.std.proofs.Common.{◌≡◌, Result, Ok, Err, IfOk, ap, ◌∙◌}
+use Rattle.std.proofs.Common.{Result, Ok, Err, IfOk, ap, ◌∙◌}
 use Rattle.sap_gen.specs.Theories.{theory_of}
 use Rattle.sap_theory.specs.TheoryText.{theory_text}
 use Rattle.sap_tool.proofs.compile.built_text.Goals as goal
