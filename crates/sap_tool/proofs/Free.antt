@@ -1,6 +1,6 @@
 -- The events of a file's process.
-use Rattle.std.proofs.Common.{◌≡◌, ℕ, Bool, true, false, List, [], ◌∷◌, ◌++◌, Option, Some, None, Result, Ok, Err, refl, sym, ap, subst, ◌∙◌, arith}
-use Rattle.std.specs.Prelude.{Contains, slice_get, ◌+◌}
+use Rattle.std.proofs.Common.{◌≡◌, ℕ, Bool, true, false, List, [], ◌∷◌, ◌++◌, Option, Some, None, refl, sym, ap, subst, ◌∙◌, arith}
+use Rattle.std.specs.Prelude.{Contains, slice_get}
 use Rattle.std.proofs.lemmas.List.Elements.{Contains-append_left, Contains-append_right}
 use Rattle.std.proofs.lemmas.Option.{slice_get-get_or}
 use Rattle.sap_terms.specs.Reserved.{is_reserved}
@@ -11,7 +11,7 @@ use Rattle.sap_terms.specs.Modulo.{instance_fact}
 use Rattle.sap_process.specs.Action as action
 use Rattle.sap_process.specs.Action.{Action}
 use Rattle.sap_process.specs.Proc.{Proc, nil, parallel, replicated, act, test, lookup}
-use Rattle.sap_process.specs.Sites.{Site, sites, sites_from, bound_by}
+use Rattle.sap_process.specs.Sites.{Site, sites, sites_from}
 use Rattle.sap_process.specs.Flaws.{HasReservedFact, IsWellFormed}
 use Rattle.sap_process.specs.declared.flaw.Flaw.TheVariants.{ReservedFact}
 use Rattle.sap_process.specs.Sorted.{by_binder, with_sorts}

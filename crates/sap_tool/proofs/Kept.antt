@@ -1,7 +1,6 @@
 -- Each way in which a call ends keeps the promises.
-use Rattle.std.proofs.Common.{◌≡◌, ◌≤◌, ◌+◌, ℕ, List, [], ◌∷◌, take, length, Option, Some, None, sym, ap, subst, ◌∙◌, inl, inr, ◌⊎◌, arith, lit<}
+use Rattle.std.proofs.Common.{◌≡◌, ◌+◌, ℕ, List, [], ◌∷◌, take, Option, Some, None, sym, ap, subst, ◌∙◌, inl, inr, ◌⊎◌, arith, lit<}
 use Rattle.std.specs.Prelude.{codes, Contains}
-use Rattle.std.proofs.lemmas.Grind.{common_steps}
 use Rattle.std.specs.FinMap as files
 use Rattle.sap_gen.specs.Built.{Built}
 use Rattle.sap_gen.specs.Templates.{rules_of}

@@ -5,13 +5,12 @@ use Rattle.std.specs.List.{find}
 use Rattle.std.specs.Option.{option_map}
 use Rattle.std.proofs.lemmas.Grind.{common_steps}
 use Rattle.sap_terms.specs.declared.var.Var.{Var}
-use Rattle.sap_terms.specs.declared.fact.Fact.{Fact}
 use Rattle.sap_process.specs.Action as action
 use Rattle.sap_process.specs.Proc.{Proc, nil, parallel, replicated, act, test, lookup}
-use Rattle.sap_process.specs.Sites.{Site, sites_from, bound_by}
+use Rattle.sap_process.specs.Sites.{Site, sites_from}
 use Rattle.sap_process.specs.Flaws.{IsWellFormed}
 use Rattle.sap_process.specs.Sorted.{with_sorts}
-use Rattle.sap_gen.specs.Built.{Built, built, has_public_args}
+use Rattle.sap_gen.specs.Built.{Built, built}
 use Rattle.sap_gen.specs.Sites.{is_built_form}
 use Rattle.sap_gen.specs.Unbuilt.{first_unbuilt}
 use Rattle.sap_gen.specs.Faithful.{NoReservedEvents}
