@@ -94,3 +94,55 @@ pub fn theory_with(alloc: Global, rules: &str) -> Result<Vec<u8>, AllocError> {
     text.extend_from_slice(b"  \"All #i #j. Init()@i & Init()@j ==> #i = #j\"\n\nend\n")?;
     Ok(text)
 }
+
+/// The bytes of a text in which `^` stands for a line feed.
+fn bytes_of(alloc: Global, text: &str) -> Option<Vec<u8>> {
+    let mut bytes = Vec::new(alloc);
+    for byte in text.as_bytes() {
+        bytes.push(if *byte == b'^' { b'\n' } else { *byte }).ok()?;
+    }
+    Some(bytes)
+}
+
+/// Whether compiling a file leaves what is wanted. The row has four parts with `?` between them: the file, the status, and
+/// what is on out and on err; in all of them `^` stands for a line feed.
+fn leaves(alloc: Global, row: &str) -> Option<bool> {
+    let mut parts: Vec<&str> = Vec::new(alloc);
+    for part in row.split('?') {
+        parts.push(part).ok()?;
+    }
+    let status = parts.get(1)?.parse::<u8>().ok()?;
+    let file = bytes_of(alloc, *parts.get(0)?)?;
+    let out = bytes_of(alloc, *parts.get(2)?)?;
+    let err = bytes_of(alloc, *parts.get(3)?)?;
+    let run = compile(alloc, file.as_slice()).ok()?;
+    Some(
+        run.status == status
+            && run.out.as_slice() == out.as_slice()
+            && run.err.as_slice() == err.as_slice(),
+    )
+}
+
+/// The place of the first row that isn't as it is wanted, from 0. Rows are lines of the text.
+pub fn first_wrong(alloc: Global, rows: &str) -> Option<u64> {
+    let mut place: u64 = 0;
+    for row in rows.split('\n') {
+        if leaves(alloc, row) != Some(true) {
+            return Some(place);
+        }
+        place = place.saturating_add(1);
+    }
+    None
+}
+
+/// Whether the file is refused for this cause, or compiled where the cause is empty.
+pub fn is_answered(alloc: Global, file: &[u8], why: &str) -> Result<bool, AllocError> {
+    let run = compile(alloc, file)?;
+    if why.is_empty() {
+        return Ok(run.status == 0 && run.err.is_empty());
+    }
+    let mut line = b"file refused: ".to_vec(alloc)?;
+    line.extend_from_slice(why.as_bytes())?;
+    line.push(b'\n')?;
+    Ok(run.status == 1 && run.out.is_empty() && run.err.as_slice() == line.as_slice())
+}

@@ -3,8 +3,6 @@ use sap_process::Process;
 use sap_terms::{Fact, Mem, Name, TermList};
 use std::test::Fail;
 
-const REFUSED: &[u8] = b"file refused: not in the first grammar\n";
-
 const GO: &[u8] = b"theory A begin process: event Go('a') end";
 
 const GO_THEORY: &[u8] =
@@ -44,69 +42,6 @@ const ACCEPTED: [(&str, &str); 9] = [
     ),
 ];
 
-// Files that are in no grammar.
-const REFUSED_FILES: [&[u8]; 59] = [
-    b"",
-    b" ",
-    b"theory A begin process: end",
-    b"theory A begin process: (0 end",
-    b"theory A begin process: 0) end",
-    b"theory A begin process: ((0) end",
-    b"theory A begin process: () end",
-    b"theory A begin process: | 0 end",
-    b"theory A begin process: 0 | end",
-    b"theory A begin process: 0 0 end",
-    b"theory A begin process: 0 || 0 end",
-    b"theory A begin process: 00 end",
-    b"theory A begin process: 1 end",
-    b"theory A begin process: 0; 0 end",
-    b"theory A begin process: (0); 0 end",
-    b"theory A begin process: event A(); end",
-    b"theory A begin process: ; event A() end",
-    b"theory A begin process: event A() event B() end",
-    b"theory A begin process: event A end",
-    b"theory A begin process: event a() end",
-    b"theory A begin process: event All() end",
-    b"theory A begin process: event A('x',) end",
-    b"theory A begin process: event A(,'x') end",
-    b"theory A begin process: event A('x' 'y') end",
-    b"theory A begin process: event A('x'; 'y') end",
-    b"theory A begin process: event A(x) end",
-    b"theory A begin process: event A('x' end",
-    b"theory A begin process: event A( end",
-    b"theory A begin process: event 'A'() end",
-    b"theory A begin process: new n end",
-    b"theory A begin process: 0",
-    b"theory A begin process: 0 end end",
-    b"theory A begin process: 0 end 0",
-    b"theory A begin process 0 end",
-    b"theory A begin : 0 end",
-    b"theory A process: 0 end",
-    b"theory begin process: 0 end",
-    b"A begin process: 0 end",
-    b"theory 'A' begin process: 0 end",
-    b"theory end begin process: 0 end",
-    b"theory not begin process: 0 end",
-    b"theory 1 begin process: 0 end",
-    b"Theory A begin process: 0 end",
-    b"theory A begin",
-    b"theory",
-    b"theory A begin process: 0 process: 0 end",
-    b"theory A begin process: event Init() end",
-    b"theory A begin process: 0 | event A(); event K('x') end",
-    b"theory A begin process: event State_1() end",
-    b"theory A begin process: event A() | event A('x') end",
-    b"theory A begin process: event A('x'); event B(); event A('x', 'y') end",
-    b"theory A begin process: 0 end // x",
-    b"// x\ntheory A begin process: 0 end",
-    b"theory A begin process: /* x */ 0 end",
-    b"theory A begin process: 0 end /**/",
-    b"theory A begin process: 0 end %",
-    b"theory A begin process: 0 end\x0b",
-    b"theory A begin process: event A('x end",
-    b"theory A begin process: event A('\xc3') end",
-];
-
 #[test]
 fn processes_and_their_rules(rt: HostRuntime) -> Result<(), Fail> {
     let alloc = rt.alloc();
@@ -120,15 +55,106 @@ fn processes_and_their_rules(rt: HostRuntime) -> Result<(), Fail> {
     Ok(())
 }
 
+// Files that are none, with the cause of each. A row is a file, its status, and what is on out and on err, with `?` between
+// them; `^` stands for a line feed.
 #[test]
 fn files_that_are_none(rt: HostRuntime) -> Result<(), Fail> {
-    let alloc = rt.alloc();
-    for k in 0..REFUSED_FILES.len() {
-        let run = compile(alloc, REFUSED_FILES[k])?;
-        assert_eq!(rt; run.status, 1, "file {k}");
-        assert_eq!(rt; run.err.as_slice(), REFUSED, "file {k}");
-        assert!(rt; run.out.is_empty(), "file {k}");
-    }
+    let rows = "?1??file refused: no theory header^\n\
+        \x20?1??file refused: no theory header^\n\
+        theory A begin process: end?1??file refused: line 1: not in the grammar^\n\
+        theory A begin process: (0 end?1??file refused: line 1: not in the grammar^\n\
+        theory A begin process: 0) end?1??file refused: line 1: not in the grammar^\n\
+        theory A begin process: ((0) end?1??file refused: line 1: not in the grammar^\n\
+        theory A begin process: () end?1??file refused: line 1: not in the grammar^\n\
+        theory A begin process: | 0 end?1??file refused: line 1: not in the grammar^\n\
+        theory A begin process: 0 | end?1??file refused: line 1: not in the grammar^\n\
+        theory A begin process: 0 0 end?1??file refused: line 1: not in the grammar^\n\
+        theory A begin process: 0 ||| 0 end?1??file refused: line 1: not in the grammar^\n\
+        theory A begin process: 00 end?1??file refused: line 1: not in the grammar^\n\
+        theory A begin process: 1 end?1??file refused: line 1: not in the grammar^\n\
+        theory A begin process: 0; 0 end?1??file refused: line 1: not in the grammar^\n\
+        theory A begin process: (0); 0 end?1??file refused: line 1: not in the grammar^\n\
+        theory A begin process: event A(); end?1??file refused: line 1: not in the grammar^\n\
+        theory A begin process: ; event A() end?1??file refused: line 1: not in the grammar^\n\
+        theory A begin process: event A() event B() end?1??file refused: line 1: not in the grammar^\n\
+        theory A begin process: event A end?1??file refused: line 1: not in the grammar^\n\
+        theory A begin process: event a() end?1??file refused: line 1: not in the grammar^\n\
+        theory A begin process: event All() end?1??file refused: line 1: not in the grammar^\n\
+        theory A begin process: event A('x',) end?1??file refused: line 1: not in the grammar^\n\
+        theory A begin process: event A(,'x') end?1??file refused: line 1: not in the grammar^\n\
+        theory A begin process: event A('x' 'y') end?1??file refused: line 1: not in the grammar^\n\
+        theory A begin process: event A('x'; 'y') end?1??file refused: line 1: not in the grammar^\n\
+        theory A begin process: event A('x' end?1??file refused: line 1: not in the grammar^\n\
+        theory A begin process: event A( end?1??file refused: line 1: not in the grammar^\n\
+        theory A begin process: event 'A'() end?1??file refused: line 1: not in the grammar^\n\
+        theory A begin process: 0?1??file refused: line 1: not in the grammar^\n\
+        theory A begin process: 0 end end?1??file refused: line 1: not in the grammar^\n\
+        theory A begin process: 0 end 0?1??file refused: line 1: not in the grammar^\n\
+        theory A begin process 0 end?1??file refused: line 1: not in the grammar^\n\
+        theory A begin : 0 end?1??file refused: line 1: not in the grammar^\n\
+        theory A process: 0 end?1??file refused: no theory header^\n\
+        theory begin process: 0 end?1??file refused: no theory header^\n\
+        A begin process: 0 end?1??file refused: no theory header^\n\
+        theory 'A' begin process: 0 end?1??file refused: no theory header^\n\
+        theory end begin process: 0 end?1??file refused: no theory header^\n\
+        theory not begin process: 0 end?1??file refused: no theory header^\n\
+        theory 1 begin process: 0 end?1??file refused: no theory header^\n\
+        Theory A begin process: 0 end?1??file refused: no theory header^\n\
+        theory A begin?1??file refused: line 1: not in the grammar^\n\
+        theory?1??file refused: no theory header^\n\
+        theory A begin process: 0 process: 0 end?1??file refused: line 1: second process^\n\
+        theory A begin process: 0 end %?1??file refused: byte 30 begins no token^\n\
+        theory A begin process: 0 end\x0b?1??file refused: byte 29 begins no token^\n\
+        theory A begin process: event A('x end?1??file refused: quote at byte 32 is not closed^\n\
+        theory A begin process: event A('\u{e9}') end?1??file refused: byte 33 begins no token^\n\
+        theory A begin %?1??file refused: byte 15 begins no token^\n\
+        /* theory A begin process: 0 end?1??file refused: comment at byte 0 is not closed^\n\
+        theory A^begin^process: event go()^end?1??file refused: line 3: not in the grammar^\n\
+        theory A^begin^process: 0^process: 0^end?1??file refused: line 4: second process^\n\
+        theory A begin end?1??file refused: no process^\n\
+        theory A begin let A = B process: A end?1??file refused: process B is not defined^\n\
+        theory A begin let A = 0 let A = 0 process: A end?1??file refused: name A stands twice^\n\
+        theory A begin builtins: symmetric-encryption functions: senc/1 process: 0 end?1??file refused: function senc is declared otherwise^";
+    assert_eq!(rt; first_wrong(rt.alloc(), rows), None);
+    Ok(())
+}
+
+// Files whose process has a flaw, or a place that isn't built.
+#[test]
+fn places_that_are_refused(rt: HostRuntime) -> Result<(), Fail> {
+    let rows = "theory A begin process: new n end?1??file refused: place root: not built^\n\
+        theory A begin process: event A(x) end?1??file refused: place root: unbound^\n\
+        theory A begin process: event Init() end?1??file refused: place root: reserved fact^\n\
+        theory A begin process: 0 | event A(); event K('x') end?1??file refused: place 21: reserved fact^\n\
+        theory A begin process: event State_1() end?1??file refused: place root: reserved fact^\n\
+        theory A begin process: event Eq('a') end?1??file refused: place root: reserved fact^\n\
+        theory A begin process: event A() | event A('x') end?1??file refused: place 2: fact clash^\n\
+        theory A begin process: event A('x'); event B(); event A('x', 'y') end?1??file refused: place 11: fact clash^\n\
+        theory A begin process: event A('a'); event A() end?1??file refused: place 1: fact clash^\n\
+        theory A begin process: out(x) end?1??file refused: place root: unbound^\n\
+        theory A begin process: new ~a; new ~a end?1??file refused: place 1: rebound^\n\
+        theory A begin process: in(fst(x)) end?1??file refused: place root: destructor in a pattern^\n\
+        theory A begin process: in(~x); out($x) end?1??file refused: place 1: sort clash^\n\
+        theory A begin process: out(g('a')) end?1??file refused: place root: bad function^\n\
+        theory A begin process: new ~sapic_a end?1??file refused: place root: reserved variable^\n\
+        theory A begin process: event A() | (0 | !0) end?1??file refused: place 22: not built^";
+    assert_eq!(rt; first_wrong(rt.alloc(), rows), None);
+    Ok(())
+}
+
+// Files with comments, names and declarations.
+#[test]
+fn files_and_their_theories(rt: HostRuntime) -> Result<(), Fail> {
+    let rows =
+        "theory A begin process: event Go('a') end?0?theory A^begin^^rule Init:^  [ ] --[ Init() ]-> [ State_() ]^^rule Event_:^  [ State_() ] --[ Event(), Go('a') ]-> [ State_1() ]^^rule Nil_1:^  [ State_1() ] --> [ ]^^restriction sapic_init:^  \"All #i #j. Init()@i & Init()@j ==> #i = #j\"^^end^?\n\
+        theory A begin process: 0 end // x?0?theory A^begin^^rule Init:^  [ ] --[ Init() ]-> [ State_() ]^^rule Nil_:^  [ State_() ] --> [ ]^^restriction sapic_init:^  \"All #i #j. Init()@i & Init()@j ==> #i = #j\"^^end^?\n\
+        // x^theory A begin process: 0 end?0?theory A^begin^^rule Init:^  [ ] --[ Init() ]-> [ State_() ]^^rule Nil_:^  [ State_() ] --> [ ]^^restriction sapic_init:^  \"All #i #j. Init()@i & Init()@j ==> #i = #j\"^^end^?\n\
+        theory A begin process: /* x */ 0 end?0?theory A^begin^^rule Init:^  [ ] --[ Init() ]-> [ State_() ]^^rule Nil_:^  [ State_() ] --> [ ]^^restriction sapic_init:^  \"All #i #j. Init()@i & Init()@j ==> #i = #j\"^^end^?\n\
+        theory A begin process: 0 end /**/?0?theory A^begin^^rule Init:^  [ ] --[ Init() ]-> [ State_() ]^^rule Nil_:^  [ State_() ] --> [ ]^^restriction sapic_init:^  \"All #i #j. Init()@i & Init()@j ==> #i = #j\"^^end^?\n\
+        theory A begin process: 0 || 0 end?0?theory A^begin^^rule Init:^  [ ] --[ Init() ]-> [ State_() ]^^rule Par_:^  [ State_() ] --> [ State_1(), State_2() ]^^rule Nil_1:^  [ State_1() ] --> [ ]^^rule Nil_2:^  [ State_2() ] --> [ ]^^restriction sapic_init:^  \"All #i #j. Init()@i & Init()@j ==> #i = #j\"^^end^?\n\
+        theory A begin let P = event Go('a') process: P end?0?theory A^begin^^rule Init:^  [ ] --[ Init() ]-> [ State_() ]^^rule Event_:^  [ State_() ] --[ Event(), Go('a') ]-> [ State_1() ]^^rule Nil_1:^  [ State_1() ] --> [ ]^^restriction sapic_init:^  \"All #i #j. Init()@i & Init()@j ==> #i = #j\"^^end^?\n\
+        theory A begin functions: f/1, g/2[private] builtins: hashing, signing process: 0 end?0?theory A^begin^^builtins: hashing, signing^^functions: f/1, g/2 [private]^^rule Init:^  [ ] --[ Init() ]-> [ State_() ]^^rule Nil_:^  [ State_() ] --> [ ]^^restriction sapic_init:^  \"All #i #j. Init()@i & Init()@j ==> #i = #j\"^^end^?";
+    assert_eq!(rt; first_wrong(rt.alloc(), rows), None);
     Ok(())
 }
 
@@ -228,15 +254,80 @@ fn wide(alloc: Global, parts: usize, events: usize, more: usize) -> Result<Vec<u
     Ok(file)
 }
 
-// A file of this length: blanks behind the first.
+// A file of this length: a comment behind the first.
 fn padded(alloc: Global, length: usize) -> Result<Vec<u8>, AllocError> {
     let mut file = GO.to_vec(alloc)?;
-    let blanks = if length > file.len() {
-        length - file.len()
-    } else {
-        0
-    };
-    file.extend_from_slice(repeated(alloc, b" ", blanks)?.as_slice())?;
+    file.extend_from_slice(b"//")?;
+    let rest = length.saturating_sub(file.len());
+    file.extend_from_slice(repeated(alloc, b"x", rest)?.as_slice())?;
+    Ok(file)
+}
+
+// 64 names.
+const NAMES: &str =
+    "a b c d e f g h i j k l m n o p q r s t u v w x y z A B C D E F G H I J K L M N O P Q R S T U V W X Y Z aa bb cc dd ee ff gg hh ii jj kk ll";
+
+// The file of `new` of each of these names, and then of this process.
+fn bound(alloc: Global, then: &[u8]) -> Result<Vec<u8>, AllocError> {
+    let mut file = b"theory A begin process: ".to_vec(alloc)?;
+    for name in NAMES.split(' ') {
+        file.extend_from_slice(b"new ")?;
+        file.extend_from_slice(name.as_bytes())?;
+        file.extend_from_slice(b"; ")?;
+    }
+    file.extend_from_slice(then)?;
+    file.extend_from_slice(b" end")?;
+    Ok(file)
+}
+
+// The cause of a file whose scope is full below so many binders.
+fn full(alloc: Global, binders: usize) -> Result<Vec<u8>, AllocError> {
+    let mut why = b"file refused: place ".to_vec(alloc)?;
+    why.extend_from_slice(repeated(alloc, b"1", binders)?.as_slice())?;
+    why.extend_from_slice(b": scope is full\n")?;
+    Ok(why)
+}
+
+// Puts last the definition of a process of this many letters, two of one letter less side by side.
+fn double(alloc: Global, file: &mut Vec<u8>, letters: usize) -> Result<(), AllocError> {
+    let half = repeated(alloc, b"A", letters.saturating_sub(1))?;
+    file.extend_from_slice(b"let A")?;
+    file.extend_from_slice(half.as_slice())?;
+    file.extend_from_slice(b" = ")?;
+    file.extend_from_slice(half.as_slice())?;
+    file.extend_from_slice(b" | ")?;
+    file.extend_from_slice(half.as_slice())?;
+    file.extend_from_slice(b" ")?;
+    Ok(())
+}
+
+// The file of `0 | 0` that is doubled so often: after k times its process has 2 ^ (k + 2) - 1 nodes.
+fn doubled(alloc: Global, times: usize) -> Result<Vec<u8>, AllocError> {
+    let mut file = b"theory A begin let A = 0 | 0 ".to_vec(alloc)?;
+    for k in 0..times {
+        double(alloc, &mut file, k.saturating_add(2))?;
+    }
+    file.extend_from_slice(b"process: A")?;
+    file.extend_from_slice(repeated(alloc, b"A", times)?.as_slice())?;
+    file.extend_from_slice(b" end")?;
+    Ok(file)
+}
+
+// The file of so many events before a name that stands for 201 levels.
+fn named_levels(alloc: Global, events: usize) -> Result<Vec<u8>, AllocError> {
+    let mut file = b"theory A begin let P = ".to_vec(alloc)?;
+    file.extend_from_slice(repeated(alloc, b"event A();", 200)?.as_slice())?;
+    file.extend_from_slice(b"0 process: ")?;
+    file.extend_from_slice(repeated(alloc, b"event A();", events)?.as_slice())?;
+    file.extend_from_slice(b"P end")?;
+    Ok(file)
+}
+
+// The file of a theory whose name has so many bytes.
+fn theory_named(alloc: Global, name: usize) -> Result<Vec<u8>, AllocError> {
+    let mut file = b"theory ".to_vec(alloc)?;
+    file.extend_from_slice(repeated(alloc, b"a", name)?.as_slice())?;
+    file.extend_from_slice(b" begin process: 0 end")?;
     Ok(file)
 }
 
@@ -245,46 +336,73 @@ fn padded(alloc: Global, length: usize) -> Result<Vec<u8>, AllocError> {
 fn limits(rt: HostRuntime) -> Result<(), Fail> {
     let alloc = rt.alloc();
     let files = [
-        (0, padded(alloc, 1_048_576)?),
-        (1, padded(alloc, 1_048_577)?),
-        (1, Vec::new(alloc)),
-        (0, named(alloc, 64, 64)?),
-        (1, named(alloc, 65, 1)?),
-        (1, named(alloc, 1, 65)?),
-        (0, nested(alloc, b"(", b")", 299)?),
-        (1, nested(alloc, b"(", b")", 300)?),
-        (0, nested(alloc, b"event A();", b"", 299)?),
-        (1, nested(alloc, b"event A();", b"", 300)?),
-        (0, nested(alloc, b"0 | ", b"", 299)?),
-        (1, nested(alloc, b"0 | ", b"", 300)?),
-        (0, wide(alloc, 19, 198, 199)?),
-        (1, wide(alloc, 19, 198, 200)?),
+        ("", padded(alloc, 1_048_576)?),
+        ("longer than 1048576 bytes", padded(alloc, 1_048_577)?),
+        ("", theory_named(alloc, 64)?),
+        (
+            "name at byte 7 is longer than 64 bytes",
+            theory_named(alloc, 65)?,
+        ),
+        ("", named(alloc, 64, 64)?),
+        (
+            "name at byte 30 is longer than 64 bytes",
+            named(alloc, 65, 1)?,
+        ),
+        (
+            "name at byte 32 is longer than 64 bytes",
+            named(alloc, 1, 65)?,
+        ),
+        ("", nested(alloc, b"(", b")", 299)?),
+        (
+            "line 1: not in the grammar",
+            nested(alloc, b"(", b")", 300)?,
+        ),
+        ("", nested(alloc, b"event A();", b"", 299)?),
+        (
+            "line 1: not in the grammar",
+            nested(alloc, b"event A();", b"", 300)?,
+        ),
+        ("", nested(alloc, b"0 | ", b"", 299)?),
+        (
+            "line 1: not in the grammar",
+            nested(alloc, b"0 | ", b"", 300)?,
+        ),
+        ("", wide(alloc, 19, 198, 199)?),
+        ("more than 4000 nodes", wide(alloc, 19, 198, 200)?),
+        ("", named_levels(alloc, 99)?),
+        ("more than 300 levels", named_levels(alloc, 100)?),
+        ("", doubled(alloc, 9)?),
+        ("more than 4000 nodes", doubled(alloc, 10)?),
+        ("place root: not built", bound(alloc, b"0")?),
     ];
     let mut k = 0u64;
-    for (status, file) in files {
-        let run = compile(alloc, file.as_slice())?;
-        assert_eq!(rt; run.status, status, "file {k}");
+    for (why, file) in files {
+        assert!(rt; is_answered(alloc, file.as_slice(), why)?, "file {k}");
         k = k.saturating_add(1);
     }
     Ok(())
 }
 
+// A comment is passed over; levels that names bring count; and 65 names in scope are too many.
+#[test]
+fn large_files(rt: HostRuntime) -> Result<(), Fail> {
+    let alloc = rt.alloc();
+    let run = compile(alloc, padded(alloc, 1_048_576)?.as_slice())?;
+    assert_eq!(rt; run.out.as_slice(), GO_THEORY);
+    let run = compile(alloc, bound(alloc, b"new z2; 0")?.as_slice())?;
+    assert_eq!(rt; run.err.as_slice(), full(alloc, 65)?.as_slice());
+    Ok(())
+}
+
 // `event A() | 0`.
-fn event_beside_nil(alloc: Global) -> Result<Box<Process>, Mem> {
+fn event_beside_nil(alloc: Global) -> Result<Process, Mem> {
     let fact = Fact {
         name: Name::from_bytes(alloc, b"A")?,
         persistent: false,
         args: TermList::new(alloc),
     };
-    let rest = Box::new(alloc, Process::Nil)?;
-    let left = Box::new(alloc, Process::Event(fact, rest))?;
-    let right = Box::new(alloc, Process::Nil)?;
-    Ok(Box::new(alloc, Process::Par(left, right))?)
-}
-
-fn copied_nodes(alloc: Global, process: &Process) -> Result<u64, Mem> {
-    let copied = process.copy(alloc)?;
-    Ok(copied.nodes())
+    let left = Process::Event(fact, Box::new(alloc, Process::Nil)?);
+    Ok(Process::Par(Box::new(alloc, left)?, Box::new(alloc, Process::Nil)?))
 }
 
 #[test]
@@ -292,6 +410,6 @@ fn process_is_copied(rt: HostRuntime) -> Result<(), Fail> {
     let alloc = rt.alloc();
     let process = event_beside_nil(alloc)?;
     assert_eq!(rt; process.nodes(), 4);
-    assert_eq!(rt; copied_nodes(alloc, &process)?, 4);
+    assert_eq!(rt; process.copy(alloc)?.nodes(), 4);
     Ok(())
 }

@@ -4,7 +4,7 @@ use Rattle.std.proofs.lemmas.List.{append-nil}
 use Rattle.std.specs.Io.KnownBytes.{Appends}
 use Rattle.std.proofs.lemmas.Grind.{common_steps}
 use Rattle.sap_tool.specs.Outside.{Rose, AppendsSome}
-use Rattle.sap_tool.specs.Call.{stream, Call, Gained, Fetched, Cause, refused, Outcome, written, told, untold, unwritten, wanting, wanting_err, wanting_out, refused_text, write_fault_text, memory_text}
+use Rattle.sap_tool.specs.Call.{stream, Call, Gained, Fetched, Cause, refused, Outcome, written, told, untold, unwritten, wanting, wanting_err, wanting_out, write_fault_text, memory_text}
 use Rattle.sap_tool.specs.Telling as telling
 
 -- nothing was put
@@ -45,8 +45,8 @@ of_told c status r text cause none (telling.broken i j is failed some) = untold 
 of_told c status r text cause none (telling.wanting i j is some) = wanting_err status text i j is cause none some
 
 pub of_delivered : (c : Call) (r : ℕ) (bytes : List ℕ) → Fetched c bytes → telling.IsDelivered bytes c.out c.err r → Outcome c r
-of_delivered c r bytes fetched (telling.refused not_spelled none on_err) =
-    of_told c 1 r refused_text (refused bytes refl refl fetched not_spelled) none on_err
+of_delivered c r bytes fetched (telling.refused line refusal none on_err) =
+    of_told c 1 r line (refused bytes refusal.why refl refusal.layout fetched refusal.refused) none on_err
 of_delivered c r bytes fetched (telling.given text is (telling.whole zero out err)) =
     written text zero (record { bytes = bytes; fetched = fetched; is = is }) out err
 of_delivered c r bytes fetched (telling.given text is (telling.broken i j five failed out err)) =

@@ -3,11 +3,9 @@ use Rattle.std.specs.Prelude.{◌≡◌, ℕ, codes, List, [], ◌∷◌, ◌++�
 use Rattle.std.specs.declared.alloc.Global.{Global}
 use Rattle.std.specs.FinMap as files
 use Rattle.std.specs.Io.KnownBytes.{Appends}
-use Rattle.sap_gen.specs.Built.{Built}
-use Rattle.sap_gen.specs.Templates.{rules_of}
 use Rattle.sap_tool.specs.Outside.{Files, Rose, IsFetched}
-use Rattle.sap_tool.specs.FirstFile.{IsFile}
-use Rattle.sap_tool.specs.Layout.{theory_text}
+use Rattle.sap_tool.specs.BuiltFile.{most_bytes, IsTheoryOf}
+use Rattle.sap_tool.specs.Refusals.{IsRefusedWith, refused_line}
 
 -- a sink before and after the call: what it tells, and how its faults count
 pub record Stream : Type 0 where
@@ -55,10 +53,6 @@ Failed s = Rose s.faults_before s.faults_after
 abbrev pub FailedOn : Call → List ℕ → Type 0
 FailedOn c name = Rose (c.faults_before name) (c.faults_after name)
 
--- how many bytes a file may have
-abbrev pub most_bytes : ℕ
-most_bytes = 1048576
-
 -- the words ask to compile this file
 abbrev pub IsCompile : List (List ℕ) → List ℕ → Type 0
 IsCompile words file = words ≡ codes "compile" ∷ file ∷ []
@@ -66,17 +60,6 @@ IsCompile words file = words ≡ codes "compile" ∷ file ∷ []
 -- the words ask for nothing that the program does
 abbrev pub IsUnknown : List (List ℕ) → Type 0
 IsUnknown words = (file : List ℕ) → IsCompile words file → ⊥
-
--- the bytes are no file: they are too long, or no name and process are spelled by them
-abbrev pub IsRefused : List ℕ → Type 0
-IsRefused bytes = (name : List ℕ) (p : Built) → IsFile bytes name p → ⊥
-
--- the bytes are a file, and the text is the theory of its process
-pub record IsTheoryOf (bytes text : List ℕ) : Type 0 where
-  pub name : List ℕ
-  pub process : Built
-  pub file : IsFile bytes name process
-  pub layout : text ≡ theory_text name (rules_of process)
 
 -- a file that the words name was fetched as these bytes
 pub record Fetched (c : Call) (bytes : List ℕ) : Type 0 where
@@ -88,9 +71,6 @@ pub record Fetched (c : Call) (bytes : List ℕ) : Type 0 where
 abbrev pub Holds : Option Files → List ℕ → List ℕ → Type 0
 Holds None name bytes = ⊥
 Holds (Some held) name bytes = files.get held name ≡ Some bytes
-
-abbrev pub refused_text : List ℕ
-refused_text = codes "file refused: not in the first grammar\n"
 
 abbrev pub usage_text : List ℕ
 usage_text = codes "usage: sapic COMMAND ARGUMENTS\n"
@@ -106,7 +86,7 @@ memory_text = codes "out of memory\n"
 
 -- the cause of a status that is told on err, with its text
 pub data Cause (c : Call) (status : ℕ) (text : List ℕ) : Type 0 where
-  refused : (bytes : List ℕ) → status ≡ 1 → text ≡ refused_text → Fetched c bytes → IsRefused bytes → Cause c status text
+  refused : (bytes why : List ℕ) → status ≡ 1 → text ≡ refused_line why → Fetched c bytes → IsRefusedWith bytes why → Cause c status text
   usage : status ≡ 3 → text ≡ usage_text → IsUnknown c.words → Cause c status text
   unread : (file : List ℕ) → status ≡ 4 → text ≡ read_fault_text → IsCompile c.words file → FailedOn c file → Cause c status text
 

@@ -2,30 +2,34 @@
 use Rattle.std.specs.Prelude.{◌≡◌, ◌⊎◌, ℕ, List, [], ◌∷◌, ◌++◌, take, Contains}
 use Rattle.sap_gen.specs.Built.{Built}
 use Rattle.sap_gen.specs.Templates.{rules_of}
+use Rattle.sap_gen.specs.Theories.{theory_of}
 use Rattle.sap_gen.specs.Faithful.{ShowsAll, ShowsOnly}
-use Rattle.sap_tool.specs.FirstFile.{IsFile}
-use Rattle.sap_tool.specs.Layout.{theory_text}
-use Rattle.sap_tool.specs.Call.{Call, Gained, Failed, FailedOn, IsCompile, IsUnknown, IsRefused, Fetched, Holds, Theory, Cause, refused_text, usage_text, read_fault_text, write_fault_text, memory_text}
+use Rattle.sap_read.specs.Files.{Told}
+use Rattle.sap_theory.specs.TheoryText.{theory_text}
+use Rattle.sap_tool.specs.BuiltFile.{IsBuiltFile}
+use Rattle.sap_tool.specs.Refusals.{IsRefusedWith, refused_line}
+use Rattle.sap_tool.specs.Call.{Call, Gained, Failed, FailedOn, IsCompile, IsUnknown, Fetched, Holds, Theory, Cause, usage_text, read_fault_text, write_fault_text, memory_text}
 
--- out gained the theory of the fetched file, err nothing, and the theory shows what the process shows
+-- out gained the theory of the fetched file, err nothing, and the theory shows what the file's process shows
 pub record Compiled (c : Call) : Type 0 where
   pub bytes : List ℕ
-  pub name : List ℕ
+  pub told : Told
   pub process : Built
   pub fetched : Fetched c bytes
-  pub file : IsFile bytes name process
-  pub out : Gained c.out (theory_text name (rules_of process))
+  pub file : IsBuiltFile bytes told process
+  pub out : Gained c.out (theory_text (theory_of told.name told.signature process [] []))
   pub err : Gained c.err []
   pub all : ShowsAll process (rules_of process)
   pub only : ShowsOnly process (rules_of process)
 
--- the fetched bytes are no file, and err was told so
+-- the fetched bytes are refused, and err was told why
 pub record Refused (c : Call) : Type 0 where
   pub bytes : List ℕ
+  pub why : List ℕ
   pub fetched : Fetched c bytes
-  pub refused : IsRefused bytes
+  pub refused : IsRefusedWith bytes why
   pub out : Gained c.out []
-  pub err : Gained c.err refused_text
+  pub err : Gained c.err (refused_line why)
 
 -- the words are none of the program's, and err was told so
 pub record Usage (c : Call) : Type 0 where
@@ -66,7 +70,7 @@ pub record Promises (c : Call) (status : ℕ) : Type 0 where
   pub unwritten : status ≡ 5 → Unwritten c
   pub wanting : status ≡ 6 → Wanting c
   pub must_tell_usage : IsUnknown c.words → (status ≡ 3) ⊎ ((status ≡ 5) × Failed c.err) ⊎ (status ≡ 6)
-  pub must_refuse : (file bytes : List ℕ) → IsCompile c.words file → Holds c.holds file bytes → IsRefused bytes
-      → (status ≡ 1) ⊎ ((status ≡ 4) × FailedOn c file) ⊎ ((status ≡ 5) × Failed c.err) ⊎ (status ≡ 6)
-  pub must_compile : (file bytes name : List ℕ) (p : Built) → IsCompile c.words file → Holds c.holds file bytes → IsFile bytes name p
+  pub must_refuse : (file bytes why : List ℕ) → IsCompile c.words file → Holds c.holds file bytes → IsRefusedWith bytes why
+      → ((status ≡ 1) × Gained c.err (refused_line why)) ⊎ ((status ≡ 4) × FailedOn c file) ⊎ ((status ≡ 5) × Failed c.err) ⊎ (status ≡ 6)
+  pub must_compile : (file bytes : List ℕ) (told : Told) (b : Built) → IsCompile c.words file → Holds c.holds file bytes → IsBuiltFile bytes told b
       → (FailedOn c file → ⊥) → (Failed c.out → ⊥) → (status ≡ 0) ⊎ (status ≡ 6)

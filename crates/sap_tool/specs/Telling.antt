@@ -1,6 +1,8 @@
 -- What putting a text on a sink leaves there.
 use Rattle.std.specs.Prelude.{◌≡◌, ℕ, List, [], ◌++◌, take}
-use Rattle.sap_tool.specs.Call.{Stream, Gained, Failed, IsRefused, IsTheoryOf, refused_text, write_fault_text, memory_text}
+use Rattle.sap_tool.specs.BuiltFile.{IsTheoryOf}
+use Rattle.sap_tool.specs.Refusals.{IsRefusal}
+use Rattle.sap_tool.specs.Call.{Stream, Gained, Failed, write_fault_text, memory_text}
 
 -- the text of a status is on err, or err failed while it took it, or memory was wanting
 pub data IsTold (status : ℕ) (text : List ℕ) (err : Stream) (r : ℕ) : Type 0 where
@@ -16,6 +18,6 @@ pub data IsWritten (text : List ℕ) (out err : Stream) (r : ℕ) : Type 0 where
 
 -- what became of the bytes of a file
 pub data IsDelivered (bytes : List ℕ) (out err : Stream) (r : ℕ) : Type 0 where
-  refused : IsRefused bytes → Gained out [] → IsTold 1 refused_text err r → IsDelivered bytes out err r
+  refused : (line : List ℕ) → IsRefusal bytes line → Gained out [] → IsTold 1 line err r → IsDelivered bytes out err r
   given : (text : List ℕ) → IsTheoryOf bytes text → IsWritten text out err r → IsDelivered bytes out err r
   wanting : (j : ℕ) → r ≡ 6 → Gained out [] → Gained err (take j memory_text) → IsDelivered bytes out err r

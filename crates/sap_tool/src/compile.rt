@@ -1,56 +1,116 @@
 //! From the bytes of a file to the text of its theory.
 
-ghost use Rattle.std.specs.Prelude.{◌≡◌, Some, IfOk, MatchOption};
+ghost use Rattle.std.specs.Prelude.{◌≡◌, ◌≤◌, ◌++◌, ◌↔◌, IsTrue, Some, ℕ, List, length, [], Ok, Err, codes, IfOk, IsErrOf};
 ghost use Rattle.sap_process.specs.Proc.{proc};
 ghost use Rattle.sap_gen.specs.Built.{Built, built, IsBuilt};
-ghost use Rattle.sap_gen.specs.Templates.{rules_of};
-ghost use Rattle.sap_tool.specs.First.{first, process_of};
-ghost use Rattle.sap_tool.specs.Layout.{theory_text};
-ghost use Rattle.sap_tool.specs.Call.{IsRefused, IsTheoryOf};
+ghost use Rattle.sap_gen.specs.Unbuilt as unbuilt;
+ghost use Rattle.sap_read.specs.Files.{Told, IsRead};
+ghost use Rattle.sap_tool.specs.declared.refusal.Refusal.TheVariants as refusals;
+ghost use Rattle.sap_read.specs.declared.fault.ReadFault.TheVariants as faults;
+ghost use Rattle.sap_tool.specs.BuiltFile.{most_bytes, told_by, compiled_text, IsTheoryOf};
+ghost use Rattle.sap_tool.specs.Refusals.{IsRefusal, refused_line, fault_text, at_place};
 
-use crate::first_process::FirstProcess;
-use crate::printer;
-use crate::reader::{FirstFile, read_first};
-use sap_gen::generate;
-use sap_process::Process;
-use sap_rule::RuleList;
-use sap_terms::{Mem, Signature};
+use crate::fault_text::{push_fault, push_placed};
+use crate::refusal::Refusal;
+use sap_gen::{first_unbuilt, theory_of};
+use sap_read::{File, ReadFault, read_file};
+use sap_terms::{Mem, Path};
 use sap_text::Text;
+use sap_theory::print;
 use std::alloc::Global;
 
-/// The theory of the file that the bytes spell; none where they spell no file.
-pub fn theory_of(alloc: Global, bytes: &[u8]) -> Result<Option<Text>, Mem>
-    ensures { IfOk result (λ o. MatchOption o (IsRefused bytes.now) (λ text. IsTheoryOf bytes.now text)) }
+/// How many bytes a file may have.
+pub const MOST_BYTES: u64 = 1_048_576;
+
+/// The text of the theory of these bytes, or why they have none.
+pub fn theory_text_of(alloc: Global, bytes: &[u8]) -> Result<Text, Refusal>
+    ensures given { IfOk result (IsTheoryOf bytes.now) }
+    ensures refused { (line : List ℕ) → IsErrOf result (refusals.Told line) → IsRefusal bytes.now line }
 {
-    match read_first(alloc, bytes)? {
-        None => Ok(None),
-        Some(file) => {
-            let text = text_of(alloc, &file)?;
-            Ok(Some(text))
-        }
+    if bytes.len() as u64 > MOST_BYTES {
+        return Err(Refusal::Told(long_line(alloc)?));
+    }
+    let file = read(alloc, bytes)?;
+    text_of(alloc, &file)
+}
+
+/// The file that the bytes are read as.
+fn read(alloc: Global, bytes: &[u8]) -> Result<File, Refusal>
+    requires { length bytes.now ≤ most_bytes }
+    ensures found { IfOk result (λ f. IsRead bytes.now (Ok (told_by f)) × (f.restrictions ≡ []) × (f.lemmas ≡ [])) }
+    ensures refused { (line : List ℕ) → IsErrOf result (refusals.Told line) → IsRefusal bytes.now line }
+{
+    match read_file(alloc, bytes) {
+        Ok(file) => Ok(file),
+        Err(fault) => Err(Refusal::Told(fault_line(alloc, &fault)?)),
     }
 }
 
-fn text_of(alloc: Global, file: &FirstFile) -> Result<Text, Mem>
-    requires { built (process_of (first file.now.process)) ≡ Some (first file.now.process) }
-    ensures { IfOk result (λ text. text ≡ theory_text file.now.name (rules_of (first file.now.process))) }
+/// The text of the theory of a file, where each place of its process is built.
+fn text_of(alloc: Global, file: &File) -> Result<Text, Refusal>
+    requires restrictions { file.now.restrictions ≡ [] }
+    requires lemmas { file.now.lemmas ≡ [] }
+    ensures given { IfOk result (λ text. (b : Built) × (built (proc file.now.process) ≡ Some b) × (text ≡ compiled_text (told_by file.now) b)) }
+    ensures refused { (line : List ℕ) → IsErrOf result (refusals.Told line)
+        → (path : List ℕ) × (unbuilt.first_unbuilt (proc file.now.process) ≡ Some path) × (line ≡ refused_line (at_place path (codes "not built"))) }
 {
-    let rules = first_rules(alloc, &file.process)?;
-    printer::theory_text(alloc, &file.name, &rules)
+    if let Some(path) = first_unbuilt(alloc, &file.process)? {
+        return Err(Refusal::Told(place_line(alloc, &path)?));
+    }
+    Ok(built_text(alloc, file)?)
 }
 
-fn first_rules(alloc: Global, p: &FirstProcess) -> Result<RuleList, Mem>
-    requires { built (process_of (first p.now)) ≡ Some (first p.now) }
-    ensures { IfOk result (λ rules. rules ≡ rules_of (first p.now)) }
+/// The text of the theory of a file whose process is built.
+fn built_text(alloc: Global, file: &File) -> Result<Text, Mem>
+    requires built { IsBuilt (proc file.now.process) }
+    requires restrictions { file.now.restrictions ≡ [] }
+    requires lemmas { file.now.lemmas ≡ [] }
+    ensures { IfOk result (λ text. (b : Built) → built (proc file.now.process) ≡ Some b → text ≡ compiled_text (told_by file.now) b) }
 {
-    let whole = p.whole(alloc)?;
-    whole_rules(alloc, &whole)
+    let theory = theory_of(alloc, file, false)?;
+    print(alloc, &theory)
 }
 
-fn whole_rules(alloc: Global, p: &Process) -> Result<RuleList, Mem>
-    requires { IsBuilt (proc p.now) }
-    ensures { IfOk result (λ rules. (b : Built) → built (proc p.now) ≡ Some b → rules ≡ rules_of b) }
+/// The line that refuses a file of too many bytes.
+fn long_line(alloc: Global) -> Result<Text, Mem>
+    ensures { IfOk result (λ line. line ≡ refused_line (codes "longer than 1048576 bytes")) }
 {
-    let signature = Signature::new(alloc)?;
-    generate(alloc, &signature, p)
+    let mut line = Text::new(alloc);
+    line.push_bytes(b"file refused: longer than 1048576 bytes\n")?;
+    Ok(line)
+}
+
+/// The line that refuses a file for this fault. Want of memory refuses none, and so has no line.
+fn fault_line(alloc: Global, fault: &ReadFault) -> Result<Text, Mem>
+    ensures { IfOk result (λ line. (fault.now ≡ faults.Mem → ⊥) × (line ≡ refused_line (fault_text fault.now))) }
+{
+    if is_memory(fault) {
+        return Err(Mem);
+    }
+    let mut line = Text::new(alloc);
+    line.push_bytes(b"file refused: ")?;
+    push_fault(&mut line, fault)?;
+    line.push_bytes(b"\n")?;
+    Ok(line)
+}
+
+/// Whether the fault is want of memory.
+fn is_memory(fault: &ReadFault) -> bool
+    ensures { IsTrue result ↔ (fault.now ≡ faults.Mem) }
+{
+    match fault {
+        ReadFault::Mem => true,
+        _ => false,
+    }
+}
+
+/// The line that refuses a file whose place of this path isn't built.
+fn place_line(alloc: Global, path: &Path) -> Result<Text, Mem>
+    ensures { IfOk result (λ line. line ≡ refused_line (at_place path.now (codes "not built"))) }
+{
+    let mut line = Text::new(alloc);
+    line.push_bytes(b"file refused: ")?;
+    push_placed(&mut line, path, b"not built")?;
+    line.push_bytes(b"\n")?;
+    Ok(line)
 }

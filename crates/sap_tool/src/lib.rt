@@ -2,12 +2,11 @@
 #![tactic(auto)]
 
 mod compile;
+mod fault_text;
 mod file_shelf;
-mod first_process;
 mod mem_shelf;
 mod mem_sink;
-mod printer;
-mod reader;
+mod refusal;
 mod shelf;
 mod sink;
 mod stream_sink;
@@ -16,7 +15,6 @@ mod top;
 pub use file_shelf::FileShelf;
 pub use mem_shelf::MemShelf;
 pub use mem_sink::MemSink;
-pub use reader::{one_file, one_process};
 pub use shelf::{Shelf, ShelfFault};
 pub use sink::{Sink, SinkFault};
 pub use stream_sink::StreamSink;

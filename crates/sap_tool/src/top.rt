@@ -6,12 +6,12 @@ ghost use Rattle.sap_tool.specs.Call.{bytes_of, call, stream, IsCompile, IsUnkno
 ghost use Rattle.sap_tool.specs.Telling.{IsTold, IsWritten, IsDelivered};
 ghost use Rattle.sap_tool.specs.Promises.{Promises};
 
-use crate::compile::theory_of;
+use crate::compile::{MOST_BYTES, theory_text_of};
+use crate::refusal::Refusal;
 use crate::{Shelf, ShelfFault, Sink, SinkFault};
 use sap_gen::rules_show_the_process;
+use sap_read::one_file;
 use std::alloc::Global;
-
-const MOST_BYTES: u64 = 1_048_576;
 
 /// Runs the program on its words, those after its name, and answers its status.
 ///
@@ -38,6 +38,7 @@ pub fn sapic<S: Shelf, O: Sink, E: Sink>(
         result }
 {
     rules_show_the_process();
+    one_file();
     run(alloc, words, shelf, out, err)
 }
 
@@ -85,10 +86,10 @@ fn deliver<O: Sink, E: Sink>(alloc: Global, bytes: &[u8], out: &mut O, err: &mut
         (stream (E.written err.old) (E.written err.new) (E.faults err.old) (E.faults err.new))
         result }
 {
-    match theory_of(alloc, bytes) {
-        Ok(Some(text)) => write(out, err, text.as_bytes()),
-        Ok(None) => tell(err, 1, b"file refused: not in the first grammar\n"),
-        Err(_) => last_word(err, 6, b"out of memory\n"),
+    match theory_text_of(alloc, bytes) {
+        Ok(text) => write(out, err, text.as_bytes()),
+        Err(Refusal::Told(line)) => tell(err, 1, line.as_bytes()),
+        Err(Refusal::Mem) => last_word(err, 6, b"out of memory\n"),
     }
 }
 

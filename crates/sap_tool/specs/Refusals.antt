@@ -1,0 +1,77 @@
+-- Why a file is refused, in words.
+use Rattle.std.specs.Prelude.{◌≡◌, ◌<◌, ◌≤◌, ℕ, codes, decimal, List, [], ◌∷◌, ◌++◌, length, Some, Ok, Err}
+use Rattle.std.specs.List.{flat_map}
+use Rattle.sap_text.specs.declared.fault.Lex.{Lex}
+use Rattle.sap_text.specs.declared.fault.Lex.TheVariants as lex
+use Rattle.sap_process.specs.declared.flaw.Flaw.{Flaw}
+use Rattle.sap_process.specs.declared.flaw.Flaw.TheVariants.{BadFunction, ReservedVar, ReservedFact, FactClash, PatternDestructor, Unbound, Rebound, SortClash, ScopeFull}
+use Rattle.sap_read.specs.declared.fault.ReadFault.{ReadFault}
+use Rattle.sap_read.specs.declared.fault.ReadFault.TheVariants as fault
+use Rattle.sap_read.specs.Files.{Told, IsRead}
+use Rattle.sap_gen.specs.Unbuilt.{first_unbuilt}
+use Rattle.sap_tool.specs.BuiltFile.{most_bytes}
+
+-- the digits of a path side by side; the root has none, and a word of its own
+abbrev pub place_text : List ℕ → List ℕ
+place_text [] = codes "root"
+place_text (d ∷ ds) = flat_map decimal (d ∷ ds)
+
+-- what is wrong at a place
+abbrev pub at_place : List ℕ → List ℕ → List ℕ
+at_place path what = codes "place " ++ (place_text path ++ (codes ": " ++ what))
+
+-- a number or a name between two texts
+abbrev pub between : List ℕ → List ℕ → List ℕ → List ℕ
+between before middle after = before ++ (middle ++ after)
+
+abbrev pub flaw_text : Flaw → List ℕ
+flaw_text BadFunction = codes "bad function"
+flaw_text ReservedVar = codes "reserved variable"
+flaw_text ReservedFact = codes "reserved fact"
+flaw_text FactClash = codes "fact clash"
+flaw_text PatternDestructor = codes "destructor in a pattern"
+flaw_text Unbound = codes "unbound"
+flaw_text Rebound = codes "rebound"
+flaw_text SortClash = codes "sort clash"
+flaw_text ScopeFull = codes "scope is full"
+
+-- why bytes have no tokens; that memory was wanting is no such cause, and refuses no file
+abbrev pub lex_text : Lex → List ℕ
+lex_text lex.Mem = codes "out of memory"
+lex_text (lex.BadByte at) = between (codes "byte ") (decimal at) (codes " begins no token")
+lex_text (lex.OpenComment at) = between (codes "comment at byte ") (decimal at) (codes " is not closed")
+lex_text (lex.OpenQuote at) = between (codes "quote at byte ") (decimal at) (codes " is not closed")
+lex_text (lex.NameLong at) = between (codes "name at byte ") (decimal at) (codes " is longer than 64 bytes")
+
+-- why bytes are read as no file; that memory was wanting refuses none
+abbrev pub fault_text : ReadFault → List ℕ
+fault_text fault.Mem = codes "out of memory"
+fault_text (fault.Lex f) = lex_text f
+fault_text fault.Header = codes "no theory header"
+fault_text (fault.Syntax line) = between (codes "line ") (decimal line) (codes ": not in the grammar")
+fault_text fault.NoProcess = codes "no process"
+fault_text (fault.TwoProcesses line) = between (codes "line ") (decimal line) (codes ": second process")
+fault_text (fault.UnknownProcess name) = between (codes "process ") name (codes " is not defined")
+fault_text (fault.DuplicateName name) = between (codes "name ") name (codes " stands twice")
+fault_text (fault.FunctionClash name) = between (codes "function ") name (codes " is declared otherwise")
+fault_text fault.TooMany = codes "more than 4000 nodes"
+fault_text fault.TooDeep = codes "more than 300 levels"
+fault_text (fault.Ill which path) = at_place path (flaw_text which)
+
+-- the bytes are refused for this cause: they are too many; else they are read as no file; else a place of their process,
+-- the first of these, has no rules of its own
+pub data IsRefusedWith (bytes : List ℕ) : List ℕ → Type 0 where
+  too_long : most_bytes < length bytes → IsRefusedWith bytes (codes "longer than 1048576 bytes")
+  unread : {e : ReadFault} → length bytes ≤ most_bytes → IsRead bytes (Err e) → IsRefusedWith bytes (fault_text e)
+  unbuilt : {told : Told} {path : List ℕ} → length bytes ≤ most_bytes → IsRead bytes (Ok told) → first_unbuilt told.process ≡ Some path
+      → IsRefusedWith bytes (at_place path (codes "not built"))
+
+-- the line that says why
+abbrev pub refused_line : List ℕ → List ℕ
+refused_line why = codes "file refused: " ++ (why ++ codes "\n")
+
+-- the line says why the bytes are refused
+pub record IsRefusal (bytes line : List ℕ) : Type 0 where
+  pub why : List ℕ
+  pub refused : IsRefusedWith bytes why
+  pub layout : line ≡ refused_line why
