@@ -175,12 +175,12 @@ fn search_with(
 ) -> Result<bool, Mem>
     ensures { IfOk result (λ b. Searched sig.now which (sites_from (walk.old.trail ++ 1 ∷ []) (walk.old.scope ++ message_var x.now ∷ []) locks (proc q.now)) walk.old walk.new b) }
 {
-    let before = walk.scope.len();
+    let outside = walk.scope.len();
     walk.scope.push(alloc, with_sort(alloc, x, Sort::Msg)?)?;
     if search_child(alloc, sig, which, walk, 1, locks, q)? {
         return Ok(true);
     }
-    walk.scope.cut(before);
+    walk.scope.cut(outside);
     Ok(false)
 }
 
