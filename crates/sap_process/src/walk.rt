@@ -59,7 +59,9 @@ fn search(
     locks: u64,
     p: &Process,
 ) -> Result<bool, Mem>
-    ensures { IfOk result (λ b. Searched sig.now (sites_from walk.old.trail walk.old.scope locks (proc p.now)) walk.old walk.new b) }
+    ensures { IfOk result (λ b. Searched sig.now
+        (sites_from walk.old.trail walk.old.scope locks (proc p.now))
+        walk.old walk.new b) }
 {
     if is_flawed(alloc, sig, walk, locks, p)? {
         return Ok(true);
@@ -76,7 +78,9 @@ fn search_below(
     locks: u64,
     p: &Process,
 ) -> Result<bool, Mem>
-    ensures { IfOk result (λ b. Searched sig.now (sites_below walk.old.trail walk.old.scope locks (proc p.now)) walk.old walk.new b) }
+    ensures { IfOk result (λ b. Searched sig.now
+        (sites_below walk.old.trail walk.old.scope locks (proc p.now))
+        walk.old walk.new b) }
 {
     match p {
         Process::Nil => Ok(false),
@@ -109,7 +113,10 @@ fn search_both(
     q: &Process,
     r: &Process,
 ) -> Result<bool, Mem>
-    ensures { IfOk result (λ b. Searched sig.now (sites_from (walk.old.trail ++ 1 ∷ []) walk.old.scope locks (proc q.now) ++ sites_from (walk.old.trail ++ 2 ∷ []) walk.old.scope locks (proc r.now)) walk.old walk.new b) }
+    ensures { IfOk result (λ b. Searched sig.now
+        (sites_from (walk.old.trail ++ 1 ∷ []) walk.old.scope locks (proc q.now)
+        ++ sites_from (walk.old.trail ++ 2 ∷ []) walk.old.scope locks (proc r.now))
+        walk.old walk.new b) }
 {
     if search_child(alloc, sig, walk, 1, locks, q)? {
         return Ok(true);
@@ -129,7 +136,10 @@ fn search_branches(
     q: &Process,
     r: &Process,
 ) -> Result<bool, Mem>
-    ensures { IfOk result (λ b. Searched sig.now (sites_from (walk.old.trail ++ 1 ∷ []) (walk.old.scope ++ message_var x.now ∷ []) locks (proc q.now) ++ sites_from (walk.old.trail ++ 2 ∷ []) walk.old.scope locks (proc r.now)) walk.old walk.new b) }
+    ensures { IfOk result (λ b. Searched sig.now
+        (sites_from (walk.old.trail ++ 1 ∷ []) (walk.old.scope ++ message_var x.now ∷ []) locks (proc q.now)
+        ++ sites_from (walk.old.trail ++ 2 ∷ []) walk.old.scope locks (proc r.now))
+        walk.old walk.new b) }
 {
     if search_with(alloc, sig, walk, x, locks, q)? {
         return Ok(true);
@@ -148,7 +158,10 @@ fn search_bound(
     locks: u64,
     q: &Process,
 ) -> Result<bool, Mem>
-    ensures { IfOk result (λ b. Searched sig.now (sites_from (walk.old.trail ++ 1 ∷ []) (scope_at walk.old.scope (proc p.now)) (locks + head_locks (proc p.now)) (proc q.now)) walk.old walk.new b) }
+    ensures { IfOk result (λ b. Searched sig.now
+        (sites_from (walk.old.trail ++ 1 ∷ []) (scope_at walk.old.scope (proc p.now))
+        (locks + head_locks (proc p.now)) (proc q.now))
+        walk.old walk.new b) }
 {
     let before = walk.scope.len();
     bind(alloc, &mut walk.scope, p)?;
@@ -170,7 +183,9 @@ fn search_with(
     locks: u64,
     q: &Process,
 ) -> Result<bool, Mem>
-    ensures { IfOk result (λ b. Searched sig.now (sites_from (walk.old.trail ++ 1 ∷ []) (walk.old.scope ++ message_var x.now ∷ []) locks (proc q.now)) walk.old walk.new b) }
+    ensures { IfOk result (λ b. Searched sig.now
+        (sites_from (walk.old.trail ++ 1 ∷ []) (walk.old.scope ++ message_var x.now ∷ []) locks (proc q.now))
+        walk.old walk.new b) }
 {
     let outside = walk.scope.len();
     walk.scope.push(alloc, with_sort(alloc, x, Sort::Msg)?)?;
@@ -192,7 +207,9 @@ fn search_child(
     q: &Process,
 ) -> Result<bool, Mem>
     requires { IsDigit digit }
-    ensures { IfOk result (λ b. Searched sig.now (sites_from (walk.old.trail ++ digit ∷ []) walk.old.scope locks (proc q.now)) walk.old walk.new b) }
+    ensures { IfOk result (λ b. Searched sig.now
+        (sites_from (walk.old.trail ++ digit ∷ []) walk.old.scope locks (proc q.now))
+        walk.old walk.new b) }
 {
     walk.trail.push(digit)?;
     if search(alloc, sig, walk, locks, q)? {
@@ -210,7 +227,8 @@ fn is_flawed(
     locks: u64,
     p: &Process,
 ) -> Result<bool, Mem>
-    ensures found { IfOk result (λ b. b ≡ has_flaw sig.now walk.old.which walk.old.seen.stored walk.old.seen.shown (site walk.old.trail walk.old.scope locks (proc p.now))) }
+    ensures found { IfOk result (λ b. b ≡ has_flaw sig.now walk.old.which walk.old.seen.stored walk.old.seen.shown
+        (site walk.old.trail walk.old.scope locks (proc p.now))) }
     ensures noted { OnOk result (walk.new ≡ record walk.old { seen = seen_at walk.old.seen (proc p.now) }) }
 {
     let clash = walk.seen.note(alloc, p)?;
