@@ -35,28 +35,29 @@ place-back g w m (x ∷ xs) ys h = by (has_flaw g w m.stored m.shown x) h (place
   by false e later = later e
 
 -- a search of two lists finds what a search of the first finds
-pub searched-first : (g : Sig) (w : Flaw) (xs ys : List Site) (a b : Walk) → Searched g w xs a b true → Searched g w (xs ++ ys) a b true
-searched-first g w xs ys a b h = place-front g w a.seen xs ys b.trail h
+searched-first : (g : Sig) (xs ys : List Site) (a b : Walk) → Searched g xs a b true → Searched g (xs ++ ys) a b true
+searched-first g xs ys a b h = place-front g a.which a.seen xs ys b.trail h
 
 -- the second list is searched with what a search of the first leaves
-searched-second : (g : Sig) (w : Flaw) (xs ys : List Site) (a c : Walk) (r : Bool) → first_place g w a.seen xs ≡ None
-    → Searched g w ys (record a { seen = seen_after a.seen xs }) c r → Searched g w (xs ++ ys) a c r
-searched-second g w xs ys a c true none h = place-back g w a.seen xs ys none ∙ h
-searched-second g w xs ys a c false none h = (
-  place-back g w a.seen xs ys none ∙ h.0,
+searched-second : (g : Sig) (xs ys : List Site) (a c : Walk) (r : Bool) → first_place g a.which a.seen xs ≡ None
+    → Searched g ys (record a { seen = seen_after a.seen xs }) c r → Searched g (xs ++ ys) a c r
+searched-second g xs ys a c true none h = place-back g a.which a.seen xs ys none ∙ h
+searched-second g xs ys a c false none h = (
+  place-back g a.which a.seen xs ys none ∙ h.0,
   h.1 ∙ ap (λ (m : Seen). record a { seen = m }) (sym (seen_after-append a.seen xs ys)),
 )
 
 -- the same, where the second list depends on where the walk stands
-pub searched-both : (g : Sig) (w : Flaw) (xs : List Site) (ys : List ℕ → List Var → List Site) (a b c : Walk) (r : Bool) → Searched g w xs a b false
-    → Searched g w (ys b.trail b.scope) b c r → Searched g w (xs ++ ys a.trail a.scope) a c r
-searched-both g w xs ys a b c r h k =
-    searched-second g w xs (ys a.trail a.scope) a c r h.0 (subst (λ (z : Walk). Searched g w (ys z.trail z.scope) z c r) h.1 k)
+searched-both : (g : Sig) (xs : List Site) (ys : List ℕ → List Var → List Site) (a b c : Walk) (r : Bool) → Searched g xs a b false
+    → Searched g (ys b.trail b.scope) b c r → Searched g (xs ++ ys a.trail a.scope) a c r
+searched-both g xs ys a b c r h k =
+    searched-second g xs (ys a.trail a.scope) a c r h.0 (subst (λ (z : Walk). Searched g (ys z.trail z.scope) z c r) h.1 k)
 
 -- what a search of the first list finds, where its answer is known by an equation
-pub searched-found : (g : Sig) (w : Flaw) (xs ys : List Site) (a b : Walk) (r : Bool) → r ≡ true → Searched g w xs a b r → first_place g w a.seen (xs ++ ys) ≡ Some b.trail
-searched-found g w xs ys a b r e h = searched-first g w xs ys a b (subst (Searched g w xs a b) e h)
+pub searched-found : (g : Sig) (xs ys : List Site) (a b : Walk) (r : Bool) → r ≡ true → Searched g xs a b r → first_place g a.which a.seen (xs ++ ys) ≡ Some b.trail
+searched-found g xs ys a b r e h = searched-first g xs ys a b (subst (Searched g xs a b) e h)
 
-pub searched-on : (g : Sig) (w : Flaw) (xs : List Site) (ys : List ℕ → List Var → List Site) (a b c : Walk) (q r : Bool) → q ≡ false → Searched g w xs a b q
-    → Searched g w (ys b.trail b.scope) b c r → Searched g w (xs ++ ys a.trail a.scope) a c r
-searched-on g w xs ys a b c q r e h k = searched-both g w xs ys a b c r (subst (Searched g w xs a b) e h) k
+-- and where it finds nothing
+pub searched-on : (g : Sig) (xs : List Site) (ys : List ℕ → List Var → List Site) (a b c : Walk) (q r : Bool) → q ≡ false → Searched g xs a b q
+    → Searched g (ys b.trail b.scope) b c r → Searched g (xs ++ ys a.trail a.scope) a c r
+searched-on g xs ys a b c q r e h k = searched-both g xs ys a b c r (subst (Searched g xs a b) e h) k

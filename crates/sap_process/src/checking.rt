@@ -20,7 +20,8 @@ use std::alloc::Global;
 /// scope, with the sort that the first occurrence has; an embedded rule binds the names of its left side and, on its other
 /// sides, those that are first written `$x`.
 ///
-/// The time is linear in the process, but for the scopes.
+/// It takes time in proportion to the process, in ten passes, where names are looked up by hashing; it recurses as deep as the
+/// process and its terms.
 pub fn well_formed(alloc: Global, sig: &Signature, p: &Process) -> Result<Process, Ill>
     ensures sorted { IfOk result (λ q. proc q ≡ with_sorts [] (proc p.now)) }
     ensures sound { IfOk result (λ q. IsWellFormed sig.now (proc p.now)) }

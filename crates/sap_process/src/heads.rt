@@ -25,7 +25,8 @@ pub(crate) fn binder(p: &Process) -> Option<&Var>
 
 // Whether a term at the head applies a symbol badly, or a constant is bound.
 pub(crate) fn is_bad_head(sig: &Signature, p: &Process) -> bool
-    ensures { result ≡ (not (are_over sig.now (trees_of (head_terms (proc p.now)))) || binds_constant sig.now (proc p.now)) }
+    ensures { result ≡ (not (are_over sig.now (trees_of (head_terms (proc p.now))))
+        || binds_constant sig.now (proc p.now)) }
 {
     !is_head_over(sig, p) || binds_constant(sig, p)
 }

@@ -125,7 +125,8 @@ impl Seen {
 
     // Notes the facts at the head of the process; whether one clashes with an earlier one.
     pub(crate) fn note(&mut self, alloc: Global, p: &Process) -> Result<bool, Mem>
-        ensures clash { IfOk result (λ b. b ≡ (has_clash true self.old.stored (stored_facts (proc p.now)) || has_clash false self.old.shown (shown_facts (proc p.now)))) }
+        ensures clash { IfOk result (λ b. b ≡ (has_clash true self.old.stored (stored_facts (proc p.now))
+            || has_clash false self.old.shown (shown_facts (proc p.now)))) }
         ensures noted { OnOk result (self.new ≡ seen_at self.old (proc p.now)) }
     {
         match p {
@@ -142,8 +143,12 @@ impl Seen {
         e: &FactList,
         r: &FactList,
     ) -> Result<bool, Mem>
-        ensures clash { IfOk result (λ b. b ≡ (has_clash true self.old.stored (l.now ++ r.now) || has_clash false self.old.shown e.now)) }
-        ensures noted { OnOk result (self.new ≡ record { stored = noted_all true self.old.stored (l.now ++ r.now); shown = noted_all false self.old.shown e.now }) }
+        ensures clash { IfOk result (λ b. b ≡ (has_clash true self.old.stored (l.now ++ r.now)
+            || has_clash false self.old.shown e.now)) }
+        ensures noted { OnOk result (self.new ≡ record {
+          stored = noted_all true self.old.stored (l.now ++ r.now);
+          shown = noted_all false self.old.shown e.now;
+        }) }
     {
         let stored = self.stored.note_both(alloc, true, l, r)?;
         let shown = self.shown.note_all(alloc, false, e)?;

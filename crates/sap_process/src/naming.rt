@@ -100,7 +100,8 @@ pub(crate) fn is_rebound(scope: &Scope, p: &Process) -> bool
 
 // Whether a variable at the head has a sign that isn't the sort of its binder.
 pub(crate) fn has_sort_clash(alloc: Global, scope: &mut Scope, p: &Process) -> Result<bool, Mem>
-    ensures found { IfOk result (λ b. b ≡ list_any (has_other_sort (scope_at scope.old (proc p.now))) (terms_vars (head_terms (proc p.now)))) }
+    ensures found { IfOk result (λ b. b ≡ list_any
+        (has_other_sort (scope_at scope.old (proc p.now))) (terms_vars (head_terms (proc p.now)))) }
     ensures same { OnOk result (scope.new ≡ scope.old) }
 {
     let vars = vars_of_head(alloc, p)?;

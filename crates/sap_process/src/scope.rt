@@ -103,8 +103,8 @@ impl Scope {
     pub(crate) fn push_all(&mut self, alloc: Global, vars: &Vars) -> Result<(), Mem>
         ensures { OnOk result (self.new ≡ self.old ++ vars.now) }
     {
-        for v in vars.as_slice() {
-            self.push(alloc, v.copy(alloc)?)?;
+        for x in vars.as_slice() {
+            self.push(alloc, x.copy(alloc)?)?;
         }
         Ok(())
     }

@@ -127,7 +127,9 @@ fn sending(
     u: &Term,
     p: Box<Process>,
 ) -> Result<Process, Mem>
-    ensures { IfOk result (λ r. proc r ≡ act (send (instance (by_binder scope.now) (tree t.now)) (instance (by_binder scope.now) (tree u.now))) (proc p.value)) }
+    ensures { IfOk result (λ r. proc r ≡ act
+        (send (instance (by_binder scope.now) (tree t.now)) (instance (by_binder scope.now) (tree u.now)))
+        (proc p.value)) }
 {
     let t = sorted_term(alloc, scope, t)?;
     Ok(Process::Send(t, sorted_term(alloc, scope, u)?, p))
@@ -140,7 +142,9 @@ fn receiving(
     u: &Term,
     p: Box<Process>,
 ) -> Result<Process, Mem>
-    ensures { IfOk result (λ r. proc r ≡ act (receive (instance (by_binder scope.now) (tree t.now)) (instance (by_binder scope.now) (tree u.now))) (proc p.value)) }
+    ensures { IfOk result (λ r. proc r ≡ act
+        (receive (instance (by_binder scope.now) (tree t.now)) (instance (by_binder scope.now) (tree u.now)))
+        (proc p.value)) }
 {
     let t = sorted_term(alloc, scope, t)?;
     Ok(Process::Recv(t, sorted_term(alloc, scope, u)?, p))
@@ -153,7 +157,9 @@ fn inserting(
     u: &Term,
     p: Box<Process>,
 ) -> Result<Process, Mem>
-    ensures { IfOk result (λ r. proc r ≡ act (insert (instance (by_binder scope.now) (tree t.now)) (instance (by_binder scope.now) (tree u.now))) (proc p.value)) }
+    ensures { IfOk result (λ r. proc r ≡ act
+        (insert (instance (by_binder scope.now) (tree t.now)) (instance (by_binder scope.now) (tree u.now)))
+        (proc p.value)) }
 {
     let t = sorted_term(alloc, scope, t)?;
     Ok(Process::Insert(t, sorted_term(alloc, scope, u)?, p))
@@ -167,7 +173,9 @@ fn testing(
     p: Box<Process>,
     q: Box<Process>,
 ) -> Result<Process, Mem>
-    ensures { IfOk result (λ r. proc r ≡ test (instance (by_binder scope.now) (tree t.now)) (instance (by_binder scope.now) (tree u.now)) (proc p.value) (proc q.value)) }
+    ensures { IfOk result (λ r. proc r ≡ test
+        (instance (by_binder scope.now) (tree t.now)) (instance (by_binder scope.now) (tree u.now))
+        (proc p.value) (proc q.value)) }
 {
     let t = sorted_term(alloc, scope, t)?;
     Ok(Process::If(t, sorted_term(alloc, scope, u)?, p, q))
@@ -181,7 +189,8 @@ fn looking_up(
     p: Box<Process>,
     q: Box<Process>,
 ) -> Result<Process, Mem>
-    ensures { IfOk result (λ r. proc r ≡ lookup (instance (by_binder scope.now) (tree t.now)) (message_var x.now) (proc p.value) (proc q.value)) }
+    ensures { IfOk result (λ r. proc r ≡ lookup
+        (instance (by_binder scope.now) (tree t.now)) (message_var x.now) (proc p.value) (proc q.value)) }
 {
     let t = sorted_term(alloc, scope, t)?;
     Ok(Process::Lookup(t, with_sort(alloc, x, Sort::Msg)?, p, q))
@@ -195,7 +204,10 @@ fn embedding(
     r: &FactList,
     p: Box<Process>,
 ) -> Result<Process, Mem>
-    ensures { IfOk result (λ made. proc made ≡ act (embedded (instance_facts (by_binder scope.now) l.now) (instance_facts (by_binder scope.now) e.now) (instance_facts (by_binder scope.now) r.now)) (proc p.value)) }
+    ensures { IfOk result (λ made. proc made ≡ act
+        (embedded (instance_facts (by_binder scope.now) l.now) (instance_facts (by_binder scope.now) e.now)
+        (instance_facts (by_binder scope.now) r.now))
+        (proc p.value)) }
 {
     let l = sorted_facts(alloc, scope, l)?;
     let e = sorted_facts(alloc, scope, e)?;

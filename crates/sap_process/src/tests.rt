@@ -398,7 +398,31 @@ fn flaws_and_sorts_of_processes(rt: HostRuntime) -> Result<(), Fail> {
         rule K:0 -- -> ; 0 | ReservedFact -\n\
         rule -- -> State_1:0 ; 0 | ReservedFact -\n\
         rule F:1 ~x -- -> ; out $x 0 | SortClash 1\n\
-        rule F:2 x ~x -- -> ; 0 | SortClash -";
+        rule F:2 x ~x -- -> ; 0 | SortClash -\n\
+        rep rep rep out g/1 'a 0 | BadFunction 111\n\
+        if 'a 'b 0 out g/1 'a 0 | BadFunction 2\n\
+        if 'a 'b out g/1 'a 0 out g/1 'a 0 | BadFunction 1\n\
+        rep par 0 new ~sapic_x 0 | ReservedVar 12\n\
+        par new ~sapic_a 0 new ~sapic_b 0 | ReservedVar 1\n\
+        out sapic_ 0 | ReservedVar -\n\
+        new ~sapi 0 | ok -\n\
+        rep rep event Fr:1 'a 0 | ReservedFact 11\n\
+        par event Eq:0 0 event NotEq:0 0 | ReservedFact 1\n\
+        rep par event A:0 0 event A:1 'a 0 | FactClash 12\n\
+        event A:0 par event A:1 'a 0 event A:1 'b 0 | FactClash 11\n\
+        rep in x in fst/1 x 0 | PatternDestructor 11\n\
+        if 'a 'b in fst/1 x 0 in snd/1 x 0 | PatternDestructor 1\n\
+        recv fst/1 'a x 0 | ok m\n\
+        recv 'a pair/2 x sdec/2 x 'k 0 | PatternDestructor -\n\
+        rep new ~a rep lookup 'b a 0 0 | Rebound 111\n\
+        new ~a par new ~a 0 new ~a 0 | Rebound 11\n\
+        lookup 'a x new x 0 0 | Rebound 1\n\
+        lookup 'a x 0 new x 0 | ok -\n\
+        rep new ~a if ~a 'b 0 out $a 0 | SortClash 112\n\
+        new ~a par out $a 0 out $a 0 | SortClash 11\n\
+        par new*65 0 new*65 0 | ScopeFull 1*66\n\
+        par new*64 0 new*64 0 | ok -\n\
+        in c 0 | ok m";
     assert_eq!(rt; first_wrong(alloc, rows), None);
     Ok(())
 }

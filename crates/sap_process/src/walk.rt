@@ -18,9 +18,11 @@ use crate::{Flaw, Process};
 use sap_terms::{Mem, Path, Signature, Sort, Var};
 use std::alloc::Global;
 
-// Where a walk over the places in preorder stands: the path of the place, what is in scope there, and the facts met before.
+// Where a walk in preorder that looks for a flaw stands: the path of the place, what is in scope there, and the facts met
+// before.
 #[derive(Drop)]
 struct Walk {
+    which: Flaw,
     trail: Trail,
     scope: Scope,
     seen: Seen,
@@ -36,11 +38,12 @@ pub(crate) fn first_place(
     ensures { IfOk result (λ o. o ≡ first_place sig.now which unseen (sites (proc p.now))) }
 {
     let mut walk = Walk {
+        which,
         trail: Trail::new(alloc),
         scope: Scope::new(alloc),
         seen: Seen::new(alloc),
     };
-    if search(alloc, sig, which, &mut walk, 0, p)? {
+    if search(alloc, sig, &mut walk, 0, p)? {
         let path = walk.trail.path(alloc)?;
         return Ok(Some(path));
     }
@@ -52,17 +55,18 @@ pub(crate) fn first_place(
 fn search(
     alloc: Global,
     sig: &Signature,
-    which: Flaw,
     walk: &mut Walk,
     locks: u64,
     p: &Process,
 ) -> Result<bool, Mem>
-    ensures { IfOk result (λ b. Searched sig.now which (sites_from walk.old.trail walk.old.scope locks (proc p.now)) walk.old walk.new b) }
+    ensures { IfOk result (λ b. Searched sig.now
+        (sites_from walk.old.trail walk.old.scope locks (proc p.now))
+        walk.old walk.new b) }
 {
-    if is_flawed(alloc, sig, which, walk, locks, p)? {
+    if is_flawed(alloc, sig, walk, locks, p)? {
         return Ok(true);
     }
-    search_below(alloc, sig, which, walk, locks, p)
+    search_below(alloc, sig, walk, locks, p)
 }
 
 // Searches the places below this one.
@@ -70,19 +74,20 @@ fn search(
 fn search_below(
     alloc: Global,
     sig: &Signature,
-    which: Flaw,
     walk: &mut Walk,
     locks: u64,
     p: &Process,
 ) -> Result<bool, Mem>
-    ensures { IfOk result (λ b. Searched sig.now which (sites_below walk.old.trail walk.old.scope locks (proc p.now)) walk.old walk.new b) }
+    ensures { IfOk result (λ b. Searched sig.now
+        (sites_below walk.old.trail walk.old.scope locks (proc p.now))
+        walk.old walk.new b) }
 {
     match p {
         Process::Nil => Ok(false),
         Process::Par(q, r) | Process::If(_, _, q, r) => {
-            search_both(alloc, sig, which, walk, locks, q, r)
+            search_both(alloc, sig, walk, locks, q, r)
         }
-        Process::Lookup(_, x, q, r) => search_branches(alloc, sig, which, walk, x, locks, q, r),
+        Process::Lookup(_, x, q, r) => search_branches(alloc, sig, walk, x, locks, q, r),
         Process::Rep(q)
         | Process::New(_, q)
         | Process::Out(_, q)
@@ -94,7 +99,7 @@ fn search_below(
         | Process::Delete(_, q)
         | Process::Lock(_, _, q)
         | Process::Unlock(_, _, q)
-        | Process::Embedded(_, _, _, q) => search_bound(alloc, sig, which, walk, p, locks, q),
+        | Process::Embedded(_, _, _, q) => search_bound(alloc, sig, walk, p, locks, q),
     }
 }
 
@@ -103,18 +108,20 @@ fn search_below(
 fn search_both(
     alloc: Global,
     sig: &Signature,
-    which: Flaw,
     walk: &mut Walk,
     locks: u64,
     q: &Process,
     r: &Process,
 ) -> Result<bool, Mem>
-    ensures { IfOk result (λ b. Searched sig.now which (sites_from (walk.old.trail ++ 1 ∷ []) walk.old.scope locks (proc q.now) ++ sites_from (walk.old.trail ++ 2 ∷ []) walk.old.scope locks (proc r.now)) walk.old walk.new b) }
+    ensures { IfOk result (λ b. Searched sig.now
+        (sites_from (walk.old.trail ++ 1 ∷ []) walk.old.scope locks (proc q.now)
+        ++ sites_from (walk.old.trail ++ 2 ∷ []) walk.old.scope locks (proc r.now))
+        walk.old walk.new b) }
 {
-    if search_child(alloc, sig, which, walk, 1, locks, q)? {
+    if search_child(alloc, sig, walk, 1, locks, q)? {
         return Ok(true);
     }
-    let found = search_child(alloc, sig, which, walk, 2, locks, r)?;
+    let found = search_child(alloc, sig, walk, 2, locks, r)?;
     Ok(found)
 }
 
@@ -123,19 +130,21 @@ fn search_both(
 fn search_branches(
     alloc: Global,
     sig: &Signature,
-    which: Flaw,
     walk: &mut Walk,
     x: &Var,
     locks: u64,
     q: &Process,
     r: &Process,
 ) -> Result<bool, Mem>
-    ensures { IfOk result (λ b. Searched sig.now which (sites_from (walk.old.trail ++ 1 ∷ []) (walk.old.scope ++ message_var x.now ∷ []) locks (proc q.now) ++ sites_from (walk.old.trail ++ 2 ∷ []) walk.old.scope locks (proc r.now)) walk.old walk.new b) }
+    ensures { IfOk result (λ b. Searched sig.now
+        (sites_from (walk.old.trail ++ 1 ∷ []) (walk.old.scope ++ message_var x.now ∷ []) locks (proc q.now)
+        ++ sites_from (walk.old.trail ++ 2 ∷ []) walk.old.scope locks (proc r.now))
+        walk.old walk.new b) }
 {
-    if search_with(alloc, sig, which, walk, x, locks, q)? {
+    if search_with(alloc, sig, walk, x, locks, q)? {
         return Ok(true);
     }
-    let found = search_child(alloc, sig, which, walk, 2, locks, r)?;
+    let found = search_child(alloc, sig, walk, 2, locks, r)?;
     Ok(found)
 }
 
@@ -144,18 +153,20 @@ fn search_branches(
 fn search_bound(
     alloc: Global,
     sig: &Signature,
-    which: Flaw,
     walk: &mut Walk,
     p: &Process,
     locks: u64,
     q: &Process,
 ) -> Result<bool, Mem>
-    ensures { IfOk result (λ b. Searched sig.now which (sites_from (walk.old.trail ++ 1 ∷ []) (scope_at walk.old.scope (proc p.now)) (locks + head_locks (proc p.now)) (proc q.now)) walk.old walk.new b) }
+    ensures { IfOk result (λ b. Searched sig.now
+        (sites_from (walk.old.trail ++ 1 ∷ []) (scope_at walk.old.scope (proc p.now))
+        (locks + head_locks (proc p.now)) (proc q.now))
+        walk.old walk.new b) }
 {
     let before = walk.scope.len();
     bind(alloc, &mut walk.scope, p)?;
     let locks = locks_below(p, locks)?;
-    if search_child(alloc, sig, which, walk, 1, locks, q)? {
+    if search_child(alloc, sig, walk, 1, locks, q)? {
         return Ok(true);
     }
     walk.scope.cut(before);
@@ -167,20 +178,21 @@ fn search_bound(
 fn search_with(
     alloc: Global,
     sig: &Signature,
-    which: Flaw,
     walk: &mut Walk,
     x: &Var,
     locks: u64,
     q: &Process,
 ) -> Result<bool, Mem>
-    ensures { IfOk result (λ b. Searched sig.now which (sites_from (walk.old.trail ++ 1 ∷ []) (walk.old.scope ++ message_var x.now ∷ []) locks (proc q.now)) walk.old walk.new b) }
+    ensures { IfOk result (λ b. Searched sig.now
+        (sites_from (walk.old.trail ++ 1 ∷ []) (walk.old.scope ++ message_var x.now ∷ []) locks (proc q.now))
+        walk.old walk.new b) }
 {
-    let before = walk.scope.len();
+    let outside = walk.scope.len();
     walk.scope.push(alloc, with_sort(alloc, x, Sort::Msg)?)?;
-    if search_child(alloc, sig, which, walk, 1, locks, q)? {
+    if search_child(alloc, sig, walk, 1, locks, q)? {
         return Ok(true);
     }
-    walk.scope.cut(before);
+    walk.scope.cut(outside);
     Ok(false)
 }
 
@@ -189,17 +201,18 @@ fn search_with(
 fn search_child(
     alloc: Global,
     sig: &Signature,
-    which: Flaw,
     walk: &mut Walk,
     digit: u8,
     locks: u64,
     q: &Process,
 ) -> Result<bool, Mem>
     requires { IsDigit digit }
-    ensures { IfOk result (λ b. Searched sig.now which (sites_from (walk.old.trail ++ digit ∷ []) walk.old.scope locks (proc q.now)) walk.old walk.new b) }
+    ensures { IfOk result (λ b. Searched sig.now
+        (sites_from (walk.old.trail ++ digit ∷ []) walk.old.scope locks (proc q.now))
+        walk.old walk.new b) }
 {
     walk.trail.push(digit)?;
-    if search(alloc, sig, which, walk, locks, q)? {
+    if search(alloc, sig, walk, locks, q)? {
         return Ok(true);
     }
     walk.trail.pop();
@@ -210,16 +223,16 @@ fn search_child(
 fn is_flawed(
     alloc: Global,
     sig: &Signature,
-    which: Flaw,
     walk: &mut Walk,
     locks: u64,
     p: &Process,
 ) -> Result<bool, Mem>
-    ensures found { IfOk result (λ b. b ≡ has_flaw sig.now which walk.old.seen.stored walk.old.seen.shown (site walk.old.trail walk.old.scope locks (proc p.now))) }
+    ensures found { IfOk result (λ b. b ≡ has_flaw sig.now walk.old.which walk.old.seen.stored walk.old.seen.shown
+        (site walk.old.trail walk.old.scope locks (proc p.now))) }
     ensures noted { OnOk result (walk.new ≡ record walk.old { seen = seen_at walk.old.seen (proc p.now) }) }
 {
     let clash = walk.seen.note(alloc, p)?;
-    match which {
+    match walk.which {
         Flaw::BadFunction => Ok(is_bad_head(sig, p)),
         Flaw::ReservedVar => has_reserved_var(alloc, p),
         Flaw::ReservedFact => Ok(has_reserved_fact(p)),
