@@ -331,55 +331,68 @@ fn theory_named(alloc: Global, name: usize) -> Result<Vec<u8>, AllocError> {
     Ok(file)
 }
 
+// The file of a kind that has so many of what the kind is named after.
+fn file_with(alloc: Global, kind: &str, number: usize) -> Result<Vec<u8>, AllocError> {
+    match kind {
+        "bytes" => padded(alloc, number),
+        "bytes of the theory's name" => theory_named(alloc, number),
+        "bytes of a name" => named(alloc, number, 64),
+        "bytes in quotes" => named(alloc, 1, number),
+        "parentheses" => nested(alloc, b"(", b")", number),
+        "events" => nested(alloc, b"event A();", b"", number),
+        "bars" => nested(alloc, b"0 | ", b"", number),
+        "last events" => wide(alloc, 19, 198, number),
+        "events before a name" => named_levels(alloc, number),
+        "doublings" => doubled(alloc, number),
+        _ => bound(alloc, b"0"),
+    }
+}
+
+// Whether a file is answered as it is wanted. The row has three parts with `?` between them: the file's kind and number, and
+// the cause that refuses it, or nothing.
+fn meets(alloc: Global, row: &str) -> Option<bool> {
+    let (kind, rest) = row.split_once('?')?;
+    let (number, why) = rest.split_once('?')?;
+    let file = file_with(alloc, kind, number.parse::<usize>().ok()?).ok()?;
+    is_answered(alloc, file.as_slice(), why).ok()
+}
+
+// The place of the first row that isn't as it is wanted, from 0.
+fn first_unmet(alloc: Global, rows: &str) -> Option<u64> {
+    let mut place: u64 = 0;
+    for row in rows.split('\n') {
+        if meets(alloc, row) != Some(true) {
+            return Some(place);
+        }
+        place = place.saturating_add(1);
+    }
+    None
+}
+
 // Each limit is met at its number.
 #[test]
 fn limits(rt: HostRuntime) -> Result<(), Fail> {
-    let alloc = rt.alloc();
-    let files = [
-        ("", padded(alloc, 1_048_576)?),
-        ("longer than 1048576 bytes", padded(alloc, 1_048_577)?),
-        ("", theory_named(alloc, 64)?),
-        (
-            "name at byte 7 is longer than 64 bytes",
-            theory_named(alloc, 65)?,
-        ),
-        ("", named(alloc, 64, 64)?),
-        (
-            "name at byte 30 is longer than 64 bytes",
-            named(alloc, 65, 1)?,
-        ),
-        (
-            "name at byte 32 is longer than 64 bytes",
-            named(alloc, 1, 65)?,
-        ),
-        ("", nested(alloc, b"(", b")", 299)?),
-        (
-            "line 1: not in the grammar",
-            nested(alloc, b"(", b")", 300)?,
-        ),
-        ("", nested(alloc, b"event A();", b"", 299)?),
-        (
-            "line 1: not in the grammar",
-            nested(alloc, b"event A();", b"", 300)?,
-        ),
-        ("", nested(alloc, b"0 | ", b"", 299)?),
-        (
-            "line 1: not in the grammar",
-            nested(alloc, b"0 | ", b"", 300)?,
-        ),
-        ("", wide(alloc, 19, 198, 199)?),
-        ("more than 4000 nodes", wide(alloc, 19, 198, 200)?),
-        ("", named_levels(alloc, 99)?),
-        ("more than 300 levels", named_levels(alloc, 100)?),
-        ("", doubled(alloc, 9)?),
-        ("more than 4000 nodes", doubled(alloc, 10)?),
-        ("place root: not built", bound(alloc, b"0")?),
-    ];
-    let mut k = 0u64;
-    for (why, file) in files {
-        assert!(rt; is_answered(alloc, file.as_slice(), why)?, "file {k}");
-        k = k.saturating_add(1);
-    }
+    let rows = "bytes?1048576?\n\
+        bytes?1048577?longer than 1048576 bytes\n\
+        bytes of the theory's name?64?\n\
+        bytes of the theory's name?65?name at byte 7 is longer than 64 bytes\n\
+        bytes of a name?64?\n\
+        bytes of a name?65?name at byte 30 is longer than 64 bytes\n\
+        bytes in quotes?65?name at byte 32 is longer than 64 bytes\n\
+        parentheses?299?\n\
+        parentheses?300?line 1: not in the grammar\n\
+        events?299?\n\
+        events?300?line 1: not in the grammar\n\
+        bars?299?\n\
+        bars?300?line 1: not in the grammar\n\
+        last events?199?\n\
+        last events?200?more than 4000 nodes\n\
+        events before a name?99?\n\
+        events before a name?100?more than 300 levels\n\
+        doublings?9?\n\
+        doublings?10?more than 4000 nodes\n\
+        binders?64?place root: not built";
+    assert_eq!(rt; first_unmet(rt.alloc(), rows), None);
     Ok(())
 }
 
@@ -405,11 +418,27 @@ fn event_beside_nil(alloc: Global) -> Result<Process, Mem> {
     Ok(Process::Par(Box::new(alloc, left)?, Box::new(alloc, Process::Nil)?))
 }
 
+// How many nodes a copy has.
+fn nodes_of_copy(alloc: Global, p: &Process) -> Result<u64, Mem> {
+    let copy = p.copy(alloc)?;
+    Ok(copy.nodes())
+}
+
+// How many nodes the process and its copy have.
+fn nodes_of_both(alloc: Global, p: &Process) -> Result<(u64, u64), Mem> {
+    let copied = nodes_of_copy(alloc, p)?;
+    Ok((p.nodes(), copied))
+}
+
+fn nodes(alloc: Global) -> Result<(u64, u64), Mem> {
+    let process = event_beside_nil(alloc)?;
+    nodes_of_both(alloc, &process)
+}
+
 #[test]
 fn process_is_copied(rt: HostRuntime) -> Result<(), Fail> {
-    let alloc = rt.alloc();
-    let process = event_beside_nil(alloc)?;
-    assert_eq!(rt; process.nodes(), 4);
-    assert_eq!(rt; process.copy(alloc)?.nodes(), 4);
+    let (nodes, copied) = nodes(rt.alloc())?;
+    assert_eq!(rt; nodes, 4);
+    assert_eq!(rt; copied, 4);
     Ok(())
 }
