@@ -59,6 +59,12 @@ in_steps (ill {ts = ts} {x = x} {cut = cut} {is = is} {p = q} {w = w} {path = pa
 in_steps (accepted {ts = ts} {x = x} {cut = cut} {is = is} {p = q} p i c w f) =
     has_tokens ts p.tokens (has_parts x cut p (has_items is i (is_whole q c w (is_well f))))
 
+-- items under their own signatures are the same
+pub same_items : (cut : List (List Placed)) (is js : List Standing) → AreItems (signature_of is) cut is → AreItems (signature_of js) cut js → is ≡ js
+same_items cut is js r s =
+    let same : signature_of is ≡ signature_of js = ap (signature_from pairs_alone) (same_declarations (signature_of is) (signature_of js) cut is js r s) in
+    one_items one_process (signature_of js) cut is js (subst (λ (g : Sig). AreItems g cut is) same r) s
+
 module _ (one_flaw : (g : Sig) (p : Proc) (w v : Flaw) (path other : List ℕ) → IsFirstFlaw g p w path → IsFirstFlaw g p v other → (w ≡ v) × (path ≡ other))
     (no_flaw : (g : Sig) (p : Proc) (w : Flaw) (path : List ℕ) → IsFirstFlaw g p w path → IsWellFormed g p → ⊥)
     (one_answer : (most : ℕ) (z : List ℕ) (o u : Lexed) → IsLexed most 0 1 z o → IsLexed most 0 1 z u → o ≡ u) where
@@ -78,12 +84,6 @@ module _ (one_flaw : (g : Sig) (p : Proc) (w v : Flaw) (path other : List ℕ) �
       let both : Some p ≡ Some q = sym w ∙ v in
       let same : p ≡ q = cc in
       after_process x (signature_of is) q o u (subst (λ (r : Proc). AfterProcess x (signature_of is) r o) same a) d
-
-  -- items under their own signatures are the same
-  same_items : (cut : List (List Placed)) (is js : List Standing) → AreItems (signature_of is) cut is → AreItems (signature_of js) cut js → is ≡ js
-  same_items cut is js r s =
-      let same : signature_of is ≡ signature_of js = ap (signature_from pairs_alone) (same_declarations (signature_of is) (signature_of js) cut is js r s) in
-      one_items one_process (signature_of js) cut is js (subst (λ (g : Sig). AreItems g cut is) same r) s
 
   after_parts : (x : List ℕ) (last : ℕ) (cut : List (List Placed)) (o u : Result Told ReadFault) → AfterParts x last cut o → AfterParts x last cut u → o ≡ u
   after_parts x last cut _ _ (is_faulty n f) (is_faulty k h) = ap (λ m. Err (Syntax m)) (one_fault last n k cut f h)

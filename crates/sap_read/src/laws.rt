@@ -9,6 +9,10 @@ ghost use Rattle.sap_read.specs.Places.{IsTermAt, IsFactAt, fact_levels};
 ghost use Rattle.sap_read.specs.Written.{Written};
 ghost use Rattle.sap_read.specs.ProcessGrammar.{IsPar, EndsProcess};
 ghost use Rattle.sap_read.specs.ProcessExamples.{dangling_words, dangling_process, parted_words, parted_process, parallel_words, parallel_process, action_words, action_process, rule_words, rule_process, lookup_words, lookup_process};
+ghost use Rattle.sap_read.specs.Cut.{Placed, IsCut};
+ghost use Rattle.sap_read.specs.Item.{Standing};
+ghost use Rattle.sap_read.specs.ItemGrammar.{AreItems};
+ghost use Rattle.sap_read.specs.Signatures.{signature_of};
 ghost use Rattle.sap_read.specs.Files.{Told, IsRead};
 ghost use Rattle.sap_read.specs.declared.fault.ReadFault.{ReadFault};
 
@@ -67,3 +71,12 @@ pub fn one_file()
     one_answer();
     one_flaw();
 }
+
+/// A law: the words behind a header are cut into items in one way, and spell at most one list of items, under a signature and
+/// under that of the items themselves.
+pub fn one_list_of_items()
+    ensures cut { (words : List Placed) (is js : List (List Placed)) → IsCut words is → IsCut words js → is ≡ js }
+    ensures items { (g : Sig) (cut : List (List Placed)) (is js : List Standing) → AreItems g cut is → AreItems g cut js → is ≡ js }
+    ensures own { (cut : List (List Placed)) (is js : List Standing) → AreItems (signature_of is) cut is → AreItems (signature_of js) cut js
+        → is ≡ js }
+{}

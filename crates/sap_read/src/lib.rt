@@ -21,5 +21,7 @@ mod whole;
 pub use fact::read_fact;
 pub use fault::ReadFault;
 pub use file::{File, read_file};
-pub use laws::{grammar_is_one, one_fact, one_file, one_process, one_term, processes_by_hand};
+pub use laws::{
+    grammar_is_one, one_fact, one_file, one_list_of_items, one_process, one_term, processes_by_hand,
+};
 pub use term::read_term;

@@ -1,0 +1,14 @@
+use Rattle.sap_read.proofs.Cuts.{one_cut}
+use Rattle.sap_read.proofs.ItemsRead.{one_items}
+use Rattle.sap_read.proofs.OneFile.{same_items}
+use Rattle.sap_read.proofs.Processes.{one_process}
+use Rattle.sap_read.proofs.laws.one_list_of_items.Goals as goal
+
+pub returns-clause-cut : goal.returns-clause-cut
+returns-clause-cut c = one_cut
+
+pub returns-clause-items : goal.returns-clause-items
+returns-clause-items c = λ g cut is js r s. one_items one_process g cut is js r s
+
+pub returns-clause-own : goal.returns-clause-own
+returns-clause-own c = same_items
