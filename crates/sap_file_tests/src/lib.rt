@@ -5,8 +5,8 @@ mod show;
 #[cfg(test)]
 mod tests;
 
-use sap_read::{ReadFault, read_file};
-use sap_terms::{Mem, Name};
+use sap_read::{File, ReadFault, read_file};
+use sap_terms::Mem;
 use sap_text::Text;
 use show::{show_fault, show_file};
 use std::alloc::Global;
@@ -64,13 +64,22 @@ pub fn file_bytes(alloc: Global, row: &str) -> Option<Text> {
     Some(out)
 }
 
+fn show_read(out: &mut Text, read: &Result<File, ReadFault>) -> Result<(), Mem> {
+    match read {
+        Ok(file) => show_file(out, file),
+        Err(fault) => show_fault(out, fault),
+    }
+}
+
+fn show_bytes(alloc: Global, out: &mut Text, bytes: &[u8]) -> Result<(), Mem> {
+    let read = read_file(alloc, bytes);
+    show_read(out, &read)
+}
+
 /// What the bytes are read as, as a text.
 pub fn read_as(alloc: Global, bytes: &[u8]) -> Result<Text, Mem> {
     let mut out = Text::new(alloc);
-    match read_file(alloc, bytes) {
-        Ok(file) => show_file(&mut out, &file)?,
-        Err(fault) => show_fault(&mut out, &fault)?,
-    }
+    show_bytes(alloc, &mut out, bytes)?;
     Ok(out)
 }
 
