@@ -3,6 +3,7 @@ use sap_process::{Flaw, Process};
 use sap_read::{File, ReadFault};
 use sap_terms::{Fact, FactList, Mem, Name, Path, Signature, Sort, Term, TermList, Var};
 use sap_text::Text;
+use std::alloc::Global;
 
 fn show_variable(out: &mut Text, v: &Var) -> Result<(), Mem> {
     match v.sort {
@@ -125,8 +126,8 @@ fn show_head(out: &mut Text, p: &Process) -> Result<(), Mem> {
     }
 }
 
-// The head of a process, and behind it what follows: in parentheses where there are two branches.
-fn show_process(out: &mut Text, p: &Process) -> Result<(), Mem> {
+/// The head of a process, and behind it what follows: in parentheses where there are two branches.
+pub fn show_process(out: &mut Text, p: &Process) -> Result<(), Mem> {
     show_head(out, p)?;
     match p {
         Process::Nil => Ok(()),
@@ -166,8 +167,13 @@ fn show_symbol(out: &mut Text, sig: &Signature, name: &Name) -> Result<(), Mem> 
     out.push_bytes(b" ")
 }
 
-/// The symbols of a file's signature behind those of pairs, in brackets, and its process.
-pub fn show_file(out: &mut Text, file: &File) -> Result<(), Mem> {
+fn show_copy(alloc: Global, out: &mut Text, p: &Process) -> Result<(), Mem> {
+    let copy = p.copy(alloc)?;
+    show_process(out, &copy)
+}
+
+/// The symbols of a file's signature behind those of pairs, in brackets, and a copy of its process.
+pub fn show_file(alloc: Global, out: &mut Text, file: &File) -> Result<(), Mem> {
     out.push_bytes(b"[")?;
     for k in 3..100 {
         if let Some(name) = file.signature.symbol(k) {
@@ -175,7 +181,7 @@ pub fn show_file(out: &mut Text, file: &File) -> Result<(), Mem> {
         }
     }
     out.push_bytes(b"] ")?;
-    show_process(out, &file.process)
+    show_copy(alloc, out, &file.process)
 }
 
 fn flaw_word(which: Flaw) -> &'static str {

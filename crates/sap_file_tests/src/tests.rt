@@ -1,4 +1,4 @@
-use crate::first_wrong;
+use crate::{first_of_other_instance, first_of_other_size, first_wrong};
 use std::test::Fail;
 
 #[test]
@@ -166,5 +166,136 @@ fn levels_and_nodes(rt: HostRuntime) -> Result<(), Fail> {
         let A = 0|0 let B = A|A let C = B|B let D = C|C let E = D|D let F = E|E let G = F|F let H = G|G let I = H|H let J = I|I process: !!(J|(I|(H|(G|(F|D))))) % TooMany\n\
         let A = 0|0 let B = A|A let C = B|B let D = C|C let E = D|D let F = E|E let G = F|F let H = G|G let I = H|H let J = I|I process: {290:! }(J|J) % TooMany";
     assert_eq!(rt; first_wrong(rt.alloc(), rows), None);
+    Ok(())
+}
+
+#[test]
+fn flaws_and_their_places(rt: HostRuntime) -> Result<(), Fail> {
+    let rows = "process: new ~a; new ~a % Rebound 1\n\
+        process: in(fst(x)) % PatternDestructor root\n\
+        process: event Eq('a') % ReservedFact root\n\
+        process: in(~x); out($x) % SortClash 1\n\
+        process: event A('a'); event A() % FactClash 1\n\
+        process: out(g('a')) % BadFunction root\n\
+        process: new ~sapic_a % ReservedVar root\n\
+        process: {65:new n#; }0 % ScopeFull {65:1}\n\
+        process: ! (0 | out(x)) % Unbound 12\n\
+        process: (new ~a; out(~a) | out(x)) % Unbound 2\n\
+        process: (out(x) | out(y)) % Unbound 1\n\
+        process: if 'a' = 'a' then out(x) else out(y) % Unbound 1\n\
+        process: (! out(x) | out(y)) % Unbound 11\n\
+        process: new ~a; new ~a; new ~a % Rebound 1\n\
+        process: (out(x) | out(g('a'))) % BadFunction 2\n\
+        process: (out(g('a')) | out(x)) % BadFunction 1\n\
+        process: (new ~sapic_a | event Eq('a')) % ReservedVar 1\n\
+        process: (event Eq('a') | new ~sapic_a) % ReservedVar 2\n\
+        process: (event A() | (event A('a') | event Fr())) % ReservedFact 22\n\
+        process: (in(fst(x)) | (event A() | event A('a'))) % FactClash 22\n\
+        process: (out(x) | in(fst(y))) % PatternDestructor 2\n\
+        process: (new ~a; new ~a | out(x)) % Unbound 2\n\
+        process: (in(~x); out($x) | new ~b; new ~b) % Rebound 21\n\
+        process: ({65:new n#; }0 | in(~x); out($x)) % SortClash 21\n\
+        process: {64:new n#; }{1:lock 'a#'; }0 % ScopeFull {65:1}\n\
+        process: lookup 'a' as x in 0 else out(x) % Unbound 2\n\
+        process: lookup x as x in 0 % Unbound root\n\
+        functions: c/0 process: lookup 'a' as c in 0 % BadFunction root\n\
+        functions: c/0 process: out(c('a')) % BadFunction root\n\
+        process: new ~a; in(<$a,x>) % SortClash 1\n\
+        process: in(<x,~x>) % SortClash root\n\
+        process: in(x, y) % Unbound root\n\
+        process: (insert 'a', x | out(y)) % Unbound 1\n\
+        process: [ F(x) ] --[ A(y) ]-> [ ] % Unbound root\n\
+        process: [ ] --> [ F(x,$x) ] % Unbound root\n\
+        process: [ F(fst('a')) ] --> [ ] % PatternDestructor root\n\
+        process: [ F('a') ] --> [ F() ] % FactClash root\n\
+        process: [ F() ] --> [ !F() ] % FactClash root\n\
+        process: [ ] --> [ F() ]; [ !F() ] --> [ ] % FactClash 1\n\
+        process: [ ] --[ A() ]-> [ ]; event A('a') % FactClash 1\n\
+        process: [ K() ] --> [ ] % ReservedFact root\n\
+        process: [ ] --> [ State_1() ] % ReservedFact root\n\
+        process: [ F(~x) ] --> [ ]; out($x) % SortClash 1\n\
+        process: [ F(x,~x) ] --> [ ] % SortClash root\n\
+        process: ! ! ! out(g('a')) % BadFunction 111\n\
+        process: if 'a' = 'b' then 0 else out(g('a')) % BadFunction 2\n\
+        process: if 'a' = 'b' then out(g('a')) else out(g('a')) % BadFunction 1\n\
+        process: ! (0 | new ~sapic_x) % ReservedVar 12\n\
+        process: (new ~sapic_a | new ~sapic_b) % ReservedVar 1\n\
+        process: out(sapic_) % ReservedVar root\n\
+        process: ! ! event Fr('a') % ReservedFact 11\n\
+        process: (event Eq() | event NotEq()) % ReservedFact 1\n\
+        process: ! (event A() | event A('a')) % FactClash 12\n\
+        process: event A(); (event A('a') | event A('b')) % FactClash 11\n\
+        process: ! in(x); in(fst(x)) % PatternDestructor 11\n\
+        process: if 'a' = 'b' then in(fst(x)) else in(snd(x)) % PatternDestructor 1\n\
+        builtins: symmetric-encryption process: in('a', <x,sdec(x,'k')>) % PatternDestructor root\n\
+        process: ! new ~a; ! lookup 'b' as a in 0 % Rebound 111\n\
+        process: new ~a; (new ~a | new ~a) % Rebound 11\n\
+        process: lookup 'a' as x in new x % Rebound 1\n\
+        process: ! new ~a; if ~a = 'b' then 0 else out($a) % SortClash 112\n\
+        process: new ~a; (out($a) | out($a)) % SortClash 11\n\
+        process: ({65:new n#; }0 | {65:new n#; }0) % ScopeFull {66:1}";
+    assert_eq!(rt; first_wrong(rt.alloc(), rows), None);
+    Ok(())
+}
+
+#[test]
+fn sorts_of_variables(rt: HostRuntime) -> Result<(), Fail> {
+    let rows = "process: {64:new n#; }0 % ok\n\
+        process: {63:new n#; }{1:lock 'a#'; }0 % ok\n\
+        process: {60:new n#; }{4:lock 'a#'; }unlock 'a' % ok\n\
+        process: lookup 'a' as x in out(x) % [] lookup 'a' as x(out x;0)(0)\n\
+        functions: c/0, h/1 process: new ~c; new h % [c/0 h/1 ] new ~c;new ~h;0\n\
+        functions: c/0, h/1 process: out(c); out(h(c)) % [c/0 h/1 ] out c();out h(c());0\n\
+        process: new ~a; in(<~a,x>); out(x) % [] new ~a;in pair(~a,x);out x;0\n\
+        process: in(<~x,x>); out(x) % [] in pair(~x,~x);out ~x;0\n\
+        process: in($x); in(x); out(x, x); if x = x then 0 % [] in $x;in $x;out $x,$x;if $x,$x(0)(0)\n\
+        process: in('a', y); insert y, y; delete y; lock y; unlock y; event A(y) % [] in 'a',y;insert y,y;delete y;lock y 0;unlock y 0;event A(y);0\n\
+        process: [ ] --> [ ] % [] [][][];0\n\
+        process: [ F(x) ] --[ A(x) ]-> [ G(x) ]; out(x) % [] [F(x)][A(x)][G(x)];out x;0\n\
+        process: [ ] --> [ F($x) ]; out(x) % [] [][][F($x)];out $x;0\n\
+        process: [ ] --> [ F($x,x) ] % [] [][][F($x,$x)];0\n\
+        process: [ ] --[ A($x) ]-> [ F(x) ] % [] [][A($x)][F($x)];0\n\
+        process: in(x); [ F(x) ] --[ A(fst(x)) ]-> [ G(snd(x)) ] % [] in x;[F(x)][A(fst(x))][G(snd(x))];0\n\
+        process: [ F() ] --[ F('a') ]-> [ F() ]; event F('b') % [] [F()][F('a')][F()];event F('b');0\n\
+        process: new ~sapi % [] new ~sapi;0\n\
+        process: in(fst('a'), x) % [] in fst('a'),x;0\n\
+        process: lookup 'a' as x in 0 else new x % [] lookup 'a' as x(0)(new ~x;0)\n\
+        process: ({64:new n#; }0 | {64:new n#; }0) % ok";
+    assert_eq!(rt; first_wrong(rt.alloc(), rows), None);
+    Ok(())
+}
+
+#[test]
+fn bound_variables_are_replaced(rt: HostRuntime) -> Result<(), Fail> {
+    let rows = "process: in(x) % 0\n\
+        process: in(<x,y,z>); out(x, z) % out 'A',z;0\n\
+        process: in(<x,y,z>); (out(x) | ! event F(x)) % par(out 'A';0)(!;event F('A');0)\n\
+        process: in(<x,y>); new z; out(y) % new ~z;out pair(z,'B');0\n\
+        process: in(<x,y>); in(z); out(y) % in z;out pair(z,'B');0\n\
+        process: in(<x,z>); in(<x,z>); in(x, <x,z>) % in pair('A',z);in 'A',pair('A',z);0\n\
+        process: in(<x,y>); insert y, x; out(x, y) % insert pair(z,'B'),'A';out 'A',pair(z,'B');0\n\
+        process: in(<x,y,z>); if x = z then out(x) else out(y) % if 'A',z(out 'A';0)(out pair(z,'B');0)\n\
+        process: in(<x,y>); delete x; lock y; unlock x % delete 'A';lock pair(z,'B') 0;unlock 'A' 0;0\n\
+        process: in(<x,z>); [ F(x) ] --[ G(z) ]-> [ H(x) ]; event E(x) % [F('A')][G(z)][H('A')];event E('A');0\n\
+        process: new k; out(k) % out 'K';0\n\
+        process: in(x); (new k; out(<x,k>) | out(x)) % par(new ~k;out pair('A',~k);0)(out 'A';0)\n\
+        whole process: new k; out(k) % new ~k;out ~k;0\n\
+        whole process: in(x); out(x) % in 'A';out 'A';0\n\
+        whole process: lookup 'a' as x in out(x) else in(x); out(x) % lookup 'a' as x(out x;0)(in 'A';out 'A';0)\n\
+        process: in(z); lookup <z,'c'> as x in out(<x,z>) else out(z) % lookup pair(z,'c') as x(out pair(x,z);0)(out z;0)";
+    assert_eq!(rt; first_of_other_instance(rt.alloc(), rows), None);
+    Ok(())
+}
+
+#[test]
+fn sizes_of_processes(rt: HostRuntime) -> Result<(), Fail> {
+    let rows = "process: 0 % 1 % 1\n\
+        process: (0 | 0) | 0 % 5 % 3\n\
+        process: ! new x; out(x) % 4 % 4\n\
+        process: if 'a' = 'b' then event A() else ! ! 0 % 6 % 4\n\
+        process: lookup 'k' as x in lock x; unlock x else 0 % 5 % 4\n\
+        process: {299:! }0 % 300 % 300\n\
+        process: [ ] --> [ ]; delete 'k'; insert 'k', 'v'; in('c', x) % 5 % 5";
+    assert_eq!(rt; first_of_other_size(rt.alloc(), rows), None);
     Ok(())
 }

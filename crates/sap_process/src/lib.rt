@@ -13,8 +13,6 @@ mod process;
 mod scope;
 mod sorting;
 mod substituting;
-#[cfg(test)]
-mod tests;
 mod trail;
 mod walk;
 
