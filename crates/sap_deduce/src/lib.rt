@@ -6,8 +6,6 @@ mod entry;
 mod knowledge;
 mod laws;
 mod line;
-#[cfg(test)]
-mod tests;
 
 pub use deny::Deny;
 pub use knowledge::Knowledge;

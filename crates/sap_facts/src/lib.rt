@@ -2,7 +2,5 @@
 #![tactic(auto)]
 
 mod pile;
-#[cfg(test)]
-mod tests;
 
 pub use pile::Pile;

@@ -6,8 +6,6 @@ mod formula;
 mod laws;
 mod lemma;
 mod restriction;
-#[cfg(test)]
-mod tests;
 
 pub use binder::{Binder, Binders};
 pub use formula::Formula;

@@ -11,7 +11,6 @@ use crate::Process;
 use sap_terms::{Bindings, Copied, Fact, FactList, Mem, Term, TermList, Var, subst};
 use std::alloc::Global;
 
-
 /// The process with each bound variable replaced by its term, in patterns too. Variables are known by their names. Below
 /// `new x`, and in the first branch of `lookup M as x`, the variables named x are another's, and stay (the substitution of the
 /// applied pi calculus of Abadi, Blanchet and Fournet). Names in the terms that are put in are not guarded against capture.

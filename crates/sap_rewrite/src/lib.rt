@@ -10,8 +10,6 @@ mod normal_form;
 mod reduce;
 mod shape;
 mod symbol;
-#[cfg(test)]
-mod tests;
 mod within;
 
 pub use cut::Cut;

@@ -4,7 +4,7 @@
 use sap_read::{read_fact, read_term};
 use sap_rule::Rule;
 use sap_terms::{
-    Binding, Bindings, Builtin, Fact, FactList, Name, Signature, Sort, Term, Var, subst,
+    Binding, Bindings, Builtin, Fact, FactList, Name, SigFault, Signature, Sort, Term, Var, subst,
 };
 use sap_text::tokens;
 use std::alloc::Global;
@@ -24,17 +24,19 @@ fn builtin(word: &str) -> Option<Builtin> {
     }
 }
 
-fn add_to(alloc: Global, sig: &mut Signature, word: &str) -> Option<()> {
+/// Adds a builtin, or a symbol with its arity, behind `-` where it is private, and gives the answer; nothing where the word is
+/// none of these.
+pub fn add(alloc: Global, sig: &mut Signature, word: &str) -> Option<Result<(), SigFault>> {
     if let Some(b) = builtin(word) {
-        return sig.add_builtin(b).ok();
+        return Some(sig.add_builtin(b));
     }
     let (private, word) = match word.strip_prefix('-') {
         Some(rest) => (true, rest),
         None => (false, word),
     };
     let (f, arity) = word.split_once('/')?;
-    sig.declare(name(alloc, f)?, arity.parse::<u64>().ok()?, private)
-        .ok()
+    let f = name(alloc, f)?;
+    Some(sig.declare(f, arity.parse::<u64>().ok()?, private))
 }
 
 /// The signature of these words, each a builtin or a symbol with its arity, behind `-` where it is private:
@@ -45,7 +47,7 @@ pub fn signature(alloc: Global, words: &str) -> Option<Signature> {
         return Some(sig);
     }
     for word in words.split(' ') {
-        add_to(alloc, &mut sig, word)?;
+        add(alloc, &mut sig, word)?.ok()?;
     }
     Some(sig)
 }
@@ -69,7 +71,7 @@ fn fresh_name(alloc: Global, var: &str, number: u64) -> Option<Binding> {
     })
 }
 
-/// ~n1, ~n2 and ~n3 stand for the fresh names 1, 2 and 3.
+// The variables named n1, n2 and n3 stand for the fresh names 1, 2 and 3.
 fn fresh_names(alloc: Global) -> Option<Bindings> {
     let mut names = Bindings::new(alloc);
     names.push(fresh_name(alloc, "n1", 1)?).ok()?;
@@ -78,10 +80,33 @@ fn fresh_names(alloc: Global) -> Option<Bindings> {
     Some(names)
 }
 
-/// The term that the text spells, with the fresh names 1, 2 and 3 in place of the variables ~n1, ~n2 and ~n3.
+/// The term that the text spells, with the fresh names 1, 2 and 3 in place of the variables named n1, n2 and n3.
 pub fn named_term(alloc: Global, sig: &Signature, text: &str) -> Option<Term> {
     let t = term(alloc, sig, text)?;
     subst(alloc, &t, &fresh_names(alloc)?).ok()
+}
+
+fn binding(alloc: Global, sig: &Signature, text: &str) -> Option<Binding> {
+    let (var, bound) = text.split_once('=')?;
+    match term(alloc, sig, var)? {
+        Term::Var(var) => Some(Binding {
+            var,
+            term: named_term(alloc, sig, bound)?,
+        }),
+        _ => None,
+    }
+}
+
+/// The bindings of the text: `x = 'a'; ~y = ~n1`.
+pub fn bindings(alloc: Global, sig: &Signature, text: &str) -> Option<Bindings> {
+    let mut list = Bindings::new(alloc);
+    if text.is_empty() {
+        return Some(list);
+    }
+    for part in text.split(';') {
+        list.push(binding(alloc, sig, part)?).ok()?;
+    }
+    Some(list)
 }
 
 /// The facts that the text spells under the signature, parted by commas.

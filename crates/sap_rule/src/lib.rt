@@ -2,8 +2,6 @@
 #![tactic(auto)]
 
 mod rule;
-#[cfg(test)]
-mod tests;
 mod theory;
 mod variables;
 mod well_made;

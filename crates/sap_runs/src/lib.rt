@@ -3,8 +3,6 @@
 
 mod process_step;
 mod rule_step;
-#[cfg(test)]
-mod tests;
 
 pub use process_step::{PStep, PSteps};
 pub use rule_step::{RStep, RSteps};

@@ -12,8 +12,6 @@ mod signature;
 mod substitution;
 mod symbols;
 mod term;
-#[cfg(test)]
-mod tests;
 mod var;
 
 pub use binding::{Binding, Bindings};

@@ -1,4 +1,5 @@
-use crate::{PStep, PSteps, RStep, RSteps};
+//! Steps of runs and their copies.
+use sap_runs::{PStep, PSteps, RStep, RSteps};
 use sap_terms::{Binding, Bindings, Copied, Mem, Name, Numbers, Sort, Term, Var};
 use std::alloc::Global;
 use std::test::Fail;
