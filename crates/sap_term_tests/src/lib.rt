@@ -1,4 +1,4 @@
-//! Tests of terms and signatures, normal forms and matching, the adversary's knowledge, numbered facts, steps and rules.
+//! Tests of tokens, terms and signatures, normal forms and matching, the adversary's knowledge, numbered facts, steps and rules.
 //! Each is a table whose rows are lines of a text, with `%` between their parts.
 #![tactic(auto)]
 
@@ -16,3 +16,5 @@ mod rules;
 mod steps;
 #[cfg(test)]
 mod terms;
+#[cfg(test)]
+mod tokens;

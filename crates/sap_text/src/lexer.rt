@@ -80,6 +80,3 @@ pub fn token_bytes<'a>(bytes: &'a [u8], tokens: &[Token], k: usize) -> &'a [u8]
 {
     part(bytes, tokens[k])
 }
-
-#[cfg(test)]
-mod tests;

@@ -71,19 +71,3 @@ fn write_digits(number: u64, digits: &mut [u8; 20]) -> usize
     digits[at] = b'0' + rest as u8;
     at
 }
-
-#[cfg(test)]
-mod tests {
-    use super::*;
-
-    #[test]
-    fn pieces_in_order(rt: HostRuntime) {
-        let mut text = Text::new(rt.alloc());
-        for number in [0, 7, 10, 1002003, 90, u64::MAX] {
-            assert!(rt; text.push_number(number).is_ok());
-            assert!(rt; text.push_bytes(b", ").is_ok());
-        }
-        let expected = "0, 7, 10, 1002003, 90, 18446744073709551615, ";
-        assert!(rt; text.as_bytes() == expected.as_bytes());
-    }
-}
