@@ -27,9 +27,9 @@ fn show_terms(out: &mut Text, depth: u32, terms: &TermList) -> Result<(), Mem> {
     out.push_bytes(b")")
 }
 
-// The term with each symbol in front of its parentheses, so deep at most.
+/// The term with each symbol in front of its parentheses, so deep at most.
 #[cycle(show)]
-fn show_term(out: &mut Text, depth: u32, term: &Term) -> Result<(), Mem> {
+pub fn show_term(out: &mut Text, depth: u32, term: &Term) -> Result<(), Mem> {
     match term {
         Term::Var(v) => show_variable(out, v),
         Term::Public(n) => {
@@ -60,7 +60,8 @@ fn show_two(out: &mut Text, word: &[u8], t: &Term, u: &Term) -> Result<(), Mem> 
     show_term(out, 100, u)
 }
 
-fn show_fact(out: &mut Text, f: &Fact) -> Result<(), Mem> {
+/// The fact, behind `!` where it is persistent.
+pub fn show_fact(out: &mut Text, f: &Fact) -> Result<(), Mem> {
     if f.persistent {
         out.push_bytes(b"!")?;
     }

@@ -1,4 +1,5 @@
-use crate::{first_of_other_instance, first_of_other_size, first_wrong};
+use crate::rows::{first_of_other_instance, first_of_other_size, first_wrong};
+use crate::terms::{first_of_other_levels, first_wrong_fact, first_wrong_term};
 use std::test::Fail;
 
 #[test]
@@ -297,5 +298,120 @@ fn sizes_of_processes(rt: HostRuntime) -> Result<(), Fail> {
         process: {299:! }0 % 300 % 300\n\
         process: [ ] --> [ ]; delete 'k'; insert 'k', 'v'; in('c', x) % 5 % 5";
     assert_eq!(rt; first_of_other_size(rt.alloc(), rows), None);
+    Ok(())
+}
+
+// Identifiers without sign; signs and public names; symbols; tuples; reserved words; what follows, and other places.
+#[test]
+fn terms_of_tokens(rt: HostRuntime) -> Result<(), Fail> {
+    let rows = "x @ 0 % x 1\n\
+        X @ 0 % X 1\n\
+        T @ 0 % T 1\n\
+        c @ 0 % c() 1\n\
+        C @ 0 % C() 1\n\
+        true @ 0 % true() 1\n\
+        h @ 0 % h 1\n\
+        f @ 0 % f 1\n\
+        ~x @ 0 % ~x 2\n\
+        $x @ 0 % $x 2\n\
+        ~c @ 0 % ~c 2\n\
+        ~ @ 0 % none\n\
+        ~ ~x @ 0 % none\n\
+        $'a' @ 0 % none\n\
+        #x @ 0 % none\n\
+        'a' @ 0 % 'a' 1\n\
+        '' @ 0 % '' 1\n\
+        0 @ 0 % none\n\
+        f() @ 0 % f() 3\n\
+        c() @ 0 % c() 3\n\
+        f('a') @ 0 % f('a') 4\n\
+        f(x,~y,$z) @ 0 % f(x,~y,$z) 10\n\
+        f(g(c),h()) @ 0 % f(g(c()),h()) 11\n\
+        F(x) @ 0 % none\n\
+        f(F(x)) @ 0 % none\n\
+        f( @ 0 % none\n\
+        f(x @ 0 % none\n\
+        f(x, @ 0 % none\n\
+        f(x,) @ 0 % none\n\
+        f(,x) @ 0 % none\n\
+        f(x y) @ 0 % none\n\
+        'a'('b') @ 0 % none\n\
+        <x,y> @ 0 % pair(x,y) 5\n\
+        <x,y,z> @ 0 % pair(x,pair(y,z)) 7\n\
+        <<x,y>,z> @ 0 % pair(pair(x,y),z) 9\n\
+        <x,<y,z>> @ 0 % pair(x,pair(y,z)) 9\n\
+        pair(x,y) @ 0 % pair(x,y) 6\n\
+        <> @ 0 % none\n\
+        <x> @ 0 % none\n\
+        <x,> @ 0 % none\n\
+        <x,y @ 0 % none\n\
+        <x,y, @ 0 % none\n\
+        <x y> @ 0 % none\n\
+        <x,y) @ 0 % none\n\
+        in @ 0 % none\n\
+        not @ 0 % none\n\
+        ~new @ 0 % none\n\
+        f(All) @ 0 % none\n\
+        lock(x) @ 0 % none\n\
+        inn @ 0 % inn 1\n\
+        x ) @ 0 % x 1\n\
+        f(x) ( @ 0 % none\n\
+        ~x( @ 0 % none\n\
+        'a' ( @ 0 % none\n\
+        <x,y> ( @ 0 % none\n\
+        f(x), y @ 0 % f(x) 4\n\
+        f(x), y @ 2 % x 3\n\
+        f(x), y @ 5 % y 6\n\
+        f(x), y @ 6 % none\n\
+         @ 7 % none";
+    assert_eq!(rt; first_wrong_term(rt.alloc(), rows), None);
+    Ok(())
+}
+
+#[test]
+fn facts_of_tokens(rt: HostRuntime) -> Result<(), Fail> {
+    let rows = "F() @ 0 % F() 3\n\
+        F(c) @ 0 % F(c()) 4\n\
+        !F(x,'a') @ 0 % !F(x,'a') 7\n\
+        In(<x,y>) ] @ 0 % In(pair(x,y)) 8\n\
+        f(x) @ 0 % none\n\
+        !f() @ 0 % none\n\
+        F @ 0 % none\n\
+        !F @ 0 % none\n\
+        ! @ 0 % none\n\
+        !!F() @ 0 % none\n\
+        ~F() @ 0 % none\n\
+        F( @ 0 % none\n\
+        F(x @ 0 % none\n\
+        F(x,) @ 0 % none\n\
+        F(<x>) @ 0 % none\n\
+        F()( @ 0 % none\n\
+        All(x) @ 0 % none\n\
+         @ 0 % none";
+    assert_eq!(rt; first_wrong_fact(rt.alloc(), rows), None);
+    Ok(())
+}
+
+#[test]
+fn terms_have_at_most_100_levels(rt: HostRuntime) -> Result<(), Fail> {
+    let rows = "{99:f(}x{99:)} % 100\n\
+        {100:f(}x{100:)} % 0\n\
+        <x,{98:f(}x{98:)}> % 100\n\
+        <x,{99:f(}x{99:)}> % 0\n\
+        <x,{97:f(}x{97:)},y> % 100\n\
+        <x,{98:f(}x{98:)},y> % 0\n\
+        <{99:x,}x> % 100\n\
+        <{100:x,}x> % 0\n\
+        f({300:x,}x) % 2";
+    assert_eq!(rt; first_of_other_levels(rt.alloc(), rows), None);
+    Ok(())
+}
+
+#[test]
+fn terms_of_facts_have_at_most_100_levels(rt: HostRuntime) -> Result<(), Fail> {
+    let rows = "F(x,{99:f(}x{99:)}) @ 0 % ok\n\
+        F(x,{100:f(}x{100:)}) @ 0 % none\n\
+        F(<x,{99:f(}x{99:)}>) @ 0 % none";
+    assert_eq!(rt; first_wrong_fact(rt.alloc(), rows), None);
     Ok(())
 }

@@ -14,8 +14,6 @@ mod look;
 mod names;
 mod process;
 mod term;
-#[cfg(test)]
-mod tests;
 mod whole;
 
 pub use fact::read_fact;
