@@ -11,6 +11,3 @@ pub use faithful::rules_show_the_process;
 pub use generation::generate;
 pub use theory::theory_of;
 pub use unbuilt::first_unbuilt;
-
-#[cfg(test)]
-mod tests;

@@ -8,8 +8,6 @@ mod rules;
 mod signature;
 mod statements;
 mod terms;
-#[cfg(test)]
-mod tests;
 mod theory;
 
 pub use theory::print;
