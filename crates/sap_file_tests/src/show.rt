@@ -1,18 +1,10 @@
 //! Files and faults as texts.
 use sap_process::{Flaw, Process};
 use sap_read::{File, ReadFault};
-use sap_terms::{Fact, FactList, Mem, Name, Path, Signature, Sort, Term, TermList, Var};
+use sap_rows::{push_path, push_variable};
+use sap_terms::{Fact, FactList, Mem, Name, Signature, Term, TermList};
 use sap_text::Text;
 use std::alloc::Global;
-
-fn show_variable(out: &mut Text, v: &Var) -> Result<(), Mem> {
-    match v.sort {
-        Sort::Msg => {}
-        Sort::Fresh => out.push_bytes(b"~")?,
-        Sort::Pub => out.push_bytes(b"$")?,
-    }
-    out.push_bytes(v.name.as_bytes())
-}
 
 // The terms in parentheses, so deep at most.
 #[cycle(show)]
@@ -31,7 +23,7 @@ fn show_terms(out: &mut Text, depth: u32, terms: &TermList) -> Result<(), Mem> {
 #[cycle(show)]
 pub fn show_term(out: &mut Text, depth: u32, term: &Term) -> Result<(), Mem> {
     match term {
-        Term::Var(v) => show_variable(out, v),
+        Term::Var(v) => push_variable(out, v),
         Term::Public(n) => {
             out.push_bytes(b"'")?;
             out.push_bytes(n.as_bytes())?;
@@ -93,7 +85,7 @@ fn show_head(out: &mut Text, p: &Process) -> Result<(), Mem> {
         Process::Rep(_) => out.push_bytes(b"!"),
         Process::New(x, _) => {
             out.push_bytes(b"new ")?;
-            show_variable(out, x)
+            push_variable(out, x)
         }
         Process::Out(t, _) => show_one(out, b"out", t),
         Process::Send(t, u, _) => show_two(out, b"out", t, u),
@@ -109,7 +101,7 @@ fn show_head(out: &mut Text, p: &Process) -> Result<(), Mem> {
         Process::Lookup(t, x, _, _) => {
             show_one(out, b"lookup", t)?;
             out.push_bytes(b" as ")?;
-            show_variable(out, x)
+            push_variable(out, x)
         }
         Process::Lock(t, label, _) => {
             show_one(out, b"lock", t)?;
@@ -199,16 +191,6 @@ fn flaw_word(which: Flaw) -> &'static str {
     }
 }
 
-fn show_path(out: &mut Text, path: &Path) -> Result<(), Mem> {
-    if path.len() == 0 {
-        return out.push_bytes(b"root");
-    }
-    for digit in path.as_slice() {
-        out.push_number(*digit as u64)?;
-    }
-    Ok(())
-}
-
 fn show_named(out: &mut Text, word: &[u8], name: &Name) -> Result<(), Mem> {
     out.push_bytes(word)?;
     out.push_bytes(name.as_bytes())
@@ -236,7 +218,7 @@ pub fn show_fault(out: &mut Text, fault: &ReadFault) -> Result<(), Mem> {
         ReadFault::Ill { which, path } => {
             out.push_bytes(flaw_word(*which).as_bytes())?;
             out.push_bytes(b" ")?;
-            show_path(out, path)
+            push_path(out, path)
         }
     }
 }

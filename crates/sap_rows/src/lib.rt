@@ -1,12 +1,14 @@
-//! What the rows of tests spell: signatures, terms, facts and rules, in the texts of files.
+//! What the rows of tests spell: signatures, terms, facts and rules, in the texts of files; and how they show variables and
+//! places.
 #![tactic(auto)]
 
 use sap_read::{read_fact, read_term};
 use sap_rule::Rule;
 use sap_terms::{
-    Binding, Bindings, Builtin, Fact, FactList, Name, SigFault, Signature, Sort, Term, Var, subst,
+    Binding, Bindings, Builtin, Fact, FactList, Mem, Name, Path, SigFault, Signature, Sort, Term,
+    Var, subst,
 };
-use sap_text::tokens;
+use sap_text::{Text, tokens};
 use std::alloc::Global;
 
 /// The name of these bytes; nothing where memory is wanting.
@@ -180,4 +182,25 @@ pub fn same_rule(r: &Rule, s: &Rule) -> bool {
         && same_facts(&r.left, &s.left)
         && same_facts(&r.acts, &s.acts)
         && same_facts(&r.right, &s.right)
+}
+
+/// Puts last a variable with the sign of its sort.
+pub fn push_variable(out: &mut Text, v: &Var) -> Result<(), Mem> {
+    match v.sort {
+        Sort::Msg => {}
+        Sort::Fresh => out.push_bytes(b"~")?,
+        Sort::Pub => out.push_bytes(b"$")?,
+    }
+    out.push_bytes(v.name.as_bytes())
+}
+
+/// Puts last the digits of a place, or `root`.
+pub fn push_path(out: &mut Text, path: &Path) -> Result<(), Mem> {
+    if path.len() == 0 {
+        return out.push_bytes(b"root");
+    }
+    for digit in path.as_slice() {
+        out.push_number(*digit as u64)?;
+    }
+    Ok(())
 }

@@ -1,19 +1,10 @@
 //! Rules.
-use sap_rows::{name, rule, same_rule, signature};
+use sap_rows::{name, push_variable, rule, same_rule, signature};
 use sap_rule::{Rule, RuleList, Theory, is_well_made, open_vars};
-use sap_terms::{Copied, Items, Mem, Name, Signature, Sort, Var, Vars};
+use sap_terms::{Copied, Items, Name, Signature, Vars};
 use sap_text::Text;
 use std::alloc::Global;
 use std::test::Fail;
-
-fn push_var(out: &mut Text, v: &Var) -> Result<(), Mem> {
-    match v.sort {
-        Sort::Msg => {}
-        Sort::Fresh => out.push_bytes(b"~")?,
-        Sort::Pub => out.push_bytes(b"$")?,
-    }
-    out.push_bytes(v.name.as_bytes())
-}
 
 fn are_vars(alloc: Global, vars: &Vars, want: &str) -> Option<bool> {
     let mut out = Text::new(alloc);
@@ -21,7 +12,7 @@ fn are_vars(alloc: Global, vars: &Vars, want: &str) -> Option<bool> {
         if k > 0 {
             out.push_bytes(b" ").ok()?;
         }
-        push_var(&mut out, vars.at(k)).ok()?;
+        push_variable(&mut out, vars.at(k)).ok()?;
     }
     Some(out.as_bytes() == want.as_bytes())
 }

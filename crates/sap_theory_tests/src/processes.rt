@@ -3,9 +3,9 @@ use crate::texts::is_text;
 use sap_gen::{first_unbuilt, generate, theory_of};
 use sap_process::Process;
 use sap_read::{File, ReadFault, read_file};
-use sap_rows::{rule, same_rule};
+use sap_rows::{push_path, rule, same_rule};
 use sap_rule::RuleList;
-use sap_terms::{Copied, Mem, Path, Signature};
+use sap_terms::{Copied, Mem, Signature};
 use sap_text::Text;
 use sap_theory::print;
 use std::alloc::Global;
@@ -36,20 +36,10 @@ fn behind_input(p: &Process) -> &Process {
     }
 }
 
-fn show_path(out: &mut Text, path: &Path) -> Result<(), Mem> {
-    if path.len() == 0 {
-        return out.push_bytes(b"root");
-    }
-    for digit in path.as_slice() {
-        out.push_number(*digit as u64)?;
-    }
-    Ok(())
-}
-
 // The first place that isn't built, or `built`.
 fn show_place(alloc: Global, out: &mut Text, p: &Process) -> Result<(), Mem> {
     match first_unbuilt(alloc, p)? {
-        Some(path) => show_path(out, &path),
+        Some(path) => push_path(out, &path),
         None => out.push_bytes(b"built"),
     }
 }

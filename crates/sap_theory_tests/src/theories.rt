@@ -1,10 +1,10 @@
-//! Theories of rows, and whether they are printed as the rows say.
+//! Theories of rows, and whether they are printed, with their formulas copied, as the rows say.
 use crate::formulas::formula;
 use crate::texts::is_text;
 use sap_formula::{Lemma, LemmaList, Mode, Restriction, RestrictionList};
 use sap_rows::{name, rule, signature};
 use sap_rule::{RuleList, Theory};
-use sap_terms::NameList;
+use sap_terms::{Copied, NameList};
 use sap_text::Text;
 use sap_theory::print;
 use std::alloc::Global;
@@ -91,14 +91,28 @@ fn empty_theory(alloc: Global, symbols: &str) -> Option<Theory> {
     })
 }
 
+// Puts copies in place of the restrictions and the lemmas.
+fn copy_formulas(alloc: Global, t: &mut Theory) -> Option<()> {
+    let restrictions = t.restrictions.copy(alloc).ok()?;
+    t.restrictions = restrictions;
+    let lemmas = t.lemmas.copy(alloc).ok()?;
+    t.lemmas = lemmas;
+    Some(())
+}
+
+fn print_copy(alloc: Global, t: &mut Theory) -> Option<Text> {
+    copy_formulas(alloc, t)?;
+    print(alloc, t).ok()
+}
+
 fn with_lines(alloc: Global, t: &mut Theory, lines: &str) -> Option<Text> {
     if lines.is_empty() {
-        return print(alloc, t).ok();
+        return print_copy(alloc, t);
     }
     for line in lines.split('^') {
         add_line(alloc, t, line)?;
     }
-    print(alloc, t).ok()
+    print_copy(alloc, t)
 }
 
 // The theory T of these symbols and of the lines, which have ^ between them, as it is printed.
@@ -109,7 +123,7 @@ fn printed(alloc: Global, symbols: &str, lines: &str) -> Option<Text> {
 
 fn with_lemma(alloc: Global, t: &mut Theory, words: &str) -> Option<Text> {
     add_lemma(alloc, t, "l||all", words)?;
-    print(alloc, t).ok()
+    print_copy(alloc, t)
 }
 
 // The theory T of one lemma l, which the words spell, as it is printed.
