@@ -1,4 +1,4 @@
-ghost use Rattle.std.specs.Prelude.{◌≡◌, ◌+◌, ◌<◌, ◌≤◌, [], ◌∷◌, ◌++◌, length, IfOk, OnOk, OnErr, IfErr, IfSome, option_map, slice_get, find, map, nat_le, All, Some};
+ghost use Rattle.std.specs.Prelude.{◌≡◌, ◌+◌, ◌<◌, ◌≤◌, [], length, IfOk, OnOk, OnErr, IfErr, option_map, slice_get, find, map, nat_le, All, Some};
 ghost use Rattle.std.specs.Option.{option_copied};
 ghost use Rattle.sap_terms.specs.View.{tree};
 ghost use Rattle.sap_terms.specs.Tree.{node_count, fresh, public};
@@ -6,7 +6,7 @@ ghost use Rattle.sap_terms.specs.Theory.{theory};
 ghost use Rattle.sap_terms.specs.Normal.{IsNormal};
 ghost use Rattle.sap_deduce.specs.Entries.{Gains, Adds, terms_of, AreTermsAt, IsApplication, Applies, IsCause, IsLarge};
 ghost use Rattle.sap_terms.specs.Signature.{IsPublic, arity_of};
-ghost use Rattle.sap_deduce.specs.declared.line.Line.TheVariants.{Name as NameLine, Public as PublicLine, Output as OutputLine, Apply as ApplyLine};
+ghost use Rattle.sap_deduce.specs.declared.line.Line.TheVariants.{Name as NameLine, Public as PublicLine, Output as OutputLine};
 
 use crate::entry::Entry;
 use crate::{Deny, Line};

@@ -1,5 +1,5 @@
 //! The theory of a file.
-ghost use Rattle.std.specs.Prelude.{◌≡◌, [], ◌∷◌, ◌++◌, Some, false, codes, length, IfOk, OnOk};
+ghost use Rattle.std.specs.Prelude.{◌≡◌, [], ◌∷◌, ◌++◌, Some, false, codes, IfOk, OnOk};
 ghost use Rattle.sap_process.specs.Proc.{proc};
 ghost use Rattle.sap_formula.specs.Form.{action, both, same_place};
 ghost use Rattle.sap_formula.specs.View.{form};

@@ -1,5 +1,5 @@
 //! The first place of a process that has no rules of its own.
-ghost use Rattle.std.specs.Prelude.{◌≡◌, ◌↔◌, [], IfOk, IsNone};
+ghost use Rattle.std.specs.Prelude.{◌≡◌, ◌↔◌, IfOk, IsNone};
 ghost use Rattle.std.specs.List.{list_all};
 ghost use Rattle.sap_terms.specs.View.{tree};
 ghost use Rattle.sap_process.specs.Proc.{proc};

@@ -1,6 +1,6 @@
 -- One flaw counts.
-use Rattle.std.proofs.Common.{◌≡◌, ◌<◌, ℕ, Bool, true, false, List, Some, None, refl, sym, ap, ◌∙◌, arith, subst}
-use Rattle.std.specs.Prelude.{slice_get, Option, ◌==◌, if◌then◌else◌}
+use Rattle.std.proofs.Common.{◌≡◌, ◌<◌, ℕ, Bool, true, false, List, Some, refl, sym, ap, ◌∙◌, arith, subst}
+use Rattle.std.specs.Prelude.{slice_get, ◌==◌, if◌then◌else◌}
 use Rattle.std.proofs.Math.Dec.{ltb}
 use Rattle.std.proofs.lemmas.Bool.Decides.{Decides-ltb}
 use Rattle.sap_terms.specs.Signature.{Sig}
@@ -8,7 +8,7 @@ use Rattle.sap_process.specs.declared.flaw.Flaw.{Flaw}
 use Rattle.sap_process.specs.declared.flaw.Flaw.TheVariants.{BadFunction, ReservedVar, ReservedFact, FactClash, PatternDestructor, Unbound, Rebound, SortClash, ScopeFull}
 use Rattle.sap_process.specs.Proc.{Proc}
 use Rattle.sap_process.specs.Sites.{Site, sites}
-use Rattle.sap_process.specs.Flaws.{IsFlawedAt, IsFirstFlaw, IsWellFormed, rank}
+use Rattle.sap_process.specs.Flaws.{IsFirstFlaw, IsWellFormed, rank}
 
 -- of two numbers that are not one before the other they are the same
 same_number : (a b : ℕ) → ¬ (a < b) → ¬ (b < a) → a ≡ b

@@ -1,5 +1,5 @@
 -- Processes run: steps and traces, without any limit.
-use Rattle.std.specs.Prelude.{◌≡◌, ℕ, Bool, true, false, List, [], ◌∷◌, ◌++◌, Option, Some, None, if◌then◌else◌}
+use Rattle.std.specs.Prelude.{◌≡◌, ℕ, true, false, List, [], ◌∷◌, ◌++◌, Some, None, if◌then◌else◌}
 use Rattle.sap_terms.specs.AdversaryFacts.{k_fact}
 use Rattle.sap_terms.specs.Choice.{Choice, instance}
 use Rattle.sap_terms.specs.Equal.{IsTheoryEqual}

@@ -3,7 +3,7 @@ use Rattle.std.specs.Prelude.{ℕ, ◌+◌, List, [], ◌∷◌, ◌++◌, map}
 use Rattle.sap_terms.specs.declared.var.Sort.TheVariants.{Msg, Fresh}
 use Rattle.sap_terms.specs.declared.var.Var.{Var}
 use Rattle.sap_terms.specs.Variables.{tree_vars, facts_vars, new_vars}
-use Rattle.sap_process.specs.Action.{Action, new, out, send, input, receive, event, insert, delete, lock, unlock, embedded}
+use Rattle.sap_process.specs.Action.{Action, new, input, receive, embedded}
 use Rattle.sap_process.specs.Proc.{Proc, nil, parallel, replicated, act, test, lookup}
 use Rattle.sap_process.specs.Heads.{locks_set}
 

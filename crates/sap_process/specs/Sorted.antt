@@ -1,8 +1,8 @@
 -- A process whose variables have the sorts of their binders.
-use Rattle.std.specs.Prelude.{List, [], ◌∷◌, ◌++◌, Option, Some, None}
+use Rattle.std.specs.Prelude.{List, [], ◌∷◌, ◌++◌}
 use Rattle.std.specs.Option.{option_map_or}
 use Rattle.sap_terms.specs.Choice.{Choice, instance}
-use Rattle.sap_terms.specs.Tree.{Tree, variable}
+use Rattle.sap_terms.specs.Tree.{variable}
 use Rattle.sap_terms.specs.declared.var.Var.{Var}
 use Rattle.sap_process.specs.Action.{Action, new}
 use Rattle.sap_process.specs.Instance.{action_instance}

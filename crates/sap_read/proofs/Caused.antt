@@ -6,7 +6,7 @@ use Rattle.std.proofs.lemmas.Bool.{lt-ltb, le-ltb, ltb-true, ltb-false}
 use Rattle.indexmap.specs.IndexMap.{IndexMap, get}
 use Rattle.sap_process.specs.Proc.{Proc, node_count, level_count}
 use Rattle.sap_read.specs.declared.draft.Entry.{Entry}
-use Rattle.sap_read.specs.declared.fault.ReadFault.TheVariants.{NoProcess, TwoProcesses, UnknownProcess, DuplicateName, FunctionClash, TooMany, TooDeep}
+use Rattle.sap_read.specs.declared.fault.ReadFault.TheVariants.{NoProcess, TwoProcesses, TooMany, TooDeep}
 use Rattle.sap_read.specs.declared.names.Meant.{Meant}
 use Rattle.sap_read.specs.Item.{Body}
 use Rattle.sap_read.specs.Replaced.{replaced, process_of, no_meaning}

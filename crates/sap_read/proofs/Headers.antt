@@ -4,8 +4,8 @@ use Rattle.std.proofs.lemmas.Slice.Eq.{bytes_eq-Decides}
 use Rattle.std.specs.Prelude.{codes, if◌then◌else◌, slice_get}
 use Rattle.std.specs.Str.{bytes_eq}
 use Rattle.sap_text.specs.declared.token.Token.{Token}
-use Rattle.sap_read.specs.Words.{Word, mark, name, number, quoted, is_mark, starts, word_of, words_of}
-use Rattle.sap_read.specs.Reading.{as_name, name_at}
+use Rattle.sap_read.specs.Words.{Word, mark, name, number, quoted, is_mark, word_of, words_of}
+use Rattle.sap_read.specs.Reading.{as_name}
 use Rattle.sap_read.specs.Cut.{Placed, placed, words, IsHeader, last_line}
 use Rattle.sap_read.specs.Judged.{header_of}
 

@@ -1,9 +1,8 @@
 -- The file's process, and the names that are defined twice.
-use Rattle.std.proofs.Common.{◌≡◌, ℕ, ◌+◌, ◌≤◌, List, [], ◌∷◌, ◌++◌, Bool, true, false, ◌||◌, Option, Some, None, refl, sym, ap, ◌∙◌, map, drop, length}
+use Rattle.std.proofs.Common.{◌≡◌, ℕ, ◌+◌, List, ◌∷◌, ◌++◌, Bool, true, false, ◌||◌, Option, Some, None, refl, sym, ap, ◌∙◌, map, drop}
 use Rattle.std.specs.Prelude.{if◌then◌else◌, slice_get, is_none}
 use Rattle.std.specs.List.{list_any}
 use Rattle.std.specs.Str.{bytes_eq}
-use Rattle.std.proofs.lemmas.List.{drop_all}
 use Rattle.sap_read.specs.declared.draft.Entry.{Entry}
 use Rattle.sap_read.specs.Causes.{unlabelled, listed, labels, is_among, first_repeated}
 use Rattle.sap_read.specs.Drafts.{body}

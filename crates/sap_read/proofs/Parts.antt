@@ -1,6 +1,5 @@
 -- From the parts of a file to what it is read as.
-use Rattle.std.proofs.Common.{◌≡◌, ℕ, List, drop, refl, sym, ap, subst, ◌∙◌, Some, None, Option, Ok, Err, inl, inr}
-use Rattle.std.specs.Prelude.{◌⊎◌}
+use Rattle.std.proofs.Common.{◌≡◌, ℕ, List, drop, sym, subst, Some, None, Option, Ok, Err, inl, inr}
 use Rattle.sap_text.specs.declared.token.Token.{Token}
 use Rattle.sap_terms.specs.Signature.{Sig, pairs_alone}
 use Rattle.sap_process.specs.Proc.{Proc}

@@ -1,6 +1,4 @@
 -- The program's own types for what is written, as plain values.
-use Rattle.std.specs.Prelude.{ℕ, List, Option}
-use Rattle.std.specs.Option.{option_map}
 use Rattle.sap_terms.specs.View.{tree}
 use Rattle.sap_process.specs.Action as action
 use Rattle.sap_process.specs.Action.{Action}

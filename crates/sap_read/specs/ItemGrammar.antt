@@ -1,6 +1,5 @@
 -- Which words spell an item, and which items a file.
-use Rattle.std.specs.Prelude.{◌≡◌, ◌≤◌, ℕ, ◌+◌, ◌*◌, ◌-◌, Bool, true, false, codes, List, [], ◌∷◌}
-use Rattle.std.specs.List.{list_all}
+use Rattle.std.specs.Prelude.{◌≡◌, ◌≤◌, ℕ, ◌+◌, ◌*◌, ◌-◌, true, false, codes, List, [], ◌∷◌}
 use Rattle.sap_terms.specs.declared.signature.Symbol.{Symbol}
 use Rattle.sap_terms.specs.declared.signature.Builtin.{Builtin}
 use Rattle.sap_terms.specs.declared.signature.Builtin.TheVariants.{Hashing, Symmetric, Asymmetric, Signing}

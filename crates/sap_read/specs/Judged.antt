@@ -2,7 +2,6 @@
 use Rattle.std.specs.Prelude.{◌≡◌, ◌⊎◌, ◌&&◌, ℕ, codes, drop, if◌then◌else◌, List, [], Option, Some, None}
 use Rattle.sap_read.specs.Words.{Word, starts}
 use Rattle.sap_read.specs.Reading.{name_at}
-use Rattle.sap_text.specs.declared.token.Token.{Token}
 use Rattle.sap_terms.specs.Signature.{Sig}
 use Rattle.sap_process.specs.Proc.{Proc}
 use Rattle.sap_process.specs.Flaws.{IsFirstFlaw, IsWellFormed}

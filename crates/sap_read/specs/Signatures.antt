@@ -1,6 +1,5 @@
 -- The signature that declarations make, and the first of them that clashes.
-use Rattle.std.specs.Prelude.{◌≡◌, ℕ, Bool, List, [], ◌∷◌, Option, Some, None, if◌then◌else◌, is_some}
-use Rattle.sap_terms.specs.declared.signature.Symbol.{Symbol}
+use Rattle.std.specs.Prelude.{ℕ, List, [], ◌∷◌, Option, Some, None, if◌then◌else◌, is_some}
 use Rattle.sap_terms.specs.Signature.{Sig, builtin_symbols, is_held_otherwise, first_clash, declared, added, pairs_alone}
 use Rattle.sap_read.specs.Item.{Declaration, of_builtin, of_symbol, Standing, declarations}
 

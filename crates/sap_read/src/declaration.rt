@@ -1,5 +1,5 @@
 //! Reads what items declare.
-ghost use Rattle.std.specs.Prelude.{◌≡◌, ◌+◌, length, suc, IfOk, OnOk};
+ghost use Rattle.std.specs.Prelude.{◌≡◌, ◌+◌, length};
 ghost use Rattle.sap_terms.specs.declared.signature.Symbol.{Symbol};
 ghost use Rattle.sap_read.specs.Words.{words_of};
 ghost use Rattle.sap_read.specs.ItemReading.{arity_of_digits, arity_at, is_private, with_privacy, is_encryption, builtin_at, symbol_at, declaration_at, whole_list, behind_colon, declared_in};

@@ -1,5 +1,4 @@
-ghost use Rattle.std.specs.Prelude.{◌≡◌, ◌≤◌, List, [], ◌∷◌, ◌++◌, IfOk, OnOk, OnErr, IfErr, IsTrue, ◌↔◌, All, Contains};
-ghost use Rattle.sap_terms.specs.Signature.{Sig};
+ghost use Rattle.std.specs.Prelude.{◌≡◌, [], ◌∷◌, ◌++◌, IfOk, OnOk, OnErr, IfErr, IsTrue, ◌↔◌, All, Contains};
 ghost use Rattle.sap_rule.specs.RuleSteps.{empty_state};
 ghost use Rattle.sap_rule.specs.WellMade.{IsWellMade};
 ghost use Rattle.sap_runs.specs.declared.rule_step.RStep.TheVariants.{Fresh as FreshLine, Learn as LearnLine, Own as OwnLine, Public as PublicLine, Apply as ApplyLine, Know as KnowLine, Rule as RuleLine};

@@ -1,4 +1,4 @@
-ghost use Rattle.std.specs.Prelude.{◌≡◌, ◌+◌, ◌<◌, ◌≤◌, Bool, true, false, nat_eq, None, Some, [], ◌∷◌, ◌++◌, length, IfOk, MatchOption};
+ghost use Rattle.std.specs.Prelude.{◌≡◌, ◌+◌, ◌<◌, ◌≤◌, true, false, nat_eq, None, Some, [], ◌∷◌, ◌++◌, length, IfOk, MatchOption};
 ghost use Rattle.indexmap.specs.IndexSet.{contains};
 ghost use Rattle.sap_terms.specs.Piles.{adds};
 ghost use Rattle.sap_facts.specs.Facts.{fact_at};

@@ -1,4 +1,4 @@
-ghost use Rattle.std.specs.Prelude.{◌≡◌, ◌⊎◌, [], ◌∷◌, ◌++◌, length, IfOk, IfErr, All};
+ghost use Rattle.std.specs.Prelude.{◌≡◌, ◌⊎◌, IfOk, IfErr, All};
 ghost use Rattle.sap_steps.specs.Faults.{IsRuleFault};
 ghost use Rattle.sap_steps.specs.Held.{AreHeld, IsHeldFact, cited_at};
 ghost use Rattle.sap_steps.specs.Left.{AreTaken};

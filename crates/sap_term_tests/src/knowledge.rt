@@ -98,23 +98,21 @@ fn first_wrong_row(alloc: Global, sig: &Signature, k: &mut Knowledge, rows: &str
 }
 
 // Enters a term's normal form.
-fn send(alloc: Global, sig: &Signature, k: &mut Knowledge, t: &Term) -> Option<u64>
+fn send(alloc: Global, sig: &Signature, k: &mut Knowledge, t: &Term) -> Result<Option<u64>, Mem>
     requires { k.old.sig ≡ sig.now }
 {
-    let form = normal(alloc, sig, t).ok()?;
+    let form = normal(alloc, sig, t)?;
     if form.nodes() > 256 {
-        return None;
+        return Ok(None);
     }
-    k.output(form).ok()
+    Ok(Some(k.output(form)?))
 }
 
 // The knowledge of a term that is sent first.
-fn of_sent(alloc: Global, sig: &Signature, t: &Term) -> Option<Knowledge> {
-    let mut k = Knowledge::new(alloc, sig).ok()?;
-    if send(alloc, sig, &mut k, t) != Some(0) {
-        return None;
-    }
-    Some(k)
+fn of_sent(alloc: Global, sig: &Signature, t: &Term) -> Result<Knowledge, Mem> {
+    let mut k = Knowledge::new(alloc, sig)?;
+    send(alloc, sig, &mut k, t)?;
+    Ok(k)
 }
 
 // The first row that isn't as it says, behind a term that is sent.
@@ -122,7 +120,7 @@ fn first_wrong(alloc: Global, sig: &Signature, sent: &str, rows: &str) -> Option
     let Some(t) = named_term(alloc, sig, sent) else {
         return Some(0);
     };
-    let Some(mut k) = of_sent(alloc, sig, &t) else {
+    let Ok(mut k) = of_sent(alloc, sig, &t) else {
         return Some(0);
     };
     let place = first_wrong_row(alloc, sig, &mut k, rows);

@@ -174,7 +174,9 @@ fn faults_of_bytes(rt: HostRuntime) -> Result<(), Fail> {
 
 // The bytes of each token, with a bar behind each.
 fn pieces(alloc: Global, bytes: &[u8]) -> Option<Text> {
-    let found = tokens(alloc, bytes, 64).ok()?;
+    let Ok(found) = tokens(alloc, bytes, 64) else {
+        return None;
+    };
     let mut out = Text::new(alloc);
     for k in 0..found.len() {
         out.push_bytes(token_bytes(bytes, found.as_slice(), k))

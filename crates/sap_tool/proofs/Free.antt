@@ -9,7 +9,6 @@ use Rattle.sap_terms.specs.declared.var.Var.{Var}
 use Rattle.sap_terms.specs.Signature.{Sig}
 use Rattle.sap_terms.specs.Modulo.{instance_fact}
 use Rattle.sap_process.specs.Action as action
-use Rattle.sap_process.specs.Action.{Action}
 use Rattle.sap_process.specs.Proc.{Proc, nil, parallel, replicated, act, test, lookup}
 use Rattle.sap_process.specs.Sites.{Site, sites, sites_from}
 use Rattle.sap_process.specs.Flaws.{HasReservedFact, IsWellFormed}

@@ -1,6 +1,6 @@
 //! From the bytes of a file to the text of its theory.
 
-ghost use Rattle.std.specs.Prelude.{◌≡◌, ◌≤◌, ◌++◌, ◌↔◌, IsTrue, Some, ℕ, List, length, [], Ok, Err, codes, IfOk, IsErrOf};
+ghost use Rattle.std.specs.Prelude.{◌≡◌, ◌≤◌, ◌↔◌, IsTrue, Some, ℕ, List, length, [], Ok, Err, codes, IfOk, IsErrOf};
 ghost use Rattle.sap_process.specs.Proc.{proc};
 ghost use Rattle.sap_gen.specs.Built.{Built, built, IsBuilt};
 ghost use Rattle.sap_gen.specs.Unbuilt as unbuilt;

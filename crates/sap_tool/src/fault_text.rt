@@ -1,6 +1,6 @@
 //! Why a file is refused, in words.
 
-ghost use Rattle.std.specs.Prelude.{◌≡◌, ◌++◌, codes, decimal, OnOk};
+ghost use Rattle.std.specs.Prelude.{◌≡◌, ◌++◌, decimal, OnOk};
 ghost use Rattle.std.specs.List.{flat_map};
 ghost use Rattle.sap_tool.specs.Refusals.{at_place, between, fault_text, flaw_text, lex_text, place_text};
 

@@ -1,4 +1,4 @@
-ghost use Rattle.std.specs.Prelude.{◌≡◌, ◌≤◌, length, IfOk, None};
+ghost use Rattle.std.specs.Prelude.{◌≤◌, length, IfOk, None};
 
 use crate::{Shelf, ShelfFault};
 use std::alloc::Global;

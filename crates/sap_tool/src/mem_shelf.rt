@@ -1,4 +1,4 @@
-ghost use Rattle.std.specs.Prelude.{◌≡◌, ◌≤◌, ◌+◌, ◌-◌, ◌^◌, ◌↔◌, ◌⊎◌, length, take, min, Contains, IsNone, IfOk, IsErrOf, OnErr, OnOk, Some};
+ghost use Rattle.std.specs.Prelude.{◌≡◌, ◌≤◌, ◌+◌, ◌-◌, ◌^◌, ◌↔◌, ◌⊎◌, length, take, min, Contains, IsNone, IfOk, IsErrOf, OnOk, Some};
 ghost use Rattle.std.specs.FinMap as map;
 ghost use Rattle.sap_tool.specs.Outside.{Rose, IsFetched, files_of};
 

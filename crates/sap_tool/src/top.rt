@@ -1,6 +1,6 @@
 //! The top call.
 
-ghost use Rattle.std.specs.Prelude.{◌≡◌, ◌≤◌, ℕ, List, [], MatchOption, take};
+ghost use Rattle.std.specs.Prelude.{◌≡◌, ◌≤◌, MatchOption};
 ghost use Rattle.sap_tool.specs.Outside.{AppendsSome};
 ghost use Rattle.sap_tool.specs.Call.{bytes_of, call, stream, IsCompile, IsUnknown, Outcome};
 ghost use Rattle.sap_tool.specs.Telling.{IsTold, IsWritten, IsDelivered};

@@ -1,5 +1,5 @@
 //! The terms and facts of processes.
-ghost use Rattle.std.specs.Prelude.{◌≡◌, length};
+ghost use Rattle.std.specs.Prelude.{length};
 ghost use Rattle.sap_read.specs.Words.{words_of};
 ghost use Rattle.sap_read.specs.Reading.{list_of};
 ghost use Rattle.sap_read.specs.ProcessReading.{short_term, short_fact, facts};

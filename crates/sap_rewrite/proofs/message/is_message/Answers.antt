@@ -1,4 +1,4 @@
-use Rattle.std.proofs.Common.{◌≡◌, true, false, IsTrue, sym, ◌∙◌}
+use Rattle.std.proofs.Common.{true, false, sym, ◌∙◌}
 use Rattle.sap_terms.specs.View.{tree}
 use Rattle.sap_rewrite.proofs.Messages.{no_message, is_message_where}
 use Rattle.sap_rewrite.proofs.message.is_message.Goals as goal
