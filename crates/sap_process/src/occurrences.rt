@@ -8,7 +8,7 @@ ghost use Rattle.sap_process.specs.Proc.{proc};
 ghost use Rattle.sap_process.specs.Places.{used_terms};
 
 use crate::Process;
-use sap_terms::{Copied, FactList, Mem, Term, TermList, Vars};
+use sap_terms::{FactList, Mem, Term, Vars, push_all_vars, push_facts_vars, push_vars};
 use std::alloc::Global;
 
 // Each occurrence of a variable in the terms at the head, from the left.
@@ -126,36 +126,5 @@ fn push_both(alloc: Global, t: &Term, u: &Term, out: &mut Vars) -> Result<(), Me
 {
     push_vars(alloc, t, out)?;
     push_vars(alloc, u, out)?;
-    Ok(())
-}
-
-#[cycle(push)]
-fn push_vars(alloc: Global, t: &Term, out: &mut Vars) -> Result<(), Mem>
-    ensures { OnOk result (out.new ≡ out.old ++ tree_vars (tree t.now)) }
-{
-    match t {
-        Term::Var(v) => out.push(v.copy(alloc)?)?,
-        Term::App(_, ts) => push_all_vars(alloc, ts, out)?,
-        _ => {}
-    }
-    Ok(())
-}
-
-#[cycle(push)]
-fn push_all_vars(alloc: Global, ts: &TermList, out: &mut Vars) -> Result<(), Mem>
-    ensures { OnOk result (out.new ≡ out.old ++ trees_vars (trees_of ts.now)) }
-{
-    for k in 0..ts.len() {
-        push_vars(alloc, ts.at(k), out)?;
-    }
-    Ok(())
-}
-
-fn push_facts_vars(alloc: Global, fs: &FactList, out: &mut Vars) -> Result<(), Mem>
-    ensures { OnOk result (out.new ≡ out.old ++ facts_vars fs.now) }
-{
-    for f in fs.as_slice() {
-        push_all_vars(alloc, &f.args, out)?;
-    }
     Ok(())
 }

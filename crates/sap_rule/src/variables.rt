@@ -7,7 +7,7 @@ ghost use Rattle.sap_rule.specs.Variables.{facts_outer_vars, rule_vars, open_var
 
 use crate::Rule;
 use indexmap::IndexSet;
-use sap_terms::{Copied, FactList, Mem, Name, Signature, Term, TermList, Vars};
+use sap_terms::{Copied, FactList, Mem, Name, Signature, Term, TermList, Vars, push_facts_vars};
 use std::alloc::Global;
 
 /// The open variables of a rule: those that stand nowhere on its left side outside a subterm that a destructor of the
@@ -68,39 +68,6 @@ fn first_occurrences(alloc: Global, known: IndexSet<Name>, vars: &Vars) -> Resul
         }
     }
     Ok(out)
-}
-
-// Each occurrence of a variable in the term, added to these.
-#[cycle(push)]
-fn push_vars(alloc: Global, t: &Term, out: &mut Vars) -> Result<(), Mem>
-    ensures { OnOk result (out.new ≡ out.old ++ tree_vars (tree t.now)) }
-{
-    match t {
-        Term::Var(v) => out.push(v.copy(alloc)?)?,
-        Term::App(_, ts) => push_all_vars(alloc, ts, out)?,
-        _ => {}
-    }
-    Ok(())
-}
-
-#[cycle(push)]
-fn push_all_vars(alloc: Global, ts: &TermList, out: &mut Vars) -> Result<(), Mem>
-    ensures { OnOk result (out.new ≡ out.old ++ trees_vars (trees_of ts.now)) }
-{
-    for k in 0..ts.len() {
-        push_vars(alloc, ts.at(k), out)?;
-    }
-    Ok(())
-}
-
-// The same of facts.
-fn push_facts_vars(alloc: Global, fs: &FactList, out: &mut Vars) -> Result<(), Mem>
-    ensures { OnOk result (out.new ≡ out.old ++ facts_vars fs.now) }
-{
-    for f in fs.as_slice() {
-        push_all_vars(alloc, &f.args, out)?;
-    }
-    Ok(())
 }
 
 // Each occurrence outside the subterms that a destructor heads, added to these.

@@ -154,23 +154,13 @@ fn is_answer(answer: &Result<(), SigFault>, want: &str) -> bool {
     }
 }
 
-fn count(sig: &Signature) -> u64 {
-    let mut count: u64 = 0;
-    for k in 0..64 {
-        if sig.symbol(k).is_some() {
-            count = count.saturating_add(1);
-        }
-    }
-    count
-}
-
 // A row is a word to add, its answer, ok or the name that clashes, and the number of symbols behind it.
 fn adds(alloc: Global, sig: &mut Signature, row: &str) -> Option<bool> {
     let mut parts = row.split('%');
     let answer = add(alloc, sig, parts.next()?.trim())?;
     let want = parts.next()?.trim();
     let symbols = parts.next()?.trim().parse::<u64>().ok()?;
-    Some(is_answer(&answer, want) && count(sig) == symbols)
+    Some(is_answer(&answer, want) && sig.symbols().len() as u64 == symbols)
 }
 
 fn first_wrongly_added(alloc: Global, sig: &mut Signature, rows: &str) -> Option<u64> {

@@ -134,6 +134,13 @@ impl Signature {
         }
     }
 
+    /// The held symbols, in order of first declaration.
+    pub fn symbols(&self) -> &[Symbol]
+        ensures { result.now ≡ self.now.symbols }
+    {
+        self.symbols.as_slice()
+    }
+
     /// Adds a symbol, where its name isn't held yet. A symbol that is held as it is asked for changes nothing.
     /// Refused, the signature is as it was.
     #[tactic(auto, using(crate::proofs::SignatureLemmas::signature_laws))]

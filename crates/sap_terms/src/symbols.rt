@@ -54,6 +54,13 @@ impl Symbols {
         self.symbols.get(*place)
     }
 
+    // The symbols, in order.
+    pub(crate) fn as_slice(&self) -> &[Symbol]
+        ensures { result.now ≡ self.now }
+    {
+        self.symbols.as_slice()
+    }
+
     // Where their memory comes from.
     pub(crate) fn allocator(&self) -> Global {
         self.symbols.allocator()

@@ -1,7 +1,6 @@
 pub mod Pushed
 pub mod Applied
 pub mod Listing
-pub mod Found
 pub mod Functions
 pub mod Lines
 pub mod Sizes

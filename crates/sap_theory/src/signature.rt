@@ -1,11 +1,10 @@
-ghost use Rattle.std.specs.Prelude.{◌≡◌, ◌++◌, IfOk, OnOk, ◌&&◌, Some, if◌then◌else◌, not, codes, []};
-ghost use Rattle.sap_terms.specs.Signature.{find_symbol, has_builtin, builtin_symbols, pairs_alone};
-ghost use Rattle.sap_terms.specs.declared.signature.Symbol.{Symbol};
+ghost use Rattle.std.specs.Prelude.{◌≡◌, ◌++◌, IfOk, OnOk, ◌&&◌, if◌then◌else◌, not, codes, []};
+ghost use Rattle.sap_terms.specs.Signature.{has_builtin, builtin_symbols, pairs_alone};
 ghost use Rattle.sap_theory.specs.Pieces.{lead};
 ghost use Rattle.sap_theory.specs.SignatureText.{spelling, is_among, is_brought, symbol_text, builtins_text, functions_text};
 
 use crate::pieces::push_lead;
-use sap_terms::{Builtin, Mem, Name, Signature};
+use sap_terms::{Builtin, Mem, Name, Signature, Symbol};
 use sap_text::Text;
 
 // How a builtin is spelled.
@@ -104,42 +103,34 @@ pub(crate) fn push_functions(text: &mut Text, sig: &Signature) -> Result<(), Mem
     ensures { OnOk result (text.new ≡ text.old ++ functions_text sig.now) }
 {
     let mut is_first = true;
-    for k in 0..u64::MAX {
-        match sig.symbol(k) {
-            Some(name) => is_first = push_function(text, sig, name, is_first)?,
-            None => {
-                push_end(text, is_first)?;
-                return Ok(());
-            }
-        }
+    for s in sig.symbols() {
+        is_first = push_function(text, sig, s, is_first)?;
     }
-    // No memory has room for so many symbols.
-    Err(Mem)
+    push_end(text, is_first)?;
+    Ok(())
 }
 
 // A held symbol, unless it is brought; true where the next one is the first of its line.
-fn push_function(text: &mut Text, sig: &Signature, name: &Name, is_first: bool) -> Result<bool, Mem>
-    ensures first { IfOk result (λ b. b ≡ (is_brought sig.now name.now && is_first)) }
-    ensures text { (s : Symbol) → s.name ≡ name.now → find_symbol sig.now.symbols name.now ≡ Some s
-        → OnOk result (text.new ≡ (if is_brought sig.now name.now then text.old else (text.old ++ lead is_first (codes "\nfunctions: ")) ++ symbol_text s)) }
+fn push_function(text: &mut Text, sig: &Signature, s: &Symbol, is_first: bool) -> Result<bool, Mem>
+    ensures first { IfOk result (λ b. b ≡ (is_brought sig.now s.now.name && is_first)) }
+    ensures text { OnOk result (text.new ≡ (if is_brought sig.now s.now.name then text.old else (text.old ++ lead is_first (codes "\nfunctions: ")) ++ symbol_text s.now)) }
 {
-    if is_brought(sig, name) {
+    if is_brought(sig, &s.name) {
         return Ok(is_first);
     }
     push_lead(text, is_first, b"\nfunctions: ")?;
-    push_symbol(text, sig, name)?;
+    push_symbol(text, s)?;
     Ok(false)
 }
 
-// A held symbol.
-fn push_symbol(text: &mut Text, sig: &Signature, name: &Name) -> Result<(), Mem>
-    ensures { (s : Symbol) → s.name ≡ name.now → find_symbol sig.now.symbols name.now ≡ Some s
-        → OnOk result (text.new ≡ text.old ++ symbol_text s) }
+// A symbol with its arity, and a mark where it is private.
+fn push_symbol(text: &mut Text, s: &Symbol) -> Result<(), Mem>
+    ensures { OnOk result (text.new ≡ text.old ++ symbol_text s.now) }
 {
-    text.push_bytes(name.as_bytes())?;
+    text.push_bytes(s.name.as_bytes())?;
     text.push_bytes(b"/")?;
-    text.push_number(sig.arity(name).unwrap_or(0))?;
-    if sig.is_public(name) {
+    text.push_number(s.arity)?;
+    if !s.private {
         return Ok(());
     }
     text.push_bytes(b" [private]")

@@ -1,21 +1,13 @@
-use Rattle.std.proofs.Common.{◌++◌, ◌∙◌, ap, map}
-use Rattle.std.specs.Prelude.{filter, slice_get}
-use Rattle.sap_theory.specs.Pieces.{line_of}
-use Rattle.sap_theory.specs.SignatureText.{symbol_text}
-use Rattle.sap_theory.proofs.Found.{no_place, take-past_end}
-use Rattle.sap_theory.proofs.Functions.{heading, has_to, done, function_further}
-use Rattle.sap_theory.proofs.Listing.{line_ended}
+use Rattle.std.proofs.Common.{◌<◌, length, refl, arith}
+use Rattle.std.proofs.lemmas.Option.{slice_get_read}
+use Rattle.sap_theory.proofs.Functions.{function_further}
 use Rattle.sap_theory.proofs.signature.push_functions.Goals as goal
 
-pub returns-in-None : goal.returns-in-None
-returns-in-None c =
-    let text = c.args.text.now in
-    let g = c.args.sig.now in
-    let k = c.loop-k.k in
-    let past = no_place (slice_get g.symbols k) c.in-None.ensures.name in
-    c.in_ok-push_end-in-None.ensures ∙ (line_ended heading text (done g k) c.loop-k.text c.loop-k.is_first c.loop-k.invariant
-    ∙ ap (λ ss. text ++ line_of heading (map symbol_text (filter (has_to g) ss))) (take-past_end g.symbols k past))
-
-pub loop-k-preserved : goal.loop-k-preserved
-loop-k-preserved c =
-    function_further c.args.sig.now c.args.text.now c.loop-k.text c.loop-k.is_first c.loop-k.k c.in-Some.name.now c.push_function.new.text c.in_ok-is_first-in-Some.is_first c.in-Some.ensures.once c.in-Some.ensures.name c.loop-k.invariant c.in_ok-is_first-in-Some.ensures.text c.in_ok-is_first-in-Some.ensures.first
+pub loop-s-preserved : goal.loop-s-preserved
+loop-s-preserved c =
+    let symbols = c.symbols-s-items.result.now in
+    let k = c.loop-s.s-index in
+    let s = c.s-item.result in
+    let inside : k < length symbols = omega arith in
+    let held = slice_get_read symbols (length symbols) k s refl inside c.s-item.is in
+    function_further c.args.sig.now symbols c.args.text.now c.loop-s.text c.loop-s.is_first k s c.push_function.new.text c.in_ok-is_first.is_first held c.loop-s.invariant c.in_ok-is_first.ensures.text c.in_ok-is_first.ensures.first

@@ -2,7 +2,7 @@ use Rattle.std.proofs.Common.{◌≡◌, ◌+◌, ◌*◌, ◌++◌, drop}
 use Rattle.sap_terms.specs.Tree.{node_count, trees_count, trees_of}
 use Rattle.sap_terms.specs.Variables.{trees_vars}
 use Rattle.sap_terms.specs.View.{tree}
-use Rattle.sap_process.proofs.occurrences.+push.Given as goal
+use Rattle.sap_terms.proofs.occurrences.+push.Given as goal
 
 abbrev pub decreases-push_vars : goal.decreases-push_vars
 decreases-push_vars l = 2 * node_count (tree l.t.now)

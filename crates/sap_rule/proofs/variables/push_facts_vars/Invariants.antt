@@ -1,6 +1,0 @@
-use Rattle.std.proofs.Common.{◌≡◌, ◌++◌, drop}
-use Rattle.sap_terms.specs.Variables.{facts_vars}
-use Rattle.sap_rule.proofs.variables.push_facts_vars.Given as goal
-
-abbrev pub invariant-loop-f : goal.invariant-loop-f
-invariant-loop-f l = l.out ++ facts_vars (drop l.f-index l.f-items) ≡ l.initial.out ++ facts_vars l.fs
