@@ -1,15 +1,15 @@
 # Read by scripts beside it, which time a program on numbers that double.
 
-# growth CRATE WHAT SIZES WORD..: builds the program crates/CRATE and runs it on the words and each of the sizes, three
-# times. A line for each size has the size, what it counts, the milliseconds of the shortest run, and the ratio to the
-# line before, which is about 2 where time grows with the size.
+# growth WHAT SIZES WORD..: builds the program crates/bench and runs it on the words and each of the sizes, three times. A
+# line for each size has the size, what it counts, the milliseconds of the shortest run, and the ratio to the line before,
+# which is about 2 where time grows with the size.
 growth() {
-    crate=$1 what=$2 sizes=$3
-    shift 3
-    folder=$(cd "$(dirname "$0")/../crates/$crate" && pwd)
-    program=$folder/out/$crate
-    (cd "$folder" && rt run -- "$@" 1000) > /dev/null 2>&1 || {
-        echo "$crate cannot be built" >&2
+    what=$1 sizes=$2
+    shift 2
+    folder=$(cd "$(dirname "$0")/../crates/bench" && pwd)
+    program=$folder/out/bench
+    (cd "$folder" && rt run) > /dev/null 2>&1 || {
+        echo "bench cannot be built" >&2
         exit 1
     }
     before=

@@ -3,4 +3,4 @@
 # printed.
 set -eu
 . "$(dirname "$0")/growth.sh"
-growth bench_deduce entries '20000 40000 80000 160000 320000 640000'
+growth entries '20000 40000 80000 160000 320000 640000' knowledge

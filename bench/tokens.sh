@@ -1,12 +1,12 @@
 #!/bin/sh
 # Times the reading of tokens on files that double in size up to 16 MiB: identifiers, comments, symbols.
-# Run it anywhere: it builds the program crates/bench_text first. Each line has the kind, the size in KiB, the
+# Run it anywhere: it builds the program crates/bench first. Each line has the kind, the size in KiB, the
 # milliseconds, the best of three, and the ratio to the size before, which is about 2 where time grows with the size.
 set -eu
 top=$(cd "$(dirname "$0")/.." && pwd)
-program="$top/crates/bench_text/out/bench_text"
-(cd "$top/crates/bench_text" && rt run -- data/small.txt) > /dev/null 2>&1 || {
-    echo "tokens.sh: bench_text cannot be built" >&2
+program="$top/crates/bench/out/bench"
+(cd "$top/crates/bench" && rt run) > /dev/null 2>&1 || {
+    echo "tokens.sh: bench cannot be built" >&2
     exit 1
 }
 work=$(mktemp -d)
@@ -37,9 +37,9 @@ milliseconds() {
     best=
     for _ in 1 2 3; do
         start=$(date +%s%N)
-        "$program" "$1" > "$work/out"
+        "$program" tokens "$1" > "$work/out"
         end=$(date +%s%N)
-        grep -q ' tokens$' "$work/out" || {
+        grep -q '^tokens Some' "$work/out" || {
             echo "tokens.sh: $(cat "$work/out")" >&2
             exit 1
         }

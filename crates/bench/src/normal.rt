@@ -1,11 +1,7 @@
-//! Makes a term of a given size with many redexes and takes its normal form a given number of times, so that a script
-//! can time `normal`: the words are the nodes, about, and the rounds.
-#![tactic(auto)]
-
+//! A term with many redexes.
 use sap_rewrite::normal;
 use sap_terms::{Mem, Name, Signature, Term, TermList};
 use std::alloc::Global;
-use std::io;
 
 fn public(alloc: Global, name: &[u8]) -> Result<Term, Mem> {
     Ok(Term::Public(Name::from_bytes(alloc, name)?))
@@ -39,8 +35,8 @@ fn term(alloc: Global, nodes: u64) -> Result<Term, Mem> {
     Ok(t)
 }
 
-// The nodes of the normal forms of all rounds together.
-fn run(alloc: Global, nodes: u64, rounds: u64) -> Result<u64, Mem> {
+/// Takes the normal form of a term of about so many nodes so many times: the nodes of all of them together.
+pub fn nodes_of(alloc: Global, nodes: u64, rounds: u64) -> Result<u64, Mem> {
     let sig = Signature::new(alloc)?;
     let t = term(alloc, nodes)?;
     let mut total: u64 = 0;
@@ -49,22 +45,4 @@ fn run(alloc: Global, nodes: u64, rounds: u64) -> Result<u64, Mem> {
         total = total.saturating_add(form.nodes());
     }
     Ok(total)
-}
-
-fn number(word: Option<&String>, default: u64) -> u64 {
-    match word {
-        Some(text) => text.as_str().parse::<u64>().unwrap_or(default),
-        None => default,
-    }
-}
-
-fn main(rt: HostRuntime) -> io::Result<()> {
-    let alloc = rt.alloc();
-    let words: Vec<String> = std::env::args(&rt)?.collect(alloc)?;
-    let nodes = number(words.get(1), 1000);
-    let rounds = number(words.get(2), 1);
-    match run(alloc, nodes, rounds) {
-        Ok(total) => println!(rt; "{total} nodes"),
-        Err(_) => println!(rt; "out of memory"),
-    }
 }

@@ -1,14 +1,12 @@
-//! Takes so many steps of so many rules, so that the time of a step can be measured.
-#![tactic(auto)]
-
+//! Steps of rules.
 use sap_rule::{Rule, RuleList, Theory};
 use sap_runs::RStep;
 use sap_steps::{RFault, RuleState};
 use sap_terms::{
     Bindings, Fact, FactList, Items, Mem, Name, Numbers, Signature, Sort, Term, TermList, Var,
 };
+use sap_text::Text;
 use std::alloc::Global;
-use std::{env, io};
 
 fn fact(alloc: Global, name: &[u8], arg: Term) -> Result<FactList, Mem> {
     let mut args = TermList::new(alloc);
@@ -31,7 +29,9 @@ fn variable(alloc: Global) -> Result<Term, Mem> {
 
 // the name of the rule of this number
 fn rule_name(alloc: Global, k: u64) -> Result<Name, Mem> {
-    let text = format!(in alloc; "R{}", k)?;
+    let mut text = Text::new(alloc);
+    text.push_bytes(b"R")?;
+    text.push_number(k)?;
     Name::from_bytes(alloc, text.as_bytes())
 }
 
@@ -100,27 +100,12 @@ fn run(alloc: Global, state: &mut RuleState, rules: u64, steps: u64) -> Result<u
     Ok(shown)
 }
 
-fn measured(alloc: Global, rules: u64, steps: u64) -> Result<u64, RFault> {
+/// Takes so many steps of so many rules, one rule after another: how many facts they show.
+pub fn shown_by(alloc: Global, steps: u64, rules: u64) -> Result<u64, RFault> {
     let theory = theory(alloc, rules)?;
     if !theory.can_run(alloc)? {
         return Err(RFault::NoRule);
     }
     let mut state = RuleState::start(alloc, &theory)?;
     run(alloc, &mut state, rules, steps)
-}
-
-fn main(rt: HostRuntime) -> io::Result<()> {
-    let mut args = env::args(&rt)?;
-    let rules = match args.nth(1) {
-        Some(word) => word.as_str().parse::<u64>().unwrap_or(0),
-        None => 0,
-    };
-    let steps = match args.next() {
-        Some(word) => word.as_str().parse::<u64>().unwrap_or(0),
-        None => 0,
-    };
-    match measured(rt.alloc(), rules, steps) {
-        Ok(shown) => println!(rt; "{} steps of {} rules, {} facts shown", steps, rules, shown),
-        Err(_) => println!(rt; "refused"),
-    }
 }

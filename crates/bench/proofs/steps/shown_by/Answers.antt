@@ -1,4 +1,4 @@
-use Rattle.bench_steps.proofs.measured.Goals as goal
+use Rattle.bench.proofs.steps.shown_by.Goals as goal
 
 pub start-requires : goal.start-requires
 start-requires c = c.in_ok-can_run.ensures.0 c.if-not-branch.false

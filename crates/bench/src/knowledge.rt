@@ -1,10 +1,7 @@
-//! Adds so many entries to an adversary's knowledge, so that the time of its calls can be measured.
-#![tactic(auto)]
-
+//! An adversary's knowledge.
 use sap_deduce::{Deny, Knowledge};
 use sap_terms::{Mem, Name, Numbers, Signature, Term};
 use std::alloc::Global;
-use std::{env, io};
 
 fn numbers(alloc: Global, ks: &[u64]) -> Result<Numbers, Mem> {
     let mut numbers = Numbers::new(alloc);
@@ -49,14 +46,8 @@ fn nodes(k: &Knowledge) -> u64 {
     nodes
 }
 
-fn main(rt: HostRuntime) -> io::Result<()> {
-    let mut args = env::args(&rt)?;
-    let entries = match args.nth(1) {
-        Some(word) => word.as_str().parse::<u64>().unwrap_or(0),
-        None => 0,
-    };
-    match knowledge(rt.alloc(), entries) {
-        Ok(k) => println!(rt; "{} entries, {} nodes", k.len(), nodes(&k)),
-        Err(_) => println!(rt; "refused"),
-    }
+/// Enters so many terms: the nodes that they have together.
+pub fn nodes_of(alloc: Global, entries: u64) -> Result<u64, Deny> {
+    let k = knowledge(alloc, entries)?;
+    Ok(nodes(&k))
 }
