@@ -58,7 +58,7 @@ fn words_of(alloc: Global, text: &str) -> Result<Vec<String>, AllocError> {
     Ok(words)
 }
 
-fn run(
+fn called(
     alloc: Global,
     words: &Vec<String>,
     shelf: &mut MemShelf,
@@ -82,7 +82,7 @@ pub fn compile(alloc: Global, bytes: &[u8]) -> Option<Run> {
     let mut shelf = shelf_of(alloc, bytes, 0).ok()?;
     let out = sink_of(alloc, "")?;
     let err = sink_of(alloc, "")?;
-    Some(run(alloc, &words, &mut shelf, out, err))
+    Some(called(alloc, &words, &mut shelf, out, err))
 }
 
 /// The bytes of a text in which `^` stands for a line feed.
@@ -177,7 +177,7 @@ fn ends(alloc: Global, row: &str) -> Option<bool> {
     let mut shelf = shelf_of(alloc, file.as_slice(), parts.next()?.parse::<u64>().ok()?).ok()?;
     let out = sink_of(alloc, parts.next()?)?;
     let err = sink_of(alloc, parts.next()?)?;
-    let run = run(alloc, &words, &mut shelf, out, err);
+    let run = called(alloc, &words, &mut shelf, out, err);
     if run.asked != parts.next()?.parse::<u64>().ok()? {
         return Some(false);
     }
