@@ -214,10 +214,19 @@ fn show_instance_of(
     }
 }
 
+fn show_instance_of_bytes(
+    alloc: Global,
+    out: &mut Text,
+    bytes: &[u8],
+    is_whole: bool,
+) -> Result<(), Mem> {
+    let read = read_file(alloc, bytes);
+    show_instance_of(alloc, out, &read, is_whole)
+}
+
 fn instance_of(alloc: Global, bytes: &[u8], is_whole: bool) -> Result<Text, Mem> {
     let mut out = Text::new(alloc);
-    let read = read_file(alloc, bytes);
-    show_instance_of(alloc, &mut out, &read, is_whole)?;
+    show_instance_of_bytes(alloc, &mut out, bytes, is_whole)?;
     Ok(out)
 }
 
