@@ -8,7 +8,7 @@ use Rattle.std.specs.Prelude.{◌⊎◌}
 use Rattle.std.proofs.Common.{inl, inr}
 use Rattle.sap_terms.specs.Tree.{Tree, variable, public, fresh, apply}
 use Rattle.sap_terms.specs.Signature.{Sig}
-use Rattle.sap_terms.specs.Theory.{Theory, theory, IsInstance, first, second, symmetric, asymmetric, signing}
+use Rattle.sap_terms.specs.Equations.{Equations, equations, IsInstance, first, second, symmetric, asymmetric, signing}
 use Rattle.sap_terms.specs.Equal.{same}
 use Rattle.sap_terms.specs.Normal.{IsNormal}
 use Rattle.sap_terms.specs.Deduce.{IsDerived, a_public, a_name, given, applied, IsDerivation, IsDeducible}
@@ -24,22 +24,22 @@ IsApplied (public n) = ⊥
 IsApplied (fresh k) = ⊥
 IsApplied (apply f ts) = Unit {0}
 
-left-applied : {e : Theory} {t r : Tree} → IsInstance e t r → IsApplied t
+left-applied : {e : Equations} {t r : Tree} → IsInstance e t r → IsApplied t
 left-applied first = tt
 left-applied second = tt
 left-applied (symmetric h) = tt
 left-applied (asymmetric h) = tt
 left-applied (signing h) = tt
 
-fresh-normal : (e : Theory) (n : ℕ) → IsNormal e (fresh n)
+fresh-normal : (e : Equations) (n : ℕ) → IsNormal e (fresh n)
 fresh-normal e n = λ b i. left-applied i
 
-public-normal : (e : Theory) (a : List ℕ) → IsNormal e (public a)
+public-normal : (e : Equations) (a : List ℕ) → IsNormal e (public a)
 public-normal e a = λ b i. left-applied i
 
-pub adds-normal : (g : Sig) (es : List Entry) (line : Line) (t : Tree) → Adds g es line t → IsNormal (theory g) t
-adds-normal g es (Name n) t a = let P : Tree → Type 0 = λ u. IsNormal (theory g) u in subst P (sym a) (fresh-normal (theory g) n)
-adds-normal g es Public t a = let P : Tree → Type 0 = λ u. IsNormal (theory g) u in subst P (sym a.1) (public-normal (theory g) a.0)
+pub adds-normal : (g : Sig) (es : List Entry) (line : Line) (t : Tree) → Adds g es line t → IsNormal (equations g) t
+adds-normal g es (Name n) t a = let P : Tree → Type 0 = λ u. IsNormal (equations g) u in subst P (sym a) (fresh-normal (equations g) n)
+adds-normal g es Public t a = let P : Tree → Type 0 = λ u. IsNormal (equations g) u in subst P (sym a.1) (public-normal (equations g) a.0)
 adds-normal g es Output t a = a
 adds-normal g es (Apply f ks) t a = a.form.normal
 
@@ -47,11 +47,11 @@ terms_of-push : (es : List Entry) (e : Entry) → terms_of (es ++ e ∷ []) ≡ 
 terms_of-push es e = map-append (λ (x : Entry). x.term) es (e ∷ [])
 
 -- each entry is normal
-pub entered-normal : (g : Sig) (es : List Entry) → AreEntered g es → All (IsNormal (theory g)) (terms_of es)
-entered-normal g _ none_yet = All-nil (IsNormal (theory g))
+pub entered-normal : (g : Sig) (es : List Entry) → AreEntered g es → All (IsNormal (equations g)) (terms_of es)
+entered-normal g _ none_yet = All-nil (IsNormal (equations g))
 entered-normal g _ (one_more es t line h a) =
     rw (terms_of-push es (record { term = t; line = line }))
-    (All-push (IsNormal (theory g)) (terms_of es) t (entered-normal g es h) (adds-normal g es line t a))
+    (All-push (IsNormal (equations g)) (terms_of es) t (entered-normal g es h) (adds-normal g es line t a))
 
 -- one more entry gives no less
 names_kept : (es : List Entry) (e : Entry) (n : ℕ) → Contains (names_given es) n → Contains (names_given (es ++ e ∷ [])) n
@@ -118,7 +118,7 @@ derivation g names frame _ (one_more es t line h a) has_name has_output =
     ))
 
 -- each term of a derivation of normal terms is deducible
-step_deducible : (g : Sig) (names : List ℕ) (frame ts : List Tree) → IsDerivation g names frame ts → (k : ℕ) (t : Tree) → slice_get ts k ≡ Some t → IsNormal (theory g) t → IsDeducible g names frame t
+step_deducible : (g : Sig) (names : List ℕ) (frame ts : List Tree) → IsDerivation g names frame ts → (k : ℕ) (t : Tree) → slice_get ts k ≡ Some t → IsNormal (equations g) t → IsDeducible g names frame t
 step_deducible g names frame [] d k t h n = cc
 step_deducible g names frame (u ∷ us) d zero t h n =
     let e : u ≡ t = cc in
@@ -166,14 +166,14 @@ entered_more g names frame ts r t line a n o =
     }
 
 -- one term more
-derived-entered : (g : Sig) (names : List ℕ) (frame ts : List Tree) → All (IsNormal (theory g)) frame → (t : Tree) → IsDerived g names frame ts t
+derived-entered : (g : Sig) (names : List ℕ) (frame ts : List Tree) → All (IsNormal (equations g)) frame → (t : Tree) → IsDerived g names frame ts t
     → CanBeEntered g names frame ts → CanBeEntered g names frame (t ∷ ts)
 derived-entered g names frame ts normal t (a_public a e) r =
     entered_more g names frame ts r t Public (a, e) (All-nil (Contains names)) (All-nil (Contains frame))
 derived-entered g names frame ts normal t (a_name n c e) r =
     entered_more g names frame ts r t (Name n) e (All-cons (Contains names) n [] c (All-nil (Contains names))) (All-nil (Contains frame))
 derived-entered g names frame ts normal t (given c) r =
-    entered_more g names frame ts r t Output (All-contains (IsNormal (theory g)) frame t normal c) (All-nil (Contains names)) (All-cons (Contains frame) t [] c (All-nil (Contains frame)))
+    entered_more g names frame ts r t Output (All-contains (IsNormal (equations g)) frame t normal c) (All-nil (Contains names)) (All-cons (Contains frame) t [] c (All-nil (Contains frame)))
 derived-entered g names frame ts normal t (applied f us p a c form) r =
     let had : All (Contains (terms_of r.entries)) us = λ k d h. rw r.terms (Contains-reverse ts (slice_index_or us k d) (c k d h)) in
     let found : (ks : List ℕ) × (map (slice_get (terms_of r.entries)) ks ≡ map Some us) = numbers (terms_of r.entries) us had in
@@ -186,7 +186,7 @@ derived-entered g names frame ts normal t (applied f us p a c form) r =
       form = form;
     }) (All-nil (Contains names)) (All-nil (Contains frame))
 
-pub derivation-entered : (g : Sig) (names : List ℕ) (frame ts : List Tree) → All (IsNormal (theory g)) frame → IsDerivation g names frame ts → CanBeEntered g names frame ts
+pub derivation-entered : (g : Sig) (names : List ℕ) (frame ts : List Tree) → All (IsNormal (equations g)) frame → IsDerivation g names frame ts → CanBeEntered g names frame ts
 derivation-entered g names frame [] normal d = record {
   entries = [];
   entered = none_yet;

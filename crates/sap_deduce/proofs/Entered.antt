@@ -9,7 +9,7 @@ use Rattle.sap_terms.specs.View.{tree}
 use Rattle.sap_terms.specs.Signature.{Sig}
 use Rattle.sap_deduce.specs.declared.line.Line.{Line}
 use Rattle.sap_deduce.specs.declared.entry.Entry.{Entry as StoredEntry}
-use Rattle.sap_deduce.specs.Entries.{Entry, Entries, terms_of, Adds, none_yet, one_more, AreHeld}
+use Rattle.sap_deduce.specs.Entries.{Entry, Entries, terms_of, Adds, none_yet, one_more, AreEntries}
 use Rattle.sap_deduce.specs.Views.{entry_of, entries_of}
 
 pub entries_of-push : (es : List StoredEntry) (e : StoredEntry) → entries_of (es ++ e ∷ []) ≡ entries_of es ++ entry_of e ∷ []
@@ -22,11 +22,11 @@ pub slice_get-terms_of : (es : List StoredEntry) (k : ℕ) → slice_get (terms_
 slice_get-terms_of es k =
     ap (λ ts. slice_get ts k) (map-map (λ (e : Entry). e.term) entry_of es) ∙ slice_get-map (λ (e : StoredEntry). tree e.term) es k
 
-pub held_none : (g : Sig) → AreHeld (record { sig = g; entries = [] })
+pub held_none : (g : Sig) → AreEntries (record { sig = g; entries = [] })
 held_none g = record { entered = none_yet; within = All-nil (λ (e : Entry). node_count e.term ≤ 256) }
 
-pub held_more : (k : Entries) (t : Tree) (line : Line) → AreHeld k → Adds k.sig k.entries line t → node_count t ≤ 256
-    → AreHeld (record { sig = k.sig; entries = k.entries ++ record { term = t; line = line } ∷ [] })
+pub held_more : (k : Entries) (t : Tree) (line : Line) → AreEntries k → Adds k.sig k.entries line t → node_count t ≤ 256
+    → AreEntries (record { sig = k.sig; entries = k.entries ++ record { term = t; line = line } ∷ [] })
 held_more k t line h a w = record {
   entered = one_more k.entries t line h.entered a;
   within = All-push (λ (e : Entry). node_count e.term ≤ 256) k.entries (record { term = t; line = line }) h.within w;

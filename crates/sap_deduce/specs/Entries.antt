@@ -3,7 +3,7 @@ use Rattle.std.specs.Prelude.{◌≡◌, ◌<◌, ◌≤◌, ℕ, Bool, true, fa
 use Rattle.std.specs.List.{filter_map}
 use Rattle.sap_terms.specs.Tree.{Tree, public, fresh, apply, trees_of, node_count}
 use Rattle.sap_terms.specs.Signature.{Sig, IsPublic, arity_of}
-use Rattle.sap_terms.specs.Theory.{theory}
+use Rattle.sap_terms.specs.Equations.{equations}
 use Rattle.sap_terms.specs.Normal.{IsNormal, IsNormalForm}
 use Rattle.sap_deduce.specs.declared.line.Line.{Line}
 use Rattle.sap_deduce.specs.declared.line.Line.TheVariants.{Name, Public, Output, Apply}
@@ -55,13 +55,13 @@ pub record IsApplication (g : Sig) (es : List Entry) (f ks : List ℕ) (t : Tree
   pub public_symbol : IsPublic g f
   pub arity : arity_of g f ≡ Some (length ks)
   pub at_numbers : AreTermsAt es ks args
-  pub form : IsNormalForm (theory g) (apply f (trees_of args)) t
+  pub form : IsNormalForm (equations g) (apply f (trees_of args)) t
 
 -- after these entries the line adds the term
 abbrev pub Adds : Sig → List Entry → Line → Tree → Type 0
 Adds g es (Name n) t = t ≡ fresh n
 Adds g es Public t = (a : List ℕ) × (t ≡ public a)
-Adds g es Output t = IsNormal (theory g) t
+Adds g es Output t = IsNormal (equations g) t
 Adds g es (Apply f ks) t = IsApplication g es f ks t
 
 -- lines add the entries, one after another
@@ -70,7 +70,7 @@ pub data AreEntered (g : Sig) : List Entry → Type 0 where
   one_more : (es : List Entry) (t : Tree) (line : Line) → AreEntered g es → Adds g es line t → AreEntered g (es ++ record { term = t; line = line } ∷ [])
 
 -- so they do, and no term has more than 256 nodes
-pub record AreHeld (k : Entries) : Type 0 where
+pub record AreEntries (k : Entries) : Type 0 where
   pub entered : AreEntered k.sig k.entries
   pub within : All (λ (e : Entry). node_count e.term ≤ 256) k.entries
 

@@ -2,7 +2,7 @@
 use Rattle.std.specs.Prelude.{◌≡◌, ℕ, List, All, Contains, reverse}
 use Rattle.sap_terms.specs.Tree.{Tree}
 use Rattle.sap_terms.specs.Signature.{Sig}
-use Rattle.sap_terms.specs.Theory.{theory}
+use Rattle.sap_terms.specs.Equations.{equations}
 use Rattle.sap_terms.specs.Normal.{IsNormal}
 use Rattle.sap_terms.specs.Deduce.{IsDeducible, IsDerivation}
 use Rattle.sap_deduce.specs.Entries.{Entry, Entries, terms_of, names_given, outputs_given, AreEntered}
@@ -22,4 +22,4 @@ pub record CanBeEntered (g : Sig) (names : List ℕ) (frame ts : List Tree) : Ty
 -- so it is with each derivation from names and normal terms
 abbrev pub DerivationsCanBeEntered : Type 0
 DerivationsCanBeEntered =
-    (g : Sig) (names : List ℕ) (frame ts : List Tree) → All (IsNormal (theory g)) frame → IsDerivation g names frame ts → CanBeEntered g names frame ts
+    (g : Sig) (names : List ℕ) (frame ts : List Tree) → All (IsNormal (equations g)) frame → IsDerivation g names frame ts → CanBeEntered g names frame ts

@@ -4,6 +4,6 @@ pub mod Laws
 pub use Rattle.sap_terms.specs.Tree
 pub use Rattle.sap_terms.specs.View
 pub use Rattle.sap_terms.specs.Signature
-pub use Rattle.sap_terms.specs.Theory
+pub use Rattle.sap_terms.specs.Equations
 pub use Rattle.sap_terms.specs.Normal
 pub use Rattle.sap_terms.specs.Deduce

@@ -2,7 +2,7 @@ ghost use Rattle.std.specs.Prelude.{◌≡◌, ◌+◌, ◌<◌, ◌≤◌, [], 
 ghost use Rattle.std.specs.Option.{option_copied};
 ghost use Rattle.sap_terms.specs.View.{tree};
 ghost use Rattle.sap_terms.specs.Tree.{node_count, fresh, public};
-ghost use Rattle.sap_terms.specs.Theory.{theory};
+ghost use Rattle.sap_terms.specs.Equations.{equations};
 ghost use Rattle.sap_terms.specs.Normal.{IsNormal};
 ghost use Rattle.sap_deduce.specs.Entries.{Gains, Adds, terms_of, AreTermsAt, IsApplication, Applies, IsCause, IsLarge};
 ghost use Rattle.sap_terms.specs.Signature.{IsPublic, arity_of};
@@ -10,7 +10,7 @@ ghost use Rattle.sap_deduce.specs.declared.line.Line.TheVariants.{Name as NameLi
 
 use crate::entry::Entry;
 use crate::{Deny, Line};
-use sap_rewrite::{Cut, normal_on};
+use sap_rewrite::{Limited, normal_on};
 use sap_terms::{Copied, Items, Mem, Name, Numbers, Signature, Term};
 use std::alloc::Global;
 use std::marker::Model;
@@ -25,7 +25,7 @@ pub struct Knowledge {
 impl Model for Knowledge {
     ghost use Rattle.std.specs.Coded.{codes};
     ghost use Rattle.sap_terms.specs.Code.{tree_code};
-    ghost use Rattle.sap_deduce.specs.Entries.{Entries, AreHeld};
+    ghost use Rattle.sap_deduce.specs.Entries.{Entries, AreEntries};
 
     ghost Value = { Entries };
 
@@ -35,7 +35,7 @@ impl Model for Knowledge {
 
     ghost view = { λ a. record { sig = a.sig; entries = entries_of a.entries } };
 
-    ghost invariant = { λ a. AreHeld (record { sig = a.sig; entries = entries_of a.entries }) };
+    ghost invariant = { λ a. AreEntries (record { sig = a.sig; entries = entries_of a.entries }) };
 }
 
 impl Knowledge {
@@ -102,7 +102,7 @@ impl Knowledge {
 
     /// Adds a term that was sent, and gives the entry's number.
     pub fn output(&mut self, t: Term) -> Result<u64, Mem>
-        requires normal { IsNormal (theory self.old.sig) (tree t) }
+        requires normal { IsNormal (equations self.old.sig) (tree t) }
         requires within { node_count (tree t) ≤ 256 }
         ensures number { IfOk result (λ k. k ≡ length self.old.entries) }
         ensures ok { OnOk result (Gains self.old self.new OutputLine (tree t)) }
@@ -157,8 +157,8 @@ impl Knowledge {
         let terms = self.terms_at(alloc, numbers)?;
         match normal_on(alloc, &self.sig, f, &terms, 256) {
             Ok(form) => Ok(form),
-            Err(Cut::Large) => Err(Deny::TermLarge),
-            Err(Cut::Mem) => Err(Deny::Mem),
+            Err(Limited::Large) => Err(Deny::TermLarge),
+            Err(Limited::Mem) => Err(Deny::Mem),
         }
     }
 
@@ -202,7 +202,7 @@ impl Knowledge {
     /// at most 256 nodes, which is deducible from the names and the outputs that were given.
     pub fn each_is_deducible(&self)
         ensures entered { AreEntered self.now.sig self.now.entries }
-        ensures normal { All (IsNormal (theory self.now.sig)) (terms_of self.now.entries) }
+        ensures normal { All (IsNormal (equations self.now.sig)) (terms_of self.now.entries) }
         ensures within { All (λ t. node_count t ≤ 256) (terms_of self.now.entries) }
         ensures deducible { AreDeducible self.now }
     {

@@ -5,13 +5,13 @@ use Rattle.sap_terms.specs.Tree.{Tree}
 use Rattle.sap_terms.specs.Same.{same_tree}
 use Rattle.sap_terms.specs.Choice.{fits_sort}
 use Rattle.sap_terms.specs.Signature.{Sig}
-use Rattle.sap_terms.specs.Theory.{theory, first}
+use Rattle.sap_terms.specs.Equations.{equations, first}
 use Rattle.sap_terms.specs.Equal.{same, next, forward}
 use Rattle.sap_terms.specs.declared.var.Sort.TheVariants.{Fresh}
 use Rattle.sap_rewrite.specs.Laws.{FormsDecide}
 use Rattle.sap_terms.specs.Trace.{Trace}
 use Rattle.sap_formula.specs.Truth.{IsTrueOn}
-use Rattle.sap_formula.specs.Holds.{AreTrueOn}
+use Rattle.sap_formula.specs.HoldsOf.{AreTrueOn}
 use Rattle.sap_formula.specs.Examples.{a, b, x, fresh_x, fact, trace_a, trace_ab, IsEither, only_a, some_place, two_places, some_b, two_binders, first_of_pair}
 use Rattle.sap_formula.proofs.Messages.{public_normal, public_message, same_from_equal}
 
@@ -21,7 +21,7 @@ is_b t = same_tree t b
 pub other_place : FormsDecide → (g : Sig) → ¬ IsTrueOn g only_a trace_ab
 other_place decide g h =
     let e = h b (public_message g (codes "b")) 1 (lit< tt) (inl (refl, (same, tt))) in
-    let p = same_from_equal decide (theory g) b a (public_normal (theory g) (codes "b")) (public_normal (theory g) (codes "a")) e in
+    let p = same_from_equal decide (equations g) b a (public_normal (equations g) (codes "b")) (public_normal (equations g) (codes "a")) e in
     let q : true ≡ false = ap is_b p in
     cc
 
@@ -36,7 +36,7 @@ all_terms g = (b, public_message g (codes "b"), same)
 
 pub sorts : FormsDecide → (g : Sig) → ¬ IsTrueOn g (some_b fresh_x) []
 sorts decide g h =
-    let p = same_from_equal decide (theory g) h.0 b h.1.normal (public_normal (theory g) (codes "b")) h.2 in
+    let p = same_from_equal decide (equations g) h.0 b h.1.normal (public_normal (equations g) (codes "b")) h.2 in
     let s = subst (λ t. IsTrue (fits_sort Fresh t)) p h.1.sorted in
     cc
 

@@ -1,7 +1,7 @@
 -- Small formulas and traces, to try the definition of truth by hand.
 use Rattle.std.specs.Prelude.{ℕ, Bool, false, codes, List, [], ◌∷◌, ◌≡◌, ◌⊎◌}
 use Rattle.sap_terms.specs.Tree.{Tree, variable, public}
-use Rattle.sap_terms.specs.Theory.{app1, app2, fst_name, pair_name}
+use Rattle.sap_terms.specs.Equations.{app1, app2, fst_name, pair_name}
 use Rattle.sap_terms.specs.declared.var.Var.{Var}
 use Rattle.sap_terms.specs.declared.var.Sort.TheVariants.{Msg, Fresh}
 use Rattle.sap_terms.specs.declared.fact.Fact.{Fact}

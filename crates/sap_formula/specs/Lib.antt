@@ -1,6 +1,6 @@
 pub use Rattle.sap_terms.specs.Tree
 pub use Rattle.sap_terms.specs.Signature
-pub use Rattle.sap_terms.specs.Theory
+pub use Rattle.sap_terms.specs.Equations
 pub use Rattle.sap_terms.specs.Equal
 pub use Rattle.sap_terms.specs.Normal
 pub use Rattle.sap_terms.specs.Ground
@@ -10,5 +10,5 @@ pub mod View
 pub mod Code
 pub mod Places
 pub mod Truth
-pub mod Holds
+pub mod HoldsOf
 pub mod Examples

@@ -6,7 +6,7 @@ use Rattle.sap_terms.specs.Tree.{Tree, variable}
 use Rattle.sap_terms.specs.Choice.{Choice, instance}
 use Rattle.sap_terms.specs.Equal.{IsTheoryEqual}
 use Rattle.sap_terms.specs.Signature.{Sig}
-use Rattle.sap_terms.specs.Theory.{Theory, theory}
+use Rattle.sap_terms.specs.Equations.{Equations, equations}
 use Rattle.sap_terms.specs.declared.var.Var.{Var}
 use Rattle.sap_terms.specs.declared.var.Sort.{Sort}
 use Rattle.sap_terms.specs.declared.fact.Fact.{Fact}
@@ -46,7 +46,7 @@ EachIn P [] = Unit {0}
 EachIn P (x ∷ xs) = P x × EachIn P xs
 
 -- the trace's fact x has the name of f and arguments theory-equal to those of f's instance, one by one
-abbrev pub Shows : Theory → Choice → Fact → Fact → Type 0
+abbrev pub Shows : Equations → Choice → Fact → Fact → Type 0
 Shows e σ f x = (f.name ≡ x.name) × AllZip (λ s t. IsTheoryEqual e (instance σ s) t) f.args x.args
 
 -- for each term of D and each place of P in turn
@@ -63,7 +63,7 @@ Exists D P (Time n ∷ bs) B σ τ = (k : ℕ) × P k × Exists D P bs B σ (sta
 
 -- truth on a trace, where message variables stand for what σ chooses and time variables for what τ says, and
 -- quantifiers range over the terms of D, by sort, and the places of P
-abbrev pub IsTrueUnder : Theory → Trace → (Sort → Tree → Type 0) → (ℕ → Type 0) → Form → Choice → Times → Type 0
+abbrev pub IsTrueUnder : Equations → Trace → (Sort → Tree → Type 0) → (ℕ → Type 0) → Form → Choice → Times → Type 0
 IsTrueUnder e tr D P truth σ τ = Unit {0}
 IsTrueUnder e tr D P falsity σ τ = ⊥
 IsTrueUnder e tr D P (action f i) σ τ = AnyIn (Shows e σ f) (facts_at tr (τ i))
@@ -81,4 +81,4 @@ IsTrueUnder e tr D P (exists bs f) σ τ = Exists D P bs (IsTrueUnder e tr D P f
 -- a closed formula is true on a trace: message variables range over the ground normal terms of their sort over the
 -- signature, time variables over the numbers of places
 abbrev pub IsTrueOn : Sig → Form → Trace → Type 0
-IsTrueOn g f tr = IsTrueUnder (theory g) tr (IsMessage g) (IsPlace tr) f (λ v. variable v) (λ n. 0)
+IsTrueOn g f tr = IsTrueUnder (equations g) tr (IsMessage g) (IsPlace tr) f (λ v. variable v) (λ n. 0)

@@ -3,7 +3,7 @@ ghost use Rattle.std.specs.Prelude.{[], ◌∷◌, true, false};
 ghost use Rattle.sap_terms.specs.Signature.{Sig};
 ghost use Rattle.sap_formula.specs.Form.{negation};
 ghost use Rattle.sap_formula.specs.Truth.{IsTrueOn};
-ghost use Rattle.sap_formula.specs.Holds.{Holds};
+ghost use Rattle.sap_formula.specs.HoldsOf.{HoldsOf};
 ghost use Rattle.sap_formula.specs.Examples.{a, b, x, fresh_x, fact, trace_a, trace_ab, IsEither, only_a, some_place, two_places, some_b, two_binders, first_of_pair};
 
 use crate::Mode;
@@ -27,10 +27,10 @@ pub fn truth_by_hand()
 
 /// A lemma of the two traces `A('a')` and `A('a'), A('b')`: in both modes the restrictions decide of which it speaks.
 pub fn lemmas_by_hand()
-    ensures all_of_each { (g : Sig) → ¬ Holds g IsEither [] Mode.AllTraces only_a }
-    ensures all_restricted { (g : Sig) → Holds g IsEither (negation two_places ∷ []) Mode.AllTraces only_a }
-    ensures some_one { (g : Sig) → Holds g IsEither [] Mode.ExistsTrace only_a }
-    ensures some_restricted { (g : Sig) → ¬ Holds g IsEither (two_places ∷ []) Mode.ExistsTrace only_a }
+    ensures all_of_each { (g : Sig) → ¬ HoldsOf g IsEither [] Mode.AllTraces only_a }
+    ensures all_restricted { (g : Sig) → HoldsOf g IsEither (negation two_places ∷ []) Mode.AllTraces only_a }
+    ensures some_one { (g : Sig) → HoldsOf g IsEither [] Mode.ExistsTrace only_a }
+    ensures some_restricted { (g : Sig) → ¬ HoldsOf g IsEither (two_places ∷ []) Mode.ExistsTrace only_a }
 {
     truth_by_hand();
 }

@@ -11,7 +11,7 @@ use Rattle.sap_terms.specs.Message.{IsMessage, IsMessageChoice}
 use Rattle.sap_terms.specs.Normal.{IsNoLeftSide, IsNormal, IsNormalForm}
 use Rattle.sap_terms.specs.Same.{same_tree}
 use Rattle.sap_terms.specs.Signature.{Sig, pairs_alone}
-use Rattle.sap_terms.specs.Theory.{Theory, theory, IsInstance, first, second, symmetric, asymmetric, signing, app0, fst_name, snd_name, sdec_name, adec_name, verify_name, true_name, pair_name}
+use Rattle.sap_terms.specs.Equations.{Equations, equations, IsInstance, first, second, symmetric, asymmetric, signing, app0, fst_name, snd_name, sdec_name, adec_name, verify_name, true_name, pair_name}
 use Rattle.sap_terms.specs.Tree.{Tree, variable, public, fresh, apply, Trees, none, more}
 use Rattle.sap_terms.specs.declared.var.Sort.{Sort}
 use Rattle.sap_terms.specs.declared.var.Sort.TheVariants.{Msg, Fresh, Pub}
@@ -24,30 +24,30 @@ heads_left_side (apply f ts) =
     bytes_eq f fst_name || bytes_eq f snd_name || bytes_eq f sdec_name || bytes_eq f adec_name || bytes_eq f verify_name
 heads_left_side t = false
 
-left_sides : (e : Theory) (t r : Tree) → IsInstance e t r → heads_left_side t ≡ true
+left_sides : (e : Equations) (t r : Tree) → IsInstance e t r → heads_left_side t ≡ true
 left_sides e t r first = refl
 left_sides e t r second = refl
 left_sides e t r (symmetric s) = refl
 left_sides e t r (asymmetric s) = refl
 left_sides e t r (signing s) = refl
 
-no_left_side : (e : Theory) (t : Tree) → heads_left_side t ≡ false → IsNoLeftSide e t
+no_left_side : (e : Equations) (t : Tree) → heads_left_side t ≡ false → IsNoLeftSide e t
 no_left_side e t h r i = let s = left_sides e t r i in cc
 
-pub public_normal : (e : Theory) (n : List ℕ) → IsNormal e (public n)
+pub public_normal : (e : Equations) (n : List ℕ) → IsNormal e (public n)
 public_normal e n = no_left_side e (public n) refl
 
-pub fresh_normal : (e : Theory) (k : ℕ) → IsNormal e (fresh k)
+pub fresh_normal : (e : Equations) (k : ℕ) → IsNormal e (fresh k)
 fresh_normal e k = no_left_side e (fresh k) refl
 
-pub pair_normal : (e : Theory) (n m : List ℕ) → IsNormal e (pair (public n) (public m))
+pub pair_normal : (e : Equations) (n m : List ℕ) → IsNormal e (pair (public n) (public m))
 pair_normal e n m = (no_left_side e (pair (public n) (public m)) refl, (public_normal e n, (public_normal e m, tt)))
 
 -- a public name is its own normal form
-pub own_form : (e : Theory) (n : List ℕ) → IsNormalForm e (public n) (public n)
+pub own_form : (e : Equations) (n : List ℕ) → IsNormalForm e (public n) (public n)
 own_form e n = record { equal = same; normal = public_normal e n }
 
-pub first_form : (e : Theory) → IsNormalForm e first_of_pair a
+pub first_form : (e : Equations) → IsNormalForm e first_of_pair a
 first_form e = record { equal = next (forward first) same; normal = public_normal e _ }
 
 -- each variable stands for a name: `~x` for a fresh one
@@ -60,17 +60,17 @@ abbrev pub names : Choice
 names v = name_for v.sort
 
 name_message : (g : Sig) (s : Sort) → IsMessage g s (name_for s)
-name_message g Msg = record { ground = tt; over = tt; normal = public_normal (theory g) _; sorted = refl }
-name_message g Fresh = record { ground = tt; over = tt; normal = fresh_normal (theory g) 0; sorted = refl }
-name_message g Pub = record { ground = tt; over = tt; normal = public_normal (theory g) _; sorted = refl }
+name_message g Msg = record { ground = tt; over = tt; normal = public_normal (equations g) _; sorted = refl }
+name_message g Fresh = record { ground = tt; over = tt; normal = fresh_normal (equations g) 0; sorted = refl }
+name_message g Pub = record { ground = tt; over = tt; normal = public_normal (equations g) _; sorted = refl }
 
 pub names_messages : (g : Sig) → IsMessageChoice g names
 names_messages g v = name_message g v.sort
 
 pub gives_public : (g : Sig) (d : Config) (n : List ℕ) → CanGive g d (public n)
 gives_public g d n = record {
-  deducible = record { form = public n; is_form = own_form (theory g) n; earlier = []; derivation = (a_public n refl, tt) };
-  normal = public_normal (theory g) n;
+  deducible = record { form = public n; is_form = own_form (equations g) n; earlier = []; derivation = (a_public n refl, tt) };
+  normal = public_normal (equations g) n;
 }
 
 either : (t u : Tree) (k : ℕ) (d : Tree)
@@ -82,7 +82,7 @@ either t u (suc (suc k)) d = refl
 pub gives_pair : (d : Config) (n m : List ℕ) → CanGive pairs_alone d (pair (public n) (public m))
 gives_pair d n m =
     let t : Tree = pair (public n) (public m) in
-    let form : IsNormalForm (theory pairs_alone) t t = record { equal = same; normal = pair_normal (theory pairs_alone) n m } in
+    let form : IsNormalForm (equations pairs_alone) t t = record { equal = same; normal = pair_normal (equations pairs_alone) n m } in
     record {
       deducible = record {
         form = t;
@@ -100,7 +100,7 @@ gives_pair d n m =
 pub sent_deducible : (g : Sig) (own : List ℕ) (k : ℕ) → IsDeducible g own (fresh k ∷ []) (fresh k)
 sent_deducible g own k = record {
   form = fresh k;
-  is_form = record { equal = same; normal = fresh_normal (theory g) k };
+  is_form = record { equal = same; normal = fresh_normal (equations g) k };
   earlier = [];
   derivation = (given (0, lit< tt, refl), tt);
 }
@@ -151,7 +151,7 @@ abbrev mutual
   values none = none
   values (more t ts) = more (value t) (values ts)
 
-value_left : (e : Theory) (t r : Tree) → IsInstance e t r → value t ≡ value r
+value_left : (e : Equations) (t r : Tree) → IsInstance e t r → value t ≡ value r
 value_left e t r first = refl
 value_left e t r second = refl
 value_left e t r (symmetric s) = refl
@@ -159,23 +159,23 @@ value_left e t r (asymmetric s) = refl
 value_left e t r (signing s) = refl
 
 mutual
-  value_step : {e : Theory} {t u : Tree} → IsStep e t u → value t ≡ value u
+  value_step : {e : Equations} {t u : Tree} → IsStep e t u → value t ≡ value u
   value_step {e} {t} {u} (forward i) = value_left e t u i
   value_step {e} {t} {u} (backward i) = sym (value_left e u t i)
   value_step (inside {f} h) = ap (value_of f) (values_step h)
 
-  values_step : {e : Theory} {ts us : Trees} → IsStepWithin e ts us → values ts ≡ values us
+  values_step : {e : Equations} {ts us : Trees} → IsStepWithin e ts us → values ts ≡ values us
   values_step (here {ts = ts} h) = ap (λ v. more v (values ts)) (value_step h)
   values_step (later {t} h) = ap (more (value t)) (values_step h)
 
-value_equal : {e : Theory} {t u : Tree} → IsTheoryEqual e t u → value t ≡ value u
+value_equal : {e : Equations} {t u : Tree} → IsTheoryEqual e t u → value t ≡ value u
 value_equal same = refl
 value_equal (next s h) = value_step s ∙ value_equal h
 
 abbrev is_b : Tree → Bool
 is_b t = same_tree t b
 
-pub a_differs : (e : Theory) → ¬ IsTheoryEqual e a b
+pub a_differs : (e : Equations) → ¬ IsTheoryEqual e a b
 a_differs e h = let p : false ≡ true = ap is_b (value_equal h) in cc
 
 -- the store without what it alone had has nothing

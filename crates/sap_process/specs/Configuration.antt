@@ -5,7 +5,7 @@ use Rattle.sap_terms.specs.Normal.{IsNormal}
 use Rattle.sap_terms.specs.Piles.{Pile}
 use Rattle.sap_terms.specs.Same.{same_tree}
 use Rattle.sap_terms.specs.Signature.{Sig}
-use Rattle.sap_terms.specs.Theory.{theory}
+use Rattle.sap_terms.specs.Equations.{equations}
 use Rattle.sap_terms.specs.Tree.{Tree}
 use Rattle.sap_process.specs.Proc.{Proc}
 
@@ -73,4 +73,4 @@ IsUnused c n = (¬ Contains c.made n) × (¬ Contains c.own n)
 -- the adversary can give t: it is deducible, and normal
 pub record CanGive (g : Sig) (c : Config) (t : Tree) : Type 0 where
   pub deducible : IsDeducible g c.own c.frame t
-  pub normal : IsNormal (theory g) t
+  pub normal : IsNormal (equations g) t

@@ -5,7 +5,7 @@ use Rattle.std.specs.Str.{bytes_eq}
 use Rattle.std.proofs.lemmas.Bool.{lt-ltb, le-ltb, ltb-true, ltb-false}
 use Rattle.indexmap.specs.IndexMap.{IndexMap, get}
 use Rattle.sap_process.specs.Proc.{Proc, node_count, level_count}
-use Rattle.sap_read.specs.declared.draft.Entry.{Entry}
+use Rattle.sap_read.specs.declared.draft.Definition.{Definition}
 use Rattle.sap_read.specs.declared.fault.ReadFault.TheVariants.{NoProcess, TwoProcesses, TooMany, TooDeep}
 use Rattle.sap_read.specs.declared.names.Meant.{Meant}
 use Rattle.sap_read.specs.Item.{Body}
@@ -22,16 +22,16 @@ nothing_known : (bs : List Body) → AreFresh [] bs
 nothing_known bs x h = absurd (cc)
 
 -- each name means its process
-pub all_meant : (es : List Entry) → unknown_from [] (map body es) ≡ None → first_repeated (labels (map body es)) ≡ None → AreMeant (meaning_of es) (map body es)
+pub all_meant : (es : List Definition) → unknown_from [] (map body es) ≡ None → first_repeated (labels (map body es)) ≡ None → AreMeant (meaning_of es) (map body es)
 all_meant es known distinct = fixed (map body es) [] no_meaning known distinct (nothing_known (map body es))
 
 -- the file's process, by what names mean behind all of them
-pub process_is : (es : List Entry) (e : Entry) → unlabelled (map body es) ≡ body e ∷ [] → unknown_from [] (map body es) ≡ None → first_repeated (labels (map body es)) ≡ None → process_of no_meaning (map body es) ≡ Some (replaced (meaning_of es) (written e.draft))
+pub process_is : (es : List Definition) (e : Definition) → unlabelled (map body es) ≡ body e ∷ [] → unknown_from [] (map body es) ≡ None → first_repeated (labels (map body es)) ≡ None → process_of no_meaning (map body es) ≡ Some (replaced (meaning_of es) (written e.draft))
 process_is es e one known distinct =
     process_fixed (map body es) [] no_meaning (body e) [] known distinct (nothing_known (map body es)) one
 
 -- what is kept of names tells what they mean
-pub all_expanded : {S : Type 0} (es : List Entry) (names : IndexMap (List ℕ) Meant S) → unknown_from [] (map body es) ≡ None → first_repeated (labels (map body es)) ≡ None → AreCounted names (meaning_of es) → AreTargets es names → AreExpanded es names
+pub all_expanded : {S : Type 0} (es : List Definition) (names : IndexMap (List ℕ) Meant S) → unknown_from [] (map body es) ≡ None → first_repeated (labels (map body es)) ≡ None → AreCounted names (meaning_of es) → AreTargets es names → AreExpanded es names
 all_expanded es names known distinct counted targets x = by (get bytes_eq names x) refl (counted x) where
   by : (o : Option Meant) → get bytes_eq names x ≡ o → IsCounted o (meaning_of es x) → IsExpanded es x o
   by None q h = h
@@ -59,7 +59,7 @@ same_above limit n m most below e = by (nat_lt limit m) refl where
   by false q = le-ltb _ _ (omega (arith, below, e, ltb-false limit m q))
 
 -- and the numbers that are kept decide it
-pub by_kept_size : {S : Type 0} (es : List Entry) (e : Entry) (names : IndexMap (List ℕ) Meant S) → unlabelled (map body es) ≡ body e ∷ [] → unknown_from [] (map body es) ≡ None → first_repeated (labels (map body es)) ≡ None → AreCounted names (meaning_of es) → cause (map body es) None ≡ size_fault (min (nodes_in names (written e.draft)) (2 ^ 64 - 1)) (min (levels_in names (written e.draft)) (2 ^ 64 - 1))
+pub by_kept_size : {S : Type 0} (es : List Definition) (e : Definition) (names : IndexMap (List ℕ) Meant S) → unlabelled (map body es) ≡ body e ∷ [] → unknown_from [] (map body es) ≡ None → first_repeated (labels (map body es)) ≡ None → AreCounted names (meaning_of es) → cause (map body es) None ≡ size_fault (min (nodes_in names (written e.draft)) (2 ^ 64 - 1)) (min (levels_in names (written e.draft)) (2 ^ 64 - 1))
 by_kept_size es e names one known distinct counted =
     let p = replaced (meaning_of es) (written e.draft) in
     let is : process_of no_meaning (map body es) ≡ Some p = process_is es e one known distinct in
@@ -75,7 +75,7 @@ low_enough n l h = by (nat_lt 4000 n) (nat_lt 300 l) refl h where
   by false false q h = ltb-false 300 l q
 
 -- and how deep the process is
-pub few_levels : {S : Type 0} (es : List Entry) (e : Entry) (names : IndexMap (List ℕ) Meant S) → AreCounted names (meaning_of es) → size_fault (min (nodes_in names (written e.draft)) (2 ^ 64 - 1)) (min (levels_in names (written e.draft)) (2 ^ 64 - 1)) ≡ None → level_count (replaced (meaning_of es) (written e.draft)) ≤ 300
+pub few_levels : {S : Type 0} (es : List Definition) (e : Definition) (names : IndexMap (List ℕ) Meant S) → AreCounted names (meaning_of es) → size_fault (min (nodes_in names (written e.draft)) (2 ^ 64 - 1)) (min (levels_in names (written e.draft)) (2 ^ 64 - 1)) ≡ None → level_count (replaced (meaning_of es) (written e.draft)) ≤ 300
 few_levels es e names counted h =
     let cut : min (levels_in names (written e.draft)) (2 ^ 64 - 1) ≤ 300 = low_enough _ _ h in
     uncut _ (2 ^ 64 - 1) 300 (rw (← levels_counted names (meaning_of es) counted (written e.draft)) cut) (omega arith)

@@ -11,7 +11,7 @@ use Rattle.sap_read.specs.Item.{Item, definition, process, Standing, Declaration
 use Rattle.sap_read.specs.Cut.{Placed, placed, words, first_line, IsCut}
 use Rattle.sap_read.specs.ItemGrammar.{IsProcess, IsItem, IsEnd, AreItems, IsSomeItem, IsFaulty, item_builtins, item_functions, item_definition, item_process, items_end, items_more, no_end, bad_item, later_item}
 use Rattle.sap_read.specs.Signatures.{clash_with, with_declaration, signature_from, signature_of, clash_from}
-use Rattle.sap_read.specs.declared.draft.Entry.{Entry}
+use Rattle.sap_read.specs.declared.draft.Definition.{Definition}
 use Rattle.sap_read.specs.Drafts.{body}
 use Rattle.sap_read.specs.Reading.{name_at}
 use Rattle.sap_read.specs.ItemReading.{count_on, cut, kept, declared_in, declared_in_all, told}
@@ -215,7 +215,7 @@ no_other ws l p none it = go l p none it.is
     go l p none (item_process r) = absurd (cc)
 
 -- where the tokens are asked whether they declare something
-declaration_added : (g : Sig) (z : List ℕ) (ts : List Token) (es : List Entry) (b : Bool) → starts (codes "let") (words_of z ts) ≡ false → starts (codes "process") (words_of z ts) ≡ false
+declaration_added : (g : Sig) (z : List ℕ) (ts : List Token) (es : List Definition) (b : Bool) → starts (codes "let") (words_of z ts) ≡ false → starts (codes "process") (words_of z ts) ≡ false
     → b ≡ is_some (declared_in (words_of z ts)) → IsAdded g z ts es es b
 declaration_added g z ts es b l p e = go (declared_in (words_of z ts)) refl b e
   where
@@ -228,13 +228,13 @@ declaration_added g z ts es b l p e = go (declared_in (words_of z ts)) refl b e
         ([], record { item = alone.item; spelled = alone.spelled g; says = alone.no_body (first_line (placed z ts)) }, sym (append-nil (map body es)))
 
 -- the same, where asking may fail
-pub declaration_tried : (g : Sig) (z : List ℕ) (ts : List Token) (es : List Entry) (r : Result Bool Mem) → starts (codes "let") (words_of z ts) ≡ false
+pub declaration_tried : (g : Sig) (z : List ℕ) (ts : List Token) (es : List Definition) (r : Result Bool Mem) → starts (codes "let") (words_of z ts) ≡ false
     → starts (codes "process") (words_of z ts) ≡ false → IfOk r (λ b. b ≡ is_some (declared_in (words_of z ts))) → IfOk r (λ b. IsAdded g z ts es es b)
 declaration_tried g z ts es (Ok b) l p e = declaration_added g z ts es b l p e
 declaration_tried g z ts es (Err f) l p e = tt
 
 -- Turns of the loop over items, where `entries` were read before the tokens `rest`.
-module _ (g : Sig) (last : ℕ) (z : List ℕ) (ts rest item behind : List Token) (entries : List Entry)
+module _ (g : Sig) (last : ℕ) (z : List ℕ) (ts rest item behind : List Token) (entries : List Definition)
     (good : (is : List Standing) → AreItems g (cut (placed z rest)) is → (js : List Standing) × AreItems g (cut (placed z ts)) js × (map body entries ++ bodies is ≡ bodies js))
     (faulty : (n : ℕ) → IsFaulty last (cut (placed z rest)) n → IsFaulty last (cut (placed z ts)) n)
     (split : cut (placed z rest) ≡ placed z item ∷ cut (placed z behind)) where
@@ -251,7 +251,7 @@ module _ (g : Sig) (last : ℕ) (z : List ℕ) (ts rest item behind : List Token
       let there = faulty (first_line (placed z item)) (subst (λ (y : List (List Placed)). IsFaulty last y (first_line (placed z item))) (sym split) here) in
       rw l (subst (λ (y : List (List Placed)). IsFaulty last y (first_line (placed z item))) (cut_is r) there)
 
-  module _ (after : List Entry) (added : IsAdded g z item entries after true) where
+  module _ (after : List Definition) (added : IsAdded g z item entries after true) where
     pub turn_good : (is : List Standing) → AreItems g (cut (placed z behind)) is → (js : List Standing) × AreItems g (cut (placed z ts)) js × (map body after ++ bodies is ≡ bodies js)
     turn_good is r =
         let it = added.1 in

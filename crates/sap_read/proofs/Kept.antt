@@ -10,7 +10,7 @@ use Rattle.std.proofs.lemmas.Slice.Eq.{bytes_eq-Decides}
 use Rattle.indexmap.specs.IndexMap.{IndexMap, get}
 use Rattle.sap_process.specs.Proc as whole
 use Rattle.sap_process.specs.Proc.{Proc, node_count, level_count}
-use Rattle.sap_read.specs.declared.draft.Entry.{Entry}
+use Rattle.sap_read.specs.declared.draft.Definition.{Definition}
 use Rattle.sap_read.specs.declared.fault.ReadFault.{ReadFault}
 use Rattle.sap_read.specs.declared.fault.ReadFault.TheVariants.{UnknownProcess}
 use Rattle.sap_read.specs.declared.names.Meant.{Meant}
@@ -133,7 +133,7 @@ known_call names z h = by (get bytes_eq names z) refl where
   by (Some m) e = (m, e)
 
 -- the target of a process' name
-aimed : {S : Type 0} (names : IndexMap (List ℕ) Meant S) (means : List ℕ → Proc) (es : List Entry) (k : ℕ) (e : Entry) (x : List ℕ) → ((z : List ℕ) (m : Meant) → get bytes_eq names z ≡ Some m → IsTarget means es z m.place) → slice_get es k ≡ Some e → means x ≡ replaced means (written e.draft) → unknown_among names (calls (written e.draft)) ≡ None → IsTarget means es x (target names k (written e.draft))
+aimed : {S : Type 0} (names : IndexMap (List ℕ) Meant S) (means : List ℕ → Proc) (es : List Definition) (k : ℕ) (e : Definition) (x : List ℕ) → ((z : List ℕ) (m : Meant) → get bytes_eq names z ≡ Some m → IsTarget means es z m.place) → slice_get es k ≡ Some e → means x ≡ replaced means (written e.draft) → unknown_among names (calls (written e.draft)) ≡ None → IsTarget means es x (target names k (written e.draft))
 aimed names means es k e x old there is known = by (written e.draft) refl where
   here : is_call (written e.draft) ≡ false → IsTarget means es x k
   here plain = (e, there, plain, is)
@@ -152,7 +152,7 @@ aimed names means es k e x old there is known = by (written e.draft) refl where
       let same : means x ≡ means z = is ∙ ap (replaced means) q in
       subst (λ o. IsTarget means es x (place_kept k o)) (sym kept.1) (it.0, it.1, it.2, same ∙ it.3)
 
-targets_more : {S : Type 0} (names : IndexMap (List ℕ) Meant S) (means : List ℕ → Proc) (es : List Entry) (k : ℕ) (e : Entry) → AreMeant means (map body es) → ((z : List ℕ) (m : Meant) → get bytes_eq names z ≡ Some m → IsTarget means es z m.place) → slice_get es k ≡ Some e → unknown_among names (calls (written e.draft)) ≡ None → (l : Option (List ℕ)) → e.label ≡ l → (x : List ℕ) (m : Meant) → kept_behind names k l (written e.draft) x ≡ Some m → IsTarget means es x m.place
+targets_more : {S : Type 0} (names : IndexMap (List ℕ) Meant S) (means : List ℕ → Proc) (es : List Definition) (k : ℕ) (e : Definition) → AreMeant means (map body es) → ((z : List ℕ) (m : Meant) → get bytes_eq names z ≡ Some m → IsTarget means es z m.place) → slice_get es k ≡ Some e → unknown_among names (calls (written e.draft)) ≡ None → (l : Option (List ℕ)) → e.label ≡ l → (x : List ℕ) (m : Meant) → kept_behind names k l (written e.draft) x ≡ Some m → IsTarget means es x m.place
 targets_more names means es k e all old there known None q x m h = old x m h
 targets_more names means es k e all old there known (Some y) q x m h = at (bytes_eq y x) refl h where
   at : (t : Bool) → bytes_eq y x ≡ t → (if t then Some (meant names k (written e.draft)) else get bytes_eq names x) ≡ Some m → IsTarget means es x m.place
@@ -165,7 +165,7 @@ targets_more names means es k e all old there known (Some y) q x m h = at (bytes
   at false s h = old x m h
 
 -- behind none of the processes
-pub behind_none : {S : Type 0} (es : List Entry) (names : IndexMap (List ℕ) Meant S) → ((x : List ℕ) → get bytes_eq names x ≡ None) → AreBehind es 0 names
+pub behind_none : {S : Type 0} (es : List Definition) (names : IndexMap (List ℕ) Meant S) → ((x : List ℕ) → get bytes_eq names x ≡ None) → AreBehind es 0 names
 behind_none es names empty = record {
   known = ([], refl, λ x. ap is_some (empty x));
   counted = (no_meaning, refl, λ x. subst (λ o. IsCounted o whole.nil) (sym (empty x)) refl);
@@ -173,7 +173,7 @@ behind_none es names empty = record {
 }
 
 -- behind one more
-pub behind_more : {S : Type 0} (es : List Entry) (k : ℕ) (e : Entry) (old new : IndexMap (List ℕ) Meant S) → AreBehind es k old → slice_get es k ≡ Some e → unknown_among old (calls (written e.draft)) ≡ None → ((x : List ℕ) → get bytes_eq new x ≡ kept_behind old k e.label (written e.draft) x) → AreBehind es (k + 1) new
+pub behind_more : {S : Type 0} (es : List Definition) (k : ℕ) (e : Definition) (old new : IndexMap (List ℕ) Meant S) → AreBehind es k old → slice_get es k ≡ Some e → unknown_among old (calls (written e.draft)) ≡ None → ((x : List ℕ) → get bytes_eq new x ≡ kept_behind old k e.label (written e.draft) x) → AreBehind es (k + 1) new
 behind_more es k e old new h there known is =
     let rest : map body (drop k es) ≡ body e ∷ map body (drop (k + 1) es) = ap (map body) (drop_at es k e there) in
     let ks = h.known.0 in
@@ -194,14 +194,14 @@ behind_more es k e old new h there known is =
     }
 
 -- the first unknown name is that of the file
-pub behind_unknown : {S : Type 0} (es : List Entry) (k : ℕ) (e : Entry) (names : IndexMap (List ℕ) Meant S) → AreBehind es k names → slice_get es k ≡ Some e → (x : List ℕ) → unknown_among names (calls (written e.draft)) ≡ Some x → unknown_from [] (map body es) ≡ Some x
+pub behind_unknown : {S : Type 0} (es : List Definition) (k : ℕ) (e : Definition) (names : IndexMap (List ℕ) Meant S) → AreBehind es k names → slice_get es k ≡ Some e → (x : List ℕ) → unknown_among names (calls (written e.draft)) ≡ Some x → unknown_from [] (map body es) ≡ Some x
 behind_unknown es k e names h there x is =
     let rest : map body (drop k es) ≡ body e ∷ map body (drop (k + 1) es) = ap (map body) (drop_at es k e there) in
     let ks = h.known.0 in
     h.known.1 ∙ ap (unknown_from ks) rest ∙ first_found (find (λ x. not (is_among ks x)) (calls (written e.draft))) (unknown_from (ks ++ listed e.label) (map body (drop (k + 1) es))) x (sym (unknown_same names ks (calls (written e.draft)) h.known.2) ∙ is)
 
 -- and so is the fault
-pub behind_fault : {S : Type 0} (es : List Entry) (k : ℕ) (e : Entry) (names : IndexMap (List ℕ) Meant S) → AreBehind es k names → slice_get es k ≡ Some e → (f : ReadFault) → option_map UnknownProcess (unknown_among names (calls (written e.draft))) ≡ Some f → option_map UnknownProcess (unknown_from [] (map body es)) ≡ Some f
+pub behind_fault : {S : Type 0} (es : List Definition) (k : ℕ) (e : Definition) (names : IndexMap (List ℕ) Meant S) → AreBehind es k names → slice_get es k ≡ Some e → (f : ReadFault) → option_map UnknownProcess (unknown_among names (calls (written e.draft))) ≡ Some f → option_map UnknownProcess (unknown_from [] (map body es)) ≡ Some f
 behind_fault es k e names h there f is = by (unknown_among names (calls (written e.draft))) refl where
   by : (o : Option (List ℕ)) → unknown_among names (calls (written e.draft)) ≡ o → option_map UnknownProcess (unknown_from [] (map body es)) ≡ Some f
   by None q = absurd (let no_fault : option_map UnknownProcess (unknown_among names (calls (written e.draft))) ≡ None = ap (option_map UnknownProcess) q in cc)

@@ -17,39 +17,39 @@ use Rattle.sap_read.specs.ItemGrammar.{AreItems, IsFaulty}
 use Rattle.sap_read.specs.Replaced.{process_of, no_meaning}
 use Rattle.sap_read.specs.Signatures.{signature_from, signature_of}
 use Rattle.sap_read.specs.Causes.{cause_of}
-use Rattle.sap_read.specs.Files.{Told, AreTokens, IsParted, IsRead, no_tokens, no_header, no_item, refused, ill, accepted}
+use Rattle.sap_read.specs.Files.{FileContent, AreTokens, IsParted, IsRead, no_tokens, no_header, no_item, refused, ill, accepted}
 use Rattle.sap_read.proofs.Cuts.{one_cut, one_header}
 use Rattle.sap_read.proofs.ItemsRead.{same_declarations, good_or_faulty, one_fault, one_items}
 use Rattle.sap_read.proofs.Processes.{one_process}
 
 -- what the whole process of a file makes of it
-data AfterProcess (x : List ℕ) (g : Sig) (p : Proc) : Result Told ReadFault → Type 0 where
+data AfterProcess (x : List ℕ) (g : Sig) (p : Proc) : Result FileContent ReadFault → Type 0 where
   is_ill : (w : Flaw) (path : List ℕ) → IsFirstFlaw g p w path → AfterProcess x g p (Err (Ill w path))
   is_well : IsWellFormed g p → AfterProcess x g p (Ok (record { name = x; signature = g; process = with_sorts [] p }))
 
 -- what its items make of it
-data AfterItems (x : List ℕ) (is : List Standing) : Result Told ReadFault → Type 0 where
+data AfterItems (x : List ℕ) (is : List Standing) : Result FileContent ReadFault → Type 0 where
   is_refused : (e : ReadFault) → cause_of is ≡ Some e → AfterItems x is (Err e)
-  is_whole : {o : Result Told ReadFault} (p : Proc) → cause_of is ≡ None → process_of no_meaning (bodies is) ≡ Some p
+  is_whole : {o : Result FileContent ReadFault} (p : Proc) → cause_of is ≡ None → process_of no_meaning (bodies is) ≡ Some p
       → AfterProcess x (signature_of is) p o → AfterItems x is o
 
 -- what its parts make of it
-data AfterParts (x : List ℕ) (last : ℕ) (cut : List (List Placed)) : Result Told ReadFault → Type 0 where
+data AfterParts (x : List ℕ) (last : ℕ) (cut : List (List Placed)) : Result FileContent ReadFault → Type 0 where
   is_faulty : (line : ℕ) → IsFaulty last cut line → AfterParts x last cut (Err (Syntax line))
-  has_items : {o : Result Told ReadFault} (is : List Standing) → AreItems (signature_of is) cut is → AfterItems x is o → AfterParts x last cut o
+  has_items : {o : Result FileContent ReadFault} (is : List Standing) → AreItems (signature_of is) cut is → AfterItems x is o → AfterParts x last cut o
 
 -- what its tokens make of it
-data AfterTokens (z : List ℕ) (ts : List Token) : Result Told ReadFault → Type 0 where
+data AfterTokens (z : List ℕ) (ts : List Token) : Result FileContent ReadFault → Type 0 where
   has_none : ((x : List ℕ) (rest : List Placed) → IsHeader x (placed z ts) rest → ⊥) → AfterTokens z ts (Err Header)
-  has_parts : {o : Result Told ReadFault} (x : List ℕ) (cut : List (List Placed)) → IsParted z ts x cut → AfterParts x (last_line (placed z ts)) cut o
+  has_parts : {o : Result FileContent ReadFault} (x : List ℕ) (cut : List (List Placed)) → IsParted z ts x cut → AfterParts x (last_line (placed z ts)) cut o
       → AfterTokens z ts o
 
 -- what the lexer makes of it
-data AfterLexer (z : List ℕ) : Result Told ReadFault → Type 0 where
+data AfterLexer (z : List ℕ) : Result FileContent ReadFault → Type 0 where
   has_fault : (f : Lex) → IsLexed 64 0 1 z (Err f) → AfterLexer z (Err (LexFault f))
-  has_tokens : {o : Result Told ReadFault} (ts : List Token) → AreTokens z ts → AfterTokens z ts o → AfterLexer z o
+  has_tokens : {o : Result FileContent ReadFault} (ts : List Token) → AreTokens z ts → AfterTokens z ts o → AfterLexer z o
 
-in_steps : {z : List ℕ} {o : Result Told ReadFault} → IsRead z o → AfterLexer z o
+in_steps : {z : List ℕ} {o : Result FileContent ReadFault} → IsRead z o → AfterLexer z o
 in_steps (no_tokens {f = f} l) = has_fault f l
 in_steps (no_header {ts = ts} t h) = has_tokens ts t (has_none h)
 in_steps (no_item {ts = ts} {x = x} {cut = cut} {line = line} p f) = has_tokens ts p.tokens (has_parts x cut p (is_faulty line f))
@@ -68,7 +68,7 @@ same_items cut is js r s =
 module _ (one_flaw : (g : Sig) (p : Proc) (w v : Flaw) (path other : List ℕ) → IsFirstFlaw g p w path → IsFirstFlaw g p v other → (w ≡ v) × (path ≡ other))
     (no_flaw : (g : Sig) (p : Proc) (w : Flaw) (path : List ℕ) → IsFirstFlaw g p w path → IsWellFormed g p → ⊥)
     (one_answer : (most : ℕ) (z : List ℕ) (o u : Lexed) → IsLexed most 0 1 z o → IsLexed most 0 1 z u → o ≡ u) where
-  after_process : (x : List ℕ) (g : Sig) (p : Proc) (o u : Result Told ReadFault) → AfterProcess x g p o → AfterProcess x g p u → o ≡ u
+  after_process : (x : List ℕ) (g : Sig) (p : Proc) (o u : Result FileContent ReadFault) → AfterProcess x g p o → AfterProcess x g p u → o ≡ u
   after_process x g p _ _ (is_ill w path f) (is_ill v other h) =
       let same = one_flaw g p w v path other f h in
       λ i. Err (Ill (same.0 i) (same.1 i))
@@ -76,7 +76,7 @@ module _ (one_flaw : (g : Sig) (p : Proc) (w v : Flaw) (path other : List ℕ) �
   after_process x g p _ _ (is_well f) (is_ill v other h) = absurd (no_flaw g p v other h f)
   after_process x g p _ _ (is_well f) (is_well h) = refl
 
-  after_items : (x : List ℕ) (is : List Standing) (o u : Result Told ReadFault) → AfterItems x is o → AfterItems x is u → o ≡ u
+  after_items : (x : List ℕ) (is : List Standing) (o u : Result FileContent ReadFault) → AfterItems x is o → AfterItems x is u → o ≡ u
   after_items x is _ _ (is_refused e c) (is_refused d b) = let same : Some e ≡ Some d = sym c ∙ b in cc
   after_items x is _ u (is_refused e c) (is_whole p b w a) = let clash : Some e ≡ None = sym c ∙ b in absurd (cc)
   after_items x is o _ (is_whole p b w a) (is_refused e c) = let clash : Some e ≡ None = sym c ∙ b in absurd (cc)
@@ -85,14 +85,14 @@ module _ (one_flaw : (g : Sig) (p : Proc) (w v : Flaw) (path other : List ℕ) �
       let same : p ≡ q = cc in
       after_process x (signature_of is) q o u (subst (λ (r : Proc). AfterProcess x (signature_of is) r o) same a) d
 
-  after_parts : (x : List ℕ) (last : ℕ) (cut : List (List Placed)) (o u : Result Told ReadFault) → AfterParts x last cut o → AfterParts x last cut u → o ≡ u
+  after_parts : (x : List ℕ) (last : ℕ) (cut : List (List Placed)) (o u : Result FileContent ReadFault) → AfterParts x last cut o → AfterParts x last cut u → o ≡ u
   after_parts x last cut _ _ (is_faulty n f) (is_faulty k h) = ap (λ m. Err (Syntax m)) (one_fault last n k cut f h)
   after_parts x last cut _ u (is_faulty n f) (has_items is i a) = absurd (good_or_faulty (signature_of is) last n cut is i f)
   after_parts x last cut o _ (has_items is i a) (is_faulty n f) = absurd (good_or_faulty (signature_of is) last n cut is i f)
   after_parts x last cut o u (has_items is i a) (has_items js j b) =
       after_items x js o u (subst (λ (ks : List Standing). AfterItems x ks o) (same_items cut is js i j) a) b
 
-  after_tokens : (z : List ℕ) (ts : List Token) (o u : Result Told ReadFault) → AfterTokens z ts o → AfterTokens z ts u → o ≡ u
+  after_tokens : (z : List ℕ) (ts : List Token) (o u : Result FileContent ReadFault) → AfterTokens z ts o → AfterTokens z ts u → o ≡ u
   after_tokens z ts _ _ (has_none f) (has_none h) = refl
   after_tokens z ts _ u (has_none f) (has_parts x cut p a) = absurd (f x p.rest p.header)
   after_tokens z ts o _ (has_parts x cut p a) (has_none f) = absurd (f x p.rest p.header)
@@ -103,10 +103,10 @@ module _ (one_flaw : (g : Sig) (p : Proc) (w v : Flaw) (path other : List ℕ) �
       after_parts y last dut o u
       (subst (λ (w : List ℕ). AfterParts w last dut o) heads.0 (subst (λ (c : List (List Placed)). AfterParts x last c o) cuts a)) b
 
-  pub one_file : (z : List ℕ) (o u : Result Told ReadFault) → IsRead z o → IsRead z u → o ≡ u
+  pub one_file : (z : List ℕ) (o u : Result FileContent ReadFault) → IsRead z o → IsRead z u → o ≡ u
   one_file z o u r s = go o u (in_steps r) (in_steps s)
     where
-      go : (o u : Result Told ReadFault) → AfterLexer z o → AfterLexer z u → o ≡ u
+      go : (o u : Result FileContent ReadFault) → AfterLexer z o → AfterLexer z u → o ≡ u
       go _ _ (has_fault f l) (has_fault h k) =
           let same : ◌≡◌ {A = Lexed} (Err f) (Err h) = one_answer 64 z (Err f) (Err h) l k in
           let faults : f ≡ h = cc in

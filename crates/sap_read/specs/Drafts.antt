@@ -6,7 +6,7 @@ use Rattle.sap_read.specs.declared.draft.Doing.{Doing}
 use Rattle.sap_read.specs.declared.draft.Doing.TheVariants.{New, Out, Send, In, Recv, Event, Insert, Delete, Lock, Unlock, Embedded}
 use Rattle.sap_read.specs.declared.draft.Draft.{Draft}
 use Rattle.sap_read.specs.declared.draft.Draft.TheVariants.{Nil, Call, Par', Rep', Act', If', Lookup'}
-use Rattle.sap_read.specs.declared.draft.Entry.{Entry}
+use Rattle.sap_read.specs.declared.draft.Definition.{Definition}
 use Rattle.sap_read.specs.Written.{Written, nil, call, parallel, replicated, act, test, lookup}
 use Rattle.sap_read.specs.Item.{Body}
 
@@ -33,5 +33,5 @@ written (Act' d a p) = act (doing d) (written p)
 written (If' t u a p b q) = test (tree t) (tree u) (written p) (written q)
 written (Lookup' t x a p b q) = lookup (tree t) x (written p) (written q)
 
-abbrev pub body : Entry → Body
+abbrev pub body : Definition → Body
 body e = record { label = e.label; content = written e.draft; place = e.line }

@@ -18,7 +18,7 @@ use Rattle.sap_read.specs.Signatures.{signature_of}
 use Rattle.sap_read.specs.Causes.{cause_of}
 
 -- what a file tells
-pub record Told : Type 0 where
+pub record FileContent : Type 0 where
   pub name : List ℕ
   pub signature : Sig
   pub process : Proc
@@ -35,7 +35,7 @@ pub record IsParted (z : List ℕ) (ts : List Token) (x : List ℕ) (cut : List 
   pub items : IsCut rest cut
 
 -- the file it is, or why it is refused
-pub data IsRead (z : List ℕ) : Result Told ReadFault → Type 0 where
+pub data IsRead (z : List ℕ) : Result FileContent ReadFault → Type 0 where
   no_tokens : {f : Lex} → IsLexed 64 0 1 z (Err f) → IsRead z (Err (LexFault f))
   no_header : {ts : List Token} → AreTokens z ts → ((x : List ℕ) (rest : List Placed) → IsHeader x (placed z ts) rest → ⊥) → IsRead z (Err Header)
   no_item : {ts : List Token} {x : List ℕ} {cut : List (List Placed)} {line : ℕ} → IsParted z ts x cut → IsFaulty (last_line (placed z ts)) cut line

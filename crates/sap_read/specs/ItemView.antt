@@ -9,7 +9,7 @@ use Rattle.sap_terms.specs.declared.signature.Builtin as builtin
 use Rattle.sap_text.specs.declared.token.Token.{Token}
 use Rattle.sap_read.specs.declared.declaration.Declaration as code
 use Rattle.sap_read.specs.declared.declaration.Declaration.TheVariants.{Builtin, Symbol}
-use Rattle.sap_read.specs.declared.draft.Entry.{Entry}
+use Rattle.sap_read.specs.declared.draft.Definition.{Definition}
 use Rattle.sap_read.specs.Words.{word_of, words_of}
 use Rattle.sap_read.specs.Item.{Item, Declaration, of_builtin, of_symbol, Body, body_of}
 use Rattle.sap_read.specs.Cut.{Placed, placed, first_line}
@@ -56,17 +56,17 @@ pub record IsItemOf (g : Sig) (bytes : List ℕ) (tokens : List Token) (said : L
   pub says : body_of item (first_line (placed bytes tokens)) ≡ said
 
 -- where it is an entry, the tokens are an item that says this of a process; where there is none, they are no item
-abbrev pub SaysProcess : Sig → List ℕ → List Token → Result (Option Entry) Mem → Type 0
+abbrev pub SaysProcess : Sig → List ℕ → List Token → Result (Option Definition) Mem → Type 0
 SaysProcess g bytes tokens (Err e) = ⊤
 SaysProcess g bytes tokens (Ok None) = IsSomeItem (words_of bytes tokens) → ⊥
 SaysProcess g bytes tokens (Ok (Some e)) = IsItemOf g bytes tokens (body e ∷ [])
 
 -- the entry stands last, where there is one
-abbrev pub IsPushed : Bool → Option Entry → List Entry → List Entry → Type 0
+abbrev pub IsPushed : Bool → Option Definition → List Definition → List Definition → Type 0
 IsPushed b None before after = (b ≡ false) × (after ≡ before)
 IsPushed b (Some e) before after = (b ≡ true) × (after ≡ before ++ e ∷ [])
 
 -- the tokens are an item, and what it says of a process stands last; or they are none
-abbrev pub IsAdded : Sig → List ℕ → List Token → List Entry → List Entry → Bool → Type 0
+abbrev pub IsAdded : Sig → List ℕ → List Token → List Definition → List Definition → Bool → Type 0
 IsAdded g bytes tokens before after true = (said : List Body) × IsItemOf g bytes tokens said × (map body after ≡ map body before ++ said)
 IsAdded g bytes tokens before after false = IsSomeItem (words_of bytes tokens) → ⊥

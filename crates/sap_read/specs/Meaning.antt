@@ -4,7 +4,7 @@ use Rattle.std.specs.Str.{bytes_eq}
 use Rattle.indexmap.specs.IndexMap.{IndexMap, get}
 use Rattle.sap_process.specs.Proc as whole
 use Rattle.sap_process.specs.Proc.{Proc, node_count, level_count}
-use Rattle.sap_read.specs.declared.draft.Entry.{Entry}
+use Rattle.sap_read.specs.declared.draft.Definition.{Definition}
 use Rattle.sap_read.specs.declared.fault.ReadFault.{ReadFault}
 use Rattle.sap_read.specs.declared.fault.ReadFault.TheVariants.{TooMany, TooDeep}
 use Rattle.sap_read.specs.declared.names.Meant.{Meant}
@@ -20,7 +20,7 @@ meaning means [] = means
 meaning means (b ∷ bs) = meaning (after_body means b.label b.content) bs
 
 -- what names mean behind the processes of a file
-abbrev pub meaning_of : List Entry → List ℕ → Proc
+abbrev pub meaning_of : List Definition → List ℕ → Proc
 meaning_of es = meaning no_meaning (map body es)
 
 -- where names mean this, each that is defined means what its process is
@@ -102,20 +102,20 @@ is_call (test t u p q) = false
 is_call (lookup t x p q) = false
 
 -- the process at this place is no name, and is what the name means
-abbrev pub IsTarget : (List ℕ → Proc) → List Entry → List ℕ → ℕ → Type 0
-IsTarget means es x k = (e : Entry) × (slice_get es k ≡ Some e) × (is_call (written e.draft) ≡ false) × (means x ≡ replaced means (written e.draft))
+abbrev pub IsTarget : (List ℕ → Proc) → List Definition → List ℕ → ℕ → Type 0
+IsTarget means es x k = (e : Definition) × (slice_get es k ≡ Some e) × (is_call (written e.draft) ≡ false) × (means x ≡ replaced means (written e.draft))
 
 -- what is kept of names counts what they mean
 abbrev pub AreCounted : {S : Type 0} → IndexMap (List ℕ) Meant S → (List ℕ → Proc) → Type 0
 AreCounted names means = (x : List ℕ) → IsCounted (get bytes_eq names x) (means x)
 
 -- each name of which something is kept has its target, if each means what its process is
-abbrev pub AreTargets : {S : Type 0} → List Entry → IndexMap (List ℕ) Meant S → Type 0
+abbrev pub AreTargets : {S : Type 0} → List Definition → IndexMap (List ℕ) Meant S → Type 0
 AreTargets es names =
     (means : List ℕ → Proc) → AreMeant means (map body es) → (x : List ℕ) (m : Meant) → get bytes_eq names x ≡ Some m → IsTarget means es x m.place
 
 -- what is kept of names behind the first processes of a file
-pub record AreBehind {S : Type 0} (es : List Entry) (k : ℕ) (names : IndexMap (List ℕ) Meant S) : Type 0 where
+pub record AreBehind {S : Type 0} (es : List Definition) (k : ℕ) (names : IndexMap (List ℕ) Meant S) : Type 0 where
   -- of the names that they define; the first unknown name of the file is the first behind them
   pub known : (ks : List (List ℕ)) × (unknown_from [] (map body es) ≡ unknown_from ks (map body (drop k es))) × ((x : List ℕ) → is_some (get bytes_eq names x) ≡ is_among ks x)
   -- it counts what they mean there
@@ -124,11 +124,11 @@ pub record AreBehind {S : Type 0} (es : List Entry) (k : ℕ) (names : IndexMap 
   pub targets : AreTargets es names
 
 -- what is kept of a name tells what it means: that of its target, and `0` where nothing is kept
-abbrev pub IsExpanded : List Entry → List ℕ → Option Meant → Type 0
+abbrev pub IsExpanded : List Definition → List ℕ → Option Meant → Type 0
 IsExpanded es x None = meaning_of es x ≡ whole.nil
 IsExpanded es x (Some m) = IsTarget (meaning_of es) es x m.place
 
-abbrev pub AreExpanded : {S : Type 0} → List Entry → IndexMap (List ℕ) Meant S → Type 0
+abbrev pub AreExpanded : {S : Type 0} → List Definition → IndexMap (List ℕ) Meant S → Type 0
 AreExpanded es names = (x : List ℕ) → IsExpanded es x (get bytes_eq names x)
 
 -- the cause that a process of so many places and levels gives

@@ -12,8 +12,8 @@ use Rattle.sap_read.specs.declared.process.actions.Way.{Way}
 use Rattle.sap_read.specs.declared.process.actions.Way.TheVariants.{Out, In}
 use Rattle.sap_read.specs.declared.process.actions.Deed.{Deed}
 use Rattle.sap_read.specs.declared.process.actions.Deed.TheVariants.{Delete, Lock, Unlock}
-use Rattle.sap_read.specs.declared.process.build.Choice.{Choice}
-use Rattle.sap_read.specs.declared.process.build.Choice.TheVariants.{Equality, Entry}
+use Rattle.sap_read.specs.declared.process.build.Branching.{Branching}
+use Rattle.sap_read.specs.declared.process.build.Branching.TheVariants.{Equality, Lookup}
 use Rattle.sap_read.specs.declared.draft.Doing.{Doing}
 use Rattle.sap_read.specs.declared.draft.Draft.{Draft}
 use Rattle.sap_read.specs.Words.{words_of}
@@ -56,6 +56,6 @@ on_one Lock = λ t. lock t 0
 on_one Unlock = λ t. unlock t 0
 
 -- the two branches with what chooses between them
-abbrev pub chosen : Choice → Written → Written → Written
+abbrev pub chosen : Branching → Written → Written → Written
 chosen (Equality t u) = test (tree t) (tree u)
-chosen (Entry t x) = lookup (tree t) x
+chosen (Lookup t x) = lookup (tree t) x

@@ -3,7 +3,7 @@ use Rattle.std.specs.Prelude.{◌≡◌, ℕ, true, codes, List, [], ◌∷◌, 
 use Rattle.sap_terms.specs.declared.var.Sort.{Sort}
 use Rattle.sap_terms.specs.declared.var.Sort.TheVariants.{Msg, Fresh, Pub}
 use Rattle.sap_terms.specs.Tree.{Tree, variable, public, apply, none, more, trees_of}
-use Rattle.sap_terms.specs.Theory.{pair_name}
+use Rattle.sap_terms.specs.Equations.{pair_name}
 use Rattle.sap_terms.specs.Signature.{Sig, arity_of}
 use Rattle.sap_read.specs.Words.{Word, mark, name, quoted, is_lower}
 

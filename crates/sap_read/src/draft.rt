@@ -32,7 +32,7 @@ pub(crate) enum Draft {
 
 /// A process of a file: that of a name, or, without a label, the file's own. The line is that of its item, from 1.
 #[derive(Drop)]
-pub(crate) struct Entry {
+pub(crate) struct Definition {
     pub(crate) label: Option<Name>,
     pub(crate) draft: Draft,
     pub(crate) line: u64,

@@ -7,7 +7,7 @@ ghost use Rattle.sap_read.specs.Replaced.{replaced};
 ghost use Rattle.sap_read.specs.Drafts.{doing, written};
 ghost use Rattle.sap_read.specs.Meaning.{meaning_of, is_call, AreExpanded};
 
-use crate::draft::{Doing, Draft, Entry};
+use crate::draft::{Doing, Draft, Definition};
 use crate::names::Names;
 use sap_process::Process;
 use sap_terms::{Copied, FactList, Items, Mem, Term, Var};
@@ -98,7 +98,7 @@ fn acting(alloc: Global, first: &Doing, next: Box<Process>) -> Result<Process, M
 #[cycle(expand)]
 pub(crate) fn expand(
     alloc: Global,
-    entries: &Items<Entry>,
+    entries: &Items<Definition>,
     names: &Names,
     depth: u64,
     draft: &Draft,
@@ -119,7 +119,7 @@ pub(crate) fn expand(
 #[cycle(expand)]
 fn expand_below(
     alloc: Global,
-    entries: &Items<Entry>,
+    entries: &Items<Definition>,
     names: &Names,
     depth: u64,
     draft: &Draft,
@@ -136,7 +136,7 @@ fn expand_below(
 #[cycle(expand)]
 fn expand_form(
     alloc: Global,
-    entries: &Items<Entry>,
+    entries: &Items<Definition>,
     names: &Names,
     depth: u64,
     draft: &Draft,

@@ -13,7 +13,7 @@ ghost use Rattle.sap_read.specs.declared.fault.ReadFault.{ReadFault};
 ghost use Rattle.sap_read.specs.declared.fault.ReadFault.TheVariants.{Mem as OutOfMemory, Syntax};
 
 use crate::declaration::{Declaration, read_declared};
-use crate::draft::Entry;
+use crate::draft::Definition;
 use crate::fault::ReadFault;
 use crate::look::{beyond, is_mark, name_at, starts};
 use crate::process::read_process;
@@ -185,7 +185,7 @@ fn read_definition(
     sig: &Signature,
     bytes: &[u8],
     item: &[Token],
-) -> Result<Option<Entry>, Mem>
+) -> Result<Option<Definition>, Mem>
     requires { starts (codes "let") (words_of bytes.now item.now) ≡ true }
     ensures { SaysProcess sig.now bytes.now item.now result }
 {
@@ -198,7 +198,7 @@ fn read_definition(
     let Some(draft) = read_process(alloc, sig, bytes, beyond(3, item))? else {
         return Ok(None);
     };
-    Ok(Some(Entry {
+    Ok(Some(Definition {
         label: Some(Name::from_bytes(alloc, name)?),
         draft,
         line: line_of(item),
@@ -211,7 +211,7 @@ fn read_main(
     sig: &Signature,
     bytes: &[u8],
     item: &[Token],
-) -> Result<Option<Entry>, Mem>
+) -> Result<Option<Definition>, Mem>
     requires { starts (codes "process") (words_of bytes.now item.now) ≡ true }
     ensures { SaysProcess sig.now bytes.now item.now result }
 {
@@ -220,7 +220,7 @@ fn read_main(
     }
     match read_process(alloc, sig, bytes, beyond(2, item))? {
         None => Ok(None),
-        Some(draft) => Ok(Some(Entry {
+        Some(draft) => Ok(Some(Definition {
             label: None,
             draft,
             line: line_of(item),
@@ -229,7 +229,7 @@ fn read_main(
 }
 
 // Puts an entry last, if there is one, and answers whether there is.
-fn push(entries: &mut Items<Entry>, entry: Option<Entry>) -> Result<bool, Mem>
+fn push(entries: &mut Items<Definition>, entry: Option<Definition>) -> Result<bool, Mem>
     ensures pushed { IfOk result (λ b. IsPushed b entry entries.old entries.new) }
 {
     match entry {
@@ -257,7 +257,7 @@ fn read_item(
     sig: &Signature,
     bytes: &[u8],
     item: &[Token],
-    entries: &mut Items<Entry>,
+    entries: &mut Items<Definition>,
 ) -> Result<bool, Mem>
     ensures { IfOk result (λ b. IsAdded sig.now bytes.now item.now entries.old entries.new b) }
 {
@@ -278,7 +278,7 @@ pub(crate) fn read_items(
     bytes: &[u8],
     tokens: &[Token],
     last: u64,
-) -> Result<Items<Entry>, ReadFault>
+) -> Result<Items<Definition>, ReadFault>
     ensures good { IfOk result (λ es. (cut : List (List Placed)) → IsCut (placed bytes.now tokens.now) cut
         → (is : List Standing) × AreItems sig.now cut is × (map body es ≡ bodies is)) }
     ensures faulty { (line : ℕ) → IsErrOf result (Syntax line) → (cut : List (List Placed)) → IsCut (placed bytes.now tokens.now) cut

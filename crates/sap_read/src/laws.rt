@@ -13,7 +13,7 @@ ghost use Rattle.sap_read.specs.Cut.{Placed, IsCut};
 ghost use Rattle.sap_read.specs.Item.{Standing};
 ghost use Rattle.sap_read.specs.ItemGrammar.{AreItems};
 ghost use Rattle.sap_read.specs.Signatures.{signature_of};
-ghost use Rattle.sap_read.specs.Files.{Told, IsRead};
+ghost use Rattle.sap_read.specs.Files.{FileContent, IsRead};
 ghost use Rattle.sap_read.specs.declared.fault.ReadFault.{ReadFault};
 
 use sap_process::one_flaw;
@@ -66,7 +66,7 @@ pub fn processes_by_hand()
 
 /// A law: bytes are read as one file at most, or refused for one cause, and never both.
 pub fn one_file()
-    ensures { (z : List ℕ) (o u : Result Told ReadFault) → IsRead z o → IsRead z u → o ≡ u }
+    ensures { (z : List ℕ) (o u : Result FileContent ReadFault) → IsRead z o → IsRead z u → o ≡ u }
 {
     one_answer();
     one_flaw();

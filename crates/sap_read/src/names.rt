@@ -10,7 +10,7 @@ ghost use Rattle.sap_read.specs.Causes.{unknown_from};
 ghost use Rattle.sap_read.specs.Drafts.{written, body};
 ghost use Rattle.sap_read.specs.Meaning.{nodes_in, levels_in, unknown_among, target, kept_behind, AreCounted, AreTargets, meaning_of};
 
-use crate::draft::{Draft, Entry};
+use crate::draft::{Draft, Definition};
 use crate::fault::ReadFault;
 use indexmap::IndexMap;
 use sap_terms::{Copied, Items, Mem, Name};
@@ -101,7 +101,7 @@ fn target(names: &Names, draft: &Draft, k: u64) -> u64
 }
 
 // Keeps the name of the process at place k, if it has one.
-fn keep(alloc: Global, names: &mut Names, entry: &Entry, k: u64) -> Result<(), Mem>
+fn keep(alloc: Global, names: &mut Names, entry: &Definition, k: u64) -> Result<(), Mem>
     ensures { OnOk result ((x : List ℕ) → get bytes_eq names.new x ≡ kept_behind names.old k entry.now.label (written entry.now.draft) x) }
 {
     let Some(label) = &entry.label else {
@@ -119,7 +119,7 @@ fn keep(alloc: Global, names: &mut Names, entry: &Entry, k: u64) -> Result<(), M
 
 /// The names of the processes; an error where a process has a name that none before it defines. It takes time in proportion
 /// to the processes as they are written.
-pub(crate) fn names_of(alloc: Global, entries: &Items<Entry>) -> Result<Names, ReadFault>
+pub(crate) fn names_of(alloc: Global, entries: &Items<Definition>) -> Result<Names, ReadFault>
     ensures known { IfOk result (λ names. unknown_from [] (map body entries.now) ≡ None) }
     ensures counted { IfOk result (λ names. AreCounted names (meaning_of entries.now)) }
     ensures targets { IfOk result (λ names. AreTargets entries.now names) }

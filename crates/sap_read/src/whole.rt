@@ -8,7 +8,7 @@ ghost use Rattle.sap_read.specs.Meaning.{nodes_in, levels_in, size_fault};
 ghost use Rattle.sap_read.specs.declared.fault.ReadFault.{ReadFault};
 ghost use Rattle.sap_read.specs.declared.fault.ReadFault.TheVariants.{Mem as OutOfMemory};
 
-use crate::draft::{Draft, Entry};
+use crate::draft::{Draft, Definition};
 use crate::expansion::expand;
 use crate::fault::ReadFault;
 use crate::labels::{first_repeated, the_process};
@@ -40,7 +40,7 @@ fn size_fault(names: &Names, draft: &Draft) -> Option<ReadFault>
 /// proportion to the processes as they are written and, where there is no cause, to the answer.
 pub(crate) fn whole_process(
     alloc: Global,
-    entries: &Items<Entry>,
+    entries: &Items<Definition>,
     clash: Option<Name>,
 ) -> Result<Process, ReadFault>
     ensures accepted { IfOk result (λ p. (cause (map body entries.now) clash ≡ None) × (process_of no_meaning (map body entries.now) ≡ Some (proc p))) }

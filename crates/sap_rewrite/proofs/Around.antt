@@ -10,9 +10,9 @@ use Rattle.sap_terms.specs.Ground.{IsGround, AreGround}
 use Rattle.sap_terms.specs.Message.{IsMessage, IsOver, AreOver}
 use Rattle.sap_terms.specs.Normal.{IsNormal, AreNormal}
 use Rattle.sap_terms.specs.Signature.{Sig, is_destructor_of}
-use Rattle.sap_terms.specs.Theory.{theory, IsInstance, first, second, symmetric, asymmetric, signing}
+use Rattle.sap_terms.specs.Equations.{equations, IsInstance, first, second, symmetric, asymmetric, signing}
 use Rattle.sap_terms.specs.Tree.{Tree, variable, public, fresh, apply, Trees, none, more}
-use Rattle.sap_rewrite.specs.Around.{outer_vars, all_outer_vars, Fits, FitAll, Holds, HoldAll}
+use Rattle.sap_rewrite.specs.Around.{outer_vars, all_outer_vars, FitsAround, FitAll, HoldsUnder, HoldAll}
 use Rattle.sap_rewrite.specs.Pattern.{IsNormalChoice}
 use Rattle.sap_rewrite.specs.Reduce.{contracted, reduced, nf, nfs}
 use Rattle.sap_rewrite.proofs.NormalForms.{nf-reached, nf-fixed}
@@ -28,7 +28,7 @@ is_headed g (public n) = false
 is_headed g (fresh k) = false
 is_headed g (apply f ts) = is_destructor_of g f
 
-left_headed : (g : Sig) {t r : Tree} → IsInstance (theory g) t r → is_headed g t ≡ true
+left_headed : (g : Sig) {t r : Tree} → IsInstance (equations g) t r → is_headed g t ≡ true
 left_headed g first = refl
 left_headed g second = refl
 left_headed g (symmetric h) = rw h refl
@@ -36,11 +36,11 @@ left_headed g (asymmetric h) = rw h refl
 left_headed g (signing h) = rw h refl
 
 -- a symbol that is no destructor stays
-reduced-kept : (g : Sig) (f : List ℕ) (ts : Trees) → is_destructor_of g f ≡ false → reduced (theory g) f ts ≡ apply f ts
-reduced-kept g f ts h = at (contracted (theory g) f ts) refl where
-  at : (o : Option Tree) → contracted (theory g) f ts ≡ o → unwrap_or o (apply f ts) ≡ apply f ts
+reduced-kept : (g : Sig) (f : List ℕ) (ts : Trees) → is_destructor_of g f ≡ false → reduced (equations g) f ts ≡ apply f ts
+reduced-kept g f ts h = at (contracted (equations g) f ts) refl where
+  at : (o : Option Tree) → contracted (equations g) f ts ≡ o → unwrap_or o (apply f ts) ≡ apply f ts
   at None i = refl
-  at (Some r) i = let head = left_headed g (contracted-sound (theory g) f ts r i) in cc
+  at (Some r) i = let head = left_headed g (contracted-sound (equations g) f ts r i) in cc
 
 same_args : (f : List ℕ) (ts us : Trees) (t : Tree) → apply f ts ≡ t → t ≡ apply f us → ts ≡ us
 same_args f ts us t h i = cc
@@ -48,21 +48,21 @@ same_args f ts us t h i = cc
 mutual
   unfolding nf nfs
 
-  forth : (g : Sig) (σ : Choice) (p t : Tree) → IsNormalChoice (theory g) σ → nf (theory g) (instance σ p) ≡ t → Fits g σ p t × Holds g σ p t
-  forth g σ (variable v) t n h = (sym (nf-fixed (theory g) (σ v) (n v)) ∙ h, tt)
+  forth : (g : Sig) (σ : Choice) (p t : Tree) → IsNormalChoice (equations g) σ → nf (equations g) (instance σ p) ≡ t → FitsAround g σ p t × HoldsUnder g σ p t
+  forth g σ (variable v) t n h = (sym (nf-fixed (equations g) (σ v) (n v)) ∙ h, tt)
   forth g σ (public m) t n h = (h, tt)
   forth g σ (fresh k) t n h = (h, tt)
   forth g σ (apply f ps) t n h =
-      let ts = nfs (theory g) (instances σ ps) in
-      elim (is_destructor_of g f) as (λ r. is_destructor_of g f ≡ r → Fits g σ (apply f ps) t × Holds g σ (apply f ps) t) [
-        | true ↦ λ e. (inl e, (λ _. subst (λ u. IsTheoryEqual (theory g) (instance σ (apply f ps)) u) h (nf-reached (theory g) (instance σ (apply f ps))), λ no. cc))
+      let ts = nfs (equations g) (instances σ ps) in
+      elim (is_destructor_of g f) as (λ r. is_destructor_of g f ≡ r → FitsAround g σ (apply f ps) t × HoldsUnder g σ (apply f ps) t) [
+        | true ↦ λ e. (inl e, (λ _. subst (λ u. IsTheoryEqual (equations g) (instance σ (apply f ps)) u) h (nf-reached (equations g) (instance σ (apply f ps))), λ no. cc))
         | false ↦ λ e.
             let is : apply f ts ≡ t = sym (reduced-kept g f ts e) ∙ h in
             let q = forth_all g σ ps ts n refl in
             (inr (ts, sym is, q.0), (λ yes. cc, λ _ us i. subst (λ vs. HoldAll g σ ps vs) (same_args f ts us t is i) q.1))
       ] refl
 
-  forth_all : (g : Sig) (σ : Choice) (ps ts : Trees) → IsNormalChoice (theory g) σ → nfs (theory g) (instances σ ps) ≡ ts → FitAll g σ ps ts × HoldAll g σ ps ts
+  forth_all : (g : Sig) (σ : Choice) (ps ts : Trees) → IsNormalChoice (equations g) σ → nfs (equations g) (instances σ ps) ≡ ts → FitAll g σ ps ts × HoldAll g σ ps ts
   forth_all g σ none none n h = (tt, tt)
   forth_all g σ (more p ps) (more t ts) n h =
       let x = forth g σ p t n (cc) in
@@ -72,36 +72,36 @@ mutual
   forth_all g σ (more p ps) none n h = cc
 
 mutual
-  back_again : (g : Sig) (σ : Choice) (p t : Tree) → Fits g σ p t → Holds g σ p t → IsTheoryEqual (theory g) (instance σ p) t
-  back_again g σ (variable v) t f h = equal_from_same (theory g) (σ v) t f
-  back_again g σ (public m) t f h = equal_from_same (theory g) (public m) t f
-  back_again g σ (fresh k) t f h = equal_from_same (theory g) (fresh k) t f
+  back_again : (g : Sig) (σ : Choice) (p t : Tree) → FitsAround g σ p t → HoldsUnder g σ p t → IsTheoryEqual (equations g) (instance σ p) t
+  back_again g σ (variable v) t f h = equal_from_same (equations g) (σ v) t f
+  back_again g σ (public m) t f h = equal_from_same (equations g) (public m) t f
+  back_again g σ (fresh k) t f h = equal_from_same (equations g) (fresh k) t f
   back_again g σ (apply c ps) t (inl f) h = h.0 f
   back_again g σ (apply c ps) t (inr f) h =
-      elim (is_destructor_of g c) as (λ r. is_destructor_of g c ≡ r → IsTheoryEqual (theory g) (instance σ (apply c ps)) t) [
+      elim (is_destructor_of g c) as (λ r. is_destructor_of g c ≡ r → IsTheoryEqual (equations g) (instance σ (apply c ps)) t) [
         | true ↦ λ e. h.0 e
-        | false ↦ λ e. subst (λ u. IsTheoryEqual (theory g) (instance σ (apply c ps)) u) (sym f.1) (within (back_all g σ ps f.0 f.2 (h.1 e f.0 f.1)))
+        | false ↦ λ e. subst (λ u. IsTheoryEqual (equations g) (instance σ (apply c ps)) u) (sym f.1) (within (back_all g σ ps f.0 f.2 (h.1 e f.0 f.1)))
       ] refl
 
-  back_all : (g : Sig) (σ : Choice) (ps ts : Trees) → FitAll g σ ps ts → HoldAll g σ ps ts → AreTheoryEqual (theory g) (instances σ ps) ts
+  back_all : (g : Sig) (σ : Choice) (ps ts : Trees) → FitAll g σ ps ts → HoldAll g σ ps ts → AreTheoryEqual (equations g) (instances σ ps) ts
   back_all g σ none none f h = done
   back_all g σ (more p ps) (more t ts) f h = join_all (at_head (back_again g σ p t f.0 h.0)) (at_tail (back_all g σ ps ts f.1 h.1))
   back_all g σ none (more t ts) f h = absurd f
   back_all g σ (more p ps) none f h = absurd f
 
-pub around_iff : (g : Sig) (σ : Choice) (p t : Tree) → IsNormalChoice (theory g) σ → IsNormal (theory g) t → (IsTheoryEqual (theory g) (instance σ p) t → Fits g σ p t × Holds g σ p t) × (Fits g σ p t × Holds g σ p t → IsTheoryEqual (theory g) (instance σ p) t)
+pub around_iff : (g : Sig) (σ : Choice) (p t : Tree) → IsNormalChoice (equations g) σ → IsNormal (equations g) t → (IsTheoryEqual (equations g) (instance σ p) t → FitsAround g σ p t × HoldsUnder g σ p t) × (FitsAround g σ p t × HoldsUnder g σ p t → IsTheoryEqual (equations g) (instance σ p) t)
 around_iff g σ p t n m =
-    (λ q. forth g σ p t n (nf-equal (theory g) q ∙ nf-fixed (theory g) t m), λ q. back_again g σ p t q.0 q.1)
+    (λ q. forth g σ p t n (nf-equal (equations g) q ∙ nf-fixed (equations g) t m), λ q. back_again g σ p t q.0 q.1)
 
 pub nothing_in : {X : Type 0} (x : X) → Contains [] x → ⊥
 nothing_in x h = let no = h.1 in omega arith
 
 -- a term like those that messages are made of
 abbrev pub IsPlain : Sig → Tree → Type 0
-IsPlain g t = IsGround t × IsOver g t × IsNormal (theory g) t
+IsPlain g t = IsGround t × IsOver g t × IsNormal (equations g) t
 
 mutual
-  given : (g : Sig) (σ : Choice) (p t : Tree) → Fits g σ p t → IsPlain g t → (v : Var) → Contains (outer_vars g p) v → IsPlain g (σ v)
+  given : (g : Sig) (σ : Choice) (p t : Tree) → FitsAround g σ p t → IsPlain g t → (v : Var) → Contains (outer_vars g p) v → IsPlain g (σ v)
   given g σ (variable w) t f h v m =
       elim (Contains-push_cases [] w v m) as (λ _. IsPlain g (σ v)) [ inl never ↦ absurd (nothing_in v never) | inr e ↦ subst (λ u. IsPlain g u) (sym f ∙ ap σ e) h ]
   given g σ (public n) t f h v m = absurd (nothing_in v m)
@@ -115,7 +115,7 @@ mutual
         ]
       ] refl m
 
-  given_all : (g : Sig) (σ : Choice) (ps ts : Trees) → FitAll g σ ps ts → AreGround ts → AreOver g ts → AreNormal (theory g) ts → (v : Var) → Contains (all_outer_vars g ps) v → IsPlain g (σ v)
+  given_all : (g : Sig) (σ : Choice) (ps ts : Trees) → FitAll g σ ps ts → AreGround ts → AreOver g ts → AreNormal (equations g) ts → (v : Var) → Contains (all_outer_vars g ps) v → IsPlain g (σ v)
   given_all g σ none none f a b c v m = absurd (nothing_in v m)
   given_all g σ (more p ps) (more t ts) f a b c v m =
       elim (Contains-append_cases (outer_vars g p) (all_outer_vars g ps) v m) as (λ _. IsPlain g (σ v)) [
@@ -126,7 +126,7 @@ mutual
   given_all g σ (more p ps) none f a b c v m = absurd f
 
 -- what a fitting choice gives an outer variable is a message where the tree is one and the sort allows it
-pub given_message : (g : Sig) (σ : Choice) (p t : Tree) → Fits g σ p t → IsMessage g Msg t → (v : Var) → Contains (outer_vars g p) v → IsTrue (fits_sort v.sort (σ v)) → IsMessage g v.sort (σ v)
+pub given_message : (g : Sig) (σ : Choice) (p t : Tree) → FitsAround g σ p t → IsMessage g Msg t → (v : Var) → Contains (outer_vars g p) v → IsTrue (fits_sort v.sort (σ v)) → IsMessage g v.sort (σ v)
 given_message g σ p t f h v m s =
     let q = given g σ p t f (h.ground, h.over, h.normal) v m in
     record { ground = q.0; over = q.1; normal = q.2; sorted = s }

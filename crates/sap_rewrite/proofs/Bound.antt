@@ -13,7 +13,7 @@ use Rattle.sap_terms.specs.Choice.{Choice, fits_sort, instance}
 use Rattle.sap_terms.specs.Message.{IsMessage, IsMessageChoice}
 use Rattle.sap_terms.specs.Signature.{Sig}
 use Rattle.sap_terms.specs.Subst.{bound_to, subst_tree}
-use Rattle.sap_terms.specs.Theory.{theory}
+use Rattle.sap_terms.specs.Equations.{equations}
 use Rattle.sap_terms.specs.Tree.{Tree, public, fresh}
 use Rattle.sap_terms.specs.Variables.{tree_vars, is_known, new_vars}
 use Rattle.sap_terms.specs.View.{tree}
@@ -94,9 +94,9 @@ some_term Fresh = fresh 0
 some_term Pub = public []
 
 some_message : (g : Sig) (s : Sort) → IsMessage g s (some_term s)
-some_message g Msg = record { ground = tt; over = tt; normal = leaf-normal (theory g) (public []) refl; sorted = refl }
-some_message g Fresh = record { ground = tt; over = tt; normal = leaf-normal (theory g) (fresh 0) refl; sorted = refl }
-some_message g Pub = record { ground = tt; over = tt; normal = leaf-normal (theory g) (public []) refl; sorted = refl }
+some_message g Msg = record { ground = tt; over = tt; normal = leaf-normal (equations g) (public []) refl; sorted = refl }
+some_message g Fresh = record { ground = tt; over = tt; normal = leaf-normal (equations g) (fresh 0) refl; sorted = refl }
+some_message g Pub = record { ground = tt; over = tt; normal = leaf-normal (equations g) (public []) refl; sorted = refl }
 
 abbrev AreMessages : Sig → List Binding → Type 0
 AreMessages g c = (e : Binding) → Contains c e → IsMessage g e.var.sort (tree e.term)

@@ -3,7 +3,7 @@ use Rattle.std.proofs.Common.{◌≡◌, ℕ, zero, suc, ◌+◌, ◌<◌, ◌�
 use Rattle.std.specs.Prelude.{slice_get, min, Result, Ok, Err, OnOk, OnErr, IsErrOf}
 use Rattle.std.proofs.lemmas.Bool.Decides.{nat_tests}
 use Rattle.sap_terms.specs.Tree.{Tree, variable, public, fresh, apply, Trees, none, more, node_count, trees_count, trees_of}
-use Rattle.sap_terms.specs.Theory.{Theory}
+use Rattle.sap_terms.specs.Equations.{Equations}
 use Rattle.sap_terms.proofs.SameLemmas.{and_left, and_right, and_true}
 use Rattle.sap_terms.proofs.TreeLemmas.{item_le-trees_count}
 use Rattle.sap_rewrite.specs.Reduce.{nf}
@@ -24,7 +24,7 @@ drop_got {X} xs k x h = rw add-one (at xs k h) where
   at (y ∷ ys) (suc k) h = at ys k h
 
 -- from one place on, the tree there and those after it
-pub all_fit-got : (e : Theory) (most : ℕ) (ts : List Tree) (k : ℕ) (t : Tree) → slice_get ts k ≡ Some t → all_fit e most (trees_of (drop k ts)) ≡ (each_fits e most t && all_fit e most (trees_of (drop (k + 1) ts)))
+pub all_fit-got : (e : Equations) (most : ℕ) (ts : List Tree) (k : ℕ) (t : Tree) → slice_get ts k ≡ Some t → all_fit e most (trees_of (drop k ts)) ≡ (each_fits e most t && all_fit e most (trees_of (drop (k + 1) ts)))
 all_fit-got e most ts k t h = ap (λ us. all_fit e most (trees_of us)) (drop_got ts k t h)
 
 fits_le : (m n : ℕ) → nat_le m n ≡ true → m ≤ n
@@ -43,13 +43,13 @@ and_false_right : (a b : Bool) → b ≡ false → (a && b) ≡ false
 and_false_right true b h = h
 and_false_right false b h = refl
 
-whole_fits : (e : Theory) (most : ℕ) (t : Tree) → each_fits e most t ≡ true → form_fits e most t ≡ true
+whole_fits : (e : Equations) (most : ℕ) (t : Tree) → each_fits e most t ≡ true → form_fits e most t ≡ true
 whole_fits e most (variable v) h = h
 whole_fits e most (public n) h = h
 whole_fits e most (fresh k) h = h
 whole_fits e most (apply f ts) h = and_right _ _ h
 
-not_large : (e : Theory) (most : ℕ) (t : Tree) → each_fits e most t ≡ true → HasLargeForm e most t → ⊥
+not_large : (e : Equations) (most : ℕ) (t : Tree) → each_fits e most t ≡ true → HasLargeForm e most t → ⊥
 not_large e most t h l =
     let within : node_count (nf e t) ≤ most = fits_le _ _ (whole_fits e most t h) in
     let beyond : most < node_count (nf e t) = subst (λ n. most < node_count n) (one_normal_form e t l.form l.is_form) l.large in
@@ -57,19 +57,19 @@ not_large e most t h l =
 
 -- what no term has whose subterms all fit, no subterm of such a term has
 mutual
-  none_has : (P : Tree → Type 0) (e : Theory) (most : ℕ) → ((t : Tree) → each_fits e most t ≡ true → P t → ⊥) → {t : Tree} → SomeSubterm P t → each_fits e most t ≡ true → ⊥
+  none_has : (P : Tree → Type 0) (e : Equations) (most : ℕ) → ((t : Tree) → each_fits e most t ≡ true → P t → ⊥) → {t : Tree} → SomeSubterm P t → each_fits e most t ≡ true → ⊥
   none_has P e most n (itself {t} l) h = n t h l
   none_has P e most n (below s) h = none_has_within P e most n s (and_left _ _ h)
 
-  none_has_within : (P : Tree → Type 0) (e : Theory) (most : ℕ) → ((t : Tree) → each_fits e most t ≡ true → P t → ⊥) → {ts : Trees} → SomeSubtermWithin P ts → all_fit e most ts ≡ true → ⊥
+  none_has_within : (P : Tree → Type 0) (e : Equations) (most : ℕ) → ((t : Tree) → each_fits e most t ≡ true → P t → ⊥) → {ts : Trees} → SomeSubtermWithin P ts → all_fit e most ts ≡ true → ⊥
   none_has_within P e most n (here s) h = none_has P e most n s (and_left _ _ h)
   none_has_within P e most n (later s) h = none_has_within P e most n s (and_right _ _ h)
 
 -- where all fit, none is large
-pub none_large : (e : Theory) (most : ℕ) (t : Tree) → each_fits e most t ≡ true → SomeSubterm (HasLargeForm e most) t → ⊥
+pub none_large : (e : Equations) (most : ℕ) (t : Tree) → each_fits e most t ≡ true → SomeSubterm (HasLargeForm e most) t → ⊥
 none_large e most t h s = none_has (HasLargeForm e most) e most (not_large e most) s h
 
-large_form : (e : Theory) (most : ℕ) (t : Tree) → form_fits e most t ≡ false → HasLargeForm e most t
+large_form : (e : Equations) (most : ℕ) (t : Tree) → form_fits e most t ≡ false → HasLargeForm e most t
 large_form e most t h = record { form = nf e t; is_form = has_normal_form e t; large = fits_lt _ _ h }
 
 and_false : {P : Type 0} (a b : Bool) → (a && b) ≡ false → (a ≡ false → P) → (b ≡ false → P) → P
@@ -78,22 +78,22 @@ and_false false b h k l = k refl
 
 mutual
   -- where not all fit, some is large
-  pub some_large : (e : Theory) (most : ℕ) (t : Tree) → each_fits e most t ≡ false → SomeSubterm (HasLargeForm e most) t
+  pub some_large : (e : Equations) (most : ℕ) (t : Tree) → each_fits e most t ≡ false → SomeSubterm (HasLargeForm e most) t
   some_large e most (variable v) h = itself (large_form e most (variable v) h)
   some_large e most (public n) h = itself (large_form e most (public n) h)
   some_large e most (fresh k) h = itself (large_form e most (fresh k) h)
   some_large e most (apply f ts) h = and_false _ _ h (λ h. below (some_large_within e most ts h)) (λ h. itself (large_form e most (apply f ts) h))
 
-  some_large_within : (e : Theory) (most : ℕ) (ts : Trees) → all_fit e most ts ≡ false → SomeSubtermWithin (HasLargeForm e most) ts
+  some_large_within : (e : Equations) (most : ℕ) (ts : Trees) → all_fit e most ts ≡ false → SomeSubtermWithin (HasLargeForm e most) ts
   some_large_within e most none h = cc
   some_large_within e most (more t ts) h = and_false _ _ h (λ h. here (some_large e most t h)) (λ h. later (some_large_within e most ts h))
 
 -- the limit at a symbol whose arguments' normal forms fit
-pub whole_within : (e : Theory) (most most_u64 n : ℕ) (t : Tree) (f : List ℕ) (ts : Trees) → t ≡ apply f ts → all_fit e most ts ≡ true → n ≡ min (node_count (nf e (apply f ts))) most_u64 → most < most_u64 → n ≤ most → each_fits e most t ≡ true
+pub whole_within : (e : Equations) (most most_u64 n : ℕ) (t : Tree) (f : List ℕ) (ts : Trees) → t ≡ apply f ts → all_fit e most ts ≡ true → n ≡ min (node_count (nf e (apply f ts))) most_u64 → most < most_u64 → n ≤ most → each_fits e most t ≡ true
 whole_within e most m n t f ts is fit count room h =
     rw is (and_true _ _ fit (le_fits _ _ (omega arith)))
 
-pub whole_large : (e : Theory) (most most_u64 n : ℕ) (t : Tree) (f : List ℕ) (ts : Trees) → t ≡ apply f ts → n ≡ min (node_count (nf e (apply f ts))) most_u64 → most < n → each_fits e most t ≡ false
+pub whole_large : (e : Equations) (most most_u64 n : ℕ) (t : Tree) (f : List ℕ) (ts : Trees) → t ≡ apply f ts → n ≡ min (node_count (nf e (apply f ts))) most_u64 → most < n → each_fits e most t ≡ false
 whole_large e most m n t f ts is count h =
     rw is (and_false_right (all_fit e most ts) _ (lt_fits _ _ (omega arith)))
 

@@ -8,7 +8,7 @@ use Rattle.sap_terms.specs.Ground.{IsGround, AreGround}
 use Rattle.sap_terms.specs.Message.{IsMessage, IsOver, AreOver}
 use Rattle.sap_terms.specs.Normal.{IsNormal, IsNormalForm}
 use Rattle.sap_terms.specs.Signature.{Sig, arity_of}
-use Rattle.sap_terms.specs.Theory.{theory}
+use Rattle.sap_terms.specs.Equations.{equations}
 use Rattle.sap_terms.specs.Tree.{Tree, variable, public, fresh, apply, Trees, none, more, trees_of, list_of, list_of-trees_of}
 use Rattle.sap_terms.specs.View.{tree, term, term-tree}
 use Rattle.sap_terms.proofs.SameLemmas.{and_left, and_right, and_true}
@@ -61,12 +61,12 @@ pub no_message : (g : Sig) (s : Sort) (t : Tree) → (fits_sort s t ≡ true →
 no_message g s t h m = h m.sorted (closed-complete g t m.ground m.over)
 
 -- one that passes them is one exactly where it is its normal form
-pub is_message_where : (g : Sig) (s : Sort) (t n : Term) → fits_sort s (tree t) ≡ true → is_closed g (tree t) ≡ true → IsNormalForm (theory g) (tree t) (tree n) → (n ≡ t → IsMessage g s (tree t)) × (IsMessage g s (tree t) → n ≡ t)
+pub is_message_where : (g : Sig) (s : Sort) (t n : Term) → fits_sort s (tree t) ≡ true → is_closed g (tree t) ≡ true → IsNormalForm (equations g) (tree t) (tree n) → (n ≡ t → IsMessage g s (tree t)) × (IsMessage g s (tree t) → n ≡ t)
 is_message_where g s t n h i f = (
   λ e.
       let q = closed-sound g (tree t) i in
-      record { ground = q.0; over = q.1; normal = subst (λ (u : Term). IsNormal (theory g) (tree u)) e f.normal; sorted = h },
+      record { ground = q.0; over = q.1; normal = subst (λ (u : Term). IsNormal (equations g) (tree u)) e f.normal; sorted = h },
   λ m.
-      let same : tree n ≡ tree t = one_normal_form (theory g) (tree t) (tree n) f ∙ nf-fixed (theory g) (tree t) m.normal in
+      let same : tree n ≡ tree t = one_normal_form (equations g) (tree t) (tree n) f ∙ nf-fixed (equations g) (tree t) m.normal in
       sym (term-tree n) ∙ ap term same ∙ term-tree t,
 )

@@ -6,7 +6,7 @@ use Rattle.sap_terms.specs.Choice.{Choice, instance, instances}
 use Rattle.sap_terms.specs.Signature.{Sig, is_destructor_of}
 use Rattle.sap_terms.specs.Tree.{Tree, variable, public, fresh, apply, Trees, none, more}
 use Rattle.sap_terms.specs.Variables.{tree_vars, trees_vars}
-use Rattle.sap_rewrite.specs.Around.{outer_vars, all_outer_vars, Fits, FitAll}
+use Rattle.sap_rewrite.specs.Around.{outer_vars, all_outer_vars, FitsAround, FitAll}
 use Rattle.sap_rewrite.specs.Walk.{skipped}
 
 abbrev mutual
@@ -89,7 +89,7 @@ mutual
 
 -- and what fits but for what is skipped fits
 mutual
-  pub fits-around : (g : Sig) (σ : Choice) (p t : Tree) → FitsBut (skipped (Some g)) σ p t → Fits g σ p t
+  pub fits-around : (g : Sig) (σ : Choice) (p t : Tree) → FitsBut (skipped (Some g)) σ p t → FitsAround g σ p t
   fits-around g σ (variable v) t h = h
   fits-around g σ (public n) t h = h
   fits-around g σ (fresh k) t h = h
@@ -103,7 +103,7 @@ mutual
   fit-around g σ (more p ps) none h = absurd h
 
 mutual
-  pub around-fits : (g : Sig) (σ : Choice) (p t : Tree) → Fits g σ p t → FitsBut (skipped (Some g)) σ p t
+  pub around-fits : (g : Sig) (σ : Choice) (p t : Tree) → FitsAround g σ p t → FitsBut (skipped (Some g)) σ p t
   around-fits g σ (variable v) t h = h
   around-fits g σ (public n) t h = h
   around-fits g σ (fresh k) t h = h

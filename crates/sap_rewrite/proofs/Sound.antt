@@ -4,7 +4,7 @@ use Rattle.std.proofs.lemmas.Option.{option_and_then_some}
 use Rattle.std.proofs.lemmas.Slice.Eq.{bytes_eq-Decides}
 use Rattle.std.specs.Str.{bytes_eq}
 use Rattle.sap_terms.specs.Tree.{Tree, variable, public, fresh, apply, Trees, none, more}
-use Rattle.sap_terms.specs.Theory.{Theory, IsInstance, first, second, symmetric, asymmetric, signing, pair_name, fst_name, snd_name, senc_name, sdec_name, aenc_name, adec_name, pk_name, sign_name, verify_name, true_name, app0, app1, app2}
+use Rattle.sap_terms.specs.Equations.{Equations, IsInstance, first, second, symmetric, asymmetric, signing, pair_name, fst_name, snd_name, senc_name, sdec_name, aenc_name, adec_name, pk_name, sign_name, verify_name, true_name, app0, app1, app2}
 use Rattle.sap_rewrite.specs.Reduce.{guard, or_else, args1, args2, args3, under, first_part, second_part, opened, opened_by_key, verified, by_first, by_second, by_symmetric, by_asymmetric, by_signing, contracted}
 use Rattle.sap_terms.specs.Same.{same_tree}
 use Rattle.sap_terms.proofs.SameLemmas.{same_tree-sound, same_tree-refl, and_left, and_right}
@@ -108,7 +108,7 @@ verified-shape ts r h =
     let k_same = same_tree-sound q.1 k (and_right _ _ s) in
     (q.0, q.1, cc, cc)))))))
 
-module _ (e : Theory) (f : List ℕ) (ts : Trees) (r : Tree) where
+module _ (e : Equations) (f : List ℕ) (ts : Trees) (r : Tree) where
   abbrev Instance : Type 0
   Instance = IsInstance e (apply f ts) r
 
@@ -155,13 +155,13 @@ module _ (e : Theory) (f : List ℕ) (ts : Trees) (r : Tree) where
       by_signing-sound
 
 -- the contraction of a whole tree
-abbrev pub contracted_tree : Theory → Tree → Option Tree
+abbrev pub contracted_tree : Equations → Tree → Option Tree
 contracted_tree e (variable v) = None
 contracted_tree e (public n) = None
 contracted_tree e (fresh k) = None
 contracted_tree e (apply f ts) = contracted e f ts
 
-pub contracted-complete : (e : Theory) {t r : Tree} → IsInstance e t r → contracted_tree e t ≡ Some r
+pub contracted-complete : (e : Equations) {t r : Tree} → IsInstance e t r → contracted_tree e t ≡ Some r
 contracted-complete e first = refl
 contracted-complete e second = refl
 contracted-complete e (symmetric {m} {k} h) = rw (h, same_tree-refl) refl

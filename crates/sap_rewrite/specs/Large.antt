@@ -1,7 +1,7 @@
 -- Terms that have large normal forms.
 use Rattle.std.specs.Prelude.{ℕ, ◌<◌}
 use Rattle.sap_terms.specs.Tree.{Tree, Trees, apply, more, node_count}
-use Rattle.sap_terms.specs.Theory.{Theory}
+use Rattle.sap_terms.specs.Equations.{Equations}
 use Rattle.sap_terms.specs.Normal.{IsNormalForm}
 
 mutual
@@ -16,11 +16,11 @@ mutual
     later : {t : Tree} {ts : Trees} → SomeSubtermWithin P ts → SomeSubtermWithin P (more t ts)
 
 -- a normal form of the tree has more than this many nodes
-pub record HasLargeForm (e : Theory) (most : ℕ) (t : Tree) : Type 0 where
+pub record HasLargeForm (e : Equations) (most : ℕ) (t : Tree) : Type 0 where
   pub form : Tree
   pub is_form : IsNormalForm e t form
   pub large : most < node_count form
 
 -- so has a normal form of some subterm
-abbrev pub HasLargeSubterm : Theory → ℕ → Tree → Type 0
+abbrev pub HasLargeSubterm : Equations → ℕ → Tree → Type 0
 HasLargeSubterm e most t = SomeSubterm (HasLargeForm e most) t

@@ -11,7 +11,7 @@ pub mod Closed
 pub use Rattle.sap_terms.specs.Tree
 pub use Rattle.sap_terms.specs.View
 pub use Rattle.sap_terms.specs.Signature
-pub use Rattle.sap_terms.specs.Theory
+pub use Rattle.sap_terms.specs.Equations
 pub use Rattle.sap_terms.specs.Equal
 pub use Rattle.sap_terms.specs.Normal
 pub use Rattle.sap_terms.specs.Ground

@@ -3,7 +3,7 @@ use Rattle.std.specs.Prelude.{ℕ, List, Bool, true, false, ◌&&◌, Option, So
 use Rattle.std.specs.Str.{bytes_eq}
 use Rattle.sap_terms.specs.Same.{same_tree}
 use Rattle.sap_terms.specs.Tree.{Tree, variable, public, fresh, apply, Trees, none, more, list_of}
-use Rattle.sap_terms.specs.Theory.{Theory, pair_name, fst_name, snd_name, senc_name, sdec_name, aenc_name, adec_name, pk_name, sign_name, verify_name, true_name, app0}
+use Rattle.sap_terms.specs.Equations.{Equations, pair_name, fst_name, snd_name, senc_name, sdec_name, aenc_name, adec_name, pk_name, sign_name, verify_name, true_name, app0}
 
 infixl 10 ◌>>=◌
 -- the one step, and then the other
@@ -89,37 +89,37 @@ by_first f ts = guard (bytes_eq f fst_name) (first_part ts)
 abbrev pub by_second : List ℕ → Trees → Option Tree
 by_second f ts = guard (bytes_eq f snd_name) (second_part ts)
 
-abbrev pub by_symmetric : Theory → List ℕ → Trees → Option Tree
+abbrev pub by_symmetric : Equations → List ℕ → Trees → Option Tree
 by_symmetric e f ts = guard (bytes_eq f sdec_name && e.symmetric) (opened ts)
 
-abbrev pub by_asymmetric : Theory → List ℕ → Trees → Option Tree
+abbrev pub by_asymmetric : Equations → List ℕ → Trees → Option Tree
 by_asymmetric e f ts = guard (bytes_eq f adec_name && e.asymmetric) (opened_by_key ts)
 
-abbrev pub by_signing : Theory → List ℕ → Trees → Option Tree
+abbrev pub by_signing : Equations → List ℕ → Trees → Option Tree
 by_signing e f ts = guard (bytes_eq f verify_name && e.signing) (verified ts)
 
 -- the part of the first argument that an equation leaves
-abbrev pub by_part : Theory → List ℕ → Trees → Option Tree
+abbrev pub by_part : Equations → List ℕ → Trees → Option Tree
 by_part e f ts = or_else (or_else (or_else (by_first f ts) (by_second f ts)) (by_symmetric e f ts)) (by_asymmetric e f ts)
 
 -- the right side of the equation whose left side the symbol on these trees is
-abbrev pub contracted : Theory → List ℕ → Trees → Option Tree
+abbrev pub contracted : Equations → List ℕ → Trees → Option Tree
 contracted e f ts = or_else (by_part e f ts) (by_signing e f ts)
 
 -- the symbol on these trees, which are normal, made normal
-abbrev pub reduced : Theory → List ℕ → Trees → Tree
+abbrev pub reduced : Equations → List ℕ → Trees → Tree
 reduced e f ts = unwrap_or (contracted e f ts) (apply f ts)
 
 unfoldable mutual
   -- the normal form of a tree
-  pub nf : Theory → Tree → Tree
+  pub nf : Equations → Tree → Tree
   nf e (variable v) = variable v
   nf e (public n) = public n
   nf e (fresh k) = fresh k
   nf e (apply f ts) = reduced e f (nfs e ts)
 
   -- those of these trees
-  pub nfs : Theory → Trees → Trees
+  pub nfs : Equations → Trees → Trees
   nfs e none = none
   nfs e (more t ts) = more (nf e t) (nfs e ts)
 
@@ -129,7 +129,7 @@ inner_part (more (apply g us) ts) k = slice_get (list_of us) k
 inner_part _ k = None
 
 -- the place of the part that an equation leaves
-abbrev pub place : Theory → List ℕ → Trees → Option ℕ
+abbrev pub place : Equations → List ℕ → Trees → Option ℕ
 place e f ts =
     or_else (or_else (or_else (guard (bytes_eq f fst_name) (option_map (λ _. 0) (first_part ts)))
     (guard (bytes_eq f snd_name) (option_map (λ _. 1) (second_part ts))))

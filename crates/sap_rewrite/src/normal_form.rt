@@ -1,6 +1,6 @@
 ghost use Rattle.std.specs.Prelude.{◌≡◌, ◌↔◌, IsTrue, IfOk, map};
 ghost use Rattle.sap_terms.specs.View.{tree};
-ghost use Rattle.sap_terms.specs.Theory.{theory};
+ghost use Rattle.sap_terms.specs.Equations.{equations};
 ghost use Rattle.sap_terms.specs.Equal.{IsTheoryEqual};
 ghost use Rattle.sap_terms.specs.Normal.{IsNormalForm};
 ghost use Rattle.sap_rewrite.specs.Reduce.{nf};
@@ -13,7 +13,7 @@ use std::alloc::Global;
 /// subterm once, in time linear in the term where no keys and messages have to be compared, and recurses as deep as
 /// the term.
 pub fn normal(alloc: Global, sig: &Signature, t: &Term) -> Result<Term, Mem>
-    ensures { IfOk result (λ r. IsNormalForm (theory sig.now) (tree t.now) (tree r)) }
+    ensures { IfOk result (λ r. IsNormalForm (equations sig.now) (tree t.now) (tree r)) }
 {
     normal_term(alloc, sig, t)
 }
@@ -21,7 +21,7 @@ pub fn normal(alloc: Global, sig: &Signature, t: &Term) -> Result<Term, Mem>
 #[cycle(normal)]
 #[tactic(auto, using(crate::proofs::ListLaws::list_laws))]
 fn normal_term(alloc: Global, sig: &Signature, t: &Term) -> Result<Term, Mem>
-    ensures { IfOk result (λ r. tree r ≡ nf (theory sig.now) (tree t.now)) }
+    ensures { IfOk result (λ r. tree r ≡ nf (equations sig.now) (tree t.now)) }
 {
     match t {
         Term::Var(v) => Ok(Term::Var(v.copy(alloc)?)),
@@ -37,7 +37,7 @@ fn normal_term(alloc: Global, sig: &Signature, t: &Term) -> Result<Term, Mem>
 #[cycle(normal)]
 #[tactic(auto, using(crate::proofs::ListLaws::list_laws))]
 fn normal_all(alloc: Global, sig: &Signature, ts: &TermList) -> Result<TermList, Mem>
-    ensures { IfOk result (λ r. r ≡ map (nf (theory sig.now)) ts.now) }
+    ensures { IfOk result (λ r. r ≡ map (nf (equations sig.now)) ts.now) }
 {
     let mut out = TermList::new(alloc);
     for k in 0..ts.len() {
@@ -48,7 +48,7 @@ fn normal_all(alloc: Global, sig: &Signature, ts: &TermList) -> Result<TermList,
 
 /// Whether a signature's equations make the two terms equal.
 pub fn same_modulo(alloc: Global, sig: &Signature, a: &Term, b: &Term) -> Result<bool, Mem>
-    ensures { IfOk result (λ r. IsTrue r ↔ IsTheoryEqual (theory sig.now) (tree a.now) (tree b.now)) }
+    ensures { IfOk result (λ r. IsTrue r ↔ IsTheoryEqual (equations sig.now) (tree a.now) (tree b.now)) }
 {
     let x = normal(alloc, sig, a)?;
     let y = normal(alloc, sig, b)?;

@@ -3,7 +3,7 @@ ghost use Rattle.std.specs.Prelude.{◌≡◌, IfOk, IsSome, Some, None, if◌th
 ghost use Rattle.std.specs.Bool.{OnFalse};
 ghost use Rattle.sap_terms.specs.View.{tree};
 ghost use Rattle.sap_terms.specs.Tree.{apply, trees_of};
-ghost use Rattle.sap_terms.specs.Theory.{theory, app0, true_name};
+ghost use Rattle.sap_terms.specs.Equations.{equations, app0, true_name};
 ghost use Rattle.sap_rewrite.specs.Reduce.{inner_part, place, by_signing, reduced};
 
 use crate::lends::Lends;
@@ -13,7 +13,7 @@ use std::alloc::Global;
 
 // Where in the first argument the part stands that an equation leaves.
 pub(crate) fn place_of_part<L: Lends>(sig: &Signature, f: &Name, args: &L) -> Option<u64>
-    ensures { result ≡ place (theory sig.now) f.now (trees_of (L.lent args.now)) }
+    ensures { result ≡ place (equations sig.now) f.now (trees_of (L.lent args.now)) }
 {
     if f.is(b"fst") {
         first_part(args).map(|_| 0)
@@ -42,7 +42,7 @@ fn into_part(args: TermList, k: u64) -> Term
 
 // Whether the symbol on these terms is a check of a signature that holds.
 pub(crate) fn is_verified<L: Lends>(sig: &Signature, f: &Name, args: &L) -> bool
-    ensures { (if result then Some (app0 true_name) else None) ≡ by_signing (theory sig.now) f.now (trees_of (L.lent args.now)) }
+    ensures { (if result then Some (app0 true_name) else None) ≡ by_signing (equations sig.now) f.now (trees_of (L.lent args.now)) }
 {
     f.is(b"verify") && sig.has(Builtin::Signing) && verifies(args).is_some()
 }
@@ -57,7 +57,7 @@ pub(crate) fn true_constant(alloc: Global) -> Result<Term, Mem>
 
 // Whether the symbol on these terms is the left side of an equation. The one way is all that is said.
 pub(crate) fn is_left_side(sig: &Signature, f: &Name, args: &TermList) -> bool
-    ensures { OnFalse result (reduced (theory sig.now) f.now (trees_of args.now) ≡ apply f.now (trees_of args.now)) }
+    ensures { OnFalse result (reduced (equations sig.now) f.now (trees_of args.now) ≡ apply f.now (trees_of args.now)) }
 {
     match place_of_part(sig, f, args) {
         Some(_) => true,
@@ -67,7 +67,7 @@ pub(crate) fn is_left_side(sig: &Signature, f: &Name, args: &TermList) -> bool
 
 // The normal form of a symbol on normal terms. What an equation leaves is moved out of them, not copied.
 pub(crate) fn reduce(alloc: Global, sig: &Signature, f: &Name, args: TermList) -> Result<Term, Mem>
-    ensures { IfOk result (λ r. tree r ≡ reduced (theory sig.now) f.now (trees_of args)) }
+    ensures { IfOk result (λ r. tree r ≡ reduced (equations sig.now) f.now (trees_of args)) }
 {
     if let Some(k) = place_of_part(sig, f, &args) {
         return Ok(into_part(args, k));

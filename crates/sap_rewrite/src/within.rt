@@ -1,13 +1,13 @@
 ghost use Rattle.std.specs.Prelude.{◌≡◌, ◌<◌, ◌≤◌, IfOk, OnOk, OnErr, IsErrOf, map, min, true, false};
 ghost use Rattle.sap_terms.specs.View.{tree};
 ghost use Rattle.sap_terms.specs.Tree.{node_count, trees_of, trees_count};
-ghost use Rattle.sap_terms.specs.Theory.{theory};
+ghost use Rattle.sap_terms.specs.Equations.{equations};
 ghost use Rattle.sap_terms.specs.Normal.{IsNormalForm};
 ghost use Rattle.sap_rewrite.specs.Reduce.{nf, reduced};
 ghost use Rattle.sap_rewrite.specs.Fit.{each_fits, all_fit};
 ghost use Rattle.sap_rewrite.specs.Large.{HasLargeSubterm};
 
-use crate::Cut;
+use crate::Limited;
 use crate::reduce::{is_left_side, reduce};
 use sap_terms::{Copied, Mem, Name, Signature, Term, TermList};
 use std::alloc::Global;
@@ -29,11 +29,11 @@ struct CountedList {
 /// The normal form of a term, where none of a subterm, the whole term included, has more than `most` nodes; where one
 /// has, `Large`. Each subterm's normal form is counted as soon as it stands, so that none is made of a larger one. It
 /// recurses as deep as the term.
-pub fn normal_within(alloc: Global, sig: &Signature, t: &Term, most: u64) -> Result<Term, Cut>
+pub fn normal_within(alloc: Global, sig: &Signature, t: &Term, most: u64) -> Result<Term, Limited>
     requires { most < u64.MAX }
-    ensures form { IfOk result (λ r. IsNormalForm (theory sig.now) (tree t.now) (tree r)) }
-    ensures within { OnOk result (HasLargeSubterm (theory sig.now) most (tree t.now) → ⊥) }
-    ensures large { IsErrOf result Cut.Large → HasLargeSubterm (theory sig.now) most (tree t.now) }
+    ensures form { IfOk result (λ r. IsNormalForm (equations sig.now) (tree t.now) (tree r)) }
+    ensures within { OnOk result (HasLargeSubterm (equations sig.now) most (tree t.now) → ⊥) }
+    ensures large { IsErrOf result Limited.Large → HasLargeSubterm (equations sig.now) most (tree t.now) }
 {
     match within_term(alloc, sig, t, most) {
         Ok(form) => Ok(form.term),
@@ -42,13 +42,13 @@ pub fn normal_within(alloc: Global, sig: &Signature, t: &Term, most: u64) -> Res
 }
 
 // The term, where it has no more nodes than the limit.
-fn limited(c: Counted, most: u64) -> Result<Counted, Cut>
+fn limited(c: Counted, most: u64) -> Result<Counted, Limited>
     ensures ok { IfOk result (λ r. r ≡ c) }
     ensures within { OnOk result (c.nodes ≤ most) }
     ensures large { OnErr result (most < c.nodes) }
 {
     if c.nodes > most {
-        return Err(Cut::Large);
+        return Err(Limited::Large);
     }
     Ok(c)
 }
@@ -62,7 +62,7 @@ fn reduce_counted(
     parts: CountedList,
 ) -> Result<Counted, Mem>
     requires { parts.nodes ≡ min (trees_count (trees_of parts.terms)) u64.MAX }
-    ensures form { IfOk result (λ r. tree r.term ≡ reduced (theory sig.now) f.now (trees_of parts.terms)) }
+    ensures form { IfOk result (λ r. tree r.term ≡ reduced (equations sig.now) f.now (trees_of parts.terms)) }
     ensures count { IfOk result (λ r. r.nodes ≡ min (node_count (tree r.term)) u64.MAX) }
 {
     let CountedList { terms, nodes } = parts;
@@ -78,12 +78,12 @@ fn reduce_counted(
 
 #[cycle(within)]
 #[tactic(auto, using(crate::proofs::Fits::fit_laws))]
-fn within_term(alloc: Global, sig: &Signature, t: &Term, most: u64) -> Result<Counted, Cut>
+fn within_term(alloc: Global, sig: &Signature, t: &Term, most: u64) -> Result<Counted, Limited>
     requires { most < u64.MAX }
-    ensures form { IfOk result (λ r. tree r.term ≡ nf (theory sig.now) (tree t.now)) }
-    ensures count { IfOk result (λ r. r.nodes ≡ min (node_count (nf (theory sig.now) (tree t.now))) u64.MAX) }
-    ensures fits { OnOk result (each_fits (theory sig.now) most (tree t.now) ≡ true) }
-    ensures large { IsErrOf result Cut.Large → each_fits (theory sig.now) most (tree t.now) ≡ false }
+    ensures form { IfOk result (λ r. tree r.term ≡ nf (equations sig.now) (tree t.now)) }
+    ensures count { IfOk result (λ r. r.nodes ≡ min (node_count (nf (equations sig.now) (tree t.now))) u64.MAX) }
+    ensures fits { OnOk result (each_fits (equations sig.now) most (tree t.now) ≡ true) }
+    ensures large { IsErrOf result Limited.Large → each_fits (equations sig.now) most (tree t.now) ≡ false }
 {
     match t {
         Term::App(f, args) => {
@@ -99,12 +99,12 @@ fn within_term(alloc: Global, sig: &Signature, t: &Term, most: u64) -> Result<Co
 
 #[cycle(within)]
 #[tactic(auto, using(crate::proofs::Fits::fit_laws))]
-fn within_all(alloc: Global, sig: &Signature, ts: &TermList, most: u64) -> Result<CountedList, Cut>
+fn within_all(alloc: Global, sig: &Signature, ts: &TermList, most: u64) -> Result<CountedList, Limited>
     requires { most < u64.MAX }
-    ensures forms { IfOk result (λ r. r.terms ≡ map (nf (theory sig.now)) ts.now) }
+    ensures forms { IfOk result (λ r. r.terms ≡ map (nf (equations sig.now)) ts.now) }
     ensures count { IfOk result (λ r. r.nodes ≡ min (trees_count (trees_of r.terms)) u64.MAX) }
-    ensures fits { OnOk result (all_fit (theory sig.now) most (trees_of ts.now) ≡ true) }
-    ensures large { IsErrOf result Cut.Large → all_fit (theory sig.now) most (trees_of ts.now) ≡ false }
+    ensures fits { OnOk result (all_fit (equations sig.now) most (trees_of ts.now) ≡ true) }
+    ensures large { IsErrOf result Limited.Large → all_fit (equations sig.now) most (trees_of ts.now) ≡ false }
 {
     let mut terms = TermList::new(alloc);
     let mut nodes: u64 = 0;

@@ -7,7 +7,7 @@ use Rattle.sap_terms.specs.Modulo.{instance_facts, AreEqualFacts, AreFormsOfFact
 use Rattle.sap_terms.specs.Normal.{IsNormalForm}
 use Rattle.sap_terms.specs.Piles.{Pile, Takes, adds}
 use Rattle.sap_terms.specs.Signature.{Sig, IsPublic, arity_of}
-use Rattle.sap_terms.specs.Theory.{theory}
+use Rattle.sap_terms.specs.Equations.{equations}
 use Rattle.sap_terms.specs.Trace.{Trace}
 use Rattle.sap_terms.specs.Tree.{Tree, public, fresh, apply, trees_of}
 use Rattle.sap_terms.specs.declared.fact.Fact.{Fact}
@@ -40,9 +40,9 @@ leaves s rest = record { facts = rest; known = s.known; made = s.made }
 -- forms of its other sides
 pub record IsUse (g : Sig) (r : Rule) (σ : Choice) (left acts right : List Fact) : Type 0 where
   pub messages : IsMessageChoice g σ
-  pub takes : AreEqualFacts (theory g) (instance_facts σ r.left) left
-  pub shows : AreFormsOfFacts (theory g) (instance_facts σ r.acts) acts
-  pub adds : AreFormsOfFacts (theory g) (instance_facts σ r.right) right
+  pub takes : AreEqualFacts (equations g) (instance_facts σ r.left) left
+  pub shows : AreFormsOfFacts (equations g) (instance_facts σ r.acts) acts
+  pub adds : AreFormsOfFacts (equations g) (instance_facts σ r.right) right
 
 -- the old state, what is shown, the new state
 pub data RuleStep (g : Sig) (rules : List Rule) : RuleState → List Fact → RuleState → Type 0 where
@@ -55,7 +55,7 @@ pub data RuleStep (g : Sig) (rules : List Rule) : RuleState → List Fact → Ru
   -- it knows a public name
   knows_public : {s : RuleState} (a : List ℕ) → RuleStep g rules s [] (gains s (public a))
   -- it applies a public symbol to terms that it knows
-  applies : {s : RuleState} (f : List ℕ) (ts : List Tree) (t : Tree) → IsPublic g f → arity_of g f ≡ Some (length ts) → All (Contains s.known) ts → IsNormalForm (theory g) (apply f (trees_of ts)) t → RuleStep g rules s [] (gains s t)
+  applies : {s : RuleState} (f : List ℕ) (ts : List Tree) (t : Tree) → IsPublic g f → arity_of g f ≡ Some (length ts) → All (Contains s.known) ts → IsNormalForm (equations g) (apply f (trees_of ts)) t → RuleStep g rules s [] (gains s t)
   -- it gives a term that it knows
   gives : {s : RuleState} (t : Tree) → Contains s.known t → RuleStep g rules s (k_fact t ∷ []) (leaves s (adds s.facts (in_fact t ∷ [])))
   -- a rule takes its left side, shows its acts and adds its right side

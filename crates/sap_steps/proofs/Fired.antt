@@ -7,7 +7,7 @@ use Rattle.sap_terms.specs.Message.{IsMessage, IsMessageChoice}
 use Rattle.sap_terms.specs.Modulo.{instance_facts, AreFormsOfFacts}
 use Rattle.sap_terms.specs.Signature.{Sig, HoldsBuiltins}
 use Rattle.sap_terms.specs.Subst.{bound_to}
-use Rattle.sap_terms.specs.Theory.{theory}
+use Rattle.sap_terms.specs.Equations.{equations}
 use Rattle.sap_terms.specs.Tree.{trees_of}
 use Rattle.sap_terms.specs.Variables.{facts_vars, trees_vars}
 use Rattle.sap_terms.specs.View.{tree}
@@ -108,16 +108,16 @@ module _ (laws : Laws) (g : Sig) (r : Rule) (b c : List Binding) (cited : List F
     binds = record { vars = good.vars; agrees = fitting.agrees };
     use_ = record {
       messages = chosen.1;
-      takes = facts_equal g chosen.0 r.left e.left cited (subst (λ xs. AreFormsOfFacts (theory g) xs e.left) same_left e.left_forms) e.same fit;
-      shows = subst (λ xs. AreFormsOfFacts (theory g) xs acts) same_acts e.acts_forms;
-      adds = subst (λ xs. AreFormsOfFacts (theory g) xs right) same_right e.right_forms;
+      takes = facts_equal g chosen.0 r.left e.left cited (subst (λ xs. AreFormsOfFacts (equations g) xs e.left) same_left e.left_forms) e.same fit;
+      shows = subst (λ xs. AreFormsOfFacts (equations g) xs acts) same_acts e.acts_forms;
+      adds = subst (λ xs. AreFormsOfFacts (equations g) xs right) same_right e.right_forms;
     };
     within = evaluated_small g r chosen.0 (small e.small);
   }
 
   pub right_held : HoldsBuiltins g → (acts right : List Fact) → Evaluates g (bound_to c) r cited acts right → All (IsHeldFact g) right
   right_held k acts right e =
-      facts_held laws g chosen.0 r.right right k chosen.1 well.right (λ s. small e.small (in_right g chosen.0 r s)) (subst (λ xs. AreFormsOfFacts (theory g) xs right) same_right e.right_forms)
+      facts_held laws g chosen.0 r.right right k chosen.1 well.right (λ s. small e.small (in_right g chosen.0 r s)) (subst (λ xs. AreFormsOfFacts (equations g) xs right) same_right e.right_forms)
 
   pub refused : (k : RFault) → IsEvaluationFault g (bound_to c) r cited k → IsRefusal g r b cited k
   refused Mem h = tt
@@ -128,7 +128,7 @@ module _ (laws : Laws) (g : Sig) (r : Rule) (b c : List Binding) (cited : List F
       chosen.0,
       fitting,
       evaluated_small g r chosen.0 (small h.small),
-      λ q. h.other (facts_hold laws g chosen.0 r.left h.left cited chosen.1 held (subst (λ xs. AreFormsOfFacts (theory g) xs h.left) same_left h.left_forms) fit q),
+      λ q. h.other (facts_hold laws g chosen.0 r.left h.left cited chosen.1 held (subst (λ xs. AreFormsOfFacts (equations g) xs h.left) same_left h.left_forms) fit q),
     ),
   )
   refused NoRule h = absurd h

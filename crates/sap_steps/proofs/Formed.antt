@@ -7,7 +7,7 @@ use Rattle.sap_terms.specs.Modulo.{instance_fact, instance_facts, IsFormOfFact, 
 use Rattle.sap_terms.specs.Choice.{Choice, instance}
 use Rattle.sap_terms.specs.Normal.{IsNormalForm}
 use Rattle.sap_terms.specs.Signature.{Sig}
-use Rattle.sap_terms.specs.Theory.{theory}
+use Rattle.sap_terms.specs.Equations.{equations}
 use Rattle.sap_terms.specs.Tree.{Tree, Trees, none, more, trees_of}
 use Rattle.sap_terms.specs.declared.fact.Fact.{Fact}
 use Rattle.sap_rewrite.specs.Large.{SomeSubterm, SomeSubtermWithin, here, later, HasLargeForm}
@@ -47,36 +47,36 @@ only_one P x s = elim (more_cases P x none s) as (λ _. SomeSubterm P x) [ inl a
 
 -- what is formed so far
 pub record AreFormed (g : Sig) (us ns : List Tree) : Type 0 where
-  pub forms : AllZip (IsNormalForm (theory g)) us ns
+  pub forms : AllZip (IsNormalForm (equations g)) us ns
   pub within : SomeLarge g us → ⊥
 
 pub formed_none : (g : Sig) → AreFormed g [] []
-formed_none g = record { forms = tt; within = λ s. none_within (HasLargeForm (theory g) 256) s refl }
+formed_none g = record { forms = tt; within = λ s. none_within (HasLargeForm (equations g) 256) s refl }
 
-formed_one : (g : Sig) (us ns : List Tree) (u n : Tree) → AreFormed g us ns → IsNormalForm (theory g) u n → (SomeSubterm (HasLargeForm (theory g) 256) u → ⊥) → AreFormed g (us ++ u ∷ []) (ns ++ n ∷ [])
+formed_one : (g : Sig) (us ns : List Tree) (u n : Tree) → AreFormed g us ns → IsNormalForm (equations g) u n → (SomeSubterm (HasLargeForm (equations g) 256) u → ⊥) → AreFormed g (us ++ u ∷ []) (ns ++ n ∷ [])
 formed_one g us ns u n a f w = record {
-  forms = zip_push (IsNormalForm (theory g)) us ns u n a.forms f;
-  within = λ s. elim (within_cases (HasLargeForm (theory g) 256) us (u ∷ []) s) as (λ _. ⊥) [ inl x ↦ a.within x | inr y ↦ w (only_one (HasLargeForm (theory g) 256) u y) ];
+  forms = zip_push (IsNormalForm (equations g)) us ns u n a.forms f;
+  within = λ s. elim (within_cases (HasLargeForm (equations g) 256) us (u ∷ []) s) as (λ _. ⊥) [ inl x ↦ a.within x | inr y ↦ w (only_one (HasLargeForm (equations g) 256) u y) ];
 }
 
-pub formed_further : (g : Sig) (τ : Choice) (ts ns ms : List Tree) (k : ℕ) (t n : Tree) → slice_get ts k ≡ Some t → AreFormed g (map (instance τ) (take k ts)) ns → IsNormalForm (theory g) (instance τ t) n → (SomeSubterm (HasLargeForm (theory g) 256) (instance τ t) → ⊥) → ms ≡ ns ++ n ∷ [] → AreFormed g (map (instance τ) (take (k + 1) ts)) ms
+pub formed_further : (g : Sig) (τ : Choice) (ts ns ms : List Tree) (k : ℕ) (t n : Tree) → slice_get ts k ≡ Some t → AreFormed g (map (instance τ) (take k ts)) ns → IsNormalForm (equations g) (instance τ t) n → (SomeSubterm (HasLargeForm (equations g) 256) (instance τ t) → ⊥) → ms ≡ ns ++ n ∷ [] → AreFormed g (map (instance τ) (take (k + 1) ts)) ms
 formed_further g τ ts ns ms k t n h a f w e =
     let us = map (instance τ) (take k ts) in
     let is : us ++ instance τ t ∷ [] ≡ map (instance τ) (take (k + 1) ts) = sym (map-append (instance τ) (take k ts) (t ∷ [])) ∙ ap (map (instance τ)) (sym (take_got ts k t h)) in
     subst (λ xs. AreFormed g xs ms) is (subst (λ ys. AreFormed g (us ++ instance τ t ∷ []) ys) (sym e) (formed_one g us ns (instance τ t) n a f w))
 
-pub large_at : (g : Sig) (τ : Choice) (ts : List Tree) (k : ℕ) (t : Tree) → slice_get ts k ≡ Some t → SomeSubterm (HasLargeForm (theory g) 256) (instance τ t) → SomeLarge g (map (instance τ) ts)
+pub large_at : (g : Sig) (τ : Choice) (ts : List Tree) (k : ℕ) (t : Tree) → slice_get ts k ≡ Some t → SomeSubterm (HasLargeForm (equations g) 256) (instance τ t) → SomeLarge g (map (instance τ) ts)
 large_at g τ [] k t h s = cc
-large_at g τ (u ∷ us) zero t h s = let is : t ≡ u = cc in here (subst (λ v. SomeSubterm (HasLargeForm (theory g) 256) (instance τ v)) is s)
+large_at g τ (u ∷ us) zero t h s = let is : t ≡ u = cc in here (subst (λ v. SomeSubterm (HasLargeForm (equations g) 256) (instance τ v)) is s)
 large_at g τ (u ∷ us) (suc k) t h s = later (large_at g τ us k t h s)
 
 -- the same of facts
 pub record AreFactsFormed (g : Sig) (τ : Choice) (fs ns : List Fact) : Type 0 where
-  pub forms : AreFormsOfFacts (theory g) (instance_facts τ fs) ns
+  pub forms : AreFormsOfFacts (equations g) (instance_facts τ fs) ns
   pub within : SomeLarge g (map (instance τ) (terms_of fs)) → ⊥
 
 pub facts_none : (g : Sig) (τ : Choice) → AreFactsFormed g τ [] []
-facts_none g τ = record { forms = tt; within = λ s. none_within (HasLargeForm (theory g) 256) s refl }
+facts_none g τ = record { forms = tt; within = λ s. none_within (HasLargeForm (equations g) 256) s refl }
 
 pub terms_append : (fs hs : List Fact) → terms_of (fs ++ hs) ≡ terms_of fs ++ terms_of hs
 terms_append [] hs = refl
@@ -87,24 +87,24 @@ map_terms_append τ fs hs = ap (map (instance τ)) (terms_append fs hs) ∙ map-
 
 pub large_cases : (g : Sig) (τ : Choice) (fs hs : List Fact) → SomeLarge g (map (instance τ) (terms_of (fs ++ hs))) → SomeLarge g (map (instance τ) (terms_of fs)) ⊎ SomeLarge g (map (instance τ) (terms_of hs))
 large_cases g τ fs hs s =
-    within_cases (HasLargeForm (theory g) 256) (map (instance τ) (terms_of fs)) (map (instance τ) (terms_of hs)) (subst (SomeLarge g) (map_terms_append τ fs hs) s)
+    within_cases (HasLargeForm (equations g) 256) (map (instance τ) (terms_of fs)) (map (instance τ) (terms_of hs)) (subst (SomeLarge g) (map_terms_append τ fs hs) s)
 
 pub large_front : (g : Sig) (τ : Choice) (fs hs : List Fact) → SomeLarge g (map (instance τ) (terms_of fs)) → SomeLarge g (map (instance τ) (terms_of (fs ++ hs)))
-large_front g τ fs hs s = subst (SomeLarge g) (sym (map_terms_append τ fs hs)) (within_front (HasLargeForm (theory g) 256) (map (instance τ) (terms_of fs)) (map (instance τ) (terms_of hs)) s)
+large_front g τ fs hs s = subst (SomeLarge g) (sym (map_terms_append τ fs hs)) (within_front (HasLargeForm (equations g) 256) (map (instance τ) (terms_of fs)) (map (instance τ) (terms_of hs)) s)
 
 pub large_back : (g : Sig) (τ : Choice) (fs hs : List Fact) → SomeLarge g (map (instance τ) (terms_of hs)) → SomeLarge g (map (instance τ) (terms_of (fs ++ hs)))
-large_back g τ fs hs s = subst (SomeLarge g) (sym (map_terms_append τ fs hs)) (within_back (HasLargeForm (theory g) 256) (map (instance τ) (terms_of fs)) (map (instance τ) (terms_of hs)) s)
+large_back g τ fs hs s = subst (SomeLarge g) (sym (map_terms_append τ fs hs)) (within_back (HasLargeForm (equations g) 256) (map (instance τ) (terms_of fs)) (map (instance τ) (terms_of hs)) s)
 
 one_fact : (g : Sig) (τ : Choice) (f : Fact) → SomeLarge g (map (instance τ) (terms_of (f ∷ []))) → SomeLarge g (map (instance τ) f.args)
 one_fact g τ f s = subst (λ xs. SomeLarge g (map (instance τ) xs)) (append-nil f.args) s
 
-facts_one : (g : Sig) (τ : Choice) (fs ns : List Fact) (f n : Fact) → AreFactsFormed g τ fs ns → IsFormOfFact (theory g) (instance_fact τ f) n → (SomeLarge g (map (instance τ) f.args) → ⊥) → AreFactsFormed g τ (fs ++ f ∷ []) (ns ++ n ∷ [])
+facts_one : (g : Sig) (τ : Choice) (fs ns : List Fact) (f n : Fact) → AreFactsFormed g τ fs ns → IsFormOfFact (equations g) (instance_fact τ f) n → (SomeLarge g (map (instance τ) f.args) → ⊥) → AreFactsFormed g τ (fs ++ f ∷ []) (ns ++ n ∷ [])
 facts_one g τ fs ns f n a h w = record {
-  forms = subst (λ xs. AreFormsOfFacts (theory g) xs (ns ++ n ∷ [])) (sym (map-append (instance_fact τ) fs (f ∷ []))) (zip_push (IsFormOfFact (theory g)) (instance_facts τ fs) ns (instance_fact τ f) n a.forms h);
+  forms = subst (λ xs. AreFormsOfFacts (equations g) xs (ns ++ n ∷ [])) (sym (map-append (instance_fact τ) fs (f ∷ []))) (zip_push (IsFormOfFact (equations g)) (instance_facts τ fs) ns (instance_fact τ f) n a.forms h);
   within = λ s. elim (large_cases g τ fs (f ∷ []) s) as (λ _. ⊥) [ inl x ↦ a.within x | inr y ↦ w (one_fact g τ f y) ];
 }
 
-pub facts_further : (g : Sig) (τ : Choice) (fs ns ms : List Fact) (k : ℕ) (f n : Fact) → slice_get fs k ≡ Some f → AreFactsFormed g τ (take k fs) ns → IsFormOfFact (theory g) (instance_fact τ f) n → (SomeLarge g (map (instance τ) f.args) → ⊥) → ms ≡ ns ++ n ∷ [] → AreFactsFormed g τ (take (k + 1) fs) ms
+pub facts_further : (g : Sig) (τ : Choice) (fs ns ms : List Fact) (k : ℕ) (f n : Fact) → slice_get fs k ≡ Some f → AreFactsFormed g τ (take k fs) ns → IsFormOfFact (equations g) (instance_fact τ f) n → (SomeLarge g (map (instance τ) f.args) → ⊥) → ms ≡ ns ++ n ∷ [] → AreFactsFormed g τ (take (k + 1) fs) ms
 facts_further g τ fs ns ms k f n h a i w e =
     subst (λ xs. AreFactsFormed g τ xs ms) (sym (take_got fs k f h)) (subst (λ ys. AreFactsFormed g τ (take k fs ++ f ∷ []) ys) (sym e) (facts_one g τ (take k fs) ns f n a i w))
 

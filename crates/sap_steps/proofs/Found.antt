@@ -8,7 +8,7 @@ use Rattle.sap_terms.specs.Tree.{Tree, trees_of}
 use Rattle.sap_terms.specs.declared.binding.Binding.{Binding}
 use Rattle.sap_terms.specs.declared.fact.Fact.{Fact}
 use Rattle.sap_terms.specs.declared.var.Var.{Var}
-use Rattle.sap_rewrite.specs.Around.{Fits, outer_vars, all_outer_vars, IsOnlyFit, HasNoFit}
+use Rattle.sap_rewrite.specs.Around.{FitsAround, outer_vars, all_outer_vars, IsOnlyFit, HasNoFit}
 use Rattle.sap_rule.specs.Variables.{facts_outer_vars}
 use Rattle.sap_rewrite.specs.Bound.{ExtensionsJoin}
 use Rattle.sap_rewrite.specs.Match.{Extends, Agrees, HaveOneSort, bound_vars}
@@ -84,7 +84,7 @@ pub continues_end : ExtensionsJoin → (F G : Choice → Type 0) (vs : List Var)
 continues_end j F G vs b c k g = k.found c (record { extends = j.0 c; is = λ one σ a. g σ; only = λ one σ s a f. a })
 
 -- one argument
-pub arg_found : (g : Sig) (p t : Tree) (b c : List Binding) → IsOnlyFit g p t b c → IsOnlyChoice (λ σ. Fits g σ p t) (outer_vars g p) b c
+pub arg_found : (g : Sig) (p t : Tree) (b c : List Binding) → IsOnlyFit g p t b c → IsOnlyChoice (λ σ. FitsAround g σ p t) (outer_vars g p) b c
 arg_found g p t b c h = record { extends = h.extends; is = h.fits; only = h.only }
 
 pub fit_length : (g : Sig) (ps ts : List Tree) (σ : Choice) → ArgsFit g ps ts σ → length ps ≡ length ts
@@ -119,7 +119,7 @@ module _ (g : Sig) (ps ts : List Tree) (b c : List Binding) (k : ℕ) (p t : Tre
 
   abbrev OneAndLeft : Type 0
   OneAndLeft =
-      Continues (ArgsFit g ps ts) (λ σ. Fits g σ p t × ArgsFit g (drop (k + 1) ps) (drop (k + 1) ts) σ) (all_outer_vars g (trees_of ps)) (outer_vars g p ++ all_outer_vars g (trees_of (drop (k + 1) ps))) b c
+      Continues (ArgsFit g ps ts) (λ σ. FitsAround g σ p t × ArgsFit g (drop (k + 1) ps) (drop (k + 1) ts) σ) (all_outer_vars g (trees_of ps)) (outer_vars g p ++ all_outer_vars g (trees_of (drop (k + 1) ps))) b c
 
   args_opened : ArgsLeft k c → OneAndLeft
   args_opened h =
@@ -127,10 +127,10 @@ module _ (g : Sig) (ps ts : List Tree) (b c : List Binding) (k : ℕ) (p t : Tre
       subst (λ ys. C (p ∷ drop (k + 1) ps) ys) (drop_got ts k t ht) (subst (λ xs. C xs (drop k ts)) (drop_got ps k p hp) h)
 
   pub args_past : ExtensionsJoin → (d : List Binding) → ArgsLeft k c → IsOnlyFit g p t c d → ArgsLeft (k + 1) d
-  args_past j d h f = continues_past j _ (λ σ. Fits g σ p t) (ArgsFit g (drop (k + 1) ps) (drop (k + 1) ts)) _ (outer_vars g p) _ b c d (args_opened h) (arg_found g p t c d f)
+  args_past j d h f = continues_past j _ (λ σ. FitsAround g σ p t) (ArgsFit g (drop (k + 1) ps) (drop (k + 1) ts)) _ (outer_vars g p) _ b c d (args_opened h) (arg_found g p t c d f)
 
   pub args_not : ExtensionsJoin → ArgsLeft k c → HasNoFit g p t c → HasNoChoice (ArgsFit g ps ts) (all_outer_vars g (trees_of ps)) b
-  args_not j h f = continues_not j _ (λ σ. Fits g σ p t) (ArgsFit g (drop (k + 1) ps) (drop (k + 1) ts)) _ (outer_vars g p) _ b c (args_opened h) f
+  args_not j h f = continues_not j _ (λ σ. FitsAround g σ p t) (ArgsFit g (drop (k + 1) ps) (drop (k + 1) ts)) _ (outer_vars g p) _ b c (args_opened h) f
 
 pub args_end : ExtensionsJoin → (g : Sig) (ps ts : List Tree) (b c : List Binding) (k : ℕ) → k ≡ length ps → k ≡ length ts → Continues (ArgsFit g ps ts) (ArgsFit g (drop k ps) (drop k ts)) (all_outer_vars g (trees_of ps)) (all_outer_vars g (trees_of (drop k ps))) b c → IsOnlyChoice (ArgsFit g ps ts) (all_outer_vars g (trees_of ps)) b c
 args_end j g ps ts b c k hp ht h =

@@ -7,7 +7,7 @@ use Rattle.std.proofs.lemmas.List.Elements.{All-nil, All-cons, All-head, All-tai
 use Rattle.sap_terms.specs.AdversaryFacts.{linear}
 use Rattle.sap_terms.specs.Piles.{Pile, Takes, nothing, one, used, adds}
 use Rattle.sap_terms.specs.Signature.{Sig}
-use Rattle.sap_terms.specs.Theory.{theory, Theory, IsInstance}
+use Rattle.sap_terms.specs.Equations.{equations, Equations, IsInstance}
 use Rattle.sap_terms.specs.Tree.{Tree, public, fresh}
 use Rattle.sap_terms.specs.declared.fact.Fact.{Fact}
 use Rattle.sap_deduce.specs.Entries.{Entry, Entries, terms_of, Gains}
@@ -21,17 +21,17 @@ use Rattle.sap_steps.specs.declared.prepared.Prepared.{Prepared}
 use Rattle.sap_steps.proofs.Left.{gone_at, get-set_other, nat_cases, used-without}
 
 -- no equation has a name for its left side
-fresh-normal : (e : Theory) (n : ℕ) (b : Tree) → IsInstance e (fresh n) b → ⊥
+fresh-normal : (e : Equations) (n : ℕ) (b : Tree) → IsInstance e (fresh n) b → ⊥
 fresh-normal e n b h = elim h [ ]
 
-public-normal : (e : Theory) (a : List ℕ) (b : Tree) → IsInstance e (public a) b → ⊥
+public-normal : (e : Equations) (a : List ℕ) (b : Tree) → IsInstance e (public a) b → ⊥
 public-normal e a b h = elim h [ ]
 
 pub held_fresh : (g : Sig) (n : ℕ) → IsHeldTerm g (fresh n)
-held_fresh g n = record { message = record { ground = tt; over = tt; normal = fresh-normal (theory g) n; sorted = refl }; small = omega arith }
+held_fresh g n = record { message = record { ground = tt; over = tt; normal = fresh-normal (equations g) n; sorted = refl }; small = omega arith }
 
 pub held_public : (g : Sig) (a : List ℕ) → IsHeldTerm g (public a)
-held_public g a = record { message = record { ground = tt; over = tt; normal = public-normal (theory g) a; sorted = refl }; small = omega arith }
+held_public g a = record { message = record { ground = tt; over = tt; normal = public-normal (equations g) a; sorted = refl }; small = omega arith }
 
 pub held_single : (g : Sig) (name : List ℕ) (t : Tree) → IsHeldTerm g t → IsHeldFact g (linear name (t ∷ []))
 held_single g name t h = All-cons (IsHeldTerm g) t [] h (All-nil (IsHeldTerm g))

@@ -12,7 +12,7 @@ use Rattle.sap_terms.specs.Message.{IsMessage, IsMessageChoice, IsOver, AreOver}
 use Rattle.sap_terms.specs.Modulo.{instance_facts, AreEqualFacts, AreFormsOfFacts}
 use Rattle.sap_terms.specs.Normal.{IsNormalForm}
 use Rattle.sap_terms.specs.Signature.{Sig, HoldsBuiltins}
-use Rattle.sap_terms.specs.Theory.{Theory, theory}
+use Rattle.sap_terms.specs.Equations.{Equations, equations}
 use Rattle.sap_terms.specs.Tree.{Tree, variable, public, fresh, apply, Trees, none, more, trees_of, list_of, node_count}
 use Rattle.sap_terms.specs.Variables.{facts_vars, tree_vars, trees_vars}
 use Rattle.sap_terms.specs.View.{tree}
@@ -131,37 +131,37 @@ mutual
   some_named_within P (later s) = let q = some_named_within P s in (q.0, q.1, later q.2)
 
 -- a large form is one that is evaluated, and the other way round
-large_form_within : (e : Theory) (most : ℕ) (ts : Trees) → SomeSubtermWithin (HasLargeForm e most) ts → (n : Tree) × SomeSubtermWithin (λ u. IsNormalForm e u n) ts × (most < node_count n)
+large_form_within : (e : Equations) (most : ℕ) (ts : Trees) → SomeSubtermWithin (HasLargeForm e most) ts → (n : Tree) × SomeSubtermWithin (λ u. IsNormalForm e u n) ts × (most < node_count n)
 large_form_within e most ts s =
     let q = some_named_within (HasLargeForm e most) s in
     (q.1.form, some_map_within (λ w. q.0 ≡ w) (λ u. IsNormalForm e u q.1.form) (λ t is. subst (λ u. IsNormalForm e u q.1.form) is q.1.is_form) q.2, q.1.large)
 
-form_large_within : (e : Theory) (most : ℕ) (n : Tree) (ts : Trees) → most < node_count n → SomeSubtermWithin (λ u. IsNormalForm e u n) ts → SomeSubtermWithin (HasLargeForm e most) ts
+form_large_within : (e : Equations) (most : ℕ) (n : Tree) (ts : Trees) → most < node_count n → SomeSubtermWithin (λ u. IsNormalForm e u n) ts → SomeSubtermWithin (HasLargeForm e most) ts
 form_large_within e most n ts l s = some_map_within (λ u. IsNormalForm e u n) (HasLargeForm e most) (λ t h. record { form = n; is_form = h; large = l }) s
 
 pub large_evaluated : (g : Sig) (r : Rule) (σ : Choice) → SomeLarge g (map (instance σ) (rule_terms r)) → (n : Tree) × IsEvaluated g r σ n × (256 < node_count n)
-large_evaluated g r σ s = large_form_within (theory g) 256 _ (subst (SomeSubtermWithin (HasLargeForm (theory g) 256)) (sym (instances-list σ (rule_terms r))) s)
+large_evaluated g r σ s = large_form_within (equations g) 256 _ (subst (SomeSubtermWithin (HasLargeForm (equations g) 256)) (sym (instances-list σ (rule_terms r))) s)
 
 pub evaluated_small : (g : Sig) (r : Rule) (σ : Choice) → (SomeLarge g (map (instance σ) (rule_terms r)) → ⊥) → (n : Tree) → IsEvaluated g r σ n → IsSmall n
 evaluated_small g r σ h n s = elim (cases_lt 256 (node_count n)) as (λ _. node_count n ≤ 256) [
-  | inl l ↦ absurd (h (subst (SomeSubtermWithin (HasLargeForm (theory g) 256)) (instances-list σ (rule_terms r)) (form_large_within (theory g) 256 n _ l s)))
+  | inl l ↦ absurd (h (subst (SomeSubtermWithin (HasLargeForm (equations g) 256)) (instances-list σ (rule_terms r)) (form_large_within (equations g) 256 n _ l s)))
   | inr k ↦ k
 ]
 
 -- facts whose forms have the arguments of those that they fit are theory-equal to these
-args_equal : (e : Theory) (us ns : List Tree) → AllZip (IsNormalForm e) us ns → AllZip (IsTheoryEqual e) us ns
+args_equal : (e : Equations) (us ns : List Tree) → AllZip (IsNormalForm e) us ns → AllZip (IsTheoryEqual e) us ns
 args_equal e [] [] h = tt
 args_equal e [] (n ∷ ns) h = absurd h
 args_equal e (u ∷ us) [] h = absurd h
 args_equal e (u ∷ us) (n ∷ ns) h = (h.0.equal, args_equal e us ns h.1)
 
-pub facts_equal : (g : Sig) (σ : Choice) (fs ns hs : List Fact) → AreFormsOfFacts (theory g) (instance_facts σ fs) ns → HaveArgs ns hs → FactsFit g fs hs σ → AreEqualFacts (theory g) (instance_facts σ fs) hs
+pub facts_equal : (g : Sig) (σ : Choice) (fs ns hs : List Fact) → AreFormsOfFacts (equations g) (instance_facts σ fs) ns → HaveArgs ns hs → FactsFit g fs hs σ → AreEqualFacts (equations g) (instance_facts σ fs) hs
 facts_equal g σ [] [] [] a b c = tt
 facts_equal g σ (f ∷ fs) (n ∷ ns) (h ∷ hs) a b c = (
   record {
     name = c.0.name;
     persistent = c.0.persistent;
-    args = subst (AllZip (IsTheoryEqual (theory g)) (map (instance σ) f.args)) b.0 (args_equal (theory g) (map (instance σ) f.args) n.args a.0.args);
+    args = subst (AllZip (IsTheoryEqual (equations g)) (map (instance σ) f.args)) b.0 (args_equal (equations g) (map (instance σ) f.args) n.args a.0.args);
   },
   facts_equal g σ fs ns hs a.1 b.1 c.1,
 )
@@ -171,12 +171,12 @@ facts_equal g σ (f ∷ fs) [] hs a b c = absurd a
 facts_equal g σ (f ∷ fs) (n ∷ ns) [] a b c = absurd b
 
 -- where what destructors head holds, the forms have the arguments of the facts
-args_hold : Laws → (g : Sig) (σ : Choice) (ps ns ts : List Tree) → IsMessageChoice g σ → All (IsHeldTerm g) ts → AllZip (IsNormalForm (theory g)) (map (instance σ) ps) ns → ArgsFit g ps ts σ → HoldAll g σ (trees_of ps) (trees_of ts) → ns ≡ ts
+args_hold : Laws → (g : Sig) (σ : Choice) (ps ns ts : List Tree) → IsMessageChoice g σ → All (IsHeldTerm g) ts → AllZip (IsNormalForm (equations g)) (map (instance σ) ps) ns → ArgsFit g ps ts σ → HoldAll g σ (trees_of ps) (trees_of ts) → ns ≡ ts
 args_hold laws g σ [] [] [] m h a f q = refl
 args_hold laws g σ (p ∷ ps) (n ∷ ns) (t ∷ ts) m h a f q =
     let held = (All-head (IsHeldTerm g) t ts h).message in
     let equal = (laws.modulo g σ p t (λ v. (m v).normal) held.normal).1 (f.0, q.0) in
-    let one = laws.one_form (theory g) (instance σ p) n t a.0 (record { equal = equal; normal = held.normal }) in
+    let one = laws.one_form (equations g) (instance σ p) n t a.0 (record { equal = equal; normal = held.normal }) in
     let rest = args_hold laws g σ ps ns ts m (All-tail (IsHeldTerm g) t ts h) a.1 f.1 q.1 in
     λ i. one i ∷ rest i
 args_hold laws g σ [] [] (t ∷ ts) m h a f q = absurd f
@@ -184,7 +184,7 @@ args_hold laws g σ [] (n ∷ ns) ts m h a f q = absurd a
 args_hold laws g σ (p ∷ ps) [] ts m h a f q = absurd a
 args_hold laws g σ (p ∷ ps) (n ∷ ns) [] m h a f q = absurd f
 
-pub facts_hold : Laws → (g : Sig) (σ : Choice) (fs ns hs : List Fact) → IsMessageChoice g σ → All (IsHeldFact g) hs → AreFormsOfFacts (theory g) (instance_facts σ fs) ns → FactsFit g fs hs σ → AllZip (FactHolds g σ) fs hs → HaveArgs ns hs
+pub facts_hold : Laws → (g : Sig) (σ : Choice) (fs ns hs : List Fact) → IsMessageChoice g σ → All (IsHeldFact g) hs → AreFormsOfFacts (equations g) (instance_facts σ fs) ns → FactsFit g fs hs σ → AllZip (FactHolds g σ) fs hs → HaveArgs ns hs
 facts_hold laws g σ [] [] [] m h a f q = tt
 facts_hold laws g σ (x ∷ xs) (n ∷ ns) (y ∷ ys) m h a f q = (
   args_hold laws g σ x.args n.args y.args m (All-head (IsHeldFact g) y ys h) a.0.args f.0.args q.0,
@@ -217,7 +217,7 @@ mutual
       ((x.0, y.0), (x.1, y.1))
 
 -- forms of terms over the signature are held, where none is large
-small_form : (e : Theory) (t n : Tree) → IsNormalForm e t n → (SomeSubterm (HasLargeForm e 256) t → ⊥) → node_count n ≤ 256
+small_form : (e : Equations) (t n : Tree) → IsNormalForm e t n → (SomeSubterm (HasLargeForm e 256) t → ⊥) → node_count n ≤ 256
 small_form e t n h s = elim (cases_lt 256 (node_count n)) as (λ _. node_count n ≤ 256) [
   | inl l ↦ absurd (s (whole t (record { form = n; is_form = h; large = l })))
   | inr k ↦ k
@@ -225,19 +225,19 @@ small_form e t n h s = elim (cases_lt 256 (node_count n)) as (λ _. node_count n
   whole : (t : Tree) → HasLargeForm e 256 t → SomeSubterm (HasLargeForm e 256) t
   whole t l = itself l
 
-args_held : Laws → (g : Sig) (σ : Choice) (ts ns : List Tree) → HoldsBuiltins g → IsMessageChoice g σ → AreOver g (trees_of ts) → (SomeLarge g (map (instance σ) ts) → ⊥) → AllZip (IsNormalForm (theory g)) (map (instance σ) ts) ns → All (IsHeldTerm g) ns
+args_held : Laws → (g : Sig) (σ : Choice) (ts ns : List Tree) → HoldsBuiltins g → IsMessageChoice g σ → AreOver g (trees_of ts) → (SomeLarge g (map (instance σ) ts) → ⊥) → AllZip (IsNormalForm (equations g)) (map (instance σ) ts) ns → All (IsHeldTerm g) ns
 args_held laws g σ [] [] k m o s a = All-nil (IsHeldTerm g)
 args_held laws g σ (t ∷ ts) (n ∷ ns) k m o s a =
     let q = instance_closed g σ t m o.0 in
-    All-cons (IsHeldTerm g) n ns (record { message = laws.forms g (instance σ t) n k q.0 q.1 a.0; small = small_form (theory g) (instance σ t) n a.0 (λ l. s (here l)) }) (args_held laws g σ ts ns k m o.1 (λ l. s (later l)) a.1)
+    All-cons (IsHeldTerm g) n ns (record { message = laws.forms g (instance σ t) n k q.0 q.1 a.0; small = small_form (equations g) (instance σ t) n a.0 (λ l. s (here l)) }) (args_held laws g σ ts ns k m o.1 (λ l. s (later l)) a.1)
 args_held laws g σ [] (n ∷ ns) k m o s a = absurd a
 args_held laws g σ (t ∷ ts) [] k m o s a = absurd a
 
-pub facts_held : Laws → (g : Sig) (σ : Choice) (fs ns : List Fact) → HoldsBuiltins g → IsMessageChoice g σ → All (IsRightFact g) fs → (SomeLarge g (map (instance σ) (terms_of fs)) → ⊥) → AreFormsOfFacts (theory g) (instance_facts σ fs) ns → All (IsHeldFact g) ns
+pub facts_held : Laws → (g : Sig) (σ : Choice) (fs ns : List Fact) → HoldsBuiltins g → IsMessageChoice g σ → All (IsRightFact g) fs → (SomeLarge g (map (instance σ) (terms_of fs)) → ⊥) → AreFormsOfFacts (equations g) (instance_facts σ fs) ns → All (IsHeldFact g) ns
 facts_held laws g σ [] [] k m o s a = All-nil (IsHeldFact g)
 facts_held laws g σ (f ∷ fs) (n ∷ ns) k m o s a =
     All-cons (IsHeldFact g) n ns
-    (args_held laws g σ f.args n.args k m (All-head (IsRightFact g) f fs o).fact.over (λ l. s (subst (SomeLarge g) (sym (map-append (instance σ) f.args (terms_of fs))) (within_front (HasLargeForm (theory g) 256) (map (instance σ) f.args) (map (instance σ) (terms_of fs)) l))) a.0.args)
-    (facts_held laws g σ fs ns k m (All-tail (IsRightFact g) f fs o) (λ l. s (subst (SomeLarge g) (sym (map-append (instance σ) f.args (terms_of fs))) (within_back (HasLargeForm (theory g) 256) (map (instance σ) f.args) (map (instance σ) (terms_of fs)) l))) a.1)
+    (args_held laws g σ f.args n.args k m (All-head (IsRightFact g) f fs o).fact.over (λ l. s (subst (SomeLarge g) (sym (map-append (instance σ) f.args (terms_of fs))) (within_front (HasLargeForm (equations g) 256) (map (instance σ) f.args) (map (instance σ) (terms_of fs)) l))) a.0.args)
+    (facts_held laws g σ fs ns k m (All-tail (IsRightFact g) f fs o) (λ l. s (subst (SomeLarge g) (sym (map-append (instance σ) f.args (terms_of fs))) (within_back (HasLargeForm (equations g) 256) (map (instance σ) f.args) (map (instance σ) (terms_of fs)) l))) a.1)
 facts_held laws g σ [] (n ∷ ns) k m o s a = absurd a
 facts_held laws g σ (f ∷ fs) [] k m o s a = absurd a

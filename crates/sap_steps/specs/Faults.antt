@@ -7,7 +7,7 @@ use Rattle.sap_terms.specs.Message.{IsMessage, IsMessageChoice}
 use Rattle.sap_terms.specs.Normal.{IsNormalForm}
 use Rattle.sap_terms.specs.Piles.{Pile, Takes}
 use Rattle.sap_terms.specs.Signature.{Sig, IsPublic, arity_of}
-use Rattle.sap_terms.specs.Theory.{theory}
+use Rattle.sap_terms.specs.Equations.{equations}
 use Rattle.sap_terms.specs.Tree.{Tree, apply, trees_of, node_count}
 use Rattle.sap_terms.specs.View.{tree}
 use Rattle.sap_terms.specs.declared.binding.Binding.{Binding}
@@ -93,7 +93,7 @@ IsApplyFault g s f ks (NotPublic n) = (n ≡ f) × ¬ IsPublic g f
 IsApplyFault g s f ks (Arity n) = (n ≡ f) × IsPublic g f × ¬ (arity_of g f ≡ Some (length ks))
 IsApplyFault g s f ks (NoEntry n) = IsPublic g f × (arity_of g f ≡ Some (length ks)) × IsFirstUnknown s ks n
 IsApplyFault g s f ks TermLarge =
-    IsPublic g f × (arity_of g f ≡ Some (length ks)) × ((ts : List Tree) × (n : Tree) × (map (slice_get s.known) ks ≡ map Some ts) × IsNormalForm (theory g) (apply f (trees_of ts)) n × (256 < node_count n))
+    IsPublic g f × (arity_of g f ≡ Some (length ks)) × ((ts : List Tree) × (n : Tree) × (map (slice_get s.known) ks ≡ map Some ts) × IsNormalForm (equations g) (apply f (trees_of ts)) n × (256 < node_count n))
 IsApplyFault g s f ks _ = ⊥
 
 -- the fault is want of memory, or the first test of the line that fails

@@ -4,7 +4,7 @@ use Rattle.std.specs.List.{AllZip, flat_map}
 use Rattle.sap_terms.specs.Choice.{Choice, IsSorted, instance}
 use Rattle.sap_terms.specs.Modulo.{instance_facts, AreFormsOfFacts}
 use Rattle.sap_terms.specs.Signature.{Sig}
-use Rattle.sap_terms.specs.Theory.{theory}
+use Rattle.sap_terms.specs.Equations.{equations}
 use Rattle.sap_terms.specs.Tree.{Tree, trees_of}
 use Rattle.sap_terms.specs.declared.binding.Binding.{Binding}
 use Rattle.sap_terms.specs.declared.fact.Fact.{Fact}
@@ -12,8 +12,8 @@ use Rattle.sap_terms.specs.declared.var.Var.{Var}
 use Rattle.sap_rewrite.specs.Around.{FitAll}
 use Rattle.sap_rewrite.specs.Large.{SomeSubtermWithin, HasLargeForm}
 use Rattle.sap_rewrite.specs.Match.{Extends, Agrees, HaveOneSort, bound_vars}
-use Rattle.sap_rewrite.specs.declared.cut.Cut.{Cut}
-use Rattle.sap_rewrite.specs.declared.cut.Cut.TheVariants.{Mem as CutMem, Large}
+use Rattle.sap_rewrite.specs.declared.limited.Limited.{Limited}
+use Rattle.sap_rewrite.specs.declared.limited.Limited.TheVariants.{Mem as CutMem, Large}
 use Rattle.sap_rule.specs.declared.rule.Rule.{Rule}
 use Rattle.sap_steps.specs.Faults.{FactFits}
 use Rattle.sap_steps.specs.Lines.{rule_terms}
@@ -43,7 +43,7 @@ FactsFit g fs hs σ = AllZip (FactFits g σ) fs hs
 
 -- some subterm of these has a normal form of more than 256 nodes
 abbrev pub SomeLarge : Sig → List Tree → Type 0
-SomeLarge g ts = SomeSubtermWithin (HasLargeForm (theory g) 256) (trees_of ts)
+SomeLarge g ts = SomeSubtermWithin (HasLargeForm (equations g) 256) (trees_of ts)
 
 -- the arguments of these facts, one fact after another
 abbrev pub terms_of : List Fact → List Tree
@@ -57,16 +57,16 @@ HaveArgs fs hs = AllZip (λ (f h : Fact). f.args ≡ h.args) fs hs
 -- these, and none is large
 pub record Evaluates (g : Sig) (τ : Choice) (r : Rule) (cited acts right : List Fact) : Type 0 where
   pub left : List Fact
-  pub left_forms : AreFormsOfFacts (theory g) (instance_facts τ r.left) left
+  pub left_forms : AreFormsOfFacts (equations g) (instance_facts τ r.left) left
   pub same : HaveArgs left cited
-  pub acts_forms : AreFormsOfFacts (theory g) (instance_facts τ r.acts) acts
-  pub right_forms : AreFormsOfFacts (theory g) (instance_facts τ r.right) right
+  pub acts_forms : AreFormsOfFacts (equations g) (instance_facts τ r.acts) acts
+  pub right_forms : AreFormsOfFacts (equations g) (instance_facts τ r.right) right
   pub small : SomeLarge g (map (instance τ) (rule_terms r)) → ⊥
 
 -- the forms of the left side have other arguments, and none is large
 pub record EvaluatesOtherwise (g : Sig) (τ : Choice) (r : Rule) (cited : List Fact) : Type 0 where
   pub left : List Fact
-  pub left_forms : AreFormsOfFacts (theory g) (instance_facts τ r.left) left
+  pub left_forms : AreFormsOfFacts (equations g) (instance_facts τ r.left) left
   pub other : ¬ HaveArgs left cited
   pub small : SomeLarge g (map (instance τ) (rule_terms r)) → ⊥
 
@@ -78,6 +78,6 @@ IsEvaluationFault g τ r cited Unequal = EvaluatesOtherwise g τ r cited
 IsEvaluationFault g τ r cited _ = ⊥
 
 -- the fault of a cut
-abbrev pub fault_of : Cut → RFault
+abbrev pub fault_of : Limited → RFault
 fault_of CutMem = Mem
 fault_of Large = TermLarge

@@ -6,7 +6,7 @@ use Rattle.sap_terms.specs.Choice.{Choice, instances}
 use Rattle.sap_terms.specs.Normal.{IsNormalForm}
 use Rattle.sap_terms.specs.Piles.{Pile, Takes, adds}
 use Rattle.sap_terms.specs.Signature.{Sig, IsPublic, arity_of}
-use Rattle.sap_terms.specs.Theory.{theory}
+use Rattle.sap_terms.specs.Equations.{equations}
 use Rattle.sap_terms.specs.Tree.{Tree, public, fresh, apply, trees_of, node_count}
 use Rattle.sap_terms.specs.declared.binding.Binding.{Binding}
 use Rattle.sap_terms.specs.declared.fact.Fact.{Fact}
@@ -30,7 +30,7 @@ rule_terms r = flat_map (λ (f : Fact). f.args) (r.left ++ (r.acts ++ r.right))
 
 -- n is a normal form of a subterm of the rule's terms under the choice
 abbrev pub IsEvaluated : Sig → Rule → Choice → Tree → Type 0
-IsEvaluated g r σ n = SomeSubtermWithin (λ u. IsNormalForm (theory g) u n) (instances σ (trees_of (rule_terms r)))
+IsEvaluated g r σ n = SomeSubtermWithin (λ u. IsNormalForm (equations g) u n) (instances σ (trees_of (rule_terms r)))
 
 -- under some choice, which the bindings name, the rule takes these facts, shows acts and adds right; each normal form that
 -- is evaluated is as W says
@@ -65,7 +65,7 @@ pub record IsApplied (g : Sig) (W : Tree → Type 0) (s : RuleState) (f ks : Lis
   pub public_symbol : IsPublic g f
   pub arity : arity_of g f ≡ Some (length ks)
   pub entries : map (slice_get s.known) ks ≡ map Some terms
-  pub is_form : IsNormalForm (theory g) (apply f (trees_of terms)) form
+  pub is_form : IsNormalForm (equations g) (apply f (trees_of terms)) form
   pub within : W form
   pub silent : acts ≡ []
   pub becomes : z ≡ gains s form

@@ -3,7 +3,7 @@ ghost use Rattle.sap_steps.specs.declared.fault.RFault.TheVariants.{Mem as OutOf
 ghost use Rattle.sap_steps.specs.Firing.{fault_of};
 
 use sap_deduce::Deny;
-use sap_rewrite::Cut;
+use sap_rewrite::Limited;
 use sap_terms::{Mem, Name};
 
 /// Why a step of rules is refused. A line's tests come in the order of its step, and the first that fails is answered.
@@ -45,13 +45,13 @@ impl From<Mem> for RFault {
     }
 }
 
-impl From<Cut> for RFault {
+impl From<Limited> for RFault {
     ghost from_gives = { λ c e. e ≡ fault_of c };
 
-    fn from(c: Cut) -> RFault {
+    fn from(c: Limited) -> RFault {
         match c {
-            Cut::Mem => RFault::Mem,
-            Cut::Large => RFault::TermLarge,
+            Limited::Mem => RFault::Mem,
+            Limited::Large => RFault::TermLarge,
         }
     }
 }

@@ -3,12 +3,12 @@ ghost use Rattle.std.specs.List.{AllZip};
 ghost use Rattle.sap_terms.specs.Modulo.{instance_fact, instance_facts, IsFormOfFact, AreFormsOfFacts};
 ghost use Rattle.sap_terms.specs.Normal.{IsNormalForm};
 ghost use Rattle.sap_terms.specs.Subst.{bound_to, subst_tree};
-ghost use Rattle.sap_terms.specs.Theory.{theory};
+ghost use Rattle.sap_terms.specs.Equations.{equations};
 ghost use Rattle.sap_terms.specs.View.{tree};
 ghost use Rattle.sap_rewrite.specs.Large.{HasLargeSubterm};
 ghost use Rattle.sap_steps.specs.Firing.{SomeLarge, terms_of};
 
-use sap_rewrite::{Cut, normal_within};
+use sap_rewrite::{Limited, normal_within};
 use sap_terms::{Bindings, Copied, Fact, FactList, Signature, Term, TermList, subst};
 use std::alloc::Global;
 
@@ -18,10 +18,10 @@ pub(crate) fn forms_of_facts(
     sig: &Signature,
     fs: &FactList,
     c: &Bindings,
-) -> Result<FactList, Cut>
-    ensures forms { IfOk result (λ r. AreFormsOfFacts (theory sig.now) (instance_facts (bound_to c.now) fs.now) r) }
+) -> Result<FactList, Limited>
+    ensures forms { IfOk result (λ r. AreFormsOfFacts (equations sig.now) (instance_facts (bound_to c.now) fs.now) r) }
     ensures within { OnOk result (SomeLarge sig.now (map (subst_tree c.now) (terms_of fs.now)) → ⊥) }
-    ensures large { IsErrOf result Cut.Large → SomeLarge sig.now (map (subst_tree c.now) (terms_of fs.now)) }
+    ensures large { IsErrOf result Limited.Large → SomeLarge sig.now (map (subst_tree c.now) (terms_of fs.now)) }
 {
     let mut out = FactList::new(alloc);
     for k in 0..fs.len() {
@@ -31,10 +31,10 @@ pub(crate) fn forms_of_facts(
 }
 
 // That of one fact.
-fn form_of_fact(alloc: Global, sig: &Signature, f: &Fact, c: &Bindings) -> Result<Fact, Cut>
-    ensures form { IfOk result (λ r. IsFormOfFact (theory sig.now) (instance_fact (bound_to c.now) f.now) r) }
+fn form_of_fact(alloc: Global, sig: &Signature, f: &Fact, c: &Bindings) -> Result<Fact, Limited>
+    ensures form { IfOk result (λ r. IsFormOfFact (equations sig.now) (instance_fact (bound_to c.now) f.now) r) }
     ensures within { OnOk result (SomeLarge sig.now (map (subst_tree c.now) f.now.args) → ⊥) }
-    ensures large { IsErrOf result Cut.Large → SomeLarge sig.now (map (subst_tree c.now) f.now.args) }
+    ensures large { IsErrOf result Limited.Large → SomeLarge sig.now (map (subst_tree c.now) f.now.args) }
 {
     let args = forms_of_args(alloc, sig, &f.args, c)?;
     let name = f.name.copy(alloc)?;
@@ -52,10 +52,10 @@ fn forms_of_args(
     sig: &Signature,
     ts: &TermList,
     c: &Bindings,
-) -> Result<TermList, Cut>
-    ensures forms { IfOk result (λ r. AllZip (IsNormalForm (theory sig.now)) (map (subst_tree c.now) ts.now) r) }
+) -> Result<TermList, Limited>
+    ensures forms { IfOk result (λ r. AllZip (IsNormalForm (equations sig.now)) (map (subst_tree c.now) ts.now) r) }
     ensures within { OnOk result (SomeLarge sig.now (map (subst_tree c.now) ts.now) → ⊥) }
-    ensures large { IsErrOf result Cut.Large → SomeLarge sig.now (map (subst_tree c.now) ts.now) }
+    ensures large { IsErrOf result Limited.Large → SomeLarge sig.now (map (subst_tree c.now) ts.now) }
 {
     let mut out = TermList::new(alloc);
     for k in 0..ts.len() {
@@ -65,10 +65,10 @@ fn forms_of_args(
 }
 
 // That of one term.
-fn form(alloc: Global, sig: &Signature, t: &Term, c: &Bindings) -> Result<Term, Cut>
-    ensures form { IfOk result (λ r. IsNormalForm (theory sig.now) (subst_tree c.now (tree t.now)) (tree r)) }
-    ensures within { OnOk result (HasLargeSubterm (theory sig.now) 256 (subst_tree c.now (tree t.now)) → ⊥) }
-    ensures large { IsErrOf result Cut.Large → HasLargeSubterm (theory sig.now) 256 (subst_tree c.now (tree t.now)) }
+fn form(alloc: Global, sig: &Signature, t: &Term, c: &Bindings) -> Result<Term, Limited>
+    ensures form { IfOk result (λ r. IsNormalForm (equations sig.now) (subst_tree c.now (tree t.now)) (tree r)) }
+    ensures within { OnOk result (HasLargeSubterm (equations sig.now) 256 (subst_tree c.now (tree t.now)) → ⊥) }
+    ensures large { IsErrOf result Limited.Large → HasLargeSubterm (equations sig.now) 256 (subst_tree c.now (tree t.now)) }
 {
     let u = subst(alloc, t, c)?;
     normal_within(alloc, sig, &u, 256)

@@ -1,6 +1,6 @@
 //! Normal forms, matching and messages.
 use sap_rewrite::{
-    Cut, is_message, match_around, match_pattern, normal, normal_on, normal_within, same_modulo,
+    Limited, is_message, match_around, match_pattern, normal, normal_on, normal_within, same_modulo,
 };
 use sap_rows::{bindings, name, named_term, signature, term};
 use sap_terms::{Binding, Bindings, Name, Signature, Sort, Term, TermList, Var, subst};
@@ -173,8 +173,8 @@ fn is_within(alloc: Global, around: &str, names: u64) -> Option<bool> {
     let t = put(alloc, &term(alloc, &sig, around)?, wide(alloc, names)?)?;
     match normal_within(alloc, &sig, &t, 256) {
         Ok(_) => Some(true),
-        Err(Cut::Large) => Some(false),
-        Err(Cut::Mem) => None,
+        Err(Limited::Large) => Some(false),
+        Err(Limited::Mem) => None,
     }
 }
 
@@ -184,16 +184,16 @@ fn has_form_on(alloc: Global, f: &str, t: &str, most: u64, want: &str) -> Option
     let t = term(alloc, &sig, t)?;
     match form_on(alloc, &sig, &name(alloc, f)?, &t, most) {
         Ok(form) => Some(want != "large" && form.same(&term(alloc, &sig, want)?)),
-        Err(Cut::Large) => Some(want == "large"),
-        Err(Cut::Mem) => None,
+        Err(Limited::Large) => Some(want == "large"),
+        Err(Limited::Mem) => None,
     }
 }
 
-fn form_on(alloc: Global, sig: &Signature, f: &Name, t: &Term, most: u64) -> Result<Term, Cut> {
+fn form_on(alloc: Global, sig: &Signature, f: &Name, t: &Term, most: u64) -> Result<Term, Limited> {
     let form = normal(alloc, sig, t)?;
     let mut lent: Vec<&Term> = Vec::new(alloc);
     if lent.push(&form).is_err() {
-        return Err(Cut::Mem);
+        return Err(Limited::Mem);
     }
     normal_on(alloc, sig, f, &lent, most.min(1000))
 }

@@ -7,10 +7,10 @@ use Rattle.std.proofs.lemmas.Bool.Decides.{Decides-eqb}
 use Rattle.std.specs.Str.{bytes_eq}
 use Rattle.sap_terms.specs.declared.signature.Symbol.{Symbol}
 use Rattle.sap_terms.specs.Tree.{Tree, apply, none, more}
-use Rattle.sap_terms.specs.Signature.{Sig, find_symbol, IsMap, declared, declared_all, is_destructor_of, first_clash, is_held_otherwise, same_bool, added, AreHeld, HoldsBuiltins, has_builtin, builtin_symbols}
+use Rattle.sap_terms.specs.Signature.{Sig, find_symbol, IsMap, declared, declared_all, is_destructor_of, first_clash, is_held_otherwise, same_bool, added, HoldsSymbols, HoldsBuiltins, has_builtin, builtin_symbols}
 use Rattle.sap_terms.specs.declared.signature.Builtin.{Builtin}
 use Rattle.sap_terms.specs.declared.signature.Builtin.TheVariants.{Hashing, Symmetric, Asymmetric, Signing}
-use Rattle.sap_terms.specs.Theory.{theory, IsInstance, first, second, symmetric, asymmetric, signing, IsDestructor, app0, app1, app2, pair_name, fst_name, snd_name, senc_name, sdec_name, aenc_name, adec_name, pk_name, sign_name, verify_name, true_name}
+use Rattle.sap_terms.specs.Equations.{equations, IsInstance, first, second, symmetric, asymmetric, signing, IsDestructor, app0, app1, app2, pair_name, fst_name, snd_name, senc_name, sdec_name, aenc_name, adec_name, pk_name, sign_name, verify_name, true_name}
 use Rattle.sap_terms.proofs.SameLemmas.{and_left, and_right, same_name}
 
 -- names that differ differ the other way round
@@ -140,14 +140,14 @@ no_clash_after ss x (y ∷ ys) f h =
     ] refl f
 
 -- symbols of names of their own that aren't held otherwise are held once they are declared
-declared_all_held : (ss xs : List Symbol) → IsMap xs → first_clash ss xs ≡ None → AreHeld (declared_all ss xs) xs
+declared_all_held : (ss xs : List Symbol) → IsMap xs → first_clash ss xs ≡ None → HoldsSymbols (declared_all ss xs) xs
 declared_all_held ss [] m h = tt
 declared_all_held ss (x ∷ xs) m h =
     let p = clash_parts ss x xs h in
     let next = declared ss x.name x.arity x.private in
     (find-kept_all next xs x.name x (declared_held ss x p.0), declared_all_held next xs m.1 (no_clash_after ss x xs m.0 p.1))
 
-held-kept : (ss rs xs : List Symbol) → ((n : List ℕ) (s : Symbol) → find_symbol ss n ≡ Some s → find_symbol rs n ≡ Some s) → AreHeld ss xs → AreHeld rs xs
+held-kept : (ss rs xs : List Symbol) → ((n : List ℕ) (s : Symbol) → find_symbol ss n ≡ Some s → find_symbol rs n ≡ Some s) → HoldsSymbols ss xs → HoldsSymbols rs xs
 held-kept ss rs [] k h = tt
 held-kept ss rs (x ∷ xs) k h = (k x.name x h.0, held-kept ss rs xs k h.1)
 
@@ -167,13 +167,13 @@ builtin_map Signing = (refl, (refl, (refl, (refl, tt))))
 -- a builtin's symbols are held once it is added, and those of the others stay held
 pub HoldsBuiltins-added : (g : Sig) (b : Builtin) → HoldsBuiltins g → first_clash g.symbols (builtin_symbols b) ≡ None → HoldsBuiltins (added g b)
 HoldsBuiltins-added g b h f c t = at b c f t where
-  new : (b : Builtin) → first_clash g.symbols (builtin_symbols b) ≡ None → AreHeld (declared_all g.symbols (builtin_symbols b)) (builtin_symbols b)
+  new : (b : Builtin) → first_clash g.symbols (builtin_symbols b) ≡ None → HoldsSymbols (declared_all g.symbols (builtin_symbols b)) (builtin_symbols b)
   new b f = declared_all_held g.symbols (builtin_symbols b) (builtin_map b) f
 
-  old : (b c : Builtin) → has_builtin g c ≡ true → AreHeld (declared_all g.symbols (builtin_symbols b)) (builtin_symbols c)
+  old : (b c : Builtin) → has_builtin g c ≡ true → HoldsSymbols (declared_all g.symbols (builtin_symbols b)) (builtin_symbols c)
   old b c t = held-kept g.symbols _ (builtin_symbols c) (find-kept_all g.symbols (builtin_symbols b)) (h c t)
 
-  at : (b c : Builtin) → first_clash g.symbols (builtin_symbols b) ≡ None → has_builtin (added g b) c ≡ true → AreHeld (declared_all g.symbols (builtin_symbols b)) (builtin_symbols c)
+  at : (b c : Builtin) → first_clash g.symbols (builtin_symbols b) ≡ None → has_builtin (added g b) c ≡ true → HoldsSymbols (declared_all g.symbols (builtin_symbols b)) (builtin_symbols c)
   at Hashing Hashing f t = new Hashing f
   at Hashing Symmetric f t = old Hashing Symmetric t
   at Hashing Asymmetric f t = old Hashing Asymmetric t
@@ -210,9 +210,9 @@ or_true true b h k l = k refl
 or_true false b h k l = l h
 
 -- a name that one of the five tests takes heads a left side
-pub heads : (g : Sig) (f : List ℕ) → is_destructor_of g f ≡ true → IsDestructor (theory g) f
+pub heads : (g : Sig) (f : List ℕ) → is_destructor_of g f ≡ true → IsDestructor (equations g) f
 heads g f h =
-    let e = theory g in
+    let e = equations g in
     let leaf = app0 true_name in
     let is : (n : List ℕ) → bytes_eq f n ≡ true → IsDestructor e n → IsDestructor e f = λ n t d. subst (λ m. IsDestructor e m) (sym ((bytes_eq-Decides f n).0 t)) d in
     or_true _ (bytes_eq f verify_name && g.builtins.signing) h (λ h.
@@ -229,7 +229,7 @@ head_test : Sig → Tree → Bool
 head_test g (apply f ts) = is_destructor_of g f
 head_test g _ = false
 
-left_head : (g : Sig) (t r : Tree) → IsInstance (theory g) t r → head_test g t ≡ true
+left_head : (g : Sig) (t r : Tree) → IsInstance (equations g) t r → head_test g t ≡ true
 unfolding head_test
 left_head g _ _ first = refl
 left_head g _ _ second = refl
@@ -238,12 +238,12 @@ left_head g _ _ (asymmetric h) = rw h refl
 left_head g _ _ (signing h) = rw h refl
 
 -- and what heads a left side one of the five tests takes
-pub heads-back : (g : Sig) (f : List ℕ) → IsDestructor (theory g) f → is_destructor_of g f ≡ true
+pub heads-back : (g : Sig) (f : List ℕ) → IsDestructor (equations g) f → is_destructor_of g f ≡ true
 unfolding head_test
 heads-back g f d = left_head g (apply f d.args) d.right d.is_left
 
 -- what the test's answer says
-pub heads-iff : (g : Sig) (f : List ℕ) (r : Bool) → r ≡ is_destructor_of g f → (IsTrue r → IsDestructor (theory g) f) × (IsDestructor (theory g) f → IsTrue r)
+pub heads-iff : (g : Sig) (f : List ℕ) (r : Bool) → r ≡ is_destructor_of g f → (IsTrue r → IsDestructor (equations g) f) × (IsDestructor (equations g) f → IsTrue r)
 heads-iff g f r e = (λ h. heads g f (sym e ∙ h), λ d. e ∙ heads-back g f d)
 
 pub ruleset signature_laws = (IsMap-push, IsMap-declared_all, HoldsBuiltins-push, HoldsBuiltins-added, heads-iff)

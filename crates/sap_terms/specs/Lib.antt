@@ -9,7 +9,7 @@ pub mod Subst
 pub mod Variables
 pub mod Signature
 pub mod Symbols
-pub mod Theory
+pub mod Equations
 pub mod Equal
 pub mod Normal
 pub mod Deduce

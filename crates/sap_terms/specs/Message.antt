@@ -5,7 +5,7 @@ use Rattle.sap_terms.specs.Choice.{Choice, fits_sort}
 use Rattle.sap_terms.specs.Ground.{IsGround}
 use Rattle.sap_terms.specs.Normal.{IsNormal}
 use Rattle.sap_terms.specs.Signature.{Sig, arity_of}
-use Rattle.sap_terms.specs.Theory.{theory}
+use Rattle.sap_terms.specs.Equations.{equations}
 use Rattle.sap_terms.specs.declared.var.Sort.{Sort}
 use Rattle.sap_terms.specs.declared.var.Var.{Var}
 
@@ -26,7 +26,7 @@ abbrev mutual
 pub record IsMessage (g : Sig) (s : Sort) (t : Tree) : Type 0 where
   pub ground : IsGround t
   pub over : IsOver g t
-  pub normal : IsNormal (theory g) t
+  pub normal : IsNormal (equations g) t
   pub sorted : IsTrue (fits_sort s t)
 
 -- each variable stands for such a term

@@ -1,6 +1,6 @@
 -- Normal terms.
 use Rattle.sap_terms.specs.Tree.{Tree, variable, public, fresh, apply, Trees, none, more}
-use Rattle.sap_terms.specs.Theory.{Theory, IsInstance}
+use Rattle.sap_terms.specs.Equations.{Equations, IsInstance}
 use Rattle.sap_terms.specs.Equal.{IsTheoryEqual}
 
 abbrev mutual
@@ -17,18 +17,18 @@ abbrev mutual
   EachSubtermWithin P (more t ts) = EachSubterm P t × EachSubtermWithin P ts
 
 -- the tree is an instance of no equation's left side
-abbrev pub IsNoLeftSide : Theory → Tree → Type 0
+abbrev pub IsNoLeftSide : Equations → Tree → Type 0
 IsNoLeftSide e t = (b : Tree) → IsInstance e t b → ⊥
 
 -- no subterm is an instance of a left side
-abbrev pub IsNormal : Theory → Tree → Type 0
+abbrev pub IsNormal : Equations → Tree → Type 0
 IsNormal e t = EachSubterm (IsNoLeftSide e) t
 
 -- all of these are normal
-abbrev pub AreNormal : Theory → Trees → Type 0
+abbrev pub AreNormal : Equations → Trees → Type 0
 AreNormal e ts = EachSubtermWithin (IsNoLeftSide e) ts
 
 -- n is normal, and theory-equal to t
-pub record IsNormalForm (e : Theory) (t n : Tree) : Type 0 where
+pub record IsNormalForm (e : Equations) (t n : Tree) : Type 0 where
   pub equal : IsTheoryEqual e t n
   pub normal : IsNormal e n

@@ -107,13 +107,13 @@ added g b = record {
 }
 
 -- these symbols are held as they are
-abbrev pub AreHeld : List Symbol → List Symbol → Type 0
-AreHeld ss [] = Unit {0}
-AreHeld ss (x ∷ xs) = (find_symbol ss x.name ≡ Some x) × AreHeld ss xs
+abbrev pub HoldsSymbols : List Symbol → List Symbol → Type 0
+HoldsSymbols ss [] = Unit {0}
+HoldsSymbols ss (x ∷ xs) = (find_symbol ss x.name ≡ Some x) × HoldsSymbols ss xs
 
 -- the symbols of each builtin that was added are held
 abbrev pub HoldsBuiltins : Sig → Type 0
-HoldsBuiltins g = (b : Builtin) → has_builtin g b ≡ true → AreHeld g.symbols (builtin_symbols b)
+HoldsBuiltins g = (b : Builtin) → has_builtin g b ≡ true → HoldsSymbols g.symbols (builtin_symbols b)
 
 -- pairs alone: what every signature begins with
 abbrev pub pairs_alone : Sig

@@ -259,12 +259,12 @@ fn declare_all(alloc: Global, symbols: &Symbols, added: &Items<Symbol>) -> Resul
 }
 
 impl Signature {
-    ghost use Rattle.sap_terms.specs.Theory.{theory, IsDestructor};
+    ghost use Rattle.sap_terms.specs.Equations.{equations, IsDestructor};
 
     /// Whether the name heads the left side of an equation that is switched on.
     #[tactic(auto, using(crate::proofs::SignatureLemmas::signature_laws))]
     pub fn is_destructor(&self, name: &Name) -> bool
-        ensures heads { IsTrue result ↔ IsDestructor (theory self.now) name.now }
+        ensures heads { IsTrue result ↔ IsDestructor (equations self.now) name.now }
         ensures test { result ≡ is_destructor_of self.now name.now }
     {
         self.is_left_head(name)

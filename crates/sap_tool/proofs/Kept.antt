@@ -6,7 +6,7 @@ use Rattle.sap_gen.specs.Built.{Built}
 use Rattle.sap_gen.specs.Templates.{rules_of}
 use Rattle.sap_gen.specs.Faithful.{NoReservedEvents, ShowsAll, ShowsOnly}
 use Rattle.sap_tool.specs.Outside.{Files, IsFetched, IsFirstPart}
-use Rattle.sap_read.specs.Files.{Told}
+use Rattle.sap_read.specs.Files.{FileContent}
 use Rattle.sap_tool.specs.BuiltFile.{most_bytes, IsBuiltFile}
 use Rattle.sap_tool.specs.Refusals.{IsRefusedWith, refused_line}
 use Rattle.sap_tool.proofs.Refused.{OneReading, file_free, one_cause, not_built, part_refused, part_built}
@@ -149,7 +149,7 @@ fetched_refused c file bytes z why named held fetched refusal =
     subst (λ (y : List ℕ). IsRefusedWith y why) (sym (fetched_of c file bytes z named held fetched)) (part_refused bytes why refusal)
 
 -- and what is built is built
-fetched_built : (c : Call) (file bytes z : List ℕ) (t : Told) (b : Built) → IsCompile c.words file → Holds c.holds file bytes → Fetched c z
+fetched_built : (c : Call) (file bytes z : List ℕ) (t : FileContent) (b : Built) → IsCompile c.words file → Holds c.holds file bytes → Fetched c z
     → IsBuiltFile bytes t b → IsBuiltFile z t b
 fetched_built c file bytes z t b named held fetched spelled =
     subst (λ (y : List ℕ). IsBuiltFile y t b) (sym (fetched_of c file bytes z named held fetched)) (part_built bytes t b spelled)
@@ -183,7 +183,7 @@ must_refuse laws c s (wanting_err cause text i j is why out err) file bytes w na
 must_refuse laws c s (wanting_out text i j is theory out err) file bytes why named held refusal = inr (inr (inr is))
 
 -- a built file that is held is not refused
-no_cause : Laws → (c : Call) (s : ℕ) (text : List ℕ) → Cause c s text → (file bytes : List ℕ) (o : Told) (b : Built) → IsCompile c.words file
+no_cause : Laws → (c : Call) (s : ℕ) (text : List ℕ) → Cause c s text → (file bytes : List ℕ) (o : FileContent) (b : Built) → IsCompile c.words file
     → Holds c.holds file bytes → IsBuiltFile bytes o b → (FailedOn c file → ⊥) → ⊥
 no_cause laws c s text (refused z cause is t f r) file bytes o b named held spelled sound =
     not_built laws.one z cause o b r (fetched_built c file bytes z o b named held f spelled)
@@ -191,7 +191,7 @@ no_cause laws c s text (usage is t u) file bytes o b named held spelled sound = 
 no_cause laws c s text (unread other is t n f) file bytes o b named held spelled sound =
     sound (subst (λ g. FailedOn c g) (one_file c.words other file n named) f)
 
-must_compile : Laws → (c : Call) (s : ℕ) → Outcome c s → (file bytes : List ℕ) (t : Told) (b : Built) → IsCompile c.words file → Holds c.holds file bytes
+must_compile : Laws → (c : Call) (s : ℕ) → Outcome c s → (file bytes : List ℕ) (t : FileContent) (b : Built) → IsCompile c.words file → Holds c.holds file bytes
     → IsBuiltFile bytes t b → (FailedOn c file → ⊥) → (Failed c.out → ⊥) → (s ≡ 0) ⊎ (s ≡ 6)
 must_compile laws c s (written text is theory out err) file bytes t b named held spelled sound open_out = inl is
 must_compile laws c s (told text cause out err) file bytes t b named held spelled sound open_out =

@@ -14,7 +14,7 @@ use Rattle.sap_gen.specs.Built.{Built, built}
 use Rattle.sap_gen.specs.Sites.{is_built_form}
 use Rattle.sap_gen.specs.Unbuilt.{first_unbuilt}
 use Rattle.sap_gen.specs.Faithful.{NoReservedEvents}
-use Rattle.sap_read.specs.Files.{Told, IsRead, no_tokens, no_header, no_item, refused, ill, accepted}
+use Rattle.sap_read.specs.Files.{FileContent, IsRead, no_tokens, no_header, no_item, refused, ill, accepted}
 use Rattle.sap_read.specs.declared.fault.ReadFault.{ReadFault}
 use Rattle.sap_terms.specs.Signature.{Sig}
 use Rattle.sap_tool.specs.BuiltFile.{most_bytes, IsBuiltFile}
@@ -24,7 +24,7 @@ use Rattle.sap_tool.proofs.Free.{both_of, shown_of, free_of}
 
 -- bytes are read as one file, or refused for one cause
 abbrev pub OneReading : Type 0
-OneReading = (z : List ℕ) (o u : Result Told ReadFault) → IsRead z o → IsRead z u → o ≡ u
+OneReading = (z : List ℕ) (o u : Result FileContent ReadFault) → IsRead z o → IsRead z u → o ≡ u
 
 abbrev is_unbuilt : Site → Bool
 is_unbuilt s = not (is_built_form s.body)
@@ -68,13 +68,13 @@ built_whole p b path e f =
     cc (none, f)
 
 -- the process of a file that is read is one without flaws, with the sorts of its binders
-record Sorted (told : Told) : Type 0 where
+record Sorted (told : FileContent) : Type 0 where
   signature : Sig
   process : Proc
   well_formed : IsWellFormed signature process
   sorted : told.process ≡ with_sorts [] process
 
-sorted_of : (z : List ℕ) (o : Result Told ReadFault) (told : Told) → o ≡ Ok told → IsRead z o → Sorted told
+sorted_of : (z : List ℕ) (o : Result FileContent ReadFault) (told : FileContent) → o ≡ Ok told → IsRead z o → Sorted told
 sorted_of z o told e (no_tokens l) = absurd (cc (e))
 sorted_of z o told e (no_header l h) = absurd (cc (e))
 sorted_of z o told e (no_item l h) = absurd (cc (e))
@@ -87,24 +87,24 @@ sorted_of z o told e (accepted {p = p} l h c m w) = record {
   sorted = process_is _ told e;
 }
   where
-    process_is : (a b : Told) → ◌≡◌ {A = Result Told ReadFault} (Ok a) (Ok b) → b.process ≡ a.process
-    process_is a b f = let same : a ≡ b = cc in ap (λ (t : Told). t.process) (sym same)
+    process_is : (a b : FileContent) → ◌≡◌ {A = Result FileContent ReadFault} (Ok a) (Ok b) → b.process ≡ a.process
+    process_is a b f = let same : a ≡ b = cc in ap (λ (t : FileContent). t.process) (sym same)
 
 -- the process of a built file shows no event of a reserved name
-pub file_free : (z : List ℕ) (told : Told) (b : Built) → IsBuiltFile z told b → NoReservedEvents b
+pub file_free : (z : List ℕ) (told : FileContent) (b : Built) → IsBuiltFile z told b → NoReservedEvents b
 file_free z told b file =
     let s = sorted_of z (Ok told) told refl file.read in
     free_of s.signature s.process b s.well_formed (ap built (sym s.sorted) ∙ file.process)
 
 module _ (one : OneReading) (z : List ℕ) where
   same_fault : (e f : ReadFault) → IsRead z (Err e) → IsRead z (Err f) → e ≡ f
-  same_fault e f r s = let same : ◌≡◌ {A = Result Told ReadFault} (Err e) (Err f) = one z (Err e) (Err f) r s in cc
+  same_fault e f r s = let same : ◌≡◌ {A = Result FileContent ReadFault} (Err e) (Err f) = one z (Err e) (Err f) r s in cc
 
-  same_file : (t u : Told) → IsRead z (Ok t) → IsRead z (Ok u) → t ≡ u
-  same_file t u r s = let same : ◌≡◌ {A = Result Told ReadFault} (Ok t) (Ok u) = one z (Ok t) (Ok u) r s in cc
+  same_file : (t u : FileContent) → IsRead z (Ok t) → IsRead z (Ok u) → t ≡ u
+  same_file t u r s = let same : ◌≡◌ {A = Result FileContent ReadFault} (Ok t) (Ok u) = one z (Ok t) (Ok u) r s in cc
 
-  not_both : (t : Told) (e : ReadFault) → IsRead z (Ok t) → IsRead z (Err e) → ⊥
-  not_both t e r s = let same : ◌≡◌ {A = Result Told ReadFault} (Ok t) (Err e) = one z (Ok t) (Err e) r s in cc (same)
+  not_both : (t : FileContent) (e : ReadFault) → IsRead z (Ok t) → IsRead z (Err e) → ⊥
+  not_both t e r s = let same : ◌≡◌ {A = Result FileContent ReadFault} (Ok t) (Err e) = one z (Ok t) (Err e) r s in cc (same)
 
   -- one cause refuses them
   pub one_cause : (a b : List ℕ) → IsRefusedWith z a → IsRefusedWith z b → a ≡ b
@@ -117,17 +117,17 @@ module _ (one : OneReading) (z : List ℕ) where
   one_cause a b (unbuilt l r f) (too_long m) = absurd (omega (arith, l, m))
   one_cause a b (unbuilt {told = t} l r f) (unread {e = e} m s) = absurd (not_both t e r s)
   one_cause a b (unbuilt {told = t} {path = path} l r f) (unbuilt {told = u} {path = way} m s g) =
-      let same : first_unbuilt t.process ≡ first_unbuilt u.process = ap (λ (x : Told). first_unbuilt x.process) (same_file t u r s) in
+      let same : first_unbuilt t.process ≡ first_unbuilt u.process = ap (λ (x : FileContent). first_unbuilt x.process) (same_file t u r s) in
       let places : ◌≡◌ {A = Option (List ℕ)} (Some path) (Some way) = sym f ∙ (same ∙ g) in
       let place : path ≡ way = cc in
       ap (λ (x : List ℕ). at_place x (codes "not built")) place
 
   -- what is refused has no theory
-  pub not_built : (why : List ℕ) (told : Told) (b : Built) → IsRefusedWith z why → IsBuiltFile z told b → ⊥
+  pub not_built : (why : List ℕ) (told : FileContent) (b : Built) → IsRefusedWith z why → IsBuiltFile z told b → ⊥
   not_built why told b (too_long l) file = omega (arith, l, file.short)
   not_built why told b (unread {e = e} l r) file = not_both told e file.read r
   not_built why told b (unbuilt {told = t} {path = path} l r f) file =
-      built_whole told.process b path file.process (ap (λ (x : Told). first_unbuilt x.process) (same_file told t file.read r) ∙ f)
+      built_whole told.process b path file.process (ap (λ (x : FileContent). first_unbuilt x.process) (same_file told t file.read r) ∙ f)
 
 -- the first bytes of a file, one more than it may have, show what the file is
 abbrev part : List ℕ → List ℕ
@@ -145,5 +145,5 @@ part_refused bytes why (unread {e = e} l r) = subst (λ (y : List ℕ). IsRefuse
 part_refused bytes why (unbuilt {path = path} l r f) =
     subst (λ (y : List ℕ). IsRefusedWith y (at_place path (codes "not built"))) (sym (whole_part most_bytes bytes l)) (unbuilt l r f)
 
-pub part_built : (bytes : List ℕ) (told : Told) (b : Built) → IsBuiltFile bytes told b → IsBuiltFile (part bytes) told b
+pub part_built : (bytes : List ℕ) (told : FileContent) (b : Built) → IsBuiltFile bytes told b → IsBuiltFile (part bytes) told b
 part_built bytes told b file = subst (λ (y : List ℕ). IsBuiltFile y told b) (sym (whole_part most_bytes bytes file.short)) file

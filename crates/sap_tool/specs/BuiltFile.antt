@@ -3,7 +3,7 @@ use Rattle.std.specs.Prelude.{◌≡◌, ◌≤◌, ℕ, List, [], length, Some,
 use Rattle.sap_gen.specs.Built.{Built, built}
 use Rattle.sap_gen.specs.Theories.{theory_of}
 use Rattle.sap_process.specs.Proc.{proc}
-use Rattle.sap_read.specs.Files.{Told, IsRead}
+use Rattle.sap_read.specs.Files.{FileContent, IsRead}
 use Rattle.sap_read.specs.declared.file.File.{File}
 use Rattle.sap_theory.specs.TheoryText.{theory_text}
 
@@ -12,22 +12,22 @@ abbrev pub most_bytes : ℕ
 most_bytes = 1048576
 
 -- what a file tells
-abbrev pub told_by : File → Told
+abbrev pub told_by : File → FileContent
 told_by f = record { name = f.name; signature = f.signature; process = proc f.process }
 
 -- the bytes are read as a file that tells this, and its process is built as b
-pub record IsBuiltFile (bytes : List ℕ) (told : Told) (b : Built) : Type 0 where
+pub record IsBuiltFile (bytes : List ℕ) (told : FileContent) (b : Built) : Type 0 where
   pub short : length bytes ≤ most_bytes
   pub read : IsRead bytes (Ok told)
   pub process : built told.process ≡ Some b
 
 -- the text of the theory of such a file, which has no restrictions and no lemmas of its own
-abbrev pub compiled_text : Told → Built → List ℕ
+abbrev pub compiled_text : FileContent → Built → List ℕ
 compiled_text told b = theory_text (theory_of told.name told.signature b [] [])
 
 -- the bytes are a built file, and the text is its theory
 pub record IsTheoryOf (bytes text : List ℕ) : Type 0 where
-  pub told : Told
+  pub told : FileContent
   pub process : Built
   pub file : IsBuiltFile bytes told process
   pub layout : text ≡ compiled_text told process

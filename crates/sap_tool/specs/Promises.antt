@@ -4,7 +4,7 @@ use Rattle.sap_gen.specs.Built.{Built}
 use Rattle.sap_gen.specs.Templates.{rules_of}
 use Rattle.sap_gen.specs.Theories.{theory_of}
 use Rattle.sap_gen.specs.Faithful.{ShowsAll, ShowsOnly}
-use Rattle.sap_read.specs.Files.{Told}
+use Rattle.sap_read.specs.Files.{FileContent}
 use Rattle.sap_theory.specs.TheoryText.{theory_text}
 use Rattle.sap_tool.specs.BuiltFile.{IsBuiltFile}
 use Rattle.sap_tool.specs.Refusals.{IsRefusedWith, refused_line}
@@ -13,7 +13,7 @@ use Rattle.sap_tool.specs.Call.{Call, Gained, Failed, FailedOn, IsCompile, IsUnk
 -- out gained the theory of the fetched file, err nothing, and the theory shows what the file's process shows
 pub record Compiled (c : Call) : Type 0 where
   pub bytes : List ℕ
-  pub told : Told
+  pub told : FileContent
   pub process : Built
   pub fetched : Fetched c bytes
   pub file : IsBuiltFile bytes told process
@@ -72,5 +72,5 @@ pub record Promises (c : Call) (status : ℕ) : Type 0 where
   pub must_tell_usage : IsUnknown c.words → (status ≡ 3) ⊎ ((status ≡ 5) × Failed c.err) ⊎ (status ≡ 6)
   pub must_refuse : (file bytes why : List ℕ) → IsCompile c.words file → Holds c.holds file bytes → IsRefusedWith bytes why
       → ((status ≡ 1) × Gained c.err (refused_line why)) ⊎ ((status ≡ 4) × FailedOn c file) ⊎ ((status ≡ 5) × Failed c.err) ⊎ (status ≡ 6)
-  pub must_compile : (file bytes : List ℕ) (told : Told) (b : Built) → IsCompile c.words file → Holds c.holds file bytes → IsBuiltFile bytes told b
+  pub must_compile : (file bytes : List ℕ) (told : FileContent) (b : Built) → IsCompile c.words file → Holds c.holds file bytes → IsBuiltFile bytes told b
       → (FailedOn c file → ⊥) → (Failed c.out → ⊥) → (status ≡ 0) ⊎ (status ≡ 6)

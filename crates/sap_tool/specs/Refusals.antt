@@ -7,7 +7,7 @@ use Rattle.sap_process.specs.declared.flaw.Flaw.{Flaw}
 use Rattle.sap_process.specs.declared.flaw.Flaw.TheVariants.{BadFunction, ReservedVar, ReservedFact, FactClash, PatternDestructor, Unbound, Rebound, SortClash, ScopeFull}
 use Rattle.sap_read.specs.declared.fault.ReadFault.{ReadFault}
 use Rattle.sap_read.specs.declared.fault.ReadFault.TheVariants as fault
-use Rattle.sap_read.specs.Files.{Told, IsRead}
+use Rattle.sap_read.specs.Files.{FileContent, IsRead}
 use Rattle.sap_gen.specs.Unbuilt.{first_unbuilt}
 use Rattle.sap_tool.specs.BuiltFile.{most_bytes}
 
@@ -63,7 +63,7 @@ fault_text (fault.Ill which path) = at_place path (flaw_text which)
 pub data IsRefusedWith (bytes : List ℕ) : List ℕ → Type 0 where
   too_long : most_bytes < length bytes → IsRefusedWith bytes (codes "longer than 1048576 bytes")
   unread : {e : ReadFault} → length bytes ≤ most_bytes → IsRead bytes (Err e) → IsRefusedWith bytes (fault_text e)
-  unbuilt : {told : Told} {path : List ℕ} → length bytes ≤ most_bytes → IsRead bytes (Ok told) → first_unbuilt told.process ≡ Some path
+  unbuilt : {told : FileContent} {path : List ℕ} → length bytes ≤ most_bytes → IsRead bytes (Ok told) → first_unbuilt told.process ≡ Some path
       → IsRefusedWith bytes (at_place path (codes "not built"))
 
 -- the line that says why

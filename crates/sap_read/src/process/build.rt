@@ -10,11 +10,11 @@ use std::alloc::Global;
 
 /// By what a process chooses between two branches.
 #[derive(Drop)]
-pub enum Choice {
+pub enum Branching {
     /// Whether two terms are equal.
     Equality(Term, Term),
     /// Whether the store has something at the key, which the variable then stands for.
-    Entry(Term, Var),
+    Lookup(Term, Var),
 }
 
 pub fn nil(alloc: Global) -> Result<Box<Draft>, Mem>
@@ -50,7 +50,7 @@ pub fn parallel(alloc: Global, left: Box<Draft>, right: Box<Draft>) -> Result<Bo
 
 pub fn choosing(
     alloc: Global,
-    choice: Choice,
+    choice: Branching,
     yes: Box<Draft>,
     no: Box<Draft>,
 ) -> Result<Box<Draft>, Mem>
@@ -59,11 +59,11 @@ pub fn choosing(
     Ok(Box::new(alloc, chosen(choice, yes, no))?)
 }
 
-fn chosen(choice: Choice, yes: Box<Draft>, no: Box<Draft>) -> Draft
+fn chosen(choice: Branching, yes: Box<Draft>, no: Box<Draft>) -> Draft
     ensures { written result ≡ chosen choice (written yes.value) (written no.value) }
 {
     match choice {
-        Choice::Equality(left, right) => Draft::If(left, right, yes, no),
-        Choice::Entry(key, var) => Draft::Lookup(key, var, yes, no),
+        Branching::Equality(left, right) => Draft::If(left, right, yes, no),
+        Branching::Lookup(key, var) => Draft::Lookup(key, var, yes, no),
     }
 }

@@ -10,7 +10,7 @@ ghost use Rattle.sap_read.specs.Drafts.{doing, written};
 use crate::draft::{Doing, Draft};
 use crate::look::{beyond, name_at, starts, starts_zero};
 use crate::process::actions::read_action;
-use crate::process::build::{Choice, acting, call, choosing, nil, parallel, replicated};
+use crate::process::build::{Branching, acting, call, choosing, nil, parallel, replicated};
 use crate::process::parts::read_short_term;
 use sap_terms::{Mem, Name, Signature, Sort, Term, Var};
 use sap_text::Token;
@@ -29,7 +29,7 @@ fn read_second_branch<'a>(
     sig: &Signature,
     bytes: &[u8],
     depth: u32,
-    choice: Choice,
+    choice: Branching,
     yes: Box<Draft>,
     levels: u32,
     tokens: &'a [Token],
@@ -55,7 +55,7 @@ fn read_branches<'a>(
     sig: &Signature,
     bytes: &[u8],
     depth: u32,
-    choice: Choice,
+    choice: Branching,
     tokens: &'a [Token],
 ) -> Result<Option<(Box<Draft>, u32, &'a [Token])>, Mem>
     requires { depth < 2 ^ 30 }
@@ -94,7 +94,7 @@ fn read_equality<'a>(
         return Ok(None);
     };
     if starts(bytes, rest, "then") {
-        let choice = Choice::Equality(left, right);
+        let choice = Branching::Equality(left, right);
         read_branches(alloc, sig, bytes, depth, choice, beyond(1, rest))
     } else {
         Ok(None)
@@ -140,7 +140,7 @@ fn read_found<'a>(
     }
     let name = Name::from_bytes(alloc, name)?;
     let sort = Sort::Msg;
-    let choice = Choice::Entry(key, Var { name, sort });
+    let choice = Branching::Lookup(key, Var { name, sort });
     read_branches(alloc, sig, bytes, depth, choice, beyond(1, tokens))
 }
 

@@ -2,7 +2,7 @@ use Rattle.std.proofs.Common.{◌≡◌, ◌<◌, get_or, ap, Err, arith, length
 use Rattle.std.specs.Prelude.{slice_get}
 use Rattle.std.proofs.lemmas.Grind.{common_steps}
 use Rattle.std.proofs.lemmas.Option.{slice_get_read}
-use Rattle.sap_read.specs.declared.draft.Entry.{Entry}
+use Rattle.sap_read.specs.declared.draft.Definition.{Definition}
 use Rattle.sap_read.proofs.Kept.{behind_none, behind_more, behind_fault}
 use Rattle.sap_read.proofs.names.names_of.Goals as goal
 
@@ -10,8 +10,8 @@ pub loop-k-init : goal.loop-k-init
 loop-k-init c = behind_none c.args.entries.now c.new-names.result (λ x. rw c.new-names.ensures.empty)
 
 -- the entry there
-entry_at : (es xs : List Entry) (k : ℕ) (e : Entry) → xs ≡ es → k < length xs → e ≡ get_or xs k e → slice_get es k ≡ Some e
-entry_at es xs k e same below is = subst (λ (zs : List Entry). slice_get zs k ≡ Some e) same (slice_get_read xs (length xs) k e refl below is)
+entry_at : (es xs : List Definition) (k : ℕ) (e : Definition) → xs ≡ es → k < length xs → e ≡ get_or xs k e → slice_get es k ≡ Some e
+entry_at es xs k e same below is = subst (λ (zs : List Definition). slice_get zs k ≡ Some e) same (slice_get_read xs (length xs) k e refl below is)
 
 pub returns-in_err-check_known-clause-unknown : goal.returns-in_err-check_known-clause-unknown
 returns-in_err-check_known-clause-unknown c = λ e is other.

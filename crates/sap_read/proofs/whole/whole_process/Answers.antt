@@ -1,7 +1,7 @@
 use Rattle.std.proofs.Common.{◌≡◌, ℕ, Option, Some, None, List, [], ◌∷◌, Err, map, sym, ap, ◌∙◌, subst}
 use Rattle.std.specs.Prelude.{slice_get, IsErrOf}
 use Rattle.sap_process.specs.declared.process.Process.{Process}
-use Rattle.sap_read.specs.declared.draft.Entry.{Entry}
+use Rattle.sap_read.specs.declared.draft.Definition.{Definition}
 use Rattle.sap_read.specs.declared.fault.ReadFault.{ReadFault}
 use Rattle.sap_read.specs.Item.{Body}
 use Rattle.sap_read.specs.Causes.{unlabelled, cause}
@@ -10,8 +10,8 @@ use Rattle.sap_read.proofs.Caused.{process_is, all_expanded, by_kept_size, few_l
 use Rattle.sap_read.proofs.whole.whole_process.Goals as goal
 
 -- the entry at the place of the file's process
-one_there : (es : List Entry) (k : ℕ) (e f : Entry) → slice_get es k ≡ Some e → slice_get es k ≡ Some f → unlabelled (map body es) ≡ body e ∷ [] → unlabelled (map body es) ≡ body f ∷ []
-one_there es k e f a b one = let same : e ≡ f = cc in subst (λ (z : Entry). unlabelled (map body es) ≡ body z ∷ []) same one
+one_there : (es : List Definition) (k : ℕ) (e f : Definition) → slice_get es k ≡ Some e → slice_get es k ≡ Some f → unlabelled (map body es) ≡ body e ∷ [] → unlabelled (map body es) ≡ body f ∷ []
+one_there es k e f a b one = let same : e ≡ f = cc in subst (λ (z : Definition). unlabelled (map body es) ≡ body z ∷ []) same one
 
 -- the cause where declarations don't clash
 no_clash : (bs : List Body) (clash : Option (List ℕ)) (o : Option ReadFault) → clash ≡ None → cause bs None ≡ o → cause bs clash ≡ o

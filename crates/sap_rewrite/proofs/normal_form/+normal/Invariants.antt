@@ -1,7 +1,7 @@
 use Rattle.std.proofs.Common.{◌≡◌, ◌+◌, ◌*◌, map, take}
 use Rattle.sap_terms.specs.Tree.{node_count, trees_count, trees_of}
 use Rattle.sap_terms.specs.View.{tree}
-use Rattle.sap_terms.specs.Theory.{theory}
+use Rattle.sap_terms.specs.Equations.{equations}
 use Rattle.sap_rewrite.specs.Reduce.{nf}
 use Rattle.sap_rewrite.proofs.normal_form.+normal.Given as goal
 
@@ -12,4 +12,4 @@ abbrev pub decreases-normal_all : goal.decreases-normal_all
 decreases-normal_all l = 2 * trees_count (trees_of l.ts.now) + 1
 
 abbrev pub invariant-normal_all-loop-k : goal.invariant-normal_all-loop-k
-invariant-normal_all-loop-k l = l.out ≡ map (nf (theory l.sig)) (take l.k l.ts)
+invariant-normal_all-loop-k l = l.out ≡ map (nf (equations l.sig)) (take l.k l.ts)

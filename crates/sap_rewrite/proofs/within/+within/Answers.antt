@@ -1,7 +1,7 @@
 use Rattle.std.proofs.Common.{◌+◌, ◌∷◌, [], ◌++◌, ◌&&◌, map, take, drop, ap, sym, ◌∙◌, arith}
 use Rattle.sap_terms.specs.Tree.{node_count, trees_of, trees_count}
 use Rattle.sap_terms.specs.View.{tree}
-use Rattle.sap_terms.specs.Theory.{theory}
+use Rattle.sap_terms.specs.Equations.{equations}
 use Rattle.sap_terms.proofs.TreeLemmas.{map_got}
 use Rattle.sap_rewrite.specs.Reduce.{nf, reduced}
 use Rattle.sap_rewrite.specs.Fit.{all_fit}
@@ -11,7 +11,7 @@ use Rattle.sap_rewrite.proofs.within.+within.Goals as goal
 
 pub within_all-loop-k-preserved : goal.within_all-loop-k-preserved
 within_all-loop-k-preserved t c =
-    let e = theory c.args.sig.now in
+    let e = equations c.args.sig.now in
     let ts = c.args.ts.now in
     let k = c.loop-k.k in
     let u = tree c.at.result.now in
@@ -28,7 +28,7 @@ within_all-loop-k-preserved t c =
 
 pub within_term-returns-in_ok-reduce_counted-in-App-clause-fits : goal.within_term-returns-in_ok-reduce_counted-in-App-clause-fits
 within_term-returns-in_ok-reduce_counted-in-App-clause-fits t c =
-    let e = theory c.args.sig.now in
+    let e = equations c.args.sig.now in
     let f = c.in-App.f in
     let ts = c.in-App.args in
     let form = c.in_ok-reduce_counted-in-App.ensures.form ∙ ap (λ us. reduced e f (trees_of us)) c.in_ok-parts-in-App.ensures.forms ∙ sym (nf-apply e f ts) in
@@ -39,7 +39,7 @@ within_term-returns-in_ok-reduce_counted-in-App-clause-fits t c =
 
 pub within_term-returns-in_ok-reduce_counted-in-App-clause-large : goal.within_term-returns-in_ok-reduce_counted-in-App-clause-large
 within_term-returns-in_ok-reduce_counted-in-App-clause-large t c = λ i.
-    let e = theory c.args.sig.now in
+    let e = equations c.args.sig.now in
     let f = c.in-App.f in
     let ts = c.in-App.args in
     let form = c.in_ok-reduce_counted-in-App.ensures.form ∙ ap (λ us. reduced e f (trees_of us)) c.in_ok-parts-in-App.ensures.forms ∙ sym (nf-apply e f ts) in

@@ -1,7 +1,7 @@
 use Rattle.std.proofs.Common.{◌≡◌, ◌+◌, ◌*◌, ◌-◌, ◌^◌, min, map, take, drop}
 use Rattle.sap_terms.specs.Tree.{node_count, trees_count, trees_of}
 use Rattle.sap_terms.specs.View.{tree}
-use Rattle.sap_terms.specs.Theory.{theory}
+use Rattle.sap_terms.specs.Equations.{equations}
 use Rattle.sap_rewrite.specs.Reduce.{nf}
 use Rattle.sap_rewrite.specs.Fit.{all_fit}
 use Rattle.sap_rewrite.proofs.within.+within.Given as goal
@@ -14,7 +14,7 @@ decreases-within_all l = 2 * trees_count (trees_of l.ts.now) + 1
 
 abbrev pub invariant-within_all-loop-k : goal.invariant-within_all-loop-k
 invariant-within_all-loop-k l = record {
-  forms : l.terms ≡ map (nf (theory l.sig)) (take l.k l.ts);
+  forms : l.terms ≡ map (nf (equations l.sig)) (take l.k l.ts);
   count : l.nodes ≡ min (trees_count (trees_of l.terms)) (2 ^ 64 - 1);
-  fits : all_fit (theory l.sig) l.most (trees_of l.ts) ≡ all_fit (theory l.sig) l.most (trees_of (drop l.k l.ts));
+  fits : all_fit (equations l.sig) l.most (trees_of l.ts) ≡ all_fit (equations l.sig) l.most (trees_of (drop l.k l.ts));
 }

@@ -2,7 +2,7 @@ use Rattle.std.proofs.Common.{sym, ap, ◌∙◌, Err}
 use Rattle.std.proofs.lemmas.List.{length-map}
 use Rattle.sap_terms.specs.Modulo.{instance_fact, instance_facts, IsFormOfFact}
 use Rattle.sap_terms.specs.Subst.{bound_to}
-use Rattle.sap_terms.specs.Theory.{theory}
+use Rattle.sap_terms.specs.Equations.{equations}
 use Rattle.sap_steps.specs.Held.{cited_at}
 use Rattle.sap_steps.proofs.Evaluated.{fault_large, in_left, in_acts, in_right, none_large, passed}
 use Rattle.sap_steps.specs.Firing.{IsEvaluationFault}
@@ -38,7 +38,7 @@ returns-in_err-right-clause-refused c =
 
 pub have_args-requires-clause-count : goal.have_args-requires-clause-count
 have_args-requires-clause-count c =
-    c.requires.count ∙ sym (length-map c.args.rule.now.left (instance_fact (bound_to c.args.c.now))) ∙ zip_length (IsFormOfFact (theory c.args.sig.now)) (instance_facts (bound_to c.args.c.now) c.args.rule.now.left) c.in_ok-left.left c.in_ok-left.ensures.forms
+    c.requires.count ∙ sym (length-map c.args.rule.now.left (instance_fact (bound_to c.args.c.now))) ∙ zip_length (IsFormOfFact (equations c.args.sig.now)) (instance_facts (bound_to c.args.c.now) c.args.rule.now.left) c.in_ok-left.left c.in_ok-left.ensures.forms
 
 pub returns-then-not-have_args-clause-refused : goal.returns-then-not-have_args-clause-refused
 returns-then-not-have_args-clause-refused c = record {

@@ -12,6 +12,6 @@ abbrev pub AreTrueOn : Sig → List Form → Trace → Type 0
 AreTrueOn g us tr = EachIn (λ u. IsTrueOn g u tr) us
 
 -- the formula is true on each trace of the set S, or on some one, among those on which all of us are true
-abbrev pub Holds : Sig → (Trace → Type 0) → List Form → Mode → Form → Type 0
-Holds g S us AllTraces f = (tr : Trace) → S tr → AreTrueOn g us tr → IsTrueOn g f tr
-Holds g S us ExistsTrace f = (tr : Trace) × S tr × AreTrueOn g us tr × IsTrueOn g f tr
+abbrev pub HoldsOf : Sig → (Trace → Type 0) → List Form → Mode → Form → Type 0
+HoldsOf g S us AllTraces f = (tr : Trace) → S tr → AreTrueOn g us tr → IsTrueOn g f tr
+HoldsOf g S us ExistsTrace f = (tr : Trace) × S tr × AreTrueOn g us tr × IsTrueOn g f tr

@@ -4,14 +4,14 @@ use Rattle.sap_terms.specs.Signature.{Sig}
 use Rattle.sap_terms.specs.Tree.{Tree, Trees, apply, none, more}
 
 -- which equations hold beside those of pairs
-pub record Theory : Type 0 where
+pub record Equations : Type 0 where
   pub symmetric : Bool
   pub asymmetric : Bool
   pub signing : Bool
 
 -- a signature's equations are those of the builtins that were added to it
-abbrev pub theory : Sig → Theory
-theory g = record {
+abbrev pub equations : Sig → Equations
+equations g = record {
   symmetric = g.builtins.symmetric;
   asymmetric = g.builtins.asymmetric;
   signing = g.builtins.signing;
@@ -65,7 +65,7 @@ app3 f a b c = apply f (more a (more b (more c none)))
 
 -- the two trees are the left side and the right side of one equation, with terms for its letters:
 -- fst(<x,y>) = x, snd(<x,y>) = y, sdec(senc(m,k),k) = m, adec(aenc(m,pk(k)),k) = m, verify(sign(m,k),m,pk(k)) = true
-pub data IsInstance (e : Theory) : Tree → Tree → Type 0 where
+pub data IsInstance (e : Equations) : Tree → Tree → Type 0 where
   first : {x y : Tree} → IsInstance e (app1 fst_name (app2 pair_name x y)) x
   second : {x y : Tree} → IsInstance e (app1 snd_name (app2 pair_name x y)) y
   symmetric : {m k : Tree} → IsTrue e.symmetric → IsInstance e (app2 sdec_name (app2 senc_name m k) k) m
@@ -73,7 +73,7 @@ pub data IsInstance (e : Theory) : Tree → Tree → Type 0 where
   signing : {m k : Tree} → IsTrue e.signing → IsInstance e (app3 verify_name (app2 sign_name m k) m (app1 pk_name k)) (app0 true_name)
 
 -- the symbol heads the left side of an equation
-pub record IsDestructor (e : Theory) (f : List ℕ) : Type 0 where
+pub record IsDestructor (e : Equations) (f : List ℕ) : Type 0 where
   pub args : Trees
   pub right : Tree
   pub is_left : IsInstance e (apply f args) right
