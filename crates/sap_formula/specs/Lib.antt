@@ -10,5 +10,6 @@ pub mod View
 pub mod Code
 pub mod Places
 pub mod Truth
+pub mod Hide
 pub mod HoldsOf
 pub mod Examples

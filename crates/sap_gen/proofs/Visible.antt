@@ -7,7 +7,8 @@ use Rattle.sap_terms.specs.declared.fact.Fact.{Fact}
 use Rattle.sap_gen.specs.Members.{Member}
 use Rattle.sap_gen.specs.ReservedFacts.{init_fact, event_fact}
 use Rattle.sap_terms.specs.Trace.{Trace, shown}
-use Rattle.sap_gen.specs.Traces.{hide, visible, is_hidden, IsAdmitted}
+use Rattle.sap_formula.specs.Hide.{hide, visible, is_hidden}
+use Rattle.sap_gen.specs.Traces.{IsAdmitted}
 use Rattle.sap_gen.specs.Relation.{has_init, same_fact, total}
 use Rattle.sap_gen.proofs.Totals.{total_found}
 use Rattle.sap_gen.proofs.FactTests.{same_fact_true}

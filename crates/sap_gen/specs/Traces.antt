@@ -1,26 +1,12 @@
 -- Which full traces count, and what is seen of them.
-use Rattle.std.specs.Prelude.{◌≡◌, ℕ, Bool, ◌&&◌, not, List, Some, slice_get, codes, filter}
-use Rattle.std.specs.List.{flat_map}
-use Rattle.std.specs.Str.{bytes_eq}
-use Rattle.sap_terms.specs.Reserved.{is_reserved}
+use Rattle.std.specs.Prelude.{◌≡◌, ℕ, List, Some, slice_get}
 use Rattle.sap_terms.specs.declared.fact.Fact.{Fact}
+use Rattle.sap_formula.specs.Hide.{hide}
 use Rattle.sap_rule.specs.declared.rule.Rule.{Rule}
 use Rattle.sap_gen.specs.Members.{Member}
 use Rattle.sap_gen.specs.ReservedFacts.{init_fact}
 use Rattle.sap_gen.specs.RuleSteps.{RuleState, RuleRun}
-use Rattle.sap_terms.specs.Trace.{Trace, shown}
-
--- reserved, and not K
-abbrev pub is_hidden : List ℕ → Bool
-is_hidden name = is_reserved name && not (bytes_eq name (codes "K"))
-
--- the facts of a place that are seen
-abbrev pub visible : List Fact → List Fact
-visible place = filter (λ f. not (is_hidden f.name)) place
-
--- the trace without the hidden facts, and then without the empty places
-abbrev pub hide : Trace → Trace
-hide tr = flat_map (λ place. shown (visible place)) tr
+use Rattle.sap_terms.specs.Trace.{Trace}
 
 -- place i has the fact
 abbrev pub HasFact : Trace → ℕ → Fact → Type 0
