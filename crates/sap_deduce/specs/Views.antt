@@ -5,7 +5,7 @@ use Rattle.sap_deduce.specs.Entries.{Entry}
 use Rattle.sap_deduce.specs.declared.entry.Entry.{Entry as StoredEntry}
 
 abbrev pub entry_of : StoredEntry → Entry
-entry_of e = record { term = tree e.term; line = e.line }
+entry_of e = record { term = tree e.term; origin = e.origin }
 
 abbrev pub entries_of : List StoredEntry → List Entry
 entries_of es = map entry_of es
