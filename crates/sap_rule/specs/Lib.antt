@@ -2,4 +2,5 @@ pub mod Named
 pub mod Variables
 pub mod RuleSteps
 pub mod WellMade
+pub mod Messages
 pub mod Checks

@@ -1,6 +1,6 @@
 use Rattle.std.proofs.Common.{subst, sym}
 use Rattle.sap_rewrite.specs.Match.{HaveOneSort}
-use Rattle.sap_rule.proofs.well_made.is_well_made.Goals as goal
+use Rattle.sap_rule.proofs.well_made.is_well_shaped.Goals as goal
 
 pub returns : goal.returns
 returns c = (
