@@ -17,7 +17,7 @@ use Rattle.sap_terms.specs.Tree.{Tree, variable, public, fresh, apply, Trees, no
 use Rattle.sap_terms.specs.declared.fact.Fact.{Fact}
 use Rattle.sap_terms.specs.declared.var.Sort.TheVariants.{Msg}
 use Rattle.sap_rewrite.specs.Laws.{FormsAreMessages}
-use Rattle.sap_rule.specs.Messages.{HoldsMessages, StepsKeepMessages, RunsReachMessages}
+use Rattle.sap_rule.specs.Messages.{HoldsMessages, TakenAreMessages, StepsKeepMessages, RunsReachMessages}
 use Rattle.sap_rule.specs.RuleSteps.{RuleState, RuleStep, RuleRun, starts, further, makes_name, learns, owns, knows_public, applies, gives, uses, makes, gains, leaves}
 use Rattle.sap_rule.specs.WellMade.{IsWellMade, IsFactOver}
 use Rattle.sap_rule.specs.declared.rule.Rule.{Rule}
@@ -89,6 +89,9 @@ single g name t h =
 
 argument : (g : Sig) (name : List ℕ) (t : Tree) → AreMessageFacts g (linear name (t ∷ []) ∷ []) → IsMessage g Msg t
 argument g name t h = All-head (IsMessage g Msg) t [] (All-head (IsMessageFact g) (linear name (t ∷ [])) [] h)
+
+pub from_messages : TakenAreMessages
+from_messages g s ks fs rest h takes = (taken (IsMessageFact g) takes h.facts).0
 
 pub kept : FormsAreMessages → StepsKeepMessages
 kept forms g rules s z acts builtins well h (makes_name n new) = (

@@ -1,6 +1,7 @@
 -- In runs of well-made rules all terms are messages.
-use Rattle.std.specs.Prelude.{List, Option, Some, IfSome, All}
+use Rattle.std.specs.Prelude.{ℕ, List, Option, Some, IfSome, All}
 use Rattle.sap_terms.specs.Message.{IsMessage, IsMessageFact, AreMessageFacts, IsMessageTrace}
+use Rattle.sap_terms.specs.Piles.{Pile, Takes}
 use Rattle.sap_terms.specs.Signature.{Sig, HoldsBuiltins}
 use Rattle.sap_terms.specs.Trace.{Trace}
 use Rattle.sap_terms.specs.declared.fact.Fact.{Fact}
@@ -13,6 +14,11 @@ use Rattle.sap_rule.specs.declared.rule.Rule.{Rule}
 pub record HoldsMessages (g : Sig) (s : RuleState) : Type 0 where
   pub facts : All (λ (place : Option Fact). IfSome place (IsMessageFact g)) s.facts
   pub known : All (IsMessage g Msg) s.known
+
+-- what can be taken from such a state are facts of messages
+abbrev pub TakenAreMessages : Type 0
+TakenAreMessages =
+    (g : Sig) (s : RuleState) (ks : List ℕ) (fs : List Fact) (rest : Pile) → HoldsMessages g s → Takes s.facts ks fs rest → AreMessageFacts g fs
 
 -- a step of well-made rules from a state that holds messages shows messages and leads to such a state
 abbrev pub StepsKeepMessages : Type 0
