@@ -11,7 +11,7 @@ use Rattle.sap_terms.specs.Signature.{Sig}
 use Rattle.sap_deduce.specs.declared.origin.Origin.{Origin}
 use Rattle.sap_deduce.specs.declared.entry.Entry.{Entry as StoredEntry}
 use Rattle.sap_deduce.specs.Entries.{Entry, Entries, terms_of, Adds, none_yet, one_more, AreEntries}
-use Rattle.sap_deduce.specs.Views.{entry_of, entries_of}
+use Rattle.sap_deduce.specs.code.Views.{entry_of, entries_of}
 
 pub entries_of-push : (es : List StoredEntry) (e : StoredEntry) → entries_of (es ++ e ∷ []) ≡ entries_of es ++ entry_of e ∷ []
 entries_of-push es e = map-append entry_of es (e ∷ [])

@@ -32,7 +32,7 @@ impl Model for Knowledge {
 
     ghost coded = { Prim.hlevel (codes, tree_code) };
 
-    ghost use Rattle.sap_deduce.specs.Views.{entries_of};
+    ghost use Rattle.sap_deduce.specs.code.Views.{entries_of};
 
     ghost view = { λ a. record { sig = a.sig; entries = entries_of a.entries } };
 

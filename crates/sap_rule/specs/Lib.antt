@@ -3,4 +3,4 @@ pub mod Variables
 pub mod RuleSteps
 pub mod WellMade
 pub mod Messages
-pub mod Checks
+pub mod code

@@ -4,7 +4,7 @@ ghost use Rattle.indexmap.specs.IndexMap.{get};
 ghost use Rattle.sap_terms.specs.Tree.{trees_of};
 ghost use Rattle.sap_terms.specs.View.{tree};
 ghost use Rattle.sap_rewrite.specs.Match.{HaveOneSort};
-ghost use Rattle.sap_rule.specs.Checks.{is_over, all_over, IsOtherSort};
+ghost use Rattle.sap_rule.specs.code.Checks.{is_over, all_over, IsOtherSort};
 ghost use Rattle.sap_rule.specs.WellMade.{IsSingle, IsKnowledge, IsLeftFact, IsRightFact, IsActFact, IsFactOver, IsRuleOver, IsWellShaped, IsWellMade};
 
 use crate::Rule;

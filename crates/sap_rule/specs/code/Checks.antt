@@ -1,4 +1,4 @@
--- The tests of rules that can be run, as the code makes them: no definition that a theorem speaks of.
+-- The tests of rules that can be run, as the code makes them.
 use Rattle.std.specs.Prelude.{◌≡◌, ◌↔◌, ℕ, Bool, true, ◌&&◌, Option, Some, MatchOption, List, length, Contains}
 use Rattle.sap_terms.specs.Signature.{Sig, arity_of}
 use Rattle.sap_terms.specs.Tree.{Tree, variable, public, fresh, apply, Trees, none, more, list_of}
