@@ -8,8 +8,8 @@ ghost use Rattle.sap_deduce.specs.Entries.{Gains, Adds, terms_of, AreTermsAt, Is
 ghost use Rattle.sap_terms.specs.Signature.{IsPublic, arity_of};
 ghost use Rattle.sap_deduce.specs.declared.origin.Origin.TheVariants.{Name as NameOrigin, Public as PublicOrigin, Output as OutputOrigin};
 
-use crate::entry::Entry;
 use crate::Deny;
+use crate::entry::Entry;
 use crate::origin::Origin;
 use sap_rewrite::{Limited, forms_are_messages, normal_on};
 use sap_terms::{Copied, Items, MOST_TERM_NODES, Mem, Name, Numbers, Signature, Term};

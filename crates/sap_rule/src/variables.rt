@@ -57,11 +57,7 @@ fn names_of(alloc: Global, vars: &Vars) -> Result<IndexSet<Name>, Mem>
 }
 
 // The first occurrences of variables whose names are not known.
-fn first_occurrences(
-    alloc: Global,
-    known: &mut IndexSet<Name>,
-    vars: &Vars,
-) -> Result<Vars, Mem>
+fn first_occurrences(alloc: Global, known: &mut IndexSet<Name>, vars: &Vars) -> Result<Vars, Mem>
     ensures { IfOk result (λ out. out ≡ new_vars known.old.keys vars.now) }
 {
     let mut out = Vars::new(alloc);

@@ -2,7 +2,7 @@
 use Rattle.std.specs.Prelude.{ℕ, List, [], ◌∷◌, Option, Some, None, codes, if◌then◌else◌}
 use Rattle.std.specs.List.{filter_map, flat_map}
 use Rattle.std.specs.Str.{bytes_eq}
-use Rattle.sap_terms.specs.AdversaryFacts.{linear, k_fact}
+use Rattle.sap_terms.specs.AdversaryFacts.{linear}
 use Rattle.sap_terms.specs.Trace.{Trace}
 use Rattle.sap_terms.specs.Tree.{Tree, public, fresh}
 use Rattle.sap_terms.specs.declared.fact.Fact.{Fact}
@@ -28,12 +28,23 @@ inner_of f = of f.args where
 abbrev pub inner_actions : Trace → List InnerAction
 inner_actions full = flat_map (filter_map inner_of) full
 
--- a full trace for an example: of the store, of a branch, of an event, of a lock and of the adversary
+-- the terms of the example
+abbrev pub k : Tree
+k = public (codes "k")
+
+abbrev pub v : Tree
+v = public (codes "v")
+
+-- a place that shows this one linear fact
+abbrev shows_one : List ℕ → List Tree → List Fact
+shows_one name args = linear name args ∷ []
+
+-- a full trace for an example: of the store, of branches, of an event, of locks and of the adversary
 abbrev pub shown_by_hand : Trace
 shown_by_hand =
-    (linear (codes "Insert") (public (codes "k") ∷ public (codes "v") ∷ []) ∷ []) ∷ [] ∷ (linear (codes "IsIn") (public (codes "k") ∷ public (codes "v") ∷ []) ∷ []) ∷ (linear (codes "NotEq") (public (codes "k") ∷ public (codes "v") ∷ []) ∷ []) ∷ (linear (codes "Event") [] ∷ linear (codes "A") (public (codes "k") ∷ []) ∷ []) ∷ (linear (codes "Lock") (fresh 1 ∷ public (codes "k") ∷ []) ∷ []) ∷ (k_fact (public (codes "k")) ∷ []) ∷ []
+    shows_one (codes "Insert") (k ∷ v ∷ []) ∷ [] ∷ shows_one (codes "IsIn") (k ∷ v ∷ []) ∷ shows_one (codes "Eq") (k ∷ k ∷ []) ∷ shows_one (codes "NotEq") (k ∷ v ∷ []) ∷ (linear (codes "Event") [] ∷ linear (codes "A") (k ∷ []) ∷ []) ∷ shows_one (codes "Lock") (fresh 1 ∷ k ∷ []) ∷ shows_one (codes "Unlock") (fresh 1 ∷ v ∷ []) ∷ shows_one (codes "Delete") (k ∷ []) ∷ shows_one (codes "IsNotSet") (v ∷ []) ∷ shows_one (codes "K") (k ∷ []) ∷ []
 
 -- and what it did inside
 abbrev pub inner_by_hand : List InnerAction
 inner_by_hand =
-    inserted (public (codes "k")) (public (codes "v")) ∷ found (public (codes "k")) (public (codes "v")) ∷ different (public (codes "k")) (public (codes "v")) ∷ locked (public (codes "k")) ∷ []
+    inserted k v ∷ found k v ∷ equal k k ∷ different k v ∷ locked k ∷ unlocked v ∷ deleted k ∷ missing v ∷ []

@@ -2,9 +2,9 @@
 ghost use Rattle.std.specs.Prelude.{◌≡◌};
 
 use sap_deduce::{Deny, Knowledge, derivations_can_be_entered};
-use sap_rewrite::normal;
+use sap_rewrite::{is_message, normal};
 use sap_rows::{name, named_term, signature};
-use sap_terms::{Mem, Numbers, Signature, Term};
+use sap_terms::{MOST_TERM_NODES, Mem, Numbers, Signature, Sort, Term};
 use sap_text::Text;
 use std::alloc::Global;
 use std::test::Fail;
@@ -102,7 +102,10 @@ fn send(alloc: Global, sig: &Signature, k: &mut Knowledge, t: &Term) -> Result<O
     requires { k.old.sig ≡ sig.now }
 {
     let form = normal(alloc, sig, t)?;
-    if form.nodes() > 256 {
+    if form.nodes() > MOST_TERM_NODES {
+        return Ok(None);
+    }
+    if !is_message(alloc, sig, Sort::Msg, &form)? {
         return Ok(None);
     }
     Ok(Some(k.output(form)?))

@@ -9,6 +9,7 @@ use Rattle.sap_terms.specs.Tree.{Tree, trees_of}
 use Rattle.sap_terms.specs.declared.binding.Binding.{Binding}
 use Rattle.sap_terms.specs.declared.fact.Fact.{Fact}
 use Rattle.sap_terms.specs.declared.var.Var.{Var}
+use Rattle.sap_terms.specs.declared.limits.TheConstants.{MOST_TERM_NODES}
 use Rattle.sap_rewrite.specs.Around.{FitAll}
 use Rattle.sap_rewrite.specs.Large.{SomeSubtermWithin, HasLargeForm}
 use Rattle.sap_rewrite.specs.Match.{Extends, Agrees, HaveOneSort, bound_vars}
@@ -43,11 +44,11 @@ FactsFit g fs hs σ = AllZip (FactFits g σ) fs hs
 
 -- some subterm of these has a normal form of more than 256 nodes
 abbrev pub SomeLarge : Sig → List Tree → Type 0
-SomeLarge g ts = SomeSubtermWithin (HasLargeForm (equations g) 256) (trees_of ts)
+SomeLarge g ts = SomeSubtermWithin (HasLargeForm (equations g) MOST_TERM_NODES) (trees_of ts)
 
 -- the arguments of these facts, one fact after another
-abbrev pub terms_of : List Fact → List Tree
-terms_of fs = flat_map (λ (f : Fact). f.args) fs
+abbrev pub args_of : List Fact → List Tree
+args_of fs = flat_map (λ (f : Fact). f.args) fs
 
 -- the facts have the same arguments
 abbrev pub HaveArgs : List Fact → List Fact → Type 0
@@ -78,6 +79,6 @@ IsEvaluationFault g τ r cited Unequal = EvaluatesOtherwise g τ r cited
 IsEvaluationFault g τ r cited _ = ⊥
 
 -- the fault of a cut
-abbrev pub fault_of : Limited → RFault
-fault_of CutMem = Mem
-fault_of Large = TermLarge
+abbrev pub limited_fault : Limited → RFault
+limited_fault CutMem = Mem
+limited_fault Large = TermLarge

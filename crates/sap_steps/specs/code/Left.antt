@@ -4,7 +4,7 @@ use Rattle.std.specs.List.{fold}
 use Rattle.sap_terms.specs.Piles.{Pile, Takes}
 use Rattle.sap_terms.specs.declared.fact.Fact.{Fact}
 use Rattle.sap_facts.specs.Facts.{fact_at, places_without}
-use Rattle.sap_steps.specs.Held.{cited_at}
+use Rattle.sap_steps.specs.code.Held.{cited_at}
 
 -- the places, where the facts with these numbers were used one after another
 abbrev pub left_of : Pile → List ℕ → Pile

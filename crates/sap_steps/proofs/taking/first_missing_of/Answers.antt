@@ -1,10 +1,10 @@
 use Rattle.std.proofs.Common.{ℕ, nat_eq, refl, arith}
 use Rattle.indexmap.specs.IndexSet.{contains}
 use Rattle.sap_steps.proofs.Left.{none_taken, missing_at, one_more_taken}
-use Rattle.sap_steps.proofs.taking.first_missing.Goals as goal
+use Rattle.sap_steps.proofs.taking.first_missing_of.Goals as goal
 
 pub loop-at-init : goal.loop-at-init
-loop-at-init c = none_taken c.args.facts.now.places (λ (j : ℕ). contains nat_eq c.new-gone.result j) (λ j. rw c.new-gone.ensures.empty refl)
+loop-at-init c = none_taken c.args.facts.now.places (λ (j : ℕ). contains nat_eq c.args.gone.now j) c.requires
 
 pub returns-then-not-branch : goal.returns-then-not-branch
 returns-then-not-branch c =
