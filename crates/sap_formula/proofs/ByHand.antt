@@ -14,7 +14,6 @@ use Rattle.sap_formula.specs.Truth.{AnyIn, EachIn, Shows, facts_at, IsTrueOn}
 use Rattle.sap_formula.specs.HoldsOf.{AreTrueOn}
 use Rattle.sap_formula.specs.Examples.{a, b, x, fresh_x, public_x, fact, trace_a, trace_aa, trace_ab, IsEither, only_a, some_place, two_places, some_b, two_binders, first_of_pair, first_is, one_place_alone, true_ones, false_ones}
 use Rattle.sap_formula.proofs.Messages.{public_normal, public_message, same_from_equal}
-use Rattle.std.specs.Prelude.{◌⊎◌}
 
 abbrev is_b : Tree → Bool
 is_b t = same_tree t b

@@ -9,26 +9,31 @@ use Rattle.sap_formula.specs.Form.{Form, truth, falsity, action, equal, same_pla
 use Rattle.sap_terms.specs.Trace.{Trace}
 use Rattle.sap_formula.specs.declared.binder.Binder.TheVariants.{Message, Time}
 
--- 'a' and 'b'
+-- 'a'
 abbrev pub a : Tree
 a = public (codes "a")
 
+-- 'b'
 abbrev pub b : Tree
 b = public (codes "b")
 
--- x, ~x and $x
+-- x
 abbrev pub x : Var
 x = record { name = codes "x"; sort = Msg }
 
+-- ~x
 abbrev pub fresh_x : Var
 fresh_x = record { name = codes "x"; sort = Fresh }
 
+-- $x
 abbrev pub public_x : Var
 public_x = record { name = codes "x"; sort = Pub }
 
+-- #i
 abbrev pub i : List ℕ
 i = codes "i"
 
+-- #j
 abbrev pub j : List ℕ
 j = codes "j"
 
@@ -36,13 +41,15 @@ j = codes "j"
 abbrev pub fact : Bool → List Tree → Fact
 fact persistent args = record { name = codes "A"; persistent = persistent; args = args }
 
--- A('a'); A('a'), A('a'); A('a'), A('b')
+-- A('a')
 abbrev pub trace_a : Trace
 trace_a = (fact false (a ∷ []) ∷ []) ∷ []
 
+-- A('a'), A('a')
 abbrev pub trace_aa : Trace
 trace_aa = (fact false (a ∷ []) ∷ []) ∷ (fact false (a ∷ []) ∷ []) ∷ []
 
+-- A('a'), A('b')
 abbrev pub trace_ab : Trace
 trace_ab = (fact false (a ∷ []) ∷ []) ∷ (fact false (b ∷ []) ∷ []) ∷ []
 

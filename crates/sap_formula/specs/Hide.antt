@@ -1,4 +1,4 @@
--- A trace without its hidden facts and the places that they leave empty.
+-- A trace without its hidden facts and the times that they leave empty.
 use Rattle.std.specs.Prelude.{ℕ, Bool, ◌&&◌, not, List, codes, filter}
 use Rattle.std.specs.List.{flat_map}
 use Rattle.std.specs.Str.{bytes_eq}
@@ -10,10 +10,10 @@ use Rattle.sap_terms.specs.declared.fact.Fact.{Fact}
 abbrev pub is_hidden : List ℕ → Bool
 is_hidden name = is_reserved name && not (bytes_eq name (codes "K"))
 
--- the facts of a place that are seen
+-- those of these facts that are seen
 abbrev pub visible : List Fact → List Fact
-visible place = filter (λ f. not (is_hidden f.name)) place
+visible facts = filter (λ f. not (is_hidden f.name)) facts
 
--- the trace without the hidden facts, and then without the empty places
+-- the trace without the hidden facts, and then without the empty times
 abbrev pub hide : Trace → Trace
-hide tr = flat_map (λ place. shown (visible place)) tr
+hide tr = flat_map (λ facts. shown (visible facts)) tr
