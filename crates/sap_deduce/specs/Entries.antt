@@ -34,6 +34,7 @@ name_of Public = None
 name_of Output = None
 name_of (Apply f ks) = None
 
+-- it was sent
 abbrev pub is_output : Origin → Bool
 is_output (Name n) = false
 is_output Public = false

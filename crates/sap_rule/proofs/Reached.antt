@@ -1,26 +1,23 @@
 -- Steps of well-made rules keep messages.
-use Rattle.std.proofs.Common.{◌≡◌, ℕ, suc, List, [], ◌∷◌, ◌++◌, length, map, Some, refl, sym, ap, subst, ◌∙◌}
+use Rattle.std.proofs.Common.{◌≡◌, ℕ, suc, List, [], ◌∷◌, length, map, Some, refl, sym, ap, ◌∙◌}
 use Rattle.std.specs.Prelude.{All, Contains}
 use Rattle.std.specs.List.{AllZip}
 use Rattle.std.proofs.lemmas.List.Elements.{All-nil, All-cons, All-head, All-tail, All-push, All-contains, All-weaker}
-use Rattle.sap_terms.specs.AdversaryFacts.{linear, k_fact, in_fact, out_fact, fr_fact}
+use Rattle.sap_terms.specs.AdversaryFacts.{linear, in_fact, fr_fact}
 use Rattle.sap_terms.specs.Choice.{Choice, instance, instances}
 use Rattle.sap_terms.specs.Equations.{Equations, equations, IsInstance}
 use Rattle.sap_terms.specs.Ground.{IsGround, AreGround}
-use Rattle.sap_terms.specs.Message.{IsMessage, IsMessageChoice, IsOver, AreOver, IsMessageFact, AreMessageFacts, IsMessageTrace}
+use Rattle.sap_terms.specs.Message.{IsMessage, IsMessageChoice, IsOver, AreOver, IsMessageFact, AreMessageFacts}
 use Rattle.sap_terms.specs.Modulo.{instance_facts, AreFormsOfFacts}
 use Rattle.sap_terms.specs.Normal.{IsNormalForm}
-use Rattle.sap_terms.specs.Piles.{Takes}
 use Rattle.sap_terms.specs.Signature.{Sig, HoldsBuiltins, arity_of}
-use Rattle.sap_terms.specs.Trace.{Trace}
 use Rattle.sap_terms.specs.Tree.{Tree, variable, public, fresh, apply, Trees, none, more, trees_of, list_of, list_of-trees_of}
 use Rattle.sap_terms.specs.declared.fact.Fact.{Fact}
 use Rattle.sap_terms.specs.declared.var.Sort.TheVariants.{Msg}
 use Rattle.sap_rewrite.specs.Laws.{FormsAreMessages}
-use Rattle.sap_rule.specs.Messages.{HoldsMessages, TakenAreMessages, StepsKeepMessages, RunsReachMessages}
-use Rattle.sap_rule.specs.RuleSteps.{RuleState, RuleStep, RuleRun, starts, further, makes_name, learns, owns, knows_public, applies, gives, uses, makes, gains, leaves}
+use Rattle.sap_rule.specs.Messages.{TakenAreMessages, StepsKeepMessages, RunsReachMessages}
+use Rattle.sap_rule.specs.RuleSteps.{starts, further, makes_name, learns, owns, knows_public, applies, gives, uses}
 use Rattle.sap_rule.specs.WellMade.{IsWellMade, IsFactOver}
-use Rattle.sap_rule.specs.declared.rule.Rule.{Rule}
 use Rattle.sap_rule.proofs.Takings.{taken, added}
 
 -- no equation has a name for its left side

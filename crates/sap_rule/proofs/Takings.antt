@@ -1,5 +1,5 @@
 -- What is so of each fact that stands is so of those that are taken, and of those that are left.
-use Rattle.std.proofs.Common.{◌≡◌, ℕ, zero, suc, Bool, true, false, List, [], ◌∷◌, map, Option, Some, None, slice_set, slice_get, refl, subst, ap}
+use Rattle.std.proofs.Common.{ℕ, zero, suc, true, false, List, [], ◌∷◌, map, Option, Some, None, slice_set}
 use Rattle.std.specs.Prelude.{All, IfSome, if◌then◌else◌}
 use Rattle.std.proofs.lemmas.List.Elements.{All-nil, All-cons, All-head, All-tail, All-append, All-map}
 use Rattle.sap_terms.specs.Piles.{Pile, Takes, nothing, one, used, adds}

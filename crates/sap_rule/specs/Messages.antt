@@ -1,5 +1,5 @@
 -- In runs of well-made rules all terms are messages.
-use Rattle.std.specs.Prelude.{ℕ, List, Option, Some, IfSome, All}
+use Rattle.std.specs.Prelude.{ℕ, List, Option, IfSome, All}
 use Rattle.sap_terms.specs.Message.{IsMessage, IsMessageFact, AreMessageFacts, IsMessageTrace}
 use Rattle.sap_terms.specs.Piles.{Pile, Takes}
 use Rattle.sap_terms.specs.Signature.{Sig, HoldsBuiltins}

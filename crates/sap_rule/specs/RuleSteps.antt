@@ -14,6 +14,7 @@ use Rattle.sap_terms.specs.declared.fact.Fact.{Fact}
 use Rattle.sap_formula.specs.Hide.{hide}
 use Rattle.sap_rule.specs.declared.rule.Rule.{Rule}
 
+-- where a run of rules stands
 pub record RuleState : Type 0 where
   -- the facts by their numbers: none where one was taken
   pub facts : Pile
@@ -22,6 +23,7 @@ pub record RuleState : Type 0 where
   -- the names that Fr was made of, in order of coming
   pub made : List ℕ
 
+-- where each run starts
 abbrev pub empty_state : RuleState
 empty_state = record { facts = []; known = []; made = [] }
 

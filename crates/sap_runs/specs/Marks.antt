@@ -5,14 +5,14 @@ use Rattle.sap_terms.specs.Trace.{shown}
 use Rattle.sap_terms.specs.declared.fact.Fact.{Fact}
 use Rattle.sap_runs.specs.Inner.{InnerAction}
 
--- an inner action, or facts that are seen at one place
+-- an inner action, or facts that are seen at one time
 pub data Mark : Type 0 where
   inside : InnerAction → Mark
   showing : List Fact → Mark
 
 -- the facts that aren't K
 abbrev pub without_k : List Fact → List Fact
-without_k place = filter (λ f. not (bytes_eq f.name (codes "K"))) place
+without_k facts = filter (λ f. not (bytes_eq f.name (codes "K"))) facts
 
 -- the marks of a step that does this inside and lets this be seen: the inner actions, and then what isn't K
 abbrev pub marks_of : List InnerAction → List Fact → List Mark
