@@ -1,19 +1,18 @@
 -- A line that is possible is refused for want of memory alone.
-use Rattle.std.proofs.Common.{◌≡◌, ℕ, zero, suc, ◌+◌, ◌<◌, ◌≤◌, Bool, true, false, cond, List, [], ◌∷◌, length, map, take, find, nat_le, Option, Some, None, slice_get, arith, rules, refl, sym, ap, subst, ◌∙◌}
-use Rattle.std.specs.Prelude.{All, Contains}
+use Rattle.std.proofs.Common.{◌≡◌, ℕ, zero, suc, ◌<◌, ◌≤◌, Bool, true, false, List, [], ◌∷◌, length, map, take, find, nat_le, Some, None, slice_get, arith, rules, refl, sym, ap, subst, ◌∙◌}
+use Rattle.std.specs.Prelude.{All}
 use Rattle.std.specs.List.{AllZip}
 use Rattle.std.proofs.lemmas.List.{length-map}
 use Rattle.std.proofs.lemmas.List.Elements.{All-nil, All-cons}
 use Rattle.std.proofs.lemmas.Option.{slice_get_within}
-use Rattle.sap_terms.specs.Choice.{Choice, instance, instances, IsSorted}
+use Rattle.sap_terms.specs.Choice.{Choice}
 use Rattle.sap_terms.specs.Equations.{equations}
 use Rattle.sap_terms.specs.Message.{IsMessage, IsMessageChoice, AreMessageFacts}
 use Rattle.sap_terms.specs.Modulo.{instance_fact, instance_facts, IsEqualFact, AreEqualFacts}
 use Rattle.sap_terms.specs.Normal.{IsNormalForm}
 use Rattle.sap_terms.specs.Piles.{Pile, Takes, nothing, one, used}
-use Rattle.sap_terms.specs.Signature.{Sig, HoldsBuiltins}
-use Rattle.sap_terms.specs.Trace.{Trace}
-use Rattle.sap_terms.specs.Tree.{Tree, Trees, apply, trees_of, node_count}
+use Rattle.sap_terms.specs.Signature.{Sig}
+use Rattle.sap_terms.specs.Tree.{Tree, apply, trees_of, node_count}
 use Rattle.sap_terms.specs.View.{tree}
 use Rattle.sap_terms.specs.declared.limits.TheConstants.{MOST_TERM_NODES}
 use Rattle.sap_terms.specs.declared.binding.Binding.{Binding}
@@ -25,14 +24,13 @@ use Rattle.sap_rewrite.specs.Laws.{FormIsOne}
 use Rattle.sap_rewrite.specs.Match.{Agrees}
 use Rattle.sap_rule.specs.Messages.{HoldsMessages, TakenAreMessages, RunsReachMessages}
 use Rattle.sap_rule.specs.Named.{rule_named}
-use Rattle.sap_rule.specs.RuleSteps.{RuleState, RuleRun}
+use Rattle.sap_rule.specs.RuleSteps.{RuleState}
 use Rattle.sap_rule.specs.WellMade.{IsWellMade}
 use Rattle.sap_rule.specs.declared.rule.Rule.{Rule}
-use Rattle.sap_runs.specs.declared.rule_step.RStep.{RStep}
-use Rattle.sap_runs.specs.declared.rule_step.RStep.TheVariants.{Fresh, Learn, Own, Public, Apply, Know, Rule as RuleLine}
+use Rattle.sap_runs.specs.declared.rule_step.RStep.TheVariants.{Fresh, Learn, Own, Apply, Know, Rule as RuleLine}
 use Rattle.sap_steps.specs.Answers.{LinesHaveOneAnswer, ReachedHaveOneAnswer}
-use Rattle.sap_steps.specs.Faults.{AreRight, FactFits, FactHolds, IsRuleRefusal, IsRuleFault, IsFirstUnknownEntry, IsLineFault}
-use Rattle.sap_steps.specs.Lines.{IsLine, IsRuleLine, Fires, IsSmall, IsEvaluated}
+use Rattle.sap_steps.specs.Faults.{FactFits, FactHolds, IsRuleRefusal, IsRuleFault}
+use Rattle.sap_steps.specs.Lines.{IsRuleLine, Fires, IsSmall}
 use Rattle.sap_steps.specs.declared.fault.RFault.{RFault}
 use Rattle.sap_steps.specs.declared.fault.RFault.TheVariants.{Mem, NoRule, FactCount, FactMissing, BadBinding, NoMatch, TermLarge, Unequal, UsedName, WrongFact, NoEntry, NotPublic, Arity}
 use Rattle.sap_steps.proofs.Determined.{facts_fit, left_same, terms_same}

@@ -10,7 +10,7 @@ use Rattle.sap_rule.specs.declared.rule.Rule.{Rule}
 use Rattle.sap_runs.specs.declared.rule_step.RStep.{RStep}
 use Rattle.sap_runs.specs.declared.rule_step.RStep.TheVariants.{Fresh, Learn, Own, Public, Apply, Know, Rule as RuleLine}
 use Rattle.sap_terms.specs.Tree.{Tree}
-use Rattle.sap_steps.specs.Lines.{IsLine, AnySize, IsSmall}
+use Rattle.sap_steps.specs.Lines.{IsLine, AnySize}
 use Rattle.sap_steps.specs.Runs.{IsLegalRun, starts as legal_start, further as legal_further, StepsHaveLines, RunsCanBeWritten, SmallLinesAreLines, SmallRunsAreLegal}
 use Rattle.sap_steps.proofs.Named.{Contains-get, get-Contains, rule_named-Contains, Contains-rule_named, numbers_of, Contains-numbers, bindings_of, bound_vars-bindings_of, Agrees-bindings_of}
 

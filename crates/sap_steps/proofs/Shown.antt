@@ -1,6 +1,6 @@
 -- What a step shows are facts of messages.
-use Rattle.std.proofs.Common.{◌≡◌, ℕ, zero, suc, List, [], ◌∷◌, Option, Some, None, slice_get, refl}
-use Rattle.std.specs.Prelude.{All, IfSome, Result, Ok, Err, IfOk}
+use Rattle.std.proofs.Common.{ℕ, suc, List, [], ◌∷◌, Option, Some, None, refl}
+use Rattle.std.specs.Prelude.{All, IfSome}
 use Rattle.std.proofs.lemmas.List.Elements.{All-nil, All-cons, All-head, All-tail, All-weaker}
 use Rattle.sap_terms.specs.Message.{IsMessage, IsMessageFact, AreMessageFacts}
 use Rattle.sap_terms.specs.Piles.{Pile}
@@ -8,11 +8,9 @@ use Rattle.sap_terms.specs.Signature.{Sig, HoldsBuiltins}
 use Rattle.sap_terms.specs.Tree.{Tree}
 use Rattle.sap_terms.specs.declared.fact.Fact.{Fact}
 use Rattle.sap_terms.specs.declared.var.Sort.TheVariants.{Msg}
-use Rattle.sap_facts.specs.Facts.{fact_at}
-use Rattle.sap_rule.specs.Messages.{HoldsMessages, StepsKeepMessages}
+use Rattle.sap_rule.specs.Messages.{StepsKeepMessages}
 use Rattle.sap_rule.specs.RuleSteps.{RuleState}
 use Rattle.sap_rule.specs.WellMade.{IsWellMade}
-use Rattle.sap_rule.specs.declared.rule.Rule.{Rule}
 use Rattle.sap_runs.specs.declared.rule_step.RStep.{RStep}
 use Rattle.sap_steps.specs.Lines.{IsLine, IsSmall}
 use Rattle.sap_steps.specs.Runs.{LinesAreSteps}

@@ -8,10 +8,11 @@ use Rattle.sap_terms.specs.Tree.{Tree, public, fresh}
 use Rattle.sap_terms.specs.declared.fact.Fact.{Fact}
 use Rattle.sap_runs.specs.Inner.{InnerAction, equal, different, found, missing, inserted, deleted, locked, unlocked}
 
--- what a fact with one argument, or with two, says by its name; a lock's label, which comes first, is left out
+-- what a fact with one argument says by its name
 abbrev pub inner_of_one : List ℕ → Tree → Option InnerAction
 inner_of_one n t = if bytes_eq n (codes "IsNotSet") then Some (missing t) else if bytes_eq n (codes "Delete") then Some (deleted t) else None
 
+-- the same with two arguments; a lock's label, which comes first, is left out
 abbrev pub inner_of_two : List ℕ → Tree → Tree → Option InnerAction
 inner_of_two n t u =
     if bytes_eq n (codes "Eq") then Some (equal t u) else if bytes_eq n (codes "NotEq") then Some (different t u) else if bytes_eq n (codes "IsIn") then Some (found t u) else if bytes_eq n (codes "Insert") then Some (inserted t u) else if bytes_eq n (codes "Lock") then Some (locked u) else if bytes_eq n (codes "Unlock") then Some (unlocked u) else None
@@ -28,14 +29,15 @@ inner_of f = of f.args where
 abbrev pub inner_actions : Trace → List InnerAction
 inner_actions full = flat_map (filter_map inner_of) full
 
--- the terms of the example
+-- the key of the example
 abbrev pub k : Tree
 k = public (codes "k")
 
+-- and the value
 abbrev pub v : Tree
 v = public (codes "v")
 
--- a place that shows this one linear fact
+-- a time that shows this one linear fact
 abbrev shows_one : List ℕ → List Tree → List Fact
 shows_one name args = linear name args ∷ []
 

@@ -2,7 +2,6 @@
 use Rattle.std.specs.Prelude.{List, [], ◌∷◌, codes}
 use Rattle.std.specs.List.{filter_map, flat_map}
 use Rattle.sap_terms.specs.Trace.{Trace}
-use Rattle.sap_terms.specs.Tree.{Tree, public}
 use Rattle.sap_terms.specs.AdversaryFacts.{linear}
 use Rattle.sap_formula.specs.Hide.{visible}
 use Rattle.sap_runs.specs.Inner.{equal, different, found, missing, inserted, deleted, locked, unlocked}
@@ -11,7 +10,7 @@ use Rattle.sap_steps.specs.Inner.{inner_of, k, v}
 
 -- the inner actions and the visible facts that aren't K, in one list in the order of the run
 abbrev pub marks : Trace → List Mark
-marks full = flat_map (λ place. marks_of (filter_map inner_of place) (visible place)) full
+marks full = flat_map (λ acts. marks_of (filter_map inner_of acts) (visible acts)) full
 
 -- the marks of the full trace of the example
 abbrev pub marks_by_hand : List Mark

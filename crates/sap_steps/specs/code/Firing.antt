@@ -32,13 +32,15 @@ pub record IsOnlyChoice (F : Choice → Type 0) (vs : List Var) (b c : List Bind
 abbrev pub HasNoChoice : (Choice → Type 0) → List Var → List Binding → Type 0
 HasNoChoice F vs b = HaveOneSort (bound_vars b ++ vs) → (σ : Choice) → IsSorted σ → Agrees b σ → F σ → ⊥
 
--- the choices that turn these arguments into those around destructors; this fact into that; these facts into those
+-- the choices that turn these arguments into those around destructors
 abbrev pub ArgsFit : Sig → List Tree → List Tree → Choice → Type 0
 ArgsFit g ps ts σ = FitAll g σ (trees_of ps) (trees_of ts)
 
+-- this fact into that
 abbrev pub FactFit : Sig → Fact → Fact → Choice → Type 0
 FactFit g f h σ = FactFits g σ f h
 
+-- these facts into those
 abbrev pub FactsFit : Sig → List Fact → List Fact → Choice → Type 0
 FactsFit g fs hs σ = AllZip (FactFits g σ) fs hs
 

@@ -1,4 +1,4 @@
-use Rattle.std.proofs.Common.{ℕ, nat_eq, refl, arith}
+use Rattle.std.proofs.Common.{ℕ, nat_eq, arith}
 use Rattle.indexmap.specs.IndexSet.{contains}
 use Rattle.sap_steps.proofs.Left.{none_taken, missing_at, one_more_taken}
 use Rattle.sap_steps.proofs.taking.first_missing_of.Goals as goal

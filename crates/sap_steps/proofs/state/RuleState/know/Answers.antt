@@ -1,4 +1,4 @@
-use Rattle.std.proofs.Common.{sym, ℕ, ◌≤◌}
+use Rattle.std.proofs.Common.{sym, ◌≤◌}
 use Rattle.std.specs.Prelude.{codes}
 use Rattle.sap_deduce.specs.Entries.{terms_of}
 use Rattle.sap_terms.specs.Message.{IsMessage}
