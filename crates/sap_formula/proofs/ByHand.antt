@@ -1,5 +1,6 @@
 -- The worked examples of truth.
 use Rattle.std.proofs.Common.{◌≡◌, ◌<◌, ◌∙◌, ℕ, zero, suc, sym, [], ◌∷◌, Bool, true, false, refl, ap, subst, inl, inr, lit<, arith}
+use Rattle.std.specs.Str.{bytes_eq}
 use Rattle.std.specs.Prelude.{codes, IsTrue}
 use Rattle.sap_terms.specs.Tree.{Tree, variable}
 use Rattle.sap_terms.specs.Same.{same_tree}
@@ -12,7 +13,7 @@ use Rattle.sap_rewrite.specs.Laws.{FormsDecide}
 use Rattle.sap_terms.specs.Trace.{Trace}
 use Rattle.sap_formula.specs.Truth.{AnyIn, EachIn, Shows, facts_at, IsTrueOn}
 use Rattle.sap_formula.specs.HoldsOf.{AreTrueOn}
-use Rattle.sap_formula.specs.Examples.{a, b, x, fresh_x, public_x, fact, trace_a, trace_aa, trace_ab, IsEither, only_a, some_place, two_places, some_b, two_binders, first_of_pair, first_is, one_place_alone, true_ones, false_ones}
+use Rattle.sap_formula.specs.Examples.{a, b, x, fresh_x, public_x, fact, other_fact, trace_a, trace_aa, trace_ab, IsEither, only_a, some_place, two_places, some_b, two_binders, first_of_pair, first_is, one_place_alone, true_ones, false_ones}
 use Rattle.sap_formula.proofs.Messages.{public_normal, public_message, same_from_equal}
 
 abbrev is_b : Tree → Bool
@@ -63,6 +64,17 @@ up_to_theory g = (0, lit< tt, inl (refl, (next (forward first) same, tt)))
 
 pub persistent : (g : Sig) → IsTrueOn g (some_place a) ((fact true (a ∷ []) ∷ []) ∷ [])
 persistent g = (0, lit< tt, inl (refl, (same, tt)))
+
+never : true ≡ false → ⊥
+never q = cc
+
+pub other_name : (g : Sig) → ¬ IsTrueOn g (some_place a) ((other_fact ∷ []) ∷ [])
+other_name g (zero, l, inl h) = never (ap (λ n. bytes_eq n (codes "A")) h.0)
+other_name g (zero, l, inr h) = absurd h
+other_name g (suc k, l, h) = absurd h
+
+pub any_fact : (g : Sig) → IsTrueOn g (some_place a) ((other_fact ∷ fact false (a ∷ []) ∷ []) ∷ [])
+any_fact g = (0, lit< tt, inr (inl (refl, (same, tt))))
 
 pub all_terms : (g : Sig) → IsTrueOn g (some_b x) []
 all_terms g = (b, public_message g (codes "b"), same)

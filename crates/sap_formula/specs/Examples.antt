@@ -41,6 +41,10 @@ j = codes "j"
 abbrev pub fact : Bool → List Tree → Fact
 fact persistent args = record { name = codes "A"; persistent = persistent; args = args }
 
+-- B('a')
+abbrev pub other_fact : Fact
+other_fact = record { name = codes "B"; persistent = false; args = a ∷ [] }
+
 -- A('a')
 abbrev pub trace_a : Trace
 trace_a = (fact false (a ∷ []) ∷ []) ∷ []

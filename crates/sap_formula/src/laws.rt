@@ -5,7 +5,7 @@ ghost use Rattle.sap_formula.specs.Form.{negation};
 ghost use Rattle.sap_terms.specs.Trace.{Trace};
 ghost use Rattle.sap_formula.specs.Truth.{EachIn, IsTrueOn};
 ghost use Rattle.sap_formula.specs.HoldsOf.{HoldsOf};
-ghost use Rattle.sap_formula.specs.Examples.{a, b, x, fresh_x, public_x, fact, trace_a, trace_aa, trace_ab, IsEither, only_a, some_place, two_places, some_b, two_binders, first_of_pair, first_is, one_place_alone, true_ones, false_ones};
+ghost use Rattle.sap_formula.specs.Examples.{a, b, x, fresh_x, public_x, fact, other_fact, trace_a, trace_aa, trace_ab, IsEither, only_a, some_place, two_places, some_b, two_binders, first_of_pair, first_is, one_place_alone, true_ones, false_ones};
 
 use crate::Mode;
 use sap_rewrite::normal_forms_decide;
@@ -26,6 +26,8 @@ pub fn truth_by_hand()
     ensures another_place { (g : Sig) → ¬ IsTrueOn g one_place_alone trace_aa }
     ensures persistent { (g : Sig) → IsTrueOn g (some_place a) ((fact true (a ∷ []) ∷ []) ∷ []) }
     ensures arity { (g : Sig) → ¬ IsTrueOn g (some_place a) ((fact false (a ∷ b ∷ []) ∷ []) ∷ []) }
+    ensures other_name { (g : Sig) → ¬ IsTrueOn g (some_place a) ((other_fact ∷ []) ∷ []) }
+    ensures any_fact { (g : Sig) → IsTrueOn g (some_place a) ((other_fact ∷ fact false (a ∷ []) ∷ []) ∷ []) }
     ensures all_terms { (g : Sig) → IsTrueOn g (some_b x) [] }
     ensures sorts { (g : Sig) → ¬ IsTrueOn g (some_b fresh_x) [] }
     ensures public_names { (g : Sig) → IsTrueOn g (some_b public_x) [] }

@@ -1,4 +1,4 @@
-use Rattle.sap_formula.proofs.ByHand.{tables_true, tables_false, other_place, equal_up_to_theory, equal_to_no_other, same_place, another_place, up_to_theory, persistent, all_terms, sorts, public_names, innermost}
+use Rattle.sap_formula.proofs.ByHand.{other_name, any_fact, tables_true, tables_false, other_place, equal_up_to_theory, equal_to_no_other, same_place, another_place, up_to_theory, persistent, all_terms, sorts, public_names, innermost}
 use Rattle.sap_formula.proofs.laws.truth_by_hand.Goals as goal
 
 pub returns-clause-other_place : goal.returns-clause-other_place
@@ -39,3 +39,9 @@ returns-clause-another_place c = another_place
 
 pub returns-clause-public_names : goal.returns-clause-public_names
 returns-clause-public_names c = public_names
+
+pub returns-clause-other_name : goal.returns-clause-other_name
+returns-clause-other_name c = other_name
+
+pub returns-clause-any_fact : goal.returns-clause-any_fact
+returns-clause-any_fact c = any_fact
