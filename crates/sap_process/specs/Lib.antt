@@ -17,3 +17,4 @@ pub mod Places
 pub mod Walks
 pub mod Searches
 pub mod SortedHeads
+pub mod Headed

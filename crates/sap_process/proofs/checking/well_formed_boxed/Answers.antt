@@ -1,10 +1,10 @@
 use Rattle.std.proofs.Common.{sym, ◌∙◌}
 use Rattle.sap_process.specs.Proc.{proc}
 use Rattle.sap_process.proofs.Firsts.{first-flaw, well-formed}
-use Rattle.sap_process.proofs.checking.well_formed.Goals as goal
+use Rattle.sap_process.proofs.checking.well_formed_boxed.Goals as goal
 
 pub returns-in-Some-clause-flawed : goal.returns-in-Some-clause-flawed
 returns-in-Some-clause-flawed c = λ w path h. first-flaw c.args.sig.now (proc c.args.p.now) c.in-Some.which w c.in-Some.path path (sym c.in_ok-which.ensures ∙ c.in-Some.is) h
 
-pub returns-in_ok-sorted-in-None-clause-sound : goal.returns-in_ok-sorted-in-None-clause-sound
-returns-in_ok-sorted-in-None-clause-sound c = well-formed c.args.sig.now (proc c.args.p.now) (sym c.in_ok-which.ensures ∙ c.in-None.is)
+pub returns-in_ok-sorted_whole-in-None-clause-sound : goal.returns-in_ok-sorted_whole-in-None-clause-sound
+returns-in_ok-sorted_whole-in-None-clause-sound c = well-formed c.args.sig.now (proc c.args.p.now) (sym c.in_ok-which.ensures ∙ c.in-None.is)
