@@ -12,3 +12,8 @@ pub mod Instances
 pub mod Searching
 pub mod Flawed
 pub mod Firsts
+pub mod Names
+pub mod SortedVars
+pub mod SortedTwice
+pub mod StillWell
+pub mod Agreeing

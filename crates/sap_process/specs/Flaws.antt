@@ -15,7 +15,7 @@ use Rattle.sap_process.specs.declared.flaw.Flaw.{Flaw}
 use Rattle.sap_process.specs.declared.flaw.Flaw.TheVariants.{BadFunction, ReservedVar, ReservedFact, FactClash, PatternDestructor, Unbound, Rebound, SortClash, ScopeFull}
 use Rattle.sap_process.specs.Action.{Action, embedded}
 use Rattle.sap_process.specs.Proc.{Proc, nil, parallel, replicated, act, test, lookup}
-use Rattle.sap_process.specs.Heads.{terms_vars, head_terms, head_vars, binder, patterns, stored_facts, shown_facts, action_used}
+use Rattle.sap_process.specs.Heads.{terms_vars, head_terms, head_vars, binder, bound_as, patterns, stored_facts, shown_facts, action_used}
 use Rattle.sap_process.specs.Sites.{var_names, bound_by, Site, sites}
 
 -- a term at the head applies a symbol that isn't held, or not with its arity
@@ -24,10 +24,10 @@ pub record AppliesBadly (g : Sig) (s : Site) : Type 0 where
   pub stands : Contains (head_terms s.body) term
   pub bad : ¬ IsOver g term
 
--- `new` or `lookup` binds a plain identifier that is a constant
+-- `new` or `lookup` binds a plain identifier that is a constant; `lookup` always binds a plain one
 pub record BindsConstant (g : Sig) (s : Site) : Type 0 where
   pub var : Var
-  pub stands : binder s.body ≡ Some var
+  pub stands : bound_as s.body ≡ Some var
   pub plain : var.sort ≡ Msg
   pub constant : arity_of g var.name ≡ Some 0
 

@@ -18,3 +18,4 @@ pub mod Walks
 pub mod Searches
 pub mod SortedHeads
 pub mod Headed
+pub mod Ready

@@ -1,6 +1,7 @@
 ghost use Rattle.std.specs.Prelude.{◌≡◌, ℕ, List, [], IfOk, IsErrOf};
 ghost use Rattle.sap_process.specs.Proc.{proc};
 ghost use Rattle.sap_process.specs.Flaws.{IsWellFormed, IsFirstFlaw};
+ghost use Rattle.sap_process.specs.Ready.{IsReady};
 ghost use Rattle.sap_process.specs.Sites.{sites};
 ghost use Rattle.sap_process.specs.Sorted.{with_sorts};
 ghost use Rattle.sap_process.specs.Walks.{first_flaw};
@@ -25,6 +26,7 @@ use std::alloc::Global;
 pub fn well_formed(alloc: Global, sig: &Signature, p: &Process) -> Result<Process, Ill>
     ensures sorted { IfOk result (λ q. proc q ≡ with_sorts [] (proc p.now)) }
     ensures sound { IfOk result (λ q. IsWellFormed sig.now (proc p.now)) }
+    ensures well { IfOk result (λ q. IsReady sig.now (proc q)) }
     ensures flawed { (which : Flaw) (path : List ℕ) → IsErrOf result (At which path) → IsFirstFlaw sig.now (proc p.now) which path }
 {
     Ok(Box::into_inner(well_formed_boxed(alloc, sig, p)?))
@@ -34,6 +36,7 @@ pub fn well_formed(alloc: Global, sig: &Signature, p: &Process) -> Result<Proces
 pub fn well_formed_boxed(alloc: Global, sig: &Signature, p: &Process) -> Result<Box<Process>, Ill>
     ensures sorted { IfOk result (λ q. proc q.value ≡ with_sorts [] (proc p.now)) }
     ensures sound { IfOk result (λ q. IsWellFormed sig.now (proc p.now)) }
+    ensures well { IfOk result (λ q. IsReady sig.now (proc q.value)) }
     ensures flawed { (which : Flaw) (path : List ℕ) → IsErrOf result (At which path) → IsFirstFlaw sig.now (proc p.now) which path }
 {
     let flaws = [

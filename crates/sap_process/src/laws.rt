@@ -1,17 +1,22 @@
 // Laws of the definitions, as contracts of functions that do nothing.
-ghost use Rattle.std.specs.Prelude.{◌≡◌, ◌⊎◌, ℕ, List, [], ◌∷◌, Some, None};
+ghost use Rattle.std.specs.Prelude.{◌≡◌, ◌⊎◌, ℕ, List, [], ◌∷◌, Some, None, Contains, map};
 ghost use Rattle.sap_terms.specs.AdversaryFacts.{k_fact};
 ghost use Rattle.sap_terms.specs.Choice.{Choice, instance};
 ghost use Rattle.sap_terms.specs.Ground.{IsGround};
 ghost use Rattle.sap_terms.specs.Signature.{Sig, pairs_alone};
+ghost use Rattle.sap_terms.specs.Subst.{bound_to};
 ghost use Rattle.sap_terms.specs.Tree.{variable, fresh};
+ghost use Rattle.sap_terms.specs.View.{tree};
+ghost use Rattle.sap_terms.specs.declared.binding.Binding.{Binding};
 ghost use Rattle.sap_terms.specs.declared.var.Var.{Var};
 ghost use Rattle.sap_process.specs.Action.{new, out, send, input, receive, insert, delete, lock, unlock, embedded};
-ghost use Rattle.sap_process.specs.Instance.{process_instance};
+ghost use Rattle.sap_process.specs.Instance.{process_instance, process_vars};
 ghost use Rattle.sap_process.specs.Flaws.{IsFirstFlaw, IsWellFormed};
 ghost use Rattle.sap_process.specs.declared.flaw.Flaw.{Flaw};
 ghost use Rattle.sap_process.specs.Proc.{Proc, nil, parallel, replicated, act, test, lookup};
-ghost use Rattle.sap_process.specs.ProcessSteps.{ProcessStep, IsProcessTrace};
+ghost use Rattle.sap_process.specs.ProcessSteps.{ProcessStep, IsProcessTrace, with_choice};
+ghost use Rattle.sap_process.specs.Ready.{IsReady};
+ghost use Rattle.sap_process.specs.Sorted.{with_sorts};
 ghost use Rattle.sap_process.specs.StepExamples.{a, b, c, x, var_x, pair, first_of_pair, shown_fact, left_fact, right_fact, showing, running, alone, only, just, input_shown};
 
 /// A law: a small step of each kind, from one configuration to the next. Where `fst(<'a','b'>)` is written, 'a' is sent, shown,
@@ -65,13 +70,26 @@ pub fn traces_by_hand()
 {}
 
 /// A law: the instance of a process under the choice that leaves each variable as it is, is the process; two choices that
-/// agree on each variable give one instance; and an instance of an instance is one instance, where the first choice has a
+/// agree on each variable that occurs in it give one instance; and an instance of an instance is one instance, where the first choice has a
 /// ground term for each variable that it doesn't leave as it is, so that the process binds nothing of what is put in.
 pub fn instances_of_processes()
     ensures unchanged { (p : Proc) → process_instance (λ v. variable v) p ≡ p }
-    ensures agreeing { (s t : Choice) → ((v : Var) → s v ≡ t v) → (p : Proc) → process_instance s p ≡ process_instance t p }
+    ensures agreeing { (p : Proc) (s t : Choice) → ((v : Var) → Contains (process_vars p) v → s v ≡ t v)
+        → process_instance s p ≡ process_instance t p }
     ensures twice { (p : Proc) (s t : Choice) → ((v : Var) → IsGround (s v) ⊎ (s v ≡ variable v))
         → process_instance t (process_instance s p) ≡ process_instance (λ v. instance t (s v)) p }
+{}
+
+/// A law: what a step puts into a process is the instance under bindings of the variables to what the choice says of them.
+pub fn choices_are_bindings()
+    ensures { (s : Choice) (b : List Binding) → ((e : Binding) → Contains b e → tree e.term ≡ s e.var) → (p : Proc)
+        → with_choice s (map (λ (e : Binding). e.var) b) p ≡ process_instance (bound_to b) p }
+{}
+
+/// A law: sorting a sorted process changes nothing, and a well-formed process is well-formed with its sorts too.
+pub fn sorting_keeps()
+    ensures once { (p : Proc) → with_sorts [] (with_sorts [] p) ≡ with_sorts [] p }
+    ensures well { (g : Sig) (p : Proc) → IsWellFormed g p → IsReady g (with_sorts [] p) }
 {}
 
 /// A law: of a process that isn't well-formed one flaw counts, at one place.
