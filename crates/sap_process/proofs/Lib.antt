@@ -17,3 +17,8 @@ pub mod SortedVars
 pub mod SortedTwice
 pub mod StillWell
 pub mod Agreeing
+pub mod Envs
+pub mod GroundParts
+pub mod OverParts
+pub mod GroundRuns
+pub mod PlacesListed

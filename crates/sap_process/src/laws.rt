@@ -1,23 +1,31 @@
 // Laws of the definitions, as contracts of functions that do nothing.
-ghost use Rattle.std.specs.Prelude.{◌≡◌, ◌⊎◌, ℕ, List, [], ◌∷◌, Some, None, Contains, map};
+ghost use Rattle.std.specs.Prelude.{◌≡◌, ◌⊎◌, ℕ, List, [], ◌∷◌, Some, None, Contains, map, slice_get, ◌<◌};
 ghost use Rattle.sap_terms.specs.AdversaryFacts.{k_fact};
 ghost use Rattle.sap_terms.specs.Choice.{Choice, instance};
 ghost use Rattle.sap_terms.specs.Ground.{IsGround};
-ghost use Rattle.sap_terms.specs.Signature.{Sig, pairs_alone};
+ghost use Rattle.sap_terms.specs.Signature.{Sig, HoldsBuiltins, pairs_alone};
 ghost use Rattle.sap_terms.specs.Subst.{bound_to};
+ghost use Rattle.sap_terms.specs.Trace.{Trace};
 ghost use Rattle.sap_terms.specs.Tree.{variable, fresh};
 ghost use Rattle.sap_terms.specs.View.{tree};
 ghost use Rattle.sap_terms.specs.declared.binding.Binding.{Binding};
+ghost use Rattle.sap_terms.specs.declared.fact.Fact.{Fact};
 ghost use Rattle.sap_terms.specs.declared.var.Var.{Var};
 ghost use Rattle.sap_process.specs.Action.{new, out, send, input, receive, insert, delete, lock, unlock, embedded};
+ghost use Rattle.sap_process.specs.Configuration.{Config, initial};
+ghost use Rattle.sap_process.specs.GroundProcess.{IsGroundProcess, IsGroundConfig, HoldsMessages};
 ghost use Rattle.sap_process.specs.Instance.{process_instance, process_vars};
 ghost use Rattle.sap_process.specs.Flaws.{IsFirstFlaw, IsWellFormed};
 ghost use Rattle.sap_process.specs.declared.flaw.Flaw.{Flaw};
 ghost use Rattle.sap_process.specs.Proc.{Proc, nil, parallel, replicated, act, test, lookup};
-ghost use Rattle.sap_process.specs.ProcessSteps.{ProcessStep, IsProcessTrace, with_choice};
+ghost use Rattle.sap_process.specs.ProcessSteps.{ProcessStep, ProcessRun, IsProcessTrace, with_choice};
+ghost use Rattle.sap_process.specs.PlaceAt.{Stand, stand, place_at, IsBefore};
 ghost use Rattle.sap_process.specs.Ready.{IsReady};
+ghost use Rattle.sap_process.specs.Sites.{Site, sites};
 ghost use Rattle.sap_process.specs.Sorted.{with_sorts};
 ghost use Rattle.sap_process.specs.StepExamples.{a, b, c, x, var_x, pair, first_of_pair, shown_fact, left_fact, right_fact, showing, running, alone, only, just, input_shown};
+
+use sap_rewrite::{forms_are_messages, normal_forms_are_unique};
 
 /// A law: a small step of each kind, from one configuration to the next. Where `fst(<'a','b'>)` is written, 'a' is sent, shown,
 /// looked up, held or the key of the store; what an input or an embedded rule binds is put into the process that goes on; a new
@@ -85,6 +93,30 @@ pub fn choices_are_bindings()
     ensures { (s : Choice) (b : List Binding) → ((e : Binding) → Contains b e → tree e.term ≡ s e.var) → (p : Proc)
         → with_choice s (map (λ (e : Binding). e.var) b) p ≡ process_instance (bound_to b) p }
 {}
+
+/// A law: the list of places has each place that a path leads to, with its path, what is in scope and the locks above it, and
+/// nothing else, in preorder; so it has each place once.
+pub fn sites_are_the_places()
+    ensures at_path { (p : Proc) (s : Site) → Contains (sites p) s → place_at p s.path ≡ Some (stand s.scope s.locks s.body) }
+    ensures listed { (p : Proc) (path : List ℕ) (b : Stand) → place_at p path ≡ Some b
+        → Contains (sites p) (record { path = path; scope = b.scope; locks = b.locks; body = b.body }) }
+    ensures in_order { (p : Proc) (i j : ℕ) (s t : Site) → i < j → slice_get (sites p) i ≡ Some s → slice_get (sites p) j ≡ Some t
+        → IsBefore s.path t.path }
+{}
+
+/// A law: a well-formed process is ground. In each configuration that a run of it leads to, over a signature that holds its
+/// builtins' symbols, each running process is ground, and what was sent, what the store has and the facts hold messages;
+/// what a further step shows holds messages too.
+pub fn runs_stay_ground()
+    ensures ground { (g : Sig) (p : Proc) → IsWellFormed g p → IsGroundProcess p }
+    ensures runs { (g : Sig) (p : Proc) (c : Config) (tr : Trace) → HoldsBuiltins g → IsWellFormed g p → ProcessRun g (initial p) c tr
+        → IsGroundConfig g c }
+    ensures labels { (g : Sig) (p : Proc) (c d : Config) (tr : Trace) (label : List Fact) → HoldsBuiltins g → IsWellFormed g p
+        → ProcessRun g (initial p) c tr → ProcessStep g c label d → (f : Fact) → Contains label f → HoldsMessages g f }
+{
+    forms_are_messages();
+    normal_forms_are_unique();
+}
 
 /// A law: sorting a sorted process changes nothing, and a well-formed process is well-formed with its sorts too.
 pub fn sorting_keeps()
