@@ -1,5 +1,5 @@
 -- What stands for the variables in scope, and the variables of instances by it.
-use Rattle.std.proofs.Common.{◌≡◌, ℕ, List, [], ◌∷◌, ◌++◌, Bool, true, false, not, ◌||◌, ◌&&◌, cond, map, filter, Option, Some, None, refl, sym, ap, subst, ◌∙◌}
+use Rattle.std.proofs.Common.{◌≡◌, ℕ, List, [], ◌∷◌, ◌++◌, Bool, true, false, not, ◌||◌, ◌&&◌, cond, filter, Option, Some, None, refl, sym, ap, subst, ◌∙◌}
 use Rattle.std.specs.Option.{option_map_or}
 use Rattle.std.specs.Str.{bytes_eq}
 use Rattle.sap_terms.specs.Choice.{Choice, instance, instances}
@@ -39,7 +39,7 @@ by_name_is σ (y ∷ vs) v = go (bytes_eq y.name v.name) (by_name_is σ vs v)
   where
     go : (c : Bool) → chosen σ vs v ≡ put (by_name σ vs) v
         → option_map_or σ (cond c (Some y) (binder_of vs v.name)) (variable v)
-          ≡ cond (c || is_known (var_names vs) v.name) (option_map_or σ (cond c (Some y) (binder_of vs v.name)) (public [])) (variable v)
+        ≡ cond (c || is_known (var_names vs) v.name) (option_map_or σ (cond c (Some y) (binder_of vs v.name)) (public [])) (variable v)
     go true h = refl
     go false h = h
 

@@ -13,13 +13,13 @@ use Rattle.sap_terms.specs.Equal.{IsTheoryEqual}
 use Rattle.sap_terms.specs.Equations.{equations}
 use Rattle.sap_terms.specs.Ground.{IsGround, AreGround}
 use Rattle.sap_terms.specs.Message.{IsMessage, IsMessageChoice, IsOver, AreOver}
-use Rattle.sap_terms.specs.Modulo.{instance_fact, instance_facts, AreFormsOfFacts}
+use Rattle.sap_terms.specs.Modulo.{instance_facts, AreFormsOfFacts}
 use Rattle.sap_terms.specs.Normal.{IsNormalForm}
 use Rattle.sap_terms.specs.Piles.{Pile, Takes, used, adds}
 use Rattle.sap_terms.specs.Same.{same_tree}
-use Rattle.sap_terms.specs.Signature.{Sig, HoldsBuiltins, arity_of}
+use Rattle.sap_terms.specs.Signature.{Sig, HoldsBuiltins}
 use Rattle.sap_terms.specs.Trace.{Trace}
-use Rattle.sap_terms.specs.Tree.{Tree, variable, public, fresh, apply, Trees, none, more, trees_of, list_of, list_of-trees_of}
+use Rattle.sap_terms.specs.Tree.{Tree, variable, public, fresh, apply, Trees, none, more, trees_of, list_of-trees_of}
 use Rattle.sap_terms.specs.Variables.{tree_vars, trees_vars, facts_vars, is_known, new_vars}
 use Rattle.sap_terms.specs.declared.fact.Fact.{Fact}
 use Rattle.sap_terms.specs.declared.var.Sort.TheVariants.{Msg}
@@ -34,7 +34,7 @@ use Rattle.sap_process.specs.Heads.{facts_terms, terms_vars}
 use Rattle.sap_process.specs.Proc as whole
 use Rattle.sap_process.specs.Proc.{Proc, act}
 use Rattle.sap_process.specs.ProcessSteps.{ProcessStep, ProcessRun, chosen, with_choice, with_term}
-use Rattle.sap_process.specs.Sites.{Site, sites, var_names, fresh_var, message_var}
+use Rattle.sap_process.specs.Sites.{sites, var_names, fresh_var, message_var}
 use Rattle.sap_process.specs.declared.flaw.Flaw.TheVariants.{Unbound}
 use Rattle.sap_process.proofs.InstanceLemmas.{one_instance}
 use Rattle.sap_process.proofs.Members.{member-none, member-cases, member-head, member-tail}

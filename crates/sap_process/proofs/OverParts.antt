@@ -1,15 +1,13 @@
 -- Instances of processes over a signature are over it.
-use Rattle.std.proofs.Common.{◌≡◌, ℕ, suc, List, [], ◌∷◌, ◌++◌, Bool, true, false, Some, cond, map, length, slice_get, refl, sym, ap, subst, ◌∙◌, inl, inr}
+use Rattle.std.proofs.Common.{◌≡◌, ℕ, suc, List, [], ◌∷◌, ◌++◌, Bool, true, false, Some, cond, map, slice_get, refl, sym, ap, subst, ◌∙◌, inl, inr}
 use Rattle.std.specs.Prelude.{Contains}
 use Rattle.std.specs.Str.{bytes_eq}
 use Rattle.std.proofs.lemmas.Bool.{cases_Bool}
 use Rattle.std.proofs.lemmas.List.Elements.{Contains-append_left, Contains-append_right}
 use Rattle.sap_terms.specs.Choice.{Choice, instance, instances}
 use Rattle.sap_terms.specs.Message.{IsOver, AreOver}
-use Rattle.sap_terms.specs.Modulo.{instance_fact, instance_facts}
-use Rattle.sap_terms.specs.Signature.{Sig, arity_of}
-use Rattle.sap_terms.specs.Tree.{Tree, variable, public, fresh, apply, Trees, none, more, list_of}
-use Rattle.sap_terms.specs.declared.fact.Fact.{Fact}
+use Rattle.sap_terms.specs.Signature.{Sig}
+use Rattle.sap_terms.specs.Tree.{Tree, variable, public, fresh, apply, Trees, none, more}
 use Rattle.sap_terms.specs.declared.var.Var.{Var}
 use Rattle.sap_process.specs.Action as action
 use Rattle.sap_process.specs.Action.{Action}
@@ -24,7 +22,7 @@ use Rattle.sap_process.specs.Tests.{is_over}
 use Rattle.sap_process.specs.declared.flaw.Flaw.TheVariants.{BadFunction}
 use Rattle.sap_process.proofs.Flawed.{over-sound, over-complete}
 use Rattle.sap_process.proofs.Members.{member-head, member-tail, member-none, member-cases}
-use Rattle.sap_process.proofs.SortedVars.{map_joined, list_length}
+use Rattle.sap_process.proofs.SortedVars.{list_length}
 use Rattle.sap_process.proofs.StillWell.{terms_instance, sides_instance}
 
 -- what stands for each variable is over the signature

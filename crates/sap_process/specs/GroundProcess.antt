@@ -1,5 +1,5 @@
 -- Ground processes, and configurations of ground processes and messages.
-use Rattle.std.specs.Prelude.{◌≡◌, ℕ, List, [], Some, Contains}
+use Rattle.std.specs.Prelude.{◌≡◌, ℕ, [], Some, Contains}
 use Rattle.sap_terms.specs.Message.{IsMessage}
 use Rattle.sap_terms.specs.Signature.{Sig}
 use Rattle.sap_terms.specs.Tree.{Tree}

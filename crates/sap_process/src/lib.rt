@@ -19,6 +19,9 @@ mod walk;
 
 pub use checking::{well_formed, well_formed_boxed};
 pub use flaw::{Flaw, Ill};
-pub use laws::{choices_are_bindings, instances_of_processes, one_flaw, runs_stay_ground, sites_are_the_places, sorting_keeps, steps_by_hand, traces_by_hand};
+pub use laws::{
+    choices_are_bindings, instances_of_processes, one_flaw, runs_stay_ground, sites_are_the_places,
+    sorting_keeps, steps_by_hand, traces_by_hand,
+};
 pub use process::Process;
 pub use substituting::substitute;

@@ -1,4 +1,4 @@
-use Rattle.std.proofs.Common.{◌≡◌, [], ap, ◌∙◌, subst, IfOk}
+use Rattle.std.proofs.Common.{◌≡◌, ap, ◌∙◌, subst, IfOk}
 use Rattle.sap_terms.specs.Subst.{bound_to}
 use Rattle.sap_process.specs.Instance.{process_instance}
 use Rattle.sap_process.specs.Proc.{proc}

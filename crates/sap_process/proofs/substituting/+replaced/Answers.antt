@@ -24,6 +24,6 @@ replaced-returns-in-Rep t c =
     let σ = bound_to c.args.b.now in
     let r = process_instance σ (proc c.in-Rep.q.value) in
     let whole : headed σ (proc c.args.p.now) r ≡ process_instance σ (proc c.args.p.now) =
-        elim c.in-Rep.is [ inl e ↦ leaf σ r _ _ e refl | inr x1 ↦ elim x1 [ inl e ↦ leaf σ r _ _ e.1 refl | inr x2 ↦ elim x2 [ inl e ↦ leaf σ r _ _ e.2 refl | inr x3 ↦ elim x3 [ inl e ↦ leaf σ r _ _ e.1 refl | inr x4 ↦ elim x4 [ inl e ↦ leaf σ r _ _ e.2 refl | inr x5 ↦ elim x5 [ inl e ↦ leaf σ r _ _ e.1 refl | inr x6 ↦ elim x6 [ inl e ↦ leaf σ r _ _ e.2 refl | inr x7 ↦ elim x7 [ inl e ↦ leaf σ r _ _ e.1 refl | inr x8 ↦ elim x8 [ inl e ↦ leaf σ r _ _ e.2 refl | inr x9 ↦ elim x9 [ inl e ↦ leaf σ r _ _ e.2 refl | inr e ↦ leaf σ r _ _ e.3 refl ] ] ] ] ] ] ] ] ] ]
+    elim c.in-Rep.is [ inl e ↦ leaf σ r _ _ e refl | inr x1 ↦ elim x1 [ inl e ↦ leaf σ r _ _ e.1 refl | inr x2 ↦ elim x2 [ inl e ↦ leaf σ r _ _ e.2 refl | inr x3 ↦ elim x3 [ inl e ↦ leaf σ r _ _ e.1 refl | inr x4 ↦ elim x4 [ inl e ↦ leaf σ r _ _ e.2 refl | inr x5 ↦ elim x5 [ inl e ↦ leaf σ r _ _ e.1 refl | inr x6 ↦ elim x6 [ inl e ↦ leaf σ r _ _ e.2 refl | inr x7 ↦ elim x7 [ inl e ↦ leaf σ r _ _ e.1 refl | inr x8 ↦ elim x8 [ inl e ↦ leaf σ r _ _ e.2 refl | inr x9 ↦ elim x9 [ inl e ↦ leaf σ r _ _ e.2 refl | inr e ↦ leaf σ r _ _ e.3 refl ] ] ] ] ] ] ] ] ] ]
     in
     subst (λ z. IfOk c.replaced_over.result (λ q. proc q.value ≡ z)) whole (rw c.deref-in-Rep.ensures at c.replaced_over.ensures)
