@@ -22,3 +22,5 @@ pub mod GroundParts
 pub mod OverParts
 pub mod GroundRuns
 pub mod PlacesListed
+pub mod OneThread
+pub mod NoSteps

@@ -6,7 +6,7 @@ ghost use Rattle.sap_terms.specs.Ground.{IsGround};
 ghost use Rattle.sap_terms.specs.Signature.{Sig, HoldsBuiltins, pairs_alone};
 ghost use Rattle.sap_terms.specs.Subst.{bound_to};
 ghost use Rattle.sap_terms.specs.Trace.{Trace};
-ghost use Rattle.sap_terms.specs.Tree.{variable, fresh};
+ghost use Rattle.sap_terms.specs.Tree.{Tree, variable, fresh};
 ghost use Rattle.sap_terms.specs.View.{tree};
 ghost use Rattle.sap_terms.specs.declared.binding.Binding.{Binding};
 ghost use Rattle.sap_terms.specs.declared.fact.Fact.{Fact};
@@ -15,7 +15,7 @@ ghost use Rattle.sap_process.specs.Action.{new, out, send, input, receive, inser
 ghost use Rattle.sap_process.specs.Configuration.{Config, initial};
 ghost use Rattle.sap_process.specs.GroundProcess.{IsGroundProcess, IsGroundConfig, HoldsMessages};
 ghost use Rattle.sap_process.specs.Instance.{process_instance, process_vars};
-ghost use Rattle.sap_process.specs.Flaws.{IsFirstFlaw, IsWellFormed};
+ghost use Rattle.sap_process.specs.Flaws.{IsFirstFlaw, IsFirstFlawIn, IsWellFormed, IsWellFormedIn};
 ghost use Rattle.sap_process.specs.declared.flaw.Flaw.{Flaw};
 ghost use Rattle.sap_process.specs.Proc.{Proc, nil, parallel, replicated, act, test, lookup};
 ghost use Rattle.sap_process.specs.ProcessSteps.{ProcessStep, ProcessRun, IsProcessTrace, with_choice};
@@ -23,7 +23,7 @@ ghost use Rattle.sap_process.specs.PlaceAt.{Stand, stand, place_at, IsBefore};
 ghost use Rattle.sap_process.specs.Ready.{IsReady};
 ghost use Rattle.sap_process.specs.Sites.{Site, sites};
 ghost use Rattle.sap_process.specs.Sorted.{with_sorts};
-ghost use Rattle.sap_process.specs.StepExamples.{a, b, c, x, var_x, pair, first_of_pair, shown_fact, left_fact, right_fact, showing, running, alone, only, just, input_shown};
+ghost use Rattle.sap_process.specs.StepExamples.{a, b, c, x, var_x, pair, first_of_pair, shown_fact, left_fact, right_fact, showing, running, alone, only, just, input_shown, fresh_x, public_x, adding_public, taking_twice};
 
 use sap_rewrite::{forms_are_messages, normal_forms_are_unique};
 
@@ -71,6 +71,40 @@ pub fn steps_by_hand()
     ensures knows { (g : Sig) → ProcessStep g (record (alone nil) { made = 4 ∷ []; frame = fresh 4 ∷ [] }) (k_fact (fresh 4) ∷ [])
         (record (alone nil) { made = 4 ∷ []; frame = fresh 4 ∷ [] }) }
 {}
+
+/// A law: steps that are not there. No lock takes a held term; where the store has a value a lookup doesn't miss, and where it
+/// has none it finds nothing; `new` and the adversary make no name that is there; one linear fact isn't taken twice; no
+/// message goes over two channels that differ; an input takes no name that was never sent; `~x` takes no public name; and `$x` on a rule's
+/// right side takes no fresh name. And 0 shows no event.
+pub fn no_steps_by_hand()
+    ensures locks { (g : Sig) (d : Config) (label : List Fact)
+        → ProcessStep g (record (alone (act (lock a 0) (showing b))) { held = just a }) label d
+        → d.threads ≡ Some (act (lock a 0) (showing b)) ∷ [] }
+    ensures misses { (g : Sig) (d : Config) (label : List Fact)
+        → ProcessStep g (record (alone (lookup a x (showing var_x) (showing a))) { store = only a b }) label d
+        → ¬ (d.threads ≡ Some (showing a) ∷ []) }
+    ensures finds { (g : Sig) (d : Config) (label : List Fact) (v : Tree)
+        → ProcessStep g (alone (lookup a x (showing var_x) nil)) label d → ¬ (d.threads ≡ Some (showing v) ∷ []) }
+    ensures makes_name { (g : Sig) (d : Config) (label : List Fact) (n : ℕ)
+        → ProcessStep g (record (alone (act (new x) (showing var_x))) { made = 4 ∷ []; own = 3 ∷ [] }) label d
+        → d.threads ≡ Some (showing (fresh n)) ∷ [] → (¬ (n ≡ 4)) × (¬ (n ≡ 3)) }
+    ensures embeds { (g : Sig) (d : Config) (label : List Fact)
+        → ProcessStep g (record (alone taking_twice) { facts = Some (left_fact a) ∷ [] }) label d
+        → d.threads ≡ Some taking_twice ∷ [] }
+    ensures meets { (g : Sig) (d : Config) (label : List Fact)
+        → ProcessStep g (running (Some (act (send (fresh 4) a) (showing b)) ∷ Some (act (receive (fresh 5) var_x) (showing var_x)) ∷ []))
+        label d → ¬ (d.threads ≡ Some (showing b) ∷ Some (showing a) ∷ []) }
+    ensures inputs { (g : Sig) (d : Config) (label : List Fact)
+        → ProcessStep g (record (alone input_shown) { made = 4 ∷ [] }) label d → ¬ (d.threads ≡ Some (showing (fresh 4)) ∷ []) }
+    ensures inputs_fresh { (g : Sig) (d : Config) (label : List Fact)
+        → ProcessStep g (alone (act (input (variable fresh_x)) (showing (variable fresh_x)))) label d
+        → ¬ (d.threads ≡ Some (showing a) ∷ []) }
+    ensures embeds_public { (g : Sig) (d : Config) (label : List Fact) (n : ℕ)
+        → ProcessStep g (alone adding_public) label d → ¬ (d.threads ≡ Some (showing (fresh n)) ∷ []) }
+    ensures traces { (g : Sig) → ¬ IsProcessTrace g nil ((shown_fact a ∷ []) ∷ []) }
+{
+    normal_forms_are_unique();
+}
 
 /// A law: the process `in(x); event A(x)` has the trace `K('a')`, `A('a')`.
 pub fn traces_by_hand()
@@ -124,9 +158,13 @@ pub fn sorting_keeps()
     ensures well { (g : Sig) (p : Proc) → IsWellFormed g p → IsReady g (with_sorts [] p) }
 {}
 
-/// A law: of a process that isn't well-formed one flaw counts, at one place.
+/// A law: of a process that isn't well-formed one flaw counts, at one place; so it is whatever is in scope at its root.
 pub fn one_flaw()
     ensures flaw { (g : Sig) (p : Proc) (w v : Flaw) (path other : List ℕ) → IsFirstFlaw g p w path → IsFirstFlaw g p v other
         → (w ≡ v) × (path ≡ other) }
     ensures none { (g : Sig) (p : Proc) (w : Flaw) (path : List ℕ) → IsFirstFlaw g p w path → IsWellFormed g p → ⊥ }
+    ensures flaw_in { (g : Sig) (scope : List Var) (p : Proc) (w v : Flaw) (path other : List ℕ) → IsFirstFlawIn g scope p w path
+        → IsFirstFlawIn g scope p v other → (w ≡ v) × (path ≡ other) }
+    ensures none_in { (g : Sig) (scope : List Var) (p : Proc) (w : Flaw) (path : List ℕ) → IsFirstFlawIn g scope p w path
+        → IsWellFormedIn g scope p → ⊥ }
 {}
