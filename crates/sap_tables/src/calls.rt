@@ -108,14 +108,43 @@ fn show_rules(text: &mut Text, status: u8, out: &MemSink, err: &MemSink) -> Show
     }
 }
 
-fn show_call(alloc: Global, text: &mut Text, shelf: &mut MemShelf, row: &str) -> Option<()> {
-    let words = words_of(alloc, part(row, 0)).ok()?;
-    let mut out = sink(alloc);
-    add_failures(&mut out, part(row, 3))?;
+// Calls the program, and shows of it what the kind asks for.
+fn call(
+    alloc: Global,
+    kind: &str,
+    words: &str,
+    text: &mut Text,
+    shelf: &mut MemShelf,
+    out: &mut MemSink,
+    err: &mut MemSink,
+) -> Option<()> {
+    let words = words_of(alloc, words).ok()?;
+    let status = sapic(alloc, &words, shelf, out, err);
+    let shown = match kind {
+        "counts" => show_counts(text, status, shelf.calls, out, err),
+        "refusal" => show_refusal(text, status, out, err),
+        "rules" => show_rules(text, status, out, err),
+        _ => show_end(text, status, out, err),
+    };
+    shown.ok()
+}
+
+fn call_with_err(
+    alloc: Global,
+    text: &mut Text,
+    shelf: &mut MemShelf,
+    out: &mut MemSink,
+    row: &str,
+) -> Option<()> {
     let mut err = sink(alloc);
     add_failures(&mut err, part(row, 4))?;
-    let status = sapic(alloc, &words, shelf, &mut out, &mut err);
-    show_counts(text, status, shelf.calls, &out, &err).ok()
+    call(alloc, "counts", part(row, 0), text, shelf, out, &mut err)
+}
+
+fn call_with_out(alloc: Global, text: &mut Text, shelf: &mut MemShelf, row: &str) -> Option<()> {
+    let mut out = sink(alloc);
+    add_failures(&mut out, part(row, 3))?;
+    call_with_err(alloc, text, shelf, &mut out, row)
 }
 
 /// The words; the bytes of a.spthy; the number of the call at which the shelf fails, or 0; the failures of out and those of err;
@@ -124,42 +153,37 @@ pub fn calls_row(alloc: Global, text: &mut Text, row: &str) -> Option<()> {
     let failing = number(part(row, 2))?;
     let bytes = written(alloc, part(row, 1))?;
     let mut shelf = shelf(alloc, bytes.as_bytes(), failing).ok()?;
-    show_call(alloc, text, &mut shelf, row)
+    call_with_out(alloc, text, &mut shelf, row)
 }
 
-fn shelf_of_file(alloc: Global, text: &str) -> Option<MemShelf> {
+fn shelf_of_file(alloc: Global, file: &str) -> Option<MemShelf> {
     let mut bytes = Text::new(alloc);
-    push_file(&mut bytes, text).ok()?;
+    push_file(&mut bytes, file).ok()?;
     shelf(alloc, bytes.as_bytes(), 0).ok()
 }
 
-fn compile(
-    alloc: Global,
-    shelf: &mut MemShelf,
-    out: &mut MemSink,
-    err: &mut MemSink,
-) -> Option<u8> {
-    let words = words_of(alloc, "compile a.spthy").ok()?;
-    Some(sapic(alloc, &words, shelf, out, err))
+fn compile(alloc: Global, kind: &str, text: &mut Text, shelf: &mut MemShelf) -> Option<()> {
+    let mut out = sink(alloc);
+    let mut err = sink(alloc);
+    call(
+        alloc,
+        kind,
+        "compile a.spthy",
+        text,
+        shelf,
+        &mut out,
+        &mut err,
+    )
 }
 
 /// A file, and the cause that refuses it, or `compiled`.
 pub fn refusals_row(alloc: Global, text: &mut Text, row: &str) -> Option<()> {
     let mut shelf = shelf_of_file(alloc, part(row, 0))?;
-    let mut out = sink(alloc);
-    let mut err = sink(alloc);
-    let status = compile(alloc, &mut shelf, &mut out, &mut err)?;
-    show_refusal(text, status, &out, &err).ok()
+    compile(alloc, "refusal", text, &mut shelf)
 }
 
 /// `rules`, a file of the theory T, and its rules behind the first; `theory`, a file, the status, and the text of its theory.
 pub fn generated_row(alloc: Global, text: &mut Text, row: &str) -> Option<()> {
     let mut shelf = shelf_of_file(alloc, part(row, 1))?;
-    let mut out = sink(alloc);
-    let mut err = sink(alloc);
-    let status = compile(alloc, &mut shelf, &mut out, &mut err)?;
-    if part(row, 0) == "rules" {
-        return show_rules(text, status, &out, &err).ok();
-    }
-    show_end(text, status, &out, &err).ok()
+    compile(alloc, part(row, 0), text, &mut shelf)
 }

@@ -9,12 +9,16 @@ use sap_terms::{
 use sap_text::{Text, Token, tokens};
 use std::alloc::Global;
 
-/// The part of a row with this number, from 0, without blanks around it; empty where there are fewer parts.
-pub fn part(row: &str, k: usize) -> &str {
-    match row.split('%').nth(k) {
-        Some(text) => text.trim(),
+fn nth(text: &str, mark: char, k: usize) -> &str {
+    match text.split(mark).nth(k) {
+        Some(piece) => piece.trim(),
         None => "",
     }
+}
+
+/// The part of a row with this number, from 0, without blanks around it; empty where there are fewer parts.
+pub fn part(row: &str, k: usize) -> &str {
+    nth(row, '%', k)
 }
 
 /// The number that the part spells in decimal.
@@ -306,17 +310,21 @@ fn push_facts(
     Some(())
 }
 
-fn facts_of(alloc: Global, sig: &Signature, bytes: &[u8]) -> Option<FactList> {
+fn push_all_facts(alloc: Global, sig: &Signature, bytes: &[u8], list: &mut FactList) -> Option<()> {
     let found = tokens_of(alloc, bytes);
-    let mut list = FactList::new(alloc);
-    push_facts(alloc, sig, bytes, &found, &mut list)?;
-    Some(list)
+    push_facts(alloc, sig, bytes, &found, list)
+}
+
+fn add_facts(alloc: Global, sig: &Signature, text: &str, list: &mut FactList) -> Option<()> {
+    let bytes = written(alloc, text)?;
+    push_all_facts(alloc, sig, bytes.as_bytes(), list)
 }
 
 /// The facts that the text spells under the signature, parted by commas.
 pub fn facts(alloc: Global, sig: &Signature, text: &str) -> Option<FactList> {
-    let bytes = written(alloc, text)?;
-    facts_of(alloc, sig, bytes.as_bytes())
+    let mut list = FactList::new(alloc);
+    add_facts(alloc, sig, text, &mut list)?;
+    Some(list)
 }
 
 fn args_with_fresh_names(alloc: Global, args: &TermList) -> Option<TermList> {
@@ -343,19 +351,22 @@ pub fn fact(alloc: Global, sig: &Signature, text: &str) -> Option<Fact> {
     fact_with_fresh_names(alloc, list.get(0)?)
 }
 
+fn add_sides(alloc: Global, sig: &Signature, line: &str, rule: &mut Rule) -> Option<()> {
+    add_facts(alloc, sig, nth(line, '|', 1), &mut rule.left)?;
+    add_facts(alloc, sig, nth(line, '|', 2), &mut rule.acts)?;
+    add_facts(alloc, sig, nth(line, '|', 3), &mut rule.right)
+}
+
 /// The rule of a line: its name, its left side, its acts and its right side, with bars between them.
 pub fn rule(alloc: Global, sig: &Signature, line: &str) -> Option<Rule> {
-    let mut parts = line.split('|');
-    let name = name(alloc, parts.next()?.trim())?;
-    let left = facts(alloc, sig, parts.next()?)?;
-    let acts = facts(alloc, sig, parts.next()?)?;
-    let right = facts(alloc, sig, parts.next()?)?;
-    Some(Rule {
-        name,
-        left,
-        acts,
-        right,
-    })
+    let mut rule = Rule {
+        name: name(alloc, nth(line, '|', 0))?,
+        left: FactList::new(alloc),
+        acts: FactList::new(alloc),
+        right: FactList::new(alloc),
+    };
+    add_sides(alloc, sig, line, &mut rule)?;
+    Some(rule)
 }
 
 /// The numbers with blanks between them.
