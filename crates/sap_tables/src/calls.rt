@@ -1,35 +1,39 @@
 //! Calls of the program over files and streams in memory, which may fail.
 use crate::files::push_file;
-use crate::notation::{between, number, part, written};
+use crate::notation::{between, number, part, parted, written};
 use crate::show::{Shown, show_numbered, show_word};
 use sap_text::Text;
 use sap_tool::{MemShelf, MemSink, sapic};
 use std::alloc::{AllocError, Global};
 use std::collections::BTreeMap;
 
-fn sink(alloc: Global) -> MemSink {
+// A sink with these failures.
+fn sink(alloc: Global, fail_on: Vec<(u64, u64)>) -> MemSink {
     MemSink {
         bytes: Vec::new(alloc),
-        fail_on: Vec::new(alloc),
+        fail_on,
         calls: 0,
         count: 0,
     }
 }
 
 // The call of this number fails after this many bytes: `1 5`.
-fn failure(text: &str) -> Option<(u64, u64)> {
-    let (call, taken) = text.trim().split_once(' ')?;
-    Some((number(call)?, number(taken)?))
+fn add_failure(fail_on: &mut Vec<(u64, u64)>, text: &str) -> Option<()> {
+    let (call, taken) = parted(text.trim());
+    let call = number(call)?;
+    let taken = number(taken)?;
+    fail_on.push((call, taken)).ok()
 }
 
 // The failures, parted by commas.
-fn add_failures(sink: &mut MemSink, failures: &str) -> Option<()> {
-    for text in failures.split(',') {
+fn failures(alloc: Global, text: &str) -> Option<Vec<(u64, u64)>> {
+    let mut fail_on = Vec::new(alloc);
+    for text in text.split(',') {
         if !text.is_empty() {
-            sink.fail_on.push(failure(text)?).ok()?;
+            add_failure(&mut fail_on, text)?;
         }
     }
-    Some(())
+    Some(fail_on)
 }
 
 fn files_with(alloc: Global, bytes: &[u8]) -> Result<BTreeMap<String, Vec<u8>>, AllocError> {
@@ -38,13 +42,17 @@ fn files_with(alloc: Global, bytes: &[u8]) -> Result<BTreeMap<String, Vec<u8>>, 
     Ok(files)
 }
 
+fn one_number(alloc: Global, number: u64) -> Result<Vec<u64>, AllocError> {
+    let mut list = Vec::new(alloc);
+    list.push(number)?;
+    Ok(list)
+}
+
 // A shelf with one file, whose call of this number fails; none does where the number is 0.
 fn shelf(alloc: Global, bytes: &[u8], failing: u64) -> Result<MemShelf, AllocError> {
-    let files = files_with(alloc, bytes)?;
-    let mut fail_on = Vec::new(alloc);
-    fail_on.push(failing)?;
+    let fail_on = one_number(alloc, failing)?;
     Ok(MemShelf {
-        files,
+        files: files_with(alloc, bytes)?,
         fail_on,
         calls: 0,
         count: 0,
@@ -136,14 +144,12 @@ fn call_with_err(
     out: &mut MemSink,
     row: &str,
 ) -> Option<()> {
-    let mut err = sink(alloc);
-    add_failures(&mut err, part(row, 4))?;
+    let mut err = sink(alloc, failures(alloc, part(row, 4))?);
     call(alloc, "counts", part(row, 0), text, shelf, out, &mut err)
 }
 
 fn call_with_out(alloc: Global, text: &mut Text, shelf: &mut MemShelf, row: &str) -> Option<()> {
-    let mut out = sink(alloc);
-    add_failures(&mut out, part(row, 3))?;
+    let mut out = sink(alloc, failures(alloc, part(row, 3))?);
     call_with_err(alloc, text, shelf, &mut out, row)
 }
 
@@ -163,8 +169,8 @@ fn shelf_of_file(alloc: Global, file: &str) -> Option<MemShelf> {
 }
 
 fn compile(alloc: Global, kind: &str, text: &mut Text, shelf: &mut MemShelf) -> Option<()> {
-    let mut out = sink(alloc);
-    let mut err = sink(alloc);
+    let mut out = sink(alloc, Vec::new(alloc));
+    let mut err = sink(alloc, Vec::new(alloc));
     call(
         alloc,
         kind,

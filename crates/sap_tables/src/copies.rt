@@ -31,16 +31,16 @@ fn copied_numbers(alloc: Global, out: &mut Text, words: &str) -> Option<()> {
     show_numbers(out, &copy).ok()
 }
 
-fn path(alloc: Global, digits: &str) -> Option<Path> {
-    let mut path = Path::new(alloc);
+fn push_digits(path: &mut Path, digits: &str) -> Shown {
     for digit in digits.as_bytes() {
-        path.push(digit.wrapping_sub(b'0')).ok()?;
+        path.push(if *digit == b'2' { 2 } else { 1 })?;
     }
-    Some(path)
+    Ok(())
 }
 
 fn copied_path(alloc: Global, out: &mut Text, digits: &str) -> Option<()> {
-    let path = path(alloc, digits)?;
+    let mut path = Path::new(alloc);
+    push_digits(&mut path, digits).ok()?;
     let copy = path.copy(alloc).ok()?;
     show_place(out, &copy).ok()
 }
@@ -66,16 +66,16 @@ fn copied_trace(alloc: Global, out: &mut Text, text: &str) -> Option<()> {
     show_trace(out, &copy).ok()
 }
 
-fn variables(alloc: Global, words: &str) -> Option<Vars> {
-    let mut list = Vars::new(alloc);
+fn add_variables(alloc: Global, list: &mut Vars, words: &str) -> Option<()> {
     for word in words.split(' ') {
         list.push(variable(alloc, word)?).ok()?;
     }
-    Some(list)
+    Some(())
 }
 
 fn copied_variables(alloc: Global, out: &mut Text, words: &str) -> Option<()> {
-    let list = variables(alloc, words)?;
+    let mut list = Vars::new(alloc);
+    add_variables(alloc, &mut list, words)?;
     let copy = list.copy(alloc).ok()?;
     show_variables(out, &copy).ok()
 }

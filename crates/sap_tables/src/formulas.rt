@@ -75,11 +75,16 @@ fn binder(alloc: Global, word: &str) -> Option<Binder> {
     }
 }
 
-fn binders(alloc: Global, words: &str) -> Option<Binders> {
-    let mut list = Binders::new(alloc);
+fn add_binders(alloc: Global, list: &mut Binders, words: &str) -> Option<()> {
     for word in words.split(',') {
         list.push(binder(alloc, word)?).ok()?;
     }
+    Some(())
+}
+
+fn binders(alloc: Global, words: &str) -> Option<Binders> {
+    let mut list = Binders::new(alloc);
+    add_binders(alloc, &mut list, words)?;
     Some(list)
 }
 

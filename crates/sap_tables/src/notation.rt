@@ -187,30 +187,31 @@ fn spelled(alloc: Global, sig: &Signature, text: &str) -> Option<Term> {
     first_term(alloc, sig, bytes.as_bytes())
 }
 
-fn fresh_name(alloc: Global, var: &str, number: u64) -> Option<Binding> {
+fn add_fresh_name(alloc: Global, names: &mut Bindings, var: &str, number: u64) -> Option<()> {
     let name = name(alloc, var)?;
-    Some(Binding {
-        var: Var {
-            name,
-            sort: Sort::Fresh,
-        },
-        term: Term::Fresh(number),
-    })
+    let sort = Sort::Fresh;
+    let term = Term::Fresh(number);
+    names
+        .push(Binding {
+            var: Var { name, sort },
+            term,
+        })
+        .ok()
 }
 
 // The variables ~n0 to ~n9 stand for the fresh names 0 to 9.
-fn fresh_names(alloc: Global) -> Option<Bindings> {
-    let mut names = Bindings::new(alloc);
+fn add_fresh_names(alloc: Global, names: &mut Bindings) -> Option<()> {
     let mut number: u64 = 0;
     for word in ["n0", "n1", "n2", "n3", "n4", "n5", "n6", "n7", "n8", "n9"] {
-        names.push(fresh_name(alloc, word, number)?).ok()?;
+        add_fresh_name(alloc, names, word, number)?;
         number = number.saturating_add(1);
     }
-    Some(names)
+    Some(())
 }
 
 fn with_fresh_names(alloc: Global, t: &Term) -> Option<Term> {
-    let names = fresh_names(alloc)?;
+    let mut names = Bindings::new(alloc);
+    add_fresh_names(alloc, &mut names)?;
     subst(alloc, t, &names).ok()
 }
 
@@ -240,14 +241,19 @@ fn binding(alloc: Global, sig: &Signature, text: &str) -> Option<Binding> {
     Some(Binding { var, term })
 }
 
-/// The bindings of the text: `x = 'a'; ~y = ~n1`.
-pub fn bindings(alloc: Global, sig: &Signature, text: &str) -> Option<Bindings> {
-    let mut list = Bindings::new(alloc);
+fn add_bindings(alloc: Global, sig: &Signature, list: &mut Bindings, text: &str) -> Option<()> {
     for part in text.split(';') {
         if !part.is_empty() {
             list.push(binding(alloc, sig, part)?).ok()?;
         }
     }
+    Some(())
+}
+
+/// The bindings of the text: `x = 'a'; ~y = ~n1`.
+pub fn bindings(alloc: Global, sig: &Signature, text: &str) -> Option<Bindings> {
+    let mut list = Bindings::new(alloc);
+    add_bindings(alloc, sig, &mut list, text)?;
     Some(list)
 }
 
@@ -369,14 +375,19 @@ pub fn rule(alloc: Global, sig: &Signature, line: &str) -> Option<Rule> {
     Some(rule)
 }
 
-/// The numbers with blanks between them.
-pub fn numbers(alloc: Global, words: &str) -> Option<Numbers> {
-    let mut numbers = Numbers::new(alloc);
+fn add_numbers(numbers: &mut Numbers, words: &str) -> Option<()> {
     for word in words.split(' ') {
         if !word.is_empty() {
             numbers.push(number(word)?).ok()?;
         }
     }
+    Some(())
+}
+
+/// The numbers with blanks between them.
+pub fn numbers(alloc: Global, words: &str) -> Option<Numbers> {
+    let mut numbers = Numbers::new(alloc);
+    add_numbers(&mut numbers, words)?;
     Some(numbers)
 }
 

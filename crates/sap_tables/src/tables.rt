@@ -1,5 +1,6 @@
 //! The tables by their names, and what is told of each.
 use crate::notation::written;
+use crate::show::{Shown, show_numbered, show_word};
 use crate::state::{State, fresh_state};
 use crate::{
     calls, copies, files, formulas, knowledge, piles, rewriting, rules, runs, terms, theories,
@@ -52,30 +53,29 @@ fn found(alloc: Global, state: &mut State, table: &str, row: &str) -> Text {
 
 // The last part of the row.
 fn wanted(row: &str) -> &str {
-    let mut last = row;
-    for part in row.split('%') {
-        last = part;
+    match row.rsplit_once('%') {
+        Some((_, want)) => want.trim(),
+        None => "",
     }
-    last.trim()
 }
 
 // The text with `^` in place of line feeds.
-fn push_on_one_line(out: &mut Text, text: &[u8]) -> Option<()> {
+fn show_on_one_line(out: &mut Text, text: &[u8]) -> Shown {
     for byte in text {
         let byte = if *byte == b'\n' { b'^' } else { *byte };
-        out.push_bytes([byte].as_slice()).ok()?;
+        out.push_bytes([byte].as_slice())?;
     }
-    Some(())
+    Ok(())
 }
 
 // Tells a row that differs, and what is found.
-fn push_difference(out: &mut Text, table: &str, row: &str, found: &Text) -> Option<()> {
-    out.push_bytes(table.as_bytes()).ok()?;
-    out.push_bytes(b" differs: ").ok()?;
-    out.push_bytes(row.as_bytes()).ok()?;
-    out.push_bytes(b"\n  found: ").ok()?;
-    push_on_one_line(out, found.as_bytes())?;
-    out.push_bytes(b"\n").ok()
+fn show_difference(out: &mut Text, table: &str, row: &str, found: &Text) -> Shown {
+    show_word(out, table)?;
+    show_word(out, " differs: ")?;
+    show_word(out, row)?;
+    show_word(out, "\n  found: ")?;
+    show_on_one_line(out, found.as_bytes())?;
+    show_word(out, "\n")
 }
 
 // Whether the row is as it says; if not, it is told.
@@ -91,7 +91,7 @@ fn is_right(
     if found.as_bytes() == want.as_bytes() {
         return Some(true);
     }
-    push_difference(out, table, row, &found)?;
+    show_difference(out, table, row, &found).ok()?;
     Some(false)
 }
 
@@ -100,13 +100,11 @@ fn is_row(line: &str) -> bool {
     !line.is_empty() && !line.starts_with("-- ")
 }
 
-fn push_total(out: &mut Text, table: &str, rows: u64, differ: u64) -> Option<()> {
-    out.push_bytes(table.as_bytes()).ok()?;
-    out.push_bytes(b": ").ok()?;
-    out.push_number(rows).ok()?;
-    out.push_bytes(b" rows, ").ok()?;
-    out.push_number(differ).ok()?;
-    out.push_bytes(b" differ\n").ok()
+fn show_total(out: &mut Text, table: &str, rows: u64, differ: u64) -> Shown {
+    show_word(out, table)?;
+    show_numbered(out, ": ", rows)?;
+    show_numbered(out, " rows, ", differ)?;
+    show_word(out, " differ\n")
 }
 
 fn push_report(
@@ -126,7 +124,7 @@ fn push_report(
             }
         }
     }
-    push_total(out, table, rows, differ)
+    show_total(out, table, rows, differ).ok()
 }
 
 /// Puts last each row of a table that differs, with what is found, and how many rows there are and how many differ; nothing

@@ -9,14 +9,19 @@ use sap_text::Text;
 use sap_theory::print;
 use std::alloc::Global;
 
-/// Names with blanks between them.
-pub fn names(alloc: Global, words: &str) -> Option<NameList> {
-    let mut names = NameList::new(alloc);
+fn add_names(alloc: Global, names: &mut NameList, words: &str) -> Option<()> {
     for word in words.split(' ') {
         if !word.is_empty() {
             names.push(name(alloc, word)?).ok()?;
         }
     }
+    Some(())
+}
+
+/// Names with blanks between them.
+pub fn names(alloc: Global, words: &str) -> Option<NameList> {
+    let mut names = NameList::new(alloc);
+    add_names(alloc, &mut names, words)?;
     Some(names)
 }
 

@@ -50,19 +50,18 @@ pub fn tokens_row(alloc: Global, out: &mut Text, row: &str) -> Option<()> {
     push_answer(out, &tokens(alloc, bytes.as_bytes(), longest)).ok()
 }
 
-fn push_pieces(out: &mut Text, bytes: &[u8], found: &Vec<Token>) -> Shown {
-    for k in 0..found.len() {
-        out.push_bytes(token_bytes(bytes, found.as_slice(), k))?;
-        out.push_bytes(b"|")?;
-    }
-    Ok(())
-}
-
 /// A text, and the bytes of each token, with a bar behind each.
 pub fn pieces_row(alloc: Global, out: &mut Text, row: &str) -> Option<()> {
     let bytes = part(row, 0).as_bytes();
-    let found = tokens(alloc, bytes, 64).ok()?;
-    push_pieces(out, bytes, &found).ok()
+    let Ok(found) = tokens(alloc, bytes, 64) else {
+        return None;
+    };
+    for k in 0..found.len() {
+        out.push_bytes(token_bytes(bytes, found.as_slice(), k))
+            .ok()?;
+        out.push_bytes(b"|").ok()?;
+    }
+    Some(())
 }
 
 /// A number, and how it is written in decimal.
