@@ -1,7 +1,7 @@
 //! Lists and steps, and their copies.
-use crate::notation::{bindings, facts, name, number, numbers, part, parted, signature, variable};
+use crate::notation::{facts, name, number, numbers, part, parted, signature, variable};
 use crate::rules::show_variables;
-use crate::runs::line;
+use crate::runs::{add_used, line};
 use crate::show::{
     Shown, show_bindings, show_facts, show_named, show_numbered, show_numbers, show_place,
     show_word,
@@ -45,12 +45,10 @@ fn copied_path(alloc: Global, out: &mut Text, digits: &str) -> Option<()> {
     show_place(out, &copy).ok()
 }
 
-// One place that shows the facts of the text.
-fn trace(alloc: Global, text: &str) -> Option<Trace> {
+// Adds a place that shows the facts of the text.
+fn add_place(alloc: Global, trace: &mut Trace, text: &str) -> Option<()> {
     let sig = signature(alloc, "")?;
-    let mut trace = Trace::new(alloc);
-    trace.push(facts(alloc, &sig, text)?).ok()?;
-    Some(trace)
+    trace.push(facts(alloc, &sig, text)?).ok()
 }
 
 fn show_trace(out: &mut Text, trace: &Trace) -> Shown {
@@ -61,7 +59,8 @@ fn show_trace(out: &mut Text, trace: &Trace) -> Shown {
 }
 
 fn copied_trace(alloc: Global, out: &mut Text, text: &str) -> Option<()> {
-    let trace = trace(alloc, text)?;
+    let mut trace = Trace::new(alloc);
+    add_place(alloc, &mut trace, text)?;
     let copy = trace.copy(alloc).ok()?;
     show_trace(out, &copy).ok()
 }
@@ -116,10 +115,9 @@ fn show_rule_step(out: &mut Text, step: &RStep) -> Shown {
     }
 }
 
-fn one_step(alloc: Global, text: &str, bound: &str) -> Option<RSteps> {
-    let mut steps = RSteps::new(alloc);
-    steps.push(line(alloc, text, bound)?).ok()?;
-    Some(steps)
+fn add_rule_step(alloc: Global, steps: &mut RSteps, text: &str, bound: &str) -> Option<()> {
+    let step = line(alloc, text, bound)?;
+    steps.push(step).ok()
 }
 
 fn show_rule_steps(out: &mut Text, steps: &RSteps) -> Shown {
@@ -130,7 +128,8 @@ fn show_rule_steps(out: &mut Text, steps: &RSteps) -> Shown {
 }
 
 fn copied_rule_step(alloc: Global, out: &mut Text, text: &str, bound: &str) -> Option<()> {
-    let steps = one_step(alloc, text, bound)?;
+    let mut steps = RSteps::new(alloc);
+    add_rule_step(alloc, &mut steps, text, bound)?;
     let copy = steps.copy(alloc).ok()?;
     show_rule_steps(out, &copy).ok()
 }
@@ -140,23 +139,35 @@ fn process_apply(alloc: Global, f: &str, entries: &str) -> Option<PStep> {
     Some(PStep::Apply(f, numbers(alloc, entries)?))
 }
 
-fn process_rule(alloc: Global, thread: u64, facts: &str, bound: &str) -> Option<PStep> {
-    let sig = signature(alloc, "")?;
-    let facts = numbers(alloc, facts)?;
-    Some(PStep::Embedded(thread, facts, bindings(alloc, &sig, bound)?))
+fn process_rule(alloc: Global, thread: &str, words: &str, bound: &str) -> Option<PStep> {
+    let thread = number(thread)?;
+    let mut facts = Numbers::new(alloc);
+    let mut list = Bindings::new(alloc);
+    add_used(alloc, &mut facts, &mut list, words, bound)?;
+    Some(PStep::Embedded(thread, facts, list))
+}
+
+fn process_public(alloc: Global, text: &str) -> Option<PStep> {
+    Some(PStep::Public(name(alloc, text)?))
+}
+
+fn numbered_step(kind: &str, a: u64, b: u64) -> Option<PStep> {
+    match kind {
+        "new" => Some(PStep::New(a, b)),
+        "sync" => Some(PStep::Sync(a, b)),
+        "know" => Some(PStep::Know(a)),
+        _ => None,
+    }
 }
 
 fn process_step(alloc: Global, text: &str, bound: &str) -> Option<PStep> {
     let (kind, rest) = parted(text);
     let (a, b) = parted(rest);
     match kind {
-        "new" => Some(PStep::New(number(a)?, number(b)?)),
-        "sync" => Some(PStep::Sync(number(a)?, number(b)?)),
-        "pub" => Some(PStep::Public(name(alloc, a)?)),
+        "pub" => process_public(alloc, a),
         "app" => process_apply(alloc, a, b),
-        "embedded" => process_rule(alloc, number(a)?, b, bound),
-        "know" => Some(PStep::Know(number(a)?)),
-        _ => None,
+        "embedded" => process_rule(alloc, a, b, bound),
+        _ => numbered_step(kind, number(a)?, number(b).unwrap_or(0)),
     }
 }
 
@@ -172,10 +183,9 @@ fn show_process_step(out: &mut Text, step: &PStep) -> Shown {
     }
 }
 
-fn one_process_step(alloc: Global, text: &str, bound: &str) -> Option<PSteps> {
-    let mut steps = PSteps::new(alloc);
-    steps.push(process_step(alloc, text, bound)?).ok()?;
-    Some(steps)
+fn add_process_step(alloc: Global, steps: &mut PSteps, text: &str, bound: &str) -> Option<()> {
+    let step = process_step(alloc, text, bound)?;
+    steps.push(step).ok()
 }
 
 fn show_process_steps(out: &mut Text, steps: &PSteps) -> Shown {
@@ -186,7 +196,8 @@ fn show_process_steps(out: &mut Text, steps: &PSteps) -> Shown {
 }
 
 fn copied_process_step(alloc: Global, out: &mut Text, text: &str, bound: &str) -> Option<()> {
-    let steps = one_process_step(alloc, text, bound)?;
+    let mut steps = PSteps::new(alloc);
+    add_process_step(alloc, &mut steps, text, bound)?;
     let copy = steps.copy(alloc).ok()?;
     show_process_steps(out, &copy).ok()
 }

@@ -47,13 +47,18 @@ fn show_at(k: &Knowledge, out: &mut Text, place: u64) -> Shown {
     }
 }
 
+fn make_name(k: &mut Knowledge, out: &mut Text, n: u64) -> Option<()> {
+    out.push_number(k.name(n).ok()?).ok()
+}
+
 fn show_entry(alloc: Global, k: &mut Knowledge, out: &mut Text, row: &str) -> Option<()> {
+    let n = number(part(row, 1)).unwrap_or(0);
     match part(row, 0) {
         "public" => public(alloc, k, out, part(row, 1)),
-        "name" => out.push_number(k.name(number(part(row, 1))?).ok()?).ok(),
+        "name" => make_name(k, out, n),
         "apply" => apply(alloc, k, out, part(row, 1)),
-        "nodes" => show_nodes(k, out, number(part(row, 1))?).ok(),
-        "at" => show_at(k, out, number(part(row, 1))?).ok(),
+        "nodes" => show_nodes(k, out, n).ok(),
+        "at" => show_at(k, out, n).ok(),
         _ => None,
     }
 }
@@ -89,12 +94,17 @@ fn of_sent_text(alloc: Global, sig: &Signature, text: &str) -> Option<Box<Knowle
     of_sent(alloc, sig, &t).ok()
 }
 
+fn show_count(held: &Option<Box<Knowledge>>, out: &mut Text) -> Shown {
+    match held {
+        Some(k) => out.push_number(k.len()),
+        None => Ok(()),
+    }
+}
+
 fn sent(alloc: Global, held: &mut Option<Box<Knowledge>>, out: &mut Text, row: &str) -> Option<()> {
     let sig = signature(alloc, part(row, 1))?;
-    let k = of_sent_text(alloc, &sig, part(row, 2))?;
-    out.push_number(k.len()).ok()?;
-    *held = Some(k);
-    Some(())
+    *held = of_sent_text(alloc, &sig, part(row, 2));
+    show_count(held, out).ok()
 }
 
 fn of_entries(

@@ -241,7 +241,8 @@ fn binding(alloc: Global, sig: &Signature, text: &str) -> Option<Binding> {
     Some(Binding { var, term })
 }
 
-fn add_bindings(alloc: Global, sig: &Signature, list: &mut Bindings, text: &str) -> Option<()> {
+/// Adds the bindings of the text: `x = 'a'; ~y = ~n1`.
+pub fn add_bindings(alloc: Global, sig: &Signature, list: &mut Bindings, text: &str) -> Option<()> {
     for part in text.split(';') {
         if !part.is_empty() {
             list.push(binding(alloc, sig, part)?).ok()?;
@@ -375,7 +376,8 @@ pub fn rule(alloc: Global, sig: &Signature, line: &str) -> Option<Rule> {
     Some(rule)
 }
 
-fn add_numbers(numbers: &mut Numbers, words: &str) -> Option<()> {
+/// Adds the numbers with blanks between them.
+pub fn add_numbers(numbers: &mut Numbers, words: &str) -> Option<()> {
     for word in words.split(' ') {
         if !word.is_empty() {
             numbers.push(number(word)?).ok()?;

@@ -13,10 +13,10 @@ fn show_found(out: &mut Text, found: Option<&Fact>) -> Shown {
     }
 }
 
-fn added(alloc: Global, pile: &mut Pile, text: &str) -> Option<u64> {
+fn add(alloc: Global, pile: &mut Pile, out: &mut Text, text: &str) -> Option<()> {
     let sig = signature(alloc, "")?;
-    let f = fact(alloc, &sig, text)?;
-    pile.add(f).ok()
+    let k = pile.add(fact(alloc, &sig, text)?).ok()?;
+    out.push_number(k).ok()
 }
 
 fn take(pile: &mut Pile, out: &mut Text, k: u64) -> Shown {
@@ -32,11 +32,12 @@ fn reserve(pile: &mut Pile, out: &mut Text, n: u64) -> Option<()> {
 /// `reserve`, and memory for so many facts; `add`, a fact and its number; `take` and `get`, a number, and the fact that is taken or
 /// that stands there, or `none`; `count`, and how many facts there are.
 pub fn piles_row(alloc: Global, pile: &mut Pile, out: &mut Text, row: &str) -> Option<()> {
+    let n = number(part(row, 1)).unwrap_or(0);
     match part(row, 0) {
-        "reserve" => reserve(pile, out, number(part(row, 1))?),
-        "add" => out.push_number(added(alloc, pile, part(row, 1))?).ok(),
-        "take" => take(pile, out, number(part(row, 1))?).ok(),
-        "get" => show_found(out, pile.get(number(part(row, 1))?)).ok(),
+        "reserve" => reserve(pile, out, n),
+        "add" => add(alloc, pile, out, part(row, 1)),
+        "take" => take(pile, out, n).ok(),
+        "get" => show_found(out, pile.get(n)).ok(),
         "count" => out.push_number(pile.count()).ok(),
         _ => None,
     }

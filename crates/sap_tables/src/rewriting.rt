@@ -73,10 +73,14 @@ pub fn forms_row(alloc: Global, out: &mut Text, row: &str) -> Option<()> {
     }
 }
 
+fn show_equal(alloc: Global, sig: &Signature, out: &mut Text, s: &Term, t: &Term) -> Option<()> {
+    show_yes(out, same_modulo(alloc, sig, s, t).ok()?).ok()
+}
+
 fn equal(alloc: Global, sig: &Signature, out: &mut Text, s: &str, t: &str) -> Option<()> {
     let s = term(alloc, sig, s)?;
     let t = term(alloc, sig, t)?;
-    show_yes(out, same_modulo(alloc, sig, &s, &t).ok()?).ok()
+    show_equal(alloc, sig, out, &s, &t)
 }
 
 fn message(alloc: Global, sig: &Signature, out: &mut Text, sort: Sort, text: &str) -> Option<()> {

@@ -36,13 +36,21 @@ fn show_open(alloc: Global, sig: &Signature, out: &mut Text, r: &Rule) -> Option
     show_variables(out, &vars).ok()
 }
 
+fn show_well_made(alloc: Global, sig: &Signature, out: &mut Text, r: &Rule) -> Option<()> {
+    show_yes(out, is_well_made(alloc, sig, r).ok()?).ok()
+}
+
+fn show_one(alloc: Global, sig: &Signature, out: &mut Text, kind: &str, r: &Rule) -> Option<()> {
+    match kind {
+        "runs" => show_well_made(alloc, sig, out, r),
+        "open" => show_open(alloc, sig, out, r),
+        _ => copied(alloc, out, r),
+    }
+}
+
 fn one_rule(alloc: Global, sig: &Signature, out: &mut Text, row: &str) -> Option<()> {
     let r = rule(alloc, sig, part(row, 1))?;
-    match part(row, 0) {
-        "runs" => show_yes(out, is_well_made(alloc, sig, &r).ok()?).ok(),
-        "open" => show_open(alloc, sig, out, &r),
-        _ => copied(alloc, out, &r),
-    }
+    show_one(alloc, sig, out, part(row, 0), &r)
 }
 
 // The first rule of the name.

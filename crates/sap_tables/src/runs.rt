@@ -1,12 +1,12 @@
 //! Runs of rules, and lines of runs.
-use crate::notation::{bindings, name, number, numbers, part, parted, signature};
+use crate::notation::{add_bindings, add_numbers, name, number, numbers, part, parted};
 use crate::rules::rules_row;
 use crate::show::{Shown, show_facts, show_named, show_numbered, show_word, show_yes};
 use crate::state::State;
 use sap_rule::Theory;
 use sap_runs::RStep;
 use sap_steps::{RFault, RuleState};
-use sap_terms::{FactList, Mem};
+use sap_terms::{Bindings, FactList, Mem, Numbers, Signature};
 use sap_text::Text;
 use std::alloc::Global;
 
@@ -23,18 +23,46 @@ fn start(alloc: Global, state: &mut State, out: &mut Text) -> Option<()> {
     show_yes(out, state.run.is_some()).ok()
 }
 
+fn public_line(alloc: Global, text: &str) -> Option<RStep> {
+    Some(RStep::Public(name(alloc, text)?))
+}
+
 fn apply_line(alloc: Global, text: &str) -> Option<RStep> {
     let (symbol, entries) = parted(text);
     let symbol = name(alloc, symbol)?;
     Some(RStep::Apply(symbol, numbers(alloc, entries)?))
 }
 
+/// Adds the numbers of facts, and the bindings, under a signature of pairs.
+pub fn add_used(
+    alloc: Global,
+    facts: &mut Numbers,
+    list: &mut Bindings,
+    words: &str,
+    bound: &str,
+) -> Option<()> {
+    add_numbers(facts, words)?;
+    let sig = Signature::new(alloc).ok()?;
+    add_bindings(alloc, &sig, list, bound)
+}
+
 fn rule_line(alloc: Global, text: &str, bound: &str) -> Option<RStep> {
-    let (rule, facts) = parted(text);
-    let sig = signature(alloc, "hashing")?;
+    let (rule, words) = parted(text);
     let rule = name(alloc, rule)?;
-    let facts = numbers(alloc, facts)?;
-    Some(RStep::Rule(rule, facts, bindings(alloc, &sig, bound)?))
+    let mut facts = Numbers::new(alloc);
+    let mut list = Bindings::new(alloc);
+    add_used(alloc, &mut facts, &mut list, words, bound)?;
+    Some(RStep::Rule(rule, facts, list))
+}
+
+fn number_line(kind: &str, number: u64) -> Option<RStep> {
+    match kind {
+        "fresh" => Some(RStep::Fresh(number)),
+        "learn" => Some(RStep::Learn(number)),
+        "own" => Some(RStep::Own(number)),
+        "know" => Some(RStep::Know(number)),
+        _ => None,
+    }
 }
 
 /// The line of these words: `fresh 3`, `learn 0`, `own 0`, `pub a`, `app pair 0 1`, `know 0` and `rule R 0 4`, whose bindings are
@@ -42,14 +70,10 @@ fn rule_line(alloc: Global, text: &str, bound: &str) -> Option<RStep> {
 pub fn line(alloc: Global, text: &str, bound: &str) -> Option<RStep> {
     let (kind, rest) = parted(text);
     match kind {
-        "pub" => Some(RStep::Public(name(alloc, rest)?)),
+        "pub" => public_line(alloc, rest),
         "app" => apply_line(alloc, rest),
         "rule" => rule_line(alloc, rest, bound),
-        "fresh" => Some(RStep::Fresh(number(rest)?)),
-        "learn" => Some(RStep::Learn(number(rest)?)),
-        "own" => Some(RStep::Own(number(rest)?)),
-        "know" => Some(RStep::Know(number(rest)?)),
-        _ => None,
+        _ => number_line(kind, number(rest)?),
     }
 }
 

@@ -142,14 +142,29 @@ fn show_symbol_at(out: &mut Text, sig: &Signature, place: u64) -> Option<()> {
     }
 }
 
-fn show_of_copy(alloc: Global, out: &mut Text, sig: &Signature, row: &str) -> Option<()> {
-    let copy = sig.copy(alloc).ok()?;
+fn show_destructor(alloc: Global, out: &mut Text, sig: &Signature, text: &str) -> Option<()> {
+    let f = name(alloc, text)?;
+    show_yes(out, sig.is_destructor(&f)).ok()
+}
+
+fn show_reserved(alloc: Global, out: &mut Text, text: &str) -> Option<()> {
+    let f = name(alloc, text)?;
+    show_yes(out, is_reserved(&f)).ok()
+}
+
+fn show_of(alloc: Global, out: &mut Text, sig: &Signature, row: &str) -> Option<()> {
+    let what = part(row, 2);
     match part(row, 0) {
-        "symbol" => show_symbol_at(out, &copy, number(part(row, 2))?),
-        "destructor" => show_yes(out, copy.is_destructor(&name(alloc, part(row, 2))?)).ok(),
-        "reserved" => show_yes(out, is_reserved(&name(alloc, part(row, 2))?)).ok(),
+        "symbol" => show_symbol_at(out, sig, number(what)?),
+        "destructor" => show_destructor(alloc, out, sig, what),
+        "reserved" => show_reserved(alloc, out, what),
         _ => None,
     }
+}
+
+fn show_of_copy(alloc: Global, out: &mut Text, sig: &Signature, row: &str) -> Option<()> {
+    let copy = sig.copy(alloc).ok()?;
+    show_of(alloc, out, &copy, row)
 }
 
 /// Of a copy of the signature of the second part: `symbol`, its place, and the symbol there or `none`; `destructor`, a name and
