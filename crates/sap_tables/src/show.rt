@@ -201,29 +201,17 @@ fn show_head(out: &mut Text, p: &Process) -> Shown {
     }
 }
 
-#[cycle(process)]
-fn show_branches(out: &mut Text, q: &Process, r: &Process) -> Shown {
-    out.push_bytes(b"(")?;
-    show_process(out, q)?;
-    out.push_bytes(b")(")?;
-    show_process(out, r)?;
-    out.push_bytes(b")")
-}
-
-#[cycle(process)]
-fn show_next(out: &mut Text, q: &Process) -> Shown {
-    out.push_bytes(b";")?;
-    show_process(out, q)
-}
-
 /// The head of a process, and behind it what follows: in parentheses where there are two branches.
-#[cycle(process)]
 pub fn show_process(out: &mut Text, p: &Process) -> Shown {
     show_head(out, p)?;
     match p {
         Process::Nil => Ok(()),
         Process::Par(q, r) | Process::If(_, _, q, r) | Process::Lookup(_, _, q, r) => {
-            show_branches(out, q, r)
+            out.push_bytes(b"(")?;
+            show_process(out, q)?;
+            out.push_bytes(b")(")?;
+            show_process(out, r)?;
+            out.push_bytes(b")")
         }
         Process::Rep(q)
         | Process::New(_, q)
@@ -236,7 +224,10 @@ pub fn show_process(out: &mut Text, p: &Process) -> Shown {
         | Process::Delete(_, q)
         | Process::Lock(_, _, q)
         | Process::Unlock(_, _, q)
-        | Process::Embedded(_, _, _, q) => show_next(out, q),
+        | Process::Embedded(_, _, _, q) => {
+            out.push_bytes(b";")?;
+            show_process(out, q)
+        }
     }
 }
 
