@@ -103,7 +103,7 @@ is_call (lookup t x p q) = false
 
 -- the process at this place is no name, and is what the name means
 abbrev pub IsTarget : (List ℕ → Proc) → List Definition → List ℕ → ℕ → Type 0
-IsTarget means es x k = (e : Definition) × (slice_get es k ≡ Some e) × (is_call (written e.draft) ≡ false) × (means x ≡ replaced means (written e.draft))
+IsTarget means es x k = (e : Definition) × (slice_get es k ≡ Some e) × (is_call (written e.draft.value) ≡ false) × (means x ≡ replaced means (written e.draft.value))
 
 -- what is kept of names counts what they mean
 abbrev pub AreCounted : {S : Type 0} → IndexMap (List ℕ) Meant S → (List ℕ → Proc) → Type 0

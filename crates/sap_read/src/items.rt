@@ -195,14 +195,15 @@ fn read_definition(
     if !starts(bytes, beyond(2, item), "=") {
         return Ok(None);
     }
-    let Some(draft) = read_process(alloc, sig, bytes, beyond(3, item))? else {
-        return Ok(None);
-    };
-    Ok(Some(Definition {
-        label: Some(Name::from_bytes(alloc, name)?),
-        draft,
-        line: line_of(item),
-    }))
+    let label = Name::from_bytes(alloc, name)?;
+    match read_process(alloc, sig, bytes, beyond(3, item))? {
+        None => Ok(None),
+        Some(draft) => Ok(Some(Definition {
+            label: Some(label),
+            draft,
+            line: line_of(item),
+        })),
+    }
 }
 
 // What a `process` item says of a process.

@@ -74,7 +74,10 @@ fn first_repeated_at(alloc: Global, entries: &Items<Definition>) -> Result<Optio
 }
 
 /// The first name that another process behind it has too. It takes time in proportion to the list.
-pub(crate) fn first_repeated(alloc: Global, entries: &Items<Definition>) -> Result<Option<Name>, Mem>
+pub(crate) fn first_repeated(
+    alloc: Global,
+    entries: &Items<Definition>,
+) -> Result<Option<Name>, Mem>
     ensures { IfOk result (λ name. name ≡ first_repeated (labels (map body entries.now))) }
 {
     let Some(k) = first_repeated_at(alloc, entries)? else {

@@ -18,7 +18,7 @@ mod whole;
 
 pub use fact::read_fact;
 pub use fault::ReadFault;
-pub use file::{File, read_file};
+pub use file::{File, read_file, read_file_boxed};
 pub use laws::{
     grammar_is_one, one_fact, one_file, one_list_of_items, one_process, one_term, processes_by_hand,
 };

@@ -10,7 +10,7 @@ ghost use Rattle.sap_read.specs.Causes.{unknown_from};
 ghost use Rattle.sap_read.specs.Drafts.{written, body};
 ghost use Rattle.sap_read.specs.Meaning.{nodes_in, levels_in, unknown_among, target, kept_behind, AreCounted, AreTargets, meaning_of};
 
-use crate::draft::{Draft, Definition};
+use crate::draft::{Definition, Draft};
 use crate::fault::ReadFault;
 use indexmap::IndexMap;
 use sap_terms::{Copied, Items, Mem, Name};
@@ -102,7 +102,7 @@ fn target(names: &Names, draft: &Draft, k: u64) -> u64
 
 // Keeps the name of the process at place k, if it has one.
 fn keep(alloc: Global, names: &mut Names, entry: &Definition, k: u64) -> Result<(), Mem>
-    ensures { OnOk result ((x : List ℕ) → get bytes_eq names.new x ≡ kept_behind names.old k entry.now.label (written entry.now.draft) x) }
+    ensures { OnOk result ((x : List ℕ) → get bytes_eq names.new x ≡ kept_behind names.old k entry.now.label (written entry.now.draft.value) x) }
 {
     let Some(label) = &entry.label else {
         return Ok(());

@@ -8,6 +8,7 @@ ghost use Rattle.sap_read.specs.Drafts.{written};
 
 mod actions;
 mod build;
+mod choice;
 mod grammar;
 mod parts;
 
@@ -23,16 +24,18 @@ pub(crate) fn read_process(
     sig: &Signature,
     bytes: &[u8],
     tokens: &[Token],
-) -> Result<Option<Draft>, Mem>
-    ensures found { IfOk result (λ o. IfSome o (λ p. IsProcess sig.now (written p) (words_of bytes.now tokens.now))) }
+) -> Result<Option<Box<Draft>>, Mem>
+    ensures found { IfOk result (λ o. IfSome o (λ p. IsProcess sig.now (written p.value) (words_of bytes.now tokens.now))) }
     ensures none { IfOk result (λ o. IfNone o ((g : Sig) (p : Written) → IsProcess g p (words_of bytes.now tokens.now) → ⊥)) }
 {
-    let Some((process, _, rest)) = read_par(alloc, sig, bytes, 300, tokens)? else {
-        return Ok(None);
-    };
-    if rest.is_empty() {
-        Ok(Some(Box::into_inner(process)))
-    } else {
-        Ok(None)
+    match read_par(alloc, sig, bytes, 300, tokens)? {
+        None => Ok(None),
+        Some((process, _, rest)) => {
+            if rest.is_empty() {
+                Ok(Some(process))
+            } else {
+                Ok(None)
+            }
+        }
     }
 }

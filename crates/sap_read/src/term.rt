@@ -1,11 +1,11 @@
-ghost use Rattle.std.specs.Prelude.{◌≡◌, ◌≤◌, ◌↔◌, ℕ, false, codes, length, IsTrue, IfOk, IfSome, IfNone};
+ghost use Rattle.std.specs.Prelude.{◌≡◌, ◌≤◌, ◌↔◌, ℕ, false, codes, [], ◌∷◌, length, IsTrue, IfOk, IfSome, IfNone};
 ghost use Rattle.sap_terms.specs.Tree.{Tree, public, level_count};
 ghost use Rattle.sap_terms.specs.View.{tree};
 ghost use Rattle.sap_terms.specs.Signature.{arity_of};
 ghost use Rattle.sap_read.specs.Words.{starts, words_of};
 ghost use Rattle.sap_read.specs.TermGrammar.{pair, sorted};
 ghost use Rattle.sap_read.specs.Places.{IsTermAt};
-ghost use Rattle.sap_read.specs.Reading.{is_no_arity, plain, signed, symbol, named, leaf, list_of, args, tuple, term, rest, quoted_at};
+ghost use Rattle.sap_read.specs.Reading.{is_no_arity, plain, signed, symbol, named, leaf, list_of, args, paired, tuple, term, rest, quoted_at};
 ghost use Rattle.sap_read.specs.View.{GivesTerm, GivesArgs};
 
 use crate::look::{beyond, is_lower, name_at, quoted_at, starts};
@@ -46,13 +46,21 @@ fn plain(alloc: Global, sig: &Signature, name: &[u8]) -> Result<Term, Mem>
     }
 }
 
-fn pair(alloc: Global, left: Term, right: Term) -> Result<Term, Mem>
-    ensures { IfOk result (λ t. tree t ≡ pair (tree left) (tree right)) }
+fn two(alloc: Global, left: Term, right: Term) -> Result<TermList, Mem>
+    ensures { IfOk result (λ ts. ts ≡ tree left ∷ tree right ∷ []) }
 {
     let mut parts = TermList::new(alloc);
     parts.push(left)?;
     parts.push(right)?;
-    Ok(Term::App(Name::from_bytes(alloc, b"pair")?, parts))
+    Ok(parts)
+}
+
+fn pair(alloc: Global, left: Term, right: Term) -> Result<Term, Mem>
+    ensures { IfOk result (λ t. tree t ≡ pair (tree left) (tree right)) }
+{
+    let name = Name::from_bytes(alloc, b"pair")?;
+    let parts = two(alloc, left, right)?;
+    Ok(Term::App(name, parts))
 }
 
 fn quoted(alloc: Global, content: &[u8]) -> Result<Term, Mem>
@@ -169,6 +177,30 @@ fn read_named<'a>(
 
 #[cycle(read)]
 #[tactic(auto, using(crate::proofs::Steps::steps), unfolding(crate::specs::Reading::after))]
+fn read_second<'a>(
+    alloc: Global,
+    sig: &Signature,
+    bytes: &[u8],
+    depth: u32,
+    left: Term,
+    tokens: &'a [Token],
+) -> Result<Option<(Term, &'a [Token])>, Mem>
+    ensures { GivesTerm bytes.now result (paired (rest sig.now depth) (tree left) (words_of bytes.now tokens.now)) }
+{
+    if !starts(bytes, tokens, ",") {
+        return Ok(None);
+    }
+    match read_rest(alloc, sig, bytes, depth, beyond(1, tokens))? {
+        None => Ok(None),
+        Some((right, end)) => {
+            let both = pair(alloc, left, right)?;
+            Ok(Some((both, end)))
+        }
+    }
+}
+
+#[cycle(read)]
+#[tactic(auto, using(crate::proofs::Steps::steps), unfolding(crate::specs::Reading::after))]
 fn read_tuple<'a>(
     alloc: Global,
     sig: &Signature,
@@ -178,15 +210,9 @@ fn read_tuple<'a>(
 ) -> Result<Option<(Term, &'a [Token])>, Mem>
     ensures { GivesTerm bytes.now result (tuple (term sig.now depth) (rest sig.now depth) (words_of bytes.now tokens.now)) }
 {
-    let Some((left, next)) = read_deep(alloc, sig, bytes, depth, tokens)? else {
-        return Ok(None);
-    };
-    if !starts(bytes, next, ",") {
-        return Ok(None);
-    }
-    match read_rest(alloc, sig, bytes, depth, beyond(1, next))? {
+    match read_deep(alloc, sig, bytes, depth, tokens)? {
         None => Ok(None),
-        Some((right, end)) => Ok(Some((pair(alloc, left, right)?, end))),
+        Some((left, next)) => read_second(alloc, sig, bytes, depth, left, next),
     }
 }
 
@@ -204,18 +230,15 @@ fn read_rest<'a>(
     if depth == 0 {
         return Ok(None);
     }
-    let Some((left, next)) = read_deep(alloc, sig, bytes, depth, tokens)? else {
-        return Ok(None);
-    };
-    if starts(bytes, next, ">") {
-        return Ok(Some((left, beyond(1, next))));
-    }
-    if !starts(bytes, next, ",") {
-        return Ok(None);
-    }
-    match read_rest(alloc, sig, bytes, depth - 1, beyond(1, next))? {
+    match read_deep(alloc, sig, bytes, depth, tokens)? {
         None => Ok(None),
-        Some((right, end)) => Ok(Some((pair(alloc, left, right)?, end))),
+        Some((left, next)) => {
+            if starts(bytes, next, ">") {
+                Ok(Some((left, beyond(1, next))))
+            } else {
+                read_second(alloc, sig, bytes, depth - 1, left, next)
+            }
+        }
     }
 }
 
