@@ -31,5 +31,5 @@ returns-in_ok-process-in-None-clause-accepted c =
     let es = c.args.entries.now in (
       no_clash (map body es) c.args.clash.now None c.in_ok-check_names.ensures.no_clash
           (by_kept_size es c.args.entry.now c.args.names.now c.requires.one c.requires.known c.in_ok-check_names.ensures.distinct c.requires.counted ∙ sym (rw c.deref-draft.ensures at c.size_fault.ensures) ∙ c.in-None.is),
-      process_is es c.args.entry.now c.requires.one c.requires.known c.in_ok-check_names.ensures.distinct ∙ ap Some (sym (rw c.deref-draft.ensures at c.in_ok-process.ensures)),
+      process_is es c.args.entry.now c.requires.one c.requires.known c.in_ok-check_names.ensures.distinct ∙ ap Some (sym (rw c.deref-draft.ensures at c.in_ok-process-in-None.ensures)),
     )
