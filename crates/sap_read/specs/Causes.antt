@@ -9,6 +9,7 @@ use Rattle.sap_read.specs.declared.fault.ReadFault.TheVariants.{NoProcess, TwoPr
 use Rattle.sap_read.specs.Item.{Standing, declarations, Body, bodies}
 use Rattle.sap_read.specs.Replaced.{calls, process_of, no_meaning}
 use Rattle.sap_read.specs.Signatures.{clash_from}
+use Rattle.sap_read.specs.declared.limits.TheConstants.{MOST_PROCESS_LEVELS, MOST_PROCESS_PLACES}
 
 -- the first of them, if there is one
 abbrev pub first_of : {A : Type 0} → List (Option A) → Option A
@@ -55,8 +56,8 @@ causes bs clash =
     ∷ option_map UnknownProcess (unknown_from [] bs)
     ∷ option_map DuplicateName (first_repeated (labels bs))
     ∷ option_map FunctionClash clash
-    ∷ above node_count 4000 TooMany (process_of no_meaning bs)
-    ∷ above level_count 300 TooDeep (process_of no_meaning bs) ∷ []
+    ∷ above node_count MOST_PROCESS_PLACES TooMany (process_of no_meaning bs)
+    ∷ above level_count MOST_PROCESS_LEVELS TooDeep (process_of no_meaning bs) ∷ []
 
 -- the first cause that holds
 abbrev pub cause : List Body → Option (List ℕ) → Option ReadFault

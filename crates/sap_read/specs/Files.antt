@@ -16,6 +16,7 @@ use Rattle.sap_read.specs.ItemGrammar.{AreItems, IsFaulty}
 use Rattle.sap_read.specs.Replaced.{process_of, no_meaning}
 use Rattle.sap_read.specs.Signatures.{signature_of}
 use Rattle.sap_read.specs.Causes.{cause_of}
+use Rattle.sap_read.specs.declared.limits.TheConstants.{MOST_FILE_NAME_BYTES}
 
 -- what a file tells
 pub record FileContent : Type 0 where
@@ -23,9 +24,9 @@ pub record FileContent : Type 0 where
   pub signature : Sig
   pub process : Proc
 
--- the bytes are a file's tokens, the longest of 64 bytes
+-- the bytes are a file's tokens, the longest of MOST_FILE_NAME_BYTES
 abbrev pub AreTokens : List ℕ → List Token → Type 0
-AreTokens z ts = IsLexed 64 0 1 z (Ok ts)
+AreTokens z ts = IsLexed MOST_FILE_NAME_BYTES 0 1 z (Ok ts)
 
 -- the file has this header, and these items as they are cut
 pub record IsParted (z : List ℕ) (ts : List Token) (x : List ℕ) (cut : List (List Placed)) : Type 0 where
@@ -36,7 +37,7 @@ pub record IsParted (z : List ℕ) (ts : List Token) (x : List ℕ) (cut : List 
 
 -- the file it is, or why it is refused
 pub data IsRead (z : List ℕ) : Result FileContent ReadFault → Type 0 where
-  no_tokens : {f : Lex} → IsLexed 64 0 1 z (Err f) → IsRead z (Err (LexFault f))
+  no_tokens : {f : Lex} → IsLexed MOST_FILE_NAME_BYTES 0 1 z (Err f) → IsRead z (Err (LexFault f))
   no_header : {ts : List Token} → AreTokens z ts → ((x : List ℕ) (rest : List Placed) → IsHeader x (placed z ts) rest → ⊥) → IsRead z (Err Header)
   no_item : {ts : List Token} {x : List ℕ} {cut : List (List Placed)} {line : ℕ} → IsParted z ts x cut → IsFaulty (last_line (placed z ts)) cut line
       → IsRead z (Err (Syntax line))

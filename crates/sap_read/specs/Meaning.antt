@@ -13,6 +13,7 @@ use Rattle.sap_read.specs.Item.{Body}
 use Rattle.sap_read.specs.Replaced.{replaced, after_body, no_meaning}
 use Rattle.sap_read.specs.Causes.{unknown_from, is_among}
 use Rattle.sap_read.specs.Drafts.{written, body}
+use Rattle.sap_read.specs.declared.limits.TheConstants.{MOST_PROCESS_LEVELS, MOST_PROCESS_PLACES}
 
 -- what names mean behind these processes, where they mean this before them
 abbrev pub meaning : (List ℕ → Proc) → List Body → List ℕ → Proc
@@ -133,4 +134,4 @@ AreExpanded es names = (x : List ℕ) → IsExpanded es x (get bytes_eq names x)
 
 -- the cause that a process of so many places and levels gives
 abbrev pub size_fault : ℕ → ℕ → Option ReadFault
-size_fault nodes levels = if nat_lt 4000 nodes then Some TooMany else (if nat_lt 300 levels then Some TooDeep else None)
+size_fault nodes levels = if nat_lt MOST_PROCESS_PLACES nodes then Some TooMany else (if nat_lt MOST_PROCESS_LEVELS levels then Some TooDeep else None)

@@ -7,8 +7,9 @@ ghost use Rattle.sap_read.specs.Places.{IsFactAt, fact_levels};
 ghost use Rattle.sap_read.specs.Reading.{fact_args, fact_from, fact_at, term};
 ghost use Rattle.sap_read.specs.View.{GivesFact};
 
+use crate::limits::MOST_TERM_LEVELS;
 use crate::look::{beyond, is_upper, name_at, starts};
-use crate::term::{MOST_LEVELS, read_args};
+use crate::term::read_args;
 use sap_terms::{Fact, Mem, Name, Signature, TermList};
 use sap_text::Token;
 use std::alloc::Global;
@@ -23,13 +24,13 @@ fn fact(alloc: Global, persistent: bool, name: &[u8], args: TermList) -> Result<
     })
 }
 
-/// Whether each term has at most 100 levels.
+/// Whether each term has at most `MOST_TERM_LEVELS` levels.
 #[tactic(auto, using(crate::proofs::Levels::levels))]
 pub fn has_few_levels(args: &TermList) -> bool
-    ensures { IsTrue result ↔ (trees_levels (trees_of args.now) ≤ 100) }
+    ensures { IsTrue result ↔ (trees_levels (trees_of args.now) ≤ MOST_TERM_LEVELS) }
 {
     for k in 0..args.len() {
-        if args.at(k).levels() > MOST_LEVELS {
+        if args.at(k).levels() > MOST_TERM_LEVELS {
             return false;
         }
     }
@@ -102,13 +103,13 @@ pub fn read_deep<'a>(
 }
 
 fn is_whole(bytes: &[u8], fact: &Fact, rest: &[Token]) -> bool
-    ensures { IsTrue result ↔ ((fact_levels fact.now ≤ 100) × (starts (codes "(") (words_of bytes.now rest.now) ≡ false)) }
+    ensures { IsTrue result ↔ ((fact_levels fact.now ≤ MOST_TERM_LEVELS) × (starts (codes "(") (words_of bytes.now rest.now) ≡ false)) }
 {
     has_few_levels(&fact.args) && !starts(bytes, rest, "(")
 }
 
 /// The fact that the tokens spell from number `at`, counted from 0, and the number of the token behind it, which is no `(`;
-/// None where they spell none whose terms have at most 100 levels. The work is as that of `read_term`.
+/// None where they spell none whose terms have at most `MOST_TERM_LEVELS` levels. The work is as that of `read_term`.
 pub fn read_fact(
     alloc: Global,
     sig: &Signature,
@@ -121,7 +122,14 @@ pub fn read_fact(
         → IsFactAt sig.now (words_of bytes.now tokens.now.items) at f e → ⊥)) }
 {
     let all = tokens.as_slice();
-    let Some((fact, rest)) = read_deep(alloc, sig, bytes, 100, beyond(at as usize, all))? else {
+    let Some((fact, rest)) = read_deep(
+        alloc,
+        sig,
+        bytes,
+        MOST_TERM_LEVELS as u32,
+        beyond(at as usize, all),
+    )?
+    else {
         return Ok(None);
     };
     if is_whole(bytes, &fact, rest) {

@@ -17,6 +17,7 @@ ghost use Rattle.sap_read.specs.declared.fault.ReadFault.TheVariants.{Mem as Out
 use crate::expansion::boxed;
 use crate::fault::ReadFault;
 use crate::items::{Declared, read_declarations, read_items};
+use crate::limits::MOST_FILE_NAME_BYTES;
 use crate::look::{beyond, name_at, starts};
 use crate::whole::whole_process;
 use sap_formula::{LemmaList, RestrictionList};
@@ -145,13 +146,13 @@ fn read_whole(
     whole_process(alloc, &entries, &declared.clash)
 }
 
-/// The tokens of a file, the longest of 64 bytes.
+/// The tokens of a file, the longest of `MOST_FILE_NAME_BYTES`.
 fn read_tokens(alloc: Global, bytes: &[u8]) -> Result<Vec<Token>, ReadFault>
     ensures found { IfOk result (λ v. AreTokens bytes.now v.items) }
     ensures refused { (e : ReadFault) → IsErrOf result e → (e ≡ OutOfMemory → ⊥)
-        → (f : Lex) × (e ≡ LexFault f) × IsLexed 64 0 1 bytes.now (Err f) }
+        → (f : Lex) × (e ≡ LexFault f) × IsLexed MOST_FILE_NAME_BYTES 0 1 bytes.now (Err f) }
 {
-    match tokens(alloc, bytes, 64) {
+    match tokens(alloc, bytes, MOST_FILE_NAME_BYTES) {
         Ok(tokens) => Ok(tokens),
         Err(Lex::Mem) => Err(ReadFault::Mem),
         Err(fault) => Err(ReadFault::Lex(fault)),

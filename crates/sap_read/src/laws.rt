@@ -15,6 +15,7 @@ ghost use Rattle.sap_read.specs.ItemGrammar.{AreItems};
 ghost use Rattle.sap_read.specs.Signatures.{signature_of};
 ghost use Rattle.sap_read.specs.Files.{FileContent, IsRead};
 ghost use Rattle.sap_read.specs.declared.fault.ReadFault.{ReadFault};
+ghost use Rattle.sap_read.specs.declared.limits.TheConstants.{MOST_TERM_LEVELS};
 
 use sap_process::one_flaw;
 use sap_text::one_answer;
@@ -56,12 +57,12 @@ pub fn grammar_is_one()
 
 /// A law: six worked examples of which words spell which process, with how many levels.
 pub fn processes_by_hand()
-    ensures dangling { (g : Sig) → IsPar g 100 dangling_process 3 dangling_words [] }
-    ensures parted { (g : Sig) → IsPar g 100 parted_process 4 parted_words [] }
-    ensures parallel { (g : Sig) → IsPar g 100 parallel_process 3 parallel_words [] }
-    ensures actions { IsPar pairs_alone 100 action_process 5 action_words [] }
-    ensures rule { (g : Sig) → IsPar g 100 rule_process 2 rule_words [] }
-    ensures lookup { (g : Sig) → IsPar g 100 lookup_process 3 lookup_words [] }
+    ensures dangling { (g : Sig) → IsPar g MOST_TERM_LEVELS dangling_process 3 dangling_words [] }
+    ensures parted { (g : Sig) → IsPar g MOST_TERM_LEVELS parted_process 4 parted_words [] }
+    ensures parallel { (g : Sig) → IsPar g MOST_TERM_LEVELS parallel_process 3 parallel_words [] }
+    ensures actions { IsPar pairs_alone MOST_TERM_LEVELS action_process 5 action_words [] }
+    ensures rule { (g : Sig) → IsPar g MOST_TERM_LEVELS rule_process 2 rule_words [] }
+    ensures lookup { (g : Sig) → IsPar g MOST_TERM_LEVELS lookup_process 3 lookup_words [] }
 {}
 
 /// A law: bytes are read as one file at most, or refused for one cause, and never both.

@@ -13,12 +13,13 @@ mod grammar;
 mod parts;
 
 use crate::draft::Draft;
+use crate::limits::MOST_PROCESS_LEVELS;
 use crate::process::grammar::read_par;
 use sap_terms::{Mem, Signature};
 use sap_text::Token;
 use std::alloc::Global;
 
-/// The process that these tokens spell, all of them; None where they spell none of at most 300 levels, under any signature.
+/// The process that these tokens spell, all of them; None where they spell none of at most `MOST_PROCESS_LEVELS` levels, under any signature.
 pub(crate) fn read_process(
     alloc: Global,
     sig: &Signature,
@@ -28,7 +29,7 @@ pub(crate) fn read_process(
     ensures found { IfOk result (λ o. IfSome o (λ p. IsProcess sig.now (written p.value) (words_of bytes.now tokens.now))) }
     ensures none { IfOk result (λ o. IfNone o ((g : Sig) (p : Written) → IsProcess g p (words_of bytes.now tokens.now) → ⊥)) }
 {
-    match read_par(alloc, sig, bytes, 300, tokens)? {
+    match read_par(alloc, sig, bytes, MOST_PROCESS_LEVELS as u32, tokens)? {
         None => Ok(None),
         Some((process, _, rest)) => {
             if rest.is_empty() {

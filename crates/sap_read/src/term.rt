@@ -8,13 +8,11 @@ ghost use Rattle.sap_read.specs.Places.{IsTermAt};
 ghost use Rattle.sap_read.specs.Reading.{is_no_arity, plain, signed, symbol, named, leaf, list_of, args, paired, tuple, term, rest, quoted_at};
 ghost use Rattle.sap_read.specs.View.{GivesTerm, GivesArgs};
 
+use crate::limits::MOST_TERM_LEVELS;
 use crate::look::{beyond, is_lower, name_at, quoted_at, starts};
 use sap_terms::{Mem, Name, Signature, Sort, Term, TermList, Var};
 use sap_text::Token;
 use std::alloc::Global;
-
-/// The levels that a term of a file has at most.
-pub const MOST_LEVELS: u64 = 100;
 
 fn variable(alloc: Global, name: &[u8], sort: Sort) -> Result<Term, Mem>
     ensures { IfOk result (λ t. tree t ≡ sorted sort name.now) }
@@ -289,13 +287,13 @@ fn read_leaf<'a>(
 }
 
 fn is_whole(bytes: &[u8], term: &Term, rest: &[Token]) -> bool
-    ensures { IsTrue result ↔ ((level_count (tree term.now) ≤ 100) × (starts (codes "(") (words_of bytes.now rest.now) ≡ false)) }
+    ensures { IsTrue result ↔ ((level_count (tree term.now) ≤ MOST_TERM_LEVELS) × (starts (codes "(") (words_of bytes.now rest.now) ≡ false)) }
 {
-    term.levels() <= MOST_LEVELS && !starts(bytes, rest, "(")
+    term.levels() <= MOST_TERM_LEVELS && !starts(bytes, rest, "(")
 }
 
 /// The term that the tokens spell from number `at`, counted from 0, and the number of the token behind it, which is no
-/// `(`; None where they spell none of at most 100 levels. An identifier without sign is the constant of that name where the
+/// `(`; None where they spell none of at most `MOST_TERM_LEVELS` levels. An identifier without sign is the constant of that name where the
 /// signature holds one, and a variable otherwise. Nothing is asked of the tokens: each stands for the bytes in its span.
 /// The work is linear in the tokens that are looked at.
 pub fn read_term(
@@ -310,7 +308,14 @@ pub fn read_term(
         → IsTermAt sig.now (words_of bytes.now tokens.now.items) at t e → ⊥)) }
 {
     let all = tokens.as_slice();
-    let Some((term, rest)) = read_deep(alloc, sig, bytes, 100, beyond(at as usize, all))? else {
+    let Some((term, rest)) = read_deep(
+        alloc,
+        sig,
+        bytes,
+        MOST_TERM_LEVELS as u32,
+        beyond(at as usize, all),
+    )?
+    else {
         return Ok(None);
     };
     if is_whole(bytes, &term, rest) {

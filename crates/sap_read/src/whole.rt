@@ -13,25 +13,20 @@ use crate::draft::{Definition, Draft};
 use crate::expansion::expand;
 use crate::fault::ReadFault;
 use crate::labels::{first_repeated, the_process};
+use crate::limits::{MOST_PROCESS_LEVELS, MOST_PROCESS_PLACES};
 use crate::names::{Names, levels, names_of, nodes};
 use sap_process::Process;
 use sap_terms::{Copied, Items, Name};
 use std::alloc::Global;
 
-/// The nodes that the process of a file has at most.
-const MOST_NODES: u64 = 4000;
-
-/// The levels that it has at most.
-const MOST_LEVELS: u64 = 300;
-
 // Whether the process is too large, its names replaced by what they stand for.
 fn size_fault(names: &Names, draft: &Draft) -> Option<ReadFault>
     ensures { result ≡ size_fault (min (nodes_in names.now (written draft.now)) u64.MAX) (min (levels_in names.now (written draft.now)) u64.MAX) }
 {
-    if nodes(names, draft) > MOST_NODES {
+    if nodes(names, draft) > MOST_PROCESS_PLACES {
         return Some(ReadFault::TooMany);
     }
-    if levels(names, draft) > MOST_LEVELS {
+    if levels(names, draft) > MOST_PROCESS_LEVELS {
         return Some(ReadFault::TooDeep);
     }
     None
@@ -81,7 +76,7 @@ fn known_process(
     match size_fault(names, draft) {
         Some(fault) => Err(fault),
         None => {
-            let process = expand(alloc, entries, names, MOST_LEVELS, draft)?;
+            let process = expand(alloc, entries, names, MOST_PROCESS_LEVELS, draft)?;
             Ok(process)
         }
     }

@@ -5,6 +5,7 @@ ghost use Rattle.sap_read.specs.Words.{words_of};
 ghost use Rattle.sap_read.specs.ProcessReading.{channel, shown_facts, shown_event, up_to, second_term, bound_as, bound, right_side, embedded_rule, inserted_at, inserted, on_term, state_action, action_of};
 ghost use Rattle.sap_read.specs.ProcessView.{GivesAction, to_adversary, on_channel, on_one};
 ghost use Rattle.sap_read.specs.Drafts.{doing};
+ghost use Rattle.sap_read.specs.declared.limits.TheConstants.{MOST_TERM_LEVELS};
 
 use crate::draft::Doing;
 use crate::look::{beyond, name_at, starts};
@@ -91,7 +92,7 @@ fn read_message<'a>(
     channel: Term,
     tokens: &'a [Token],
 ) -> Result<Option<(Box<Doing>, &'a [Token])>, Mem>
-    ensures { GivesAction bytes.now result (second_term sig.now 100 (on_channel way) (tree channel) (words_of bytes.now tokens.now)) }
+    ensures { GivesAction bytes.now result (second_term sig.now MOST_TERM_LEVELS (on_channel way) (tree channel) (words_of bytes.now tokens.now)) }
 {
     if !starts(bytes, tokens, ",") {
         return Ok(None);
@@ -110,7 +111,7 @@ fn read_channel<'a>(
     way: Way,
     tokens: &'a [Token],
 ) -> Result<Option<(Box<Doing>, &'a [Token])>, Mem>
-    ensures { GivesAction bytes.now result (channel sig.now 100 (to_adversary way) (on_channel way) (words_of bytes.now tokens.now)) }
+    ensures { GivesAction bytes.now result (channel sig.now MOST_TERM_LEVELS (to_adversary way) (on_channel way) (words_of bytes.now tokens.now)) }
 {
     if !starts(bytes, tokens, "(") {
         return Ok(None);
@@ -171,7 +172,7 @@ fn read_right_side<'a>(
     shown: FactList,
     tokens: &'a [Token],
 ) -> Result<Option<(Box<Doing>, &'a [Token])>, Mem>
-    ensures { GivesAction bytes.now result (right_side sig.now 100 taken shown (words_of bytes.now tokens.now)) }
+    ensures { GivesAction bytes.now result (right_side sig.now MOST_TERM_LEVELS taken shown (words_of bytes.now tokens.now)) }
 {
     if !starts(bytes, tokens, "[") {
         return Ok(None);
@@ -193,7 +194,7 @@ fn read_shown<'a>(
     taken: FactList,
     tokens: &'a [Token],
 ) -> Result<Option<(Box<Doing>, &'a [Token])>, Mem>
-    ensures { GivesAction bytes.now result (shown_facts sig.now 100 taken (words_of bytes.now tokens.now)) }
+    ensures { GivesAction bytes.now result (shown_facts sig.now MOST_TERM_LEVELS taken (words_of bytes.now tokens.now)) }
 {
     if !starts(bytes, tokens, "--[") {
         return Ok(None);
@@ -211,7 +212,7 @@ fn read_rule<'a>(
     bytes: &[u8],
     tokens: &'a [Token],
 ) -> Result<Option<(Box<Doing>, &'a [Token])>, Mem>
-    ensures { GivesAction bytes.now result (embedded_rule sig.now 100 (words_of bytes.now tokens.now)) }
+    ensures { GivesAction bytes.now result (embedded_rule sig.now MOST_TERM_LEVELS (words_of bytes.now tokens.now)) }
 {
     let Some((taken, rest)) = read_facts(alloc, sig, bytes, true, "]", tokens)? else {
         return Ok(None);
@@ -237,7 +238,7 @@ fn read_event<'a>(
     bytes: &[u8],
     tokens: &'a [Token],
 ) -> Result<Option<(Box<Doing>, &'a [Token])>, Mem>
-    ensures { GivesAction bytes.now result (shown_event sig.now 100 (words_of bytes.now tokens.now)) }
+    ensures { GivesAction bytes.now result (shown_event sig.now MOST_TERM_LEVELS (words_of bytes.now tokens.now)) }
 {
     match read_short_fact(alloc, sig, bytes, false, tokens)? {
         None => Ok(None),
@@ -256,7 +257,7 @@ fn read_value<'a>(
     key: Term,
     tokens: &'a [Token],
 ) -> Result<Option<(Box<Doing>, &'a [Token])>, Mem>
-    ensures { GivesAction bytes.now result (inserted_at sig.now 100 (tree key) (words_of bytes.now tokens.now)) }
+    ensures { GivesAction bytes.now result (inserted_at sig.now MOST_TERM_LEVELS (tree key) (words_of bytes.now tokens.now)) }
 {
     if !starts(bytes, tokens, ",") {
         return Ok(None);
@@ -277,7 +278,7 @@ fn read_insert<'a>(
     bytes: &[u8],
     tokens: &'a [Token],
 ) -> Result<Option<(Box<Doing>, &'a [Token])>, Mem>
-    ensures { GivesAction bytes.now result (inserted sig.now 100 (words_of bytes.now tokens.now)) }
+    ensures { GivesAction bytes.now result (inserted sig.now MOST_TERM_LEVELS (words_of bytes.now tokens.now)) }
 {
     match read_short_term(alloc, sig, bytes, tokens)? {
         None => Ok(None),
@@ -293,7 +294,7 @@ fn read_deed<'a>(
     deed: Deed,
     tokens: &'a [Token],
 ) -> Result<Option<(Box<Doing>, &'a [Token])>, Mem>
-    ensures { GivesAction bytes.now result (on_term sig.now 100 (on_one deed) (words_of bytes.now tokens.now)) }
+    ensures { GivesAction bytes.now result (on_term sig.now MOST_TERM_LEVELS (on_one deed) (words_of bytes.now tokens.now)) }
 {
     match read_short_term(alloc, sig, bytes, tokens)? {
         None => Ok(None),
@@ -311,7 +312,7 @@ fn read_state_action<'a>(
     bytes: &[u8],
     tokens: &'a [Token],
 ) -> Result<Option<(Box<Doing>, &'a [Token])>, Mem>
-    ensures { GivesAction bytes.now result (state_action sig.now 100 (words_of bytes.now tokens.now)) }
+    ensures { GivesAction bytes.now result (state_action sig.now MOST_TERM_LEVELS (words_of bytes.now tokens.now)) }
 {
     let next = beyond(1, tokens);
     if starts(bytes, tokens, "insert") {
@@ -337,7 +338,7 @@ pub fn read_action<'a>(
     bytes: &[u8],
     tokens: &'a [Token],
 ) -> Result<Option<(Box<Doing>, &'a [Token])>, Mem>
-    ensures { GivesAction bytes.now result (action_of sig.now 100 (words_of bytes.now tokens.now)) }
+    ensures { GivesAction bytes.now result (action_of sig.now MOST_TERM_LEVELS (words_of bytes.now tokens.now)) }
 {
     let next = beyond(1, tokens);
     if starts(bytes, tokens, "new") {

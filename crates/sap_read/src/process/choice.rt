@@ -5,6 +5,7 @@ ghost use Rattle.sap_read.specs.Written.{test};
 ghost use Rattle.sap_read.specs.Words.{words_of};
 ghost use Rattle.sap_read.specs.ProcessReading.{up_to, equality, compared, found, entry, looked_up};
 ghost use Rattle.sap_read.specs.ProcessView.{GivesChoice};
+ghost use Rattle.sap_read.specs.declared.limits.TheConstants.{MOST_TERM_LEVELS};
 
 use crate::look::{beyond, name_at, starts};
 use crate::process::build::{Branching, comparing, looking_up};
@@ -39,7 +40,7 @@ fn read_equality<'a>(
     left: Term,
     tokens: &'a [Token],
 ) -> Result<Option<(Box<Branching>, &'a [Token])>, Mem>
-    ensures { GivesChoice bytes.now result (equality sig.now 100 (tree left) (words_of bytes.now tokens.now)) }
+    ensures { GivesChoice bytes.now result (equality sig.now MOST_TERM_LEVELS (tree left) (words_of bytes.now tokens.now)) }
 {
     if !starts(bytes, tokens, "=") {
         return Ok(None);
@@ -58,7 +59,7 @@ pub fn read_compared<'a>(
     bytes: &[u8],
     tokens: &'a [Token],
 ) -> Result<Option<(Box<Branching>, &'a [Token])>, Mem>
-    ensures { GivesChoice bytes.now result (compared sig.now 100 (words_of bytes.now tokens.now)) }
+    ensures { GivesChoice bytes.now result (compared sig.now MOST_TERM_LEVELS (words_of bytes.now tokens.now)) }
 {
     match read_short_term(alloc, sig, bytes, tokens)? {
         None => Ok(None),
@@ -111,7 +112,7 @@ pub fn read_looked_up<'a>(
     bytes: &[u8],
     tokens: &'a [Token],
 ) -> Result<Option<(Box<Branching>, &'a [Token])>, Mem>
-    ensures { GivesChoice bytes.now result (looked_up sig.now 100 (words_of bytes.now tokens.now)) }
+    ensures { GivesChoice bytes.now result (looked_up sig.now MOST_TERM_LEVELS (words_of bytes.now tokens.now)) }
 {
     match read_short_term(alloc, sig, bytes, tokens)? {
         None => Ok(None),

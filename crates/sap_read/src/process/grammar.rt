@@ -5,6 +5,7 @@ ghost use Rattle.sap_read.specs.Reading.{name_at};
 ghost use Rattle.sap_read.specs.ProcessReading.{second_branch, branches, condition, looking, going_on, call_or_action, enclosed, repeated, beside, starts_bar, seq, par};
 ghost use Rattle.sap_read.specs.ProcessView.{GivesDraft, chosen};
 ghost use Rattle.sap_read.specs.Drafts.{doing, written};
+ghost use Rattle.sap_read.specs.declared.limits.TheConstants.{MOST_TERM_LEVELS};
 
 use crate::draft::{Doing, Draft};
 use crate::look::{beyond, name_at, starts, starts_zero};
@@ -37,7 +38,7 @@ fn read_second_branch<'a>(
 ) -> Result<Option<(Box<Draft>, u32, &'a [Token])>, Mem>
     requires deep { depth < 2 ^ 30 }
     requires within { levels ≤ depth }
-    ensures gives { GivesDraft bytes.now result (second_branch (seq sig.now 100 depth) (chosen choice.value) (written yes.value, levels) (words_of bytes.now tokens.now)) }
+    ensures gives { GivesDraft bytes.now result (second_branch (seq sig.now MOST_TERM_LEVELS depth) (chosen choice.value) (written yes.value, levels) (words_of bytes.now tokens.now)) }
     ensures within { IfOk result (λ o. IfSome o (λ r. (1 ≤ r.1) × (r.1 ≤ depth + 1))) }
 {
     match read_seq(alloc, sig, bytes, depth, tokens)? {
@@ -60,7 +61,7 @@ fn read_branches<'a>(
     tokens: &'a [Token],
 ) -> Result<Option<(Box<Draft>, u32, &'a [Token])>, Mem>
     requires { depth < 2 ^ 30 }
-    ensures gives { GivesDraft bytes.now result (branches (seq sig.now 100 depth) (chosen choice.value) (words_of bytes.now tokens.now)) }
+    ensures gives { GivesDraft bytes.now result (branches (seq sig.now MOST_TERM_LEVELS depth) (chosen choice.value) (words_of bytes.now tokens.now)) }
     ensures within { IfOk result (λ o. IfSome o (λ r. (1 ≤ r.1) × (r.1 ≤ depth + 1))) }
 {
     match read_seq(alloc, sig, bytes, depth, tokens)? {
@@ -87,7 +88,7 @@ fn read_condition<'a>(
     tokens: &'a [Token],
 ) -> Result<Option<(Box<Draft>, u32, &'a [Token])>, Mem>
     requires { depth < 2 ^ 30 }
-    ensures gives { GivesDraft bytes.now result (condition sig.now 100 (seq sig.now 100 depth) (words_of bytes.now tokens.now)) }
+    ensures gives { GivesDraft bytes.now result (condition sig.now MOST_TERM_LEVELS (seq sig.now MOST_TERM_LEVELS depth) (words_of bytes.now tokens.now)) }
     ensures within { IfOk result (λ o. IfSome o (λ r. (1 ≤ r.1) × (r.1 ≤ depth + 1))) }
 {
     match read_compared(alloc, sig, bytes, tokens)? {
@@ -106,7 +107,7 @@ fn read_lookup<'a>(
     tokens: &'a [Token],
 ) -> Result<Option<(Box<Draft>, u32, &'a [Token])>, Mem>
     requires { depth < 2 ^ 30 }
-    ensures gives { GivesDraft bytes.now result (looking sig.now 100 (seq sig.now 100 depth) (words_of bytes.now tokens.now)) }
+    ensures gives { GivesDraft bytes.now result (looking sig.now MOST_TERM_LEVELS (seq sig.now MOST_TERM_LEVELS depth) (words_of bytes.now tokens.now)) }
     ensures within { IfOk result (λ o. IfSome o (λ r. (1 ≤ r.1) × (r.1 ≤ depth + 1))) }
 {
     match read_looked_up(alloc, sig, bytes, tokens)? {
@@ -126,7 +127,7 @@ fn read_on<'a>(
     tokens: &'a [Token],
 ) -> Result<Option<(Box<Draft>, u32, &'a [Token])>, Mem>
     requires { depth < 2 ^ 30 }
-    ensures gives { GivesDraft bytes.now result (going_on (seq sig.now 100 depth) depth (doing first.value) (words_of bytes.now tokens.now)) }
+    ensures gives { GivesDraft bytes.now result (going_on (seq sig.now MOST_TERM_LEVELS depth) depth (doing first.value) (words_of bytes.now tokens.now)) }
     ensures within { IfOk result (λ o. IfSome o (λ r. (1 ≤ r.1) × (r.1 ≤ depth + 1))) }
 {
     if starts(bytes, tokens, ";") {
@@ -155,7 +156,7 @@ fn read_call_or_action<'a>(
     tokens: &'a [Token],
 ) -> Result<Option<(Box<Draft>, u32, &'a [Token])>, Mem>
     requires { depth < 2 ^ 30 }
-    ensures gives { GivesDraft bytes.now result (call_or_action sig.now 100 (seq sig.now 100 depth) depth (name_at (words_of bytes.now tokens.now)) (words_of bytes.now tokens.now)) }
+    ensures gives { GivesDraft bytes.now result (call_or_action sig.now MOST_TERM_LEVELS (seq sig.now MOST_TERM_LEVELS depth) depth (name_at (words_of bytes.now tokens.now)) (words_of bytes.now tokens.now)) }
     ensures within { IfOk result (λ o. IfSome o (λ r. (1 ≤ r.1) × (r.1 ≤ depth + 1))) }
 {
     if let Some(name) = name_at(bytes, tokens) {
@@ -178,7 +179,7 @@ fn read_enclosed<'a>(
     tokens: &'a [Token],
 ) -> Result<Option<(Box<Draft>, u32, &'a [Token])>, Mem>
     requires { depth < 2 ^ 30 }
-    ensures gives { GivesDraft bytes.now result (enclosed (par sig.now 100 depth) (words_of bytes.now tokens.now)) }
+    ensures gives { GivesDraft bytes.now result (enclosed (par sig.now MOST_TERM_LEVELS depth) (words_of bytes.now tokens.now)) }
     ensures within { IfOk result (λ o. IfSome o (λ r. (1 ≤ r.1) × (r.1 ≤ depth + 1))) }
 {
     match read_par(alloc, sig, bytes, depth, tokens)? {
@@ -203,7 +204,7 @@ fn read_replicated<'a>(
     tokens: &'a [Token],
 ) -> Result<Option<(Box<Draft>, u32, &'a [Token])>, Mem>
     requires { depth < 2 ^ 30 }
-    ensures gives { GivesDraft bytes.now result (repeated (seq sig.now 100 depth) (words_of bytes.now tokens.now)) }
+    ensures gives { GivesDraft bytes.now result (repeated (seq sig.now MOST_TERM_LEVELS depth) (words_of bytes.now tokens.now)) }
     ensures within { IfOk result (λ o. IfSome o (λ r. (1 ≤ r.1) × (r.1 ≤ depth + 1))) }
 {
     match read_seq(alloc, sig, bytes, depth, tokens)? {
@@ -225,7 +226,7 @@ fn read_seq<'a>(
     tokens: &'a [Token],
 ) -> Result<Option<(Box<Draft>, u32, &'a [Token])>, Mem>
     requires { depth < 2 ^ 30 }
-    ensures gives { GivesDraft bytes.now result (seq sig.now 100 depth (words_of bytes.now tokens.now)) }
+    ensures gives { GivesDraft bytes.now result (seq sig.now MOST_TERM_LEVELS depth (words_of bytes.now tokens.now)) }
     ensures within { IfOk result (λ o. IfSome o (λ r. (1 ≤ r.1) × (r.1 ≤ depth))) }
 {
     if depth == 0 {
@@ -261,7 +262,7 @@ fn read_beside<'a>(
 ) -> Result<Option<(Box<Draft>, u32, &'a [Token])>, Mem>
     requires deep { depth < 2 ^ 30 }
     requires within { levels ≤ depth }
-    ensures gives { GivesDraft bytes.now result (beside (par sig.now 100 depth) (written left.value, levels) (words_of bytes.now tokens.now)) }
+    ensures gives { GivesDraft bytes.now result (beside (par sig.now MOST_TERM_LEVELS depth) (written left.value, levels) (words_of bytes.now tokens.now)) }
     ensures within { IfOk result (λ o. IfSome o (λ r. (1 ≤ r.1) × (r.1 ≤ depth + 1))) }
 {
     match read_par(alloc, sig, bytes, depth, tokens)? {
@@ -284,7 +285,7 @@ pub fn read_par<'a>(
     tokens: &'a [Token],
 ) -> Result<Option<(Box<Draft>, u32, &'a [Token])>, Mem>
     requires { depth < 2 ^ 30 }
-    ensures gives { GivesDraft bytes.now result (par sig.now 100 depth (words_of bytes.now tokens.now)) }
+    ensures gives { GivesDraft bytes.now result (par sig.now MOST_TERM_LEVELS depth (words_of bytes.now tokens.now)) }
     ensures within { IfOk result (λ o. IfSome o (λ r. (1 ≤ r.1) × (r.1 ≤ depth))) }
 {
     if depth == 0 {

@@ -7,14 +7,14 @@ ghost use Rattle.sap_read.specs.View.{GivesTerm, GivesFact};
 ghost use Rattle.sap_read.specs.ProcessView.{GivesFacts};
 
 use crate::fact::has_few_levels;
+use crate::limits::MOST_TERM_LEVELS;
 use crate::look::{beyond, starts};
-use crate::term::MOST_LEVELS;
 use crate::{fact, term};
 use sap_terms::{Fact, FactList, Mem, Signature, Term};
 use sap_text::Token;
 use std::alloc::Global;
 
-/// A term of at most 100 levels, and the tokens behind it.
+/// A term of at most `MOST_TERM_LEVELS` levels, and the tokens behind it.
 #[tactic(auto, using(crate::proofs::ProcessSteps::limits), unfolding(crate::specs::Reading::after))]
 pub fn read_short_term<'a>(
     alloc: Global,
@@ -22,19 +22,20 @@ pub fn read_short_term<'a>(
     bytes: &[u8],
     tokens: &'a [Token],
 ) -> Result<Option<(Term, &'a [Token])>, Mem>
-    ensures { GivesTerm bytes.now result (short_term sig.now 100 (words_of bytes.now tokens.now)) }
+    ensures { GivesTerm bytes.now result (short_term sig.now MOST_TERM_LEVELS (words_of bytes.now tokens.now)) }
 {
-    let Some((term, rest)) = term::read_deep(alloc, sig, bytes, 100, tokens)? else {
+    let Some((term, rest)) = term::read_deep(alloc, sig, bytes, MOST_TERM_LEVELS as u32, tokens)?
+    else {
         return Ok(None);
     };
-    if term.levels() <= MOST_LEVELS {
+    if term.levels() <= MOST_TERM_LEVELS {
         Ok(Some((term, rest)))
     } else {
         Ok(None)
     }
 }
 
-/// A fact whose terms have at most 100 levels, persistent only where that is allowed, and the tokens behind it.
+/// A fact whose terms have at most `MOST_TERM_LEVELS` levels, persistent only where that is allowed, and the tokens behind it.
 #[tactic(auto, using(crate::proofs::ProcessSteps::limits), unfolding(crate::specs::Reading::after))]
 pub fn read_short_fact<'a>(
     alloc: Global,
@@ -43,9 +44,10 @@ pub fn read_short_fact<'a>(
     allowed: bool,
     tokens: &'a [Token],
 ) -> Result<Option<(Fact, &'a [Token])>, Mem>
-    ensures { GivesFact bytes.now result (short_fact sig.now 100 allowed (words_of bytes.now tokens.now)) }
+    ensures { GivesFact bytes.now result (short_fact sig.now MOST_TERM_LEVELS allowed (words_of bytes.now tokens.now)) }
 {
-    let Some((fact, rest)) = fact::read_deep(alloc, sig, bytes, 100, tokens)? else {
+    let Some((fact, rest)) = fact::read_deep(alloc, sig, bytes, MOST_TERM_LEVELS as u32, tokens)?
+    else {
         return Ok(None);
     };
     if !has_few_levels(&fact.args) || (fact.persistent && !allowed) {
@@ -63,7 +65,7 @@ fn read_fact_list<'a>(
     closing: &str,
     tokens: &'a [Token],
 ) -> Result<Option<(FactList, &'a [Token])>, Mem>
-    ensures { GivesFacts bytes.now result (list_of closing.now (short_fact sig.now 100 allowed) (length tokens.now) (words_of bytes.now tokens.now)) }
+    ensures { GivesFacts bytes.now result (list_of closing.now (short_fact sig.now MOST_TERM_LEVELS allowed) (length tokens.now) (words_of bytes.now tokens.now)) }
 {
     let mut facts = FactList::new(alloc);
     let mut rest = tokens;
@@ -94,7 +96,7 @@ pub fn read_facts<'a>(
     closing: &str,
     tokens: &'a [Token],
 ) -> Result<Option<(FactList, &'a [Token])>, Mem>
-    ensures { GivesFacts bytes.now result (facts sig.now 100 allowed closing.now (words_of bytes.now tokens.now)) }
+    ensures { GivesFacts bytes.now result (facts sig.now MOST_TERM_LEVELS allowed closing.now (words_of bytes.now tokens.now)) }
 {
     if starts(bytes, tokens, closing) {
         Ok(Some((FactList::new(alloc), beyond(1, tokens))))
