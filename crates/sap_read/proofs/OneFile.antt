@@ -26,7 +26,7 @@ use Rattle.sap_read.specs.declared.limits.TheConstants.{MOST_FILE_NAME_BYTES}
 -- what the whole process of a file makes of it
 data AfterProcess (x : List ℕ) (g : Sig) (p : Proc) : Result FileContent ReadFault → Type 0 where
   is_ill : (w : Flaw) (path : List ℕ) → IsFirstFlaw g p w path → AfterProcess x g p (Err (Ill w path))
-  is_well : IsWellFormed g p → AfterProcess x g p (Ok (record { name = x; signature = g; process = with_sorts [] p }))
+  is_well : IsWellFormed g p → AfterProcess x g p (Ok (record { name = x; signature = g; process = with_sorts [] p; restrictions = []; lemmas = [] }))
 
 -- what its items make of it
 data AfterItems (x : List ℕ) (is : List Standing) : Result FileContent ReadFault → Type 0 where

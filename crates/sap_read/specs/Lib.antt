@@ -2,6 +2,7 @@ pub use Rattle.sap_text.specs.Tokens
 pub use Rattle.sap_text.specs.Spans
 pub use Rattle.sap_process.specs.Action
 pub use Rattle.sap_process.specs.Proc
+pub use Rattle.sap_formula.specs.Form
 pub mod Words
 pub mod TermGrammar
 pub mod FactGrammar

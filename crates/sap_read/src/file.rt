@@ -10,7 +10,7 @@ ghost use Rattle.sap_process.specs.Proc.{proc};
 ghost use Rattle.sap_process.specs.Flaws.{IsFirstFlaw, IsWellFormed};
 ghost use Rattle.sap_process.specs.Sorted.{with_sorts};
 ghost use Rattle.sap_process.specs.declared.flaw.Flaw.{Flaw};
-ghost use Rattle.sap_read.specs.Files.{IsRead};
+ghost use Rattle.sap_read.specs.Files.{IsRead, told_by};
 ghost use Rattle.sap_read.specs.declared.fault.ReadFault.{ReadFault};
 ghost use Rattle.sap_read.specs.declared.fault.ReadFault.TheVariants.{Mem as OutOfMemory, Lex as LexFault, Ill as IllFault};
 
@@ -43,7 +43,7 @@ pub struct File {
 /// The time and the memory are linear in the bytes and in what is written of the process; what is too large is counted, and
 /// never built.
 pub fn read_file(alloc: Global, bytes: &[u8]) -> Result<File, ReadFault>
-    ensures accepted { IfOk result (λ f. IsRead bytes.now (Ok (record { name = f.name; signature = f.signature; process = proc f.process }))
+    ensures accepted { IfOk result (λ f. IsRead bytes.now (Ok (told_by f))
         × (f.restrictions ≡ []) × (f.lemmas ≡ [])) }
     ensures refused { (e : ReadFault) → IsErrOf result e → (e ≡ OutOfMemory → ⊥) → IsRead bytes.now (Err e) }
 {
@@ -55,7 +55,7 @@ pub fn read_file(alloc: Global, bytes: &[u8]) -> Result<File, ReadFault>
 
 /// The same file in a box: a caller that lends it on holds nothing large.
 pub fn read_file_boxed(alloc: Global, bytes: &[u8]) -> Result<Box<File>, ReadFault>
-    ensures accepted { IfOk result (λ f. IsRead bytes.now (Ok (record { name = f.value.name; signature = f.value.signature; process = proc f.value.process }))
+    ensures accepted { IfOk result (λ f. IsRead bytes.now (Ok (told_by f.value))
         × (f.value.restrictions ≡ []) × (f.value.lemmas ≡ [])) }
     ensures refused { (e : ReadFault) → IsErrOf result e → (e ≡ OutOfMemory → ⊥) → IsRead bytes.now (Err e) }
 {
@@ -67,7 +67,7 @@ pub fn read_file_boxed(alloc: Global, bytes: &[u8]) -> Result<Box<File>, ReadFau
 /// term is a constant where any item, also a later one, declares it so.
 fn read_parts(alloc: Global, bytes: &[u8], tokens: &[Token]) -> Result<Box<File>, ReadFault>
     requires { AreTokens bytes.now tokens.now }
-    ensures accepted { IfOk result (λ f. IsRead bytes.now (Ok (record { name = f.value.name; signature = f.value.signature; process = proc f.value.process }))
+    ensures accepted { IfOk result (λ f. IsRead bytes.now (Ok (told_by f.value))
         × (f.value.restrictions ≡ []) × (f.value.lemmas ≡ [])) }
     ensures refused { (e : ReadFault) → IsErrOf result e → (e ≡ OutOfMemory → ⊥) → IsRead bytes.now (Err e) }
 {

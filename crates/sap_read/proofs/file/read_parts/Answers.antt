@@ -53,10 +53,11 @@ returns-clause-accepted c =
     let g = c.in_ok-declared.declared.signature in
     let clash = c.in_ok-declared.declared.clash in
     let found = sym c.header_name.ensures ∙ ap option_copied c.in-Some.is in
-    let parts = c.in_ok-file_of.ensures.parts in (
-      rw (parts.0, parts.1, parts.2) (is_accepted z ts c.in-Some.name.now g clash (proc c.in_ok-process.process.value) c.requires found
+    let parts = c.in_ok-file_of.ensures.parts in
+    let none = c.in_ok-file_of.ensures.none in (
+      rw (parts.0, parts.1, parts.2, none.0, none.1) (is_accepted z ts c.in-Some.name.now g clash (proc c.in_ok-process.process.value) c.requires found
           (told z ts rest g clash c.beyond-rest.ensures c.in_ok-declared.ensures)
           (c.in_ok-process.ensures.accepted (items_of z ts) (cut_behind z ts rest c.beyond-rest.ensures))),
-      c.in_ok-file_of.ensures.none.0,
-      c.in_ok-file_of.ensures.none.1,
+      none.0,
+      none.1,
     )
