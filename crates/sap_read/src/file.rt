@@ -22,7 +22,7 @@ use crate::look::{beyond, name_at, starts};
 use crate::whole::whole_process;
 use sap_formula::{LemmaList, RestrictionList};
 use sap_process::{Process, well_formed};
-use sap_terms::{Mem, Name, Signature};
+use sap_terms::{Copied, Mem, Name, Signature};
 use sap_text::{Lex, Token, tokens};
 use std::alloc::Global;
 
@@ -34,6 +34,52 @@ pub struct File {
     pub process: Process,
     pub restrictions: RestrictionList,
     pub lemmas: LemmaList,
+}
+
+impl File {
+    /// A file that tells the same. Want of memory is the only error.
+    pub fn copy(&self, alloc: Global) -> Result<File, Mem>
+        ensures { IfOk result (λ f. told_by f ≡ told_by self.now) }
+    {
+        Ok(Box::into_inner(self.boxed_copy(alloc)?))
+    }
+
+    /// The same in a box.
+    pub fn boxed_copy(&self, alloc: Global) -> Result<Box<File>, Mem>
+        ensures { IfOk result (λ f. told_by f.value ≡ told_by self.now) }
+    {
+        let (name, signature) = self.copied_head(alloc)?;
+        let (restrictions, lemmas) = self.copied_lists(alloc)?;
+        let process = copied_process(alloc, &self.process)?;
+        let file = File {
+            name,
+            signature,
+            process: Box::into_inner(process),
+            restrictions,
+            lemmas,
+        };
+        Ok(Box::new(alloc, file)?)
+    }
+
+    fn copied_head(&self, alloc: Global) -> Result<(Name, Signature), Mem>
+        ensures { IfOk result (λ p. (p.0 ≡ self.now.name) × (p.1 ≡ self.now.signature)) }
+    {
+        let name = self.name.copy(alloc)?;
+        Ok((name, self.signature.copy(alloc)?))
+    }
+
+    fn copied_lists(&self, alloc: Global) -> Result<(RestrictionList, LemmaList), Mem>
+        ensures { IfOk result (λ p. (p.0 ≡ self.now.restrictions) × (p.1 ≡ self.now.lemmas)) }
+    {
+        let restrictions = self.restrictions.copy(alloc)?;
+        Ok((restrictions, self.lemmas.copy(alloc)?))
+    }
+}
+
+fn copied_process(alloc: Global, p: &Process) -> Result<Box<Process>, Mem>
+    ensures { IfOk result (λ q. proc q.value ≡ proc p.now) }
+{
+    boxed(alloc, p.copy(alloc)?)
 }
 
 /// The file of these bytes, or the first cause that refuses it, in the order of `ReadFault`. Names of processes are
