@@ -12,8 +12,8 @@ use Rattle.sap_read.specs.declared.names.Meant.{Meant}
 use Rattle.sap_read.specs.Item.{Body}
 use Rattle.sap_read.specs.Replaced.{replaced, process_of, no_meaning}
 use Rattle.sap_read.specs.Causes.{first_of, unlabelled, labels, unknown_from, first_repeated, cause}
-use Rattle.sap_read.specs.Drafts.{written, body}
-use Rattle.sap_read.specs.Meaning.{meaning_of, AreMeant, nodes_in, levels_in, IsCounted, AreCounted, AreTargets, IsExpanded, AreExpanded, size_fault}
+use Rattle.sap_read.specs.code.Drafts.{written, body}
+use Rattle.sap_read.specs.code.Meaning.{meaning_of, AreMeant, nodes_in, levels_in, IsCounted, AreCounted, AreTargets, IsExpanded, AreExpanded, size_fault}
 use Rattle.sap_read.proofs.Kept.{nodes_counted, levels_counted}
 use Rattle.sap_read.proofs.Levels.{uncut}
 use Rattle.sap_read.proofs.Meaning.{AreFresh, fixed, process_fixed}

@@ -8,10 +8,10 @@ use Rattle.sap_text.specs.declared.token.Token.{Token}
 use Rattle.sap_read.specs.Words.{Word, words_of, starts}
 use Rattle.sap_read.specs.Item.{Declaration, of_builtin, of_symbol}
 use Rattle.sap_read.specs.ItemGrammar.{value_from, value, IsBuiltin, IsSymbol}
-use Rattle.sap_read.specs.Reading.{Read, Reader, given}
-use Rattle.sap_read.specs.ItemReading.{arity_of_digits, builtin_at, symbol_at, mapped, declaration_at, is_over, in_front, whole_list}
+use Rattle.sap_read.specs.code.Reading.{Read, Reader, given}
+use Rattle.sap_read.specs.code.ItemReading.{arity_of_digits, builtin_at, symbol_at, mapped, declaration_at, is_over, in_front, whole_list}
 use Rattle.sap_read.specs.declared.declaration.Declaration as code
-use Rattle.sap_read.specs.ItemView.{declaration}
+use Rattle.sap_read.specs.code.ItemView.{declaration}
 use Rattle.sap_read.proofs.Sound.{OnRead}
 use Rattle.sap_read.proofs.Steps.{words-drop, length-words}
 use Rattle.sap_read.proofs.ItemWords.{builtin_shorter, builtin_sound, symbol_shorter, symbol_sound}

@@ -12,11 +12,11 @@ use Rattle.sap_read.specs.Cut.{Placed, placed, words, first_line, IsCut}
 use Rattle.sap_read.specs.ItemGrammar.{IsProcess, IsItem, IsEnd, AreItems, IsSomeItem, IsFaulty, item_builtins, item_functions, item_definition, item_process, items_end, items_more, no_end, bad_item, later_item}
 use Rattle.sap_read.specs.Signatures.{clash_with, with_declaration, signature_from, signature_of, clash_from}
 use Rattle.sap_read.specs.declared.draft.Definition.{Definition}
-use Rattle.sap_read.specs.Drafts.{body}
-use Rattle.sap_read.specs.Reading.{name_at}
-use Rattle.sap_read.specs.ItemReading.{count_on, cut, kept, declared_in, declared_in_all, told}
+use Rattle.sap_read.specs.code.Drafts.{body}
+use Rattle.sap_read.specs.code.Reading.{name_at}
+use Rattle.sap_read.specs.code.ItemReading.{count_on, cut, kept, declared_in, declared_in_all, told}
 use Rattle.sap_read.specs.declared.declaration.Declaration as code
-use Rattle.sap_read.specs.ItemView.{declaration, IsItemOf, IsAdded}
+use Rattle.sap_read.specs.code.ItemView.{declaration, IsItemOf, IsAdded}
 use Rattle.sap_read.proofs.Sound.{starts_is, name_is}
 use Rattle.sap_read.proofs.Steps.{words-drop}
 use Rattle.sap_read.proofs.Cuts.{cut_is, cut_step}

@@ -10,7 +10,7 @@ use Rattle.sap_read.specs.ProcessGrammar.{IsPar, EndsProcess}
 use Rattle.sap_read.specs.Item.{Item, builtins, functions, definition, process, Standing, Declaration, of_builtin, of_symbol, declared_by, declarations, body_of}
 use Rattle.sap_read.specs.Cut.{Placed, words}
 use Rattle.sap_read.specs.ItemGrammar.{AreBuiltins, AreSymbols, IsProcess, IsItem, IsEnd, AreItems, IsFaulty, item_builtins, item_functions, item_definition, item_process, items_end, items_more, no_end, bad_item, later_item}
-use Rattle.sap_read.specs.ItemReading.{builtin_at, symbol_at, declaration_at, whole_list, behind_colon, declared_in, told, declared_in_all}
+use Rattle.sap_read.specs.code.ItemReading.{builtin_at, symbol_at, declaration_at, whole_list, behind_colon, declared_in, told, declared_in_all}
 use Rattle.sap_read.proofs.Sound.{starts_is}
 use Rattle.sap_read.proofs.ItemWords.{builtins_read, symbols_read, builtins_sound, symbols_sound, list_mapped}
 use Rattle.sap_read.specs.declared.limits.TheConstants.{MOST_TERM_LEVELS}

@@ -17,8 +17,8 @@ use Rattle.sap_read.specs.declared.names.Meant.{Meant}
 use Rattle.sap_read.specs.Written.{Written, nil, call, parallel, replicated, act, test, lookup}
 use Rattle.sap_read.specs.Replaced.{calls, replaced, after_body, no_meaning}
 use Rattle.sap_read.specs.Causes.{first_of, listed, is_among, unknown_from}
-use Rattle.sap_read.specs.Drafts.{written, body}
-use Rattle.sap_read.specs.Meaning.{meaning, AreMeant, nodes_kept, nodes_in, levels_kept, levels_in, unknown_among, place_kept, target, meant, kept_behind, IsCounted, AreCounted, is_call, IsTarget, AreBehind}
+use Rattle.sap_read.specs.code.Drafts.{written, body}
+use Rattle.sap_read.specs.code.Meaning.{meaning, AreMeant, nodes_kept, nodes_in, levels_kept, levels_in, unknown_among, place_kept, target, meant, kept_behind, IsCounted, AreCounted, is_call, IsTarget, AreBehind}
 
 -- the first unknown name of two lists
 pub unknown_append : {S : Type 0} (names : IndexMap (List ℕ) Meant S) (xs ys : List (List ℕ)) → unknown_among names (xs ++ ys) ≡ (if is_some (unknown_among names xs) then unknown_among names xs else unknown_among names ys)

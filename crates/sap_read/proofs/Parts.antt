@@ -12,8 +12,8 @@ use Rattle.sap_read.specs.ItemGrammar.{AreItems}
 use Rattle.sap_read.specs.Signatures.{signature_of, clash_from}
 use Rattle.sap_read.specs.Causes.{cause}
 use Rattle.sap_read.specs.Files.{AreTokens, IsParted, IsRead, no_item, refused, ill, accepted}
-use Rattle.sap_read.specs.ItemReading.{cut}
-use Rattle.sap_read.specs.Judged.{header_of, IsAccepted, IsRefused}
+use Rattle.sap_read.specs.code.ItemReading.{cut}
+use Rattle.sap_read.specs.code.Judged.{header_of, IsAccepted, IsRefused}
 use Rattle.sap_read.proofs.Cuts.{cut_sound}
 use Rattle.sap_read.proofs.Headers.{header_is}
 

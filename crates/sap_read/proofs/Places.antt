@@ -10,7 +10,7 @@ use Rattle.sap_read.specs.Words.{Word, starts, words_of}
 use Rattle.sap_read.specs.Places.{IsAt, fact_levels}
 use Rattle.sap_read.specs.TermGrammar.{IsTerm, IsRest, IsList, IsArgs, args_none, args_some, list_last, list_more, rest_last, rest_more, term_constant, term_fresh, term_message, term_pub, term_quoted, term_symbol, term_tuple}
 use Rattle.sap_read.specs.FactGrammar.{IsFact, fact_linear, fact_persistent}
-use Rattle.sap_read.specs.Reading.{Reader, term, fact_at}
+use Rattle.sap_read.specs.code.Reading.{Reader, term, fact_at}
 use Rattle.sap_read.proofs.Complete.{term_read, fact_read}
 use Rattle.sap_read.proofs.Sound.{term_is, fact_is}
 use Rattle.sap_read.proofs.Steps.{words-drop, length-words}

@@ -3,7 +3,7 @@ use Rattle.std.proofs.Common.{rules, ◌≡◌, ◌≤◌, ◌<◌, ◌-◌, ℕ
 use Rattle.std.specs.Prelude.{nat_le}
 use Rattle.sap_terms.specs.Signature.{Sig}
 use Rattle.sap_read.specs.Words.{Word}
-use Rattle.sap_read.specs.ProcessReading.{seq, par, seq_at, par_at}
+use Rattle.sap_read.specs.code.ProcessReading.{seq, par, seq_at, par_at}
 use Rattle.sap_read.proofs.Steps.{words-drop}
 
 -- a number within the limit

@@ -12,8 +12,8 @@ use Rattle.sap_read.specs.Places.{fact_levels}
 use Rattle.sap_process.specs.Action.{Action, out, send, input, receive, delete, lock, unlock, embedded}
 use Rattle.sap_read.specs.Written.{Written, nil, call, parallel, test, lookup}
 use Rattle.sap_read.specs.ProcessGrammar.{var, IsShort, IsShortFact, AreSomeFacts, AreFacts, IsAction, IsSeq, IsPar, Ending, facts_last, facts_more, facts_none, facts_some, action_acts, action_delete, action_event, action_input, action_insert, action_lock, action_new, action_new_fresh, action_out, action_receive, action_rule, action_send, action_unlock, closed, dangling, one_bar, two_bars, par_more, par_one, seq_action, seq_call, seq_if, seq_if_else, seq_lookup, seq_lookup_else, seq_nil, seq_parentheses, seq_replicated, seq_then}
-use Rattle.sap_read.specs.Reading.{Read, Reader, name_at, list_of, term, fact_at}
-use Rattle.sap_read.specs.ProcessReading.{past, short_term, short_fact, facts, channel, bound, right_side, embedded_rule, shown_event, inserted, on_term, state_action, action_of, Levelled, branches, Choosing, compared, condition, looked_up, looking, going_on, call_or_action, starts_zero, seq_at, par_at, seq, par}
+use Rattle.sap_read.specs.code.Reading.{Read, Reader, name_at, list_of, term, fact_at}
+use Rattle.sap_read.specs.code.ProcessReading.{past, short_term, short_fact, facts, channel, bound, right_side, embedded_rule, shown_event, inserted, on_term, state_action, action_of, Levelled, branches, Choosing, compared, condition, looked_up, looking, going_on, call_or_action, starts_zero, seq_at, par_at, seq, par}
 use Rattle.sap_read.proofs.Processes.{NoElse, seq_some}
 use Rattle.sap_read.proofs.Sound.{Says, OnRead, after_on, behind_on, given_on, if_on, starts_is, name_is, same_bytes, term_sound, fact_sound}
 

@@ -6,8 +6,8 @@ use Rattle.sap_text.specs.declared.token.Token.{Token}
 use Rattle.sap_read.specs.Written.{Written}
 use Rattle.sap_read.specs.ProcessGrammar.{IsPar, EndsProcess}
 use Rattle.sap_read.specs.ItemGrammar.{IsProcess}
-use Rattle.sap_read.specs.Reading.{Read}
-use Rattle.sap_read.specs.ProcessReading.{Levelled, par}
+use Rattle.sap_read.specs.code.Reading.{Read}
+use Rattle.sap_read.specs.code.ProcessReading.{Levelled, par}
 use Rattle.sap_read.proofs.Processes.{par_read}
 use Rattle.sap_read.proofs.SoundProcesses.{par_sound}
 use Rattle.sap_read.proofs.Signatures.{par_too}

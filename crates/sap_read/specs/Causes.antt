@@ -4,8 +4,10 @@ use Rattle.std.specs.List.{list_any, find}
 use Rattle.std.specs.Str.{bytes_eq}
 use Rattle.sap_terms.specs.Signature.{pairs_alone}
 use Rattle.sap_process.specs.Proc.{Proc, node_count, level_count}
+use Rattle.sap_process.specs.declared.flaw.Ill as declared_ill
+use Rattle.sap_process.specs.declared.flaw.Ill.TheVariants as ill
 use Rattle.sap_read.specs.declared.fault.ReadFault.{ReadFault}
-use Rattle.sap_read.specs.declared.fault.ReadFault.TheVariants.{NoProcess, TwoProcesses, UnknownProcess, DuplicateName, FunctionClash, TooMany, TooDeep}
+use Rattle.sap_read.specs.declared.fault.ReadFault.TheVariants.{Mem, Ill, NoProcess, TwoProcesses, UnknownProcess, DuplicateName, FunctionClash, TooMany, TooDeep}
 use Rattle.sap_read.specs.Item.{Standing, declarations, Body, bodies}
 use Rattle.sap_read.specs.Replaced.{calls, process_of, no_meaning}
 use Rattle.sap_read.specs.Signatures.{clash_from}
@@ -66,3 +68,8 @@ cause bs clash = first_of (causes bs clash)
 -- the first cause that holds of a file with these items
 abbrev pub cause_of : List Standing → Option ReadFault
 cause_of is = cause (bodies is) (clash_from pairs_alone (declarations is))
+
+-- the fault of a file whose process isn't well-formed
+abbrev pub fault_of : declared_ill.Ill → ReadFault
+fault_of ill.Mem = Mem
+fault_of (ill.At w path) = Ill w path

@@ -15,15 +15,6 @@ pub mod ItemGrammar
 pub mod Replaced
 pub mod Signatures
 pub mod Causes
-pub mod Drafts
 pub mod Files
-pub mod ItemReading
-pub mod Judged
-pub mod Reading
-pub mod View
-pub mod ItemView
-pub mod ProcessReading
-pub mod ProcessView
 pub mod ProcessExamples
-pub mod Meaning
-pub mod Label
+pub mod code

@@ -2,8 +2,8 @@
 ghost use Rattle.std.specs.Prelude.{◌≡◌, ◌+◌, length};
 ghost use Rattle.sap_terms.specs.declared.signature.Symbol.{Symbol};
 ghost use Rattle.sap_read.specs.Words.{words_of};
-ghost use Rattle.sap_read.specs.ItemReading.{arity_of_digits, arity_at, is_private, with_privacy, is_encryption, builtin_at, symbol_at, declaration_at, whole_list, behind_colon, declared_in};
-ghost use Rattle.sap_read.specs.ItemView.{GivesBuiltin, GivesSymbol, GivesDeclaration, GivesDeclarations};
+ghost use Rattle.sap_read.specs.code.ItemReading.{arity_of_digits, arity_at, is_private, with_privacy, is_encryption, builtin_at, symbol_at, declaration_at, whole_list, behind_colon, declared_in};
+ghost use Rattle.sap_read.specs.code.ItemView.{GivesBuiltin, GivesSymbol, GivesDeclaration, GivesDeclarations};
 
 use crate::limits::MOST_ARITY;
 use crate::look::{beyond, is_lower, name_at, names, number_at, starts};
@@ -106,7 +106,7 @@ fn read_privacy<'a>(
     }
 }
 
-#[tactic(auto, using(crate::proofs::Steps::steps), unfolding(crate::specs::Reading::given))]
+#[tactic(auto, using(crate::proofs::Steps::steps), unfolding(crate::specs::code::Reading::given))]
 fn read_symbol<'a>(
     alloc: Global,
     bytes: &[u8],

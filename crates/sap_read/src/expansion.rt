@@ -4,8 +4,8 @@ ghost use Rattle.sap_terms.specs.View.{tree};
 ghost use Rattle.sap_process.specs.Action as action;
 ghost use Rattle.sap_process.specs.Proc.{proc, act, test, lookup, level_count};
 ghost use Rattle.sap_read.specs.Replaced.{replaced};
-ghost use Rattle.sap_read.specs.Drafts.{doing, written};
-ghost use Rattle.sap_read.specs.Meaning.{meaning_of, is_call, AreExpanded};
+ghost use Rattle.sap_read.specs.code.Drafts.{doing, written};
+ghost use Rattle.sap_read.specs.code.Meaning.{meaning_of, is_call, AreExpanded};
 
 use crate::draft::{Definition, Doing, Draft};
 use crate::names::Names;

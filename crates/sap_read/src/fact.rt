@@ -4,8 +4,8 @@ ghost use Rattle.sap_terms.specs.declared.fact.Fact.{Fact};
 ghost use Rattle.sap_read.specs.Words.{starts, words_of};
 ghost use Rattle.sap_read.specs.FactGrammar.{fact};
 ghost use Rattle.sap_read.specs.Places.{IsFactAt, fact_levels};
-ghost use Rattle.sap_read.specs.Reading.{fact_args, fact_from, fact_at, term};
-ghost use Rattle.sap_read.specs.View.{GivesFact};
+ghost use Rattle.sap_read.specs.code.Reading.{fact_args, fact_from, fact_at, term};
+ghost use Rattle.sap_read.specs.code.View.{GivesFact};
 
 use crate::limits::MOST_TERM_LEVELS;
 use crate::look::{beyond, is_upper, name_at, starts};
@@ -37,7 +37,7 @@ pub fn has_few_levels(args: &TermList) -> bool
     true
 }
 
-#[tactic(auto, using(crate::proofs::Steps::steps), unfolding(crate::specs::Reading::after))]
+#[tactic(auto, using(crate::proofs::Steps::steps), unfolding(crate::specs::code::Reading::after))]
 fn read_fact_args<'a>(
     alloc: Global,
     sig: &Signature,
@@ -55,7 +55,7 @@ fn read_fact_args<'a>(
     }
 }
 
-#[tactic(auto, using(crate::proofs::Steps::steps), unfolding(crate::specs::Reading::given))]
+#[tactic(auto, using(crate::proofs::Steps::steps), unfolding(crate::specs::code::Reading::given))]
 fn read_behind_sign<'a>(
     alloc: Global,
     sig: &Signature,
@@ -85,7 +85,7 @@ fn read_behind_sign<'a>(
 }
 
 /// A fact whose terms are read so deep at most, and the tokens behind it. As `read_deep` of terms.
-#[tactic(auto, using(crate::proofs::Steps::steps), unfolding(crate::specs::Reading::after))]
+#[tactic(auto, using(crate::proofs::Steps::steps), unfolding(crate::specs::code::Reading::after))]
 pub fn read_deep<'a>(
     alloc: Global,
     sig: &Signature,

@@ -46,7 +46,7 @@ impl From<Mem> for ReadFault {
 
 impl From<Ill> for ReadFault {
     ghost use Rattle.std.specs.Prelude.{◌≡◌};
-    ghost use Rattle.sap_read.specs.Judged.{fault_of};
+    ghost use Rattle.sap_read.specs.Causes.{fault_of};
 
     ghost from_gives = { λ i e. e ≡ fault_of i };
 

@@ -4,7 +4,7 @@ ghost use Rattle.sap_text.specs.Tokens.{IsLexed};
 ghost use Rattle.sap_text.specs.declared.fault.Lex.{Lex};
 ghost use Rattle.sap_read.specs.Cut.{Placed, placed, IsCut, last_line};
 ghost use Rattle.sap_read.specs.Words.{words_of};
-ghost use Rattle.sap_read.specs.Judged.{IsAccepted, IsNoItem, IsRefused, IsRefusedAs, IsWhole, header_of};
+ghost use Rattle.sap_read.specs.code.Judged.{IsAccepted, IsNoItem, IsRefused, IsRefusedAs, IsWhole, header_of};
 ghost use Rattle.sap_read.specs.Files.{AreTokens};
 ghost use Rattle.sap_process.specs.Proc.{proc};
 ghost use Rattle.sap_process.specs.Flaws.{IsFirstFlaw, IsWellFormed};

@@ -6,9 +6,9 @@ ghost use Rattle.sap_read.specs.Item.{Standing, of_builtin, of_symbol, declarati
 ghost use Rattle.sap_read.specs.ItemGrammar.{AreItems, IsEnd, IsFaulty};
 ghost use Rattle.sap_read.specs.Cut.{Placed, placed, first_line, begins_item, IsCut};
 ghost use Rattle.sap_read.specs.Signatures.{clash_with, with_declaration, signature_from, signature_of, clash_from};
-ghost use Rattle.sap_read.specs.Drafts.{body};
-ghost use Rattle.sap_read.specs.ItemReading.{count_on, cut, told, declared_in, kept};
-ghost use Rattle.sap_read.specs.ItemView.{declaration, IsAdded, IsPushed, SaysProcess, placed_token};
+ghost use Rattle.sap_read.specs.code.Drafts.{body};
+ghost use Rattle.sap_read.specs.code.ItemReading.{count_on, cut, told, declared_in, kept};
+ghost use Rattle.sap_read.specs.code.ItemView.{declaration, IsAdded, IsPushed, SaysProcess, placed_token};
 ghost use Rattle.sap_read.specs.declared.fault.ReadFault.{ReadFault};
 ghost use Rattle.sap_read.specs.declared.fault.ReadFault.TheVariants.{Mem as OutOfMemory, Syntax};
 

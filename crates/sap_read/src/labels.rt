@@ -5,8 +5,8 @@ ghost use Rattle.std.specs.Str.{bytes_eq};
 ghost use Rattle.sap_read.specs.declared.fault.ReadFault.{ReadFault};
 ghost use Rattle.sap_read.specs.declared.draft.Definition.{Definition};
 ghost use Rattle.sap_read.specs.Causes.{cause, unlabelled, labels, first_repeated};
-ghost use Rattle.sap_read.specs.Drafts.{body};
-ghost use Rattle.sap_read.specs.Label.{IsProcessAt, label_of, is_label_in, is_in_more};
+ghost use Rattle.sap_read.specs.code.Drafts.{body};
+ghost use Rattle.sap_read.specs.code.Label.{IsProcessAt, label_of, is_label_in, is_in_more};
 
 use crate::draft::Definition;
 use crate::fault::ReadFault;

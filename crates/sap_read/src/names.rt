@@ -7,8 +7,8 @@ ghost use Rattle.sap_read.specs.declared.fault.ReadFault.{ReadFault};
 ghost use Rattle.sap_read.specs.declared.fault.ReadFault.TheVariants.{Mem as OutOfMemory, UnknownProcess as IsUnknown};
 ghost use Rattle.sap_read.specs.Replaced.{calls};
 ghost use Rattle.sap_read.specs.Causes.{unknown_from};
-ghost use Rattle.sap_read.specs.Drafts.{written, body};
-ghost use Rattle.sap_read.specs.Meaning.{nodes_in, levels_in, unknown_among, target, kept_behind, AreCounted, AreTargets, meaning_of};
+ghost use Rattle.sap_read.specs.code.Drafts.{written, body};
+ghost use Rattle.sap_read.specs.code.Meaning.{nodes_in, levels_in, unknown_among, target, kept_behind, AreCounted, AreTargets, meaning_of};
 
 use crate::draft::{Definition, Draft};
 use crate::fault::ReadFault;

@@ -4,7 +4,7 @@ ghost use Rattle.sap_terms.specs.Signature.{Sig};
 ghost use Rattle.sap_read.specs.Words.{words_of};
 ghost use Rattle.sap_read.specs.Written.{Written};
 ghost use Rattle.sap_read.specs.ItemGrammar.{IsProcess};
-ghost use Rattle.sap_read.specs.Drafts.{written};
+ghost use Rattle.sap_read.specs.code.Drafts.{written};
 
 mod actions;
 mod build;

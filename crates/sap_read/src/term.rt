@@ -5,8 +5,8 @@ ghost use Rattle.sap_terms.specs.Signature.{arity_of};
 ghost use Rattle.sap_read.specs.Words.{starts, words_of};
 ghost use Rattle.sap_read.specs.TermGrammar.{pair, sorted};
 ghost use Rattle.sap_read.specs.Places.{IsTermAt};
-ghost use Rattle.sap_read.specs.Reading.{is_no_arity, plain, signed, symbol, named, leaf, list_of, args, paired, tuple, term, rest, quoted_at};
-ghost use Rattle.sap_read.specs.View.{GivesTerm, GivesArgs};
+ghost use Rattle.sap_read.specs.code.Reading.{is_no_arity, plain, signed, symbol, named, leaf, list_of, args, paired, tuple, term, rest, quoted_at};
+ghost use Rattle.sap_read.specs.code.View.{GivesTerm, GivesArgs};
 
 use crate::limits::MOST_TERM_LEVELS;
 use crate::look::{beyond, is_lower, name_at, quoted_at, starts};
@@ -67,7 +67,7 @@ fn quoted(alloc: Global, content: &[u8]) -> Result<Term, Mem>
     Ok(Term::Public(Name::from_bytes(alloc, content)?))
 }
 
-#[tactic(auto, using(crate::proofs::Steps::steps), unfolding(crate::specs::Reading::given))]
+#[tactic(auto, using(crate::proofs::Steps::steps), unfolding(crate::specs::code::Reading::given))]
 fn read_signed<'a>(
     alloc: Global,
     bytes: &[u8],
@@ -83,7 +83,7 @@ fn read_signed<'a>(
 }
 
 #[cycle(read)]
-#[tactic(auto, using(crate::proofs::Steps::steps), unfolding(crate::specs::Reading::after))]
+#[tactic(auto, using(crate::proofs::Steps::steps), unfolding(crate::specs::code::Reading::after))]
 fn read_list<'a>(
     alloc: Global,
     sig: &Signature,
@@ -113,7 +113,7 @@ fn read_list<'a>(
 
 /// Terms, none or more, up to the closing parenthesis, each read so deep at most, and the tokens behind it.
 #[cycle(read)]
-#[tactic(auto, using(crate::proofs::Steps::steps), unfolding(crate::specs::Reading::after))]
+#[tactic(auto, using(crate::proofs::Steps::steps), unfolding(crate::specs::code::Reading::after))]
 pub fn read_args<'a>(
     alloc: Global,
     sig: &Signature,
@@ -131,7 +131,7 @@ pub fn read_args<'a>(
 }
 
 #[cycle(read)]
-#[tactic(auto, using(crate::proofs::Steps::steps), unfolding(crate::specs::Reading::after))]
+#[tactic(auto, using(crate::proofs::Steps::steps), unfolding(crate::specs::code::Reading::after))]
 fn read_symbol<'a>(
     alloc: Global,
     sig: &Signature,
@@ -155,7 +155,7 @@ fn read_symbol<'a>(
 }
 
 #[cycle(read)]
-#[tactic(auto, using(crate::proofs::Steps::steps), unfolding(crate::specs::Reading::after))]
+#[tactic(auto, using(crate::proofs::Steps::steps), unfolding(crate::specs::code::Reading::after))]
 fn read_named<'a>(
     alloc: Global,
     sig: &Signature,
@@ -174,7 +174,7 @@ fn read_named<'a>(
 }
 
 #[cycle(read)]
-#[tactic(auto, using(crate::proofs::Steps::steps), unfolding(crate::specs::Reading::after))]
+#[tactic(auto, using(crate::proofs::Steps::steps), unfolding(crate::specs::code::Reading::after))]
 fn read_second<'a>(
     alloc: Global,
     sig: &Signature,
@@ -198,7 +198,7 @@ fn read_second<'a>(
 }
 
 #[cycle(read)]
-#[tactic(auto, using(crate::proofs::Steps::steps), unfolding(crate::specs::Reading::after))]
+#[tactic(auto, using(crate::proofs::Steps::steps), unfolding(crate::specs::code::Reading::after))]
 fn read_tuple<'a>(
     alloc: Global,
     sig: &Signature,
@@ -215,7 +215,7 @@ fn read_tuple<'a>(
 }
 
 #[cycle(read)]
-#[tactic(auto, using(crate::proofs::Steps::steps), unfolding(crate::specs::Reading::after))]
+#[tactic(auto, using(crate::proofs::Steps::steps), unfolding(crate::specs::code::Reading::after))]
 fn read_rest<'a>(
     alloc: Global,
     sig: &Signature,
@@ -242,7 +242,7 @@ fn read_rest<'a>(
 
 /// A term, read so deep at most, and the tokens behind it. It can have more levels, but each term that has no more is read.
 #[cycle(read)]
-#[tactic(auto, using(crate::proofs::Steps::steps), unfolding(crate::specs::Reading::after))]
+#[tactic(auto, using(crate::proofs::Steps::steps), unfolding(crate::specs::code::Reading::after))]
 pub fn read_deep<'a>(
     alloc: Global,
     sig: &Signature,
@@ -267,7 +267,7 @@ pub fn read_deep<'a>(
 }
 
 #[cycle(read)]
-#[tactic(auto, using(crate::proofs::Steps::steps), unfolding(crate::specs::Reading::given))]
+#[tactic(auto, using(crate::proofs::Steps::steps), unfolding(crate::specs::code::Reading::given))]
 fn read_leaf<'a>(
     alloc: Global,
     sig: &Signature,

@@ -4,8 +4,8 @@ ghost use Rattle.sap_process.specs.Proc.{proc};
 ghost use Rattle.sap_read.specs.Replaced.{process_of, no_meaning};
 ghost use Rattle.sap_read.specs.Item.{Body};
 ghost use Rattle.sap_read.specs.Causes.{cause, unlabelled, labels, unknown_from, first_repeated};
-ghost use Rattle.sap_read.specs.Drafts.{written, body};
-ghost use Rattle.sap_read.specs.Meaning.{nodes_in, levels_in, size_fault, meaning_of, AreCounted, AreTargets};
+ghost use Rattle.sap_read.specs.code.Drafts.{written, body};
+ghost use Rattle.sap_read.specs.code.Meaning.{nodes_in, levels_in, size_fault, meaning_of, AreCounted, AreTargets};
 ghost use Rattle.sap_read.specs.declared.fault.ReadFault.{ReadFault};
 ghost use Rattle.sap_read.specs.declared.fault.ReadFault.TheVariants.{Mem as OutOfMemory};
 

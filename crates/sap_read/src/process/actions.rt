@@ -2,9 +2,9 @@
 ghost use Rattle.std.specs.Prelude.{◌≡◌, codes, IfOk};
 ghost use Rattle.sap_terms.specs.View.{tree};
 ghost use Rattle.sap_read.specs.Words.{words_of};
-ghost use Rattle.sap_read.specs.ProcessReading.{channel, shown_facts, shown_event, up_to, second_term, bound_as, bound, right_side, embedded_rule, inserted_at, inserted, on_term, state_action, action_of};
-ghost use Rattle.sap_read.specs.ProcessView.{GivesAction, to_adversary, on_channel, on_one};
-ghost use Rattle.sap_read.specs.Drafts.{doing};
+ghost use Rattle.sap_read.specs.code.ProcessReading.{channel, shown_facts, shown_event, up_to, second_term, bound_as, bound, right_side, embedded_rule, inserted_at, inserted, on_term, state_action, action_of};
+ghost use Rattle.sap_read.specs.code.ProcessView.{GivesAction, to_adversary, on_channel, on_one};
+ghost use Rattle.sap_read.specs.code.Drafts.{doing};
 ghost use Rattle.sap_read.specs.declared.limits.TheConstants.{MOST_TERM_LEVELS};
 
 use crate::draft::Doing;
@@ -64,7 +64,7 @@ fn on_one(alloc: Global, deed: Deed, term: Term) -> Result<Box<Doing>, Mem>
     }
 }
 
-#[tactic(auto, using(crate::proofs::Steps::steps), unfolding(crate::specs::ProcessReading::past))]
+#[tactic(auto, using(crate::proofs::Steps::steps), unfolding(crate::specs::code::ProcessReading::past))]
 fn read_close<'a>(
     alloc: Global,
     bytes: &[u8],
@@ -83,7 +83,7 @@ fn read_close<'a>(
     }
 }
 
-#[tactic(auto, using(crate::proofs::Steps::steps), unfolding(crate::specs::Reading::after, crate::specs::ProcessReading::past))]
+#[tactic(auto, using(crate::proofs::Steps::steps), unfolding(crate::specs::code::Reading::after, crate::specs::code::ProcessReading::past))]
 fn read_message<'a>(
     alloc: Global,
     sig: &Signature,
@@ -103,7 +103,7 @@ fn read_message<'a>(
     }
 }
 
-#[tactic(auto, using(crate::proofs::Steps::steps), unfolding(crate::specs::Reading::after, crate::specs::ProcessReading::past))]
+#[tactic(auto, using(crate::proofs::Steps::steps), unfolding(crate::specs::code::Reading::after, crate::specs::code::ProcessReading::past))]
 fn read_channel<'a>(
     alloc: Global,
     sig: &Signature,
@@ -129,7 +129,7 @@ fn read_channel<'a>(
     }
 }
 
-#[tactic(auto, using(crate::proofs::Steps::steps), unfolding(crate::specs::Reading::given))]
+#[tactic(auto, using(crate::proofs::Steps::steps), unfolding(crate::specs::code::Reading::given))]
 fn read_bound_as<'a>(
     alloc: Global,
     bytes: &[u8],
@@ -163,7 +163,7 @@ fn read_bound<'a>(
     }
 }
 
-#[tactic(auto, using(crate::proofs::Steps::steps), unfolding(crate::specs::Reading::after, crate::specs::ProcessReading::past))]
+#[tactic(auto, using(crate::proofs::Steps::steps), unfolding(crate::specs::code::Reading::after, crate::specs::code::ProcessReading::past))]
 fn read_right_side<'a>(
     alloc: Global,
     sig: &Signature,
@@ -186,7 +186,7 @@ fn read_right_side<'a>(
     }
 }
 
-#[tactic(auto, using(crate::proofs::Steps::steps), unfolding(crate::specs::Reading::after, crate::specs::ProcessReading::past))]
+#[tactic(auto, using(crate::proofs::Steps::steps), unfolding(crate::specs::code::Reading::after, crate::specs::code::ProcessReading::past))]
 fn read_shown<'a>(
     alloc: Global,
     sig: &Signature,
@@ -205,7 +205,7 @@ fn read_shown<'a>(
     }
 }
 
-#[tactic(auto, using(crate::proofs::Steps::steps), unfolding(crate::specs::Reading::after, crate::specs::ProcessReading::past))]
+#[tactic(auto, using(crate::proofs::Steps::steps), unfolding(crate::specs::code::Reading::after, crate::specs::code::ProcessReading::past))]
 fn read_rule<'a>(
     alloc: Global,
     sig: &Signature,
@@ -231,7 +231,7 @@ fn read_rule<'a>(
     }
 }
 
-#[tactic(auto, using(crate::proofs::Steps::steps), unfolding(crate::specs::Reading::after))]
+#[tactic(auto, using(crate::proofs::Steps::steps), unfolding(crate::specs::code::Reading::after))]
 fn read_event<'a>(
     alloc: Global,
     sig: &Signature,
@@ -249,7 +249,7 @@ fn read_event<'a>(
     }
 }
 
-#[tactic(auto, using(crate::proofs::Steps::steps), unfolding(crate::specs::Reading::after, crate::specs::ProcessReading::past))]
+#[tactic(auto, using(crate::proofs::Steps::steps), unfolding(crate::specs::code::Reading::after, crate::specs::code::ProcessReading::past))]
 fn read_value<'a>(
     alloc: Global,
     sig: &Signature,
@@ -271,7 +271,7 @@ fn read_value<'a>(
     }
 }
 
-#[tactic(auto, using(crate::proofs::Steps::steps), unfolding(crate::specs::Reading::after))]
+#[tactic(auto, using(crate::proofs::Steps::steps), unfolding(crate::specs::code::Reading::after))]
 fn read_insert<'a>(
     alloc: Global,
     sig: &Signature,
@@ -286,7 +286,7 @@ fn read_insert<'a>(
     }
 }
 
-#[tactic(auto, using(crate::proofs::Steps::steps), unfolding(crate::specs::Reading::after))]
+#[tactic(auto, using(crate::proofs::Steps::steps), unfolding(crate::specs::code::Reading::after))]
 fn read_deed<'a>(
     alloc: Global,
     sig: &Signature,
@@ -305,7 +305,7 @@ fn read_deed<'a>(
     }
 }
 
-#[tactic(auto, using(crate::proofs::Steps::steps), unfolding(crate::specs::ProcessReading::past))]
+#[tactic(auto, using(crate::proofs::Steps::steps), unfolding(crate::specs::code::ProcessReading::past))]
 fn read_state_action<'a>(
     alloc: Global,
     sig: &Signature,

@@ -4,8 +4,8 @@ ghost use Rattle.sap_read.specs.Written.{nil, call, parallel, replicated, act, t
 ghost use Rattle.sap_terms.specs.View.{tree};
 ghost use Rattle.sap_terms.specs.declared.var.Sort.TheVariants.{Msg};
 ghost use Rattle.sap_read.specs.ProcessGrammar.{var};
-ghost use Rattle.sap_read.specs.ProcessView.{chosen};
-ghost use Rattle.sap_read.specs.Drafts.{doing, written};
+ghost use Rattle.sap_read.specs.code.ProcessView.{chosen};
+ghost use Rattle.sap_read.specs.code.Drafts.{doing, written};
 
 use crate::draft::{Doing, Draft};
 use sap_terms::{Mem, Name, Sort, Term, Var};

@@ -3,8 +3,8 @@ ghost use Rattle.std.specs.Prelude.{codes};
 ghost use Rattle.sap_terms.specs.View.{tree};
 ghost use Rattle.sap_read.specs.Written.{test};
 ghost use Rattle.sap_read.specs.Words.{words_of};
-ghost use Rattle.sap_read.specs.ProcessReading.{up_to, equality, compared, found, entry, looked_up};
-ghost use Rattle.sap_read.specs.ProcessView.{GivesChoice};
+ghost use Rattle.sap_read.specs.code.ProcessReading.{up_to, equality, compared, found, entry, looked_up};
+ghost use Rattle.sap_read.specs.code.ProcessView.{GivesChoice};
 ghost use Rattle.sap_read.specs.declared.limits.TheConstants.{MOST_TERM_LEVELS};
 
 use crate::look::{beyond, name_at, starts};
@@ -14,7 +14,7 @@ use sap_terms::{Mem, Signature, Term};
 use sap_text::Token;
 use std::alloc::Global;
 
-#[tactic(auto, using(crate::proofs::Steps::steps), unfolding(crate::specs::ProcessReading::past))]
+#[tactic(auto, using(crate::proofs::Steps::steps), unfolding(crate::specs::code::ProcessReading::past))]
 fn read_then<'a>(
     alloc: Global,
     bytes: &[u8],
@@ -32,7 +32,7 @@ fn read_then<'a>(
     }
 }
 
-#[tactic(auto, using(crate::proofs::Steps::steps), unfolding(crate::specs::Reading::after, crate::specs::ProcessReading::past))]
+#[tactic(auto, using(crate::proofs::Steps::steps), unfolding(crate::specs::code::Reading::after, crate::specs::code::ProcessReading::past))]
 fn read_equality<'a>(
     alloc: Global,
     sig: &Signature,
@@ -52,7 +52,7 @@ fn read_equality<'a>(
 }
 
 /// The two terms that are compared behind `if`, and the tokens behind `then`.
-#[tactic(auto, using(crate::proofs::Steps::steps), unfolding(crate::specs::Reading::after))]
+#[tactic(auto, using(crate::proofs::Steps::steps), unfolding(crate::specs::code::Reading::after))]
 pub fn read_compared<'a>(
     alloc: Global,
     sig: &Signature,
@@ -67,7 +67,7 @@ pub fn read_compared<'a>(
     }
 }
 
-#[tactic(auto, using(crate::proofs::Steps::steps), unfolding(crate::specs::ProcessReading::past))]
+#[tactic(auto, using(crate::proofs::Steps::steps), unfolding(crate::specs::code::ProcessReading::past))]
 fn read_found<'a>(
     alloc: Global,
     bytes: &[u8],
@@ -85,7 +85,7 @@ fn read_found<'a>(
     }
 }
 
-#[tactic(auto, using(crate::proofs::Steps::steps), unfolding(crate::specs::Reading::given, crate::specs::ProcessReading::past))]
+#[tactic(auto, using(crate::proofs::Steps::steps), unfolding(crate::specs::code::Reading::given, crate::specs::code::ProcessReading::past))]
 fn read_entry<'a>(
     alloc: Global,
     bytes: &[u8],
@@ -105,7 +105,7 @@ fn read_entry<'a>(
 }
 
 /// The term that is looked up behind `lookup` and the variable for what is found, and the tokens behind `in`.
-#[tactic(auto, using(crate::proofs::Steps::steps), unfolding(crate::specs::Reading::after))]
+#[tactic(auto, using(crate::proofs::Steps::steps), unfolding(crate::specs::code::Reading::after))]
 pub fn read_looked_up<'a>(
     alloc: Global,
     sig: &Signature,

@@ -1,10 +1,10 @@
 //! Processes, read from their tokens.
 ghost use Rattle.std.specs.Prelude.{◌≡◌, ◌≤◌, ◌<◌, ◌+◌, ◌^◌, IfOk, IfSome};
 ghost use Rattle.sap_read.specs.Words.{words_of};
-ghost use Rattle.sap_read.specs.Reading.{name_at};
-ghost use Rattle.sap_read.specs.ProcessReading.{second_branch, branches, condition, looking, going_on, call_or_action, enclosed, repeated, beside, starts_bar, seq, par};
-ghost use Rattle.sap_read.specs.ProcessView.{GivesDraft, chosen};
-ghost use Rattle.sap_read.specs.Drafts.{doing, written};
+ghost use Rattle.sap_read.specs.code.Reading.{name_at};
+ghost use Rattle.sap_read.specs.code.ProcessReading.{second_branch, branches, condition, looking, going_on, call_or_action, enclosed, repeated, beside, starts_bar, seq, par};
+ghost use Rattle.sap_read.specs.code.ProcessView.{GivesDraft, chosen};
+ghost use Rattle.sap_read.specs.code.Drafts.{doing, written};
 ghost use Rattle.sap_read.specs.declared.limits.TheConstants.{MOST_TERM_LEVELS};
 
 use crate::draft::{Doing, Draft};
@@ -25,7 +25,7 @@ fn starts_bar(bytes: &[u8], tokens: &[Token]) -> bool
 }
 
 #[cycle(read)]
-#[tactic(auto, using(crate::proofs::ProcessSteps::tokens), unfolding(crate::specs::Reading::after))]
+#[tactic(auto, using(crate::proofs::ProcessSteps::tokens), unfolding(crate::specs::code::Reading::after))]
 fn read_second_branch<'a>(
     alloc: Global,
     sig: &Signature,
@@ -51,7 +51,7 @@ fn read_second_branch<'a>(
 }
 
 #[cycle(read)]
-#[tactic(auto, using(crate::proofs::ProcessSteps::tokens), unfolding(crate::specs::Reading::after))]
+#[tactic(auto, using(crate::proofs::ProcessSteps::tokens), unfolding(crate::specs::code::Reading::after))]
 fn read_branches<'a>(
     alloc: Global,
     sig: &Signature,
@@ -79,7 +79,7 @@ fn read_branches<'a>(
 }
 
 #[cycle(read)]
-#[tactic(auto, using(crate::proofs::ProcessSteps::tokens), unfolding(crate::specs::Reading::after))]
+#[tactic(auto, using(crate::proofs::ProcessSteps::tokens), unfolding(crate::specs::code::Reading::after))]
 fn read_condition<'a>(
     alloc: Global,
     sig: &Signature,
@@ -98,7 +98,7 @@ fn read_condition<'a>(
 }
 
 #[cycle(read)]
-#[tactic(auto, using(crate::proofs::ProcessSteps::tokens), unfolding(crate::specs::Reading::after))]
+#[tactic(auto, using(crate::proofs::ProcessSteps::tokens), unfolding(crate::specs::code::Reading::after))]
 fn read_lookup<'a>(
     alloc: Global,
     sig: &Signature,
@@ -117,7 +117,7 @@ fn read_lookup<'a>(
 }
 
 #[cycle(read)]
-#[tactic(auto, using(crate::proofs::ProcessSteps::limits), unfolding(crate::specs::Reading::after))]
+#[tactic(auto, using(crate::proofs::ProcessSteps::limits), unfolding(crate::specs::code::Reading::after))]
 fn read_on<'a>(
     alloc: Global,
     sig: &Signature,
@@ -147,7 +147,7 @@ fn read_on<'a>(
 }
 
 #[cycle(read)]
-#[tactic(auto, using(crate::proofs::ProcessSteps::tokens), unfolding(crate::specs::Reading::after))]
+#[tactic(auto, using(crate::proofs::ProcessSteps::tokens), unfolding(crate::specs::code::Reading::after))]
 fn read_call_or_action<'a>(
     alloc: Global,
     sig: &Signature,
@@ -170,7 +170,7 @@ fn read_call_or_action<'a>(
 }
 
 #[cycle(read)]
-#[tactic(auto, using(crate::proofs::ProcessSteps::tokens), unfolding(crate::specs::Reading::after, crate::specs::ProcessReading::past))]
+#[tactic(auto, using(crate::proofs::ProcessSteps::tokens), unfolding(crate::specs::code::Reading::after, crate::specs::code::ProcessReading::past))]
 fn read_enclosed<'a>(
     alloc: Global,
     sig: &Signature,
@@ -195,7 +195,7 @@ fn read_enclosed<'a>(
 }
 
 #[cycle(read)]
-#[tactic(auto, using(crate::proofs::ProcessSteps::tokens), unfolding(crate::specs::Reading::after))]
+#[tactic(auto, using(crate::proofs::ProcessSteps::tokens), unfolding(crate::specs::code::Reading::after))]
 fn read_replicated<'a>(
     alloc: Global,
     sig: &Signature,
@@ -250,7 +250,7 @@ fn read_seq<'a>(
 }
 
 #[cycle(read)]
-#[tactic(auto, using(crate::proofs::ProcessSteps::limits), unfolding(crate::specs::Reading::after))]
+#[tactic(auto, using(crate::proofs::ProcessSteps::limits), unfolding(crate::specs::code::Reading::after))]
 fn read_beside<'a>(
     alloc: Global,
     sig: &Signature,
@@ -276,7 +276,7 @@ fn read_beside<'a>(
 
 /// A process of at most so many levels, their number, and the tokens behind it.
 #[cycle(read)]
-#[tactic(auto, using(crate::proofs::ProcessSteps::par_steps), unfolding(crate::specs::Reading::after))]
+#[tactic(auto, using(crate::proofs::ProcessSteps::par_steps), unfolding(crate::specs::code::Reading::after))]
 pub fn read_par<'a>(
     alloc: Global,
     sig: &Signature,

@@ -1,10 +1,10 @@
 //! The terms and facts of processes.
 ghost use Rattle.std.specs.Prelude.{length};
 ghost use Rattle.sap_read.specs.Words.{words_of};
-ghost use Rattle.sap_read.specs.Reading.{list_of};
-ghost use Rattle.sap_read.specs.ProcessReading.{short_term, short_fact, facts};
-ghost use Rattle.sap_read.specs.View.{GivesTerm, GivesFact};
-ghost use Rattle.sap_read.specs.ProcessView.{GivesFacts};
+ghost use Rattle.sap_read.specs.code.Reading.{list_of};
+ghost use Rattle.sap_read.specs.code.ProcessReading.{short_term, short_fact, facts};
+ghost use Rattle.sap_read.specs.code.View.{GivesTerm, GivesFact};
+ghost use Rattle.sap_read.specs.code.ProcessView.{GivesFacts};
 
 use crate::fact::has_few_levels;
 use crate::limits::MOST_TERM_LEVELS;
@@ -15,7 +15,7 @@ use sap_text::Token;
 use std::alloc::Global;
 
 /// A term of at most `MOST_TERM_LEVELS` levels, and the tokens behind it.
-#[tactic(auto, using(crate::proofs::ProcessSteps::limits), unfolding(crate::specs::Reading::after))]
+#[tactic(auto, using(crate::proofs::ProcessSteps::limits), unfolding(crate::specs::code::Reading::after))]
 pub fn read_short_term<'a>(
     alloc: Global,
     sig: &Signature,
@@ -36,7 +36,7 @@ pub fn read_short_term<'a>(
 }
 
 /// A fact whose terms have at most `MOST_TERM_LEVELS` levels, persistent only where that is allowed, and the tokens behind it.
-#[tactic(auto, using(crate::proofs::ProcessSteps::limits), unfolding(crate::specs::Reading::after))]
+#[tactic(auto, using(crate::proofs::ProcessSteps::limits), unfolding(crate::specs::code::Reading::after))]
 pub fn read_short_fact<'a>(
     alloc: Global,
     sig: &Signature,
@@ -56,7 +56,7 @@ pub fn read_short_fact<'a>(
     Ok(Some((fact, rest)))
 }
 
-#[tactic(auto, using(crate::proofs::Steps::steps), unfolding(crate::specs::Reading::after))]
+#[tactic(auto, using(crate::proofs::Steps::steps), unfolding(crate::specs::code::Reading::after))]
 fn read_fact_list<'a>(
     alloc: Global,
     sig: &Signature,
@@ -87,7 +87,7 @@ fn read_fact_list<'a>(
 
 /// Facts, none or more, with commas between them, up to the closing mark, each as `read_short_fact` reads it, and the
 /// tokens behind the mark.
-#[tactic(auto, using(crate::proofs::Steps::steps), unfolding(crate::specs::Reading::after))]
+#[tactic(auto, using(crate::proofs::Steps::steps), unfolding(crate::specs::code::Reading::after))]
 pub fn read_facts<'a>(
     alloc: Global,
     sig: &Signature,

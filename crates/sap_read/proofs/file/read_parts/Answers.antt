@@ -9,7 +9,7 @@ use Rattle.sap_read.specs.Item.{Standing, declarations}
 use Rattle.sap_read.specs.Cut.{Placed, placed, IsCut}
 use Rattle.sap_read.specs.ItemGrammar.{AreItems}
 use Rattle.sap_read.specs.Signatures.{signature_of, clash_from}
-use Rattle.sap_read.specs.Judged.{IsRefused}
+use Rattle.sap_read.specs.code.Judged.{IsRefused}
 use Rattle.sap_read.specs.declared.fault.ReadFault.{ReadFault}
 use Rattle.sap_read.specs.declared.fault.ReadFault.TheVariants.{Header}
 use Rattle.sap_read.specs.Files.{IsRead, no_header}

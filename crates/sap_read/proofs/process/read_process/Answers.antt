@@ -1,8 +1,8 @@
 use Rattle.std.proofs.Common.{◌≡◌, [], Some, None, arith}
 use Rattle.std.proofs.lemmas.Grind.{common_steps}
 use Rattle.sap_read.specs.Words.{words_of}
-use Rattle.sap_read.specs.ProcessReading.{par}
-use Rattle.sap_read.specs.Drafts.{written}
+use Rattle.sap_read.specs.code.ProcessReading.{par}
+use Rattle.sap_read.specs.code.Drafts.{written}
 use Rattle.sap_read.proofs.WholeProcesses.{no_words, no_other_whole, nothing_whole, whole_is}
 use Rattle.sap_read.proofs.process.read_process.Goals as goal
 use Rattle.sap_read.specs.declared.limits.TheConstants.{MOST_PROCESS_LEVELS, MOST_TERM_LEVELS}

@@ -1,7 +1,7 @@
 use Rattle.std.proofs.Common.{◌≡◌, ◌≤◌, ◌+◌, ◌*◌, ℕ, length}
 use Rattle.std.specs.Prelude.{codes}
 use Rattle.sap_read.specs.Words.{words_of}
-use Rattle.sap_read.specs.Reading.{behind, list_of, term}
+use Rattle.sap_read.specs.code.Reading.{behind, list_of, term}
 use Rattle.sap_read.proofs.term.+read.Given as goal
 
 abbrev pub decreases-read_deep : goal.decreases-read_deep

@@ -1,7 +1,7 @@
 use Rattle.std.proofs.Common.{◌≡◌, drop, Some, None}
 use Rattle.sap_terms.specs.View.{tree}
 use Rattle.sap_read.specs.Words.{words_of}
-use Rattle.sap_read.specs.Reading.{term}
+use Rattle.sap_read.specs.code.Reading.{term}
 use Rattle.sap_read.proofs.Places.{term_reader, nothing_at, no_other_at, it_is_at, rest_within}
 use Rattle.sap_read.proofs.term.read_term.Goals as goal
 use Rattle.sap_read.specs.declared.limits.TheConstants.{MOST_TERM_LEVELS}

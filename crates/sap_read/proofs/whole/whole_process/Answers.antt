@@ -2,7 +2,7 @@ use Rattle.std.proofs.Common.{◌≡◌, List, ℕ, Some, [], ◌∷◌, map, su
 use Rattle.std.specs.Prelude.{slice_get}
 use Rattle.sap_read.specs.declared.draft.Definition.{Definition}
 use Rattle.sap_read.specs.Causes.{unlabelled}
-use Rattle.sap_read.specs.Drafts.{body}
+use Rattle.sap_read.specs.code.Drafts.{body}
 use Rattle.sap_read.proofs.whole.whole_process.Goals as goal
 
 -- the entry at the place of the file's process

@@ -1,7 +1,7 @@
 use Rattle.std.proofs.Common.{◌≡◌, [], ◌∷◌, ◌++◌, Some, None, arith}
 use Rattle.std.proofs.lemmas.Grind.{common_steps}
 use Rattle.sap_read.specs.Words.{words_of}
-use Rattle.sap_read.specs.ProcessReading.{short_fact}
+use Rattle.sap_read.specs.code.ProcessReading.{short_fact}
 use Rattle.sap_read.proofs.Lists.{shorter_still, turn_bad, turn_go, turn_last, turn_stop}
 use Rattle.sap_read.proofs.FactLists.{short_fact_nothing, short_fact_shrinks}
 use Rattle.sap_read.proofs.process.parts.read_fact_list.Goals as goal

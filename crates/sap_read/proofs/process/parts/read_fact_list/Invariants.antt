@@ -1,7 +1,7 @@
 use Rattle.std.proofs.Common.{◌≡◌, ◌≤◌, ℕ, length}
 use Rattle.sap_read.specs.Words.{words_of}
-use Rattle.sap_read.specs.Reading.{behind, list_of}
-use Rattle.sap_read.specs.ProcessReading.{short_fact}
+use Rattle.sap_read.specs.code.Reading.{behind, list_of}
+use Rattle.sap_read.specs.code.ProcessReading.{short_fact}
 use Rattle.sap_read.proofs.process.parts.read_fact_list.Given as goal
 use Rattle.sap_read.specs.declared.limits.TheConstants.{MOST_TERM_LEVELS}
 

@@ -1,4 +1,4 @@
--- Reading words from the left, as the code does it. No public contract cites this file.
+-- Reading words from the left, as the code does it.
 use Rattle.std.specs.Prelude.{ℕ, zero, suc, Bool, true, false, ◌==◌, if◌then◌else◌, codes, List, [], ◌∷◌, ◌++◌, length, drop, Option, Some, None}
 use Rattle.sap_terms.specs.declared.fact.Fact.{Fact}
 use Rattle.sap_terms.specs.declared.var.Sort.{Sort}

@@ -1,4 +1,4 @@
--- What names of processes mean, and what the program keeps of it. No public contract cites this file.
+-- What names of processes mean, and what the program keeps of it.
 use Rattle.std.specs.Prelude.{◌≡◌, ℕ, ◌+◌, ◌-◌, ◌^◌, max, min, Bool, true, false, List, [], ◌∷◌, Option, Some, None, if◌then◌else◌, map, drop, slice_get, is_some, nat_lt}
 use Rattle.std.specs.Str.{bytes_eq}
 use Rattle.indexmap.specs.IndexMap.{IndexMap, get}
@@ -12,7 +12,7 @@ use Rattle.sap_read.specs.Written.{Written, nil, call, parallel, replicated, act
 use Rattle.sap_read.specs.Item.{Body}
 use Rattle.sap_read.specs.Replaced.{replaced, after_body, no_meaning}
 use Rattle.sap_read.specs.Causes.{unknown_from, is_among}
-use Rattle.sap_read.specs.Drafts.{written, body}
+use Rattle.sap_read.specs.code.Drafts.{written, body}
 use Rattle.sap_read.specs.declared.limits.TheConstants.{MOST_PROCESS_LEVELS, MOST_PROCESS_PLACES}
 
 -- what names mean behind these processes, where they mean this before them

@@ -1,4 +1,4 @@
--- What the answers of the reader of processes stand for. No public contract cites this file.
+-- What the answers of the reader of processes stand for.
 use Rattle.std.specs.Prelude.{◌≡◌, ℕ, List, Option, Some, None, Result, Ok, Err, ⊤}
 use Rattle.std.specs.Global.{Box}
 use Rattle.std.specs.Borrow.{Bor}
@@ -18,9 +18,9 @@ use Rattle.sap_read.specs.declared.draft.Doing.{Doing}
 use Rattle.sap_read.specs.declared.draft.Draft.{Draft}
 use Rattle.sap_read.specs.Words.{words_of}
 use Rattle.sap_read.specs.Written.{Written, test, lookup}
-use Rattle.sap_read.specs.Reading.{Read}
-use Rattle.sap_read.specs.ProcessReading.{Levelled, Choosing}
-use Rattle.sap_read.specs.Drafts.{doing, written}
+use Rattle.sap_read.specs.code.Reading.{Read}
+use Rattle.sap_read.specs.code.ProcessReading.{Levelled, Choosing}
+use Rattle.sap_read.specs.code.Drafts.{doing, written}
 
 -- the same facts and the words of the tokens behind them
 abbrev pub GivesFacts : List ℕ → Result (Option (List Fact × Bor (List Token))) Mem → Read (List Fact) → Type 0
