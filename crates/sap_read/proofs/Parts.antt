@@ -24,7 +24,7 @@ items_of z ts = cut (placed z (drop 3 ts))
 pub items_are_cut : (z : List ℕ) (ts : List Token) → IsCut (placed z (drop 3 ts)) (items_of z ts)
 items_are_cut z ts = cut_sound (placed z (drop 3 ts))
 
-parted : (z : List ℕ) (ts : List Token) (x : List ℕ) → AreTokens z ts → header_of (words_of z ts) ≡ Some x → IsParted z ts x (items_of z ts)
+pub parted : (z : List ℕ) (ts : List Token) (x : List ℕ) → AreTokens z ts → header_of (words_of z ts) ≡ Some x → IsParted z ts x (items_of z ts)
 parted z ts x t h = record { tokens = t; rest = placed z (drop 3 ts); header = header_is z ts x h; items = items_are_cut z ts }
 
 -- what the items of these tokens declare

@@ -1,4 +1,4 @@
-ghost use Rattle.std.specs.Prelude.{◌≡◌, ℕ, List, [], Result, false, codes};
+ghost use Rattle.std.specs.Prelude.{◌≡◌, ◌⊎◌, ℕ, List, [], Result, false, codes};
 ghost use Rattle.sap_terms.specs.declared.fact.Fact.{Fact};
 ghost use Rattle.sap_terms.specs.Tree.{Tree, level_count};
 ghost use Rattle.sap_terms.specs.Signature.{Sig, pairs_alone};
@@ -14,11 +14,14 @@ ghost use Rattle.sap_read.specs.Item.{Standing};
 ghost use Rattle.sap_read.specs.ItemGrammar.{AreItems};
 ghost use Rattle.sap_read.specs.Signatures.{signature_of};
 ghost use Rattle.sap_read.specs.Files.{FileContent, IsRead};
+ghost use Rattle.sap_process.specs.Proc.{Proc};
+ghost use Rattle.sap_process.specs.Flaws.{IsFirstFlaw, IsWellFormed};
+ghost use Rattle.sap_process.specs.declared.flaw.Flaw.{Flaw};
 ghost use Rattle.sap_read.specs.declared.fault.ReadFault.{ReadFault};
 ghost use Rattle.sap_read.specs.declared.limits.TheConstants.{MOST_TERM_LEVELS};
 
 use sap_process::one_flaw;
-use sap_text::one_answer;
+use sap_text::{one_answer, some_answer};
 
 /// A law: from one place words spell at most one term that no opening parenthesis follows, and end it at one place.
 pub fn one_term()
@@ -71,6 +74,15 @@ pub fn one_file()
 {
     one_answer();
     one_flaw();
+}
+
+/// A law: each list of bytes is read as something, as a file or as refused for a cause, if each process has no flaw or one
+/// that counts.
+pub fn some_file()
+    ensures { ((g : Sig) (p : Proc) → IsWellFormed g p ⊎ ((which : Flaw) × (path : List ℕ) × IsFirstFlaw g p which path))
+        → (z : List ℕ) → ((o : Result FileContent ReadFault) × IsRead z o) }
+{
+    some_answer();
 }
 
 /// A law: the words behind a header are cut into items in one way, and spell at most one list of items, under a signature and
