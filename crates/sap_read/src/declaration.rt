@@ -86,7 +86,8 @@ fn read_privacy<'a>(
     arity: u64,
     tokens: &'a [Token],
 ) -> Result<Option<(Symbol, &'a [Token])>, Mem>
-    ensures { GivesSymbol bytes.now result (with_privacy name.now arity (words_of bytes.now tokens.now)) }
+    ensures { GivesSymbol bytes.now result (with_privacy name.now arity
+        (words_of bytes.now tokens.now)) }
 {
     let name = Name::from_bytes(alloc, name)?;
     if is_private(bytes, tokens) {
@@ -133,7 +134,8 @@ fn read_one<'a>(
     of_builtins: bool,
     tokens: &'a [Token],
 ) -> Result<Option<(Declaration, &'a [Token])>, Mem>
-    ensures { GivesDeclaration bytes.now result (declaration_at of_builtins (words_of bytes.now tokens.now)) }
+    ensures { GivesDeclaration bytes.now result (declaration_at of_builtins
+        (words_of bytes.now tokens.now)) }
 {
     if of_builtins {
         match read_builtin(bytes, tokens) {
@@ -155,7 +157,8 @@ fn read_list(
     of_builtins: bool,
     tokens: &[Token],
 ) -> Result<Option<Vec<Declaration>>, Mem>
-    ensures { GivesDeclarations result (whole_list (declaration_at of_builtins) (length tokens.now + 1) (words_of bytes.now tokens.now)) }
+    ensures { GivesDeclarations result (whole_list (declaration_at of_builtins)
+        (length tokens.now + 1) (words_of bytes.now tokens.now)) }
 {
     let mut list = Vec::new(alloc);
     let mut rest = tokens;

@@ -42,7 +42,8 @@ fn putting_out(alloc: Global, t: &Term, next: Box<Process>) -> Result<Box<Proces
 }
 
 fn sending(alloc: Global, t: &Term, u: &Term, next: Box<Process>) -> Result<Box<Process>, Mem>
-    ensures { IfOk result (λ p. proc p.value ≡ act (action.send (tree t.now) (tree u.now)) (proc next.value)) }
+    ensures { IfOk result (λ p. proc p.value ≡ act (action.send (tree t.now) (tree u.now))
+        (proc next.value)) }
 {
     let (t, u) = two_copied(alloc, t, u)?;
     boxed(alloc, Process::Send(t, u, next))
@@ -56,7 +57,8 @@ fn taking_in(alloc: Global, t: &Term, next: Box<Process>) -> Result<Box<Process>
 }
 
 fn receiving(alloc: Global, t: &Term, u: &Term, next: Box<Process>) -> Result<Box<Process>, Mem>
-    ensures { IfOk result (λ p. proc p.value ≡ act (action.receive (tree t.now) (tree u.now)) (proc next.value)) }
+    ensures { IfOk result (λ p. proc p.value ≡ act (action.receive (tree t.now) (tree u.now))
+        (proc next.value)) }
 {
     let (t, u) = two_copied(alloc, t, u)?;
     boxed(alloc, Process::Recv(t, u, next))
@@ -70,7 +72,8 @@ fn showing(alloc: Global, f: &Fact, next: Box<Process>) -> Result<Box<Process>, 
 }
 
 fn inserting(alloc: Global, t: &Term, u: &Term, next: Box<Process>) -> Result<Box<Process>, Mem>
-    ensures { IfOk result (λ p. proc p.value ≡ act (action.insert (tree t.now) (tree u.now)) (proc next.value)) }
+    ensures { IfOk result (λ p. proc p.value ≡ act (action.insert (tree t.now) (tree u.now))
+        (proc next.value)) }
 {
     let (t, u) = two_copied(alloc, t, u)?;
     boxed(alloc, Process::Insert(t, u, next))
@@ -91,7 +94,8 @@ fn locking(alloc: Global, t: &Term, next: Box<Process>) -> Result<Box<Process>, 
 }
 
 fn unlocking(alloc: Global, t: &Term, next: Box<Process>) -> Result<Box<Process>, Mem>
-    ensures { IfOk result (λ p. proc p.value ≡ act (action.unlock (tree t.now) 0) (proc next.value)) }
+    ensures { IfOk result (λ p. proc p.value ≡ act (action.unlock (tree t.now) 0)
+        (proc next.value)) }
 {
     let t = t.copy(alloc)?;
     boxed(alloc, Process::Unlock(t, 0, next))
@@ -104,7 +108,8 @@ fn embedding(
     right: &FactList,
     next: Box<Process>,
 ) -> Result<Box<Process>, Mem>
-    ensures { IfOk result (λ p. proc p.value ≡ act (action.embedded left.now acts.now right.now) (proc next.value)) }
+    ensures { IfOk result (λ p. proc p.value ≡ act (action.embedded left.now acts.now right.now)
+        (proc next.value)) }
 {
     let (left, acts) = two_lists_copied(alloc, left, acts)?;
     let right = right.copy(alloc)?;
@@ -125,7 +130,8 @@ fn testing(
     then: Box<Process>,
     other: Box<Process>,
 ) -> Result<Box<Process>, Mem>
-    ensures { IfOk result (λ p. proc p.value ≡ test (tree t.now) (tree u.now) (proc then.value) (proc other.value)) }
+    ensures { IfOk result (λ p. proc p.value ≡ test (tree t.now) (tree u.now) (proc then.value)
+        (proc other.value)) }
 {
     let (t, u) = two_copied(alloc, t, u)?;
     boxed(alloc, Process::If(t, u, then, other))
@@ -138,7 +144,8 @@ fn looking_up(
     then: Box<Process>,
     other: Box<Process>,
 ) -> Result<Box<Process>, Mem>
-    ensures { IfOk result (λ p. proc p.value ≡ lookup (tree t.now) x.now (proc then.value) (proc other.value)) }
+    ensures { IfOk result (λ p. proc p.value ≡ lookup (tree t.now) x.now (proc then.value)
+        (proc other.value)) }
 {
     let (t, x) = key_copied(alloc, t, x)?;
     boxed(alloc, Process::Lookup(t, x, then, other))
@@ -182,7 +189,8 @@ pub(crate) fn expand(
 ) -> Result<Box<Process>, Mem>
     requires names { AreExpanded entries.now names.now }
     requires depth { level_count (replaced (meaning_of entries.now) (written draft.now)) ≤ depth }
-    ensures { IfOk result (λ p. proc p.value ≡ replaced (meaning_of entries.now) (written draft.now)) }
+    ensures { IfOk result (λ p. proc p.value ≡ replaced (meaning_of entries.now)
+        (written draft.now)) }
 {
     let Draft::Call(x) = draft else {
         return expand_form(alloc, entries, names, depth, draft);
@@ -202,8 +210,10 @@ fn expand_below(
     draft: &Draft,
 ) -> Result<Box<Process>, Mem>
     requires names { AreExpanded entries.now names.now }
-    requires depth { level_count (replaced (meaning_of entries.now) (written draft.now)) + 1 ≤ depth }
-    ensures { IfOk result (λ p. proc p.value ≡ replaced (meaning_of entries.now) (written draft.now)) }
+    requires depth { level_count (replaced (meaning_of entries.now)
+        (written draft.now)) + 1 ≤ depth }
+    ensures { IfOk result (λ p. proc p.value ≡ replaced (meaning_of entries.now)
+        (written draft.now)) }
 {
     expand(alloc, entries, names, depth - 1, draft)
 }
@@ -219,8 +229,10 @@ fn expand_both(
 ) -> Result<(Box<Process>, Box<Process>), Mem>
     requires names { AreExpanded entries.now names.now }
     requires left { level_count (replaced (meaning_of entries.now) (written left.now)) + 1 ≤ depth }
-    requires right { level_count (replaced (meaning_of entries.now) (written right.now)) + 1 ≤ depth }
-    ensures { IfOk result (λ p. (proc p.0.value ≡ replaced (meaning_of entries.now) (written left.now))
+    requires right { level_count (replaced (meaning_of entries.now)
+        (written right.now)) + 1 ≤ depth }
+    ensures { IfOk result (λ p. (proc p.0.value ≡ replaced (meaning_of entries.now)
+        (written left.now))
         × (proc p.1.value ≡ replaced (meaning_of entries.now) (written right.now))) }
 {
     let left = expand(alloc, entries, names, depth - 1, left)?;
@@ -240,7 +252,8 @@ fn expand_form(
     requires names { AreExpanded entries.now names.now }
     requires depth { level_count (replaced (meaning_of entries.now) (written draft.now)) ≤ depth }
     requires form { is_call (written draft.now) ≡ false }
-    ensures { IfOk result (λ p. proc p.value ≡ replaced (meaning_of entries.now) (written draft.now)) }
+    ensures { IfOk result (λ p. proc p.value ≡ replaced (meaning_of entries.now)
+        (written draft.now)) }
 {
     match draft {
         Draft::Nil => boxed(alloc, Process::Nil),

@@ -47,7 +47,8 @@ fn read_fact_args<'a>(
     name: &[u8],
     tokens: &'a [Token],
 ) -> Result<Option<(Fact, &'a [Token])>, Mem>
-    ensures { GivesFact bytes.now result (fact_args (term sig.now depth) persistent name.now (words_of bytes.now tokens.now)) }
+    ensures { GivesFact bytes.now result (fact_args (term sig.now depth) persistent name.now
+        (words_of bytes.now tokens.now)) }
 {
     match read_args(alloc, sig, bytes, depth, tokens)? {
         None => Ok(None),
@@ -64,7 +65,8 @@ fn read_behind_sign<'a>(
     persistent: bool,
     tokens: &'a [Token],
 ) -> Result<Option<(Fact, &'a [Token])>, Mem>
-    ensures { GivesFact bytes.now result (fact_from (term sig.now depth) persistent (words_of bytes.now tokens.now)) }
+    ensures { GivesFact bytes.now result (fact_from (term sig.now depth) persistent
+        (words_of bytes.now tokens.now)) }
 {
     let Some(name) = name_at(bytes, tokens) else {
         return Ok(None);
@@ -93,7 +95,8 @@ pub fn read_deep<'a>(
     depth: u32,
     tokens: &'a [Token],
 ) -> Result<Option<(Fact, &'a [Token])>, Mem>
-    ensures { GivesFact bytes.now result (fact_at (term sig.now depth) (words_of bytes.now tokens.now)) }
+    ensures { GivesFact bytes.now result (fact_at (term sig.now depth)
+        (words_of bytes.now tokens.now)) }
 {
     if starts(bytes, tokens, "!") {
         read_behind_sign(alloc, sig, bytes, depth, true, beyond(1, tokens))
@@ -103,7 +106,8 @@ pub fn read_deep<'a>(
 }
 
 fn is_whole(bytes: &[u8], fact: &Fact, rest: &[Token]) -> bool
-    ensures { IsTrue result ↔ ((fact_levels fact.now ≤ MOST_TERM_LEVELS) × (starts (codes "(") (words_of bytes.now rest.now) ≡ false)) }
+    ensures { IsTrue result ↔ ((fact_levels fact.now ≤ MOST_TERM_LEVELS)
+        × (starts (codes "(") (words_of bytes.now rest.now) ≡ false)) }
 {
     has_few_levels(&fact.args) && !starts(bytes, rest, "(")
 }
@@ -117,7 +121,8 @@ pub fn read_fact(
     tokens: &Vec<Token>,
     at: u64,
 ) -> Result<Option<(Fact, u64)>, Mem>
-    ensures found { IfOk result (λ o. IfSome o (λ r. IsFactAt sig.now (words_of bytes.now tokens.now.items) at r.0 r.1)) }
+    ensures found { IfOk result (λ o. IfSome o (λ r. IsFactAt sig.now
+        (words_of bytes.now tokens.now.items) at r.0 r.1)) }
     ensures none { IfOk result (λ o. IfNone o ((f : Fact) (e : ℕ)
         → IsFactAt sig.now (words_of bytes.now tokens.now.items) at f e → ⊥)) }
 {

@@ -91,7 +91,8 @@ fn copied_process(alloc: Global, p: &Process) -> Result<Box<Process>, Mem>
 pub fn read_file(alloc: Global, bytes: &[u8]) -> Result<File, ReadFault>
     ensures accepted { IfOk result (λ f. IsRead bytes.now (Ok (told_by f))
         × (f.restrictions ≡ []) × (f.lemmas ≡ [])) }
-    ensures refused { (e : ReadFault) → IsErrOf result e → (e ≡ OutOfMemory → ⊥) → IsRead bytes.now (Err e) }
+    ensures refused { (e : ReadFault) → IsErrOf result e → (e ≡ OutOfMemory → ⊥)
+        → IsRead bytes.now (Err e) }
 {
     match read_file_boxed(alloc, bytes) {
         Ok(file) => Ok(Box::into_inner(file)),
@@ -103,7 +104,8 @@ pub fn read_file(alloc: Global, bytes: &[u8]) -> Result<File, ReadFault>
 pub fn read_file_boxed(alloc: Global, bytes: &[u8]) -> Result<Box<File>, ReadFault>
     ensures accepted { IfOk result (λ f. IsRead bytes.now (Ok (told_by f.value))
         × (f.value.restrictions ≡ []) × (f.value.lemmas ≡ [])) }
-    ensures refused { (e : ReadFault) → IsErrOf result e → (e ≡ OutOfMemory → ⊥) → IsRead bytes.now (Err e) }
+    ensures refused { (e : ReadFault) → IsErrOf result e → (e ≡ OutOfMemory → ⊥)
+        → IsRead bytes.now (Err e) }
 {
     let tokens = read_tokens(alloc, bytes)?;
     read_parts(alloc, bytes, tokens.as_slice())
@@ -115,7 +117,8 @@ fn read_parts(alloc: Global, bytes: &[u8], tokens: &[Token]) -> Result<Box<File>
     requires { AreTokens bytes.now tokens.now }
     ensures accepted { IfOk result (λ f. IsRead bytes.now (Ok (told_by f.value))
         × (f.value.restrictions ≡ []) × (f.value.lemmas ≡ [])) }
-    ensures refused { (e : ReadFault) → IsErrOf result e → (e ≡ OutOfMemory → ⊥) → IsRead bytes.now (Err e) }
+    ensures refused { (e : ReadFault) → IsErrOf result e → (e ≡ OutOfMemory → ⊥)
+        → IsRead bytes.now (Err e) }
 {
     let Some(name) = header_name(bytes, tokens) else {
         return Err(ReadFault::Header);
@@ -133,7 +136,8 @@ fn file_of(
     declared: Declared,
     process: Box<Process>,
 ) -> Result<Box<File>, Mem>
-    ensures parts { IfOk result (λ f. (f.value.name ≡ name.now) × (f.value.signature ≡ declared.signature) × (f.value.process ≡ process.value)) }
+    ensures parts { IfOk result (λ f. (f.value.name ≡ name.now)
+        × (f.value.signature ≡ declared.signature) × (f.value.process ≡ process.value)) }
     ensures none { IfOk result (λ f. (f.value.restrictions ≡ []) × (f.value.lemmas ≡ [])) }
 {
     let name = Name::from_bytes(alloc, name)?;
@@ -157,9 +161,11 @@ fn read_process_of(
     tokens: &[Token],
     last: u64,
 ) -> Result<Box<Process>, ReadFault>
-    ensures accepted { IfOk result (λ p. (cut : List (List Placed)) → IsCut (placed bytes.now tokens.now) cut
+    ensures accepted { IfOk result (λ p. (cut : List (List Placed))
+        → IsCut (placed bytes.now tokens.now) cut
         → IsAccepted declared.now.signature declared.now.clash cut (proc p.value)) }
-    ensures refused { (e : ReadFault) → IsErrOf result e → (e ≡ OutOfMemory → ⊥) → (cut : List (List Placed)) → IsCut (placed bytes.now tokens.now) cut
+    ensures refused { (e : ReadFault) → IsErrOf result e → (e ≡ OutOfMemory → ⊥)
+        → (cut : List (List Placed)) → IsCut (placed bytes.now tokens.now) cut
         → IsRefused declared.now.signature declared.now.clash last cut e }
 {
     let process = read_whole(alloc, declared, bytes, tokens, last)?;
@@ -168,9 +174,11 @@ fn read_process_of(
 
 /// The process with its sorts, where it is well-formed.
 fn sort(alloc: Global, sig: &Signature, p: &Process) -> Result<Box<Process>, ReadFault>
-    ensures accepted { IfOk result (λ q. IsWellFormed sig.now (proc p.now) × (proc q.value ≡ with_sorts [] (proc p.now))) }
+    ensures accepted { IfOk result (λ q. IsWellFormed sig.now (proc p.now)
+        × (proc q.value ≡ with_sorts [] (proc p.now))) }
     ensures refused { (e : ReadFault) → IsErrOf result e → (e ≡ OutOfMemory → ⊥)
-        → (w : Flaw) × (path : List ℕ) × (e ≡ IllFault w path) × IsFirstFlaw sig.now (proc p.now) w path }
+        → (w : Flaw) × (path : List ℕ) × (e ≡ IllFault w path)
+        × IsFirstFlaw sig.now (proc p.now) w path }
 {
     Ok(boxed(alloc, well_formed(alloc, sig, p)?)?)
 }
@@ -183,9 +191,11 @@ fn read_whole(
     tokens: &[Token],
     last: u64,
 ) -> Result<Box<Process>, ReadFault>
-    ensures accepted { IfOk result (λ p. (cut : List (List Placed)) → IsCut (placed bytes.now tokens.now) cut
+    ensures accepted { IfOk result (λ p. (cut : List (List Placed))
+        → IsCut (placed bytes.now tokens.now) cut
         → IsWhole declared.now.signature declared.now.clash cut (proc p.value)) }
-    ensures refused { (e : ReadFault) → IsErrOf result e → (e ≡ OutOfMemory → ⊥) → (cut : List (List Placed)) → IsCut (placed bytes.now tokens.now) cut
+    ensures refused { (e : ReadFault) → IsErrOf result e → (e ≡ OutOfMemory → ⊥)
+        → (cut : List (List Placed)) → IsCut (placed bytes.now tokens.now) cut
         → IsNoItem last cut e ⊎ IsRefusedAs declared.now.signature declared.now.clash cut e }
 {
     let entries = read_items(alloc, &declared.signature, bytes, tokens, last)?;

@@ -16,7 +16,8 @@ use std::alloc::Global;
 
 // The place of the first process without a label at this place or behind it.
 fn next_process(entries: &Items<Definition>, from: u64) -> Option<u64>
-    ensures next { MatchOption result (unlabelled (map body (drop from entries.now)) ≡ []) (IsProcessAt entries.now from) }
+    ensures next { MatchOption result (unlabelled (map body (drop from entries.now)) ≡ [])
+        (IsProcessAt entries.now from) }
     ensures fits { IfSome result (λ k. k < u64.MAX) }
 {
     for k in from..entries.len() {
@@ -30,8 +31,10 @@ fn next_process(entries: &Items<Definition>, from: u64) -> Option<u64>
 /// The place of the file's process; an error where there is none, and where there are several.
 #[tactic(auto, using(crate::proofs::Caused::one_process))]
 pub(crate) fn the_process(entries: &Items<Definition>) -> Result<u64, ReadFault>
-    ensures found { IfOk result (λ k. (e : Definition) × (slice_get entries.now k ≡ Some e) × (unlabelled (map body entries.now) ≡ body e ∷ [])) }
-    ensures not_one { IfErr result (λ f. (clash : Option (List ℕ)) → cause (map body entries.now) clash ≡ Some f) }
+    ensures found { IfOk result (λ k. (e : Definition) × (slice_get entries.now k ≡ Some e)
+        × (unlabelled (map body entries.now) ≡ body e ∷ [])) }
+    ensures not_one { IfErr result (λ f. (clash : Option (List ℕ))
+        → cause (map body entries.now) clash ≡ Some f) }
 {
     let Some(first) = next_process(entries, 0) else {
         return Err(ReadFault::NoProcess);
@@ -47,7 +50,8 @@ pub(crate) fn the_process(entries: &Items<Definition>) -> Result<u64, ReadFault>
 // Whether the entry's label is among the names; it is among them now.
 fn is_repeated(alloc: Global, names: &mut IndexSet<Name>, entry: &Definition) -> Result<bool, Mem>
     ensures is { IfOk result (λ b. b ≡ is_label_in names.old.keys entry.now.label) }
-    ensures more { OnOk result ((x : List ℕ) → list_any (bytes_eq x) names.new.keys ≡ is_in_more names.old.keys entry.now.label x) }
+    ensures more { OnOk result ((x : List ℕ)
+        → list_any (bytes_eq x) names.new.keys ≡ is_in_more names.old.keys entry.now.label x) }
 {
     let Some(label) = &entry.label else {
         return Ok(false);
@@ -59,7 +63,8 @@ fn is_repeated(alloc: Global, names: &mut IndexSet<Name>, entry: &Definition) ->
 
 // The place of the first process whose label another behind it has. It takes time in proportion to the list.
 fn first_repeated_at(alloc: Global, entries: &Items<Definition>) -> Result<Option<u64>, Mem>
-    ensures { IfOk result (λ k. first_repeated (labels (map body entries.now)) ≡ label_of entries.now k) }
+    ensures { IfOk result (λ k. first_repeated (labels
+        (map body entries.now)) ≡ label_of entries.now k) }
 {
     let mut behind = IndexSet::new(alloc);
     let mut found = None;

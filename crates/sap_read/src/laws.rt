@@ -27,23 +27,28 @@ use sap_text::{one_answer, some_answer};
 pub fn one_term()
     ensures words { (g : Sig) (t u : Tree) (a b c : List Word) → IsTerm g t a b → IsTerm g u a c
         → starts (codes "(") b ≡ false → starts (codes "(") c ≡ false → (t ≡ u) × (b ≡ c) }
-    ensures places { (g : Sig) (ws : List Word) (at e k : ℕ) (t u : Tree) → IsTermAt g ws at t e → IsTermAt g ws at u k
+    ensures places { (g : Sig) (ws : List Word) (at e k : ℕ) (t u : Tree) → IsTermAt g ws at t e
+        → IsTermAt g ws at u k
         → (t ≡ u) × (e ≡ k) }
 {}
 
 /// A law: from one place words spell at most one fact, and end it at one place.
 pub fn one_fact()
-    ensures words { (g : Sig) (f h : Fact) (a b c : List Word) → IsFact g f a b → IsFact g h a c → (f ≡ h) × (b ≡ c) }
-    ensures places { (g : Sig) (ws : List Word) (at e k : ℕ) (f h : Fact) → IsFactAt g ws at f e → IsFactAt g ws at h k
+    ensures words { (g : Sig) (f h : Fact) (a b c : List Word) → IsFact g f a b → IsFact g h a c
+        → (f ≡ h) × (b ≡ c) }
+    ensures places { (g : Sig) (ws : List Word) (at e k : ℕ) (f h : Fact) → IsFactAt g ws at f e
+        → IsFactAt g ws at h k
         → (f ≡ h) × (e ≡ k) }
 {}
 
 /// A law: from one place words spell at most one process that nothing of it follows, with one number of levels, and end it
 /// at one place. So all of some words spell at most one.
 pub fn one_process()
-    ensures place { (g : Sig) (m n k : ℕ) (p q : Written) (a b c : List Word) → IsPar g m p n a b → IsPar g m q k a c
+    ensures place { (g : Sig) (m n k : ℕ) (p q : Written) (a b c : List Word) → IsPar g m p n a b
+        → IsPar g m q k a c
         → EndsProcess b → EndsProcess c → (p ≡ q) × (n ≡ k) × (b ≡ c) }
-    ensures whole { (g : Sig) (m n k : ℕ) (p q : Written) (a : List Word) → IsPar g m p n a [] → IsPar g m q k a []
+    ensures whole { (g : Sig) (m n k : ℕ) (p q : Written) (a : List Word) → IsPar g m p n a []
+        → IsPar g m q k a []
         → (p ≡ q) × (n ≡ k) }
 {}
 
@@ -79,7 +84,8 @@ pub fn one_file()
 /// A law: each list of bytes is read as something, as a file or as refused for a cause, if each process has no flaw or one
 /// that counts.
 pub fn some_file()
-    ensures { ((g : Sig) (p : Proc) → IsWellFormed g p ⊎ ((which : Flaw) × (path : List ℕ) × IsFirstFlaw g p which path))
+    ensures { ((g : Sig) (p : Proc) → IsWellFormed g p ⊎ ((which : Flaw) × (path : List ℕ)
+        × IsFirstFlaw g p which path))
         → (z : List ℕ) → ((o : Result FileContent ReadFault) × IsRead z o) }
 {
     some_answer();
@@ -88,8 +94,11 @@ pub fn some_file()
 /// A law: the words behind a header are cut into items in one way, and spell at most one list of items, under a signature and
 /// under that of the items themselves.
 pub fn one_list_of_items()
-    ensures cut { (words : List Placed) (is js : List (List Placed)) → IsCut words is → IsCut words js → is ≡ js }
-    ensures items { (g : Sig) (cut : List (List Placed)) (is js : List Standing) → AreItems g cut is → AreItems g cut js → is ≡ js }
-    ensures own { (cut : List (List Placed)) (is js : List Standing) → AreItems (signature_of is) cut is → AreItems (signature_of js) cut js
+    ensures cut { (words : List Placed) (is js : List (List Placed)) → IsCut words is
+        → IsCut words js → is ≡ js }
+    ensures items { (g : Sig) (cut : List (List Placed)) (is js : List Standing)
+        → AreItems g cut is → AreItems g cut js → is ≡ js }
+    ensures own { (cut : List (List Placed)) (is js : List Standing)
+        → AreItems (signature_of is) cut is → AreItems (signature_of js) cut js
         → is ≡ js }
 {}

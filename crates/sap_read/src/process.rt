@@ -26,8 +26,10 @@ pub(crate) fn read_process(
     bytes: &[u8],
     tokens: &[Token],
 ) -> Result<Option<Box<Draft>>, Mem>
-    ensures found { IfOk result (λ o. IfSome o (λ p. IsProcess sig.now (written p.value) (words_of bytes.now tokens.now))) }
-    ensures none { IfOk result (λ o. IfNone o ((g : Sig) (p : Written) → IsProcess g p (words_of bytes.now tokens.now) → ⊥)) }
+    ensures found { IfOk result (λ o. IfSome o (λ p. IsProcess sig.now (written p.value)
+        (words_of bytes.now tokens.now))) }
+    ensures none { IfOk result (λ o. IfNone o ((g : Sig) (p : Written)
+        → IsProcess g p (words_of bytes.now tokens.now) → ⊥)) }
 {
     match read_par(alloc, sig, bytes, MOST_PROCESS_LEVELS as u32, tokens)? {
         None => Ok(None),

@@ -91,7 +91,8 @@ fn read_list<'a>(
     depth: u32,
     tokens: &'a [Token],
 ) -> Result<Option<(TermList, &'a [Token])>, Mem>
-    ensures { GivesArgs bytes.now result (list_of (codes ")") (term sig.now depth) (length tokens.now) (words_of bytes.now tokens.now)) }
+    ensures { GivesArgs bytes.now result (list_of (codes ")") (term sig.now depth)
+        (length tokens.now) (words_of bytes.now tokens.now)) }
 {
     let mut terms = TermList::new(alloc);
     let mut rest = tokens;
@@ -121,7 +122,8 @@ pub fn read_args<'a>(
     depth: u32,
     tokens: &'a [Token],
 ) -> Result<Option<(TermList, &'a [Token])>, Mem>
-    ensures { GivesArgs bytes.now result (args (term sig.now depth) (words_of bytes.now tokens.now)) }
+    ensures { GivesArgs bytes.now result (args (term sig.now depth)
+        (words_of bytes.now tokens.now)) }
 {
     if starts(bytes, tokens, ")") {
         Ok(Some((TermList::new(alloc), beyond(1, tokens))))
@@ -140,7 +142,8 @@ fn read_symbol<'a>(
     name: &[u8],
     tokens: &'a [Token],
 ) -> Result<Option<(Term, &'a [Token])>, Mem>
-    ensures { GivesTerm bytes.now result (symbol (term sig.now depth) name.now (words_of bytes.now tokens.now)) }
+    ensures { GivesTerm bytes.now result (symbol (term sig.now depth) name.now
+        (words_of bytes.now tokens.now)) }
 {
     if !is_lower(name) {
         return Ok(None);
@@ -164,7 +167,8 @@ fn read_named<'a>(
     name: &[u8],
     tokens: &'a [Token],
 ) -> Result<Option<(Term, &'a [Token])>, Mem>
-    ensures { GivesTerm bytes.now result (named sig.now (term sig.now depth) name.now (words_of bytes.now tokens.now)) }
+    ensures { GivesTerm bytes.now result (named sig.now (term sig.now depth) name.now
+        (words_of bytes.now tokens.now)) }
 {
     if starts(bytes, tokens, "(") {
         read_symbol(alloc, sig, bytes, depth, name, beyond(1, tokens))
@@ -183,7 +187,8 @@ fn read_second<'a>(
     left: Term,
     tokens: &'a [Token],
 ) -> Result<Option<(Term, &'a [Token])>, Mem>
-    ensures { GivesTerm bytes.now result (paired (rest sig.now depth) (tree left) (words_of bytes.now tokens.now)) }
+    ensures { GivesTerm bytes.now result (paired (rest sig.now depth) (tree left)
+        (words_of bytes.now tokens.now)) }
 {
     if !starts(bytes, tokens, ",") {
         return Ok(None);
@@ -206,7 +211,8 @@ fn read_tuple<'a>(
     depth: u32,
     tokens: &'a [Token],
 ) -> Result<Option<(Term, &'a [Token])>, Mem>
-    ensures { GivesTerm bytes.now result (tuple (term sig.now depth) (rest sig.now depth) (words_of bytes.now tokens.now)) }
+    ensures { GivesTerm bytes.now result (tuple (term sig.now depth) (rest sig.now depth)
+        (words_of bytes.now tokens.now)) }
 {
     match read_deep(alloc, sig, bytes, depth, tokens)? {
         None => Ok(None),
@@ -275,7 +281,8 @@ fn read_leaf<'a>(
     depth: u32,
     tokens: &'a [Token],
 ) -> Result<Option<(Term, &'a [Token])>, Mem>
-    ensures { GivesTerm bytes.now result (leaf sig.now (term sig.now depth) (quoted_at (words_of bytes.now tokens.now)) (words_of bytes.now tokens.now)) }
+    ensures { GivesTerm bytes.now result (leaf sig.now (term sig.now depth) (quoted_at
+        (words_of bytes.now tokens.now)) (words_of bytes.now tokens.now)) }
 {
     if let Some(content) = quoted_at(bytes, tokens) {
         return Ok(Some((quoted(alloc, content)?, beyond(1, tokens))));
@@ -287,7 +294,8 @@ fn read_leaf<'a>(
 }
 
 fn is_whole(bytes: &[u8], term: &Term, rest: &[Token]) -> bool
-    ensures { IsTrue result ↔ ((level_count (tree term.now) ≤ MOST_TERM_LEVELS) × (starts (codes "(") (words_of bytes.now rest.now) ≡ false)) }
+    ensures { IsTrue result ↔ ((level_count (tree term.now) ≤ MOST_TERM_LEVELS)
+        × (starts (codes "(") (words_of bytes.now rest.now) ≡ false)) }
 {
     term.levels() <= MOST_TERM_LEVELS && !starts(bytes, rest, "(")
 }
@@ -303,7 +311,8 @@ pub fn read_term(
     tokens: &Vec<Token>,
     at: u64,
 ) -> Result<Option<(Term, u64)>, Mem>
-    ensures found { IfOk result (λ o. IfSome o (λ r. IsTermAt sig.now (words_of bytes.now tokens.now.items) at (tree r.0) r.1)) }
+    ensures found { IfOk result (λ o. IfSome o (λ r. IsTermAt sig.now
+        (words_of bytes.now tokens.now.items) at (tree r.0) r.1)) }
     ensures none { IfOk result (λ o. IfNone o ((t : Tree) (e : ℕ)
         → IsTermAt sig.now (words_of bytes.now tokens.now.items) at t e → ⊥)) }
 {

@@ -21,7 +21,8 @@ use std::alloc::Global;
 
 // Whether the process is too large, its names replaced by what they stand for.
 fn size_fault(names: &Names, draft: &Draft) -> Option<ReadFault>
-    ensures { result ≡ size_fault (min (nodes_in names.now (written draft.now)) u64.MAX) (min (levels_in names.now (written draft.now)) u64.MAX) }
+    ensures { result ≡ size_fault (min (nodes_in names.now (written draft.now)) u64.MAX) (min
+        (levels_in names.now (written draft.now)) u64.MAX) }
 {
     if nodes(names, draft) > MOST_PROCESS_PLACES {
         return Some(ReadFault::TooMany);
@@ -42,7 +43,8 @@ fn check_names(
     requires known { unknown_from [] (map body entries.now) ≡ None }
     ensures distinct { OnOk result (first_repeated (labels (map body entries.now)) ≡ None) }
     ensures no_clash { OnOk result (clash.now ≡ None) }
-    ensures refused { (e : ReadFault) → IsErrOf result e → (e ≡ OutOfMemory → ⊥) → cause (map body entries.now) clash.now ≡ Some e }
+    ensures refused { (e : ReadFault) → IsErrOf result e → (e ≡ OutOfMemory → ⊥)
+        → cause (map body entries.now) clash.now ≡ Some e }
 {
     if let Some(name) = first_repeated(alloc, entries)? {
         return Err(ReadFault::DuplicateName { name });
@@ -68,8 +70,10 @@ fn known_process(
     requires known { unknown_from [] (map body entries.now) ≡ None }
     requires counted { AreCounted names.now (meaning_of entries.now) }
     requires targets { AreTargets entries.now names.now }
-    ensures accepted { IfOk result (λ p. (cause (map body entries.now) clash.now ≡ None) × (process_of no_meaning (map body entries.now) ≡ Some (proc p.value))) }
-    ensures refused { (e : ReadFault) → IsErrOf result e → (e ≡ OutOfMemory → ⊥) → cause (map body entries.now) clash.now ≡ Some e }
+    ensures accepted { IfOk result (λ p. (cause (map body entries.now) clash.now ≡ None)
+        × (process_of no_meaning (map body entries.now) ≡ Some (proc p.value))) }
+    ensures refused { (e : ReadFault) → IsErrOf result e → (e ≡ OutOfMemory → ⊥)
+        → cause (map body entries.now) clash.now ≡ Some e }
 {
     check_names(alloc, entries, clash)?;
     let draft: &Draft = &entry.draft;
@@ -89,8 +93,10 @@ pub(crate) fn whole_process(
     entries: &Items<Definition>,
     clash: &Option<Name>,
 ) -> Result<Box<Process>, ReadFault>
-    ensures accepted { IfOk result (λ p. (cause (map body entries.now) clash.now ≡ None) × (process_of no_meaning (map body entries.now) ≡ Some (proc p.value))) }
-    ensures refused { (e : ReadFault) → IsErrOf result e → (e ≡ OutOfMemory → ⊥) → cause (map body entries.now) clash.now ≡ Some e }
+    ensures accepted { IfOk result (λ p. (cause (map body entries.now) clash.now ≡ None)
+        × (process_of no_meaning (map body entries.now) ≡ Some (proc p.value))) }
+    ensures refused { (e : ReadFault) → IsErrOf result e → (e ≡ OutOfMemory → ⊥)
+        → cause (map body entries.now) clash.now ≡ Some e }
 {
     let place = the_process(entries)?;
     let names = names_of(alloc, entries)?;

@@ -73,7 +73,8 @@ fn read_close<'a>(
     message: Term,
     tokens: &'a [Token],
 ) -> Result<Option<(Box<Doing>, &'a [Token])>, Mem>
-    ensures { GivesAction bytes.now result (up_to (codes ")") (on_channel way (tree channel) (tree message)) (words_of bytes.now tokens.now)) }
+    ensures { GivesAction bytes.now result (up_to (codes ")") (on_channel way (tree channel)
+        (tree message)) (words_of bytes.now tokens.now)) }
 {
     if starts(bytes, tokens, ")") {
         let doing = on_channel(alloc, way, channel, message)?;
@@ -92,7 +93,8 @@ fn read_message<'a>(
     channel: Term,
     tokens: &'a [Token],
 ) -> Result<Option<(Box<Doing>, &'a [Token])>, Mem>
-    ensures { GivesAction bytes.now result (second_term sig.now MOST_TERM_LEVELS (on_channel way) (tree channel) (words_of bytes.now tokens.now)) }
+    ensures { GivesAction bytes.now result (second_term sig.now MOST_TERM_LEVELS (on_channel way)
+        (tree channel) (words_of bytes.now tokens.now)) }
 {
     if !starts(bytes, tokens, ",") {
         return Ok(None);
@@ -111,7 +113,8 @@ fn read_channel<'a>(
     way: Way,
     tokens: &'a [Token],
 ) -> Result<Option<(Box<Doing>, &'a [Token])>, Mem>
-    ensures { GivesAction bytes.now result (channel sig.now MOST_TERM_LEVELS (to_adversary way) (on_channel way) (words_of bytes.now tokens.now)) }
+    ensures { GivesAction bytes.now result (channel sig.now MOST_TERM_LEVELS (to_adversary way)
+        (on_channel way) (words_of bytes.now tokens.now)) }
 {
     if !starts(bytes, tokens, "(") {
         return Ok(None);
@@ -172,7 +175,8 @@ fn read_right_side<'a>(
     shown: FactList,
     tokens: &'a [Token],
 ) -> Result<Option<(Box<Doing>, &'a [Token])>, Mem>
-    ensures { GivesAction bytes.now result (right_side sig.now MOST_TERM_LEVELS taken shown (words_of bytes.now tokens.now)) }
+    ensures { GivesAction bytes.now result (right_side sig.now MOST_TERM_LEVELS taken shown
+        (words_of bytes.now tokens.now)) }
 {
     if !starts(bytes, tokens, "[") {
         return Ok(None);
@@ -194,7 +198,8 @@ fn read_shown<'a>(
     taken: FactList,
     tokens: &'a [Token],
 ) -> Result<Option<(Box<Doing>, &'a [Token])>, Mem>
-    ensures { GivesAction bytes.now result (shown_facts sig.now MOST_TERM_LEVELS taken (words_of bytes.now tokens.now)) }
+    ensures { GivesAction bytes.now result (shown_facts sig.now MOST_TERM_LEVELS taken
+        (words_of bytes.now tokens.now)) }
 {
     if !starts(bytes, tokens, "--[") {
         return Ok(None);
@@ -212,7 +217,8 @@ fn read_rule<'a>(
     bytes: &[u8],
     tokens: &'a [Token],
 ) -> Result<Option<(Box<Doing>, &'a [Token])>, Mem>
-    ensures { GivesAction bytes.now result (embedded_rule sig.now MOST_TERM_LEVELS (words_of bytes.now tokens.now)) }
+    ensures { GivesAction bytes.now result (embedded_rule sig.now MOST_TERM_LEVELS
+        (words_of bytes.now tokens.now)) }
 {
     let Some((taken, rest)) = read_facts(alloc, sig, bytes, true, "]", tokens)? else {
         return Ok(None);
@@ -238,7 +244,8 @@ fn read_event<'a>(
     bytes: &[u8],
     tokens: &'a [Token],
 ) -> Result<Option<(Box<Doing>, &'a [Token])>, Mem>
-    ensures { GivesAction bytes.now result (shown_event sig.now MOST_TERM_LEVELS (words_of bytes.now tokens.now)) }
+    ensures { GivesAction bytes.now result (shown_event sig.now MOST_TERM_LEVELS
+        (words_of bytes.now tokens.now)) }
 {
     match read_short_fact(alloc, sig, bytes, false, tokens)? {
         None => Ok(None),
@@ -257,7 +264,8 @@ fn read_value<'a>(
     key: Term,
     tokens: &'a [Token],
 ) -> Result<Option<(Box<Doing>, &'a [Token])>, Mem>
-    ensures { GivesAction bytes.now result (inserted_at sig.now MOST_TERM_LEVELS (tree key) (words_of bytes.now tokens.now)) }
+    ensures { GivesAction bytes.now result (inserted_at sig.now MOST_TERM_LEVELS (tree key)
+        (words_of bytes.now tokens.now)) }
 {
     if !starts(bytes, tokens, ",") {
         return Ok(None);
@@ -278,7 +286,8 @@ fn read_insert<'a>(
     bytes: &[u8],
     tokens: &'a [Token],
 ) -> Result<Option<(Box<Doing>, &'a [Token])>, Mem>
-    ensures { GivesAction bytes.now result (inserted sig.now MOST_TERM_LEVELS (words_of bytes.now tokens.now)) }
+    ensures { GivesAction bytes.now result (inserted sig.now MOST_TERM_LEVELS
+        (words_of bytes.now tokens.now)) }
 {
     match read_short_term(alloc, sig, bytes, tokens)? {
         None => Ok(None),
@@ -294,7 +303,8 @@ fn read_deed<'a>(
     deed: Deed,
     tokens: &'a [Token],
 ) -> Result<Option<(Box<Doing>, &'a [Token])>, Mem>
-    ensures { GivesAction bytes.now result (on_term sig.now MOST_TERM_LEVELS (on_one deed) (words_of bytes.now tokens.now)) }
+    ensures { GivesAction bytes.now result (on_term sig.now MOST_TERM_LEVELS (on_one deed)
+        (words_of bytes.now tokens.now)) }
 {
     match read_short_term(alloc, sig, bytes, tokens)? {
         None => Ok(None),
@@ -312,7 +322,8 @@ fn read_state_action<'a>(
     bytes: &[u8],
     tokens: &'a [Token],
 ) -> Result<Option<(Box<Doing>, &'a [Token])>, Mem>
-    ensures { GivesAction bytes.now result (state_action sig.now MOST_TERM_LEVELS (words_of bytes.now tokens.now)) }
+    ensures { GivesAction bytes.now result (state_action sig.now MOST_TERM_LEVELS
+        (words_of bytes.now tokens.now)) }
 {
     let next = beyond(1, tokens);
     if starts(bytes, tokens, "insert") {
@@ -338,7 +349,8 @@ pub fn read_action<'a>(
     bytes: &[u8],
     tokens: &'a [Token],
 ) -> Result<Option<(Box<Doing>, &'a [Token])>, Mem>
-    ensures { GivesAction bytes.now result (action_of sig.now MOST_TERM_LEVELS (words_of bytes.now tokens.now)) }
+    ensures { GivesAction bytes.now result (action_of sig.now MOST_TERM_LEVELS
+        (words_of bytes.now tokens.now)) }
 {
     let next = beyond(1, tokens);
     if starts(bytes, tokens, "new") {

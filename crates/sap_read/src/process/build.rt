@@ -84,7 +84,8 @@ pub fn replicated(alloc: Global, copy: Box<Draft>) -> Result<Box<Draft>, Mem>
 }
 
 pub fn parallel(alloc: Global, left: Box<Draft>, right: Box<Draft>) -> Result<Box<Draft>, Mem>
-    ensures { IfOk result (λ p. written p.value ≡ parallel (written left.value) (written right.value)) }
+    ensures { IfOk result (λ p. written p.value ≡ parallel (written left.value)
+        (written right.value)) }
 {
     boxed(alloc, Draft::Par(left, right))
 }
@@ -95,7 +96,8 @@ pub fn choosing(
     yes: Box<Draft>,
     no: Box<Draft>,
 ) -> Result<Box<Draft>, Mem>
-    ensures { IfOk result (λ p. written p.value ≡ chosen choice.value (written yes.value) (written no.value)) }
+    ensures { IfOk result (λ p. written p.value ≡ chosen choice.value (written yes.value)
+        (written no.value)) }
 {
     match Box::into_inner(choice) {
         Branching::Equality(left, right) => boxed(alloc, Draft::If(left, right, yes, no)),

@@ -22,7 +22,8 @@ fn read_then<'a>(
     right: Term,
     tokens: &'a [Token],
 ) -> Result<Option<(Box<Branching>, &'a [Token])>, Mem>
-    ensures { GivesChoice bytes.now result (up_to (codes "then") (test (tree left) (tree right)) (words_of bytes.now tokens.now)) }
+    ensures { GivesChoice bytes.now result (up_to (codes "then") (test (tree left) (tree right))
+        (words_of bytes.now tokens.now)) }
 {
     if starts(bytes, tokens, "then") {
         let choice = comparing(alloc, left, right)?;
@@ -40,7 +41,8 @@ fn read_equality<'a>(
     left: Term,
     tokens: &'a [Token],
 ) -> Result<Option<(Box<Branching>, &'a [Token])>, Mem>
-    ensures { GivesChoice bytes.now result (equality sig.now MOST_TERM_LEVELS (tree left) (words_of bytes.now tokens.now)) }
+    ensures { GivesChoice bytes.now result (equality sig.now MOST_TERM_LEVELS (tree left)
+        (words_of bytes.now tokens.now)) }
 {
     if !starts(bytes, tokens, "=") {
         return Ok(None);
@@ -59,7 +61,8 @@ pub fn read_compared<'a>(
     bytes: &[u8],
     tokens: &'a [Token],
 ) -> Result<Option<(Box<Branching>, &'a [Token])>, Mem>
-    ensures { GivesChoice bytes.now result (compared sig.now MOST_TERM_LEVELS (words_of bytes.now tokens.now)) }
+    ensures { GivesChoice bytes.now result (compared sig.now MOST_TERM_LEVELS
+        (words_of bytes.now tokens.now)) }
 {
     match read_short_term(alloc, sig, bytes, tokens)? {
         None => Ok(None),
@@ -75,7 +78,8 @@ fn read_found<'a>(
     name: &[u8],
     tokens: &'a [Token],
 ) -> Result<Option<(Box<Branching>, &'a [Token])>, Mem>
-    ensures { GivesChoice bytes.now result (found (tree key) name.now (words_of bytes.now tokens.now)) }
+    ensures { GivesChoice bytes.now result (found (tree key) name.now
+        (words_of bytes.now tokens.now)) }
 {
     if starts(bytes, tokens, "in") {
         let choice = looking_up(alloc, key, name)?;
@@ -112,7 +116,8 @@ pub fn read_looked_up<'a>(
     bytes: &[u8],
     tokens: &'a [Token],
 ) -> Result<Option<(Box<Branching>, &'a [Token])>, Mem>
-    ensures { GivesChoice bytes.now result (looked_up sig.now MOST_TERM_LEVELS (words_of bytes.now tokens.now)) }
+    ensures { GivesChoice bytes.now result (looked_up sig.now MOST_TERM_LEVELS
+        (words_of bytes.now tokens.now)) }
 {
     match read_short_term(alloc, sig, bytes, tokens)? {
         None => Ok(None),

@@ -38,7 +38,8 @@ fn read_second_branch<'a>(
 ) -> Result<Option<(Box<Draft>, u32, &'a [Token])>, Mem>
     requires deep { depth < 2 ^ 30 }
     requires within { levels ≤ depth }
-    ensures gives { GivesDraft bytes.now result (second_branch (seq sig.now MOST_TERM_LEVELS depth) (chosen choice.value) (written yes.value, levels) (words_of bytes.now tokens.now)) }
+    ensures gives { GivesDraft bytes.now result (second_branch (seq sig.now MOST_TERM_LEVELS depth)
+        (chosen choice.value) (written yes.value, levels) (words_of bytes.now tokens.now)) }
     ensures within { IfOk result (λ o. IfSome o (λ r. (1 ≤ r.1) × (r.1 ≤ depth + 1))) }
 {
     match read_seq(alloc, sig, bytes, depth, tokens)? {
@@ -61,7 +62,8 @@ fn read_branches<'a>(
     tokens: &'a [Token],
 ) -> Result<Option<(Box<Draft>, u32, &'a [Token])>, Mem>
     requires { depth < 2 ^ 30 }
-    ensures gives { GivesDraft bytes.now result (branches (seq sig.now MOST_TERM_LEVELS depth) (chosen choice.value) (words_of bytes.now tokens.now)) }
+    ensures gives { GivesDraft bytes.now result (branches (seq sig.now MOST_TERM_LEVELS depth)
+        (chosen choice.value) (words_of bytes.now tokens.now)) }
     ensures within { IfOk result (λ o. IfSome o (λ r. (1 ≤ r.1) × (r.1 ≤ depth + 1))) }
 {
     match read_seq(alloc, sig, bytes, depth, tokens)? {
@@ -88,7 +90,8 @@ fn read_condition<'a>(
     tokens: &'a [Token],
 ) -> Result<Option<(Box<Draft>, u32, &'a [Token])>, Mem>
     requires { depth < 2 ^ 30 }
-    ensures gives { GivesDraft bytes.now result (condition sig.now MOST_TERM_LEVELS (seq sig.now MOST_TERM_LEVELS depth) (words_of bytes.now tokens.now)) }
+    ensures gives { GivesDraft bytes.now result (condition sig.now MOST_TERM_LEVELS
+        (seq sig.now MOST_TERM_LEVELS depth) (words_of bytes.now tokens.now)) }
     ensures within { IfOk result (λ o. IfSome o (λ r. (1 ≤ r.1) × (r.1 ≤ depth + 1))) }
 {
     match read_compared(alloc, sig, bytes, tokens)? {
@@ -107,7 +110,8 @@ fn read_lookup<'a>(
     tokens: &'a [Token],
 ) -> Result<Option<(Box<Draft>, u32, &'a [Token])>, Mem>
     requires { depth < 2 ^ 30 }
-    ensures gives { GivesDraft bytes.now result (looking sig.now MOST_TERM_LEVELS (seq sig.now MOST_TERM_LEVELS depth) (words_of bytes.now tokens.now)) }
+    ensures gives { GivesDraft bytes.now result (looking sig.now MOST_TERM_LEVELS
+        (seq sig.now MOST_TERM_LEVELS depth) (words_of bytes.now tokens.now)) }
     ensures within { IfOk result (λ o. IfSome o (λ r. (1 ≤ r.1) × (r.1 ≤ depth + 1))) }
 {
     match read_looked_up(alloc, sig, bytes, tokens)? {
@@ -127,7 +131,9 @@ fn read_on<'a>(
     tokens: &'a [Token],
 ) -> Result<Option<(Box<Draft>, u32, &'a [Token])>, Mem>
     requires { depth < 2 ^ 30 }
-    ensures gives { GivesDraft bytes.now result (going_on (seq sig.now MOST_TERM_LEVELS depth) depth (doing first.value) (words_of bytes.now tokens.now)) }
+    ensures gives { GivesDraft bytes.now result (going_on
+        (seq sig.now MOST_TERM_LEVELS depth) depth (doing first.value)
+        (words_of bytes.now tokens.now)) }
     ensures within { IfOk result (λ o. IfSome o (λ r. (1 ≤ r.1) × (r.1 ≤ depth + 1))) }
 {
     if starts(bytes, tokens, ";") {
@@ -156,7 +162,9 @@ fn read_call_or_action<'a>(
     tokens: &'a [Token],
 ) -> Result<Option<(Box<Draft>, u32, &'a [Token])>, Mem>
     requires { depth < 2 ^ 30 }
-    ensures gives { GivesDraft bytes.now result (call_or_action sig.now MOST_TERM_LEVELS (seq sig.now MOST_TERM_LEVELS depth) depth (name_at (words_of bytes.now tokens.now)) (words_of bytes.now tokens.now)) }
+    ensures gives { GivesDraft bytes.now result (call_or_action sig.now MOST_TERM_LEVELS
+        (seq sig.now MOST_TERM_LEVELS depth) depth (name_at (words_of bytes.now tokens.now))
+        (words_of bytes.now tokens.now)) }
     ensures within { IfOk result (λ o. IfSome o (λ r. (1 ≤ r.1) × (r.1 ≤ depth + 1))) }
 {
     if let Some(name) = name_at(bytes, tokens) {
@@ -179,7 +187,8 @@ fn read_enclosed<'a>(
     tokens: &'a [Token],
 ) -> Result<Option<(Box<Draft>, u32, &'a [Token])>, Mem>
     requires { depth < 2 ^ 30 }
-    ensures gives { GivesDraft bytes.now result (enclosed (par sig.now MOST_TERM_LEVELS depth) (words_of bytes.now tokens.now)) }
+    ensures gives { GivesDraft bytes.now result (enclosed (par sig.now MOST_TERM_LEVELS depth)
+        (words_of bytes.now tokens.now)) }
     ensures within { IfOk result (λ o. IfSome o (λ r. (1 ≤ r.1) × (r.1 ≤ depth + 1))) }
 {
     match read_par(alloc, sig, bytes, depth, tokens)? {
@@ -204,7 +213,8 @@ fn read_replicated<'a>(
     tokens: &'a [Token],
 ) -> Result<Option<(Box<Draft>, u32, &'a [Token])>, Mem>
     requires { depth < 2 ^ 30 }
-    ensures gives { GivesDraft bytes.now result (repeated (seq sig.now MOST_TERM_LEVELS depth) (words_of bytes.now tokens.now)) }
+    ensures gives { GivesDraft bytes.now result (repeated (seq sig.now MOST_TERM_LEVELS depth)
+        (words_of bytes.now tokens.now)) }
     ensures within { IfOk result (λ o. IfSome o (λ r. (1 ≤ r.1) × (r.1 ≤ depth + 1))) }
 {
     match read_seq(alloc, sig, bytes, depth, tokens)? {
@@ -226,7 +236,8 @@ fn read_seq<'a>(
     tokens: &'a [Token],
 ) -> Result<Option<(Box<Draft>, u32, &'a [Token])>, Mem>
     requires { depth < 2 ^ 30 }
-    ensures gives { GivesDraft bytes.now result (seq sig.now MOST_TERM_LEVELS depth (words_of bytes.now tokens.now)) }
+    ensures gives { GivesDraft bytes.now result (seq sig.now MOST_TERM_LEVELS depth
+        (words_of bytes.now tokens.now)) }
     ensures within { IfOk result (λ o. IfSome o (λ r. (1 ≤ r.1) × (r.1 ≤ depth))) }
 {
     if depth == 0 {
@@ -262,7 +273,8 @@ fn read_beside<'a>(
 ) -> Result<Option<(Box<Draft>, u32, &'a [Token])>, Mem>
     requires deep { depth < 2 ^ 30 }
     requires within { levels ≤ depth }
-    ensures gives { GivesDraft bytes.now result (beside (par sig.now MOST_TERM_LEVELS depth) (written left.value, levels) (words_of bytes.now tokens.now)) }
+    ensures gives { GivesDraft bytes.now result (beside (par sig.now MOST_TERM_LEVELS depth)
+        (written left.value, levels) (words_of bytes.now tokens.now)) }
     ensures within { IfOk result (λ o. IfSome o (λ r. (1 ≤ r.1) × (r.1 ≤ depth + 1))) }
 {
     match read_par(alloc, sig, bytes, depth, tokens)? {
@@ -285,7 +297,8 @@ pub fn read_par<'a>(
     tokens: &'a [Token],
 ) -> Result<Option<(Box<Draft>, u32, &'a [Token])>, Mem>
     requires { depth < 2 ^ 30 }
-    ensures gives { GivesDraft bytes.now result (par sig.now MOST_TERM_LEVELS depth (words_of bytes.now tokens.now)) }
+    ensures gives { GivesDraft bytes.now result (par sig.now MOST_TERM_LEVELS depth
+        (words_of bytes.now tokens.now)) }
     ensures within { IfOk result (λ o. IfSome o (λ r. (1 ≤ r.1) × (r.1 ≤ depth))) }
 {
     if depth == 0 {

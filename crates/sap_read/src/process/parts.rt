@@ -22,7 +22,8 @@ pub fn read_short_term<'a>(
     bytes: &[u8],
     tokens: &'a [Token],
 ) -> Result<Option<(Term, &'a [Token])>, Mem>
-    ensures { GivesTerm bytes.now result (short_term sig.now MOST_TERM_LEVELS (words_of bytes.now tokens.now)) }
+    ensures { GivesTerm bytes.now result (short_term sig.now MOST_TERM_LEVELS
+        (words_of bytes.now tokens.now)) }
 {
     let Some((term, rest)) = term::read_deep(alloc, sig, bytes, MOST_TERM_LEVELS as u32, tokens)?
     else {
@@ -44,7 +45,8 @@ pub fn read_short_fact<'a>(
     allowed: bool,
     tokens: &'a [Token],
 ) -> Result<Option<(Fact, &'a [Token])>, Mem>
-    ensures { GivesFact bytes.now result (short_fact sig.now MOST_TERM_LEVELS allowed (words_of bytes.now tokens.now)) }
+    ensures { GivesFact bytes.now result (short_fact sig.now MOST_TERM_LEVELS allowed
+        (words_of bytes.now tokens.now)) }
 {
     let Some((fact, rest)) = fact::read_deep(alloc, sig, bytes, MOST_TERM_LEVELS as u32, tokens)?
     else {
@@ -65,7 +67,9 @@ fn read_fact_list<'a>(
     closing: &str,
     tokens: &'a [Token],
 ) -> Result<Option<(FactList, &'a [Token])>, Mem>
-    ensures { GivesFacts bytes.now result (list_of closing.now (short_fact sig.now MOST_TERM_LEVELS allowed) (length tokens.now) (words_of bytes.now tokens.now)) }
+    ensures { GivesFacts bytes.now result (list_of closing.now
+        (short_fact sig.now MOST_TERM_LEVELS allowed) (length tokens.now)
+        (words_of bytes.now tokens.now)) }
 {
     let mut facts = FactList::new(alloc);
     let mut rest = tokens;
@@ -96,7 +100,8 @@ pub fn read_facts<'a>(
     closing: &str,
     tokens: &'a [Token],
 ) -> Result<Option<(FactList, &'a [Token])>, Mem>
-    ensures { GivesFacts bytes.now result (facts sig.now MOST_TERM_LEVELS allowed closing.now (words_of bytes.now tokens.now)) }
+    ensures { GivesFacts bytes.now result (facts sig.now MOST_TERM_LEVELS allowed closing.now
+        (words_of bytes.now tokens.now)) }
 {
     if starts(bytes, tokens, closing) {
         Ok(Some((FactList::new(alloc), beyond(1, tokens))))
