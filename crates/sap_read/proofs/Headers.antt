@@ -2,7 +2,6 @@
 use Rattle.std.proofs.Common.{◌≡◌, ◌-◌, ℕ, suc, Bool, true, false, ◌&&◌, List, [], ◌∷◌, drop, length, refl, sym, ap, subst, ◌∙◌, arith, Some, None, Option}
 use Rattle.std.proofs.lemmas.Slice.Eq.{bytes_eq-Decides}
 use Rattle.std.specs.Prelude.{codes, if◌then◌else◌, slice_get}
-use Rattle.std.specs.Str.{bytes_eq}
 use Rattle.sap_text.specs.declared.token.Token.{Token}
 use Rattle.sap_read.specs.Words.{Word, mark, name, number, quoted, is_mark, word_of, words_of}
 use Rattle.sap_read.specs.code.Reading.{as_name}

@@ -15,7 +15,7 @@ use Rattle.sap_read.specs.Words.{Word, mark, starts, words_of}
 use Rattle.sap_read.specs.Written.{Written}
 use Rattle.sap_read.specs.Item.{Item, definition, process, Standing, Declaration, declarations, Body, bodies}
 use Rattle.sap_read.specs.Cut.{Placed, placed, words, first_line, last_line}
-use Rattle.sap_read.specs.ItemGrammar.{IsProcess, IsItem, IsEnd, AreItems, IsSomeItem, IsFaulty, item_definition, item_process, item_builtins, item_functions, items_end, items_more, no_end, bad_item, later_item}
+use Rattle.sap_read.specs.ItemGrammar.{IsProcess, IsItem, AreItems, IsSomeItem, IsFaulty, item_definition, item_process, item_builtins, item_functions, items_end, items_more, no_end, bad_item, later_item}
 use Rattle.sap_read.specs.Signatures.{signature_from, signature_of, clash_from}
 use Rattle.sap_read.specs.Replaced.{process_of, no_meaning, replaced, after_body}
 use Rattle.sap_read.specs.Causes.{cause, cause_of, unlabelled}

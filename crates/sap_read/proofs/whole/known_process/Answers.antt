@@ -1,10 +1,8 @@
-use Rattle.std.proofs.Common.{◌≡◌, List, Option, Some, None, Err, map, sym, ap, ◌∙◌, subst, ℕ}
+use Rattle.std.proofs.Common.{◌≡◌, Some, None, Err, map, sym, ap, ◌∙◌}
 use Rattle.std.specs.Prelude.{IsErrOf}
 use Rattle.std.specs.Global.{Box}
 use Rattle.sap_process.specs.declared.process.Process.{Process}
 use Rattle.sap_read.specs.declared.fault.ReadFault.{ReadFault}
-use Rattle.sap_read.specs.Item.{Body}
-use Rattle.sap_read.specs.Causes.{cause}
 use Rattle.sap_read.specs.code.Drafts.{body}
 use Rattle.sap_read.proofs.Caused.{process_is, all_expanded, by_kept_size, few_levels, no_clash}
 use Rattle.sap_read.proofs.whole.known_process.Goals as goal
