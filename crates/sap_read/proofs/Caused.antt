@@ -1,21 +1,23 @@
 -- Which cause comes first.
-use Rattle.std.proofs.Common.{◌≡◌, ℕ, ◌-◌, ◌^◌, ◌≤◌, ◌<◌, min, List, [], ◌∷◌, Bool, true, false, Option, Some, None, refl, sym, ◌∙◌, arith, map}
+use Rattle.std.proofs.Common.{◌≡◌, ℕ, ◌-◌, ◌^◌, ◌≤◌, ◌<◌, min, List, [], ◌∷◌, Bool, true, false, Option, Some, None, refl, sym, subst, ◌∙◌, arith, map}
 use Rattle.std.specs.Prelude.{nat_lt, if◌then◌else◌}
 use Rattle.std.specs.Str.{bytes_eq}
 use Rattle.std.proofs.lemmas.Bool.{lt-ltb, le-ltb, ltb-true, ltb-false}
 use Rattle.indexmap.specs.IndexMap.{IndexMap, get}
 use Rattle.sap_process.specs.Proc.{Proc, node_count, level_count}
 use Rattle.sap_read.specs.declared.draft.Definition.{Definition}
-use Rattle.sap_read.specs.declared.fault.ReadFault.TheVariants.{NoProcess, TwoProcesses, TooMany, TooDeep}
+use Rattle.sap_read.specs.declared.fault.ReadFault.{ReadFault}
+use Rattle.sap_read.specs.declared.fault.ReadFault.TheVariants.{NoProcess, TwoProcesses, DuplicateName, FunctionClash, TooMany, TooDeep}
 use Rattle.sap_read.specs.declared.names.Meant.{Meant}
 use Rattle.sap_read.specs.Item.{Body}
 use Rattle.sap_read.specs.Replaced.{replaced, process_of, no_meaning}
 use Rattle.sap_read.specs.Causes.{first_of, unlabelled, labels, unknown_from, first_repeated, cause}
-use Rattle.sap_read.specs.Drafts.{written, body}
-use Rattle.sap_read.specs.Meaning.{meaning_of, AreMeant, nodes_in, levels_in, IsCounted, AreCounted, AreTargets, IsExpanded, AreExpanded, size_fault}
+use Rattle.sap_read.specs.code.Drafts.{written, body}
+use Rattle.sap_read.specs.code.Meaning.{meaning_of, AreMeant, nodes_in, levels_in, IsCounted, AreCounted, AreTargets, IsExpanded, AreExpanded, size_fault}
 use Rattle.sap_read.proofs.Kept.{nodes_counted, levels_counted}
 use Rattle.sap_read.proofs.Levels.{uncut}
 use Rattle.sap_read.proofs.Meaning.{AreFresh, fixed, process_fixed}
+use Rattle.sap_read.specs.declared.limits.TheConstants.{MOST_PROCESS_LEVELS, MOST_PROCESS_PLACES}
 
 -- no name is known before the first process
 nothing_known : (bs : List Body) → AreFresh [] bs
@@ -26,7 +28,7 @@ pub all_meant : (es : List Definition) → unknown_from [] (map body es) ≡ Non
 all_meant es known distinct = fixed (map body es) [] no_meaning known distinct (nothing_known (map body es))
 
 -- the file's process, by what names mean behind all of them
-pub process_is : (es : List Definition) (e : Definition) → unlabelled (map body es) ≡ body e ∷ [] → unknown_from [] (map body es) ≡ None → first_repeated (labels (map body es)) ≡ None → process_of no_meaning (map body es) ≡ Some (replaced (meaning_of es) (written e.draft))
+pub process_is : (es : List Definition) (e : Definition) → unlabelled (map body es) ≡ body e ∷ [] → unknown_from [] (map body es) ≡ None → first_repeated (labels (map body es)) ≡ None → process_of no_meaning (map body es) ≡ Some (replaced (meaning_of es) (written e.draft.value))
 process_is es e one known distinct =
     process_fixed (map body es) [] no_meaning (body e) [] known distinct (nothing_known (map body es)) one
 
@@ -45,7 +47,7 @@ two_processes bs cs b c clash e = rw e refl
 
 -- where nothing else is wrong, the size of the process decides
 pub by_size : (bs : List Body) (b : Body) (p : Proc) → unlabelled bs ≡ b ∷ [] → unknown_from [] bs ≡ None → first_repeated (labels bs) ≡ None → process_of no_meaning bs ≡ Some p → cause bs None ≡ size_fault (node_count p) (level_count p)
-by_size bs b p e u d is = rw (e, u, d, is) (at (nat_lt 4000 (node_count p)) (nat_lt 300 (level_count p))) where
+by_size bs b p e u d is = rw (e, u, d, is) (at (nat_lt MOST_PROCESS_PLACES (node_count p)) (nat_lt MOST_PROCESS_LEVELS (level_count p))) where
   at : (s t : Bool) → first_of ((if s then Some TooMany else None) ∷ (if t then Some TooDeep else None) ∷ []) ≡ (if s then Some TooMany else (if t then Some TooDeep else None))
   at true t = refl
   at false true = refl
@@ -59,25 +61,37 @@ same_above limit n m most below e = by (nat_lt limit m) refl where
   by false q = le-ltb _ _ (omega (arith, below, e, ltb-false limit m q))
 
 -- and the numbers that are kept decide it
-pub by_kept_size : {S : Type 0} (es : List Definition) (e : Definition) (names : IndexMap (List ℕ) Meant S) → unlabelled (map body es) ≡ body e ∷ [] → unknown_from [] (map body es) ≡ None → first_repeated (labels (map body es)) ≡ None → AreCounted names (meaning_of es) → cause (map body es) None ≡ size_fault (min (nodes_in names (written e.draft)) (2 ^ 64 - 1)) (min (levels_in names (written e.draft)) (2 ^ 64 - 1))
+pub by_kept_size : {S : Type 0} (es : List Definition) (e : Definition) (names : IndexMap (List ℕ) Meant S) → unlabelled (map body es) ≡ body e ∷ [] → unknown_from [] (map body es) ≡ None → first_repeated (labels (map body es)) ≡ None → AreCounted names (meaning_of es) → cause (map body es) None ≡ size_fault (min (nodes_in names (written e.draft.value)) (2 ^ 64 - 1)) (min (levels_in names (written e.draft.value)) (2 ^ 64 - 1))
 by_kept_size es e names one known distinct counted =
-    let p = replaced (meaning_of es) (written e.draft) in
+    let p = replaced (meaning_of es) (written e.draft.value) in
     let is : process_of no_meaning (map body es) ≡ Some p = process_is es e one known distinct in
-    let nodes : nat_lt 4000 (min (nodes_in names (written e.draft)) (2 ^ 64 - 1)) ≡ nat_lt 4000 (node_count p) = same_above 4000 _ (node_count p) (2 ^ 64 - 1) (omega arith) (nodes_counted names (meaning_of es) counted (written e.draft)) in
-    let levels : nat_lt 300 (min (levels_in names (written e.draft)) (2 ^ 64 - 1)) ≡ nat_lt 300 (level_count p) = same_above 300 _ (level_count p) (2 ^ 64 - 1) (omega arith) (levels_counted names (meaning_of es) counted (written e.draft)) in
+    let nodes : nat_lt MOST_PROCESS_PLACES (min (nodes_in names (written e.draft.value)) (2 ^ 64 - 1)) ≡ nat_lt MOST_PROCESS_PLACES (node_count p) = same_above MOST_PROCESS_PLACES _ (node_count p) (2 ^ 64 - 1) (omega arith) (nodes_counted names (meaning_of es) counted (written e.draft.value)) in
+    let levels : nat_lt MOST_PROCESS_LEVELS (min (levels_in names (written e.draft.value)) (2 ^ 64 - 1)) ≡ nat_lt MOST_PROCESS_LEVELS (level_count p) = same_above MOST_PROCESS_LEVELS _ (level_count p) (2 ^ 64 - 1) (omega arith) (levels_counted names (meaning_of es) counted (written e.draft.value)) in
     by_size (map body es) (body e) p one known distinct is ∙ sym (λ i. if nodes i then Some TooMany else (if levels i then Some TooDeep else None))
 
-low_enough : (n l : ℕ) → size_fault n l ≡ None → l ≤ 300
-low_enough n l h = by (nat_lt 4000 n) (nat_lt 300 l) refl h where
-  by : (s t : Bool) → nat_lt 300 l ≡ t → (if s then Some TooMany else (if t then Some TooDeep else None)) ≡ None → l ≤ 300
+low_enough : (n l : ℕ) → size_fault n l ≡ None → l ≤ MOST_PROCESS_LEVELS
+low_enough n l h = by (nat_lt MOST_PROCESS_PLACES n) (nat_lt MOST_PROCESS_LEVELS l) refl h where
+  by : (s t : Bool) → nat_lt MOST_PROCESS_LEVELS l ≡ t → (if s then Some TooMany else (if t then Some TooDeep else None)) ≡ None → l ≤ MOST_PROCESS_LEVELS
   by true t q h = absurd (cc)
   by false true q h = absurd (cc)
-  by false false q h = ltb-false 300 l q
+  by false false q h = ltb-false MOST_PROCESS_LEVELS l q
 
 -- and how deep the process is
-pub few_levels : {S : Type 0} (es : List Definition) (e : Definition) (names : IndexMap (List ℕ) Meant S) → AreCounted names (meaning_of es) → size_fault (min (nodes_in names (written e.draft)) (2 ^ 64 - 1)) (min (levels_in names (written e.draft)) (2 ^ 64 - 1)) ≡ None → level_count (replaced (meaning_of es) (written e.draft)) ≤ 300
+pub few_levels : {S : Type 0} (es : List Definition) (e : Definition) (names : IndexMap (List ℕ) Meant S) → AreCounted names (meaning_of es) → size_fault (min (nodes_in names (written e.draft.value)) (2 ^ 64 - 1)) (min (levels_in names (written e.draft.value)) (2 ^ 64 - 1)) ≡ None → level_count (replaced (meaning_of es) (written e.draft.value)) ≤ MOST_PROCESS_LEVELS
 few_levels es e names counted h =
-    let cut : min (levels_in names (written e.draft)) (2 ^ 64 - 1) ≤ 300 = low_enough _ _ h in
-    uncut _ (2 ^ 64 - 1) 300 (rw (← levels_counted names (meaning_of es) counted (written e.draft)) cut) (omega arith)
+    let cut : min (levels_in names (written e.draft.value)) (2 ^ 64 - 1) ≤ MOST_PROCESS_LEVELS = low_enough _ _ h in
+    uncut _ (2 ^ 64 - 1) MOST_PROCESS_LEVELS (rw (← levels_counted names (meaning_of es) counted (written e.draft.value)) cut) (omega arith)
+
+-- the cause where declarations don't clash
+pub no_clash : (bs : List Body) (clash : Option (List ℕ)) (o : Option ReadFault) → clash ≡ None → cause bs None ≡ o → cause bs clash ≡ o
+no_clash bs clash o none is = subst (λ z. cause bs z ≡ o) (sym none) is
+
+-- where one process is the file's and each name is known, a name that is defined twice decides
+pub name_repeated : (bs : List Body) (b : Body) (clash : Option (List ℕ)) (x : List ℕ) → unlabelled bs ≡ b ∷ [] → unknown_from [] bs ≡ None → first_repeated (labels bs) ≡ Some x → cause bs clash ≡ Some (DuplicateName x)
+name_repeated bs b clash x e u d = rw (e, u, d) refl
+
+-- and where none is, a function that clashes
+pub function_clashes : (bs : List Body) (b : Body) (clash : Option (List ℕ)) (x : List ℕ) → unlabelled bs ≡ b ∷ [] → unknown_from [] bs ≡ None → first_repeated (labels bs) ≡ None → clash ≡ Some x → cause bs clash ≡ Some (FunctionClash x)
+function_clashes bs b clash x e u d c = rw (e, u, d, c) refl
 
 pub ruleset one_process = (no_process, two_processes)

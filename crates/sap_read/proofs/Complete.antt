@@ -9,7 +9,7 @@ use Rattle.sap_read.specs.Words.{Word, starts}
 use Rattle.sap_read.specs.TermGrammar.{IsTerm, IsRest, IsList, IsArgs, IsConstant, sorted, args_none, args_some, list_last, list_more, rest_last, rest_more, term_constant, term_fresh, term_message, term_pub, term_quoted, term_symbol, term_tuple}
 use Rattle.sap_read.specs.FactGrammar.{IsFact, fact_linear, fact_persistent}
 use Rattle.sap_read.specs.Places.{fact_levels}
-use Rattle.sap_read.specs.Reading.{Read, after, given, is_no_arity, plain, list_of, args, term, rest, fact_at}
+use Rattle.sap_read.specs.code.Reading.{Read, after, given, is_no_arity, plain, list_of, args, term, rest, fact_at}
 
 some_levels : (t : Tree) → 1 ≤ level_count t
 some_levels (variable v) = omega arith

@@ -3,7 +3,7 @@ use Rattle.std.proofs.Common.{◌≡◌, ◌+◌, ℕ, suc, Bool, true, false, L
 use Rattle.std.specs.Prelude.{if◌then◌else◌}
 use Rattle.sap_read.specs.Words.{Word, name, mark}
 use Rattle.sap_read.specs.Cut.{Placed, begins_item, NoItemWord, StartsItem, IsCut, cut_none, cut_one, IsHeader}
-use Rattle.sap_read.specs.ItemReading.{count_on, joined, starts_item, cut}
+use Rattle.sap_read.specs.code.ItemReading.{count_on, joined, starts_item, cut}
 
 starts_there : (ts : List Placed) → StartsItem ts → starts_item ts ≡ true
 starts_there [] s = refl

@@ -8,33 +8,34 @@ use Rattle.sap_text.specs.declared.token.Token.{Token}
 use Rattle.sap_read.specs.Words.{Word, words_of, starts}
 use Rattle.sap_read.specs.Item.{Declaration, of_builtin, of_symbol}
 use Rattle.sap_read.specs.ItemGrammar.{value_from, value, IsBuiltin, IsSymbol}
-use Rattle.sap_read.specs.Reading.{Read, Reader, given}
-use Rattle.sap_read.specs.ItemReading.{arity_of_digits, builtin_at, symbol_at, mapped, declaration_at, is_over, in_front, whole_list}
+use Rattle.sap_read.specs.code.Reading.{Read, Reader, given}
+use Rattle.sap_read.specs.code.ItemReading.{arity_of_digits, builtin_at, symbol_at, mapped, declaration_at, is_over, in_front, whole_list}
 use Rattle.sap_read.specs.declared.declaration.Declaration as code
-use Rattle.sap_read.specs.ItemView.{declaration}
+use Rattle.sap_read.specs.code.ItemView.{declaration}
 use Rattle.sap_read.proofs.Sound.{OnRead}
 use Rattle.sap_read.proofs.Steps.{words-drop, length-words}
 use Rattle.sap_read.proofs.ItemWords.{builtin_shorter, builtin_sound, symbol_shorter, symbol_sound}
+use Rattle.sap_read.specs.declared.limits.TheConstants.{MOST_ARITY}
 
 -- what comes later makes no value smaller
 value_grows : (n : ℕ) (ds : List ℕ) → n ≤ value_from n ds
 value_grows n [] = omega arith
 value_grows n (d ∷ ds) = omega (arith, value_grows (n * 10 + (d - 48)) ds)
 
-too_large : (m : ℕ) → 64 < m → nat_le m 64 ≡ false
+too_large : (m : ℕ) → MOST_ARITY < m → nat_le m MOST_ARITY ≡ false
 too_large m lt = search rules
 
 -- a part that is too large makes the whole too large
-pub arity_stop : (all ds : List ℕ) (n : ℕ) → value all ≡ value_from n ds → 64 < n → arity_of_digits all ≡ None
+pub arity_stop : (all ds : List ℕ) (n : ℕ) → value all ≡ value_from n ds → MOST_ARITY < n → arity_of_digits all ≡ None
 arity_stop all ds n e lt = rw (too_large (value all) (omega (arith, e, lt, value_grows n ds))) refl
 
-pub arity_end : (all ds : List ℕ) (n : ℕ) → value all ≡ value_from n ds → ds ≡ [] → n ≤ 64 → arity_of_digits all ≡ Some n
+pub arity_end : (all ds : List ℕ) (n : ℕ) → value all ≡ value_from n ds → ds ≡ [] → n ≤ MOST_ARITY → arity_of_digits all ≡ Some n
 arity_end all ds n e none le =
     let same : value all ≡ n = e ∙ ap (λ (y : List ℕ). value_from n y) none in
-    let few : nat_le n 64 ≡ true = within n le in
+    let few : nat_le n MOST_ARITY ≡ true = within n le in
     rw (same, few) refl
   where
-    within : (m : ℕ) → m ≤ 64 → nat_le m 64 ≡ true
+    within : (m : ℕ) → m ≤ MOST_ARITY → nat_le m MOST_ARITY ≡ true
     within m le = search rules
 
 pub declaration_shorter : (c : Bool) (ws r : List Word) (d : Declaration) → declaration_at c ws ≡ Some (d, r) → length r < length ws

@@ -3,8 +3,8 @@ use Rattle.std.proofs.Common.{◌≡◌, ℕ, Bool, [], None, refl, subst}
 use Rattle.sap_terms.specs.declared.fact.Fact.{Fact}
 use Rattle.sap_terms.specs.Signature.{Sig}
 use Rattle.sap_read.specs.ProcessGrammar.{IsShortFact}
-use Rattle.sap_read.specs.Reading.{Read, after, given}
-use Rattle.sap_read.specs.ProcessReading.{short_fact}
+use Rattle.sap_read.specs.code.Reading.{Read, after, given}
+use Rattle.sap_read.specs.code.ProcessReading.{short_fact}
 use Rattle.sap_read.proofs.Complete.{fact_shorter}
 use Rattle.sap_read.proofs.Lists.{Shrinks}
 use Rattle.sap_read.proofs.Sound.{OnRead}

@@ -2,12 +2,11 @@
 use Rattle.std.proofs.Common.{◌≡◌, ◌-◌, ℕ, suc, Bool, true, false, ◌&&◌, List, [], ◌∷◌, drop, length, refl, sym, ap, subst, ◌∙◌, arith, Some, None, Option}
 use Rattle.std.proofs.lemmas.Slice.Eq.{bytes_eq-Decides}
 use Rattle.std.specs.Prelude.{codes, if◌then◌else◌, slice_get}
-use Rattle.std.specs.Str.{bytes_eq}
 use Rattle.sap_text.specs.declared.token.Token.{Token}
 use Rattle.sap_read.specs.Words.{Word, mark, name, number, quoted, is_mark, word_of, words_of}
-use Rattle.sap_read.specs.Reading.{as_name}
+use Rattle.sap_read.specs.code.Reading.{as_name}
 use Rattle.sap_read.specs.Cut.{Placed, placed, words, IsHeader, last_line}
-use Rattle.sap_read.specs.Judged.{header_of}
+use Rattle.sap_read.specs.code.Judged.{header_of}
 
 -- the words of tokens, with their lines or without
 words_placed : (z : List ℕ) (ts : List Token) → words (placed z ts) ≡ words_of z ts

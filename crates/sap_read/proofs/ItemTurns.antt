@@ -12,11 +12,11 @@ use Rattle.sap_read.specs.Cut.{Placed, placed, words, first_line, IsCut}
 use Rattle.sap_read.specs.ItemGrammar.{IsProcess, IsItem, IsEnd, AreItems, IsSomeItem, IsFaulty, item_builtins, item_functions, item_definition, item_process, items_end, items_more, no_end, bad_item, later_item}
 use Rattle.sap_read.specs.Signatures.{clash_with, with_declaration, signature_from, signature_of, clash_from}
 use Rattle.sap_read.specs.declared.draft.Definition.{Definition}
-use Rattle.sap_read.specs.Drafts.{body}
-use Rattle.sap_read.specs.Reading.{name_at}
-use Rattle.sap_read.specs.ItemReading.{count_on, cut, kept, declared_in, declared_in_all, told}
+use Rattle.sap_read.specs.code.Drafts.{body}
+use Rattle.sap_read.specs.code.Reading.{name_at}
+use Rattle.sap_read.specs.code.ItemReading.{count_on, cut, kept, declared_in, declared_in_all, told}
 use Rattle.sap_read.specs.declared.declaration.Declaration as code
-use Rattle.sap_read.specs.ItemView.{declaration, IsItemOf, IsAdded}
+use Rattle.sap_read.specs.code.ItemView.{declaration, IsItemOf, IsAdded}
 use Rattle.sap_read.proofs.Sound.{starts_is, name_is}
 use Rattle.sap_read.proofs.Steps.{words-drop}
 use Rattle.sap_read.proofs.Cuts.{cut_is, cut_step}
@@ -149,7 +149,7 @@ all_declared z ts rest k o none e f g items is r s =
 
 -- Items that say of processes.
 
-definition_spelled : (ws : List Word) (x : List ℕ) → starts (codes "let") ws ≡ true → name_at (drop 1 ws) ≡ Some x → starts (codes "=") (drop 2 ws) ≡ true
+pub definition_spelled : (ws : List Word) (x : List ℕ) → starts (codes "let") ws ≡ true → name_at (drop 1 ws) ≡ Some x → starts (codes "=") (drop 2 ws) ≡ true
     → ws ≡ mark (codes "let") ∷ name x ∷ mark (codes "=") ∷ drop 3 ws
 definition_spelled [] x s n e = absurd (cc)
 definition_spelled (w ∷ []) x s n e = absurd (cc)
@@ -160,7 +160,7 @@ definition_spelled (w ∷ v ∷ u ∷ ws) x s n e =
     let third = starts_is (codes "=") (u ∷ ws) e in
     cc
 
-process_spelled : (ws : List Word) → starts (codes "process") ws ≡ true → starts (codes ":") (drop 1 ws) ≡ true → ws ≡ mark (codes "process") ∷ mark (codes ":") ∷ drop 2 ws
+pub process_spelled : (ws : List Word) → starts (codes "process") ws ≡ true → starts (codes ":") (drop 1 ws) ≡ true → ws ≡ mark (codes "process") ∷ mark (codes ":") ∷ drop 2 ws
 process_spelled [] s e = absurd (cc)
 process_spelled (w ∷ []) s e = absurd (cc)
 process_spelled (w ∷ v ∷ ws) s e =
@@ -205,7 +205,7 @@ no_process ws s never it = go s never it.is
     go {g = g} s never (item_process {p = p} r) = never g p r
 
 -- an item that begins with neither word of processes declares something
-no_other : (ws : List Word) → starts (codes "let") ws ≡ false → starts (codes "process") ws ≡ false → declared_in ws ≡ None → IsSomeItem ws → ⊥
+pub no_other : (ws : List Word) → starts (codes "let") ws ≡ false → starts (codes "process") ws ≡ false → declared_in ws ≡ None → IsSomeItem ws → ⊥
 no_other ws l p none it = go l p none it.is
   where
     go : {g : Sig} {v : Item} {a : List Word} → starts (codes "let") a ≡ false → starts (codes "process") a ≡ false → declared_in a ≡ None → IsItem g v a → ⊥

@@ -6,9 +6,10 @@ use Rattle.sap_terms.specs.declared.signature.Builtin.{Builtin}
 use Rattle.sap_terms.specs.declared.signature.Builtin.TheVariants.{Hashing, Symmetric, Asymmetric, Signing}
 use Rattle.sap_read.specs.Words.{Word, mark, name, number, quoted, starts, is_lower}
 use Rattle.sap_read.specs.ItemGrammar.{value, IsBuiltin, AreBuiltins, IsSymbol, AreSymbols, spells_hashing, spells_symmetric, spells_asymmetric, spells_signing, builtins_last, builtins_more, spells_public, spells_private, symbols_last, symbols_more}
-use Rattle.sap_read.specs.Reading.{Read, Reader, given, name_at}
-use Rattle.sap_read.specs.ItemReading.{names, is_encryption, builtin_at, number_at, arity_of_digits, small_value, arity_at, is_private, with_privacy, symbol_at, mapped, is_over, on_read, in_front, whole_list}
+use Rattle.sap_read.specs.code.Reading.{Read, Reader, given, name_at}
+use Rattle.sap_read.specs.code.ItemReading.{names, is_encryption, builtin_at, number_at, arity_of_digits, small_value, arity_at, is_private, with_privacy, symbol_at, mapped, is_over, on_read, in_front, whole_list}
 use Rattle.sap_read.proofs.Sound.{Says, OnRead, given_on, if_on, same_bytes, starts_is, name_is}
+use Rattle.sap_read.specs.declared.limits.TheConstants.{MOST_ARITY}
 
 -- What is spelled so is read.
 
@@ -27,8 +28,8 @@ builtin_shorter spells_signing = omega arith
 fits : (m n : ℕ) → m ≤ n → nat_le m n ≡ true
 fits m n le = search rules
 
-arity_read : (ds : List ℕ) → value ds ≤ 64 → arity_of_digits ds ≡ Some (value ds)
-arity_read ds le = rw (fits (value ds) 64 le) refl
+arity_read : (ds : List ℕ) → value ds ≤ MOST_ARITY → arity_of_digits ds ≡ Some (value ds)
+arity_read ds le = rw (fits (value ds) MOST_ARITY le) refl
 
 -- no bracket follows
 not_private : (ws : List Word) → starts (codes "[") ws ≡ false → is_private ws ≡ false
@@ -107,17 +108,17 @@ builtin_sound ws =
     (λ no. tt)))
 
 -- the arity is that of the number that stands first
-arity_is : (ws : List Word) (n : ℕ) → arity_at ws ≡ Some n → (ds : List ℕ) × (ws ≡ number ds ∷ drop 1 ws) × (value ds ≤ 64) × (n ≡ value ds)
+arity_is : (ws : List Word) (n : ℕ) → arity_at ws ≡ Some n → (ds : List ℕ) × (ws ≡ number ds ∷ drop 1 ws) × (value ds ≤ MOST_ARITY) × (n ≡ value ds)
 arity_is ws n e = by_number (number_at ws) refl e
   where
-    within : (ds : List ℕ) → ws ≡ number ds ∷ drop 1 ws → (c : Bool) → nat_le (value ds) 64 ≡ c → (if c then Some (value ds) else None) ≡ Some n
-        → (ds : List ℕ) × (ws ≡ number ds ∷ drop 1 ws) × (value ds ≤ 64) × (n ≡ value ds)
+    within : (ds : List ℕ) → ws ≡ number ds ∷ drop 1 ws → (c : Bool) → nat_le (value ds) MOST_ARITY ≡ c → (if c then Some (value ds) else None) ≡ Some n
+        → (ds : List ℕ) × (ws ≡ number ds ∷ drop 1 ws) × (value ds ≤ MOST_ARITY) × (n ≡ value ds)
     within ds is true e f = (ds, is, search rules, cc)
     within ds is false e f = absurd (cc)
 
-    by_number : (o : Option (List ℕ)) → number_at ws ≡ o → small_value o ≡ Some n → (ds : List ℕ) × (ws ≡ number ds ∷ drop 1 ws) × (value ds ≤ 64) × (n ≡ value ds)
+    by_number : (o : Option (List ℕ)) → number_at ws ≡ o → small_value o ≡ Some n → (ds : List ℕ) × (ws ≡ number ds ∷ drop 1 ws) × (value ds ≤ MOST_ARITY) × (n ≡ value ds)
     by_number None e f = absurd (cc)
-    by_number (Some ds) e f = within ds (number_is ws ds e) (nat_le (value ds) 64) refl f
+    by_number (Some ds) e f = within ds (number_is ws ds e) (nat_le (value ds) MOST_ARITY) refl f
 
 private_is : (ws : List Word) → is_private ws ≡ true → ws ≡ mark (codes "[") ∷ name (codes "private") ∷ mark (codes "]") ∷ drop 3 ws
 private_is [] e = absurd (cc)
@@ -136,7 +137,7 @@ private_is (w ∷ v ∷ u ∷ ws) e =
 
 -- the words before a symbol's privacy
 symbol_front : (f : List ℕ) (ws : List Word) (n : ℕ) → name_at ws ≡ Some f → starts (codes "/") (drop 1 ws) ≡ true → arity_at (drop 2 ws) ≡ Some n
-    → (ds : List ℕ) × (ws ≡ name f ∷ mark (codes "/") ∷ number ds ∷ drop 3 ws) × (value ds ≤ 64) × (n ≡ value ds)
+    → (ds : List ℕ) × (ws ≡ name f ∷ mark (codes "/") ∷ number ds ∷ drop 3 ws) × (value ds ≤ MOST_ARITY) × (n ≡ value ds)
 symbol_front f [] n e s k = absurd (cc)
 symbol_front f (w ∷ []) n e s k = absurd (cc)
 symbol_front f (w ∷ v ∷ []) n e s k = absurd (cc)
@@ -154,7 +155,7 @@ symbol_sound ws =
     (λ no. tt)))
   where
     with_front : (f : List ℕ) (n : ℕ) → is_lower f ≡ true
-        → ((ds : List ℕ) × (ws ≡ name f ∷ mark (codes "/") ∷ number ds ∷ drop 3 ws) × (value ds ≤ 64) × (n ≡ value ds))
+        → ((ds : List ℕ) × (ws ≡ name f ∷ mark (codes "/") ∷ number ds ∷ drop 3 ws) × (value ds ≤ MOST_ARITY) × (n ≡ value ds))
         → OnRead (λ s r. IsSymbol s ws r) (with_privacy f n (drop 3 ws))
     with_front f n low (ds, front, few, same) =
         let Q : Says Symbol = λ s r. IsSymbol s ws r in

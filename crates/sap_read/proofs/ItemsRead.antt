@@ -10,9 +10,10 @@ use Rattle.sap_read.specs.ProcessGrammar.{IsPar, EndsProcess}
 use Rattle.sap_read.specs.Item.{Item, builtins, functions, definition, process, Standing, Declaration, of_builtin, of_symbol, declared_by, declarations, body_of}
 use Rattle.sap_read.specs.Cut.{Placed, words}
 use Rattle.sap_read.specs.ItemGrammar.{AreBuiltins, AreSymbols, IsProcess, IsItem, IsEnd, AreItems, IsFaulty, item_builtins, item_functions, item_definition, item_process, items_end, items_more, no_end, bad_item, later_item}
-use Rattle.sap_read.specs.ItemReading.{builtin_at, symbol_at, declaration_at, whole_list, behind_colon, declared_in, told, declared_in_all}
+use Rattle.sap_read.specs.code.ItemReading.{builtin_at, symbol_at, declaration_at, whole_list, behind_colon, declared_in, told, declared_in_all}
 use Rattle.sap_read.proofs.Sound.{starts_is}
 use Rattle.sap_read.proofs.ItemWords.{builtins_read, symbols_read, builtins_sound, symbols_sound, list_mapped}
+use Rattle.sap_read.specs.declared.limits.TheConstants.{MOST_TERM_LEVELS}
 
 pub builtins_declared : {bs : List Builtin} {a : List Word} → AreBuiltins bs a → (n : ℕ) → length a ≤ n → whole_list (declaration_at true) n a ≡ Some (map of_builtin bs)
 builtins_declared {a = a} r n le = list_mapped of_builtin builtin_at n a ∙ ap (λ (o : Option (List Builtin)). option_map (map of_builtin) o) (builtins_read r n le)
@@ -131,7 +132,7 @@ module _ (one_process : (g : Sig) (m n k : ℕ) (p q : Written) (a b c : List Wo
   one_whole : (g : Sig) (p q : Written) (a : List Word) → IsProcess g p a → IsProcess g q a → p ≡ q
   one_whole g p q a r s =
       let ends : EndsProcess [] = record { no_parenthesis = refl; no_semicolon = refl; no_else = refl; no_bar = refl; no_bars = refl } in
-      (one_process g 100 r.levels s.levels p q a [] [] r.spelled s.spelled ends ends).0
+      (one_process g MOST_TERM_LEVELS r.levels s.levels p q a [] [] r.spelled s.spelled ends ends).0
 
   one_item : {g : Sig} {u v : Item} {a : List Word} → IsItem g u a → IsItem g v a → u ≡ v
   one_item (item_builtins {bs = bs} {a = a} r) (item_builtins {bs = cs} s) =

@@ -17,8 +17,8 @@ use Rattle.sap_read.specs.declared.names.Meant.{Meant}
 use Rattle.sap_read.specs.Written.{Written, nil, call, parallel, replicated, act, test, lookup}
 use Rattle.sap_read.specs.Replaced.{calls, replaced, after_body, no_meaning}
 use Rattle.sap_read.specs.Causes.{first_of, listed, is_among, unknown_from}
-use Rattle.sap_read.specs.Drafts.{written, body}
-use Rattle.sap_read.specs.Meaning.{meaning, AreMeant, nodes_kept, nodes_in, levels_kept, levels_in, unknown_among, place_kept, target, meant, kept_behind, IsCounted, AreCounted, is_call, IsTarget, AreBehind}
+use Rattle.sap_read.specs.code.Drafts.{written, body}
+use Rattle.sap_read.specs.code.Meaning.{meaning, AreMeant, nodes_kept, nodes_in, levels_kept, levels_in, unknown_among, place_kept, target, meant, kept_behind, IsCounted, AreCounted, is_call, IsTarget, AreBehind}
 
 -- the first unknown name of two lists
 pub unknown_append : {S : Type 0} (names : IndexMap (List ℕ) Meant S) (xs ys : List (List ℕ)) → unknown_among names (xs ++ ys) ≡ (if is_some (unknown_among names xs) then unknown_among names xs else unknown_among names ys)
@@ -133,12 +133,12 @@ known_call names z h = by (get bytes_eq names z) refl where
   by (Some m) e = (m, e)
 
 -- the target of a process' name
-aimed : {S : Type 0} (names : IndexMap (List ℕ) Meant S) (means : List ℕ → Proc) (es : List Definition) (k : ℕ) (e : Definition) (x : List ℕ) → ((z : List ℕ) (m : Meant) → get bytes_eq names z ≡ Some m → IsTarget means es z m.place) → slice_get es k ≡ Some e → means x ≡ replaced means (written e.draft) → unknown_among names (calls (written e.draft)) ≡ None → IsTarget means es x (target names k (written e.draft))
-aimed names means es k e x old there is known = by (written e.draft) refl where
-  here : is_call (written e.draft) ≡ false → IsTarget means es x k
+aimed : {S : Type 0} (names : IndexMap (List ℕ) Meant S) (means : List ℕ → Proc) (es : List Definition) (k : ℕ) (e : Definition) (x : List ℕ) → ((z : List ℕ) (m : Meant) → get bytes_eq names z ≡ Some m → IsTarget means es z m.place) → slice_get es k ≡ Some e → means x ≡ replaced means (written e.draft.value) → unknown_among names (calls (written e.draft.value)) ≡ None → IsTarget means es x (target names k (written e.draft.value))
+aimed names means es k e x old there is known = by (written e.draft.value) refl where
+  here : is_call (written e.draft.value) ≡ false → IsTarget means es x k
   here plain = (e, there, plain, is)
 
-  by : (w : Written) → written e.draft ≡ w → IsTarget means es x (target names k w)
+  by : (w : Written) → written e.draft.value ≡ w → IsTarget means es x (target names k w)
   by nil q = here (rw q refl)
   by (parallel p r) q = here (rw q refl)
   by (replicated p) q = here (rw q refl)
@@ -152,15 +152,15 @@ aimed names means es k e x old there is known = by (written e.draft) refl where
       let same : means x ≡ means z = is ∙ ap (replaced means) q in
       subst (λ o. IsTarget means es x (place_kept k o)) (sym kept.1) (it.0, it.1, it.2, same ∙ it.3)
 
-targets_more : {S : Type 0} (names : IndexMap (List ℕ) Meant S) (means : List ℕ → Proc) (es : List Definition) (k : ℕ) (e : Definition) → AreMeant means (map body es) → ((z : List ℕ) (m : Meant) → get bytes_eq names z ≡ Some m → IsTarget means es z m.place) → slice_get es k ≡ Some e → unknown_among names (calls (written e.draft)) ≡ None → (l : Option (List ℕ)) → e.label ≡ l → (x : List ℕ) (m : Meant) → kept_behind names k l (written e.draft) x ≡ Some m → IsTarget means es x m.place
+targets_more : {S : Type 0} (names : IndexMap (List ℕ) Meant S) (means : List ℕ → Proc) (es : List Definition) (k : ℕ) (e : Definition) → AreMeant means (map body es) → ((z : List ℕ) (m : Meant) → get bytes_eq names z ≡ Some m → IsTarget means es z m.place) → slice_get es k ≡ Some e → unknown_among names (calls (written e.draft.value)) ≡ None → (l : Option (List ℕ)) → e.label ≡ l → (x : List ℕ) (m : Meant) → kept_behind names k l (written e.draft.value) x ≡ Some m → IsTarget means es x m.place
 targets_more names means es k e all old there known None q x m h = old x m h
 targets_more names means es k e all old there known (Some y) q x m h = at (bytes_eq y x) refl h where
-  at : (t : Bool) → bytes_eq y x ≡ t → (if t then Some (meant names k (written e.draft)) else get bytes_eq names x) ≡ Some m → IsTarget means es x m.place
+  at : (t : Bool) → bytes_eq y x ≡ t → (if t then Some (meant names k (written e.draft.value)) else get bytes_eq names x) ≡ Some m → IsTarget means es x m.place
   at true s h =
-      let same : meant names k (written e.draft) ≡ m = cc in
+      let same : meant names k (written e.draft.value) ≡ m = cc in
       let name : y ≡ x = (bytes_eq-Decides y x).0 s in
       let body_there : slice_get (map body es) k ≡ Some (body e) = slice_get-map body es k ∙ ap (option_map body) there in
-      let is : means x ≡ replaced means (written e.draft) = all k (body e) x body_there (q ∙ ap Some name) in
+      let is : means x ≡ replaced means (written e.draft.value) = all k (body e) x body_there (q ∙ ap Some name) in
       subst (λ (z : Meant). IsTarget means es x z.place) same (aimed names means es k e x old there is known)
   at false s h = old x m h
 
@@ -173,37 +173,37 @@ behind_none es names empty = record {
 }
 
 -- behind one more
-pub behind_more : {S : Type 0} (es : List Definition) (k : ℕ) (e : Definition) (old new : IndexMap (List ℕ) Meant S) → AreBehind es k old → slice_get es k ≡ Some e → unknown_among old (calls (written e.draft)) ≡ None → ((x : List ℕ) → get bytes_eq new x ≡ kept_behind old k e.label (written e.draft) x) → AreBehind es (k + 1) new
+pub behind_more : {S : Type 0} (es : List Definition) (k : ℕ) (e : Definition) (old new : IndexMap (List ℕ) Meant S) → AreBehind es k old → slice_get es k ≡ Some e → unknown_among old (calls (written e.draft.value)) ≡ None → ((x : List ℕ) → get bytes_eq new x ≡ kept_behind old k e.label (written e.draft.value) x) → AreBehind es (k + 1) new
 behind_more es k e old new h there known is =
     let rest : map body (drop k es) ≡ body e ∷ map body (drop (k + 1) es) = ap (map body) (drop_at es k e there) in
     let ks = h.known.0 in
     let means = h.counted.0 in
-    let none : find (λ x. not (is_among ks x)) (calls (written e.draft)) ≡ None = sym (unknown_same old ks (calls (written e.draft)) h.known.2) ∙ known in
+    let none : find (λ x. not (is_among ks x)) (calls (written e.draft.value)) ≡ None = sym (unknown_same old ks (calls (written e.draft.value)) h.known.2) ∙ known in
     record {
       known = (
         ks ++ listed e.label,
-        h.known.1 ∙ ap (unknown_from ks) rest ∙ second_found (find (λ x. not (is_among ks x)) (calls (written e.draft))) (unknown_from (ks ++ listed e.label) (map body (drop (k + 1) es))) none,
-        λ x. ap is_some (is x) ∙ known_more old ks k e.label (written e.draft) h.known.2 x,
+        h.known.1 ∙ ap (unknown_from ks) rest ∙ second_found (find (λ x. not (is_among ks x)) (calls (written e.draft.value))) (unknown_from (ks ++ listed e.label) (map body (drop (k + 1) es))) none,
+        λ x. ap is_some (is x) ∙ known_more old ks k e.label (written e.draft.value) h.known.2 x,
       );
       counted = (
-        after_body means e.label (written e.draft),
+        after_body means e.label (written e.draft.value),
         h.counted.1 ∙ ap (meaning means) rest,
-        λ x. subst (λ o. IsCounted o (after_body means e.label (written e.draft) x)) (sym (is x)) (counted_more old means k e.label (written e.draft) h.counted.2 x),
+        λ x. subst (λ o. IsCounted o (after_body means e.label (written e.draft.value) x)) (sym (is x)) (counted_more old means k e.label (written e.draft.value) h.counted.2 x),
       );
       targets = λ m all x n f. targets_more old m es k e all (h.targets m all) there known e.label refl x n (sym (is x) ∙ f);
     }
 
 -- the first unknown name is that of the file
-pub behind_unknown : {S : Type 0} (es : List Definition) (k : ℕ) (e : Definition) (names : IndexMap (List ℕ) Meant S) → AreBehind es k names → slice_get es k ≡ Some e → (x : List ℕ) → unknown_among names (calls (written e.draft)) ≡ Some x → unknown_from [] (map body es) ≡ Some x
+pub behind_unknown : {S : Type 0} (es : List Definition) (k : ℕ) (e : Definition) (names : IndexMap (List ℕ) Meant S) → AreBehind es k names → slice_get es k ≡ Some e → (x : List ℕ) → unknown_among names (calls (written e.draft.value)) ≡ Some x → unknown_from [] (map body es) ≡ Some x
 behind_unknown es k e names h there x is =
     let rest : map body (drop k es) ≡ body e ∷ map body (drop (k + 1) es) = ap (map body) (drop_at es k e there) in
     let ks = h.known.0 in
-    h.known.1 ∙ ap (unknown_from ks) rest ∙ first_found (find (λ x. not (is_among ks x)) (calls (written e.draft))) (unknown_from (ks ++ listed e.label) (map body (drop (k + 1) es))) x (sym (unknown_same names ks (calls (written e.draft)) h.known.2) ∙ is)
+    h.known.1 ∙ ap (unknown_from ks) rest ∙ first_found (find (λ x. not (is_among ks x)) (calls (written e.draft.value))) (unknown_from (ks ++ listed e.label) (map body (drop (k + 1) es))) x (sym (unknown_same names ks (calls (written e.draft.value)) h.known.2) ∙ is)
 
 -- and so is the fault
-pub behind_fault : {S : Type 0} (es : List Definition) (k : ℕ) (e : Definition) (names : IndexMap (List ℕ) Meant S) → AreBehind es k names → slice_get es k ≡ Some e → (f : ReadFault) → option_map UnknownProcess (unknown_among names (calls (written e.draft))) ≡ Some f → option_map UnknownProcess (unknown_from [] (map body es)) ≡ Some f
-behind_fault es k e names h there f is = by (unknown_among names (calls (written e.draft))) refl where
-  by : (o : Option (List ℕ)) → unknown_among names (calls (written e.draft)) ≡ o → option_map UnknownProcess (unknown_from [] (map body es)) ≡ Some f
-  by None q = absurd (let no_fault : option_map UnknownProcess (unknown_among names (calls (written e.draft))) ≡ None = ap (option_map UnknownProcess) q in cc)
+pub behind_fault : {S : Type 0} (es : List Definition) (k : ℕ) (e : Definition) (names : IndexMap (List ℕ) Meant S) → AreBehind es k names → slice_get es k ≡ Some e → (f : ReadFault) → option_map UnknownProcess (unknown_among names (calls (written e.draft.value))) ≡ Some f → option_map UnknownProcess (unknown_from [] (map body es)) ≡ Some f
+behind_fault es k e names h there f is = by (unknown_among names (calls (written e.draft.value))) refl where
+  by : (o : Option (List ℕ)) → unknown_among names (calls (written e.draft.value)) ≡ o → option_map UnknownProcess (unknown_from [] (map body es)) ≡ Some f
+  by None q = absurd (let no_fault : option_map UnknownProcess (unknown_among names (calls (written e.draft.value))) ≡ None = ap (option_map UnknownProcess) q in cc)
   by (Some x) q =
       ap (option_map UnknownProcess) (behind_unknown es k e names h there x q ∙ sym q) ∙ is

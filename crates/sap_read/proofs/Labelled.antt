@@ -5,8 +5,8 @@ use Rattle.std.specs.List.{list_any}
 use Rattle.std.specs.Str.{bytes_eq}
 use Rattle.sap_read.specs.declared.draft.Definition.{Definition}
 use Rattle.sap_read.specs.Causes.{unlabelled, listed, labels, is_among, first_repeated}
-use Rattle.sap_read.specs.Drafts.{body}
-use Rattle.sap_read.specs.Label.{is_label_in, is_in_more, label_there, AreSeen}
+use Rattle.sap_read.specs.code.Drafts.{body}
+use Rattle.sap_read.specs.code.Label.{is_label_in, is_in_more, label_there, AreSeen}
 use Rattle.sap_read.proofs.Kept.{drop_at}
 
 -- a process with a label is passed over

@@ -22,4 +22,5 @@ pub mod ItemsRead
 pub mod Declarations
 pub mod ItemTurns
 pub mod OneFile
+pub mod SomeFile
 pub mod WholeProcesses

@@ -6,7 +6,7 @@ use Rattle.sap_terms.specs.Signature.{Sig}
 use Rattle.sap_terms.specs.Tree.{Tree}
 use Rattle.sap_text.specs.declared.token.Token.{Token}
 use Rattle.sap_read.specs.Words.{Word, words_of, starts}
-use Rattle.sap_read.specs.Reading.{Read, Reader, after, given, list_of, behind, term, rest}
+use Rattle.sap_read.specs.code.Reading.{Read, Reader, after, given, list_of, behind, term, rest}
 use Rattle.sap_read.proofs.Complete.{term_shorter}
 use Rattle.sap_read.proofs.Sound.{term_is}
 use Rattle.sap_read.proofs.Steps.{words-drop, length-words}

@@ -11,7 +11,7 @@ use Rattle.sap_read.specs.Written.{Written, nil, call, parallel, replicated, act
 use Rattle.sap_read.specs.Item.{Body}
 use Rattle.sap_read.specs.Replaced.{calls, replaced, with_meaning, after_body, process_of}
 use Rattle.sap_read.specs.Causes.{first_of, unlabelled, listed, labels, is_among, unknown_from, first_repeated}
-use Rattle.sap_read.specs.Meaning.{meaning, AreMeant}
+use Rattle.sap_read.specs.code.Meaning.{meaning, AreMeant}
 
 either_true : (a b : Bool) → (a || b) ≡ false → b ≡ false
 either_true false b h = h

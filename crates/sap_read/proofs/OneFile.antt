@@ -21,11 +21,12 @@ use Rattle.sap_read.specs.Files.{FileContent, AreTokens, IsParted, IsRead, no_to
 use Rattle.sap_read.proofs.Cuts.{one_cut, one_header}
 use Rattle.sap_read.proofs.ItemsRead.{same_declarations, good_or_faulty, one_fault, one_items}
 use Rattle.sap_read.proofs.Processes.{one_process}
+use Rattle.sap_read.specs.declared.limits.TheConstants.{MOST_FILE_NAME_BYTES}
 
 -- what the whole process of a file makes of it
 data AfterProcess (x : List ℕ) (g : Sig) (p : Proc) : Result FileContent ReadFault → Type 0 where
   is_ill : (w : Flaw) (path : List ℕ) → IsFirstFlaw g p w path → AfterProcess x g p (Err (Ill w path))
-  is_well : IsWellFormed g p → AfterProcess x g p (Ok (record { name = x; signature = g; process = with_sorts [] p }))
+  is_well : IsWellFormed g p → AfterProcess x g p (Ok (record { name = x; signature = g; process = with_sorts [] p; restrictions = []; lemmas = [] }))
 
 -- what its items make of it
 data AfterItems (x : List ℕ) (is : List Standing) : Result FileContent ReadFault → Type 0 where
@@ -46,7 +47,7 @@ data AfterTokens (z : List ℕ) (ts : List Token) : Result FileContent ReadFault
 
 -- what the lexer makes of it
 data AfterLexer (z : List ℕ) : Result FileContent ReadFault → Type 0 where
-  has_fault : (f : Lex) → IsLexed 64 0 1 z (Err f) → AfterLexer z (Err (LexFault f))
+  has_fault : (f : Lex) → IsLexed MOST_FILE_NAME_BYTES 0 1 z (Err f) → AfterLexer z (Err (LexFault f))
   has_tokens : {o : Result FileContent ReadFault} (ts : List Token) → AreTokens z ts → AfterTokens z ts o → AfterLexer z o
 
 in_steps : {z : List ℕ} {o : Result FileContent ReadFault} → IsRead z o → AfterLexer z o
@@ -108,14 +109,14 @@ module _ (one_flaw : (g : Sig) (p : Proc) (w v : Flaw) (path other : List ℕ) �
     where
       go : (o u : Result FileContent ReadFault) → AfterLexer z o → AfterLexer z u → o ≡ u
       go _ _ (has_fault f l) (has_fault h k) =
-          let same : ◌≡◌ {A = Lexed} (Err f) (Err h) = one_answer 64 z (Err f) (Err h) l k in
+          let same : ◌≡◌ {A = Lexed} (Err f) (Err h) = one_answer MOST_FILE_NAME_BYTES z (Err f) (Err h) l k in
           let faults : f ≡ h = cc in
           ap (λ (e : Lex). Err (LexFault e)) faults
       go _ u (has_fault f l) (has_tokens ts t a) =
-          let clash : ◌≡◌ {A = Lexed} (Err f) (Ok ts) = one_answer 64 z (Err f) (Ok ts) l t in absurd (cc)
+          let clash : ◌≡◌ {A = Lexed} (Err f) (Ok ts) = one_answer MOST_FILE_NAME_BYTES z (Err f) (Ok ts) l t in absurd (cc)
       go o _ (has_tokens ts t a) (has_fault f l) =
-          let clash : ◌≡◌ {A = Lexed} (Err f) (Ok ts) = one_answer 64 z (Err f) (Ok ts) l t in absurd (cc)
+          let clash : ◌≡◌ {A = Lexed} (Err f) (Ok ts) = one_answer MOST_FILE_NAME_BYTES z (Err f) (Ok ts) l t in absurd (cc)
       go o u (has_tokens ts t a) (has_tokens us v b) =
-          let same : ◌≡◌ {A = Lexed} (Ok ts) (Ok us) = one_answer 64 z (Ok ts) (Ok us) t v in
+          let same : ◌≡◌ {A = Lexed} (Ok ts) (Ok us) = one_answer MOST_FILE_NAME_BYTES z (Ok ts) (Ok us) t v in
           let tokens : ts ≡ us = cc in
           after_tokens z us o u (subst (λ (ws : List Token). AfterTokens z ws o) tokens a) b

@@ -1,5 +1,5 @@
 -- From the parts of a file to what it is read as.
-use Rattle.std.proofs.Common.{◌≡◌, ℕ, List, drop, sym, subst, Some, None, Option, Ok, Err, inl, inr}
+use Rattle.std.proofs.Common.{◌≡◌, ℕ, List, [], drop, sym, subst, Some, None, Option, Ok, Err, inl, inr}
 use Rattle.sap_text.specs.declared.token.Token.{Token}
 use Rattle.sap_terms.specs.Signature.{Sig, pairs_alone}
 use Rattle.sap_process.specs.Proc.{Proc}
@@ -12,8 +12,8 @@ use Rattle.sap_read.specs.ItemGrammar.{AreItems}
 use Rattle.sap_read.specs.Signatures.{signature_of, clash_from}
 use Rattle.sap_read.specs.Causes.{cause}
 use Rattle.sap_read.specs.Files.{AreTokens, IsParted, IsRead, no_item, refused, ill, accepted}
-use Rattle.sap_read.specs.ItemReading.{cut}
-use Rattle.sap_read.specs.Judged.{header_of, IsAccepted, IsRefused}
+use Rattle.sap_read.specs.code.ItemReading.{cut}
+use Rattle.sap_read.specs.code.Judged.{header_of, IsAccepted, IsRefused}
 use Rattle.sap_read.proofs.Cuts.{cut_sound}
 use Rattle.sap_read.proofs.Headers.{header_is}
 
@@ -24,7 +24,7 @@ items_of z ts = cut (placed z (drop 3 ts))
 pub items_are_cut : (z : List ℕ) (ts : List Token) → IsCut (placed z (drop 3 ts)) (items_of z ts)
 items_are_cut z ts = cut_sound (placed z (drop 3 ts))
 
-parted : (z : List ℕ) (ts : List Token) (x : List ℕ) → AreTokens z ts → header_of (words_of z ts) ≡ Some x → IsParted z ts x (items_of z ts)
+pub parted : (z : List ℕ) (ts : List Token) (x : List ℕ) → AreTokens z ts → header_of (words_of z ts) ≡ Some x → IsParted z ts x (items_of z ts)
 parted z ts x t h = record { tokens = t; rest = placed z (drop 3 ts); header = header_is z ts x h; items = items_are_cut z ts }
 
 -- what the items of these tokens declare
@@ -49,12 +49,12 @@ is_refused z ts x g clash e t h d (inr (inr r)) =
 
 pub is_accepted : (z : List ℕ) (ts : List Token) (x : List ℕ) (g : Sig) (clash : Option (List ℕ)) (q : Proc) → AreTokens z ts
     → header_of (words_of z ts) ≡ Some x → IsDeclared z ts g clash → IsAccepted g clash (items_of z ts) q
-    → IsRead z (Ok (record { name = x; signature = g; process = q }))
+    → IsRead z (Ok (record { name = x; signature = g; process = q; restrictions = []; lemmas = [] }))
 is_accepted z ts x g clash q t h d a =
     let w = a.whole in
     let told = d g (items_of z ts) w.standing (items_are_cut z ts) w.items in
-    subst (λ (s : Sig). IsRead z (Ok (record { name = x; signature = s; process = q }))) (sym told.0)
-    (subst (λ (r : Proc). IsRead z (Ok (record { name = x; signature = signature_of w.standing; process = r }))) (sym a.sorted)
+    subst (λ (s : Sig). IsRead z (Ok (record { name = x; signature = s; process = q; restrictions = []; lemmas = [] }))) (sym told.0)
+    (subst (λ (r : Proc). IsRead z (Ok (record { name = x; signature = signature_of w.standing; process = r; restrictions = []; lemmas = [] }))) (sym a.sorted)
     (accepted (parted z ts x t h) (subst (λ (s : Sig). AreItems s (items_of z ts) w.standing) told.0 w.items)
     (subst (λ (o : Option (List ℕ)). cause (bodies w.standing) o ≡ None) told.1 w.nothing) w.whole
     (subst (λ (s : Sig). IsWellFormed s a.process) told.0 a.well_formed)))

@@ -10,10 +10,11 @@ use Rattle.sap_read.specs.Words.{Word, starts, words_of}
 use Rattle.sap_read.specs.Places.{IsAt, fact_levels}
 use Rattle.sap_read.specs.TermGrammar.{IsTerm, IsRest, IsList, IsArgs, args_none, args_some, list_last, list_more, rest_last, rest_more, term_constant, term_fresh, term_message, term_pub, term_quoted, term_symbol, term_tuple}
 use Rattle.sap_read.specs.FactGrammar.{IsFact, fact_linear, fact_persistent}
-use Rattle.sap_read.specs.Reading.{Reader, term, fact_at}
+use Rattle.sap_read.specs.code.Reading.{Reader, term, fact_at}
 use Rattle.sap_read.proofs.Complete.{term_read, fact_read}
 use Rattle.sap_read.proofs.Sound.{term_is, fact_is}
 use Rattle.sap_read.proofs.Steps.{words-drop, length-words}
+use Rattle.sap_read.specs.declared.limits.TheConstants.{MOST_TERM_LEVELS}
 
 -- the second words are the end of the first, and fewer
 abbrev pub IsEnd : List Word → List Word → Type 0
@@ -90,9 +91,9 @@ module _ {A : Type 0} (Spells : A → List Word → List Word → Type 0) (level
       let same = one v x (drop at ws) (drop e ws) (drop k ws) r.spelled s.spelled r.ends s.ends in
       (same.0, one_number ws e k r.inside s.inside same.1)
 
--- a reader of these values, within 100 levels
+-- a reader of these values, within MOST_TERM_LEVELS levels
 pub record IsReader {A : Type 0} (Spells : A → List Word → List Word → Type 0) (levels : A → ℕ) (read : Reader A) : Type 0 where
-  pub complete : (v : A) (a b : List Word) → Spells v a b → levels v ≤ 100 → starts (codes "(") b ≡ false → read a ≡ Some (v, b)
+  pub complete : (v : A) (a b : List Word) → Spells v a b → levels v ≤ MOST_TERM_LEVELS → starts (codes "(") b ≡ false → read a ≡ Some (v, b)
   pub sound : (v : A) (a b : List Word) → read a ≡ Some (v, b) → Spells v a b
   pub at_end : (v : A) (a b : List Word) → Spells v a b → IsEnd a b
 
@@ -114,13 +115,13 @@ module _ {A : Type 0} {Spells : A → List Word → List Word → Type 0} {level
     pub rest_within : length rest ≤ length ts
     rest_within = there.0
 
-    pub no_other_at : ((levels x ≤ 100) × (starts (codes "(") (words_of z rest) ≡ false) → ⊥) → (v : A) (e : ℕ) → IsAt Spells levels (words_of z ts) at v e → ⊥
+    pub no_other_at : ((levels x ≤ MOST_TERM_LEVELS) × (starts (codes "(") (words_of z rest) ≡ false) → ⊥) → (v : A) (e : ℕ) → IsAt Spells levels (words_of z ts) at v e → ⊥
     no_other_at bad v e r =
         let found = is_read v e r in
         let same : ◌≡◌ {A = A × List Word} (v, drop e (words_of z ts)) (x, words_of z rest) = cc in
-        bad (subst (λ (y : A × List Word). (levels y.0 ≤ 100) × (starts (codes "(") y.1 ≡ false)) same (r.few_levels, r.ends))
+        bad (subst (λ (y : A × List Word). (levels y.0 ≤ MOST_TERM_LEVELS) × (starts (codes "(") y.1 ≡ false)) same (r.few_levels, r.ends))
 
-    pub it_is_at : (levels x ≤ 100) × (starts (codes "(") (words_of z rest) ≡ false) → IsAt Spells levels (words_of z ts) at x (length ts - length rest)
+    pub it_is_at : (levels x ≤ MOST_TERM_LEVELS) × (starts (codes "(") (words_of z rest) ≡ false) → IsAt Spells levels (words_of z ts) at x (length ts - length rest)
     it_is_at good = record {
       inside = omega (arith, length-words z ts);
       spelled = rw (← words-drop z at ts, ← there.1) spelled_so;
@@ -128,16 +129,16 @@ module _ {A : Type 0} {Spells : A → List Word → List Word → Type 0} {level
       ends = rw (← there.1) good.1;
     }
 
-pub term_reader : (g : Sig) → IsReader (IsTerm g) level_count (term g 100)
+pub term_reader : (g : Sig) → IsReader (IsTerm g) level_count (term g MOST_TERM_LEVELS)
 term_reader g = record {
-  complete = λ t a b r le e. term_read r 100 le e;
-  sound = λ t a b e. term_is g 100 a t b e;
+  complete = λ t a b r le e. term_read r MOST_TERM_LEVELS le e;
+  sound = λ t a b e. term_is g MOST_TERM_LEVELS a t b e;
   at_end = λ t a b r. term_end r;
 }
 
-pub fact_reader : (g : Sig) → IsReader (IsFact g) fact_levels (fact_at (term g 100))
+pub fact_reader : (g : Sig) → IsReader (IsFact g) fact_levels (fact_at (term g MOST_TERM_LEVELS))
 fact_reader g = record {
-  complete = λ f a b r le e. fact_read r 100 le;
-  sound = λ f a b e. fact_is g 100 a f b e;
+  complete = λ f a b r le e. fact_read r MOST_TERM_LEVELS le;
+  sound = λ f a b e. fact_is g MOST_TERM_LEVELS a f b e;
   at_end = λ f a b r. fact_end r;
 }

@@ -1,14 +1,9 @@
 -- What reading processes does at each depth.
 use Rattle.std.proofs.Common.{rules, ◌≡◌, ◌≤◌, ◌<◌, ◌-◌, ℕ, zero, suc, List, None, true, false, refl, arith}
-use Rattle.std.specs.Prelude.{nat_le, codes, drop}
-use Rattle.sap_terms.specs.declared.var.Sort.TheVariants.{Msg}
-use Rattle.sap_terms.specs.Tree.{Tree}
+use Rattle.std.specs.Prelude.{nat_le}
 use Rattle.sap_terms.specs.Signature.{Sig}
-use Rattle.sap_read.specs.Words.{Word, starts}
-use Rattle.sap_read.specs.Written.{lookup}
-use Rattle.sap_read.specs.ProcessGrammar.{var}
-use Rattle.sap_read.specs.Reading.{Reader}
-use Rattle.sap_read.specs.ProcessReading.{Levelled, past, branches, found, seq, par, seq_at, par_at}
+use Rattle.sap_read.specs.Words.{Word}
+use Rattle.sap_read.specs.code.ProcessReading.{seq, par, seq_at, par_at}
 use Rattle.sap_read.proofs.Steps.{words-drop}
 
 -- a number within the limit
@@ -44,8 +39,3 @@ pub ruleset limits = (words-drop, fits, over)
 pub ruleset seq_steps = (words-drop, seq_zero, seq_step)
 
 pub ruleset par_steps = (words-drop, par_zero, par_step)
-
--- behind the name in a lookup, where `in` stands
-pub found_is : (s : Reader Levelled) (t : Tree) (x : List ℕ) (ws : List Word) → starts (codes "in") ws ≡ true → found s t x ws ≡ branches s (lookup t (var Msg x)) (drop 1 ws)
-unfolding past
-found_is s t x ws e = rw e refl

@@ -11,10 +11,10 @@ use Rattle.sap_process.specs.Action.{Action}
 use Rattle.sap_read.specs.Written.{Written}
 use Rattle.sap_read.specs.ProcessGrammar.{IsShort, IsShortFact, AreSomeFacts, AreFacts, IsAction, IsSeq, IsPar, Ending, EndsProcess, facts_last, facts_more, facts_none, facts_some, action_acts, action_delete, action_event, action_input, action_insert, action_lock, action_new, action_new_fresh, action_out, action_receive, action_rule, action_send, action_unlock, closed, dangling, one_bar, two_bars, par_more, par_one, seq_action, seq_call, seq_if, seq_if_else, seq_lookup, seq_lookup_else, seq_nil, seq_parentheses, seq_replicated, seq_then}
 use Rattle.sap_read.specs.Places.{fact_levels}
-use Rattle.sap_read.specs.Reading.{Read, Reader, after, given, list_of}
+use Rattle.sap_read.specs.code.Reading.{Read, Reader, after, given, list_of}
 use Rattle.sap_read.proofs.Complete.{term_read, fact_read, fact_shorter}
 use Rattle.sap_read.proofs.ProcessSteps.{fits}
-use Rattle.sap_read.specs.ProcessReading.{past, short_term, short_fact, facts, Levelled, going_on, seq_at, seq, par}
+use Rattle.sap_read.specs.code.ProcessReading.{past, short_term, short_fact, facts, Levelled, going_on, seq_at, seq, par}
 
 short_read : {g : Sig} {m : ℕ} {t : Tree} {a b : List Word} → IsShort g m t a b → starts (codes "(") b ≡ false → short_term g m a ≡ Some (t, b)
 unfolding after

@@ -12,7 +12,7 @@ use Rattle.sap_read.specs.Places.{fact_levels}
 use Rattle.sap_process.specs.Action.{Action, new, out, send, input, receive, event, insert, delete, lock, unlock, embedded}
 use Rattle.sap_read.specs.Written.{Written, nil, call, parallel, replicated, act, test, lookup}
 use Rattle.sap_read.specs.ProcessGrammar.{var, IsShort, IsShortFact, AreSomeFacts, AreFacts, IsAction, IsSeq, IsPar, Ending, facts_last, facts_more, facts_none, facts_some, action_acts, action_delete, action_event, action_input, action_insert, action_lock, action_new, action_new_fresh, action_out, action_receive, action_rule, action_send, action_unlock, par_more, par_one, seq_action, seq_call, seq_if, seq_if_else, seq_lookup, seq_lookup_else, seq_nil, seq_parentheses, seq_replicated, seq_then}
-use Rattle.sap_read.specs.Reading.{is_no_arity, plain}
+use Rattle.sap_read.specs.code.Reading.{is_no_arity, plain}
 use Rattle.sap_read.proofs.Sound.{plain_is}
 
 plain_levels : (g : Sig) (x : List ℕ) → level_count (plain g x) ≡ 1

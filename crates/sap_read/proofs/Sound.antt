@@ -11,7 +11,7 @@ use Rattle.sap_terms.specs.Signature.{Sig, arity_of}
 use Rattle.sap_read.specs.Words.{Word, mark, name, number, quoted, starts, is_lower, is_upper}
 use Rattle.sap_read.specs.TermGrammar.{IsTerm, IsRest, IsList, IsArgs, sorted, args_none, args_some, list_last, list_more, rest_last, rest_more, term_constant, term_fresh, term_message, term_pub, term_quoted, term_symbol, term_tuple}
 use Rattle.sap_read.specs.FactGrammar.{IsFact, fact, fact_linear, fact_persistent}
-use Rattle.sap_read.specs.Reading.{Read, Reader, after, given, behind, name_at, quoted_at, is_no_arity, plain, list_of, args, named, tuple, leaf, term_at, rest_at, term, rest, fact_from, fact_at}
+use Rattle.sap_read.specs.code.Reading.{Read, Reader, after, given, behind, name_at, quoted_at, is_no_arity, plain, list_of, args, named, tuple, leaf, term_at, rest_at, term, rest, fact_from, fact_at}
 use Rattle.sap_read.proofs.Complete.{no_zero}
 
 abbrev pub Says : Type 0 → Type 1

@@ -12,8 +12,8 @@ use Rattle.sap_read.specs.Places.{fact_levels}
 use Rattle.sap_process.specs.Action.{Action, out, send, input, receive, delete, lock, unlock, embedded}
 use Rattle.sap_read.specs.Written.{Written, nil, call, parallel, test, lookup}
 use Rattle.sap_read.specs.ProcessGrammar.{var, IsShort, IsShortFact, AreSomeFacts, AreFacts, IsAction, IsSeq, IsPar, Ending, facts_last, facts_more, facts_none, facts_some, action_acts, action_delete, action_event, action_input, action_insert, action_lock, action_new, action_new_fresh, action_out, action_receive, action_rule, action_send, action_unlock, closed, dangling, one_bar, two_bars, par_more, par_one, seq_action, seq_call, seq_if, seq_if_else, seq_lookup, seq_lookup_else, seq_nil, seq_parentheses, seq_replicated, seq_then}
-use Rattle.sap_read.specs.Reading.{Read, Reader, name_at, list_of, term, fact_at}
-use Rattle.sap_read.specs.ProcessReading.{past, short_term, short_fact, facts, channel, bound, right_side, embedded_rule, shown_event, inserted, on_term, state_action, action_of, Levelled, branches, condition, looking, going_on, call_or_action, starts_zero, seq_at, par_at, seq, par}
+use Rattle.sap_read.specs.code.Reading.{Read, Reader, name_at, list_of, term, fact_at}
+use Rattle.sap_read.specs.code.ProcessReading.{past, short_term, short_fact, facts, channel, bound, right_side, embedded_rule, shown_event, inserted, on_term, state_action, action_of, Levelled, branches, Choosing, compared, condition, looked_up, looking, going_on, call_or_action, starts_zero, seq_at, par_at, seq, par}
 use Rattle.sap_read.proofs.Processes.{NoElse, seq_some}
 use Rattle.sap_read.proofs.Sound.{Says, OnRead, after_on, behind_on, given_on, if_on, starts_is, name_is, same_bytes, term_sound, fact_sound}
 
@@ -226,26 +226,32 @@ module _ (g : Sig) (m d : ℕ) (s : Reader Levelled) (ss : SoundSeqs g m d s) wh
   if_sound : (ts : List Word) → OnRead (λ w b. Spelled g m (suc d) (mark (codes "if") ∷ ts) w b) (condition g m s ts)
   if_sound ts =
       let Q : Says Levelled = λ w b. Spelled g m (suc d) (mark (codes "if") ∷ ts) w b in
-      after_on (Short g m ts) Q (short_term g m ts) _ (short_sound g m ts) (λ t r h.
-      past_on Q (codes "=") r _ (λ e.
-      after_on (Short g m (drop 1 r)) Q (short_term g m (drop 1 r)) _ (short_sound g m (drop 1 r)) (λ u y k.
-      past_on Q (codes "then") y _ (λ f.
+      let P : Says Choosing = λ made r. OnRead Q (branches s made r) in
+      after_on P Q (compared g m ts) _
+      (after_on (Short g m ts) P (short_term g m ts) _ (short_sound g m ts) (λ t r h.
+      past_on P (codes "=") r _ (λ e.
+      after_on (Short g m (drop 1 r)) P (short_term g m (drop 1 r)) _ (short_sound g m (drop 1 r)) (λ u y k.
+      past_on P (codes "then") y _ (λ f.
       branches_sound (mark (codes "if") ∷ ts) (drop 1 y) (test t u)
       (λ i p n b v. seq_if (short_on g m h e) (short_on g m k f) v)
-      (λ i p q n j b c v w. seq_if_else (short_on g m h e) (short_on g m k f) v w)))))
+      (λ i p q n j b c v w. seq_if_else (short_on g m h e) (short_on g m k f) v w))))))
+      (λ made r on. on)
 
   -- behind `lookup`
   lookup_sound : (ts : List Word) → OnRead (λ w b. Spelled g m (suc d) (mark (codes "lookup") ∷ ts) w b) (looking g m s ts)
   lookup_sound ts =
       let Q : Says Levelled = λ w b. Spelled g m (suc d) (mark (codes "lookup") ∷ ts) w b in
-      after_on (Short g m ts) Q (short_term g m ts) _ (short_sound g m ts) (λ t r h.
-      past_on Q (codes "as") r _ (λ e.
-      given_on Q (name_at (drop 1 r)) _ (λ x f.
-      past_on Q (codes "in") (drop 1 (drop 1 r)) _ (λ i.
+      let P : Says Choosing = λ made r. OnRead Q (branches s made r) in
+      after_on P Q (looked_up g m ts) _
+      (after_on (Short g m ts) P (short_term g m ts) _ (short_sound g m ts) (λ t r h.
+      past_on P (codes "as") r _ (λ e.
+      given_on P (name_at (drop 1 r)) _ (λ x f.
+      past_on P (codes "in") (drop 1 (drop 1 r)) _ (λ i.
       let all : r ≡ mark (codes "as") ∷ name x ∷ mark (codes "in") ∷ drop 1 (drop 1 (drop 1 r)) = e ∙ ap (λ q. mark (codes "as") ∷ q) (name_is (drop 1 r) x f ∙ ap (λ q. name x ∷ q) i) in
       branches_sound (mark (codes "lookup") ∷ ts) (drop 1 (drop 1 (drop 1 r))) (lookup t (var Msg x))
       (λ j p n b v. seq_lookup (short_on g m h all) v)
-      (λ j p q n k b c v w. seq_lookup_else (short_on g m h all) v w)))))
+      (λ j p q n k b c v w. seq_lookup_else (short_on g m h all) v w))))))
+      (λ made r on. on)
 
   going_sound : (ts : List Word) (k : Action) (r : List Word) → IsAction g m k ts r → OnRead (λ w b. Spelled g m (suc d) ts w b) (going_on s d k r)
   going_sound ts k r h =

@@ -4,7 +4,7 @@ use Rattle.std.proofs.lemmas.List.{drop-map, length-map}
 use Rattle.sap_terms.specs.Signature.{Sig}
 use Rattle.sap_text.specs.declared.token.Token.{Token}
 use Rattle.sap_read.specs.Words.{Word, word_of, words_of}
-use Rattle.sap_read.specs.Reading.{term, term_at, rest, rest_at}
+use Rattle.sap_read.specs.code.Reading.{term, term_at, rest, rest_at}
 
 pub term_zero : (g : Sig) (ws : List Word) → term g 0 ws ≡ None
 unfolding term rest

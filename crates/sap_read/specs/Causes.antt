@@ -4,11 +4,14 @@ use Rattle.std.specs.List.{list_any, find}
 use Rattle.std.specs.Str.{bytes_eq}
 use Rattle.sap_terms.specs.Signature.{pairs_alone}
 use Rattle.sap_process.specs.Proc.{Proc, node_count, level_count}
+use Rattle.sap_process.specs.declared.flaw.Ill as declared_ill
+use Rattle.sap_process.specs.declared.flaw.Ill.TheVariants as ill
 use Rattle.sap_read.specs.declared.fault.ReadFault.{ReadFault}
-use Rattle.sap_read.specs.declared.fault.ReadFault.TheVariants.{NoProcess, TwoProcesses, UnknownProcess, DuplicateName, FunctionClash, TooMany, TooDeep}
+use Rattle.sap_read.specs.declared.fault.ReadFault.TheVariants.{Mem, Ill, NoProcess, TwoProcesses, UnknownProcess, DuplicateName, FunctionClash, TooMany, TooDeep}
 use Rattle.sap_read.specs.Item.{Standing, declarations, Body, bodies}
 use Rattle.sap_read.specs.Replaced.{calls, process_of, no_meaning}
 use Rattle.sap_read.specs.Signatures.{clash_from}
+use Rattle.sap_read.specs.declared.limits.TheConstants.{MOST_PROCESS_LEVELS, MOST_PROCESS_PLACES}
 
 -- the first of them, if there is one
 abbrev pub first_of : {A : Type 0} → List (Option A) → Option A
@@ -55,8 +58,8 @@ causes bs clash =
     ∷ option_map UnknownProcess (unknown_from [] bs)
     ∷ option_map DuplicateName (first_repeated (labels bs))
     ∷ option_map FunctionClash clash
-    ∷ above node_count 4000 TooMany (process_of no_meaning bs)
-    ∷ above level_count 300 TooDeep (process_of no_meaning bs) ∷ []
+    ∷ above node_count MOST_PROCESS_PLACES TooMany (process_of no_meaning bs)
+    ∷ above level_count MOST_PROCESS_LEVELS TooDeep (process_of no_meaning bs) ∷ []
 
 -- the first cause that holds
 abbrev pub cause : List Body → Option (List ℕ) → Option ReadFault
@@ -65,3 +68,8 @@ cause bs clash = first_of (causes bs clash)
 -- the first cause that holds of a file with these items
 abbrev pub cause_of : List Standing → Option ReadFault
 cause_of is = cause (bodies is) (clash_from pairs_alone (declarations is))
+
+-- the fault of a file whose process isn't well-formed
+abbrev pub fault_of : declared_ill.Ill → ReadFault
+fault_of ill.Mem = Mem
+fault_of (ill.At w path) = Ill w path

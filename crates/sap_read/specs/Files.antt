@@ -4,10 +4,12 @@ use Rattle.sap_text.specs.declared.fault.Lex.{Lex}
 use Rattle.sap_text.specs.declared.token.Token.{Token}
 use Rattle.sap_text.specs.Tokens.{IsLexed}
 use Rattle.sap_terms.specs.Signature.{Sig}
-use Rattle.sap_process.specs.Proc.{Proc}
+use Rattle.sap_formula.specs.Form.{RestrictionForm, LemmaForm}
+use Rattle.sap_process.specs.Proc.{Proc, proc}
 use Rattle.sap_process.specs.Flaws.{IsFirstFlaw, IsWellFormed}
 use Rattle.sap_process.specs.Sorted.{with_sorts}
 use Rattle.sap_process.specs.declared.flaw.Flaw.{Flaw}
+use Rattle.sap_read.specs.declared.file.File.{File}
 use Rattle.sap_read.specs.declared.fault.ReadFault.{ReadFault}
 use Rattle.sap_read.specs.declared.fault.ReadFault.TheVariants.{Lex as LexFault, Header, Syntax, Ill}
 use Rattle.sap_read.specs.Item.{Standing, bodies}
@@ -16,16 +18,23 @@ use Rattle.sap_read.specs.ItemGrammar.{AreItems, IsFaulty}
 use Rattle.sap_read.specs.Replaced.{process_of, no_meaning}
 use Rattle.sap_read.specs.Signatures.{signature_of}
 use Rattle.sap_read.specs.Causes.{cause_of}
+use Rattle.sap_read.specs.declared.limits.TheConstants.{MOST_FILE_NAME_BYTES}
 
 -- what a file tells
 pub record FileContent : Type 0 where
   pub name : List ℕ
   pub signature : Sig
   pub process : Proc
+  pub restrictions : List RestrictionForm
+  pub lemmas : List LemmaForm
 
--- the bytes are a file's tokens, the longest of 64 bytes
+-- what the program's own file tells
+abbrev pub told_by : File → FileContent
+told_by f = record { name = f.name; signature = f.signature; process = proc f.process; restrictions = f.restrictions; lemmas = f.lemmas }
+
+-- the bytes are a file's tokens, the longest of MOST_FILE_NAME_BYTES
 abbrev pub AreTokens : List ℕ → List Token → Type 0
-AreTokens z ts = IsLexed 64 0 1 z (Ok ts)
+AreTokens z ts = IsLexed MOST_FILE_NAME_BYTES 0 1 z (Ok ts)
 
 -- the file has this header, and these items as they are cut
 pub record IsParted (z : List ℕ) (ts : List Token) (x : List ℕ) (cut : List (List Placed)) : Type 0 where
@@ -36,7 +45,7 @@ pub record IsParted (z : List ℕ) (ts : List Token) (x : List ℕ) (cut : List 
 
 -- the file it is, or why it is refused
 pub data IsRead (z : List ℕ) : Result FileContent ReadFault → Type 0 where
-  no_tokens : {f : Lex} → IsLexed 64 0 1 z (Err f) → IsRead z (Err (LexFault f))
+  no_tokens : {f : Lex} → IsLexed MOST_FILE_NAME_BYTES 0 1 z (Err f) → IsRead z (Err (LexFault f))
   no_header : {ts : List Token} → AreTokens z ts → ((x : List ℕ) (rest : List Placed) → IsHeader x (placed z ts) rest → ⊥) → IsRead z (Err Header)
   no_item : {ts : List Token} {x : List ℕ} {cut : List (List Placed)} {line : ℕ} → IsParted z ts x cut → IsFaulty (last_line (placed z ts)) cut line
       → IsRead z (Err (Syntax line))
@@ -47,4 +56,4 @@ pub data IsRead (z : List ℕ) : Result FileContent ReadFault → Type 0 where
       → IsRead z (Err (Ill w path))
   accepted : {ts : List Token} {x : List ℕ} {cut : List (List Placed)} {is : List Standing} {p : Proc} → IsParted z ts x cut
       → AreItems (signature_of is) cut is → cause_of is ≡ None → process_of no_meaning (bodies is) ≡ Some p → IsWellFormed (signature_of is) p
-      → IsRead z (Ok (record { name = x; signature = signature_of is; process = with_sorts [] p }))
+      → IsRead z (Ok (record { name = x; signature = signature_of is; process = with_sorts [] p; restrictions = []; lemmas = [] }))

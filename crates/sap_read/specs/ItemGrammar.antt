@@ -9,6 +9,7 @@ use Rattle.sap_read.specs.Written.{Written}
 use Rattle.sap_read.specs.ProcessGrammar.{IsPar}
 use Rattle.sap_read.specs.Item.{Item, builtins, functions, definition, process, Standing}
 use Rattle.sap_read.specs.Cut.{Placed, words, first_line}
+use Rattle.sap_read.specs.declared.limits.TheConstants.{MOST_ARITY, MOST_PROCESS_LEVELS, MOST_TERM_LEVELS}
 
 -- the number that these digits write
 abbrev pub value_from : ℕ → List ℕ → ℕ
@@ -29,11 +30,11 @@ pub data AreBuiltins : List Builtin → List Word → Type 0 where
   builtins_last : {b : Builtin} {a : List Word} → IsBuiltin b a [] → AreBuiltins (b ∷ []) a
   builtins_more : {b : Builtin} {bs : List Builtin} {a c : List Word} → IsBuiltin b a (mark (codes ",") ∷ c) → AreBuiltins bs c → AreBuiltins (b ∷ bs) a
 
--- a name that begins with a small letter, and its arity, of at most 64, which may be written with zeros in front
+-- a name that begins with a small letter, and its arity, of at most MOST_ARITY, which may be written with zeros in front
 pub data IsSymbol : Symbol → List Word → List Word → Type 0 where
-  spells_public : {f n : List ℕ} {a : List Word} → is_lower f ≡ true → value n ≤ 64
+  spells_public : {f n : List ℕ} {a : List Word} → is_lower f ≡ true → value n ≤ MOST_ARITY
       → IsSymbol (record { name = f; arity = value n; private = false }) (name f ∷ mark (codes "/") ∷ number n ∷ a) a
-  spells_private : {f n : List ℕ} {a : List Word} → is_lower f ≡ true → value n ≤ 64
+  spells_private : {f n : List ℕ} {a : List Word} → is_lower f ≡ true → value n ≤ MOST_ARITY
       → IsSymbol (record { name = f; arity = value n; private = true })
       (name f ∷ mark (codes "/") ∷ number n ∷ mark (codes "[") ∷ name (codes "private") ∷ mark (codes "]") ∷ a) a
 
@@ -42,11 +43,11 @@ pub data AreSymbols : List Symbol → List Word → Type 0 where
   symbols_last : {s : Symbol} {a : List Word} → IsSymbol s a [] → AreSymbols (s ∷ []) a
   symbols_more : {s : Symbol} {ss : List Symbol} {a c : List Word} → IsSymbol s a (mark (codes ",") ∷ c) → AreSymbols ss c → AreSymbols (s ∷ ss) a
 
--- a process in at most 300 levels, whose terms have at most 100, and nothing else
+-- a process in at most MOST_PROCESS_LEVELS levels, whose terms have at most MOST_TERM_LEVELS, and nothing else
 pub record IsProcess (g : Sig) (p : Written) (a : List Word) : Type 0 where
   pub levels : ℕ
-  pub spelled : IsPar g 100 p levels a []
-  pub few_levels : levels ≤ 300
+  pub spelled : IsPar g MOST_TERM_LEVELS p levels a []
+  pub few_levels : levels ≤ MOST_PROCESS_LEVELS
 
 pub data IsItem (g : Sig) : Item → List Word → Type 0 where
   item_builtins : {bs : List Builtin} {a : List Word} → AreBuiltins bs a → IsItem g (builtins bs) (mark (codes "builtins") ∷ mark (codes ":") ∷ a)

@@ -2,6 +2,7 @@ pub use Rattle.sap_text.specs.Tokens
 pub use Rattle.sap_text.specs.Spans
 pub use Rattle.sap_process.specs.Action
 pub use Rattle.sap_process.specs.Proc
+pub use Rattle.sap_formula.specs.Form
 pub mod Words
 pub mod TermGrammar
 pub mod FactGrammar
@@ -14,15 +15,6 @@ pub mod ItemGrammar
 pub mod Replaced
 pub mod Signatures
 pub mod Causes
-pub mod Drafts
 pub mod Files
-pub mod ItemReading
-pub mod Judged
-pub mod Reading
-pub mod View
-pub mod ItemView
-pub mod ProcessReading
-pub mod ProcessView
 pub mod ProcessExamples
-pub mod Meaning
-pub mod Label
+pub mod code

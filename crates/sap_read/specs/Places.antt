@@ -6,13 +6,14 @@ use Rattle.sap_terms.specs.Signature.{Sig}
 use Rattle.sap_read.specs.Words.{Word, starts}
 use Rattle.sap_read.specs.TermGrammar.{IsTerm}
 use Rattle.sap_read.specs.FactGrammar.{IsFact}
+use Rattle.sap_read.specs.declared.limits.TheConstants.{MOST_TERM_LEVELS}
 
--- the words from number `at` up to the one before number e spell the value, which has at most 100 levels, and word e is
+-- the words from number `at` up to the one before number e spell the value, which has at most MOST_TERM_LEVELS levels, and word e is
 -- no opening parenthesis
 pub record IsAt {A : Type 0} (Spells : A → List Word → List Word → Type 0) (levels : A → ℕ) (ws : List Word) (at : ℕ) (v : A) (e : ℕ) : Type 0 where
   pub inside : e ≤ length ws
   pub spelled : Spells v (drop at ws) (drop e ws)
-  pub few_levels : levels v ≤ 100
+  pub few_levels : levels v ≤ MOST_TERM_LEVELS
   pub ends : starts (codes "(") (drop e ws) ≡ false
 
 -- a term, with the levels of its tree

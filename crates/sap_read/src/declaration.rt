@@ -2,16 +2,14 @@
 ghost use Rattle.std.specs.Prelude.{◌≡◌, ◌+◌, length};
 ghost use Rattle.sap_terms.specs.declared.signature.Symbol.{Symbol};
 ghost use Rattle.sap_read.specs.Words.{words_of};
-ghost use Rattle.sap_read.specs.ItemReading.{arity_of_digits, arity_at, is_private, with_privacy, is_encryption, builtin_at, symbol_at, declaration_at, whole_list, behind_colon, declared_in};
-ghost use Rattle.sap_read.specs.ItemView.{GivesBuiltin, GivesSymbol, GivesDeclaration, GivesDeclarations};
+ghost use Rattle.sap_read.specs.code.ItemReading.{arity_of_digits, arity_at, is_private, with_privacy, is_encryption, builtin_at, symbol_at, declaration_at, whole_list, behind_colon, declared_in};
+ghost use Rattle.sap_read.specs.code.ItemView.{GivesBuiltin, GivesSymbol, GivesDeclaration, GivesDeclarations};
 
+use crate::limits::MOST_ARITY;
 use crate::look::{beyond, is_lower, name_at, names, number_at, starts};
 use sap_terms::{Builtin, Mem, Name, Symbol};
 use sap_text::Token;
 use std::alloc::Global;
-
-/// The arity that a symbol of a file has at most.
-const MOST_ARITY: u64 = 64;
 
 /// What adds to a signature. Contracts see it as a declaration, by `declaration` of the specs' `ItemView`.
 #[derive(Drop)]
@@ -88,7 +86,8 @@ fn read_privacy<'a>(
     arity: u64,
     tokens: &'a [Token],
 ) -> Result<Option<(Symbol, &'a [Token])>, Mem>
-    ensures { GivesSymbol bytes.now result (with_privacy name.now arity (words_of bytes.now tokens.now)) }
+    ensures { GivesSymbol bytes.now result (with_privacy name.now arity
+        (words_of bytes.now tokens.now)) }
 {
     let name = Name::from_bytes(alloc, name)?;
     if is_private(bytes, tokens) {
@@ -108,7 +107,7 @@ fn read_privacy<'a>(
     }
 }
 
-#[tactic(auto, using(crate::proofs::Steps::steps), unfolding(crate::specs::Reading::given))]
+#[tactic(auto, using(crate::proofs::Steps::steps), unfolding(crate::specs::code::Reading::given))]
 fn read_symbol<'a>(
     alloc: Global,
     bytes: &[u8],
@@ -135,7 +134,8 @@ fn read_one<'a>(
     of_builtins: bool,
     tokens: &'a [Token],
 ) -> Result<Option<(Declaration, &'a [Token])>, Mem>
-    ensures { GivesDeclaration bytes.now result (declaration_at of_builtins (words_of bytes.now tokens.now)) }
+    ensures { GivesDeclaration bytes.now result (declaration_at of_builtins
+        (words_of bytes.now tokens.now)) }
 {
     if of_builtins {
         match read_builtin(bytes, tokens) {
@@ -157,7 +157,8 @@ fn read_list(
     of_builtins: bool,
     tokens: &[Token],
 ) -> Result<Option<Vec<Declaration>>, Mem>
-    ensures { GivesDeclarations result (whole_list (declaration_at of_builtins) (length tokens.now + 1) (words_of bytes.now tokens.now)) }
+    ensures { GivesDeclarations result (whole_list (declaration_at of_builtins)
+        (length tokens.now + 1) (words_of bytes.now tokens.now)) }
 {
     let mut list = Vec::new(alloc);
     let mut rest = tokens;

@@ -25,7 +25,7 @@ pub(crate) enum Draft {
     Call(Name),
     Par(Box<Draft>, Box<Draft>),
     Rep(Box<Draft>),
-    Act(Doing, Box<Draft>),
+    Act(Box<Doing>, Box<Draft>),
     If(Term, Term, Box<Draft>, Box<Draft>),
     Lookup(Term, Var, Box<Draft>, Box<Draft>),
 }
@@ -34,6 +34,6 @@ pub(crate) enum Draft {
 #[derive(Drop)]
 pub(crate) struct Definition {
     pub(crate) label: Option<Name>,
-    pub(crate) draft: Draft,
+    pub(crate) draft: Box<Draft>,
     pub(crate) line: u64,
 }

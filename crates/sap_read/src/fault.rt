@@ -8,7 +8,7 @@ use sap_text::Lex;
 pub enum ReadFault {
     /// Want of memory.
     Mem,
-    /// The bytes are no tokens, or one has a name of more than 64 bytes.
+    /// The bytes are no tokens, or one has a name of more than `MOST_FILE_NAME_BYTES` bytes.
     Lex(Lex),
     /// The file doesn't begin with `theory`, a name and `begin`.
     Header,
@@ -25,9 +25,9 @@ pub enum ReadFault {
     DuplicateName { name: Name },
     /// The first function that is declared otherwise than before it, by its name.
     FunctionClash { name: Name },
-    /// The process, with names replaced by what they stand for, has more than 4,000 nodes.
+    /// The process, with names replaced by what they stand for, has more than `MOST_PROCESS_PLACES` nodes.
     TooMany,
-    /// That process has more than 300 levels.
+    /// That process has more than `MOST_PROCESS_LEVELS` levels.
     TooDeep,
     /// That process isn't well-formed: the flaw that counts, and the path of its first place.
     Ill { which: Flaw, path: Path },
@@ -46,7 +46,7 @@ impl From<Mem> for ReadFault {
 
 impl From<Ill> for ReadFault {
     ghost use Rattle.std.specs.Prelude.{◌≡◌};
-    ghost use Rattle.sap_read.specs.Judged.{fault_of};
+    ghost use Rattle.sap_read.specs.Causes.{fault_of};
 
     ghost from_gives = { λ i e. e ≡ fault_of i };
 

@@ -4,23 +4,25 @@ ghost use Rattle.sap_text.specs.Tokens.{IsLexed};
 ghost use Rattle.sap_text.specs.declared.fault.Lex.{Lex};
 ghost use Rattle.sap_read.specs.Cut.{Placed, placed, IsCut, last_line};
 ghost use Rattle.sap_read.specs.Words.{words_of};
-ghost use Rattle.sap_read.specs.Judged.{IsAccepted, IsNoItem, IsRefused, IsRefusedAs, IsWhole, header_of};
+ghost use Rattle.sap_read.specs.code.Judged.{IsAccepted, IsNoItem, IsRefused, IsRefusedAs, IsWhole, header_of};
 ghost use Rattle.sap_read.specs.Files.{AreTokens};
 ghost use Rattle.sap_process.specs.Proc.{proc};
 ghost use Rattle.sap_process.specs.Flaws.{IsFirstFlaw, IsWellFormed};
 ghost use Rattle.sap_process.specs.Sorted.{with_sorts};
 ghost use Rattle.sap_process.specs.declared.flaw.Flaw.{Flaw};
-ghost use Rattle.sap_read.specs.Files.{IsRead};
+ghost use Rattle.sap_read.specs.Files.{IsRead, told_by};
 ghost use Rattle.sap_read.specs.declared.fault.ReadFault.{ReadFault};
 ghost use Rattle.sap_read.specs.declared.fault.ReadFault.TheVariants.{Mem as OutOfMemory, Lex as LexFault, Ill as IllFault};
 
+use crate::expansion::boxed;
 use crate::fault::ReadFault;
 use crate::items::{Declared, read_declarations, read_items};
+use crate::limits::MOST_FILE_NAME_BYTES;
 use crate::look::{beyond, name_at, starts};
 use crate::whole::whole_process;
 use sap_formula::{LemmaList, RestrictionList};
 use sap_process::{Process, well_formed};
-use sap_terms::{Name, Signature};
+use sap_terms::{Copied, Mem, Name, Signature};
 use sap_text::{Lex, Token, tokens};
 use std::alloc::Global;
 
@@ -34,6 +36,52 @@ pub struct File {
     pub lemmas: LemmaList,
 }
 
+impl File {
+    /// A file that tells the same. Want of memory is the only error.
+    pub fn copy(&self, alloc: Global) -> Result<File, Mem>
+        ensures { IfOk result (λ f. told_by f ≡ told_by self.now) }
+    {
+        Ok(Box::into_inner(self.boxed_copy(alloc)?))
+    }
+
+    /// The same in a box.
+    pub fn boxed_copy(&self, alloc: Global) -> Result<Box<File>, Mem>
+        ensures { IfOk result (λ f. told_by f.value ≡ told_by self.now) }
+    {
+        let (name, signature) = self.copied_head(alloc)?;
+        let (restrictions, lemmas) = self.copied_lists(alloc)?;
+        let process = copied_process(alloc, &self.process)?;
+        let file = File {
+            name,
+            signature,
+            process: Box::into_inner(process),
+            restrictions,
+            lemmas,
+        };
+        Ok(Box::new(alloc, file)?)
+    }
+
+    fn copied_head(&self, alloc: Global) -> Result<(Name, Signature), Mem>
+        ensures { IfOk result (λ p. (p.0 ≡ self.now.name) × (p.1 ≡ self.now.signature)) }
+    {
+        let name = self.name.copy(alloc)?;
+        Ok((name, self.signature.copy(alloc)?))
+    }
+
+    fn copied_lists(&self, alloc: Global) -> Result<(RestrictionList, LemmaList), Mem>
+        ensures { IfOk result (λ p. (p.0 ≡ self.now.restrictions) × (p.1 ≡ self.now.lemmas)) }
+    {
+        let restrictions = self.restrictions.copy(alloc)?;
+        Ok((restrictions, self.lemmas.copy(alloc)?))
+    }
+}
+
+fn copied_process(alloc: Global, p: &Process) -> Result<Box<Process>, Mem>
+    ensures { IfOk result (λ q. proc q.value ≡ proc p.now) }
+{
+    boxed(alloc, p.copy(alloc)?)
+}
+
 /// The file of these bytes, or the first cause that refuses it, in the order of `ReadFault`. Names of processes are
 /// replaced by what they stand for; an identifier is a constant where any item of the file declares it so; each variable has
 /// the sort of its binder. Restrictions and lemmas are in no grammar yet, so both lists are empty.
@@ -41,89 +89,126 @@ pub struct File {
 /// The time and the memory are linear in the bytes and in what is written of the process; what is too large is counted, and
 /// never built.
 pub fn read_file(alloc: Global, bytes: &[u8]) -> Result<File, ReadFault>
-    ensures accepted { IfOk result (λ f. IsRead bytes.now (Ok (record { name = f.name; signature = f.signature; process = proc f.process }))
+    ensures accepted { IfOk result (λ f. IsRead bytes.now (Ok (told_by f))
         × (f.restrictions ≡ []) × (f.lemmas ≡ [])) }
-    ensures refused { (e : ReadFault) → IsErrOf result e → (e ≡ OutOfMemory → ⊥) → IsRead bytes.now (Err e) }
+    ensures refused { (e : ReadFault) → IsErrOf result e → (e ≡ OutOfMemory → ⊥)
+        → IsRead bytes.now (Err e) }
+{
+    match read_file_boxed(alloc, bytes) {
+        Ok(file) => Ok(Box::into_inner(file)),
+        Err(fault) => Err(fault),
+    }
+}
+
+/// The same file in a box: a caller that lends it on holds nothing large.
+pub fn read_file_boxed(alloc: Global, bytes: &[u8]) -> Result<Box<File>, ReadFault>
+    ensures accepted { IfOk result (λ f. IsRead bytes.now (Ok (told_by f.value))
+        × (f.value.restrictions ≡ []) × (f.value.lemmas ≡ [])) }
+    ensures refused { (e : ReadFault) → IsErrOf result e → (e ≡ OutOfMemory → ⊥)
+        → IsRead bytes.now (Err e) }
 {
     let tokens = read_tokens(alloc, bytes)?;
     read_parts(alloc, bytes, tokens.as_slice())
 }
 
-/// The file of these tokens of the bytes.
-fn read_parts(alloc: Global, bytes: &[u8], tokens: &[Token]) -> Result<File, ReadFault>
+/// The file of these tokens of the bytes. What items declare is read first, in a pass of its own, since an identifier in a
+/// term is a constant where any item, also a later one, declares it so.
+fn read_parts(alloc: Global, bytes: &[u8], tokens: &[Token]) -> Result<Box<File>, ReadFault>
     requires { AreTokens bytes.now tokens.now }
-    ensures accepted { IfOk result (λ f. IsRead bytes.now (Ok (record { name = f.name; signature = f.signature; process = proc f.process }))
-        × (f.restrictions ≡ []) × (f.lemmas ≡ [])) }
-    ensures refused { (e : ReadFault) → IsErrOf result e → (e ≡ OutOfMemory → ⊥) → IsRead bytes.now (Err e) }
+    ensures accepted { IfOk result (λ f. IsRead bytes.now (Ok (told_by f.value))
+        × (f.value.restrictions ≡ []) × (f.value.lemmas ≡ [])) }
+    ensures refused { (e : ReadFault) → IsErrOf result e → (e ≡ OutOfMemory → ⊥)
+        → IsRead bytes.now (Err e) }
 {
     let Some(name) = header_name(bytes, tokens) else {
         return Err(ReadFault::Header);
     };
     let rest = beyond(3, tokens);
-    let name = Name::from_bytes(alloc, name)?;
-    let Declared { signature, clash } = read_declarations(alloc, bytes, rest)?;
-    let process = read_process_of(alloc, &signature, clash, bytes, rest, last_line(tokens))?;
-    Ok(File {
-        name,
-        signature,
-        process,
-        restrictions: RestrictionList::new(alloc),
-        lemmas: LemmaList::new(alloc),
-    })
+    let declared = read_declarations(alloc, bytes, rest)?;
+    let process = read_process_of(alloc, &declared, bytes, rest, last_line(tokens))?;
+    Ok(file_of(alloc, name, declared, process)?)
 }
 
-/// The process of the items that these tokens are, under a signature and with the first clash of what they declare; or why
-/// they are refused. The last line is that of the file's last token.
+/// The file of this name with these parts.
+fn file_of(
+    alloc: Global,
+    name: &[u8],
+    declared: Declared,
+    process: Box<Process>,
+) -> Result<Box<File>, Mem>
+    ensures parts { IfOk result (λ f. (f.value.name ≡ name.now)
+        × (f.value.signature ≡ declared.signature) × (f.value.process ≡ process.value)) }
+    ensures none { IfOk result (λ f. (f.value.restrictions ≡ []) × (f.value.lemmas ≡ [])) }
+{
+    let name = Name::from_bytes(alloc, name)?;
+    let Declared { signature, .. } = declared;
+    let file = File {
+        name,
+        signature,
+        process: Box::into_inner(process),
+        restrictions: RestrictionList::new(alloc),
+        lemmas: LemmaList::new(alloc),
+    };
+    Ok(Box::new(alloc, file)?)
+}
+
+/// The process of the items that these tokens are, under what they declare; or why they are refused. The last line is that
+/// of the file's last token.
 fn read_process_of(
     alloc: Global,
-    sig: &Signature,
-    clash: Option<Name>,
+    declared: &Declared,
     bytes: &[u8],
     tokens: &[Token],
     last: u64,
-) -> Result<Process, ReadFault>
-    ensures accepted { IfOk result (λ p. (cut : List (List Placed)) → IsCut (placed bytes.now tokens.now) cut → IsAccepted sig.now clash cut (proc p)) }
-    ensures refused { (e : ReadFault) → IsErrOf result e → (e ≡ OutOfMemory → ⊥) → (cut : List (List Placed)) → IsCut (placed bytes.now tokens.now) cut
-        → IsRefused sig.now clash last cut e }
+) -> Result<Box<Process>, ReadFault>
+    ensures accepted { IfOk result (λ p. (cut : List (List Placed))
+        → IsCut (placed bytes.now tokens.now) cut
+        → IsAccepted declared.now.signature declared.now.clash cut (proc p.value)) }
+    ensures refused { (e : ReadFault) → IsErrOf result e → (e ≡ OutOfMemory → ⊥)
+        → (cut : List (List Placed)) → IsCut (placed bytes.now tokens.now) cut
+        → IsRefused declared.now.signature declared.now.clash last cut e }
 {
-    let process = read_whole(alloc, sig, clash, bytes, tokens, last)?;
-    sort(alloc, sig, &process)
+    let process = read_whole(alloc, declared, bytes, tokens, last)?;
+    sort(alloc, &declared.signature, &process)
 }
 
 /// The process with its sorts, where it is well-formed.
-fn sort(alloc: Global, sig: &Signature, p: &Process) -> Result<Process, ReadFault>
-    ensures accepted { IfOk result (λ q. IsWellFormed sig.now (proc p.now) × (proc q ≡ with_sorts [] (proc p.now))) }
+fn sort(alloc: Global, sig: &Signature, p: &Process) -> Result<Box<Process>, ReadFault>
+    ensures accepted { IfOk result (λ q. IsWellFormed sig.now (proc p.now)
+        × (proc q.value ≡ with_sorts [] (proc p.now))) }
     ensures refused { (e : ReadFault) → IsErrOf result e → (e ≡ OutOfMemory → ⊥)
-        → (w : Flaw) × (path : List ℕ) × (e ≡ IllFault w path) × IsFirstFlaw sig.now (proc p.now) w path }
+        → (w : Flaw) × (path : List ℕ) × (e ≡ IllFault w path)
+        × IsFirstFlaw sig.now (proc p.now) w path }
 {
-    let sorted = well_formed(alloc, sig, p)?;
-    Ok(sorted)
+    Ok(boxed(alloc, well_formed(alloc, sig, p)?)?)
 }
 
 /// The process that the items write, before it is looked at.
 fn read_whole(
     alloc: Global,
-    sig: &Signature,
-    clash: Option<Name>,
+    declared: &Declared,
     bytes: &[u8],
     tokens: &[Token],
     last: u64,
-) -> Result<Process, ReadFault>
-    ensures accepted { IfOk result (λ p. (cut : List (List Placed)) → IsCut (placed bytes.now tokens.now) cut → IsWhole sig.now clash cut (proc p)) }
-    ensures refused { (e : ReadFault) → IsErrOf result e → (e ≡ OutOfMemory → ⊥) → (cut : List (List Placed)) → IsCut (placed bytes.now tokens.now) cut
-        → IsNoItem last cut e ⊎ IsRefusedAs sig.now clash cut e }
+) -> Result<Box<Process>, ReadFault>
+    ensures accepted { IfOk result (λ p. (cut : List (List Placed))
+        → IsCut (placed bytes.now tokens.now) cut
+        → IsWhole declared.now.signature declared.now.clash cut (proc p.value)) }
+    ensures refused { (e : ReadFault) → IsErrOf result e → (e ≡ OutOfMemory → ⊥)
+        → (cut : List (List Placed)) → IsCut (placed bytes.now tokens.now) cut
+        → IsNoItem last cut e ⊎ IsRefusedAs declared.now.signature declared.now.clash cut e }
 {
-    let entries = read_items(alloc, sig, bytes, tokens, last)?;
-    whole_process(alloc, &entries, clash)
+    let entries = read_items(alloc, &declared.signature, bytes, tokens, last)?;
+    whole_process(alloc, &entries, &declared.clash)
 }
 
-/// The tokens of a file, the longest of 64 bytes.
+/// The tokens of a file, the longest of `MOST_FILE_NAME_BYTES`.
 fn read_tokens(alloc: Global, bytes: &[u8]) -> Result<Vec<Token>, ReadFault>
     ensures found { IfOk result (λ v. AreTokens bytes.now v.items) }
     ensures refused { (e : ReadFault) → IsErrOf result e → (e ≡ OutOfMemory → ⊥)
-        → (f : Lex) × (e ≡ LexFault f) × IsLexed 64 0 1 bytes.now (Err f) }
+        → (f : Lex) × (e ≡ LexFault f) × IsLexed MOST_FILE_NAME_BYTES 0 1 bytes.now (Err f) }
 {
-    match tokens(alloc, bytes, 64) {
+    match tokens(alloc, bytes, MOST_FILE_NAME_BYTES) {
         Ok(tokens) => Ok(tokens),
         Err(Lex::Mem) => Err(ReadFault::Mem),
         Err(fault) => Err(ReadFault::Lex(fault)),

@@ -6,9 +6,9 @@ ghost use Rattle.sap_read.specs.Item.{Standing, of_builtin, of_symbol, declarati
 ghost use Rattle.sap_read.specs.ItemGrammar.{AreItems, IsEnd, IsFaulty};
 ghost use Rattle.sap_read.specs.Cut.{Placed, placed, first_line, begins_item, IsCut};
 ghost use Rattle.sap_read.specs.Signatures.{clash_with, with_declaration, signature_from, signature_of, clash_from};
-ghost use Rattle.sap_read.specs.Drafts.{body};
-ghost use Rattle.sap_read.specs.ItemReading.{count_on, cut, told, declared_in, kept};
-ghost use Rattle.sap_read.specs.ItemView.{declaration, IsAdded, IsPushed, SaysProcess, placed_token};
+ghost use Rattle.sap_read.specs.code.Drafts.{body};
+ghost use Rattle.sap_read.specs.code.ItemReading.{count_on, cut, told, declared_in, kept};
+ghost use Rattle.sap_read.specs.code.ItemView.{declaration, IsAdded, IsPushed, SaysProcess, placed_token};
 ghost use Rattle.sap_read.specs.declared.fault.ReadFault.{ReadFault};
 ghost use Rattle.sap_read.specs.declared.fault.ReadFault.TheVariants.{Mem as OutOfMemory, Syntax};
 
@@ -51,7 +51,8 @@ fn count_on(bytes: &[u8], tokens: &[Token]) -> usize
 // The first item, and the tokens behind it.
 fn split_item<'a>(bytes: &[u8], tokens: &'a [Token]) -> (&'a [Token], &'a [Token])
     requires { 0 < length tokens.now }
-    ensures item { cut (placed bytes.now tokens.now) ≡ placed bytes.now result.0.now ∷ cut (placed bytes.now result.1.now) }
+    ensures item { cut (placed bytes.now tokens.now) ≡ placed bytes.now result.0.now ∷ cut
+        (placed bytes.now result.1.now) }
     ensures shorter { length result.1.now < length tokens.now }
 {
     let count = count_on(bytes, beyond(1, tokens)) + 1;
@@ -60,7 +61,8 @@ fn split_item<'a>(bytes: &[u8], tokens: &'a [Token]) -> (&'a [Token], &'a [Token
 
 // Adds the symbols of a builtin; where they clash the signature is as it was, and the name is answered.
 fn add_builtin(signature: &mut Signature, builtin: Builtin) -> Result<Option<Name>, Mem>
-    ensures added { OnOk result (signature.new ≡ with_declaration signature.old (of_builtin builtin)) }
+    ensures added { OnOk result (signature.new ≡ with_declaration signature.old
+        (of_builtin builtin)) }
     ensures clash { IfOk result (λ c. c ≡ clash_with signature.old (of_builtin builtin)) }
 {
     match signature.add_builtin(builtin) {
@@ -72,7 +74,8 @@ fn add_builtin(signature: &mut Signature, builtin: Builtin) -> Result<Option<Nam
 
 // Adds a symbol, in the same way.
 fn add_symbol(signature: &mut Signature, symbol: Symbol) -> Result<Option<Name>, Mem>
-    ensures added { OnOk result (signature.new ≡ with_declaration signature.old (of_symbol symbol)) }
+    ensures added { OnOk result (signature.new ≡ with_declaration signature.old
+        (of_symbol symbol)) }
     ensures clash { IfOk result (λ c. c ≡ clash_with signature.old (of_symbol symbol)) }
 {
     match signature.declare(symbol.name, symbol.arity, symbol.private) {
@@ -102,8 +105,10 @@ pub(crate) struct Declared {
 
 impl Declared {
     fn add(&mut self, one: Declaration) -> Result<(), Mem>
-        ensures signature { OnOk result (self.new.signature ≡ with_declaration self.old.signature (declaration one)) }
-        ensures clash { OnOk result (self.new.clash ≡ kept self.old.clash (clash_with self.old.signature (declaration one))) }
+        ensures signature { OnOk result (self.new.signature ≡ with_declaration self.old.signature
+            (declaration one)) }
+        ensures clash { OnOk result (self.new.clash ≡ kept self.old.clash
+            (clash_with self.old.signature (declaration one))) }
     {
         let clash = add_one(&mut self.signature, one)?;
         if self.clash.is_none() {
@@ -113,8 +118,10 @@ impl Declared {
     }
 
     fn add_each(&mut self, list: Vec<Declaration>) -> Result<(), Mem>
-        ensures signature { OnOk result (self.new.signature ≡ signature_from self.old.signature (map declaration list.items)) }
-        ensures clash { OnOk result (self.new.clash ≡ kept self.old.clash (clash_from self.old.signature (map declaration list.items))) }
+        ensures signature { OnOk result (self.new.signature ≡ signature_from self.old.signature
+            (map declaration list.items)) }
+        ensures clash { OnOk result (self.new.clash ≡ kept self.old.clash
+            (clash_from self.old.signature (map declaration list.items))) }
     {
         for one in list {
             self.add(one)?;
@@ -124,8 +131,10 @@ impl Declared {
 
     // Adds what an item declares.
     fn add_item(&mut self, alloc: Global, bytes: &[u8], item: &[Token]) -> Result<(), Mem>
-        ensures signature { OnOk result (self.new.signature ≡ signature_from self.old.signature (told (declared_in (words_of bytes.now item.now)))) }
-        ensures clash { OnOk result (self.new.clash ≡ kept self.old.clash (clash_from self.old.signature (told (declared_in (words_of bytes.now item.now))))) }
+        ensures signature { OnOk result (self.new.signature ≡ signature_from self.old.signature
+            (told (declared_in (words_of bytes.now item.now)))) }
+        ensures clash { OnOk result (self.new.clash ≡ kept self.old.clash
+            (clash_from self.old.signature (told (declared_in (words_of bytes.now item.now))))) }
     {
         match read_declared(alloc, bytes, item)? {
             Some(list) => self.add_each(list),
@@ -140,7 +149,8 @@ pub(crate) fn read_declarations(
     bytes: &[u8],
     tokens: &[Token],
 ) -> Result<Declared, Mem>
-    ensures { IfOk result (λ d. (g : Sig) (cut : List (List Placed)) (is : List Standing) → IsCut (placed bytes.now tokens.now) cut → AreItems g cut is
+    ensures { IfOk result (λ d. (g : Sig) (cut : List (List Placed)) (is : List Standing)
+        → IsCut (placed bytes.now tokens.now) cut → AreItems g cut is
         → (d.signature ≡ signature_of is) × (d.clash ≡ clash_from pairs_alone (declarations is))) }
 {
     let mut declared = Declared {
@@ -195,14 +205,15 @@ fn read_definition(
     if !starts(bytes, beyond(2, item), "=") {
         return Ok(None);
     }
-    let Some(draft) = read_process(alloc, sig, bytes, beyond(3, item))? else {
-        return Ok(None);
-    };
-    Ok(Some(Definition {
-        label: Some(Name::from_bytes(alloc, name)?),
-        draft,
-        line: line_of(item),
-    }))
+    let label = Name::from_bytes(alloc, name)?;
+    match read_process(alloc, sig, bytes, beyond(3, item))? {
+        None => Ok(None),
+        Some(draft) => Ok(Some(Definition {
+            label: Some(label),
+            draft,
+            line: line_of(item),
+        })),
+    }
 }
 
 // What a `process` item says of a process.
@@ -279,11 +290,14 @@ pub(crate) fn read_items(
     tokens: &[Token],
     last: u64,
 ) -> Result<Items<Definition>, ReadFault>
-    ensures good { IfOk result (λ es. (cut : List (List Placed)) → IsCut (placed bytes.now tokens.now) cut
+    ensures good { IfOk result (λ es. (cut : List (List Placed))
+        → IsCut (placed bytes.now tokens.now) cut
         → (is : List Standing) × AreItems sig.now cut is × (map body es ≡ bodies is)) }
-    ensures faulty { (line : ℕ) → IsErrOf result (Syntax line) → (cut : List (List Placed)) → IsCut (placed bytes.now tokens.now) cut
+    ensures faulty { (line : ℕ) → IsErrOf result (Syntax line) → (cut : List (List Placed))
+        → IsCut (placed bytes.now tokens.now) cut
         → IsFaulty last cut line }
-    ensures other { (e : ReadFault) → IsErrOf result e → (e ≡ OutOfMemory → ⊥) → (line : ℕ) × (e ≡ Syntax line) }
+    ensures other { (e : ReadFault) → IsErrOf result e → (e ≡ OutOfMemory → ⊥) → (line : ℕ)
+        × (e ≡ Syntax line) }
 {
     let mut entries = Items::new(alloc);
     let mut rest = tokens;

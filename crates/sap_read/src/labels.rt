@@ -5,8 +5,8 @@ ghost use Rattle.std.specs.Str.{bytes_eq};
 ghost use Rattle.sap_read.specs.declared.fault.ReadFault.{ReadFault};
 ghost use Rattle.sap_read.specs.declared.draft.Definition.{Definition};
 ghost use Rattle.sap_read.specs.Causes.{cause, unlabelled, labels, first_repeated};
-ghost use Rattle.sap_read.specs.Drafts.{body};
-ghost use Rattle.sap_read.specs.Label.{IsProcessAt, label_of, is_label_in, is_in_more};
+ghost use Rattle.sap_read.specs.code.Drafts.{body};
+ghost use Rattle.sap_read.specs.code.Label.{IsProcessAt, label_of, is_label_in, is_in_more};
 
 use crate::draft::Definition;
 use crate::fault::ReadFault;
@@ -16,7 +16,8 @@ use std::alloc::Global;
 
 // The place of the first process without a label at this place or behind it.
 fn next_process(entries: &Items<Definition>, from: u64) -> Option<u64>
-    ensures next { MatchOption result (unlabelled (map body (drop from entries.now)) ≡ []) (IsProcessAt entries.now from) }
+    ensures next { MatchOption result (unlabelled (map body (drop from entries.now)) ≡ [])
+        (IsProcessAt entries.now from) }
     ensures fits { IfSome result (λ k. k < u64.MAX) }
 {
     for k in from..entries.len() {
@@ -30,8 +31,10 @@ fn next_process(entries: &Items<Definition>, from: u64) -> Option<u64>
 /// The place of the file's process; an error where there is none, and where there are several.
 #[tactic(auto, using(crate::proofs::Caused::one_process))]
 pub(crate) fn the_process(entries: &Items<Definition>) -> Result<u64, ReadFault>
-    ensures found { IfOk result (λ k. (e : Definition) × (slice_get entries.now k ≡ Some e) × (unlabelled (map body entries.now) ≡ body e ∷ [])) }
-    ensures not_one { IfErr result (λ f. (clash : Option (List ℕ)) → cause (map body entries.now) clash ≡ Some f) }
+    ensures found { IfOk result (λ k. (e : Definition) × (slice_get entries.now k ≡ Some e)
+        × (unlabelled (map body entries.now) ≡ body e ∷ [])) }
+    ensures not_one { IfErr result (λ f. (clash : Option (List ℕ))
+        → cause (map body entries.now) clash ≡ Some f) }
 {
     let Some(first) = next_process(entries, 0) else {
         return Err(ReadFault::NoProcess);
@@ -47,7 +50,8 @@ pub(crate) fn the_process(entries: &Items<Definition>) -> Result<u64, ReadFault>
 // Whether the entry's label is among the names; it is among them now.
 fn is_repeated(alloc: Global, names: &mut IndexSet<Name>, entry: &Definition) -> Result<bool, Mem>
     ensures is { IfOk result (λ b. b ≡ is_label_in names.old.keys entry.now.label) }
-    ensures more { OnOk result ((x : List ℕ) → list_any (bytes_eq x) names.new.keys ≡ is_in_more names.old.keys entry.now.label x) }
+    ensures more { OnOk result ((x : List ℕ)
+        → list_any (bytes_eq x) names.new.keys ≡ is_in_more names.old.keys entry.now.label x) }
 {
     let Some(label) = &entry.label else {
         return Ok(false);
@@ -59,7 +63,8 @@ fn is_repeated(alloc: Global, names: &mut IndexSet<Name>, entry: &Definition) ->
 
 // The place of the first process whose label another behind it has. It takes time in proportion to the list.
 fn first_repeated_at(alloc: Global, entries: &Items<Definition>) -> Result<Option<u64>, Mem>
-    ensures { IfOk result (λ k. first_repeated (labels (map body entries.now)) ≡ label_of entries.now k) }
+    ensures { IfOk result (λ k. first_repeated (labels
+        (map body entries.now)) ≡ label_of entries.now k) }
 {
     let mut behind = IndexSet::new(alloc);
     let mut found = None;
@@ -74,7 +79,10 @@ fn first_repeated_at(alloc: Global, entries: &Items<Definition>) -> Result<Optio
 }
 
 /// The first name that another process behind it has too. It takes time in proportion to the list.
-pub(crate) fn first_repeated(alloc: Global, entries: &Items<Definition>) -> Result<Option<Name>, Mem>
+pub(crate) fn first_repeated(
+    alloc: Global,
+    entries: &Items<Definition>,
+) -> Result<Option<Name>, Mem>
     ensures { IfOk result (λ name. name ≡ first_repeated (labels (map body entries.now))) }
 {
     let Some(k) = first_repeated_at(alloc, entries)? else {

@@ -4,9 +4,9 @@ ghost use Rattle.std.specs.List.{list_any};
 ghost use Rattle.std.specs.Option.{option_copied};
 ghost use Rattle.sap_text.specs.Spans.{text_of};
 ghost use Rattle.sap_read.specs.Words.{is_grammar_word, is_mark, item_words, process_words, starts, word_of, words_of, is_lower, is_upper};
-ghost use Rattle.sap_read.specs.Reading.{as_name, as_quoted, name_at, quoted_at};
-ghost use Rattle.sap_read.specs.ItemReading.{as_number, number_at, names};
-ghost use Rattle.sap_read.specs.ProcessReading.{is_zero, starts_zero};
+ghost use Rattle.sap_read.specs.code.Reading.{as_name, as_quoted, name_at, quoted_at};
+ghost use Rattle.sap_read.specs.code.ItemReading.{as_number, number_at, names};
+ghost use Rattle.sap_read.specs.code.ProcessReading.{is_zero, starts_zero};
 
 use sap_text::{Kind, Token};
 

@@ -7,10 +7,10 @@ ghost use Rattle.sap_read.specs.declared.fault.ReadFault.{ReadFault};
 ghost use Rattle.sap_read.specs.declared.fault.ReadFault.TheVariants.{Mem as OutOfMemory, UnknownProcess as IsUnknown};
 ghost use Rattle.sap_read.specs.Replaced.{calls};
 ghost use Rattle.sap_read.specs.Causes.{unknown_from};
-ghost use Rattle.sap_read.specs.Drafts.{written, body};
-ghost use Rattle.sap_read.specs.Meaning.{nodes_in, levels_in, unknown_among, target, kept_behind, AreCounted, AreTargets, meaning_of};
+ghost use Rattle.sap_read.specs.code.Drafts.{written, body};
+ghost use Rattle.sap_read.specs.code.Meaning.{nodes_in, levels_in, unknown_among, target, kept_behind, AreCounted, AreTargets, meaning_of};
 
-use crate::draft::{Draft, Definition};
+use crate::draft::{Definition, Draft};
 use crate::fault::ReadFault;
 use indexmap::IndexMap;
 use sap_terms::{Copied, Items, Mem, Name};
@@ -80,7 +80,8 @@ fn first_unknown<'a>(names: &Names, draft: &'a Draft) -> Option<&'a Name>
 // Refuses a draft with a name that isn't defined.
 fn check_known(alloc: Global, names: &Names, draft: &Draft) -> Result<(), ReadFault>
     ensures known { OnOk result (unknown_among names.now (calls (written draft.now)) ≡ None) }
-    ensures unknown { (e : ReadFault) → IsErrOf result e → (e ≡ OutOfMemory → ⊥) → option_map IsUnknown (unknown_among names.now (calls (written draft.now))) ≡ Some e }
+    ensures unknown { (e : ReadFault) → IsErrOf result e → (e ≡ OutOfMemory → ⊥)
+        → option_map IsUnknown (unknown_among names.now (calls (written draft.now))) ≡ Some e }
 {
     match first_unknown(names, draft) {
         None => Ok(()),
@@ -102,7 +103,9 @@ fn target(names: &Names, draft: &Draft, k: u64) -> u64
 
 // Keeps the name of the process at place k, if it has one.
 fn keep(alloc: Global, names: &mut Names, entry: &Definition, k: u64) -> Result<(), Mem>
-    ensures { OnOk result ((x : List ℕ) → get bytes_eq names.new x ≡ kept_behind names.old k entry.now.label (written entry.now.draft) x) }
+    ensures { OnOk result ((x : List ℕ)
+        → get bytes_eq names.new x ≡ kept_behind names.old k entry.now.label
+        (written entry.now.draft.value) x) }
 {
     let Some(label) = &entry.label else {
         return Ok(());
@@ -123,7 +126,8 @@ pub(crate) fn names_of(alloc: Global, entries: &Items<Definition>) -> Result<Nam
     ensures known { IfOk result (λ names. unknown_from [] (map body entries.now) ≡ None) }
     ensures counted { IfOk result (λ names. AreCounted names (meaning_of entries.now)) }
     ensures targets { IfOk result (λ names. AreTargets entries.now names) }
-    ensures unknown { (e : ReadFault) → IsErrOf result e → (e ≡ OutOfMemory → ⊥) → option_map IsUnknown (unknown_from [] (map body entries.now)) ≡ Some e }
+    ensures unknown { (e : ReadFault) → IsErrOf result e → (e ≡ OutOfMemory → ⊥)
+        → option_map IsUnknown (unknown_from [] (map body entries.now)) ≡ Some e }
 {
     let mut names = IndexMap::new(alloc);
     for (k, entry) in entries.as_slice().iter().enumerate() {

@@ -4,35 +4,41 @@ ghost use Rattle.sap_terms.specs.Signature.{Sig};
 ghost use Rattle.sap_read.specs.Words.{words_of};
 ghost use Rattle.sap_read.specs.Written.{Written};
 ghost use Rattle.sap_read.specs.ItemGrammar.{IsProcess};
-ghost use Rattle.sap_read.specs.Drafts.{written};
+ghost use Rattle.sap_read.specs.code.Drafts.{written};
 
 mod actions;
 mod build;
+mod choice;
 mod grammar;
 mod parts;
 
 use crate::draft::Draft;
+use crate::limits::MOST_PROCESS_LEVELS;
 use crate::process::grammar::read_par;
 use sap_terms::{Mem, Signature};
 use sap_text::Token;
 use std::alloc::Global;
 
-/// The process that these tokens spell, all of them; None where they spell none of at most 300 levels, under any signature.
+/// The process that these tokens spell, all of them; None where they spell none of at most `MOST_PROCESS_LEVELS` levels, under any signature.
 pub(crate) fn read_process(
     alloc: Global,
     sig: &Signature,
     bytes: &[u8],
     tokens: &[Token],
-) -> Result<Option<Draft>, Mem>
-    ensures found { IfOk result (λ o. IfSome o (λ p. IsProcess sig.now (written p) (words_of bytes.now tokens.now))) }
-    ensures none { IfOk result (λ o. IfNone o ((g : Sig) (p : Written) → IsProcess g p (words_of bytes.now tokens.now) → ⊥)) }
+) -> Result<Option<Box<Draft>>, Mem>
+    ensures found { IfOk result (λ o. IfSome o (λ p. IsProcess sig.now (written p.value)
+        (words_of bytes.now tokens.now))) }
+    ensures none { IfOk result (λ o. IfNone o ((g : Sig) (p : Written)
+        → IsProcess g p (words_of bytes.now tokens.now) → ⊥)) }
 {
-    let Some((process, _, rest)) = read_par(alloc, sig, bytes, 300, tokens)? else {
-        return Ok(None);
-    };
-    if rest.is_empty() {
-        Ok(Some(Box::into_inner(process)))
-    } else {
-        Ok(None)
+    match read_par(alloc, sig, bytes, MOST_PROCESS_LEVELS as u32, tokens)? {
+        None => Ok(None),
+        Some((process, _, rest)) => {
+            if rest.is_empty() {
+                Ok(Some(process))
+            } else {
+                Ok(None)
+            }
+        }
     }
 }

@@ -1,20 +1,18 @@
-ghost use Rattle.std.specs.Prelude.{◌≡◌, ◌≤◌, ◌↔◌, ℕ, false, codes, length, IsTrue, IfOk, IfSome, IfNone};
+ghost use Rattle.std.specs.Prelude.{◌≡◌, ◌≤◌, ◌↔◌, ℕ, false, codes, [], ◌∷◌, length, IsTrue, IfOk, IfSome, IfNone};
 ghost use Rattle.sap_terms.specs.Tree.{Tree, public, level_count};
 ghost use Rattle.sap_terms.specs.View.{tree};
 ghost use Rattle.sap_terms.specs.Signature.{arity_of};
 ghost use Rattle.sap_read.specs.Words.{starts, words_of};
 ghost use Rattle.sap_read.specs.TermGrammar.{pair, sorted};
 ghost use Rattle.sap_read.specs.Places.{IsTermAt};
-ghost use Rattle.sap_read.specs.Reading.{is_no_arity, plain, signed, symbol, named, leaf, list_of, args, tuple, term, rest, quoted_at};
-ghost use Rattle.sap_read.specs.View.{GivesTerm, GivesArgs};
+ghost use Rattle.sap_read.specs.code.Reading.{is_no_arity, plain, signed, symbol, named, leaf, list_of, args, paired, tuple, term, rest, quoted_at};
+ghost use Rattle.sap_read.specs.code.View.{GivesTerm, GivesArgs};
 
+use crate::limits::MOST_TERM_LEVELS;
 use crate::look::{beyond, is_lower, name_at, quoted_at, starts};
 use sap_terms::{Mem, Name, Signature, Sort, Term, TermList, Var};
 use sap_text::Token;
 use std::alloc::Global;
-
-/// The levels that a term of a file has at most.
-pub const MOST_LEVELS: u64 = 100;
 
 fn variable(alloc: Global, name: &[u8], sort: Sort) -> Result<Term, Mem>
     ensures { IfOk result (λ t. tree t ≡ sorted sort name.now) }
@@ -46,13 +44,21 @@ fn plain(alloc: Global, sig: &Signature, name: &[u8]) -> Result<Term, Mem>
     }
 }
 
-fn pair(alloc: Global, left: Term, right: Term) -> Result<Term, Mem>
-    ensures { IfOk result (λ t. tree t ≡ pair (tree left) (tree right)) }
+fn two(alloc: Global, left: Term, right: Term) -> Result<TermList, Mem>
+    ensures { IfOk result (λ ts. ts ≡ tree left ∷ tree right ∷ []) }
 {
     let mut parts = TermList::new(alloc);
     parts.push(left)?;
     parts.push(right)?;
-    Ok(Term::App(Name::from_bytes(alloc, b"pair")?, parts))
+    Ok(parts)
+}
+
+fn pair(alloc: Global, left: Term, right: Term) -> Result<Term, Mem>
+    ensures { IfOk result (λ t. tree t ≡ pair (tree left) (tree right)) }
+{
+    let name = Name::from_bytes(alloc, b"pair")?;
+    let parts = two(alloc, left, right)?;
+    Ok(Term::App(name, parts))
 }
 
 fn quoted(alloc: Global, content: &[u8]) -> Result<Term, Mem>
@@ -61,7 +67,7 @@ fn quoted(alloc: Global, content: &[u8]) -> Result<Term, Mem>
     Ok(Term::Public(Name::from_bytes(alloc, content)?))
 }
 
-#[tactic(auto, using(crate::proofs::Steps::steps), unfolding(crate::specs::Reading::given))]
+#[tactic(auto, using(crate::proofs::Steps::steps), unfolding(crate::specs::code::Reading::given))]
 fn read_signed<'a>(
     alloc: Global,
     bytes: &[u8],
@@ -77,7 +83,7 @@ fn read_signed<'a>(
 }
 
 #[cycle(read)]
-#[tactic(auto, using(crate::proofs::Steps::steps), unfolding(crate::specs::Reading::after))]
+#[tactic(auto, using(crate::proofs::Steps::steps), unfolding(crate::specs::code::Reading::after))]
 fn read_list<'a>(
     alloc: Global,
     sig: &Signature,
@@ -85,7 +91,8 @@ fn read_list<'a>(
     depth: u32,
     tokens: &'a [Token],
 ) -> Result<Option<(TermList, &'a [Token])>, Mem>
-    ensures { GivesArgs bytes.now result (list_of (codes ")") (term sig.now depth) (length tokens.now) (words_of bytes.now tokens.now)) }
+    ensures { GivesArgs bytes.now result (list_of (codes ")") (term sig.now depth)
+        (length tokens.now) (words_of bytes.now tokens.now)) }
 {
     let mut terms = TermList::new(alloc);
     let mut rest = tokens;
@@ -107,7 +114,7 @@ fn read_list<'a>(
 
 /// Terms, none or more, up to the closing parenthesis, each read so deep at most, and the tokens behind it.
 #[cycle(read)]
-#[tactic(auto, using(crate::proofs::Steps::steps), unfolding(crate::specs::Reading::after))]
+#[tactic(auto, using(crate::proofs::Steps::steps), unfolding(crate::specs::code::Reading::after))]
 pub fn read_args<'a>(
     alloc: Global,
     sig: &Signature,
@@ -115,7 +122,8 @@ pub fn read_args<'a>(
     depth: u32,
     tokens: &'a [Token],
 ) -> Result<Option<(TermList, &'a [Token])>, Mem>
-    ensures { GivesArgs bytes.now result (args (term sig.now depth) (words_of bytes.now tokens.now)) }
+    ensures { GivesArgs bytes.now result (args (term sig.now depth)
+        (words_of bytes.now tokens.now)) }
 {
     if starts(bytes, tokens, ")") {
         Ok(Some((TermList::new(alloc), beyond(1, tokens))))
@@ -125,7 +133,7 @@ pub fn read_args<'a>(
 }
 
 #[cycle(read)]
-#[tactic(auto, using(crate::proofs::Steps::steps), unfolding(crate::specs::Reading::after))]
+#[tactic(auto, using(crate::proofs::Steps::steps), unfolding(crate::specs::code::Reading::after))]
 fn read_symbol<'a>(
     alloc: Global,
     sig: &Signature,
@@ -134,7 +142,8 @@ fn read_symbol<'a>(
     name: &[u8],
     tokens: &'a [Token],
 ) -> Result<Option<(Term, &'a [Token])>, Mem>
-    ensures { GivesTerm bytes.now result (symbol (term sig.now depth) name.now (words_of bytes.now tokens.now)) }
+    ensures { GivesTerm bytes.now result (symbol (term sig.now depth) name.now
+        (words_of bytes.now tokens.now)) }
 {
     if !is_lower(name) {
         return Ok(None);
@@ -149,7 +158,7 @@ fn read_symbol<'a>(
 }
 
 #[cycle(read)]
-#[tactic(auto, using(crate::proofs::Steps::steps), unfolding(crate::specs::Reading::after))]
+#[tactic(auto, using(crate::proofs::Steps::steps), unfolding(crate::specs::code::Reading::after))]
 fn read_named<'a>(
     alloc: Global,
     sig: &Signature,
@@ -158,7 +167,8 @@ fn read_named<'a>(
     name: &[u8],
     tokens: &'a [Token],
 ) -> Result<Option<(Term, &'a [Token])>, Mem>
-    ensures { GivesTerm bytes.now result (named sig.now (term sig.now depth) name.now (words_of bytes.now tokens.now)) }
+    ensures { GivesTerm bytes.now result (named sig.now (term sig.now depth) name.now
+        (words_of bytes.now tokens.now)) }
 {
     if starts(bytes, tokens, "(") {
         read_symbol(alloc, sig, bytes, depth, name, beyond(1, tokens))
@@ -168,7 +178,32 @@ fn read_named<'a>(
 }
 
 #[cycle(read)]
-#[tactic(auto, using(crate::proofs::Steps::steps), unfolding(crate::specs::Reading::after))]
+#[tactic(auto, using(crate::proofs::Steps::steps), unfolding(crate::specs::code::Reading::after))]
+fn read_second<'a>(
+    alloc: Global,
+    sig: &Signature,
+    bytes: &[u8],
+    depth: u32,
+    left: Term,
+    tokens: &'a [Token],
+) -> Result<Option<(Term, &'a [Token])>, Mem>
+    ensures { GivesTerm bytes.now result (paired (rest sig.now depth) (tree left)
+        (words_of bytes.now tokens.now)) }
+{
+    if !starts(bytes, tokens, ",") {
+        return Ok(None);
+    }
+    match read_rest(alloc, sig, bytes, depth, beyond(1, tokens))? {
+        None => Ok(None),
+        Some((right, end)) => {
+            let both = pair(alloc, left, right)?;
+            Ok(Some((both, end)))
+        }
+    }
+}
+
+#[cycle(read)]
+#[tactic(auto, using(crate::proofs::Steps::steps), unfolding(crate::specs::code::Reading::after))]
 fn read_tuple<'a>(
     alloc: Global,
     sig: &Signature,
@@ -176,22 +211,17 @@ fn read_tuple<'a>(
     depth: u32,
     tokens: &'a [Token],
 ) -> Result<Option<(Term, &'a [Token])>, Mem>
-    ensures { GivesTerm bytes.now result (tuple (term sig.now depth) (rest sig.now depth) (words_of bytes.now tokens.now)) }
+    ensures { GivesTerm bytes.now result (tuple (term sig.now depth) (rest sig.now depth)
+        (words_of bytes.now tokens.now)) }
 {
-    let Some((left, next)) = read_deep(alloc, sig, bytes, depth, tokens)? else {
-        return Ok(None);
-    };
-    if !starts(bytes, next, ",") {
-        return Ok(None);
-    }
-    match read_rest(alloc, sig, bytes, depth, beyond(1, next))? {
+    match read_deep(alloc, sig, bytes, depth, tokens)? {
         None => Ok(None),
-        Some((right, end)) => Ok(Some((pair(alloc, left, right)?, end))),
+        Some((left, next)) => read_second(alloc, sig, bytes, depth, left, next),
     }
 }
 
 #[cycle(read)]
-#[tactic(auto, using(crate::proofs::Steps::steps), unfolding(crate::specs::Reading::after))]
+#[tactic(auto, using(crate::proofs::Steps::steps), unfolding(crate::specs::code::Reading::after))]
 fn read_rest<'a>(
     alloc: Global,
     sig: &Signature,
@@ -204,24 +234,21 @@ fn read_rest<'a>(
     if depth == 0 {
         return Ok(None);
     }
-    let Some((left, next)) = read_deep(alloc, sig, bytes, depth, tokens)? else {
-        return Ok(None);
-    };
-    if starts(bytes, next, ">") {
-        return Ok(Some((left, beyond(1, next))));
-    }
-    if !starts(bytes, next, ",") {
-        return Ok(None);
-    }
-    match read_rest(alloc, sig, bytes, depth - 1, beyond(1, next))? {
+    match read_deep(alloc, sig, bytes, depth, tokens)? {
         None => Ok(None),
-        Some((right, end)) => Ok(Some((pair(alloc, left, right)?, end))),
+        Some((left, next)) => {
+            if starts(bytes, next, ">") {
+                Ok(Some((left, beyond(1, next))))
+            } else {
+                read_second(alloc, sig, bytes, depth - 1, left, next)
+            }
+        }
     }
 }
 
 /// A term, read so deep at most, and the tokens behind it. It can have more levels, but each term that has no more is read.
 #[cycle(read)]
-#[tactic(auto, using(crate::proofs::Steps::steps), unfolding(crate::specs::Reading::after))]
+#[tactic(auto, using(crate::proofs::Steps::steps), unfolding(crate::specs::code::Reading::after))]
 pub fn read_deep<'a>(
     alloc: Global,
     sig: &Signature,
@@ -246,7 +273,7 @@ pub fn read_deep<'a>(
 }
 
 #[cycle(read)]
-#[tactic(auto, using(crate::proofs::Steps::steps), unfolding(crate::specs::Reading::given))]
+#[tactic(auto, using(crate::proofs::Steps::steps), unfolding(crate::specs::code::Reading::given))]
 fn read_leaf<'a>(
     alloc: Global,
     sig: &Signature,
@@ -254,7 +281,8 @@ fn read_leaf<'a>(
     depth: u32,
     tokens: &'a [Token],
 ) -> Result<Option<(Term, &'a [Token])>, Mem>
-    ensures { GivesTerm bytes.now result (leaf sig.now (term sig.now depth) (quoted_at (words_of bytes.now tokens.now)) (words_of bytes.now tokens.now)) }
+    ensures { GivesTerm bytes.now result (leaf sig.now (term sig.now depth) (quoted_at
+        (words_of bytes.now tokens.now)) (words_of bytes.now tokens.now)) }
 {
     if let Some(content) = quoted_at(bytes, tokens) {
         return Ok(Some((quoted(alloc, content)?, beyond(1, tokens))));
@@ -266,13 +294,14 @@ fn read_leaf<'a>(
 }
 
 fn is_whole(bytes: &[u8], term: &Term, rest: &[Token]) -> bool
-    ensures { IsTrue result ↔ ((level_count (tree term.now) ≤ 100) × (starts (codes "(") (words_of bytes.now rest.now) ≡ false)) }
+    ensures { IsTrue result ↔ ((level_count (tree term.now) ≤ MOST_TERM_LEVELS)
+        × (starts (codes "(") (words_of bytes.now rest.now) ≡ false)) }
 {
-    term.levels() <= MOST_LEVELS && !starts(bytes, rest, "(")
+    term.levels() <= MOST_TERM_LEVELS && !starts(bytes, rest, "(")
 }
 
 /// The term that the tokens spell from number `at`, counted from 0, and the number of the token behind it, which is no
-/// `(`; None where they spell none of at most 100 levels. An identifier without sign is the constant of that name where the
+/// `(`; None where they spell none of at most `MOST_TERM_LEVELS` levels. An identifier without sign is the constant of that name where the
 /// signature holds one, and a variable otherwise. Nothing is asked of the tokens: each stands for the bytes in its span.
 /// The work is linear in the tokens that are looked at.
 pub fn read_term(
@@ -282,12 +311,20 @@ pub fn read_term(
     tokens: &Vec<Token>,
     at: u64,
 ) -> Result<Option<(Term, u64)>, Mem>
-    ensures found { IfOk result (λ o. IfSome o (λ r. IsTermAt sig.now (words_of bytes.now tokens.now.items) at (tree r.0) r.1)) }
+    ensures found { IfOk result (λ o. IfSome o (λ r. IsTermAt sig.now
+        (words_of bytes.now tokens.now.items) at (tree r.0) r.1)) }
     ensures none { IfOk result (λ o. IfNone o ((t : Tree) (e : ℕ)
         → IsTermAt sig.now (words_of bytes.now tokens.now.items) at t e → ⊥)) }
 {
     let all = tokens.as_slice();
-    let Some((term, rest)) = read_deep(alloc, sig, bytes, 100, beyond(at as usize, all))? else {
+    let Some((term, rest)) = read_deep(
+        alloc,
+        sig,
+        bytes,
+        MOST_TERM_LEVELS as u32,
+        beyond(at as usize, all),
+    )?
+    else {
         return Ok(None);
     };
     if is_whole(bytes, &term, rest) {

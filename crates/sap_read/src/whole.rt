@@ -1,39 +1,89 @@
 //! From what is written to the process of the file.
-ghost use Rattle.std.specs.Prelude.{◌≡◌, Some, None, map, min, IfOk, IsErrOf};
+ghost use Rattle.std.specs.Prelude.{◌≡◌, [], ◌∷◌, Some, None, map, min, IfOk, OnOk, IsErrOf};
 ghost use Rattle.sap_process.specs.Proc.{proc};
 ghost use Rattle.sap_read.specs.Replaced.{process_of, no_meaning};
-ghost use Rattle.sap_read.specs.Causes.{cause};
-ghost use Rattle.sap_read.specs.Drafts.{written, body};
-ghost use Rattle.sap_read.specs.Meaning.{nodes_in, levels_in, size_fault};
+ghost use Rattle.sap_read.specs.Item.{Body};
+ghost use Rattle.sap_read.specs.Causes.{cause, unlabelled, labels, unknown_from, first_repeated};
+ghost use Rattle.sap_read.specs.code.Drafts.{written, body};
+ghost use Rattle.sap_read.specs.code.Meaning.{nodes_in, levels_in, size_fault, meaning_of, AreCounted, AreTargets};
 ghost use Rattle.sap_read.specs.declared.fault.ReadFault.{ReadFault};
 ghost use Rattle.sap_read.specs.declared.fault.ReadFault.TheVariants.{Mem as OutOfMemory};
 
-use crate::draft::{Draft, Definition};
+use crate::draft::{Definition, Draft};
 use crate::expansion::expand;
 use crate::fault::ReadFault;
 use crate::labels::{first_repeated, the_process};
+use crate::limits::{MOST_PROCESS_LEVELS, MOST_PROCESS_PLACES};
 use crate::names::{Names, levels, names_of, nodes};
 use sap_process::Process;
-use sap_terms::{Items, Name};
+use sap_terms::{Copied, Items, Name};
 use std::alloc::Global;
-
-/// The nodes that the process of a file has at most.
-const MOST_NODES: u64 = 4000;
-
-/// The levels that it has at most.
-const MOST_LEVELS: u64 = 300;
 
 // Whether the process is too large, its names replaced by what they stand for.
 fn size_fault(names: &Names, draft: &Draft) -> Option<ReadFault>
-    ensures { result ≡ size_fault (min (nodes_in names.now (written draft.now)) u64.MAX) (min (levels_in names.now (written draft.now)) u64.MAX) }
+    ensures { result ≡ size_fault (min (nodes_in names.now (written draft.now)) u64.MAX) (min
+        (levels_in names.now (written draft.now)) u64.MAX) }
 {
-    if nodes(names, draft) > MOST_NODES {
+    if nodes(names, draft) > MOST_PROCESS_PLACES {
         return Some(ReadFault::TooMany);
     }
-    if levels(names, draft) > MOST_LEVELS {
+    if levels(names, draft) > MOST_PROCESS_LEVELS {
         return Some(ReadFault::TooDeep);
     }
     None
+}
+
+// Refuses names that are defined twice, and functions that clash.
+fn check_names(
+    alloc: Global,
+    entries: &Items<Definition>,
+    clash: &Option<Name>,
+) -> Result<(), ReadFault>
+    requires one { (b : Body) × (unlabelled (map body entries.now) ≡ b ∷ []) }
+    requires known { unknown_from [] (map body entries.now) ≡ None }
+    ensures distinct { OnOk result (first_repeated (labels (map body entries.now)) ≡ None) }
+    ensures no_clash { OnOk result (clash.now ≡ None) }
+    ensures refused { (e : ReadFault) → IsErrOf result e → (e ≡ OutOfMemory → ⊥)
+        → cause (map body entries.now) clash.now ≡ Some e }
+{
+    if let Some(name) = first_repeated(alloc, entries)? {
+        return Err(ReadFault::DuplicateName { name });
+    }
+    match clash {
+        None => Ok(()),
+        Some(name) => {
+            let name = name.copy(alloc)?;
+            Err(ReadFault::FunctionClash { name })
+        }
+    }
+}
+
+// The same where each name is defined before it is used and one process is the file's, by what is kept of the names.
+fn known_process(
+    alloc: Global,
+    entries: &Items<Definition>,
+    names: &Names,
+    clash: &Option<Name>,
+    entry: &Definition,
+) -> Result<Box<Process>, ReadFault>
+    requires one { unlabelled (map body entries.now) ≡ body entry.now ∷ [] }
+    requires known { unknown_from [] (map body entries.now) ≡ None }
+    requires counted { AreCounted names.now (meaning_of entries.now) }
+    requires targets { AreTargets entries.now names.now }
+    ensures accepted { IfOk result (λ p. (cause (map body entries.now) clash.now ≡ None)
+        × (process_of no_meaning (map body entries.now) ≡ Some (proc p.value))) }
+    ensures refused { (e : ReadFault) → IsErrOf result e → (e ≡ OutOfMemory → ⊥)
+        → cause (map body entries.now) clash.now ≡ Some e }
+{
+    check_names(alloc, entries, clash)?;
+    let draft: &Draft = &entry.draft;
+    match size_fault(names, draft) {
+        Some(fault) => Err(fault),
+        None => {
+            let process = expand(alloc, entries, names, MOST_PROCESS_LEVELS, draft)?;
+            Ok(process)
+        }
+    }
 }
 
 /// The file's process, with names replaced by what they stand for, or the first cause that refuses it. It takes time in
@@ -41,23 +91,14 @@ fn size_fault(names: &Names, draft: &Draft) -> Option<ReadFault>
 pub(crate) fn whole_process(
     alloc: Global,
     entries: &Items<Definition>,
-    clash: Option<Name>,
-) -> Result<Process, ReadFault>
-    ensures accepted { IfOk result (λ p. (cause (map body entries.now) clash ≡ None) × (process_of no_meaning (map body entries.now) ≡ Some (proc p))) }
-    ensures refused { (e : ReadFault) → IsErrOf result e → (e ≡ OutOfMemory → ⊥) → cause (map body entries.now) clash ≡ Some e }
+    clash: &Option<Name>,
+) -> Result<Box<Process>, ReadFault>
+    ensures accepted { IfOk result (λ p. (cause (map body entries.now) clash.now ≡ None)
+        × (process_of no_meaning (map body entries.now) ≡ Some (proc p.value))) }
+    ensures refused { (e : ReadFault) → IsErrOf result e → (e ≡ OutOfMemory → ⊥)
+        → cause (map body entries.now) clash.now ≡ Some e }
 {
     let place = the_process(entries)?;
     let names = names_of(alloc, entries)?;
-    if let Some(name) = first_repeated(alloc, entries)? {
-        return Err(ReadFault::DuplicateName { name });
-    }
-    if let Some(name) = clash {
-        return Err(ReadFault::FunctionClash { name });
-    }
-    let draft = &entries.at(place).draft;
-    if let Some(fault) = size_fault(&names, draft) {
-        return Err(fault);
-    }
-    let process = expand(alloc, entries, &names, MOST_LEVELS, draft)?;
-    Ok(process)
+    known_process(alloc, entries, &names, clash, entries.at(place))
 }

@@ -7,7 +7,7 @@ use Rattle.sap_text.specs.declared.token.Token.{Token}
 use Rattle.sap_text.specs.declared.fault.Lex.{Lex}
 use Rattle.sap_text.specs.declared.fault.Lex.TheVariants as fault
 use Rattle.sap_text.specs.Tokens.{line_feeds, counted, IsLongest, IsSkip, IsFault, bad_byte, bad_content, open_comment, open_quote, Lexed, before, IsLexed, skipped, taken, long}
-use Rattle.sap_text.specs.Front.{AtFront, all_before}
+use Rattle.sap_text.specs.code.Front.{AtFront, all_before}
 use Rattle.sap_text.specs.Told.{Told}
 
 pub taken_front : (n : ℕ) (p b : List ℕ) → length p ≡ n → take n (p ++ b) ≡ p

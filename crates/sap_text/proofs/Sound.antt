@@ -10,7 +10,7 @@ use Rattle.sap_text.specs.declared.front.Front.{Front}
 use Rattle.sap_text.specs.declared.front.Front.TheVariants as front
 use Rattle.sap_text.specs.declared.fault.Lex.TheVariants as fault
 use Rattle.sap_text.specs.Tokens.{is_word, is_blank, is_content, is_not_feed, is_inner, is_symbol, starts_two, begins_comment, IsToken, ident, number, quoted, symbol, IsLongest, EndsLine, IsSkip, blank, line_comment, block_comment, IsFault, bad_byte, bad_content, open_comment, open_quote}
-use Rattle.sap_text.specs.Front.{close_at, symbol_len, quote_front, comment_front, front_at, Stands, Within}
+use Rattle.sap_text.specs.code.Front.{close_at, symbol_len, quote_front, comment_front, front_at, Stands, Within}
 use Rattle.sap_text.proofs.Splits.{Stops, Split, split, run_is, run_most, parts}
 use Rattle.sap_text.proofs.Classes.{token_some, same_kind, symbol_short}
 

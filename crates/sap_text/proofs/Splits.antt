@@ -4,7 +4,7 @@ use Rattle.std.specs.Prelude.{◌&&◌, option_map, ⊤, slice_index_or}
 use Rattle.std.specs.List.{list_all, prefix_len}
 use Rattle.std.proofs.lemmas.Grind.{common_steps}
 use Rattle.sap_text.specs.Tokens.{starts_two}
-use Rattle.sap_text.specs.Front.{close_at}
+use Rattle.sap_text.specs.code.Front.{close_at}
 
 -- the first byte of b fails the test, or there is none
 abbrev pub Stops : (ℕ → Bool) → List ℕ → Type 0

@@ -7,7 +7,7 @@ use Rattle.sap_text.specs.declared.front.Front.TheVariants as front
 use Rattle.sap_text.specs.declared.fault.Lex.TheVariants as fault
 use Rattle.sap_text.specs.declared.token.Kind.{Kind}
 use Rattle.sap_text.specs.Tokens.{counted, line_feeds, IsLongest, Lexed, before, IsLexed, ended, failed}
-use Rattle.sap_text.specs.Front.{AtFront, front_at, Stands, Within}
+use Rattle.sap_text.specs.code.Front.{AtFront, front_at, Stands, Within}
 use Rattle.sap_text.proofs.Joins.{step_skip, step_taken, step_long}
 use Rattle.sap_text.proofs.Sound.{stands, front_fits}
 

@@ -1,4 +1,4 @@
 pub mod Tokens
 pub mod Spans
 pub mod Told
-pub mod Front
+pub mod code

@@ -2,7 +2,7 @@ ghost use Rattle.std.specs.Prelude.{◌≡◌, ◌≤◌, ◌<◌, length, take,
 ghost use Rattle.std.specs.List.{prefix_len};
 ghost use Rattle.std.specs.Char.{is_ascii_digit};
 ghost use Rattle.sap_text.specs.Tokens.{is_word, is_blank, is_content, is_not_feed, is_inner, starts_two, line_feeds};
-ghost use Rattle.sap_text.specs.Front.{close_at};
+ghost use Rattle.sap_text.specs.code.Front.{close_at};
 
 fn is_word_byte(b: u8) -> bool
     ensures { result ≡ is_word b }

@@ -1,5 +1,5 @@
 ghost use Rattle.std.specs.Prelude.{◌≡◌, ◌<◌, ◌+◌, ◌^◌, ◌∷◌, length};
-ghost use Rattle.sap_text.specs.Front.{quote_front, front_at, Within, Stands};
+ghost use Rattle.sap_text.specs.code.Front.{quote_front, front_at, Within, Stands};
 
 use crate::bytes::{
     behind_first, content_len, digits_len, find_close, inner_len, is_blank_byte, line_len,
@@ -38,7 +38,7 @@ fn behind_quote(at: u64, bytes: &[u8]) -> Front
     }
 }
 
-#[tactic(auto, unfolding(crate::specs::Front::front_at))]
+#[tactic(auto, unfolding(crate::specs::code::Front::front_at))]
 fn front_by_byte(at: u64, b: u8, rest: &[u8], bytes: &[u8]) -> Front
     requires fits { at + length bytes.now < 2 ^ 63 }
     requires whole { bytes.now ≡ b ∷ rest.now }

@@ -1,6 +1,6 @@
 ghost use Rattle.std.specs.Prelude.{◌≡◌, ◌∷◌, []};
 ghost use Rattle.sap_text.specs.Tokens.{is_symbol};
-ghost use Rattle.sap_text.specs.Front.{symbol_len};
+ghost use Rattle.sap_text.specs.code.Front.{symbol_len};
 
 use crate::bytes::first;
 

@@ -1,6 +1,6 @@
 ghost use Rattle.std.specs.Prelude.{◌≡◌, ◌≤◌, ◌++◌, [], decimal, drop, OnOk, OnErr};
 
-use sap_terms::Mem;
+use sap_terms::{Copied, Mem};
 use std::alloc::Global;
 use std::marker::Model;
 
@@ -52,6 +52,14 @@ impl Text {
         ensures { result.now ≡ self.now }
     {
         self.bytes.as_slice()
+    }
+}
+
+impl Copied for Text {
+    fn copy(&self, alloc: Global) -> Result<Text, Mem> {
+        let mut text = Text::new(alloc);
+        text.push_bytes(self.as_bytes())?;
+        Ok(text)
     }
 }
 

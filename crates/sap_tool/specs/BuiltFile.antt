@@ -2,18 +2,12 @@
 use Rattle.std.specs.Prelude.{◌≡◌, ◌≤◌, ℕ, List, [], length, Some, Ok}
 use Rattle.sap_gen.specs.Built.{Built, built}
 use Rattle.sap_gen.specs.Theories.{theory_of}
-use Rattle.sap_process.specs.Proc.{proc}
 use Rattle.sap_read.specs.Files.{FileContent, IsRead}
-use Rattle.sap_read.specs.declared.file.File.{File}
 use Rattle.sap_theory.specs.TheoryText.{theory_text}
 
 -- how many bytes a file may have
 abbrev pub most_bytes : ℕ
 most_bytes = 1048576
-
--- what a file tells
-abbrev pub told_by : File → FileContent
-told_by f = record { name = f.name; signature = f.signature; process = proc f.process }
 
 -- the bytes are read as a file that tells this, and its process is built as b
 pub record IsBuiltFile (bytes : List ℕ) (told : FileContent) (b : Built) : Type 0 where

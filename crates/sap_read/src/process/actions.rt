@@ -1,10 +1,11 @@
 //! What a process does before it goes on.
-ghost use Rattle.std.specs.Prelude.{◌≡◌};
+ghost use Rattle.std.specs.Prelude.{◌≡◌, codes, IfOk};
 ghost use Rattle.sap_terms.specs.View.{tree};
 ghost use Rattle.sap_read.specs.Words.{words_of};
-ghost use Rattle.sap_read.specs.ProcessReading.{channel, shown_facts, shown_event, second_term, bound_as, bound, right_side, embedded_rule, inserted, on_term, state_action, action_of};
-ghost use Rattle.sap_read.specs.ProcessView.{GivesAction, to_adversary, on_channel, on_one};
-ghost use Rattle.sap_read.specs.Drafts.{doing};
+ghost use Rattle.sap_read.specs.code.ProcessReading.{channel, shown_facts, shown_event, up_to, second_term, bound_as, bound, right_side, embedded_rule, inserted_at, inserted, on_term, state_action, action_of};
+ghost use Rattle.sap_read.specs.code.ProcessView.{GivesAction, to_adversary, on_channel, on_one};
+ghost use Rattle.sap_read.specs.code.Drafts.{doing};
+ghost use Rattle.sap_read.specs.declared.limits.TheConstants.{MOST_TERM_LEVELS};
 
 use crate::draft::Doing;
 use crate::look::{beyond, name_at, starts};
@@ -28,35 +29,62 @@ enum Deed {
     Unlock,
 }
 
-fn alone(way: Way, message: Term) -> Doing
-    ensures { doing result ≡ to_adversary way (tree message) }
+// A large value stands in a box as soon as it is made.
+fn boxed(alloc: Global, doing: Doing) -> Result<Box<Doing>, Mem>
+    ensures { IfOk result (λ d. d.value ≡ doing) }
+{
+    Ok(Box::new(alloc, doing)?)
+}
+
+fn alone(alloc: Global, way: Way, message: Term) -> Result<Box<Doing>, Mem>
+    ensures { IfOk result (λ d. doing d.value ≡ to_adversary way (tree message)) }
 {
     match way {
-        Way::Out => Doing::Out(message),
-        Way::In => Doing::In(message),
+        Way::Out => boxed(alloc, Doing::Out(message)),
+        Way::In => boxed(alloc, Doing::In(message)),
     }
 }
 
-fn on_channel(way: Way, channel: Term, message: Term) -> Doing
-    ensures { doing result ≡ on_channel way (tree channel) (tree message) }
+fn on_channel(alloc: Global, way: Way, channel: Term, message: Term) -> Result<Box<Doing>, Mem>
+    ensures { IfOk result (λ d. doing d.value ≡ on_channel way (tree channel) (tree message)) }
 {
     match way {
-        Way::Out => Doing::Send(channel, message),
-        Way::In => Doing::Recv(channel, message),
+        Way::Out => boxed(alloc, Doing::Send(channel, message)),
+        Way::In => boxed(alloc, Doing::Recv(channel, message)),
     }
 }
 
-fn on_one(deed: Deed, term: Term) -> Doing
-    ensures { doing result ≡ on_one deed (tree term) }
+fn on_one(alloc: Global, deed: Deed, term: Term) -> Result<Box<Doing>, Mem>
+    ensures { IfOk result (λ d. doing d.value ≡ on_one deed (tree term)) }
 {
     match deed {
-        Deed::Delete => Doing::Delete(term),
-        Deed::Lock => Doing::Lock(term),
-        Deed::Unlock => Doing::Unlock(term),
+        Deed::Delete => boxed(alloc, Doing::Delete(term)),
+        Deed::Lock => boxed(alloc, Doing::Lock(term)),
+        Deed::Unlock => boxed(alloc, Doing::Unlock(term)),
     }
 }
 
-#[tactic(auto, using(crate::proofs::Steps::steps), unfolding(crate::specs::Reading::after, crate::specs::ProcessReading::past))]
+#[tactic(auto, using(crate::proofs::Steps::steps), unfolding(crate::specs::code::ProcessReading::past))]
+fn read_close<'a>(
+    alloc: Global,
+    bytes: &[u8],
+    way: Way,
+    channel: Term,
+    message: Term,
+    tokens: &'a [Token],
+) -> Result<Option<(Box<Doing>, &'a [Token])>, Mem>
+    ensures { GivesAction bytes.now result (up_to (codes ")") (on_channel way (tree channel)
+        (tree message)) (words_of bytes.now tokens.now)) }
+{
+    if starts(bytes, tokens, ")") {
+        let doing = on_channel(alloc, way, channel, message)?;
+        Ok(Some((doing, beyond(1, tokens))))
+    } else {
+        Ok(None)
+    }
+}
+
+#[tactic(auto, using(crate::proofs::Steps::steps), unfolding(crate::specs::code::Reading::after, crate::specs::code::ProcessReading::past))]
 fn read_message<'a>(
     alloc: Global,
     sig: &Signature,
@@ -64,59 +92,61 @@ fn read_message<'a>(
     way: Way,
     channel: Term,
     tokens: &'a [Token],
-) -> Result<Option<(Doing, &'a [Token])>, Mem>
-    ensures { GivesAction bytes.now result (second_term sig.now 100 (on_channel way) (tree channel) (words_of bytes.now tokens.now)) }
+) -> Result<Option<(Box<Doing>, &'a [Token])>, Mem>
+    ensures { GivesAction bytes.now result (second_term sig.now MOST_TERM_LEVELS (on_channel way)
+        (tree channel) (words_of bytes.now tokens.now)) }
 {
     if !starts(bytes, tokens, ",") {
         return Ok(None);
     }
-    let Some((message, rest)) = read_short_term(alloc, sig, bytes, beyond(1, tokens))? else {
-        return Ok(None);
-    };
-    if starts(bytes, rest, ")") {
-        Ok(Some((on_channel(way, channel, message), beyond(1, rest))))
-    } else {
-        Ok(None)
+    match read_short_term(alloc, sig, bytes, beyond(1, tokens))? {
+        None => Ok(None),
+        Some((message, rest)) => read_close(alloc, bytes, way, channel, message, rest),
     }
 }
 
-#[tactic(auto, using(crate::proofs::Steps::steps), unfolding(crate::specs::Reading::after, crate::specs::ProcessReading::past))]
+#[tactic(auto, using(crate::proofs::Steps::steps), unfolding(crate::specs::code::Reading::after, crate::specs::code::ProcessReading::past))]
 fn read_channel<'a>(
     alloc: Global,
     sig: &Signature,
     bytes: &[u8],
     way: Way,
     tokens: &'a [Token],
-) -> Result<Option<(Doing, &'a [Token])>, Mem>
-    ensures { GivesAction bytes.now result (channel sig.now 100 (to_adversary way) (on_channel way) (words_of bytes.now tokens.now)) }
+) -> Result<Option<(Box<Doing>, &'a [Token])>, Mem>
+    ensures { GivesAction bytes.now result (channel sig.now MOST_TERM_LEVELS (to_adversary way)
+        (on_channel way) (words_of bytes.now tokens.now)) }
 {
     if !starts(bytes, tokens, "(") {
         return Ok(None);
     }
-    let Some((term, rest)) = read_short_term(alloc, sig, bytes, beyond(1, tokens))? else {
-        return Ok(None);
-    };
-    if starts(bytes, rest, ")") {
-        Ok(Some((alone(way, term), beyond(1, rest))))
-    } else {
-        read_message(alloc, sig, bytes, way, term, rest)
+    match read_short_term(alloc, sig, bytes, beyond(1, tokens))? {
+        None => Ok(None),
+        Some((term, rest)) => {
+            if starts(bytes, rest, ")") {
+                let doing = alone(alloc, way, term)?;
+                Ok(Some((doing, beyond(1, rest))))
+            } else {
+                read_message(alloc, sig, bytes, way, term, rest)
+            }
+        }
     }
 }
 
-#[tactic(auto, using(crate::proofs::Steps::steps), unfolding(crate::specs::Reading::given))]
+#[tactic(auto, using(crate::proofs::Steps::steps), unfolding(crate::specs::code::Reading::given))]
 fn read_bound_as<'a>(
     alloc: Global,
     bytes: &[u8],
     sort: Sort,
     tokens: &'a [Token],
-) -> Result<Option<(Doing, &'a [Token])>, Mem>
+) -> Result<Option<(Box<Doing>, &'a [Token])>, Mem>
     ensures { GivesAction bytes.now result (bound_as sort (words_of bytes.now tokens.now)) }
 {
     match name_at(bytes, tokens) {
         None => Ok(None),
         Some(name) => {
             let name = Name::from_bytes(alloc, name)?;
-            Ok(Some((Doing::New(Var { name, sort }), beyond(1, tokens))))
+            let doing = boxed(alloc, Doing::New(Var { name, sort }))?;
+            Ok(Some((doing, beyond(1, tokens))))
         }
     }
 }
@@ -126,7 +156,7 @@ fn read_bound<'a>(
     alloc: Global,
     bytes: &[u8],
     tokens: &'a [Token],
-) -> Result<Option<(Doing, &'a [Token])>, Mem>
+) -> Result<Option<(Box<Doing>, &'a [Token])>, Mem>
     ensures { GivesAction bytes.now result (bound (words_of bytes.now tokens.now)) }
 {
     if starts(bytes, tokens, "~") {
@@ -136,7 +166,7 @@ fn read_bound<'a>(
     }
 }
 
-#[tactic(auto, using(crate::proofs::Steps::steps), unfolding(crate::specs::Reading::after, crate::specs::ProcessReading::past))]
+#[tactic(auto, using(crate::proofs::Steps::steps), unfolding(crate::specs::code::Reading::after, crate::specs::code::ProcessReading::past))]
 fn read_right_side<'a>(
     alloc: Global,
     sig: &Signature,
@@ -144,27 +174,32 @@ fn read_right_side<'a>(
     taken: FactList,
     shown: FactList,
     tokens: &'a [Token],
-) -> Result<Option<(Doing, &'a [Token])>, Mem>
-    ensures { GivesAction bytes.now result (right_side sig.now 100 taken shown (words_of bytes.now tokens.now)) }
+) -> Result<Option<(Box<Doing>, &'a [Token])>, Mem>
+    ensures { GivesAction bytes.now result (right_side sig.now MOST_TERM_LEVELS taken shown
+        (words_of bytes.now tokens.now)) }
 {
     if !starts(bytes, tokens, "[") {
         return Ok(None);
     }
     match read_facts(alloc, sig, bytes, true, "]", beyond(1, tokens))? {
         None => Ok(None),
-        Some((added, rest)) => Ok(Some((Doing::Embedded(taken, shown, added), rest))),
+        Some((added, rest)) => {
+            let doing = boxed(alloc, Doing::Embedded(taken, shown, added))?;
+            Ok(Some((doing, rest)))
+        }
     }
 }
 
-#[tactic(auto, using(crate::proofs::Steps::steps), unfolding(crate::specs::Reading::after, crate::specs::ProcessReading::past))]
+#[tactic(auto, using(crate::proofs::Steps::steps), unfolding(crate::specs::code::Reading::after, crate::specs::code::ProcessReading::past))]
 fn read_shown<'a>(
     alloc: Global,
     sig: &Signature,
     bytes: &[u8],
     taken: FactList,
     tokens: &'a [Token],
-) -> Result<Option<(Doing, &'a [Token])>, Mem>
-    ensures { GivesAction bytes.now result (shown_facts sig.now 100 taken (words_of bytes.now tokens.now)) }
+) -> Result<Option<(Box<Doing>, &'a [Token])>, Mem>
+    ensures { GivesAction bytes.now result (shown_facts sig.now MOST_TERM_LEVELS taken
+        (words_of bytes.now tokens.now)) }
 {
     if !starts(bytes, tokens, "--[") {
         return Ok(None);
@@ -175,14 +210,15 @@ fn read_shown<'a>(
     }
 }
 
-#[tactic(auto, using(crate::proofs::Steps::steps), unfolding(crate::specs::Reading::after, crate::specs::ProcessReading::past))]
+#[tactic(auto, using(crate::proofs::Steps::steps), unfolding(crate::specs::code::Reading::after, crate::specs::code::ProcessReading::past))]
 fn read_rule<'a>(
     alloc: Global,
     sig: &Signature,
     bytes: &[u8],
     tokens: &'a [Token],
-) -> Result<Option<(Doing, &'a [Token])>, Mem>
-    ensures { GivesAction bytes.now result (embedded_rule sig.now 100 (words_of bytes.now tokens.now)) }
+) -> Result<Option<(Box<Doing>, &'a [Token])>, Mem>
+    ensures { GivesAction bytes.now result (embedded_rule sig.now MOST_TERM_LEVELS
+        (words_of bytes.now tokens.now)) }
 {
     let Some((taken, rest)) = read_facts(alloc, sig, bytes, true, "]", tokens)? else {
         return Ok(None);
@@ -201,66 +237,93 @@ fn read_rule<'a>(
     }
 }
 
-#[tactic(auto, using(crate::proofs::Steps::steps), unfolding(crate::specs::Reading::after))]
+#[tactic(auto, using(crate::proofs::Steps::steps), unfolding(crate::specs::code::Reading::after))]
 fn read_event<'a>(
     alloc: Global,
     sig: &Signature,
     bytes: &[u8],
     tokens: &'a [Token],
-) -> Result<Option<(Doing, &'a [Token])>, Mem>
-    ensures { GivesAction bytes.now result (shown_event sig.now 100 (words_of bytes.now tokens.now)) }
+) -> Result<Option<(Box<Doing>, &'a [Token])>, Mem>
+    ensures { GivesAction bytes.now result (shown_event sig.now MOST_TERM_LEVELS
+        (words_of bytes.now tokens.now)) }
 {
     match read_short_fact(alloc, sig, bytes, false, tokens)? {
         None => Ok(None),
-        Some((fact, rest)) => Ok(Some((Doing::Event(fact), rest))),
+        Some((fact, rest)) => {
+            let doing = boxed(alloc, Doing::Event(fact))?;
+            Ok(Some((doing, rest)))
+        }
     }
 }
 
-#[tactic(auto, using(crate::proofs::Steps::steps), unfolding(crate::specs::Reading::after, crate::specs::ProcessReading::past))]
+#[tactic(auto, using(crate::proofs::Steps::steps), unfolding(crate::specs::code::Reading::after, crate::specs::code::ProcessReading::past))]
+fn read_value<'a>(
+    alloc: Global,
+    sig: &Signature,
+    bytes: &[u8],
+    key: Term,
+    tokens: &'a [Token],
+) -> Result<Option<(Box<Doing>, &'a [Token])>, Mem>
+    ensures { GivesAction bytes.now result (inserted_at sig.now MOST_TERM_LEVELS (tree key)
+        (words_of bytes.now tokens.now)) }
+{
+    if !starts(bytes, tokens, ",") {
+        return Ok(None);
+    }
+    match read_short_term(alloc, sig, bytes, beyond(1, tokens))? {
+        None => Ok(None),
+        Some((value, rest)) => {
+            let doing = boxed(alloc, Doing::Insert(key, value))?;
+            Ok(Some((doing, rest)))
+        }
+    }
+}
+
+#[tactic(auto, using(crate::proofs::Steps::steps), unfolding(crate::specs::code::Reading::after))]
 fn read_insert<'a>(
     alloc: Global,
     sig: &Signature,
     bytes: &[u8],
     tokens: &'a [Token],
-) -> Result<Option<(Doing, &'a [Token])>, Mem>
-    ensures { GivesAction bytes.now result (inserted sig.now 100 (words_of bytes.now tokens.now)) }
+) -> Result<Option<(Box<Doing>, &'a [Token])>, Mem>
+    ensures { GivesAction bytes.now result (inserted sig.now MOST_TERM_LEVELS
+        (words_of bytes.now tokens.now)) }
 {
-    let Some((key, next)) = read_short_term(alloc, sig, bytes, tokens)? else {
-        return Ok(None);
-    };
-    if !starts(bytes, next, ",") {
-        return Ok(None);
-    }
-    match read_short_term(alloc, sig, bytes, beyond(1, next))? {
+    match read_short_term(alloc, sig, bytes, tokens)? {
         None => Ok(None),
-        Some((value, rest)) => Ok(Some((Doing::Insert(key, value), rest))),
+        Some((key, rest)) => read_value(alloc, sig, bytes, key, rest),
     }
 }
 
-#[tactic(auto, using(crate::proofs::Steps::steps), unfolding(crate::specs::Reading::after))]
+#[tactic(auto, using(crate::proofs::Steps::steps), unfolding(crate::specs::code::Reading::after))]
 fn read_deed<'a>(
     alloc: Global,
     sig: &Signature,
     bytes: &[u8],
     deed: Deed,
     tokens: &'a [Token],
-) -> Result<Option<(Doing, &'a [Token])>, Mem>
-    ensures { GivesAction bytes.now result (on_term sig.now 100 (on_one deed) (words_of bytes.now tokens.now)) }
+) -> Result<Option<(Box<Doing>, &'a [Token])>, Mem>
+    ensures { GivesAction bytes.now result (on_term sig.now MOST_TERM_LEVELS (on_one deed)
+        (words_of bytes.now tokens.now)) }
 {
     match read_short_term(alloc, sig, bytes, tokens)? {
         None => Ok(None),
-        Some((term, rest)) => Ok(Some((on_one(deed, term), rest))),
+        Some((term, rest)) => {
+            let doing = on_one(alloc, deed, term)?;
+            Ok(Some((doing, rest)))
+        }
     }
 }
 
-#[tactic(auto, using(crate::proofs::Steps::steps), unfolding(crate::specs::ProcessReading::past))]
+#[tactic(auto, using(crate::proofs::Steps::steps), unfolding(crate::specs::code::ProcessReading::past))]
 fn read_state_action<'a>(
     alloc: Global,
     sig: &Signature,
     bytes: &[u8],
     tokens: &'a [Token],
-) -> Result<Option<(Doing, &'a [Token])>, Mem>
-    ensures { GivesAction bytes.now result (state_action sig.now 100 (words_of bytes.now tokens.now)) }
+) -> Result<Option<(Box<Doing>, &'a [Token])>, Mem>
+    ensures { GivesAction bytes.now result (state_action sig.now MOST_TERM_LEVELS
+        (words_of bytes.now tokens.now)) }
 {
     let next = beyond(1, tokens);
     if starts(bytes, tokens, "insert") {
@@ -285,8 +348,9 @@ pub fn read_action<'a>(
     sig: &Signature,
     bytes: &[u8],
     tokens: &'a [Token],
-) -> Result<Option<(Doing, &'a [Token])>, Mem>
-    ensures { GivesAction bytes.now result (action_of sig.now 100 (words_of bytes.now tokens.now)) }
+) -> Result<Option<(Box<Doing>, &'a [Token])>, Mem>
+    ensures { GivesAction bytes.now result (action_of sig.now MOST_TERM_LEVELS
+        (words_of bytes.now tokens.now)) }
 {
     let next = beyond(1, tokens);
     if starts(bytes, tokens, "new") {

@@ -1,18 +1,20 @@
 //! Processes, read from their tokens.
 ghost use Rattle.std.specs.Prelude.{◌≡◌, ◌≤◌, ◌<◌, ◌+◌, ◌^◌, IfOk, IfSome};
-ghost use Rattle.sap_terms.specs.View.{tree};
 ghost use Rattle.sap_read.specs.Words.{words_of};
-ghost use Rattle.sap_read.specs.Reading.{name_at};
-ghost use Rattle.sap_read.specs.ProcessReading.{second_branch, branches, equality, condition, found, entry, looking, going_on, call_or_action, enclosed, repeated, beside, starts_bar, seq, par};
-ghost use Rattle.sap_read.specs.ProcessView.{GivesDraft, chosen};
-ghost use Rattle.sap_read.specs.Drafts.{doing, written};
+ghost use Rattle.sap_read.specs.code.Reading.{name_at};
+ghost use Rattle.sap_read.specs.code.ProcessReading.{second_branch, branches, condition, looking, going_on, call_or_action, enclosed, repeated, beside, starts_bar, seq, par};
+ghost use Rattle.sap_read.specs.code.ProcessView.{GivesDraft, chosen};
+ghost use Rattle.sap_read.specs.code.Drafts.{doing, written};
+ghost use Rattle.sap_read.specs.declared.limits.TheConstants.{MOST_TERM_LEVELS};
 
 use crate::draft::{Doing, Draft};
 use crate::look::{beyond, name_at, starts, starts_zero};
 use crate::process::actions::read_action;
-use crate::process::build::{Branching, acting, call, choosing, nil, parallel, replicated};
-use crate::process::parts::read_short_term;
-use sap_terms::{Mem, Name, Signature, Sort, Term, Var};
+use crate::process::build::{
+    Branching, acting, acting_last, call, choosing, choosing_one, nil, parallel, replicated,
+};
+use crate::process::choice::{read_compared, read_looked_up};
+use sap_terms::{Mem, Signature};
 use sap_text::Token;
 use std::alloc::Global;
 
@@ -23,20 +25,21 @@ fn starts_bar(bytes: &[u8], tokens: &[Token]) -> bool
 }
 
 #[cycle(read)]
-#[tactic(auto, using(crate::proofs::ProcessSteps::tokens), unfolding(crate::specs::Reading::after))]
+#[tactic(auto, using(crate::proofs::ProcessSteps::tokens), unfolding(crate::specs::code::Reading::after))]
 fn read_second_branch<'a>(
     alloc: Global,
     sig: &Signature,
     bytes: &[u8],
     depth: u32,
-    choice: Branching,
+    choice: Box<Branching>,
     yes: Box<Draft>,
     levels: u32,
     tokens: &'a [Token],
 ) -> Result<Option<(Box<Draft>, u32, &'a [Token])>, Mem>
     requires deep { depth < 2 ^ 30 }
     requires within { levels ≤ depth }
-    ensures gives { GivesDraft bytes.now result (second_branch (seq sig.now 100 depth) (chosen choice) (written yes.value, levels) (words_of bytes.now tokens.now)) }
+    ensures gives { GivesDraft bytes.now result (second_branch (seq sig.now MOST_TERM_LEVELS depth)
+        (chosen choice.value) (written yes.value, levels) (words_of bytes.now tokens.now)) }
     ensures within { IfOk result (λ o. IfSome o (λ r. (1 ≤ r.1) × (r.1 ≤ depth + 1))) }
 {
     match read_seq(alloc, sig, bytes, depth, tokens)? {
@@ -49,60 +52,36 @@ fn read_second_branch<'a>(
 }
 
 #[cycle(read)]
-#[tactic(auto, using(crate::proofs::ProcessSteps::tokens), unfolding(crate::specs::Reading::after))]
+#[tactic(auto, using(crate::proofs::ProcessSteps::tokens), unfolding(crate::specs::code::Reading::after))]
 fn read_branches<'a>(
     alloc: Global,
     sig: &Signature,
     bytes: &[u8],
     depth: u32,
-    choice: Branching,
+    choice: Box<Branching>,
     tokens: &'a [Token],
 ) -> Result<Option<(Box<Draft>, u32, &'a [Token])>, Mem>
     requires { depth < 2 ^ 30 }
-    ensures gives { GivesDraft bytes.now result (branches (seq sig.now 100 depth) (chosen choice) (words_of bytes.now tokens.now)) }
+    ensures gives { GivesDraft bytes.now result (branches (seq sig.now MOST_TERM_LEVELS depth)
+        (chosen choice.value) (words_of bytes.now tokens.now)) }
     ensures within { IfOk result (λ o. IfSome o (λ r. (1 ≤ r.1) × (r.1 ≤ depth + 1))) }
 {
-    let Some((yes, levels, rest)) = read_seq(alloc, sig, bytes, depth, tokens)? else {
-        return Ok(None);
-    };
-    if starts(bytes, rest, "else") {
-        let rest = beyond(1, rest);
-        return read_second_branch(alloc, sig, bytes, depth, choice, yes, levels, rest);
-    }
-    let process = choosing(alloc, choice, yes, nil(alloc)?)?;
-    Ok(Some((process, levels.max(1) + 1, rest)))
-}
-
-#[cycle(read)]
-#[tactic(auto, using(crate::proofs::ProcessSteps::tokens), unfolding(crate::specs::Reading::after, crate::specs::ProcessReading::past))]
-fn read_equality<'a>(
-    alloc: Global,
-    sig: &Signature,
-    bytes: &[u8],
-    depth: u32,
-    left: Term,
-    tokens: &'a [Token],
-) -> Result<Option<(Box<Draft>, u32, &'a [Token])>, Mem>
-    requires { depth < 2 ^ 30 }
-    ensures gives { GivesDraft bytes.now result (equality sig.now 100 (seq sig.now 100 depth) (tree left) (words_of bytes.now tokens.now)) }
-    ensures within { IfOk result (λ o. IfSome o (λ r. (1 ≤ r.1) × (r.1 ≤ depth + 1))) }
-{
-    if !starts(bytes, tokens, "=") {
-        return Ok(None);
-    }
-    let Some((right, rest)) = read_short_term(alloc, sig, bytes, beyond(1, tokens))? else {
-        return Ok(None);
-    };
-    if starts(bytes, rest, "then") {
-        let choice = Branching::Equality(left, right);
-        read_branches(alloc, sig, bytes, depth, choice, beyond(1, rest))
-    } else {
-        Ok(None)
+    match read_seq(alloc, sig, bytes, depth, tokens)? {
+        None => Ok(None),
+        Some((yes, levels, rest)) => {
+            if starts(bytes, rest, "else") {
+                let rest = beyond(1, rest);
+                read_second_branch(alloc, sig, bytes, depth, choice, yes, levels, rest)
+            } else {
+                let process = choosing_one(alloc, choice, yes)?;
+                Ok(Some((process, levels.max(1) + 1, rest)))
+            }
+        }
     }
 }
 
 #[cycle(read)]
-#[tactic(auto, using(crate::proofs::ProcessSteps::tokens), unfolding(crate::specs::Reading::after))]
+#[tactic(auto, using(crate::proofs::ProcessSteps::tokens), unfolding(crate::specs::code::Reading::after))]
 fn read_condition<'a>(
     alloc: Global,
     sig: &Signature,
@@ -111,65 +90,18 @@ fn read_condition<'a>(
     tokens: &'a [Token],
 ) -> Result<Option<(Box<Draft>, u32, &'a [Token])>, Mem>
     requires { depth < 2 ^ 30 }
-    ensures gives { GivesDraft bytes.now result (condition sig.now 100 (seq sig.now 100 depth) (words_of bytes.now tokens.now)) }
+    ensures gives { GivesDraft bytes.now result (condition sig.now MOST_TERM_LEVELS
+        (seq sig.now MOST_TERM_LEVELS depth) (words_of bytes.now tokens.now)) }
     ensures within { IfOk result (λ o. IfSome o (λ r. (1 ≤ r.1) × (r.1 ≤ depth + 1))) }
 {
-    match read_short_term(alloc, sig, bytes, tokens)? {
+    match read_compared(alloc, sig, bytes, tokens)? {
         None => Ok(None),
-        Some((left, rest)) => read_equality(alloc, sig, bytes, depth, left, rest),
+        Some((choice, rest)) => read_branches(alloc, sig, bytes, depth, choice, rest),
     }
 }
 
 #[cycle(read)]
-#[tactic(auto, using(crate::proofs::ProcessSteps::tokens), unfolding(crate::specs::ProcessReading::past))]
-fn read_found<'a>(
-    alloc: Global,
-    sig: &Signature,
-    bytes: &[u8],
-    depth: u32,
-    key: Term,
-    name: &[u8],
-    tokens: &'a [Token],
-) -> Result<Option<(Box<Draft>, u32, &'a [Token])>, Mem>
-    requires { depth < 2 ^ 30 }
-    ensures gives { GivesDraft bytes.now result (found (seq sig.now 100 depth) (tree key) name.now (words_of bytes.now tokens.now)) }
-    ensures within { IfOk result (λ o. IfSome o (λ r. (1 ≤ r.1) × (r.1 ≤ depth + 1))) }
-{
-    if !starts(bytes, tokens, "in") {
-        return Ok(None);
-    }
-    let name = Name::from_bytes(alloc, name)?;
-    let sort = Sort::Msg;
-    let choice = Branching::Lookup(key, Var { name, sort });
-    read_branches(alloc, sig, bytes, depth, choice, beyond(1, tokens))
-}
-
-#[cycle(read)]
-#[tactic(auto, using(crate::proofs::ProcessSteps::tokens), unfolding(crate::specs::Reading::given, crate::specs::ProcessReading::past))]
-fn read_entry<'a>(
-    alloc: Global,
-    sig: &Signature,
-    bytes: &[u8],
-    depth: u32,
-    key: Term,
-    tokens: &'a [Token],
-) -> Result<Option<(Box<Draft>, u32, &'a [Token])>, Mem>
-    requires { depth < 2 ^ 30 }
-    ensures gives { GivesDraft bytes.now result (entry (seq sig.now 100 depth) (tree key) (words_of bytes.now tokens.now)) }
-    ensures within { IfOk result (λ o. IfSome o (λ r. (1 ≤ r.1) × (r.1 ≤ depth + 1))) }
-{
-    if !starts(bytes, tokens, "as") {
-        return Ok(None);
-    }
-    let rest = beyond(1, tokens);
-    match name_at(bytes, rest) {
-        None => Ok(None),
-        Some(name) => read_found(alloc, sig, bytes, depth, key, name, beyond(1, rest)),
-    }
-}
-
-#[cycle(read)]
-#[tactic(auto, using(crate::proofs::ProcessSteps::tokens), unfolding(crate::specs::Reading::after))]
+#[tactic(auto, using(crate::proofs::ProcessSteps::tokens), unfolding(crate::specs::code::Reading::after))]
 fn read_lookup<'a>(
     alloc: Global,
     sig: &Signature,
@@ -178,17 +110,18 @@ fn read_lookup<'a>(
     tokens: &'a [Token],
 ) -> Result<Option<(Box<Draft>, u32, &'a [Token])>, Mem>
     requires { depth < 2 ^ 30 }
-    ensures gives { GivesDraft bytes.now result (looking sig.now 100 (seq sig.now 100 depth) (words_of bytes.now tokens.now)) }
+    ensures gives { GivesDraft bytes.now result (looking sig.now MOST_TERM_LEVELS
+        (seq sig.now MOST_TERM_LEVELS depth) (words_of bytes.now tokens.now)) }
     ensures within { IfOk result (λ o. IfSome o (λ r. (1 ≤ r.1) × (r.1 ≤ depth + 1))) }
 {
-    match read_short_term(alloc, sig, bytes, tokens)? {
+    match read_looked_up(alloc, sig, bytes, tokens)? {
         None => Ok(None),
-        Some((key, rest)) => read_entry(alloc, sig, bytes, depth, key, rest),
+        Some((choice, rest)) => read_branches(alloc, sig, bytes, depth, choice, rest),
     }
 }
 
 #[cycle(read)]
-#[tactic(auto, using(crate::proofs::ProcessSteps::limits), unfolding(crate::specs::Reading::after))]
+#[tactic(auto, using(crate::proofs::ProcessSteps::limits), unfolding(crate::specs::code::Reading::after))]
 fn read_on<'a>(
     alloc: Global,
     sig: &Signature,
@@ -198,23 +131,29 @@ fn read_on<'a>(
     tokens: &'a [Token],
 ) -> Result<Option<(Box<Draft>, u32, &'a [Token])>, Mem>
     requires { depth < 2 ^ 30 }
-    ensures gives { GivesDraft bytes.now result (going_on (seq sig.now 100 depth) depth (doing first.value) (words_of bytes.now tokens.now)) }
+    ensures gives { GivesDraft bytes.now result (going_on
+        (seq sig.now MOST_TERM_LEVELS depth) depth (doing first.value)
+        (words_of bytes.now tokens.now)) }
     ensures within { IfOk result (λ o. IfSome o (λ r. (1 ≤ r.1) × (r.1 ≤ depth + 1))) }
 {
     if starts(bytes, tokens, ";") {
         match read_seq(alloc, sig, bytes, depth, beyond(1, tokens))? {
             None => Ok(None),
-            Some((then, levels, rest)) => Ok(Some((acting(alloc, first, then)?, levels + 1, rest))),
+            Some((then, levels, rest)) => {
+                let process = acting(alloc, first, then)?;
+                Ok(Some((process, levels + 1, rest)))
+            }
         }
     } else if 1 <= depth {
-        Ok(Some((acting(alloc, first, nil(alloc)?)?, 2, tokens)))
+        let process = acting_last(alloc, first)?;
+        Ok(Some((process, 2, tokens)))
     } else {
         Ok(None)
     }
 }
 
 #[cycle(read)]
-#[tactic(auto, using(crate::proofs::ProcessSteps::tokens), unfolding(crate::specs::Reading::after))]
+#[tactic(auto, using(crate::proofs::ProcessSteps::tokens), unfolding(crate::specs::code::Reading::after))]
 fn read_call_or_action<'a>(
     alloc: Global,
     sig: &Signature,
@@ -223,23 +162,23 @@ fn read_call_or_action<'a>(
     tokens: &'a [Token],
 ) -> Result<Option<(Box<Draft>, u32, &'a [Token])>, Mem>
     requires { depth < 2 ^ 30 }
-    ensures gives { GivesDraft bytes.now result (call_or_action sig.now 100 (seq sig.now 100 depth) depth (name_at (words_of bytes.now tokens.now)) (words_of bytes.now tokens.now)) }
+    ensures gives { GivesDraft bytes.now result (call_or_action sig.now MOST_TERM_LEVELS
+        (seq sig.now MOST_TERM_LEVELS depth) depth (name_at (words_of bytes.now tokens.now))
+        (words_of bytes.now tokens.now)) }
     ensures within { IfOk result (λ o. IfSome o (λ r. (1 ≤ r.1) × (r.1 ≤ depth + 1))) }
 {
     if let Some(name) = name_at(bytes, tokens) {
-        return Ok(Some((call(alloc, name)?, 1, beyond(1, tokens))));
+        let process = call(alloc, name)?;
+        return Ok(Some((process, 1, beyond(1, tokens))));
     }
     match read_action(alloc, sig, bytes, tokens)? {
         None => Ok(None),
-        Some((first, rest)) => {
-            let first = Box::new(alloc, first)?;
-            read_on(alloc, sig, bytes, depth, first, rest)
-        }
+        Some((first, rest)) => read_on(alloc, sig, bytes, depth, first, rest),
     }
 }
 
 #[cycle(read)]
-#[tactic(auto, using(crate::proofs::ProcessSteps::tokens), unfolding(crate::specs::Reading::after, crate::specs::ProcessReading::past))]
+#[tactic(auto, using(crate::proofs::ProcessSteps::tokens), unfolding(crate::specs::code::Reading::after, crate::specs::code::ProcessReading::past))]
 fn read_enclosed<'a>(
     alloc: Global,
     sig: &Signature,
@@ -248,21 +187,24 @@ fn read_enclosed<'a>(
     tokens: &'a [Token],
 ) -> Result<Option<(Box<Draft>, u32, &'a [Token])>, Mem>
     requires { depth < 2 ^ 30 }
-    ensures gives { GivesDraft bytes.now result (enclosed (par sig.now 100 depth) (words_of bytes.now tokens.now)) }
+    ensures gives { GivesDraft bytes.now result (enclosed (par sig.now MOST_TERM_LEVELS depth)
+        (words_of bytes.now tokens.now)) }
     ensures within { IfOk result (λ o. IfSome o (λ r. (1 ≤ r.1) × (r.1 ≤ depth + 1))) }
 {
-    let Some((process, levels, rest)) = read_par(alloc, sig, bytes, depth, tokens)? else {
-        return Ok(None);
-    };
-    if starts(bytes, rest, ")") {
-        Ok(Some((process, levels + 1, beyond(1, rest))))
-    } else {
-        Ok(None)
+    match read_par(alloc, sig, bytes, depth, tokens)? {
+        None => Ok(None),
+        Some((process, levels, rest)) => {
+            if starts(bytes, rest, ")") {
+                Ok(Some((process, levels + 1, beyond(1, rest))))
+            } else {
+                Ok(None)
+            }
+        }
     }
 }
 
 #[cycle(read)]
-#[tactic(auto, using(crate::proofs::ProcessSteps::tokens), unfolding(crate::specs::Reading::after))]
+#[tactic(auto, using(crate::proofs::ProcessSteps::tokens), unfolding(crate::specs::code::Reading::after))]
 fn read_replicated<'a>(
     alloc: Global,
     sig: &Signature,
@@ -271,12 +213,16 @@ fn read_replicated<'a>(
     tokens: &'a [Token],
 ) -> Result<Option<(Box<Draft>, u32, &'a [Token])>, Mem>
     requires { depth < 2 ^ 30 }
-    ensures gives { GivesDraft bytes.now result (repeated (seq sig.now 100 depth) (words_of bytes.now tokens.now)) }
+    ensures gives { GivesDraft bytes.now result (repeated (seq sig.now MOST_TERM_LEVELS depth)
+        (words_of bytes.now tokens.now)) }
     ensures within { IfOk result (λ o. IfSome o (λ r. (1 ≤ r.1) × (r.1 ≤ depth + 1))) }
 {
     match read_seq(alloc, sig, bytes, depth, tokens)? {
         None => Ok(None),
-        Some((copy, levels, rest)) => Ok(Some((replicated(alloc, copy)?, levels + 1, rest))),
+        Some((copy, levels, rest)) => {
+            let process = replicated(alloc, copy)?;
+            Ok(Some((process, levels + 1, rest)))
+        }
     }
 }
 
@@ -290,7 +236,8 @@ fn read_seq<'a>(
     tokens: &'a [Token],
 ) -> Result<Option<(Box<Draft>, u32, &'a [Token])>, Mem>
     requires { depth < 2 ^ 30 }
-    ensures gives { GivesDraft bytes.now result (seq sig.now 100 depth (words_of bytes.now tokens.now)) }
+    ensures gives { GivesDraft bytes.now result (seq sig.now MOST_TERM_LEVELS depth
+        (words_of bytes.now tokens.now)) }
     ensures within { IfOk result (λ o. IfSome o (λ r. (1 ≤ r.1) × (r.1 ≤ depth))) }
 {
     if depth == 0 {
@@ -306,14 +253,15 @@ fn read_seq<'a>(
     } else if starts(bytes, tokens, "lookup") {
         read_lookup(alloc, sig, bytes, depth - 1, next)
     } else if starts_zero(bytes, tokens) {
-        Ok(Some((nil(alloc)?, 1, next)))
+        let process = nil(alloc)?;
+        Ok(Some((process, 1, next)))
     } else {
         read_call_or_action(alloc, sig, bytes, depth - 1, tokens)
     }
 }
 
 #[cycle(read)]
-#[tactic(auto, using(crate::proofs::ProcessSteps::limits), unfolding(crate::specs::Reading::after))]
+#[tactic(auto, using(crate::proofs::ProcessSteps::limits), unfolding(crate::specs::code::Reading::after))]
 fn read_beside<'a>(
     alloc: Global,
     sig: &Signature,
@@ -325,7 +273,8 @@ fn read_beside<'a>(
 ) -> Result<Option<(Box<Draft>, u32, &'a [Token])>, Mem>
     requires deep { depth < 2 ^ 30 }
     requires within { levels ≤ depth }
-    ensures gives { GivesDraft bytes.now result (beside (par sig.now 100 depth) (written left.value, levels) (words_of bytes.now tokens.now)) }
+    ensures gives { GivesDraft bytes.now result (beside (par sig.now MOST_TERM_LEVELS depth)
+        (written left.value, levels) (words_of bytes.now tokens.now)) }
     ensures within { IfOk result (λ o. IfSome o (λ r. (1 ≤ r.1) × (r.1 ≤ depth + 1))) }
 {
     match read_par(alloc, sig, bytes, depth, tokens)? {
@@ -339,7 +288,7 @@ fn read_beside<'a>(
 
 /// A process of at most so many levels, their number, and the tokens behind it.
 #[cycle(read)]
-#[tactic(auto, using(crate::proofs::ProcessSteps::par_steps), unfolding(crate::specs::Reading::after))]
+#[tactic(auto, using(crate::proofs::ProcessSteps::par_steps), unfolding(crate::specs::code::Reading::after))]
 pub fn read_par<'a>(
     alloc: Global,
     sig: &Signature,
@@ -348,21 +297,23 @@ pub fn read_par<'a>(
     tokens: &'a [Token],
 ) -> Result<Option<(Box<Draft>, u32, &'a [Token])>, Mem>
     requires { depth < 2 ^ 30 }
-    ensures gives { GivesDraft bytes.now result (par sig.now 100 depth (words_of bytes.now tokens.now)) }
+    ensures gives { GivesDraft bytes.now result (par sig.now MOST_TERM_LEVELS depth
+        (words_of bytes.now tokens.now)) }
     ensures within { IfOk result (λ o. IfSome o (λ r. (1 ≤ r.1) × (r.1 ≤ depth))) }
 {
     if depth == 0 {
         return Ok(None);
     }
-    let Some((left, levels, rest)) = read_seq(alloc, sig, bytes, depth, tokens)? else {
-        return Ok(None);
-    };
-    if !starts_bar(bytes, rest) {
-        return Ok(Some((left, levels, rest)));
-    }
-    if levels < depth {
-        read_beside(alloc, sig, bytes, depth - 1, left, levels, beyond(1, rest))
-    } else {
-        Ok(None)
+    match read_seq(alloc, sig, bytes, depth, tokens)? {
+        None => Ok(None),
+        Some((left, levels, rest)) => {
+            if !starts_bar(bytes, rest) {
+                Ok(Some((left, levels, rest)))
+            } else if levels < depth {
+                read_beside(alloc, sig, bytes, depth - 1, left, levels, beyond(1, rest))
+            } else {
+                Ok(None)
+            }
+        }
     }
 }

@@ -1,41 +1,43 @@
 //! The terms and facts of processes.
 ghost use Rattle.std.specs.Prelude.{length};
 ghost use Rattle.sap_read.specs.Words.{words_of};
-ghost use Rattle.sap_read.specs.Reading.{list_of};
-ghost use Rattle.sap_read.specs.ProcessReading.{short_term, short_fact, facts};
-ghost use Rattle.sap_read.specs.View.{GivesTerm, GivesFact};
-ghost use Rattle.sap_read.specs.ProcessView.{GivesFacts};
+ghost use Rattle.sap_read.specs.code.Reading.{list_of};
+ghost use Rattle.sap_read.specs.code.ProcessReading.{short_term, short_fact, facts};
+ghost use Rattle.sap_read.specs.code.View.{GivesTerm, GivesFact};
+ghost use Rattle.sap_read.specs.code.ProcessView.{GivesFacts};
 
 use crate::fact::has_few_levels;
+use crate::limits::MOST_TERM_LEVELS;
 use crate::look::{beyond, starts};
-use crate::term::MOST_LEVELS;
 use crate::{fact, term};
 use sap_terms::{Fact, FactList, Mem, Signature, Term};
 use sap_text::Token;
 use std::alloc::Global;
 
-/// A term of at most 100 levels, and the tokens behind it.
-#[tactic(auto, using(crate::proofs::ProcessSteps::limits), unfolding(crate::specs::Reading::after))]
+/// A term of at most `MOST_TERM_LEVELS` levels, and the tokens behind it.
+#[tactic(auto, using(crate::proofs::ProcessSteps::limits), unfolding(crate::specs::code::Reading::after))]
 pub fn read_short_term<'a>(
     alloc: Global,
     sig: &Signature,
     bytes: &[u8],
     tokens: &'a [Token],
 ) -> Result<Option<(Term, &'a [Token])>, Mem>
-    ensures { GivesTerm bytes.now result (short_term sig.now 100 (words_of bytes.now tokens.now)) }
+    ensures { GivesTerm bytes.now result (short_term sig.now MOST_TERM_LEVELS
+        (words_of bytes.now tokens.now)) }
 {
-    let Some((term, rest)) = term::read_deep(alloc, sig, bytes, 100, tokens)? else {
+    let Some((term, rest)) = term::read_deep(alloc, sig, bytes, MOST_TERM_LEVELS as u32, tokens)?
+    else {
         return Ok(None);
     };
-    if term.levels() <= MOST_LEVELS {
+    if term.levels() <= MOST_TERM_LEVELS {
         Ok(Some((term, rest)))
     } else {
         Ok(None)
     }
 }
 
-/// A fact whose terms have at most 100 levels, persistent only where that is allowed, and the tokens behind it.
-#[tactic(auto, using(crate::proofs::ProcessSteps::limits), unfolding(crate::specs::Reading::after))]
+/// A fact whose terms have at most `MOST_TERM_LEVELS` levels, persistent only where that is allowed, and the tokens behind it.
+#[tactic(auto, using(crate::proofs::ProcessSteps::limits), unfolding(crate::specs::code::Reading::after))]
 pub fn read_short_fact<'a>(
     alloc: Global,
     sig: &Signature,
@@ -43,9 +45,11 @@ pub fn read_short_fact<'a>(
     allowed: bool,
     tokens: &'a [Token],
 ) -> Result<Option<(Fact, &'a [Token])>, Mem>
-    ensures { GivesFact bytes.now result (short_fact sig.now 100 allowed (words_of bytes.now tokens.now)) }
+    ensures { GivesFact bytes.now result (short_fact sig.now MOST_TERM_LEVELS allowed
+        (words_of bytes.now tokens.now)) }
 {
-    let Some((fact, rest)) = fact::read_deep(alloc, sig, bytes, 100, tokens)? else {
+    let Some((fact, rest)) = fact::read_deep(alloc, sig, bytes, MOST_TERM_LEVELS as u32, tokens)?
+    else {
         return Ok(None);
     };
     if !has_few_levels(&fact.args) || (fact.persistent && !allowed) {
@@ -54,7 +58,7 @@ pub fn read_short_fact<'a>(
     Ok(Some((fact, rest)))
 }
 
-#[tactic(auto, using(crate::proofs::Steps::steps), unfolding(crate::specs::Reading::after))]
+#[tactic(auto, using(crate::proofs::Steps::steps), unfolding(crate::specs::code::Reading::after))]
 fn read_fact_list<'a>(
     alloc: Global,
     sig: &Signature,
@@ -63,7 +67,9 @@ fn read_fact_list<'a>(
     closing: &str,
     tokens: &'a [Token],
 ) -> Result<Option<(FactList, &'a [Token])>, Mem>
-    ensures { GivesFacts bytes.now result (list_of closing.now (short_fact sig.now 100 allowed) (length tokens.now) (words_of bytes.now tokens.now)) }
+    ensures { GivesFacts bytes.now result (list_of closing.now
+        (short_fact sig.now MOST_TERM_LEVELS allowed) (length tokens.now)
+        (words_of bytes.now tokens.now)) }
 {
     let mut facts = FactList::new(alloc);
     let mut rest = tokens;
@@ -85,7 +91,7 @@ fn read_fact_list<'a>(
 
 /// Facts, none or more, with commas between them, up to the closing mark, each as `read_short_fact` reads it, and the
 /// tokens behind the mark.
-#[tactic(auto, using(crate::proofs::Steps::steps), unfolding(crate::specs::Reading::after))]
+#[tactic(auto, using(crate::proofs::Steps::steps), unfolding(crate::specs::code::Reading::after))]
 pub fn read_facts<'a>(
     alloc: Global,
     sig: &Signature,
@@ -94,7 +100,8 @@ pub fn read_facts<'a>(
     closing: &str,
     tokens: &'a [Token],
 ) -> Result<Option<(FactList, &'a [Token])>, Mem>
-    ensures { GivesFacts bytes.now result (facts sig.now 100 allowed closing.now (words_of bytes.now tokens.now)) }
+    ensures { GivesFacts bytes.now result (facts sig.now MOST_TERM_LEVELS allowed closing.now
+        (words_of bytes.now tokens.now)) }
 {
     if starts(bytes, tokens, closing) {
         Ok(Some((FactList::new(alloc), beyond(1, tokens))))

@@ -1,8 +1,8 @@
 use Rattle.std.proofs.Common.{◌≡◌, ◌<◌, [], ◌∷◌, ◌++◌, length, Some, None, arith}
 use Rattle.std.proofs.lemmas.Grind.{common_steps}
 use Rattle.sap_read.specs.Words.{words_of}
-use Rattle.sap_read.specs.ItemReading.{declaration_at}
-use Rattle.sap_read.specs.ItemView.{declaration}
+use Rattle.sap_read.specs.code.ItemReading.{declaration_at}
+use Rattle.sap_read.specs.code.ItemView.{declaration}
 use Rattle.sap_read.proofs.Declarations.{declaration_nothing, shorter_still, turn_stop, turn_last, turn_bad, turn_go, map_push}
 use Rattle.sap_read.proofs.declaration.read_list.Goals as goal
 

@@ -1,8 +1,8 @@
 use Rattle.std.proofs.Common.{◌≡◌, ◌<◌, ◌+◌, ℕ, length}
 use Rattle.std.specs.Prelude.{map}
 use Rattle.sap_read.specs.Words.{words_of}
-use Rattle.sap_read.specs.ItemReading.{declaration_at, in_front, whole_list}
-use Rattle.sap_read.specs.ItemView.{declaration}
+use Rattle.sap_read.specs.code.ItemReading.{declaration_at, in_front, whole_list}
+use Rattle.sap_read.specs.code.ItemView.{declaration}
 use Rattle.sap_read.proofs.declaration.read_list.Given as goal
 
 abbrev pub invariant-loop-rest : goal.invariant-loop-rest

@@ -9,3 +9,6 @@ decreases-expand_below l = 3 * l.depth - 1
 
 abbrev pub decreases-expand_form : goal.decreases-expand_form
 decreases-expand_form l = 3 * l.depth
+
+abbrev pub decreases-expand_both : goal.decreases-expand_both
+decreases-expand_both l = 3 * l.depth - 1

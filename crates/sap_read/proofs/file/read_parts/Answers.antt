@@ -1,4 +1,4 @@
-use Rattle.std.proofs.Common.{◌≡◌, List, ℕ, Option, Some, sym, subst, ◌∙◌, ap, Err, rules}
+use Rattle.std.proofs.Common.{◌≡◌, List, ℕ, Option, sym, subst, ◌∙◌, ap, Err, rules}
 use Rattle.std.proofs.lemmas.Result.{err_from_is_err_and}
 use Rattle.std.specs.Option.{option_copied}
 use Rattle.std.proofs.Common.{drop}
@@ -9,7 +9,7 @@ use Rattle.sap_read.specs.Item.{Standing, declarations}
 use Rattle.sap_read.specs.Cut.{Placed, placed, IsCut}
 use Rattle.sap_read.specs.ItemGrammar.{AreItems}
 use Rattle.sap_read.specs.Signatures.{signature_of, clash_from}
-use Rattle.sap_read.specs.Judged.{IsRefused}
+use Rattle.sap_read.specs.code.Judged.{IsRefused}
 use Rattle.sap_read.specs.declared.fault.ReadFault.{ReadFault}
 use Rattle.sap_read.specs.declared.fault.ReadFault.TheVariants.{Header}
 use Rattle.sap_read.specs.Files.{IsRead, no_header}
@@ -38,11 +38,11 @@ returns-in_err-process-clause-refused c = λ e h n.
     let z = c.args.bytes.now in
     let ts = c.args.tokens.now in
     let rest = c.beyond-rest.result.now in
-    let g = c.in_ok-signature.field-0.signature in
-    let clash = c.in_ok-signature.field-0.clash in
+    let g = c.in_ok-declared.declared.signature in
+    let clash = c.in_ok-declared.declared.clash in
     let refusal = c.in_err-process.ensures.refused e (search (rules, p, h)) n (items_of z ts) (cut_behind z ts rest c.beyond-rest.ensures) in
     is_refused z ts c.in-Some.name.now g clash e c.requires (sym c.header_name.ensures ∙ ap option_copied c.in-Some.is)
-    (told z ts rest g clash c.beyond-rest.ensures c.in_ok-signature.ensures)
+    (told z ts rest g clash c.beyond-rest.ensures c.in_ok-declared.ensures)
     (subst (λ (n : ℕ). IsRefused g clash n (items_of z ts) e) (c.last_line.ensures z) refusal)
 
 pub returns-clause-accepted : goal.returns-clause-accepted
@@ -50,12 +50,14 @@ returns-clause-accepted c =
     let z = c.args.bytes.now in
     let ts = c.args.tokens.now in
     let rest = c.beyond-rest.result.now in
-    let g = c.in_ok-signature.field-0.signature in
-    let clash = c.in_ok-signature.field-0.clash in
-    let found = sym c.header_name.ensures ∙ ap option_copied c.in-Some.is ∙ ap Some (sym c.in_ok-name.ensures) in (
-      is_accepted z ts c.in_ok-name.name g clash (proc c.in_ok-process.process) c.requires found
-          (told z ts rest g clash c.beyond-rest.ensures c.in_ok-signature.ensures)
-          (c.in_ok-process.ensures.accepted (items_of z ts) (cut_behind z ts rest c.beyond-rest.ensures)),
-      c.new.ensures,
-      c.new-2.ensures,
+    let g = c.in_ok-declared.declared.signature in
+    let clash = c.in_ok-declared.declared.clash in
+    let found = sym c.header_name.ensures ∙ ap option_copied c.in-Some.is in
+    let parts = c.in_ok-file_of.ensures.parts in
+    let none = c.in_ok-file_of.ensures.none in (
+      rw (parts.0, parts.1, parts.2, none.0, none.1) (is_accepted z ts c.in-Some.name.now g clash (proc c.in_ok-process.process.value) c.requires found
+          (told z ts rest g clash c.beyond-rest.ensures c.in_ok-declared.ensures)
+          (c.in_ok-process.ensures.accepted (items_of z ts) (cut_behind z ts rest c.beyond-rest.ensures))),
+      none.0,
+      none.1,
     )

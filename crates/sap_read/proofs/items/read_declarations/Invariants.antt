@@ -2,7 +2,7 @@ use Rattle.std.proofs.Common.{◌≡◌, length}
 use Rattle.sap_terms.specs.Signature.{pairs_alone}
 use Rattle.sap_read.specs.Cut.{placed}
 use Rattle.sap_read.specs.Signatures.{signature_from, clash_from}
-use Rattle.sap_read.specs.ItemReading.{cut, declared_in_all, kept}
+use Rattle.sap_read.specs.code.ItemReading.{cut, declared_in_all, kept}
 use Rattle.sap_read.proofs.items.read_declarations.Given as goal
 
 abbrev pub invariant-loop-rest : goal.invariant-loop-rest

@@ -1,6 +1,6 @@
 use Rattle.std.proofs.Common.{◌≡◌, drop}
 use Rattle.sap_read.specs.Cut.{placed}
-use Rattle.sap_read.specs.ItemReading.{count_on}
+use Rattle.sap_read.specs.code.ItemReading.{count_on}
 use Rattle.sap_read.proofs.ItemTurns.{split_cut}
 use Rattle.sap_read.proofs.items.split_item.Goals as goal
 

@@ -1,5 +1,5 @@
 use Rattle.std.proofs.Common.{◌+◌, ◌-◌, arith, subst, sym, ◌∙◌}
-use Rattle.sap_read.specs.Label.{AreSeen}
+use Rattle.sap_read.specs.code.Label.{AreSeen}
 use Rattle.sap_read.proofs.Labelled.{seen_again, seen_once}
 use Rattle.sap_read.proofs.labels.first_repeated_at.Goals as goal
 

@@ -1,5 +1,5 @@
 use Rattle.std.proofs.Common.{◌≤◌, length}
-use Rattle.sap_read.specs.Label.{AreSeen}
+use Rattle.sap_read.specs.code.Label.{AreSeen}
 use Rattle.sap_read.proofs.labels.first_repeated_at.Given as goal
 
 abbrev pub invariant-loop-k : goal.invariant-loop-k

@@ -1,4 +1,4 @@
-use Rattle.sap_read.specs.Meaning.{AreBehind}
+use Rattle.sap_read.specs.code.Meaning.{AreBehind}
 use Rattle.sap_read.proofs.names.names_of.Given as goal
 
 abbrev pub invariant-loop-k : goal.invariant-loop-k

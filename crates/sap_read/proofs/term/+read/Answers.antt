@@ -2,7 +2,7 @@ use Rattle.std.proofs.Common.{◌≡◌, [], ◌∷◌, ◌++◌, Some, None, ar
 use Rattle.std.proofs.lemmas.Grind.{common_steps}
 use Rattle.sap_terms.specs.View.{tree}
 use Rattle.sap_read.specs.Words.{words_of}
-use Rattle.sap_read.specs.Reading.{term}
+use Rattle.sap_read.specs.code.Reading.{term}
 use Rattle.sap_read.proofs.Lists.{shorter_still, term_shrinks, turn_go, turn_stop, term_nothing}
 use Rattle.sap_read.proofs.term.+read.Goals as goal
 

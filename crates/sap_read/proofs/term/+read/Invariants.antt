@@ -1,7 +1,7 @@
 use Rattle.std.proofs.Common.{◌≡◌, ◌≤◌, ◌+◌, ◌*◌, ℕ, length}
 use Rattle.std.specs.Prelude.{codes}
 use Rattle.sap_read.specs.Words.{words_of}
-use Rattle.sap_read.specs.Reading.{behind, list_of, term}
+use Rattle.sap_read.specs.code.Reading.{behind, list_of, term}
 use Rattle.sap_read.proofs.term.+read.Given as goal
 
 abbrev pub decreases-read_deep : goal.decreases-read_deep
@@ -17,7 +17,10 @@ abbrev pub decreases-read_args : goal.decreases-read_args
 decreases-read_args l = 8 * l.depth + 2
 
 abbrev pub decreases-read_tuple : goal.decreases-read_tuple
-decreases-read_tuple l = 8 * l.depth + 2
+decreases-read_tuple l = 8 * l.depth + 3
+
+abbrev pub decreases-read_second : goal.decreases-read_second
+decreases-read_second l = 8 * l.depth + 2
 
 abbrev pub decreases-read_symbol : goal.decreases-read_symbol
 decreases-read_symbol l = 8 * l.depth + 3

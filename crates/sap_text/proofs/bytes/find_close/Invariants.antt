@@ -1,6 +1,6 @@
 use Rattle.std.proofs.Common.{◌≡◌, ◌+◌, drop}
 use Rattle.std.specs.Prelude.{option_map}
-use Rattle.sap_text.specs.Front.{close_at}
+use Rattle.sap_text.specs.code.Front.{close_at}
 use Rattle.sap_text.proofs.bytes.find_close.Given as goal
 
 abbrev pub invariant-loop-k : goal.invariant-loop-k

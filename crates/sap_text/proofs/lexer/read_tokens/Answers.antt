@@ -3,7 +3,7 @@ use Rattle.std.proofs.lemmas.Grind.{common_steps}
 use Rattle.sap_text.specs.declared.token.Token.{Token}
 use Rattle.sap_text.specs.declared.fault.Lex.TheVariants as fault
 use Rattle.sap_text.specs.Tokens.{counted, line_feeds, IsLexed, Lexed, IsLongest, IsSkip, before, ended, failed}
-use Rattle.sap_text.specs.Front.{all_before, AtFront, Stands}
+use Rattle.sap_text.specs.code.Front.{all_before, AtFront, Stands}
 use Rattle.sap_text.proofs.Joins.{step_skip, step_taken, step_long, push_before, fault_told, feeds_most}
 use Rattle.sap_text.proofs.lexer.read_tokens.Goals as goal
 

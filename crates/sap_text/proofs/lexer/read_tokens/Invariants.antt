@@ -1,6 +1,6 @@
 use Rattle.std.proofs.Common.{length, ◌-◌, ◌≤◌, ◌+◌, drop}
 use Rattle.sap_text.specs.Tokens.{IsLexed, Lexed}
-use Rattle.sap_text.specs.Front.{all_before}
+use Rattle.sap_text.specs.code.Front.{all_before}
 use Rattle.sap_text.proofs.lexer.read_tokens.Given as goal
 
 abbrev pub invariant-loop-at : goal.invariant-loop-at

@@ -2,8 +2,8 @@ use Rattle.std.proofs.Common.{◌≡◌, ◌++◌}
 use Rattle.std.specs.Prelude.{map}
 use Rattle.std.specs.Vec.Iter.{into_iter_items}
 use Rattle.sap_read.specs.Signatures.{signature_from, clash_from}
-use Rattle.sap_read.specs.ItemReading.{kept}
-use Rattle.sap_read.specs.ItemView.{declaration}
+use Rattle.sap_read.specs.code.ItemReading.{kept}
+use Rattle.sap_read.specs.code.ItemView.{declaration}
 use Rattle.sap_read.proofs.items.Declared.add_each.Given as goal
 
 abbrev pub invariant-loop-one : goal.invariant-loop-one

@@ -28,17 +28,8 @@ decreases-read_second_branch l = 8 * l.depth + 2
 abbrev pub decreases-read_branches : goal.decreases-read_branches
 decreases-read_branches l = 8 * l.depth + 3
 
-abbrev pub decreases-read_equality : goal.decreases-read_equality
-decreases-read_equality l = 8 * l.depth + 4
-
 abbrev pub decreases-read_condition : goal.decreases-read_condition
-decreases-read_condition l = 8 * l.depth + 5
-
-abbrev pub decreases-read_entry : goal.decreases-read_entry
-decreases-read_entry l = 8 * l.depth + 5
+decreases-read_condition l = 8 * l.depth + 4
 
 abbrev pub decreases-read_lookup : goal.decreases-read_lookup
-decreases-read_lookup l = 8 * l.depth + 6
-
-abbrev pub decreases-read_found : goal.decreases-read_found
-decreases-read_found l = 8 * l.depth + 4
+decreases-read_lookup l = 8 * l.depth + 4

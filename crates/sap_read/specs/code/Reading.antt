@@ -1,4 +1,4 @@
--- Reading words from the left, as the code does it. No public contract cites this file.
+-- Reading words from the left, as the code does it.
 use Rattle.std.specs.Prelude.{ℕ, zero, suc, Bool, true, false, ◌==◌, if◌then◌else◌, codes, List, [], ◌∷◌, ◌++◌, length, drop, Option, Some, None}
 use Rattle.sap_terms.specs.declared.fact.Fact.{Fact}
 use Rattle.sap_terms.specs.declared.var.Sort.{Sort}
@@ -90,10 +90,13 @@ symbol term f ws = if is_lower f then after (args term ws) (λ ts r. Some (apply
 abbrev pub named : Sig → Reader Tree → List ℕ → Reader Tree
 named g term x ws = if starts (codes "(") ws then symbol term x (drop 1 ws) else Some (plain g x, ws)
 
+-- behind a term of a tuple: a comma, and the terms behind it
+abbrev pub paired : Reader Tree → Tree → Reader Tree
+paired rest t ws = if starts (codes ",") ws then after (rest (drop 1 ws)) (λ u z. Some (pair t u, z)) else None
+
 -- behind the opening of a tuple
 abbrev pub tuple : Reader Tree → Reader Tree → Reader Tree
-tuple term rest ws = after (term ws) (λ t r.
-    if starts (codes ",") r then after (rest (drop 1 r)) (λ u z. Some (pair t u, z)) else None)
+tuple term rest ws = after (term ws) (λ t r. paired rest t r)
 
 -- a public name, or what an identifier begins
 abbrev pub leaf : Sig → Reader Tree → Option (List ℕ) → Reader Tree
@@ -111,9 +114,7 @@ term_at g term rest ws =
 -- a rest, where the reader of terms goes as deep and that of rests one level less
 abbrev pub rest_at : Reader Tree → Reader Tree → Reader Tree
 rest_at here rest ws = after (here ws) (λ t r.
-    if starts (codes ">") r then Some (t, drop 1 r)
-    else if starts (codes ",") r then after (rest (drop 1 r)) (λ u z. Some (pair t u, z))
-    else None)
+    if starts (codes ">") r then Some (t, drop 1 r) else paired rest t r)
 
 unfoldable mutual
   -- a term, so deep at most

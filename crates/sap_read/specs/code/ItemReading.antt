@@ -1,4 +1,4 @@
--- Cutting and reading items from the left, as the code does it. No public contract cites this file.
+-- Cutting and reading items from the left, as the code does it.
 use Rattle.std.specs.Prelude.{ℕ, ◌+◌, zero, suc, Bool, true, false, not, ◌&&◌, nat_le, if◌then◌else◌, codes, List, [], ◌∷◌, ◌++◌, length, drop, Option, Some, None, is_some}
 use Rattle.std.specs.List.{prefix_len}
 use Rattle.std.specs.Str.{bytes_eq}
@@ -9,7 +9,8 @@ use Rattle.sap_read.specs.Words.{Word, mark, name, number, quoted, starts, is_lo
 use Rattle.sap_read.specs.Item.{Declaration, of_builtin, of_symbol}
 use Rattle.sap_read.specs.Cut.{Placed, words, begins_item}
 use Rattle.sap_read.specs.ItemGrammar.{value}
-use Rattle.sap_read.specs.Reading.{Read, Reader, given, name_at}
+use Rattle.sap_read.specs.code.Reading.{Read, Reader, given, name_at}
+use Rattle.sap_read.specs.declared.limits.TheConstants.{MOST_ARITY}
 
 -- no item begins here
 abbrev pub goes_on : Placed → Bool
@@ -70,7 +71,7 @@ number_at (w ∷ ws) = as_number w
 
 -- the value of these digits, where it is an arity
 abbrev pub arity_of_digits : List ℕ → Option ℕ
-arity_of_digits ds = if nat_le (value ds) 64 then Some (value ds) else None
+arity_of_digits ds = if nat_le (value ds) MOST_ARITY then Some (value ds) else None
 
 abbrev pub small_value : Option (List ℕ) → Option ℕ
 small_value None = None

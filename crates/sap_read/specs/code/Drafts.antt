@@ -29,9 +29,9 @@ written Nil = nil
 written (Call x) = call x
 written (Par' a p b q) = parallel (written p) (written q)
 written (Rep' a p) = replicated (written p)
-written (Act' d a p) = act (doing d) (written p)
+written (Act' d a p) = act (doing d.value) (written p)
 written (If' t u a p b q) = test (tree t) (tree u) (written p) (written q)
 written (Lookup' t x a p b q) = lookup (tree t) x (written p) (written q)
 
 abbrev pub body : Definition → Body
-body e = record { label = e.label; content = written e.draft; place = e.line }
+body e = record { label = e.label; content = written e.draft.value; place = e.line }

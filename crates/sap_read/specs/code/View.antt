@@ -8,7 +8,7 @@ use Rattle.sap_terms.specs.Tree.{Tree}
 use Rattle.sap_terms.specs.View.{tree}
 use Rattle.sap_text.specs.declared.token.Token.{Token}
 use Rattle.sap_read.specs.Words.{words_of}
-use Rattle.sap_read.specs.Reading.{Read}
+use Rattle.sap_read.specs.code.Reading.{Read}
 
 -- the same term and the words of the tokens behind it
 abbrev pub GivesTerm : List ℕ → Result (Option (Term × Bor (List Token))) Mem → Read Tree → Type 0

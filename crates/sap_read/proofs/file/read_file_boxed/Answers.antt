@@ -2,7 +2,7 @@ use Rattle.std.proofs.Common.{sym, subst, Err, rules}
 use Rattle.std.proofs.lemmas.Result.{err_from_is_err_and}
 use Rattle.sap_read.specs.declared.fault.ReadFault.{ReadFault}
 use Rattle.sap_read.specs.Files.{IsRead, no_tokens}
-use Rattle.sap_read.proofs.file.read_file.Goals as goal
+use Rattle.sap_read.proofs.file.read_file_boxed.Goals as goal
 
 pub returns-in_err-tokens-clause-refused : goal.returns-in_err-tokens-clause-refused
 returns-in_err-tokens-clause-refused c = λ e h n.

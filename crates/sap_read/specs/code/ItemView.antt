@@ -1,4 +1,4 @@
--- What the answers of the code that reads items stand for. No public contract cites this file.
+-- What the answers of the code that reads items stand for.
 use Rattle.std.specs.Prelude.{◌≡◌, ℕ, Bool, true, false, List, [], ◌∷◌, ◌++◌, map, Option, Some, None, Result, Ok, Err, ⊤, Vec}
 use Rattle.std.specs.Borrow.{Bor}
 use Rattle.std.specs.declared.alloc.Global.{Global}
@@ -14,8 +14,8 @@ use Rattle.sap_read.specs.Words.{word_of, words_of}
 use Rattle.sap_read.specs.Item.{Item, Declaration, of_builtin, of_symbol, Body, body_of}
 use Rattle.sap_read.specs.Cut.{Placed, placed, first_line}
 use Rattle.sap_read.specs.ItemGrammar.{IsItem, IsSomeItem}
-use Rattle.sap_read.specs.Drafts.{body}
-use Rattle.sap_read.specs.Reading.{Read}
+use Rattle.sap_read.specs.code.Drafts.{body}
+use Rattle.sap_read.specs.code.Reading.{Read}
 
 -- a declaration of the program's own type
 abbrev pub declaration : code.Declaration → Declaration

@@ -1,4 +1,4 @@
--- What names of processes mean, and what the program keeps of it. No public contract cites this file.
+-- What names of processes mean, and what the program keeps of it.
 use Rattle.std.specs.Prelude.{◌≡◌, ℕ, ◌+◌, ◌-◌, ◌^◌, max, min, Bool, true, false, List, [], ◌∷◌, Option, Some, None, if◌then◌else◌, map, drop, slice_get, is_some, nat_lt}
 use Rattle.std.specs.Str.{bytes_eq}
 use Rattle.indexmap.specs.IndexMap.{IndexMap, get}
@@ -12,7 +12,8 @@ use Rattle.sap_read.specs.Written.{Written, nil, call, parallel, replicated, act
 use Rattle.sap_read.specs.Item.{Body}
 use Rattle.sap_read.specs.Replaced.{replaced, after_body, no_meaning}
 use Rattle.sap_read.specs.Causes.{unknown_from, is_among}
-use Rattle.sap_read.specs.Drafts.{written, body}
+use Rattle.sap_read.specs.code.Drafts.{written, body}
+use Rattle.sap_read.specs.declared.limits.TheConstants.{MOST_PROCESS_LEVELS, MOST_PROCESS_PLACES}
 
 -- what names mean behind these processes, where they mean this before them
 abbrev pub meaning : (List ℕ → Proc) → List Body → List ℕ → Proc
@@ -103,7 +104,7 @@ is_call (lookup t x p q) = false
 
 -- the process at this place is no name, and is what the name means
 abbrev pub IsTarget : (List ℕ → Proc) → List Definition → List ℕ → ℕ → Type 0
-IsTarget means es x k = (e : Definition) × (slice_get es k ≡ Some e) × (is_call (written e.draft) ≡ false) × (means x ≡ replaced means (written e.draft))
+IsTarget means es x k = (e : Definition) × (slice_get es k ≡ Some e) × (is_call (written e.draft.value) ≡ false) × (means x ≡ replaced means (written e.draft.value))
 
 -- what is kept of names counts what they mean
 abbrev pub AreCounted : {S : Type 0} → IndexMap (List ℕ) Meant S → (List ℕ → Proc) → Type 0
@@ -133,4 +134,4 @@ AreExpanded es names = (x : List ℕ) → IsExpanded es x (get bytes_eq names x)
 
 -- the cause that a process of so many places and levels gives
 abbrev pub size_fault : ℕ → ℕ → Option ReadFault
-size_fault nodes levels = if nat_lt 4000 nodes then Some TooMany else (if nat_lt 300 levels then Some TooDeep else None)
+size_fault nodes levels = if nat_lt MOST_PROCESS_PLACES nodes then Some TooMany else (if nat_lt MOST_PROCESS_LEVELS levels then Some TooDeep else None)

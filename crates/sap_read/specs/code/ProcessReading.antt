@@ -1,4 +1,4 @@
--- Reading processes from the left, within a number of levels, as the code does it. No public contract cites this file.
+-- Reading processes from the left, within a number of levels, as the code does it.
 use Rattle.std.specs.Prelude.{ℕ, zero, suc, ◌+◌, max, Bool, true, false, not, ◌&&◌, ◌||◌, nat_le, if◌then◌else◌, codes, List, [], ◌∷◌, drop, Option, Some, None}
 use Rattle.std.specs.Str.{bytes_eq}
 use Rattle.sap_terms.specs.declared.fact.Fact.{Fact}
@@ -8,7 +8,7 @@ use Rattle.sap_terms.specs.Tree.{Tree, level_count}
 use Rattle.sap_terms.specs.Signature.{Sig}
 use Rattle.sap_read.specs.Words.{Word, mark, name, number, quoted, starts}
 use Rattle.sap_read.specs.Places.{fact_levels}
-use Rattle.sap_read.specs.Reading.{Read, Reader, after, given, name_at, listed, term, fact_at}
+use Rattle.sap_read.specs.code.Reading.{Read, Reader, after, given, name_at, listed, term, fact_at}
 use Rattle.sap_read.specs.ProcessGrammar.{var}
 use Rattle.sap_process.specs.Action.{Action, new, out, send, input, receive, event, insert, delete, lock, unlock, embedded}
 use Rattle.sap_read.specs.Written.{Written, nil, call, parallel, replicated, act, test, lookup}
@@ -41,9 +41,13 @@ short_fact g m allowed ws = after (fact_at (term g m) ws) (λ f r.
 abbrev pub facts : Sig → ℕ → Bool → List ℕ → Reader (List Fact)
 facts g m allowed closing = listed closing (short_fact g m allowed)
 
+-- this mark behind what is read already
+abbrev pub up_to : {A : Type 0} → List ℕ → A → Reader A
+up_to m v ws = past m ws (λ r. Some (v, r))
+
 -- a comma, the second of two terms, and a closing parenthesis
 abbrev pub second_term : Sig → ℕ → (Tree → Tree → Action) → Tree → Reader Action
-second_term g m two t ws = past (codes ",") ws (λ r. after (short_term g m r) (λ u z. past (codes ")") z (λ y. Some (two t u, y))))
+second_term g m two t ws = past (codes ",") ws (λ r. after (short_term g m r) (λ u z. up_to (codes ")") (two t u) z))
 
 -- one term or two in parentheses
 abbrev pub channel : Sig → ℕ → (Tree → Action) → (Tree → Tree → Action) → Reader Action
@@ -73,9 +77,13 @@ embedded_rule g m ws = after (facts g m true (codes "]") ws) (λ l r.
 abbrev pub shown_event : Sig → ℕ → Reader Action
 shown_event g m ws = after (short_fact g m false ws) (λ f r. Some (event f, r))
 
+-- what is inserted at this key
+abbrev pub inserted_at : Sig → ℕ → Tree → Reader Action
+inserted_at g m t ws = past (codes ",") ws (λ r. after (short_term g m r) (λ u z. Some (insert t u, z)))
+
 -- behind `insert`
 abbrev pub inserted : Sig → ℕ → Reader Action
-inserted g m ws = after (short_term g m ws) (λ t r. past (codes ",") r (λ z. after (short_term g m z) (λ u y. Some (insert t u, y))))
+inserted g m ws = after (short_term g m ws) (λ t r. inserted_at g m t r)
 
 -- what is done with one term
 abbrev pub on_term : Sig → ℕ → (Tree → Action) → Reader Action
@@ -102,32 +110,44 @@ action_of g m ws =
 abbrev pub Levelled : Type 0
 Levelled = Written × ℕ
 
+-- how a process that chooses puts its two branches together
+abbrev pub Choosing : Type 0
+Choosing = Written → Written → Written
+
 -- the second branch, behind `else`
-abbrev pub second_branch : Reader Levelled → (Written → Written → Written) → Levelled → Reader Levelled
+abbrev pub second_branch : Reader Levelled → Choosing → Levelled → Reader Levelled
 second_branch seq made p ws = after (seq ws) (λ q r. Some ((made p.0 q.0, max p.1 q.1 + 1), r))
 
 -- a branch, and the second if one stands
-abbrev pub branches : Reader Levelled → (Written → Written → Written) → Reader Levelled
+abbrev pub branches : Reader Levelled → Choosing → Reader Levelled
 branches seq made ws = after (seq ws) (λ p r.
     if starts (codes "else") r then second_branch seq made p (drop 1 r) else Some ((made p.0 nil, max p.1 1 + 1), r))
 
--- behind `if` and the first term
-abbrev pub equality : Sig → ℕ → Reader Levelled → Tree → Reader Levelled
-equality g m seq t ws = past (codes "=") ws (λ r. after (short_term g m r) (λ u z. past (codes "then") z (branches seq (test t u))))
+-- behind the first of two terms that are compared
+abbrev pub equality : Sig → ℕ → Tree → Reader Choosing
+equality g m t ws = past (codes "=") ws (λ r. after (short_term g m r) (λ u z. up_to (codes "then") (test t u) z))
+
+-- behind `if`, up to the first branch
+abbrev pub compared : Sig → ℕ → Reader Choosing
+compared g m ws = after (short_term g m ws) (λ t r. equality g m t r)
 
 abbrev pub condition : Sig → ℕ → Reader Levelled → Reader Levelled
-condition g m seq ws = after (short_term g m ws) (λ t r. equality g m seq t r)
+condition g m seq ws = after (compared g m ws) (λ made r. branches seq made r)
 
 -- behind the name in a lookup
-abbrev pub found : Reader Levelled → Tree → List ℕ → Reader Levelled
-found seq t x ws = past (codes "in") ws (branches seq (lookup t (var Msg x)))
+abbrev pub found : Tree → List ℕ → Reader Choosing
+found t x ws = up_to (codes "in") (lookup t (var Msg x)) ws
 
--- behind `lookup` and its term
-abbrev pub entry : Reader Levelled → Tree → Reader Levelled
-entry seq t ws = past (codes "as") ws (λ r. given (name_at r) (λ x. found seq t x (drop 1 r)))
+-- behind the term in a lookup
+abbrev pub entry : Tree → Reader Choosing
+entry t ws = past (codes "as") ws (λ r. given (name_at r) (λ x. found t x (drop 1 r)))
+
+-- behind `lookup`, up to the first branch
+abbrev pub looked_up : Sig → ℕ → Reader Choosing
+looked_up g m ws = after (short_term g m ws) (λ t r. entry t r)
 
 abbrev pub looking : Sig → ℕ → Reader Levelled → Reader Levelled
-looking g m seq ws = after (short_term g m ws) (λ t r. entry seq t r)
+looking g m seq ws = after (looked_up g m ws) (λ made r. branches seq made r)
 
 -- behind an action; a missing continuation has one level too
 abbrev pub going_on : Reader Levelled → ℕ → Action → Reader Levelled

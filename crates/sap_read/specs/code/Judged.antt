@@ -1,16 +1,14 @@
--- What is said of a header, and of the items behind it. No public contract cites this file.
+-- What is said of a header, and of the items behind it.
 use Rattle.std.specs.Prelude.{◌≡◌, ◌⊎◌, ◌&&◌, ℕ, codes, drop, if◌then◌else◌, List, [], Option, Some, None}
 use Rattle.sap_read.specs.Words.{Word, starts}
-use Rattle.sap_read.specs.Reading.{name_at}
+use Rattle.sap_read.specs.code.Reading.{name_at}
 use Rattle.sap_terms.specs.Signature.{Sig}
 use Rattle.sap_process.specs.Proc.{Proc}
 use Rattle.sap_process.specs.Flaws.{IsFirstFlaw, IsWellFormed}
 use Rattle.sap_process.specs.Sorted.{with_sorts}
 use Rattle.sap_process.specs.declared.flaw.Flaw.{Flaw}
-use Rattle.sap_process.specs.declared.flaw.Ill as declared_ill
-use Rattle.sap_process.specs.declared.flaw.Ill.TheVariants as ill
 use Rattle.sap_read.specs.declared.fault.ReadFault.{ReadFault}
-use Rattle.sap_read.specs.declared.fault.ReadFault.TheVariants.{Mem, Syntax, Ill}
+use Rattle.sap_read.specs.declared.fault.ReadFault.TheVariants.{Syntax, Ill}
 use Rattle.sap_read.specs.Item.{Standing, bodies}
 use Rattle.sap_read.specs.Cut.{Placed}
 use Rattle.sap_read.specs.ItemGrammar.{AreItems, IsFaulty}
@@ -58,8 +56,3 @@ IsRefused g clash last cut e = IsNoItem last cut e ⊎ IsRefusedAs g clash cut e
 -- the name in the header that these words begin with
 abbrev pub header_of : List Word → Option (List ℕ)
 header_of ws = if starts (codes "theory") ws && starts (codes "begin") (drop 2 ws) then name_at (drop 1 ws) else None
-
--- the fault of a file whose process isn't well-formed
-abbrev pub fault_of : declared_ill.Ill → ReadFault
-fault_of ill.Mem = Mem
-fault_of (ill.At w path) = Ill w path

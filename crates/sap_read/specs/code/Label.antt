@@ -1,10 +1,10 @@
--- What the program keeps of the labels of processes. No public contract cites this file.
+-- What the program keeps of the labels of processes.
 use Rattle.std.specs.Prelude.{◌≡◌, ℕ, ◌+◌, Bool, true, false, List, ◌∷◌, Option, Some, None, if◌then◌else◌, map, drop, slice_get}
 use Rattle.std.specs.List.{list_any}
 use Rattle.std.specs.Str.{bytes_eq}
 use Rattle.sap_read.specs.declared.draft.Definition.{Definition}
 use Rattle.sap_read.specs.Causes.{unlabelled, labels, is_among, first_repeated}
-use Rattle.sap_read.specs.Drafts.{body}
+use Rattle.sap_read.specs.code.Drafts.{body}
 
 -- at this place is the first process without a label from that place on
 abbrev pub IsProcessAt : List Definition → ℕ → ℕ → Type 0
