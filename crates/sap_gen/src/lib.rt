@@ -7,7 +7,10 @@ mod place;
 mod theory;
 mod unbuilt;
 
-pub use faithful::rules_show_the_process;
+pub use faithful::{
+    rules_show_the_process, the_restriction_is_admission, theories_show_the_process,
+    well_formed_has_no_reserved_events,
+};
 pub use generation::generate;
 pub use theory::theory_of;
-pub use unbuilt::first_unbuilt;
+pub use unbuilt::{built_or_unbuilt, first_unbuilt};
