@@ -1,15 +1,16 @@
 //! The top call.
 
-ghost use Rattle.std.specs.Prelude.{◌≡◌, ◌≤◌, MatchOption};
+ghost use Rattle.std.specs.Prelude.{◌≡◌, ◌≤◌, ℕ, List, [], MatchOption};
 ghost use Rattle.sap_tool.specs.Outside.{AppendsSome};
-ghost use Rattle.sap_tool.specs.Call.{bytes_of, call, stream, IsCompile, IsUnknown, Outcome};
-ghost use Rattle.sap_tool.specs.Telling.{IsTold, IsWritten, IsDelivered};
+ghost use Rattle.sap_tool.specs.Call.{Stream, bytes_of, call, stream, Gained};
+ghost use Rattle.sap_tool.specs.Commands.{compile, spelled, IsUnknown};
+ghost use Rattle.sap_tool.specs.Answers.{gives, tells, IsAnswer, IsAnswerTo, IsPut, Ended};
 ghost use Rattle.sap_tool.specs.Promises.{Promises};
 
 use crate::compile::{MOST_BYTES, theory_text_of};
 use crate::refusal::Refusal;
 use crate::{Shelf, ShelfFault, Sink, SinkFault};
-use sap_gen::rules_show_the_process;
+use sap_gen::{built_or_unbuilt, theories_show_the_process, well_formed_has_no_reserved_events};
 use sap_read::one_file;
 use std::alloc::Global;
 
@@ -37,7 +38,9 @@ pub fn sapic<S: Shelf, O: Sink, E: Sink>(
         (stream (E.written err.old) (E.written err.new) (E.faults err.old) (E.faults err.new)))
         result }
 {
-    rules_show_the_process();
+    theories_show_the_process();
+    well_formed_has_no_reserved_events();
+    built_or_unbuilt();
     one_file();
     run(alloc, words, shelf, out, err)
 }
@@ -49,10 +52,12 @@ fn run<S: Shelf, O: Sink, E: Sink>(
     out: &mut O,
     err: &mut E,
 ) -> u8
-    ensures { Outcome
+    ensures { Ended (IsAnswer
         (call words.now.items (S.holds shelf.old) (S.faults shelf.old) (S.faults shelf.new)
         (stream (O.written out.old) (O.written out.new) (O.faults out.old) (O.faults out.new))
-        (stream (E.written err.old) (E.written err.new) (E.faults err.old) (E.faults err.new)))
+        (stream (E.written err.old) (E.written err.new) (E.faults err.old) (E.faults err.new))))
+        (stream (O.written out.old) (O.written out.new) (O.faults out.old) (O.faults out.new))
+        (stream (E.written err.old) (E.written err.new) (E.faults err.old) (E.faults err.new))
         result }
 {
     let Some(file) = file_to_compile(words) else {
@@ -67,7 +72,7 @@ fn run<S: Shelf, O: Sink, E: Sink>(
 
 // The file that the words ask to compile.
 fn file_to_compile(words: &Vec<String>) -> Option<&str>
-    ensures { MatchOption result (IsUnknown (bytes_of words.now.items)) (λ file. IsCompile (bytes_of words.now.items) file.now) }
+    ensures { MatchOption result (IsUnknown (bytes_of words.now.items)) (λ file. bytes_of words.now.items ≡ spelled (compile file.now)) }
 {
     match words.as_slice() {
         [command, file] => if command.as_str() == "compile" {
@@ -81,21 +86,21 @@ fn file_to_compile(words: &Vec<String>) -> Option<&str>
 
 // Puts the theory of the bytes on out, or on err why there is none.
 fn deliver<O: Sink, E: Sink>(alloc: Global, bytes: &[u8], out: &mut O, err: &mut E) -> u8
-    ensures { IsDelivered bytes.now
+    ensures { (file : List ℕ) → Ended (IsAnswerTo (compile file) bytes.now)
         (stream (O.written out.old) (O.written out.new) (O.faults out.old) (O.faults out.new))
         (stream (E.written err.old) (E.written err.new) (E.faults err.old) (E.faults err.new))
         result }
 {
     match theory_text_of(alloc, bytes) {
-        Ok(text) => write(out, err, text.as_bytes()),
+        Ok(text) => give(out, err, text.as_bytes()),
         Err(Refusal::Told(line)) => tell(err, 1, line.as_bytes()),
         Err(Refusal::Mem) => last_word(err, 6, b"out of memory\n"),
     }
 }
 
 // Puts a text on out.
-fn write<O: Sink, E: Sink>(out: &mut O, err: &mut E, text: &[u8]) -> u8
-    ensures { IsWritten text.now
+fn give<O: Sink, E: Sink>(out: &mut O, err: &mut E, text: &[u8]) -> u8
+    ensures { IsPut (gives text.now)
         (stream (O.written out.old) (O.written out.new) (O.faults out.old) (O.faults out.new))
         (stream (E.written err.old) (E.written err.new) (E.faults err.old) (E.faults err.new))
         result }
@@ -107,9 +112,9 @@ fn write<O: Sink, E: Sink>(out: &mut O, err: &mut E, text: &[u8]) -> u8
     }
 }
 
-// Puts the text of a status on err.
+// Puts the text of a status on err, and nothing on out.
 fn tell<E: Sink>(err: &mut E, status: u8, text: &[u8]) -> u8
-    ensures { IsTold status text.now
+    ensures { (out : Stream) → Gained out [] → IsPut (tells status text.now) out
         (stream (E.written err.old) (E.written err.new) (E.faults err.old) (E.faults err.new))
         result }
 {
