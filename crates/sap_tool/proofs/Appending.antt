@@ -1,9 +1,10 @@
 -- What was appended, in parts.
-use Rattle.std.proofs.Common.{◌≡◌, ◌≤◌, ℕ, List, [], ◌++◌, take, length, Option, Some, None, sym, ap, subst, ◌∙◌, append_assoc, arith}
+use Rattle.std.proofs.Common.{◌≡◌, ◌≢◌, ◌≤◌, ℕ, List, [], ◌++◌, take, length, Option, Some, None, sym, ap, subst, ◌∙◌, append_assoc, arith}
 use Rattle.std.proofs.lemmas.List.{append-nil}
 use Rattle.std.specs.Io.KnownBytes.{Appends}
 use Rattle.std.proofs.lemmas.Grind.{common_steps}
 use Rattle.sap_tool.specs.Outside.{Rose, AppendsSome}
+use Rattle.sap_tool.specs.Answers.{usage_text, read_fault_text, write_fault_text, memory_text}
 
 -- nothing was put
 pub appends_nothing : (o : Option (List ℕ)) → Appends o o []
@@ -26,3 +27,16 @@ appends_whole o n xs h = (length xs, subst (λ zs. Appends o n zs) (whole xs) h)
 -- a count that rose stays above
 pub rose_later : (before now later : ℕ) → Rose before now → now ≤ later → Rose before later
 rose_later before now later h k = omega arith
+
+-- no text of the program is empty
+pub write_fault_is : write_fault_text ≢ []
+write_fault_is e = cc
+
+pub memory_is : memory_text ≢ []
+memory_is e = cc
+
+pub usage_is : usage_text ≢ []
+usage_is e = cc
+
+pub read_fault_is : read_fault_text ≢ []
+read_fault_is e = cc

@@ -70,7 +70,7 @@ module _ (laws : Laws) (c : Call) where
     fetched_of : (l : Command) (z : List ℕ) → Asks c l → Fetched c l z → z ≡ take (limit_of k + 1) bytes
     fetched_of l z asks fetched =
         let same : l ≡ k = one_command c.words l k asks asked in
-        fetched_part c.holds (limit_of k) (file_of k) bytes z held (subst (λ (m : Command). Fetched c m z) same fetched)
+        fetched_part c.holds (limit_of k) (file_of k) bytes z held (subst (λ (m : Command). Fetched c m z) same fetched).0
 
     -- it is an answer to the file's first part
     answer_of : {a : Answer} (l : Command) (z : List ℕ) → Asks c l → Fetched c l z → IsAnswerTo l z a → IsAnswerTo k (take (limit_of k + 1) bytes) a
@@ -86,18 +86,18 @@ module _ (laws : Laws) (c : Call) where
     at : {b : Answer} → IsAnswer c b → s ≡ status_of b → Contains (0 ∷ 1 ∷ 3 ∷ 4 ∷ 5 ∷ 6 ∷ []) s
     at (to_file k bytes asks fetched (allowed t)) e = (0, lit< tt, sym e)
     at (to_file k bytes asks fetched (refused why r)) e = (1, lit< tt, sym e)
-    at (usage u) e = (2, lit< tt, sym e)
-    at (unread k asks f) e = (3, lit< tt, sym e)
-  statuses s (answered a is (broken i j e b p)) = (4, lit< tt, sym e)
-  statuses s (answered a is (wanting i j e p)) = (5, lit< tt, sym e)
-  statuses s (unanswered j e none word) = (5, lit< tt, sym e)
+    at (usage u n) e = (2, lit< tt, sym e)
+    at (unread k asks f n) e = (3, lit< tt, sym e)
+  statuses s (answered a is (broken i j e b p l)) = (4, lit< tt, sym e)
+  statuses s (answered a is (wanting i j e p l)) = (5, lit< tt, sym e)
+  statuses s (unanswered j e none word l) = (5, lit< tt, sym e)
 
   compiled : (s : ℕ) → Ended (IsAnswer c) c.out c.err s → s ≡ 0 → promised.Compiled c
   compiled s (answered (tells n text) is (whole e w)) z = absurd (at is (sym e ∙ z)) where
     at : {m : ℕ} {t : List ℕ} → IsAnswer c (tells m t) → m ≡ 0 → ⊥
     at (to_file k bytes asks fetched (refused why r)) e = omega (arith, e)
-    at (usage u) e = omega (arith, e)
-    at (unread k asks f) e = omega (arith, e)
+    at (usage u n) e = omega (arith, e)
+    at (unread k asks f n) e = omega (arith, e)
   compiled s (answered (gives text) (to_file k bytes asks fetched (allowed t)) (whole e w)) z = record {
     command = k;
     bytes = bytes;
@@ -109,49 +109,49 @@ module _ (laws : Laws) (c : Call) where
     out = w.0;
     err = w.1;
   }
-  compiled s (answered a is (broken i j e b p)) z = absurd (omega arith)
-  compiled s (answered a is (wanting i j e p)) z = absurd (omega arith)
-  compiled s (unanswered j e none word) z = absurd (omega arith)
+  compiled s (answered a is (broken i j e b p l)) z = absurd (omega arith)
+  compiled s (answered a is (wanting i j e p l)) z = absurd (omega arith)
+  compiled s (unanswered j e none word l) z = absurd (omega arith)
 
   told : (n s : ℕ) → 0 < n → n < 5 → Ended (IsAnswer c) c.out c.err s → s ≡ n → promised.Told c n
   told n s more less (answered (gives text) is (whole e w)) z = absurd (omega (arith, e, z))
   told n s more less (answered (tells m text) is (whole e w)) z =
       record { text = text; cause = subst (λ (i : ℕ). IsAnswer c (tells i text)) (sym e ∙ z) is; out = w.0; err = w.1 }
-  told n s more less (answered a is (broken i j e b p)) z = absurd (omega arith)
-  told n s more less (answered a is (wanting i j e p)) z = absurd (omega arith)
-  told n s more less (unanswered j e none word) z = absurd (omega arith)
+  told n s more less (answered a is (broken i j e b p l)) z = absurd (omega arith)
+  told n s more less (answered a is (wanting i j e p l)) z = absurd (omega arith)
+  told n s more less (unanswered j e none word l) z = absurd (omega arith)
 
   -- what is told or given whole has a status below 5
   below_five : {a : Answer} → IsAnswer c a → status_of a < 5
   below_five (to_file k bytes asks fetched (allowed t)) = lit< tt
   below_five (to_file k bytes asks fetched (refused why r)) = lit< tt
-  below_five (usage u) = lit< tt
-  below_five (unread k asks f) = lit< tt
+  below_five (usage u n) = lit< tt
+  below_five (unread k asks f n) = lit< tt
 
   unwritten : (s : ℕ) → Ended (IsAnswer c) c.out c.err s → s ≡ 5 → promised.Unwritten c
   unwritten s (answered a is (whole e w)) z = let l = below_five is in absurd (omega (arith, l, e, z))
-  unwritten s (answered a is (broken i j e b p)) z = record { answer = a; cause = is; broken = b; taken = i; last = j; part = p }
-  unwritten s (answered a is (wanting i j e p)) z = absurd (omega arith)
-  unwritten s (unanswered j e none word) z = absurd (omega arith)
+  unwritten s (answered a is (broken i j e b p l)) z = record { answer = a; cause = is; broken = b; taken = i; last = j; part = p; asked = l }
+  unwritten s (answered a is (wanting i j e p l)) z = absurd (omega arith)
+  unwritten s (unanswered j e none word l) z = absurd (omega arith)
 
   wanting_of : (s : ℕ) → Ended (IsAnswer c) c.out c.err s → s ≡ 6 → promised.Wanting c
   wanting_of s (answered a is (whole e w)) z = let l = below_five is in absurd (omega (arith, l, e, z))
-  wanting_of s (answered a is (broken i j e b p)) z = absurd (omega arith)
-  wanting_of s (answered a is (wanting i j e p)) z = promised.while_put a i j is p
-  wanting_of s (unanswered j e none word) z = promised.before_all j none word
+  wanting_of s (answered a is (broken i j e b p l)) z = absurd (omega arith)
+  wanting_of s (answered a is (wanting i j e p l)) z = promised.while_put a i j is p l
+  wanting_of s (unanswered j e none word l) z = promised.before_all j none word l
 
   -- where an answer for err was put, its status, 5 for a fault of err, or 6
   told_ends : (s n : ℕ) (text : List ℕ) → IsPut (tells n text) c.out c.err s
       → ((s ≡ n) × Gained c.err text) ⊎ ((s ≡ 5) × Failed c.err) ⊎ (s ≡ 6)
   told_ends s n text (whole e w) = inl (e, w.1)
-  told_ends s n text (broken i j e b p) = inr (inl (e, b))
-  told_ends s n text (wanting i j e p) = inr (inr e)
+  told_ends s n text (broken i j e b p l) = inr (inl (e, b))
+  told_ends s n text (wanting i j e p l) = inr (inr e)
 
   must_tell_usage : (s : ℕ) → Ended (IsAnswer c) c.out c.err s → IsUnknown c.words → (s ≡ 3) ⊎ ((s ≡ 5) × Failed c.err) ⊎ (s ≡ 6)
   must_tell_usage s (answered a (to_file k bytes asks fetched is) put) unknown = absurd (unknown k asks)
-  must_tell_usage s (answered _ (usage u) put) unknown = elim (told_ends s 3 _ put) [ inl h ↦ inl h.0 | inr h ↦ inr h ]
-  must_tell_usage s (answered _ (unread k asks f) put) unknown = absurd (unknown k asks)
-  must_tell_usage s (unanswered j e none word) unknown = inr (inr e)
+  must_tell_usage s (answered _ (usage u n) put) unknown = elim (told_ends s 3 _ put) [ inl h ↦ inl h.0 | inr h ↦ inr h ]
+  must_tell_usage s (answered _ (unread k asks f n) put) unknown = absurd (unknown k asks)
+  must_tell_usage s (unanswered j e none word l) unknown = inr (inr e)
 
   module _ (k : Command) (bytes : List ℕ) (asked : Asks c k) (held : Holds c.holds (file_of k) bytes) where
     must_refuse : (s : ℕ) → Ended (IsAnswer c) c.out c.err s → (why : List ℕ) → Refuses k bytes why
@@ -168,10 +168,10 @@ module _ (laws : Laws) (c : Call) where
               | inl h ↦ inl (h.0, subst (λ (y : List ℕ). Gained c.err (refused_line y)) same h.1)
               | inr h ↦ inr (inr h)
             ]
-    must_refuse s (answered _ (usage u) put) why r = absurd (u k asked)
-    must_refuse s (answered _ (unread l asks f) put) why r =
+    must_refuse s (answered _ (usage u n) put) why r = absurd (u k asked)
+    must_refuse s (answered _ (unread l asks f n) put) why r =
         elim (told_ends s 4 _ put) [ inl h ↦ inr (inl (h.0, failed_of k bytes asked held l asks f)) | inr h ↦ inr (inr h) ]
-    must_refuse s (unanswered j e none word) why r = inr (inr (inr e))
+    must_refuse s (unanswered j e none word l) why r = inr (inr (inr e))
 
     must_compile : (s : ℕ) → Ended (IsAnswer c) c.out c.err s → (text : List ℕ) → Allows k bytes text → (FailedOn c (file_of k) → ⊥) → (Failed c.out → ⊥)
         → (s ≡ 0) ⊎ (s ≡ 6)
@@ -180,15 +180,15 @@ module _ (laws : Laws) (c : Call) where
       where
         given : (other : List ℕ) → IsPut (gives other) c.out c.err s → (s ≡ 0) ⊎ (s ≡ 6)
         given other (whole e w) = inl e
-        given other (broken i j e b p) = absurd (open_out b)
-        given other (wanting i j e p) = inr e
+        given other (broken i j e b p l) = absurd (open_out b)
+        given other (wanting i j e p l) = inr e
 
         at : {b : Answer} → IsAnswerTo k (take (limit_of k + 1) bytes) b → IsPut b c.out c.err s → (s ≡ 0) ⊎ (s ≡ 6)
         at (allowed {text = other} u) put = given other put
         at (refused why o) put = absurd (never laws k _ text why (part_allows k bytes text t) o)
-    must_compile s (answered _ (usage u) put) text t sound open_out = absurd (u k asked)
-    must_compile s (answered _ (unread l asks f) put) text t sound open_out = absurd (sound (failed_of k bytes asked held l asks f))
-    must_compile s (unanswered j e none word) text t sound open_out = inr e
+    must_compile s (answered _ (usage u n) put) text t sound open_out = absurd (u k asked)
+    must_compile s (answered _ (unread l asks f n) put) text t sound open_out = absurd (sound (failed_of k bytes asked held l asks f))
+    must_compile s (unanswered j e none word l) text t sound open_out = inr e
 
 pub kept : Laws → (c : Call) (s : ℕ) → Ended (IsAnswer c) c.out c.err s → promised.Promises c s
 kept laws c s o = record {

@@ -5,36 +5,49 @@ use Rattle.std.specs.FinMap as files
 use Rattle.std.specs.Io.KnownBytes.{Appends}
 use Rattle.sap_tool.specs.Outside.{Files, Rose}
 
--- a sink before and after the call: what it tells, and how its faults count
+-- a sink before and after the call: what it tells, how its faults count, and how often it was asked, where it tells that
 pub record Stream : Type 0 where
   pub before : Option (List ℕ)
   pub after : Option (List ℕ)
   pub faults_before : ℕ
   pub faults_after : ℕ
+  pub asked_before : Option ℕ
+  pub asked_after : Option ℕ
 
--- a call: its words, the shelf with the counts of each name before and after, and the two sinks
+-- a call: its words, the shelf with the counts of each name and how often it was asked, where it tells that, before and after,
+-- and the two sinks
 pub record Call : Type 0 where
   pub words : List (List ℕ)
   pub holds : Option Files
   pub faults_before : List ℕ → ℕ
   pub faults_after : List ℕ → ℕ
+  pub asked_before : Option ℕ
+  pub asked_after : Option ℕ
   pub out : Stream
   pub err : Stream
 
-abbrev pub stream : Option (List ℕ) → Option (List ℕ) → ℕ → ℕ → Stream
-stream before after faults_before faults_after =
-    record { before = before; after = after; faults_before = faults_before; faults_after = faults_after }
+abbrev pub stream : Option (List ℕ) → Option (List ℕ) → ℕ → ℕ → Option ℕ → Option ℕ → Stream
+stream before after faults_before faults_after asked_before asked_after = record {
+  before = before;
+  after = after;
+  faults_before = faults_before;
+  faults_after = faults_after;
+  asked_before = asked_before;
+  asked_after = asked_after;
+}
 
 -- the bytes of each word
 abbrev pub bytes_of : List (String Global) → List (List ℕ)
 bytes_of words = map string_bytes words
 
-abbrev pub call : List (String Global) → Option Files → (List ℕ → ℕ) → (List ℕ → ℕ) → Stream → Stream → Call
-call words holds faults_before faults_after out err = record {
+abbrev pub call : List (String Global) → Option Files → (List ℕ → ℕ) → (List ℕ → ℕ) → Option ℕ → Option ℕ → Stream → Stream → Call
+call words holds faults_before faults_after asked_before asked_after out err = record {
   words = bytes_of words;
   holds = holds;
   faults_before = faults_before;
   faults_after = faults_after;
+  asked_before = asked_before;
+  asked_after = asked_after;
   out = out;
   err = err;
 }

@@ -1,8 +1,9 @@
 -- What the program promises of each call.
 use Rattle.std.specs.Prelude.{◌≡◌, ◌⊎◌, ℕ, List, [], ◌∷◌, take, Contains}
+use Rattle.sap_tool.specs.Outside.{one_more}
 use Rattle.sap_tool.specs.Call.{Call, Gained, Failed, FailedOn, Holds}
 use Rattle.sap_tool.specs.Commands.{Command, file_of, IsUnknown, Refuses, Allows, Means}
-use Rattle.sap_tool.specs.Answers.{Answer, gives, tells, IsAnswer, Asks, Fetched, Whole, Part, Broken, write_fault_text, memory_text}
+use Rattle.sap_tool.specs.Answers.{Answer, gives, tells, IsAnswer, Asks, Fetched, Part, Broken, AsksLast, write_fault_text, memory_text}
 use Rattle.sap_tool.specs.Refusals.{refused_line}
 
 -- out gained a text that the command allows for the file that was fetched, with what it means, and err nothing
@@ -24,7 +25,7 @@ pub record Told (c : Call) (status : ℕ) : Type 0 where
   pub out : Gained c.out []
   pub err : Gained c.err text
 
--- the sink that an answer belongs on failed while it took it
+-- the sink that an answer belongs on failed while it took it, and err was asked for the last word
 pub record Unwritten (c : Call) : Type 0 where
   pub answer : Answer
   pub cause : IsAnswer c answer
@@ -32,12 +33,13 @@ pub record Unwritten (c : Call) : Type 0 where
   pub taken : ℕ
   pub last : ℕ
   pub part : Part answer taken (take last write_fault_text) c.out c.err
+  pub asked : AsksLast answer c.err
 
--- memory was wanting: before there was an answer, or while one was put, so that out has nothing, or a first part of the theory,
+-- memory was wanting, and err was asked for the last word: before there was an answer, or while one was put, so that out has nothing, or a first part of the theory,
 -- which is there only where the file is one
 pub data Wanting (c : Call) : Type 0 where
-  before_all : (last : ℕ) → Gained c.out [] → Gained c.err (take last memory_text) → Wanting c
-  while_put : (a : Answer) (taken last : ℕ) → IsAnswer c a → Part a taken (take last memory_text) c.out c.err → Wanting c
+  before_all : (last : ℕ) → Gained c.out [] → Gained c.err (take last memory_text) → c.err.asked_after ≡ one_more c.err.asked_before → Wanting c
+  while_put : (a : Answer) (taken last : ℕ) → IsAnswer c a → Part a taken (take last memory_text) c.out c.err → AsksLast a c.err → Wanting c
 
 -- Each status comes only with its cause and with what it leaves on the two sinks, and the last three fields say when it must come.
 pub record Promises (c : Call) (status : ℕ) : Type 0 where

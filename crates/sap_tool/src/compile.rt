@@ -47,7 +47,8 @@ fn text_of_short(alloc: Global, bytes: &[u8]) -> Result<Text, Refusal>
 /// The file that the bytes are read as.
 fn read(alloc: Global, bytes: &[u8]) -> Result<Box<File>, Refusal>
     requires { length bytes.now ≤ most_bytes }
-    ensures found { IfOk result (λ f. IsRead bytes.now (Ok (told_by f.value)) × (f.value.restrictions ≡ []) × (f.value.lemmas ≡ [])) }
+    ensures found { IfOk result (λ f. IsRead bytes.now (Ok (told_by f.value))
+        × (f.value.restrictions ≡ []) × (f.value.lemmas ≡ [])) }
     ensures refused { (line : List ℕ) → IsErrOf result (refusals.Told line) → IsRefusal bytes.now line }
 {
     match read_boxed(alloc, bytes) {
@@ -58,7 +59,8 @@ fn read(alloc: Global, bytes: &[u8]) -> Result<Box<File>, Refusal>
 
 /// What `read_file` answers, in a box.
 fn read_boxed(alloc: Global, bytes: &[u8]) -> Result<Box<File>, ReadFault>
-    ensures accepted { IfOk result (λ f. IsRead bytes.now (Ok (told_by f.value)) × (f.value.restrictions ≡ []) × (f.value.lemmas ≡ [])) }
+    ensures accepted { IfOk result (λ f. IsRead bytes.now (Ok (told_by f.value))
+        × (f.value.restrictions ≡ []) × (f.value.lemmas ≡ [])) }
     ensures refused { (e : ReadFault) → IsErrOf result e → (e ≡ faults.Mem → ⊥) → IsRead bytes.now (Err e) }
 {
     Ok(boxed(alloc, read_file(alloc, bytes)?)?)

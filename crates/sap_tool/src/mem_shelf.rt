@@ -1,6 +1,6 @@
 ghost use Rattle.std.specs.Prelude.{◌≡◌, ◌≤◌, ◌+◌, ◌-◌, ◌^◌, ◌↔◌, ◌⊎◌, length, take, min, Contains, IsNone, IfOk, IsErrOf, MatchOption, OnOk, Some};
 ghost use Rattle.std.specs.FinMap as map;
-ghost use Rattle.sap_tool.specs.Outside.{Rose, IsFetched, files_of};
+ghost use Rattle.sap_tool.specs.Outside.{Rose, IsFetched, files_of, one_more};
 
 use crate::{Shelf, ShelfFault};
 use std::alloc::{AllocError, Global};
@@ -58,12 +58,15 @@ impl Shelf for MemShelf {
 
     ghost faults = { λ s _. s.count };
 
+    ghost asked = { λ s. Some s.calls };
+
     // It fails exactly where the call is one of `fail_on`, or the name isn't held.
     fn fetch(&mut self, alloc: Global, name: &str, limit: u64) -> Result<Vec<u8>, ShelfFault>
         requires { limit ≤ 16777216 }
         ensures most { IfOk result (λ v. length v.items ≤ limit + 1) }
         ensures told { IfOk result (λ v. IsFetched (Some (files_of self.old.files)) name.now limit v.items) }
         ensures same { self.new.files ≡ self.old.files }
+        ensures asked { Some self.new.calls ≡ one_more (Some self.old.calls) }
         ensures later { self.old.count ≤ self.new.count }
         ensures cause { IsErrOf result ShelfFault.Failed → Rose self.old.count self.new.count }
         ensures calls { self.new.calls ≡ min (self.old.calls + 1) (2 ^ 64 - 1) }

@@ -1,7 +1,7 @@
 //! The top call.
 
-ghost use Rattle.std.specs.Prelude.{◌≡◌, ◌≤◌, ℕ, List, [], MatchOption};
-ghost use Rattle.sap_tool.specs.Outside.{AppendsSome};
+ghost use Rattle.std.specs.Prelude.{◌≡◌, ◌≢◌, ◌≤◌, ℕ, List, [], MatchOption};
+ghost use Rattle.sap_tool.specs.Outside.{AppendsSome, one_more};
 ghost use Rattle.sap_tool.specs.Call.{Stream, bytes_of, call, stream, Gained};
 ghost use Rattle.sap_tool.specs.Commands.{compile, spelled, IsUnknown};
 ghost use Rattle.sap_tool.specs.Answers.{gives, tells, IsAnswer, IsAnswerTo, IsPut, Ended};
@@ -34,8 +34,11 @@ pub fn sapic<S: Shelf, O: Sink, E: Sink>(
 ) -> u8
     ensures { Promises
         (call words.now.items (S.holds shelf.old) (S.faults shelf.old) (S.faults shelf.new)
-        (stream (O.written out.old) (O.written out.new) (O.faults out.old) (O.faults out.new))
-        (stream (E.written err.old) (E.written err.new) (E.faults err.old) (E.faults err.new)))
+        (S.asked shelf.old) (S.asked shelf.new)
+        (stream (O.written out.old) (O.written out.new) (O.faults out.old) (O.faults out.new)
+        (O.asked out.old) (O.asked out.new))
+        (stream (E.written err.old) (E.written err.new) (E.faults err.old) (E.faults err.new)
+        (E.asked err.old) (E.asked err.new)))
         result }
 {
     theories_show_the_process();
@@ -54,10 +57,15 @@ fn run<S: Shelf, O: Sink, E: Sink>(
 ) -> u8
     ensures { Ended (IsAnswer
         (call words.now.items (S.holds shelf.old) (S.faults shelf.old) (S.faults shelf.new)
-        (stream (O.written out.old) (O.written out.new) (O.faults out.old) (O.faults out.new))
-        (stream (E.written err.old) (E.written err.new) (E.faults err.old) (E.faults err.new))))
-        (stream (O.written out.old) (O.written out.new) (O.faults out.old) (O.faults out.new))
-        (stream (E.written err.old) (E.written err.new) (E.faults err.old) (E.faults err.new))
+        (S.asked shelf.old) (S.asked shelf.new)
+        (stream (O.written out.old) (O.written out.new) (O.faults out.old) (O.faults out.new)
+        (O.asked out.old) (O.asked out.new))
+        (stream (E.written err.old) (E.written err.new) (E.faults err.old) (E.faults err.new)
+        (E.asked err.old) (E.asked err.new))))
+        (stream (O.written out.old) (O.written out.new) (O.faults out.old) (O.faults out.new)
+        (O.asked out.old) (O.asked out.new))
+        (stream (E.written err.old) (E.written err.new) (E.faults err.old) (E.faults err.new)
+        (E.asked err.old) (E.asked err.new))
         result }
 {
     let Some(file) = file_to_compile(words) else {
@@ -72,7 +80,8 @@ fn run<S: Shelf, O: Sink, E: Sink>(
 
 // The file that the words ask to compile.
 fn file_to_compile(words: &Vec<String>) -> Option<&str>
-    ensures { MatchOption result (IsUnknown (bytes_of words.now.items)) (λ file. bytes_of words.now.items ≡ spelled (compile file.now)) }
+    ensures { MatchOption result (IsUnknown (bytes_of words.now.items))
+        (λ file. bytes_of words.now.items ≡ spelled (compile file.now)) }
 {
     match words.as_slice() {
         [command, file] => if command.as_str() == "compile" {
@@ -87,8 +96,10 @@ fn file_to_compile(words: &Vec<String>) -> Option<&str>
 // Puts the theory of the bytes on out, or on err why there is none.
 fn deliver<O: Sink, E: Sink>(alloc: Global, bytes: &[u8], out: &mut O, err: &mut E) -> u8
     ensures { (file : List ℕ) → Ended (IsAnswerTo (compile file) bytes.now)
-        (stream (O.written out.old) (O.written out.new) (O.faults out.old) (O.faults out.new))
-        (stream (E.written err.old) (E.written err.new) (E.faults err.old) (E.faults err.new))
+        (stream (O.written out.old) (O.written out.new) (O.faults out.old) (O.faults out.new)
+        (O.asked out.old) (O.asked out.new))
+        (stream (E.written err.old) (E.written err.new) (E.faults err.old) (E.faults err.new)
+        (E.asked err.old) (E.asked err.new))
         result }
 {
     match theory_text_of(alloc, bytes) {
@@ -101,8 +112,10 @@ fn deliver<O: Sink, E: Sink>(alloc: Global, bytes: &[u8], out: &mut O, err: &mut
 // Puts a text on out.
 fn give<O: Sink, E: Sink>(out: &mut O, err: &mut E, text: &[u8]) -> u8
     ensures { IsPut (gives text.now)
-        (stream (O.written out.old) (O.written out.new) (O.faults out.old) (O.faults out.new))
-        (stream (E.written err.old) (E.written err.new) (E.faults err.old) (E.faults err.new))
+        (stream (O.written out.old) (O.written out.new) (O.faults out.old) (O.faults out.new)
+        (O.asked out.old) (O.asked out.new))
+        (stream (E.written err.old) (E.written err.new) (E.faults err.old) (E.faults err.new)
+        (E.asked err.old) (E.asked err.new))
         result }
 {
     match out.put(text) {
@@ -114,8 +127,9 @@ fn give<O: Sink, E: Sink>(out: &mut O, err: &mut E, text: &[u8]) -> u8
 
 // Puts the text of a status on err, and nothing on out.
 fn tell<E: Sink>(err: &mut E, status: u8, text: &[u8]) -> u8
-    ensures { (out : Stream) → Gained out [] → IsPut (tells status text.now) out
-        (stream (E.written err.old) (E.written err.new) (E.faults err.old) (E.faults err.new))
+    ensures { (out : Stream) → Gained out [] → text.now ≢ [] → IsPut (tells status text.now) out
+        (stream (E.written err.old) (E.written err.new) (E.faults err.old) (E.faults err.new)
+        (E.asked err.old) (E.asked err.new))
         result }
 {
     match err.put(text) {
@@ -130,6 +144,7 @@ fn last_word<E: Sink>(err: &mut E, status: u8, text: &[u8]) -> u8
     ensures status { result ≡ status }
     ensures some { AppendsSome (E.written err.old) (E.written err.new) text.now }
     ensures later { E.faults err.old ≤ E.faults err.new }
+    ensures asked { text.now ≢ [] → E.asked err.new ≡ one_more (E.asked err.old) }
 {
     match err.put(text) {
         Ok(()) => status,

@@ -1,7 +1,7 @@
 use Rattle.std.proofs.Common.{ap, Err}
 use Rattle.sap_tool.specs.Answers.{gives, tells, allowed, answered, unanswered}
-use Rattle.sap_tool.proofs.Appending.{appends_nothing}
-use Rattle.sap_tool.proofs.Endings.{refusal_answers}
+use Rattle.sap_tool.proofs.Appending.{appends_nothing, memory_is}
+use Rattle.sap_tool.proofs.Endings.{refusal_answers, line_is}
 use Rattle.sap_tool.proofs.top.deliver.Goals as goal
 
 pub returns-in-Ok : goal.returns-in-Ok
@@ -11,9 +11,9 @@ pub returns-in-Err-Told : goal.returns-in-Err-Told
 returns-in-Err-Told g c = λ file.
     let line = c.in-Err-Told.line in
     answered (tells 1 line) (refusal_answers file _ line (c.in-Err-Told.ensures.refused line (ap Err c.in-Err-Told.field-0-is)))
-    (rw c.as_bytes-in-Err-Told.ensures at c.tell.ensures _ (appends_nothing _))
+    (rw c.as_bytes-in-Err-Told.ensures at c.tell.ensures _ (appends_nothing _) (line_is _ line (c.in-Err-Told.ensures.refused line (ap Err c.in-Err-Told.field-0-is))))
 
 pub returns-in-Err-Mem : goal.returns-in-Err-Mem
 returns-in-Err-Mem g c = λ file.
     let word = c.last_word.ensures.some in
-    unanswered word.0 c.last_word.ensures.status (appends_nothing _) word.1
+    unanswered word.0 c.last_word.ensures.status (appends_nothing _) word.1 (c.last_word.ensures.asked memory_is)
