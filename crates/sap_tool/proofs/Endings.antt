@@ -2,7 +2,7 @@
 use Rattle.std.proofs.Common.{◌≡◌, ◌≢◌, ℕ, List, [], sym, subst, ◌∙◌}
 use Rattle.sap_tool.specs.Call.{Call, Stream}
 use Rattle.sap_tool.specs.Commands.{Command, compile}
-use Rattle.sap_tool.specs.Answers.{Answer, gives, tells, IsAnswerTo, refused, Asks, Fetched, IsAnswer, to_file, Ended, answered, unanswered}
+use Rattle.sap_tool.specs.Answers.{tells, IsAnswerTo, refused, Asks, Fetched, IsAnswer, to_file, Ended, answered, unanswered}
 use Rattle.sap_tool.specs.Refusals.{IsRefusal, refused_line}
 
 -- a line that refuses a file is an answer to it

@@ -1,5 +1,5 @@
 -- However a call ends, the promises are kept.
-use Rattle.std.proofs.Common.{◌≡◌, ◌+◌, ◌<◌, ℕ, List, [], ◌∷◌, take, Option, Some, None, refl, sym, ap, subst, ◌∙◌, inl, inr, ◌⊎◌, arith, lit<}
+use Rattle.std.proofs.Common.{◌≡◌, ◌+◌, ◌<◌, ℕ, List, [], ◌∷◌, take, Option, Some, None, sym, ap, subst, ◌∙◌, inl, inr, ◌⊎◌, arith, lit<}
 use Rattle.std.specs.Prelude.{Contains}
 use Rattle.std.specs.FinMap as files
 use Rattle.sap_terms.specs.Signature.{Sig}
@@ -7,8 +7,7 @@ use Rattle.sap_gen.specs.Built.{Built}
 use Rattle.sap_gen.specs.Theories.{theory_of}
 use Rattle.sap_gen.specs.Faithful.{NoReservedEvents, IsFaithful}
 use Rattle.sap_tool.specs.Outside.{Files, IsFetched, IsFirstPart}
-use Rattle.sap_tool.specs.BuiltFile.{most_bytes, IsTheoryOf}
-use Rattle.sap_tool.specs.Refusals.{IsRefusedWith, refused_line}
+use Rattle.sap_tool.specs.Refusals.{refused_line}
 use Rattle.sap_tool.specs.Call.{Call, Gained, Failed, FailedOn, Holds}
 use Rattle.sap_tool.specs.Commands.{Command, compile, spelled, file_of, limit_of, IsUnknown, Refuses, Allows, Means}
 use Rattle.sap_tool.specs.Answers.{Answer, gives, tells, status_of, IsAnswerTo, allowed, refused, Asks, Fetched, IsAnswer, to_file, usage, unread, IsPut, whole, broken, wanting, Ended, answered, unanswered}

@@ -3,7 +3,7 @@ use Rattle.std.specs.Prelude.{◌≡◌, ◌⊎◌, ℕ, List, [], ◌∷◌, ta
 use Rattle.sap_tool.specs.Outside.{one_more}
 use Rattle.sap_tool.specs.Call.{Call, Gained, Failed, FailedOn, Holds}
 use Rattle.sap_tool.specs.Commands.{Command, file_of, IsUnknown, Refuses, Allows, Means}
-use Rattle.sap_tool.specs.Answers.{Answer, gives, tells, IsAnswer, Asks, Fetched, Part, Broken, AsksLast, write_fault_text, memory_text}
+use Rattle.sap_tool.specs.Answers.{Answer, tells, IsAnswer, Asks, Fetched, Part, Broken, AsksLast, write_fault_text, memory_text}
 use Rattle.sap_tool.specs.Refusals.{refused_line}
 
 -- out gained a text that the command allows for the file that was fetched, with what it means, and err nothing
