@@ -1,8 +1,8 @@
 //! The first place of a process that has no rules of its own.
-ghost use Rattle.std.specs.Prelude.{◌≡◌, ◌↔◌, ◌⊎◌, ℕ, List, Some, IfOk, IsNone};
+ghost use Rattle.std.specs.Prelude.{◌≡◌, ◌↔◌, IfOk, IsNone};
 ghost use Rattle.std.specs.List.{list_all};
 ghost use Rattle.sap_terms.specs.View.{tree};
-ghost use Rattle.sap_process.specs.Proc.{Proc, proc};
+ghost use Rattle.sap_process.specs.Proc.{proc};
 ghost use Rattle.sap_gen.specs.Built as built;
 ghost use Rattle.sap_gen.specs.Built.{IsBuilt};
 ghost use Rattle.sap_gen.specs.Sites as sites;
@@ -22,12 +22,6 @@ pub fn first_unbuilt(alloc: Global, p: &Process) -> Result<Option<Path>, Mem>
     let root = Path::new(alloc);
     unbuilt_from(alloc, &root, p)
 }
-
-/// A law: a process is built or has a first place that isn't, and never both. It does nothing when it runs.
-pub fn built_or_unbuilt()
-    ensures one { (p : Proc) → IsBuilt p ⊎ ((path : List ℕ) × (first_unbuilt p ≡ Some path)) }
-    ensures never_both { (p : Proc) (path : List ℕ) → IsBuilt p → first_unbuilt p ≡ Some path → ⊥ }
-{}
 
 /// The first of the places from this path on.
 fn unbuilt_from(alloc: Global, path: &Path, p: &Process) -> Result<Option<Path>, Mem>

@@ -1,5 +1,5 @@
-//! Laws of what the rules of a process show.
-ghost use Rattle.std.specs.Prelude.{◌≡◌, ◌↔◌, ℕ, List, [], Some};
+//! Laws of the rules of a process, and of the processes that have them.
+ghost use Rattle.std.specs.Prelude.{◌≡◌, ◌↔◌, ◌⊎◌, ℕ, List, [], Some};
 ghost use Rattle.sap_terms.specs.Signature.{Sig};
 ghost use Rattle.sap_terms.specs.Trace.{Trace};
 ghost use Rattle.sap_process.specs.Proc.{Proc};
@@ -7,11 +7,12 @@ ghost use Rattle.sap_process.specs.Flaws.{IsWellFormed};
 ghost use Rattle.sap_process.specs.Sorted.{with_sorts};
 ghost use Rattle.sap_formula.specs.Form.{LemmaForm};
 ghost use Rattle.sap_formula.specs.Truth.{IsTrueOn};
-ghost use Rattle.sap_gen.specs.Built.{Built, built};
+ghost use Rattle.sap_gen.specs.Built.{Built, IsBuilt, built};
 ghost use Rattle.sap_gen.specs.Faithful.{IsFaithful, NoReservedEvents, ShowsAll, ShowsOnly};
 ghost use Rattle.sap_gen.specs.Templates.{rules_of};
 ghost use Rattle.sap_gen.specs.Theories.{one_start, theory_of};
 ghost use Rattle.sap_gen.specs.Traces.{IsAdmitted};
+ghost use Rattle.sap_gen.specs.Unbuilt.{first_unbuilt};
 
 /// The law of the rules: the visible traces of the admitted runs of a process's rules are exactly the traces of the
 /// process, over all finite runs of either side, where no event has a reserved name. It does nothing when it runs.
@@ -38,4 +39,10 @@ pub fn theories_show_the_process()
 /// nothing when it runs.
 pub fn well_formed_has_no_reserved_events()
     ensures { (g : Sig) (p : Proc) (b : Built) → IsWellFormed g p → built (with_sorts [] p) ≡ Some b → NoReservedEvents b }
+{}
+
+/// A law: a process is built or has a first place that isn't, and never both. It does nothing when it runs.
+pub fn built_or_unbuilt()
+    ensures one { (p : Proc) → IsBuilt p ⊎ ((path : List ℕ) × (first_unbuilt p ≡ Some path)) }
+    ensures never_both { (p : Proc) (path : List ℕ) → IsBuilt p → first_unbuilt p ≡ Some path → ⊥ }
 {}

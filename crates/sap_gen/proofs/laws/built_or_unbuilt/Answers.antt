@@ -1,5 +1,5 @@
 use Rattle.sap_gen.proofs.BuiltOrUnbuilt.{built_or_unbuilt, never_both}
-use Rattle.sap_gen.proofs.unbuilt.built_or_unbuilt.Goals as goal
+use Rattle.sap_gen.proofs.laws.built_or_unbuilt.Goals as goal
 
 pub returns-clause-one : goal.returns-clause-one
 returns-clause-one c = built_or_unbuilt
