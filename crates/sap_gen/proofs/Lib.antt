@@ -1,9 +1,12 @@
 pub mod PlacesOfProcesses
 pub mod Sites
+pub mod BuiltOrUnbuilt
+pub mod WellFormed
 pub mod Joins
 pub mod Totals
 pub mod Lookups
 pub mod FactTests
+pub mod FactsAt
 pub mod StateFacts
 pub mod PlaceRules
 pub mod Free
@@ -14,3 +17,4 @@ pub mod Forward
 pub mod Back
 pub mod Example
 pub mod AnyMoment
+pub mod Admission

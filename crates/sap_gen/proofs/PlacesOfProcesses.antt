@@ -43,7 +43,10 @@ first_of_shortened (x ∷ xs) =
       | false ↦ first_of_shortened xs
     ]
 
+pub same_first : (p : Proc) → short.first_unbuilt (sites [] p) ≡ first_unbuilt p
+same_first p = ap short.first_unbuilt (sym (same_places p [] [] 0)) ∙ sym (first_of_shortened (full.sites p))
+
 -- what is found among the places without their scopes is the first that isn't built
 pub is_first : (p : Proc) (r : Result (Option (List ℕ)) Mem) → IfOk r (λ o. o ≡ short.first_unbuilt (sites [] p)) → IfOk r (λ o. o ≡ first_unbuilt p)
-is_first p (Ok o) e = e ∙ (ap short.first_unbuilt (sym (same_places p [] [] 0)) ∙ sym (first_of_shortened (full.sites p)))
+is_first p (Ok o) e = e ∙ same_first p
 is_first p (Err m) e = tt

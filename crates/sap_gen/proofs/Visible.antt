@@ -3,15 +3,18 @@ use Rattle.std.proofs.Common.{◌≡◌, ℕ, zero, suc, ◌+◌, ◌<◌, ◌�
 use Rattle.std.specs.Prelude.{codes}
 use Rattle.std.specs.Str.{bytes_eq}
 use Rattle.sap_terms.specs.Reserved.{is_reserved}
+use Rattle.sap_terms.specs.Same.{same_trees}
+use Rattle.sap_terms.specs.Tree.{Tree, trees_of}
 use Rattle.sap_terms.specs.declared.fact.Fact.{Fact}
-use Rattle.sap_gen.specs.Members.{Member}
+use Rattle.sap_formula.specs.Truth.{AnyIn, facts_at}
 use Rattle.sap_gen.specs.ReservedFacts.{init_fact, event_fact}
 use Rattle.sap_terms.specs.Trace.{Trace, shown}
 use Rattle.sap_formula.specs.Hide.{hide, visible, is_hidden}
 use Rattle.sap_gen.specs.Traces.{IsAdmitted}
-use Rattle.sap_gen.specs.Relation.{has_init, same_fact, total}
+use Rattle.sap_gen.specs.Relation.{has_init, is_start, total}
 use Rattle.sap_gen.proofs.Totals.{total_found}
-use Rattle.sap_gen.proofs.FactTests.{same_fact_true}
+use Rattle.sap_gen.proofs.FactTests.{both, both_hold, same_name_true}
+use Rattle.sap_gen.proofs.FactsAt.{facts_are, facts_get, facts_last, facts_left, facts_within}
 
 pub hide_push : (full : Trace) (place : List Fact) → hide (full ++ place ∷ []) ≡ hide full ++ shown (visible place)
 hide_push [] place = append-nil (shown (visible place))
@@ -21,11 +24,26 @@ hide_push (x ∷ full) place =
 not_hidden : (name : List ℕ) → is_reserved name ≡ false → is_hidden name ≡ false
 not_hidden name e = ap (λ b. b && not (bytes_eq name (codes "K"))) e
 
-not_init : (f : Fact) → is_reserved f.name ≡ false → same_fact f init_fact ≡ false
-not_init f e = go (same_fact f init_fact) refl
+-- the fact is Init(), persistent or not
+abbrev Starts : Fact → Type 0
+Starts f = (codes "Init" ≡ f.name) × ([] ≡ f.args)
+
+no_trees : (ts : List Tree) → same_trees (trees_of ts) (trees_of []) ≡ true → [] ≡ ts
+no_trees [] e = refl
+no_trees (t ∷ ts) e = cc
+
+is_start_true : (f : Fact) → is_start f ≡ true → Starts f
+is_start_true f e = let h = both _ _ e in (sym (same_name_true f.name (codes "Init") h.0), no_trees f.args h.1)
+
+starts_is : (f : Fact) → Starts f → is_start f ≡ true
+starts_is f h =
+    both_hold _ _ (subst (λ n. bytes_eq n (codes "Init") ≡ true) h.0 refl) (subst (λ ts. same_trees (trees_of ts) (trees_of []) ≡ true) h.1 refl)
+
+not_init : (f : Fact) → is_reserved f.name ≡ false → is_start f ≡ false
+not_init f e = go (is_start f) refl
   where
-    go : (b : Bool) → same_fact f init_fact ≡ b → b ≡ false
-    go true h = sym (ap (λ (g : Fact). is_reserved g.name) (same_fact_true f init_fact h)) ∙ e
+    go : (b : Bool) → is_start f ≡ b → b ≡ false
+    go true h = let s = is_start_true f h in ap (λ n. is_reserved n) s.0 ∙ e
     go false h = refl
 
 -- the acts of an event
@@ -35,37 +53,21 @@ event_visible f e = ap (λ b. cond (not b) (f ∷ []) []) (not_hidden f.name e)
 pub event_no_init : (f : Fact) → is_reserved f.name ≡ false → has_init (event_fact ∷ f ∷ []) ≡ 0
 event_no_init f e = ap (λ b. cond b 1 0) (not_init f e)
 
--- look-ups in longer lists
-get-append_left : {A : Type 0} (xs ys : List A) (i : ℕ) (x : A) → slice_get xs i ≡ Some x → slice_get (xs ++ ys) i ≡ Some x
-get-append_left [] ys i x e = cc
-get-append_left (y ∷ xs) ys zero x e = e
-get-append_left (y ∷ xs) ys (suc i) x e = get-append_left xs ys i x e
-
-get_last : {A : Type 0} (xs : List A) (x : A) → slice_get (xs ++ x ∷ []) (length xs) ≡ Some x
-get_last [] x = refl
-get_last (y ∷ xs) x = get_last xs x
-
-get_within : {A : Type 0} (xs : List A) (i : ℕ) (x : A) → slice_get xs i ≡ Some x → i < length xs
-get_within [] i x e = cc
-get_within (y ∷ xs) zero x e = omega arith
-get_within (y ∷ xs) (suc i) x e = let h = get_within xs i x e in omega arith
-
 pub admitted_before : (full : Trace) (place : List Fact) → IsAdmitted (full ++ place ∷ []) → IsAdmitted full
-admitted_before full place h i j a b =
-    h i j (a.0, get-append_left full (place ∷ []) i a.0 a.1, a.2) (b.0, get-append_left full (place ∷ []) j b.0 b.1, b.2)
+admitted_before full place h i j a b = h i j (facts_left Starts full (place ∷ []) i a) (facts_left Starts full (place ∷ []) j b)
 
-has_init_member : (place : List Fact) → 0 < has_init place → Member init_fact place
-has_init_member [] h = absurd (omega arith)
-has_init_member (f ∷ fs) h = go (same_fact f init_fact) refl (has_init_member fs)
+counted_starts : (place : List Fact) → 0 < has_init place → AnyIn Starts place
+counted_starts [] h = absurd (omega arith)
+counted_starts (f ∷ fs) h = go (is_start f) refl (counted_starts fs)
   where
-    go : (b : Bool) → same_fact f init_fact ≡ b → (0 < has_init fs → Member init_fact fs) → Member init_fact (f ∷ fs)
-    go true e more = subst (λ g. Member g (f ∷ fs)) (same_fact_true f init_fact e) Member.here
-    go false e more = Member.later (more (subst (λ b. 0 < cond b 1 (has_init fs)) e h))
+    go : (b : Bool) → is_start f ≡ b → (0 < has_init fs → AnyIn Starts fs) → AnyIn Starts (f ∷ fs)
+    go true e more = inl (is_start_true f e)
+    go false e more = inr (more (subst (λ b. 0 < cond b 1 (has_init fs)) e h))
 
-member_has_init : (place : List Fact) → Member init_fact place → has_init place ≡ 1
-member_has_init [] m = elim m [ ]
-member_has_init (f ∷ fs) Member.here = refl
-member_has_init (f ∷ fs) (Member.later m) = go (same_fact f init_fact) (member_has_init fs m)
+starts_counted : (place : List Fact) → AnyIn Starts place → has_init place ≡ 1
+starts_counted [] h = absurd h
+starts_counted (f ∷ fs) (inl h) = ap (λ b. cond b 1 (has_init fs)) (starts_is f h)
+starts_counted (f ∷ fs) (inr h) = go (is_start f) (starts_counted fs h)
   where
     go : (b : Bool) → has_init fs ≡ 1 → cond b 1 (has_init fs) ≡ 1
     go true e = refl
@@ -87,9 +89,12 @@ two_places w (z ∷ xs) (suc i) (suc j) x y e f = elim (two_places w xs i j x y 
 
 pub admitted_by_count : (full : Trace) → total has_init full ≤ 1 → IsAdmitted full
 admitted_by_count full h i j a b =
-    let p : has_init a.0 ≡ 1 = member_has_init a.0 a.2 in
-    let q : has_init b.0 ≡ 1 = member_has_init b.0 b.2 in
-    elim (two_places has_init full i j a.0 b.0 a.1 b.1) [ inl e ↦ e | inr g ↦ absurd (omega arith) ]
+    let p : has_init (facts_at full i) ≡ 1 = starts_counted (facts_at full i) a in
+    let q : has_init (facts_at full j) ≡ 1 = starts_counted (facts_at full j) b in
+    elim (two_places has_init full i j (facts_at full i) (facts_at full j) (facts_get Starts full i a) (facts_get Starts full j b)) [
+      | inl e ↦ e
+      | inr g ↦ absurd (omega arith)
+    ]
 
 -- the first Init()
 pub first_init : (full : Trace) → IsAdmitted (full ++ (init_fact ∷ []) ∷ []) → total has_init full ≡ 0
@@ -98,8 +103,10 @@ first_init full h = go (total has_init full) refl
     clash : 0 < total has_init full → length full < length full
     clash g =
         let f = total_found has_init full g in
-        let same : f.number ≡ length full = h f.number (length full) (f.item, get-append_left full ((init_fact ∷ []) ∷ []) f.number f.item f.is, has_init_member f.item f.counts) (init_fact ∷ [], get_last full (init_fact ∷ []), Member.here) in
-        let within = get_within full f.number f.item f.is in
+        let before : AnyIn Starts (facts_at full f.number) = subst (AnyIn Starts) (sym (facts_are full f.number f.item f.is)) (counted_starts f.item f.counts) in
+        let last : AnyIn Starts (facts_at (full ++ (init_fact ∷ []) ∷ []) (length full)) = subst (AnyIn Starts) (sym (facts_last full (init_fact ∷ []))) (inl (refl, refl)) in
+        let same : f.number ≡ length full = h f.number (length full) (facts_left Starts full ((init_fact ∷ []) ∷ []) f.number before) last in
+        let within = facts_within Starts full f.number before in
         omega arith
 
     go : (n : ℕ) → total has_init full ≡ n → n ≡ 0

@@ -4,9 +4,10 @@ use Rattle.sap_terms.specs.Reserved.{is_reserved}
 use Rattle.sap_terms.specs.declared.fact.Fact.{Fact}
 use Rattle.sap_gen.specs.Built.{Built, events}
 use Rattle.sap_rule.specs.declared.rule.Rule.{Rule}
+use Rattle.sap_rule.specs.declared.theory.Theory.{Theory}
 use Rattle.sap_gen.specs.ProcessSteps.{IsProcessTrace}
 use Rattle.sap_terms.specs.Trace.{Trace}
-use Rattle.sap_gen.specs.Traces.{IsVisibleTrace}
+use Rattle.sap_gen.specs.Traces.{IsVisibleTrace, IsShownBy}
 
 -- no fact has a reserved name
 abbrev pub AreFree : List Fact → Type 0
@@ -24,3 +25,8 @@ ShowsAll p rules = (tr : Trace) → IsProcessTrace p tr → IsVisibleTrace rules
 -- and nothing else is
 abbrev pub ShowsOnly : Built → List Rule → Type 0
 ShowsOnly p rules = (tr : Trace) → IsVisibleTrace rules tr → IsProcessTrace p tr
+
+-- what the theory shows, where its restrictions are true, is what the process shows
+pub record IsFaithful (p : Built) (t : Theory) : Type 0 where
+  pub all : (tr : Trace) → IsProcessTrace p tr → IsShownBy t tr
+  pub only : (tr : Trace) → IsShownBy t tr → IsProcessTrace p tr

@@ -12,7 +12,6 @@ use Rattle.sap_gen.specs.Members.{Member}
 use Rattle.sap_gen.specs.Places.{bare, root, spot_at}
 use Rattle.sap_gen.specs.ProcessSteps.{Config, Deducible}
 use Rattle.sap_terms.specs.AdversaryFacts.{k_fact}
-use Rattle.sap_gen.specs.ReservedFacts.{init_fact}
 use Rattle.sap_gen.specs.RuleSteps.{RuleState}
 use Rattle.sap_terms.specs.Trace.{Trace}
 use Rattle.sap_gen.specs.Templates.{state_fact}
@@ -71,10 +70,14 @@ is_unborn None = 0
 is_unborn (Some (unborn body)) = 1
 is_unborn (Some (running path body)) = 0
 
+-- the fact is Init(), persistent or not
+abbrev pub is_start : Fact → Bool
+is_start f = bytes_eq f.name (codes "Init") && same_trees (trees_of f.args) (trees_of [])
+
 -- 1 for a place with Init()
 abbrev pub has_init : List Fact → ℕ
 has_init [] = 0
-has_init (f ∷ fs) = cond (same_fact f init_fact) 1 (has_init fs)
+has_init (f ∷ fs) = cond (is_start f) 1 (has_init fs)
 
 -- the K event that the rules have shown and the process hasn't yet
 abbrev pub pending_place : Option Tree → Trace

@@ -2,7 +2,8 @@
 use Rattle.std.proofs.Common.{◌≡◌, ◌<◌, ◌≤◌, List, [], ◌∷◌, length, get_or, sym, ap, ◌∙◌, arith, String, string_bytes}
 use Rattle.std.specs.Prelude.{codes}
 use Rattle.std.specs.declared.alloc.Global.{Global}
-use Rattle.sap_tool.specs.Call.{bytes_of, IsCompile}
+use Rattle.sap_tool.specs.Call.{bytes_of}
+use Rattle.sap_tool.specs.Commands.{compile, spelled}
 
 pub two_words : {A : Type 0} (xs : List A) (a b : A) → 2 ≤ length xs → length xs < 3 → a ≡ get_or xs 0 a → b ≡ get_or xs 1 b → xs ≡ a ∷ b ∷ []
 two_words [] a b more less first second = absurd (omega arith)
@@ -11,5 +12,5 @@ two_words (x ∷ y ∷ []) a b more less first second = λ i. sym first i ∷ sy
 two_words (x ∷ y ∷ z ∷ zs) a b more less first second = absurd (omega arith)
 
 pub is_compile : (words : List (String Global)) (a b : String Global) → words ≡ a ∷ b ∷ [] → string_bytes a ≡ codes "compile"
-    → IsCompile (bytes_of words) (string_bytes b)
+    → bytes_of words ≡ spelled (compile (string_bytes b))
 is_compile words a b e f = ap bytes_of e ∙ ap (λ x. x ∷ string_bytes b ∷ []) f

@@ -1,119 +1,52 @@
--- Each way in which a call ends keeps the promises.
-use Rattle.std.proofs.Common.{◌≡◌, ◌+◌, ℕ, List, [], ◌∷◌, take, Option, Some, None, sym, ap, subst, ◌∙◌, inl, inr, ◌⊎◌, arith, lit<}
-use Rattle.std.specs.Prelude.{codes, Contains}
+-- However a call ends, the promises are kept.
+use Rattle.std.proofs.Common.{◌≡◌, ◌+◌, ◌<◌, ℕ, List, [], ◌∷◌, take, Option, Some, None, sym, ap, subst, ◌∙◌, inl, inr, ◌⊎◌, arith, lit<}
+use Rattle.std.specs.Prelude.{Contains}
 use Rattle.std.specs.FinMap as files
+use Rattle.sap_terms.specs.Signature.{Sig}
 use Rattle.sap_gen.specs.Built.{Built}
-use Rattle.sap_gen.specs.Templates.{rules_of}
-use Rattle.sap_gen.specs.Faithful.{NoReservedEvents, ShowsAll, ShowsOnly}
+use Rattle.sap_gen.specs.Theories.{theory_of}
+use Rattle.sap_gen.specs.Faithful.{NoReservedEvents, IsFaithful}
 use Rattle.sap_tool.specs.Outside.{Files, IsFetched, IsFirstPart}
-use Rattle.sap_read.specs.Files.{FileContent}
-use Rattle.sap_tool.specs.BuiltFile.{most_bytes, IsBuiltFile}
-use Rattle.sap_tool.specs.Refusals.{IsRefusedWith, refused_line}
-use Rattle.sap_tool.proofs.Refused.{OneReading, file_free, one_cause, not_built, part_refused, part_built}
-use Rattle.sap_tool.specs.Call.{Call, Gained, Failed, FailedOn, IsCompile, IsUnknown, Fetched, Holds, Theory, Cause, refused, usage, unread, Outcome, written, told, untold, unwritten, wanting, wanting_err, wanting_out}
+use Rattle.sap_tool.specs.Refusals.{refused_line}
+use Rattle.sap_tool.specs.Call.{Call, Gained, Failed, FailedOn, Holds}
+use Rattle.sap_tool.specs.Commands.{Command, compile, spelled, file_of, limit_of, IsUnknown, Refuses, Allows, Means}
+use Rattle.sap_tool.specs.Answers.{Answer, gives, tells, status_of, IsAnswerTo, allowed, refused, Asks, Fetched, IsAnswer, to_file, usage, unread, IsPut, whole, broken, wanting, Ended, answered, unanswered}
 use Rattle.sap_tool.specs.Promises as promised
+use Rattle.sap_tool.proofs.Refused.{OneReading, Frees, NeverBoth, file_free, one_cause, not_built, part_refused, part_built}
 
--- the laws of the crates below: the rules of every process without reserved events show it, and bytes are read as one thing
+-- the laws of the crates below
 pub record Laws : Type 0 where
-  pub all : (p : Built) → NoReservedEvents p → ShowsAll p (rules_of p)
-  pub only : (p : Built) → NoReservedEvents p → ShowsOnly p (rules_of p)
+  pub faithful : (name : List ℕ) (g : Sig) (p : Built) → NoReservedEvents p → IsFaithful p (theory_of name g p [] [])
+  pub frees : Frees
+  pub never_both : NeverBoth
   pub one : OneReading
 
-statuses : (c : Call) (s : ℕ) → Outcome c s → Contains (0 ∷ 1 ∷ 3 ∷ 4 ∷ 5 ∷ 6 ∷ []) s
-statuses c s (written text is theory out err) = (0, lit< tt, sym is)
-statuses c s (told text (refused bytes why is t f r) out err) = (1, lit< tt, sym is)
-statuses c s (told text (usage is t u) out err) = (2, lit< tt, sym is)
-statuses c s (told text (unread file is t n f) out err) = (3, lit< tt, sym is)
-statuses c s (untold cause text i j is why f out err) = (4, lit< tt, sym is)
-statuses c s (unwritten text i j is theory f out err) = (4, lit< tt, sym is)
-statuses c s (wanting j is out err) = (5, lit< tt, sym is)
-statuses c s (wanting_err cause text i j is why out err) = (5, lit< tt, sym is)
-statuses c s (wanting_out text i j is theory out err) = (5, lit< tt, sym is)
+-- what an allowed text means
+means : Laws → (k : Command) (bytes text : List ℕ) → Allows k bytes text → Means k bytes text
+means laws (compile file) bytes text t = record {
+  told = t.told;
+  process = t.process;
+  file = t.file;
+  layout = t.layout;
+  shows = laws.faithful t.told.name t.told.signature t.process (file_free laws.frees bytes t.told t.process t.file);
+}
 
-compiled_of : Laws → (c : Call) (text : List ℕ) → Theory c text → Gained c.out text → Gained c.err [] → promised.Compiled c
-compiled_of laws c text theory out err =
-    let free = file_free theory.bytes theory.is.told theory.is.process theory.is.file in
-    record {
-      bytes = theory.bytes;
-      told = theory.is.told;
-      process = theory.is.process;
-      fetched = theory.fetched;
-      file = theory.is.file;
-      out = subst (λ z. Gained c.out z) theory.is.layout out;
-      err = err;
-      all = laws.all theory.is.process free;
-      only = laws.only theory.is.process free;
-    }
+-- no bytes are both allowed and refused
+never : Laws → (k : Command) (bytes text why : List ℕ) → Allows k bytes text → Refuses k bytes why → ⊥
+never laws (compile file) bytes text why t r = not_built laws.one bytes laws.never_both why t.told t.process r t.file
 
-compiled : Laws → (c : Call) (s : ℕ) → Outcome c s → s ≡ 0 → promised.Compiled c
-compiled laws c s (written text is theory out err) e = compiled_of laws c text theory out err
-compiled laws c s (told text (refused bytes why is t f r) out err) e = absurd (omega arith)
-compiled laws c s (told text (usage is t u) out err) e = absurd (omega arith)
-compiled laws c s (told text (unread file is t n f) out err) e = absurd (omega arith)
-compiled laws c s (untold cause text i j is why f out err) e = absurd (omega arith)
-compiled laws c s (unwritten text i j is theory f out err) e = absurd (omega arith)
-compiled laws c s (wanting j is out err) e = absurd (omega arith)
-compiled laws c s (wanting_err cause text i j is why out err) e = absurd (omega arith)
-compiled laws c s (wanting_out text i j is theory out err) e = absurd (omega arith)
+-- and they are refused for one cause
+one_why : Laws → (k : Command) (bytes why other : List ℕ) → Refuses k bytes why → Refuses k bytes other → why ≡ other
+one_why laws (compile file) bytes why other r s = one_cause laws.one bytes why other r s
 
-refused_of : (c : Call) (s : ℕ) → Outcome c s → s ≡ 1 → promised.Refused c
-refused_of c s (written text is theory out err) e = absurd (omega arith)
-refused_of c s (told text (refused bytes why is t f r) out err) e =
-    record { bytes = bytes; why = why; fetched = f; refused = r; out = out; err = subst (λ z. Gained c.err z) t err }
-refused_of c s (told text (usage is t u) out err) e = absurd (omega arith)
-refused_of c s (told text (unread file is t n f) out err) e = absurd (omega arith)
-refused_of c s (untold cause text i j is why f out err) e = absurd (omega arith)
-refused_of c s (unwritten text i j is theory f out err) e = absurd (omega arith)
-refused_of c s (wanting j is out err) e = absurd (omega arith)
-refused_of c s (wanting_err cause text i j is why out err) e = absurd (omega arith)
-refused_of c s (wanting_out text i j is theory out err) e = absurd (omega arith)
+-- the words ask for one command
+one_command : (words : List (List ℕ)) (k l : Command) → words ≡ spelled k → words ≡ spelled l → k ≡ l
+one_command words (compile file) (compile other) h e =
+    let same : spelled (compile file) ≡ spelled (compile other) = sym h ∙ e in
+    let names : file ≡ other = cc in
+    ap compile names
 
-usage_of : (c : Call) (s : ℕ) → Outcome c s → s ≡ 3 → promised.Usage c
-usage_of c s (written text is theory out err) e = absurd (omega arith)
-usage_of c s (told text (refused bytes why is t f r) out err) e = absurd (omega arith)
-usage_of c s (told text (usage is t u) out err) e = record { unknown = u; out = out; err = subst (λ z. Gained c.err z) t err }
-usage_of c s (told text (unread file is t n f) out err) e = absurd (omega arith)
-usage_of c s (untold cause text i j is why f out err) e = absurd (omega arith)
-usage_of c s (unwritten text i j is theory f out err) e = absurd (omega arith)
-usage_of c s (wanting j is out err) e = absurd (omega arith)
-usage_of c s (wanting_err cause text i j is why out err) e = absurd (omega arith)
-usage_of c s (wanting_out text i j is theory out err) e = absurd (omega arith)
-
-unread_of : (c : Call) (s : ℕ) → Outcome c s → s ≡ 4 → promised.Unread c
-unread_of c s (written text is theory out err) e = absurd (omega arith)
-unread_of c s (told text (refused bytes why is t f r) out err) e = absurd (omega arith)
-unread_of c s (told text (usage is t u) out err) e = absurd (omega arith)
-unread_of c s (told text (unread file is t n f) out err) e =
-    record { file = file; named = n; failed = f; out = out; err = subst (λ z. Gained c.err z) t err }
-unread_of c s (untold cause text i j is why f out err) e = absurd (omega arith)
-unread_of c s (unwritten text i j is theory f out err) e = absurd (omega arith)
-unread_of c s (wanting j is out err) e = absurd (omega arith)
-unread_of c s (wanting_err cause text i j is why out err) e = absurd (omega arith)
-unread_of c s (wanting_out text i j is theory out err) e = absurd (omega arith)
-
-unwritten_of : (c : Call) (s : ℕ) → Outcome c s → s ≡ 5 → promised.Unwritten c
-unwritten_of c s (written text is theory out err) e = absurd (omega arith)
-unwritten_of c s (told text (refused bytes why is t f r) out err) e = absurd (omega arith)
-unwritten_of c s (told text (usage is t u) out err) e = absurd (omega arith)
-unwritten_of c s (told text (unread file is t n f) out err) e = absurd (omega arith)
-unwritten_of c s (untold cause text i j is why f out err) e = promised.err_failed cause text i j why f out err
-unwritten_of c s (unwritten text i j is theory f out err) e = promised.out_failed text i j theory f out err
-unwritten_of c s (wanting j is out err) e = absurd (omega arith)
-unwritten_of c s (wanting_err cause text i j is why out err) e = absurd (omega arith)
-unwritten_of c s (wanting_out text i j is theory out err) e = absurd (omega arith)
-
-wanting_of : (c : Call) (s : ℕ) → Outcome c s → s ≡ 6 → promised.Wanting c
-wanting_of c s (written text is theory out err) e = absurd (omega arith)
-wanting_of c s (told text (refused bytes why is t f r) out err) e = absurd (omega arith)
-wanting_of c s (told text (usage is t u) out err) e = absurd (omega arith)
-wanting_of c s (told text (unread file is t n f) out err) e = absurd (omega arith)
-wanting_of c s (untold cause text i j is why f out err) e = absurd (omega arith)
-wanting_of c s (unwritten text i j is theory f out err) e = absurd (omega arith)
-wanting_of c s (wanting j is out err) e = promised.before_all j out err
-wanting_of c s (wanting_err cause text i j is why out err) e = promised.while_err cause text i j why out err
-wanting_of c s (wanting_out text i j is theory out err) e = promised.while_out text i j theory out err
-
--- what is fetched of a file that is held
+-- what is fetched of a file that is held is its first part
 fetched_part : (holds : Option Files) (limit : ℕ) (file bytes z : List ℕ) → Holds holds file bytes → IsFetched holds file limit z → z ≡ take (limit + 1) bytes
 fetched_part None limit file bytes z held part = absurd held
 fetched_part (Some all) limit file bytes z held part = at (files.get all file) held part where
@@ -121,98 +54,151 @@ fetched_part (Some all) limit file bytes z held part = at (files.get all file) h
   at None h k = absurd k
   at (Some other) h k = let e : other ≡ bytes = cc in k ∙ ap (λ y. take (limit + 1) y) e
 
--- a part of a file that is short enough is all of it
--- the words name one file
-one_file : (words : List (List ℕ)) (f g : List ℕ) → IsCompile words f → IsCompile words g → f ≡ g
-one_file words f g h k = let e : codes "compile" ∷ f ∷ [] ≡ codes "compile" ∷ g ∷ [] = sym h ∙ k in cc
+-- which is refused for the file's cause
+part_is_refused : (k : Command) (bytes why : List ℕ) → Refuses k bytes why → Refuses k (take (limit_of k + 1) bytes) why
+part_is_refused (compile file) bytes why r = part_refused bytes why r
 
--- what was fetched is a part of the file that is held
-fetched_of : (c : Call) (file bytes z : List ℕ) → IsCompile c.words file → Holds c.holds file bytes → Fetched c z → z ≡ take (most_bytes + 1) bytes
-fetched_of c file bytes z named held fetched =
-    let same = one_file c.words fetched.file file fetched.named named in
-    fetched_part c.holds most_bytes file bytes z held (subst (λ f. IsFetched c.holds f most_bytes z) same fetched.told)
+-- and allows the file's text
+part_allows : (k : Command) (bytes text : List ℕ) → Allows k bytes text → Allows k (take (limit_of k + 1) bytes) text
+part_allows (compile file) bytes text t =
+    record { told = t.told; process = t.process; file = part_built bytes t.told t.process t.file; layout = t.layout }
 
-must_tell_usage : (c : Call) (s : ℕ) → Outcome c s → IsUnknown c.words → (s ≡ 3) ⊎ ((s ≡ 5) × Failed c.err) ⊎ (s ≡ 6)
-must_tell_usage c s (written text is theory out err) unknown = absurd (unknown theory.fetched.file theory.fetched.named)
-must_tell_usage c s (told text (refused bytes why is t f r) out err) unknown = absurd (unknown f.file f.named)
-must_tell_usage c s (told text (usage is t u) out err) unknown = inl is
-must_tell_usage c s (told text (unread file is t n f) out err) unknown = absurd (unknown file n)
-must_tell_usage c s (untold cause text i j is why f out err) unknown = inr (inl (is, f))
-must_tell_usage c s (unwritten text i j is theory f out err) unknown = absurd (unknown theory.fetched.file theory.fetched.named)
-must_tell_usage c s (wanting j is out err) unknown = inr (inr is)
-must_tell_usage c s (wanting_err cause text i j is why out err) unknown = inr (inr is)
-must_tell_usage c s (wanting_out text i j is theory out err) unknown = inr (inr is)
+module _ (laws : Laws) (c : Call) where
+  -- the answer of a file that is held, fetched for any command that the words ask for
+  module _ (k : Command) (bytes : List ℕ) (asked : Asks c k) (held : Holds c.holds (file_of k) bytes) where
+    fetched_of : (l : Command) (z : List ℕ) → Asks c l → Fetched c l z → z ≡ take (limit_of k + 1) bytes
+    fetched_of l z asks fetched =
+        let same : l ≡ k = one_command c.words l k asks asked in
+        fetched_part c.holds (limit_of k) (file_of k) bytes z held (subst (λ (m : Command). Fetched c m z) same fetched).0
 
--- what is refused when it is held is refused when it is fetched
-fetched_refused : (c : Call) (file bytes z why : List ℕ) → IsCompile c.words file → Holds c.holds file bytes → Fetched c z → IsRefusedWith bytes why → IsRefusedWith z why
-fetched_refused c file bytes z why named held fetched refusal =
-    subst (λ (y : List ℕ). IsRefusedWith y why) (sym (fetched_of c file bytes z named held fetched)) (part_refused bytes why refusal)
+    -- it is an answer to the file's first part
+    answer_of : {a : Answer} (l : Command) (z : List ℕ) → Asks c l → Fetched c l z → IsAnswerTo l z a → IsAnswerTo k (take (limit_of k + 1) bytes) a
+    answer_of {a = a} l z asks fetched is =
+        subst (λ (y : List ℕ). IsAnswerTo k y a) (fetched_of l z asks fetched)
+        (subst (λ (m : Command). IsAnswerTo m z a) (one_command c.words l k asks asked) is)
 
--- and what is built is built
-fetched_built : (c : Call) (file bytes z : List ℕ) (t : FileContent) (b : Built) → IsCompile c.words file → Holds c.holds file bytes → Fetched c z
-    → IsBuiltFile bytes t b → IsBuiltFile z t b
-fetched_built c file bytes z t b named held fetched spelled =
-    subst (λ (y : List ℕ). IsBuiltFile y t b) (sym (fetched_of c file bytes z named held fetched)) (part_built bytes t b spelled)
+    failed_of : (l : Command) → Asks c l → FailedOn c (file_of l) → FailedOn c (file_of k)
+    failed_of l asks f = subst (λ (m : Command). FailedOn c (file_of m)) (one_command c.words l k asks asked) f
 
--- a refused file has no theory
-no_theory : Laws → (c : Call) (file bytes why text : List ℕ) → IsCompile c.words file → Holds c.holds file bytes → IsRefusedWith bytes why → Theory c text → ⊥
-no_theory laws c file bytes why text named held refusal theory =
-    not_built laws.one theory.bytes why theory.is.told theory.is.process
-    (fetched_refused c file bytes theory.bytes why named held theory.fetched refusal) theory.is.file
+  statuses : (s : ℕ) → Ended (IsAnswer c) c.out c.err s → Contains (0 ∷ 1 ∷ 3 ∷ 4 ∷ 5 ∷ 6 ∷ []) s
+  statuses s (answered a is (whole e w)) = at is e where
+    at : {b : Answer} → IsAnswer c b → s ≡ status_of b → Contains (0 ∷ 1 ∷ 3 ∷ 4 ∷ 5 ∷ 6 ∷ []) s
+    at (to_file k bytes asks fetched (allowed t)) e = (0, lit< tt, sym e)
+    at (to_file k bytes asks fetched (refused why r)) e = (1, lit< tt, sym e)
+    at (usage u n) e = (2, lit< tt, sym e)
+    at (unread k asks f n) e = (3, lit< tt, sym e)
+  statuses s (answered a is (broken i j e b p l)) = (4, lit< tt, sym e)
+  statuses s (answered a is (wanting i j e p l)) = (5, lit< tt, sym e)
+  statuses s (unanswered j e none word l) = (5, lit< tt, sym e)
 
--- the text that was told is that of the cause
-told_why : Laws → (c : Call) (file bytes z why cause text : List ℕ) → IsCompile c.words file → Holds c.holds file bytes → IsRefusedWith bytes why
-    → Fetched c z → IsRefusedWith z cause → text ≡ refused_line cause → Gained c.err text → Gained c.err (refused_line why)
-told_why laws c file bytes z why cause text named held refusal fetched r t err =
-    let same = one_cause laws.one z cause why r (fetched_refused c file bytes z why named held fetched refusal) in
-    subst (λ (y : List ℕ). Gained c.err y) (t ∙ ap refused_line same) err
+  compiled : (s : ℕ) → Ended (IsAnswer c) c.out c.err s → s ≡ 0 → promised.Compiled c
+  compiled s (answered (tells n text) is (whole e w)) z = absurd (at is (sym e ∙ z)) where
+    at : {m : ℕ} {t : List ℕ} → IsAnswer c (tells m t) → m ≡ 0 → ⊥
+    at (to_file k bytes asks fetched (refused why r)) e = omega (arith, e)
+    at (usage u n) e = omega (arith, e)
+    at (unread k asks f n) e = omega (arith, e)
+  compiled s (answered (gives text) (to_file k bytes asks fetched (allowed t)) (whole e w)) z = record {
+    command = k;
+    bytes = bytes;
+    text = text;
+    asked = asks;
+    fetched = fetched;
+    allowed = t;
+    means = means laws k bytes text t;
+    out = w.0;
+    err = w.1;
+  }
+  compiled s (answered a is (broken i j e b p l)) z = absurd (omega arith)
+  compiled s (answered a is (wanting i j e p l)) z = absurd (omega arith)
+  compiled s (unanswered j e none word l) z = absurd (omega arith)
 
-must_refuse : Laws → (c : Call) (s : ℕ) → Outcome c s → (file bytes why : List ℕ) → IsCompile c.words file → Holds c.holds file bytes → IsRefusedWith bytes why
-    → ((s ≡ 1) × Gained c.err (refused_line why)) ⊎ ((s ≡ 4) × FailedOn c file) ⊎ ((s ≡ 5) × Failed c.err) ⊎ (s ≡ 6)
-must_refuse laws c s (written text is theory out err) file bytes why named held refusal = absurd (no_theory laws c file bytes why text named held refusal theory)
-must_refuse laws c s (told text (refused z cause is t f r) out err) file bytes why named held refusal =
-    inl (is, told_why laws c file bytes z why cause text named held refusal f r t err)
-must_refuse laws c s (told text (usage is t u) out err) file bytes why named held refusal = absurd (u file named)
-must_refuse laws c s (told text (unread other is t n f) out err) file bytes why named held refusal =
-    inr (inl (is, subst (λ g. FailedOn c g) (one_file c.words other file n named) f))
-must_refuse laws c s (untold cause text i j is why f out err) file bytes w named held refusal = inr (inr (inl (is, f)))
-must_refuse laws c s (unwritten text i j is theory f out err) file bytes why named held refusal =
-    absurd (no_theory laws c file bytes why text named held refusal theory)
-must_refuse laws c s (wanting j is out err) file bytes why named held refusal = inr (inr (inr is))
-must_refuse laws c s (wanting_err cause text i j is why out err) file bytes w named held refusal = inr (inr (inr is))
-must_refuse laws c s (wanting_out text i j is theory out err) file bytes why named held refusal = inr (inr (inr is))
+  told : (n s : ℕ) → 0 < n → n < 5 → Ended (IsAnswer c) c.out c.err s → s ≡ n → promised.Told c n
+  told n s more less (answered (gives text) is (whole e w)) z = absurd (omega (arith, e, z))
+  told n s more less (answered (tells m text) is (whole e w)) z =
+      record { text = text; cause = subst (λ (i : ℕ). IsAnswer c (tells i text)) (sym e ∙ z) is; out = w.0; err = w.1 }
+  told n s more less (answered a is (broken i j e b p l)) z = absurd (omega arith)
+  told n s more less (answered a is (wanting i j e p l)) z = absurd (omega arith)
+  told n s more less (unanswered j e none word l) z = absurd (omega arith)
 
--- a built file that is held is not refused
-no_cause : Laws → (c : Call) (s : ℕ) (text : List ℕ) → Cause c s text → (file bytes : List ℕ) (o : FileContent) (b : Built) → IsCompile c.words file
-    → Holds c.holds file bytes → IsBuiltFile bytes o b → (FailedOn c file → ⊥) → ⊥
-no_cause laws c s text (refused z cause is t f r) file bytes o b named held spelled sound =
-    not_built laws.one z cause o b r (fetched_built c file bytes z o b named held f spelled)
-no_cause laws c s text (usage is t u) file bytes o b named held spelled sound = u file named
-no_cause laws c s text (unread other is t n f) file bytes o b named held spelled sound =
-    sound (subst (λ g. FailedOn c g) (one_file c.words other file n named) f)
+  -- what is told or given whole has a status below 5
+  below_five : {a : Answer} → IsAnswer c a → status_of a < 5
+  below_five (to_file k bytes asks fetched (allowed t)) = lit< tt
+  below_five (to_file k bytes asks fetched (refused why r)) = lit< tt
+  below_five (usage u n) = lit< tt
+  below_five (unread k asks f n) = lit< tt
 
-must_compile : Laws → (c : Call) (s : ℕ) → Outcome c s → (file bytes : List ℕ) (t : FileContent) (b : Built) → IsCompile c.words file → Holds c.holds file bytes
-    → IsBuiltFile bytes t b → (FailedOn c file → ⊥) → (Failed c.out → ⊥) → (s ≡ 0) ⊎ (s ≡ 6)
-must_compile laws c s (written text is theory out err) file bytes t b named held spelled sound open_out = inl is
-must_compile laws c s (told text cause out err) file bytes t b named held spelled sound open_out =
-    absurd (no_cause laws c s text cause file bytes t b named held spelled sound)
-must_compile laws c s (untold cause text i j is why f out err) file bytes t b named held spelled sound open_out =
-    absurd (no_cause laws c cause text why file bytes t b named held spelled sound)
-must_compile laws c s (unwritten text i j is theory f out err) file bytes t b named held spelled sound open_out = absurd (open_out f)
-must_compile laws c s (wanting j is out err) file bytes t b named held spelled sound open_out = inr is
-must_compile laws c s (wanting_err cause text i j is why out err) file bytes t b named held spelled sound open_out = inr is
-must_compile laws c s (wanting_out text i j is theory out err) file bytes t b named held spelled sound open_out = inr is
+  unwritten : (s : ℕ) → Ended (IsAnswer c) c.out c.err s → s ≡ 5 → promised.Unwritten c
+  unwritten s (answered a is (whole e w)) z = let l = below_five is in absurd (omega (arith, l, e, z))
+  unwritten s (answered a is (broken i j e b p l)) z = record { answer = a; cause = is; broken = b; taken = i; last = j; part = p; asked = l }
+  unwritten s (answered a is (wanting i j e p l)) z = absurd (omega arith)
+  unwritten s (unanswered j e none word l) z = absurd (omega arith)
 
-pub kept : Laws → (c : Call) (s : ℕ) → Outcome c s → promised.Promises c s
+  wanting_of : (s : ℕ) → Ended (IsAnswer c) c.out c.err s → s ≡ 6 → promised.Wanting c
+  wanting_of s (answered a is (whole e w)) z = let l = below_five is in absurd (omega (arith, l, e, z))
+  wanting_of s (answered a is (broken i j e b p l)) z = absurd (omega arith)
+  wanting_of s (answered a is (wanting i j e p l)) z = promised.while_put a i j is p l
+  wanting_of s (unanswered j e none word l) z = promised.before_all j none word l
+
+  -- where an answer for err was put, its status, 5 for a fault of err, or 6
+  told_ends : (s n : ℕ) (text : List ℕ) → IsPut (tells n text) c.out c.err s
+      → ((s ≡ n) × Gained c.err text) ⊎ ((s ≡ 5) × Failed c.err) ⊎ (s ≡ 6)
+  told_ends s n text (whole e w) = inl (e, w.1)
+  told_ends s n text (broken i j e b p l) = inr (inl (e, b))
+  told_ends s n text (wanting i j e p l) = inr (inr e)
+
+  must_tell_usage : (s : ℕ) → Ended (IsAnswer c) c.out c.err s → IsUnknown c.words → (s ≡ 3) ⊎ ((s ≡ 5) × Failed c.err) ⊎ (s ≡ 6)
+  must_tell_usage s (answered a (to_file k bytes asks fetched is) put) unknown = absurd (unknown k asks)
+  must_tell_usage s (answered _ (usage u n) put) unknown = elim (told_ends s 3 _ put) [ inl h ↦ inl h.0 | inr h ↦ inr h ]
+  must_tell_usage s (answered _ (unread k asks f n) put) unknown = absurd (unknown k asks)
+  must_tell_usage s (unanswered j e none word l) unknown = inr (inr e)
+
+  module _ (k : Command) (bytes : List ℕ) (asked : Asks c k) (held : Holds c.holds (file_of k) bytes) where
+    must_refuse : (s : ℕ) → Ended (IsAnswer c) c.out c.err s → (why : List ℕ) → Refuses k bytes why
+        → ((s ≡ 1) × Gained c.err (refused_line why)) ⊎ ((s ≡ 4) × FailedOn c (file_of k)) ⊎ ((s ≡ 5) × Failed c.err) ⊎ (s ≡ 6)
+    must_refuse s (answered a (to_file l z asks fetched is) put) why r =
+        at (answer_of k bytes asked held l z asks fetched is) put
+      where
+        at : {b : Answer} → IsAnswerTo k (take (limit_of k + 1) bytes) b → IsPut b c.out c.err s
+            → ((s ≡ 1) × Gained c.err (refused_line why)) ⊎ ((s ≡ 4) × FailedOn c (file_of k)) ⊎ ((s ≡ 5) × Failed c.err) ⊎ (s ≡ 6)
+        at (allowed {text = text} t) put = absurd (never laws k _ text why t (part_is_refused k bytes why r))
+        at (refused other o) put =
+            let same : other ≡ why = one_why laws k _ other why o (part_is_refused k bytes why r) in
+            elim (told_ends s 1 (refused_line other) put) [
+              | inl h ↦ inl (h.0, subst (λ (y : List ℕ). Gained c.err (refused_line y)) same h.1)
+              | inr h ↦ inr (inr h)
+            ]
+    must_refuse s (answered _ (usage u n) put) why r = absurd (u k asked)
+    must_refuse s (answered _ (unread l asks f n) put) why r =
+        elim (told_ends s 4 _ put) [ inl h ↦ inr (inl (h.0, failed_of k bytes asked held l asks f)) | inr h ↦ inr (inr h) ]
+    must_refuse s (unanswered j e none word l) why r = inr (inr (inr e))
+
+    must_compile : (s : ℕ) → Ended (IsAnswer c) c.out c.err s → (text : List ℕ) → Allows k bytes text → (FailedOn c (file_of k) → ⊥) → (Failed c.out → ⊥)
+        → (s ≡ 0) ⊎ (s ≡ 6)
+    must_compile s (answered a (to_file l z asks fetched is) put) text t sound open_out =
+        at (answer_of k bytes asked held l z asks fetched is) put
+      where
+        given : (other : List ℕ) → IsPut (gives other) c.out c.err s → (s ≡ 0) ⊎ (s ≡ 6)
+        given other (whole e w) = inl e
+        given other (broken i j e b p l) = absurd (open_out b)
+        given other (wanting i j e p l) = inr e
+
+        at : {b : Answer} → IsAnswerTo k (take (limit_of k + 1) bytes) b → IsPut b c.out c.err s → (s ≡ 0) ⊎ (s ≡ 6)
+        at (allowed {text = other} u) put = given other put
+        at (refused why o) put = absurd (never laws k _ text why (part_allows k bytes text t) o)
+    must_compile s (answered _ (usage u n) put) text t sound open_out = absurd (u k asked)
+    must_compile s (answered _ (unread l asks f n) put) text t sound open_out = absurd (sound (failed_of k bytes asked held l asks f))
+    must_compile s (unanswered j e none word l) text t sound open_out = inr e
+
+pub kept : Laws → (c : Call) (s : ℕ) → Ended (IsAnswer c) c.out c.err s → promised.Promises c s
 kept laws c s o = record {
-  statuses = statuses c s o;
+  statuses = statuses laws c s o;
   compiled = compiled laws c s o;
-  refused = refused_of c s o;
-  usage = usage_of c s o;
-  unread = unread_of c s o;
-  unwritten = unwritten_of c s o;
-  wanting = wanting_of c s o;
-  must_tell_usage = must_tell_usage c s o;
-  must_refuse = must_refuse laws c s o;
-  must_compile = must_compile laws c s o;
+  refused = told laws c 1 s (lit< tt) (lit< tt) o;
+  usage = told laws c 3 s (lit< tt) (lit< tt) o;
+  unread = told laws c 4 s (lit< tt) (lit< tt) o;
+  unwritten = unwritten laws c s o;
+  wanting = wanting_of laws c s o;
+  must_tell_usage = must_tell_usage laws c s o;
+  must_refuse = λ k bytes why asked held r. must_refuse laws c k bytes asked held s o why r;
+  must_compile = λ k bytes text asked held t sound open_out. must_compile laws c k bytes asked held s o text t sound open_out;
 }

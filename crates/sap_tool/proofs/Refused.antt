@@ -1,71 +1,30 @@
 -- Bytes are refused for one cause, or have one theory.
-use Rattle.std.proofs.Common.{◌≡◌, ◌≤◌, ◌<◌, ℕ, Bool, true, false, List, [], ◌∷◌, ◌++◌, length, take, Option, Some, None, Result, Ok, Err, refl, sym, ap, subst, ◌∙◌, arith}
-use Rattle.std.specs.Prelude.{not, ◌+◌}
-use Rattle.std.specs.List.{find}
-use Rattle.std.specs.Option.{option_map}
+use Rattle.std.proofs.Common.{◌≡◌, ◌≤◌, ◌<◌, ℕ, List, [], length, take, Option, Some, Result, Ok, Err, refl, sym, ap, subst, ◌∙◌, arith}
+use Rattle.std.specs.Prelude.{◌+◌, codes}
 use Rattle.std.proofs.lemmas.Grind.{common_steps}
-use Rattle.sap_terms.specs.declared.var.Var.{Var}
-use Rattle.sap_process.specs.Action as action
-use Rattle.sap_process.specs.Proc.{Proc, nil, parallel, replicated, act, test, lookup}
-use Rattle.sap_process.specs.Sites.{Site, sites_from}
+use Rattle.sap_terms.specs.Signature.{Sig}
+use Rattle.sap_process.specs.Proc.{Proc}
 use Rattle.sap_process.specs.Flaws.{IsWellFormed}
 use Rattle.sap_process.specs.Sorted.{with_sorts}
-use Rattle.sap_gen.specs.Built.{Built, built}
-use Rattle.sap_gen.specs.Sites.{is_built_form}
+use Rattle.sap_gen.specs.Built.{Built, built, IsBuilt}
 use Rattle.sap_gen.specs.Unbuilt.{first_unbuilt}
 use Rattle.sap_gen.specs.Faithful.{NoReservedEvents}
 use Rattle.sap_read.specs.Files.{FileContent, IsRead, no_tokens, no_header, no_item, refused, ill, accepted}
 use Rattle.sap_read.specs.declared.fault.ReadFault.{ReadFault}
-use Rattle.sap_terms.specs.Signature.{Sig}
 use Rattle.sap_tool.specs.BuiltFile.{most_bytes, IsBuiltFile}
 use Rattle.sap_tool.specs.Refusals.{IsRefusedWith, too_long, unread, unbuilt, fault_text, at_place}
-use Rattle.std.specs.Prelude.{codes}
-use Rattle.sap_tool.proofs.Free.{both_of, shown_of, free_of}
 
 -- bytes are read as one file, or refused for one cause
 abbrev pub OneReading : Type 0
 OneReading = (z : List ℕ) (o u : Result FileContent ReadFault) → IsRead z o → IsRead z u → o ≡ u
 
-abbrev is_unbuilt : Site → Bool
-is_unbuilt s = not (is_built_form s.body)
+-- a process without flaws that is built has no event of a reserved name
+abbrev pub Frees : Type 0
+Frees = (g : Sig) (p : Proc) (b : Built) → IsWellFormed g p → built (with_sorts [] p) ≡ Some b → NoReservedEvents b
 
-find_both : (ss ts : List Site) → find is_unbuilt ss ≡ None → find is_unbuilt ts ≡ None → find is_unbuilt (ss ++ ts) ≡ None
-find_both [] ts e f = f
-find_both (s ∷ ss) ts e f = at (is_unbuilt s) refl e (λ g. find_both ss ts g f)
-  where
-    at : (c : Bool) → is_unbuilt s ≡ c → find is_unbuilt (s ∷ ss) ≡ None → (find is_unbuilt ss ≡ None → find is_unbuilt (ss ++ ts) ≡ None)
-        → find is_unbuilt (s ∷ (ss ++ ts)) ≡ None
-    at true h g rest = let some : ◌≡◌ {A = Option Site} (Some s) None = rw h at g in absurd (cc (some))
-    at false h g rest = let none : find is_unbuilt ss ≡ None = rw h at g in rw h (rest none)
-
--- each place of a built process is built
-all_built : (p : Proc) (path : List ℕ) (scope : List Var) (k : ℕ) (b : Built) → built p ≡ Some b → find is_unbuilt (sites_from path scope k p) ≡ None
-all_built nil path scope k b e = refl
-all_built (parallel p q) path scope k b e =
-    let parts = both_of b (built p) (built q) e in
-    find_both (sites_from (path ++ 1 ∷ []) scope k p) (sites_from (path ++ 2 ∷ []) scope k q)
-    (all_built p (path ++ 1 ∷ []) scope k parts.0 parts.2) (all_built q (path ++ 2 ∷ []) scope k parts.1 parts.3)
-all_built (replicated p) path scope k b e = absurd (cc (e))
-all_built (act (action.event f) p) path scope k b e =
-    let parts = shown_of b f (built p) e in
-    rw parts.3 (all_built p (path ++ 1 ∷ []) (scope ++ []) _ parts.0 parts.1)
-all_built (act (action.new x) p) path scope k b e = absurd (cc (e))
-all_built (act (action.out t) p) path scope k b e = absurd (cc (e))
-all_built (act (action.send t u) p) path scope k b e = absurd (cc (e))
-all_built (act (action.input t) p) path scope k b e = absurd (cc (e))
-all_built (act (action.receive t u) p) path scope k b e = absurd (cc (e))
-all_built (act (action.insert t u) p) path scope k b e = absurd (cc (e))
-all_built (act (action.delete t) p) path scope k b e = absurd (cc (e))
-all_built (act (action.lock t n) p) path scope k b e = absurd (cc (e))
-all_built (act (action.unlock t n) p) path scope k b e = absurd (cc (e))
-all_built (act (action.embedded l a r) p) path scope k b e = absurd (cc (e))
-all_built (test t u p q) path scope k b e = absurd (cc (e))
-all_built (lookup t x p q) path scope k b e = absurd (cc (e))
-
-built_whole : (p : Proc) (b : Built) (path : List ℕ) → built p ≡ Some b → first_unbuilt p ≡ Some path → ⊥
-built_whole p b path e f =
-    let none : first_unbuilt p ≡ None = ap (λ (o : Option Site). option_map (λ (s : Site). s.path) o) (all_built p [] [] 0 b e) in
-    cc (none, f)
+-- no process is built and has an unbuilt place
+abbrev pub NeverBoth : Type 0
+NeverBoth = (p : Proc) (path : List ℕ) → IsBuilt p → first_unbuilt p ≡ Some path → ⊥
 
 -- the process of a file that is read is one without flaws, with the sorts of its binders
 record Sorted (told : FileContent) : Type 0 where
@@ -91,10 +50,10 @@ sorted_of z o told e (accepted {p = p} l h c m w) = record {
     process_is a b f = let same : a ≡ b = cc in ap (λ (t : FileContent). t.process) (sym same)
 
 -- the process of a built file shows no event of a reserved name
-pub file_free : (z : List ℕ) (told : FileContent) (b : Built) → IsBuiltFile z told b → NoReservedEvents b
-file_free z told b file =
+pub file_free : Frees → (z : List ℕ) (told : FileContent) (b : Built) → IsBuiltFile z told b → NoReservedEvents b
+file_free frees z told b file =
     let s = sorted_of z (Ok told) told refl file.read in
-    free_of s.signature s.process b s.well_formed (ap built (sym s.sorted) ∙ file.process)
+    frees s.signature s.process b s.well_formed (ap built (sym s.sorted) ∙ file.process)
 
 module _ (one : OneReading) (z : List ℕ) where
   same_fault : (e f : ReadFault) → IsRead z (Err e) → IsRead z (Err f) → e ≡ f
@@ -123,11 +82,11 @@ module _ (one : OneReading) (z : List ℕ) where
       ap (λ (x : List ℕ). at_place x (codes "not built")) place
 
   -- what is refused has no theory
-  pub not_built : (why : List ℕ) (told : FileContent) (b : Built) → IsRefusedWith z why → IsBuiltFile z told b → ⊥
-  not_built why told b (too_long l) file = omega (arith, l, file.short)
-  not_built why told b (unread {e = e} l r) file = not_both told e file.read r
-  not_built why told b (unbuilt {told = t} {path = path} l r f) file =
-      built_whole told.process b path file.process (ap (λ (x : FileContent). first_unbuilt x.process) (same_file told t file.read r) ∙ f)
+  pub not_built : NeverBoth → (why : List ℕ) (told : FileContent) (b : Built) → IsRefusedWith z why → IsBuiltFile z told b → ⊥
+  not_built never why told b (too_long l) file = omega (arith, l, file.short)
+  not_built never why told b (unread {e = e} l r) file = not_both told e file.read r
+  not_built never why told b (unbuilt {told = t} {path = path} l r f) file =
+      never told.process path (b, file.process) (ap (λ (x : FileContent). first_unbuilt x.process) (same_file told t file.read r) ∙ f)
 
 -- the first bytes of a file, one more than it may have, show what the file is
 abbrev part : List ℕ → List ℕ

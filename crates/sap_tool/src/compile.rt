@@ -28,21 +28,58 @@ pub fn theory_text_of(alloc: Global, bytes: &[u8]) -> Result<Text, Refusal>
     ensures refused { (line : List ℕ) → IsErrOf result (refusals.Told line) → IsRefusal bytes.now line }
 {
     if bytes.len() as u64 > MOST_BYTES {
-        return Err(Refusal::Told(long_line(alloc)?));
+        Err(told(long_line(alloc)))
+    } else {
+        text_of_short(alloc, bytes)
     }
+}
+
+/// The same, where the bytes aren't too many.
+fn text_of_short(alloc: Global, bytes: &[u8]) -> Result<Text, Refusal>
+    requires { length bytes.now ≤ most_bytes }
+    ensures given { IfOk result (IsTheoryOf bytes.now) }
+    ensures refused { (line : List ℕ) → IsErrOf result (refusals.Told line) → IsRefusal bytes.now line }
+{
     let file = read(alloc, bytes)?;
     text_of(alloc, &file)
 }
 
 /// The file that the bytes are read as.
-fn read(alloc: Global, bytes: &[u8]) -> Result<File, Refusal>
+fn read(alloc: Global, bytes: &[u8]) -> Result<Box<File>, Refusal>
     requires { length bytes.now ≤ most_bytes }
-    ensures found { IfOk result (λ f. IsRead bytes.now (Ok (told_by f)) × (f.restrictions ≡ []) × (f.lemmas ≡ [])) }
+    ensures found { IfOk result (λ f. IsRead bytes.now (Ok (told_by f.value))
+        × (f.value.restrictions ≡ []) × (f.value.lemmas ≡ [])) }
     ensures refused { (line : List ℕ) → IsErrOf result (refusals.Told line) → IsRefusal bytes.now line }
 {
-    match read_file(alloc, bytes) {
+    match read_boxed(alloc, bytes) {
         Ok(file) => Ok(file),
-        Err(fault) => Err(Refusal::Told(fault_line(alloc, &fault)?)),
+        Err(fault) => Err(told(fault_line(alloc, &fault))),
+    }
+}
+
+/// What `read_file` answers, in a box.
+fn read_boxed(alloc: Global, bytes: &[u8]) -> Result<Box<File>, ReadFault>
+    ensures accepted { IfOk result (λ f. IsRead bytes.now (Ok (told_by f.value))
+        × (f.value.restrictions ≡ []) × (f.value.lemmas ≡ [])) }
+    ensures refused { (e : ReadFault) → IsErrOf result e → (e ≡ faults.Mem → ⊥) → IsRead bytes.now (Err e) }
+{
+    Ok(boxed(alloc, read_file(alloc, bytes)?)?)
+}
+
+/// The file in a box.
+fn boxed(alloc: Global, file: File) -> Result<Box<File>, Mem>
+    ensures { IfOk result (λ b. b.value ≡ file) }
+{
+    Ok(Box::new(alloc, file)?)
+}
+
+/// Refuses by this line, or for want of memory where there is none.
+fn told(line: Result<Text, Mem>) -> Refusal
+    ensures { (text : List ℕ) → result ≡ refusals.Told text → line ≡ Ok text }
+{
+    match line {
+        Ok(text) => Refusal::Told(text),
+        Err(_) => Refusal::Mem,
     }
 }
 
@@ -54,10 +91,10 @@ fn text_of(alloc: Global, file: &File) -> Result<Text, Refusal>
     ensures refused { (line : List ℕ) → IsErrOf result (refusals.Told line)
         → (path : List ℕ) × (unbuilt.first_unbuilt (proc file.now.process) ≡ Some path) × (line ≡ refused_line (at_place path (codes "not built"))) }
 {
-    if let Some(path) = first_unbuilt(alloc, &file.process)? {
-        return Err(Refusal::Told(place_line(alloc, &path)?));
+    match first_unbuilt(alloc, &file.process)? {
+        Some(path) => Err(told(place_line(alloc, &path))),
+        None => Ok(built_text(alloc, file)?),
     }
-    Ok(built_text(alloc, file)?)
 }
 
 /// The text of the theory of a file whose process is built.

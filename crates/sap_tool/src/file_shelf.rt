@@ -45,6 +45,8 @@ impl<'a, R: Files> Shelf for FileShelf<'a, R> {
 
     ghost faults = { λ s _. s.count };
 
+    ghost asked = { λ _. None };
+
     fn fetch(&mut self, alloc: Global, name: &str, limit: u64) -> Result<Vec<u8>, ShelfFault> {
         match fs::open(self.rt, name) {
             Ok(mut file) => {

@@ -1,5 +1,5 @@
 ghost use Rattle.std.specs.Prelude.{◌≡◌, ◌≢◌, ◌≤◌, ◌+◌, ◌-◌, ◌^◌, ◌++◌, ℕ, [], take, min, IsOk, OnOk, OnErr, IsErrOf, IfSome, None, Some};
-ghost use Rattle.sap_tool.specs.Outside.{Rose, taken_at};
+ghost use Rattle.sap_tool.specs.Outside.{Rose, one_more, taken_at};
 
 use crate::{Sink, SinkFault};
 
@@ -34,6 +34,8 @@ impl Sink for MemSink {
 
     ghost faults = { λ s. s.count };
 
+    ghost asked = { λ s. Some s.calls };
+
     // It fails exactly where a pair has the number of the call.
     fn put(&mut self, bytes: &[u8]) -> Result<(), SinkFault>
         ensures whole { OnOk result (self.new.bytes.items ≡ self.old.bytes.items ++ bytes.now) }
@@ -41,6 +43,7 @@ impl Sink for MemSink {
         ensures later { self.old.count ≤ self.new.count }
         ensures cause { IsErrOf result SinkFault.Failed → Rose self.old.count self.new.count }
         ensures empty { bytes.now ≡ [] → IsOk result × (self.new.calls ≡ self.old.calls) }
+        ensures asked { bytes.now ≢ [] → Some self.new.calls ≡ one_more (Some self.old.calls) }
         ensures list { self.new.fail_on.items ≡ self.old.fail_on.items }
         ensures calls { bytes.now ≢ [] → self.new.calls ≡ min (self.old.calls + 1) (2 ^ 64 - 1) }
         ensures failed { IsErrOf result SinkFault.Failed

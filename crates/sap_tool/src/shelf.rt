@@ -1,6 +1,6 @@
 ghost use Rattle.std.specs.Prelude.{◌≡◌, ◌≤◌, ◌+◌, ℕ, List, length, IfOk, IsErrOf, Option};
 ghost use Rattle.sap_tool.specs.declared.shelf.ShelfFault.TheVariants.{Mem};
-ghost use Rattle.sap_tool.specs.Outside.{Rose, IsFetched, Files};
+ghost use Rattle.sap_tool.specs.Outside.{Rose, IsFetched, Files, one_more};
 
 use std::alloc::{AllocError, AllocFailed, Global};
 
@@ -37,6 +37,9 @@ pub trait Shelf {
     /// How often the file of a name has failed; it stops at the greatest u64.
     ghost faults: { Self → List ℕ → ℕ };
 
+    /// How many fetches there were, where it tells; it stops at the greatest u64.
+    ghost asked: { Self → Option ℕ };
+
     /// The first `limit + 1` bytes of the file, or all of it where it has fewer: a file longer than the
     /// limit shows itself by one byte too many. A shelf that tells answers no bytes for a name that it
     /// doesn't hold.
@@ -45,6 +48,7 @@ pub trait Shelf {
         ensures most { IfOk result (λ v. length v.items ≤ limit + 1) }
         ensures told { IfOk result (λ v. IsFetched (holds self.old) name.now limit v.items) }
         ensures same { holds self.new ≡ holds self.old }
+        ensures asked { asked self.new ≡ one_more (asked self.old) }
         ensures later { (n : List ℕ) → faults self.old n ≤ faults self.new n }
         ensures cause { IsErrOf result ShelfFault.Failed → Rose (faults self.old name.now) (faults self.new name.now) };
 }

@@ -1,7 +1,7 @@
-ghost use Rattle.std.specs.Prelude.{◌≡◌, ◌≤◌, ℕ, List, [], IsOk, OnOk, OnErr, IsErrOf, Option};
+ghost use Rattle.std.specs.Prelude.{◌≡◌, ◌≢◌, ◌≤◌, ℕ, List, [], IsOk, OnOk, OnErr, IsErrOf, Option};
 ghost use Rattle.std.specs.Io.KnownBytes.{Appends};
 ghost use Rattle.sap_tool.specs.declared.sink.SinkFault.TheVariants.{Mem};
-ghost use Rattle.sap_tool.specs.Outside.{Rose, AppendsSome};
+ghost use Rattle.sap_tool.specs.Outside.{Rose, AppendsSome, one_more};
 
 use std::alloc::AllocError;
 
@@ -30,11 +30,15 @@ pub trait Sink {
     /// How often it has failed; it stops at the greatest u64.
     ghost faults: { Self → ℕ };
 
+    /// How many puts of some bytes there were, where it tells; it stops at the greatest u64.
+    ghost asked: { Self → Option ℕ };
+
     /// Appends the bytes; after a fault, some first ones of them. No bytes at all are always taken.
     fn put(&mut self, bytes: &[u8]) -> Result<(), SinkFault>
         ensures whole { OnOk result (Appends (written self.old) (written self.new) bytes.now) }
         ensures part { OnErr result (AppendsSome (written self.old) (written self.new) bytes.now) }
         ensures later { faults self.old ≤ faults self.new }
         ensures cause { IsErrOf result SinkFault.Failed → Rose (faults self.old) (faults self.new) }
-        ensures empty { bytes.now ≡ [] → IsOk result };
+        ensures empty { bytes.now ≡ [] → IsOk result }
+        ensures asked { bytes.now ≢ [] → asked self.new ≡ one_more (asked self.old) };
 }

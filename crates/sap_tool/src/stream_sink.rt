@@ -17,6 +17,8 @@ impl<W: Write> Sink for StreamSink<W> {
 
     ghost faults = { λ s. s.count };
 
+    ghost asked = { λ _. None };
+
     // A write that takes nothing is a fault. Each turn writes at least one byte.
     fn put(&mut self, bytes: &[u8]) -> Result<(), SinkFault> {
         let mut rest = bytes;

@@ -1,15 +1,16 @@
 //! The top call.
 
-ghost use Rattle.std.specs.Prelude.{◌≡◌, ◌≤◌, MatchOption};
-ghost use Rattle.sap_tool.specs.Outside.{AppendsSome};
-ghost use Rattle.sap_tool.specs.Call.{bytes_of, call, stream, IsCompile, IsUnknown, Outcome};
-ghost use Rattle.sap_tool.specs.Telling.{IsTold, IsWritten, IsDelivered};
+ghost use Rattle.std.specs.Prelude.{◌≡◌, ◌≢◌, ◌≤◌, ℕ, List, [], MatchOption};
+ghost use Rattle.sap_tool.specs.Outside.{AppendsSome, one_more};
+ghost use Rattle.sap_tool.specs.Call.{Stream, bytes_of, call, stream, Gained};
+ghost use Rattle.sap_tool.specs.Commands.{compile, spelled, IsUnknown};
+ghost use Rattle.sap_tool.specs.Answers.{gives, tells, IsAnswer, IsAnswerTo, IsPut, Ended};
 ghost use Rattle.sap_tool.specs.Promises.{Promises};
 
 use crate::compile::{MOST_BYTES, theory_text_of};
 use crate::refusal::Refusal;
 use crate::{Shelf, ShelfFault, Sink, SinkFault};
-use sap_gen::rules_show_the_process;
+use sap_gen::{built_or_unbuilt, theories_show_the_process, well_formed_has_no_reserved_events};
 use sap_read::one_file;
 use std::alloc::Global;
 
@@ -33,11 +34,16 @@ pub fn sapic<S: Shelf, O: Sink, E: Sink>(
 ) -> u8
     ensures { Promises
         (call words.now.items (S.holds shelf.old) (S.faults shelf.old) (S.faults shelf.new)
-        (stream (O.written out.old) (O.written out.new) (O.faults out.old) (O.faults out.new))
-        (stream (E.written err.old) (E.written err.new) (E.faults err.old) (E.faults err.new)))
+        (S.asked shelf.old) (S.asked shelf.new)
+        (stream (O.written out.old) (O.written out.new) (O.faults out.old) (O.faults out.new)
+        (O.asked out.old) (O.asked out.new))
+        (stream (E.written err.old) (E.written err.new) (E.faults err.old) (E.faults err.new)
+        (E.asked err.old) (E.asked err.new)))
         result }
 {
-    rules_show_the_process();
+    theories_show_the_process();
+    well_formed_has_no_reserved_events();
+    built_or_unbuilt();
     one_file();
     run(alloc, words, shelf, out, err)
 }
@@ -49,10 +55,17 @@ fn run<S: Shelf, O: Sink, E: Sink>(
     out: &mut O,
     err: &mut E,
 ) -> u8
-    ensures { Outcome
+    ensures { Ended (IsAnswer
         (call words.now.items (S.holds shelf.old) (S.faults shelf.old) (S.faults shelf.new)
-        (stream (O.written out.old) (O.written out.new) (O.faults out.old) (O.faults out.new))
-        (stream (E.written err.old) (E.written err.new) (E.faults err.old) (E.faults err.new)))
+        (S.asked shelf.old) (S.asked shelf.new)
+        (stream (O.written out.old) (O.written out.new) (O.faults out.old) (O.faults out.new)
+        (O.asked out.old) (O.asked out.new))
+        (stream (E.written err.old) (E.written err.new) (E.faults err.old) (E.faults err.new)
+        (E.asked err.old) (E.asked err.new))))
+        (stream (O.written out.old) (O.written out.new) (O.faults out.old) (O.faults out.new)
+        (O.asked out.old) (O.asked out.new))
+        (stream (E.written err.old) (E.written err.new) (E.faults err.old) (E.faults err.new)
+        (E.asked err.old) (E.asked err.new))
         result }
 {
     let Some(file) = file_to_compile(words) else {
@@ -67,7 +80,8 @@ fn run<S: Shelf, O: Sink, E: Sink>(
 
 // The file that the words ask to compile.
 fn file_to_compile(words: &Vec<String>) -> Option<&str>
-    ensures { MatchOption result (IsUnknown (bytes_of words.now.items)) (λ file. IsCompile (bytes_of words.now.items) file.now) }
+    ensures { MatchOption result (IsUnknown (bytes_of words.now.items))
+        (λ file. bytes_of words.now.items ≡ spelled (compile file.now)) }
 {
     match words.as_slice() {
         [command, file] => if command.as_str() == "compile" {
@@ -81,23 +95,27 @@ fn file_to_compile(words: &Vec<String>) -> Option<&str>
 
 // Puts the theory of the bytes on out, or on err why there is none.
 fn deliver<O: Sink, E: Sink>(alloc: Global, bytes: &[u8], out: &mut O, err: &mut E) -> u8
-    ensures { IsDelivered bytes.now
-        (stream (O.written out.old) (O.written out.new) (O.faults out.old) (O.faults out.new))
-        (stream (E.written err.old) (E.written err.new) (E.faults err.old) (E.faults err.new))
+    ensures { (file : List ℕ) → Ended (IsAnswerTo (compile file) bytes.now)
+        (stream (O.written out.old) (O.written out.new) (O.faults out.old) (O.faults out.new)
+        (O.asked out.old) (O.asked out.new))
+        (stream (E.written err.old) (E.written err.new) (E.faults err.old) (E.faults err.new)
+        (E.asked err.old) (E.asked err.new))
         result }
 {
     match theory_text_of(alloc, bytes) {
-        Ok(text) => write(out, err, text.as_bytes()),
+        Ok(text) => give(out, err, text.as_bytes()),
         Err(Refusal::Told(line)) => tell(err, 1, line.as_bytes()),
         Err(Refusal::Mem) => last_word(err, 6, b"out of memory\n"),
     }
 }
 
 // Puts a text on out.
-fn write<O: Sink, E: Sink>(out: &mut O, err: &mut E, text: &[u8]) -> u8
-    ensures { IsWritten text.now
-        (stream (O.written out.old) (O.written out.new) (O.faults out.old) (O.faults out.new))
-        (stream (E.written err.old) (E.written err.new) (E.faults err.old) (E.faults err.new))
+fn give<O: Sink, E: Sink>(out: &mut O, err: &mut E, text: &[u8]) -> u8
+    ensures { IsPut (gives text.now)
+        (stream (O.written out.old) (O.written out.new) (O.faults out.old) (O.faults out.new)
+        (O.asked out.old) (O.asked out.new))
+        (stream (E.written err.old) (E.written err.new) (E.faults err.old) (E.faults err.new)
+        (E.asked err.old) (E.asked err.new))
         result }
 {
     match out.put(text) {
@@ -107,10 +125,11 @@ fn write<O: Sink, E: Sink>(out: &mut O, err: &mut E, text: &[u8]) -> u8
     }
 }
 
-// Puts the text of a status on err.
+// Puts the text of a status on err, and nothing on out.
 fn tell<E: Sink>(err: &mut E, status: u8, text: &[u8]) -> u8
-    ensures { IsTold status text.now
-        (stream (E.written err.old) (E.written err.new) (E.faults err.old) (E.faults err.new))
+    ensures { (out : Stream) → Gained out [] → text.now ≢ [] → IsPut (tells status text.now) out
+        (stream (E.written err.old) (E.written err.new) (E.faults err.old) (E.faults err.new)
+        (E.asked err.old) (E.asked err.new))
         result }
 {
     match err.put(text) {
@@ -125,6 +144,7 @@ fn last_word<E: Sink>(err: &mut E, status: u8, text: &[u8]) -> u8
     ensures status { result ≡ status }
     ensures some { AppendsSome (E.written err.old) (E.written err.new) text.now }
     ensures later { E.faults err.old ≤ E.faults err.new }
+    ensures asked { text.now ≢ [] → E.asked err.new ≡ one_more (E.asked err.old) }
 {
     match err.put(text) {
         Ok(()) => status,

@@ -1,4 +1,4 @@
-use Rattle.std.proofs.Common.{◌≡◌, ◌++◌, [], Some, sym, ap, ◌∙◌}
+use Rattle.std.proofs.Common.{◌≡◌, ◌++◌, [], Some, refl, sym, ap, ◌∙◌}
 use Rattle.sap_process.specs.Action as action
 use Rattle.sap_process.specs.Proc.{proc, parallel, act}
 use Rattle.sap_gen.specs.Built.{built}
@@ -14,7 +14,7 @@ returns-in_ok-add_places-in-Par-2 t c = λ b e.
     let whole : built (parallel (proc c.deref.result.now) (proc c.deref-in-Par.result.now)) ≡ Some b =
     rw (c.deref.ensures, c.deref-in-Par.ensures) (rw c.in-Par.is at e) in
     let s = sides (proc c.deref.result.now) (proc c.deref-in-Par.result.now) b whole in
-    parallel_joined rules path s.left s.right c.in_ok-parallel_rule-in-Par.ensures c.in_ok-push-in-Par.ensures.ok c.in_ok-first-in-Par.ensures
+    parallel_joined rules path s.left s.right refl c.in_ok-add_parallel_rule-in-Par.ensures c.in_ok-first-in-Par.ensures
     (c.in_ok-add_places-in-Par.ensures s.left s.is_left) c.in_ok-second-in-Par.ensures (c.in_ok-add_places-in-Par-2.ensures s.right s.is_right)
     ∙ ap (λ v. rules ++ place_rules path [] v) (sym s.is)
 
@@ -25,6 +25,6 @@ returns-in_ok-add_places-in-Event t c = λ b e.
     let whole : built (act (action.event c.in-Event.fact) (proc c.deref-in-Event.result.now)) ≡ Some b =
     rw c.deref-in-Event.ensures (rw c.in-Event.is at e) in
     let s = next c.in-Event.fact (proc c.deref-in-Event.result.now) b whole in
-    event_joined rules path c.in-Event.fact s.rest c.in_ok-event_rule-in-Event.ensures c.in_ok-push-in-Event.ensures.ok c.in_ok-first-in-Event.ensures
+    event_joined rules path c.in-Event.fact s.rest refl c.in_ok-add_event_rule-in-Event.ensures c.in_ok-first-in-Event.ensures
     (c.in_ok-add_places-in-Event.ensures s.rest s.is_rest)
     ∙ ap (λ v. rules ++ place_rules path [] v) (sym s.is)

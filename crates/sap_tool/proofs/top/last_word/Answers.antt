@@ -1,4 +1,4 @@
-use Rattle.sap_tool.proofs.Outcomes.{appends_whole}
+use Rattle.sap_tool.proofs.Appending.{appends_whole}
 use Rattle.sap_tool.proofs.top.last_word.Goals as goal
 
 pub returns-in-Ok-clause-some : goal.returns-in-Ok-clause-some

@@ -1,20 +1,24 @@
 use Rattle.std.proofs.Common.{rules, refl}
-use Rattle.sap_tool.specs.Call.{usage, unread, usage_text, read_fault_text, wanting}
-use Rattle.sap_tool.proofs.Outcomes.{appends_nothing, of_told, of_delivered}
+use Rattle.sap_tool.specs.Commands.{compile}
+use Rattle.sap_tool.specs.Answers.{tells, usage, unread, usage_text, read_fault_text, answered, unanswered}
+use Rattle.sap_tool.proofs.Appending.{appends_nothing, memory_is, read_fault_is, usage_is}
+use Rattle.sap_tool.proofs.Endings.{of_file}
 use Rattle.sap_tool.proofs.top.run.Goals as goal
 
 pub returns-in_default : goal.returns-in_default
-returns-in_default g c = of_told _ 3 _ usage_text (usage refl refl c.in_default.ensures) (appends_nothing _) c.tell.ensures
+returns-in_default g c = answered (tells 3 usage_text) (usage c.in_default.ensures refl) (c.tell.ensures _ (appends_nothing _) usage_is)
 
 pub returns-in-Ok : goal.returns-in-Ok
 returns-in-Ok g c =
-    of_delivered _ _ c.in-Ok.bytes.items (record { file = c.in-Some.file.now; named = c.in-Some.ensures; told = c.in-Ok.ensures.told })
-    (rw c.deref.ensures.value at c.deliver.ensures)
+    let file = c.in-Some.file.now in
+    of_file _ (compile file) c.in-Ok.bytes.items _ _ _ c.in-Some.ensures (c.in-Ok.ensures.told, c.fetch.ensures.asked) (rw c.deref.ensures.value at c.deliver.ensures file)
 
 pub returns-in-Err-Failed : goal.returns-in-Err-Failed
 returns-in-Err-Failed g c =
-    of_told _ 4 _ read_fault_text (unread c.in-Some.file.now refl refl c.in-Some.ensures (c.fetch.ensures.cause (search rules))) (appends_nothing _)
-    c.tell-in-Err-Failed.ensures
+    answered (tells 4 read_fault_text) (unread (compile c.in-Some.file.now) c.in-Some.ensures (c.fetch.ensures.cause (search rules)) c.fetch.ensures.asked)
+    (c.tell-in-Err-Failed.ensures _ (appends_nothing _) read_fault_is)
 
 pub returns-in-Err-Mem : goal.returns-in-Err-Mem
-returns-in-Err-Mem g c = let word = c.last_word.ensures.some in wanting word.0 c.last_word.ensures.status (appends_nothing _) word.1
+returns-in-Err-Mem g c =
+    let word = c.last_word.ensures.some in
+    unanswered word.0 c.last_word.ensures.status (appends_nothing _) word.1 (c.last_word.ensures.asked memory_is)

@@ -1,5 +1,5 @@
--- The events of a file's process.
-use Rattle.std.proofs.Common.{◌≡◌, ℕ, Bool, true, false, List, [], ◌∷◌, ◌++◌, Option, Some, None, refl, sym, ap, subst, ◌∙◌, arith}
+-- A well-formed process has no event of a reserved name.
+use Rattle.std.proofs.Common.{◌≡◌, ℕ, Bool, true, false, List, [], ◌∷◌, ◌++◌, Some, refl, sym, ap, subst, ◌∙◌, arith}
 use Rattle.std.specs.Prelude.{Contains, slice_get}
 use Rattle.std.proofs.lemmas.List.Elements.{Contains-append_left, Contains-append_right}
 use Rattle.std.proofs.lemmas.Option.{slice_get-get_or}
@@ -15,8 +15,9 @@ use Rattle.sap_process.specs.Flaws.{HasReservedFact, IsWellFormed}
 use Rattle.sap_process.specs.declared.flaw.Flaw.TheVariants.{ReservedFact}
 use Rattle.sap_process.specs.Sorted.{by_binder, with_sorts}
 use Rattle.sap_gen.specs.Built as whole
-use Rattle.sap_gen.specs.Built.{Built, events, built, both, shown, has_public_args}
+use Rattle.sap_gen.specs.Built.{Built, events, built}
 use Rattle.sap_gen.specs.Faithful.{AreFree, NoReservedEvents}
+use Rattle.sap_gen.proofs.Sites.{sides, next}
 
 -- none of these places has an event of a reserved name
 abbrev AllFree : List Site → Type 0
@@ -47,40 +48,21 @@ event_free : (path : List ℕ) (scope : List Var) (k : ℕ) (f : Fact) (p : Proc
 event_free path scope k f p false e none = e
 event_free path scope k f p true e none = absurd (none (record { fact = f; stands = (0, omega arith, refl); reserved = e }))
 
--- the parts of a built process
-module _ (b : Built) where
-  pub both_of : (o u : Option Built) → both o u ≡ Some b → (p : Built) × (q : Built) × (o ≡ Some p) × (u ≡ Some q) × (b ≡ whole.parallel p q)
-  both_of None u e = absurd (cc (e))
-  both_of (Some p) None e = absurd (cc (e))
-  both_of (Some p) (Some q) e = (p, q, refl, refl, cc)
-
-  shown_if : (f : Fact) (p : Built) (c : Bool) → has_public_args f ≡ c → shown f (Some p) ≡ Some b → (b ≡ whole.event f p) × (c ≡ true)
-  shown_if f p true h e =
-      let same : ◌≡◌ {A = Option Built} (Some (whole.event f p)) (Some b) = rw h at e in
-      (cc, refl)
-  shown_if f p false h e =
-      let none : ◌≡◌ {A = Option Built} None (Some b) = rw h at e in
-      absurd (cc (none))
-
-  pub shown_of : (f : Fact) (o : Option Built) → shown f o ≡ Some b → (p : Built) × (o ≡ Some p) × (b ≡ whole.event f p) × (has_public_args f ≡ true)
-  shown_of f None e = absurd (cc (e))
-  shown_of f (Some p) e = let is = shown_if f p (has_public_args f) refl e in (p, refl, is.0, is.1)
-
 free_from : (p : Proc) (path : List ℕ) (scope : List Var) (k : ℕ) (b : Built) → built (with_sorts scope p) ≡ Some b
     → AllFree (sites_from path scope k p) → NoReservedEvents b
 free_from nil path scope k b e all = let same : whole.nil ≡ b = cc in subst NoReservedEvents same tt
 free_from (parallel p q) path scope k b e all =
-    let parts = both_of b (built (with_sorts scope p)) (built (with_sorts scope q)) e in
+    let parts = sides (with_sorts scope p) (with_sorts scope q) b e in
     let below = tail_free _ (sites_from (path ++ 1 ∷ []) scope k p ++ sites_from (path ++ 2 ∷ []) scope k q) all in
-    let first = free_from p (path ++ 1 ∷ []) scope k parts.0 parts.2 (left_free (sites_from (path ++ 1 ∷ []) scope k p) (sites_from (path ++ 2 ∷ []) scope k q) below) in
-    let second = free_from q (path ++ 2 ∷ []) scope k parts.1 parts.3 (right_free (sites_from (path ++ 1 ∷ []) scope k p) (sites_from (path ++ 2 ∷ []) scope k q) below) in
-    subst NoReservedEvents (sym parts.4) (free-append (events parts.0) (events parts.1) first second)
+    let first = free_from p (path ++ 1 ∷ []) scope k parts.left parts.is_left (left_free (sites_from (path ++ 1 ∷ []) scope k p) (sites_from (path ++ 2 ∷ []) scope k q) below) in
+    let second = free_from q (path ++ 2 ∷ []) scope k parts.right parts.is_right (right_free (sites_from (path ++ 1 ∷ []) scope k p) (sites_from (path ++ 2 ∷ []) scope k q) below) in
+    subst NoReservedEvents (sym parts.is) (free-append (events parts.left) (events parts.right) first second)
 free_from (replicated p) path scope k b e all = absurd (cc (e))
 free_from (act (action.event f) p) path scope k b e all =
-    let parts = shown_of b (instance_fact (by_binder (scope ++ [])) f) (built (with_sorts (scope ++ []) p)) e in
-    let below = free_from p (path ++ 1 ∷ []) (scope ++ []) _ parts.0 parts.1 (tail_free _ _ all) in
+    let after = next (instance_fact (by_binder (scope ++ [])) f) (with_sorts (scope ++ []) p) b e in
+    let below = free_from p (path ++ 1 ∷ []) (scope ++ []) _ after.rest after.is_rest (tail_free _ _ all) in
     let here = event_free path scope k f p (is_reserved f.name) refl (all _ (head_in _ _)) in
-    subst NoReservedEvents (sym parts.2) (here, below)
+    subst NoReservedEvents (sym after.is) (here, below)
 free_from (act (action.new x) p) path scope k b e all = absurd (cc (e))
 free_from (act (action.out t) p) path scope k b e all = absurd (cc (e))
 free_from (act (action.send t u) p) path scope k b e all = absurd (cc (e))

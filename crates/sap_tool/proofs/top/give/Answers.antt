@@ -1,0 +1,17 @@
+use Rattle.std.proofs.Common.{rules}
+use Rattle.sap_tool.specs.Answers.{broken, wanting}
+use Rattle.sap_tool.proofs.Appending.{write_fault_is, memory_is}
+use Rattle.sap_tool.proofs.top.give.Goals as goal
+
+pub returns-in-Err-Failed : goal.returns-in-Err-Failed
+returns-in-Err-Failed g c =
+    let part = c.in-Err-Failed.ensures.part in
+    let word = c.last_word.ensures.some in
+    broken part.0 word.0 c.last_word.ensures.status (c.put.ensures.cause (search rules)) (part.1, word.1)
+    (c.last_word.ensures.asked write_fault_is)
+
+pub returns-in-Err-Mem : goal.returns-in-Err-Mem
+returns-in-Err-Mem g c =
+    let part = c.in-Err-Mem.ensures.part in
+    let word = c.last_word-in-Err-Mem.ensures.some in
+    wanting part.0 word.0 c.last_word-in-Err-Mem.ensures.status (part.1, word.1) (c.last_word-in-Err-Mem.ensures.asked memory_is)

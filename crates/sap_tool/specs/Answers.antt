@@ -1,0 +1,82 @@
+-- What there is to say of a call, and how that is put.
+use Rattle.std.specs.Prelude.{◌≡◌, ℕ, codes, List, [], ◌++◌, take}
+use Rattle.sap_tool.specs.Outside.{IsFetched, one_more}
+use Rattle.sap_tool.specs.Call.{Call, Stream, Gained, Failed, FailedOn}
+use Rattle.sap_tool.specs.Commands.{Command, spelled, file_of, limit_of, IsUnknown, Refuses, Allows}
+use Rattle.sap_tool.specs.Refusals.{refused_line}
+
+-- a text for out, which is status 0, or a status and a text for err
+pub data Answer : Type 0 where
+  gives : (text : List ℕ) → Answer
+  tells : (status : ℕ) (text : List ℕ) → Answer
+
+abbrev pub status_of : Answer → ℕ
+status_of (gives text) = 0
+status_of (tells status text) = status
+
+-- a command's answers to a file of these bytes
+pub data IsAnswerTo (k : Command) (bytes : List ℕ) : Answer → Type 0 where
+  allowed : {text : List ℕ} → Allows k bytes text → IsAnswerTo k bytes (gives text)
+  refused : (why : List ℕ) → Refuses k bytes why → IsAnswerTo k bytes (tells 1 (refused_line why))
+
+-- the words ask for this command
+abbrev pub Asks : Call → Command → Type 0
+Asks c k = c.words ≡ spelled k
+
+-- the shelf was asked once
+abbrev pub AskedOnce : Call → Type 0
+AskedOnce c = c.asked_after ≡ one_more c.asked_before
+
+-- the command's file was fetched as these bytes, and nothing else was fetched
+abbrev pub Fetched : Call → Command → List ℕ → Type 0
+Fetched c k bytes = IsFetched c.holds (file_of k) (limit_of k) bytes × AskedOnce c
+
+abbrev pub usage_text : List ℕ
+usage_text = codes "usage: sapic COMMAND ARGUMENTS\n"
+
+abbrev pub read_fault_text : List ℕ
+read_fault_text = codes "read fault\n"
+
+abbrev pub write_fault_text : List ℕ
+write_fault_text = codes "write fault\n"
+
+abbrev pub memory_text : List ℕ
+memory_text = codes "out of memory\n"
+
+-- the answers of a call, each with its cause
+pub data IsAnswer (c : Call) : Answer → Type 0 where
+  to_file : {a : Answer} (k : Command) (bytes : List ℕ) → Asks c k → Fetched c k bytes → IsAnswerTo k bytes a → IsAnswer c a
+  usage : IsUnknown c.words → c.asked_after ≡ c.asked_before → IsAnswer c (tells 3 usage_text)
+  unread : (k : Command) → Asks c k → FailedOn c (file_of k) → AskedOnce c → IsAnswer c (tells 4 read_fault_text)
+
+-- the answer's text is whole where it belongs, and nothing is elsewhere
+abbrev pub Whole : Answer → Stream → Stream → Type 0
+Whole (gives text) out err = Gained out text × Gained err []
+Whole (tells status text) out err = Gained out [] × Gained err text
+
+-- the first bytes of the answer's text are where it belongs, and then err gained this
+abbrev pub Part : Answer → ℕ → List ℕ → Stream → Stream → Type 0
+Part (gives text) i last out err = Gained out (take i text) × Gained err last
+Part (tells status text) i last out err = Gained out [] × Gained err (take i text ++ last)
+
+-- the sink failed that the answer's text was put on
+abbrev pub Broken : Answer → Stream → Stream → Type 0
+Broken (gives text) out err = Failed out
+Broken (tells status text) out err = Failed err
+
+-- err was asked for the last word, behind the answer's text where that belongs on err
+abbrev pub AsksLast : Answer → Stream → Type 0
+AsksLast (gives text) err = err.asked_after ≡ one_more err.asked_before
+AsksLast (tells status text) err = err.asked_after ≡ one_more (one_more err.asked_before)
+
+-- the answer was put whole; or its sink failed, or memory was wanting, after a first part of it, and err has a first part of
+-- the text of that, for which it was asked
+pub data IsPut (a : Answer) (out err : Stream) (status : ℕ) : Type 0 where
+  whole : status ≡ status_of a → Whole a out err → IsPut a out err status
+  broken : (i j : ℕ) → status ≡ 5 → Broken a out err → Part a i (take j write_fault_text) out err → AsksLast a err → IsPut a out err status
+  wanting : (i j : ℕ) → status ≡ 6 → Part a i (take j memory_text) out err → AsksLast a err → IsPut a out err status
+
+-- one of these answers was put, or memory was wanting before there was one
+pub data Ended (P : Answer → Type 0) (out err : Stream) (status : ℕ) : Type 0 where
+  answered : (a : Answer) → P a → IsPut a out err status → Ended P out err status
+  unanswered : (j : ℕ) → status ≡ 6 → Gained out [] → Gained err (take j memory_text) → err.asked_after ≡ one_more err.asked_before → Ended P out err status

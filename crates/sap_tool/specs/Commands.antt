@@ -1,0 +1,38 @@
+-- What the program is asked for, and what a command reads, refuses and allows.
+use Rattle.std.specs.Prelude.{◌≡◌, ℕ, codes, List, [], ◌∷◌}
+use Rattle.sap_tool.specs.BuiltFile.{most_bytes, IsTheoryOf}
+use Rattle.sap_tool.specs.Meaning.{IsFaithfulText}
+use Rattle.sap_tool.specs.Refusals.{IsRefusedWith}
+
+-- a constructor a command
+pub data Command : Type 0 where
+  -- the theory of a file
+  compile : (file : List ℕ) → Command
+
+-- the words that ask for it
+abbrev pub spelled : Command → List (List ℕ)
+spelled (compile file) = codes "compile" ∷ file ∷ []
+
+-- the words ask for nothing that the program does
+abbrev pub IsUnknown : List (List ℕ) → Type 0
+IsUnknown words = (k : Command) → words ≡ spelled k → ⊥
+
+-- the file that it reads
+abbrev pub file_of : Command → List ℕ
+file_of (compile file) = file
+
+-- how many bytes that file may have
+abbrev pub limit_of : Command → ℕ
+limit_of (compile file) = most_bytes
+
+-- it refuses a file of these bytes for this cause
+abbrev pub Refuses : Command → List ℕ → List ℕ → Type 0
+Refuses (compile file) bytes why = IsRefusedWith bytes why
+
+-- it allows this text for a file of these bytes
+abbrev pub Allows : Command → List ℕ → List ℕ → Type 0
+Allows (compile file) bytes text = IsTheoryOf bytes text
+
+-- what such a text means
+abbrev pub Means : Command → List ℕ → List ℕ → Type 0
+Means (compile file) bytes text = IsFaithfulText bytes text
