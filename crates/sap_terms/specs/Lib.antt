@@ -1,6 +1,5 @@
 pub mod Tree
 pub mod View
-pub mod Code
 pub mod Falls
 pub mod Same
 pub mod Ground
@@ -14,8 +13,11 @@ pub mod Equal
 pub mod Normal
 pub mod Deduce
 pub mod Path
+pub mod FactNames
 pub mod Reserved
 pub mod Message
+pub mod Destructors
+pub mod code
 pub mod Trace
 pub mod AdversaryFacts
 pub mod Piles

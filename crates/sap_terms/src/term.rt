@@ -30,7 +30,7 @@ pub struct TermList {
 impl Model for TermList {
     ghost use Rattle.std.specs.Prelude.{List, map};
     ghost use Rattle.sap_terms.specs.Tree.{Tree};
-    ghost use Rattle.sap_terms.specs.Code.{list_code};
+    ghost use Rattle.sap_terms.specs.code.Codes.{list_code};
 
     ghost Value = { List Tree };
 
