@@ -8,7 +8,7 @@ use Rattle.sap_terms.specs.Message.{IsOver, AreOver}
 use Rattle.sap_terms.specs.Signature.{Sig, arity_of, is_destructor_of}
 use Rattle.sap_terms.specs.Tree.{Tree, variable, public, fresh, apply, Trees, none, more, trees_of, list_of, list_of-trees_of}
 use Rattle.sap_terms.specs.code.TermTests.{has_arity, is_over, are_over, is_ground, are_ground, has_destructor, any_has_destructor}
-use Rattle.sap_terms.proofs.SameLemmas.{and_left, and_right, and_true}
+use Rattle.sap_terms.specs.code.SameLaws.{and_left, and_right, and_true}
 use Rattle.sap_terms.proofs.TreeLemmas.{item_le-trees_count}
 
 -- a symbol on a list of terms

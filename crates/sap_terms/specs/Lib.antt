@@ -1,13 +1,12 @@
 pub mod Tree
 pub mod View
 pub mod Falls
-pub mod Same
 pub mod Ground
 pub mod Choice
 pub mod Subst
 pub mod Variables
+pub mod Named
 pub mod Signature
-pub mod Symbols
 pub mod Equations
 pub mod Equal
 pub mod Normal
@@ -17,7 +16,9 @@ pub mod FactNames
 pub mod Reserved
 pub mod Message
 pub mod Destructors
+pub mod Laws
 pub mod code
+pub mod Same
 pub mod Trace
 pub mod AdversaryFacts
 pub mod Piles
