@@ -25,7 +25,7 @@ pub struct Knowledge {
 
 impl Model for Knowledge {
     ghost use Rattle.std.specs.Coded.{codes};
-    ghost use Rattle.sap_terms.specs.Code.{tree_code};
+    ghost use Rattle.sap_terms.specs.code.Codes.{tree_code};
     ghost use Rattle.sap_deduce.specs.Entries.{Entries, AreEntries};
 
     ghost Value = { Entries };

@@ -2,7 +2,7 @@
 use Rattle.std.specs.Prelude.{ℕ, Bool, Option, Some, None, List, slice_get, slice_set, if◌then◌else◌, refl}
 use Rattle.std.specs.Coded.{Coded, code_by, coded×, coded_list, coded_option, coded_bool, coded_ℕ}
 use Rattle.sap_terms.specs.Tree.{Tree}
-use Rattle.sap_terms.specs.Code.{list_code}
+use Rattle.sap_terms.specs.code.Codes.{list_code}
 use Rattle.sap_terms.specs.declared.fact.Fact.{Fact}
 
 -- the facts ever put on a pile, at their numbers, None for one that was taken; and how many more are sure to find memory

@@ -7,7 +7,6 @@ pub mod Walk
 pub mod Pattern
 pub mod Around
 pub mod Bound
-pub mod Closed
 pub use Rattle.sap_terms.specs.Tree
 pub use Rattle.sap_terms.specs.View
 pub use Rattle.sap_terms.specs.Signature

@@ -20,7 +20,7 @@ impl Model for Rules {
     ghost use Rattle.std.specs.Str.{bytes_eq};
     ghost use Rattle.std.specs.Coded.{codes};
     ghost use Rattle.indexmap.specs.IndexMap.{get};
-    ghost use Rattle.sap_terms.specs.Code.{tree_code};
+    ghost use Rattle.sap_terms.specs.code.Codes.{tree_code};
     ghost use Rattle.sap_steps.specs.declared.prepared.Prepared.{Prepared};
     ghost use Rattle.sap_steps.specs.code.Ready.{place_named};
 

@@ -36,7 +36,7 @@ pub struct RuleState {
 
 impl Model for RuleState {
     ghost use Rattle.std.specs.Coded.{codes};
-    ghost use Rattle.sap_terms.specs.Code.{tree_code};
+    ghost use Rattle.sap_terms.specs.code.Codes.{tree_code};
     ghost use Rattle.sap_steps.specs.State.{State};
 
     ghost Value = { State };

@@ -11,7 +11,7 @@ use Rattle.sap_terms.specs.Signature.{Sig, find_symbol, IsMap, declared, declare
 use Rattle.sap_terms.specs.declared.signature.Builtin.{Builtin}
 use Rattle.sap_terms.specs.declared.signature.Builtin.TheVariants.{Hashing, Symmetric, Asymmetric, Signing}
 use Rattle.sap_terms.specs.Equations.{equations, IsInstance, first, second, symmetric, asymmetric, signing, IsDestructor, app0, app1, app2, pair_name, fst_name, snd_name, senc_name, sdec_name, aenc_name, adec_name, pk_name, sign_name, verify_name, true_name}
-use Rattle.sap_terms.proofs.SameLemmas.{and_left, and_right, same_name}
+use Rattle.sap_terms.specs.code.SameLaws.{and_left, and_right, same_name}
 
 -- names that differ differ the other way round
 other_name : (a b : List ℕ) → bytes_eq a b ≡ false → bytes_eq b a ≡ false

@@ -2,6 +2,7 @@
 use Rattle.std.specs.Prelude.{◌≡◌, ◌<◌, ℕ, Bool, true, false, not, ◌&&◌, ◌||◌, nat_eq, codes, List, [], ◌∷◌, ◌++◌, length, slice_get, Option, Some, None, MatchOption, if◌then◌else◌, option_map, is_some}
 use Rattle.std.specs.Option.{option_map_or}
 use Rattle.std.specs.Str.{bytes_eq}
+use Rattle.sap_terms.specs.Named.{first_named}
 use Rattle.sap_terms.specs.declared.signature.Symbol.{Symbol}
 use Rattle.sap_terms.specs.declared.signature.Builtin.{Builtin}
 use Rattle.sap_terms.specs.declared.signature.Builtin.TheVariants.{Hashing, Symmetric, Asymmetric, Signing}
@@ -27,8 +28,7 @@ has_builtin g Signing = g.builtins.signing
 
 -- the held symbol of this name
 abbrev pub find_symbol : List Symbol → List ℕ → Option Symbol
-find_symbol [] n = None
-find_symbol (s ∷ ss) n = if bytes_eq s.name n then Some s else find_symbol ss n
+find_symbol ss n = first_named (λ (s : Symbol). s.name) ss n
 
 -- the arity of a held name
 abbrev pub arity_of : Sig → List ℕ → Option ℕ

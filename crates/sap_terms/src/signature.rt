@@ -1,10 +1,9 @@
 ghost use Rattle.std.specs.Prelude.{◌≡◌, ℕ, ◌↔◌, List, IsTrue, IsErrOf, OnOk, OnErr, IfOk, MatchOption, option_map, slice_get, None, Some, false};
 ghost use Rattle.std.specs.Option.{option_copied};
-ghost use Rattle.sap_terms.specs.Signature.{Sig, arity_of, IsPublic, Clashes, declared, has_builtin, is_destructor_of, builtin_symbols, declared_all, is_held_otherwise, first_clash, added, pairs_alone, IsMap, IsFirstClash, HoldsBuiltins};
+ghost use Rattle.sap_terms.specs.Signature.{Sig, find_symbol, arity_of, IsPublic, Clashes, declared, has_builtin, is_destructor_of, builtin_symbols, declared_all, is_held_otherwise, first_clash, added, pairs_alone, IsMap, IsFirstClash, HoldsBuiltins};
 ghost use Rattle.sap_terms.specs.declared.signature.SigFault.TheVariants.{Mem as OutOfMemory};
 
-use crate::symbols::Symbols;
-use crate::{Copied, Items, Mem, Name};
+use crate::{Copied, HasName, Items, Mem, Name, Named};
 use std::alloc::{AllocError, AllocFailed, Global};
 use std::marker::Model;
 
@@ -50,7 +49,7 @@ impl From<Mem> for SigFault {
 /// A look-up by a name takes time in the length of the name on average, however many symbols are held.
 #[derive(Drop)]
 pub struct Signature {
-    symbols: Symbols,
+    symbols: Named<Symbol>,
     hashing: bool,
     symmetric: bool,
     asymmetric: bool,
@@ -78,7 +77,7 @@ impl Signature {
     pub fn new(alloc: Global) -> Result<Signature, Mem>
         ensures { IfOk result (λ g. g ≡ pairs_alone) }
     {
-        let mut symbols = Symbols::new(alloc);
+        let mut symbols = Named::new(alloc);
         symbols.push(public_symbol(alloc, b"pair", 2)?)?;
         symbols.push(public_symbol(alloc, b"fst", 1)?)?;
         symbols.push(public_symbol(alloc, b"snd", 1)?)?;
@@ -107,7 +106,7 @@ impl Signature {
     pub fn arity(&self, name: &Name) -> Option<u64>
         ensures { result ≡ arity_of self.now name.now }
     {
-        match self.symbols.named(name) {
+        match held(&self.symbols, name) {
             Some(s) => Some(s.arity),
             None => None,
         }
@@ -117,7 +116,7 @@ impl Signature {
     pub fn is_public(&self, name: &Name) -> bool
         ensures { IsTrue result ↔ IsPublic self.now name.now }
     {
-        match self.symbols.named(name) {
+        match held(&self.symbols, name) {
             Some(s) => !s.private,
             None => false,
         }
@@ -150,7 +149,7 @@ impl Signature {
         ensures other { (n : List ℕ) → IsErrOf result (SigFault.Clash n) → n ≡ name }
         ensures err { OnErr result (self.new ≡ self.old) }
     {
-        match self.symbols.named(&name) {
+        match held(&self.symbols, &name) {
             Some(s) => {
                 if s.arity == arity && s.private == private {
                     Ok(())
@@ -170,6 +169,14 @@ impl Signature {
     }
 }
 
+impl HasName for Symbol {
+    ghost name_of = { λ s. s.name };
+
+    fn name(&self) -> &Name {
+        &self.name
+    }
+}
+
 impl Copied for Symbol {
     fn copy(&self, alloc: Global) -> Result<Symbol, Mem> {
         Ok(Symbol {
@@ -178,6 +185,13 @@ impl Copied for Symbol {
             private: self.private,
         })
     }
+}
+
+// The held symbol of this name.
+fn held<'a>(symbols: &'a Named<Symbol>, name: &Name) -> Option<&'a Symbol>
+    ensures { option_copied result ≡ find_symbol symbols.now name.now }
+{
+    symbols.named(name)
 }
 
 // A public symbol of this name and arity.
@@ -223,17 +237,17 @@ fn symbols_of(alloc: Global, b: Builtin) -> Result<Items<Symbol>, Mem>
 }
 
 // Whether the symbol's name is held with another arity or privacy.
-fn is_held_otherwise(symbols: &Symbols, symbol: &Symbol) -> bool
+fn is_held_otherwise(symbols: &Named<Symbol>, symbol: &Symbol) -> bool
     ensures { result ≡ is_held_otherwise symbols.now symbol.now }
 {
-    match symbols.named(&symbol.name) {
+    match held(symbols, &symbol.name) {
         Some(s) => !(s.arity == symbol.arity && s.private == symbol.private),
         None => false,
     }
 }
 
 // The place of the first of these symbols that is held otherwise.
-fn first_clash(symbols: &Symbols, added: &Items<Symbol>) -> Option<u64>
+fn first_clash(symbols: &Named<Symbol>, added: &Items<Symbol>) -> Option<u64>
     ensures { MatchOption result (first_clash symbols.now added.now ≡ None)
         (λ k. IsFirstClash symbols.now added.now k) }
 {
@@ -246,12 +260,16 @@ fn first_clash(symbols: &Symbols, added: &Items<Symbol>) -> Option<u64>
 }
 
 // The symbols with these, one after another, where their names are not held.
-fn declare_all(alloc: Global, symbols: &Symbols, added: &Items<Symbol>) -> Result<Symbols, Mem>
+fn declare_all(
+    alloc: Global,
+    symbols: &Named<Symbol>,
+    added: &Items<Symbol>,
+) -> Result<Named<Symbol>, Mem>
     ensures { IfOk result (λ ss. ss ≡ declared_all symbols.now added.now) }
 {
     let mut all = symbols.copy(alloc)?;
     for s in added.as_slice() {
-        if all.named(&s.name).is_none() {
+        if held(&all, &s.name).is_none() {
             all.push(s.copy(alloc)?)?;
         }
     }

@@ -1,9 +1,10 @@
 ghost use Rattle.std.specs.Prelude.{◌≡◌, ◌<◌, ◌↔◌, [], ◌∷◌, ◌++◌, length, IsTrue, OnOk, OnErr, slice_get, option_map, min, map, Some, slice_index_or, ◌≤◌};
 ghost use Rattle.std.specs.Option.{option_copied};
-ghost use Rattle.sap_terms.specs.Same.{same_tree};
+ghost use Rattle.sap_terms.specs.code.Same.{same_tree};
 
 use crate::{Copied, Mem, Name, Var};
 use std::alloc::Global;
+use std::hash::{Hash, Hasher};
 use std::marker::Model;
 
 /// A term of the symbolic model. Contracts see it as a plain tree, by `tree` of the specs' `View`.
@@ -30,7 +31,7 @@ pub struct TermList {
 impl Model for TermList {
     ghost use Rattle.std.specs.Prelude.{List, map};
     ghost use Rattle.sap_terms.specs.Tree.{Tree};
-    ghost use Rattle.sap_terms.specs.Code.{list_code};
+    ghost use Rattle.sap_terms.specs.code.Codes.{list_code};
 
     ghost Value = { List Tree };
 
@@ -219,5 +220,106 @@ impl Copied for TermList {
             items.push(t.copy(alloc)?)?;
         }
         Ok(TermList { items })
+    }
+}
+
+impl PartialEq for Term {
+    ghost use Rattle.sap_terms.specs.code.Keys.{term_eq, term_per};
+
+    ghost eq = { term_eq };
+
+    ghost laws = { term_per };
+
+    fn eq(&self, other: &Term) -> bool {
+        self.same(other)
+    }
+}
+
+impl Eq for Term {
+    ghost use Rattle.sap_terms.specs.code.Keys.{term_equiv};
+
+    ghost laws = { term_equiv };
+}
+
+impl Hash for Term {
+    ghost use Rattle.std.proofs.Common.{ap};
+    ghost use Rattle.sap_terms.specs.View.{tree};
+    ghost use Rattle.sap_terms.specs.code.Hashed.{fed_tree};
+    ghost use Rattle.sap_terms.specs.code.Keys.{term_decides};
+
+    ghost hash_input = { λ t. fed_tree (tree t) };
+
+    ghost respects_eq = { λ a b h. ap (λ t. fed_tree (tree t)) ((term_decides a b).0 h) };
+
+    #[cycle(hash)]
+    fn hash<H: Hasher>(&self, state: &mut H) {
+        match self {
+            Term::Var(v) => {
+                state.write_u8(0);
+                v.name.hash(state);
+            }
+            Term::Public(n) => {
+                state.write_u8(1);
+                n.hash(state);
+            }
+            Term::Fresh(k) => {
+                state.write_u8(2);
+                k.hash(state);
+            }
+            Term::App(f, ts) => {
+                state.write_u8(3);
+                f.hash(state);
+                ts.feed(state);
+            }
+        }
+    }
+}
+
+impl TermList {
+    ghost use Rattle.std.specs.List.{fold};
+    ghost use Rattle.sap_terms.specs.Tree.{trees_of};
+    ghost use Rattle.sap_terms.specs.code.Hashed.{fed_trees};
+
+    // Feeds each term to the hasher.
+    #[cycle(hash)]
+    fn feed<H: Hasher>(&self, state: &mut H)
+        ensures { state.new ≡ fold H.write state.old (fed_trees (trees_of self.now)) }
+    {
+        for t in &self.items {
+            t.hash(state);
+        }
+    }
+}
+
+impl PartialEq for TermList {
+    ghost use Rattle.sap_terms.specs.code.Keys.{terms_eq, terms_per};
+
+    ghost eq = { terms_eq };
+
+    ghost laws = { terms_per };
+
+    fn eq(&self, other: &TermList) -> bool {
+        self.is(other)
+    }
+}
+
+impl Eq for TermList {
+    ghost use Rattle.sap_terms.specs.code.Keys.{terms_equiv};
+
+    ghost laws = { terms_equiv };
+}
+
+impl Hash for TermList {
+    ghost use Rattle.std.proofs.Common.{ap};
+    ghost use Rattle.sap_terms.specs.Tree.{trees_of};
+    ghost use Rattle.sap_terms.specs.code.Hashed.{fed_trees};
+    ghost use Rattle.sap_terms.specs.code.Keys.{terms_decides};
+
+    ghost hash_input = { λ ts. fed_trees (trees_of ts) };
+
+    ghost respects_eq = { λ a b h. ap (λ ts. fed_trees (trees_of ts)) ((terms_decides a b).0 h) };
+
+    fn hash<H: Hasher>(&self, state: &mut H) {
+        self.feed(state);
     }
 }

@@ -4,7 +4,7 @@ use crate::{Copied, Items, Mem, Name};
 use std::alloc::Global;
 
 /// What may stand for a variable: any message, a fresh name, or a public name.
-#[derive(Clone, Copy, Debug, PartialEq, Eq)]
+#[derive(Clone, Copy, Debug, PartialEq, Eq, Hash)]
 pub enum Sort {
     Msg,
     Fresh,
@@ -12,7 +12,7 @@ pub enum Sort {
 }
 
 /// A variable: `x`, `~x` or `$x`.
-#[derive(Drop)]
+#[derive(Drop, PartialEq, Eq, Hash)]
 pub struct Var {
     pub name: Name,
     pub sort: Sort,

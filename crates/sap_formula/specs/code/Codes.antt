@@ -3,7 +3,7 @@ use Rattle.std.specs.Prelude.{◌≡◌, ℕ, zero, suc, Bool, true, false, List
 use Rattle.std.proofs.Common.{ap}
 use Rattle.std.specs.Coded.{Coded, code_by, coded×, coded_ℕ, coded_list}
 use Rattle.sap_terms.specs.Tree.{Tree, variable, public, fresh, apply, Trees, none, more, trees_of, list_of, list_of-trees_of}
-use Rattle.sap_terms.specs.Code.{tree_code}
+use Rattle.sap_terms.specs.code.Codes.{tree_code}
 use Rattle.sap_terms.specs.declared.fact.Fact.{Fact}
 use Rattle.sap_formula.specs.Form.{Form, truth, falsity, action, equal, same_place, earlier, negation, both, either, implies, equivalent, every, exists, RestrictionForm, LemmaForm}
 use Rattle.sap_formula.specs.declared.binder.Binder.{Binder}

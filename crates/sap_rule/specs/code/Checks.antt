@@ -4,7 +4,7 @@ use Rattle.sap_terms.specs.Signature.{Sig, arity_of}
 use Rattle.sap_terms.specs.Tree.{Tree, variable, public, fresh, apply, Trees, none, more, list_of}
 use Rattle.sap_terms.specs.declared.var.Sort.{Sort}
 use Rattle.sap_terms.specs.declared.var.Var.{Var}
-use Rattle.sap_rewrite.specs.Closed.{has_arity}
+use Rattle.sap_terms.specs.code.TermTests.{has_arity}
 
 abbrev mutual
   -- each symbol is held with its arity

@@ -1,4 +1,4 @@
-use Rattle.sap_terms.proofs.SameLemmas.{test_from_same}
+use Rattle.sap_terms.specs.code.SameLaws.{test_from_same}
 use Rattle.sap_terms.proofs.term.Term.same.Goals as goal
 
 pub returns-clause-test : goal.returns-clause-test

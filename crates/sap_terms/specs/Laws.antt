@@ -1,0 +1,26 @@
+-- What holds of all terms under every signature.
+use Rattle.std.specs.Prelude.{◌≡◌, ◌↔◌, ℕ, List, true, IsTrue}
+use Rattle.sap_terms.specs.Choice.{fits_sort}
+use Rattle.sap_terms.specs.Equations.{Equations, equations, IsDestructor}
+use Rattle.sap_terms.specs.Message.{IsMessage}
+use Rattle.sap_terms.specs.Normal.{IsNormal, AreNormal}
+use Rattle.sap_terms.specs.Signature.{Sig, is_destructor_of}
+use Rattle.sap_terms.specs.Tree.{Tree, variable, public, fresh, apply, Trees}
+use Rattle.sap_terms.specs.declared.var.Sort.{Sort}
+use Rattle.sap_terms.specs.declared.var.Var.{Var}
+
+-- a public name is a message of each sort that it fits, and so is a fresh name
+pub record NamesAreMessages : Type 0 where
+  pub public_name : (g : Sig) (s : Sort) (n : List ℕ) → IsTrue (fits_sort s (public n)) → IsMessage g s (public n)
+  pub fresh_name : (g : Sig) (s : Sort) (k : ℕ) → IsTrue (fits_sort s (fresh k)) → IsMessage g s (fresh k)
+
+-- variables and names are normal, and so is what is no destructor on normal terms
+pub record LeavesAreNormal : Type 0 where
+  pub of_variable : (e : Equations) (v : Var) → IsNormal e (variable v)
+  pub of_public_name : (e : Equations) (n : List ℕ) → IsNormal e (public n)
+  pub of_fresh_name : (e : Equations) (k : ℕ) → IsNormal e (fresh k)
+  pub of_symbol : (e : Equations) (f : List ℕ) (ts : Trees) → (IsDestructor e f → ⊥) → AreNormal e ts → IsNormal e (apply f ts)
+
+-- the test of destructors takes exactly the names that head the left side of an equation that is switched on
+abbrev pub DestructorsHeadLeftSides : Type 0
+DestructorsHeadLeftSides = (g : Sig) (f : List ℕ) → (is_destructor_of g f ≡ true) ↔ IsDestructor (equations g) f
