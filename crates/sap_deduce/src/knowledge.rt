@@ -11,7 +11,7 @@ ghost use Rattle.sap_deduce.specs.declared.origin.Origin.TheVariants.{Name as Na
 use crate::Deny;
 use crate::entry::Entry;
 use crate::origin::Origin;
-use sap_rewrite::{Limited, forms_are_messages, normal_on};
+use sap_rewrite::{Cut, forms_are_messages, normal_on};
 use sap_terms::{Copied, Items, MOST_TERM_NODES, Mem, Name, Numbers, Signature, Term};
 use std::alloc::Global;
 use std::marker::Model;
@@ -158,8 +158,8 @@ impl Knowledge {
         let terms = self.terms_at(alloc, numbers)?;
         match normal_on(alloc, &self.sig, f, &terms, MOST_TERM_NODES) {
             Ok(form) => Ok(form),
-            Err(Limited::Large) => Err(Deny::TermLarge),
-            Err(Limited::Mem) => Err(Deny::Mem),
+            Err(Cut::Large) => Err(Deny::TermLarge),
+            Err(Cut::Mem) => Err(Deny::Mem),
         }
     }
 

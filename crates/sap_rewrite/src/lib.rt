@@ -1,7 +1,7 @@
 //! Normal forms, which decide the equational theory, and matching of patterns.
 #![tactic(auto)]
 
-mod limited;
+mod cut;
 mod laws;
 mod lends;
 mod matching;
@@ -12,7 +12,7 @@ mod shape;
 mod symbol;
 mod within;
 
-pub use limited::Limited;
+pub use cut::Cut;
 pub use laws::{
     agreeing_choices_substitute, bindings_give_choices, each_term_has_a_normal_form,
     extensions_join, fitting_gives_messages, forms_are_messages, matching_around_is_modulo,

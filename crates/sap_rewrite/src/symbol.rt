@@ -7,7 +7,7 @@ ghost use Rattle.sap_terms.specs.Normal.{IsNormal, IsNormalForm};
 ghost use Rattle.sap_rewrite.specs.Reduce.{inner_part, reduced};
 ghost use Rattle.sap_rewrite.specs.Large.{HasLargeForm};
 
-use crate::Limited;
+use crate::Cut;
 use crate::lends::Lends;
 use crate::reduce::{is_verified, place_of_part, true_constant};
 use sap_terms::{Copied, Mem, Name, Signature, Term, TermList};
@@ -51,28 +51,28 @@ fn copies<L: Lends>(alloc: Global, args: &L) -> Result<TermList, Mem>
 }
 
 // A copy of the term, if it has no more nodes than the limit.
-fn small_copy(alloc: Global, t: &Term, most: u64) -> Result<Term, Limited>
+fn small_copy(alloc: Global, t: &Term, most: u64) -> Result<Term, Cut>
     requires { most < u64.MAX }
     ensures copy { IfOk result (λ r. tree r ≡ tree t.now) }
     ensures within { OnOk result (node_count (tree t.now) ≤ most) }
-    ensures large { IsErrOf result Limited.Large → most < node_count (tree t.now) }
+    ensures large { IsErrOf result Cut.Large → most < node_count (tree t.now) }
 {
     if t.nodes() > most {
-        return Err(Limited::Large);
+        return Err(Cut::Large);
     }
     let copy = t.copy(alloc)?;
     Ok(copy)
 }
 
 // The symbol on copies of the terms, if that has no more nodes than the limit.
-fn small_symbol<L: Lends>(alloc: Global, f: &Name, args: &L, most: u64) -> Result<Term, Limited>
+fn small_symbol<L: Lends>(alloc: Global, f: &Name, args: &L, most: u64) -> Result<Term, Cut>
     requires { most < u64.MAX }
     ensures copy { IfOk result (λ r. tree r ≡ apply f.now (trees_of (L.lent args.now))) }
     ensures within { OnOk result (node_count (apply f.now (trees_of (L.lent args.now))) ≤ most) }
-    ensures large { IsErrOf result Limited.Large → most < node_count (apply f.now (trees_of (L.lent args.now))) }
+    ensures large { IsErrOf result Cut.Large → most < node_count (apply f.now (trees_of (L.lent args.now))) }
 {
     if nodes_of(args) >= most {
-        return Err(Limited::Large);
+        return Err(Cut::Large);
     }
     let head = f.copy(alloc)?;
     let terms = copies(alloc, args)?;
@@ -86,11 +86,11 @@ fn small_reduced<L: Lends>(
     f: &Name,
     args: &L,
     most: u64,
-) -> Result<Term, Limited>
+) -> Result<Term, Cut>
     requires { most < u64.MAX }
     ensures form { IfOk result (λ r. tree r ≡ reduced (equations sig.now) f.now (trees_of (L.lent args.now))) }
     ensures within { OnOk result (node_count (reduced (equations sig.now) f.now (trees_of (L.lent args.now))) ≤ most) }
-    ensures large { IsErrOf result Limited.Large → most < node_count (reduced (equations sig.now) f.now (trees_of (L.lent args.now))) }
+    ensures large { IsErrOf result Cut.Large → most < node_count (reduced (equations sig.now) f.now (trees_of (L.lent args.now))) }
 {
     if let Some(k) = place_of_part(sig, f, args) {
         return small_copy(alloc, part_of(args, k), most);
@@ -99,7 +99,7 @@ fn small_reduced<L: Lends>(
         return small_symbol(alloc, f, args, most);
     }
     if most == 0 {
-        return Err(Limited::Large);
+        return Err(Cut::Large);
     }
     let holds = true_constant(alloc)?;
     Ok(holds)
@@ -114,12 +114,12 @@ pub fn normal_on(
     f: &Name,
     args: &Vec<&Term>,
     most: u64,
-) -> Result<Term, Limited>
+) -> Result<Term, Cut>
     requires below { most < u64.MAX }
     requires normal { All (IsNormal (equations sig.now)) (map (λ t. tree t.now) args.now.items) }
     ensures form { IfOk result (λ r. IsNormalForm (equations sig.now) (apply f.now (trees_of (map (λ t. tree t.now) args.now.items))) (tree r)) }
     ensures within { IfOk result (λ r. node_count (tree r) ≤ most) }
-    ensures large { IsErrOf result Limited.Large → HasLargeForm (equations sig.now) most (apply f.now (trees_of (map (λ t. tree t.now) args.now.items))) }
+    ensures large { IsErrOf result Cut.Large → HasLargeForm (equations sig.now) most (apply f.now (trees_of (map (λ t. tree t.now) args.now.items))) }
 {
     small_reduced(alloc, sig, f, args, most)
 }

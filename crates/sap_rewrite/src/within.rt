@@ -7,7 +7,7 @@ ghost use Rattle.sap_rewrite.specs.Reduce.{nf, reduced};
 ghost use Rattle.sap_rewrite.specs.Fit.{each_fits, all_fit};
 ghost use Rattle.sap_rewrite.specs.Large.{HasLargeSubterm};
 
-use crate::Limited;
+use crate::Cut;
 use crate::reduce::{is_left_side, reduce};
 use sap_terms::{Copied, Mem, Name, Signature, Term, TermList};
 use std::alloc::Global;
@@ -29,11 +29,11 @@ struct CountedList {
 /// The normal form of a term, where none of a subterm, the whole term included, has more than `most` nodes; where one
 /// has, `Large`. Each subterm's normal form is counted as soon as it stands, so that none is made of a larger one. It
 /// recurses as deep as the term.
-pub fn normal_within(alloc: Global, sig: &Signature, t: &Term, most: u64) -> Result<Term, Limited>
+pub fn normal_within(alloc: Global, sig: &Signature, t: &Term, most: u64) -> Result<Term, Cut>
     requires { most < u64.MAX }
     ensures form { IfOk result (λ r. IsNormalForm (equations sig.now) (tree t.now) (tree r)) }
     ensures within { OnOk result (HasLargeSubterm (equations sig.now) most (tree t.now) → ⊥) }
-    ensures large { IsErrOf result Limited.Large → HasLargeSubterm (equations sig.now) most (tree t.now) }
+    ensures large { IsErrOf result Cut.Large → HasLargeSubterm (equations sig.now) most (tree t.now) }
 {
     match within_term(alloc, sig, t, most) {
         Ok(form) => Ok(form.term),
@@ -42,13 +42,13 @@ pub fn normal_within(alloc: Global, sig: &Signature, t: &Term, most: u64) -> Res
 }
 
 // The term, where it has no more nodes than the limit.
-fn limited(c: Counted, most: u64) -> Result<Counted, Limited>
+fn limited(c: Counted, most: u64) -> Result<Counted, Cut>
     ensures ok { IfOk result (λ r. r ≡ c) }
     ensures within { OnOk result (c.nodes ≤ most) }
     ensures large { OnErr result (most < c.nodes) }
 {
     if c.nodes > most {
-        return Err(Limited::Large);
+        return Err(Cut::Large);
     }
     Ok(c)
 }
@@ -78,12 +78,12 @@ fn reduce_counted(
 
 #[cycle(within)]
 #[tactic(auto, using(crate::proofs::Fits::fit_laws))]
-fn within_term(alloc: Global, sig: &Signature, t: &Term, most: u64) -> Result<Counted, Limited>
+fn within_term(alloc: Global, sig: &Signature, t: &Term, most: u64) -> Result<Counted, Cut>
     requires { most < u64.MAX }
     ensures form { IfOk result (λ r. tree r.term ≡ nf (equations sig.now) (tree t.now)) }
     ensures count { IfOk result (λ r. r.nodes ≡ min (node_count (nf (equations sig.now) (tree t.now))) u64.MAX) }
     ensures fits { OnOk result (each_fits (equations sig.now) most (tree t.now) ≡ true) }
-    ensures large { IsErrOf result Limited.Large → each_fits (equations sig.now) most (tree t.now) ≡ false }
+    ensures large { IsErrOf result Cut.Large → each_fits (equations sig.now) most (tree t.now) ≡ false }
 {
     match t {
         Term::App(f, args) => {
@@ -99,12 +99,12 @@ fn within_term(alloc: Global, sig: &Signature, t: &Term, most: u64) -> Result<Co
 
 #[cycle(within)]
 #[tactic(auto, using(crate::proofs::Fits::fit_laws))]
-fn within_all(alloc: Global, sig: &Signature, ts: &TermList, most: u64) -> Result<CountedList, Limited>
+fn within_all(alloc: Global, sig: &Signature, ts: &TermList, most: u64) -> Result<CountedList, Cut>
     requires { most < u64.MAX }
     ensures forms { IfOk result (λ r. r.terms ≡ map (nf (equations sig.now)) ts.now) }
     ensures count { IfOk result (λ r. r.nodes ≡ min (trees_count (trees_of r.terms)) u64.MAX) }
     ensures fits { OnOk result (all_fit (equations sig.now) most (trees_of ts.now) ≡ true) }
-    ensures large { IsErrOf result Limited.Large → all_fit (equations sig.now) most (trees_of ts.now) ≡ false }
+    ensures large { IsErrOf result Cut.Large → all_fit (equations sig.now) most (trees_of ts.now) ≡ false }
 {
     let mut terms = TermList::new(alloc);
     let mut nodes: u64 = 0;

@@ -4,15 +4,15 @@ use Rattle.std.specs.Prelude.{Result, Ok, Err, IfErr, IsErrAnd}
 use Rattle.sap_terms.specs.Choice.{Choice, instance}
 use Rattle.sap_terms.specs.Signature.{Sig}
 use Rattle.sap_terms.specs.declared.fact.Fact.{Fact}
-use Rattle.sap_rewrite.specs.declared.limited.Limited.{Limited}
-use Rattle.sap_rewrite.specs.declared.limited.Limited.TheVariants.{Mem as CutMem, Large}
+use Rattle.sap_rewrite.specs.declared.cut.Cut.{Cut}
+use Rattle.sap_rewrite.specs.declared.cut.Cut.TheVariants.{Mem as CutMem, Large}
 use Rattle.sap_rule.specs.declared.rule.Rule.{Rule}
 use Rattle.sap_steps.specs.code.Firing.{SomeLarge, args_of, IsEvaluationFault, limited_fault}
 use Rattle.sap_steps.specs.Lines.{rule_terms}
 use Rattle.sap_steps.specs.declared.fault.RFault.{RFault}
 use Rattle.sap_steps.proofs.Formed.{large_cases, large_front, large_back}
 
-pub fault_large : (g : Sig) (τ : Choice) (r : Rule) (cited : List Fact) (k : Limited) → (k ≡ Large → SomeLarge g (map (instance τ) (rule_terms r))) → IsEvaluationFault g τ r cited (limited_fault k)
+pub fault_large : (g : Sig) (τ : Choice) (r : Rule) (cited : List Fact) (k : Cut) → (k ≡ Large → SomeLarge g (map (instance τ) (rule_terms r))) → IsEvaluationFault g τ r cited (limited_fault k)
 fault_large g τ r cited CutMem h = tt
 fault_large g τ r cited Large h = h refl
 
@@ -32,6 +32,6 @@ none_large g τ r a b c s = elim (large_cases g τ r.left (r.acts ++ r.right) s)
 ]
 
 -- a fault that is passed on
-pub passed : {T : Type 0} (r : Result T RFault) (P : RFault → Type 0) (k : Limited) → P (limited_fault k) → IsErrAnd r (λ e. e ≡ limited_fault k) → IfErr r P
+pub passed : {T : Type 0} (r : Result T RFault) (P : RFault → Type 0) (k : Cut) → P (limited_fault k) → IsErrAnd r (λ e. e ≡ limited_fault k) → IfErr r P
 passed (Ok x) P k h s = tt
 passed (Err e) P k h s = subst P (sym s) h

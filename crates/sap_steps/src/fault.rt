@@ -3,7 +3,7 @@ ghost use Rattle.sap_steps.specs.declared.fault.RFault.TheVariants.{Mem as OutOf
 ghost use Rattle.sap_steps.specs.code.Firing.{limited_fault};
 
 use sap_deduce::Deny;
-use sap_rewrite::Limited;
+use sap_rewrite::Cut;
 use sap_terms::{Mem, Name};
 
 /// Why a step of rules is refused. A line's tests come in the order of its step, and the first that fails is answered.
@@ -45,13 +45,13 @@ impl From<Mem> for RFault {
     }
 }
 
-impl From<Limited> for RFault {
+impl From<Cut> for RFault {
     ghost from_gives = { λ c e. e ≡ limited_fault c };
 
-    fn from(c: Limited) -> RFault {
+    fn from(c: Cut) -> RFault {
         match c {
-            Limited::Mem => RFault::Mem,
-            Limited::Large => RFault::TermLarge,
+            Cut::Mem => RFault::Mem,
+            Cut::Large => RFault::TermLarge,
         }
     }
 }

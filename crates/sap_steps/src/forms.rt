@@ -8,7 +8,7 @@ ghost use Rattle.sap_terms.specs.View.{tree};
 ghost use Rattle.sap_rewrite.specs.Large.{HasLargeSubterm};
 ghost use Rattle.sap_steps.specs.code.Firing.{SomeLarge, args_of};
 
-use sap_rewrite::{Limited, normal_within};
+use sap_rewrite::{Cut, normal_within};
 use sap_terms::{
     Bindings, Copied, Fact, FactList, MOST_TERM_NODES, Signature, Term, TermList, subst,
 };
@@ -20,10 +20,10 @@ pub(crate) fn forms_of_facts(
     sig: &Signature,
     fs: &FactList,
     c: &Bindings,
-) -> Result<FactList, Limited>
+) -> Result<FactList, Cut>
     ensures forms { IfOk result (λ r. AreFormsOfFacts (equations sig.now) (instance_facts (bound_to c.now) fs.now) r) }
     ensures within { OnOk result (SomeLarge sig.now (map (subst_tree c.now) (args_of fs.now)) → ⊥) }
-    ensures large { IsErrOf result Limited.Large → SomeLarge sig.now (map (subst_tree c.now) (args_of fs.now)) }
+    ensures large { IsErrOf result Cut.Large → SomeLarge sig.now (map (subst_tree c.now) (args_of fs.now)) }
 {
     let mut out = FactList::new(alloc);
     for k in 0..fs.len() {
@@ -33,10 +33,10 @@ pub(crate) fn forms_of_facts(
 }
 
 // That of one fact.
-fn form_of_fact(alloc: Global, sig: &Signature, f: &Fact, c: &Bindings) -> Result<Fact, Limited>
+fn form_of_fact(alloc: Global, sig: &Signature, f: &Fact, c: &Bindings) -> Result<Fact, Cut>
     ensures form { IfOk result (λ r. IsFormOfFact (equations sig.now) (instance_fact (bound_to c.now) f.now) r) }
     ensures within { OnOk result (SomeLarge sig.now (map (subst_tree c.now) f.now.args) → ⊥) }
-    ensures large { IsErrOf result Limited.Large → SomeLarge sig.now (map (subst_tree c.now) f.now.args) }
+    ensures large { IsErrOf result Cut.Large → SomeLarge sig.now (map (subst_tree c.now) f.now.args) }
 {
     let args = forms_of_args(alloc, sig, &f.args, c)?;
     let name = f.name.copy(alloc)?;
@@ -54,10 +54,10 @@ fn forms_of_args(
     sig: &Signature,
     ts: &TermList,
     c: &Bindings,
-) -> Result<TermList, Limited>
+) -> Result<TermList, Cut>
     ensures forms { IfOk result (λ r. AllZip (IsNormalForm (equations sig.now)) (map (subst_tree c.now) ts.now) r) }
     ensures within { OnOk result (SomeLarge sig.now (map (subst_tree c.now) ts.now) → ⊥) }
-    ensures large { IsErrOf result Limited.Large → SomeLarge sig.now (map (subst_tree c.now) ts.now) }
+    ensures large { IsErrOf result Cut.Large → SomeLarge sig.now (map (subst_tree c.now) ts.now) }
 {
     let mut out = TermList::new(alloc);
     for k in 0..ts.len() {
@@ -67,10 +67,10 @@ fn forms_of_args(
 }
 
 // That of one term.
-fn form(alloc: Global, sig: &Signature, t: &Term, c: &Bindings) -> Result<Term, Limited>
+fn form(alloc: Global, sig: &Signature, t: &Term, c: &Bindings) -> Result<Term, Cut>
     ensures form { IfOk result (λ r. IsNormalForm (equations sig.now) (subst_tree c.now (tree t.now)) (tree r)) }
     ensures within { OnOk result (HasLargeSubterm (equations sig.now) MOST_TERM_NODES (subst_tree c.now (tree t.now)) → ⊥) }
-    ensures large { IsErrOf result Limited.Large → HasLargeSubterm (equations sig.now) MOST_TERM_NODES (subst_tree c.now (tree t.now)) }
+    ensures large { IsErrOf result Cut.Large → HasLargeSubterm (equations sig.now) MOST_TERM_NODES (subst_tree c.now (tree t.now)) }
 {
     let u = subst(alloc, t, c)?;
     normal_within(alloc, sig, &u, MOST_TERM_NODES)

@@ -2,7 +2,7 @@
 use crate::notation::{bindings, name, number, part, signature, term};
 use crate::show::{show_bindings, show_term, show_word, show_yes};
 use sap_rewrite::{
-    Limited, is_message, match_around, match_pattern, normal, normal_on, normal_within, same_modulo,
+    Cut, is_message, match_around, match_pattern, normal, normal_on, normal_within, same_modulo,
 };
 use sap_terms::{Bindings, Mem, Name, Signature, Sort, Term};
 use sap_text::Text;
@@ -14,19 +14,19 @@ fn show_form(alloc: Global, sig: &Signature, out: &mut Text, text: &str) -> Opti
     show_term(out, &form).ok()
 }
 
-fn show_limited(out: &mut Text, form: &Result<Term, Limited>) -> Option<()> {
+fn show_limited(out: &mut Text, form: &Result<Term, Cut>) -> Option<()> {
     match form {
         Ok(form) => show_term(out, form).ok(),
-        Err(Limited::Large) => show_word(out, "large").ok(),
-        Err(Limited::Mem) => None,
+        Err(Cut::Large) => show_word(out, "large").ok(),
+        Err(Cut::Mem) => None,
     }
 }
 
 fn is_within(alloc: Global, sig: &Signature, t: &Term, most: u64) -> Option<bool> {
     match normal_within(alloc, sig, t, most.min(100000)) {
         Ok(_) => Some(true),
-        Err(Limited::Large) => Some(false),
-        Err(Limited::Mem) => None,
+        Err(Cut::Large) => Some(false),
+        Err(Cut::Mem) => None,
     }
 }
 
@@ -35,11 +35,11 @@ fn within(alloc: Global, sig: &Signature, out: &mut Text, most: u64, text: &str)
     show_yes(out, is_within(alloc, sig, &t, most)?).ok()
 }
 
-fn form_on(alloc: Global, sig: &Signature, f: &Name, t: &Term, most: u64) -> Result<Term, Limited> {
+fn form_on(alloc: Global, sig: &Signature, f: &Name, t: &Term, most: u64) -> Result<Term, Cut> {
     let form = normal(alloc, sig, t)?;
     let mut lent: Vec<&Term> = Vec::new(alloc);
     if lent.push(&form).is_err() {
-        return Err(Limited::Mem);
+        return Err(Cut::Mem);
     }
     normal_on(alloc, sig, f, &lent, most.min(100000))
 }

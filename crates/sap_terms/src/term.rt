@@ -1,6 +1,6 @@
 ghost use Rattle.std.specs.Prelude.{◌≡◌, ◌<◌, ◌↔◌, [], ◌∷◌, ◌++◌, length, IsTrue, OnOk, OnErr, slice_get, option_map, min, map, Some, slice_index_or, ◌≤◌};
 ghost use Rattle.std.specs.Option.{option_copied};
-ghost use Rattle.sap_terms.specs.code.Same.{same_tree};
+ghost use Rattle.sap_terms.specs.Same.{same_tree};
 
 use crate::{Copied, Mem, Name, Var};
 use std::alloc::Global;

@@ -13,8 +13,8 @@ use Rattle.sap_terms.specs.declared.limits.TheConstants.{MOST_TERM_NODES}
 use Rattle.sap_rewrite.specs.Around.{FitAll}
 use Rattle.sap_rewrite.specs.Large.{SomeSubtermWithin, HasLargeForm}
 use Rattle.sap_rewrite.specs.Match.{Extends, Agrees, HaveOneSort, bound_vars}
-use Rattle.sap_rewrite.specs.declared.limited.Limited.{Limited}
-use Rattle.sap_rewrite.specs.declared.limited.Limited.TheVariants.{Mem as CutMem, Large}
+use Rattle.sap_rewrite.specs.declared.cut.Cut.{Cut}
+use Rattle.sap_rewrite.specs.declared.cut.Cut.TheVariants.{Mem as CutMem, Large}
 use Rattle.sap_rule.specs.declared.rule.Rule.{Rule}
 use Rattle.sap_steps.specs.Faults.{FactFits}
 use Rattle.sap_steps.specs.Lines.{rule_terms}
@@ -81,6 +81,6 @@ IsEvaluationFault g τ r cited Unequal = EvaluatesOtherwise g τ r cited
 IsEvaluationFault g τ r cited _ = ⊥
 
 -- the fault of a cut
-abbrev pub limited_fault : Limited → RFault
+abbrev pub limited_fault : Cut → RFault
 limited_fault CutMem = Mem
 limited_fault Large = TermLarge

@@ -8,7 +8,7 @@ use Rattle.sap_terms.specs.declared.var.Sort.TheVariants.{Msg, Fresh, Pub}
 use Rattle.sap_terms.specs.View.{tree, term, term-tree}
 use Rattle.sap_terms.specs.declared.term.Term.{Term}
 use Rattle.sap_terms.specs.Tree.{Tree, variable, public, fresh, apply, Trees, none, more}
-use Rattle.sap_terms.specs.code.Same.{same_sort, same_tree, same_trees}
+use Rattle.sap_terms.specs.Same.{same_sort, same_tree, same_trees}
 
 pub and_true : (a b : Bool) → a ≡ true → b ≡ true → (a && b) ≡ true
 and_true true true h k = refl
