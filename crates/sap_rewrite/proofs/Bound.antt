@@ -17,7 +17,7 @@ use Rattle.sap_terms.specs.Equations.{equations}
 use Rattle.sap_terms.specs.Tree.{Tree, public, fresh}
 use Rattle.sap_terms.specs.Variables.{tree_vars, is_known, new_vars}
 use Rattle.sap_terms.specs.View.{tree}
-use Rattle.sap_terms.proofs.SameLemmas.{same_name, and_left, and_right, and_true}
+use Rattle.sap_terms.specs.code.SameLaws.{same_name, and_left, and_right, and_true}
 use Rattle.sap_rewrite.specs.Bound.{AreNamedOnce}
 use Rattle.sap_rewrite.specs.Match.{Extends, Agrees, HaveOneSort, bound_vars, names}
 use Rattle.sap_rewrite.specs.Walk.{skipped}

@@ -1,10 +1,11 @@
 -- Normal forms under a limit.
 use Rattle.std.proofs.Common.{◌≡◌, ℕ, zero, suc, ◌+◌, ◌<◌, ◌≤◌, List, [], ◌∷◌, ◌++◌, Bool, true, false, ◌&&◌, nat_le, Some, drop, add-one, refl, ap, subst, arith}
 use Rattle.std.specs.Prelude.{slice_get, min, Result, Ok, Err, OnOk, OnErr, IsErrOf}
+use Rattle.std.specs.Bool.{OnFalse}
 use Rattle.std.proofs.lemmas.Bool.Decides.{nat_tests}
 use Rattle.sap_terms.specs.Tree.{Tree, variable, public, fresh, apply, Trees, none, more, node_count, trees_count, trees_of}
 use Rattle.sap_terms.specs.Equations.{Equations}
-use Rattle.sap_terms.proofs.SameLemmas.{and_left, and_right, and_true}
+use Rattle.sap_terms.specs.code.SameLaws.{and_left, and_right, and_true}
 use Rattle.sap_terms.proofs.TreeLemmas.{item_le-trees_count}
 use Rattle.sap_rewrite.specs.Reduce.{nf}
 use Rattle.sap_rewrite.specs.Fit.{form_fits, each_fits, all_fit}
@@ -105,5 +106,10 @@ on_ok (Err e) f h = tt
 pub on_error : {T E P : Type 0} (r : Result T E) (x : E) → IsErrOf r x → OnErr r P → P
 on_error (Ok y) x i h = cc
 on_error (Err e) x i h = h
+
+-- what is said where an answer is false
+pub where_false : {P : Type 0} (b : Bool) → OnFalse b P → b ≡ false → P
+where_false true h e = cc
+where_false false h e = h
 
 pub ruleset fit_laws = (nf-variable, nf-public, nf-fresh, nf-apply, item_le-trees_count, trees_count-push, all_fit-got)

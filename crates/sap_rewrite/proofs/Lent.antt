@@ -14,7 +14,8 @@ use Rattle.sap_rewrite.proofs.NormalForms.{reduced-equal, reduced-normal}
 pub trees_count-take : (ts : List Tree) (k : ℕ) (t : Tree) → slice_get ts k ≡ Some t → trees_count (trees_of (take (k + 1) ts)) ≡ trees_count (trees_of (take k ts)) + node_count t
 trees_count-take ts k t h = ap (λ us. trees_count (trees_of us)) (take_got ts k t h) ∙ trees_count-push (take k ts) t
 
-all_normal : (e : Equations) (ts : List Tree) → All (IsNormal e) ts → AreNormal e (trees_of ts)
+-- a list of normal trees
+pub all_normal : (e : Equations) (ts : List Tree) → All (IsNormal e) ts → AreNormal e (trees_of ts)
 all_normal e [] h = tt
 all_normal e (t ∷ ts) h = (All-head (IsNormal e) t ts h, all_normal e ts (All-tail (IsNormal e) t ts h))
 

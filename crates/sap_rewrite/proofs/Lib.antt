@@ -16,3 +16,4 @@ pub mod Bound
 pub mod Forms
 pub mod Messages
 pub mod Lent
+pub mod Equality

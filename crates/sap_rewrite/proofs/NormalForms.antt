@@ -29,17 +29,18 @@ mutual
   nfs-reached e none = done
   nfs-reached e (more t ts) = join_all (at_head (nf-reached e t)) (at_tail (nfs-reached e ts))
 
-no_instance : (e : Equations) (f : List ℕ) (ts : Trees) → contracted e f ts ≡ None → IsNoLeftSide e (apply f ts)
+pub no_instance : (e : Equations) (f : List ℕ) (ts : Trees) → contracted e f ts ≡ None → IsNoLeftSide e (apply f ts)
 no_instance e f ts h b i = let c = contracted-complete e i in cc
 
-abbrev HasNormalParts : Equations → Tree → Type 0
+-- what stands below the head is normal
+abbrev pub HasNormalParts : Equations → Tree → Type 0
 HasNormalParts e (variable v) = Unit {0}
 HasNormalParts e (public n) = Unit {0}
 HasNormalParts e (fresh k) = Unit {0}
 HasNormalParts e (apply f ts) = AreNormal e ts
 
 -- the right side of an instance whose arguments are normal is normal
-right-normal : (e : Equations) {t r : Tree} → IsInstance e t r → HasNormalParts e t → IsNormal e r
+pub right-normal : (e : Equations) {t r : Tree} → IsInstance e t r → HasNormalParts e t → IsNormal e r
 right-normal e first n = n.0.1.0
 right-normal e second n = n.0.1.1.0
 right-normal e (symmetric h) n = n.0.1.0

@@ -6,12 +6,12 @@ use Rattle.std.proofs.lemmas.Slice.Eq.{bytes_eq-Decides}
 use Rattle.std.specs.Str.{bytes_eq}
 use Rattle.sap_terms.specs.declared.var.Var.{Var}
 use Rattle.sap_terms.specs.declared.binding.Binding.{Binding}
-use Rattle.sap_terms.specs.Same.{same_tree}
+use Rattle.sap_terms.specs.code.Same.{same_tree}
 use Rattle.sap_terms.specs.Tree.{Tree, variable, public, fresh, apply, Trees, none, more, trees_of}
 use Rattle.sap_terms.specs.declared.term.Term.{Term}
 use Rattle.sap_terms.specs.View.{tree, term, term-tree, tree-term}
 use Rattle.sap_terms.specs.Subst.{bound_to}
-use Rattle.sap_terms.proofs.SameLemmas.{same_tree-sound, same_tree-refl, same_name}
+use Rattle.sap_terms.specs.code.SameLaws.{same_tree-sound, same_tree-refl, same_name}
 use Rattle.sap_terms.specs.Choice.{fits_sort}
 use Rattle.sap_rewrite.specs.Match.{AllSorted, names, Extends}
 use Rattle.sap_terms.specs.Variables.{is_known, new_vars}

@@ -1,8 +1,10 @@
-// Laws of the equational theory, each as the contract of a function that does nothing.
+//! Laws of the equational theory, each as the contract of a function that does nothing.
 ghost use Rattle.sap_rewrite.specs.Around.{FittingGivesMessages, MatchingAroundIsModulo};
 ghost use Rattle.sap_rewrite.specs.Bound.{AgreeingSubstitutes, BindingsGiveChoices, ExtensionsJoin, NamedOnceStay};
-ghost use Rattle.sap_rewrite.specs.Laws.{EachHasForm, FormIsOne, FormsAreMessages, FormsDecide};
+ghost use Rattle.sap_rewrite.specs.Laws.{EachHasForm, EqualityIsKept, FormIsOne, FormsAreMessages, FormsDecide, NormalTermsDecide, PatternsStay, SymbolsReduceOnce};
 ghost use Rattle.sap_rewrite.specs.Pattern.{MatchingIsModulo};
+
+use sap_terms::destructors_head_left_sides;
 
 /// Every term has a normal form under every signature's equations.
 pub fn each_term_has_a_normal_form()
@@ -18,6 +20,29 @@ pub fn normal_forms_are_unique()
 pub fn normal_forms_decide()
     ensures { FormsDecide }
 {}
+
+/// Two normal terms are theory-equal exactly where they are the same term.
+pub fn normal_terms_decide()
+    ensures { NormalTermsDecide }
+{}
+
+/// Theory-equality is an equivalence. Symbols on theory-equal terms are theory-equal, instances of theory-equal terms are,
+/// and instances of one term under theory-equal substitutions are.
+pub fn equality_is_kept()
+    ensures { EqualityIsKept }
+{}
+
+/// The equations are used at most once where a symbol stands on normal terms, and what they leave is the normal form.
+pub fn symbols_reduce_once()
+    ensures { SymbolsReduceOnce }
+{}
+
+/// A term without destructors is a pattern, also once some of its variables stand for messages.
+pub fn patterns_stay()
+    ensures { PatternsStay }
+{
+    destructors_head_left_sides();
+}
 
 /// Under a normal substitution, the instance of a pattern is theory-equal to a normal term exactly where it is that
 /// term: so matching trees is matching modulo the equations.

@@ -1,6 +1,7 @@
+//! Normal forms under a limit on their nodes.
 ghost use Rattle.std.specs.Prelude.{◌≡◌, ◌<◌, ◌≤◌, IfOk, OnOk, OnErr, IsErrOf, map, min, true, false};
 ghost use Rattle.sap_terms.specs.View.{tree};
-ghost use Rattle.sap_terms.specs.Tree.{node_count, trees_of, trees_count};
+ghost use Rattle.sap_terms.specs.Tree.{apply, node_count, trees_of, trees_count};
 ghost use Rattle.sap_terms.specs.Equations.{equations};
 ghost use Rattle.sap_terms.specs.Normal.{IsNormalForm};
 ghost use Rattle.sap_rewrite.specs.Reduce.{nf, reduced};
@@ -53,8 +54,38 @@ fn limited(c: Counted, most: u64) -> Result<Counted, Cut>
     Ok(c)
 }
 
+// The term, counted.
+fn count_nodes(term: Term) -> Counted
+    ensures term { result.term ≡ term }
+    ensures nodes { result.nodes ≡ min (node_count (tree term)) u64.MAX }
+{
+    let nodes = term.nodes();
+    Counted { term, nodes }
+}
+
+// What the equations make of a symbol on normal terms, counted anew.
+fn made_counted(alloc: Global, sig: &Signature, f: &Name, terms: TermList) -> Result<Counted, Mem>
+    ensures form { IfOk result (λ r. tree r.term ≡ reduced (equations sig.now) f.now (trees_of terms)) }
+    ensures count { IfOk result (λ r. r.nodes ≡ min (node_count (tree r.term)) u64.MAX) }
+{
+    let term = reduce(alloc, sig, f, terms)?;
+    Ok(count_nodes(term))
+}
+
+// A symbol on terms that are counted, counted.
+fn symbol_counted(alloc: Global, f: &Name, terms: TermList, nodes: u64) -> Result<Counted, Mem>
+    requires { nodes ≡ min (trees_count (trees_of terms)) u64.MAX }
+    ensures form { IfOk result (λ r. tree r.term ≡ apply f.now (trees_of terms)) }
+    ensures count { IfOk result (λ r. r.nodes ≡ min (node_count (tree r.term)) u64.MAX) }
+{
+    let head = f.copy(alloc)?;
+    Ok(Counted {
+        term: Term::App(head, terms),
+        nodes: nodes.saturating_add(1),
+    })
+}
+
 // The normal form of a symbol on normal terms, counted. Only what an equation leaves is counted anew.
-#[tactic(auto, using(crate::proofs::Fits::fit_laws))]
 fn reduce_counted(
     alloc: Global,
     sig: &Signature,
@@ -67,13 +98,10 @@ fn reduce_counted(
 {
     let CountedList { terms, nodes } = parts;
     if is_left_side(sig, f, &terms) {
-        let term = reduce(alloc, sig, f, terms)?;
-        let nodes = term.nodes();
-        return Ok(Counted { term, nodes });
+        made_counted(alloc, sig, f, terms)
+    } else {
+        symbol_counted(alloc, f, terms, nodes)
     }
-    let term = Term::App(f.copy(alloc)?, terms);
-    let nodes = nodes.saturating_add(1);
-    Ok(Counted { term, nodes })
 }
 
 #[cycle(within)]
