@@ -6,7 +6,7 @@ use Rattle.std.specs.Str.{bytes_eq}
 use Rattle.sap_terms.specs.Tree.{Tree, variable, public, fresh, apply, Trees, none, more}
 use Rattle.sap_terms.specs.Equations.{Equations, IsInstance, first, second, symmetric, asymmetric, signing, pair_name, fst_name, snd_name, senc_name, sdec_name, aenc_name, adec_name, pk_name, sign_name, verify_name, true_name, app0, app1, app2}
 use Rattle.sap_rewrite.specs.Reduce.{guard, or_else, args1, args2, args3, under, first_part, second_part, opened, opened_by_key, verified, by_first, by_second, by_symmetric, by_asymmetric, by_signing, contracted}
-use Rattle.sap_terms.specs.code.Same.{same_tree}
+use Rattle.sap_terms.specs.Same.{same_tree}
 use Rattle.sap_terms.specs.code.SameLaws.{same_tree-sound, same_tree-refl, and_left, and_right}
 
 guard_some : {A P : Type 0} (b : Bool) (o : Option A) (r : A) → guard b o ≡ Some r → (b ≡ true → o ≡ Some r → P) → P

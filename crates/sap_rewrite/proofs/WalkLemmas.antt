@@ -6,7 +6,7 @@ use Rattle.std.proofs.lemmas.Slice.Eq.{bytes_eq-Decides}
 use Rattle.std.specs.Str.{bytes_eq}
 use Rattle.sap_terms.specs.declared.var.Var.{Var}
 use Rattle.sap_terms.specs.declared.binding.Binding.{Binding}
-use Rattle.sap_terms.specs.code.Same.{same_tree}
+use Rattle.sap_terms.specs.Same.{same_tree}
 use Rattle.sap_terms.specs.Tree.{Tree, variable, public, fresh, apply, Trees, none, more, trees_of}
 use Rattle.sap_terms.specs.declared.term.Term.{Term}
 use Rattle.sap_terms.specs.View.{tree, term, term-tree, tree-term}

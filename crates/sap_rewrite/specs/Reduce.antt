@@ -1,7 +1,7 @@
 -- Normal forms by one pass from the leaves, as the code makes them: no definition that a theorem speaks of.
 use Rattle.std.specs.Prelude.{ℕ, List, Bool, true, false, ◌&&◌, Option, Some, None, option_and_then, option_map, unwrap_or, slice_get}
 use Rattle.std.specs.Str.{bytes_eq}
-use Rattle.sap_terms.specs.code.Same.{same_tree}
+use Rattle.sap_terms.specs.Same.{same_tree}
 use Rattle.sap_terms.specs.Tree.{Tree, variable, public, fresh, apply, Trees, none, more, list_of}
 use Rattle.sap_terms.specs.Equations.{Equations, pair_name, fst_name, snd_name, senc_name, sdec_name, aenc_name, adec_name, pk_name, sign_name, verify_name, true_name, app0}
 

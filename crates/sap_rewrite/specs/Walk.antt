@@ -3,7 +3,7 @@ use Rattle.std.specs.Prelude.{ℕ, Bool, false, List, [], ◌∷◌, ◌++◌, O
 use Rattle.std.specs.Str.{bytes_eq}
 use Rattle.sap_terms.specs.declared.var.Var.{Var}
 use Rattle.sap_terms.specs.declared.binding.Binding.{Binding}
-use Rattle.sap_terms.specs.code.Same.{same_tree}
+use Rattle.sap_terms.specs.Same.{same_tree}
 use Rattle.sap_terms.specs.Tree.{Tree, variable, public, fresh, apply, Trees, none, more}
 use Rattle.sap_terms.specs.View.{tree, term}
 use Rattle.sap_terms.specs.Choice.{fits_sort}
