@@ -11,9 +11,11 @@ use Rattle.sap_terms.specs.Signature.{Sig}
 use Rattle.sap_terms.specs.Equations.{Equations, equations, IsInstance, first, second, symmetric, asymmetric, signing}
 use Rattle.sap_terms.specs.Equal.{same}
 use Rattle.sap_terms.specs.Normal.{IsNormal}
+use Rattle.sap_terms.specs.Message.{IsMessage}
+use Rattle.sap_terms.specs.declared.var.Sort.TheVariants.{Msg}
 use Rattle.sap_terms.specs.Deduce.{IsDerived, a_public, a_name, given, applied, IsDerivation, IsDeducible}
-use Rattle.sap_deduce.specs.declared.line.Line.{Line}
-use Rattle.sap_deduce.specs.declared.line.Line.TheVariants.{Name, Public, Output, Apply}
+use Rattle.sap_deduce.specs.declared.origin.Origin.{Origin}
+use Rattle.sap_deduce.specs.declared.origin.Origin.TheVariants.{Name, Public, Output, Apply}
 use Rattle.sap_deduce.specs.Entries.{Entry, Entries, terms_of, name_of, is_output, names_given, outputs_given, Adds, AreEntered, none_yet, one_more}
 use Rattle.sap_deduce.specs.Laws.{AreDeducible, CanBeEntered}
 
@@ -31,37 +33,37 @@ left-applied (symmetric h) = tt
 left-applied (asymmetric h) = tt
 left-applied (signing h) = tt
 
-fresh-normal : (e : Equations) (n : ℕ) → IsNormal e (fresh n)
+pub fresh-normal : (e : Equations) (n : ℕ) → IsNormal e (fresh n)
 fresh-normal e n = λ b i. left-applied i
 
-public-normal : (e : Equations) (a : List ℕ) → IsNormal e (public a)
+pub public-normal : (e : Equations) (a : List ℕ) → IsNormal e (public a)
 public-normal e a = λ b i. left-applied i
 
-pub adds-normal : (g : Sig) (es : List Entry) (line : Line) (t : Tree) → Adds g es line t → IsNormal (equations g) t
+pub adds-normal : (g : Sig) (es : List Entry) (origin : Origin) (t : Tree) → Adds g es origin t → IsNormal (equations g) t
 adds-normal g es (Name n) t a = let P : Tree → Type 0 = λ u. IsNormal (equations g) u in subst P (sym a) (fresh-normal (equations g) n)
 adds-normal g es Public t a = let P : Tree → Type 0 = λ u. IsNormal (equations g) u in subst P (sym a.1) (public-normal (equations g) a.0)
-adds-normal g es Output t a = a
+adds-normal g es Output t a = a.normal
 adds-normal g es (Apply f ks) t a = a.form.normal
 
-terms_of-push : (es : List Entry) (e : Entry) → terms_of (es ++ e ∷ []) ≡ terms_of es ++ e.term ∷ []
+pub terms_of-push : (es : List Entry) (e : Entry) → terms_of (es ++ e ∷ []) ≡ terms_of es ++ e.term ∷ []
 terms_of-push es e = map-append (λ (x : Entry). x.term) es (e ∷ [])
 
 -- each entry is normal
 pub entered-normal : (g : Sig) (es : List Entry) → AreEntered g es → All (IsNormal (equations g)) (terms_of es)
 entered-normal g _ none_yet = All-nil (IsNormal (equations g))
-entered-normal g _ (one_more es t line h a) =
-    rw (terms_of-push es (record { term = t; line = line }))
-    (All-push (IsNormal (equations g)) (terms_of es) t (entered-normal g es h) (adds-normal g es line t a))
+entered-normal g _ (one_more es t origin h a) =
+    rw (terms_of-push es (record { term = t; origin = origin }))
+    (All-push (IsNormal (equations g)) (terms_of es) t (entered-normal g es h) (adds-normal g es origin t a))
 
 -- one more entry gives no less
 names_kept : (es : List Entry) (e : Entry) (n : ℕ) → Contains (names_given es) n → Contains (names_given (es ++ e ∷ [])) n
 names_kept es e n c =
-    rw (filter_map-append (λ (x : Entry). name_of x.line) es (e ∷ [])) (Contains-append_left (names_given es) (names_given (e ∷ [])) n c)
+    rw (filter_map-append (λ (x : Entry). name_of x.origin) es (e ∷ [])) (Contains-append_left (names_given es) (names_given (e ∷ [])) n c)
 
 outputs_given-push : (es : List Entry) (e : Entry) → outputs_given (es ++ e ∷ []) ≡ outputs_given es ++ outputs_given (e ∷ [])
 outputs_given-push es e =
-    ap terms_of (filter-append (λ (x : Entry). is_output x.line) es (e ∷ []))
-    ∙ map-append (λ (x : Entry). x.term) (filter (λ (x : Entry). is_output x.line) es) (filter (λ (x : Entry). is_output x.line) (e ∷ []))
+    ap terms_of (filter-append (λ (x : Entry). is_output x.origin) es (e ∷ []))
+    ∙ map-append (λ (x : Entry). x.term) (filter (λ (x : Entry). is_output x.origin) es) (filter (λ (x : Entry). is_output x.origin) (e ∷ []))
 
 outputs_kept : (es : List Entry) (e : Entry) (t : Tree) → Contains (outputs_given es) t → Contains (outputs_given (es ++ e ∷ [])) t
 outputs_kept es e t c = rw (outputs_given-push es e) (Contains-append_left (outputs_given es) (outputs_given (e ∷ [])) t c)
@@ -88,19 +90,19 @@ terms_at-contained xs (k ∷ ks) (t ∷ ts) h =
     All-cons (Contains xs) t ts (contains_from_get xs k t head) (terms_at-contained xs ks ts tail)
 
 -- and as many as there are numbers
-terms_at-length : (xs : List Tree) (ks : List ℕ) (ts : List Tree) → map (slice_get xs) ks ≡ map Some ts → length ks ≡ length ts
+pub terms_at-length : (xs : List Tree) (ks : List ℕ) (ts : List Tree) → map (slice_get xs) ks ≡ map Some ts → length ks ≡ length ts
 terms_at-length xs ks ts h = sym (length-map ks (slice_get xs)) ∙ ap length h ∙ length-map ts Some
 
 -- each of the four lines is one of the four kinds
-derived : (g : Sig) (names : List ℕ) (frame : List Tree) (es : List Entry) (t : Tree) (line : Line) → Adds g es line t
-    → ((n : ℕ) → Contains (names_given (es ++ record { term = t; line = line } ∷ [])) n → Contains names n)
-    → ((u : Tree) → Contains (outputs_given (es ++ record { term = t; line = line } ∷ [])) u → Contains frame u)
+derived : (g : Sig) (names : List ℕ) (frame : List Tree) (es : List Entry) (t : Tree) (origin : Origin) → Adds g es origin t
+    → ((n : ℕ) → Contains (names_given (es ++ record { term = t; origin = origin } ∷ [])) n → Contains names n)
+    → ((u : Tree) → Contains (outputs_given (es ++ record { term = t; origin = origin } ∷ [])) u → Contains frame u)
     → IsDerived g names frame (reverse (terms_of es)) t
 derived g names frame es t (Name n) a has_name has_output =
-    a_name n (has_name n (rw (filter_map-append (λ (x : Entry). name_of x.line) es (record { term = t; line = Name n } ∷ [])) (Contains-push (names_given es) n))) a
+    a_name n (has_name n (rw (filter_map-append (λ (x : Entry). name_of x.origin) es (record { term = t; origin = Name n } ∷ [])) (Contains-push (names_given es) n))) a
 derived g names frame es t Public a has_name has_output = a_public a.0 a.1
 derived g names frame es t Output a has_name has_output =
-    given (has_output t (rw (outputs_given-push es (record { term = t; line = Output })) (Contains-push (outputs_given es) t)))
+    given (has_output t (rw (outputs_given-push es (record { term = t; origin = Output })) (Contains-push (outputs_given es) t)))
 derived g names frame es t (Apply f ks) a has_name has_output =
     applied f a.args a.public_symbol (a.arity ∙ ap Some (terms_at-length (terms_of es) ks a.args a.at_numbers))
     (λ k d h. Contains-reverse (terms_of es) (slice_index_or a.args k d) (terms_at-contained (terms_of es) ks a.args a.at_numbers k d h)) a.form
@@ -110,10 +112,10 @@ derivation : (g : Sig) (names : List ℕ) (frame : List Tree) (es : List Entry) 
     → ((n : ℕ) → Contains (names_given es) n → Contains names n) → ((u : Tree) → Contains (outputs_given es) u → Contains frame u)
     → IsDerivation g names frame (reverse (terms_of es))
 derivation g names frame _ none_yet has_name has_output = tt
-derivation g names frame _ (one_more es t line h a) has_name has_output =
-    let e : Entry = record { term = t; line = line } in
+derivation g names frame _ (one_more es t origin h a) has_name has_output =
+    let e : Entry = record { term = t; origin = origin } in
     rw (terms_of-push es e) (rw (reverse-append (terms_of es) (t ∷ [])) (
-      derived g names frame es t line a has_name has_output,
+      derived g names frame es t origin a has_name has_output,
       derivation g names frame es h (λ n c. has_name n (names_kept es e n c)) (λ u c. has_output u (outputs_kept es e u c)),
     ))
 
@@ -151,30 +153,30 @@ numbers xs (t ∷ ts) h =
     (found.0 ∷ rest.0, λ i. found.1 i ∷ rest.1 i)
 
 -- one line more
-entered_more : (g : Sig) (names : List ℕ) (frame ts : List Tree) (r : CanBeEntered g names frame ts) (t : Tree) (line : Line) → Adds g r.entries line t
-    → All (Contains names) (names_given (record { term = t; line = line } ∷ [])) → All (Contains frame) (outputs_given (record { term = t; line = line } ∷ []))
+entered_more : (g : Sig) (names : List ℕ) (frame ts : List Tree) (r : CanBeEntered g names frame ts) (t : Tree) (origin : Origin) → Adds g r.entries origin t
+    → All (Contains names) (names_given (record { term = t; origin = origin } ∷ [])) → All (Contains frame) (outputs_given (record { term = t; origin = origin } ∷ []))
     → CanBeEntered g names frame (t ∷ ts)
-entered_more g names frame ts r t line a n o =
-    let e : Entry = record { term = t; line = line } in
+entered_more g names frame ts r t origin a n o =
+    let e : Entry = record { term = t; origin = origin } in
     record {
       entries = r.entries ++ e ∷ [];
-      entered = one_more r.entries t line r.entered a;
+      entered = one_more r.entries t origin r.entered a;
       terms = terms_of-push r.entries e ∙ ap (λ us. us ++ t ∷ []) r.terms ∙ sym (reverse-append (t ∷ []) ts);
       only_names =
-          rw (filter_map-append (λ (x : Entry). name_of x.line) r.entries (e ∷ [])) (All-append (Contains names) (names_given r.entries) (names_given (e ∷ [])) r.only_names n);
+          rw (filter_map-append (λ (x : Entry). name_of x.origin) r.entries (e ∷ [])) (All-append (Contains names) (names_given r.entries) (names_given (e ∷ [])) r.only_names n);
       only_outputs = rw (outputs_given-push r.entries e) (All-append (Contains frame) (outputs_given r.entries) (outputs_given (e ∷ [])) r.only_outputs o);
     }
 
 -- one term more
-derived-entered : (g : Sig) (names : List ℕ) (frame ts : List Tree) → All (IsNormal (equations g)) frame → (t : Tree) → IsDerived g names frame ts t
+derived-entered : (g : Sig) (names : List ℕ) (frame ts : List Tree) → All (IsMessage g Msg) frame → (t : Tree) → IsDerived g names frame ts t
     → CanBeEntered g names frame ts → CanBeEntered g names frame (t ∷ ts)
-derived-entered g names frame ts normal t (a_public a e) r =
+derived-entered g names frame ts sent t (a_public a e) r =
     entered_more g names frame ts r t Public (a, e) (All-nil (Contains names)) (All-nil (Contains frame))
-derived-entered g names frame ts normal t (a_name n c e) r =
+derived-entered g names frame ts sent t (a_name n c e) r =
     entered_more g names frame ts r t (Name n) e (All-cons (Contains names) n [] c (All-nil (Contains names))) (All-nil (Contains frame))
-derived-entered g names frame ts normal t (given c) r =
-    entered_more g names frame ts r t Output (All-contains (IsNormal (equations g)) frame t normal c) (All-nil (Contains names)) (All-cons (Contains frame) t [] c (All-nil (Contains frame)))
-derived-entered g names frame ts normal t (applied f us p a c form) r =
+derived-entered g names frame ts sent t (given c) r =
+    entered_more g names frame ts r t Output (All-contains (IsMessage g Msg) frame t sent c) (All-nil (Contains names)) (All-cons (Contains frame) t [] c (All-nil (Contains frame)))
+derived-entered g names frame ts sent t (applied f us p a c form) r =
     let had : All (Contains (terms_of r.entries)) us = λ k d h. rw r.terms (Contains-reverse ts (slice_index_or us k d) (c k d h)) in
     let found : (ks : List ℕ) × (map (slice_get (terms_of r.entries)) ks ≡ map Some us) = numbers (terms_of r.entries) us had in
     entered_more g names frame ts r t (Apply f found.0)
@@ -186,12 +188,12 @@ derived-entered g names frame ts normal t (applied f us p a c form) r =
       form = form;
     }) (All-nil (Contains names)) (All-nil (Contains frame))
 
-pub derivation-entered : (g : Sig) (names : List ℕ) (frame ts : List Tree) → All (IsNormal (equations g)) frame → IsDerivation g names frame ts → CanBeEntered g names frame ts
-derivation-entered g names frame [] normal d = record {
+pub derivation-entered : (g : Sig) (names : List ℕ) (frame ts : List Tree) → All (IsMessage g Msg) frame → IsDerivation g names frame ts → CanBeEntered g names frame ts
+derivation-entered g names frame [] sent d = record {
   entries = [];
   entered = none_yet;
   terms = refl;
   only_names = All-nil (Contains names);
   only_outputs = All-nil (Contains frame);
 }
-derivation-entered g names frame (t ∷ ts) normal d = derived-entered g names frame ts normal t d.0 (derivation-entered g names frame ts normal d.1)
+derivation-entered g names frame (t ∷ ts) sent d = derived-entered g names frame ts sent t d.0 (derivation-entered g names frame ts sent d.1)

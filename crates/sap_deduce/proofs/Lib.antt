@@ -2,3 +2,4 @@ pub mod Entered
 pub mod Derivations
 pub mod Limits
 pub mod Numbers
+pub mod Known

@@ -1,19 +1,22 @@
--- Entries of a knowledge, each with the line that added it.
+-- Entries of a knowledge, each with its origin.
 use Rattle.std.specs.Prelude.{◌≡◌, ◌<◌, ◌≤◌, ℕ, Bool, true, false, List, [], ◌∷◌, ◌++◌, length, Option, Some, None, map, filter, find, slice_get, All, nat_le, ⊤}
 use Rattle.std.specs.List.{filter_map}
 use Rattle.sap_terms.specs.Tree.{Tree, public, fresh, apply, trees_of, node_count}
 use Rattle.sap_terms.specs.Signature.{Sig, IsPublic, arity_of}
 use Rattle.sap_terms.specs.Equations.{equations}
-use Rattle.sap_terms.specs.Normal.{IsNormal, IsNormalForm}
-use Rattle.sap_deduce.specs.declared.line.Line.{Line}
-use Rattle.sap_deduce.specs.declared.line.Line.TheVariants.{Name, Public, Output, Apply}
+use Rattle.sap_terms.specs.Normal.{IsNormalForm}
+use Rattle.sap_terms.specs.Message.{IsMessage}
+use Rattle.sap_terms.specs.declared.limits.TheConstants.{MOST_TERM_NODES}
+use Rattle.sap_terms.specs.declared.var.Sort.TheVariants.{Msg}
+use Rattle.sap_deduce.specs.declared.origin.Origin.{Origin}
+use Rattle.sap_deduce.specs.declared.origin.Origin.TheVariants.{Name, Public, Output, Apply}
 use Rattle.sap_deduce.specs.declared.deny.Deny.{Deny}
 use Rattle.sap_deduce.specs.declared.deny.Deny.TheVariants.{Mem, NotPublic, Arity, NoEntry, TermLarge}
 
--- a term, and the line that added it
+-- a term, and how it came to be known
 pub record Entry : Type 0 where
   pub term : Tree
-  pub line : Line
+  pub origin : Origin
 
 -- a signature, and the entries by their numbers
 pub record Entries : Type 0 where
@@ -24,14 +27,15 @@ pub record Entries : Type 0 where
 abbrev pub terms_of : List Entry → List Tree
 terms_of es = map (λ (e : Entry). e.term) es
 
--- the name that the line gives
-abbrev pub name_of : Line → Option ℕ
+-- the name that was given
+abbrev pub name_of : Origin → Option ℕ
 name_of (Name n) = Some n
 name_of Public = None
 name_of Output = None
 name_of (Apply f ks) = None
 
-abbrev pub is_output : Line → Bool
+-- it was sent
+abbrev pub is_output : Origin → Bool
 is_output (Name n) = false
 is_output Public = false
 is_output Output = true
@@ -39,11 +43,11 @@ is_output (Apply f ks) = false
 
 -- the names that were given
 abbrev pub names_given : List Entry → List ℕ
-names_given es = filter_map (λ (e : Entry). name_of e.line) es
+names_given es = filter_map (λ (e : Entry). name_of e.origin) es
 
 -- the outputs that were given
 abbrev pub outputs_given : List Entry → List Tree
-outputs_given es = terms_of (filter (λ (e : Entry). is_output e.line) es)
+outputs_given es = terms_of (filter (λ (e : Entry). is_output e.origin) es)
 
 -- these are the terms of the entries with these numbers, in order
 abbrev pub AreTermsAt : List Entry → List ℕ → List Tree → Type 0
@@ -57,31 +61,31 @@ pub record IsApplication (g : Sig) (es : List Entry) (f ks : List ℕ) (t : Tree
   pub at_numbers : AreTermsAt es ks args
   pub form : IsNormalForm (equations g) (apply f (trees_of args)) t
 
--- after these entries the line adds the term
-abbrev pub Adds : Sig → List Entry → Line → Tree → Type 0
+-- after these entries the term may come in this way: names, public names, messages that were sent, and symbols on entries
+abbrev pub Adds : Sig → List Entry → Origin → Tree → Type 0
 Adds g es (Name n) t = t ≡ fresh n
 Adds g es Public t = (a : List ℕ) × (t ≡ public a)
-Adds g es Output t = IsNormal (equations g) t
+Adds g es Output t = IsMessage g Msg t
 Adds g es (Apply f ks) t = IsApplication g es f ks t
 
--- lines add the entries, one after another
+-- the entries come in these ways, one after another
 pub data AreEntered (g : Sig) : List Entry → Type 0 where
   none_yet : AreEntered g []
-  one_more : (es : List Entry) (t : Tree) (line : Line) → AreEntered g es → Adds g es line t → AreEntered g (es ++ record { term = t; line = line } ∷ [])
+  one_more : (es : List Entry) (t : Tree) (origin : Origin) → AreEntered g es → Adds g es origin t → AreEntered g (es ++ record { term = t; origin = origin } ∷ [])
 
--- so they do, and no term has more than 256 nodes
+-- so they do, and no term is too large
 pub record AreEntries (k : Entries) : Type 0 where
   pub entered : AreEntered k.sig k.entries
-  pub within : All (λ (e : Entry). node_count e.term ≤ 256) k.entries
+  pub within : All (λ (e : Entry). node_count e.term ≤ MOST_TERM_NODES) k.entries
 
 -- the first of these numbers that isn't below the count
 abbrev pub IsFirstUnknown : ℕ → List ℕ → ℕ → Type 0
 IsFirstUnknown count ks k = find (nat_le count) ks ≡ Some k
 
--- no more is wrong than that the normal form has more than 256 nodes
+-- no more is wrong than that the normal form is too large
 abbrev pub IsLarge : Entries → List ℕ → List ℕ → Deny → Type 0
 IsLarge k f ks Mem = ⊤
-IsLarge k f ks TermLarge = (t : Tree) × IsApplication k.sig k.entries f ks t × (256 < node_count t)
+IsLarge k f ks TermLarge = (t : Tree) × IsApplication k.sig k.entries f ks t × (MOST_TERM_NODES < node_count t)
 IsLarge k f ks (NotPublic n) = ⊥
 IsLarge k f ks (Arity n) = ⊥
 IsLarge k f ks (NoEntry n) = ⊥
@@ -92,16 +96,16 @@ IsCause k f ks Mem = ⊤
 IsCause k f ks (NotPublic n) = (n ≡ f) × ¬ IsPublic k.sig f
 IsCause k f ks (Arity n) = (n ≡ f) × IsPublic k.sig f × ¬ (arity_of k.sig f ≡ Some (length ks))
 IsCause k f ks (NoEntry n) = IsPublic k.sig f × (arity_of k.sig f ≡ Some (length ks)) × IsFirstUnknown (length k.entries) ks n
-IsCause k f ks TermLarge = (t : Tree) × IsApplication k.sig k.entries f ks t × (256 < node_count t)
+IsCause k f ks TermLarge = (t : Tree) × IsApplication k.sig k.entries f ks t × (MOST_TERM_NODES < node_count t)
 
--- the entries have gained the term, which the line adds
-pub record Gains (old new : Entries) (line : Line) (t : Tree) : Type 0 where
+-- the entries have gained the term, which came in this way
+pub record Gains (old new : Entries) (origin : Origin) (t : Tree) : Type 0 where
   pub sig : new.sig ≡ old.sig
-  pub entries : new.entries ≡ old.entries ++ record { term = t; line = line } ∷ []
+  pub entries : new.entries ≡ old.entries ++ record { term = t; origin = origin } ∷ []
 
--- they have gained the normal form of the symbol on these entries, which has no more than 256 nodes
+-- they have gained the normal form of the symbol on these entries, which isn't too large
 pub record Applies (old new : Entries) (f ks : List ℕ) : Type 0 where
   pub term : Tree
   pub application : IsApplication old.sig old.entries f ks term
-  pub within : node_count term ≤ 256
+  pub within : node_count term ≤ MOST_TERM_NODES
   pub gains : Gains old new (Apply f ks) term

@@ -1,5 +1,5 @@
 pub mod Entries
-pub mod Views
+pub mod code
 pub mod Laws
 pub use Rattle.sap_terms.specs.Tree
 pub use Rattle.sap_terms.specs.View

@@ -1,9 +1,9 @@
-use crate::Line;
+use crate::origin::Origin;
 use sap_terms::Term;
 
-// A term, and the line that added it.
+// A term, and how it came to be known.
 #[derive(Drop)]
 pub(crate) struct Entry {
     pub(crate) term: Term,
-    pub(crate) line: Line,
+    pub(crate) origin: Origin,
 }

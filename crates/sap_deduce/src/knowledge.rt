@@ -2,20 +2,21 @@ ghost use Rattle.std.specs.Prelude.{◌≡◌, ◌+◌, ◌<◌, ◌≤◌, [], 
 ghost use Rattle.std.specs.Option.{option_copied};
 ghost use Rattle.sap_terms.specs.View.{tree};
 ghost use Rattle.sap_terms.specs.Tree.{node_count, fresh, public};
-ghost use Rattle.sap_terms.specs.Equations.{equations};
-ghost use Rattle.sap_terms.specs.Normal.{IsNormal};
+ghost use Rattle.sap_terms.specs.Message.{IsMessage};
+ghost use Rattle.sap_terms.specs.declared.var.Sort.TheVariants.{Msg};
 ghost use Rattle.sap_deduce.specs.Entries.{Gains, Adds, terms_of, AreTermsAt, IsApplication, Applies, IsCause, IsLarge};
 ghost use Rattle.sap_terms.specs.Signature.{IsPublic, arity_of};
-ghost use Rattle.sap_deduce.specs.declared.line.Line.TheVariants.{Name as NameLine, Public as PublicLine, Output as OutputLine};
+ghost use Rattle.sap_deduce.specs.declared.origin.Origin.TheVariants.{Name as NameOrigin, Public as PublicOrigin, Output as OutputOrigin};
 
+use crate::Deny;
 use crate::entry::Entry;
-use crate::{Deny, Line};
-use sap_rewrite::{Limited, normal_on};
-use sap_terms::{Copied, Items, Mem, Name, Numbers, Signature, Term};
+use crate::origin::Origin;
+use sap_rewrite::{Limited, forms_are_messages, normal_on};
+use sap_terms::{Copied, Items, MOST_TERM_NODES, Mem, Name, Numbers, Signature, Term};
 use std::alloc::Global;
 use std::marker::Model;
 
-/// The terms that an adversary knows, as entries that are numbered from 0 and stay. Each keeps the line that added it.
+/// The terms that an adversary knows, as entries that are numbered from 0 and stay. Each keeps how it came to be known.
 #[derive(Drop)]
 pub struct Knowledge {
     sig: Signature,
@@ -31,7 +32,7 @@ impl Model for Knowledge {
 
     ghost coded = { Prim.hlevel (codes, tree_code) };
 
-    ghost use Rattle.sap_deduce.specs.Views.{entries_of};
+    ghost use Rattle.sap_deduce.specs.code.Views.{entries_of};
 
     ghost view = { λ a. record { sig = a.sig; entries = entries_of a.entries } };
 
@@ -68,47 +69,47 @@ impl Knowledge {
         }
     }
 
-    // Adds the entry that a line adds.
+    // Adds an entry of this origin.
     #[tactic(auto, using(crate::proofs::Entered::entry_laws))]
-    fn enter(&mut self, term: Term, line: Line) -> Result<u64, Mem>
-        requires adds { Adds self.old.sig self.old.entries line (tree term) }
-        requires within { node_count (tree term) ≤ 256 }
+    fn enter(&mut self, term: Term, origin: Origin) -> Result<u64, Mem>
+        requires adds { Adds self.old.sig self.old.entries origin (tree term) }
+        requires within { node_count (tree term) ≤ MOST_TERM_NODES }
         ensures number { IfOk result (λ k. k ≡ length self.old.entries) }
-        ensures ok { OnOk result (Gains self.old self.new line (tree term)) }
+        ensures ok { OnOk result (Gains self.old self.new origin (tree term)) }
         ensures err { OnErr result (self.new ≡ self.old) }
     {
         let number = self.entries.len();
-        self.entries.push(Entry { term, line })?;
+        self.entries.push(Entry { term, origin })?;
         Ok(number)
     }
 
     /// Adds a name that the adversary made, and gives the entry's number.
     pub fn name(&mut self, n: u64) -> Result<u64, Mem>
         ensures number { IfOk result (λ k. k ≡ length self.old.entries) }
-        ensures ok { OnOk result (Gains self.old self.new (NameLine n) (fresh n)) }
+        ensures ok { OnOk result (Gains self.old self.new (NameOrigin n) (fresh n)) }
         ensures err { OnErr result (self.new ≡ self.old) }
     {
-        self.enter(Term::Fresh(n), Line::Name(n))
+        self.enter(Term::Fresh(n), Origin::Name(n))
     }
 
     /// Adds a public name, and gives the entry's number.
     pub fn public(&mut self, a: Name) -> Result<u64, Mem>
         ensures number { IfOk result (λ k. k ≡ length self.old.entries) }
-        ensures ok { OnOk result (Gains self.old self.new PublicLine (public a)) }
+        ensures ok { OnOk result (Gains self.old self.new PublicOrigin (public a)) }
         ensures err { OnErr result (self.new ≡ self.old) }
     {
-        self.enter(Term::Public(a), Line::Public)
+        self.enter(Term::Public(a), Origin::Public)
     }
 
     /// Adds a term that was sent, and gives the entry's number.
     pub fn output(&mut self, t: Term) -> Result<u64, Mem>
-        requires normal { IsNormal (equations self.old.sig) (tree t) }
-        requires within { node_count (tree t) ≤ 256 }
+        requires message { IsMessage self.old.sig Msg (tree t) }
+        requires within { node_count (tree t) ≤ MOST_TERM_NODES }
         ensures number { IfOk result (λ k. k ≡ length self.old.entries) }
-        ensures ok { OnOk result (Gains self.old self.new OutputLine (tree t)) }
+        ensures ok { OnOk result (Gains self.old self.new OutputOrigin (tree t)) }
         ensures err { OnErr result (self.new ≡ self.old) }
     {
-        self.enter(t, Line::Output)
+        self.enter(t, Origin::Output)
     }
 
     // The first of these numbers that isn't an entry.
@@ -151,11 +152,11 @@ impl Knowledge {
         requires arity { arity_of self.now.sig f.now ≡ Some (length numbers.now) }
         requires known { All (λ k. k < length self.now.entries) numbers.now }
         ensures application { IfOk result (λ t. IsApplication self.now.sig self.now.entries f.now numbers.now (tree t)) }
-        ensures within { IfOk result (λ t. node_count (tree t) ≤ 256) }
+        ensures within { IfOk result (λ t. node_count (tree t) ≤ MOST_TERM_NODES) }
         ensures denied { IfErr result (IsLarge self.now f.now numbers.now) }
     {
         let terms = self.terms_at(alloc, numbers)?;
-        match normal_on(alloc, &self.sig, f, &terms, 256) {
+        match normal_on(alloc, &self.sig, f, &terms, MOST_TERM_NODES) {
             Ok(form) => Ok(form),
             Err(Limited::Large) => Err(Deny::TermLarge),
             Err(Limited::Mem) => Err(Deny::Mem),
@@ -165,7 +166,7 @@ impl Knowledge {
     // The term of a symbol on these entries.
     fn applied(&self, alloc: Global, f: &Name, numbers: &Numbers) -> Result<Term, Deny>
         ensures application { IfOk result (λ t. IsApplication self.now.sig self.now.entries f.now numbers.now (tree t)) }
-        ensures within { IfOk result (λ t. node_count (tree t) ≤ 256) }
+        ensures within { IfOk result (λ t. node_count (tree t) ≤ MOST_TERM_NODES) }
         ensures denied { IfErr result (IsCause self.now f.now numbers.now) }
     {
         if !self.sig.is_public(f) {
@@ -180,6 +181,24 @@ impl Knowledge {
         }
     }
 
+    // Adds the normal form of a symbol on entries.
+    fn enter_application(
+        &mut self,
+        alloc: Global,
+        term: Term,
+        f: &Name,
+        numbers: &Numbers,
+    ) -> Result<u64, Mem>
+        requires application { IsApplication self.old.sig self.old.entries f.now numbers.now (tree term) }
+        requires within { node_count (tree term) ≤ MOST_TERM_NODES }
+        ensures number { IfOk result (λ k. k ≡ length self.old.entries) }
+        ensures ok { OnOk result (Applies self.old self.new f.now numbers.now) }
+        ensures err { OnErr result (self.new ≡ self.old) }
+    {
+        let origin = applied_to(alloc, f, numbers)?;
+        self.enter(term, origin)
+    }
+
     /// Adds the normal form of a symbol on the entries of these numbers, and gives the new entry's number.
     /// Refused, the knowledge is as it was.
     pub fn apply(&mut self, f: &Name, numbers: &Numbers) -> Result<u64, Deny>
@@ -190,22 +209,30 @@ impl Knowledge {
     {
         let alloc = self.entries.allocator();
         let term = self.applied(alloc, f, numbers)?;
-        let line = Line::Apply(f.copy(alloc)?, numbers.copy(alloc)?);
-        let number = self.enter(term, line)?;
+        let number = self.enter_application(alloc, term, f, numbers)?;
         Ok(number)
     }
 
     ghost use Rattle.sap_deduce.specs.Entries.{AreEntered};
     ghost use Rattle.sap_deduce.specs.Laws.{AreDeducible};
 
-    /// What is true of the entries, whatever was called: lines added them one after another, and each is a normal term of
-    /// at most 256 nodes, which is deducible from the names and the outputs that were given.
+    /// What is true of the entries, whatever was called: they came one after another, and each is a message of at most 256
+    /// nodes, which is deducible from the names and the outputs that were given.
     pub fn each_is_deducible(&self)
         ensures entered { AreEntered self.now.sig self.now.entries }
-        ensures normal { All (IsNormal (equations self.now.sig)) (terms_of self.now.entries) }
-        ensures within { All (λ t. node_count t ≤ 256) (terms_of self.now.entries) }
+        ensures messages { All (IsMessage self.now.sig Msg) (terms_of self.now.entries) }
+        ensures within { All (λ t. node_count t ≤ MOST_TERM_NODES) (terms_of self.now.entries) }
         ensures deducible { AreDeducible self.now }
     {
-        let _entries = &self.entries;
+        forms_are_messages();
+        self.sig.builtins_are_held();
     }
+}
+
+// The origin of a symbol on entries.
+fn applied_to(alloc: Global, f: &Name, numbers: &Numbers) -> Result<Origin, Mem>
+    ensures { IfOk result (λ o. o ≡ Origin.Apply f.now numbers.now) }
+{
+    let f = f.copy(alloc)?;
+    Ok(Origin::Apply(f, numbers.copy(alloc)?))
 }

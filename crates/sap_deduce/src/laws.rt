@@ -1,7 +1,7 @@
 // Laws of derivations, as the contracts of functions that do nothing.
 ghost use Rattle.sap_deduce.specs.Laws.{DerivationsCanBeEntered};
 
-/// What a derivation has can be entered line by line, with no names and outputs given but the derivation's own.
+/// What a derivation has can be entered term by term, with no names and outputs given but the derivation's own.
 pub fn derivations_can_be_entered()
     ensures { DerivationsCanBeEntered }
 {}

@@ -1,13 +1,12 @@
-//! What an adversary knows: entries that lines add, one after another, each of which can be deduced from what was given.
+//! What an adversary knows: entries that come one after another, each of which can be deduced from what was given.
 #![tactic(auto)]
 
 mod deny;
 mod entry;
 mod knowledge;
 mod laws;
-mod line;
+mod origin;
 
 pub use deny::Deny;
 pub use knowledge::Knowledge;
 pub use laws::derivations_can_be_entered;
-pub use line::Line;

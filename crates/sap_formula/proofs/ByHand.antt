@@ -1,7 +1,8 @@
 -- The worked examples of truth.
-use Rattle.std.proofs.Common.{◌≡◌, ◌<◌, [], ◌∷◌, Bool, true, false, refl, ap, subst, inl, inr, lit<, arith}
+use Rattle.std.proofs.Common.{◌≡◌, ◌<◌, ◌∙◌, ℕ, zero, suc, sym, [], ◌∷◌, Bool, true, false, refl, ap, subst, inl, inr, lit<, arith}
+use Rattle.std.specs.Str.{bytes_eq}
 use Rattle.std.specs.Prelude.{codes, IsTrue}
-use Rattle.sap_terms.specs.Tree.{Tree}
+use Rattle.sap_terms.specs.Tree.{Tree, variable}
 use Rattle.sap_terms.specs.Same.{same_tree}
 use Rattle.sap_terms.specs.Choice.{fits_sort}
 use Rattle.sap_terms.specs.Signature.{Sig}
@@ -10,9 +11,9 @@ use Rattle.sap_terms.specs.Equal.{same, next, forward}
 use Rattle.sap_terms.specs.declared.var.Sort.TheVariants.{Fresh}
 use Rattle.sap_rewrite.specs.Laws.{FormsDecide}
 use Rattle.sap_terms.specs.Trace.{Trace}
-use Rattle.sap_formula.specs.Truth.{IsTrueOn}
+use Rattle.sap_formula.specs.Truth.{AnyIn, EachIn, Shows, facts_at, IsTrueOn}
 use Rattle.sap_formula.specs.HoldsOf.{AreTrueOn}
-use Rattle.sap_formula.specs.Examples.{a, b, x, fresh_x, fact, trace_a, trace_ab, IsEither, only_a, some_place, two_places, some_b, two_binders, first_of_pair}
+use Rattle.sap_formula.specs.Examples.{a, b, x, fresh_x, public_x, fact, other_fact, trace_a, trace_aa, trace_ab, IsEither, only_a, some_place, two_places, some_b, two_binders, first_of_pair, first_is, one_place_alone, true_ones, false_ones}
 use Rattle.sap_formula.proofs.Messages.{public_normal, public_message, same_from_equal}
 
 abbrev is_b : Tree → Bool
@@ -25,11 +26,55 @@ other_place decide g h =
     let q : true ≡ false = ap is_b p in
     cc
 
+pub tables_true : (g : Sig) (tr : Trace) → EachIn (λ f. IsTrueOn g f tr) true_ones
+tables_true g shown = (tt, ((λ z. z), ((tt, tt), (inl tt, (inl tt, (inr tt, ((λ _. tt), ((λ _. tt), ((λ z. z), (((λ z. z), (λ z. z)), (((λ z. z), (λ z. z)), tt)))))))))))
+
+pub tables_false : (g : Sig) (tr : Trace) → EachIn (λ f. ¬ IsTrueOn g f tr) false_ones
+tables_false g shown = ((λ z. z), ((λ h. h tt), ((λ h. h.1), ((λ h. h.0), ((λ h. h.0), ((λ h. elim h [ inl y ↦ y | inr z ↦ z ]), ((λ h. h tt), ((λ h. h.0 tt), ((λ h. h.1 tt), tt)))))))))
+
+pub equal_up_to_theory : (g : Sig) → IsTrueOn g (first_is a) []
+equal_up_to_theory g = next (forward first) same
+
+pub equal_to_no_other : FormsDecide → (g : Sig) → ¬ IsTrueOn g (first_is b) []
+equal_to_no_other decide g h =
+    let p = (decide (equations g) first_of_pair b a b (record { equal = next (forward first) same; normal = public_normal (equations g) (codes "a") }) (record { equal = same; normal = public_normal (equations g) (codes "b") })).0 h in
+    let q : false ≡ true = ap is_b p in
+    cc
+
+shows_a : FormsDecide → (g : Sig) (k : ℕ) → AnyIn (Shows (equations g) (λ v. variable v) (fact false (a ∷ []))) (facts_at trace_ab k) → k ≡ 0
+shows_a decide g zero h = refl
+shows_a decide g (suc zero) (inl h) =
+    let p = same_from_equal decide (equations g) a b (public_normal (equations g) (codes "a")) (public_normal (equations g) (codes "b")) h.1.0 in
+    let q : false ≡ true = ap is_b p in
+    cc
+shows_a decide g (suc zero) (inr h) = absurd h
+shows_a decide g (suc (suc k)) h = absurd h
+
+pub same_place : FormsDecide → (g : Sig) → IsTrueOn g one_place_alone trace_ab
+same_place decide g k l j m h = shows_a decide g k h.0 ∙ sym (shows_a decide g j h.1)
+
+pub another_place : (g : Sig) → ¬ IsTrueOn g one_place_alone trace_aa
+another_place g h = let e : 0 ≡ 1 = h 0 (lit< tt) 1 (lit< tt) (inl (refl, (same, tt)), inl (refl, (same, tt))) in let P : ℕ → Type 0 = λ n. elim n [ zero ↦ Unit {0} | suc m ↦ ⊥ ] in subst P e tt
+
+pub public_names : (g : Sig) → IsTrueOn g (some_b public_x) []
+public_names g = (b, record { ground = tt; over = tt; normal = public_normal (equations g) (codes "b"); sorted = refl }, same)
+
 pub up_to_theory : (g : Sig) → IsTrueOn g (some_place first_of_pair) trace_a
 up_to_theory g = (0, lit< tt, inl (refl, (next (forward first) same, tt)))
 
 pub persistent : (g : Sig) → IsTrueOn g (some_place a) ((fact true (a ∷ []) ∷ []) ∷ [])
 persistent g = (0, lit< tt, inl (refl, (same, tt)))
+
+never : true ≡ false → ⊥
+never q = cc
+
+pub other_name : (g : Sig) → ¬ IsTrueOn g (some_place a) ((other_fact ∷ []) ∷ [])
+other_name g (zero, l, inl h) = never (ap (λ n. bytes_eq n (codes "A")) h.0)
+other_name g (zero, l, inr h) = absurd h
+other_name g (suc k, l, h) = absurd h
+
+pub any_fact : (g : Sig) → IsTrueOn g (some_place a) ((other_fact ∷ fact false (a ∷ []) ∷ []) ∷ [])
+any_fact g = (0, lit< tt, inr (inl (refl, (same, tt))))
 
 pub all_terms : (g : Sig) → IsTrueOn g (some_b x) []
 all_terms g = (b, public_message g (codes "b"), same)
@@ -44,8 +89,8 @@ pub innermost : (g : Sig) → IsTrueOn g two_binders trace_ab
 innermost g =
     (a, public_message g (codes "a"), (0, lit< tt, (inl (refl, (same, tt)), (b, public_message g (codes "b"), (1, lit< tt, (inl (refl, (same, tt)), lit< tt))))))
 
-one_place_alone : (g : Sig) → ¬ AreTrueOn g (two_places ∷ []) trace_a
-one_place_alone g h =
+not_two_places : (g : Sig) → ¬ AreTrueOn g (two_places ∷ []) trace_a
+not_two_places g h =
     let k = h.0.0 in
     let j = h.0.2.0 in
     let p : k < 1 = h.0.1 in
@@ -56,6 +101,6 @@ one_place_alone g h =
 pub some_restricted : (g : Sig) (tr : Trace) → ¬ IsTrueOn g only_a trace_ab → IsEither tr → AreTrueOn g (two_places ∷ []) tr → IsTrueOn g only_a tr → ⊥
 some_restricted g tr never either two only =
     elim either [
-      | inl p ↦ one_place_alone g (subst (λ s. AreTrueOn g (two_places ∷ []) s) p two)
+      | inl p ↦ not_two_places g (subst (λ s. AreTrueOn g (two_places ∷ []) s) p two)
       | inr p ↦ never (subst (λ s. IsTrueOn g only_a s) p only)
     ]

@@ -7,8 +7,9 @@ pub use Rattle.sap_terms.specs.Ground
 pub use Rattle.sap_terms.specs.Choice
 pub mod Form
 pub mod View
-pub mod Code
+pub mod code
 pub mod Places
 pub mod Truth
+pub mod Hide
 pub mod HoldsOf
 pub mod Examples

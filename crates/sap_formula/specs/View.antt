@@ -4,6 +4,7 @@ use Rattle.sap_formula.specs.Form.{Form, truth, falsity, action, equal, same_pla
 use Rattle.sap_formula.specs.declared.formula.Formula.{Formula}
 use Rattle.sap_formula.specs.declared.formula.Formula.TheVariants.{True, False, Action, Equal, Same, Less, Not', And', Or', Imp', Iff', All', Ex'}
 
+-- the formula without the addresses of its parts
 abbrev pub form : Formula → Form
 form True = truth
 form False = falsity

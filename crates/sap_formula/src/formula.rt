@@ -1,4 +1,5 @@
 ghost use Rattle.std.specs.Prelude.{◌≡◌, IfOk};
+ghost use Rattle.sap_formula.specs.Form.{every, exists};
 ghost use Rattle.sap_formula.specs.View.{form};
 
 use crate::Binders;
@@ -41,14 +42,8 @@ impl Formula {
             Formula::False => Ok(Formula::False),
             Formula::Action(fact, i) => copy_action(alloc, fact, i),
             Formula::Equal(s, t) => copy_equal(alloc, s, t),
-            Formula::Same(i, j) => {
-                let i = i.copy(alloc)?;
-                Ok(Formula::Same(i, j.copy(alloc)?))
-            }
-            Formula::Less(i, j) => {
-                let i = i.copy(alloc)?;
-                Ok(Formula::Less(i, j.copy(alloc)?))
-            }
+            Formula::Same(i, j) => copy_same(alloc, i, j),
+            Formula::Less(i, j) => copy_less(alloc, i, j),
             Formula::Not(f) => Ok(Formula::Not(f.boxed_copy(alloc)?)),
             Formula::And(f, g) => {
                 let left = f.boxed_copy(alloc)?;
@@ -66,14 +61,8 @@ impl Formula {
                 let left = f.boxed_copy(alloc)?;
                 Ok(Formula::Iff(left, g.boxed_copy(alloc)?))
             }
-            Formula::All(binders, f) => {
-                let body = f.boxed_copy(alloc)?;
-                Ok(Formula::All(binders.copy(alloc)?, body))
-            }
-            Formula::Ex(binders, f) => {
-                let body = f.boxed_copy(alloc)?;
-                Ok(Formula::Ex(binders.copy(alloc)?, body))
-            }
+            Formula::All(binders, f) => copy_all(alloc, binders, f.boxed_copy(alloc)?),
+            Formula::Ex(binders, f) => copy_exists(alloc, binders, f.boxed_copy(alloc)?),
         }
     }
 
@@ -90,6 +79,32 @@ fn copy_action(alloc: Global, fact: &Fact, i: &Name) -> Result<Formula, Mem>
 {
     let fact = fact.copy(alloc)?;
     Ok(Formula::Action(fact, i.copy(alloc)?))
+}
+
+fn copy_same(alloc: Global, i: &Name, j: &Name) -> Result<Formula, Mem>
+    ensures { IfOk result (λ f. f ≡ Formula.Same i.now j.now) }
+{
+    let i = i.copy(alloc)?;
+    Ok(Formula::Same(i, j.copy(alloc)?))
+}
+
+fn copy_less(alloc: Global, i: &Name, j: &Name) -> Result<Formula, Mem>
+    ensures { IfOk result (λ f. f ≡ Formula.Less i.now j.now) }
+{
+    let i = i.copy(alloc)?;
+    Ok(Formula::Less(i, j.copy(alloc)?))
+}
+
+fn copy_all(alloc: Global, binders: &Binders, body: Box<Formula>) -> Result<Formula, Mem>
+    ensures { IfOk result (λ f. form f ≡ every binders.now (form body.value)) }
+{
+    Ok(Formula::All(binders.copy(alloc)?, body))
+}
+
+fn copy_exists(alloc: Global, binders: &Binders, body: Box<Formula>) -> Result<Formula, Mem>
+    ensures { IfOk result (λ f. form f ≡ exists binders.now (form body.value)) }
+{
+    Ok(Formula::Ex(binders.copy(alloc)?, body))
 }
 
 fn copy_equal(alloc: Global, s: &Term, t: &Term) -> Result<Formula, Mem>

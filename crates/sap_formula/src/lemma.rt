@@ -22,7 +22,7 @@ pub struct Lemma {
 
 impl Model for Lemma {
     ghost use Rattle.sap_formula.specs.Form.{LemmaForm};
-    ghost use Rattle.sap_formula.specs.Code.{lemma_code};
+    ghost use Rattle.sap_formula.specs.code.Codes.{lemma_code};
 
     ghost Value = { LemmaForm };
 

@@ -13,7 +13,7 @@ pub struct Restriction {
 
 impl Model for Restriction {
     ghost use Rattle.sap_formula.specs.Form.{RestrictionForm};
-    ghost use Rattle.sap_formula.specs.Code.{restriction_code};
+    ghost use Rattle.sap_formula.specs.code.Codes.{restriction_code};
 
     ghost Value = { RestrictionForm };
 

@@ -14,7 +14,7 @@ use Rattle.sap_terms.specs.Piles.{adds}
 use Rattle.sap_gen.specs.RuleSteps.{RuleState, empty_state}
 use Rattle.sap_terms.specs.Trace.{Trace, shown}
 use Rattle.sap_gen.specs.Templates.{state_fact, first_of, second_of}
-use Rattle.sap_gen.specs.Traces.{hide, visible}
+use Rattle.sap_formula.specs.Hide.{hide, visible}
 use Rattle.sap_gen.specs.Relation.{Agent, unborn, running, process_of, IsPlaced, count_live, count_owed, is_unborn, has_init, pending_place, Related}
 use Rattle.sap_gen.proofs.Totals.{total-set, total-append}
 use Rattle.sap_gen.proofs.Lookups.{map-set_same, every-set, every_push, map-set, map_push}

@@ -9,7 +9,8 @@ use Rattle.sap_terms.specs.declared.fact.Fact.{Fact}
 use Rattle.sap_formula.specs.Truth.{AnyIn, facts_at}
 use Rattle.sap_gen.specs.ReservedFacts.{init_fact, event_fact}
 use Rattle.sap_terms.specs.Trace.{Trace, shown}
-use Rattle.sap_gen.specs.Traces.{hide, visible, is_hidden, IsAdmitted}
+use Rattle.sap_formula.specs.Hide.{hide, visible, is_hidden}
+use Rattle.sap_gen.specs.Traces.{IsAdmitted}
 use Rattle.sap_gen.specs.Relation.{has_init, is_start, total}
 use Rattle.sap_gen.proofs.Totals.{total_found}
 use Rattle.sap_gen.proofs.FactTests.{both, both_hold, same_name_true}

@@ -15,7 +15,7 @@ use Rattle.sap_terms.specs.AdversaryFacts.{k_fact}
 use Rattle.sap_gen.specs.RuleSteps.{RuleState}
 use Rattle.sap_terms.specs.Trace.{Trace}
 use Rattle.sap_gen.specs.Templates.{state_fact}
-use Rattle.sap_gen.specs.Traces.{hide}
+use Rattle.sap_formula.specs.Hide.{hide}
 
 -- the test of equal facts
 abbrev pub same_fact : Fact → Fact → Bool

@@ -1,29 +1,15 @@
 -- Which full traces count, and what is seen of them.
-use Rattle.std.specs.Prelude.{◌≡◌, ℕ, Bool, ◌&&◌, not, List, [], codes, filter}
-use Rattle.std.specs.List.{flat_map}
-use Rattle.std.specs.Str.{bytes_eq}
-use Rattle.sap_terms.specs.Reserved.{is_reserved}
+use Rattle.std.specs.Prelude.{◌≡◌, ℕ, List, [], codes}
 use Rattle.sap_terms.specs.Signature.{Sig}
-use Rattle.sap_terms.specs.Trace.{Trace, shown}
+use Rattle.sap_terms.specs.Trace.{Trace}
 use Rattle.sap_terms.specs.Tree.{Tree}
 use Rattle.sap_terms.specs.declared.fact.Fact.{Fact}
 use Rattle.sap_formula.specs.Form.{RestrictionForm}
+use Rattle.sap_formula.specs.Hide.{hide}
 use Rattle.sap_formula.specs.Truth.{AnyIn, EachIn, IsTrueOn, facts_at}
 use Rattle.sap_rule.specs.declared.rule.Rule.{Rule}
 use Rattle.sap_rule.specs.declared.theory.Theory.{Theory}
 use Rattle.sap_gen.specs.RuleSteps.{RuleState, RuleRun}
-
--- reserved, and not K
-abbrev pub is_hidden : List ℕ → Bool
-is_hidden name = is_reserved name && not (bytes_eq name (codes "K"))
-
--- the facts of a place that are seen
-abbrev pub visible : List Fact → List Fact
-visible place = filter (λ f. not (is_hidden f.name)) place
-
--- the trace without the hidden facts, and then without the empty places
-abbrev pub hide : Trace → Trace
-hide tr = flat_map (λ place. shown (visible place)) tr
 
 -- place k has a fact of this name with these arguments, persistent or not
 abbrev pub HasFact : Trace → ℕ → List ℕ → List Tree → Type 0

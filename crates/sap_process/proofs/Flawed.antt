@@ -15,7 +15,7 @@ use Rattle.sap_terms.specs.declared.var.Sort.{Sort}
 use Rattle.sap_terms.specs.declared.var.Sort.TheVariants.{Msg, Fresh, Pub}
 use Rattle.sap_terms.specs.declared.var.Var.{Var}
 use Rattle.sap_terms.proofs.SameLemmas.{and_left, and_right, and_true}
-use Rattle.sap_process.specs.Heads.{terms_vars, head_terms, head_vars, binder, patterns, stored_facts, shown_facts}
+use Rattle.sap_process.specs.Heads.{terms_vars, head_terms, head_vars, binder, bound_as, patterns, stored_facts, shown_facts}
 use Rattle.sap_process.specs.Sites.{Site, var_names}
 use Rattle.sap_process.specs.Flaws.{AppliesBadly, BindsConstant, HasReservedVar, HasReservedFact, HasClash, HasOtherArity, HasOtherForm, HasDestructor, AnyHasDestructor, HasPatternDestructor, unbound, Rebinds, scope_at, binder_of, HasSortClash, HasFlaw}
 use Rattle.sap_process.specs.Tests.{has_arity, is_over, are_over, has_destructor, any_has_destructor, is_constant, binds_constant, is_reserved_var, is_reserved_fact, noted_all, has_clash, has_items, rebinds, is_other_sort, has_other_sort, has_flaw}
@@ -36,7 +36,7 @@ arity-tested : (o : Option ℕ) (k : ℕ) → o ≡ Some k → has_arity o k ≡
 arity-tested o k h = rw h ((Decides-eqb k k).1 refl)
 
 mutual
-  over-sound : (g : Sig) (t : Tree) → is_over g t ≡ true → IsOver g t
+  pub over-sound : (g : Sig) (t : Tree) → is_over g t ≡ true → IsOver g t
   over-sound g (variable v) h = tt
   over-sound g (public n) h = tt
   over-sound g (fresh k) h = tt
@@ -48,7 +48,7 @@ mutual
   all-over-sound g (more t ts) h = (over-sound g t (and_left _ _ h), all-over-sound g ts (and_right _ _ h))
 
 mutual
-  over-complete : (g : Sig) (t : Tree) → IsOver g t → is_over g t ≡ true
+  pub over-complete : (g : Sig) (t : Tree) → IsOver g t → is_over g t ≡ true
   over-complete g (variable v) o = refl
   over-complete g (public n) o = refl
   over-complete g (fresh k) o = refl
@@ -170,7 +170,7 @@ binds-tells : (g : Sig) (s : Site) → Tells (binds_constant g s.body) (BindsCon
 binds-tells g s = (sound, complete) where
   sound : binds_constant g s.body ≡ true → BindsConstant g s
   sound h =
-      let found = bound-found (is_constant g) (binder s.body) h in
+      let found = bound-found (is_constant g) (bound_as s.body) h in
       record {
         var = found.0;
         stands = found.1;
@@ -180,7 +180,7 @@ binds-tells g s = (sound, complete) where
 
   complete : binds_constant g s.body ≡ false → BindsConstant g s → ⊥
   complete h c =
-      let holds : binds_constant g s.body ≡ true = bound-holds (is_constant g) (binder s.body) c.var c.stands (and_true _ _ (sort-tested c.var.sort Msg c.plain) (arity-tested (arity_of g c.var.name) 0 c.constant)) in
+      let holds : binds_constant g s.body ≡ true = bound-holds (is_constant g) (bound_as s.body) c.var c.stands (and_true _ _ (sort-tested c.var.sort Msg c.plain) (arity-tested (arity_of g c.var.name) 0 c.constant)) in
       cc
 
 reserved-var-tells : (s : Site) → Tells (list_any is_reserved_var (head_vars s.body)) (HasReservedVar s)

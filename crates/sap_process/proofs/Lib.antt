@@ -12,3 +12,15 @@ pub mod Instances
 pub mod Searching
 pub mod Flawed
 pub mod Firsts
+pub mod Names
+pub mod SortedVars
+pub mod SortedTwice
+pub mod StillWell
+pub mod Agreeing
+pub mod Envs
+pub mod GroundParts
+pub mod OverParts
+pub mod GroundRuns
+pub mod PlacesListed
+pub mod OneThread
+pub mod NoSteps

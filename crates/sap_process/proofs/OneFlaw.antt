@@ -7,8 +7,9 @@ use Rattle.sap_terms.specs.Signature.{Sig}
 use Rattle.sap_process.specs.declared.flaw.Flaw.{Flaw}
 use Rattle.sap_process.specs.declared.flaw.Flaw.TheVariants.{BadFunction, ReservedVar, ReservedFact, FactClash, PatternDestructor, Unbound, Rebound, SortClash, ScopeFull}
 use Rattle.sap_process.specs.Proc.{Proc}
-use Rattle.sap_process.specs.Sites.{Site, sites}
-use Rattle.sap_process.specs.Flaws.{IsFirstFlaw, IsWellFormed, rank}
+use Rattle.sap_terms.specs.declared.var.Var.{Var}
+use Rattle.sap_process.specs.Sites.{Site, sites_in}
+use Rattle.sap_process.specs.Flaws.{IsFirstFlawIn, IsWellFormedIn, rank}
 
 -- of two numbers that are not one before the other they are the same
 same_number : (a b : ℕ) → ¬ (a < b) → ¬ (b < a) → a ≡ b
@@ -41,21 +42,21 @@ one_rank : (w v : Flaw) → rank w ≡ rank v → w ≡ v
 one_rank w v e = sym (flaw_of_rank w) ∙ ap flaw_at e ∙ flaw_of_rank v
 
 -- one flaw, at one place
-pub one_flaw : (g : Sig) (p : Proc) (w v : Flaw) (path other : List ℕ) → IsFirstFlaw g p w path → IsFirstFlaw g p v other → (w ≡ v) × (path ≡ other)
-one_flaw g p w v path other f h = at_one (one_rank w v (same_number (rank w) (rank v) (λ l. h.least w l f.place f.at) (λ l. f.least v l h.place h.at))) h
+pub one_flaw : (g : Sig) (scope : List Var) (p : Proc) (w v : Flaw) (path other : List ℕ) → IsFirstFlawIn g scope p w path → IsFirstFlawIn g scope p v other → (w ≡ v) × (path ≡ other)
+one_flaw g scope p w v path other f h = at_one (one_rank w v (same_number (rank w) (rank v) (λ l. h.least w l f.place f.at) (λ l. f.least v l h.place h.at))) h
   where
-    place_is : (k : IsFirstFlaw g p w other) → f.place ≡ k.place
+    place_is : (k : IsFirstFlawIn g scope p w other) → f.place ≡ k.place
     place_is k = same_number f.place k.place (λ l. k.first f.place l f.at) (λ l. f.first k.place l k.at)
 
-    site_is : (k : IsFirstFlaw g p w other) → f.at.site ≡ k.at.site
+    site_is : (k : IsFirstFlawIn g scope p w other) → f.at.site ≡ k.at.site
     site_is k =
-        let same : Some f.at.site ≡ Some k.at.site = sym f.at.stands ∙ ap (slice_get (sites p)) (place_is k) ∙ k.at.stands in
+        let same : Some f.at.site ≡ Some k.at.site = sym f.at.stands ∙ ap (slice_get (sites_in scope p)) (place_is k) ∙ k.at.stands in
         cc
 
-    at_one : w ≡ v → IsFirstFlaw g p v other → (w ≡ v) × (path ≡ other)
-    at_one e k = let here : IsFirstFlaw g p w other = subst (λ u. IsFirstFlaw g p u other) (sym e) k in
+    at_one : w ≡ v → IsFirstFlawIn g scope p v other → (w ≡ v) × (path ≡ other)
+    at_one e k = let here : IsFirstFlawIn g scope p w other = subst (λ u. IsFirstFlawIn g scope p u other) (sym e) k in
         (e, sym f.path_is ∙ ap (λ (s : Site). s.path) (site_is here) ∙ here.path_is)
 
 -- a process with a flaw isn't well-formed
-pub no_flaw : (g : Sig) (p : Proc) (w : Flaw) (path : List ℕ) → IsFirstFlaw g p w path → IsWellFormed g p → ⊥
-no_flaw g p w path f well = well w f.place f.at
+pub no_flaw : (g : Sig) (scope : List Var) (p : Proc) (w : Flaw) (path : List ℕ) → IsFirstFlawIn g scope p w path → IsWellFormedIn g scope p → ⊥
+no_flaw g scope p w path f well = well w f.place f.at

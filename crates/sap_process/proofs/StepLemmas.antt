@@ -118,22 +118,22 @@ no_other m n other h = other (alone_at m n h.0 h.1 h.2)
 
 -- The value of a tree in a model of all equations: `fst`, `sdec` and `adec` take the first part of their argument, `snd` its
 -- second part, and `verify` holds always.
-abbrev parts : Trees → Trees
+abbrev pub parts : Trees → Trees
 parts (more (apply f ts) us) = ts
 parts ts = none
 
-abbrev head_part : Trees → Tree
+abbrev pub head_part : Trees → Tree
 head_part (more t ts) = t
 head_part none = app0 true_name
 
-abbrev second_part : Trees → Tree
+abbrev pub second_part : Trees → Tree
 second_part (more t ts) = head_part ts
 second_part none = app0 true_name
 
-abbrev takes_first : List ℕ → Bool
+abbrev pub takes_first : List ℕ → Bool
 takes_first f = bytes_eq f fst_name || bytes_eq f sdec_name || bytes_eq f adec_name
 
-abbrev value_of : List ℕ → Trees → Tree
+abbrev pub value_of : List ℕ → Trees → Tree
 value_of f ts =
     if takes_first f then head_part (parts ts)
     else if bytes_eq f snd_name then second_part (parts ts)
@@ -141,13 +141,13 @@ value_of f ts =
     else apply f ts
 
 abbrev mutual
-  value : Tree → Tree
+  pub value : Tree → Tree
   value (variable v) = variable v
   value (public n) = public n
   value (fresh k) = fresh k
   value (apply f ts) = value_of f (values ts)
 
-  values : Trees → Trees
+  pub values : Trees → Trees
   values none = none
   values (more t ts) = more (value t) (values ts)
 
@@ -168,7 +168,7 @@ mutual
   values_step (here {ts = ts} h) = ap (λ v. more v (values ts)) (value_step h)
   values_step (later {t} h) = ap (more (value t)) (values_step h)
 
-value_equal : {e : Equations} {t u : Tree} → IsTheoryEqual e t u → value t ≡ value u
+pub value_equal : {e : Equations} {t u : Tree} → IsTheoryEqual e t u → value t ≡ value u
 value_equal same = refl
 value_equal (next s h) = value_step s ∙ value_equal h
 

@@ -15,8 +15,8 @@ use Rattle.sap_process.specs.declared.flaw.Flaw.{Flaw}
 use Rattle.sap_process.specs.declared.flaw.Flaw.TheVariants.{BadFunction, ReservedVar, ReservedFact, FactClash, PatternDestructor, Unbound, Rebound, SortClash, ScopeFull}
 use Rattle.sap_process.specs.Action.{Action, embedded}
 use Rattle.sap_process.specs.Proc.{Proc, nil, parallel, replicated, act, test, lookup}
-use Rattle.sap_process.specs.Heads.{terms_vars, head_terms, head_vars, binder, patterns, stored_facts, shown_facts, action_used}
-use Rattle.sap_process.specs.Sites.{var_names, bound_by, Site, sites}
+use Rattle.sap_process.specs.Heads.{terms_vars, head_terms, head_vars, binder, bound_as, patterns, stored_facts, shown_facts, action_used}
+use Rattle.sap_process.specs.Sites.{var_names, bound_by, Site, sites_in}
 
 -- a term at the head applies a symbol that isn't held, or not with its arity
 pub record AppliesBadly (g : Sig) (s : Site) : Type 0 where
@@ -24,10 +24,10 @@ pub record AppliesBadly (g : Sig) (s : Site) : Type 0 where
   pub stands : Contains (head_terms s.body) term
   pub bad : ¬ IsOver g term
 
--- `new` or `lookup` binds a plain identifier that is a constant
+-- `new` or `lookup` binds a plain identifier that is a constant; `lookup` always binds a plain one
 pub record BindsConstant (g : Sig) (s : Site) : Type 0 where
   pub var : Var
-  pub stands : binder s.body ≡ Some var
+  pub stands : bound_as s.body ≡ Some var
   pub plain : var.sort ≡ Msg
   pub constant : arity_of g var.name ≡ Some 0
 
@@ -137,11 +137,15 @@ HasFlaw g before s Rebound = Rebinds s
 HasFlaw g before s SortClash = HasSortClash s
 HasFlaw g before s ScopeFull = 64 < length s.scope + s.locks
 
--- place k, counted from 0 in preorder, has the flaw
-pub record IsFlawedAt (g : Sig) (p : Proc) (w : Flaw) (k : ℕ) : Type 0 where
+-- place k, counted from 0 in preorder, has the flaw, where these variables are in scope at the root
+pub record IsFlawedIn (g : Sig) (scope : List Var) (p : Proc) (w : Flaw) (k : ℕ) : Type 0 where
   pub site : Site
-  pub stands : slice_get (sites p) k ≡ Some site
-  pub flaw : HasFlaw g (take k (sites p)) site w
+  pub stands : slice_get (sites_in scope p) k ≡ Some site
+  pub flaw : HasFlaw g (take k (sites_in scope p)) site w
+
+-- the same where nothing is
+abbrev pub IsFlawedAt : Sig → Proc → Flaw → ℕ → Type 0
+IsFlawedAt g p w k = IsFlawedIn g [] p w k
 
 -- the flaws in the order in which they count
 abbrev pub rank : Flaw → ℕ
@@ -155,14 +159,23 @@ rank Rebound = 7
 rank SortClash = 8
 rank ScopeFull = 9
 
--- the process has no flaw anywhere
-abbrev pub IsWellFormed : Sig → Proc → Type 0
-IsWellFormed g p = (w : Flaw) (k : ℕ) → ¬ IsFlawedAt g p w k
+-- the process has no flaw anywhere, where these are in scope at its root
+abbrev pub IsWellFormedIn : Sig → List Var → Proc → Type 0
+IsWellFormedIn g scope p = (w : Flaw) (k : ℕ) → ¬ IsFlawedIn g scope p w k
 
--- the flaw counts: no place has one that counts before it, and this is the first place that has it
-pub record IsFirstFlaw (g : Sig) (p : Proc) (w : Flaw) (path : List ℕ) : Type 0 where
+-- nor where nothing is
+abbrev pub IsWellFormed : Sig → Proc → Type 0
+IsWellFormed g p = IsWellFormedIn g [] p
+
+-- the flaw counts, where these are in scope at the root: no place has one that counts before it, and this is the first place
+-- that has it
+pub record IsFirstFlawIn (g : Sig) (scope : List Var) (p : Proc) (w : Flaw) (path : List ℕ) : Type 0 where
   pub place : ℕ
-  pub at : IsFlawedAt g p w place
+  pub at : IsFlawedIn g scope p w place
   pub path_is : at.site.path ≡ path
-  pub first : (k : ℕ) → k < place → ¬ IsFlawedAt g p w k
-  pub least : (u : Flaw) → rank u < rank w → (k : ℕ) → ¬ IsFlawedAt g p u k
+  pub first : (k : ℕ) → k < place → ¬ IsFlawedIn g scope p w k
+  pub least : (u : Flaw) → rank u < rank w → (k : ℕ) → ¬ IsFlawedIn g scope p u k
+
+-- the same where nothing is
+abbrev pub IsFirstFlaw : Sig → Proc → Flaw → List ℕ → Type 0
+IsFirstFlaw g p w path = IsFirstFlawIn g [] p w path

@@ -1,9 +1,10 @@
 -- What stands at the head of a process: its terms, facts and variables, without those of what follows.
-use Rattle.std.specs.Prelude.{ℕ, ◌+◌, List, [], ◌∷◌, ◌++◌, Option, Some, None}
+use Rattle.std.specs.Prelude.{ℕ, List, [], ◌∷◌, ◌++◌, Option, Some, None}
 use Rattle.std.specs.List.{flat_map}
 use Rattle.sap_terms.specs.Tree.{Tree}
 use Rattle.sap_terms.specs.Variables.{tree_vars}
 use Rattle.sap_terms.specs.declared.fact.Fact.{Fact}
+use Rattle.sap_terms.specs.declared.var.Sort.TheVariants.{Msg}
 use Rattle.sap_terms.specs.declared.var.Var.{Var}
 use Rattle.sap_process.specs.Action.{Action, new, out, send, input, receive, event, insert, delete, lock, unlock, embedded}
 use Rattle.sap_process.specs.Proc.{Proc, nil, parallel, replicated, act, test, lookup}
@@ -51,6 +52,15 @@ binder (replicated p) = None
 binder (act a p) = action_binder a
 binder (test t u p q) = None
 binder (lookup t x p q) = Some x
+
+-- what it binds, where `lookup` binds a plain identifier whatever its sign
+abbrev pub bound_as : Proc → Option Var
+bound_as nil = None
+bound_as (parallel p q) = None
+bound_as (replicated p) = None
+bound_as (act a p) = action_binder a
+bound_as (test t u p q) = None
+bound_as (lookup t x p q) = Some (record { name = x.name; sort = Msg })
 
 abbrev pub listed : Option Var → List Var
 listed None = []

@@ -1,11 +1,12 @@
 -- Instances of processes: variables replaced by what they stand for.
-use Rattle.std.specs.Prelude.{if◌then◌else◌}
+use Rattle.std.specs.Prelude.{List, [], ◌∷◌, ◌++◌, if◌then◌else◌}
 use Rattle.std.specs.Str.{bytes_eq}
 use Rattle.sap_terms.specs.Choice.{Choice, instance}
 use Rattle.sap_terms.specs.Modulo.{instance_fact, instance_facts}
 use Rattle.sap_terms.specs.Tree.{variable}
 use Rattle.sap_terms.specs.declared.var.Var.{Var}
 use Rattle.sap_process.specs.Action.{Action, new, out, send, input, receive, event, insert, delete, lock, unlock, embedded}
+use Rattle.sap_process.specs.Heads.{terms_vars, action_terms}
 use Rattle.sap_process.specs.Proc.{Proc, nil, parallel, replicated, act, test, lookup}
 
 -- the action with each variable of its terms replaced
@@ -40,3 +41,12 @@ process_instance σ (replicated p) = replicated (process_instance σ p)
 process_instance σ (act a p) = act (action_instance σ a) (process_instance (behind σ a) p)
 process_instance σ (test t u p q) = test (instance σ t) (instance σ u) (process_instance σ p) (process_instance σ q)
 process_instance σ (lookup t x p q) = lookup (instance σ t) x (process_instance (without σ x) p) (process_instance σ q)
+
+-- each occurrence of a variable in the terms of the process
+abbrev pub process_vars : Proc → List Var
+process_vars nil = []
+process_vars (parallel p q) = process_vars p ++ process_vars q
+process_vars (replicated p) = process_vars p
+process_vars (act a p) = terms_vars (action_terms a) ++ process_vars p
+process_vars (test t u p q) = terms_vars (t ∷ u ∷ []) ++ (process_vars p ++ process_vars q)
+process_vars (lookup t x p q) = terms_vars (t ∷ []) ++ (process_vars p ++ process_vars q)

@@ -5,6 +5,7 @@ pub mod Action
 pub mod Proc
 pub mod Heads
 pub mod Sites
+pub mod PlaceAt
 pub mod Flaws
 pub mod Instance
 pub mod Sorted
@@ -17,3 +18,7 @@ pub mod Places
 pub mod Walks
 pub mod Searches
 pub mod SortedHeads
+pub mod Headed
+pub mod Ready
+pub mod GroundProcess
+pub mod GroundParts

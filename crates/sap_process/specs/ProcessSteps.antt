@@ -1,5 +1,6 @@
 -- Processes run: steps and traces, without any limit.
-use Rattle.std.specs.Prelude.{◌≡◌, ℕ, true, false, List, [], ◌∷◌, ◌++◌, Some, None, if◌then◌else◌}
+use Rattle.std.specs.Prelude.{◌≡◌, ℕ, true, false, List, [], ◌∷◌, ◌++◌, Some, None}
+use Rattle.std.specs.Option.{option_map_or}
 use Rattle.sap_terms.specs.AdversaryFacts.{k_fact}
 use Rattle.sap_terms.specs.Choice.{Choice, instance}
 use Rattle.sap_terms.specs.Equal.{IsTheoryEqual}
@@ -11,18 +12,22 @@ use Rattle.sap_terms.specs.Signature.{Sig}
 use Rattle.sap_terms.specs.Equations.{equations, app2, pair_name}
 use Rattle.sap_terms.specs.Trace.{Trace, shown}
 use Rattle.sap_terms.specs.Tree.{Tree, variable, fresh}
-use Rattle.sap_terms.specs.Variables.{tree_vars, facts_vars, is_known}
+use Rattle.sap_terms.specs.Variables.{tree_vars, facts_vars}
 use Rattle.sap_terms.specs.declared.fact.Fact.{Fact}
 use Rattle.sap_terms.specs.declared.var.Var.{Var}
 use Rattle.sap_process.specs.Action.{new, out, send, input, receive, event, insert, delete, lock, unlock, embedded}
 use Rattle.sap_process.specs.Proc.{Proc, nil, parallel, replicated, act, test, lookup}
-use Rattle.sap_process.specs.Sites.{var_names}
+use Rattle.sap_process.specs.Flaws.{binder_of}
 use Rattle.sap_process.specs.Instance.{process_instance}
 use Rattle.sap_process.specs.Configuration.{Config, initial, Runs, becomes, spawns, makes, owns, sends_out, stores, holds, leaves, IsUnused, CanGive}
 
+-- the choice for these variables alone, which are known by their names: a name stands for what its first variable stands for
+abbrev pub chosen : Choice → List Var → Choice
+chosen σ vs v = option_map_or σ (binder_of vs v.name) (variable v)
+
 -- the process with these variables replaced as the choice says, and no others
 abbrev pub with_choice : Choice → List Var → Proc → Proc
-with_choice σ vs p = process_instance (λ v. if is_known (var_names vs) v.name then σ v else variable v) p
+with_choice σ vs p = process_instance (chosen σ vs) p
 
 -- the process with this variable replaced by the term
 abbrev pub with_term : Var → Tree → Proc → Proc

@@ -52,6 +52,10 @@ sites_from path scope k (lookup t x p q) =
     record { path = path; scope = scope; locks = k; body = lookup t x p q }
     ∷ (sites_from (path ++ 1 ∷ []) (scope ++ message_var x ∷ []) k p ++ sites_from (path ++ 2 ∷ []) scope k q)
 
--- all places
+-- all places, where these are in scope at the root
+abbrev pub sites_in : List Var → Proc → List Site
+sites_in scope p = sites_from [] scope 0 p
+
+-- and where nothing is
 abbrev pub sites : Proc → List Site
-sites p = sites_from [] [] 0 p
+sites p = sites_in [] p

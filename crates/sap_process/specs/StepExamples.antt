@@ -5,9 +5,9 @@ use Rattle.sap_terms.specs.Same.{same_tree}
 use Rattle.sap_terms.specs.Equations.{app1, app2, fst_name, pair_name}
 use Rattle.sap_terms.specs.Tree.{Tree, variable, public}
 use Rattle.sap_terms.specs.declared.fact.Fact.{Fact}
-use Rattle.sap_terms.specs.declared.var.Sort.TheVariants.{Msg}
+use Rattle.sap_terms.specs.declared.var.Sort.TheVariants.{Msg, Fresh, Pub}
 use Rattle.sap_terms.specs.declared.var.Var.{Var}
-use Rattle.sap_process.specs.Action.{event, input}
+use Rattle.sap_process.specs.Action.{event, input, embedded}
 use Rattle.sap_process.specs.Configuration.{Config}
 use Rattle.sap_process.specs.Proc.{Proc, nil, act}
 
@@ -68,3 +68,18 @@ just k y = if same_tree k y then true else false
 -- in(x); event A(x)
 abbrev pub input_shown : Proc
 input_shown = act (input var_x) (showing var_x)
+
+-- ~x and $x
+abbrev pub fresh_x : Var
+fresh_x = record { name = codes "x"; sort = Fresh }
+
+abbrev pub public_x : Var
+public_x = record { name = codes "x"; sort = Pub }
+
+-- an embedded rule that adds M($x), and then event A($x)
+abbrev pub adding_public : Proc
+adding_public = act (embedded [] [] (right_fact (variable public_x) ∷ [])) (showing (variable public_x))
+
+-- an embedded rule that takes L('a') twice, and then event A('a')
+abbrev pub taking_twice : Proc
+taking_twice = act (embedded (left_fact a ∷ left_fact a ∷ []) [] []) (showing a)

@@ -14,7 +14,7 @@ use Rattle.sap_terms.specs.declared.fact.Fact.{Fact}
 use Rattle.sap_terms.specs.declared.var.Sort.{Sort}
 use Rattle.sap_terms.specs.declared.var.Sort.TheVariants.{Msg}
 use Rattle.sap_terms.specs.declared.var.Var.{Var}
-use Rattle.sap_process.specs.Heads.{terms_vars, head_terms, head_vars, binder, patterns, stored_facts, shown_facts}
+use Rattle.sap_process.specs.Heads.{terms_vars, head_terms, head_vars, binder, bound_as, patterns, stored_facts, shown_facts}
 use Rattle.sap_process.specs.Sites.{var_names, Site}
 use Rattle.sap_process.specs.Flaws.{unbound, binder_of, scope_at}
 use Rattle.sap_process.specs.Proc.{Proc}
@@ -57,7 +57,7 @@ abbrev pub is_constant : Sig → Var → Bool
 is_constant g v = same_sort v.sort Msg && has_arity (arity_of g v.name) 0
 
 abbrev pub binds_constant : Sig → Proc → Bool
-binds_constant g p = option_map_or (is_constant g) (binder p) false
+binds_constant g p = option_map_or (is_constant g) (bound_as p) false
 
 -- its name begins as those that the rules use themselves
 abbrev pub is_reserved_var : Var → Bool

@@ -1,6 +1,7 @@
 ghost use Rattle.std.specs.Prelude.{◌≡◌, ℕ, List, [], IfOk, IsErrOf};
 ghost use Rattle.sap_process.specs.Proc.{proc};
 ghost use Rattle.sap_process.specs.Flaws.{IsWellFormed, IsFirstFlaw};
+ghost use Rattle.sap_process.specs.Ready.{IsReady};
 ghost use Rattle.sap_process.specs.Sites.{sites};
 ghost use Rattle.sap_process.specs.Sorted.{with_sorts};
 ghost use Rattle.sap_process.specs.Walks.{first_flaw};
@@ -25,6 +26,17 @@ use std::alloc::Global;
 pub fn well_formed(alloc: Global, sig: &Signature, p: &Process) -> Result<Process, Ill>
     ensures sorted { IfOk result (λ q. proc q ≡ with_sorts [] (proc p.now)) }
     ensures sound { IfOk result (λ q. IsWellFormed sig.now (proc p.now)) }
+    ensures well { IfOk result (λ q. IsReady sig.now (proc q)) }
+    ensures flawed { (which : Flaw) (path : List ℕ) → IsErrOf result (At which path) → IsFirstFlaw sig.now (proc p.now) which path }
+{
+    Ok(Box::into_inner(well_formed_boxed(alloc, sig, p)?))
+}
+
+/// The same, in a box.
+pub fn well_formed_boxed(alloc: Global, sig: &Signature, p: &Process) -> Result<Box<Process>, Ill>
+    ensures sorted { IfOk result (λ q. proc q.value ≡ with_sorts [] (proc p.now)) }
+    ensures sound { IfOk result (λ q. IsWellFormed sig.now (proc p.now)) }
+    ensures well { IfOk result (λ q. IsReady sig.now (proc q.value)) }
     ensures flawed { (which : Flaw) (path : List ℕ) → IsErrOf result (At which path) → IsFirstFlaw sig.now (proc p.now) which path }
 {
     let flaws = [
@@ -40,11 +52,16 @@ pub fn well_formed(alloc: Global, sig: &Signature, p: &Process) -> Result<Proces
     ];
     match first_flaw(alloc, sig, p, &flaws)? {
         Some((which, path)) => Err(Ill::At { which, path }),
-        None => {
-            let mut scope = Scope::new(alloc);
-            Ok(sorted(alloc, &mut scope, p)?)
-        }
+        None => Ok(sorted_whole(alloc, p)?),
     }
+}
+
+// The process with the sorts of binders.
+fn sorted_whole(alloc: Global, p: &Process) -> Result<Box<Process>, Mem>
+    ensures { IfOk result (λ q. proc q.value ≡ with_sorts [] (proc p.now)) }
+{
+    let mut scope = Scope::new(alloc);
+    sorted(alloc, &mut scope, p)
 }
 
 // The first of the flaws that a place has, with the path of the first place that has it.

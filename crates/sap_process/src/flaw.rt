@@ -7,8 +7,8 @@ use sap_terms::{Mem, Path};
 /// its first place in preorder.
 #[derive(Clone, Copy, Debug, PartialEq, Eq)]
 pub enum Flaw {
-    /// A term applies a symbol that isn't held, or not with its arity; or `new` or `lookup` binds a plain identifier that is
-    /// a held symbol of arity 0.
+    /// A term applies a symbol that isn't held, or not with its arity; or `new` binds a plain identifier, or `lookup` a name,
+    /// that is a held symbol of arity 0.
     BadFunction,
     /// A variable's name begins with `sapic_`.
     ReservedVar,

@@ -6,11 +6,12 @@ ghost use Rattle.sap_terms.specs.Tree.{trees_of};
 ghost use Rattle.sap_terms.specs.View.{tree};
 ghost use Rattle.sap_process.specs.Heads.{head_terms, head_vars, binder, listed, facts_terms, patterns, stored_facts, shown_facts};
 ghost use Rattle.sap_process.specs.Proc.{proc};
-ghost use Rattle.sap_process.specs.Tests.{is_over, are_over, has_destructor, any_has_destructor, is_constant, binds_constant, is_reserved_var, is_reserved_fact};
+ghost use Rattle.sap_process.specs.Tests.{is_over, are_over, has_destructor, any_has_destructor, has_arity, binds_constant, is_reserved_var, is_reserved_fact};
+ghost use Rattle.sap_terms.specs.Signature.{arity_of};
 
 use crate::Process;
 use crate::occurrences::vars_of_head;
-use sap_terms::{FactList, Mem, Signature, Sort, Term, TermList, Var, Vars, is_reserved};
+use sap_terms::{FactList, Mem, Name, Signature, Sort, Term, TermList, Var, Vars, is_reserved};
 use std::alloc::Global;
 
 // The variable that `new` or `lookup` binds.
@@ -34,19 +35,17 @@ pub(crate) fn is_bad_head(sig: &Signature, p: &Process) -> bool
 fn binds_constant(sig: &Signature, p: &Process) -> bool
     ensures { result ≡ binds_constant sig.now (proc p.now) }
 {
-    match binder(p) {
-        Some(x) => is_constant(sig, x),
-        None => false,
+    match p {
+        Process::New(x, _) => x.sort == Sort::Msg && is_held_constant(sig, &x.name),
+        Process::Lookup(_, x, _, _) => is_held_constant(sig, &x.name),
+        _ => false,
     }
 }
 
-fn is_constant(sig: &Signature, x: &Var) -> bool
-    ensures { result ≡ is_constant sig.now x.now }
+fn is_held_constant(sig: &Signature, name: &Name) -> bool
+    ensures { result ≡ has_arity (arity_of sig.now name.now) 0 }
 {
-    if x.sort != Sort::Msg {
-        return false;
-    }
-    match sig.arity(&x.name) {
+    match sig.arity(name) {
         Some(n) => n == 0,
         None => false,
     }

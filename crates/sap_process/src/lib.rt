@@ -10,14 +10,18 @@ mod met;
 mod naming;
 mod occurrences;
 mod process;
+mod replacing;
 mod scope;
 mod sorting;
 mod substituting;
 mod trail;
 mod walk;
 
-pub use checking::well_formed;
+pub use checking::{well_formed, well_formed_boxed};
 pub use flaw::{Flaw, Ill};
-pub use laws::{instances_of_processes, one_flaw, steps_by_hand, traces_by_hand};
+pub use laws::{
+    choices_are_bindings, instances_of_processes, no_steps_by_hand, one_flaw, runs_stay_ground,
+    sites_are_the_places, sorting_keeps, steps_by_hand, traces_by_hand,
+};
 pub use process::Process;
 pub use substituting::substitute;

@@ -1,14 +1,14 @@
 //! Processes with variables replaced by terms.
-ghost use Rattle.std.specs.Prelude.{◌≡◌, false, IfOk, map};
-ghost use Rattle.sap_terms.specs.Modulo.{instance_fact, instance_facts};
-ghost use Rattle.sap_terms.specs.Subst.{bound_to, subst_tree};
+ghost use Rattle.std.specs.Prelude.{◌≡◌, false, IfOk};
+ghost use Rattle.sap_terms.specs.Subst.{bound_to};
 ghost use Rattle.sap_terms.specs.View.{tree};
-ghost use Rattle.sap_process.specs.Action.{send, receive, insert, embedded};
+ghost use Rattle.sap_process.specs.Headed.{headed};
 ghost use Rattle.sap_process.specs.Instance.{process_instance, without};
-ghost use Rattle.sap_process.specs.Proc.{proc, act, test, lookup};
+ghost use Rattle.sap_process.specs.Proc.{proc, parallel, act, test, lookup};
 
 use crate::Process;
-use sap_terms::{Bindings, Copied, Fact, FactList, Mem, Term, TermList, Var, subst};
+use crate::replacing::{Replacing, ended, looking_up, over, side_by_side, testing};
+use sap_terms::{Bindings, Copied, Mem, Term, Var, subst};
 use std::alloc::Global;
 
 /// The process with each bound variable replaced by its term, in patterns too. Variables are known by their names. Below
@@ -17,56 +17,126 @@ use std::alloc::Global;
 ///
 /// Want of memory is the only error. It recurses as deep as the process and its terms. Each variable costs a scan of the
 /// bindings, of which a scope has at most 64; they are copied only where a name that they bind is bound again.
-#[cycle(substitute)]
 pub fn substitute(alloc: Global, p: &Process, b: &Bindings) -> Result<Process, Mem>
     ensures { IfOk result (λ q. proc q ≡ process_instance (bound_to b.now) (proc p.now)) }
 {
-    match p {
-        Process::Nil => Ok(Process::Nil),
-        Process::Par(p, q) => Ok(Process::Par(boxed(alloc, p, b)?, boxed(alloc, q, b)?)),
-        Process::Rep(p) => Ok(Process::Rep(boxed(alloc, p, b)?)),
-        Process::New(x, p) => Ok(Process::New(x.copy(alloc)?, below(alloc, p, x, b)?)),
-        Process::Out(t, p) => Ok(Process::Out(subst(alloc, t, b)?, boxed(alloc, p, b)?)),
-        Process::Send(t, u, p) => sending(alloc, t, u, boxed(alloc, p, b)?, b),
-        Process::In(t, p) => Ok(Process::In(subst(alloc, t, b)?, boxed(alloc, p, b)?)),
-        Process::Recv(t, u, p) => receiving(alloc, t, u, boxed(alloc, p, b)?, b),
-        Process::If(t, u, p, q) => {
-            let first = boxed(alloc, p, b)?;
-            testing(alloc, t, u, first, boxed(alloc, q, b)?, b)
-        }
-        Process::Event(f, p) => Ok(Process::Event(subst_fact(alloc, f, b)?, boxed(alloc, p, b)?)),
-        Process::Insert(t, u, p) => inserting(alloc, t, u, boxed(alloc, p, b)?, b),
-        Process::Delete(t, p) => Ok(Process::Delete(subst(alloc, t, b)?, boxed(alloc, p, b)?)),
-        Process::Lookup(t, x, p, q) => {
-            let first = below(alloc, p, x, b)?;
-            looking_up(alloc, t, x, first, boxed(alloc, q, b)?, b)
-        }
-        Process::Lock(t, n, p) => Ok(Process::Lock(subst(alloc, t, b)?, *n, boxed(alloc, p, b)?)),
-        Process::Unlock(t, n, p) => {
-            Ok(Process::Unlock(subst(alloc, t, b)?, *n, boxed(alloc, p, b)?))
-        }
-        Process::Embedded(l, e, r, p) => embedding(alloc, l, e, r, boxed(alloc, p, b)?, b),
+    Ok(Box::into_inner(replaced(alloc, p, b)?))
+}
+
+impl Replacing for Bindings {
+    ghost choice = { bound_to };
+
+    fn replaced(&self, alloc: Global, t: &Term) -> Result<Term, Mem> {
+        subst(alloc, t, self)
     }
 }
 
-// The same, boxed.
-#[cycle(substitute)]
-fn boxed(alloc: Global, p: &Process, b: &Bindings) -> Result<Box<Process>, Mem>
+// The process with the bound variables replaced, in a box.
+#[cycle(replaced)]
+pub(crate) fn replaced(alloc: Global, p: &Process, b: &Bindings) -> Result<Box<Process>, Mem>
     ensures { IfOk result (λ q. proc q.value ≡ process_instance (bound_to b.now) (proc p.now)) }
 {
-    Ok(Box::new(alloc, substitute(alloc, p, b)?)?)
+    match p {
+        Process::Nil => ended(alloc),
+        Process::Par(p, q) => replaced_both(alloc, p, q, b),
+        Process::If(t, u, p, q) => replaced_test(alloc, t, u, p, q, b),
+        Process::Lookup(t, x, p, q) => replaced_lookup(alloc, t, x, p, q, b),
+        Process::New(x, q) => replaced_name(alloc, p, x, q, b),
+        Process::Rep(q)
+        | Process::Out(_, q)
+        | Process::Send(_, _, q)
+        | Process::In(_, q)
+        | Process::Recv(_, _, q)
+        | Process::Event(_, q)
+        | Process::Insert(_, _, q)
+        | Process::Delete(_, q)
+        | Process::Lock(_, _, q)
+        | Process::Unlock(_, _, q)
+        | Process::Embedded(_, _, _, q) => replaced_over(alloc, p, q, b),
+    }
 }
 
-// The same below the binder of x.
-#[cycle(substitute)]
-fn below(alloc: Global, p: &Process, x: &Var, b: &Bindings) -> Result<Box<Process>, Mem>
+// The head of the process over what follows it.
+#[cycle(replaced)]
+fn replaced_over(alloc: Global, p: &Process, q: &Process, b: &Bindings) -> Result<Box<Process>, Mem>
+    ensures { IfOk result (λ made. proc made.value
+        ≡ headed (bound_to b.now) (proc p.now) (process_instance (bound_to b.now) (proc q.now))) }
+{
+    let below = replaced(alloc, q, b)?;
+    over(alloc, b, p, below)
+}
+
+// The same of `new x`, below which the variables named x stay.
+#[cycle(replaced)]
+fn replaced_name(
+    alloc: Global,
+    p: &Process,
+    x: &Var,
+    q: &Process,
+    b: &Bindings,
+) -> Result<Box<Process>, Mem>
+    ensures { IfOk result (λ made. proc made.value
+        ≡ headed (bound_to b.now) (proc p.now) (process_instance (without (bound_to b.now) x.now) (proc q.now))) }
+{
+    let below = replaced_below(alloc, q, x, b)?;
+    over(alloc, b, p, below)
+}
+
+#[cycle(replaced)]
+fn replaced_both(alloc: Global, p: &Process, q: &Process, b: &Bindings) -> Result<Box<Process>, Mem>
+    ensures { IfOk result (λ made. proc made.value ≡ parallel
+        (process_instance (bound_to b.now) (proc p.now)) (process_instance (bound_to b.now) (proc q.now))) }
+{
+    let first = replaced(alloc, p, b)?;
+    let second = replaced(alloc, q, b)?;
+    side_by_side(alloc, first, second)
+}
+
+#[cycle(replaced)]
+fn replaced_test(
+    alloc: Global,
+    t: &Term,
+    u: &Term,
+    p: &Process,
+    q: &Process,
+    b: &Bindings,
+) -> Result<Box<Process>, Mem>
+    ensures { IfOk result (λ made. proc made.value
+        ≡ process_instance (bound_to b.now) (test (tree t.now) (tree u.now) (proc p.now) (proc q.now))) }
+{
+    let first = replaced(alloc, p, b)?;
+    let second = replaced(alloc, q, b)?;
+    testing(alloc, b, t, u, first, second)
+}
+
+// The same of `lookup M as x`, in whose first branch the variables named x stay.
+#[cycle(replaced)]
+fn replaced_lookup(
+    alloc: Global,
+    t: &Term,
+    x: &Var,
+    p: &Process,
+    q: &Process,
+    b: &Bindings,
+) -> Result<Box<Process>, Mem>
+    ensures { IfOk result (λ made. proc made.value
+        ≡ process_instance (bound_to b.now) (lookup (tree t.now) x.now (proc p.now) (proc q.now))) }
+{
+    let first = replaced_below(alloc, p, x, b)?;
+    let second = replaced(alloc, q, b)?;
+    looking_up(alloc, b, t, x.copy(alloc)?, first, second)
+}
+
+// What stands below the binder of x.
+#[cycle(replaced)]
+fn replaced_below(alloc: Global, p: &Process, x: &Var, b: &Bindings) -> Result<Box<Process>, Mem>
     ensures { IfOk result (λ q. proc q.value ≡ process_instance (without (bound_to b.now) x.now) (proc p.now)) }
 {
     if !binds(b, x) {
-        return boxed(alloc, p, b);
+        return replaced(alloc, p, b);
     }
     let rest = hiding(alloc, b, x)?;
-    boxed(alloc, p, &rest)
+    replaced(alloc, p, &rest)
 }
 
 // Whether the name of x is bound.
@@ -92,114 +162,4 @@ fn hiding(alloc: Global, b: &Bindings, x: &Var) -> Result<Bindings, Mem>
         }
     }
     Ok(rest)
-}
-
-#[tactic(auto, using(crate::proofs::OtherNames::map_laws))]
-fn subst_terms(alloc: Global, ts: &TermList, b: &Bindings) -> Result<TermList, Mem>
-    ensures { IfOk result (λ r. r ≡ map (subst_tree b.now) ts.now) }
-{
-    let mut made = TermList::new(alloc);
-    for k in 0..ts.len() {
-        made.push(subst(alloc, ts.at(k), b)?)?;
-    }
-    Ok(made)
-}
-
-fn subst_fact(alloc: Global, f: &Fact, b: &Bindings) -> Result<Fact, Mem>
-    ensures { IfOk result (λ r. r ≡ instance_fact (bound_to b.now) f.now) }
-{
-    let args = subst_terms(alloc, &f.args, b)?;
-    let name = f.name.copy(alloc)?;
-    let persistent = f.persistent;
-    Ok(Fact {
-        name,
-        persistent,
-        args,
-    })
-}
-
-fn subst_facts(alloc: Global, fs: &FactList, b: &Bindings) -> Result<FactList, Mem>
-    ensures { IfOk result (λ r. r ≡ instance_facts (bound_to b.now) fs.now) }
-{
-    let mut made = FactList::new(alloc);
-    for k in 0..fs.len() {
-        made.push(subst_fact(alloc, fs.at(k), b)?)?;
-    }
-    Ok(made)
-}
-
-fn sending(alloc: Global, t: &Term, u: &Term, p: Box<Process>, b: &Bindings) -> Result<Process, Mem>
-    ensures { IfOk result (λ r. proc r ≡ act (send (subst_tree b.now (tree t.now)) (subst_tree b.now (tree u.now))) (proc p.value)) }
-{
-    let t = subst(alloc, t, b)?;
-    Ok(Process::Send(t, subst(alloc, u, b)?, p))
-}
-
-fn receiving(
-    alloc: Global,
-    t: &Term,
-    u: &Term,
-    p: Box<Process>,
-    b: &Bindings,
-) -> Result<Process, Mem>
-    ensures { IfOk result (λ r. proc r ≡ act (receive (subst_tree b.now (tree t.now)) (subst_tree b.now (tree u.now))) (proc p.value)) }
-{
-    let t = subst(alloc, t, b)?;
-    Ok(Process::Recv(t, subst(alloc, u, b)?, p))
-}
-
-fn inserting(
-    alloc: Global,
-    t: &Term,
-    u: &Term,
-    p: Box<Process>,
-    b: &Bindings,
-) -> Result<Process, Mem>
-    ensures { IfOk result (λ r. proc r ≡ act (insert (subst_tree b.now (tree t.now)) (subst_tree b.now (tree u.now))) (proc p.value)) }
-{
-    let t = subst(alloc, t, b)?;
-    Ok(Process::Insert(t, subst(alloc, u, b)?, p))
-}
-
-fn testing(
-    alloc: Global,
-    t: &Term,
-    u: &Term,
-    p: Box<Process>,
-    q: Box<Process>,
-    b: &Bindings,
-) -> Result<Process, Mem>
-    ensures { IfOk result (λ r. proc r ≡ test (subst_tree b.now (tree t.now)) (subst_tree b.now (tree u.now)) (proc p.value) (proc q.value)) }
-{
-    let t = subst(alloc, t, b)?;
-    Ok(Process::If(t, subst(alloc, u, b)?, p, q))
-}
-
-fn looking_up(
-    alloc: Global,
-    t: &Term,
-    x: &Var,
-    p: Box<Process>,
-    q: Box<Process>,
-    b: &Bindings,
-) -> Result<Process, Mem>
-    ensures { IfOk result (λ r. proc r ≡ lookup (subst_tree b.now (tree t.now)) x.now (proc p.value) (proc q.value)) }
-{
-    let t = subst(alloc, t, b)?;
-    Ok(Process::Lookup(t, x.copy(alloc)?, p, q))
-}
-
-fn embedding(
-    alloc: Global,
-    l: &FactList,
-    e: &FactList,
-    r: &FactList,
-    p: Box<Process>,
-    b: &Bindings,
-) -> Result<Process, Mem>
-    ensures { IfOk result (λ made. proc made ≡ act (embedded (instance_facts (bound_to b.now) l.now) (instance_facts (bound_to b.now) e.now) (instance_facts (bound_to b.now) r.now)) (proc p.value)) }
-{
-    let l = subst_facts(alloc, l, b)?;
-    let e = subst_facts(alloc, e, b)?;
-    Ok(Process::Embedded(l, e, subst_facts(alloc, r, b)?, p))
 }

@@ -7,7 +7,7 @@ use Rattle.sap_terms.specs.Tree.{Tree, variable, public, fresh, apply, Trees, no
 use Rattle.sap_terms.proofs.SameLemmas.{and_left, and_right, and_true}
 use Rattle.sap_terms.proofs.TreeLemmas.{item_le-trees_count}
 use Rattle.sap_rewrite.specs.Closed.{has_arity}
-use Rattle.sap_rule.specs.Checks.{is_over, all_over}
+use Rattle.sap_rule.specs.code.Checks.{is_over, all_over}
 
 pub over-apply : (g : Sig) (f : List ℕ) (ts : List Tree) → is_over g (apply f (trees_of ts)) ≡ (has_arity (arity_of g f) (length ts) && all_over g (trees_of ts))
 over-apply g f ts = ap (λ us. has_arity (arity_of g f) (length us) && all_over g (trees_of ts)) (list_of-trees_of ts)

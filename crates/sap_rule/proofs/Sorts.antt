@@ -9,7 +9,7 @@ use Rattle.sap_terms.specs.declared.var.Sort.{Sort}
 use Rattle.sap_terms.specs.declared.var.Sort.TheVariants.{Msg, Fresh, Pub}
 use Rattle.sap_terms.specs.declared.var.Var.{Var}
 use Rattle.sap_rewrite.specs.Match.{HaveOneSort}
-use Rattle.sap_rule.specs.Checks.{AreNoted, IsOtherSort}
+use Rattle.sap_rule.specs.code.Checks.{AreNoted, IsOtherSort}
 
 not_other : (s t : Sort) → ¬ (¬ (s ≡ t)) → s ≡ t
 not_other Msg Msg h = refl

@@ -2,4 +2,5 @@ pub mod Named
 pub mod Variables
 pub mod RuleSteps
 pub mod WellMade
-pub mod Checks
+pub mod Messages
+pub mod code

@@ -11,8 +11,10 @@ use Rattle.sap_terms.specs.Equations.{equations}
 use Rattle.sap_terms.specs.Trace.{Trace}
 use Rattle.sap_terms.specs.Tree.{Tree, public, fresh, apply, trees_of}
 use Rattle.sap_terms.specs.declared.fact.Fact.{Fact}
+use Rattle.sap_formula.specs.Hide.{hide}
 use Rattle.sap_rule.specs.declared.rule.Rule.{Rule}
 
+-- where a run of rules stands
 pub record RuleState : Type 0 where
   -- the facts by their numbers: none where one was taken
   pub facts : Pile
@@ -21,6 +23,7 @@ pub record RuleState : Type 0 where
   -- the names that Fr was made of, in order of coming
   pub made : List ℕ
 
+-- where each run starts
 abbrev pub empty_state : RuleState
 empty_state = record { facts = []; known = []; made = [] }
 
@@ -65,3 +68,11 @@ pub data RuleStep (g : Sig) (rules : List Rule) : RuleState → List Fact → Ru
 pub data RuleRun (g : Sig) (rules : List Rule) : RuleState → Trace → Type 0 where
   starts : RuleRun g rules empty_state []
   further : {s z : RuleState} {full : Trace} {acts : List Fact} → RuleRun g rules s full → RuleStep g rules s acts z → RuleRun g rules z (full ++ acts ∷ [])
+
+-- this is the full trace of some run of the rules
+abbrev pub IsFullTrace : Sig → List Rule → Trace → Type 0
+IsFullTrace g rules full = (s : RuleState) × RuleRun g rules s full
+
+-- this is the visible trace of some run of theirs: its full trace without what is hidden
+abbrev pub IsVisibleTraceOf : Sig → List Rule → Trace → Type 0
+IsVisibleTraceOf g rules tr = (full : Trace) × IsFullTrace g rules full × (hide full ≡ tr)

@@ -17,35 +17,45 @@ pub record IsSingle (f : Fact) : Type 0 where
 abbrev pub IsKnowledge : List ℕ → Type 0
 IsKnowledge n = (n ≡ codes "K") ⊎ (n ≡ codes "KU") ⊎ (n ≡ codes "KD")
 
--- each symbol of the fact is held with its arity, and it is no knowledge
-pub record IsRuleFact (g : Sig) (f : Fact) : Type 0 where
-  pub over : AreOver g (trees_of f.args)
+-- no knowledge and no Out stands on a left side; Fr and In stand there, linear and with one argument
+pub record IsLeftFact (f : Fact) : Type 0 where
   pub no_knowledge : ¬ IsKnowledge f.name
-
--- Out stands on no left side; Fr and In stand there, linear and with one argument
-pub record IsLeftFact (g : Sig) (f : Fact) : Type 0 where
-  pub fact : IsRuleFact g f
   pub no_out : ¬ (f.name ≡ codes "Out")
   pub fr : f.name ≡ codes "Fr" → IsSingle f
   pub in_ : f.name ≡ codes "In" → IsSingle f
 
--- Out stands on right sides, linear and with one argument; Fr and In don't
-pub record IsRightFact (g : Sig) (f : Fact) : Type 0 where
-  pub fact : IsRuleFact g f
+-- Out stands on right sides, linear and with one argument; knowledge, Fr and In don't
+pub record IsRightFact (f : Fact) : Type 0 where
+  pub no_knowledge : ¬ IsKnowledge f.name
   pub no_fr : ¬ (f.name ≡ codes "Fr")
   pub no_in : ¬ (f.name ≡ codes "In")
   pub out : f.name ≡ codes "Out" → IsSingle f
 
--- none of the three is shown
-pub record IsActFact (g : Sig) (f : Fact) : Type 0 where
-  pub fact : IsRuleFact g f
+-- none of these is shown
+pub record IsActFact (f : Fact) : Type 0 where
+  pub no_knowledge : ¬ IsKnowledge f.name
   pub no_fr : ¬ (f.name ≡ codes "Fr")
   pub no_in : ¬ (f.name ≡ codes "In")
   pub no_out : ¬ (f.name ≡ codes "Out")
 
--- so are the rule's facts, and no name of a variable stands with two sorts
-pub record IsWellMade (g : Sig) (r : Rule) : Type 0 where
-  pub left : All (IsLeftFact g) r.left
-  pub acts : All (IsActFact g) r.acts
-  pub right : All (IsRightFact g) r.right
+-- each symbol of the fact is held with its arity
+abbrev pub IsFactOver : Sig → Fact → Type 0
+IsFactOver g f = AreOver g (trees_of f.args)
+
+-- so is each symbol of the rule
+pub record IsRuleOver (g : Sig) (r : Rule) : Type 0 where
+  pub left : All (IsFactOver g) r.left
+  pub acts : All (IsFactOver g) r.acts
+  pub right : All (IsFactOver g) r.right
+
+-- each fact stands where it may, and no name of a variable stands with two sorts
+pub record IsWellShaped (r : Rule) : Type 0 where
+  pub left : All IsLeftFact r.left
+  pub acts : All IsActFact r.acts
+  pub right : All IsRightFact r.right
   pub sorts : HaveOneSort (rule_vars r)
+
+-- the rule can be run: it is over the signature, and well-shaped
+pub record IsWellMade (g : Sig) (r : Rule) : Type 0 where
+  pub over : IsRuleOver g r
+  pub shape : IsWellShaped r

@@ -5,7 +5,7 @@ ghost use Rattle.sap_rule.specs.WellMade.{IsWellMade};
 
 use crate::{Rule, RuleList, is_well_made};
 use sap_formula::{LemmaList, RestrictionList};
-use sap_terms::{Mem, Name, Signature};
+use sap_terms::{Copied, Mem, Name, Signature};
 use std::alloc::Global;
 
 /// Rules over a signature, with the restrictions that a trace has to keep to count, and lemmas on the traces.
@@ -16,6 +16,18 @@ pub struct Theory {
     pub rules: RuleList,
     pub restrictions: RestrictionList,
     pub lemmas: LemmaList,
+}
+
+impl Copied for Theory {
+    fn copy(&self, alloc: Global) -> Result<Theory, Mem> {
+        Ok(Theory {
+            name: self.name.copy(alloc)?,
+            signature: self.signature.copy(alloc)?,
+            rules: self.rules.copy(alloc)?,
+            restrictions: self.restrictions.copy(alloc)?,
+            lemmas: self.lemmas.copy(alloc)?,
+        })
+    }
 }
 
 impl Theory {

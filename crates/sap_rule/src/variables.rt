@@ -18,9 +18,9 @@ pub fn open_vars(alloc: Global, sig: &Signature, r: &Rule) -> Result<Vars, Mem>
 {
     let mut outer = Vars::new(alloc);
     push_facts_outer_vars(alloc, sig, &r.left, &mut outer)?;
-    let known = names_of(alloc, &outer)?;
+    let mut known = names_of(alloc, &outer)?;
     let all = vars_of(alloc, r)?;
-    let open_vars = first_occurrences(alloc, known, &all)?;
+    let open_vars = first_occurrences(alloc, &mut known, &all)?;
     Ok(open_vars)
 }
 
@@ -57,13 +57,12 @@ fn names_of(alloc: Global, vars: &Vars) -> Result<IndexSet<Name>, Mem>
 }
 
 // The first occurrences of variables whose names are not known.
-fn first_occurrences(alloc: Global, known: IndexSet<Name>, vars: &Vars) -> Result<Vars, Mem>
-    ensures { IfOk result (λ out. out ≡ new_vars known.keys vars.now) }
+fn first_occurrences(alloc: Global, known: &mut IndexSet<Name>, vars: &Vars) -> Result<Vars, Mem>
+    ensures { IfOk result (λ out. out ≡ new_vars known.old.keys vars.now) }
 {
-    let mut known = known;
     let mut out = Vars::new(alloc);
     for v in vars.as_slice() {
-        if note(alloc, &mut known, &v.name)? {
+        if note(alloc, known, &v.name)? {
             out.push(v.copy(alloc)?)?;
         }
     }

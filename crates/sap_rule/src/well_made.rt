@@ -4,8 +4,8 @@ ghost use Rattle.indexmap.specs.IndexMap.{get};
 ghost use Rattle.sap_terms.specs.Tree.{trees_of};
 ghost use Rattle.sap_terms.specs.View.{tree};
 ghost use Rattle.sap_rewrite.specs.Match.{HaveOneSort};
-ghost use Rattle.sap_rule.specs.Checks.{is_over, all_over, IsOtherSort};
-ghost use Rattle.sap_rule.specs.WellMade.{IsSingle, IsKnowledge, IsRuleFact, IsLeftFact, IsRightFact, IsActFact, IsWellMade};
+ghost use Rattle.sap_rule.specs.code.Checks.{is_over, all_over, IsOtherSort};
+ghost use Rattle.sap_rule.specs.WellMade.{IsSingle, IsKnowledge, IsLeftFact, IsRightFact, IsActFact, IsFactOver, IsRuleOver, IsWellShaped, IsWellMade};
 
 use crate::Rule;
 use crate::variables::vars_of;
@@ -13,20 +13,36 @@ use indexmap::IndexMap;
 use sap_terms::{Copied, Fact, FactList, Mem, Name, Signature, Sort, Term, TermList, Var, Vars};
 use std::alloc::Global;
 
-/// Whether the rule can be run: each symbol is held with its arity; `Fr` and `In` stand only on its left side, `Out`
-/// only on its right side, each linear with one argument; `K`, `KU` and `KD` nowhere; and no name of a variable stands
-/// with two sorts. It takes time in proportion to the rule, where each symbol in it is looked for among those of the
-/// signature, and recurses as deep as its terms.
+/// Whether the rule can be run: it is over the signature and well-shaped. It takes time in proportion to the rule, where
+/// each symbol in it is looked for among those of the signature, and recurses as deep as its terms.
 pub fn is_well_made(alloc: Global, sig: &Signature, r: &Rule) -> Result<bool, Mem>
     ensures { IfOk result (λ b. IsTrue b ↔ IsWellMade sig.now r.now) }
 {
-    if !are_left_facts(sig, &r.left) {
+    if !is_rule_over(sig, r) {
         return Ok(false);
     }
-    if !are_act_facts(sig, &r.acts) {
+    is_well_shaped(alloc, r)
+}
+
+/// Whether each symbol of the rule is held with its arity.
+pub fn is_rule_over(sig: &Signature, r: &Rule) -> bool
+    ensures { IsTrue result ↔ IsRuleOver sig.now r.now }
+{
+    are_over(sig, &r.left) && are_over(sig, &r.acts) && are_over(sig, &r.right)
+}
+
+/// Whether `Fr` and `In` stand only on the rule's left side, `Out` only on its right side, each linear with one argument;
+/// `K`, `KU` and `KD` nowhere; and no name of a variable with two sorts.
+pub fn is_well_shaped(alloc: Global, r: &Rule) -> Result<bool, Mem>
+    ensures { IfOk result (λ b. IsTrue b ↔ IsWellShaped r.now) }
+{
+    if !are_left_facts(&r.left) {
         return Ok(false);
     }
-    if !are_right_facts(sig, &r.right) {
+    if !are_act_facts(&r.acts) {
+        return Ok(false);
+    }
+    if !are_right_facts(&r.right) {
         return Ok(false);
     }
     let all = vars_of(alloc, r)?;
@@ -34,29 +50,29 @@ pub fn is_well_made(alloc: Global, sig: &Signature, r: &Rule) -> Result<bool, Me
     Ok(one_sort)
 }
 
-fn are_left_facts(sig: &Signature, fs: &FactList) -> bool
-    ensures { IsTrue result ↔ All (IsLeftFact sig.now) fs.now }
+fn are_left_facts(fs: &FactList) -> bool
+    ensures { IsTrue result ↔ All IsLeftFact fs.now }
 {
-    fs.as_slice().iter().all(|f| is_left_fact(sig, f))
+    fs.as_slice().iter().all(|f| is_left_fact(f))
 }
 
-fn are_act_facts(sig: &Signature, fs: &FactList) -> bool
-    ensures { IsTrue result ↔ All (IsActFact sig.now) fs.now }
+fn are_act_facts(fs: &FactList) -> bool
+    ensures { IsTrue result ↔ All IsActFact fs.now }
 {
-    fs.as_slice().iter().all(|f| is_act_fact(sig, f))
+    fs.as_slice().iter().all(|f| is_act_fact(f))
 }
 
-fn are_right_facts(sig: &Signature, fs: &FactList) -> bool
-    ensures { IsTrue result ↔ All (IsRightFact sig.now) fs.now }
+fn are_right_facts(fs: &FactList) -> bool
+    ensures { IsTrue result ↔ All IsRightFact fs.now }
 {
-    fs.as_slice().iter().all(|f| is_right_fact(sig, f))
+    fs.as_slice().iter().all(|f| is_right_fact(f))
 }
 
 // Whether the fact may stand on a left side.
-fn is_left_fact(sig: &Signature, f: &Fact) -> bool
-    ensures { IsTrue result ↔ IsLeftFact sig.now f.now }
+fn is_left_fact(f: &Fact) -> bool
+    ensures { IsTrue result ↔ IsLeftFact f.now }
 {
-    if !is_rule_fact(sig, f) || f.name.is(b"Out") {
+    if is_knowledge(&f.name) || f.name.is(b"Out") {
         return false;
     }
     if f.name.is(b"Fr") || f.name.is(b"In") {
@@ -66,20 +82,20 @@ fn is_left_fact(sig: &Signature, f: &Fact) -> bool
 }
 
 // Whether it may be shown.
-fn is_act_fact(sig: &Signature, f: &Fact) -> bool
-    ensures { IsTrue result ↔ IsActFact sig.now f.now }
+fn is_act_fact(f: &Fact) -> bool
+    ensures { IsTrue result ↔ IsActFact f.now }
 {
     if f.name.is(b"Fr") || f.name.is(b"In") || f.name.is(b"Out") {
         return false;
     }
-    is_rule_fact(sig, f)
+    !is_knowledge(&f.name)
 }
 
 // Whether it may stand on a right side.
-fn is_right_fact(sig: &Signature, f: &Fact) -> bool
-    ensures { IsTrue result ↔ IsRightFact sig.now f.now }
+fn is_right_fact(f: &Fact) -> bool
+    ensures { IsTrue result ↔ IsRightFact f.now }
 {
-    if !is_rule_fact(sig, f) || f.name.is(b"Fr") || f.name.is(b"In") {
+    if is_knowledge(&f.name) || f.name.is(b"Fr") || f.name.is(b"In") {
         return false;
     }
     if f.name.is(b"Out") {
@@ -88,13 +104,17 @@ fn is_right_fact(sig: &Signature, f: &Fact) -> bool
     true
 }
 
-// Whether the fact is over the signature, and no knowledge of the adversary's.
-fn is_rule_fact(sig: &Signature, f: &Fact) -> bool
-    ensures { IsTrue result ↔ IsRuleFact sig.now f.now }
+// Whether each of these is over the signature.
+fn are_over(sig: &Signature, fs: &FactList) -> bool
+    ensures { IsTrue result ↔ All (IsFactOver sig.now) fs.now }
 {
-    if is_knowledge(&f.name) {
-        return false;
-    }
+    fs.as_slice().iter().all(|f| is_fact_over(sig, f))
+}
+
+// Whether the fact is over the signature.
+fn is_fact_over(sig: &Signature, f: &Fact) -> bool
+    ensures { IsTrue result ↔ IsFactOver sig.now f.now }
+{
     all_over(sig, &f.args)
 }
 

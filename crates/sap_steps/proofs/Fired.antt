@@ -19,9 +19,9 @@ use Rattle.sap_rewrite.specs.Match.{Agrees, HaveOneSort, bound_vars, names}
 use Rattle.sap_rule.specs.Variables.{facts_outer_vars, rule_vars}
 use Rattle.sap_rule.specs.WellMade.{IsWellMade}
 use Rattle.sap_rule.specs.declared.rule.Rule.{Rule}
-use Rattle.sap_steps.specs.Faults.{AreRight, IsFitting, IsRefusal}
-use Rattle.sap_steps.specs.Firing.{IsOnlyChoice, HasNoChoice, FactsFit, SomeLarge, terms_of, Evaluates, IsEvaluationFault}
-use Rattle.sap_steps.specs.Held.{IsHeldFact}
+use Rattle.sap_steps.specs.Faults.{AreRight, IsFitting, IsRuleRefusal}
+use Rattle.sap_steps.specs.code.Firing.{IsOnlyChoice, HasNoChoice, FactsFit, SomeLarge, args_of, Evaluates, IsEvaluationFault}
+use Rattle.sap_steps.specs.code.Held.{IsSmallMessageFact}
 use Rattle.sap_steps.specs.Lines.{Fires, IsSmall, rule_terms}
 use Rattle.sap_steps.specs.declared.fault.RFault.{RFault}
 use Rattle.sap_steps.specs.declared.fault.RFault.TheVariants.{Mem, NoRule, FactCount, FactMissing, BadBinding, NoMatch, TermLarge, Unequal, UsedName, WrongFact, NoEntry, NotPublic, Arity}
@@ -38,7 +38,7 @@ pub if_err : {T E : Type 0} (P Q : E → Type 0) (r : Result T E) → ((e : E) �
 if_err P Q (Ok x) f h = tt
 if_err P Q (Err e) f h = f e h
 
-facts_vars_append : (fs hs : List Fact) → facts_vars (fs ++ hs) ≡ facts_vars fs ++ facts_vars hs
+pub facts_vars_append : (fs hs : List Fact) → facts_vars (fs ++ hs) ≡ facts_vars fs ++ facts_vars hs
 facts_vars_append [] hs = refl
 facts_vars_append (f ∷ fs) hs =
     ap (λ vs. trees_vars (trees_of f.args) ++ vs) (facts_vars_append fs hs) ∙ sym (append_assoc (trees_vars (trees_of f.args)) (facts_vars fs) (facts_vars hs))
@@ -47,12 +47,12 @@ abbrev IsGood : Sig → Binding → Type 0
 IsGood g e = IsMessage g e.var.sort (tree e.term)
 
 -- no choice fits, so none matches
-pub no_match : (g : Sig) (r : Rule) (b : List Binding) (cited : List Fact) → IsWellMade g r → AreRight g r b → HasNoChoice (FactsFit g r.left cited) (facts_outer_vars g r.left) b → IsRefusal g r b cited NoMatch
-no_match g r b cited well good h = (good, λ σ s a f. h (one_sort g r b well.sorts good.vars) σ s a f)
+pub no_match : (g : Sig) (r : Rule) (b : List Binding) (cited : List Fact) → IsWellMade g r → AreRight g r b → HasNoChoice (FactsFit g r.left cited) (facts_outer_vars g r.left) b → IsRuleRefusal g r b cited NoMatch
+no_match g r b cited well good h = (good, λ σ s a f. h (one_sort g r b well.shape.sorts good.vars) σ s a f)
 
-module _ (laws : Laws) (g : Sig) (r : Rule) (b c : List Binding) (cited : List Fact) (well : IsWellMade g r) (good : AreRight g r b) (found : IsOnlyChoice (FactsFit g r.left cited) (facts_outer_vars g r.left) b c) (held : All (IsHeldFact g) cited) where
+module _ (laws : Laws) (g : Sig) (r : Rule) (b c : List Binding) (cited : List Fact) (well : IsWellMade g r) (good : AreRight g r b) (found : IsOnlyChoice (FactsFit g r.left cited) (facts_outer_vars g r.left) b c) (held : All (IsSmallMessageFact g) cited) where
   one : HaveOneSort (bound_vars b ++ facts_outer_vars g r.left)
-  one = one_sort g r b well.sorts good.vars
+  one = one_sort g r b well.shape.sorts good.vars
 
   named_once : AreNamedOnce (bound_vars c)
   named_once = laws.once.1 b c (facts_outer_vars g r.left) found.extends (subst AreNamedOnce (sym good.vars) (laws.once.0 (map (λ (v : Var). v.name) (facts_outer_vars g r.left)) (rule_vars r)))
@@ -82,7 +82,7 @@ module _ (laws : Laws) (g : Sig) (r : Rule) (b c : List Binding) (cited : List F
 
   same_facts : (fs : List Fact) → ((v : Var) → Contains (facts_vars fs) v → Contains (rule_vars r) v) → instance_facts (bound_to c) fs ≡ instance_facts chosen.0 fs
   same_facts fs h = facts_same (bound_to c) chosen.0 fs (λ t k.
-      laws.substitutes b c (facts_outer_vars g r.left) found.extends one chosen.0 chosen.2 t (λ v m. covered g r b well.sorts good.vars v (h v (k v m))))
+      laws.substitutes b c (facts_outer_vars g r.left) found.extends one chosen.0 chosen.2 t (λ v m. covered g r b well.shape.sorts good.vars v (h v (k v m))))
 
   same_left : instance_facts (bound_to c) r.left ≡ instance_facts chosen.0 r.left
   same_left = same_facts r.left (λ v m. Contains-append_left (facts_vars r.left) (facts_vars r.acts ++ facts_vars r.right) v m)
@@ -97,7 +97,7 @@ module _ (laws : Laws) (g : Sig) (r : Rule) (b c : List Binding) (cited : List F
   same_terms =
       let fs = r.left ++ (r.acts ++ r.right) in
       let vars : facts_vars fs ≡ rule_vars r = facts_vars_append r.left (r.acts ++ r.right) ∙ ap (λ vs. facts_vars r.left ++ vs) (facts_vars_append r.acts r.right) in
-      terms_instance (bound_to c) fs ∙ ap terms_of (same_facts fs (λ v m. subst (λ vs. Contains vs v) vars m)) ∙ sym (terms_instance chosen.0 fs)
+      terms_instance (bound_to c) fs ∙ ap args_of (same_facts fs (λ v m. subst (λ vs. Contains vs v) vars m)) ∙ sym (terms_instance chosen.0 fs)
 
   small : (SomeLarge g (map (instance (bound_to c)) (rule_terms r)) → ⊥) → SomeLarge g (map (instance chosen.0) (rule_terms r)) → ⊥
   small h s = h (subst (SomeLarge g) (sym same_terms) s)
@@ -115,11 +115,11 @@ module _ (laws : Laws) (g : Sig) (r : Rule) (b c : List Binding) (cited : List F
     within = evaluated_small g r chosen.0 (small e.small);
   }
 
-  pub right_held : HoldsBuiltins g → (acts right : List Fact) → Evaluates g (bound_to c) r cited acts right → All (IsHeldFact g) right
+  pub right_held : HoldsBuiltins g → (acts right : List Fact) → Evaluates g (bound_to c) r cited acts right → All (IsSmallMessageFact g) right
   right_held k acts right e =
-      facts_held laws g chosen.0 r.right right k chosen.1 well.right (λ s. small e.small (in_right g chosen.0 r s)) (subst (λ xs. AreFormsOfFacts (equations g) xs right) same_right e.right_forms)
+      facts_held laws g chosen.0 r.right right k chosen.1 well.over.right (λ s. small e.small (in_right g chosen.0 r s)) (subst (λ xs. AreFormsOfFacts (equations g) xs right) same_right e.right_forms)
 
-  pub refused : (k : RFault) → IsEvaluationFault g (bound_to c) r cited k → IsRefusal g r b cited k
+  pub refused : (k : RFault) → IsEvaluationFault g (bound_to c) r cited k → IsRuleRefusal g r b cited k
   refused Mem h = tt
   refused TermLarge h = (good, (chosen.0, fitting, large_evaluated g r chosen.0 (subst (SomeLarge g) same_terms h)))
   refused Unequal h = (

@@ -10,8 +10,9 @@ use Rattle.sap_terms.specs.Signature.{Sig}
 use Rattle.sap_terms.specs.Equations.{equations}
 use Rattle.sap_terms.specs.Tree.{Tree, Trees, none, more, trees_of}
 use Rattle.sap_terms.specs.declared.fact.Fact.{Fact}
+use Rattle.sap_terms.specs.declared.limits.TheConstants.{MOST_TERM_NODES}
 use Rattle.sap_rewrite.specs.Large.{SomeSubterm, SomeSubtermWithin, here, later, HasLargeForm}
-use Rattle.sap_steps.specs.Firing.{SomeLarge, terms_of}
+use Rattle.sap_steps.specs.code.Firing.{SomeLarge, args_of}
 use Rattle.sap_steps.proofs.Lists.{take_got, zip_push}
 
 pub none_within : (P : Tree → Type 0) {ts : Trees} → SomeSubtermWithin P ts → ts ≡ none → ⊥
@@ -51,51 +52,51 @@ pub record AreFormed (g : Sig) (us ns : List Tree) : Type 0 where
   pub within : SomeLarge g us → ⊥
 
 pub formed_none : (g : Sig) → AreFormed g [] []
-formed_none g = record { forms = tt; within = λ s. none_within (HasLargeForm (equations g) 256) s refl }
+formed_none g = record { forms = tt; within = λ s. none_within (HasLargeForm (equations g) MOST_TERM_NODES) s refl }
 
-formed_one : (g : Sig) (us ns : List Tree) (u n : Tree) → AreFormed g us ns → IsNormalForm (equations g) u n → (SomeSubterm (HasLargeForm (equations g) 256) u → ⊥) → AreFormed g (us ++ u ∷ []) (ns ++ n ∷ [])
+formed_one : (g : Sig) (us ns : List Tree) (u n : Tree) → AreFormed g us ns → IsNormalForm (equations g) u n → (SomeSubterm (HasLargeForm (equations g) MOST_TERM_NODES) u → ⊥) → AreFormed g (us ++ u ∷ []) (ns ++ n ∷ [])
 formed_one g us ns u n a f w = record {
   forms = zip_push (IsNormalForm (equations g)) us ns u n a.forms f;
-  within = λ s. elim (within_cases (HasLargeForm (equations g) 256) us (u ∷ []) s) as (λ _. ⊥) [ inl x ↦ a.within x | inr y ↦ w (only_one (HasLargeForm (equations g) 256) u y) ];
+  within = λ s. elim (within_cases (HasLargeForm (equations g) MOST_TERM_NODES) us (u ∷ []) s) as (λ _. ⊥) [ inl x ↦ a.within x | inr y ↦ w (only_one (HasLargeForm (equations g) MOST_TERM_NODES) u y) ];
 }
 
-pub formed_further : (g : Sig) (τ : Choice) (ts ns ms : List Tree) (k : ℕ) (t n : Tree) → slice_get ts k ≡ Some t → AreFormed g (map (instance τ) (take k ts)) ns → IsNormalForm (equations g) (instance τ t) n → (SomeSubterm (HasLargeForm (equations g) 256) (instance τ t) → ⊥) → ms ≡ ns ++ n ∷ [] → AreFormed g (map (instance τ) (take (k + 1) ts)) ms
+pub formed_further : (g : Sig) (τ : Choice) (ts ns ms : List Tree) (k : ℕ) (t n : Tree) → slice_get ts k ≡ Some t → AreFormed g (map (instance τ) (take k ts)) ns → IsNormalForm (equations g) (instance τ t) n → (SomeSubterm (HasLargeForm (equations g) MOST_TERM_NODES) (instance τ t) → ⊥) → ms ≡ ns ++ n ∷ [] → AreFormed g (map (instance τ) (take (k + 1) ts)) ms
 formed_further g τ ts ns ms k t n h a f w e =
     let us = map (instance τ) (take k ts) in
     let is : us ++ instance τ t ∷ [] ≡ map (instance τ) (take (k + 1) ts) = sym (map-append (instance τ) (take k ts) (t ∷ [])) ∙ ap (map (instance τ)) (sym (take_got ts k t h)) in
     subst (λ xs. AreFormed g xs ms) is (subst (λ ys. AreFormed g (us ++ instance τ t ∷ []) ys) (sym e) (formed_one g us ns (instance τ t) n a f w))
 
-pub large_at : (g : Sig) (τ : Choice) (ts : List Tree) (k : ℕ) (t : Tree) → slice_get ts k ≡ Some t → SomeSubterm (HasLargeForm (equations g) 256) (instance τ t) → SomeLarge g (map (instance τ) ts)
+pub large_at : (g : Sig) (τ : Choice) (ts : List Tree) (k : ℕ) (t : Tree) → slice_get ts k ≡ Some t → SomeSubterm (HasLargeForm (equations g) MOST_TERM_NODES) (instance τ t) → SomeLarge g (map (instance τ) ts)
 large_at g τ [] k t h s = cc
-large_at g τ (u ∷ us) zero t h s = let is : t ≡ u = cc in here (subst (λ v. SomeSubterm (HasLargeForm (equations g) 256) (instance τ v)) is s)
+large_at g τ (u ∷ us) zero t h s = let is : t ≡ u = cc in here (subst (λ v. SomeSubterm (HasLargeForm (equations g) MOST_TERM_NODES) (instance τ v)) is s)
 large_at g τ (u ∷ us) (suc k) t h s = later (large_at g τ us k t h s)
 
 -- the same of facts
 pub record AreFactsFormed (g : Sig) (τ : Choice) (fs ns : List Fact) : Type 0 where
   pub forms : AreFormsOfFacts (equations g) (instance_facts τ fs) ns
-  pub within : SomeLarge g (map (instance τ) (terms_of fs)) → ⊥
+  pub within : SomeLarge g (map (instance τ) (args_of fs)) → ⊥
 
 pub facts_none : (g : Sig) (τ : Choice) → AreFactsFormed g τ [] []
-facts_none g τ = record { forms = tt; within = λ s. none_within (HasLargeForm (equations g) 256) s refl }
+facts_none g τ = record { forms = tt; within = λ s. none_within (HasLargeForm (equations g) MOST_TERM_NODES) s refl }
 
-pub terms_append : (fs hs : List Fact) → terms_of (fs ++ hs) ≡ terms_of fs ++ terms_of hs
+pub terms_append : (fs hs : List Fact) → args_of (fs ++ hs) ≡ args_of fs ++ args_of hs
 terms_append [] hs = refl
-terms_append (f ∷ fs) hs = ap (λ xs. f.args ++ xs) (terms_append fs hs) ∙ sym (append_assoc f.args (terms_of fs) (terms_of hs))
+terms_append (f ∷ fs) hs = ap (λ xs. f.args ++ xs) (terms_append fs hs) ∙ sym (append_assoc f.args (args_of fs) (args_of hs))
 
-pub map_terms_append : (τ : Choice) (fs hs : List Fact) → map (instance τ) (terms_of (fs ++ hs)) ≡ map (instance τ) (terms_of fs) ++ map (instance τ) (terms_of hs)
-map_terms_append τ fs hs = ap (map (instance τ)) (terms_append fs hs) ∙ map-append (instance τ) (terms_of fs) (terms_of hs)
+pub map_terms_append : (τ : Choice) (fs hs : List Fact) → map (instance τ) (args_of (fs ++ hs)) ≡ map (instance τ) (args_of fs) ++ map (instance τ) (args_of hs)
+map_terms_append τ fs hs = ap (map (instance τ)) (terms_append fs hs) ∙ map-append (instance τ) (args_of fs) (args_of hs)
 
-pub large_cases : (g : Sig) (τ : Choice) (fs hs : List Fact) → SomeLarge g (map (instance τ) (terms_of (fs ++ hs))) → SomeLarge g (map (instance τ) (terms_of fs)) ⊎ SomeLarge g (map (instance τ) (terms_of hs))
+pub large_cases : (g : Sig) (τ : Choice) (fs hs : List Fact) → SomeLarge g (map (instance τ) (args_of (fs ++ hs))) → SomeLarge g (map (instance τ) (args_of fs)) ⊎ SomeLarge g (map (instance τ) (args_of hs))
 large_cases g τ fs hs s =
-    within_cases (HasLargeForm (equations g) 256) (map (instance τ) (terms_of fs)) (map (instance τ) (terms_of hs)) (subst (SomeLarge g) (map_terms_append τ fs hs) s)
+    within_cases (HasLargeForm (equations g) MOST_TERM_NODES) (map (instance τ) (args_of fs)) (map (instance τ) (args_of hs)) (subst (SomeLarge g) (map_terms_append τ fs hs) s)
 
-pub large_front : (g : Sig) (τ : Choice) (fs hs : List Fact) → SomeLarge g (map (instance τ) (terms_of fs)) → SomeLarge g (map (instance τ) (terms_of (fs ++ hs)))
-large_front g τ fs hs s = subst (SomeLarge g) (sym (map_terms_append τ fs hs)) (within_front (HasLargeForm (equations g) 256) (map (instance τ) (terms_of fs)) (map (instance τ) (terms_of hs)) s)
+pub large_front : (g : Sig) (τ : Choice) (fs hs : List Fact) → SomeLarge g (map (instance τ) (args_of fs)) → SomeLarge g (map (instance τ) (args_of (fs ++ hs)))
+large_front g τ fs hs s = subst (SomeLarge g) (sym (map_terms_append τ fs hs)) (within_front (HasLargeForm (equations g) MOST_TERM_NODES) (map (instance τ) (args_of fs)) (map (instance τ) (args_of hs)) s)
 
-pub large_back : (g : Sig) (τ : Choice) (fs hs : List Fact) → SomeLarge g (map (instance τ) (terms_of hs)) → SomeLarge g (map (instance τ) (terms_of (fs ++ hs)))
-large_back g τ fs hs s = subst (SomeLarge g) (sym (map_terms_append τ fs hs)) (within_back (HasLargeForm (equations g) 256) (map (instance τ) (terms_of fs)) (map (instance τ) (terms_of hs)) s)
+pub large_back : (g : Sig) (τ : Choice) (fs hs : List Fact) → SomeLarge g (map (instance τ) (args_of hs)) → SomeLarge g (map (instance τ) (args_of (fs ++ hs)))
+large_back g τ fs hs s = subst (SomeLarge g) (sym (map_terms_append τ fs hs)) (within_back (HasLargeForm (equations g) MOST_TERM_NODES) (map (instance τ) (args_of fs)) (map (instance τ) (args_of hs)) s)
 
-one_fact : (g : Sig) (τ : Choice) (f : Fact) → SomeLarge g (map (instance τ) (terms_of (f ∷ []))) → SomeLarge g (map (instance τ) f.args)
+one_fact : (g : Sig) (τ : Choice) (f : Fact) → SomeLarge g (map (instance τ) (args_of (f ∷ []))) → SomeLarge g (map (instance τ) f.args)
 one_fact g τ f s = subst (λ xs. SomeLarge g (map (instance τ) xs)) (append-nil f.args) s
 
 facts_one : (g : Sig) (τ : Choice) (fs ns : List Fact) (f n : Fact) → AreFactsFormed g τ fs ns → IsFormOfFact (equations g) (instance_fact τ f) n → (SomeLarge g (map (instance τ) f.args) → ⊥) → AreFactsFormed g τ (fs ++ f ∷ []) (ns ++ n ∷ [])
@@ -108,7 +109,7 @@ pub facts_further : (g : Sig) (τ : Choice) (fs ns ms : List Fact) (k : ℕ) (f 
 facts_further g τ fs ns ms k f n h a i w e =
     subst (λ xs. AreFactsFormed g τ xs ms) (sym (take_got fs k f h)) (subst (λ ys. AreFactsFormed g τ (take k fs ++ f ∷ []) ys) (sym e) (facts_one g τ (take k fs) ns f n a i w))
 
-pub fact_large : (g : Sig) (τ : Choice) (fs : List Fact) (k : ℕ) (f : Fact) → slice_get fs k ≡ Some f → SomeLarge g (map (instance τ) f.args) → SomeLarge g (map (instance τ) (terms_of fs))
+pub fact_large : (g : Sig) (τ : Choice) (fs : List Fact) (k : ℕ) (f : Fact) → slice_get fs k ≡ Some f → SomeLarge g (map (instance τ) f.args) → SomeLarge g (map (instance τ) (args_of fs))
 fact_large g τ [] k f h s = cc
 fact_large g τ (x ∷ xs) zero f h s =
     let is : f ≡ x = cc in

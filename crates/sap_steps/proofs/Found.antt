@@ -12,7 +12,7 @@ use Rattle.sap_rewrite.specs.Around.{FitsAround, outer_vars, all_outer_vars, IsO
 use Rattle.sap_rule.specs.Variables.{facts_outer_vars}
 use Rattle.sap_rewrite.specs.Bound.{ExtensionsJoin}
 use Rattle.sap_rewrite.specs.Match.{Extends, Agrees, HaveOneSort, bound_vars}
-use Rattle.sap_steps.specs.Firing.{IsOnlyChoice, HasNoChoice, ArgsFit, FactFit, FactsFit}
+use Rattle.sap_steps.specs.code.Firing.{IsOnlyChoice, HasNoChoice, ArgsFit, FactFit, FactsFit}
 use Rattle.sap_steps.proofs.Lists.{drop_got, drop_all}
 
 pub agrees_before : (b d : List Binding) (σ : Choice) → Agrees (b ++ d) σ → Agrees b σ

@@ -10,6 +10,8 @@ pub mod Runs
 pub mod Ready
 pub mod Left
 pub mod Tied
-pub mod Applied
 pub mod Names
 pub mod Used
+pub mod Determined
+pub mod OneAnswer
+pub mod Shown

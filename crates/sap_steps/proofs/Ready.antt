@@ -11,7 +11,7 @@ use Rattle.sap_rule.specs.Named.{rule_named}
 use Rattle.sap_rule.specs.Variables.{open_variables}
 use Rattle.sap_rule.specs.WellMade.{IsWellMade}
 use Rattle.sap_rule.specs.declared.rule.Rule.{Rule}
-use Rattle.sap_steps.specs.Ready.{IsReady, rules_of, ready_named, place_named}
+use Rattle.sap_steps.specs.code.Ready.{IsReady, rules_of, ready_named, place_named}
 use Rattle.sap_steps.specs.declared.prepared.Prepared.{Prepared}
 
 -- the first of the two that is there

@@ -3,7 +3,7 @@ use Rattle.std.proofs.Common.{◌≡◌, ℕ, zero, suc, List, [], ◌∷◌, �
 use Rattle.std.specs.List.{All}
 use Rattle.std.proofs.lemmas.List.{map-append, append-nil}
 use Rattle.std.proofs.lemmas.Option.{same_Some}
-use Rattle.std.proofs.lemmas.List.Elements.{All-nil, All-cons, All-head, All-tail, All-push, All-weaker}
+use Rattle.std.proofs.lemmas.List.Elements.{All-nil, All-cons, All-head, All-tail, All-weaker}
 use Rattle.sap_terms.specs.AdversaryFacts.{linear}
 use Rattle.sap_terms.specs.Piles.{Pile, Takes, nothing, one, used, adds}
 use Rattle.sap_terms.specs.Signature.{Sig}
@@ -11,12 +11,12 @@ use Rattle.sap_terms.specs.Equations.{equations, Equations, IsInstance}
 use Rattle.sap_terms.specs.Tree.{Tree, public, fresh}
 use Rattle.sap_terms.specs.declared.fact.Fact.{Fact}
 use Rattle.sap_deduce.specs.Entries.{Entry, Entries, terms_of, Gains}
-use Rattle.sap_deduce.specs.declared.line.Line.{Line}
+use Rattle.sap_deduce.specs.declared.origin.Origin.{Origin}
 use Rattle.sap_facts.specs.Facts.{standing, fact_at, if_linear, places_without}
 use Rattle.sap_rule.specs.RuleSteps.{RuleState, gains}
-use Rattle.sap_steps.specs.Held.{IsHeldTerm, IsHeldFact, AreHeld}
-use Rattle.sap_steps.specs.Left.{left_of}
-use Rattle.sap_steps.specs.Tied.{IsTied}
+use Rattle.sap_steps.specs.code.Held.{IsSmallMessage, IsSmallMessageFact, HoldsSmallMessages}
+use Rattle.sap_steps.specs.code.Left.{left_of}
+use Rattle.sap_steps.specs.code.Tied.{IsTied}
 use Rattle.sap_steps.specs.declared.prepared.Prepared.{Prepared}
 use Rattle.sap_steps.proofs.Left.{gone_at, get-set_other, nat_cases, used-without}
 
@@ -27,17 +27,17 @@ fresh-normal e n b h = elim h [ ]
 public-normal : (e : Equations) (a : List ℕ) (b : Tree) → IsInstance e (public a) b → ⊥
 public-normal e a b h = elim h [ ]
 
-pub held_fresh : (g : Sig) (n : ℕ) → IsHeldTerm g (fresh n)
+pub held_fresh : (g : Sig) (n : ℕ) → IsSmallMessage g (fresh n)
 held_fresh g n = record { message = record { ground = tt; over = tt; normal = fresh-normal (equations g) n; sorted = refl }; small = omega arith }
 
-pub held_public : (g : Sig) (a : List ℕ) → IsHeldTerm g (public a)
+pub held_public : (g : Sig) (a : List ℕ) → IsSmallMessage g (public a)
 held_public g a = record { message = record { ground = tt; over = tt; normal = public-normal (equations g) a; sorted = refl }; small = omega arith }
 
-pub held_single : (g : Sig) (name : List ℕ) (t : Tree) → IsHeldTerm g t → IsHeldFact g (linear name (t ∷ []))
-held_single g name t h = All-cons (IsHeldTerm g) t [] h (All-nil (IsHeldTerm g))
+pub held_single : (g : Sig) (name : List ℕ) (t : Tree) → IsSmallMessage g t → IsSmallMessageFact g (linear name (t ∷ []))
+held_single g name t h = All-cons (IsSmallMessage g) t [] h (All-nil (IsSmallMessage g))
 
-pub held_argument : (g : Sig) (facts : Pile) (k : ℕ) (name : List ℕ) (t : Tree) → AreHeld g facts → fact_at facts k ≡ Some (linear name (t ∷ [])) → IsHeldTerm g t
-held_argument g facts k name t held e = All-head (IsHeldTerm g) t [] (held k (linear name (t ∷ [])) e)
+pub held_argument : (g : Sig) (facts : Pile) (k : ℕ) (name : List ℕ) (t : Tree) → HoldsSmallMessages g facts → fact_at facts k ≡ Some (linear name (t ∷ [])) → IsSmallMessage g t
+held_argument g facts k name t held e = All-head (IsSmallMessage g) t [] (held k (linear name (t ∷ [])) e)
 
 without-live : (facts : Pile) (k j : ℕ) (f : Fact) → fact_at (places_without facts k) j ≡ Some f → fact_at facts j ≡ Some f
 without-live facts k j f e = by (if_linear (fact_at facts k)) refl where
@@ -47,10 +47,10 @@ without-live facts k j f e = by (if_linear (fact_at facts k)) refl where
       let still = rw p at e in
       elim (nat_cases k j) [ inl same ↦ let gone : fact_at (slice_set facts k None) j ≡ None = rw (← same.1) (gone_at facts k) in cc | inr other ↦ rw (get-set_other facts k j None other.1) at still ]
 
-held_without : (g : Sig) (facts : Pile) (k : ℕ) → AreHeld g facts → AreHeld g (places_without facts k)
+held_without : (g : Sig) (facts : Pile) (k : ℕ) → HoldsSmallMessages g facts → HoldsSmallMessages g (places_without facts k)
 held_without g facts k held j f e = held j f (without-live facts k j f e)
 
-held_left : (g : Sig) (facts : Pile) (ks : List ℕ) → AreHeld g facts → AreHeld g (left_of facts ks)
+held_left : (g : Sig) (facts : Pile) (ks : List ℕ) → HoldsSmallMessages g facts → HoldsSmallMessages g (left_of facts ks)
 held_left g facts [] held = held
 held_left g facts (k ∷ ks) held = held_left g (places_without facts k) ks (held_without g facts k held)
 
@@ -60,33 +60,29 @@ push-live [] f h (suc j) e = cc
 push-live (z ∷ zs) f h zero e = inl e
 push-live (z ∷ zs) f h (suc j) e = push-live zs f h j e
 
-held_push : (g : Sig) (facts : Pile) (f : Fact) → AreHeld g facts → IsHeldFact g f → AreHeld g (facts ++ Some f ∷ [])
+held_push : (g : Sig) (facts : Pile) (f : Fact) → HoldsSmallMessages g facts → IsSmallMessageFact g f → HoldsSmallMessages g (facts ++ Some f ∷ [])
 held_push g facts f held new j h e = elim (push-live facts f h j e) [ inl before ↦ held j h before | inr same ↦ rw (← same) new ]
 
-held_adds : (g : Sig) (facts : Pile) (fs : List Fact) → AreHeld g facts → All (IsHeldFact g) fs → AreHeld g (adds facts fs)
+held_adds : (g : Sig) (facts : Pile) (fs : List Fact) → HoldsSmallMessages g facts → All (IsSmallMessageFact g) fs → HoldsSmallMessages g (adds facts fs)
 held_adds g facts [] held all = rw (append-nil facts) held
 held_adds g facts (f ∷ fs) held all =
     let apart : adds (facts ++ Some f ∷ []) fs ≡ adds facts (f ∷ fs) = append_assoc facts (Some f ∷ []) (map (λ f. Some f) fs) in
-    rw (← apart) (held_adds g (facts ++ Some f ∷ []) fs (held_push g facts f held (All-head (IsHeldFact g) f fs all)) (All-tail (IsHeldFact g) f fs all))
+    rw (← apart) (held_adds g (facts ++ Some f ∷ []) fs (held_push g facts f held (All-head (IsSmallMessageFact g) f fs all)) (All-tail (IsSmallMessageFact g) f fs all))
 
-pub tied_knows : (g : Sig) (rules : List Prepared) (facts : Pile) (old new : Entries) (line : Line) (t : Tree) → IsTied g rules facts old → Gains old new line t → IsHeldTerm g t → IsTied g rules facts new
-tied_knows g rules facts old new line t tied more held = record {
-  ready = tied.ready;
-  held = tied.held;
-  signature = more.sig ∙ tied.signature;
-  known = rw (more.entries, map-append (λ (e : Entry). e.term) old.entries (record { term = t; line = line } ∷ [])) (All-push (IsHeldTerm g) (terms_of old.entries) t tied.known held);
-}
+pub tied_knows : (g : Sig) (rules : List Prepared) (facts : Pile) (old new : Entries) (origin : Origin) (t : Tree) → IsTied g rules facts old → Gains old new origin t → IsTied g rules facts new
+tied_knows g rules facts old new origin t tied more =
+    record { ready = tied.ready; held = tied.held; signature = more.sig ∙ tied.signature }
 
-tied_facts : (g : Sig) (rules : List Prepared) (facts after : Pile) (known : Entries) → IsTied g rules facts known → AreHeld g after → IsTied g rules after known
-tied_facts g rules facts after known tied held = record { ready = tied.ready; held = held; signature = tied.signature; known = tied.known }
+tied_facts : (g : Sig) (rules : List Prepared) (facts after : Pile) (known : Entries) → IsTied g rules facts known → HoldsSmallMessages g after → IsTied g rules after known
+tied_facts g rules facts after known tied held = record { ready = tied.ready; held = held; signature = tied.signature }
 
 pub tied_without : (g : Sig) (rules : List Prepared) (facts : Pile) (known : Entries) (k : ℕ) → IsTied g rules facts known → IsTied g rules (places_without facts k) known
 tied_without g rules facts known k tied = tied_facts g rules facts (places_without facts k) known tied (held_without g facts k tied.held)
 
-pub tied_push : (g : Sig) (rules : List Prepared) (facts : Pile) (known : Entries) (f : Fact) → IsTied g rules facts known → IsHeldFact g f → IsTied g rules (facts ++ Some f ∷ []) known
+pub tied_push : (g : Sig) (rules : List Prepared) (facts : Pile) (known : Entries) (f : Fact) → IsTied g rules facts known → IsSmallMessageFact g f → IsTied g rules (facts ++ Some f ∷ []) known
 tied_push g rules facts known f tied held = tied_facts g rules facts (facts ++ Some f ∷ []) known tied (held_push g facts f tied.held held)
 
-pub tied_used : (g : Sig) (rules : List Prepared) (facts : Pile) (known : Entries) (ks : List ℕ) (fs : List Fact) → IsTied g rules facts known → All (IsHeldFact g) fs → IsTied g rules (adds (left_of facts ks) fs) known
+pub tied_used : (g : Sig) (rules : List Prepared) (facts : Pile) (known : Entries) (ks : List ℕ) (fs : List Fact) → IsTied g rules facts known → All (IsSmallMessageFact g) fs → IsTied g rules (adds (left_of facts ks) fs) known
 tied_used g rules facts known ks fs tied held = tied_facts g rules facts (adds (left_of facts ks) fs) known tied (held_adds g (left_of facts ks) fs (held_left g facts ks tied.held) held)
 
 is_some-of : (o p : Option Fact) → ((f : Fact) → o ≡ Some f → p ≡ Some f) → IsSome o → IsSome p
@@ -101,7 +97,7 @@ taken-live {facts = facts} (one {k = k} {ks = ks} {f = f} h t) =
     (All-weaker (λ (j : ℕ). IsSome (fact_at (used facts k f) j)) (λ (j : ℕ). IsSome (fact_at facts j)) (λ j. is_some-of (fact_at (used facts k f) j) (fact_at facts j) (λ x e. without-live facts k j x (rw (used-without facts k f (ap standing h)) e))) ks (taken-live t))
 
 -- the state after the adversary learnt a term
-pub knows_more : (facts : Pile) (old new : Entries) (line : Line) (t : Tree) (made : List ℕ) → Gains old new line t → let before : RuleState = record { facts = facts; known = terms_of old.entries; made = made } in let after : RuleState = record { facts = facts; known = terms_of new.entries; made = made } in after ≡ gains before t
-knows_more facts old new line t made more =
-    let known : terms_of new.entries ≡ terms_of old.entries ++ t ∷ [] = ap terms_of more.entries ∙ map-append (λ (e : Entry). e.term) old.entries (record { term = t; line = line } ∷ []) in
+pub knows_more : (facts : Pile) (old new : Entries) (origin : Origin) (t : Tree) (made : List ℕ) → Gains old new origin t → let before : RuleState = record { facts = facts; known = terms_of old.entries; made = made } in let after : RuleState = record { facts = facts; known = terms_of new.entries; made = made } in after ≡ gains before t
+knows_more facts old new origin t made more =
+    let known : terms_of new.entries ≡ terms_of old.entries ++ t ∷ [] = ap terms_of more.entries ∙ map-append (λ (e : Entry). e.term) old.entries (record { term = t; origin = origin } ∷ []) in
     λ i. record { facts = facts; known = known i; made = made }

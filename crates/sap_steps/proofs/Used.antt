@@ -9,14 +9,14 @@ use Rattle.sap_rule.specs.Named.{rule_named}
 use Rattle.sap_rule.specs.RuleSteps.{RuleState}
 use Rattle.sap_rule.specs.declared.rule.Rule.{Rule}
 use Rattle.sap_runs.specs.declared.rule_step.RStep.TheVariants.{Rule as RuleLine}
-use Rattle.sap_steps.specs.Faults.{IsFault, IsRuleFault}
-use Rattle.sap_steps.specs.Held.{cited_at}
-use Rattle.sap_steps.specs.Left.{left_of, AreTaken}
+use Rattle.sap_steps.specs.Faults.{IsLineFault, IsRuleFault}
+use Rattle.sap_steps.specs.code.Held.{cited_at}
+use Rattle.sap_steps.specs.code.Left.{left_of, AreTaken}
 use Rattle.sap_steps.specs.Lines.{IsLine, Fires, IsSmall}
 use Rattle.sap_steps.specs.declared.fault.RFault.{RFault}
 use Rattle.sap_steps.specs.declared.fault.RFault.TheVariants.{Mem, NoRule, FactCount, FactMissing, BadBinding, NoMatch, TermLarge, Unequal, UsedName, WrongFact, NoEntry, NotPublic, Arity}
 
-fault_of_rule : (g : Sig) (rules : List Rule) (s : RuleState) (name ks : List ℕ) (b : List Binding) (r : Rule) (e : RFault) → rule_named rules name ≡ Some r → IsRuleFault g r s.facts ks b e → IsFault g rules s (RuleLine name ks b) e
+fault_of_rule : (g : Sig) (rules : List Rule) (s : RuleState) (name ks : List ℕ) (b : List Binding) (r : Rule) (e : RFault) → rule_named rules name ≡ Some r → IsRuleFault g r s.facts ks b e → IsLineFault g rules s (RuleLine name ks b) e
 fault_of_rule g rules s name ks b r Mem named h = tt
 fault_of_rule g rules s name ks b r NoRule named h = absurd h.1.3
 fault_of_rule g rules s name ks b r FactCount named h = (r, named, h)
@@ -31,7 +31,7 @@ fault_of_rule g rules s name ks b r (NoEntry n) named h = (r, named, h)
 fault_of_rule g rules s name ks b r (NotPublic n) named h = (r, named, h)
 fault_of_rule g rules s name ks b r (Arity n) named h = (r, named, h)
 
-pub rule_fault : (g : Sig) (rules : List Rule) (s : RuleState) (name ks : List ℕ) (b : List Binding) (r : Rule) (e : RFault) → rule_named rules name ≡ Some r → (e ≡ Mem) ⊎ IsRuleFault g r s.facts ks b e → IsFault g rules s (RuleLine name ks b) e
+pub rule_fault : (g : Sig) (rules : List Rule) (s : RuleState) (name ks : List ℕ) (b : List Binding) (r : Rule) (e : RFault) → rule_named rules name ≡ Some r → (e ≡ Mem) ⊎ IsRuleFault g r s.facts ks b e → IsLineFault g rules s (RuleLine name ks b) e
 rule_fault g rules s name ks b r e named (inl memory) = rw memory tt
 rule_fault g rules s name ks b r e named (inr fault) = fault_of_rule g rules s name ks b r e named fault
 

@@ -19,17 +19,18 @@ use Rattle.sap_terms.specs.View.{tree}
 use Rattle.sap_terms.specs.declared.binding.Binding.{Binding}
 use Rattle.sap_terms.specs.declared.fact.Fact.{Fact}
 use Rattle.sap_terms.specs.declared.var.Var.{Var}
+use Rattle.sap_terms.specs.declared.limits.TheConstants.{MOST_TERM_NODES}
 use Rattle.sap_rewrite.specs.Around.{HoldAll, outer_vars, all_outer_vars, MatchingAroundIsModulo, FittingGivesMessages}
 use Rattle.sap_rewrite.specs.Bound.{NamedOnceStay, BindingsGiveChoices, AgreeingSubstitutes}
 use Rattle.sap_rewrite.specs.Large.{SomeSubterm, SomeSubtermWithin, itself, below, here, later, HasLargeForm}
 use Rattle.sap_rewrite.specs.Laws.{FormIsOne, FormsAreMessages}
 use Rattle.sap_rewrite.specs.Match.{AllSorted, Agrees, bound_vars}
 use Rattle.sap_rule.specs.Variables.{facts_outer_vars}
-use Rattle.sap_rule.specs.WellMade.{IsRightFact}
+use Rattle.sap_rule.specs.WellMade.{IsFactOver}
 use Rattle.sap_rule.specs.declared.rule.Rule.{Rule}
 use Rattle.sap_steps.specs.Faults.{FactHolds}
-use Rattle.sap_steps.specs.Firing.{ArgsFit, FactsFit, SomeLarge, terms_of, HaveArgs}
-use Rattle.sap_steps.specs.Held.{IsHeldTerm, IsHeldFact}
+use Rattle.sap_steps.specs.code.Firing.{ArgsFit, FactsFit, SomeLarge, args_of, HaveArgs}
+use Rattle.sap_steps.specs.code.Held.{IsSmallMessage, IsSmallMessageFact}
 use Rattle.sap_steps.specs.Lines.{IsEvaluated, IsSmall, rule_terms}
 use Rattle.sap_steps.proofs.Formed.{within_front, within_back}
 use Rattle.sap_steps.proofs.Vars.{nothing_in, item_cases, first_item, later_item}
@@ -70,24 +71,24 @@ var_at (x ∷ xs) e m = elim (item_cases x e xs m) as (λ _. Contains (bound_var
 ]
 
 -- what a fitting choice gives the outer variables are messages, where the facts' arguments are
-args_message : FittingGivesMessages → (g : Sig) (σ : Choice) (ps ts : List Tree) → ArgsFit g ps ts σ → All (IsHeldTerm g) ts → (v : Var) → Contains (all_outer_vars g (trees_of ps)) v → IsTrue (fits_sort v.sort (σ v)) → IsMessage g v.sort (σ v)
+args_message : FittingGivesMessages → (g : Sig) (σ : Choice) (ps ts : List Tree) → ArgsFit g ps ts σ → All (IsSmallMessage g) ts → (v : Var) → Contains (all_outer_vars g (trees_of ps)) v → IsTrue (fits_sort v.sort (σ v)) → IsMessage g v.sort (σ v)
 args_message law g σ [] [] f h v m s = absurd (nothing_in v m)
 args_message law g σ [] (t ∷ ts) f h v m s = absurd f
 args_message law g σ (p ∷ ps) [] f h v m s = absurd f
 args_message law g σ (p ∷ ps) (t ∷ ts) f h v m s =
     elim (Contains-append_cases (outer_vars g p) (all_outer_vars g (trees_of ps)) v m) as (λ _. IsMessage g v.sort (σ v)) [
-      | inl a ↦ law g σ p t f.0 (All-head (IsHeldTerm g) t ts h).message v a s
-      | inr o ↦ args_message law g σ ps ts f.1 (All-tail (IsHeldTerm g) t ts h) v o s
+      | inl a ↦ law g σ p t f.0 (All-head (IsSmallMessage g) t ts h).message v a s
+      | inr o ↦ args_message law g σ ps ts f.1 (All-tail (IsSmallMessage g) t ts h) v o s
     ]
 
-pub facts_message : FittingGivesMessages → (g : Sig) (σ : Choice) (fs hs : List Fact) → FactsFit g fs hs σ → All (IsHeldFact g) hs → (v : Var) → Contains (facts_outer_vars g fs) v → IsTrue (fits_sort v.sort (σ v)) → IsMessage g v.sort (σ v)
+pub facts_message : FittingGivesMessages → (g : Sig) (σ : Choice) (fs hs : List Fact) → FactsFit g fs hs σ → All (IsSmallMessageFact g) hs → (v : Var) → Contains (facts_outer_vars g fs) v → IsTrue (fits_sort v.sort (σ v)) → IsMessage g v.sort (σ v)
 facts_message law g σ [] [] q h v m s = absurd (nothing_in v m)
 facts_message law g σ [] (x ∷ xs) q h v m s = absurd q
 facts_message law g σ (f ∷ fs) [] q h v m s = absurd q
 facts_message law g σ (f ∷ fs) (x ∷ xs) q h v m s =
     elim (Contains-append_cases (all_outer_vars g (trees_of f.args)) (facts_outer_vars g fs) v m) as (λ _. IsMessage g v.sort (σ v)) [
-      | inl a ↦ args_message law g σ f.args x.args q.0.args (All-head (IsHeldFact g) x xs h) v a s
-      | inr o ↦ facts_message law g σ fs xs q.1 (All-tail (IsHeldFact g) x xs h) v o s
+      | inl a ↦ args_message law g σ f.args x.args q.0.args (All-head (IsSmallMessageFact g) x xs h) v a s
+      | inr o ↦ facts_message law g σ fs xs q.1 (All-tail (IsSmallMessageFact g) x xs h) v o s
     ]
 
 -- normal forms under two choices that are the same for the variables
@@ -103,11 +104,11 @@ facts_same τ σ (f ∷ fs) h =
     let rest = facts_same τ σ fs (λ t k. h t (λ v m. Contains-append_right (trees_vars (trees_of f.args)) (facts_vars fs) v (k v m))) in
     λ i. record { name = f.name; persistent = f.persistent; args = args i } ∷ rest i
 
-pub terms_instance : (σ : Choice) (fs : List Fact) → map (instance σ) (terms_of fs) ≡ terms_of (instance_facts σ fs)
+pub terms_instance : (σ : Choice) (fs : List Fact) → map (instance σ) (args_of fs) ≡ args_of (instance_facts σ fs)
 terms_instance σ [] = refl
-terms_instance σ (f ∷ fs) = map-append (instance σ) f.args (terms_of fs) ∙ ap (λ xs. map (instance σ) f.args ++ xs) (terms_instance σ fs)
+terms_instance σ (f ∷ fs) = map-append (instance σ) f.args (args_of fs) ∙ ap (λ xs. map (instance σ) f.args ++ xs) (terms_instance σ fs)
 
-instances-list : (σ : Choice) (ts : List Tree) → instances σ (trees_of ts) ≡ trees_of (map (instance σ) ts)
+pub instances-list : (σ : Choice) (ts : List Tree) → instances σ (trees_of ts) ≡ trees_of (map (instance σ) ts)
 instances-list σ [] = refl
 instances-list σ (t ∷ ts) = ap (more (instance σ t)) (instances-list σ ts)
 
@@ -139,12 +140,12 @@ large_form_within e most ts s =
 form_large_within : (e : Equations) (most : ℕ) (n : Tree) (ts : Trees) → most < node_count n → SomeSubtermWithin (λ u. IsNormalForm e u n) ts → SomeSubtermWithin (HasLargeForm e most) ts
 form_large_within e most n ts l s = some_map_within (λ u. IsNormalForm e u n) (HasLargeForm e most) (λ t h. record { form = n; is_form = h; large = l }) s
 
-pub large_evaluated : (g : Sig) (r : Rule) (σ : Choice) → SomeLarge g (map (instance σ) (rule_terms r)) → (n : Tree) × IsEvaluated g r σ n × (256 < node_count n)
-large_evaluated g r σ s = large_form_within (equations g) 256 _ (subst (SomeSubtermWithin (HasLargeForm (equations g) 256)) (sym (instances-list σ (rule_terms r))) s)
+pub large_evaluated : (g : Sig) (r : Rule) (σ : Choice) → SomeLarge g (map (instance σ) (rule_terms r)) → (n : Tree) × IsEvaluated g r σ n × (MOST_TERM_NODES < node_count n)
+large_evaluated g r σ s = large_form_within (equations g) MOST_TERM_NODES _ (subst (SomeSubtermWithin (HasLargeForm (equations g) MOST_TERM_NODES)) (sym (instances-list σ (rule_terms r))) s)
 
 pub evaluated_small : (g : Sig) (r : Rule) (σ : Choice) → (SomeLarge g (map (instance σ) (rule_terms r)) → ⊥) → (n : Tree) → IsEvaluated g r σ n → IsSmall n
-evaluated_small g r σ h n s = elim (cases_lt 256 (node_count n)) as (λ _. node_count n ≤ 256) [
-  | inl l ↦ absurd (h (subst (SomeSubtermWithin (HasLargeForm (equations g) 256)) (instances-list σ (rule_terms r)) (form_large_within (equations g) 256 n _ l s)))
+evaluated_small g r σ h n s = elim (cases_lt MOST_TERM_NODES (node_count n)) as (λ _. node_count n ≤ MOST_TERM_NODES) [
+  | inl l ↦ absurd (h (subst (SomeSubtermWithin (HasLargeForm (equations g) MOST_TERM_NODES)) (instances-list σ (rule_terms r)) (form_large_within (equations g) MOST_TERM_NODES n _ l s)))
   | inr k ↦ k
 ]
 
@@ -171,24 +172,24 @@ facts_equal g σ (f ∷ fs) [] hs a b c = absurd a
 facts_equal g σ (f ∷ fs) (n ∷ ns) [] a b c = absurd b
 
 -- where what destructors head holds, the forms have the arguments of the facts
-args_hold : Laws → (g : Sig) (σ : Choice) (ps ns ts : List Tree) → IsMessageChoice g σ → All (IsHeldTerm g) ts → AllZip (IsNormalForm (equations g)) (map (instance σ) ps) ns → ArgsFit g ps ts σ → HoldAll g σ (trees_of ps) (trees_of ts) → ns ≡ ts
+args_hold : Laws → (g : Sig) (σ : Choice) (ps ns ts : List Tree) → IsMessageChoice g σ → All (IsSmallMessage g) ts → AllZip (IsNormalForm (equations g)) (map (instance σ) ps) ns → ArgsFit g ps ts σ → HoldAll g σ (trees_of ps) (trees_of ts) → ns ≡ ts
 args_hold laws g σ [] [] [] m h a f q = refl
 args_hold laws g σ (p ∷ ps) (n ∷ ns) (t ∷ ts) m h a f q =
-    let held = (All-head (IsHeldTerm g) t ts h).message in
+    let held = (All-head (IsSmallMessage g) t ts h).message in
     let equal = (laws.modulo g σ p t (λ v. (m v).normal) held.normal).1 (f.0, q.0) in
     let one = laws.one_form (equations g) (instance σ p) n t a.0 (record { equal = equal; normal = held.normal }) in
-    let rest = args_hold laws g σ ps ns ts m (All-tail (IsHeldTerm g) t ts h) a.1 f.1 q.1 in
+    let rest = args_hold laws g σ ps ns ts m (All-tail (IsSmallMessage g) t ts h) a.1 f.1 q.1 in
     λ i. one i ∷ rest i
 args_hold laws g σ [] [] (t ∷ ts) m h a f q = absurd f
 args_hold laws g σ [] (n ∷ ns) ts m h a f q = absurd a
 args_hold laws g σ (p ∷ ps) [] ts m h a f q = absurd a
 args_hold laws g σ (p ∷ ps) (n ∷ ns) [] m h a f q = absurd f
 
-pub facts_hold : Laws → (g : Sig) (σ : Choice) (fs ns hs : List Fact) → IsMessageChoice g σ → All (IsHeldFact g) hs → AreFormsOfFacts (equations g) (instance_facts σ fs) ns → FactsFit g fs hs σ → AllZip (FactHolds g σ) fs hs → HaveArgs ns hs
+pub facts_hold : Laws → (g : Sig) (σ : Choice) (fs ns hs : List Fact) → IsMessageChoice g σ → All (IsSmallMessageFact g) hs → AreFormsOfFacts (equations g) (instance_facts σ fs) ns → FactsFit g fs hs σ → AllZip (FactHolds g σ) fs hs → HaveArgs ns hs
 facts_hold laws g σ [] [] [] m h a f q = tt
 facts_hold laws g σ (x ∷ xs) (n ∷ ns) (y ∷ ys) m h a f q = (
-  args_hold laws g σ x.args n.args y.args m (All-head (IsHeldFact g) y ys h) a.0.args f.0.args q.0,
-  facts_hold laws g σ xs ns ys m (All-tail (IsHeldFact g) y ys h) a.1 f.1 q.1,
+  args_hold laws g σ x.args n.args y.args m (All-head (IsSmallMessageFact g) y ys h) a.0.args f.0.args q.0,
+  facts_hold laws g σ xs ns ys m (All-tail (IsSmallMessageFact g) y ys h) a.1 f.1 q.1,
 )
 facts_hold laws g σ [] [] (y ∷ ys) m h a f q = absurd f
 facts_hold laws g σ [] (n ∷ ns) hs m h a f q = absurd a
@@ -217,27 +218,27 @@ mutual
       ((x.0, y.0), (x.1, y.1))
 
 -- forms of terms over the signature are held, where none is large
-small_form : (e : Equations) (t n : Tree) → IsNormalForm e t n → (SomeSubterm (HasLargeForm e 256) t → ⊥) → node_count n ≤ 256
-small_form e t n h s = elim (cases_lt 256 (node_count n)) as (λ _. node_count n ≤ 256) [
+small_form : (e : Equations) (t n : Tree) → IsNormalForm e t n → (SomeSubterm (HasLargeForm e MOST_TERM_NODES) t → ⊥) → node_count n ≤ MOST_TERM_NODES
+small_form e t n h s = elim (cases_lt MOST_TERM_NODES (node_count n)) as (λ _. node_count n ≤ MOST_TERM_NODES) [
   | inl l ↦ absurd (s (whole t (record { form = n; is_form = h; large = l })))
   | inr k ↦ k
 ] where
-  whole : (t : Tree) → HasLargeForm e 256 t → SomeSubterm (HasLargeForm e 256) t
+  whole : (t : Tree) → HasLargeForm e MOST_TERM_NODES t → SomeSubterm (HasLargeForm e MOST_TERM_NODES) t
   whole t l = itself l
 
-args_held : Laws → (g : Sig) (σ : Choice) (ts ns : List Tree) → HoldsBuiltins g → IsMessageChoice g σ → AreOver g (trees_of ts) → (SomeLarge g (map (instance σ) ts) → ⊥) → AllZip (IsNormalForm (equations g)) (map (instance σ) ts) ns → All (IsHeldTerm g) ns
-args_held laws g σ [] [] k m o s a = All-nil (IsHeldTerm g)
+args_held : Laws → (g : Sig) (σ : Choice) (ts ns : List Tree) → HoldsBuiltins g → IsMessageChoice g σ → AreOver g (trees_of ts) → (SomeLarge g (map (instance σ) ts) → ⊥) → AllZip (IsNormalForm (equations g)) (map (instance σ) ts) ns → All (IsSmallMessage g) ns
+args_held laws g σ [] [] k m o s a = All-nil (IsSmallMessage g)
 args_held laws g σ (t ∷ ts) (n ∷ ns) k m o s a =
     let q = instance_closed g σ t m o.0 in
-    All-cons (IsHeldTerm g) n ns (record { message = laws.forms g (instance σ t) n k q.0 q.1 a.0; small = small_form (equations g) (instance σ t) n a.0 (λ l. s (here l)) }) (args_held laws g σ ts ns k m o.1 (λ l. s (later l)) a.1)
+    All-cons (IsSmallMessage g) n ns (record { message = laws.forms g (instance σ t) n k q.0 q.1 a.0; small = small_form (equations g) (instance σ t) n a.0 (λ l. s (here l)) }) (args_held laws g σ ts ns k m o.1 (λ l. s (later l)) a.1)
 args_held laws g σ [] (n ∷ ns) k m o s a = absurd a
 args_held laws g σ (t ∷ ts) [] k m o s a = absurd a
 
-pub facts_held : Laws → (g : Sig) (σ : Choice) (fs ns : List Fact) → HoldsBuiltins g → IsMessageChoice g σ → All (IsRightFact g) fs → (SomeLarge g (map (instance σ) (terms_of fs)) → ⊥) → AreFormsOfFacts (equations g) (instance_facts σ fs) ns → All (IsHeldFact g) ns
-facts_held laws g σ [] [] k m o s a = All-nil (IsHeldFact g)
+pub facts_held : Laws → (g : Sig) (σ : Choice) (fs ns : List Fact) → HoldsBuiltins g → IsMessageChoice g σ → All (IsFactOver g) fs → (SomeLarge g (map (instance σ) (args_of fs)) → ⊥) → AreFormsOfFacts (equations g) (instance_facts σ fs) ns → All (IsSmallMessageFact g) ns
+facts_held laws g σ [] [] k m o s a = All-nil (IsSmallMessageFact g)
 facts_held laws g σ (f ∷ fs) (n ∷ ns) k m o s a =
-    All-cons (IsHeldFact g) n ns
-    (args_held laws g σ f.args n.args k m (All-head (IsRightFact g) f fs o).fact.over (λ l. s (subst (SomeLarge g) (sym (map-append (instance σ) f.args (terms_of fs))) (within_front (HasLargeForm (equations g) 256) (map (instance σ) f.args) (map (instance σ) (terms_of fs)) l))) a.0.args)
-    (facts_held laws g σ fs ns k m (All-tail (IsRightFact g) f fs o) (λ l. s (subst (SomeLarge g) (sym (map-append (instance σ) f.args (terms_of fs))) (within_back (HasLargeForm (equations g) 256) (map (instance σ) f.args) (map (instance σ) (terms_of fs)) l))) a.1)
+    All-cons (IsSmallMessageFact g) n ns
+    (args_held laws g σ f.args n.args k m (All-head (IsFactOver g) f fs o) (λ l. s (subst (SomeLarge g) (sym (map-append (instance σ) f.args (args_of fs))) (within_front (HasLargeForm (equations g) MOST_TERM_NODES) (map (instance σ) f.args) (map (instance σ) (args_of fs)) l))) a.0.args)
+    (facts_held laws g σ fs ns k m (All-tail (IsFactOver g) f fs o) (λ l. s (subst (SomeLarge g) (sym (map-append (instance σ) f.args (args_of fs))) (within_back (HasLargeForm (equations g) MOST_TERM_NODES) (map (instance σ) f.args) (map (instance σ) (args_of fs)) l))) a.1)
 facts_held laws g σ [] (n ∷ ns) k m o s a = absurd a
 facts_held laws g σ (f ∷ fs) [] k m o s a = absurd a

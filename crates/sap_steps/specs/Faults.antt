@@ -12,6 +12,7 @@ use Rattle.sap_terms.specs.Tree.{Tree, apply, trees_of, node_count}
 use Rattle.sap_terms.specs.View.{tree}
 use Rattle.sap_terms.specs.declared.binding.Binding.{Binding}
 use Rattle.sap_terms.specs.declared.fact.Fact.{Fact}
+use Rattle.sap_terms.specs.declared.limits.TheConstants.{MOST_TERM_NODES}
 use Rattle.sap_facts.specs.Facts.{fact_at}
 use Rattle.sap_rewrite.specs.Around.{FitAll, HoldAll}
 use Rattle.sap_rewrite.specs.Match.{Agrees, bound_vars}
@@ -47,20 +48,20 @@ pub record IsFitting (g : Sig) (r : Rule) (b : List Binding) (cited : List Fact)
   pub facts : AllZip (FactFits g σ) r.left cited
 
 -- a rule is not used on the cited facts with these bindings, for this cause; each comes only where none before it does
-abbrev pub IsRefusal : Sig → Rule → List Binding → List Fact → RFault → Type 0
-IsRefusal g r b cited BadBinding = ¬ AreRight g r b
-IsRefusal g r b cited NoMatch = AreRight g r b × ((σ : Choice) → IsSorted σ → Agrees b σ → AllZip (FactFits g σ) r.left cited → ⊥)
-IsRefusal g r b cited TermLarge = AreRight g r b × ((σ : Choice) × IsFitting g r b cited σ × ((n : Tree) × IsEvaluated g r σ n × (256 < node_count n)))
-IsRefusal g r b cited Unequal = AreRight g r b × ((σ : Choice) × IsFitting g r b cited σ × ((n : Tree) → IsEvaluated g r σ n → IsSmall n) × ¬ AllZip (FactHolds g σ) r.left cited)
-IsRefusal g r b cited Mem = ⊤
-IsRefusal g r b cited NoRule = ⊥
-IsRefusal g r b cited FactCount = ⊥
-IsRefusal g r b cited (FactMissing p) = ⊥
-IsRefusal g r b cited (UsedName n) = ⊥
-IsRefusal g r b cited (WrongFact f) = ⊥
-IsRefusal g r b cited (NoEntry k) = ⊥
-IsRefusal g r b cited (NotPublic f) = ⊥
-IsRefusal g r b cited (Arity f) = ⊥
+abbrev pub IsRuleRefusal : Sig → Rule → List Binding → List Fact → RFault → Type 0
+IsRuleRefusal g r b cited BadBinding = ¬ AreRight g r b
+IsRuleRefusal g r b cited NoMatch = AreRight g r b × ((σ : Choice) → IsSorted σ → Agrees b σ → AllZip (FactFits g σ) r.left cited → ⊥)
+IsRuleRefusal g r b cited TermLarge = AreRight g r b × ((σ : Choice) × IsFitting g r b cited σ × ((n : Tree) × IsEvaluated g r σ n × (MOST_TERM_NODES < node_count n)))
+IsRuleRefusal g r b cited Unequal = AreRight g r b × ((σ : Choice) × IsFitting g r b cited σ × ((n : Tree) → IsEvaluated g r σ n → IsSmall n) × ¬ AllZip (FactHolds g σ) r.left cited)
+IsRuleRefusal g r b cited Mem = ⊤
+IsRuleRefusal g r b cited NoRule = ⊥
+IsRuleRefusal g r b cited FactCount = ⊥
+IsRuleRefusal g r b cited (FactMissing p) = ⊥
+IsRuleRefusal g r b cited (UsedName n) = ⊥
+IsRuleRefusal g r b cited (WrongFact f) = ⊥
+IsRuleRefusal g r b cited (NoEntry k) = ⊥
+IsRuleRefusal g r b cited (NotPublic f) = ⊥
+IsRuleRefusal g r b cited (Arity f) = ⊥
 
 -- at this place, from 1, stands the first number of which no fact is left once those before it were taken
 pub record IsFirstMissing (facts : Pile) (ks : List ℕ) (place : ℕ) : Type 0 where
@@ -77,33 +78,33 @@ pub record IsFirstMissing (facts : Pile) (ks : List ℕ) (place : ℕ) : Type 0 
 abbrev pub IsRuleFault : Sig → Rule → Pile → List ℕ → List Binding → RFault → Type 0
 IsRuleFault g r facts ks b FactCount = ¬ (length ks ≡ length r.left)
 IsRuleFault g r facts ks b (FactMissing p) = (length ks ≡ length r.left) × IsFirstMissing facts ks p
-IsRuleFault g r facts ks b fault = (length ks ≡ length r.left) × ((cited : List Fact) × (rest : Pile) × Takes facts ks cited rest × IsRefusal g r b cited fault)
+IsRuleFault g r facts ks b fault = (length ks ≡ length r.left) × ((cited : List Fact) × (rest : Pile) × Takes facts ks cited rest × IsRuleRefusal g r b cited fault)
 
 -- no entry has the number
-abbrev pub IsUnknown : RuleState → ℕ → Type 0
-IsUnknown s k = slice_get s.known k ≡ None
+abbrev pub IsUnknownEntry : RuleState → ℕ → Type 0
+IsUnknownEntry s k = slice_get s.known k ≡ None
 
 -- the first of these numbers that is no entry's
-abbrev pub IsFirstUnknown : RuleState → List ℕ → ℕ → Type 0
-IsFirstUnknown s ks k = find (nat_le (length s.known)) ks ≡ Some k
+abbrev pub IsFirstUnknownEntry : RuleState → List ℕ → ℕ → Type 0
+IsFirstUnknownEntry s ks k = find (nat_le (length s.known)) ks ≡ Some k
 
 -- why a symbol on entries is refused
 abbrev pub IsApplyFault : Sig → RuleState → List ℕ → List ℕ → RFault → Type 0
 IsApplyFault g s f ks (NotPublic n) = (n ≡ f) × ¬ IsPublic g f
 IsApplyFault g s f ks (Arity n) = (n ≡ f) × IsPublic g f × ¬ (arity_of g f ≡ Some (length ks))
-IsApplyFault g s f ks (NoEntry n) = IsPublic g f × (arity_of g f ≡ Some (length ks)) × IsFirstUnknown s ks n
+IsApplyFault g s f ks (NoEntry n) = IsPublic g f × (arity_of g f ≡ Some (length ks)) × IsFirstUnknownEntry s ks n
 IsApplyFault g s f ks TermLarge =
-    IsPublic g f × (arity_of g f ≡ Some (length ks)) × ((ts : List Tree) × (n : Tree) × (map (slice_get s.known) ks ≡ map Some ts) × IsNormalForm (equations g) (apply f (trees_of ts)) n × (256 < node_count n))
+    IsPublic g f × (arity_of g f ≡ Some (length ks)) × ((ts : List Tree) × (n : Tree) × (map (slice_get s.known) ks ≡ map Some ts) × IsNormalForm (equations g) (apply f (trees_of ts)) n × (MOST_TERM_NODES < node_count n))
 IsApplyFault g s f ks _ = ⊥
 
 -- the fault is want of memory, or the first test of the line that fails
-abbrev pub IsFault : Sig → List Rule → RuleState → RStep → RFault → Type 0
-IsFault g rules s line Mem = ⊤
-IsFault g rules s (Fresh n) (UsedName m) = (m ≡ n) × Contains s.made n
-IsFault g rules s (Learn k) (WrongFact f) = (f ≡ k) × ((t : Tree) (rest : Pile) → ¬ Takes s.facts (k ∷ []) (out_fact t ∷ []) rest)
-IsFault g rules s (Own k) (WrongFact f) = (f ≡ k) × ((n : ℕ) (rest : Pile) → ¬ Takes s.facts (k ∷ []) (fr_fact n ∷ []) rest)
-IsFault g rules s (Apply f ks) fault = IsApplyFault g s f ks fault
-IsFault g rules s (Know k) (NoEntry n) = (n ≡ k) × IsUnknown s k
-IsFault g rules s (RuleLine name ks b) NoRule = rule_named rules name ≡ None
-IsFault g rules s (RuleLine name ks b) fault = (r : Rule) × (rule_named rules name ≡ Some r) × IsRuleFault g r s.facts ks b fault
-IsFault g rules s _ _ = ⊥
+abbrev pub IsLineFault : Sig → List Rule → RuleState → RStep → RFault → Type 0
+IsLineFault g rules s line Mem = ⊤
+IsLineFault g rules s (Fresh n) (UsedName m) = (m ≡ n) × Contains s.made n
+IsLineFault g rules s (Learn k) (WrongFact f) = (f ≡ k) × ((t : Tree) (rest : Pile) → ¬ Takes s.facts (k ∷ []) (out_fact t ∷ []) rest)
+IsLineFault g rules s (Own k) (WrongFact f) = (f ≡ k) × ((n : ℕ) (rest : Pile) → ¬ Takes s.facts (k ∷ []) (fr_fact n ∷ []) rest)
+IsLineFault g rules s (Apply f ks) fault = IsApplyFault g s f ks fault
+IsLineFault g rules s (Know k) (NoEntry n) = (n ≡ k) × IsUnknownEntry s k
+IsLineFault g rules s (RuleLine name ks b) NoRule = rule_named rules name ≡ None
+IsLineFault g rules s (RuleLine name ks b) fault = (r : Rule) × (rule_named rules name ≡ Some r) × IsRuleFault g r s.facts ks b fault
+IsLineFault g rules s _ _ = ⊥

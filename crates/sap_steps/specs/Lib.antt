@@ -3,9 +3,6 @@ pub mod Lines
 pub mod Runs
 pub mod Faults
 pub mod Inner
-pub mod Held
-pub mod Firing
-pub mod Ready
-pub mod Left
-pub mod Tied
-pub mod Denied
+pub mod Marks
+pub mod Answers
+pub mod code

@@ -10,6 +10,7 @@ use Rattle.sap_terms.specs.Equations.{equations}
 use Rattle.sap_terms.specs.Tree.{Tree, public, fresh, apply, trees_of, node_count}
 use Rattle.sap_terms.specs.declared.binding.Binding.{Binding}
 use Rattle.sap_terms.specs.declared.fact.Fact.{Fact}
+use Rattle.sap_terms.specs.declared.limits.TheConstants.{MOST_TERM_NODES}
 use Rattle.sap_rewrite.specs.Large.{SomeSubtermWithin}
 use Rattle.sap_rewrite.specs.Match.{Agrees, bound_vars}
 use Rattle.sap_rule.specs.Named.{rule_named}
@@ -86,4 +87,4 @@ AnySize t = Unit {0}
 
 -- of at most 256 nodes
 abbrev pub IsSmall : Tree → Type 0
-IsSmall t = node_count t ≤ 256
+IsSmall t = node_count t ≤ MOST_TERM_NODES

@@ -1,11 +1,11 @@
-ghost use Rattle.std.specs.Prelude.{◌≡◌, ℕ, ◌<◌, [], ◌∷◌, Some, false, IfOk, MatchOption};
+ghost use Rattle.std.specs.Prelude.{codes, ◌≡◌, ℕ, ◌<◌, [], ◌∷◌, Some, false, IfOk, MatchOption};
 ghost use Rattle.sap_terms.specs.AdversaryFacts.{linear, out_fact, fr_fact};
 ghost use Rattle.sap_terms.specs.Tree.{Tree};
 ghost use Rattle.sap_terms.specs.View.{tree};
 ghost use Rattle.sap_facts.specs.Facts.{fact_at};
 
 use sap_facts::Pile;
-use sap_terms::{Fact, FactList, Mem, Name, Term, TermList};
+use sap_terms::{Copied, Fact, FactList, Mem, Name, Term, TermList};
 use std::alloc::Global;
 
 // The linear fact of this name with one argument.
@@ -22,8 +22,25 @@ pub(crate) fn single(alloc: Global, name: &[u8], t: Term) -> Result<Fact, Mem>
     })
 }
 
+// What the adversary gives when it shows that it knows a term, and what it shows.
+pub(crate) fn given_and_shown(alloc: Global, t: &Term) -> Result<(Fact, FactList), Mem>
+    ensures { IfOk result (λ p. (p.0 ≡ linear (codes "In") (tree t.now ∷ [])) × (p.1 ≡ linear (codes "K") (tree t.now ∷ []) ∷ [])) }
+{
+    let given = single(alloc, b"In", t.copy(alloc)?)?;
+    let shown = shown_alone(alloc, t)?;
+    Ok((given, shown))
+}
+
+// The fact `K` of the term, alone.
+fn shown_alone(alloc: Global, t: &Term) -> Result<FactList, Mem>
+    ensures { IfOk result (λ fs. fs ≡ linear (codes "K") (tree t.now ∷ []) ∷ []) }
+{
+    let known = single(alloc, b"K", t.copy(alloc)?)?;
+    alone(alloc, known)
+}
+
 // The fact alone.
-pub(crate) fn alone(alloc: Global, f: Fact) -> Result<FactList, Mem>
+fn alone(alloc: Global, f: Fact) -> Result<FactList, Mem>
     ensures { IfOk result (λ fs. fs ≡ f ∷ []) }
 {
     let mut facts = FactList::new(alloc);

@@ -1,7 +1,7 @@
 ghost use Rattle.std.specs.Prelude.{◌≡◌, ◌↔◌, ◌<◌, length, IsTrue, IsSome, All, Some, slice_get};
 ghost use Rattle.sap_facts.specs.Facts.{fact_at};
-ghost use Rattle.sap_steps.specs.Held.{cited_at};
-ghost use Rattle.sap_steps.specs.Firing.{HaveArgs};
+ghost use Rattle.sap_steps.specs.code.Held.{cited_at};
+ghost use Rattle.sap_steps.specs.code.Firing.{HaveArgs};
 
 use sap_facts::Pile;
 use sap_terms::{Fact, FactList, Numbers, TermList};

@@ -1,6 +1,6 @@
 ghost use Rattle.std.specs.Prelude.{◌≡◌};
 ghost use Rattle.sap_steps.specs.declared.fault.RFault.TheVariants.{Mem as OutOfMemory};
-ghost use Rattle.sap_steps.specs.Firing.{fault_of};
+ghost use Rattle.sap_steps.specs.code.Firing.{limited_fault};
 
 use sap_deduce::Deny;
 use sap_rewrite::Limited;
@@ -46,7 +46,7 @@ impl From<Mem> for RFault {
 }
 
 impl From<Limited> for RFault {
-    ghost from_gives = { λ c e. e ≡ fault_of c };
+    ghost from_gives = { λ c e. e ≡ limited_fault c };
 
     fn from(c: Limited) -> RFault {
         match c {
@@ -57,7 +57,7 @@ impl From<Limited> for RFault {
 }
 
 impl From<Deny> for RFault {
-    ghost use Rattle.sap_steps.specs.Denied.{denied_fault};
+    ghost use Rattle.sap_steps.specs.code.Denied.{denied_fault};
 
     ghost from_gives = { λ d e. e ≡ denied_fault d };
 

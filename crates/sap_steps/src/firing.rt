@@ -3,9 +3,9 @@ ghost use Rattle.sap_facts.specs.Facts.{fact_at};
 ghost use Rattle.sap_rule.specs.Variables.{open_variables};
 ghost use Rattle.sap_rule.specs.WellMade.{IsWellMade};
 ghost use Rattle.sap_terms.specs.Subst.{bound_to};
-ghost use Rattle.sap_steps.specs.Faults.{IsRefusal};
-ghost use Rattle.sap_steps.specs.Firing.{Evaluates, IsEvaluationFault};
-ghost use Rattle.sap_steps.specs.Held.{AreHeld, IsHeldFact, cited_at};
+ghost use Rattle.sap_steps.specs.Faults.{IsRuleRefusal};
+ghost use Rattle.sap_steps.specs.code.Firing.{Evaluates, IsEvaluationFault};
+ghost use Rattle.sap_steps.specs.code.Held.{HoldsSmallMessages, IsSmallMessageFact, cited_at};
 ghost use Rattle.sap_steps.specs.Lines.{Fires, IsSmall};
 
 use crate::RFault;
@@ -43,10 +43,10 @@ pub(crate) fn fire(
     requires open_variables { rule.now.open_vars ≡ open_variables sig.now rule.now.rule }
     requires count { length numbers.now ≡ length rule.now.rule.left }
     requires live { All (λ k. IsSome (fact_at facts.now.places k)) numbers.now }
-    requires held { AreHeld sig.now facts.now.places }
+    requires held { HoldsSmallMessages sig.now facts.now.places }
     ensures fires { IfOk result (λ x. Fires sig.now IsSmall rule.now.rule b.now (cited_at facts.now.places numbers.now) x.acts x.right) }
-    ensures held { IfOk result (λ x. All (IsHeldFact sig.now) x.right) }
-    ensures refused { IfErr result (IsRefusal sig.now rule.now.rule b.now (cited_at facts.now.places numbers.now)) }
+    ensures held { IfOk result (λ x. All (IsSmallMessageFact sig.now) x.right) }
+    ensures refused { IfErr result (IsRuleRefusal sig.now rule.now.rule b.now (cited_at facts.now.places numbers.now)) }
 {
     matching_around_is_modulo();
     fitting_gives_messages();

@@ -3,8 +3,8 @@ ghost use Rattle.sap_terms.specs.Tree.{trees_of};
 ghost use Rattle.sap_facts.specs.Facts.{fact_at};
 ghost use Rattle.sap_rewrite.specs.Around.{all_outer_vars};
 ghost use Rattle.sap_rule.specs.Variables.{facts_outer_vars};
-ghost use Rattle.sap_steps.specs.Held.{cited_at};
-ghost use Rattle.sap_steps.specs.Firing.{IsOnlyChoice, HasNoChoice, ArgsFit, FactFit, FactsFit};
+ghost use Rattle.sap_steps.specs.code.Held.{cited_at};
+ghost use Rattle.sap_steps.specs.code.Firing.{IsOnlyChoice, HasNoChoice, ArgsFit, FactFit, FactsFit};
 
 use crate::cited::cited;
 use sap_facts::Pile;

@@ -6,10 +6,12 @@ ghost use Rattle.sap_terms.specs.Subst.{bound_to, subst_tree};
 ghost use Rattle.sap_terms.specs.Equations.{equations};
 ghost use Rattle.sap_terms.specs.View.{tree};
 ghost use Rattle.sap_rewrite.specs.Large.{HasLargeSubterm};
-ghost use Rattle.sap_steps.specs.Firing.{SomeLarge, terms_of};
+ghost use Rattle.sap_steps.specs.code.Firing.{SomeLarge, args_of};
 
 use sap_rewrite::{Limited, normal_within};
-use sap_terms::{Bindings, Copied, Fact, FactList, Signature, Term, TermList, subst};
+use sap_terms::{
+    Bindings, Copied, Fact, FactList, MOST_TERM_NODES, Signature, Term, TermList, subst,
+};
 use std::alloc::Global;
 
 // The normal forms of these facts under the bindings; Large where that of a subterm has more than 256 nodes.
@@ -20,8 +22,8 @@ pub(crate) fn forms_of_facts(
     c: &Bindings,
 ) -> Result<FactList, Limited>
     ensures forms { IfOk result (λ r. AreFormsOfFacts (equations sig.now) (instance_facts (bound_to c.now) fs.now) r) }
-    ensures within { OnOk result (SomeLarge sig.now (map (subst_tree c.now) (terms_of fs.now)) → ⊥) }
-    ensures large { IsErrOf result Limited.Large → SomeLarge sig.now (map (subst_tree c.now) (terms_of fs.now)) }
+    ensures within { OnOk result (SomeLarge sig.now (map (subst_tree c.now) (args_of fs.now)) → ⊥) }
+    ensures large { IsErrOf result Limited.Large → SomeLarge sig.now (map (subst_tree c.now) (args_of fs.now)) }
 {
     let mut out = FactList::new(alloc);
     for k in 0..fs.len() {
@@ -67,9 +69,9 @@ fn forms_of_args(
 // That of one term.
 fn form(alloc: Global, sig: &Signature, t: &Term, c: &Bindings) -> Result<Term, Limited>
     ensures form { IfOk result (λ r. IsNormalForm (equations sig.now) (subst_tree c.now (tree t.now)) (tree r)) }
-    ensures within { OnOk result (HasLargeSubterm (equations sig.now) 256 (subst_tree c.now (tree t.now)) → ⊥) }
-    ensures large { IsErrOf result Limited.Large → HasLargeSubterm (equations sig.now) 256 (subst_tree c.now (tree t.now)) }
+    ensures within { OnOk result (HasLargeSubterm (equations sig.now) MOST_TERM_NODES (subst_tree c.now (tree t.now)) → ⊥) }
+    ensures large { IsErrOf result Limited.Large → HasLargeSubterm (equations sig.now) MOST_TERM_NODES (subst_tree c.now (tree t.now)) }
 {
     let u = subst(alloc, t, c)?;
-    normal_within(alloc, sig, &u, 256)
+    normal_within(alloc, sig, &u, MOST_TERM_NODES)
 }

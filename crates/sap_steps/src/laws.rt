@@ -1,9 +1,51 @@
-// A worked example, as the contract of a function that does nothing.
+// Laws of written runs of rules and worked examples, as contracts of functions that do nothing.
 ghost use Rattle.std.specs.Prelude.{◌≡◌};
+ghost use Rattle.sap_steps.specs.Answers.{LinesHaveOneAnswer, ReachedHaveOneAnswer};
 ghost use Rattle.sap_steps.specs.Inner.{inner_actions, shown_by_hand, inner_by_hand};
+ghost use Rattle.sap_steps.specs.Lines.{AnySize, IsSmall};
+ghost use Rattle.sap_steps.specs.Marks.{marks, marks_by_hand};
+ghost use Rattle.sap_steps.specs.Runs.{LinesAreSteps, StepsHaveLines, LinesAreRuns, RunsCanBeWritten, SmallLinesAreLines, SmallRunsAreLegal};
 
-/// The inner actions of a small full trace: of an insert, a lookup that found, an `else`, an event and a lock, and of an
-/// adversary who knows a term. Events and what the adversary knows are none.
+use sap_rewrite::{matching_around_is_modulo, normal_forms_are_unique};
+use sap_rule::{runs_reach_messages, taken_facts_are_messages};
+
+/// A line that is possible is a step, and legal lines are a run.
+pub fn lines_are_steps()
+    ensures steps { LinesAreSteps AnySize }
+    ensures small_steps { LinesAreSteps IsSmall }
+    ensures runs { LinesAreRuns AnySize }
+    ensures small_runs { LinesAreRuns IsSmall }
+{}
+
+/// Where rules have names of their own, each step has a line, and each run can be written.
+pub fn steps_have_lines()
+    ensures steps { StepsHaveLines }
+    ensures runs { RunsCanBeWritten }
+{}
+
+/// The limit only excludes lines and runs.
+pub fn limit_excludes()
+    ensures lines { SmallLinesAreLines }
+    ensures runs { SmallRunsAreLegal }
+{}
+
+/// A line that is possible within the limit is refused for want of memory alone.
+pub fn lines_have_one_answer()
+    ensures held { LinesHaveOneAnswer }
+    ensures reached { ReachedHaveOneAnswer }
+{
+    matching_around_is_modulo();
+    normal_forms_are_unique();
+    taken_facts_are_messages();
+    runs_reach_messages();
+}
+
+/// The inner actions of a small full trace, one of each kind. Events and what the adversary knows are none.
 pub fn inner_actions_by_hand()
     ensures { inner_actions shown_by_hand ≡ inner_by_hand }
+{}
+
+/// The marks of the same full trace: its inner actions, and the event where it stands.
+pub fn marks_by_hand()
+    ensures { marks shown_by_hand ≡ marks_by_hand }
 {}

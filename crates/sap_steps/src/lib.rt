@@ -16,5 +16,8 @@ mod taking;
 mod using;
 
 pub use fault::RFault;
-pub use laws::inner_actions_by_hand;
+pub use laws::{
+    inner_actions_by_hand, limit_excludes, lines_are_steps, lines_have_one_answer, marks_by_hand,
+    steps_have_lines,
+};
 pub use state::RuleState;

@@ -1,6 +1,6 @@
 ghost use Rattle.std.specs.Prelude.{◌≡◌, [], ◌∷◌, ◌++◌, OnOk};
 ghost use Rattle.std.specs.Option.{option_copied};
-ghost use Rattle.sap_steps.specs.Ready.{ready_named};
+ghost use Rattle.sap_steps.specs.code.Ready.{ready_named};
 
 use crate::prepared::Prepared;
 use indexmap::IndexMap;
@@ -22,7 +22,7 @@ impl Model for Rules {
     ghost use Rattle.indexmap.specs.IndexMap.{get};
     ghost use Rattle.sap_terms.specs.Code.{tree_code};
     ghost use Rattle.sap_steps.specs.declared.prepared.Prepared.{Prepared};
-    ghost use Rattle.sap_steps.specs.Ready.{place_named};
+    ghost use Rattle.sap_steps.specs.code.Ready.{place_named};
 
     ghost Value = { List Prepared };
 

@@ -1,24 +1,24 @@
 ghost use Rattle.std.specs.Prelude.{◌≡◌, [], ◌∷◌, ◌++◌, IfOk, OnOk, OnErr, IfErr, IsTrue, ◌↔◌, All, Contains};
+ghost use Rattle.sap_terms.specs.Message.{AreMessageFacts};
 ghost use Rattle.sap_rule.specs.RuleSteps.{empty_state};
 ghost use Rattle.sap_rule.specs.WellMade.{IsWellMade};
 ghost use Rattle.sap_runs.specs.declared.rule_step.RStep.TheVariants.{Fresh as FreshLine, Learn as LearnLine, Own as OwnLine, Public as PublicLine, Apply as ApplyLine, Know as KnowLine, Rule as RuleLine};
-ghost use Rattle.sap_steps.specs.Faults.{IsFault};
+ghost use Rattle.sap_steps.specs.Faults.{IsLineFault};
 ghost use Rattle.sap_steps.specs.Lines.{IsLine, IsSmall};
-ghost use Rattle.sap_steps.specs.Ready.{IsReady, rules_of};
-ghost use Rattle.sap_steps.specs.Runs.{RunsCanBeWritten, LinesAreRuns};
+ghost use Rattle.sap_steps.specs.code.Ready.{IsReady, rules_of};
 
 use crate::RFault;
-use crate::adversary::{alone, name_made, put_out, single};
+use crate::adversary::{given_and_shown, name_made, put_out, single};
 use crate::firing::Firing;
+use crate::laws::lines_are_steps;
 use crate::prepared::Prepared;
 use crate::rules::Rules;
 use crate::taking::{add_each, add_one, take_each};
-use crate::using::{copied, use_rule};
+use crate::using::use_rule;
 use indexmap::IndexSet;
 use sap_deduce::Knowledge;
 use sap_facts::Pile;
-use sap_rewrite::forms_are_messages;
-use sap_rule::{RuleList, Theory, open_vars};
+use sap_rule::{RuleList, Theory, open_vars, steps_keep_messages};
 use sap_runs::RStep;
 use sap_terms::{Bindings, Copied, FactList, Mem, Name, Numbers, Signature, Term};
 use std::alloc::Global;
@@ -44,8 +44,8 @@ impl Model for RuleState {
     ghost coded = { Prim.hlevel (codes, tree_code) };
 
     ghost use Rattle.sap_deduce.specs.Entries.{terms_of};
-    ghost use Rattle.sap_steps.specs.Ready.{rules_of};
-    ghost use Rattle.sap_steps.specs.Tied.{IsTied};
+    ghost use Rattle.sap_steps.specs.code.Ready.{rules_of};
+    ghost use Rattle.sap_steps.specs.code.Tied.{IsTied};
 
     ghost view = { λ a. record {
       sig = a.sig;
@@ -89,32 +89,43 @@ fn put_last(names: &mut IndexSet<u64>, n: u64) -> Result<(), Mem>
 }
 
 impl RuleState {
-    /// Where each run of the theory's rules starts. The two last clauses say what written runs are worth.
+    /// Where each run of the theory's rules starts.
     pub fn start(alloc: Global, t: &Theory) -> Result<RuleState, Mem>
         requires { All (IsWellMade t.now.signature) t.now.rules }
         ensures sig { IfOk result (λ s. s.sig ≡ t.now.signature) }
         ensures rules { IfOk result (λ s. s.rules ≡ t.now.rules) }
         ensures at { IfOk result (λ s. s.at ≡ empty_state) }
-        ensures written { RunsCanBeWritten t.now.signature t.now.rules }
-        ensures runs { LinesAreRuns t.now.signature t.now.rules }
     {
-        let rules = made_ready(alloc, &t.signature, &t.rules)?;
-        let knowledge = Knowledge::new(alloc, &t.signature)?;
-        let sig = t.signature.copy(alloc)?;
         Ok(RuleState {
-            sig,
-            rules,
+            sig: t.signature.copy(alloc)?,
+            knowledge: Knowledge::new(alloc, &t.signature)?,
+            rules: made_ready(alloc, &t.signature, &t.rules)?,
             facts: Pile::new(alloc),
-            knowledge,
             made: IndexSet::new(alloc),
         })
     }
 
-    /// Takes one step, and gives what it shows. Refused, the state is as it was; the fault is want of memory, or the first
-    /// test of the step that fails.
+    /// Takes one step, and gives what it shows, which are facts of messages. Refused, the state is as it was; the fault is
+    /// want of memory, or the first test of the step that fails.
     pub fn step(&mut self, alloc: Global, s: &RStep) -> Result<FactList, RFault>
         ensures ok { IfOk result (λ acts. IsLine self.old.sig self.old.rules IsSmall self.old.at s.now acts self.new.at) }
-        ensures refused { IfErr result (IsFault self.old.sig self.old.rules self.old.at s.now) }
+        ensures refused { IfErr result (IsLineFault self.old.sig self.old.rules self.old.at s.now) }
+        ensures err { OnErr result (self.new ≡ self.old) }
+        ensures sig { self.new.sig ≡ self.old.sig }
+        ensures rules { self.new.rules ≡ self.old.rules }
+        ensures shown { IfOk result (AreMessageFacts self.old.sig) }
+    {
+        lines_are_steps();
+        steps_keep_messages();
+        self.sig.builtins_are_held();
+        self.knowledge.each_is_deducible();
+        self.advance(alloc, s)
+    }
+
+    // Takes one step.
+    fn advance(&mut self, alloc: Global, s: &RStep) -> Result<FactList, RFault>
+        ensures ok { IfOk result (λ acts. IsLine self.old.sig self.old.rules IsSmall self.old.at s.now acts self.new.at) }
+        ensures refused { IfErr result (IsLineFault self.old.sig self.old.rules self.old.at s.now) }
         ensures err { OnErr result (self.new ≡ self.old) }
         ensures sig { self.new.sig ≡ self.old.sig }
         ensures rules { self.new.rules ≡ self.old.rules }
@@ -133,7 +144,7 @@ impl RuleState {
     // Makes a fresh name.
     fn fresh(&mut self, alloc: Global, n: u64) -> Result<FactList, RFault>
         ensures ok { IfOk result (λ acts. IsLine self.old.sig self.old.rules IsSmall self.old.at (FreshLine n) acts self.new.at) }
-        ensures refused { IfErr result (IsFault self.old.sig self.old.rules self.old.at (FreshLine n)) }
+        ensures refused { IfErr result (IsLineFault self.old.sig self.old.rules self.old.at (FreshLine n)) }
         ensures err { OnErr result (self.new ≡ self.old) }
         ensures sig { self.new.sig ≡ self.old.sig }
         ensures rules { self.new.rules ≡ self.old.rules }
@@ -151,7 +162,7 @@ impl RuleState {
     // Lets the adversary know what a fact put out.
     fn learn(&mut self, alloc: Global, k: u64) -> Result<FactList, RFault>
         ensures ok { IfOk result (λ acts. IsLine self.old.sig self.old.rules IsSmall self.old.at (LearnLine k) acts self.new.at) }
-        ensures refused { IfErr result (IsFault self.old.sig self.old.rules self.old.at (LearnLine k)) }
+        ensures refused { IfErr result (IsLineFault self.old.sig self.old.rules self.old.at (LearnLine k)) }
         ensures err { OnErr result (self.new ≡ self.old) }
         ensures sig { self.new.sig ≡ self.old.sig }
         ensures rules { self.new.rules ≡ self.old.rules }
@@ -168,7 +179,7 @@ impl RuleState {
     // Lets the adversary have a fresh name.
     fn own(&mut self, alloc: Global, k: u64) -> Result<FactList, RFault>
         ensures ok { IfOk result (λ acts. IsLine self.old.sig self.old.rules IsSmall self.old.at (OwnLine k) acts self.new.at) }
-        ensures refused { IfErr result (IsFault self.old.sig self.old.rules self.old.at (OwnLine k)) }
+        ensures refused { IfErr result (IsLineFault self.old.sig self.old.rules self.old.at (OwnLine k)) }
         ensures err { OnErr result (self.new ≡ self.old) }
         ensures sig { self.new.sig ≡ self.old.sig }
         ensures rules { self.new.rules ≡ self.old.rules }
@@ -184,7 +195,7 @@ impl RuleState {
     // Lets the adversary know a public name.
     fn public(&mut self, alloc: Global, a: &Name) -> Result<FactList, RFault>
         ensures ok { IfOk result (λ acts. IsLine self.old.sig self.old.rules IsSmall self.old.at (PublicLine a.now) acts self.new.at) }
-        ensures refused { IfErr result (IsFault self.old.sig self.old.rules self.old.at (PublicLine a.now)) }
+        ensures refused { IfErr result (IsLineFault self.old.sig self.old.rules self.old.at (PublicLine a.now)) }
         ensures err { OnErr result (self.new ≡ self.old) }
         ensures sig { self.new.sig ≡ self.old.sig }
         ensures rules { self.new.rules ≡ self.old.rules }
@@ -197,13 +208,11 @@ impl RuleState {
     // Lets the adversary apply a symbol to entries.
     fn apply(&mut self, alloc: Global, f: &Name, entries: &Numbers) -> Result<FactList, RFault>
         ensures ok { IfOk result (λ acts. IsLine self.old.sig self.old.rules IsSmall self.old.at (ApplyLine f.now entries.now) acts self.new.at) }
-        ensures refused { IfErr result (IsFault self.old.sig self.old.rules self.old.at (ApplyLine f.now entries.now)) }
+        ensures refused { IfErr result (IsLineFault self.old.sig self.old.rules self.old.at (ApplyLine f.now entries.now)) }
         ensures err { OnErr result (self.new ≡ self.old) }
         ensures sig { self.new.sig ≡ self.old.sig }
         ensures rules { self.new.rules ≡ self.old.rules }
     {
-        forms_are_messages();
-        self.sig.builtins_are_held();
         self.knowledge.apply(f, entries)?;
         Ok(FactList::new(alloc))
     }
@@ -211,18 +220,17 @@ impl RuleState {
     // Lets the adversary give an entry.
     fn know(&mut self, alloc: Global, k: u64) -> Result<FactList, RFault>
         ensures ok { IfOk result (λ acts. IsLine self.old.sig self.old.rules IsSmall self.old.at (KnowLine k) acts self.new.at) }
-        ensures refused { IfErr result (IsFault self.old.sig self.old.rules self.old.at (KnowLine k)) }
+        ensures refused { IfErr result (IsLineFault self.old.sig self.old.rules self.old.at (KnowLine k)) }
         ensures err { OnErr result (self.new ≡ self.old) }
         ensures sig { self.new.sig ≡ self.old.sig }
         ensures rules { self.new.rules ≡ self.old.rules }
     {
+        self.knowledge.each_is_deducible();
         let Some(t) = self.knowledge.at(k) else {
             return Err(RFault::NoEntry { k });
         };
-        let given = single(alloc, b"In", t.copy(alloc)?)?;
-        let known = single(alloc, b"K", t.copy(alloc)?)?;
-        let acts = alone(alloc, known)?;
         self.facts.reserve(1)?;
+        let (given, acts) = given_and_shown(alloc, t)?;
         add_one(&mut self.facts, given);
         Ok(acts)
     }
@@ -236,7 +244,7 @@ impl RuleState {
         b: &Bindings,
     ) -> Result<FactList, RFault>
         ensures ok { IfOk result (λ acts. IsLine self.old.sig self.old.rules IsSmall self.old.at (RuleLine name.now numbers.now b.now) acts self.new.at) }
-        ensures refused { IfErr result (IsFault self.old.sig self.old.rules self.old.at (RuleLine name.now numbers.now b.now)) }
+        ensures refused { IfErr result (IsLineFault self.old.sig self.old.rules self.old.at (RuleLine name.now numbers.now b.now)) }
         ensures err { OnErr result (self.new ≡ self.old) }
         ensures sig { self.new.sig ≡ self.old.sig }
         ensures rules { self.new.rules ≡ self.old.rules }
@@ -246,7 +254,7 @@ impl RuleState {
         };
         let fired = use_rule(alloc, &self.sig, rule, &self.facts, numbers, b)?;
         let Firing { acts, right } = fired;
-        let added = copied(alloc, &right)?;
+        let added = right.into_vec();
         self.facts.reserve(added.len() as u64)?;
         take_each(&mut self.facts, numbers);
         add_each(&mut self.facts, added);

@@ -1,9 +1,9 @@
-ghost use Rattle.std.specs.Prelude.{◌≡◌, ◌+◌, ◌<◌, ◌≤◌, true, false, nat_eq, None, Some, [], ◌∷◌, ◌++◌, length, IfOk, MatchOption};
+ghost use Rattle.std.specs.Prelude.{◌≡◌, ℕ, ◌+◌, ◌<◌, ◌≤◌, true, false, nat_eq, None, Some, [], ◌∷◌, ◌++◌, length, IfOk, MatchOption};
 ghost use Rattle.indexmap.specs.IndexSet.{contains};
 ghost use Rattle.sap_terms.specs.Piles.{adds};
 ghost use Rattle.sap_facts.specs.Facts.{fact_at};
 ghost use Rattle.sap_steps.specs.Faults.{IsFirstMissing};
-ghost use Rattle.sap_steps.specs.Left.{left_of, AreTaken, unless, IsCited};
+ghost use Rattle.sap_steps.specs.code.Left.{left_of, AreTaken, unless, IsCited};
 
 use indexmap::IndexSet;
 use sap_facts::Pile;
@@ -36,8 +36,20 @@ pub(crate) fn first_missing(
     ensures { IfOk result (λ r. MatchOption r (AreTaken facts.now.places numbers.now) (IsFirstMissing facts.now.places numbers.now)) }
 {
     let mut gone = IndexSet::new(alloc);
+    first_missing_of(facts, numbers, &mut gone)
+}
+
+// The same, where those in the set, which holds none at first, were used up.
+fn first_missing_of(
+    facts: &Pile,
+    numbers: &Numbers,
+    gone: &mut IndexSet<u64>,
+) -> Result<Option<u64>, Mem>
+    requires { (j : ℕ) → contains nat_eq gone.old j ≡ false }
+    ensures { IfOk result (λ r. MatchOption r (AreTaken facts.now.places numbers.now) (IsFirstMissing facts.now.places numbers.now)) }
+{
     for (at, k) in numbers.as_slice().iter().enumerate() {
-        if !cite(facts, &mut gone, *k)? {
+        if !cite(facts, gone, *k)? {
             return Ok(Some(at as u64 + 1));
         }
     }

@@ -1,16 +1,16 @@
 ghost use Rattle.std.specs.Prelude.{◌≡◌, ◌⊎◌, IfOk, IfErr, All};
 ghost use Rattle.sap_steps.specs.Faults.{IsRuleFault};
-ghost use Rattle.sap_steps.specs.Held.{AreHeld, IsHeldFact, cited_at};
-ghost use Rattle.sap_steps.specs.Left.{AreTaken};
+ghost use Rattle.sap_steps.specs.code.Held.{HoldsSmallMessages, IsSmallMessageFact, cited_at};
+ghost use Rattle.sap_steps.specs.code.Left.{AreTaken};
 ghost use Rattle.sap_steps.specs.Lines.{Fires, IsSmall};
-ghost use Rattle.sap_steps.specs.Ready.{IsReady};
+ghost use Rattle.sap_steps.specs.code.Ready.{IsReady};
 
 use crate::RFault;
 use crate::firing::{Firing, fire};
 use crate::prepared::Prepared;
 use crate::taking::first_missing;
 use sap_facts::Pile;
-use sap_terms::{Bindings, Copied, Fact, FactList, Mem, Numbers, Signature};
+use sap_terms::{Bindings, Numbers, Signature};
 use std::alloc::Global;
 
 // What the rule shows and adds, where it takes the facts with these numbers, if they are live and enough.
@@ -23,10 +23,10 @@ pub(crate) fn use_rule(
     b: &Bindings,
 ) -> Result<Firing, RFault>
     requires ready { IsReady sig.now rule.now }
-    requires held { AreHeld sig.now facts.now.places }
+    requires held { HoldsSmallMessages sig.now facts.now.places }
     ensures taken { IfOk result (λ _. AreTaken facts.now.places numbers.now) }
     ensures fires { IfOk result (λ x. Fires sig.now IsSmall rule.now.rule b.now (cited_at facts.now.places numbers.now) x.acts x.right) }
-    ensures held { IfOk result (λ x. All (IsHeldFact sig.now) x.right) }
+    ensures held { IfOk result (λ x. All (IsSmallMessageFact sig.now) x.right) }
     ensures refused { IfErr result (λ e. (e ≡ RFault.Mem) ⊎ IsRuleFault sig.now rule.now.rule facts.now.places numbers.now b.now e) }
 {
     if numbers.len() != rule.rule.left.len() {
@@ -36,15 +36,4 @@ pub(crate) fn use_rule(
         return Err(RFault::FactMissing { place });
     }
     fire(alloc, sig, rule, facts, numbers, b)
-}
-
-// The facts, copied.
-pub(crate) fn copied(alloc: Global, facts: &FactList) -> Result<Vec<Fact>, Mem>
-    ensures { IfOk result (λ v. v.items ≡ facts.now) }
-{
-    let mut made = Vec::new(alloc);
-    for f in facts.as_slice() {
-        made.push(f.copy(alloc)?)?;
-    }
-    Ok(made)
 }

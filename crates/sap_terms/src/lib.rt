@@ -4,6 +4,7 @@
 mod binding;
 mod fact;
 mod items;
+mod limits;
 mod mem;
 mod name;
 mod occurrences;
@@ -18,6 +19,10 @@ mod var;
 pub use binding::{Binding, Bindings};
 pub use fact::{Fact, FactList, Trace};
 pub use items::{Copied, Items, Numbers};
+pub use limits::{
+    MOST_ARITY, MOST_FILE_NAME_BYTES, MOST_PROCESS_LEVELS, MOST_PROCESS_PLACES, MOST_SCOPE_NAMES,
+    MOST_TERM_LEVELS, MOST_TERM_NODES, MOST_THEORY_NAME_BYTES,
+};
 pub use mem::Mem;
 pub use name::{Name, NameList};
 pub use occurrences::{push_all_vars, push_facts_vars, push_vars};

@@ -1,7 +1,7 @@
 use Rattle.std.proofs.Common.{◌≡◌, ◌+◌, ◌*◌, drop}
 use Rattle.sap_terms.specs.Tree.{node_count, trees_count, trees_of}
 use Rattle.sap_terms.specs.View.{tree}
-use Rattle.sap_rule.specs.Checks.{all_over}
+use Rattle.sap_rule.specs.code.Checks.{all_over}
 use Rattle.sap_rule.proofs.well_made.+is_over.Given as goal
 
 abbrev pub decreases-is_over : goal.decreases-is_over

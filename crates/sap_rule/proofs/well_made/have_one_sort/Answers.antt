@@ -3,7 +3,7 @@ use Rattle.std.proofs.lemmas.List.{take_all}
 use Rattle.std.specs.Str.{bytes_eq}
 use Rattle.indexmap.specs.IndexMap.{get}
 use Rattle.sap_rewrite.specs.Match.{HaveOneSort}
-use Rattle.sap_rule.specs.Checks.{AreNoted}
+use Rattle.sap_rule.specs.code.Checks.{AreNoted}
 use Rattle.sap_rule.proofs.Sorts.{noted-none, noted-more, one_sort, two_sorts}
 use Rattle.sap_rule.proofs.well_made.have_one_sort.Goals as goal
 

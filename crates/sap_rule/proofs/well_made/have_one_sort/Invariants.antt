@@ -1,7 +1,7 @@
 use Rattle.std.proofs.Common.{ℕ, List, take}
 use Rattle.std.specs.Str.{bytes_eq}
 use Rattle.indexmap.specs.IndexMap.{get}
-use Rattle.sap_rule.specs.Checks.{AreNoted}
+use Rattle.sap_rule.specs.code.Checks.{AreNoted}
 use Rattle.sap_rule.proofs.well_made.have_one_sort.Given as goal
 
 abbrev pub invariant-loop-v : goal.invariant-loop-v

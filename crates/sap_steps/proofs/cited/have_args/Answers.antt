@@ -1,7 +1,7 @@
 use Rattle.std.proofs.Common.{◌≡◌, length, sym, subst, ◌∙◌, arith, take, refl}
 use Rattle.sap_terms.specs.declared.fact.Fact.{Fact}
-use Rattle.sap_steps.specs.Firing.{HaveArgs}
-use Rattle.sap_steps.specs.Held.{cited_at}
+use Rattle.sap_steps.specs.code.Firing.{HaveArgs}
+use Rattle.sap_steps.specs.code.Held.{cited_at}
 use Rattle.sap_steps.proofs.Lists.{zip_further, zip_at, take_all, cited_length}
 use Rattle.sap_steps.proofs.cited.have_args.Goals as goal
 

@@ -1,6 +1,6 @@
 use Rattle.std.proofs.Common.{take}
-use Rattle.sap_steps.specs.Firing.{HaveArgs}
-use Rattle.sap_steps.specs.Held.{cited_at}
+use Rattle.sap_steps.specs.code.Firing.{HaveArgs}
+use Rattle.sap_steps.specs.code.Held.{cited_at}
 use Rattle.sap_steps.proofs.cited.have_args.Given as goal
 
 abbrev pub invariant-loop-k : goal.invariant-loop-k

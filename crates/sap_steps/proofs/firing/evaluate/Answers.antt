@@ -3,9 +3,9 @@ use Rattle.std.proofs.lemmas.List.{length-map}
 use Rattle.sap_terms.specs.Modulo.{instance_fact, instance_facts, IsFormOfFact}
 use Rattle.sap_terms.specs.Subst.{bound_to}
 use Rattle.sap_terms.specs.Equations.{equations}
-use Rattle.sap_steps.specs.Held.{cited_at}
+use Rattle.sap_steps.specs.code.Held.{cited_at}
 use Rattle.sap_steps.proofs.Evaluated.{fault_large, in_left, in_acts, in_right, none_large, passed}
-use Rattle.sap_steps.specs.Firing.{IsEvaluationFault}
+use Rattle.sap_steps.specs.code.Firing.{IsEvaluationFault}
 use Rattle.sap_steps.proofs.Lists.{zip_length}
 use Rattle.sap_steps.proofs.firing.evaluate.Goals as goal
 

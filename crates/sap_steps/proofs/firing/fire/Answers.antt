@@ -3,9 +3,9 @@ use Rattle.std.specs.Prelude.{All}
 use Rattle.sap_terms.specs.declared.binding.Binding.{Binding}
 use Rattle.sap_terms.specs.Subst.{bound_to}
 use Rattle.sap_rule.specs.Variables.{facts_outer_vars}
-use Rattle.sap_steps.specs.Faults.{AreRight, IsRefusal}
-use Rattle.sap_steps.specs.Firing.{IsOnlyChoice, HasNoChoice, FactsFit, Evaluates, IsEvaluationFault}
-use Rattle.sap_steps.specs.Held.{IsHeldFact, cited_at}
+use Rattle.sap_steps.specs.Faults.{AreRight, IsRuleRefusal}
+use Rattle.sap_steps.specs.code.Firing.{IsOnlyChoice, HasNoChoice, FactsFit, Evaluates, IsEvaluationFault}
+use Rattle.sap_steps.specs.code.Held.{IsSmallMessageFact, cited_at}
 use Rattle.sap_steps.specs.Lines.{Fires, IsSmall}
 use Rattle.sap_steps.specs.declared.firing.Firing.{Firing}
 use Rattle.sap_steps.proofs.Fired.{if_ok, if_err, fires, refused, right_held, no_match}
@@ -34,7 +34,7 @@ returns-in-Some-clause-fires c =
       terms = c.in_ok-are_messages.ensures.0 c.if-not-branch.false;
     } in
     let found = subst (λ (xs : List Binding). IsOnlyChoice (FactsFit g r.left hs) (facts_outer_vars g r.left) xs c.in-Some.c) c.in_ok-copy.ensures (option_some _ _ c.in_ok-c.field-0 c.in-Some.c c.in_ok-c.ensures c.in-Some.is) in
-    let held = cited_all (IsHeldFact g) c.args.facts.now.places c.args.numbers.now c.requires.held in
+    let held = cited_all (IsSmallMessageFact g) c.args.facts.now.places c.args.numbers.now c.requires.held in
     if_ok (λ (x : Firing). Evaluates g (bound_to c.in-Some.c) r hs x.acts x.right) (λ (x : Firing). Fires g IsSmall r b hs x.acts x.right) c.evaluate.result (λ x e. fires laws g r b c.in-Some.c hs c.requires.well_made good found held x.acts x.right e) c.evaluate.ensures.evaluates
 
 pub returns-in-Some-clause-held : goal.returns-in-Some-clause-held
@@ -57,8 +57,8 @@ returns-in-Some-clause-held c =
       terms = c.in_ok-are_messages.ensures.0 c.if-not-branch.false;
     } in
     let found = subst (λ (xs : List Binding). IsOnlyChoice (FactsFit g r.left hs) (facts_outer_vars g r.left) xs c.in-Some.c) c.in_ok-copy.ensures (option_some _ _ c.in_ok-c.field-0 c.in-Some.c c.in_ok-c.ensures c.in-Some.is) in
-    let held = cited_all (IsHeldFact g) c.args.facts.now.places c.args.numbers.now c.requires.held in
-    if_ok (λ (x : Firing). Evaluates g (bound_to c.in-Some.c) r hs x.acts x.right) (λ (x : Firing). All (IsHeldFact g) x.right) c.evaluate.result (λ x e. right_held laws g r b c.in-Some.c hs c.requires.well_made good found held c.builtins_are_held.ensures x.acts x.right e) c.evaluate.ensures.evaluates
+    let held = cited_all (IsSmallMessageFact g) c.args.facts.now.places c.args.numbers.now c.requires.held in
+    if_ok (λ (x : Firing). Evaluates g (bound_to c.in-Some.c) r hs x.acts x.right) (λ (x : Firing). All (IsSmallMessageFact g) x.right) c.evaluate.result (λ x e. right_held laws g r b c.in-Some.c hs c.requires.well_made good found held c.builtins_are_held.ensures x.acts x.right e) c.evaluate.ensures.evaluates
 
 pub returns-in-Some-clause-refused : goal.returns-in-Some-clause-refused
 returns-in-Some-clause-refused c =
@@ -80,8 +80,8 @@ returns-in-Some-clause-refused c =
       terms = c.in_ok-are_messages.ensures.0 c.if-not-branch.false;
     } in
     let found = subst (λ (xs : List Binding). IsOnlyChoice (FactsFit g r.left hs) (facts_outer_vars g r.left) xs c.in-Some.c) c.in_ok-copy.ensures (option_some _ _ c.in_ok-c.field-0 c.in-Some.c c.in_ok-c.ensures c.in-Some.is) in
-    let held = cited_all (IsHeldFact g) c.args.facts.now.places c.args.numbers.now c.requires.held in
-    if_err (IsEvaluationFault g (bound_to c.in-Some.c) r hs) (IsRefusal g r b hs) c.evaluate.result (λ k e. refused laws g r b c.in-Some.c hs c.requires.well_made good found held k e) c.evaluate.ensures.refused
+    let held = cited_all (IsSmallMessageFact g) c.args.facts.now.places c.args.numbers.now c.requires.held in
+    if_err (IsEvaluationFault g (bound_to c.in-Some.c) r hs) (IsRuleRefusal g r b hs) c.evaluate.result (λ k e. refused laws g r b c.in-Some.c hs c.requires.well_made good found held k e) c.evaluate.ensures.refused
 
 pub returns-in-None-clause-refused : goal.returns-in-None-clause-refused
 returns-in-None-clause-refused c =

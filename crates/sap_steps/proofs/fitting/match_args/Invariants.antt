@@ -1,7 +1,7 @@
 use Rattle.std.proofs.Common.{drop}
 use Rattle.sap_terms.specs.Tree.{trees_of}
 use Rattle.sap_rewrite.specs.Around.{all_outer_vars}
-use Rattle.sap_steps.specs.Firing.{ArgsFit}
+use Rattle.sap_steps.specs.code.Firing.{ArgsFit}
 use Rattle.sap_steps.proofs.Found.{Continues}
 use Rattle.sap_steps.proofs.fitting.match_args.Given as goal
 

@@ -1,5 +1,5 @@
 use Rattle.std.proofs.Common.{◌≡◌, length, sym, ◌∙◌, arith}
-use Rattle.sap_steps.specs.Held.{cited_at}
+use Rattle.sap_steps.specs.code.Held.{cited_at}
 use Rattle.sap_steps.proofs.Found.{option_none, option_some, facts_past, facts_not, facts_end}
 use Rattle.sap_steps.proofs.Lists.{cited_length}
 use Rattle.sap_steps.proofs.fitting.match_facts.Goals as goal

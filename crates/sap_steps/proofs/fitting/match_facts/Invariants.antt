@@ -1,7 +1,7 @@
 use Rattle.std.proofs.Common.{drop}
 use Rattle.sap_rule.specs.Variables.{facts_outer_vars}
-use Rattle.sap_steps.specs.Firing.{FactsFit}
-use Rattle.sap_steps.specs.Held.{cited_at}
+use Rattle.sap_steps.specs.code.Firing.{FactsFit}
+use Rattle.sap_steps.specs.code.Held.{cited_at}
 use Rattle.sap_steps.proofs.Found.{Continues}
 use Rattle.sap_steps.proofs.fitting.match_facts.Given as goal
 

@@ -1,6 +1,6 @@
 use Rattle.std.proofs.Common.{◌≡◌, take}
 use Rattle.std.specs.List.{All}
-use Rattle.sap_steps.specs.Ready.{IsReady, rules_of}
+use Rattle.sap_steps.specs.code.Ready.{IsReady, rules_of}
 use Rattle.sap_steps.proofs.state.made_ready.Given as goal
 
 abbrev pub invariant-loop-r : goal.invariant-loop-r

@@ -4,17 +4,16 @@ use Rattle.sap_steps.proofs.Left.{take_one}
 use Rattle.sap_steps.proofs.Tied.{tied_knows, tied_without, held_argument, knows_more}
 use Rattle.sap_steps.proofs.state.RuleState.learn.Goals as goal
 
-pub output-requires-clause-normal : goal.output-requires-clause-normal
-output-requires-clause-normal c =
-    rw (c.in_ok-t-in-Some.ensures, c.self.invariant.signature) (held_argument _ _ _ _ _ c.self.invariant.held c.in-Some.ensures).message.normal
+pub output-requires-clause-message : goal.output-requires-clause-message
+output-requires-clause-message c =
+    rw (c.in_ok-t-in-Some.ensures, c.self.invariant.signature) (held_argument _ _ _ _ _ c.self.invariant.held c.in-Some.ensures).message
 
 pub output-requires-clause-within : goal.output-requires-clause-within
 output-requires-clause-within c = rw c.in_ok-t-in-Some.ensures (held_argument _ _ _ _ _ c.self.invariant.held c.in-Some.ensures).small
 
 pub invariant_of-self-2 : goal.invariant_of-self-2
 invariant_of-self-2 c =
-    let held = rw (← c.in_ok-t-in-Some.ensures) at (held_argument _ _ _ _ _ c.self.invariant.held c.in-Some.ensures) in
-    rw c.take-out.ensures.places (tied_without _ _ _ _ _ (tied_knows _ _ _ _ _ _ _ c.self.invariant c.in_ok-output.ensures.ok held))
+    rw c.take-out.ensures.places (tied_without _ _ _ _ _ (tied_knows _ _ _ _ _ _ _ c.self.invariant c.in_ok-output.ensures.ok))
 
 pub returns-clause-ok : goal.returns-clause-ok
 returns-clause-ok c = rw (← c.self.view_is, c.take-out.ensures.places) (

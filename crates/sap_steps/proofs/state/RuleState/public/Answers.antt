@@ -1,5 +1,5 @@
-use Rattle.sap_steps.proofs.Tied.{tied_knows, held_public}
+use Rattle.sap_steps.proofs.Tied.{tied_knows}
 use Rattle.sap_steps.proofs.state.RuleState.public.Goals as goal
 
 pub invariant_of-self-2 : goal.invariant_of-self-2
-invariant_of-self-2 c = tied_knows _ _ _ _ _ _ _ c.self.invariant c.in_ok-public.ensures.ok (held_public _ _)
+invariant_of-self-2 c = tied_knows _ _ _ _ _ _ _ c.self.invariant c.in_ok-public.ensures.ok

@@ -3,7 +3,7 @@ use Rattle.std.specs.Option.{option_copied}
 use Rattle.std.proofs.lemmas.Result.{err_from_is_err_and}
 use Rattle.sap_deduce.specs.Entries.{terms_of}
 use Rattle.sap_rule.specs.RuleSteps.{RuleState}
-use Rattle.sap_steps.specs.Ready.{IsReady, rules_of}
+use Rattle.sap_steps.specs.code.Ready.{IsReady, rules_of}
 use Rattle.sap_steps.proofs.Ready.{no_rule, its_rule, ready-all}
 use Rattle.sap_steps.proofs.Tied.{tied_used}
 use Rattle.sap_steps.proofs.Used.{rule_fault, rule_line}
@@ -27,7 +27,7 @@ returns-in_err-fired-clause-refused c =
 
 pub invariant_of-self-2 : goal.invariant_of-self-2
 invariant_of-self-2 c =
-    rw (c.add_each.ensures, c.take_each.ensures.places, c.in_ok-reserve.ensures.places, c.in_ok-added.ensures)
+    rw (c.add_each.ensures, c.take_each.ensures.places, c.in_ok-reserve.ensures.places, c.into_vec-added.ensures)
     (tied_used c.self.inside.sig c.self.inside.rules c.self.inside.facts.places c.self.inside.knowledge c.args.numbers.now c.in_ok-fired.fired.right c.self.invariant c.in_ok-fired.ensures.held)
 
 pub returns-clause-ok : goal.returns-clause-ok
@@ -35,4 +35,4 @@ returns-clause-ok c =
     let named = its_rule c.self.inside.rules c.args.name.now c.in-Some.rule.now (sym c.in-Some.ensures) in
     rw (← c.self.view_is)
     (rule_line c.self.inside.sig (rules_of c.self.inside.rules) c.self.inside.facts.places c.add_each.new.facts.places (terms_of c.self.inside.knowledge.entries) c.self.inside.made.keys c.args.name.now c.args.numbers.now c.args.b.now c.in-Some.rule.now.rule c.in_ok-fired.fired.acts c.in_ok-fired.fired.right named c.in_ok-fired.ensures.taken c.in_ok-fired.ensures.fires
-    (rw (c.add_each.ensures, c.take_each.ensures.places, c.in_ok-reserve.ensures.places, c.in_ok-added.ensures) refl))
+    (rw (c.add_each.ensures, c.take_each.ensures.places, c.in_ok-reserve.ensures.places, c.into_vec-added.ensures) refl))

@@ -1,9 +1,0 @@
-use Rattle.std.proofs.Common.{refl}
-use Rattle.sap_terms.specs.Modulo.{instance_fact}
-use Rattle.sap_terms.specs.Subst.{bound_to}
-use Rattle.sap_process.proofs.OtherNames.{map_got}
-use Rattle.sap_process.proofs.substituting.subst_facts.Goals as goal
-
-pub loop-k-preserved : goal.loop-k-preserved
-loop-k-preserved c =
-    rw (c.in_ok-push.ensures.ok, c.loop-k.invariant, c.in_ok-subst_fact.ensures, map_got (instance_fact (bound_to c.args.b.now)) c.args.fs.now c.loop-k.k c.at.result.now c.at.ensures) refl

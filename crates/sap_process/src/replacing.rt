@@ -1,0 +1,296 @@
+//! Heads of processes with their variables replaced: a function for each form, over what stands below it.
+ghost use Rattle.std.specs.Prelude.{◌≡◌, IfOk, map};
+ghost use Rattle.sap_terms.specs.Choice.{Choice, instance};
+ghost use Rattle.sap_terms.specs.Modulo.{instance_fact, instance_facts};
+ghost use Rattle.sap_terms.specs.View.{tree};
+ghost use Rattle.sap_process.specs.Action.{new, out, send, input, receive, event, insert, delete, lock, unlock, embedded};
+ghost use Rattle.sap_process.specs.Headed.{headed};
+ghost use Rattle.sap_process.specs.Proc.{proc, nil, parallel, replicated, act, test, lookup};
+
+use crate::Process;
+use sap_terms::{Copied, Fact, FactList, Mem, Term, TermList, Var};
+use std::alloc::Global;
+
+// What has a term for each variable.
+pub(crate) trait Replacing {
+    ghost choice: { Self → Choice };
+
+    // The term with each of its variables replaced.
+    fn replaced(&self, alloc: Global, t: &Term) -> Result<Term, Mem>
+        ensures { IfOk result (λ u. tree u ≡ instance (choice self.now) (tree t.now)) };
+}
+
+// The head of the process, where one process follows it, over this one.
+pub(crate) fn over<R: Replacing>(
+    alloc: Global,
+    r: &R,
+    p: &Process,
+    below: Box<Process>,
+) -> Result<Box<Process>, Mem>
+    ensures { IfOk result (λ q. proc q.value ≡ headed (R.choice r.now) (proc p.now) (proc below.value)) }
+{
+    match p {
+        Process::Nil | Process::Par(_, _) | Process::If(_, _, _, _) | Process::Lookup(_, _, _, _) =>
+            Ok(below),
+        Process::Rep(_) => repeated(alloc, below),
+        Process::New(x, _) => naming(alloc, x, below),
+        Process::Out(t, _) => outputting(alloc, r, t, below),
+        Process::Send(t, u, _) => sending(alloc, r, t, u, below),
+        Process::In(t, _) => inputting(alloc, r, t, below),
+        Process::Recv(t, u, _) => receiving(alloc, r, t, u, below),
+        Process::Event(f, _) => showing(alloc, r, f, below),
+        Process::Insert(t, u, _) => inserting(alloc, r, t, u, below),
+        Process::Delete(t, _) => deleting(alloc, r, t, below),
+        Process::Lock(t, n, _) => locking(alloc, r, t, *n, below),
+        Process::Unlock(t, n, _) => unlocking(alloc, r, t, *n, below),
+        Process::Embedded(l, e, s, _) => embedding(alloc, r, l, e, s, below),
+    }
+}
+
+pub(crate) fn ended(alloc: Global) -> Result<Box<Process>, Mem>
+    ensures { IfOk result (λ q. proc q.value ≡ nil) }
+{
+    Ok(Box::new(alloc, Process::Nil)?)
+}
+
+pub(crate) fn side_by_side(
+    alloc: Global,
+    p: Box<Process>,
+    q: Box<Process>,
+) -> Result<Box<Process>, Mem>
+    ensures { IfOk result (λ made. proc made.value ≡ parallel (proc p.value) (proc q.value)) }
+{
+    Ok(Box::new(alloc, Process::Par(p, q))?)
+}
+
+pub(crate) fn testing<R: Replacing>(
+    alloc: Global,
+    r: &R,
+    t: &Term,
+    u: &Term,
+    p: Box<Process>,
+    q: Box<Process>,
+) -> Result<Box<Process>, Mem>
+    ensures { IfOk result (λ made. proc made.value ≡ test
+        (instance (R.choice r.now) (tree t.now)) (instance (R.choice r.now) (tree u.now))
+        (proc p.value) (proc q.value)) }
+{
+    let t = r.replaced(alloc, t)?;
+    let u = r.replaced(alloc, u)?;
+    Ok(Box::new(alloc, Process::If(t, u, p, q))?)
+}
+
+pub(crate) fn looking_up<R: Replacing>(
+    alloc: Global,
+    r: &R,
+    t: &Term,
+    x: Var,
+    p: Box<Process>,
+    q: Box<Process>,
+) -> Result<Box<Process>, Mem>
+    ensures { IfOk result (λ made. proc made.value ≡ lookup
+        (instance (R.choice r.now) (tree t.now)) x (proc p.value) (proc q.value)) }
+{
+    let t = r.replaced(alloc, t)?;
+    Ok(Box::new(alloc, Process::Lookup(t, x, p, q))?)
+}
+
+pub(crate) fn named(alloc: Global, x: Var, p: Box<Process>) -> Result<Box<Process>, Mem>
+    ensures { IfOk result (λ q. proc q.value ≡ act (new x) (proc p.value)) }
+{
+    Ok(Box::new(alloc, Process::New(x, p))?)
+}
+
+fn naming(alloc: Global, x: &Var, p: Box<Process>) -> Result<Box<Process>, Mem>
+    ensures { IfOk result (λ q. proc q.value ≡ act (new x.now) (proc p.value)) }
+{
+    named(alloc, x.copy(alloc)?, p)
+}
+
+fn repeated(alloc: Global, p: Box<Process>) -> Result<Box<Process>, Mem>
+    ensures { IfOk result (λ q. proc q.value ≡ replicated (proc p.value)) }
+{
+    Ok(Box::new(alloc, Process::Rep(p))?)
+}
+
+fn outputting<R: Replacing>(
+    alloc: Global,
+    r: &R,
+    t: &Term,
+    p: Box<Process>,
+) -> Result<Box<Process>, Mem>
+    ensures { IfOk result (λ q. proc q.value ≡ act
+        (out (instance (R.choice r.now) (tree t.now))) (proc p.value)) }
+{
+    let t = r.replaced(alloc, t)?;
+    Ok(Box::new(alloc, Process::Out(t, p))?)
+}
+
+fn sending<R: Replacing>(
+    alloc: Global,
+    r: &R,
+    t: &Term,
+    u: &Term,
+    p: Box<Process>,
+) -> Result<Box<Process>, Mem>
+    ensures { IfOk result (λ q. proc q.value ≡ act
+        (send (instance (R.choice r.now) (tree t.now)) (instance (R.choice r.now) (tree u.now)))
+        (proc p.value)) }
+{
+    let t = r.replaced(alloc, t)?;
+    let u = r.replaced(alloc, u)?;
+    Ok(Box::new(alloc, Process::Send(t, u, p))?)
+}
+
+fn inputting<R: Replacing>(
+    alloc: Global,
+    r: &R,
+    t: &Term,
+    p: Box<Process>,
+) -> Result<Box<Process>, Mem>
+    ensures { IfOk result (λ q. proc q.value ≡ act
+        (input (instance (R.choice r.now) (tree t.now))) (proc p.value)) }
+{
+    let t = r.replaced(alloc, t)?;
+    Ok(Box::new(alloc, Process::In(t, p))?)
+}
+
+fn receiving<R: Replacing>(
+    alloc: Global,
+    r: &R,
+    t: &Term,
+    u: &Term,
+    p: Box<Process>,
+) -> Result<Box<Process>, Mem>
+    ensures { IfOk result (λ q. proc q.value ≡ act
+        (receive (instance (R.choice r.now) (tree t.now)) (instance (R.choice r.now) (tree u.now)))
+        (proc p.value)) }
+{
+    let t = r.replaced(alloc, t)?;
+    let u = r.replaced(alloc, u)?;
+    Ok(Box::new(alloc, Process::Recv(t, u, p))?)
+}
+
+fn showing<R: Replacing>(
+    alloc: Global,
+    r: &R,
+    f: &Fact,
+    p: Box<Process>,
+) -> Result<Box<Process>, Mem>
+    ensures { IfOk result (λ q. proc q.value ≡ act
+        (event (instance_fact (R.choice r.now) f.now)) (proc p.value)) }
+{
+    let f = replaced_fact(alloc, r, f)?;
+    Ok(Box::new(alloc, Process::Event(f, p))?)
+}
+
+fn inserting<R: Replacing>(
+    alloc: Global,
+    r: &R,
+    t: &Term,
+    u: &Term,
+    p: Box<Process>,
+) -> Result<Box<Process>, Mem>
+    ensures { IfOk result (λ q. proc q.value ≡ act
+        (insert (instance (R.choice r.now) (tree t.now)) (instance (R.choice r.now) (tree u.now)))
+        (proc p.value)) }
+{
+    let t = r.replaced(alloc, t)?;
+    let u = r.replaced(alloc, u)?;
+    Ok(Box::new(alloc, Process::Insert(t, u, p))?)
+}
+
+fn deleting<R: Replacing>(
+    alloc: Global,
+    r: &R,
+    t: &Term,
+    p: Box<Process>,
+) -> Result<Box<Process>, Mem>
+    ensures { IfOk result (λ q. proc q.value ≡ act
+        (delete (instance (R.choice r.now) (tree t.now))) (proc p.value)) }
+{
+    let t = r.replaced(alloc, t)?;
+    Ok(Box::new(alloc, Process::Delete(t, p))?)
+}
+
+fn locking<R: Replacing>(
+    alloc: Global,
+    r: &R,
+    t: &Term,
+    n: u32,
+    p: Box<Process>,
+) -> Result<Box<Process>, Mem>
+    ensures { IfOk result (λ q. proc q.value ≡ act
+        (lock (instance (R.choice r.now) (tree t.now)) n) (proc p.value)) }
+{
+    let t = r.replaced(alloc, t)?;
+    Ok(Box::new(alloc, Process::Lock(t, n, p))?)
+}
+
+fn unlocking<R: Replacing>(
+    alloc: Global,
+    r: &R,
+    t: &Term,
+    n: u32,
+    p: Box<Process>,
+) -> Result<Box<Process>, Mem>
+    ensures { IfOk result (λ q. proc q.value ≡ act
+        (unlock (instance (R.choice r.now) (tree t.now)) n) (proc p.value)) }
+{
+    let t = r.replaced(alloc, t)?;
+    Ok(Box::new(alloc, Process::Unlock(t, n, p))?)
+}
+
+fn embedding<R: Replacing>(
+    alloc: Global,
+    r: &R,
+    left: &FactList,
+    shown: &FactList,
+    right: &FactList,
+    p: Box<Process>,
+) -> Result<Box<Process>, Mem>
+    ensures { IfOk result (λ q. proc q.value ≡ act
+        (embedded (instance_facts (R.choice r.now) left.now) (instance_facts (R.choice r.now) shown.now)
+        (instance_facts (R.choice r.now) right.now))
+        (proc p.value)) }
+{
+    let left = replaced_facts(alloc, r, left)?;
+    let shown = replaced_facts(alloc, r, shown)?;
+    let right = replaced_facts(alloc, r, right)?;
+    Ok(Box::new(alloc, Process::Embedded(left, shown, right, p))?)
+}
+
+#[tactic(auto, using(crate::proofs::OtherNames::map_laws))]
+fn replaced_facts<R: Replacing>(alloc: Global, r: &R, fs: &FactList) -> Result<FactList, Mem>
+    ensures { IfOk result (λ hs. hs ≡ instance_facts (R.choice r.now) fs.now) }
+{
+    let mut made = FactList::new(alloc);
+    for k in 0..fs.len() {
+        made.push(replaced_fact(alloc, r, fs.at(k))?)?;
+    }
+    Ok(made)
+}
+
+fn replaced_fact<R: Replacing>(alloc: Global, r: &R, f: &Fact) -> Result<Fact, Mem>
+    ensures { IfOk result (λ h. h ≡ instance_fact (R.choice r.now) f.now) }
+{
+    let args = replaced_terms(alloc, r, &f.args)?;
+    let name = f.name.copy(alloc)?;
+    let persistent = f.persistent;
+    Ok(Fact {
+        name,
+        persistent,
+        args,
+    })
+}
+
+#[tactic(auto, using(crate::proofs::OtherNames::map_laws))]
+fn replaced_terms<R: Replacing>(alloc: Global, r: &R, ts: &TermList) -> Result<TermList, Mem>
+    ensures { IfOk result (λ us. us ≡ map (instance (R.choice r.now)) ts.now) }
+{
+    let mut made = TermList::new(alloc);
+    for k in 0..ts.len() {
+        made.push(r.replaced(alloc, ts.at(k))?)?;
+    }
+    Ok(made)
+}

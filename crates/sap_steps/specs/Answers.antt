@@ -1,0 +1,24 @@
+-- A line has one answer: it is possible, or refused.
+use Rattle.std.specs.Prelude.{◌≡◌, List, All}
+use Rattle.sap_terms.specs.Signature.{Sig, HoldsBuiltins}
+use Rattle.sap_terms.specs.Trace.{Trace}
+use Rattle.sap_terms.specs.declared.fact.Fact.{Fact}
+use Rattle.sap_rule.specs.Messages.{HoldsMessages}
+use Rattle.sap_rule.specs.RuleSteps.{RuleState, RuleRun}
+use Rattle.sap_rule.specs.WellMade.{IsWellMade}
+use Rattle.sap_rule.specs.declared.rule.Rule.{Rule}
+use Rattle.sap_runs.specs.declared.rule_step.RStep.{RStep}
+use Rattle.sap_steps.specs.Faults.{IsLineFault}
+use Rattle.sap_steps.specs.Lines.{IsLine, IsSmall}
+use Rattle.sap_steps.specs.declared.fault.RFault.{RFault}
+use Rattle.sap_steps.specs.declared.fault.RFault.TheVariants.{Mem}
+
+-- in a state that holds messages a line that is possible within the limit is refused for want of memory alone
+abbrev pub LinesHaveOneAnswer : Type 0
+LinesHaveOneAnswer =
+    (g : Sig) (rules : List Rule) (s z : RuleState) (acts : List Fact) (line : RStep) (e : RFault) → All (IsWellMade g) rules → HoldsMessages g s → IsLine g rules IsSmall s line acts z → IsLineFault g rules s line e → e ≡ Mem
+
+-- so in each state that a run of well-made rules reaches
+abbrev pub ReachedHaveOneAnswer : Type 0
+ReachedHaveOneAnswer =
+    (g : Sig) (rules : List Rule) (s z : RuleState) (full : Trace) (acts : List Fact) (line : RStep) (e : RFault) → HoldsBuiltins g → All (IsWellMade g) rules → RuleRun g rules s full → IsLine g rules IsSmall s line acts z → IsLineFault g rules s line e → e ≡ Mem
