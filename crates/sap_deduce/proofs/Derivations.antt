@@ -8,7 +8,7 @@ use Rattle.std.specs.Prelude.{◌⊎◌}
 use Rattle.std.proofs.Common.{inl, inr}
 use Rattle.sap_terms.specs.Tree.{Tree, variable, public, fresh, apply}
 use Rattle.sap_terms.specs.Signature.{Sig}
-use Rattle.sap_terms.specs.Equations.{Equations, equations, IsInstance, first, second, symmetric, asymmetric, signing}
+use Rattle.sap_terms.specs.Equations.{Equations, equations, IsInstance, first, second, symmetric, asymmetric, signing, revealing, revealed}
 use Rattle.sap_terms.specs.Equal.{same}
 use Rattle.sap_terms.specs.Normal.{IsNormal}
 use Rattle.sap_terms.specs.Deduce.{IsDerived, a_public, a_name, given, applied, IsDerivation, IsDeducible}
@@ -30,6 +30,8 @@ left-applied second = tt
 left-applied (symmetric h) = tt
 left-applied (asymmetric h) = tt
 left-applied (signing h) = tt
+left-applied (revealing h) = tt
+left-applied (revealed h) = tt
 
 fresh-normal : (e : Equations) (n : ℕ) → IsNormal e (fresh n)
 fresh-normal e n = λ b i. left-applied i
