@@ -126,6 +126,7 @@ fn builtin(word: &str) -> Option<Builtin> {
         "symmetric" => Some(Builtin::Symmetric),
         "asymmetric" => Some(Builtin::Asymmetric),
         "signing" => Some(Builtin::Signing),
+        "revealing" => Some(Builtin::RevealingSigning),
         _ => None,
     }
 }
