@@ -33,7 +33,7 @@ use Rattle.sap_process.proofs.StepLemmas.{own_form, parts, head_part, second_par
 use Rattle.sap_terms.proofs.SameLemmas.{and_left, and_right, and_true}
 use Rattle.sap_terms.specs.Variables.{tree_vars, facts_vars}
 use Rattle.sap_terms.specs.Choice.{fits_sort}
-use Rattle.sap_terms.specs.Equations.{snd_name, verify_name, app0, true_name}
+use Rattle.sap_terms.specs.Equations.{snd_name, verify_name, reveal_verify_name, app0, true_name}
 
 -- what the one thread shows
 abbrev shown_by : List (Option Proc) → Tree
@@ -266,7 +266,7 @@ second_lacks none h = refl
 second_lacks (more t ts) h = head_lacks ts (and_right (lacks t) _ h)
 
 value_lacks : (f : List ℕ) (ts : Trees) → all_lack ts ≡ true → lacks (value_of f ts) ≡ true
-value_lacks f ts h = go (takes_first f) (bytes_eq f snd_name) (bytes_eq f verify_name)
+value_lacks f ts h = go (takes_first f) (bytes_eq f snd_name) (bytes_eq f verify_name || bytes_eq f reveal_verify_name)
   where
     go : (one two three : Bool) → lacks (cond one (head_part (parts ts)) (cond two (second_part (parts ts)) (cond three (app0 true_name) (apply f ts)))) ≡ true
     go true two three = head_lacks (parts ts) (parts_lack ts h)
