@@ -9,7 +9,7 @@ use Rattle.sap_read.specs.ItemGrammar.{value, IsBuiltin, AreBuiltins, IsSymbol, 
 use Rattle.sap_read.specs.code.Reading.{Read, Reader, given, name_at}
 use Rattle.sap_read.specs.code.ItemReading.{names, is_encryption, builtin_at, number_at, arity_of_digits, small_value, arity_at, is_private, with_privacy, symbol_at, mapped, is_over, on_read, in_front, whole_list}
 use Rattle.sap_read.proofs.Sound.{Says, OnRead, given_on, if_on, same_bytes, starts_is, name_is}
-use Rattle.sap_read.specs.declared.limits.TheConstants.{MOST_ARITY}
+use Rattle.sap_terms.specs.declared.limits.TheConstants.{MOST_ARITY}
 
 -- What is spelled so is read.
 

@@ -9,7 +9,7 @@ use Rattle.sap_read.specs.Written.{Written}
 use Rattle.sap_read.specs.ProcessGrammar.{IsPar}
 use Rattle.sap_read.specs.Item.{Item, builtins, functions, definition, process, Standing}
 use Rattle.sap_read.specs.Cut.{Placed, words, first_line}
-use Rattle.sap_read.specs.declared.limits.TheConstants.{MOST_ARITY, MOST_PROCESS_LEVELS, MOST_TERM_LEVELS}
+use Rattle.sap_terms.specs.declared.limits.TheConstants.{MOST_ARITY, MOST_PROCESS_LEVELS, MOST_TERM_LEVELS}
 
 -- the number that these digits write
 abbrev pub value_from : ℕ → List ℕ → ℕ

@@ -5,9 +5,8 @@ ghost use Rattle.sap_read.specs.Words.{words_of};
 ghost use Rattle.sap_read.specs.code.ItemReading.{arity_of_digits, arity_at, is_private, with_privacy, is_encryption, builtin_at, symbol_at, declaration_at, whole_list, behind_colon, declared_in};
 ghost use Rattle.sap_read.specs.code.ItemView.{GivesBuiltin, GivesSymbol, GivesDeclaration, GivesDeclarations};
 
-use crate::limits::MOST_ARITY;
 use crate::look::{beyond, is_lower, name_at, names, number_at, starts};
-use sap_terms::{Builtin, Mem, Name, Symbol};
+use sap_terms::{Builtin, MOST_ARITY, Mem, Name, Symbol};
 use sap_text::Token;
 use std::alloc::Global;
 

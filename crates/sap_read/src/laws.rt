@@ -18,7 +18,7 @@ ghost use Rattle.sap_process.specs.Proc.{Proc};
 ghost use Rattle.sap_process.specs.Flaws.{IsFirstFlaw, IsWellFormed};
 ghost use Rattle.sap_process.specs.declared.flaw.Flaw.{Flaw};
 ghost use Rattle.sap_read.specs.declared.fault.ReadFault.{ReadFault};
-ghost use Rattle.sap_read.specs.declared.limits.TheConstants.{MOST_TERM_LEVELS};
+ghost use Rattle.sap_terms.specs.declared.limits.TheConstants.{MOST_TERM_LEVELS};
 
 use sap_process::one_flaw;
 use sap_text::{one_answer, some_answer};

@@ -10,7 +10,7 @@ use Rattle.sap_read.specs.Item.{Declaration, of_builtin, of_symbol}
 use Rattle.sap_read.specs.Cut.{Placed, words, begins_item}
 use Rattle.sap_read.specs.ItemGrammar.{value}
 use Rattle.sap_read.specs.code.Reading.{Read, Reader, given, name_at}
-use Rattle.sap_read.specs.declared.limits.TheConstants.{MOST_ARITY}
+use Rattle.sap_terms.specs.declared.limits.TheConstants.{MOST_ARITY}
 
 -- no item begins here
 abbrev pub goes_on : Placed → Bool

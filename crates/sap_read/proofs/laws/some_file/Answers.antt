@@ -1,4 +1,4 @@
-use Rattle.sap_read.specs.declared.limits.TheConstants.{MOST_FILE_NAME_BYTES}
+use Rattle.sap_terms.specs.declared.limits.TheConstants.{MOST_FILE_NAME_BYTES}
 use Rattle.sap_read.proofs.SomeFile.{some_file}
 use Rattle.sap_read.proofs.laws.some_file.Goals as goal
 
