@@ -8,7 +8,7 @@ use Rattle.std.specs.Prelude.{◌⊎◌}
 use Rattle.std.proofs.Common.{inl, inr}
 use Rattle.sap_terms.specs.Tree.{Tree, variable, public, fresh, apply}
 use Rattle.sap_terms.specs.Signature.{Sig}
-use Rattle.sap_terms.specs.Equations.{Equations, equations, IsInstance, first, second, symmetric, asymmetric, signing}
+use Rattle.sap_terms.specs.Equations.{Equations, equations, IsInstance, first, second, symmetric, asymmetric, signing, revealing, revealed}
 use Rattle.sap_terms.specs.Equal.{same}
 use Rattle.sap_terms.specs.Normal.{IsNormal}
 use Rattle.sap_terms.specs.Message.{IsMessage}
@@ -32,6 +32,8 @@ left-applied second = tt
 left-applied (symmetric h) = tt
 left-applied (asymmetric h) = tt
 left-applied (signing h) = tt
+left-applied (revealing h) = tt
+left-applied (revealed h) = tt
 
 pub fresh-normal : (e : Equations) (n : ℕ) → IsNormal e (fresh n)
 fresh-normal e n = λ b i. left-applied i

@@ -2,7 +2,7 @@
 use Rattle.std.proofs.Common.{◌≡◌, ℕ, List, Bool, true, false, refl}
 use Rattle.sap_terms.specs.Tree.{Tree, variable, public, fresh, apply}
 use Rattle.sap_terms.specs.Signature.{Sig}
-use Rattle.sap_terms.specs.Equations.{Equations, equations, IsInstance, first, second, symmetric, asymmetric, signing}
+use Rattle.sap_terms.specs.Equations.{Equations, equations, IsInstance, first, second, symmetric, asymmetric, signing, revealing, revealed}
 use Rattle.sap_terms.specs.Equal.{IsTheoryEqual, same}
 use Rattle.sap_terms.specs.Normal.{IsNormal}
 use Rattle.sap_terms.specs.declared.var.Sort.TheVariants.{Msg}
@@ -21,6 +21,8 @@ left_sides_apply e t r second = refl
 left_sides_apply e t r (symmetric s) = refl
 left_sides_apply e t r (asymmetric s) = refl
 left_sides_apply e t r (signing s) = refl
+left_sides_apply e t r (revealing s) = refl
+left_sides_apply e t r (revealed s) = refl
 
 pub public_normal : (e : Equations) (n : List ℕ) → IsNormal e (public n)
 public_normal e n r h = let s = left_sides_apply e (public n) r h in cc

@@ -11,7 +11,7 @@ use Rattle.sap_terms.specs.Message.{IsMessage, IsMessageChoice}
 use Rattle.sap_terms.specs.Normal.{IsNoLeftSide, IsNormal, IsNormalForm}
 use Rattle.sap_terms.specs.Same.{same_tree}
 use Rattle.sap_terms.specs.Signature.{Sig, pairs_alone}
-use Rattle.sap_terms.specs.Equations.{Equations, equations, IsInstance, first, second, symmetric, asymmetric, signing, app0, fst_name, snd_name, sdec_name, adec_name, verify_name, true_name, pair_name}
+use Rattle.sap_terms.specs.Equations.{Equations, equations, IsInstance, first, second, symmetric, asymmetric, signing, revealing, revealed, app0, fst_name, snd_name, sdec_name, adec_name, verify_name, reveal_verify_name, get_message_name, true_name, pair_name}
 use Rattle.sap_terms.specs.Tree.{Tree, variable, public, fresh, apply, Trees, none, more}
 use Rattle.sap_terms.specs.declared.var.Sort.{Sort}
 use Rattle.sap_terms.specs.declared.var.Sort.TheVariants.{Msg, Fresh, Pub}
@@ -21,7 +21,7 @@ use Rattle.sap_process.specs.StepExamples.{a, b, pair, first_of_pair, only, just
 -- the symbol at the root heads some left side
 abbrev heads_left_side : Tree → Bool
 heads_left_side (apply f ts) =
-    bytes_eq f fst_name || bytes_eq f snd_name || bytes_eq f sdec_name || bytes_eq f adec_name || bytes_eq f verify_name
+    bytes_eq f fst_name || bytes_eq f snd_name || bytes_eq f sdec_name || bytes_eq f adec_name || bytes_eq f verify_name || bytes_eq f reveal_verify_name || bytes_eq f get_message_name
 heads_left_side t = false
 
 left_sides : (e : Equations) (t r : Tree) → IsInstance e t r → heads_left_side t ≡ true
@@ -30,6 +30,8 @@ left_sides e t r second = refl
 left_sides e t r (symmetric s) = refl
 left_sides e t r (asymmetric s) = refl
 left_sides e t r (signing s) = refl
+left_sides e t r (revealing s) = refl
+left_sides e t r (revealed s) = refl
 
 no_left_side : (e : Equations) (t : Tree) → heads_left_side t ≡ false → IsNoLeftSide e t
 no_left_side e t h r i = let s = left_sides e t r i in cc
@@ -131,13 +133,13 @@ second_part (more t ts) = head_part ts
 second_part none = app0 true_name
 
 abbrev pub takes_first : List ℕ → Bool
-takes_first f = bytes_eq f fst_name || bytes_eq f sdec_name || bytes_eq f adec_name
+takes_first f = bytes_eq f fst_name || bytes_eq f sdec_name || bytes_eq f adec_name || bytes_eq f get_message_name
 
 abbrev pub value_of : List ℕ → Trees → Tree
 value_of f ts =
     if takes_first f then head_part (parts ts)
     else if bytes_eq f snd_name then second_part (parts ts)
-    else if bytes_eq f verify_name then app0 true_name
+    else if bytes_eq f verify_name || bytes_eq f reveal_verify_name then app0 true_name
     else apply f ts
 
 abbrev mutual
@@ -157,6 +159,8 @@ value_left e t r second = refl
 value_left e t r (symmetric s) = refl
 value_left e t r (asymmetric s) = refl
 value_left e t r (signing s) = refl
+value_left e t r (revealing s) = refl
+value_left e t r (revealed s) = refl
 
 mutual
   value_step : {e : Equations} {t u : Tree} → IsStep e t u → value t ≡ value u

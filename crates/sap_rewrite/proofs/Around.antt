@@ -10,7 +10,7 @@ use Rattle.sap_terms.specs.Ground.{IsGround, AreGround}
 use Rattle.sap_terms.specs.Message.{IsMessage, IsOver, AreOver}
 use Rattle.sap_terms.specs.Normal.{IsNormal, AreNormal}
 use Rattle.sap_terms.specs.Signature.{Sig, is_destructor_of}
-use Rattle.sap_terms.specs.Equations.{equations, IsInstance, first, second, symmetric, asymmetric, signing}
+use Rattle.sap_terms.specs.Equations.{equations, IsInstance, first, second, symmetric, asymmetric, signing, revealing, revealed}
 use Rattle.sap_terms.specs.Tree.{Tree, variable, public, fresh, apply, Trees, none, more}
 use Rattle.sap_rewrite.specs.Around.{outer_vars, all_outer_vars, FitsAround, FitAll, HoldsUnder, HoldAll}
 use Rattle.sap_rewrite.specs.Pattern.{IsNormalChoice}
@@ -34,6 +34,8 @@ left_headed g second = refl
 left_headed g (symmetric h) = rw h refl
 left_headed g (asymmetric h) = rw h refl
 left_headed g (signing h) = rw h refl
+left_headed g (revealing h) = rw h refl
+left_headed g (revealed h) = rw h refl
 
 -- a symbol that is no destructor stays
 reduced-kept : (g : Sig) (f : List ℕ) (ts : Trees) → is_destructor_of g f ≡ false → reduced (equations g) f ts ≡ apply f ts

@@ -6,7 +6,7 @@ use Rattle.std.proofs.lemmas.List.Elements.{Contains-push, Contains-append_left,
 use Rattle.std.proofs.lemmas.Option.{same_Some}
 use Rattle.sap_terms.specs.Choice.{Choice, instance, instances}
 use Rattle.sap_terms.specs.Equal.{IsStep, forward, backward, inside, IsStepWithin, here, later, IsTheoryEqual, same, next}
-use Rattle.sap_terms.specs.Equations.{Equations, IsInstance, first, second, symmetric, asymmetric, signing}
+use Rattle.sap_terms.specs.Equations.{Equations, IsInstance, first, second, symmetric, asymmetric, signing, revealing, revealed}
 use Rattle.sap_terms.specs.Normal.{IsNormal, AreNormal, IsNoLeftSide, IsNormalForm}
 use Rattle.sap_terms.specs.Tree.{Tree, variable, public, fresh, apply, Trees, none, more, trees_of}
 use Rattle.sap_terms.specs.Variables.{tree_vars, trees_vars}
@@ -32,6 +32,8 @@ instance-instance e σ second = second
 instance-instance e σ (symmetric h) = symmetric h
 instance-instance e σ (asymmetric h) = asymmetric h
 instance-instance e σ (signing h) = signing h
+instance-instance e σ (revealing h) = revealing h
+instance-instance e σ (revealed h) = revealed h
 
 mutual
   step-instance : (e : Equations) (σ : Choice) {a b : Tree} → IsStep e a b → IsStep e (instance σ a) (instance σ b)

@@ -6,9 +6,9 @@ use Rattle.sap_terms.specs.Ground.{IsGround, AreGround}
 use Rattle.sap_terms.specs.Message.{IsMessage, IsOver, AreOver}
 use Rattle.sap_terms.specs.Normal.{IsNormalForm}
 use Rattle.sap_terms.specs.Signature.{Sig, HoldsBuiltins}
-use Rattle.sap_terms.specs.declared.signature.Builtin.TheVariants.{Signing}
+use Rattle.sap_terms.specs.declared.signature.Builtin.TheVariants.{Signing, RevealingSigning}
 use Rattle.sap_terms.specs.declared.signature.Symbol.{Symbol}
-use Rattle.sap_terms.specs.Equations.{equations, IsInstance, first, second, symmetric, asymmetric, signing}
+use Rattle.sap_terms.specs.Equations.{equations, IsInstance, first, second, symmetric, asymmetric, signing, revealing, revealed}
 use Rattle.sap_terms.specs.Tree.{Tree, variable, public, fresh, apply, Trees, none, more, list_of}
 use Rattle.sap_rewrite.specs.Reduce.{contracted, reduced, nf, nfs}
 use Rattle.sap_rewrite.proofs.NormalForms.{one_normal_form}
@@ -25,6 +25,8 @@ right-closed g h second c = (c.0.0.1.0, c.1.1.0.1.1.0)
 right-closed g h (symmetric on) c = (c.0.0.0, c.1.1.0.1.0)
 right-closed g h (asymmetric on) c = (c.0.0.0, c.1.1.0.1.0)
 right-closed g h (signing on) c = (tt, (ap (option_map (λ (s : Symbol). s.arity)) (h Signing on).1.1.1.0, tt))
+right-closed g h (revealing on) c = (tt, (ap (option_map (λ (s : Symbol). s.arity)) (h RevealingSigning on).1.1.1.1.0, tt))
+right-closed g h (revealed on) c = (c.0.0.0, c.1.1.0.1.0)
 
 reduced-closed : (g : Sig) (f : List ℕ) (ts : Trees) → HoldsBuiltins g → IsClosed g (apply f ts) → IsClosed g (reduced (equations g) f ts)
 reduced-closed g f ts h c = at (contracted (equations g) f ts) refl where

@@ -1,7 +1,7 @@
 -- Each term has exactly one normal form.
 use Rattle.std.proofs.Common.{◌≡◌, ℕ, List, Option, Some, None, unwrap_or, refl, sym, ap, subst, ◌∙◌}
 use Rattle.sap_terms.specs.Tree.{Tree, variable, public, fresh, apply, Trees, none, more}
-use Rattle.sap_terms.specs.Equations.{Equations, IsInstance, first, second, symmetric, asymmetric, signing, true_name}
+use Rattle.sap_terms.specs.Equations.{Equations, IsInstance, first, second, symmetric, asymmetric, signing, revealing, revealed, true_name}
 use Rattle.sap_terms.specs.Equal.{forward, IsTheoryEqual, same, next}
 use Rattle.sap_terms.specs.Normal.{IsNoLeftSide, IsNormal, AreNormal, IsNormalForm}
 use Rattle.sap_rewrite.specs.Reduce.{contracted, reduced, nf, nfs}
@@ -46,6 +46,8 @@ right-normal e second n = n.0.1.1.0
 right-normal e (symmetric h) n = n.0.1.0
 right-normal e (asymmetric h) n = n.0.1.0
 right-normal e (signing h) n = (no_instance e true_name none refl, tt)
+right-normal e (revealing h) n = (no_instance e true_name none refl, tt)
+right-normal e (revealed h) n = n.0.1.0
 
 pub leaf-normal : (e : Equations) (t : Tree) → contracted_tree e t ≡ None → IsNoLeftSide e t
 leaf-normal e t h b i = let c = contracted-complete e i in cc

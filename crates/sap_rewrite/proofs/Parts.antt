@@ -8,8 +8,8 @@ use Rattle.sap_terms.specs.Tree.{Tree, variable, public, fresh, apply, Trees, mo
 use Rattle.sap_terms.specs.View.{tree}
 use Rattle.sap_terms.specs.declared.term.Term.{Term}
 use Rattle.sap_terms.specs.declared.term.Term.TheVariants.{Var, Public, Fresh, App}
-use Rattle.sap_terms.specs.Equations.{Equations, app0, true_name, fst_name, snd_name, sdec_name, adec_name}
-use Rattle.sap_rewrite.specs.Reduce.{guard, or_else, first_part, second_part, opened, opened_by_key, by_part, by_signing, inner_part, place, reduced}
+use Rattle.sap_terms.specs.Equations.{Equations, app0, true_name, pair_name, fst_name, snd_name, sdec_name, adec_name, reveal_sign_name, get_message_name}
+use Rattle.sap_rewrite.specs.Reduce.{guard, or_else, first_part, second_part, opened, opened_by_key, by_part, by_check, inner_part, place, reduced}
 use Rattle.sap_rewrite.proofs.Sound.{first_part-shape, second_part-shape, opened-shape, opened_by_key-shape}
 
 -- there is no part, or it stands at the place
@@ -31,11 +31,12 @@ either (both k r h) a = both k r h
 
 place_agrees : (e : Equations) (f : List ℕ) (ts : Trees) → Agrees ts (place e f ts) (by_part e f ts)
 place_agrees e f ts =
-    either (either (either
-    (guarded ts (bytes_eq f fst_name) _ _ (at_place ts 0 (first_part ts) (λ r h. let s = first_part-shape ts r h in rw s.1 refl)))
+    either (either (either (either
+    (guarded ts (bytes_eq f fst_name) _ _ (at_place ts 0 (first_part pair_name ts) (λ r h. let s = first_part-shape pair_name ts r h in rw s.1 refl)))
     (guarded ts (bytes_eq f snd_name) _ _ (at_place ts 1 (second_part ts) (λ r h. let s = second_part-shape ts r h in rw s.1 refl))))
     (guarded ts (bytes_eq f sdec_name && e.symmetric) _ _ (at_place ts 0 (opened ts) (λ r h. let s = opened-shape ts r h in rw s.1 refl))))
-    (guarded ts (bytes_eq f adec_name && e.asymmetric) _ _ (at_place ts 0 (opened_by_key ts) (λ r h. let s = opened_by_key-shape ts r h in rw s.1 refl)))
+    (guarded ts (bytes_eq f adec_name && e.asymmetric) _ _ (at_place ts 0 (opened_by_key ts) (λ r h. let s = opened_by_key-shape ts r h in rw s.1 refl))))
+    (guarded ts (bytes_eq f get_message_name && e.revealing) _ _ (at_place ts 0 (first_part reveal_sign_name ts) (λ r h. let s = first_part-shape reveal_sign_name ts r h in rw s.1 refl)))
 
 record PartAt (ts : Trees) (o : Option Tree) (k : ℕ) : Type 0 where
   part : Tree
@@ -59,11 +60,11 @@ pub part_left : (e : Equations) (f : List ℕ) (ts : Trees) (k : ℕ) (r : Tree)
 part_left e f ts k r h i =
     let p = part_at (place_agrees e f ts) k h in
     let same : p.part ≡ r = cc (p.taken, i) in
-    sym same ∙ sym (ap (λ o. unwrap_or (or_else o (by_signing e f ts)) (apply f ts)) p.left)
+    sym same ∙ sym (ap (λ o. unwrap_or (or_else o (by_check e f ts)) (apply f ts)) p.left)
 
 -- where there is no place, signatures alone are left
-pub no_part : (e : Equations) (f : List ℕ) (ts : Trees) → place e f ts ≡ None → reduced e f ts ≡ unwrap_or (by_signing e f ts) (apply f ts)
-no_part e f ts h = ap (λ o. unwrap_or (or_else o (by_signing e f ts)) (apply f ts)) (no_part_at (place_agrees e f ts) h)
+pub no_part : (e : Equations) (f : List ℕ) (ts : Trees) → place e f ts ≡ None → reduced e f ts ≡ unwrap_or (by_check e f ts) (apply f ts)
+no_part e f ts h = ap (λ o. unwrap_or (or_else o (by_check e f ts)) (apply f ts)) (no_part_at (place_agrees e f ts) h)
 
 -- a list whose first tree has a part
 pub has_first : (ts : List Tree) (k : ℕ) → IsSome (inner_part (trees_of ts) k) → 0 < length ts
@@ -95,19 +96,19 @@ only_apply (u ∷ us) (Fresh j) k P h s n =
     cc
 
 -- what is left where there is no place and the signature does not hold, and where it does
-pub left_as_is : (e : Equations) (f g : List ℕ) (ts : Trees) (b : Bool) → place e f ts ≡ None → (if b then Some (app0 true_name) else None) ≡ by_signing e f ts → b ≡ false → g ≡ f → apply g ts ≡ reduced e f ts
+pub left_as_is : (e : Equations) (f g : List ℕ) (ts : Trees) (b : Bool) → place e f ts ≡ None → (if b then Some (app0 true_name) else None) ≡ by_check e f ts → b ≡ false → g ≡ f → apply g ts ≡ reduced e f ts
 left_as_is e f g ts b h s t same =
-    let no : by_signing e f ts ≡ None = sym s ∙ ap (λ c. if c then Some (app0 true_name) else None) t in
+    let no : by_check e f ts ≡ None = sym s ∙ ap (λ c. if c then Some (app0 true_name) else None) t in
     ap (λ n. apply n ts) same ∙ sym (no_part e f ts h ∙ ap (λ o. unwrap_or o (apply f ts)) no)
 
 -- the test of a left side, where there is no place
-pub kept : (e : Equations) (f : List ℕ) (ts : Trees) (b : Bool) → place e f ts ≡ None → (if b then Some (app0 true_name) else None) ≡ by_signing e f ts → OnFalse b (reduced e f ts ≡ apply f ts)
+pub kept : (e : Equations) (f : List ℕ) (ts : Trees) (b : Bool) → place e f ts ≡ None → (if b then Some (app0 true_name) else None) ≡ by_check e f ts → OnFalse b (reduced e f ts ≡ apply f ts)
 kept e f ts true h s = tt
 kept e f ts false h s = sym (left_as_is e f f ts false h s refl refl)
 
-pub left_true : (e : Equations) (f : List ℕ) (ts : Trees) (b : Bool) → place e f ts ≡ None → (if b then Some (app0 true_name) else None) ≡ by_signing e f ts → b ≡ true → app0 true_name ≡ reduced e f ts
+pub left_true : (e : Equations) (f : List ℕ) (ts : Trees) (b : Bool) → place e f ts ≡ None → (if b then Some (app0 true_name) else None) ≡ by_check e f ts → b ≡ true → app0 true_name ≡ reduced e f ts
 left_true e f ts b h s t =
-    let there : by_signing e f ts ≡ Some (app0 true_name) = sym s ∙ ap (λ c. if c then Some (app0 true_name) else None) t in
+    let there : by_check e f ts ≡ Some (app0 true_name) = sym s ∙ ap (λ c. if c then Some (app0 true_name) else None) t in
     sym (no_part e f ts h ∙ ap (λ o. unwrap_or o (apply f ts)) there)
 
 pub ruleset part_laws = (has_first, part-of_apply, slice_get_within)

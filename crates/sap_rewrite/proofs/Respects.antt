@@ -1,7 +1,7 @@
 -- Theory-equal terms have the same normal form.
 use Rattle.std.proofs.Common.{◌≡◌, refl, sym, ap, ◌∙◌}
 use Rattle.sap_terms.specs.Tree.{Tree, Trees, more}
-use Rattle.sap_terms.specs.Equations.{Equations, IsInstance, first, second, symmetric, asymmetric, signing}
+use Rattle.sap_terms.specs.Equations.{Equations, IsInstance, first, second, symmetric, asymmetric, signing, revealing, revealed}
 use Rattle.sap_terms.specs.Equal.{IsStep, forward, backward, inside, IsStepWithin, here, later, IsTheoryEqual, same, next}
 use Rattle.sap_rewrite.specs.Reduce.{nf, nfs, reduced}
 use Rattle.sap_terms.specs.code.SameLaws.{same_tree-refl}
@@ -13,6 +13,8 @@ nf-instance e second = refl
 nf-instance e (symmetric {m} {k} h) = rw (h, same_tree-refl) refl
 nf-instance e (asymmetric {m} {k} h) = rw (h, same_tree-refl) refl
 nf-instance e (signing {m} {k} h) = rw (h, same_tree-refl, same_tree-refl) refl
+nf-instance e (revealing {m} {k} h) = rw (h, same_tree-refl, same_tree-refl) refl
+nf-instance e (revealed {m} {k} h) = rw h refl
 
 mutual
   unfolding nf nfs

@@ -4,8 +4,8 @@ use Rattle.std.proofs.lemmas.Option.{option_and_then_some}
 use Rattle.std.proofs.lemmas.Slice.Eq.{bytes_eq-Decides}
 use Rattle.std.specs.Str.{bytes_eq}
 use Rattle.sap_terms.specs.Tree.{Tree, variable, public, fresh, apply, Trees, none, more}
-use Rattle.sap_terms.specs.Equations.{Equations, IsInstance, first, second, symmetric, asymmetric, signing, pair_name, fst_name, snd_name, senc_name, sdec_name, aenc_name, adec_name, pk_name, sign_name, verify_name, true_name, app0, app1, app2}
-use Rattle.sap_rewrite.specs.Reduce.{guard, or_else, args1, args2, args3, under, first_part, second_part, opened, opened_by_key, verified, by_first, by_second, by_symmetric, by_asymmetric, by_signing, contracted}
+use Rattle.sap_terms.specs.Equations.{Equations, IsInstance, first, second, symmetric, asymmetric, signing, revealing, revealed, pair_name, fst_name, snd_name, senc_name, sdec_name, aenc_name, adec_name, pk_name, sign_name, verify_name, reveal_sign_name, reveal_verify_name, get_message_name, true_name, app0, app1, app2}
+use Rattle.sap_rewrite.specs.Reduce.{guard, or_else, args1, args2, args3, under, first_part, second_part, opened, opened_by_key, verified, by_first, by_second, by_symmetric, by_asymmetric, by_signing, by_revealing, by_revealed, by_check, contracted}
 use Rattle.sap_terms.specs.Same.{same_tree}
 use Rattle.sap_terms.specs.code.SameLaws.{same_tree-sound, same_tree-refl, and_left, and_right}
 
@@ -43,13 +43,13 @@ under-shape f (variable v) us h = cc
 under-shape f (public n) us h = cc
 under-shape f (fresh k) us h = cc
 
-pub first_part-shape : (ts : Trees) (r : Tree) → first_part ts ≡ Some r → (y : Tree) × (ts ≡ more (app2 pair_name r y) none)
-first_part-shape ts r h =
+pub first_part-shape : (f : List ℕ) (ts : Trees) (r : Tree) → first_part f ts ≡ Some r → (y : Tree) × (ts ≡ more (app2 f r y) none)
+first_part-shape f ts r h =
     option_and_then_some _ (args1 ts) r h (λ t a h.
-    option_and_then_some _ (under pair_name t) r h (λ us b h.
+    option_and_then_some _ (under f t) r h (λ us b h.
     option_and_then_some _ (args2 us) r h (λ p c h.
     let ts_is = args1-shape ts t a in
-    let t_is = under-shape pair_name t us b in
+    let t_is = under-shape f t us b in
     let us_is = args2-shape us p c in
     (p.1, cc))))
 
@@ -91,16 +91,16 @@ opened_by_key-shape ts r h =
     let k_same = same_tree-sound k p.1 s in
     (p.1, cc)))))))
 
-verified-shape : (ts : Trees) (r : Tree) → verified ts ≡ Some r → (m k : Tree) × (ts ≡ more (app2 sign_name m k) (more m (more (app1 pk_name k) none))) × (r ≡ app0 true_name)
-verified-shape ts r h =
+verified-shape : (f : List ℕ) (ts : Trees) (r : Tree) → verified f ts ≡ Some r → (m k : Tree) × (ts ≡ more (app2 f m k) (more m (more (app1 pk_name k) none))) × (r ≡ app0 true_name)
+verified-shape f ts r h =
     option_and_then_some _ (args3 ts) r h (λ p a h.
-    option_and_then_some _ (under sign_name p.0) r h (λ us b h.
+    option_and_then_some _ (under f p.0) r h (λ us b h.
     option_and_then_some _ (args2 us) r h (λ q c h.
     option_and_then_some _ (under pk_name p.2) r h (λ vs d h.
     option_and_then_some _ (args1 vs) r h (λ k i h.
     guard_some (same_tree q.0 p.1 && same_tree q.1 k) (Some (app0 true_name)) r h (λ s h.
     let ts_is = args3-shape ts p a in
-    let t_is = under-shape sign_name p.0 us b in
+    let t_is = under-shape f p.0 us b in
     let us_is = args2-shape us q c in
     let k_is = under-shape pk_name p.2 vs d in
     let vs_is = args1-shape vs k i in
@@ -113,8 +113,8 @@ module _ (e : Equations) (f : List ℕ) (ts : Trees) (r : Tree) where
   Instance = IsInstance e (apply f ts) r
 
   by_first-sound : by_first f ts ≡ Some r → Instance
-  by_first-sound h = guard_some (bytes_eq f fst_name) (first_part ts) r h (λ b h.
-      let s = first_part-shape ts r h in
+  by_first-sound h = guard_some (bytes_eq f fst_name) (first_part pair_name ts) r h (λ b h.
+      let s = first_part-shape pair_name ts r h in
       rw ((bytes_eq-Decides f fst_name).0 b, s.1) first)
 
   by_second-sound : by_second f ts ≡ Some r → Instance
@@ -136,9 +136,22 @@ module _ (e : Equations) (f : List ℕ) (ts : Trees) (r : Tree) where
   signed m k name shape right on = rw (name, shape, right) (signing on)
 
   by_signing-sound : by_signing e f ts ≡ Some r → Instance
-  by_signing-sound h = guard_some (bytes_eq f verify_name && e.signing) (verified ts) r h (λ b h.
-      let s = verified-shape ts r h in
+  by_signing-sound h = guard_some (bytes_eq f verify_name && e.signing) (verified sign_name ts) r h (λ b h.
+      let s = verified-shape sign_name ts r h in
       signed s.0 s.1 ((bytes_eq-Decides f verify_name).0 (and_left (bytes_eq f verify_name) e.signing b)) s.2 s.3 (and_right (bytes_eq f verify_name) e.signing b))
+
+  checked : (m k : Tree) → f ≡ reveal_verify_name → ts ≡ more (app2 reveal_sign_name m k) (more m (more (app1 pk_name k) none)) → r ≡ app0 true_name → e.revealing ≡ true → Instance
+  checked m k name shape right on = rw (name, shape, right) (revealing on)
+
+  by_revealing-sound : by_revealing e f ts ≡ Some r → Instance
+  by_revealing-sound h = guard_some (bytes_eq f reveal_verify_name && e.revealing) (verified reveal_sign_name ts) r h (λ b h.
+      let s = verified-shape reveal_sign_name ts r h in
+      checked s.0 s.1 ((bytes_eq-Decides f reveal_verify_name).0 (and_left (bytes_eq f reveal_verify_name) e.revealing b)) s.2 s.3 (and_right (bytes_eq f reveal_verify_name) e.revealing b))
+
+  by_revealed-sound : by_revealed e f ts ≡ Some r → Instance
+  by_revealed-sound h = guard_some (bytes_eq f get_message_name && e.revealing) (first_part reveal_sign_name ts) r h (λ b h.
+      let s = first_part-shape reveal_sign_name ts r h in
+      rw ((bytes_eq-Decides f get_message_name).0 (and_left (bytes_eq f get_message_name) e.revealing b), s.1) (revealed (and_right (bytes_eq f get_message_name) e.revealing b)))
 
   pub contracted-sound : contracted e f ts ≡ Some r → Instance
   contracted-sound h =
@@ -146,13 +159,15 @@ module _ (e : Equations) (f : List ℕ) (ts : Trees) (r : Tree) where
       let b = or_else a (by_second f ts) in
       let c = or_else b (by_symmetric e f ts) in
       let d = or_else c (by_asymmetric e f ts) in
-      or_else_some d (by_signing e f ts) r h (λ h.
+      or_else_some (or_else d (by_revealed e f ts)) (by_check e f ts) r h (λ h.
+      or_else_some d (by_revealed e f ts) r h (λ h.
       or_else_some c (by_asymmetric e f ts) r h (λ h.
       or_else_some b (by_symmetric e f ts) r h (λ h.
       or_else_some a (by_second f ts) r h by_first-sound by_second-sound)
       by_symmetric-sound)
       by_asymmetric-sound)
-      by_signing-sound
+      by_revealed-sound)
+      (λ h. or_else_some (by_signing e f ts) (by_revealing e f ts) r h by_signing-sound by_revealing-sound)
 
 -- the contraction of a whole tree
 abbrev pub contracted_tree : Equations → Tree → Option Tree
@@ -167,3 +182,5 @@ contracted-complete e second = refl
 contracted-complete e (symmetric {m} {k} h) = rw (h, same_tree-refl) refl
 contracted-complete e (asymmetric {m} {k} h) = rw (h, same_tree-refl) refl
 contracted-complete e (signing {m} {k} h) = rw (h, same_tree-refl, same_tree-refl) refl
+contracted-complete e (revealing {m} {k} h) = rw (h, same_tree-refl, same_tree-refl) refl
+contracted-complete e (revealed {m} {k} h) = rw h refl

@@ -3,7 +3,7 @@ use Rattle.std.specs.Prelude.{ℕ, List, Bool, true, false, ◌&&◌, Option, So
 use Rattle.std.specs.Str.{bytes_eq}
 use Rattle.sap_terms.specs.Same.{same_tree}
 use Rattle.sap_terms.specs.Tree.{Tree, variable, public, fresh, apply, Trees, none, more, list_of}
-use Rattle.sap_terms.specs.Equations.{Equations, pair_name, fst_name, snd_name, senc_name, sdec_name, aenc_name, adec_name, pk_name, sign_name, verify_name, true_name, app0}
+use Rattle.sap_terms.specs.Equations.{Equations, pair_name, fst_name, snd_name, senc_name, sdec_name, aenc_name, adec_name, pk_name, sign_name, verify_name, reveal_sign_name, reveal_verify_name, get_message_name, true_name, app0}
 
 infixl 10 ◌>>=◌
 -- the one step, and then the other
@@ -38,15 +38,15 @@ abbrev pub under : List ℕ → Tree → Option Trees
 under f (apply g ts) = guard (bytes_eq g f) (Some ts)
 under f _ = None
 
--- the first part of a pair
-abbrev pub first_part : Trees → Option Tree
-first_part ts = do
+-- the first of the two trees under a symbol of this name
+abbrev pub first_part : List ℕ → Trees → Option Tree
+first_part name ts = do
   t ← args1 ts
-  us ← under pair_name t
+  us ← under name t
   p ← args2 us
   Some p.0
 
--- its second part
+-- the second part of a pair
 abbrev pub second_part : Trees → Option Tree
 second_part ts = do
   t ← args1 ts
@@ -72,11 +72,11 @@ opened_by_key ts = do
   k ← args1 vs
   guard (same_tree k p.1) (Some q.0)
 
--- true, where the signature is of this message by this key
-abbrev pub verified : Trees → Option Tree
-verified ts = do
+-- true, where the signature, which a symbol of this name makes, is of this message by this key
+abbrev pub verified : List ℕ → Trees → Option Tree
+verified name ts = do
   p ← args3 ts
-  us ← under sign_name p.0
+  us ← under name p.0
   q ← args2 us
   vs ← under pk_name p.2
   k ← args1 vs
@@ -84,7 +84,7 @@ verified ts = do
 
 -- what each equation makes of a symbol on trees
 abbrev pub by_first : List ℕ → Trees → Option Tree
-by_first f ts = guard (bytes_eq f fst_name) (first_part ts)
+by_first f ts = guard (bytes_eq f fst_name) (first_part pair_name ts)
 
 abbrev pub by_second : List ℕ → Trees → Option Tree
 by_second f ts = guard (bytes_eq f snd_name) (second_part ts)
@@ -96,15 +96,25 @@ abbrev pub by_asymmetric : Equations → List ℕ → Trees → Option Tree
 by_asymmetric e f ts = guard (bytes_eq f adec_name && e.asymmetric) (opened_by_key ts)
 
 abbrev pub by_signing : Equations → List ℕ → Trees → Option Tree
-by_signing e f ts = guard (bytes_eq f verify_name && e.signing) (verified ts)
+by_signing e f ts = guard (bytes_eq f verify_name && e.signing) (verified sign_name ts)
+
+abbrev pub by_revealing : Equations → List ℕ → Trees → Option Tree
+by_revealing e f ts = guard (bytes_eq f reveal_verify_name && e.revealing) (verified reveal_sign_name ts)
+
+abbrev pub by_revealed : Equations → List ℕ → Trees → Option Tree
+by_revealed e f ts = guard (bytes_eq f get_message_name && e.revealing) (first_part reveal_sign_name ts)
 
 -- the part of the first argument that an equation leaves
 abbrev pub by_part : Equations → List ℕ → Trees → Option Tree
-by_part e f ts = or_else (or_else (or_else (by_first f ts) (by_second f ts)) (by_symmetric e f ts)) (by_asymmetric e f ts)
+by_part e f ts = or_else (or_else (or_else (or_else (by_first f ts) (by_second f ts)) (by_symmetric e f ts)) (by_asymmetric e f ts)) (by_revealed e f ts)
+
+-- true, where a check of a signature holds
+abbrev pub by_check : Equations → List ℕ → Trees → Option Tree
+by_check e f ts = or_else (by_signing e f ts) (by_revealing e f ts)
 
 -- the right side of the equation whose left side the symbol on these trees is
 abbrev pub contracted : Equations → List ℕ → Trees → Option Tree
-contracted e f ts = or_else (by_part e f ts) (by_signing e f ts)
+contracted e f ts = or_else (by_part e f ts) (by_check e f ts)
 
 -- the symbol on these trees, which are normal, made normal
 abbrev pub reduced : Equations → List ℕ → Trees → Tree
@@ -131,7 +141,8 @@ inner_part _ k = None
 -- the place of the part that an equation leaves
 abbrev pub place : Equations → List ℕ → Trees → Option ℕ
 place e f ts =
-    or_else (or_else (or_else (guard (bytes_eq f fst_name) (option_map (λ _. 0) (first_part ts)))
+    or_else (or_else (or_else (or_else (guard (bytes_eq f fst_name) (option_map (λ _. 0) (first_part pair_name ts)))
     (guard (bytes_eq f snd_name) (option_map (λ _. 1) (second_part ts))))
     (guard (bytes_eq f sdec_name && e.symmetric) (option_map (λ _. 0) (opened ts))))
-    (guard (bytes_eq f adec_name && e.asymmetric) (option_map (λ _. 0) (opened_by_key ts)))
+    (guard (bytes_eq f adec_name && e.asymmetric) (option_map (λ _. 0) (opened_by_key ts))))
+    (guard (bytes_eq f get_message_name && e.revealing) (option_map (λ _. 0) (first_part reveal_sign_name ts)))

@@ -4,7 +4,7 @@ ghost use Rattle.std.specs.Bool.{OnFalse};
 ghost use Rattle.sap_terms.specs.View.{tree};
 ghost use Rattle.sap_terms.specs.Tree.{apply, trees_of};
 ghost use Rattle.sap_terms.specs.Equations.{equations, app0, true_name};
-ghost use Rattle.sap_rewrite.specs.Reduce.{inner_part, place, by_signing, reduced};
+ghost use Rattle.sap_rewrite.specs.Reduce.{inner_part, place, by_signing, by_revealing, by_check, reduced};
 
 use crate::lends::Lends;
 use crate::shape::{first_part, opened, opened_by_key, second_part, verifies};
@@ -16,13 +16,15 @@ pub(crate) fn place_of_part<L: Lends>(sig: &Signature, f: &Name, args: &L) -> Op
     ensures { result ≡ place (equations sig.now) f.now (trees_of (L.lent args.now)) }
 {
     if f.is(b"fst") {
-        first_part(args).map(|_| 0)
+        first_part(b"pair", args).map(|_| 0)
     } else if f.is(b"snd") {
         second_part(args).map(|_| 1)
     } else if f.is(b"sdec") && sig.has(Builtin::Symmetric) {
         opened(args).map(|_| 0)
     } else if f.is(b"adec") && sig.has(Builtin::Asymmetric) {
         opened_by_key(args).map(|_| 0)
+    } else if f.is(b"getMessage") && sig.has(Builtin::RevealingSigning) {
+        first_part(b"revealSign", args).map(|_| 0)
     } else {
         None
     }
@@ -40,11 +42,30 @@ fn into_part(args: TermList, k: u64) -> Term
     }
 }
 
-// Whether the symbol on these terms is a check of a signature that holds.
-pub(crate) fn is_verified<L: Lends>(sig: &Signature, f: &Name, args: &L) -> bool
+// Whether the symbol on these terms is `verify` and holds.
+fn is_signed<L: Lends>(sig: &Signature, f: &Name, args: &L) -> bool
     ensures { (if result then Some (app0 true_name) else None) ≡ by_signing (equations sig.now) f.now (trees_of (L.lent args.now)) }
 {
-    f.is(b"verify") && sig.has(Builtin::Signing) && verifies(args).is_some()
+    f.is(b"verify") && sig.has(Builtin::Signing) && verifies(b"sign", args).is_some()
+}
+
+// Whether it is `revealVerify` and holds.
+fn is_openly_signed<L: Lends>(sig: &Signature, f: &Name, args: &L) -> bool
+    ensures { (if result then Some (app0 true_name) else None) ≡ by_revealing (equations sig.now) f.now (trees_of (L.lent args.now)) }
+{
+    f.is(b"revealVerify")
+        && sig.has(Builtin::RevealingSigning)
+        && verifies(b"revealSign", args).is_some()
+}
+
+// Whether the symbol on these terms is a check of a signature that holds.
+pub(crate) fn is_verified<L: Lends>(sig: &Signature, f: &Name, args: &L) -> bool
+    ensures { (if result then Some (app0 true_name) else None) ≡ by_check (equations sig.now) f.now (trees_of (L.lent args.now)) }
+{
+    if is_signed(sig, f, args) {
+        return true;
+    }
+    is_openly_signed(sig, f, args)
 }
 
 // The constant that a check of a signature gives where it holds.

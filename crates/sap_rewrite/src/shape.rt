@@ -52,11 +52,11 @@ fn under<'a>(name: &[u8], t: &'a Term) -> Option<&'a TermList>
     }
 }
 
-// The first part of a pair.
-pub(crate) fn first_part<L: Lends>(ts: &L) -> Option<&Term>
-    ensures { option_map tree (option_copied result) ≡ first_part (trees_of (L.lent ts.now)) }
+// The first of the two terms under a symbol of this name.
+pub(crate) fn first_part<'a, L: Lends>(name: &[u8], ts: &'a L) -> Option<&'a Term>
+    ensures { option_map tree (option_copied result) ≡ first_part name.now (trees_of (L.lent ts.now)) }
 {
-    let (a, _) = two(under(b"pair", one(ts)?)?)?;
+    let (a, _) = two(under(name, one(ts)?)?)?;
     Some(a)
 }
 
@@ -87,12 +87,12 @@ pub(crate) fn opened_by_key<L: Lends>(ts: &L) -> Option<&Term>
     if own.same(key) { Some(message) } else { None }
 }
 
-// Whether the signature is one of the message by the key whose public key is given.
-pub(crate) fn verifies<L: Lends>(ts: &L) -> Option<()>
-    ensures { option_map (λ _. app0 true_name) result ≡ verified (trees_of (L.lent ts.now)) }
+// Whether the signature, which a symbol of this name makes, is one of the message by the key whose public key is given.
+pub(crate) fn verifies<L: Lends>(name: &[u8], ts: &L) -> Option<()>
+    ensures { option_map (λ _. app0 true_name) result ≡ verified name.now (trees_of (L.lent ts.now)) }
 {
     let (signed, claimed, public) = three(ts)?;
-    let (message, own) = two(under(b"sign", signed)?)?;
+    let (message, own) = two(under(name, signed)?)?;
     let key = one(under(b"pk", public)?)?;
     if message.same(claimed) && own.same(key) {
         Some(())

@@ -1,7 +1,7 @@
 -- Variables and names are normal, and names are messages.
 use Rattle.std.proofs.Common.{ℕ, List, IsTrue}
 use Rattle.sap_terms.specs.Choice.{fits_sort}
-use Rattle.sap_terms.specs.Equations.{Equations, equations, IsInstance, first, second, symmetric, asymmetric, signing, IsDestructor}
+use Rattle.sap_terms.specs.Equations.{Equations, equations, IsInstance, first, second, symmetric, asymmetric, signing, revealing, revealed, IsDestructor}
 use Rattle.sap_terms.specs.Laws.{NamesAreMessages, LeavesAreNormal}
 use Rattle.sap_terms.specs.Message.{IsMessage}
 use Rattle.sap_terms.specs.Normal.{IsNormal}
@@ -22,6 +22,8 @@ left-applied second = tt
 left-applied (symmetric h) = tt
 left-applied (asymmetric h) = tt
 left-applied (signing h) = tt
+left-applied (revealing h) = tt
+left-applied (revealed h) = tt
 
 pub leaves_normal : LeavesAreNormal
 leaves_normal = record {

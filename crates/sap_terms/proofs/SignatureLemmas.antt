@@ -9,8 +9,8 @@ use Rattle.sap_terms.specs.declared.signature.Symbol.{Symbol}
 use Rattle.sap_terms.specs.Tree.{Tree, apply, none, more}
 use Rattle.sap_terms.specs.Signature.{Sig, find_symbol, IsMap, declared, declared_all, is_destructor_of, first_clash, is_held_otherwise, same_bool, added, HoldsSymbols, HoldsBuiltins, has_builtin, builtin_symbols}
 use Rattle.sap_terms.specs.declared.signature.Builtin.{Builtin}
-use Rattle.sap_terms.specs.declared.signature.Builtin.TheVariants.{Hashing, Symmetric, Asymmetric, Signing}
-use Rattle.sap_terms.specs.Equations.{equations, IsInstance, first, second, symmetric, asymmetric, signing, IsDestructor, app0, app1, app2, pair_name, fst_name, snd_name, senc_name, sdec_name, aenc_name, adec_name, pk_name, sign_name, verify_name, true_name}
+use Rattle.sap_terms.specs.declared.signature.Builtin.TheVariants.{Hashing, Symmetric, Asymmetric, Signing, RevealingSigning}
+use Rattle.sap_terms.specs.Equations.{equations, IsInstance, first, second, symmetric, asymmetric, signing, revealing, revealed, IsDestructor, app0, app1, app2, pair_name, fst_name, snd_name, senc_name, sdec_name, aenc_name, adec_name, pk_name, sign_name, verify_name, reveal_sign_name, reveal_verify_name, get_message_name, true_name}
 use Rattle.sap_terms.specs.code.SameLaws.{and_left, and_right, same_name}
 
 -- names that differ differ the other way round
@@ -157,12 +157,14 @@ HoldsBuiltins-push g x h Hashing b = held-kept g.symbols _ (builtin_symbols Hash
 HoldsBuiltins-push g x h Symmetric b = held-kept g.symbols _ (builtin_symbols Symmetric) (find-kept_push g.symbols x) (h Symmetric b)
 HoldsBuiltins-push g x h Asymmetric b = held-kept g.symbols _ (builtin_symbols Asymmetric) (find-kept_push g.symbols x) (h Asymmetric b)
 HoldsBuiltins-push g x h Signing b = held-kept g.symbols _ (builtin_symbols Signing) (find-kept_push g.symbols x) (h Signing b)
+HoldsBuiltins-push g x h RevealingSigning b = held-kept g.symbols _ (builtin_symbols RevealingSigning) (find-kept_push g.symbols x) (h RevealingSigning b)
 
 builtin_map : (b : Builtin) → IsMap (builtin_symbols b)
 builtin_map Hashing = (refl, tt)
 builtin_map Symmetric = (refl, (refl, tt))
 builtin_map Asymmetric = (refl, (refl, (refl, tt)))
 builtin_map Signing = (refl, (refl, (refl, (refl, tt))))
+builtin_map RevealingSigning = (refl, (refl, (refl, (refl, (refl, tt)))))
 
 -- a builtin's symbols are held once it is added, and those of the others stay held
 pub HoldsBuiltins-added : (g : Sig) (b : Builtin) → HoldsBuiltins g → first_clash g.symbols (builtin_symbols b) ≡ None → HoldsBuiltins (added g b)
@@ -178,18 +180,27 @@ HoldsBuiltins-added g b h f c t = at b c f t where
   at Hashing Symmetric f t = old Hashing Symmetric t
   at Hashing Asymmetric f t = old Hashing Asymmetric t
   at Hashing Signing f t = old Hashing Signing t
+  at Hashing RevealingSigning f t = old Hashing RevealingSigning t
   at Symmetric Hashing f t = old Symmetric Hashing t
   at Symmetric Symmetric f t = new Symmetric f
   at Symmetric Asymmetric f t = old Symmetric Asymmetric t
   at Symmetric Signing f t = old Symmetric Signing t
+  at Symmetric RevealingSigning f t = old Symmetric RevealingSigning t
   at Asymmetric Hashing f t = old Asymmetric Hashing t
   at Asymmetric Symmetric f t = old Asymmetric Symmetric t
   at Asymmetric Asymmetric f t = new Asymmetric f
   at Asymmetric Signing f t = old Asymmetric Signing t
+  at Asymmetric RevealingSigning f t = old Asymmetric RevealingSigning t
   at Signing Hashing f t = old Signing Hashing t
   at Signing Symmetric f t = old Signing Symmetric t
   at Signing Asymmetric f t = old Signing Asymmetric t
   at Signing Signing f t = new Signing f
+  at Signing RevealingSigning f t = old Signing RevealingSigning t
+  at RevealingSigning Hashing f t = old RevealingSigning Hashing t
+  at RevealingSigning Symmetric f t = old RevealingSigning Symmetric t
+  at RevealingSigning Asymmetric f t = old RevealingSigning Asymmetric t
+  at RevealingSigning Signing f t = old RevealingSigning Signing t
+  at RevealingSigning RevealingSigning f t = new RevealingSigning f
 
 drop_got : {X : Type 0} (xs : List X) (k : ℕ) (x : X) → slice_get xs k ≡ Some x → drop k xs ≡ x ∷ drop (k + 1) xs
 drop_got {X} xs k x h = rw add-one (at xs k h) where
@@ -209,12 +220,14 @@ or_true : {P : Type 0} (a b : Bool) → (a || b) ≡ true → (a ≡ true → P)
 or_true true b h k l = k refl
 or_true false b h k l = l h
 
--- a name that one of the five tests takes heads a left side
+-- a name that one of the seven tests takes heads a left side
 pub heads : (g : Sig) (f : List ℕ) → is_destructor_of g f ≡ true → IsDestructor (equations g) f
 heads g f h =
     let e = equations g in
     let leaf = app0 true_name in
     let is : (n : List ℕ) → bytes_eq f n ≡ true → IsDestructor e n → IsDestructor e f = λ n t d. subst (λ m. IsDestructor e m) (sym ((bytes_eq-Decides f n).0 t)) d in
+    or_true _ (bytes_eq f get_message_name && g.builtins.revealing) h (λ h.
+    or_true _ (bytes_eq f reveal_verify_name && g.builtins.revealing) h (λ h.
     or_true _ (bytes_eq f verify_name && g.builtins.signing) h (λ h.
     or_true _ (bytes_eq f adec_name && g.builtins.asymmetric) h (λ h.
     or_true _ (bytes_eq f sdec_name && g.builtins.symmetric) h (λ h.
@@ -223,7 +236,9 @@ heads g f h =
     (λ h. is snd_name h (record { args = more (app2 pair_name leaf leaf) none; right = leaf; is_left = second })))
     (λ h. is sdec_name (and_left _ _ h) (record { args = more (app2 senc_name leaf leaf) (more leaf none); right = leaf; is_left = symmetric (and_right _ _ h) })))
     (λ h. is adec_name (and_left _ _ h) (record { args = more (app2 aenc_name leaf (app1 pk_name leaf)) (more leaf none); right = leaf; is_left = asymmetric (and_right _ _ h) })))
-    (λ h. is verify_name (and_left _ _ h) (record { args = more (app2 sign_name leaf leaf) (more leaf (more (app1 pk_name leaf) none)); right = leaf; is_left = signing (and_right _ _ h) }))
+    (λ h. is verify_name (and_left _ _ h) (record { args = more (app2 sign_name leaf leaf) (more leaf (more (app1 pk_name leaf) none)); right = leaf; is_left = signing (and_right _ _ h) })))
+    (λ h. is reveal_verify_name (and_left _ _ h) (record { args = more (app2 reveal_sign_name leaf leaf) (more leaf (more (app1 pk_name leaf) none)); right = leaf; is_left = revealing (and_right _ _ h) })))
+    (λ h. is get_message_name (and_left _ _ h) (record { args = more (app2 reveal_sign_name leaf leaf) none; right = leaf; is_left = revealed (and_right _ _ h) }))
 
 head_test : Sig → Tree → Bool
 head_test g (apply f ts) = is_destructor_of g f
@@ -236,8 +251,10 @@ left_head g _ _ second = refl
 left_head g _ _ (symmetric h) = rw h refl
 left_head g _ _ (asymmetric h) = rw h refl
 left_head g _ _ (signing h) = rw h refl
+left_head g _ _ (revealing h) = rw h refl
+left_head g _ _ (revealed h) = rw h refl
 
--- and what heads a left side one of the five tests takes
+-- and what heads a left side one of the seven tests takes
 pub heads-back : (g : Sig) (f : List ℕ) → IsDestructor (equations g) f → is_destructor_of g f ≡ true
 unfolding head_test
 heads-back g f d = left_head g (apply f d.args) d.right d.is_left

@@ -1,22 +1,18 @@
 -- The equations that a signature switches on, and their instances.
 use Rattle.std.specs.Prelude.{ℕ, List, Bool, IsTrue, codes}
 use Rattle.sap_terms.specs.Signature.{Sig}
+use Rattle.sap_terms.specs.declared.builtins.Builtins.{Builtins}
 use Rattle.sap_terms.specs.Tree.{Tree, Trees, apply, none, more}
 
--- which equations hold beside those of pairs
-pub record Equations : Type 0 where
-  pub symmetric : Bool
-  pub asymmetric : Bool
-  pub signing : Bool
+-- which equations hold beside those of pairs, by the builtins that bring them
+abbrev pub Equations : Type 0
+Equations = Builtins
 
 -- a signature's equations are those of the builtins that were added to it
 abbrev pub equations : Sig → Equations
-equations g = record {
-  symmetric = g.builtins.symmetric;
-  asymmetric = g.builtins.asymmetric;
-  signing = g.builtins.signing;
-}
+equations g = g.builtins
 
+-- the names of the symbols that equations speak of
 abbrev pub pair_name : List ℕ
 pair_name = codes "pair"
 
@@ -47,6 +43,15 @@ sign_name = codes "sign"
 abbrev pub verify_name : List ℕ
 verify_name = codes "verify"
 
+abbrev pub reveal_sign_name : List ℕ
+reveal_sign_name = codes "revealSign"
+
+abbrev pub reveal_verify_name : List ℕ
+reveal_verify_name = codes "revealVerify"
+
+abbrev pub get_message_name : List ℕ
+get_message_name = codes "getMessage"
+
 abbrev pub true_name : List ℕ
 true_name = codes "true"
 
@@ -64,13 +69,16 @@ abbrev pub app3 : List ℕ → Tree → Tree → Tree → Tree
 app3 f a b c = apply f (more a (more b (more c none)))
 
 -- the two trees are the left side and the right side of one equation, with terms for its letters:
--- fst(<x,y>) = x, snd(<x,y>) = y, sdec(senc(m,k),k) = m, adec(aenc(m,pk(k)),k) = m, verify(sign(m,k),m,pk(k)) = true
+-- fst(<x,y>) = x, snd(<x,y>) = y, sdec(senc(m,k),k) = m, adec(aenc(m,pk(k)),k) = m, verify(sign(m,k),m,pk(k)) = true,
+-- revealVerify(revealSign(m,k),m,pk(k)) = true, getMessage(revealSign(m,k)) = m
 pub data IsInstance (e : Equations) : Tree → Tree → Type 0 where
   first : {x y : Tree} → IsInstance e (app1 fst_name (app2 pair_name x y)) x
   second : {x y : Tree} → IsInstance e (app1 snd_name (app2 pair_name x y)) y
   symmetric : {m k : Tree} → IsTrue e.symmetric → IsInstance e (app2 sdec_name (app2 senc_name m k) k) m
   asymmetric : {m k : Tree} → IsTrue e.asymmetric → IsInstance e (app2 adec_name (app2 aenc_name m (app1 pk_name k)) k) m
   signing : {m k : Tree} → IsTrue e.signing → IsInstance e (app3 verify_name (app2 sign_name m k) m (app1 pk_name k)) (app0 true_name)
+  revealing : {m k : Tree} → IsTrue e.revealing → IsInstance e (app3 reveal_verify_name (app2 reveal_sign_name m k) m (app1 pk_name k)) (app0 true_name)
+  revealed : {m k : Tree} → IsTrue e.revealing → IsInstance e (app1 get_message_name (app2 reveal_sign_name m k)) m
 
 -- the symbol heads the left side of an equation
 pub record IsDestructor (e : Equations) (f : List ℕ) : Type 0 where

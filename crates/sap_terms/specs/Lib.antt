@@ -1,6 +1,7 @@
 pub mod Tree
 pub mod View
 pub mod Falls
+pub mod Subterms
 pub mod Ground
 pub mod Choice
 pub mod Subst

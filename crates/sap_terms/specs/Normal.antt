@@ -1,20 +1,8 @@
 -- Normal terms.
-use Rattle.sap_terms.specs.Tree.{Tree, variable, public, fresh, apply, Trees, none, more}
+pub use Rattle.sap_terms.specs.Subterms.{EachSubterm, EachSubtermWithin}
+use Rattle.sap_terms.specs.Tree.{Tree, Trees}
 use Rattle.sap_terms.specs.Equations.{Equations, IsInstance}
 use Rattle.sap_terms.specs.Equal.{IsTheoryEqual}
-
-abbrev mutual
-  -- the fact holds of each subterm, the tree itself included
-  pub EachSubterm : (Tree → Type 0) → Tree → Type 0
-  EachSubterm P (variable v) = P (variable v)
-  EachSubterm P (public n) = P (public n)
-  EachSubterm P (fresh k) = P (fresh k)
-  EachSubterm P (apply f ts) = P (apply f ts) × EachSubtermWithin P ts
-
-  -- of each subterm of these
-  pub EachSubtermWithin : (Tree → Type 0) → Trees → Type 0
-  EachSubtermWithin P none = Unit {0}
-  EachSubtermWithin P (more t ts) = EachSubterm P t × EachSubtermWithin P ts
 
 -- the tree is an instance of no equation's left side
 abbrev pub IsNoLeftSide : Equations → Tree → Type 0

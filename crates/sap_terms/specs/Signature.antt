@@ -4,27 +4,26 @@ use Rattle.std.specs.Option.{option_map_or}
 use Rattle.std.specs.Str.{bytes_eq}
 use Rattle.sap_terms.specs.Named.{first_named}
 use Rattle.sap_terms.specs.declared.signature.Symbol.{Symbol}
+use Rattle.sap_terms.specs.declared.builtins.Builtins.{Builtins}
 use Rattle.sap_terms.specs.declared.signature.Builtin.{Builtin}
-use Rattle.sap_terms.specs.declared.signature.Builtin.TheVariants.{Hashing, Symmetric, Asymmetric, Signing}
-
--- which builtins were added
-pub record Builtins : Type 0 where
-  pub hashing : Bool
-  pub symmetric : Bool
-  pub asymmetric : Bool
-  pub signing : Bool
+use Rattle.sap_terms.specs.declared.signature.Builtin.TheVariants.{Hashing, Symmetric, Asymmetric, Signing, RevealingSigning}
 
 -- a finite map from names to symbols, in order of first declaration, and the builtins that were added
 pub record Sig : Type 0 where
   pub symbols : List Symbol
   pub builtins : Builtins
 
+-- the builtin is one of these
+abbrev pub holds : Builtins → Builtin → Bool
+holds bs Hashing = bs.hashing
+holds bs Symmetric = bs.symmetric
+holds bs Asymmetric = bs.asymmetric
+holds bs Signing = bs.signing
+holds bs RevealingSigning = bs.revealing
+
 -- the builtin was added
 abbrev pub has_builtin : Sig → Builtin → Bool
-has_builtin g Hashing = g.builtins.hashing
-has_builtin g Symmetric = g.builtins.symmetric
-has_builtin g Asymmetric = g.builtins.asymmetric
-has_builtin g Signing = g.builtins.signing
+has_builtin g b = holds g.builtins b
 
 -- the held symbol of this name
 abbrev pub find_symbol : List Symbol → List ℕ → Option Symbol
@@ -54,7 +53,7 @@ declared ss n a p = if is_some (find_symbol ss n) then ss else ss ++ record { na
 -- the name heads the left side of an equation of pairs or of an added builtin
 abbrev pub is_destructor_of : Sig → List ℕ → Bool
 is_destructor_of g n =
-    bytes_eq n (codes "fst") || bytes_eq n (codes "snd") || (bytes_eq n (codes "sdec") && g.builtins.symmetric) || (bytes_eq n (codes "adec") && g.builtins.asymmetric) || (bytes_eq n (codes "verify") && g.builtins.signing)
+    bytes_eq n (codes "fst") || bytes_eq n (codes "snd") || (bytes_eq n (codes "sdec") && g.builtins.symmetric) || (bytes_eq n (codes "adec") && g.builtins.asymmetric) || (bytes_eq n (codes "verify") && g.builtins.signing) || (bytes_eq n (codes "revealVerify") && g.builtins.revealing) || (bytes_eq n (codes "getMessage") && g.builtins.revealing)
 
 -- a public symbol of this name and arity
 abbrev public_symbol : List ℕ → ℕ → Symbol
@@ -67,6 +66,8 @@ builtin_symbols Symmetric = public_symbol (codes "senc") 2 ∷ public_symbol (co
 builtin_symbols Asymmetric = public_symbol (codes "aenc") 2 ∷ public_symbol (codes "adec") 2 ∷ public_symbol (codes "pk") 1 ∷ []
 builtin_symbols Signing =
     public_symbol (codes "sign") 2 ∷ public_symbol (codes "verify") 3 ∷ public_symbol (codes "pk") 1 ∷ public_symbol (codes "true") 0 ∷ []
+builtin_symbols RevealingSigning =
+    public_symbol (codes "revealSign") 2 ∷ public_symbol (codes "revealVerify") 3 ∷ public_symbol (codes "getMessage") 1 ∷ public_symbol (codes "pk") 1 ∷ public_symbol (codes "true") 0 ∷ []
 
 -- these symbols, one after another, each unless its name is held
 abbrev pub declared_all : List Symbol → List Symbol → List Symbol
@@ -98,6 +99,7 @@ with_builtin s Hashing = record s { hashing = true }
 with_builtin s Symmetric = record s { symmetric = true }
 with_builtin s Asymmetric = record s { asymmetric = true }
 with_builtin s Signing = record s { signing = true }
+with_builtin s RevealingSigning = record s { revealing = true }
 
 -- the signature with a builtin's symbols and its equations
 abbrev pub added : Sig → Builtin → Sig
@@ -115,9 +117,13 @@ HoldsSymbols ss (x ∷ xs) = (find_symbol ss x.name ≡ Some x) × HoldsSymbols 
 abbrev pub HoldsBuiltins : Sig → Type 0
 HoldsBuiltins g = (b : Builtin) → has_builtin g b ≡ true → HoldsSymbols g.symbols (builtin_symbols b)
 
+-- none of the builtins
+abbrev pub no_builtins : Builtins
+no_builtins = record { hashing = false; symmetric = false; asymmetric = false; signing = false; revealing = false }
+
 -- pairs alone: what every signature begins with
 abbrev pub pairs_alone : Sig
 pairs_alone = record {
   symbols = public_symbol (codes "pair") 2 ∷ public_symbol (codes "fst") 1 ∷ public_symbol (codes "snd") 1 ∷ [];
-  builtins = record { hashing = false; symmetric = false; asymmetric = false; signing = false };
+  builtins = no_builtins;
 }

@@ -5,6 +5,7 @@ use Rattle.sap_terms.specs.Tree.{Tree, variable, public, fresh, apply, trees_of,
 use Rattle.sap_terms.specs.declared.term.Term.{Term}
 use Rattle.sap_terms.specs.declared.term.Term.TheVariants.{Var, Public, Fresh, App}
 
+-- the tree of the term
 abbrev pub tree : Term → Tree
 tree (Var v) = variable v
 tree (Public n) = public n

@@ -2,6 +2,7 @@
 #![tactic(auto)]
 
 mod binding;
+mod builtins;
 mod fact;
 mod items;
 mod laws;
@@ -19,6 +20,7 @@ mod term_tests;
 mod var;
 
 pub use binding::{Binding, Bindings};
+pub use builtins::Builtins;
 pub use fact::{Fact, FactList, Trace};
 pub use items::{Copied, Items, Numbers};
 pub use laws::{destructors_head_left_sides, leaves_are_normal, names_are_messages};

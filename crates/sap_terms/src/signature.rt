@@ -3,7 +3,7 @@ ghost use Rattle.std.specs.Option.{option_copied};
 ghost use Rattle.sap_terms.specs.Signature.{Sig, find_symbol, arity_of, IsPublic, Clashes, declared, has_builtin, is_destructor_of, builtin_symbols, declared_all, is_held_otherwise, first_clash, added, pairs_alone, IsMap, IsFirstClash, HoldsBuiltins};
 ghost use Rattle.sap_terms.specs.declared.signature.SigFault.TheVariants.{Mem as OutOfMemory};
 
-use crate::{Copied, HasName, Items, Mem, Name, Named};
+use crate::{Builtins, Copied, HasName, Items, Mem, Name, Named};
 use std::alloc::{AllocError, AllocFailed, Global};
 use std::marker::Model;
 
@@ -26,6 +26,10 @@ pub enum Builtin {
     Asymmetric,
     /// `sign/2`, `verify/3`, `pk/1` and `true/0`: `verify(sign(m,k),m,pk(k)) = true`.
     Signing,
+    /// `revealSign/2`, `revealVerify/3`, `getMessage/1`, `pk/1` and `true/0`: `revealVerify(revealSign(m,k),m,pk(k)) = true`
+    /// and `getMessage(revealSign(m,k)) = m`. That another tool has a builtin of this name with these symbols and equations
+    /// isn't claimed.
+    RevealingSigning,
 }
 
 /// Why a symbol or a builtin is refused.
@@ -50,10 +54,7 @@ impl From<Mem> for SigFault {
 #[derive(Drop)]
 pub struct Signature {
     symbols: Named<Symbol>,
-    hashing: bool,
-    symmetric: bool,
-    asymmetric: bool,
-    signing: bool,
+    builtins: Builtins,
 }
 
 impl Model for Signature {
@@ -61,15 +62,9 @@ impl Model for Signature {
 
     ghost Value = { Sig };
 
-    ghost view = { λ a. record {
-      symbols = a.symbols;
-      builtins = record { hashing = a.hashing; symmetric = a.symmetric; asymmetric = a.asymmetric; signing = a.signing };
-    } };
+    ghost view = { λ a. record { symbols = a.symbols; builtins = a.builtins } };
 
-    ghost invariant = { λ a. IsMap a.symbols × HoldsBuiltins (record {
-      symbols = a.symbols;
-      builtins = record { hashing = a.hashing; symmetric = a.symmetric; asymmetric = a.asymmetric; signing = a.signing };
-    }) };
+    ghost invariant = { λ a. IsMap a.symbols × HoldsBuiltins (record { symbols = a.symbols; builtins = a.builtins }) };
 }
 
 impl Signature {
@@ -83,10 +78,7 @@ impl Signature {
         symbols.push(public_symbol(alloc, b"snd", 1)?)?;
         Ok(Signature {
             symbols,
-            hashing: false,
-            symmetric: false,
-            asymmetric: false,
-            signing: false,
+            builtins: Builtins::none(),
         })
     }
 
@@ -94,12 +86,7 @@ impl Signature {
     pub fn has(&self, b: Builtin) -> bool
         ensures { result ≡ has_builtin self.now b }
     {
-        match b {
-            Builtin::Hashing => self.hashing,
-            Builtin::Symmetric => self.symmetric,
-            Builtin::Asymmetric => self.asymmetric,
-            Builtin::Signing => self.signing,
-        }
+        self.builtins.has(b)
     }
 
     /// The arity of a held name; None where the name isn't held.
@@ -233,6 +220,14 @@ fn symbols_of(alloc: Global, b: Builtin) -> Result<Items<Symbol>, Mem>
             symbols.push(public_symbol(alloc, b"true", 0)?)?;
             Ok(symbols)
         }
+        Builtin::RevealingSigning => {
+            symbols.push(public_symbol(alloc, b"revealSign", 2)?)?;
+            symbols.push(public_symbol(alloc, b"revealVerify", 3)?)?;
+            symbols.push(public_symbol(alloc, b"getMessage", 1)?)?;
+            symbols.push(public_symbol(alloc, b"pk", 1)?)?;
+            symbols.push(public_symbol(alloc, b"true", 0)?)?;
+            Ok(symbols)
+        }
     }
 }
 
@@ -288,15 +283,17 @@ impl Signature {
         self.is_left_head(name)
     }
 
-    // The five tests of `is_destructor`.
+    // The seven tests of `is_destructor`.
     fn is_left_head(&self, name: &Name) -> bool
         ensures { result ≡ is_destructor_of self.now name.now }
     {
         name.is(b"fst")
             || name.is(b"snd")
-            || (name.is(b"sdec") && self.symmetric)
-            || (name.is(b"adec") && self.asymmetric)
-            || (name.is(b"verify") && self.signing)
+            || (name.is(b"sdec") && self.builtins.symmetric)
+            || (name.is(b"adec") && self.builtins.asymmetric)
+            || (name.is(b"verify") && self.builtins.signing)
+            || (name.is(b"revealVerify") && self.builtins.revealing)
+            || (name.is(b"getMessage") && self.builtins.revealing)
     }
 
     /// The symbols of each builtin that was added are held, with their arities, and public.
@@ -325,13 +322,9 @@ impl Signature {
             let symbol = symbols.into_item(k);
             return Err(SigFault::Clash { name: symbol.name });
         }
+        let builtins = self.builtins.including(b);
         self.symbols = declare_all(alloc, &self.symbols, &symbols)?;
-        match b {
-            Builtin::Hashing => self.hashing = true,
-            Builtin::Symmetric => self.symmetric = true,
-            Builtin::Asymmetric => self.asymmetric = true,
-            Builtin::Signing => self.signing = true,
-        }
+        self.builtins = builtins;
         Ok(())
     }
 }
@@ -340,10 +333,7 @@ impl Copied for Signature {
     fn copy(&self, alloc: Global) -> Result<Signature, Mem> {
         Ok(Signature {
             symbols: self.symbols.copy(alloc)?,
-            hashing: self.hashing,
-            symmetric: self.symmetric,
-            asymmetric: self.asymmetric,
-            signing: self.signing,
+            builtins: self.builtins,
         })
     }
 }

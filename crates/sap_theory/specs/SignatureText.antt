@@ -5,7 +5,7 @@ use Rattle.std.specs.Str.{bytes_eq}
 use Rattle.sap_terms.specs.Signature.{Sig, has_builtin, builtin_symbols, pairs_alone}
 use Rattle.sap_terms.specs.declared.signature.Symbol.{Symbol}
 use Rattle.sap_terms.specs.declared.signature.Builtin.{Builtin}
-use Rattle.sap_terms.specs.declared.signature.Builtin.TheVariants.{Hashing, Symmetric, Asymmetric, Signing}
+use Rattle.sap_terms.specs.declared.signature.Builtin.TheVariants.{Hashing, Symmetric, Asymmetric, Signing, RevealingSigning}
 use Rattle.sap_theory.specs.Pieces.{line_of}
 
 -- how a builtin is spelled
@@ -14,10 +14,11 @@ spelling Hashing = codes "hashing"
 spelling Symmetric = codes "symmetric-encryption"
 spelling Asymmetric = codes "asymmetric-encryption"
 spelling Signing = codes "signing"
+spelling RevealingSigning = codes "revealing-signing"
 
 -- the builtins, in the order in which they are written
 abbrev pub all_builtins : List Builtin
-all_builtins = Hashing ∷ Symmetric ∷ Asymmetric ∷ Signing ∷ []
+all_builtins = Hashing ∷ Symmetric ∷ Asymmetric ∷ Signing ∷ RevealingSigning ∷ []
 
 -- those that were added
 abbrev pub builtins_of : Sig → List Builtin

@@ -16,6 +16,7 @@ fn spelling(b: Builtin) -> &'static [u8]
         Builtin::Symmetric => b"symmetric-encryption",
         Builtin::Asymmetric => b"asymmetric-encryption",
         Builtin::Signing => b"signing",
+        Builtin::RevealingSigning => b"revealing-signing",
     }
 }
 
@@ -29,6 +30,7 @@ pub(crate) fn push_builtins(text: &mut Text, sig: &Signature) -> Result<(), Mem>
         Builtin::Symmetric,
         Builtin::Asymmetric,
         Builtin::Signing,
+        Builtin::RevealingSigning,
     ] {
         is_first = push_builtin(text, sig, b, is_first)?;
     }
@@ -77,6 +79,13 @@ fn brings(b: Builtin, name: &Name) -> bool
         Builtin::Signing => {
             name.is(b"sign") || name.is(b"verify") || name.is(b"pk") || name.is(b"true")
         }
+        Builtin::RevealingSigning => {
+            name.is(b"revealSign")
+                || name.is(b"revealVerify")
+                || name.is(b"getMessage")
+                || name.is(b"pk")
+                || name.is(b"true")
+        }
     }
 }
 
@@ -96,6 +105,7 @@ fn is_brought(sig: &Signature, name: &Name) -> bool
         || comes_with(sig, Builtin::Symmetric, name)
         || comes_with(sig, Builtin::Asymmetric, name)
         || comes_with(sig, Builtin::Signing, name)
+        || comes_with(sig, Builtin::RevealingSigning, name)
 }
 
 /// The line of the symbols that have to be declared.

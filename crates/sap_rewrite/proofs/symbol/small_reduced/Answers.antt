@@ -1,9 +1,22 @@
-use Rattle.std.proofs.Common.{sym, ◌∙◌}
-use Rattle.sap_terms.specs.Tree.{trees_of}
+use Rattle.std.proofs.Common.{◌≡◌, ◌<◌, refl, sym, subst, ◌∙◌, arith}
+use Rattle.std.specs.Prelude.{IfOk}
 use Rattle.sap_terms.specs.Equations.{equations}
-use Rattle.sap_rewrite.proofs.Parts.{part_there}
+use Rattle.sap_terms.specs.Tree.{Tree, node_count, trees_of}
+use Rattle.sap_terms.specs.View.{tree}
+use Rattle.sap_terms.specs.declared.term.Term.{Term}
+use Rattle.sap_rewrite.proofs.Parts.{part_there, left_as_is, left_true}
 use Rattle.sap_rewrite.proofs.symbol.small_reduced.Goals as goal
 
 pub part_of-requires : goal.part_of-requires
 part_of-requires g c =
     part_there (equations c.args.sig.now) c.args.f.now (trees_of (g.L.Lends.lent c.args.args.now)) c.in-Some.k (sym c.place_of_part.ensures ∙ c.in-Some.is)
+
+pub returns-then-not-is_verified-clause-form : goal.returns-then-not-is_verified-clause-form
+returns-then-not-is_verified-clause-form g c =
+    let same = left_as_is (equations c.args.sig.now) c.args.f.now c.args.f.now (trees_of (g.L.Lends.lent c.args.args.now)) c.is_verified.result (sym c.place_of_part.ensures ∙ c.in_default.is) c.is_verified.ensures c.if-not-is_verified.true refl in
+    subst (λ (u : Tree). IfOk c.small_symbol.result (λ (r : Term). tree r ≡ u)) same c.small_symbol.ensures.copy
+
+pub returns-then-most-eq0-clause-large : goal.returns-then-most-eq0-clause-large
+returns-then-most-eq0-clause-large g c = λ i.
+    let left = left_true (equations c.args.sig.now) c.args.f.now (trees_of (g.L.Lends.lent c.args.args.now)) c.is_verified.result (sym c.place_of_part.ensures ∙ c.in_default.is) c.is_verified.ensures c.if-not-is_verified.false in
+    subst (λ (u : Tree). c.args.most < node_count u) left (omega arith)
