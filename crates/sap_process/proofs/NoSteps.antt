@@ -8,7 +8,7 @@ use Rattle.sap_terms.specs.AdversaryFacts.{k_fact}
 use Rattle.sap_terms.specs.Choice.{Choice, instance}
 use Rattle.sap_terms.specs.Deduce.{IsDerived, IsDerivation}
 use Rattle.sap_terms.specs.Equal.{IsTheoryEqual}
-use Rattle.sap_terms.specs.Equations.{equations}
+use Rattle.sap_terms.specs.Equations.{equations, reveal_verify_name}
 use Rattle.sap_terms.specs.Message.{IsMessage}
 use Rattle.sap_terms.specs.Modulo.{IsEqualFact, AreEqualFacts}
 use Rattle.sap_terms.specs.Normal.{IsNormalForm}
@@ -266,7 +266,7 @@ second_lacks none h = refl
 second_lacks (more t ts) h = head_lacks ts (and_right (lacks t) _ h)
 
 value_lacks : (f : List ℕ) (ts : Trees) → all_lack ts ≡ true → lacks (value_of f ts) ≡ true
-value_lacks f ts h = go (takes_first f) (bytes_eq f snd_name) (bytes_eq f verify_name)
+value_lacks f ts h = go (takes_first f) (bytes_eq f snd_name) (bytes_eq f verify_name || bytes_eq f reveal_verify_name)
   where
     go : (one two three : Bool) → lacks (cond one (head_part (parts ts)) (cond two (second_part (parts ts)) (cond three (app0 true_name) (apply f ts)))) ≡ true
     go true two three = head_lacks (parts ts) (parts_lack ts h)

@@ -11,7 +11,7 @@ use Rattle.sap_terms.specs.Message.{IsOver}
 use Rattle.sap_terms.specs.Modulo.{instance_fact, instance_facts}
 use Rattle.sap_terms.specs.Reserved.{is_reserved}
 use Rattle.sap_terms.specs.Same.{same_sort}
-use Rattle.sap_terms.specs.Signature.{Sig, arity_of}
+use Rattle.sap_terms.specs.Signature.{Sig, arity_of, pairs_alone}
 use Rattle.sap_terms.specs.Tree.{Tree, variable, public, fresh, apply, Trees, none, more}
 use Rattle.sap_terms.specs.Variables.{tree_vars, facts_vars, is_known, new_vars}
 use Rattle.sap_terms.specs.declared.fact.Fact.{Fact}
@@ -231,7 +231,7 @@ constant_was g s h = go s.body refl h.stands
 
 -- a binder has the name that it had
 binder_name : (v : List Var) (p : Proc) (y : Var) → binder (with_sorts v p) ≡ Some y → (x : Var) × (binder p ≡ Some x) × (x.name ≡ y.name)
-binder_name v (act a p) y f = let r = action_binds (record { symbols = []; builtins = record { hashing = false; symmetric = false; asymmetric = false; signing = false } }) (v ++ bound_by v a) a y f in (r.0, r.1, sym (ap (λ (z : Var). z.name) r.2))
+binder_name v (act a p) y f = let r = action_binds pairs_alone (v ++ bound_by v a) a y f in (r.0, r.1, sym (ap (λ (z : Var). z.name) r.2))
 binder_name v (whole.lookup t x p q) y f = (x, refl, ap (λ (z : Var). z.name) (var_of (message_var x) y f))
 binder_name v whole.nil y f = absurd (cc)
 binder_name v (whole.parallel p q) y f = absurd (cc)
