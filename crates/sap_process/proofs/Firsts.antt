@@ -222,3 +222,10 @@ pub first-flaw : {T : Type 0} (g : Sig) (p : Proc) (u w : Flaw) (found path : Li
 first-flaw {T} g p u w found path h r =
     let e : At u found ≡ At w path = ap (told {T = T}) r in
     subst (λ (z : Flaw). IsFirstFlaw g p z path) (ap (flaw_told w) e) (subst (IsFirstFlaw g p u) (ap path_told e) (one-of g p flaws 1 u found ascending (none-below g p) h))
+
+-- each process is well-formed, or has a flaw that counts
+pub some-flaw : (g : Sig) (p : Proc) → IsWellFormed g p ⊎ ((w : Flaw) × (path : List ℕ) × IsFirstFlaw g p w path)
+some-flaw g p = found (first_flaw g flaws (sites p)) refl where
+  found : (o : Option (Flaw × List ℕ)) → first_flaw g flaws (sites p) ≡ o → IsWellFormed g p ⊎ ((w : Flaw) × (path : List ℕ) × IsFirstFlaw g p w path)
+  found None h = inl (well-formed g p h)
+  found (Some (u, path)) h = inr (u, path, one-of g p flaws 1 u path ascending (none-below g p) h)

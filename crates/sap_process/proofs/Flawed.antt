@@ -17,8 +17,10 @@ use Rattle.sap_terms.specs.declared.var.Var.{Var}
 use Rattle.sap_terms.proofs.SameLemmas.{and_left, and_right, and_true}
 use Rattle.sap_process.specs.Heads.{terms_vars, head_terms, head_vars, binder, bound_as, patterns, stored_facts, shown_facts}
 use Rattle.sap_process.specs.Sites.{Site, var_names}
-use Rattle.sap_process.specs.Flaws.{AppliesBadly, BindsConstant, HasReservedVar, HasReservedFact, HasClash, HasOtherArity, HasOtherForm, HasDestructor, AnyHasDestructor, HasPatternDestructor, unbound, Rebinds, scope_at, binder_of, HasSortClash, HasFlaw}
-use Rattle.sap_process.specs.Tests.{has_arity, is_over, are_over, has_destructor, any_has_destructor, is_constant, binds_constant, is_reserved_var, is_reserved_fact, noted_all, has_clash, has_items, rebinds, is_other_sort, has_other_sort, has_flaw}
+use Rattle.sap_terms.specs.Destructors.{HasDestructor, AnyHasDestructor}
+use Rattle.sap_process.specs.Flaws.{AppliesBadly, BindsConstant, HasReservedVar, HasReservedFact, HasClash, HasOtherArity, HasOtherForm, HasPatternDestructor, unbound, Rebinds, scope_at, binder_of, HasSortClash, HasFlaw}
+use Rattle.sap_terms.specs.code.TermTests.{has_arity, is_over, are_over, has_destructor, any_has_destructor}
+use Rattle.sap_process.specs.Tests.{is_constant, binds_constant, is_reserved_var, is_reserved_fact, noted_all, has_clash, has_items, rebinds, is_other_sort, has_other_sort, has_flaw}
 use Rattle.sap_process.specs.Walks.{seen_at}
 use Rattle.sap_process.specs.declared.flaw.Flaw.{Flaw}
 use Rattle.sap_process.specs.declared.flaw.Flaw.TheVariants.{BadFunction, ReservedVar, ReservedFact, FactClash, PatternDestructor, Unbound, Rebound, SortClash, ScopeFull}

@@ -18,7 +18,7 @@ use Rattle.sap_process.specs.Instance.{action_instance, without, behind, process
 use Rattle.sap_process.specs.Proc as whole
 use Rattle.sap_process.specs.Proc.{Proc, act}
 use Rattle.sap_process.specs.Sites.{Site, sites, sites_from, message_var, bound_by}
-use Rattle.sap_process.specs.Tests.{is_over}
+use Rattle.sap_terms.specs.code.TermTests.{is_over}
 use Rattle.sap_process.specs.declared.flaw.Flaw.TheVariants.{BadFunction}
 use Rattle.sap_process.proofs.Flawed.{over-sound, over-complete}
 use Rattle.sap_process.proofs.Members.{member-head, member-tail, member-none, member-cases}

@@ -118,8 +118,8 @@ alone_at m n (suc k) h e = omega arith
 pub no_other : (m n : ℕ) → ¬ (m ≡ n) → ¬ Contains (m ∷ []) n
 no_other m n other h = other (alone_at m n h.0 h.1 h.2)
 
--- The value of a tree in a model of all equations: `fst`, `sdec` and `adec` take the first part of their argument, `snd` its
--- second part, and `verify` holds always.
+-- The value of a tree in a model of all equations: `fst`, `sdec`, `adec` and `getMessage` take the first part of their argument,
+-- `snd` its second part, and `verify` and `revealVerify` hold always.
 abbrev pub parts : Trees → Trees
 parts (more (apply f ts) us) = ts
 parts ts = none

@@ -19,7 +19,8 @@ use Rattle.sap_terms.specs.declared.var.Sort.TheVariants.{Msg, Fresh, Pub}
 use Rattle.sap_terms.specs.declared.var.Var.{Var}
 use Rattle.sap_process.specs.Action as action
 use Rattle.sap_process.specs.Action.{Action}
-use Rattle.sap_process.specs.Flaws.{IsWellFormed, HasFlaw, BindsConstant, HasClash, HasOtherArity, HasOtherForm, HasDestructor, AnyHasDestructor, unbound_in, unbound_at, unbound, scope_at, binder_of, HasSortClash}
+use Rattle.sap_terms.specs.Destructors.{HasDestructor, AnyHasDestructor}
+use Rattle.sap_process.specs.Flaws.{IsWellFormed, HasFlaw, BindsConstant, HasClash, HasOtherArity, HasOtherForm, unbound_in, unbound_at, unbound, scope_at, binder_of, HasSortClash}
 use Rattle.sap_process.specs.Heads.{facts_terms, terms_vars, action_terms, head_terms, action_binder, binder, bound_as, listed, head_vars, action_patterns, patterns, action_stored, stored_facts, action_shown, shown_facts, locks_set}
 use Rattle.sap_process.specs.Instance.{action_instance}
 use Rattle.sap_process.specs.Proc as whole

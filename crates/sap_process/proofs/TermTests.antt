@@ -4,12 +4,8 @@ use Rattle.std.proofs.Math.Seq.{drop-cons}
 use Rattle.sap_terms.specs.Signature.{Sig, arity_of}
 use Rattle.sap_terms.specs.Tree.{Tree, apply, trees_of, list_of-trees_of}
 use Rattle.sap_terms.specs.declared.fact.Fact.{Fact}
-use Rattle.sap_terms.proofs.TreeLemmas.{item_le-trees_count}
 use Rattle.sap_process.specs.Heads.{facts_terms}
-use Rattle.sap_process.specs.Tests.{has_arity, is_over, are_over, has_destructor, any_has_destructor}
-
-pub over-apply : (g : Sig) (f : List ℕ) (ts : List Tree) → is_over g (apply f (trees_of ts)) ≡ (has_arity (arity_of g f) (length ts) && are_over g (trees_of ts))
-over-apply g f ts = ap (λ us. has_arity (arity_of g f) (length us) && are_over g (trees_of ts)) (list_of-trees_of ts)
+use Rattle.sap_terms.specs.code.TermTests.{has_arity, is_over, are_over, has_destructor, any_has_destructor}
 
 and_assoc : (a b c : Bool) → (a && (b && c)) ≡ ((a && b) && c)
 and_assoc true b c = refl
@@ -57,10 +53,6 @@ over-from g fs i f below at = ap (λ ts. are_over g (trees_of ts)) (facts-from f
 pub destructor-from : (g : Sig) (fs : List Fact) (i : ℕ) (f : Fact) → i < length fs → f ≡ get_or fs i f → any_has_destructor g (trees_of (facts_terms (drop i fs))) ≡ (any_has_destructor g (trees_of f.args) || any_has_destructor g (trees_of (facts_terms (drop (i + 1) fs))))
 destructor-from g fs i f below at = ap (λ ts. any_has_destructor g (trees_of ts)) (facts-from fs i f below at) ∙ destructor-append g f.args (facts_terms (drop (i + 1) fs))
 
-pub ruleset over_laws = (over-apply, item_le-trees_count)
-
 pub ruleset over_lists = (over-append, and-true, rule-over)
-
-pub ruleset destructor_laws = (item_le-trees_count)
 
 pub ruleset destructor_lists = (destructor-append, or-false)

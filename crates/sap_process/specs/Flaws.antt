@@ -2,6 +2,7 @@
 use Rattle.std.specs.Prelude.{◌≡◌, ◌<◌, ◌⊎◌, ℕ, ◌+◌, true, not, List, [], ◌∷◌, ◌++◌, length, take, filter, slice_get, Option, Some, Contains, codes, nat_eq}
 use Rattle.std.specs.List.{flat_map, starts_with, find}
 use Rattle.std.specs.Str.{bytes_eq}
+use Rattle.sap_terms.specs.Destructors.{HasDestructor}
 use Rattle.sap_terms.specs.Message.{IsOver}
 use Rattle.sap_terms.specs.Reserved.{is_reserved}
 use Rattle.sap_terms.specs.Same.{same_sort}
@@ -60,18 +61,6 @@ HasOtherArity f h = ¬ (length f.args ≡ length h.args)
 -- or one of them is persistent and the other not
 abbrev pub HasOtherForm : Fact → Fact → Type 0
 HasOtherForm f h = HasOtherArity f h ⊎ (¬ (f.persistent ≡ h.persistent))
-
--- a destructor stands in the term
-abbrev mutual
-  pub HasDestructor : Sig → Tree → Type 0
-  HasDestructor g (variable v) = ⊥
-  HasDestructor g (public n) = ⊥
-  HasDestructor g (fresh k) = ⊥
-  HasDestructor g (apply f ts) = (is_destructor_of g f ≡ true) ⊎ AnyHasDestructor g ts
-
-  pub AnyHasDestructor : Sig → Trees → Type 0
-  AnyHasDestructor g none = ⊥
-  AnyHasDestructor g (more t ts) = HasDestructor g t ⊎ AnyHasDestructor g ts
 
 -- a pattern has one
 pub record HasPatternDestructor (g : Sig) (s : Site) : Type 0 where

@@ -8,7 +8,8 @@ use Rattle.indexmap.specs.IndexMap.{insert_entry}
 use Rattle.sap_terms.specs.Reserved.{is_reserved}
 use Rattle.sap_terms.specs.Same.{same_sort}
 use Rattle.sap_terms.specs.Signature.{Sig, arity_of, is_destructor_of, same_bool}
-use Rattle.sap_terms.specs.Tree.{Tree, variable, public, fresh, apply, Trees, none, more, trees_of, list_of}
+use Rattle.sap_terms.specs.Tree.{trees_of}
+use Rattle.sap_terms.specs.code.TermTests.{has_arity, are_over, any_has_destructor}
 use Rattle.sap_terms.specs.Variables.{is_known}
 use Rattle.sap_terms.specs.declared.fact.Fact.{Fact}
 use Rattle.sap_terms.specs.declared.var.Sort.{Sort}
@@ -21,36 +22,6 @@ use Rattle.sap_process.specs.Proc.{Proc}
 use Rattle.sap_process.specs.declared.flaw.Flaw.{Flaw}
 use Rattle.sap_process.specs.declared.flaw.Flaw.TheVariants.{BadFunction, ReservedVar, ReservedFact, FactClash, PatternDestructor, Unbound, Rebound, SortClash, ScopeFull}
 use Rattle.sap_process.specs.declared.met.Shape.{Shape}
-
-abbrev pub has_arity : Option ℕ → ℕ → Bool
-has_arity None n = false
-has_arity (Some k) n = nat_eq k n
-
-abbrev mutual
-  -- each symbol is held with its arity
-  pub is_over : Sig → Tree → Bool
-  is_over g (variable v) = true
-  is_over g (public n) = true
-  is_over g (fresh k) = true
-  is_over g (apply f ts) = has_arity (arity_of g f) (length (list_of ts)) && are_over g ts
-
-  -- in each of these
-  pub are_over : Sig → Trees → Bool
-  are_over g none = true
-  are_over g (more t ts) = is_over g t && are_over g ts
-
-abbrev mutual
-  -- a destructor stands in the term
-  pub has_destructor : Sig → Tree → Bool
-  has_destructor g (variable v) = false
-  has_destructor g (public n) = false
-  has_destructor g (fresh k) = false
-  has_destructor g (apply f ts) = is_destructor_of g f || any_has_destructor g ts
-
-  -- in one of these
-  pub any_has_destructor : Sig → Trees → Bool
-  any_has_destructor g none = false
-  any_has_destructor g (more t ts) = has_destructor g t || any_has_destructor g ts
 
 -- the variable is a plain identifier that is a constant
 abbrev pub is_constant : Sig → Var → Bool

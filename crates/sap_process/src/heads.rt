@@ -3,15 +3,15 @@ ghost use Rattle.std.specs.Prelude.{◌≡◌, ◌++◌, IfOk, not, ◌||◌};
 ghost use Rattle.std.specs.List.{list_any};
 ghost use Rattle.std.specs.Option.{option_copied};
 ghost use Rattle.sap_terms.specs.Tree.{trees_of};
-ghost use Rattle.sap_terms.specs.View.{tree};
 ghost use Rattle.sap_process.specs.Heads.{head_terms, head_vars, binder, listed, facts_terms, patterns, stored_facts, shown_facts};
 ghost use Rattle.sap_process.specs.Proc.{proc};
-ghost use Rattle.sap_process.specs.Tests.{is_over, are_over, has_destructor, any_has_destructor, has_arity, binds_constant, is_reserved_var, is_reserved_fact};
+ghost use Rattle.sap_terms.specs.code.TermTests.{is_over, are_over, has_destructor, any_has_destructor, has_arity};
+ghost use Rattle.sap_process.specs.Tests.{binds_constant, is_reserved_var, is_reserved_fact};
 ghost use Rattle.sap_terms.specs.Signature.{arity_of};
 
 use crate::Process;
 use crate::occurrences::vars_of_head;
-use sap_terms::{FactList, Mem, Name, Signature, Sort, Term, TermList, Var, Vars, is_reserved};
+use sap_terms::{FactList, Mem, Name, Signature, Sort, Var, Vars, is_reserved};
 use std::alloc::Global;
 
 // The variable that `new` or `lookup` binds.
@@ -63,12 +63,12 @@ fn is_head_over(sig: &Signature, p: &Process) -> bool
         | Process::Delete(t, _)
         | Process::Lookup(t, _, _, _)
         | Process::Lock(t, _, _)
-        | Process::Unlock(t, _, _) => is_over(sig, t),
+        | Process::Unlock(t, _, _) => sig.is_over(t),
         Process::Send(t, u, _)
         | Process::Recv(t, u, _)
         | Process::If(t, u, _, _)
-        | Process::Insert(t, u, _) => is_over(sig, t) && is_over(sig, u),
-        Process::Event(f, _) => are_over(sig, &f.args),
+        | Process::Insert(t, u, _) => sig.is_over(t) && sig.is_over(u),
+        Process::Event(f, _) => sig.are_over(&f.args),
         Process::Embedded(l, e, r, _) => {
             are_facts_over(sig, l) && are_facts_over(sig, e) && are_facts_over(sig, r)
         }
@@ -80,34 +80,7 @@ fn are_facts_over(sig: &Signature, fs: &FactList) -> bool
     ensures { result ≡ are_over sig.now (trees_of (facts_terms fs.now)) }
 {
     for f in fs.as_slice() {
-        if !are_over(sig, &f.args) {
-            return false;
-        }
-    }
-    true
-}
-
-#[cycle(is_over)]
-#[tactic(auto, using(crate::proofs::TermTests::over_laws))]
-fn is_over(sig: &Signature, t: &Term) -> bool
-    ensures { result ≡ is_over sig.now (tree t.now) }
-{
-    match t {
-        Term::App(f, ts) => match sig.arity(f) {
-            Some(n) => n == ts.len() && are_over(sig, ts),
-            None => false,
-        },
-        _ => true,
-    }
-}
-
-#[cycle(is_over)]
-#[tactic(auto, using(crate::proofs::TermTests::over_laws))]
-fn are_over(sig: &Signature, ts: &TermList) -> bool
-    ensures { result ≡ are_over sig.now (trees_of ts.now) }
-{
-    for k in 0..ts.len() {
-        if !is_over(sig, ts.at(k)) {
+        if !sig.are_over(&f.args) {
             return false;
         }
     }
@@ -172,7 +145,7 @@ pub(crate) fn has_pattern_destructor(sig: &Signature, p: &Process) -> bool
     ensures { result ≡ any_has_destructor sig.now (trees_of (patterns (proc p.now))) }
 {
     match p {
-        Process::In(t, _) | Process::Recv(_, t, _) => has_destructor(sig, t),
+        Process::In(t, _) | Process::Recv(_, t, _) => sig.has_destructor(t),
         Process::Embedded(l, _, _, _) => any_fact_has_destructor(sig, l),
         _ => false,
     }
@@ -183,31 +156,7 @@ fn any_fact_has_destructor(sig: &Signature, fs: &FactList) -> bool
     ensures { result ≡ any_has_destructor sig.now (trees_of (facts_terms fs.now)) }
 {
     for f in fs.as_slice() {
-        if any_has_destructor(sig, &f.args) {
-            return true;
-        }
-    }
-    false
-}
-
-#[cycle(has_destructor)]
-#[tactic(auto, using(crate::proofs::TermTests::destructor_laws))]
-fn has_destructor(sig: &Signature, t: &Term) -> bool
-    ensures { result ≡ has_destructor sig.now (tree t.now) }
-{
-    match t {
-        Term::App(f, ts) => sig.is_destructor(f) || any_has_destructor(sig, ts),
-        _ => false,
-    }
-}
-
-#[cycle(has_destructor)]
-#[tactic(auto, using(crate::proofs::TermTests::destructor_laws))]
-fn any_has_destructor(sig: &Signature, ts: &TermList) -> bool
-    ensures { result ≡ any_has_destructor sig.now (trees_of ts.now) }
-{
-    for k in 0..ts.len() {
-        if has_destructor(sig, ts.at(k)) {
+        if sig.any_has_destructor(&f.args) {
             return true;
         }
     }

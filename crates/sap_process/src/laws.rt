@@ -158,6 +158,11 @@ pub fn sorting_keeps()
     ensures well { (g : Sig) (p : Proc) → IsWellFormed g p → IsReady g (with_sorts [] p) }
 {}
 
+/// A law: each process is well-formed, or has a flaw that counts.
+pub fn some_flaw()
+    ensures { (g : Sig) (p : Proc) → IsWellFormed g p ⊎ ((w : Flaw) × (path : List ℕ) × IsFirstFlaw g p w path) }
+{}
+
 /// A law: of a process that isn't well-formed one flaw counts, at one place; so it is whatever is in scope at its root.
 pub fn one_flaw()
     ensures flaw { (g : Sig) (p : Proc) (w v : Flaw) (path other : List ℕ) → IsFirstFlaw g p w path → IsFirstFlaw g p v other

@@ -21,7 +21,7 @@ pub use checking::{well_formed, well_formed_boxed};
 pub use flaw::{Flaw, Ill};
 pub use laws::{
     choices_are_bindings, instances_of_processes, no_steps_by_hand, one_flaw, runs_stay_ground,
-    sites_are_the_places, sorting_keeps, steps_by_hand, traces_by_hand,
+    sites_are_the_places, some_flaw, sorting_keeps, steps_by_hand, traces_by_hand,
 };
 pub use process::Process;
 pub use substituting::substitute;

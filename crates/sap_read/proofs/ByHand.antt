@@ -7,7 +7,7 @@ use Rattle.sap_read.specs.TermGrammar.{args_none, args_some, list_last, term_fre
 use Rattle.sap_read.specs.FactGrammar.{fact_linear, fact_persistent}
 use Rattle.sap_read.specs.ProcessGrammar.{IsShort, IsPar, action_acts, action_input, action_lock, action_new_fresh, action_send, action_unlock, facts_last, facts_more, facts_none, facts_some, one_bar, par_more, par_one, seq_action, seq_call, seq_if, seq_if_else, seq_lookup_else, seq_nil, seq_parentheses, seq_replicated, seq_then, two_bars}
 use Rattle.sap_read.specs.ProcessExamples.{a, action_process, action_words, dangling_process, dangling_words, lookup_process, lookup_words, parallel_process, parallel_words, parted_process, parted_words, rule_process, rule_words}
-use Rattle.sap_read.specs.declared.limits.TheConstants.{MOST_TERM_LEVELS}
+use Rattle.sap_terms.specs.declared.limits.TheConstants.{MOST_TERM_LEVELS}
 
 short_a : (g : Sig) (ws : List Word) → IsShort g MOST_TERM_LEVELS a (quoted (codes "a") ∷ ws) ws
 short_a g ws = record { spelled = term_quoted; few_levels = omega arith }

@@ -17,7 +17,7 @@ use Rattle.sap_read.specs.code.Meaning.{meaning_of, AreMeant, nodes_in, levels_i
 use Rattle.sap_read.proofs.Kept.{nodes_counted, levels_counted}
 use Rattle.sap_read.proofs.Levels.{uncut}
 use Rattle.sap_read.proofs.Meaning.{AreFresh, fixed, process_fixed}
-use Rattle.sap_read.specs.declared.limits.TheConstants.{MOST_PROCESS_LEVELS, MOST_PROCESS_PLACES}
+use Rattle.sap_terms.specs.declared.limits.TheConstants.{MOST_PROCESS_LEVELS, MOST_PROCESS_PLACES}
 
 -- no name is known before the first process
 nothing_known : (bs : List Body) → AreFresh [] bs

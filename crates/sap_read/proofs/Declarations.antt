@@ -15,7 +15,7 @@ use Rattle.sap_read.specs.code.ItemView.{declaration}
 use Rattle.sap_read.proofs.Sound.{OnRead}
 use Rattle.sap_read.proofs.Steps.{words-drop, length-words}
 use Rattle.sap_read.proofs.ItemWords.{builtin_shorter, builtin_sound, symbol_shorter, symbol_sound}
-use Rattle.sap_read.specs.declared.limits.TheConstants.{MOST_ARITY}
+use Rattle.sap_terms.specs.declared.limits.TheConstants.{MOST_ARITY}
 
 -- what comes later makes no value smaller
 value_grows : (n : ℕ) (ds : List ℕ) → n ≤ value_from n ds

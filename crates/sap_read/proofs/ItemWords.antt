@@ -3,13 +3,13 @@ use Rattle.std.proofs.Common.{rules, ◌≡◌, ◌≤◌, ◌<◌, ℕ, zero, s
 use Rattle.std.specs.Prelude.{codes, if◌then◌else◌, ◌&&◌, nat_le, map, option_map}
 use Rattle.sap_terms.specs.declared.signature.Symbol.{Symbol}
 use Rattle.sap_terms.specs.declared.signature.Builtin.{Builtin}
-use Rattle.sap_terms.specs.declared.signature.Builtin.TheVariants.{Hashing, Symmetric, Asymmetric, Signing}
+use Rattle.sap_terms.specs.declared.signature.Builtin.TheVariants.{Hashing, Symmetric, Asymmetric, Signing, RevealingSigning}
 use Rattle.sap_read.specs.Words.{Word, mark, name, number, quoted, starts, is_lower}
-use Rattle.sap_read.specs.ItemGrammar.{value, IsBuiltin, AreBuiltins, IsSymbol, AreSymbols, spells_hashing, spells_symmetric, spells_asymmetric, spells_signing, builtins_last, builtins_more, spells_public, spells_private, symbols_last, symbols_more}
+use Rattle.sap_read.specs.ItemGrammar.{value, IsBuiltin, AreBuiltins, IsSymbol, AreSymbols, spells_hashing, spells_symmetric, spells_asymmetric, spells_signing, spells_revealing, builtins_last, builtins_more, spells_public, spells_private, symbols_last, symbols_more}
 use Rattle.sap_read.specs.code.Reading.{Read, Reader, given, name_at}
-use Rattle.sap_read.specs.code.ItemReading.{names, is_encryption, builtin_at, number_at, arity_of_digits, small_value, arity_at, is_private, with_privacy, symbol_at, mapped, is_over, on_read, in_front, whole_list}
+use Rattle.sap_read.specs.code.ItemReading.{names, is_joined, builtin_at, number_at, arity_of_digits, small_value, arity_at, is_private, with_privacy, symbol_at, mapped, is_over, on_read, in_front, whole_list}
 use Rattle.sap_read.proofs.Sound.{Says, OnRead, given_on, if_on, same_bytes, starts_is, name_is}
-use Rattle.sap_read.specs.declared.limits.TheConstants.{MOST_ARITY}
+use Rattle.sap_terms.specs.declared.limits.TheConstants.{MOST_ARITY}
 
 -- What is spelled so is read.
 
@@ -18,12 +18,14 @@ builtin_read spells_hashing = refl
 builtin_read spells_symmetric = refl
 builtin_read spells_asymmetric = refl
 builtin_read spells_signing = refl
+builtin_read spells_revealing = refl
 
 pub builtin_shorter : {b : Builtin} {a r : List Word} → IsBuiltin b a r → length r < length a
 builtin_shorter spells_hashing = omega arith
 builtin_shorter spells_symmetric = omega arith
 builtin_shorter spells_asymmetric = omega arith
 builtin_shorter spells_signing = omega arith
+builtin_shorter spells_revealing = omega arith
 
 fits : (m n : ℕ) → m ≤ n → nat_le m n ≡ true
 fits m n le = search rules
@@ -79,17 +81,17 @@ both true true e = (refl, refl)
 both true false e = absurd (cc)
 both false b e = absurd (cc)
 
--- a name and the rest of a cipher's
-cipher_is : (x : List ℕ) (ws : List Word) → names x ws ≡ true → is_encryption (drop 1 ws) ≡ true
-    → ws ≡ name x ∷ mark (codes "-") ∷ name (codes "encryption") ∷ drop 3 ws
-cipher_is x [] e f = absurd (cc)
-cipher_is x (w ∷ []) e f = absurd (cc)
-cipher_is x (w ∷ v ∷ []) e f = let no : false ≡ true = (both (starts (codes "-") (v ∷ [])) false f).1 in absurd (cc)
-cipher_is x (w ∷ v ∷ u ∷ ws) e f =
+-- two names with a dash between them
+joined_is : (x y : List ℕ) (ws : List Word) → names x ws ≡ true → is_joined y (drop 1 ws) ≡ true
+    → ws ≡ name x ∷ mark (codes "-") ∷ name y ∷ drop 3 ws
+joined_is x y [] e f = absurd (cc)
+joined_is x y (w ∷ []) e f = absurd (cc)
+joined_is x y (w ∷ v ∷ []) e f = let no : false ≡ true = (both (starts (codes "-") (v ∷ [])) false f).1 in absurd (cc)
+joined_is x y (w ∷ v ∷ u ∷ ws) e f =
     let first = names_is x (w ∷ v ∷ u ∷ ws) e in
     let two = both _ _ f in
     let second = starts_is (codes "-") (v ∷ u ∷ ws) two.0 in
-    let third = names_is (codes "encryption") (u ∷ ws) two.1 in
+    let third = names_is y (u ∷ ws) two.1 in
     cc
 
 pub builtin_sound : (ws : List Word) → OnRead (λ b r. IsBuiltin b ws r) (builtin_at ws)
@@ -99,13 +101,17 @@ builtin_sound ws =
     (λ e. subst (λ (y : List Word). IsBuiltin Hashing y (drop 1 ws)) (sym (names_is (codes "hashing") ws e)) spells_hashing)
     (λ no. if_on Q (names (codes "signing") ws) _ _
     (λ e. subst (λ (y : List Word). IsBuiltin Signing y (drop 1 ws)) (sym (names_is (codes "signing") ws e)) spells_signing)
-    (λ no. if_on Q (is_encryption (drop 1 ws)) _ _
+    (λ no. if_on Q (is_joined (codes "encryption") (drop 1 ws)) _ _
     (λ f. if_on Q (names (codes "symmetric") ws) _ _
-    (λ e. subst (λ (y : List Word). IsBuiltin Symmetric y (drop 3 ws)) (sym (cipher_is (codes "symmetric") ws e f)) spells_symmetric)
+    (λ e. subst (λ (y : List Word). IsBuiltin Symmetric y (drop 3 ws)) (sym (joined_is (codes "symmetric") (codes "encryption") ws e f)) spells_symmetric)
     (λ no. if_on Q (names (codes "asymmetric") ws) _ _
-    (λ e. subst (λ (y : List Word). IsBuiltin Asymmetric y (drop 3 ws)) (sym (cipher_is (codes "asymmetric") ws e f)) spells_asymmetric)
+    (λ e. subst (λ (y : List Word). IsBuiltin Asymmetric y (drop 3 ws)) (sym (joined_is (codes "asymmetric") (codes "encryption") ws e f)) spells_asymmetric)
     (λ no. tt)))
-    (λ no. tt)))
+    (λ no. if_on Q (is_joined (codes "signing") (drop 1 ws)) _ _
+    (λ f. if_on Q (names (codes "revealing") ws) _ _
+    (λ e. subst (λ (y : List Word). IsBuiltin RevealingSigning y (drop 3 ws)) (sym (joined_is (codes "revealing") (codes "signing") ws e f)) spells_revealing)
+    (λ no. tt))
+    (λ no. tt))))
 
 -- the arity is that of the number that stands first
 arity_is : (ws : List Word) (n : ℕ) → arity_at ws ≡ Some n → (ds : List ℕ) × (ws ≡ number ds ∷ drop 1 ws) × (value ds ≤ MOST_ARITY) × (n ≡ value ds)

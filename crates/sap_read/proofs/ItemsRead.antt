@@ -13,7 +13,7 @@ use Rattle.sap_read.specs.ItemGrammar.{AreBuiltins, AreSymbols, IsProcess, IsIte
 use Rattle.sap_read.specs.code.ItemReading.{builtin_at, symbol_at, declaration_at, whole_list, behind_colon, declared_in, told, declared_in_all}
 use Rattle.sap_read.proofs.Sound.{starts_is}
 use Rattle.sap_read.proofs.ItemWords.{builtins_read, symbols_read, builtins_sound, symbols_sound, list_mapped}
-use Rattle.sap_read.specs.declared.limits.TheConstants.{MOST_TERM_LEVELS}
+use Rattle.sap_terms.specs.declared.limits.TheConstants.{MOST_TERM_LEVELS}
 
 pub builtins_declared : {bs : List Builtin} {a : List Word} → AreBuiltins bs a → (n : ℕ) → length a ≤ n → whole_list (declaration_at true) n a ≡ Some (map of_builtin bs)
 builtins_declared {a = a} r n le = list_mapped of_builtin builtin_at n a ∙ ap (λ (o : Option (List Builtin)). option_map (map of_builtin) o) (builtins_read r n le)

@@ -21,7 +21,7 @@ use Rattle.sap_read.specs.Files.{FileContent, AreTokens, IsParted, IsRead, no_to
 use Rattle.sap_read.proofs.Cuts.{one_cut, one_header}
 use Rattle.sap_read.proofs.ItemsRead.{same_declarations, good_or_faulty, one_fault, one_items}
 use Rattle.sap_read.proofs.Processes.{one_process}
-use Rattle.sap_read.specs.declared.limits.TheConstants.{MOST_FILE_NAME_BYTES}
+use Rattle.sap_terms.specs.declared.limits.TheConstants.{MOST_FILE_NAME_BYTES}
 
 -- what the whole process of a file makes of it
 data AfterProcess (x : List ℕ) (g : Sig) (p : Proc) : Result FileContent ReadFault → Type 0 where

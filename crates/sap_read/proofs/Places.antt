@@ -14,7 +14,7 @@ use Rattle.sap_read.specs.code.Reading.{Reader, term, fact_at}
 use Rattle.sap_read.proofs.Complete.{term_read, fact_read}
 use Rattle.sap_read.proofs.Sound.{term_is, fact_is}
 use Rattle.sap_read.proofs.Steps.{words-drop, length-words}
-use Rattle.sap_read.specs.declared.limits.TheConstants.{MOST_TERM_LEVELS}
+use Rattle.sap_terms.specs.declared.limits.TheConstants.{MOST_TERM_LEVELS}
 
 -- the second words are the end of the first, and fewer
 abbrev pub IsEnd : List Word → List Word → Type 0

@@ -10,7 +10,7 @@ use Rattle.sap_process.specs.Sorted.{with_sorts}
 use Rattle.sap_process.specs.declared.flaw.Flaw.{Flaw}
 use Rattle.sap_read.specs.declared.fault.ReadFault.{ReadFault}
 use Rattle.sap_read.specs.declared.fault.ReadFault.TheVariants.{Lex as LexFault, Header, Syntax, Ill}
-use Rattle.sap_read.specs.declared.limits.TheConstants.{MOST_FILE_NAME_BYTES, MOST_PROCESS_LEVELS, MOST_TERM_LEVELS}
+use Rattle.sap_terms.specs.declared.limits.TheConstants.{MOST_FILE_NAME_BYTES, MOST_PROCESS_LEVELS, MOST_TERM_LEVELS}
 use Rattle.sap_read.specs.Words.{Word, mark, starts, words_of}
 use Rattle.sap_read.specs.Written.{Written}
 use Rattle.sap_read.specs.Item.{Item, definition, process, Standing, Declaration, declarations, Body, bodies}

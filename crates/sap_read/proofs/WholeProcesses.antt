@@ -12,7 +12,7 @@ use Rattle.sap_read.proofs.Processes.{par_read}
 use Rattle.sap_read.proofs.SoundProcesses.{par_sound}
 use Rattle.sap_read.proofs.Signatures.{par_too}
 use Rattle.sap_read.proofs.Sound.{OnRead}
-use Rattle.sap_read.specs.declared.limits.TheConstants.{MOST_PROCESS_LEVELS, MOST_TERM_LEVELS}
+use Rattle.sap_terms.specs.declared.limits.TheConstants.{MOST_PROCESS_LEVELS, MOST_TERM_LEVELS}
 
 -- nothing goes on behind the last word
 pub at_last : EndsProcess []

@@ -11,7 +11,7 @@ use Rattle.sap_read.specs.declared.fault.ReadFault.TheVariants.{Mem, Ill, NoProc
 use Rattle.sap_read.specs.Item.{Standing, declarations, Body, bodies}
 use Rattle.sap_read.specs.Replaced.{calls, process_of, no_meaning}
 use Rattle.sap_read.specs.Signatures.{clash_from}
-use Rattle.sap_read.specs.declared.limits.TheConstants.{MOST_PROCESS_LEVELS, MOST_PROCESS_PLACES}
+use Rattle.sap_terms.specs.declared.limits.TheConstants.{MOST_PROCESS_LEVELS, MOST_PROCESS_PLACES}
 
 -- the first of them, if there is one
 abbrev pub first_of : {A : Type 0} → List (Option A) → Option A

@@ -18,7 +18,7 @@ use Rattle.sap_read.specs.ItemGrammar.{AreItems, IsFaulty}
 use Rattle.sap_read.specs.Replaced.{process_of, no_meaning}
 use Rattle.sap_read.specs.Signatures.{signature_of}
 use Rattle.sap_read.specs.Causes.{cause_of}
-use Rattle.sap_read.specs.declared.limits.TheConstants.{MOST_FILE_NAME_BYTES}
+use Rattle.sap_terms.specs.declared.limits.TheConstants.{MOST_FILE_NAME_BYTES}
 
 -- what a file tells
 pub record FileContent : Type 0 where

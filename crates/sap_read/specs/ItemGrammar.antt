@@ -2,14 +2,14 @@
 use Rattle.std.specs.Prelude.{◌≡◌, ◌≤◌, ℕ, ◌+◌, ◌*◌, ◌-◌, true, false, codes, List, [], ◌∷◌}
 use Rattle.sap_terms.specs.declared.signature.Symbol.{Symbol}
 use Rattle.sap_terms.specs.declared.signature.Builtin.{Builtin}
-use Rattle.sap_terms.specs.declared.signature.Builtin.TheVariants.{Hashing, Symmetric, Asymmetric, Signing}
+use Rattle.sap_terms.specs.declared.signature.Builtin.TheVariants.{Hashing, Symmetric, Asymmetric, Signing, RevealingSigning}
 use Rattle.sap_terms.specs.Signature.{Sig}
 use Rattle.sap_read.specs.Words.{Word, mark, name, number, is_lower}
 use Rattle.sap_read.specs.Written.{Written}
 use Rattle.sap_read.specs.ProcessGrammar.{IsPar}
 use Rattle.sap_read.specs.Item.{Item, builtins, functions, definition, process, Standing}
 use Rattle.sap_read.specs.Cut.{Placed, words, first_line}
-use Rattle.sap_read.specs.declared.limits.TheConstants.{MOST_ARITY, MOST_PROCESS_LEVELS, MOST_TERM_LEVELS}
+use Rattle.sap_terms.specs.declared.limits.TheConstants.{MOST_ARITY, MOST_PROCESS_LEVELS, MOST_TERM_LEVELS}
 
 -- the number that these digits write
 abbrev pub value_from : ℕ → List ℕ → ℕ
@@ -24,6 +24,7 @@ pub data IsBuiltin : Builtin → List Word → List Word → Type 0 where
   spells_symmetric : {a : List Word} → IsBuiltin Symmetric (name (codes "symmetric") ∷ mark (codes "-") ∷ name (codes "encryption") ∷ a) a
   spells_asymmetric : {a : List Word} → IsBuiltin Asymmetric (name (codes "asymmetric") ∷ mark (codes "-") ∷ name (codes "encryption") ∷ a) a
   spells_signing : {a : List Word} → IsBuiltin Signing (name (codes "signing") ∷ a) a
+  spells_revealing : {a : List Word} → IsBuiltin RevealingSigning (name (codes "revealing") ∷ mark (codes "-") ∷ name (codes "signing") ∷ a) a
 
 -- builtins, one or more, with commas between them, and nothing else
 pub data AreBuiltins : List Builtin → List Word → Type 0 where

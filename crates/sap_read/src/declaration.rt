@@ -2,12 +2,11 @@
 ghost use Rattle.std.specs.Prelude.{◌≡◌, ◌+◌, length};
 ghost use Rattle.sap_terms.specs.declared.signature.Symbol.{Symbol};
 ghost use Rattle.sap_read.specs.Words.{words_of};
-ghost use Rattle.sap_read.specs.code.ItemReading.{arity_of_digits, arity_at, is_private, with_privacy, is_encryption, builtin_at, symbol_at, declaration_at, whole_list, behind_colon, declared_in};
+ghost use Rattle.sap_read.specs.code.ItemReading.{arity_of_digits, arity_at, is_private, with_privacy, is_joined, builtin_at, symbol_at, declaration_at, whole_list, behind_colon, declared_in};
 ghost use Rattle.sap_read.specs.code.ItemView.{GivesBuiltin, GivesSymbol, GivesDeclaration, GivesDeclarations};
 
-use crate::limits::MOST_ARITY;
 use crate::look::{beyond, is_lower, name_at, names, number_at, starts};
-use sap_terms::{Builtin, Mem, Name, Symbol};
+use sap_terms::{Builtin, MOST_ARITY, Mem, Name, Symbol};
 use sap_text::Token;
 use std::alloc::Global;
 
@@ -51,10 +50,10 @@ fn is_private(bytes: &[u8], tokens: &[Token]) -> bool
 }
 
 #[tactic(auto, using(crate::proofs::Steps::steps))]
-fn is_encryption(bytes: &[u8], tokens: &[Token]) -> bool
-    ensures { result ≡ is_encryption (words_of bytes.now tokens.now) }
+fn is_joined(bytes: &[u8], tokens: &[Token], word: &str) -> bool
+    ensures { result ≡ is_joined word.now (words_of bytes.now tokens.now) }
 {
-    starts(bytes, tokens, "-") && names(bytes, beyond(1, tokens), "encryption")
+    starts(bytes, tokens, "-") && names(bytes, beyond(1, tokens), word)
 }
 
 #[tactic(auto, using(crate::proofs::Steps::steps))]
@@ -65,11 +64,17 @@ fn read_builtin<'a>(bytes: &[u8], tokens: &'a [Token]) -> Option<(Builtin, &'a [
         Some((Builtin::Hashing, beyond(1, tokens)))
     } else if names(bytes, tokens, "signing") {
         Some((Builtin::Signing, beyond(1, tokens)))
-    } else if is_encryption(bytes, beyond(1, tokens)) {
+    } else if is_joined(bytes, beyond(1, tokens), "encryption") {
         if names(bytes, tokens, "symmetric") {
             Some((Builtin::Symmetric, beyond(3, tokens)))
         } else if names(bytes, tokens, "asymmetric") {
             Some((Builtin::Asymmetric, beyond(3, tokens)))
+        } else {
+            None
+        }
+    } else if is_joined(bytes, beyond(1, tokens), "signing") {
+        if names(bytes, tokens, "revealing") {
+            Some((Builtin::RevealingSigning, beyond(3, tokens)))
         } else {
             None
         }

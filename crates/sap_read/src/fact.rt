@@ -7,10 +7,9 @@ ghost use Rattle.sap_read.specs.Places.{IsFactAt, fact_levels};
 ghost use Rattle.sap_read.specs.code.Reading.{fact_args, fact_from, fact_at, term};
 ghost use Rattle.sap_read.specs.code.View.{GivesFact};
 
-use crate::limits::MOST_TERM_LEVELS;
 use crate::look::{beyond, is_upper, name_at, starts};
 use crate::term::read_args;
-use sap_terms::{Fact, Mem, Name, Signature, TermList};
+use sap_terms::{Fact, MOST_TERM_LEVELS, Mem, Name, Signature, TermList};
 use sap_text::Token;
 use std::alloc::Global;
 

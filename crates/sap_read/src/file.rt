@@ -17,12 +17,11 @@ ghost use Rattle.sap_read.specs.declared.fault.ReadFault.TheVariants.{Mem as Out
 use crate::expansion::boxed;
 use crate::fault::ReadFault;
 use crate::items::{Declared, read_declarations, read_items};
-use crate::limits::MOST_FILE_NAME_BYTES;
 use crate::look::{beyond, name_at, starts};
 use crate::whole::whole_process;
 use sap_formula::{LemmaList, RestrictionList};
-use sap_process::{Process, well_formed};
-use sap_terms::{Copied, Mem, Name, Signature};
+use sap_process::{Process, well_formed_boxed};
+use sap_terms::{Copied, MOST_FILE_NAME_BYTES, Mem, Name, Signature};
 use sap_text::{Lex, Token, tokens};
 use std::alloc::Global;
 
@@ -180,7 +179,7 @@ fn sort(alloc: Global, sig: &Signature, p: &Process) -> Result<Box<Process>, Rea
         → (w : Flaw) × (path : List ℕ) × (e ≡ IllFault w path)
         × IsFirstFlaw sig.now (proc p.now) w path }
 {
-    Ok(boxed(alloc, well_formed(alloc, sig, p)?)?)
+    Ok(well_formed_boxed(alloc, sig, p)?)
 }
 
 /// The process that the items write, before it is looked at.

@@ -18,9 +18,9 @@ ghost use Rattle.sap_process.specs.Proc.{Proc};
 ghost use Rattle.sap_process.specs.Flaws.{IsFirstFlaw, IsWellFormed};
 ghost use Rattle.sap_process.specs.declared.flaw.Flaw.{Flaw};
 ghost use Rattle.sap_read.specs.declared.fault.ReadFault.{ReadFault};
-ghost use Rattle.sap_read.specs.declared.limits.TheConstants.{MOST_TERM_LEVELS};
+ghost use Rattle.sap_terms.specs.declared.limits.TheConstants.{MOST_TERM_LEVELS};
 
-use sap_process::one_flaw;
+use sap_process::{one_flaw, some_flaw};
 use sap_text::{one_answer, some_answer};
 
 /// A law: from one place words spell at most one term that no opening parenthesis follows, and end it at one place.
@@ -81,14 +81,12 @@ pub fn one_file()
     one_flaw();
 }
 
-/// A law: each list of bytes is read as something, as a file or as refused for a cause, if each process has no flaw or one
-/// that counts.
+/// A law: each list of bytes is read as something, as a file or as refused for a cause.
 pub fn some_file()
-    ensures { ((g : Sig) (p : Proc) → IsWellFormed g p ⊎ ((which : Flaw) × (path : List ℕ)
-        × IsFirstFlaw g p which path))
-        → (z : List ℕ) → ((o : Result FileContent ReadFault) × IsRead z o) }
+    ensures { (z : List ℕ) → ((o : Result FileContent ReadFault) × IsRead z o) }
 {
     some_answer();
+    some_flaw();
 }
 
 /// A law: the words behind a header are cut into items in one way, and spell at most one list of items, under a signature and

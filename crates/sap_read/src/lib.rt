@@ -10,7 +10,6 @@ mod file;
 mod items;
 mod labels;
 mod laws;
-mod limits;
 mod look;
 mod names;
 mod process;
@@ -23,8 +22,5 @@ pub use file::{File, read_file, read_file_boxed};
 pub use laws::{
     grammar_is_one, one_fact, one_file, one_list_of_items, one_process, one_term,
     processes_by_hand, some_file,
-};
-pub use limits::{
-    MOST_ARITY, MOST_FILE_NAME_BYTES, MOST_PROCESS_LEVELS, MOST_PROCESS_PLACES, MOST_TERM_LEVELS,
 };
 pub use term::read_term;

@@ -13,9 +13,8 @@ mod grammar;
 mod parts;
 
 use crate::draft::Draft;
-use crate::limits::MOST_PROCESS_LEVELS;
 use crate::process::grammar::read_par;
-use sap_terms::{Mem, Signature};
+use sap_terms::{MOST_PROCESS_LEVELS, Mem, Signature};
 use sap_text::Token;
 use std::alloc::Global;
 

@@ -8,9 +8,8 @@ ghost use Rattle.sap_read.specs.Places.{IsTermAt};
 ghost use Rattle.sap_read.specs.code.Reading.{is_no_arity, plain, signed, symbol, named, leaf, list_of, args, paired, tuple, term, rest, quoted_at};
 ghost use Rattle.sap_read.specs.code.View.{GivesTerm, GivesArgs};
 
-use crate::limits::MOST_TERM_LEVELS;
 use crate::look::{beyond, is_lower, name_at, quoted_at, starts};
-use sap_terms::{Mem, Name, Signature, Sort, Term, TermList, Var};
+use sap_terms::{MOST_TERM_LEVELS, Mem, Name, Signature, Sort, Term, TermList, Var};
 use sap_text::Token;
 use std::alloc::Global;
 

@@ -13,10 +13,9 @@ use crate::draft::{Definition, Draft};
 use crate::expansion::expand;
 use crate::fault::ReadFault;
 use crate::labels::{first_repeated, the_process};
-use crate::limits::{MOST_PROCESS_LEVELS, MOST_PROCESS_PLACES};
 use crate::names::{Names, levels, names_of, nodes};
 use sap_process::Process;
-use sap_terms::{Copied, Items, Name};
+use sap_terms::{Copied, Items, MOST_PROCESS_LEVELS, MOST_PROCESS_PLACES, Name};
 use std::alloc::Global;
 
 // Whether the process is too large, its names replaced by what they stand for.

@@ -1,5 +1,4 @@
 pub mod Known
-pub mod Over
 pub mod Sorts
 pub mod Elements
 pub mod Takings

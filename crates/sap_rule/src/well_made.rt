@@ -1,16 +1,14 @@
 ghost use Rattle.std.specs.Prelude.{◌≡◌, ◌↔◌, ℕ, List, All, IfOk, IsTrue, true, false, Some, if◌then◌else◌};
 ghost use Rattle.std.specs.Str.{bytes_eq};
 ghost use Rattle.indexmap.specs.IndexMap.{get};
-ghost use Rattle.sap_terms.specs.Tree.{trees_of};
-ghost use Rattle.sap_terms.specs.View.{tree};
 ghost use Rattle.sap_rewrite.specs.Match.{HaveOneSort};
-ghost use Rattle.sap_rule.specs.code.Checks.{is_over, all_over, IsOtherSort};
+ghost use Rattle.sap_rule.specs.code.Checks.{IsOtherSort};
 ghost use Rattle.sap_rule.specs.WellMade.{IsSingle, IsKnowledge, IsLeftFact, IsRightFact, IsActFact, IsFactOver, IsRuleOver, IsWellShaped, IsWellMade};
 
 use crate::Rule;
 use crate::variables::vars_of;
 use indexmap::IndexMap;
-use sap_terms::{Copied, Fact, FactList, Mem, Name, Signature, Sort, Term, TermList, Var, Vars};
+use sap_terms::{Copied, Fact, FactList, Mem, Name, Signature, Sort, Var, Vars};
 use std::alloc::Global;
 
 /// Whether the rule can be run: it is over the signature and well-shaped. It takes time in proportion to the rule, where
@@ -115,7 +113,7 @@ fn are_over(sig: &Signature, fs: &FactList) -> bool
 fn is_fact_over(sig: &Signature, f: &Fact) -> bool
     ensures { IsTrue result ↔ IsFactOver sig.now f.now }
 {
-    all_over(sig, &f.args)
+    sig.are_over(&f.args)
 }
 
 fn is_knowledge(name: &Name) -> bool
@@ -129,34 +127,6 @@ fn is_single(f: &Fact) -> bool
     ensures { IsTrue result ↔ IsSingle f.now }
 {
     !f.persistent && f.args.len() == 1
-}
-
-// Whether each symbol of the term is held with its arity.
-#[cycle(is_over)]
-#[tactic(auto, using(crate::proofs::Over::over_laws))]
-fn is_over(sig: &Signature, t: &Term) -> bool
-    ensures { result ≡ is_over sig.now (tree t.now) }
-{
-    match t {
-        Term::App(f, ts) => match sig.arity(f) {
-            Some(n) => n == ts.len() && all_over(sig, ts),
-            None => false,
-        },
-        _ => true,
-    }
-}
-
-#[cycle(is_over)]
-#[tactic(auto, using(crate::proofs::Over::over_laws))]
-fn all_over(sig: &Signature, ts: &TermList) -> bool
-    ensures { result ≡ all_over sig.now (trees_of ts.now) }
-{
-    for k in 0..ts.len() {
-        if !is_over(sig, ts.at(k)) {
-            return false;
-        }
-    }
-    true
 }
 
 // Whether no name stands with two sorts.

@@ -3,7 +3,7 @@ use crate::notation::{bindings, part, push_written};
 use crate::show::{Shown, show_file, show_numbered, show_place, show_process, show_word};
 use sap_gen::first_unbuilt;
 use sap_process::{Process, substitute};
-use sap_read::{File, read_file};
+use sap_read::{File, read_file_boxed};
 use sap_terms::{Bindings, Mem, Signature};
 use sap_text::Text;
 use std::alloc::Global;
@@ -20,17 +20,10 @@ pub fn push_file(out: &mut Text, text: &str) -> Shown {
     }
 }
 
-fn read(alloc: Global, bytes: &[u8]) -> Option<Box<File>> {
-    match read_file(alloc, bytes) {
-        Ok(file) => Box::new(alloc, file).ok(),
-        Err(_) => None,
-    }
-}
-
 fn file_of(alloc: Global, text: &str) -> Option<Box<File>> {
     let mut bytes = Text::new(alloc);
     push_file(&mut bytes, text).ok()?;
-    read(alloc, bytes.as_bytes())
+    read_file_boxed(alloc, bytes.as_bytes()).ok()
 }
 
 fn show_sizes(out: &mut Text, p: &Process) -> Shown {

@@ -160,7 +160,7 @@ fn add_words(alloc: Global, sig: &mut Signature, words: &str) -> Option<()> {
 }
 
 /// The signature of these words, each a builtin or a symbol with its arity, behind `-` where it is private:
-/// `hashing symmetric asymmetric signing f/2 -k/1`.
+/// `hashing symmetric asymmetric signing revealing f/2 -k/1`.
 pub fn signature(alloc: Global, words: &str) -> Option<Signature> {
     let mut sig = Signature::new(alloc).ok()?;
     add_words(alloc, &mut sig, words)?;

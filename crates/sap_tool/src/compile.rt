@@ -6,14 +6,13 @@ ghost use Rattle.sap_gen.specs.Built.{Built, built, IsBuilt};
 ghost use Rattle.sap_gen.specs.Unbuilt as unbuilt;
 ghost use Rattle.sap_read.specs.Files.{FileContent, IsRead, told_by};
 ghost use Rattle.sap_tool.specs.declared.refusal.Refusal.TheVariants as refusals;
-ghost use Rattle.sap_read.specs.declared.fault.ReadFault.TheVariants as faults;
 ghost use Rattle.sap_tool.specs.BuiltFile.{most_bytes, compiled_text, IsTheoryOf};
 ghost use Rattle.sap_tool.specs.Refusals.{IsRefusal, refused_line, fault_text, at_place};
 
 use crate::fault_text::{push_fault, push_placed};
 use crate::refusal::Refusal;
 use sap_gen::{first_unbuilt, theory_of};
-use sap_read::{File, ReadFault, read_file};
+use sap_read::{File, ReadFault, read_file_boxed};
 use sap_terms::{Mem, Path};
 use sap_text::Text;
 use sap_theory::print;
@@ -51,26 +50,10 @@ fn read(alloc: Global, bytes: &[u8]) -> Result<Box<File>, Refusal>
         × (f.value.restrictions ≡ []) × (f.value.lemmas ≡ [])) }
     ensures refused { (line : List ℕ) → IsErrOf result (refusals.Told line) → IsRefusal bytes.now line }
 {
-    match read_boxed(alloc, bytes) {
+    match read_file_boxed(alloc, bytes) {
         Ok(file) => Ok(file),
         Err(fault) => Err(told(fault_line(alloc, &fault))),
     }
-}
-
-/// What `read_file` answers, in a box.
-fn read_boxed(alloc: Global, bytes: &[u8]) -> Result<Box<File>, ReadFault>
-    ensures accepted { IfOk result (λ f. IsRead bytes.now (Ok (told_by f.value))
-        × (f.value.restrictions ≡ []) × (f.value.lemmas ≡ [])) }
-    ensures refused { (e : ReadFault) → IsErrOf result e → (e ≡ faults.Mem → ⊥) → IsRead bytes.now (Err e) }
-{
-    Ok(boxed(alloc, read_file(alloc, bytes)?)?)
-}
-
-/// The file in a box.
-fn boxed(alloc: Global, file: File) -> Result<Box<File>, Mem>
-    ensures { IfOk result (λ b. b.value ≡ file) }
-{
-    Ok(Box::new(alloc, file)?)
 }
 
 /// Refuses by this line, or for want of memory where there is none.

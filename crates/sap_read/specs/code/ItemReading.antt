@@ -4,13 +4,13 @@ use Rattle.std.specs.List.{prefix_len}
 use Rattle.std.specs.Str.{bytes_eq}
 use Rattle.sap_terms.specs.declared.signature.Symbol.{Symbol}
 use Rattle.sap_terms.specs.declared.signature.Builtin.{Builtin}
-use Rattle.sap_terms.specs.declared.signature.Builtin.TheVariants.{Hashing, Symmetric, Asymmetric, Signing}
+use Rattle.sap_terms.specs.declared.signature.Builtin.TheVariants.{Hashing, Symmetric, Asymmetric, Signing, RevealingSigning}
 use Rattle.sap_read.specs.Words.{Word, mark, name, number, quoted, starts, is_lower}
 use Rattle.sap_read.specs.Item.{Declaration, of_builtin, of_symbol}
 use Rattle.sap_read.specs.Cut.{Placed, words, begins_item}
 use Rattle.sap_read.specs.ItemGrammar.{value}
 use Rattle.sap_read.specs.code.Reading.{Read, Reader, given, name_at}
-use Rattle.sap_read.specs.declared.limits.TheConstants.{MOST_ARITY}
+use Rattle.sap_terms.specs.declared.limits.TheConstants.{MOST_ARITY}
 
 -- no item begins here
 abbrev pub goes_on : Placed → Bool
@@ -44,18 +44,20 @@ is_name x (Some y) = bytes_eq y x
 abbrev pub names : List ℕ → List Word → Bool
 names x ws = is_name x (name_at ws)
 
--- behind the first name of a cipher
-abbrev pub is_encryption : List Word → Bool
-is_encryption ws = starts (codes "-") ws && names (codes "encryption") (drop 1 ws)
+-- behind the first name of a builtin: a dash and this name
+abbrev pub is_joined : List ℕ → List Word → Bool
+is_joined x ws = starts (codes "-") ws && names x (drop 1 ws)
 
 abbrev pub builtin_at : Reader Builtin
 builtin_at ws =
     if names (codes "hashing") ws then Some (Hashing, drop 1 ws)
     else if names (codes "signing") ws then Some (Signing, drop 1 ws)
-    else if is_encryption (drop 1 ws) then
+    else if is_joined (codes "encryption") (drop 1 ws) then
     (if names (codes "symmetric") ws then Some (Symmetric, drop 3 ws)
     else if names (codes "asymmetric") ws then Some (Asymmetric, drop 3 ws)
     else None)
+    else if is_joined (codes "signing") (drop 1 ws) then
+    (if names (codes "revealing") ws then Some (RevealingSigning, drop 3 ws) else None)
     else None
 
 abbrev pub as_number : Word → Option (List ℕ)

@@ -13,7 +13,7 @@ use Rattle.sap_read.specs.Item.{Body}
 use Rattle.sap_read.specs.Replaced.{replaced, after_body, no_meaning}
 use Rattle.sap_read.specs.Causes.{unknown_from, is_among}
 use Rattle.sap_read.specs.code.Drafts.{written, body}
-use Rattle.sap_read.specs.declared.limits.TheConstants.{MOST_PROCESS_LEVELS, MOST_PROCESS_PLACES}
+use Rattle.sap_terms.specs.declared.limits.TheConstants.{MOST_PROCESS_LEVELS, MOST_PROCESS_PLACES}
 
 -- what names mean behind these processes, where they mean this before them
 abbrev pub meaning : (List ℕ → Proc) → List Body → List ℕ → Proc

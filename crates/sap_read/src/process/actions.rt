@@ -5,7 +5,7 @@ ghost use Rattle.sap_read.specs.Words.{words_of};
 ghost use Rattle.sap_read.specs.code.ProcessReading.{channel, shown_facts, shown_event, up_to, second_term, bound_as, bound, right_side, embedded_rule, inserted_at, inserted, on_term, state_action, action_of};
 ghost use Rattle.sap_read.specs.code.ProcessView.{GivesAction, to_adversary, on_channel, on_one};
 ghost use Rattle.sap_read.specs.code.Drafts.{doing};
-ghost use Rattle.sap_read.specs.declared.limits.TheConstants.{MOST_TERM_LEVELS};
+ghost use Rattle.sap_terms.specs.declared.limits.TheConstants.{MOST_TERM_LEVELS};
 
 use crate::draft::Doing;
 use crate::look::{beyond, name_at, starts};

@@ -5,7 +5,7 @@ ghost use Rattle.sap_read.specs.Written.{test};
 ghost use Rattle.sap_read.specs.Words.{words_of};
 ghost use Rattle.sap_read.specs.code.ProcessReading.{up_to, equality, compared, found, entry, looked_up};
 ghost use Rattle.sap_read.specs.code.ProcessView.{GivesChoice};
-ghost use Rattle.sap_read.specs.declared.limits.TheConstants.{MOST_TERM_LEVELS};
+ghost use Rattle.sap_terms.specs.declared.limits.TheConstants.{MOST_TERM_LEVELS};
 
 use crate::look::{beyond, name_at, starts};
 use crate::process::build::{Branching, comparing, looking_up};

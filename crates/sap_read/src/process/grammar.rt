@@ -5,7 +5,7 @@ ghost use Rattle.sap_read.specs.code.Reading.{name_at};
 ghost use Rattle.sap_read.specs.code.ProcessReading.{second_branch, branches, condition, looking, going_on, call_or_action, enclosed, repeated, beside, starts_bar, seq, par};
 ghost use Rattle.sap_read.specs.code.ProcessView.{GivesDraft, chosen};
 ghost use Rattle.sap_read.specs.code.Drafts.{doing, written};
-ghost use Rattle.sap_read.specs.declared.limits.TheConstants.{MOST_TERM_LEVELS};
+ghost use Rattle.sap_terms.specs.declared.limits.TheConstants.{MOST_TERM_LEVELS};
 
 use crate::draft::{Doing, Draft};
 use crate::look::{beyond, name_at, starts, starts_zero};

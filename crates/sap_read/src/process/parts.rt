@@ -7,10 +7,9 @@ ghost use Rattle.sap_read.specs.code.View.{GivesTerm, GivesFact};
 ghost use Rattle.sap_read.specs.code.ProcessView.{GivesFacts};
 
 use crate::fact::has_few_levels;
-use crate::limits::MOST_TERM_LEVELS;
 use crate::look::{beyond, starts};
 use crate::{fact, term};
-use sap_terms::{Fact, FactList, Mem, Signature, Term};
+use sap_terms::{Fact, FactList, MOST_TERM_LEVELS, Mem, Signature, Term};
 use sap_text::Token;
 use std::alloc::Global;
 

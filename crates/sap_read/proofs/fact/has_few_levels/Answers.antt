@@ -3,7 +3,7 @@ use Rattle.sap_terms.specs.Tree.{level_count}
 use Rattle.sap_terms.specs.View.{tree}
 use Rattle.sap_read.proofs.Levels.{few-take, uncut}
 use Rattle.sap_read.proofs.fact.has_few_levels.Goals as goal
-use Rattle.sap_read.specs.declared.limits.TheConstants.{MOST_TERM_LEVELS}
+use Rattle.sap_terms.specs.declared.limits.TheConstants.{MOST_TERM_LEVELS}
 
 pub loop-k-preserved : goal.loop-k-preserved
 loop-k-preserved c =

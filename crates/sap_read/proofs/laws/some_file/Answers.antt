@@ -1,6 +1,6 @@
-use Rattle.sap_read.specs.declared.limits.TheConstants.{MOST_FILE_NAME_BYTES}
+use Rattle.sap_terms.specs.declared.limits.TheConstants.{MOST_FILE_NAME_BYTES}
 use Rattle.sap_read.proofs.SomeFile.{some_file}
 use Rattle.sap_read.proofs.laws.some_file.Goals as goal
 
 pub returns : goal.returns
-returns c = λ judged z. let o = c.some_answer.ensures MOST_FILE_NAME_BYTES z in some_file judged z o.0 o.1
+returns c = λ z. let o = c.some_answer.ensures MOST_FILE_NAME_BYTES z in some_file c.some_flaw.ensures z o.0 o.1

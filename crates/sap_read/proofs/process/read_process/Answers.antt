@@ -5,7 +5,7 @@ use Rattle.sap_read.specs.code.ProcessReading.{par}
 use Rattle.sap_read.specs.code.Drafts.{written}
 use Rattle.sap_read.proofs.WholeProcesses.{no_words, no_other_whole, nothing_whole, whole_is}
 use Rattle.sap_read.proofs.process.read_process.Goals as goal
-use Rattle.sap_read.specs.declared.limits.TheConstants.{MOST_PROCESS_LEVELS, MOST_TERM_LEVELS}
+use Rattle.sap_terms.specs.declared.limits.TheConstants.{MOST_PROCESS_LEVELS, MOST_TERM_LEVELS}
 
 pub returns-in-None-clause-none : goal.returns-in-None-clause-none
 returns-in-None-clause-none c =

@@ -4,7 +4,7 @@ use Rattle.sap_read.specs.Words.{words_of}
 use Rattle.sap_read.specs.code.Reading.{term}
 use Rattle.sap_read.proofs.Places.{term_reader, nothing_at, no_other_at, it_is_at, rest_within}
 use Rattle.sap_read.proofs.term.read_term.Goals as goal
-use Rattle.sap_read.specs.declared.limits.TheConstants.{MOST_TERM_LEVELS}
+use Rattle.sap_terms.specs.declared.limits.TheConstants.{MOST_TERM_LEVELS}
 
 pub returns-in_default-clause-none : goal.returns-in_default-clause-none
 returns-in_default-clause-none c =

@@ -5,7 +5,7 @@ use Rattle.sap_read.specs.code.ProcessReading.{short_fact}
 use Rattle.sap_read.proofs.Lists.{shorter_still, turn_bad, turn_go, turn_last, turn_stop}
 use Rattle.sap_read.proofs.FactLists.{short_fact_nothing, short_fact_shrinks}
 use Rattle.sap_read.proofs.process.parts.read_fact_list.Goals as goal
-use Rattle.sap_read.specs.declared.limits.TheConstants.{MOST_TERM_LEVELS}
+use Rattle.sap_terms.specs.declared.limits.TheConstants.{MOST_TERM_LEVELS}
 
 pub returns-then-starts : goal.returns-then-starts
 returns-then-starts c =

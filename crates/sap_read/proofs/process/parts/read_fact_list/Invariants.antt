@@ -3,7 +3,7 @@ use Rattle.sap_read.specs.Words.{words_of}
 use Rattle.sap_read.specs.code.Reading.{behind, list_of}
 use Rattle.sap_read.specs.code.ProcessReading.{short_fact}
 use Rattle.sap_read.proofs.process.parts.read_fact_list.Given as goal
-use Rattle.sap_read.specs.declared.limits.TheConstants.{MOST_TERM_LEVELS}
+use Rattle.sap_terms.specs.declared.limits.TheConstants.{MOST_TERM_LEVELS}
 
 abbrev pub invariant-loop-rest : goal.invariant-loop-rest
 invariant-loop-rest l =
