@@ -14,7 +14,7 @@ pub enum Deny {
     Arity { f: Name },
     /// The first number that isn't an entry.
     NoEntry { k: u64 },
-    /// The normal form has more than 256 nodes.
+    /// What the symbol gives is too large: its normal form passes the limit on nodes.
     TermLarge,
 }
 

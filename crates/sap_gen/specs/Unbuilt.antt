@@ -6,6 +6,6 @@ use Rattle.sap_process.specs.Proc.{Proc}
 use Rattle.sap_process.specs.Sites.{Site, sites}
 use Rattle.sap_gen.specs.Sites.{is_built_form}
 
--- the path of the first place in preorder whose form isn't built
+-- the path of the place, first in preorder, whose form has no rules
 abbrev pub first_unbuilt : Proc → Option (List ℕ)
 first_unbuilt p = option_map (λ (s : Site). s.path) (find (λ (s : Site). not (is_built_form s.body)) (sites p))

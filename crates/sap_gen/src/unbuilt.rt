@@ -13,7 +13,7 @@ use sap_process::Process;
 use sap_terms::{Copied, Fact, Mem, Path, Term};
 use std::alloc::Global;
 
-/// The path of the first place in preorder whose form isn't built; none where there is no such place, and so where
+/// Where, in preorder, a form without rules stands first; none where no place has one, and so where
 /// `generate` may be called. Want of memory is the only error. It recurses as deep as the process.
 pub fn first_unbuilt(alloc: Global, p: &Process) -> Result<Option<Path>, Mem>
     ensures first { IfOk result (λ o. o ≡ first_unbuilt (proc p.now)) }

@@ -8,7 +8,7 @@ use Rattle.sap_terms.specs.AdversaryFacts.{k_fact}
 use Rattle.sap_terms.specs.Choice.{Choice, instance}
 use Rattle.sap_terms.specs.Deduce.{IsDerived, IsDerivation}
 use Rattle.sap_terms.specs.Equal.{IsTheoryEqual}
-use Rattle.sap_terms.specs.Equations.{equations, reveal_verify_name}
+use Rattle.sap_terms.specs.Equations.{equations}
 use Rattle.sap_terms.specs.Message.{IsMessage}
 use Rattle.sap_terms.specs.Modulo.{IsEqualFact, AreEqualFacts}
 use Rattle.sap_terms.specs.Normal.{IsNormalForm}
@@ -33,7 +33,7 @@ use Rattle.sap_process.proofs.StepLemmas.{own_form, parts, head_part, second_par
 use Rattle.sap_terms.proofs.SameLemmas.{and_left, and_right, and_true}
 use Rattle.sap_terms.specs.Variables.{tree_vars, facts_vars}
 use Rattle.sap_terms.specs.Choice.{fits_sort}
-use Rattle.sap_terms.specs.Equations.{snd_name, verify_name, app0, true_name}
+use Rattle.sap_terms.specs.Equations.{snd_name, verify_name, reveal_verify_name, app0, true_name}
 
 -- what the one thread shows
 abbrev shown_by : List (Option Proc) → Tree

@@ -38,7 +38,7 @@ pub record HasReservedVar (s : Site) : Type 0 where
   pub stands : Contains (head_vars s.body) var
   pub reserved : starts_with nat_eq var.name (codes "sapic_") ≡ true
 
--- an event or a fact of an embedded rule has a reserved name
+-- a fact that is shown, taken or added has a name that rules use themselves
 pub record HasReservedFact (s : Site) : Type 0 where
   pub fact : Fact
   pub stands : Contains (stored_facts s.body ++ shown_facts s.body) fact
@@ -88,7 +88,7 @@ unbound scope (act a p) = unbound_at scope a
 unbound scope (test t u p q) = unbound_in scope (t ∷ u ∷ [])
 unbound scope (lookup t x p q) = unbound_in scope (t ∷ [])
 
--- `new` or `lookup` binds a name that is in scope
+-- the binder names what is in scope already
 pub record Rebinds (s : Site) : Type 0 where
   pub var : Var
   pub stands : binder s.body ≡ Some var

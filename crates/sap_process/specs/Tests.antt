@@ -72,7 +72,7 @@ abbrev pub has_items : {X : Type 0} → List X → Bool
 has_items [] = false
 has_items (x ∷ xs) = true
 
--- `new` or `lookup` binds a name that is in scope
+-- the binder names what is in scope already
 abbrev pub rebinds : List Var → Proc → Bool
 rebinds scope p = option_map_or (λ (v : Var). is_known (var_names scope) v.name) (binder p) false
 

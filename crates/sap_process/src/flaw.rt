@@ -12,18 +12,18 @@ pub enum Flaw {
     BadFunction,
     /// A variable's name begins with `sapic_`.
     ReservedVar,
-    /// An event or a fact of an embedded rule has a reserved name.
+    /// A fact that is shown, taken or added has one of the names that rules use themselves.
     ReservedFact,
     /// A fact that an embedded rule takes or adds has the name of an earlier such fact, but another arity or persistence;
     /// or a fact that is shown has that of an earlier such fact, but another arity.
     FactClash,
     /// A pattern, of an input or of an embedded left side, holds a destructor.
     PatternDestructor,
-    /// A name is used that nothing above binds.
+    /// What is evaluated here has a variable that isn't in scope.
     Unbound,
-    /// `new` or `lookup` binds a name that is in scope.
+    /// The binder `new` or `lookup` names what is in scope already.
     Rebound,
-    /// A sign `~` or `$` isn't the sort of the name's binder.
+    /// A variable is signed otherwise than where it was bound.
     SortClash,
     /// More than 64 variables are in scope, one more for each lock above.
     ScopeFull,

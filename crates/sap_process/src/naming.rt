@@ -88,7 +88,7 @@ fn rule_has_unbound(
     Ok(found)
 }
 
-// Whether `new` or `lookup` binds a name that is in scope.
+// Whether the binder names what is in scope already.
 pub(crate) fn is_rebound(scope: &Scope, p: &Process) -> bool
     ensures { result ≡ rebinds scope.now (proc p.now) }
 {

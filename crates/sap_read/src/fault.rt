@@ -21,7 +21,7 @@ pub enum ReadFault {
     TwoProcesses { line: u64 },
     /// The first name of a process that no `let` item before the name's own item defines.
     UnknownProcess { name: Name },
-    /// The first name that two `let` items share.
+    /// A name that stands at two `let` items: the one whose first item comes first.
     DuplicateName { name: Name },
     /// The first function that is declared otherwise than before it, by its name.
     FunctionClash { name: Name },

@@ -23,7 +23,7 @@ EachHasForm = (e : Equations) (t : Tree) → (n : Tree) × IsNormalForm e t n
 abbrev pub FormIsOne : Type 0
 FormIsOne = (e : Equations) (t m n : Tree) → IsNormalForm e t m → IsNormalForm e t n → m ≡ n
 
--- two terms are theory-equal exactly where their normal forms are the same tree
+-- normal forms decide: the theory makes two terms equal if and only if they share a normal form
 abbrev pub FormsDecide : Type 0
 FormsDecide = (e : Equations) (t u m n : Tree) → IsNormalForm e t m → IsNormalForm e u n → IsTheoryEqual e t u ↔ (m ≡ n)
 

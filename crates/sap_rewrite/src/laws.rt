@@ -16,7 +16,7 @@ pub fn normal_forms_are_unique()
     ensures { FormIsOne }
 {}
 
-/// Two terms are theory-equal exactly where their normal forms are the same tree.
+/// Normal forms decide: the theory makes two terms equal if and only if they share a normal form.
 pub fn normal_forms_decide()
     ensures { FormsDecide }
 {}

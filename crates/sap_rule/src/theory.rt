@@ -31,7 +31,7 @@ impl Copied for Theory {
 }
 
 impl Theory {
-    /// The first rule of this name; None where there is none. It takes no memory, and time in proportion to the rules.
+    /// The rule of this name that stands first, if one has it. It takes no memory, and time in proportion to the rules.
     pub fn rule_named(&self, name: &Name) -> Option<&Rule>
         ensures { option_copied result ≡ rule_named self.now.rules name.now }
     {

@@ -13,7 +13,7 @@ pub enum RFault {
     Mem,
     /// No rule has the name.
     NoRule,
-    /// Another number of facts is cited than the rule's left side has.
+    /// The line cites too few facts, or too many, for the rule's left side.
     FactCount,
     /// At this place, from 1, stands the first cited number that is no live fact's, or a linear fact's that was cited before.
     FactMissing { place: u64 },
@@ -21,7 +21,7 @@ pub enum RFault {
     BadBinding,
     /// No substitution turns the left side into the cited facts.
     NoMatch,
-    /// A normal form has more than 256 nodes.
+    /// A normal form passes the limit on nodes.
     TermLarge,
     /// Where a destructor stands in the left side, a cited fact holds another normal form.
     Unequal,

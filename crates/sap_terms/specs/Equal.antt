@@ -4,7 +4,7 @@ use Rattle.sap_terms.specs.Tree.{Tree, apply, Trees, more}
 use Rattle.sap_terms.specs.Equations.{Equations, IsInstance}
 
 mutual
-  -- one instance of one equation at one place, in either direction
+  -- an equation used once, at one subterm, forwards or backwards
   pub data IsStep (e : Equations) : Tree → Tree → Type 0 where
     forward : {a b : Tree} → IsInstance e a b → IsStep e a b
     backward : {a b : Tree} → IsInstance e a b → IsStep e b a

@@ -42,7 +42,7 @@ IsMap (s ∷ ss) = (find_symbol ss s.name ≡ None) × IsMap ss
 abbrev pub IsPublic : Sig → List ℕ → Type 0
 IsPublic g n = MatchOption (find_symbol g.symbols n) ⊥ (λ (s : Symbol). s.private ≡ false)
 
--- the name is held with another arity or privacy
+-- the name was declared otherwise
 abbrev pub Clashes : List Symbol → List ℕ → ℕ → Bool → Type 0
 Clashes ss n a p = MatchOption (find_symbol ss n) ⊥ (λ (s : Symbol). ¬ ((s.arity ≡ a) × (s.private ≡ p)))
 
@@ -50,7 +50,7 @@ Clashes ss n a p = MatchOption (find_symbol ss n) ⊥ (λ (s : Symbol). ¬ ((s.a
 abbrev pub declared : List Symbol → List ℕ → ℕ → Bool → List Symbol
 declared ss n a p = if is_some (find_symbol ss n) then ss else ss ++ record { name = n; arity = a; private = p } ∷ []
 
--- the name heads the left side of an equation of pairs or of an added builtin
+-- some equation of pairs or of an added builtin has this symbol at the head of its left side
 abbrev pub is_destructor_of : Sig → List ℕ → Bool
 is_destructor_of g n =
     bytes_eq n (codes "fst") || bytes_eq n (codes "snd") || (bytes_eq n (codes "sdec") && g.builtins.symmetric) || (bytes_eq n (codes "adec") && g.builtins.asymmetric) || (bytes_eq n (codes "verify") && g.builtins.signing) || (bytes_eq n (codes "revealVerify") && g.builtins.revealing) || (bytes_eq n (codes "getMessage") && g.builtins.revealing)
@@ -79,7 +79,7 @@ abbrev pub same_bool : Bool → Bool → Bool
 same_bool true b = b
 same_bool false b = not b
 
--- the symbol's name is held with another arity or privacy
+-- the symbol's name was declared otherwise
 abbrev pub is_held_otherwise : List Symbol → Symbol → Bool
 is_held_otherwise ss x = option_map_or (λ (s : Symbol). not (nat_eq s.arity x.arity && same_bool s.private x.private)) (find_symbol ss x.name) false
 

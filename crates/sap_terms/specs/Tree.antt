@@ -4,7 +4,7 @@ use Rattle.std.proofs.Common.{ap}
 use Rattle.sap_terms.specs.declared.var.Var.{Var}
 
 mutual
-  -- a variable, a public name, a fresh name by its number, or a symbol on trees
+  -- a leaf is a variable, a public name, or a fresh name by its number; other trees have a symbol over trees
   pub data Tree : Type 0 where
     variable : Var → Tree
     public : List ℕ → Tree

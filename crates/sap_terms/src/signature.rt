@@ -37,7 +37,7 @@ pub enum Builtin {
 pub enum SigFault {
     /// Want of memory.
     Mem,
-    /// This name is held with another arity or privacy.
+    /// This name was declared otherwise: with other arguments, or private where it is public, or the reverse.
     Clash { name: Name },
 }
 
@@ -68,7 +68,7 @@ impl Model for Signature {
 }
 
 impl Signature {
-    /// The signature of pairs: `pair/2`, `fst/1` and `snd/1`, all public, and no builtin.
+    /// The signature that has pairs and their two parts, and nothing more.
     pub fn new(alloc: Global) -> Result<Signature, Mem>
         ensures { IfOk result (λ g. g ≡ pairs_alone) }
     {
@@ -109,7 +109,7 @@ impl Signature {
         }
     }
 
-    /// The k-th held name, from 0, in order of first declaration; None where at most k names are held.
+    /// The name that was declared as number k, counted from 0 without repetitions, if there are so many.
     pub fn symbol(&self, k: u64) -> Option<&Name>
         ensures name { option_copied result ≡ option_map (λ s. s.name) (slice_get self.now.symbols k) }
         ensures once { IsMap self.now.symbols }
@@ -231,7 +231,7 @@ fn symbols_of(alloc: Global, b: Builtin) -> Result<Items<Symbol>, Mem>
     }
 }
 
-// Whether the symbol's name is held with another arity or privacy.
+// Whether the symbol's name was declared otherwise.
 fn is_held_otherwise(symbols: &Named<Symbol>, symbol: &Symbol) -> bool
     ensures { result ≡ is_held_otherwise symbols.now symbol.now }
 {
@@ -274,7 +274,7 @@ fn declare_all(
 impl Signature {
     ghost use Rattle.sap_terms.specs.Equations.{equations, IsDestructor};
 
-    /// Whether the name heads the left side of an equation that is switched on.
+    /// Whether an equation of pairs or of an added builtin has this symbol at the head of its left side.
     #[tactic(auto, using(crate::proofs::SignatureLemmas::signature_laws))]
     pub fn is_destructor(&self, name: &Name) -> bool
         ensures heads { IsTrue result ↔ IsDestructor (equations self.now) name.now }

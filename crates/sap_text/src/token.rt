@@ -2,7 +2,7 @@
 /// processes as the manual of the Tamarin prover writes them; names are plain ASCII here.
 #[derive(Clone, Copy, Debug, PartialEq, Eq)]
 pub enum Kind {
-    /// A letter from a to z or A to Z, then letters, digits and `_`.
+    /// A name as programs have it: letters of ASCII, digits and `_`, a letter first.
     Ident,
     /// One or more decimal digits.
     Number,

@@ -15,7 +15,7 @@ pub struct FileShelf<'a, R: Files> {
     pub count: u64,
 }
 
-// A read of nothing is the end of the file. Each turn but the last reads at least one byte.
+// Where nothing is read the file ends, so each turn before reads some bytes.
 fn read_up_to<F: Read>(alloc: Global, file: &mut F, most: u64) -> Result<Vec<u8>, ShelfFault>
     requires { most ≤ 16777217 }
     ensures { IfOk result (λ v. length v.items ≤ most) }
