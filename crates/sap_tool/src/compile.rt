@@ -6,6 +6,7 @@ ghost use Rattle.sap_gen.specs.Built.{Built, built, IsBuilt};
 ghost use Rattle.sap_gen.specs.Unbuilt as unbuilt;
 ghost use Rattle.sap_read.specs.Files.{FileContent, IsRead, told_by};
 ghost use Rattle.sap_tool.specs.declared.refusal.Refusal.TheVariants as refusals;
+ghost use Rattle.sap_read.specs.declared.fault.ReadFault.TheVariants as faults;
 ghost use Rattle.sap_tool.specs.BuiltFile.{most_bytes, compiled_text, IsTheoryOf};
 ghost use Rattle.sap_tool.specs.Refusals.{IsRefusal, refused_line, fault_text, at_place};
 
