@@ -2,14 +2,15 @@
 """Where the proofs of the crates take their time.
 
 usage: bench/proof_times.py [--functions N] [CRATE..]
+       bench/proof_times.py [--functions N] --folder FOLDER
 
 Reads the times at which a check with one job wrote its checked modules, so run before, in each crate that is wanted,
 
     rm -rf out/incremental && rt check --jobs 1
 
-with nothing else running. A module's time is the gap to the module written before it. For each crate there is a line with the
+with nothing else running, and no other checkout on the machine from whose kept work the check would begin. A module's time is the gap to the module written before it. For each crate there is a line with the
 seconds in all, and how many of them went into walks through bodies (`Lts`), into joining walks with answers (`Proof`), into the
-rest of what is made for a function, and into specs and lemmas; then the functions that took longest.
+rest of what is made for a function, and into specs and lemmas; then the functions that took longest. --folder reads the modules of any folder that a check wrote.
 """
 import collections
 import os
@@ -23,10 +24,10 @@ HERE = os.path.dirname(os.path.dirname(os.path.abspath(__file__)))
 PAUSE = 400
 
 
-def modules(crate):
-    """Each checked module of the crate with the seconds that it took, in the order in which they were written."""
+def modules(folder):
+    """Each checked module of the folder with the seconds that it took, in the order in which they were written."""
     found = []
-    for at, _, names in os.walk(f"{HERE}/crates/{crate}/out/incremental"):
+    for at, _, names in os.walk(folder):
         for name in names:
             if name.endswith(".oantt"):
                 found.append((os.lstat(f"{at}/{name}").st_mtime, name[: -len(".oantt")]))
@@ -44,8 +45,8 @@ def function_of(name):
     return re.sub(r"^Rattle-|-proofs|-specs\.contracts|\.decls", "", name)
 
 
-def show(crate, most):
-    times = modules(crate)
+def show(crate, folder, most):
+    times = modules(folder)
     if not times:
         print(f"{crate:20} no checked modules: run rt check --jobs 1 there")
         return 0.0
@@ -69,8 +70,12 @@ def main(words):
     most = 5
     if words[:1] == ["--functions"]:
         most, words = int(words[1]), words[2:]
-    crates = words or sorted(os.listdir(f"{HERE}/crates"))
-    total = sum(show(it, most) for it in crates if words or os.path.isdir(f"{HERE}/crates/{it}/out/incremental"))
+    if words[:1] == ["--folder"]:
+        show(os.path.basename(words[1]), words[1], most)
+        return
+    kept = lambda crate: f"{HERE}/crates/{crate}/out/incremental"
+    crates = words or [it for it in sorted(os.listdir(f"{HERE}/crates")) if os.path.isdir(kept(it))]
+    total = sum(show(it, kept(it), most) for it in crates)
     print(f"{'all':20} {total:7.0f} s, {total / 60:.1f} minutes of one processor")
 
 
