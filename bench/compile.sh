@@ -5,6 +5,9 @@
 #   events  a name that stands 1,000 times for an event with so many arguments
 #   scopes  64 names in scope, and actions on them, up to 4,000 nodes; its forms aren't built, so the file is read and refused
 #   terms   a name that stands so often for a message of 100 levels; likewise read and refused
+#   rules   a name that stands 1,333 times for an embedded rule with so many occurrences of one variable; likewise
+#   facts   a name that stands 1,333 times for an embedded rule of so many facts; likewise
+#   vars    one embedded rule with so many occurrences of one variable; likewise
 #   names   so many doubling `let` items, of which the process uses the last; counted, and refused
 #   items   so many functions that are declared, up to a file of 1 MiB
 # usage: bench/compile.sh [TURNS]
@@ -51,6 +54,22 @@ terms() {
     term=$(awk 'BEGIN { for (k = 1; k < 100; k++) printf "f("; printf "\047a\047"; for (k = 1; k < 100; k++) printf ")" }')
     parallel "$1" A "functions: f/1 let A = out($term)"
 }
+
+# An embedded rule that takes so many facts of so many arguments each.
+rule() {
+    awk -v facts="$1" -v args="$2" 'BEGIN {
+        for (k = 1; k <= args; k++) list = list (k > 1 ? "," : "") "x"
+        printf "[ "
+        for (k = 1; k <= facts; k++) printf "%sF(%s)", (k > 1 ? ", " : ""), list
+        printf " ] --> [ ]"
+    }'
+}
+
+rules() { parallel 1333 A "let A = $(rule "$(($1 / 50))" 50)"; }
+
+facts() { parallel 1333 A "let A = $(rule "$1" 0)"; }
+
+vars() { echo "theory Bench begin process: $(rule "$(($1 / 500))" 500) end"; }
 
 names() {
     awk -v n="$1" 'BEGIN {
@@ -104,8 +123,11 @@ kind() {
 }
 
 kind nodes 80 160 320 640 1333
-kind events 8 16 32 64 128 256
+kind events 8 16 32 64 128 256 512
 kind scopes 400 800 1600 3200
 kind terms 80 160 320 640 1333
+kind rules 250 500 1000 2000
+kind facts 250 500 1000 2000
+kind vars 65000 130000 260000 520000
 kind names 500 1000 2000 4000 8000 16000
 kind items 4000 8000 16000 32000

@@ -4,6 +4,7 @@
 
 mod facts;
 mod knowledge;
+mod made;
 mod normal;
 mod steps;
 
@@ -14,10 +15,10 @@ use std::{env, fs, io};
 // What is counted with these numbers.
 fn count(alloc: Global, kind: &str, first: u64, second: u64) -> Option<u64> {
     match kind {
-        "facts" => facts::taken_of(alloc, first).ok(),
-        "knowledge" => knowledge::nodes_of(alloc, first).ok(),
-        "normal" => normal::nodes_of(alloc, second, first).ok(),
-        _ => steps::shown_by(alloc, second, first).ok(),
+        "facts" => facts::taken_of(alloc, first),
+        "knowledge" => knowledge::nodes_of(alloc, first),
+        "normal" => normal::nodes_of(alloc, second, first),
+        _ => steps::shown_by(alloc, second, first),
     }
 }
 
@@ -34,20 +35,37 @@ fn number(words: &Vec<String>, place: usize) -> u64 {
     }
 }
 
-fn main(rt: HostRuntime) -> io::Result<()> {
-    let alloc = rt.alloc();
-    let words: Vec<String> = env::args(&rt)?.collect(alloc)?;
-    let Some(kind) = words.get(1) else {
-        for kind in ["facts", "knowledge", "normal", "steps"] {
-            let counted = count(alloc, kind, 20, 1000);
-            println!(rt; "{kind} {counted:?}")?;
-        }
-        let counted = count_tokens(alloc, b"theory A begin process: 0 end");
-        return println!(rt; "tokens {counted:?}");
-    };
-    let counted = match (kind.as_str(), words.get(2)) {
-        ("tokens", Some(path)) => count_tokens(alloc, fs::read(&rt, path.as_str())?.as_slice()),
-        _ => count(alloc, kind.as_str(), number(&words, 2), number(&words, 3)),
-    };
+// What each kind counts on a small input.
+fn tell_each(rt: &HostRuntime) -> io::Result<()> {
+    for kind in ["facts", "knowledge", "normal", "steps"] {
+        let counted = count(rt.alloc(), kind, 20, 1000);
+        println!(rt; "{kind} {counted:?}")?;
+    }
+    let counted = count_tokens(rt.alloc(), b"theory A begin process: 0 end");
+    println!(rt; "tokens {counted:?}")
+}
+
+fn count_in_file(rt: &HostRuntime, path: &str) -> io::Result<Option<u64>> {
+    let bytes = fs::read(rt, path)?;
+    Ok(count_tokens(rt.alloc(), bytes.as_slice()))
+}
+
+fn counted(rt: &HostRuntime, words: &Vec<String>, kind: &str) -> io::Result<Option<u64>> {
+    match (kind, words.get(2)) {
+        ("tokens", Some(path)) => count_in_file(rt, path.as_str()),
+        _ => Ok(count(rt.alloc(), kind, number(words, 2), number(words, 3))),
+    }
+}
+
+fn tell(rt: &HostRuntime, words: &Vec<String>, kind: &str) -> io::Result<()> {
+    let counted = counted(rt, words, kind)?;
     println!(rt; "{kind} {counted:?}")
+}
+
+fn main(rt: HostRuntime) -> io::Result<()> {
+    let words: Vec<String> = env::args(&rt)?.collect(rt.alloc())?;
+    match words.get(1) {
+        Some(kind) => tell(&rt, &words, kind.as_str()),
+        None => tell_each(&rt),
+    }
 }

@@ -6,9 +6,10 @@ use Rattle.std.proofs.lemmas.List.Elements.{All-nil, All-cons, All-head, All-tai
 use Rattle.std.proofs.lemmas.Option.{slice_get_within, get_or_from_slice_get, slice_get-get_or}
 use Rattle.std.specs.Prelude.{◌⊎◌}
 use Rattle.std.proofs.Common.{inl, inr}
-use Rattle.sap_terms.specs.Tree.{Tree, variable, public, fresh, apply}
+use Rattle.sap_terms.specs.Tree.{Tree}
 use Rattle.sap_terms.specs.Signature.{Sig}
-use Rattle.sap_terms.specs.Equations.{Equations, equations, IsInstance, first, second, symmetric, asymmetric, signing, revealing, revealed}
+use Rattle.sap_terms.specs.Equations.{equations}
+use Rattle.sap_terms.specs.Laws.{LeavesAreNormal}
 use Rattle.sap_terms.specs.Equal.{same}
 use Rattle.sap_terms.specs.Normal.{IsNormal}
 use Rattle.sap_terms.specs.Message.{IsMessage}
@@ -19,43 +20,22 @@ use Rattle.sap_deduce.specs.declared.origin.Origin.TheVariants.{Name, Public, Ou
 use Rattle.sap_deduce.specs.Entries.{Entry, Entries, terms_of, name_of, is_output, names_given, outputs_given, Adds, AreEntered, none_yet, one_more}
 use Rattle.sap_deduce.specs.Laws.{AreDeducible, CanBeEntered}
 
--- a leaf is normal
-abbrev IsApplied : Tree → Type 0
-IsApplied (variable v) = ⊥
-IsApplied (public n) = ⊥
-IsApplied (fresh k) = ⊥
-IsApplied (apply f ts) = Unit {0}
-
-left-applied : {e : Equations} {t r : Tree} → IsInstance e t r → IsApplied t
-left-applied first = tt
-left-applied second = tt
-left-applied (symmetric h) = tt
-left-applied (asymmetric h) = tt
-left-applied (signing h) = tt
-left-applied (revealing h) = tt
-left-applied (revealed h) = tt
-
-pub fresh-normal : (e : Equations) (n : ℕ) → IsNormal e (fresh n)
-fresh-normal e n = λ b i. left-applied i
-
-pub public-normal : (e : Equations) (a : List ℕ) → IsNormal e (public a)
-public-normal e a = λ b i. left-applied i
-
-pub adds-normal : (g : Sig) (es : List Entry) (origin : Origin) (t : Tree) → Adds g es origin t → IsNormal (equations g) t
-adds-normal g es (Name n) t a = let P : Tree → Type 0 = λ u. IsNormal (equations g) u in subst P (sym a) (fresh-normal (equations g) n)
-adds-normal g es Public t a = let P : Tree → Type 0 = λ u. IsNormal (equations g) u in subst P (sym a.1) (public-normal (equations g) a.0)
-adds-normal g es Output t a = a.normal
-adds-normal g es (Apply f ks) t a = a.form.normal
+-- what comes in is normal
+pub adds-normal : LeavesAreNormal → (g : Sig) (es : List Entry) (origin : Origin) (t : Tree) → Adds g es origin t → IsNormal (equations g) t
+adds-normal leaves g es (Name n) t a = let P : Tree → Type 0 = λ u. IsNormal (equations g) u in subst P (sym a) (leaves.of_fresh_name (equations g) n)
+adds-normal leaves g es Public t a = let P : Tree → Type 0 = λ u. IsNormal (equations g) u in subst P (sym a.1) (leaves.of_public_name (equations g) a.0)
+adds-normal leaves g es Output t a = a.normal
+adds-normal leaves g es (Apply f ks) t a = a.form.normal
 
 pub terms_of-push : (es : List Entry) (e : Entry) → terms_of (es ++ e ∷ []) ≡ terms_of es ++ e.term ∷ []
 terms_of-push es e = map-append (λ (x : Entry). x.term) es (e ∷ [])
 
 -- each entry is normal
-pub entered-normal : (g : Sig) (es : List Entry) → AreEntered g es → All (IsNormal (equations g)) (terms_of es)
-entered-normal g _ none_yet = All-nil (IsNormal (equations g))
-entered-normal g _ (one_more es t origin h a) =
+pub entered-normal : LeavesAreNormal → (g : Sig) (es : List Entry) → AreEntered g es → All (IsNormal (equations g)) (terms_of es)
+entered-normal leaves g _ none_yet = All-nil (IsNormal (equations g))
+entered-normal leaves g _ (one_more es t origin h a) =
     rw (terms_of-push es (record { term = t; origin = origin }))
-    (All-push (IsNormal (equations g)) (terms_of es) t (entered-normal g es h) (adds-normal g es origin t a))
+    (All-push (IsNormal (equations g)) (terms_of es) t (entered-normal leaves g es h) (adds-normal leaves g es origin t a))
 
 -- one more entry gives no less
 names_kept : (es : List Entry) (e : Entry) (n : ℕ) → Contains (names_given es) n → Contains (names_given (es ++ e ∷ [])) n
@@ -137,14 +117,14 @@ step_deducible g names frame (u ∷ us) d (suc k) t h n = step_deducible g names
 get_from_contains : {X : Type 0} (xs : List X) (x : X) → Contains xs x → (k : ℕ) × (slice_get xs k ≡ Some x)
 get_from_contains xs x c = (c.0, slice_get-get_or xs c.0 x c.1 ∙ ap Some c.2)
 
-pub entered-deducible : (k : Entries) → AreEntered k.sig k.entries → AreDeducible k
-entered-deducible k h i d below =
+pub entered-deducible : LeavesAreNormal → (k : Entries) → AreEntered k.sig k.entries → AreDeducible k
+entered-deducible leaves k h i d below =
     let ts : List Tree = terms_of k.entries in
     let t : Tree = slice_index_or ts i d in
     let found : (j : ℕ) × (slice_get (reverse ts) j ≡ Some t) = get_from_contains (reverse ts) t (Contains-reverse ts t (Contains-get_or ts i d below)) in
     step_deducible k.sig (names_given k.entries) (outputs_given k.entries) (reverse ts)
     (derivation k.sig (names_given k.entries) (outputs_given k.entries) k.entries h (λ n c. c) (λ u c. c)) found.0 t found.1
-    (entered-normal k.sig k.entries h i d below)
+    (entered-normal leaves k.sig k.entries h i d below)
 
 -- terms that entries have stand at numbers
 numbers : (xs ts : List Tree) → All (Contains xs) ts → (ks : List ℕ) × (map (slice_get xs) ks ≡ map Some ts)

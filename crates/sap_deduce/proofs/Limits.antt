@@ -6,6 +6,7 @@ use Rattle.sap_terms.specs.Tree.{Tree, node_count}
 use Rattle.sap_terms.specs.Signature.{Sig}
 use Rattle.sap_terms.specs.declared.limits.TheConstants.{MOST_TERM_NODES}
 use Rattle.sap_terms.specs.Equations.{equations}
+use Rattle.sap_terms.specs.Laws.{LeavesAreNormal}
 use Rattle.sap_terms.specs.Normal.{IsNormal}
 use Rattle.sap_deduce.specs.Entries.{Entry, terms_of, AreTermsAt, AreEntered}
 use Rattle.sap_deduce.proofs.Derivations.{terms_at-contained, entered-normal}
@@ -21,7 +22,7 @@ args-small es ks ts h at k d in_range =
     (terms_at-contained (terms_of es) ks ts at k d in_range)
 
 -- which are normal
-pub args-normal : (g : Sig) (es : List Entry) (ks : List ℕ) (ts : List Tree) → AreEntered g es → AreTermsAt es ks ts → All (IsNormal (equations g)) ts
-args-normal g es ks ts h at k d in_range =
-    All-contains (IsNormal (equations g)) (terms_of es) (slice_index_or ts k d) (entered-normal g es h)
+pub args-normal : LeavesAreNormal → (g : Sig) (es : List Entry) (ks : List ℕ) (ts : List Tree) → AreEntered g es → AreTermsAt es ks ts → All (IsNormal (equations g)) ts
+args-normal leaves g es ks ts h at k d in_range =
+    All-contains (IsNormal (equations g)) (terms_of es) (slice_index_or ts k d) (entered-normal leaves g es h)
     (terms_at-contained (terms_of es) ks ts at k d in_range)

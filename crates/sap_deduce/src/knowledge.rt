@@ -12,7 +12,10 @@ use crate::Deny;
 use crate::entry::Entry;
 use crate::origin::Origin;
 use sap_rewrite::{Cut, forms_are_messages, normal_on};
-use sap_terms::{Copied, Items, MOST_TERM_NODES, Mem, Name, Numbers, Signature, Term};
+use sap_terms::{
+    Copied, Items, MOST_TERM_NODES, Mem, Name, Numbers, Signature, Term, leaves_are_normal,
+    names_are_messages,
+};
 use std::alloc::Global;
 use std::marker::Model;
 
@@ -25,7 +28,7 @@ pub struct Knowledge {
 
 impl Model for Knowledge {
     ghost use Rattle.std.specs.Coded.{codes};
-    ghost use Rattle.sap_terms.specs.code.Codes.{tree_code};
+    ghost use Rattle.sap_terms.specs.Codes.{tree_code};
     ghost use Rattle.sap_deduce.specs.Entries.{Entries, AreEntries};
 
     ghost Value = { Entries };
@@ -49,6 +52,13 @@ impl Knowledge {
             sig,
             entries: Items::new(alloc),
         })
+    }
+
+    /// The signature that the terms are over.
+    pub fn signature(&self) -> &Signature
+        ensures { result.now ≡ self.now.sig }
+    {
+        &self.sig
     }
 
     /// The number of entries.
@@ -155,6 +165,7 @@ impl Knowledge {
         ensures within { IfOk result (λ t. node_count (tree t) ≤ MOST_TERM_NODES) }
         ensures denied { IfErr result (IsLarge self.now f.now numbers.now) }
     {
+        leaves_are_normal();
         let terms = self.terms_at(alloc, numbers)?;
         match normal_on(alloc, &self.sig, f, &terms, MOST_TERM_NODES) {
             Ok(form) => Ok(form),
@@ -224,6 +235,8 @@ impl Knowledge {
         ensures within { All (λ t. node_count t ≤ MOST_TERM_NODES) (terms_of self.now.entries) }
         ensures deducible { AreDeducible self.now }
     {
+        names_are_messages();
+        leaves_are_normal();
         forms_are_messages();
         self.sig.builtins_are_held();
     }

@@ -1,6 +1,6 @@
 ghost use Rattle.std.specs.Prelude.{◌≡◌, ◌+◌, ◌<◌, ◌≤◌, [], ◌∷◌, ◌++◌, length, IsOk, IfOk, OnOk, OnErr, Some};
 ghost use Rattle.std.specs.Option.{option_copied};
-ghost use Rattle.sap_facts.specs.Facts.{fact_at, if_linear, places_without};
+ghost use Rattle.sap_facts.specs.Facts.{fact_at, if_linear, slots_without};
 
 use sap_terms::{Fact, Mem};
 use std::alloc::Global;
@@ -10,7 +10,7 @@ use std::marker::Model;
 /// A linear fact stays until it is taken, a persistent one for good.
 #[derive(Drop)]
 pub struct Pile {
-    places: Vec<Option<Fact>>,
+    slots: Vec<Option<Fact>>,
 }
 
 impl Model for Pile {
@@ -22,62 +22,62 @@ impl Model for Pile {
     ghost coded = { facts_code };
 
     ghost view = { λ a. record {
-      places = a.places.items;
-      spare = vec_capacity a.places - vec_len a.places;
+      slots = a.slots.items;
+      spare = vec_capacity a.slots - vec_len a.slots;
     } };
 }
 
 impl Pile {
     /// The pile without facts. It takes no memory.
     pub fn new(alloc: Global) -> Pile
-        ensures places { result.places ≡ [] }
+        ensures slots { result.slots ≡ [] }
         ensures spare { result.spare ≡ 0 }
     {
         Pile {
-            places: Vec::new(alloc),
+            slots: Vec::new(alloc),
         }
     }
 
     /// Puts a fact on, and gives its number. A refused fact is dropped.
     pub fn add(&mut self, f: Fact) -> Result<u64, Mem>
-        ensures number { IfOk result (λ k. k ≡ length self.old.places) }
-        ensures ok { OnOk result (self.new.places ≡ self.old.places ++ Some f ∷ []) }
-        ensures err { OnErr result (self.new.places ≡ self.old.places) }
+        ensures number { IfOk result (λ k. k ≡ length self.old.slots) }
+        ensures ok { OnOk result (self.new.slots ≡ self.old.slots ++ Some f ∷ []) }
+        ensures err { OnErr result (self.new.slots ≡ self.old.slots) }
 
         // A fact for which memory was found before is not refused, and uses up memory for one fact at most.
         ensures succeeds { 0 < self.old.spare → IsOk result }
         ensures spare { self.old.spare ≤ self.new.spare + 1 }
     {
         let number = self.count();
-        self.places.push(Some(f))?;
+        self.slots.push(Some(f))?;
         Ok(number)
     }
 
     /// Finds memory for n more facts.
     pub fn reserve(&mut self, n: u64) -> Result<(), Mem>
-        ensures places { self.new.places ≡ self.old.places }
+        ensures slots { self.new.slots ≡ self.old.slots }
         ensures ok { OnOk result (n ≤ self.new.spare) }
         ensures spare { self.old.spare ≤ self.new.spare }
         ensures succeeds { n ≤ self.old.spare → IsOk result }
     {
-        self.places.reserve(n as usize)?;
+        self.slots.reserve(n as usize)?;
         Ok(())
     }
 
     /// The fact of this number; None where no fact has it, or it was taken.
     pub fn get(&self, k: u64) -> Option<&Fact>
-        ensures { option_copied result ≡ fact_at self.now.places k }
+        ensures { option_copied result ≡ fact_at self.now.slots k }
     {
-        match self.places.get(k as usize) {
-            Some(place) => place.as_ref(),
+        match self.slots.get(k as usize) {
+            Some(slot) => slot.as_ref(),
             None => None,
         }
     }
 
     /// Takes the linear fact of this number; None where `get` gives None, and where the fact is persistent, which stays.
     pub fn take(&mut self, k: u64) -> Option<Fact>
-        ensures fact { result ≡ if_linear (fact_at self.old.places k) }
-        ensures places { self.new.places ≡ places_without self.old.places k }
+        ensures fact { result ≡ if_linear (fact_at self.old.slots k) }
+        ensures slots { self.new.slots ≡ slots_without self.old.slots k }
         ensures spare { self.new.spare ≡ self.old.spare }
     {
         let persistent = match self.get(k) {
@@ -87,13 +87,13 @@ impl Pile {
         if persistent {
             return None;
         }
-        self.places[k as usize].take()
+        self.slots[k as usize].take()
     }
 
     /// The number that the next fact gets.
     pub fn count(&self) -> u64
-        ensures { result ≡ length self.now.places }
+        ensures { result ≡ length self.now.slots }
     {
-        self.places.len() as u64
+        self.slots.len() as u64
     }
 }

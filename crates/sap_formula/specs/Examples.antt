@@ -5,7 +5,7 @@ use Rattle.sap_terms.specs.Equations.{app1, app2, fst_name, pair_name}
 use Rattle.sap_terms.specs.declared.var.Var.{Var}
 use Rattle.sap_terms.specs.declared.var.Sort.TheVariants.{Msg, Fresh, Pub}
 use Rattle.sap_terms.specs.declared.fact.Fact.{Fact}
-use Rattle.sap_formula.specs.Form.{Form, truth, falsity, action, equal, same_place, earlier, negation, both, either, implies, equivalent, every, exists}
+use Rattle.sap_formula.specs.Form.{Form, truth, falsity, action, equal, same_time, earlier, negation, both, either, implies, equivalent, every, exists}
 use Rattle.sap_terms.specs.Trace.{Trace}
 use Rattle.sap_formula.specs.declared.binder.Binder.TheVariants.{Message, Time}
 
@@ -66,12 +66,12 @@ abbrev pub only_a : Form
 only_a = every (Message x ∷ Time i ∷ []) (implies (action (fact false (variable x ∷ [])) i) (equal (variable x) a))
 
 -- Ex #i. A(t)@i
-abbrev pub some_place : Tree → Form
-some_place t = exists (Time i ∷ []) (action (fact false (t ∷ [])) i)
+abbrev pub some_time : Tree → Form
+some_time t = exists (Time i ∷ []) (action (fact false (t ∷ [])) i)
 
 -- Ex #i #j. #i < #j
-abbrev pub two_places : Form
-two_places = exists (Time i ∷ Time j ∷ []) (earlier i j)
+abbrev pub two_times : Form
+two_times = exists (Time i ∷ Time j ∷ []) (earlier i j)
 
 -- Ex v. v = 'b'
 abbrev pub some_b : Var → Form
@@ -91,9 +91,9 @@ abbrev pub first_is : Tree → Form
 first_is t = equal first_of_pair t
 
 -- All #i #j. A('a')@i & A('a')@j ==> #i = #j
-abbrev pub one_place_alone : Form
-one_place_alone =
-    every (Time i ∷ Time j ∷ []) (implies (both (action (fact false (a ∷ [])) i) (action (fact false (a ∷ [])) j)) (same_place i j))
+abbrev pub one_time_alone : Form
+one_time_alone =
+    every (Time i ∷ Time j ∷ []) (implies (both (action (fact false (a ∷ [])) i) (action (fact false (a ∷ [])) j)) (same_time i j))
 
 -- formulas of T and F alone that are true, line by line of the tables
 abbrev pub true_ones : List Form

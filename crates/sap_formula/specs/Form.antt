@@ -11,7 +11,7 @@ pub data Form : Type 0 where
   falsity : Form
   action : Fact → List ℕ → Form
   equal : Tree → Tree → Form
-  same_place : List ℕ → List ℕ → Form
+  same_time : List ℕ → List ℕ → Form
   earlier : List ℕ → List ℕ → Form
   negation : Form → Form
   both : Form → Form → Form

@@ -8,7 +8,7 @@ pub use Rattle.sap_terms.specs.Choice
 pub mod Form
 pub mod View
 pub mod code
-pub mod Places
+pub mod Times
 pub mod Truth
 pub mod Hide
 pub mod HoldsOf

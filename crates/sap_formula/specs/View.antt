@@ -1,6 +1,6 @@
 -- The plain tree of a formula, without the addresses of its parts.
 use Rattle.sap_terms.specs.View.{tree}
-use Rattle.sap_formula.specs.Form.{Form, truth, falsity, action, equal, same_place, earlier, negation, both, either, implies, equivalent, every, exists}
+use Rattle.sap_formula.specs.Form.{Form, truth, falsity, action, equal, same_time, earlier, negation, both, either, implies, equivalent, every, exists}
 use Rattle.sap_formula.specs.declared.formula.Formula.{Formula}
 use Rattle.sap_formula.specs.declared.formula.Formula.TheVariants.{True, False, Action, Equal, Same, Less, Not', And', Or', Imp', Iff', All', Ex'}
 
@@ -10,7 +10,7 @@ form True = truth
 form False = falsity
 form (Action f i) = action f i
 form (Equal s t) = equal (tree s) (tree t)
-form (Same i j) = same_place i j
+form (Same i j) = same_time i j
 form (Less i j) = earlier i j
 form (Not' a f) = negation (form f)
 form (And' a f b g) = both (form f) (form g)

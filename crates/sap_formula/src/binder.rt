@@ -6,7 +6,7 @@ use std::alloc::Global;
 pub enum Binder {
     /// It ranges over messages.
     Message(Var),
-    /// It ranges over the places of the trace; written `#i`.
+    /// It ranges over the times of the trace; written `#i`.
     Time(Name),
 }
 

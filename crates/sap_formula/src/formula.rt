@@ -12,7 +12,7 @@ use std::alloc::Global;
 pub enum Formula {
     True,
     False,
-    /// `F(s)@i`: the place i shows the fact.
+    /// `F(s)@i`: the time i shows the fact.
     Action(Fact, Name),
     /// `s = t`
     Equal(Term, Term),

@@ -5,43 +5,45 @@ ghost use Rattle.sap_formula.specs.Form.{negation};
 ghost use Rattle.sap_terms.specs.Trace.{Trace};
 ghost use Rattle.sap_formula.specs.Truth.{EachIn, IsTrueOn};
 ghost use Rattle.sap_formula.specs.HoldsOf.{HoldsOf};
-ghost use Rattle.sap_formula.specs.Examples.{a, b, x, fresh_x, public_x, fact, other_fact, trace_a, trace_aa, trace_ab, IsEither, only_a, some_place, two_places, some_b, two_binders, first_of_pair, first_is, one_place_alone, true_ones, false_ones};
+ghost use Rattle.sap_formula.specs.Examples.{a, b, x, fresh_x, public_x, fact, other_fact, trace_a, trace_aa, trace_ab, IsEither, only_a, some_time, two_times, some_b, two_binders, first_of_pair, first_is, one_time_alone, true_ones, false_ones};
 
 use crate::Mode;
-use sap_rewrite::normal_forms_decide;
+use sap_rewrite::normal_terms_decide;
+use sap_terms::names_are_messages;
 
 /// Truth of small formulas on small traces: each connective by its table; an action atom and an equation are true up to
-/// the theory, persistence isn't looked at and the number of arguments is; a place is the same as itself alone; quantifiers
-/// range over terms that stand nowhere in the trace, by sort, and over the trace's places alone; the innermost binder of a
+/// the theory, persistence isn't looked at and the number of arguments is; a time is the same as itself alone; quantifiers
+/// range over terms that stand nowhere in the trace, by sort, and over the trace's times alone; the innermost binder of a
 /// name counts.
 pub fn truth_by_hand()
     ensures true_ones { (g : Sig) (tr : Trace) → EachIn (λ f. IsTrueOn g f tr) true_ones }
     ensures false_ones { (g : Sig) (tr : Trace) → EachIn (λ f. ¬ IsTrueOn g f tr) false_ones }
-    ensures one_place { (g : Sig) → IsTrueOn g only_a trace_a }
-    ensures other_place { (g : Sig) → ¬ IsTrueOn g only_a trace_ab }
-    ensures up_to_theory { (g : Sig) → IsTrueOn g (some_place first_of_pair) trace_a }
+    ensures one_time { (g : Sig) → IsTrueOn g only_a trace_a }
+    ensures other_time { (g : Sig) → ¬ IsTrueOn g only_a trace_ab }
+    ensures up_to_theory { (g : Sig) → IsTrueOn g (some_time first_of_pair) trace_a }
     ensures equal_up_to_theory { (g : Sig) → IsTrueOn g (first_is a) [] }
     ensures equal_to_no_other { (g : Sig) → ¬ IsTrueOn g (first_is b) [] }
-    ensures same_place { (g : Sig) → IsTrueOn g one_place_alone trace_ab }
-    ensures another_place { (g : Sig) → ¬ IsTrueOn g one_place_alone trace_aa }
-    ensures persistent { (g : Sig) → IsTrueOn g (some_place a) ((fact true (a ∷ []) ∷ []) ∷ []) }
-    ensures arity { (g : Sig) → ¬ IsTrueOn g (some_place a) ((fact false (a ∷ b ∷ []) ∷ []) ∷ []) }
-    ensures other_name { (g : Sig) → ¬ IsTrueOn g (some_place a) ((other_fact ∷ []) ∷ []) }
-    ensures any_fact { (g : Sig) → IsTrueOn g (some_place a) ((other_fact ∷ fact false (a ∷ []) ∷ []) ∷ []) }
+    ensures same_time { (g : Sig) → IsTrueOn g one_time_alone trace_ab }
+    ensures another_time { (g : Sig) → ¬ IsTrueOn g one_time_alone trace_aa }
+    ensures persistent { (g : Sig) → IsTrueOn g (some_time a) ((fact true (a ∷ []) ∷ []) ∷ []) }
+    ensures arity { (g : Sig) → ¬ IsTrueOn g (some_time a) ((fact false (a ∷ b ∷ []) ∷ []) ∷ []) }
+    ensures other_name { (g : Sig) → ¬ IsTrueOn g (some_time a) ((other_fact ∷ []) ∷ []) }
+    ensures any_fact { (g : Sig) → IsTrueOn g (some_time a) ((other_fact ∷ fact false (a ∷ []) ∷ []) ∷ []) }
     ensures all_terms { (g : Sig) → IsTrueOn g (some_b x) [] }
     ensures sorts { (g : Sig) → ¬ IsTrueOn g (some_b fresh_x) [] }
     ensures public_names { (g : Sig) → IsTrueOn g (some_b public_x) [] }
     ensures innermost { (g : Sig) → IsTrueOn g two_binders trace_ab }
 {
-    normal_forms_decide();
+    names_are_messages();
+    normal_terms_decide();
 }
 
 /// A lemma of the two traces `A('a')` and `A('a'), A('b')`: in both modes the restrictions decide of which it speaks.
 pub fn lemmas_by_hand()
     ensures all_of_each { (g : Sig) → ¬ HoldsOf g IsEither [] Mode.AllTraces only_a }
-    ensures all_restricted { (g : Sig) → HoldsOf g IsEither (negation two_places ∷ []) Mode.AllTraces only_a }
+    ensures all_restricted { (g : Sig) → HoldsOf g IsEither (negation two_times ∷ []) Mode.AllTraces only_a }
     ensures some_one { (g : Sig) → HoldsOf g IsEither [] Mode.ExistsTrace only_a }
-    ensures some_restricted { (g : Sig) → ¬ HoldsOf g IsEither (two_places ∷ []) Mode.ExistsTrace only_a }
+    ensures some_restricted { (g : Sig) → ¬ HoldsOf g IsEither (two_times ∷ []) Mode.ExistsTrace only_a }
 {
     truth_by_hand();
 }

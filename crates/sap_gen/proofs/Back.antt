@@ -6,8 +6,8 @@ use Rattle.sap_terms.specs.declared.fact.Fact.{Fact}
 use Rattle.sap_gen.specs.Built.{Built, nil, parallel, event}
 use Rattle.sap_rule.specs.declared.rule.Rule.{Rule}
 use Rattle.sap_gen.specs.Faithful.{NoReservedEvents, ShowsOnly}
-use Rattle.sap_gen.specs.Members.{Member}
-use Rattle.sap_gen.specs.Places.{bare, root, spot_at}
+use Rattle.sap_gen.specs.code.Members.{Member}
+use Rattle.sap_gen.specs.code.Places.{bare, root, spot_at}
 use Rattle.sap_gen.specs.ProcessSteps.{Config, Runs, initial, ProcessStep, ProcessRun}
 use Rattle.sap_terms.specs.AdversaryFacts.{k_fact, in_fact}
 use Rattle.sap_gen.specs.ReservedFacts.{init_fact, event_fact}
@@ -16,11 +16,11 @@ use Rattle.sap_gen.specs.RuleSteps.{RuleState, RuleStep, RuleRun}
 use Rattle.sap_terms.specs.Trace.{Trace, shown}
 use Rattle.sap_gen.specs.Templates.{state_fact, first_of, second_of, rules_of, init_rule, own_rules}
 use Rattle.sap_gen.specs.Traces.{IsAdmitted}
-use Rattle.sap_gen.specs.Relation.{Agent, unborn, running, process_of, Related, is_unborn}
+use Rattle.sap_gen.specs.code.Relation.{Agent, unborn, running, process_of, Related, is_unborn}
 use Rattle.sap_gen.proofs.Control.{agent_of, took_state, took_none}
 use Rattle.sap_gen.proofs.Free.{event_free}
 use Rattle.sap_gen.proofs.Kept.{related_start, kept_init, kept_nil, kept_parallel, kept_event, kept_know, kept_flush, kept_public}
-use Rattle.sap_gen.proofs.Lookups.{map_get, only_member}
+use Rattle.sap_gen.proofs.Lookups.{map_get, member_of, only_member}
 use Rattle.sap_gen.proofs.PlaceRules.{home, Home}
 use Rattle.sap_gen.proofs.Totals.{total_found, Found}
 use Rattle.sap_gen.proofs.Visible.{admitted_before, first_init}
@@ -198,8 +198,8 @@ module _ (start : Built) (free : NoReservedEvents start) (s : RuleState) (full :
 -- the law for any step
 law : {start : Built} {s z : RuleState} {full : Trace} {acts : List Fact} → NoReservedEvents start → Followed start s full → RuleStep (rules_of start) s acts z → IsAdmitted (full ++ acts ∷ []) → Followed start z (full ++ acts ∷ [])
 law {start = start} {s = s} {full = full} free w (RuleStep.public_name n) h = law_public start free s full w n
-law {start = start} {s = s} {full = full} free w (RuleStep.know x m) h = law_know start free s full w x m
-law {start = start} {s = s} {full = full} free w (RuleStep.named {r = r} {rest = rest} ks m takes) h = law_rule start free s full w ks rest r (whence start r m) h takes
+law {start = start} {s = s} {full = full} free w (RuleStep.know x m) h = law_know start free s full w x (member_of s.known x m)
+law {start = start} {s = s} {full = full} free w (RuleStep.named {r = r} {rest = rest} ks m takes) h = law_rule start free s full w ks rest r (whence start r (member_of (rules_of start) r m)) h takes
 
 followed : {start : Built} {s : RuleState} {full : Trace} → NoReservedEvents start → RuleRun (rules_of start) s full → IsAdmitted full → Followed start s full
 followed {start = start} free RuleRun.start h = record { agents = Some (unborn start) ∷ []; pending = None; c = initial start; tr = []; run = ProcessRun.start; related = related_start start }

@@ -5,7 +5,7 @@ use Rattle.sap_gen.specs.Built.{Built}
 use Rattle.sap_terms.specs.Piles.{Takes, nothing, one}
 use Rattle.sap_gen.specs.RuleSteps.{RuleState}
 use Rattle.sap_gen.specs.Templates.{state_fact}
-use Rattle.sap_gen.specs.Relation.{Agent, unborn, running, SameFacts, count_one, count_live, count_owed, is_control, same_fact}
+use Rattle.sap_gen.specs.code.Relation.{Agent, unborn, running, SameFacts, count_one, count_live, count_owed, is_control, same_fact}
 use Rattle.sap_gen.proofs.Totals.{total-set, total_found, Found}
 use Rattle.sap_gen.proofs.FactTests.{same_fact_self, same_fact_true}
 use Rattle.sap_gen.proofs.StateFacts.{state_fact_same}

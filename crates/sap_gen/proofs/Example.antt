@@ -6,13 +6,13 @@ use Rattle.sap_terms.specs.Tree.{Tree, public}
 use Rattle.sap_terms.specs.declared.fact.Fact.{Fact}
 use Rattle.sap_gen.specs.Built.{Built, nil, parallel, event, events}
 use Rattle.sap_gen.specs.Faithful.{NoReservedEvents}
-use Rattle.sap_gen.specs.Members.{Member}
+use Rattle.sap_gen.specs.code.Members.{Member}
 use Rattle.sap_gen.specs.ProcessSteps.{Config, initial, ProcessStep, ProcessRun, IsProcessTrace}
 use Rattle.sap_terms.specs.AdversaryFacts.{k_fact}
 use Rattle.sap_terms.specs.Trace.{Trace, shown}
 use Rattle.sap_gen.specs.Templates.{rules_of}
 use Rattle.sap_gen.specs.Traces.{IsVisibleTrace}
-use Rattle.sap_gen.specs.Relation.{same_fact}
+use Rattle.sap_gen.specs.code.Relation.{same_fact}
 use Rattle.sap_gen.proofs.Back.{shows_only}
 use Rattle.sap_gen.proofs.Forward.{shows_all}
 use Rattle.sap_gen.proofs.Lookups.{Every, every-set, every_push, member_left, member_right, member_cases, in_left, in_right, only_member}

@@ -9,7 +9,7 @@ use Rattle.sap_terms.specs.Tree.{Tree, variable, public, fresh, apply, Trees, no
 use Rattle.sap_terms.specs.declared.fact.Fact.{Fact}
 use Rattle.sap_terms.specs.declared.var.Sort.{Sort}
 use Rattle.sap_terms.specs.declared.var.Sort.TheVariants.{Msg, Fresh, Pub}
-use Rattle.sap_gen.specs.Relation.{same_fact}
+use Rattle.sap_gen.specs.code.Relation.{same_fact}
 
 -- both parts of a test that holds, and back
 pub both : (b c : Bool) → (b && c) ≡ true → (b ≡ true) × (c ≡ true)

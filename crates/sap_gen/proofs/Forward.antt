@@ -4,19 +4,19 @@ use Rattle.sap_terms.specs.Tree.{Tree, public}
 use Rattle.sap_terms.specs.declared.fact.Fact.{Fact}
 use Rattle.sap_gen.specs.Built.{Built, nil, parallel, event}
 use Rattle.sap_gen.specs.Faithful.{NoReservedEvents, ShowsAll}
-use Rattle.sap_gen.specs.Members.{Member}
-use Rattle.sap_gen.specs.Places.{bare}
+use Rattle.sap_gen.specs.code.Members.{Member}
+use Rattle.sap_gen.specs.code.Places.{bare}
 use Rattle.sap_gen.specs.ProcessSteps.{Config, Runs, initial, becomes, spawns, Deducible, ProcessStep, ProcessRun}
 use Rattle.sap_terms.specs.AdversaryFacts.{k_fact}
 use Rattle.sap_terms.specs.Piles.{nothing}
 use Rattle.sap_gen.specs.RuleSteps.{RuleState, RuleStep, RuleRun, empty_state}
 use Rattle.sap_terms.specs.Trace.{Trace, shown}
 use Rattle.sap_gen.specs.Templates.{state_fact, rules_of, nil_rule, parallel_rule, event_rule}
-use Rattle.sap_gen.specs.Relation.{Agent, unborn, running, process_of, Related}
+use Rattle.sap_gen.specs.code.Relation.{Agent, unborn, running, process_of, Related}
 use Rattle.sap_gen.proofs.Control.{fact_of, LiveFact, takes_state}
 use Rattle.sap_gen.proofs.Free.{event_free}
 use Rattle.sap_gen.proofs.Kept.{related_start, kept_init, kept_nil, kept_parallel, kept_event, kept_know, kept_flush, kept_public}
-use Rattle.sap_gen.proofs.Lookups.{Behind, behind, get-set_same}
+use Rattle.sap_gen.proofs.Lookups.{Behind, behind, contains_of, get-set_same}
 use Rattle.sap_gen.proofs.PlaceRules.{own_in}
 use Rattle.sap_gen.proofs.Visible.{admitted_by_count}
 
@@ -49,7 +49,7 @@ ready start c tr t p w e = go (behind process_of w.agents t p (ap (λ ts. slice_
     by_case : (a : Agent) → slice_get w.agents t ≡ Some (Some a) → process_of a ≡ p → Ready start c tr t p
     by_case (unborn body) is same =
         born (slice_set w.agents t (Some (running [] body))) _ _
-        (RuleRun.further w.run (RuleStep.named [] Member.here nothing))
+        (RuleRun.further w.run (RuleStep.named [] (contains_of Member.here) nothing))
         (kept_init start w.agents None c tr w.s w.full w.related t body is)
         [] (get-set_same w.agents t (Some (unborn body)) (Some (running [] body)) is ∙ ap (λ q. Some (Some (running [] q))) same)
     by_case (running path body) is same =
@@ -67,7 +67,7 @@ module _ (start : Built) (free : NoReservedEvents start) (c : Config) (tr : Trac
         agents = slice_set y.agents t None;
         s = _;
         full = _;
-        run = RuleRun.further y.run (RuleStep.named (y.fact.number ∷ []) (Member.later rule) (takes_state y.s.facts y.fact.number y.path y.fact.is));
+        run = RuleRun.further y.run (RuleStep.named (y.fact.number ∷ []) (contains_of (Member.later rule)) (takes_state y.s.facts y.fact.number y.path y.fact.is));
         related = kept_nil start y.agents None c tr y.s y.full y.related t y.fact.number y.path y.stands y.fact.is;
       }
 
@@ -79,7 +79,7 @@ module _ (start : Built) (free : NoReservedEvents start) (c : Config) (tr : Trac
         agents = _;
         s = _;
         full = _;
-        run = RuleRun.further y.run (RuleStep.named (y.fact.number ∷ []) (Member.later rule) (takes_state y.s.facts y.fact.number y.path y.fact.is));
+        run = RuleRun.further y.run (RuleStep.named (y.fact.number ∷ []) (contains_of (Member.later rule)) (takes_state y.s.facts y.fact.number y.path y.fact.is));
         related = kept_parallel start y.agents None c tr y.s y.full y.related t y.fact.number y.path p q y.stands y.fact.is;
       }
 
@@ -92,7 +92,7 @@ module _ (start : Built) (free : NoReservedEvents start) (c : Config) (tr : Trac
         agents = _;
         s = _;
         full = _;
-        run = RuleRun.further y.run (RuleStep.named (y.fact.number ∷ []) (Member.later rule) (takes_state y.s.facts y.fact.number y.path y.fact.is));
+        run = RuleRun.further y.run (RuleStep.named (y.fact.number ∷ []) (contains_of (Member.later rule)) (takes_state y.s.facts y.fact.number y.path y.fact.is));
         related = kept_event start y.agents c tr y.s y.full y.related t y.fact.number y.path f p (event_free start y.path f p free here) y.stands y.fact.is;
       }
 
@@ -104,7 +104,7 @@ module _ (start : Built) (free : NoReservedEvents start) (c : Config) (tr : Trac
         agents = w.agents;
         s = _;
         full = _;
-        run = RuleRun.further (RuleRun.further w.run (RuleStep.public_name n)) (RuleStep.know (public n) Member.here);
+        run = RuleRun.further (RuleRun.further w.run (RuleStep.public_name n)) (RuleStep.know (public n) (contains_of Member.here));
         related = kept_flush start w.agents (public n) c tr _ _ (kept_know start w.agents c tr s (w.full ++ [] ∷ []) learnt (public n) Member.here);
       }
 

@@ -4,7 +4,7 @@ use Rattle.sap_terms.specs.Reserved.{is_reserved}
 use Rattle.sap_terms.specs.declared.fact.Fact.{Fact}
 use Rattle.sap_gen.specs.Built.{Built, nil, parallel, event, events}
 use Rattle.sap_gen.specs.Faithful.{AreFree, NoReservedEvents}
-use Rattle.sap_gen.specs.Places.{Spot, bare, root, first_child, second_child, child, spot_at}
+use Rattle.sap_gen.specs.code.Places.{Spot, bare, root, first_child, second_child, child, spot_at}
 
 free_append : (xs ys : List Fact) → AreFree (xs ++ ys) → AreFree xs × AreFree ys
 free_append [] ys h = (tt, h)

@@ -5,8 +5,8 @@ use Rattle.sap_terms.specs.Reserved.{is_reserved}
 use Rattle.sap_terms.specs.Tree.{Tree, public}
 use Rattle.sap_terms.specs.declared.fact.Fact.{Fact}
 use Rattle.sap_gen.specs.Built.{Built, nil, parallel, event}
-use Rattle.sap_gen.specs.Members.{Member}
-use Rattle.sap_gen.specs.Places.{bare, root}
+use Rattle.sap_gen.specs.code.Members.{Member}
+use Rattle.sap_gen.specs.code.Places.{bare, root}
 use Rattle.sap_gen.specs.ProcessSteps.{Config, initial, becomes, spawns, Deducible}
 use Rattle.sap_terms.specs.AdversaryFacts.{k_fact, in_fact}
 use Rattle.sap_gen.specs.ReservedFacts.{init_fact, event_fact}
@@ -15,7 +15,7 @@ use Rattle.sap_gen.specs.RuleSteps.{RuleState, empty_state}
 use Rattle.sap_terms.specs.Trace.{Trace, shown}
 use Rattle.sap_gen.specs.Templates.{state_fact, first_of, second_of}
 use Rattle.sap_formula.specs.Hide.{hide, visible}
-use Rattle.sap_gen.specs.Relation.{Agent, unborn, running, process_of, IsPlaced, count_live, count_owed, is_unborn, has_init, pending_place, Related}
+use Rattle.sap_gen.specs.code.Relation.{Agent, unborn, running, process_of, IsPlaced, count_live, count_owed, is_unborn, has_init, pending_place, Related}
 use Rattle.sap_gen.proofs.Totals.{total-set, total-append}
 use Rattle.sap_gen.proofs.Lookups.{map-set_same, every-set, every_push, map-set, map_push}
 use Rattle.sap_gen.proofs.Visible.{hide_push, event_visible, event_no_init}

@@ -1,7 +1,8 @@
 -- Look-ups in lists after a write and after a push, and members of joined lists.
-use Rattle.std.proofs.Common.{◌≡◌, ℕ, zero, suc, List, [], ◌∷◌, ◌++◌, Option, Some, None, refl, ap, slice_get, slice_set, map, subst}
+use Rattle.std.proofs.Common.{◌≡◌, ℕ, zero, suc, ◌<◌, List, [], ◌∷◌, ◌++◌, Option, Some, None, refl, sym, ap, slice_get, slice_set, map, subst, arith}
+use Rattle.std.specs.Prelude.{Contains, length, slice_index_or}
 use Rattle.std.specs.Option.{option_map}
-use Rattle.sap_gen.specs.Members.{Member}
+use Rattle.sap_gen.specs.code.Members.{Member}
 
 -- P holds of each item that is there
 abbrev pub Every : {A : Type 0} → (A → Type 0) → List (Option A) → Type 0
@@ -45,6 +46,16 @@ pub get-set_same : {A : Type 0} (xs : List A) (t : ℕ) (x y : A) → slice_get 
 get-set_same [] t x y e = cc
 get-set_same (z ∷ xs) zero x y e = refl
 get-set_same (z ∷ xs) (suc t) x y e = get-set_same xs t x y e
+
+-- an item of a list, by its index and by how the list is built up
+pub member_of : {A : Type 0} (xs : List A) (x : A) → Contains xs x → Member x xs
+member_of [] x (k, l, e) = absurd (omega (arith, l))
+member_of (y ∷ ys) x (zero, l, e) = subst (λ z. Member x (z ∷ ys)) (sym e) Member.here
+member_of (y ∷ ys) x (suc k, l, e) = Member.later (member_of ys x (k, omega (arith, l), e))
+
+pub contains_of : {A : Type 0} {x : A} {xs : List A} → Member x xs → Contains xs x
+contains_of Member.here = (0, omega arith, refl)
+contains_of (Member.later m) = let c = contains_of m in (suc c.0, omega (arith, c.1), c.2)
 
 -- members of joined lists
 pub member_left : {A : Type 0} {x : A} {xs : List A} (ys : List A) → Member x xs → Member x (xs ++ ys)

@@ -3,8 +3,8 @@ use Rattle.std.proofs.Common.{◌≡◌, ℕ, zero, suc, List, [], ◌∷◌, �
 use Rattle.sap_terms.specs.declared.var.Var.{Var}
 use Rattle.sap_gen.specs.Built.{Built, nil, parallel, event}
 use Rattle.sap_rule.specs.declared.rule.Rule.{Rule}
-use Rattle.sap_gen.specs.Members.{Member}
-use Rattle.sap_gen.specs.Places.{Spot, bare, root, first_child, second_child, child, spot_at}
+use Rattle.sap_gen.specs.code.Members.{Member}
+use Rattle.sap_gen.specs.code.Places.{Spot, bare, root, first_child, second_child, child, spot_at}
 use Rattle.sap_gen.specs.Templates.{own_rules, place_rules, first_of, second_of}
 use Rattle.sap_gen.proofs.Lookups.{member_left, member_right, member_cases, in_left, in_right}
 

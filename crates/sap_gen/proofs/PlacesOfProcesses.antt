@@ -10,9 +10,9 @@ use Rattle.sap_process.specs.Proc.{Proc, nil, parallel, replicated, act, test, l
 use Rattle.sap_process.specs.Sites as full
 use Rattle.sap_process.specs.Sites.{sites_from, bound_by, message_var}
 use Rattle.sap_process.specs.Heads.{locks_set}
-use Rattle.sap_gen.specs.Sites.{Site, site, sites, is_built_form}
-use Rattle.sap_gen.specs.Sites as short
-use Rattle.sap_gen.specs.Unbuilt.{first_unbuilt}
+use Rattle.sap_gen.specs.code.Sites.{Site, site, sites}
+use Rattle.sap_gen.specs.code.Sites as short
+use Rattle.sap_gen.specs.Unbuilt.{first_unbuilt, is_built_form}
 
 -- without what is in scope
 abbrev shortened : full.Site → Site

@@ -10,7 +10,8 @@ use Rattle.sap_process.specs.Action.{Action}
 use Rattle.sap_process.specs.Proc.{Proc, nil, parallel, replicated, act, test, lookup}
 use Rattle.sap_gen.specs.Built as small
 use Rattle.sap_gen.specs.Built.{Built, has_public_args, both, shown, built, IsBuilt}
-use Rattle.sap_gen.specs.Sites.{Site, sites, is_built_form, first_unbuilt}
+use Rattle.sap_gen.specs.code.Sites.{Site, sites, first_unbuilt}
+use Rattle.sap_gen.specs.Unbuilt.{is_built_form}
 use Rattle.sap_gen.specs.Templates.{first_of, second_of}
 
 abbrev bad : Site → Bool

@@ -3,7 +3,7 @@ use Rattle.std.proofs.Common.{◌≡◌, ℕ, ◌+◌, List, [], ◌∷◌, ◌+
 use Rattle.std.specs.Prelude.{codes}
 use Rattle.sap_terms.specs.declared.fact.Fact.{Fact}
 use Rattle.sap_gen.specs.Templates.{digits, state_fact}
-use Rattle.sap_gen.specs.Relation.{is_control}
+use Rattle.sap_gen.specs.code.Relation.{is_control}
 
 digits_same : (p q : List ℕ) → digits p ≡ digits q → p ≡ q
 digits_same [] [] e = refl

@@ -1,6 +1,6 @@
 -- Sums of weights over lists.
 use Rattle.std.proofs.Common.{◌≡◌, ℕ, zero, suc, ◌+◌, ◌<◌, List, [], ◌∷◌, ◌++◌, Some, refl, arith, slice_get, slice_set}
-use Rattle.sap_gen.specs.Relation.{total}
+use Rattle.sap_gen.specs.code.Relation.{total}
 
 pub total-append : {A : Type 0} (w : A → ℕ) (xs ys : List A) → total w (xs ++ ys) ≡ total w xs + total w ys
 total-append w [] ys = omega arith

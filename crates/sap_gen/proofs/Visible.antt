@@ -11,7 +11,7 @@ use Rattle.sap_gen.specs.ReservedFacts.{init_fact, event_fact}
 use Rattle.sap_terms.specs.Trace.{Trace, shown}
 use Rattle.sap_formula.specs.Hide.{hide, visible, is_hidden}
 use Rattle.sap_gen.specs.Traces.{IsAdmitted}
-use Rattle.sap_gen.specs.Relation.{has_init, is_start, total}
+use Rattle.sap_gen.specs.code.Relation.{has_init, is_start, total}
 use Rattle.sap_gen.proofs.Totals.{total_found}
 use Rattle.sap_gen.proofs.FactTests.{both, both_hold, same_name_true}
 use Rattle.sap_gen.proofs.FactsAt.{facts_are, facts_get, facts_last, facts_left, facts_within}

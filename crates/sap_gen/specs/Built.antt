@@ -1,5 +1,5 @@
 -- Built processes: those whose rules are generated.
-use Rattle.std.specs.Prelude.{◌≡◌, ℕ, ◌+◌, Bool, true, false, List, [], ◌∷◌, ◌++◌, Option, Some, None, if◌then◌else◌}
+use Rattle.std.specs.Prelude.{◌≡◌, Bool, true, false, List, [], ◌∷◌, ◌++◌, Option, Some, None, if◌then◌else◌}
 use Rattle.std.specs.List.{list_all}
 use Rattle.sap_terms.specs.Tree.{Tree, variable, public, fresh, apply}
 use Rattle.sap_terms.specs.declared.fact.Fact.{Fact}
@@ -19,12 +19,7 @@ events nil = []
 events (parallel p q) = events p ++ events q
 events (event f p) = f ∷ events p
 
--- how many places it has
-abbrev pub node_count : Built → ℕ
-node_count nil = 1
-node_count (parallel p q) = node_count p + node_count q + 1
-node_count (event f p) = node_count p + 1
-
+-- a public name
 abbrev pub is_public : Tree → Bool
 is_public (variable x) = false
 is_public (public n) = true

@@ -4,15 +4,12 @@ pub use Rattle.sap_formula.specs.Form
 pub use Rattle.sap_terms.specs.Reserved
 pub use Rattle.sap_process.specs.Action
 pub mod Built
-pub mod Sites
 pub mod Unbuilt
-pub mod Members
 pub mod ReservedFacts
 pub mod ProcessSteps
 pub mod RuleSteps
 pub mod Traces
 pub mod Templates
 pub mod Theories
-pub mod Places
 pub mod Faithful
-pub mod Relation
+pub mod code

@@ -1,7 +1,7 @@
 -- The theory of a file.
 use Rattle.std.specs.Prelude.{ℕ, codes, List, [], ◌∷◌}
 use Rattle.sap_terms.specs.Signature.{Sig}
-use Rattle.sap_formula.specs.Form.{Form, action, same_place, both, implies, every, RestrictionForm, LemmaForm}
+use Rattle.sap_formula.specs.Form.{Form, action, same_time, both, implies, every, RestrictionForm, LemmaForm}
 use Rattle.sap_formula.specs.declared.binder.Binder.TheVariants.{Time}
 use Rattle.sap_rule.specs.declared.theory.Theory.{Theory}
 use Rattle.sap_gen.specs.Built.{Built}
@@ -12,7 +12,7 @@ use Rattle.sap_gen.specs.Templates.{rules_of}
 abbrev pub one_start : Form
 one_start =
     every (Time (codes "i") ∷ Time (codes "j") ∷ [])
-    (implies (both (action init_fact (codes "i")) (action init_fact (codes "j"))) (same_place (codes "i") (codes "j")))
+    (implies (both (action init_fact (codes "i")) (action init_fact (codes "j"))) (same_time (codes "i") (codes "j")))
 
 abbrev pub init_restriction : RestrictionForm
 init_restriction = record { name = codes "sapic_init"; formula = one_start }

@@ -1,7 +1,7 @@
 //! The theory of a file.
 ghost use Rattle.std.specs.Prelude.{◌≡◌, [], ◌∷◌, ◌++◌, Some, false, codes, IfOk, OnOk};
 ghost use Rattle.sap_process.specs.Proc.{proc};
-ghost use Rattle.sap_formula.specs.Form.{action, both, same_place};
+ghost use Rattle.sap_formula.specs.Form.{action, both, same_time};
 ghost use Rattle.sap_formula.specs.View.{form};
 ghost use Rattle.sap_gen.specs.Built.{Built, built, IsBuilt};
 ghost use Rattle.sap_gen.specs.Theories as theories;
@@ -115,7 +115,7 @@ fn start_at(alloc: Global, place: &[u8]) -> Result<Box<Formula>, Mem>
 
 /// `#i = #j`
 fn same_start(alloc: Global) -> Result<Box<Formula>, Mem>
-    ensures { IfOk result (λ f. form f.value ≡ same_place (codes "i") (codes "j")) }
+    ensures { IfOk result (λ f. form f.value ≡ same_time (codes "i") (codes "j")) }
 {
     let first = Name::from_bytes(alloc, b"i")?;
     let second = Name::from_bytes(alloc, b"j")?;

@@ -5,7 +5,7 @@ ghost use Rattle.sap_terms.specs.View.{tree};
 ghost use Rattle.sap_process.specs.Proc.{proc};
 ghost use Rattle.sap_gen.specs.Built as built;
 ghost use Rattle.sap_gen.specs.Built.{IsBuilt};
-ghost use Rattle.sap_gen.specs.Sites as sites;
+ghost use Rattle.sap_gen.specs.code.Sites as sites;
 ghost use Rattle.sap_gen.specs.Unbuilt.{first_unbuilt};
 
 use crate::place::path_below;

@@ -11,7 +11,7 @@ use Rattle.std.proofs.lemmas.Slice.Eq.{bytes_eq-Decides}
 use Rattle.sap_terms.specs.Signature.{same_bool}
 use Rattle.sap_terms.specs.declared.fact.Fact.{Fact}
 use Rattle.sap_process.specs.Flaws.{HasClash, HasOtherArity, HasOtherForm}
-use Rattle.sap_process.specs.Tests.{Shapes, is_shape, shape_of, is_other_shape, noted, noted_all, has_clash}
+use Rattle.sap_process.specs.code.Tests.{Shapes, is_shape, shape_of, is_other_shape, noted, noted_all, has_clash}
 use Rattle.sap_process.specs.declared.met.Shape.{Shape}
 use Rattle.sap_process.proofs.Members.{member-none, not-true, not-false, or-left, or-right}
 

@@ -4,7 +4,7 @@ use Rattle.std.proofs.Math.Bool.{or_assoc}
 use Rattle.std.specs.Map.{lookup}
 use Rattle.std.specs.Str.{bytes_eq}
 use Rattle.sap_terms.specs.declared.fact.Fact.{Fact}
-use Rattle.sap_process.specs.Tests.{Shapes, shape_of, is_other_shape, noted, noted_all, has_clash}
+use Rattle.sap_process.specs.code.Tests.{Shapes, shape_of, is_other_shape, noted, noted_all, has_clash}
 
 pub noted-append : (both : Bool) (met : Shapes) (fs hs : List Fact) → noted_all both met (fs ++ hs) ≡ noted_all both (noted_all both met fs) hs
 noted-append both met [] hs = refl

@@ -1,20 +1,54 @@
--- The first place that has a flaw.
-use Rattle.std.proofs.Common.{◌≡◌, ℕ, zero, suc, ◌<◌, ◌≤◌, List, [], ◌∷◌, ◌++◌, Bool, true, false, Option, Some, None, Result, Ok, Err, take, inl, inr, arith, refl, sym, ap, subst, ◌∙◌}
-use Rattle.std.specs.Prelude.{◌⊎◌, IsErrOf, slice_get, if◌then◌else◌}
-use Rattle.std.proofs.lemmas.Bool.{cases_lt}
-use Rattle.std.proofs.lemmas.List.{append_assoc, append-nil}
+-- The first place that has a flaw, and the flaw that counts.
+use Rattle.std.proofs.Common.{◌≡◌, ℕ, zero, suc, ◌<◌, ◌≤◌, List, [], ◌∷◌, ◌++◌, Bool, true, false, Option, Some, None, option_map, Result, Ok, Err, length, take, inl, inr, arith, refl, sym, ap, subst, ◌∙◌}
+use Rattle.std.specs.Prelude.{◌⊎◌, IsErrOf, get_or, slice_get, nat_lt, if◌then◌else◌}
+use Rattle.std.proofs.lemmas.Bool.{cases_lt, lt-ltb, ltb-true}
+use Rattle.std.proofs.lemmas.List.{append_assoc, append-nil, length-take-le}
+use Rattle.std.proofs.lemmas.Option.{slice_get_within, slice_get-get_or}
 use Rattle.sap_terms.specs.Signature.{Sig}
+use Rattle.sap_terms.specs.declared.var.Var.{Var}
 use Rattle.sap_process.specs.Proc.{Proc}
 use Rattle.sap_process.specs.Sites.{Site, sites}
 use Rattle.sap_process.specs.Flaws.{HasFlaw, IsFlawedAt, IsFirstFlaw, IsWellFormed, rank}
-use Rattle.sap_process.specs.Tests.{has_flaw}
-use Rattle.sap_process.specs.Walks.{seen_at, first_place, unseen, with_flaw, first_flaw}
+use Rattle.sap_process.specs.code.Tests.{has_flaw, lacking}
+use Rattle.sap_process.specs.code.Walks.{clashes, lacked, found_at, found_after, unmet, first_flaw, AreRanked, IsCounted}
 use Rattle.sap_process.specs.declared.flaw.Flaw.{Flaw}
 use Rattle.sap_process.specs.declared.flaw.Flaw.TheVariants.{BadFunction, ReservedVar, ReservedFact, FactClash, PatternDestructor, Unbound, Rebound, SortClash, ScopeFull}
 use Rattle.sap_process.specs.declared.flaw.Ill.{Ill}
 use Rattle.sap_process.specs.declared.flaw.Ill.TheVariants.{Mem, At}
+use Rattle.sap_process.specs.declared.found.Found.{Found}
 use Rattle.sap_process.specs.declared.met.Seen.{Seen}
 use Rattle.sap_process.proofs.Flawed.{Kept, flaw-tells, kept-on, kept-none}
+
+-- the test of a flaw at a site
+abbrev tested : Sig → Seen → Site → Flaw → Bool
+tested g m s w = has_flaw g w (clashes m s.body) s.scope s.locks s.body
+
+-- the place lacks so many of the flaws at most as there are
+lacking-most : (g : Sig) (c : Bool) (scope : List Var) (k : ℕ) (p : Proc) (ws : List Flaw) → lacking g c scope k p ws ≤ length ws
+lacking-most g c scope k p [] = omega arith
+lacking-most g c scope k p (w ∷ ws) = by (has_flaw g w c scope k p) (lacking-most g c scope k p ws) where
+  by : (b : Bool) → lacking g c scope k p ws ≤ length ws → (if b then 0 else suc (lacking g c scope k p ws)) ≤ suc (length ws)
+  by true l = omega arith
+  by false l = omega (arith, l)
+
+-- it has none of these
+lacking-none : (g : Sig) (c : Bool) (scope : List Var) (k : ℕ) (p : Proc) (ws : List Flaw) (j : ℕ) (u : Flaw) → j < lacking g c scope k p ws → slice_get ws j ≡ Some u → has_flaw g u c scope k p ≡ false
+lacking-none g c scope k p [] j u l e = cc
+lacking-none g c scope k p (w ∷ ws) j u l e = by (has_flaw g w c scope k p) refl j l e (lacking-none g c scope k p ws) where
+  by : (b : Bool) → has_flaw g w c scope k p ≡ b → (j : ℕ) → j < (if b then 0 else suc (lacking g c scope k p ws)) → slice_get (w ∷ ws) j ≡ Some u
+      → ((i : ℕ) (v : Flaw) → i < lacking g c scope k p ws → slice_get ws i ≡ Some v → has_flaw g v c scope k p ≡ false) → has_flaw g u c scope k p ≡ false
+  by true d j l e later = absurd (omega (arith, l))
+  by false d zero l e later = let same : w ≡ u = cc in subst (λ (z : Flaw). has_flaw g z c scope k p ≡ false) same d
+  by false d (suc i) l e later = later i u (omega (arith, l)) e
+
+-- and has the next
+lacking-next : (g : Sig) (c : Bool) (scope : List Var) (k : ℕ) (p : Proc) (ws : List Flaw) (u : Flaw) → slice_get ws (lacking g c scope k p ws) ≡ Some u → has_flaw g u c scope k p ≡ true
+lacking-next g c scope k p [] u e = cc
+lacking-next g c scope k p (w ∷ ws) u e = by (has_flaw g w c scope k p) refl e (lacking-next g c scope k p ws u) where
+  by : (b : Bool) → has_flaw g w c scope k p ≡ b → slice_get (w ∷ ws) (if b then 0 else suc (lacking g c scope k p ws)) ≡ Some u
+      → (slice_get ws (lacking g c scope k p ws) ≡ Some u → has_flaw g u c scope k p ≡ true) → has_flaw g u c scope k p ≡ true
+  by true d e later = let same : w ≡ u = cc in subst (λ (z : Flaw). has_flaw g z c scope k p ≡ true) same d
+  by false d e later = later e
 
 -- no place has the flaw, where these places stand before
 abbrev NoneFlawed : Sig → Flaw → List Site → List Site → Type 0
@@ -26,18 +60,6 @@ none-more g w before x ss here later zero s e f =
     here (subst (λ (xs : List Site). HasFlaw g xs x w) (append-nil before) (subst (λ (z : Site). HasFlaw g (before ++ []) z w) (sym same) f))
 none-more g w before x ss here later (suc k) s e f =
     later k s e (subst (λ (xs : List Site). HasFlaw g xs s w) (sym (append_assoc before (x ∷ []) (take k ss))) f)
-
--- a search that finds nothing
-none-found : (g : Sig) (w : Flaw) (m : Seen) (before ss : List Site) → Kept w m before → first_place g w m ss ≡ None → NoneFlawed g w before ss
-none-found g w m before [] kept h = λ k s e f. cc
-none-found g w m before (x ∷ ss) kept h =
-    by (has_flaw g w m.stored m.shown x) refl h (none-found g w (seen_at m x.body) (before ++ x ∷ []) ss)
-  where
-    by : (b : Bool) → has_flaw g w m.stored m.shown x ≡ b → (if b then Some x.path else first_place g w (seen_at m x.body) ss) ≡ None
-        → (Kept w (seen_at m x.body) (before ++ x ∷ []) → first_place g w (seen_at m x.body) ss ≡ None → NoneFlawed g w (before ++ x ∷ []) ss) → NoneFlawed g w before (x ∷ ss)
-    by true d e later = cc
-    by false d e later =
-        none-more g w before x ss ((flaw-tells g w m before x kept).1 d) (later (kept-on g w m before x kept d) e)
 
 -- the first place that has the flaw, with its path
 record FirstOf (g : Sig) (w : Flaw) (before ss : List Site) (path : List ℕ) : Type 0 where
@@ -65,98 +87,190 @@ first-more g w before x ss path here of = record {
     earlier (suc k) s l e f =
         of.first k s (omega arith) e (subst (λ (xs : List Site). HasFlaw g xs s w) (sym (append_assoc before (x ∷ []) (take k ss))) f)
 
--- a search that finds it
-first-found : (g : Sig) (w : Flaw) (m : Seen) (before ss : List Site) (path : List ℕ) → Kept w m before → first_place g w m ss ≡ Some path → FirstOf g w before ss path
-first-found g w m before [] path kept h = cc
-first-found g w m before (x ∷ ss) path kept h =
-    by (has_flaw g w m.stored m.shown x) refl h (first-found g w (seen_at m x.body) (before ++ x ∷ []) ss path)
+-- the flaws that are looked for are the first of these
+abbrev Begins : List Flaw → List Flaw → Type 0
+Begins ws us = (j : ℕ) → j < length us → slice_get us j ≡ slice_get ws j
+
+get-take : (us : List Flaw) (k j : ℕ) → j < k → slice_get (take k us) j ≡ slice_get us j
+get-take [] zero j l = refl
+get-take [] (suc k) j l = refl
+get-take (u ∷ us) zero j l = absurd (omega (arith, l))
+get-take (u ∷ us) (suc k) zero l = refl
+get-take (u ∷ us) (suc k) (suc j) l = get-take us k j (omega (arith, l))
+
+-- no more flaws are looked for once a place is met
+sought-here : (g : Sig) (f : Found) (s : Site) → length (found_at g f s).sought ≡ lacked g f s
+sought-here g f s = length-take-le (lacked g f s) f.sought (lacking-most g (clashes f.seen s.body) s.scope s.locks s.body f.sought)
+
+lacked-most : (g : Sig) (f : Found) (s : Site) → lacked g f s ≤ length f.sought
+lacked-most g f s = lacking-most g (clashes f.seen s.body) s.scope s.locks s.body f.sought
+
+begins-here : (g : Sig) (ws : List Flaw) (f : Found) (s : Site) → Begins ws f.sought → Begins ws (found_at g f s).sought
+begins-here g ws f s begins j l =
+    let low : j < lacked g f s = subst (λ n. j < n) (sought-here g f s) l in
+    get-take f.sought (lacked g f s) j low ∙ begins j (let most = lacked-most g f s in omega (arith, low, most))
+
+-- the facts that were met are noted for each flaw that is looked for
+abbrev AreKept : List Flaw → Found → List Site → Type 0
+AreKept ws f before = (j : ℕ) (u : Flaw) → j < length f.sought → slice_get ws j ≡ Some u → Kept u f.seen before
+
+-- a flaw that is still looked for isn't at the place
+not-here : (g : Sig) (ws : List Flaw) (f : Found) (before : List Site) (s : Site) → Begins ws f.sought → (j : ℕ) (u : Flaw) → j < lacked g f s → slice_get ws j ≡ Some u → tested g f.seen s u ≡ false
+not-here g ws f before s begins j u l e =
+    let most = lacked-most g f s in
+    lacking-none g (clashes f.seen s.body) s.scope s.locks s.body f.sought j u l (begins j (omega (arith, l, most)) ∙ e)
+
+kept-here : (g : Sig) (ws : List Flaw) (f : Found) (before : List Site) (s : Site) → Begins ws f.sought → AreKept ws f before → AreKept ws (found_at g f s) (before ++ s ∷ [])
+kept-here g ws f before s begins kept j u l e =
+    let low : j < lacked g f s = subst (λ n. j < n) (sought-here g f s) l in
+    let most = lacked-most g f s in
+    kept-on g u f.seen before s (kept j u (omega (arith, low, most)) e) (not-here g ws f before s begins j u low e)
+
+-- what a walk finds among places, where these stand before
+record Finds (g : Sig) (ws : List Flaw) (before ss : List Site) (f h : Found) : Type 0 where
+  less : length h.sought ≤ length f.sought
+  none : (j : ℕ) (u : Flaw) → j < length h.sought → slice_get ws j ≡ Some u → NoneFlawed g u before ss
+  some : (u : Flaw) → length h.sought < length f.sought → slice_get ws (length h.sought) ≡ Some u → FirstOf g u before ss h.path
+  same : length h.sought ≡ length f.sought → h.path ≡ f.path
+
+-- what a walk finds among the places after one, and so from it on
+finds-more : (g : Sig) (ws : List Flaw) (before : List Site) (s : Site) (ss : List Site) (f : Found) → Begins ws f.sought → AreKept ws f before
+    → Finds g ws (before ++ s ∷ []) ss (found_at g f s) (found_after g (found_at g f s) ss) → Finds g ws before (s ∷ ss) f (found_after g (found_at g f s) ss)
+finds-more g ws before s ss f begins kept rest = record {
+  less = omega (arith, rest.less, here, most);
+  none = λ j u l e. none-more g u before s ss (apart j u (omega (arith, l, rest.less, here)) e) (rest.none j u l e);
+  some = λ u l e. by (cases_lt (length h.sought) (lacked g f s)) u l e;
+  same = λ e. rest.same (omega (arith, e, rest.less, here, most)) ∙ stays (omega (arith, e, rest.less, here, most));
+}
   where
-    by : (b : Bool) → has_flaw g w m.stored m.shown x ≡ b → (if b then Some x.path else first_place g w (seen_at m x.body) ss) ≡ Some path
-        → (Kept w (seen_at m x.body) (before ++ x ∷ []) → first_place g w (seen_at m x.body) ss ≡ Some path → FirstOf g w (before ++ x ∷ []) ss path) → FirstOf g w before (x ∷ ss) path
-    by true d e later = record {
-      place = 0;
-      site = x;
-      stands = refl;
-      flaw = subst (λ (xs : List Site). HasFlaw g xs x w) (sym (append-nil before)) ((flaw-tells g w m before x kept).0 d);
-      path_is = cc;
-      first = λ k s l e f. absurd (omega arith);
-    }
-    by false d e later =
-        first-more g w before x ss path ((flaw-tells g w m before x kept).1 d) (later (kept-on g w m before x kept d) e)
+    f1 : Found
+    f1 = found_at g f s
 
-no-flaw : (g : Sig) (p : Proc) (w : Flaw) → first_place g w unseen (sites p) ≡ None → (k : ℕ) → ¬ IsFlawedAt g p w k
-no-flaw g p w h k f = none-found g w unseen [] (sites p) (kept-none w) h k f.site f.stands f.flaw
+    h : Found
+    h = found_after g f1 ss
 
--- no flaw of these ranks was found
-abbrev pub NoneUpTo : Sig → Proc → ℕ → Type 0
-NoneUpTo g p n = (u : Flaw) → rank u < n → first_place g u unseen (sites p) ≡ None
+    here : length f1.sought ≡ lacked g f s
+    here = sought-here g f s
 
-ends-at : (g : Sig) (p : Proc) (w : Flaw) (path : List ℕ) → first_place g w unseen (sites p) ≡ Some path → NoneUpTo g p (rank w) → IsFirstFlaw g p w path
-ends-at g p w path h least =
-    let of = first-found g w unseen [] (sites p) path (kept-none w) h in
-    record {
-      place = of.place;
-      at = record { site = of.site; stands = of.stands; flaw = of.flaw };
-      path_is = of.path_is;
-      first = λ k l f. of.first k f.site l f.stands f.flaw;
-      least = λ u l. no-flaw g p u (least u l);
-    }
+    most : lacked g f s ≤ length f.sought
+    most = lacked-most g f s
 
-rank-low : (w : Flaw) → rank w < 10
-rank-low BadFunction = omega arith
-rank-low ReservedVar = omega arith
-rank-low ReservedFact = omega arith
-rank-low FactClash = omega arith
-rank-low PatternDestructor = omega arith
-rank-low Unbound = omega arith
-rank-low Rebound = omega arith
-rank-low SortClash = omega arith
-rank-low ScopeFull = omega arith
+    apart : (j : ℕ) (u : Flaw) → j < lacked g f s → slice_get ws j ≡ Some u → HasFlaw g before s u → ⊥
+    apart j u l e = (flaw-tells g u f.seen before s (kept j u (omega (arith, l, most)) e)).1 (not-here g ws f before s begins j u l e)
 
--- the flaw of a rank
-abbrev ranked : ℕ → Flaw
-ranked (suc (suc zero)) = ReservedVar
-ranked (suc (suc (suc zero))) = ReservedFact
-ranked (suc (suc (suc (suc zero)))) = FactClash
-ranked (suc (suc (suc (suc (suc zero))))) = PatternDestructor
-ranked (suc (suc (suc (suc (suc (suc zero)))))) = Unbound
-ranked (suc (suc (suc (suc (suc (suc (suc zero))))))) = Rebound
-ranked (suc (suc (suc (suc (suc (suc (suc (suc zero)))))))) = SortClash
-ranked (suc (suc (suc (suc (suc (suc (suc (suc (suc zero))))))))) = ScopeFull
-ranked _ = BadFunction
+    -- where the place has none of the flaws, the path stays
+    stays : lacked g f s ≡ length f.sought → f1.path ≡ f.path
+    stays e = path (nat_lt (lacked g f s) (length f.sought)) refl where
+      path : (b : Bool) → nat_lt (lacked g f s) (length f.sought) ≡ b → (if b then s.path else f.path) ≡ f.path
+      path true d = absurd (let l : lacked g f s < length f.sought = ltb-true (lacked g f s) (length f.sought) d in omega (arith, l, e))
+      path false d = refl
 
-ranked-rank : (w : Flaw) → ranked (rank w) ≡ w
-ranked-rank BadFunction = refl
-ranked-rank ReservedVar = refl
-ranked-rank ReservedFact = refl
-ranked-rank FactClash = refl
-ranked-rank PatternDestructor = refl
-ranked-rank Unbound = refl
-ranked-rank Rebound = refl
-ranked-rank SortClash = refl
-ranked-rank ScopeFull = refl
+    -- and else it is the place's
+    moves : lacked g f s < length f.sought → f1.path ≡ s.path
+    moves l = ap (λ (b : Bool). if b then s.path else f.path) (lt-ltb (lacked g f s) (length f.sought) l)
 
-none-next : (g : Sig) (p : Proc) (w : Flaw) (n : ℕ) → rank w ≡ n → NoneUpTo g p n → first_place g w unseen (sites p) ≡ None → NoneUpTo g p (suc n)
-none-next g p w n at none h u l = by (cases_lt (rank u) n) where
-  by : (rank u < n) ⊎ (n ≤ rank u) → first_place g u unseen (sites p) ≡ None
-  by (inl low) = none u low
-  by (inr high) =
-      let same : rank w ≡ rank u = omega arith in
-      let equal : w ≡ u = sym (ranked-rank w) ∙ ap ranked same ∙ ranked-rank u in
-      subst (λ (z : Flaw). first_place g z unseen (sites p) ≡ None) equal h
+    by : (length h.sought < lacked g f s) ⊎ (lacked g f s ≤ length h.sought) → (u : Flaw) → length h.sought < length f.sought → slice_get ws (length h.sought) ≡ Some u → FirstOf g u before (s ∷ ss) h.path
+    by (inl low) u l e =
+        first-more g u before s ss h.path (apart (length h.sought) u low e) (rest.some u (omega (arith, low, here)) e)
+    by (inr high) u l e =
+        let equal : length h.sought ≡ lacked g f s = omega (arith, high, rest.less, here) in
+        let below : lacked g f s < length f.sought = omega (arith, l, equal) in
+        let at : slice_get f.sought (lacked g f s) ≡ Some u = begins (lacked g f s) below ∙ ap (slice_get ws) (sym equal) ∙ e in
+        let has : tested g f.seen s u ≡ true = lacking-next g (clashes f.seen s.body) s.scope s.locks s.body f.sought u at in
+        record {
+          place = 0;
+          site = s;
+          stands = refl;
+          flaw = subst (λ (xs : List Site). HasFlaw g xs s u) (sym (append-nil before)) ((flaw-tells g u f.seen before s (kept (lacked g f s) u below (ap (slice_get ws) (sym equal) ∙ e))).0 has);
+          path_is = sym (rest.same (equal ∙ sym here) ∙ moves below);
+          first = λ k t l e f. absurd (omega (arith, l));
+        }
 
--- the flaws have the ranks from n on, up to the last
-abbrev Ascend : ℕ → List Flaw → Type 0
-Ascend n [] = n ≡ 10
-Ascend n (w ∷ ws) = (rank w ≡ n) × Ascend (suc n) ws
+finds : (g : Sig) (ws : List Flaw) (before ss : List Site) (f : Found) → Begins ws f.sought → AreKept ws f before → Finds g ws before ss f (found_after g f ss)
+finds g ws before [] f begins kept = record {
+  less = omega arith;
+  none = λ j u l e k s d x. cc;
+  some = λ u l e. absurd (omega (arith, l));
+  same = λ e. refl;
+}
+finds g ws before (s ∷ ss) f begins kept =
+    finds-more g ws before s ss f begins kept (finds g ws (before ++ s ∷ []) ss (found_at g f s) (begins-here g ws f s begins) (kept-here g ws f before s begins kept))
 
-none-of : (g : Sig) (p : Proc) (ws : List Flaw) (n : ℕ) → Ascend n ws → NoneUpTo g p n → first_flaw g ws (sites p) ≡ None → NoneUpTo g p 10
-none-of g p [] n at none h = subst (NoneUpTo g p) at none
-none-of g p (w ∷ ws) n at none h = by (first_place g w unseen (sites p)) refl h (none-of g p ws (suc n) at.1) where
-  by : (o : Option (List ℕ)) → first_place g w unseen (sites p) ≡ o → with_flaw w o (first_flaw g ws (sites p)) ≡ None
-      → (NoneUpTo g p (suc n) → first_flaw g ws (sites p) ≡ None → NoneUpTo g p 10) → NoneUpTo g p 10
-  by None d e later = later (none-next g p w n at.0 none d) e
-  by (Some path) d e later = cc
+abbrev flaws : List Flaw
+flaws = BadFunction ∷ ReservedVar ∷ ReservedFact ∷ FactClash ∷ PatternDestructor ∷ Unbound ∷ Rebound ∷ SortClash ∷ ScopeFull ∷ []
+
+-- where each flaw stands
+abbrev index : Flaw → ℕ
+index BadFunction = 0
+index ReservedVar = 1
+index ReservedFact = 2
+index FactClash = 3
+index PatternDestructor = 4
+index Unbound = 5
+index Rebound = 6
+index SortClash = 7
+index ScopeFull = 8
+
+index-rank : (w : Flaw) → rank w ≡ suc (index w)
+index-rank BadFunction = refl
+index-rank ReservedVar = refl
+index-rank ReservedFact = refl
+index-rank FactClash = refl
+index-rank PatternDestructor = refl
+index-rank Unbound = refl
+index-rank Rebound = refl
+index-rank SortClash = refl
+index-rank ScopeFull = refl
+
+index-at : (w : Flaw) → slice_get flaws (index w) ≡ Some w
+index-at BadFunction = refl
+index-at ReservedVar = refl
+index-at ReservedFact = refl
+index-at FactClash = refl
+index-at PatternDestructor = refl
+index-at Unbound = refl
+index-at Rebound = refl
+index-at SortClash = refl
+index-at ScopeFull = refl
+
+-- no flaw stands twice
+index-of : (k : ℕ) (w : Flaw) → slice_get flaws k ≡ Some w → k ≡ index w
+index-of zero w e = let same : BadFunction ≡ w = cc in ap index same
+index-of (suc zero) w e = let same : ReservedVar ≡ w = cc in ap index same
+index-of (suc (suc zero)) w e = let same : ReservedFact ≡ w = cc in ap index same
+index-of (suc (suc (suc zero))) w e = let same : FactClash ≡ w = cc in ap index same
+index-of (suc (suc (suc (suc zero)))) w e = let same : PatternDestructor ≡ w = cc in ap index same
+index-of (suc (suc (suc (suc (suc zero))))) w e = let same : Unbound ≡ w = cc in ap index same
+index-of (suc (suc (suc (suc (suc (suc zero)))))) w e = let same : Rebound ≡ w = cc in ap index same
+index-of (suc (suc (suc (suc (suc (suc (suc zero))))))) w e = let same : SortClash ≡ w = cc in ap index same
+index-of (suc (suc (suc (suc (suc (suc (suc (suc zero)))))))) w e = let same : ScopeFull ≡ w = cc in ap index same
+index-of (suc (suc (suc (suc (suc (suc (suc (suc (suc k))))))))) w e = cc
+
+-- what a walk over all places finds
+whole : (g : Sig) (p : Proc) → Finds g flaws [] (sites p) (unmet flaws) (found_after g (unmet flaws) (sites p))
+whole g p = finds g flaws [] (sites p) (unmet flaws) (λ j l. refl) (λ j u l e. kept-none u)
+
+abbrev found_in : Sig → Proc → Found
+found_in g p = found_after g (unmet flaws) (sites p)
+
+no-flaw : (g : Sig) (p : Proc) (u : Flaw) → index u < length (found_in g p).sought → (k : ℕ) → ¬ IsFlawedAt g p u k
+no-flaw g p u l k f = (whole g p).none (index u) u l (index-at u) k f.site f.stands f.flaw
+
+inside : (k : ℕ) → k < 9 → slice_get flaws k ≡ None → ⊥
+inside k l e = let some : slice_get flaws k ≡ Some (get_or flaws k BadFunction) = slice_get-get_or flaws k BadFunction l in cc
+
+-- where no flaw is found, the process is well-formed
+well-formed : (g : Sig) (p : Proc) → first_flaw g flaws (sites p) ≡ None → IsWellFormed g p
+well-formed g p h u k = by (cases_lt (index u) (length (found_in g p).sought)) k where
+  by : (index u < length (found_in g p).sought) ⊎ (length (found_in g p).sought ≤ index u) → (k : ℕ) → ¬ IsFlawedAt g p u k
+  by (inl low) k = no-flaw g p u low k
+  by (inr high) k = absurd (past (slice_get flaws (length (found_in g p).sought)) refl h) where
+    below : length (found_in g p).sought < 9
+    below = let l : index u < 9 = slice_get_within flaws (index u) u (index-at u) in omega (arith, high, l)
+
+    past : (o : Option Flaw) → slice_get flaws (length (found_in g p).sought) ≡ o → option_map {U = Flaw × List ℕ} (λ (w : Flaw). (w, (found_in g p).path)) o ≡ None → ⊥
+    past None e d = inside (length (found_in g p).sought) below e
+    past (Some w) e d = cc
 
 abbrev flaw_in : Flaw → Option (Flaw × List ℕ) → Flaw
 flaw_in w None = w
@@ -166,44 +280,55 @@ abbrev path_in : Option (Flaw × List ℕ) → List ℕ
 path_in None = []
 path_in (Some found) = found.1
 
-pair-parts : (w u : Flaw) (a b : List ℕ) → ◌≡◌ {A = Option (Flaw × List ℕ)} (Some (w, a)) (Some (u, b)) → (w ≡ u) × (a ≡ b)
-pair-parts w u a b e = (ap (flaw_in w) e, ap path_in e)
+-- the flaw that is found counts
+counts : (g : Sig) (p : Proc) (u : Flaw) (path : List ℕ) → first_flaw g flaws (sites p) ≡ Some (u, path) → IsFirstFlaw g p u path
+counts g p u path h = by (slice_get flaws (length (found_in g p).sought)) refl h where
+  at : slice_get flaws (length (found_in g p).sought) ≡ Some u → (found_in g p).path ≡ path → IsFirstFlaw g p u path
+  at e same =
+      let below : length (found_in g p).sought < 9 = slice_get_within flaws (length (found_in g p).sought) u e in
+      let of = (whole g p).some u below e in
+      record {
+        place = of.place;
+        at = record { site = of.site; stands = of.stands; flaw = of.flaw };
+        path_is = of.path_is ∙ same;
+        first = λ k l f. of.first k f.site l f.stands f.flaw;
+        least = λ w l. no-flaw g p w (
+            let here = index-of (length (found_in g p).sought) u e in
+            let first = index-rank w in
+            let second = index-rank u in
+            omega (arith, l, here, first, second));
+      }
 
-one-of : (g : Sig) (p : Proc) (ws : List Flaw) (n : ℕ) (u : Flaw) (path : List ℕ) → Ascend n ws → NoneUpTo g p n → first_flaw g ws (sites p) ≡ Some (u, path) → IsFirstFlaw g p u path
-one-of g p [] n u path at none h = cc
-one-of g p (w ∷ ws) n u path at none h = by (first_place g w unseen (sites p)) refl h (one-of g p ws (suc n) u path at.1) where
-  here : (at_path : List ℕ) → first_place g w unseen (sites p) ≡ Some at_path → w ≡ u → at_path ≡ path → IsFirstFlaw g p u path
-  here at_path d same ends =
-      subst (λ (z : Flaw). IsFirstFlaw g p z path) same (subst (IsFirstFlaw g p w) ends (ends-at g p w at_path d (subst (NoneUpTo g p) (sym at.0) none)))
+  by : (o : Option Flaw) → slice_get flaws (length (found_in g p).sought) ≡ o → option_map {U = Flaw × List ℕ} (λ (w : Flaw). (w, (found_in g p).path)) o ≡ Some (u, path) → IsFirstFlaw g p u path
+  by None e d = cc
+  by (Some w) e d = at (e ∙ ap Some (ap (flaw_in w) d)) (ap path_in d)
 
-  by : (o : Option (List ℕ)) → first_place g w unseen (sites p) ≡ o → with_flaw w o (first_flaw g ws (sites p)) ≡ Some (u, path)
-      → (NoneUpTo g p (suc n) → first_flaw g ws (sites p) ≡ Some (u, path) → IsFirstFlaw g p u path) → IsFirstFlaw g p u path
-  by None d e later = later (none-next g p w n at.0 none d) e
-  by (Some at_path) d e later = let parts = pair-parts w u at_path path e in here at_path d parts.0 parts.1
+-- flaws of one rank are one
+same-rank : (u w : Flaw) → rank u ≡ rank w → u ≡ w
+same-rank u w e =
+    let i : index u ≡ index w = (let first = index-rank u in let second = index-rank w in omega (arith, e, first, second)) in
+    let s : Some u ≡ Some w = sym (index-at u) ∙ ap (slice_get flaws) i ∙ index-at w in
+    cc
 
-abbrev flaws : List Flaw
-flaws = BadFunction ∷ ReservedVar ∷ ReservedFact ∷ FactClash ∷ PatternDestructor ∷ Unbound ∷ Rebound ∷ SortClash ∷ ScopeFull ∷ []
+rank-low : (w : Flaw) → rank w < 10
+rank-low w = let l : index w < 9 = slice_get_within flaws (index w) w (index-at w) in let e = index-rank w in omega (arith, l, e)
 
-ascending : Ascend 1 flaws
+-- flaws in the order in which they count, from one rank on, are one list
+ranked-same : (n : ℕ) (us ws : List Flaw) → AreRanked n us → AreRanked n ws → us ≡ ws
+ranked-same n [] [] a b = refl
+ranked-same n [] (w ∷ ws) a b = absurd (let l = rank-low w in let e = b.0 in omega (arith, a, e, l))
+ranked-same n (u ∷ us) [] a b = absurd (let l = rank-low u in let e = a.0 in omega (arith, e, b, l))
+ranked-same n (u ∷ us) (w ∷ ws) a b = λ i. same-rank u w (a.0 ∙ sym b.0) i ∷ ranked-same (suc n) us ws a.1 b.1 i
+
+ascending : AreRanked 1 flaws
 ascending = (refl, (refl, (refl, (refl, (refl, (refl, (refl, (refl, (refl, refl)))))))))
 
-rank-positive : (w : Flaw) → 0 < rank w
-rank-positive BadFunction = omega arith
-rank-positive ReservedVar = omega arith
-rank-positive ReservedFact = omega arith
-rank-positive FactClash = omega arith
-rank-positive PatternDestructor = omega arith
-rank-positive Unbound = omega arith
-rank-positive Rebound = omega arith
-rank-positive SortClash = omega arith
-rank-positive ScopeFull = omega arith
-
-none-below : (g : Sig) (p : Proc) → NoneUpTo g p 1
-none-below g p u l = absurd (omega (arith, rank-positive u))
-
--- where a search for the flaws in their order finds none, the process is well-formed
-pub well-formed : (g : Sig) (p : Proc) → first_flaw g flaws (sites p) ≡ None → IsWellFormed g p
-well-formed g p h w = no-flaw g p w (none-of g p flaws 1 ascending (none-below g p) h w (rank-low w))
+-- a search for the flaws in the order in which they count finds the one that counts
+pub counted : (g : Sig) (p : Proc) (ws : List Flaw) → AreRanked 1 ws → IsCounted g p (first_flaw g ws (sites p))
+counted g p ws at = subst (λ (us : List Flaw). IsCounted g p (first_flaw g us (sites p))) (ranked-same 1 flaws ws ascending at) (by (first_flaw g flaws (sites p)) refl) where
+  by : (o : Option (Flaw × List ℕ)) → first_flaw g flaws (sites p) ≡ o → IsCounted g p o
+  by None h = well-formed g p h
+  by (Some found) h = counts g p found.0 found.1 h
 
 abbrev flaw_told : Flaw → Ill → Flaw
 flaw_told w Mem = w
@@ -217,15 +342,15 @@ abbrev told : {T : Type 0} → Result T Ill → Ill
 told (Ok x) = Mem
 told (Err e) = e
 
--- and one that is found and told counts
-pub first-flaw : {T : Type 0} (g : Sig) (p : Proc) (u w : Flaw) (found path : List ℕ) → first_flaw g flaws (sites p) ≡ Some (u, found) → IsErrOf {T = T} {E = Ill} (Err (At u found)) (At w path) → IsFirstFlaw g p w path
-first-flaw {T} g p u w found path h r =
+-- and one that counts is told
+pub told-one : {T : Type 0} (g : Sig) (p : Proc) (u w : Flaw) (found path : List ℕ) → IsFirstFlaw g p u found → IsErrOf {T = T} {E = Ill} (Err (At u found)) (At w path) → IsFirstFlaw g p w path
+told-one {T} g p u w found path h r =
     let e : At u found ≡ At w path = ap (told {T = T}) r in
-    subst (λ (z : Flaw). IsFirstFlaw g p z path) (ap (flaw_told w) e) (subst (IsFirstFlaw g p u) (ap path_told e) (one-of g p flaws 1 u found ascending (none-below g p) h))
+    subst (λ (z : Flaw). IsFirstFlaw g p z path) (ap (flaw_told w) e) (subst (IsFirstFlaw g p u) (ap path_told e) h)
 
 -- each process is well-formed, or has a flaw that counts
 pub some-flaw : (g : Sig) (p : Proc) → IsWellFormed g p ⊎ ((w : Flaw) × (path : List ℕ) × IsFirstFlaw g p w path)
-some-flaw g p = found (first_flaw g flaws (sites p)) refl where
-  found : (o : Option (Flaw × List ℕ)) → first_flaw g flaws (sites p) ≡ o → IsWellFormed g p ⊎ ((w : Flaw) × (path : List ℕ) × IsFirstFlaw g p w path)
-  found None h = inl (well-formed g p h)
-  found (Some (u, path)) h = inr (u, path, one-of g p flaws 1 u path ascending (none-below g p) h)
+some-flaw g p = by (first_flaw g flaws (sites p)) (counted g p flaws ascending) where
+  by : (o : Option (Flaw × List ℕ)) → IsCounted g p o → IsWellFormed g p ⊎ ((w : Flaw) × (path : List ℕ) × IsFirstFlaw g p w path)
+  by None h = inl h
+  by (Some found) h = inr (found.0, found.1, h)

@@ -14,14 +14,14 @@ use Rattle.sap_terms.specs.Variables.{is_known}
 use Rattle.sap_terms.specs.declared.var.Sort.{Sort}
 use Rattle.sap_terms.specs.declared.var.Sort.TheVariants.{Msg, Fresh, Pub}
 use Rattle.sap_terms.specs.declared.var.Var.{Var}
-use Rattle.sap_terms.proofs.SameLemmas.{and_left, and_right, and_true}
+use Rattle.sap_terms.proofs.PlainLaws.Tests.{and_left, and_right, and_true}
 use Rattle.sap_process.specs.Heads.{terms_vars, head_terms, head_vars, binder, bound_as, patterns, stored_facts, shown_facts}
 use Rattle.sap_process.specs.Sites.{Site, var_names}
 use Rattle.sap_terms.specs.Destructors.{HasDestructor, AnyHasDestructor}
 use Rattle.sap_process.specs.Flaws.{AppliesBadly, BindsConstant, HasReservedVar, HasReservedFact, HasClash, HasOtherArity, HasOtherForm, HasPatternDestructor, unbound, Rebinds, scope_at, binder_of, HasSortClash, HasFlaw}
-use Rattle.sap_terms.specs.code.TermTests.{has_arity, is_over, are_over, has_destructor, any_has_destructor}
-use Rattle.sap_process.specs.Tests.{is_constant, binds_constant, is_reserved_var, is_reserved_fact, noted_all, has_clash, has_items, rebinds, is_other_sort, has_other_sort, has_flaw}
-use Rattle.sap_process.specs.Walks.{seen_at}
+use Rattle.sap_terms.specs.TermTests.{has_arity, is_over, are_over, has_destructor, any_has_destructor}
+use Rattle.sap_process.specs.code.Tests.{is_constant, binds_constant, is_reserved_var, is_reserved_fact, noted_all, has_clash, has_items, rebinds, is_other_sort, has_other_sort, has_flaw}
+use Rattle.sap_process.specs.code.Walks.{seen_at, clashes}
 use Rattle.sap_process.specs.declared.flaw.Flaw.{Flaw}
 use Rattle.sap_process.specs.declared.flaw.Flaw.TheVariants.{BadFunction, ReservedVar, ReservedFact, FactClash, PatternDestructor, Unbound, Rebound, SortClash, ScopeFull}
 use Rattle.sap_process.specs.declared.met.Seen.{Seen}
@@ -274,14 +274,14 @@ abbrev pub Kept : Flaw → Seen → List Site → Type 0
 Kept FactClash m before = AreSeen m before
 Kept _ m before = Unit {0}
 
-clash-tells : (m : Seen) (before : List Site) (s : Site) (g : Sig) → AreSeen m before → Tells (has_flaw g FactClash m.stored m.shown s) (HasFlaw g before s FactClash)
+clash-tells : (m : Seen) (before : List Site) (s : Site) (g : Sig) → AreSeen m before → Tells (clashes m s.body) (HasFlaw g before s FactClash)
 clash-tells m before s g kept =
     both-tell (has_clash true m.stored (stored_facts s.body)) (has_clash false m.shown (shown_facts s.body)) (HasClash HasOtherForm (flat_map (λ (b : Site). stored_facts b.body) before) (stored_facts s.body)) (HasClash HasOtherArity (flat_map (λ (b : Site). shown_facts b.body) before) (shown_facts s.body))
     (clash-sound true m.stored (flat_map (λ (b : Site). stored_facts b.body) before) (stored_facts s.body) kept.stored, clash-complete true m.stored (flat_map (λ (b : Site). stored_facts b.body) before) (stored_facts s.body) kept.stored)
     (clash-sound false m.shown (flat_map (λ (b : Site). shown_facts b.body) before) (shown_facts s.body) kept.shown, clash-complete false m.shown (flat_map (λ (b : Site). shown_facts b.body) before) (shown_facts s.body) kept.shown)
 
 -- each test tells its flaw
-pub flaw-tells : (g : Sig) (w : Flaw) (m : Seen) (before : List Site) (s : Site) → Kept w m before → Tells (has_flaw g w m.stored m.shown s) (HasFlaw g before s w)
+pub flaw-tells : (g : Sig) (w : Flaw) (m : Seen) (before : List Site) (s : Site) → Kept w m before → Tells (has_flaw g w (clashes m s.body) s.scope s.locks s.body) (HasFlaw g before s w)
 flaw-tells g BadFunction m before s kept = both-tell (not (are_over g (trees_of (head_terms s.body)))) (binds_constant g s.body) (AppliesBadly g s) (BindsConstant g s) (applies-tells g s) (binds-tells g s)
 flaw-tells g ReservedVar m before s kept = reserved-var-tells s
 flaw-tells g ReservedFact m before s kept = reserved-fact-tells s
@@ -296,14 +296,14 @@ flat-push : {X Y : Type 0} (f : X → List Y) (xs : List X) (x : X) → flat_map
 flat-push f [] x = sym (append-nil (f x))
 flat-push f (y ∷ ys) x = append_assoc (f y) (flat_map f ys) (f x) ∙ ap (λ zs. f y ++ zs) (flat-push f ys x)
 
-clash-kept : (m : Seen) (before : List Site) (s : Site) → AreSeen m before → (has_clash true m.stored (stored_facts s.body) || has_clash false m.shown (shown_facts s.body)) ≡ false → AreSeen (seen_at m s.body) (before ++ s ∷ [])
+clash-kept : (m : Seen) (before : List Site) (s : Site) → AreSeen m before → clashes m s.body ≡ false → AreSeen (seen_at m s.body) (before ++ s ∷ [])
 clash-kept m before s kept h = record {
   stored = subst (AreShapes true (noted_all true m.stored (stored_facts s.body))) (flat-push (λ (b : Site). stored_facts b.body) before s) (shapes-all true m.stored (flat_map (λ (b : Site). stored_facts b.body) before) (stored_facts s.body) kept.stored (or-left _ _ h));
   shown = subst (AreShapes false (noted_all false m.shown (shown_facts s.body))) (flat-push (λ (b : Site). shown_facts b.body) before s) (shapes-all false m.shown (flat_map (λ (b : Site). shown_facts b.body) before) (shown_facts s.body) kept.shown (or-right (has_clash true m.stored (stored_facts s.body)) _ h));
 }
 
 -- and where a place hasn't the flaw, its facts are noted as well
-pub kept-on : (g : Sig) (w : Flaw) (m : Seen) (before : List Site) (s : Site) → Kept w m before → has_flaw g w m.stored m.shown s ≡ false → Kept w (seen_at m s.body) (before ++ s ∷ [])
+pub kept-on : (g : Sig) (w : Flaw) (m : Seen) (before : List Site) (s : Site) → Kept w m before → has_flaw g w (clashes m s.body) s.scope s.locks s.body ≡ false → Kept w (seen_at m s.body) (before ++ s ∷ [])
 kept-on g BadFunction m before s kept h = tt
 kept-on g ReservedVar m before s kept h = tt
 kept-on g ReservedFact m before s kept h = tt

@@ -22,8 +22,9 @@ use Rattle.sap_process.specs.Sites.{Site, sites_from, var_names, fresh_var, mess
 use Rattle.sap_process.proofs.InstanceLemmas.{one_instance}
 use Rattle.sap_process.proofs.Members.{member-head, member-tail, member-none, member-cases}
 use Rattle.sap_process.specs.GroundProcess.{IsGroundProcess}
-use Rattle.sap_process.specs.GroundParts.{IsGroundIn}
+use Rattle.sap_process.specs.code.GroundParts.{IsGroundIn}
 use Rattle.sap_process.proofs.Names.{same_name_true, known-append, names-append}
+use Rattle.sap_process.proofs.NewVars.{or_new}
 use Rattle.sap_process.proofs.SortedVars.{map_joined}
 use Rattle.sap_process.proofs.Envs.{Env, put, GroundEnv, known_new, known_filter, new_of, filter-append, vars_put, facts_vars_put}
 
@@ -120,10 +121,6 @@ terms_bound : (v u : List Var) (env : Env) → GroundEnv env → Fits env v u �
 terms_bound v u env g fits ts e = ap (filter (unknown u)) (vars_left env g ts) ∙ left_nothing v u env fits (terms_vars ts) e
 
 -- new variables
-
-or_new : (a b : Bool) → (a || (not a && b)) ≡ (a || b)
-or_new true b = refl
-or_new false b = refl
 
 scope_new : (v ws : List Var) (n : List ℕ) → is_known (var_names (v ++ new_vars (var_names v) ws)) n ≡ (is_known (var_names v) n || is_known (var_names ws) n)
 scope_new v ws n = known_or v (new_vars (var_names v) ws) n ∙ ap (λ b. is_known (var_names v) n || b) (known_new (var_names v) ws n) ∙ or_new (is_known (var_names v) n) (is_known (var_names ws) n)

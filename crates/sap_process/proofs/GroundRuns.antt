@@ -24,11 +24,11 @@ use Rattle.sap_terms.specs.Variables.{tree_vars, trees_vars, facts_vars, is_know
 use Rattle.sap_terms.specs.declared.fact.Fact.{Fact}
 use Rattle.sap_terms.specs.declared.var.Sort.TheVariants.{Msg}
 use Rattle.sap_terms.specs.declared.var.Var.{Var}
-use Rattle.sap_terms.proofs.SameLemmas.{same_tree-sound}
+use Rattle.sap_terms.proofs.PlainLaws.Tests.{same_tree-sound}
 use Rattle.sap_process.specs.Action as action
 use Rattle.sap_process.specs.Configuration.{Config, initial, becomes, stored, CanGive}
 use Rattle.sap_process.specs.Flaws.{IsWellFormed, binder_of, unbound, unbound_in}
-use Rattle.sap_process.specs.GroundParts.{IsGroundIn, AllOver, IsOverProcess}
+use Rattle.sap_process.specs.code.GroundParts.{IsGroundIn, AllOver, IsOverProcess}
 use Rattle.sap_process.specs.GroundProcess.{IsGroundProcess, HoldsMessages, IsGroundConfig}
 use Rattle.sap_process.specs.Heads.{facts_terms, terms_vars}
 use Rattle.sap_process.specs.Proc as whole

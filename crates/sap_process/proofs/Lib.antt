@@ -23,4 +23,8 @@ pub mod OverParts
 pub mod GroundRuns
 pub mod PlacesListed
 pub mod OneThread
+pub mod OwnNames
 pub mod NoSteps
+pub mod NewVars
+pub mod NoTraces
+pub mod ExactSteps

@@ -1,22 +1,172 @@
--- Steps that are not there: what a step of one thread does.
-use Rattle.std.proofs.Common.{◌≡◌, ◌⊎◌, ℕ, zero, suc, List, [], ◌∷◌, ◌++◌, Option, Some, None, Bool, true, false, map, slice_get, slice_set, refl, sym, ap, subst, ◌∙◌, inl, inr}
-use Rattle.sap_terms.specs.Choice.{Choice}
+-- Where a step comes from: a thread, two that meet, or the adversary.
+use Rattle.std.proofs.Common.{◌≡◌, ◌⊎◌, ℕ, zero, suc, List, [], ◌∷◌, ◌++◌, Option, Some, None, false, true, slice_get, slice_set, refl, sym, ap, subst, ◌∙◌, inl, inr}
+use Rattle.sap_terms.specs.AdversaryFacts.{k_fact}
+use Rattle.sap_terms.specs.Choice.{Choice, instance}
 use Rattle.sap_terms.specs.Equal.{IsTheoryEqual}
-use Rattle.sap_terms.specs.Equations.{equations}
+use Rattle.sap_terms.specs.Equations.{equations, app2, pair_name}
 use Rattle.sap_terms.specs.Message.{IsMessageChoice}
-use Rattle.sap_terms.specs.Modulo.{instance_facts, AreEqualFacts}
+use Rattle.sap_terms.specs.Modulo.{instance_facts, IsFormOfFact, AreEqualFacts, AreFormsOfFacts}
 use Rattle.sap_terms.specs.Normal.{IsNormalForm}
-use Rattle.sap_terms.specs.Piles.{Pile, Takes}
+use Rattle.sap_terms.specs.Piles.{Pile, Takes, adds}
 use Rattle.sap_terms.specs.Signature.{Sig}
 use Rattle.sap_terms.specs.Tree.{Tree, fresh}
 use Rattle.sap_terms.specs.Variables.{tree_vars, facts_vars}
 use Rattle.sap_terms.specs.declared.fact.Fact.{Fact}
-use Rattle.sap_terms.specs.declared.var.Var.{Var}
-use Rattle.sap_process.specs.Action as action
-use Rattle.sap_process.specs.Configuration.{Config, Runs, CanGive, IsUnused}
-use Rattle.sap_process.specs.Proc as whole
-use Rattle.sap_process.specs.Proc.{Proc, act}
+use Rattle.sap_process.specs.Action.{Action, new, out, send, input, receive, event, insert, delete, lock, unlock, embedded}
+use Rattle.sap_process.specs.Configuration.{Config, Runs, CanGive, IsUnused, becomes, spawns, makes, owns, sends_out, stores, holds, leaves}
+use Rattle.sap_process.specs.Proc.{Proc, nil, parallel, replicated, act, test, lookup}
 use Rattle.sap_process.specs.ProcessSteps.{ProcessStep, Fits, with_choice, with_term}
+
+-- an embedded rule took facts that were there, under a choice of messages
+pub record Ruled (g : Sig) (c d : Config) (label l e r : List Fact) (t : ℕ) (p : Proc) : Type 0 where
+  pub choice : Choice
+  pub messages : IsMessageChoice g choice
+  pub numbers : List ℕ
+  pub left : List Fact
+  pub added : List Fact
+  pub rest : Pile
+  pub equal : AreEqualFacts (equations g) (instance_facts choice l) left
+  pub takes : Takes c.facts numbers left rest
+  pub acts : AreFormsOfFacts (equations g) (instance_facts choice e) label
+  pub right : AreFormsOfFacts (equations g) (instance_facts choice r) added
+  pub on : d ≡ leaves (becomes c t (Some (with_choice choice (facts_vars (l ++ (e ++ r))) p))) (adds rest added)
+
+-- an input took what the adversary can give and what fits
+pub record Taken (g : Sig) (c d : Config) (label : List Fact) (t : ℕ) (m : Tree) (p : Proc) : Type 0 where
+  pub choice : Choice
+  pub term : Tree
+  pub given : CanGive g c term
+  pub fits : Fits g choice m term
+  pub shown : label ≡ k_fact term ∷ []
+  pub on : d ≡ becomes c t (Some (with_choice choice (tree_vars m) p))
+
+-- the same of a channel and a message, as a pair
+pub record TakenOn (g : Sig) (c d : Config) (label : List Fact) (t : ℕ) (m n : Tree) (p : Proc) : Type 0 where
+  pub choice : Choice
+  pub term : Tree
+  pub given : CanGive g c term
+  pub messages : IsMessageChoice g choice
+  pub equal : IsTheoryEqual (equations g) (app2 pair_name m (instance choice n)) term
+  pub shown : label ≡ k_fact term ∷ []
+  pub on : d ≡ becomes c t (Some (with_choice choice (tree_vars n) p))
+
+-- what thread t, which runs as this action over this process, comes to
+abbrev pub AfterAction : Sig → Config → Config → List Fact → ℕ → Action → Proc → Type 0
+AfterAction g c d label t (new x) p = (n : ℕ) × IsUnused c n × (label ≡ []) × (d ≡ makes (becomes c t (Some (with_term x (fresh n) p))) n)
+AfterAction g c d label t (out m) p = (n : Tree) × IsNormalForm (equations g) m n × (label ≡ []) × (d ≡ sends_out (becomes c t (Some p)) n)
+AfterAction g c d label t (send m n) p =
+    (k : Tree) × (u : Tree) × IsNormalForm (equations g) m k × CanGive g c k × IsNormalForm (equations g) n u × (label ≡ k_fact k ∷ [])
+    × (d ≡ sends_out (becomes c t (Some p)) u)
+AfterAction g c d label t (input m) p = Taken g c d label t m p
+AfterAction g c d label t (receive m n) p = TakenOn g c d label t m n p
+AfterAction g c d label t (event f) p = (h : Fact) × IsFormOfFact (equations g) f h × (label ≡ h ∷ []) × (d ≡ becomes c t (Some p))
+AfterAction g c d label t (insert m n) p =
+    (k : Tree) × (v : Tree) × IsNormalForm (equations g) m k × IsNormalForm (equations g) n v × (label ≡ [])
+    × (d ≡ stores (becomes c t (Some p)) k (Some v))
+AfterAction g c d label t (delete m) p =
+    (k : Tree) × IsNormalForm (equations g) m k × (label ≡ []) × (d ≡ stores (becomes c t (Some p)) k None)
+AfterAction g c d label t (lock m i) p =
+    (k : Tree) × IsNormalForm (equations g) m k × (c.held k ≡ false) × (label ≡ []) × (d ≡ holds (becomes c t (Some p)) k true)
+AfterAction g c d label t (unlock m i) p =
+    (k : Tree) × IsNormalForm (equations g) m k × (label ≡ []) × (d ≡ holds (becomes c t (Some p)) k false)
+AfterAction g c d label t (embedded l e r) p = Ruled g c d label l e r t p
+
+-- the same of each form
+abbrev pub After : Sig → Config → Config → List Fact → ℕ → Proc → Type 0
+After g c d label t nil = (label ≡ []) × (d ≡ becomes c t None)
+After g c d label t (parallel p q) = (label ≡ []) × (d ≡ spawns (becomes c t (Some p)) q)
+After g c d label t (replicated p) = (label ≡ []) × (d ≡ spawns c p)
+After g c d label t (act x p) = AfterAction g c d label t x p
+After g c d label t (test m n p q) =
+    (IsTheoryEqual (equations g) m n × (label ≡ []) × (d ≡ becomes c t (Some p)))
+    ⊎ ((¬ IsTheoryEqual (equations g) m n) × (label ≡ []) × (d ≡ becomes c t (Some q)))
+After g c d label t (lookup m x p q) =
+    (k : Tree) × IsNormalForm (equations g) m k
+    × (((v : Tree) × (c.store k ≡ Some v) × (label ≡ []) × (d ≡ becomes c t (Some (with_term x v p))))
+    ⊎ ((c.store k ≡ None) × (label ≡ []) × (d ≡ becomes c t (Some q))))
+
+-- what the adversary does alone
+abbrev pub ByAdversary : Sig → Config → Config → List Fact → Type 0
+ByAdversary g c d label = ((n : ℕ) × IsUnused c n × (label ≡ []) × (d ≡ owns c n)) ⊎ ((x : Tree) × CanGive g c x × (label ≡ k_fact x ∷ []) × (d ≡ c))
+
+-- two threads met
+pub record Met (g : Sig) (c d : Config) (label : List Fact) : Type 0 where
+  pub sender : ℕ
+  pub receiver : ℕ
+  pub channel : Tree
+  pub sent : Tree
+  pub after : Proc
+  pub other : Tree
+  pub pattern : Tree
+  pub behind : Proc
+  pub choice : Choice
+  pub sends : Runs c sender (act (send channel sent) after)
+  pub receives : Runs c receiver (act (receive other pattern) behind)
+  pub one_channel : IsTheoryEqual (equations g) channel other
+  pub fits : Fits g choice pattern sent
+  pub shown : label ≡ []
+  pub on : d ≡ becomes (becomes c sender (Some after)) receiver (Some (with_choice choice (tree_vars pattern) behind))
+
+pub data Origin (g : Sig) (c d : Config) (label : List Fact) : Type 0 where
+  one : (t : ℕ) (p : Proc) → Runs c t p → After g c d label t p → Origin g c d label
+  two : Met g c d label → Origin g c d label
+  adversary : ByAdversary g c d label → Origin g c d label
+
+pub origin : {g : Sig} {c d : Config} {label : List Fact} → ProcessStep g c label d → Origin g c d label
+origin (ProcessStep.ends t r) = Origin.one t nil r (refl, refl)
+origin (ProcessStep.splits {p = p} {q = q} t r) = Origin.one t (parallel p q) r (refl, refl)
+origin (ProcessStep.copies {p = p} t r) = Origin.one t (replicated p) r (refl, refl)
+origin (ProcessStep.makes_name {x = x} {p = p} t n r unused) = Origin.one t (act (new x) p) r (n, unused, refl, refl)
+origin (ProcessStep.outputs {m = m} {n = n} {p = p} t r form) = Origin.one t (act (out m) p) r (n, form, refl, refl)
+origin (ProcessStep.outputs_on {m = m} {n = n} {k = k} {u = u} {p = p} t r form can sent) =
+    Origin.one t (act (send m n) p) r (k, u, form, can, sent, refl, refl)
+origin (ProcessStep.inputs {n = n} {x = x} {p = p} t σ r can fits) =
+    Origin.one t (act (input n) p) r (record { choice = σ; term = x; given = can; fits = fits; shown = refl; on = refl })
+origin (ProcessStep.inputs_on {m = m} {n = n} {x = x} {p = p} t σ r can messages equal) =
+    Origin.one t (act (receive m n) p) r (record { choice = σ; term = x; given = can; messages = messages; equal = equal; shown = refl; on = refl })
+origin (ProcessStep.meets {m = m} {n = n} {l = l} {r = w} {p = p} {q = q} s t σ r z equal fits) = Origin.two (record {
+  sender = s;
+  receiver = t;
+  channel = m;
+  sent = n;
+  after = p;
+  other = l;
+  pattern = w;
+  behind = q;
+  choice = σ;
+  sends = r;
+  receives = z;
+  one_channel = equal;
+  fits = fits;
+  shown = refl;
+  on = refl;
+})
+origin (ProcessStep.agrees {m = m} {n = n} {p = p} {q = q} t r equal) = Origin.one t (test m n p q) r (inl (equal, refl, refl))
+origin (ProcessStep.differs {m = m} {n = n} {p = p} {q = q} t r differ) = Origin.one t (test m n p q) r (inr (differ, refl, refl))
+origin (ProcessStep.shows {f = f} {h = h} {p = p} t r form) = Origin.one t (act (event f) p) r (h, form, refl, refl)
+origin (ProcessStep.inserts {m = m} {n = n} {k = k} {v = v} {p = p} t r key form) = Origin.one t (act (insert m n) p) r (k, v, key, form, refl, refl)
+origin (ProcessStep.deletes {m = m} {k = k} {p = p} t r key) = Origin.one t (act (delete m) p) r (k, key, refl, refl)
+origin (ProcessStep.finds {m = m} {k = k} {v = v} {x = x} {p = p} {q = q} t r key has) =
+    Origin.one t (lookup m x p q) r (k, key, inl (v, has, refl, refl))
+origin (ProcessStep.misses {m = m} {k = k} {x = x} {p = p} {q = q} t r key has) = Origin.one t (lookup m x p q) r (k, key, inr (has, refl, refl))
+origin (ProcessStep.locks {m = m} {k = k} {i = i} {p = p} t r form free) = Origin.one t (act (lock m i) p) r (k, form, free, refl, refl)
+origin (ProcessStep.unlocks {m = m} {k = k} {i = i} {p = p} t r form) = Origin.one t (act (unlock m i) p) r (k, form, refl, refl)
+origin (ProcessStep.embeds {l = l} {e = e} {r = w} {rest = rest} {p = p} t ks σ left acts right r messages equal takes shown adds) =
+    Origin.one t (act (embedded l e w) p) r (record {
+      choice = σ;
+      messages = messages;
+      numbers = ks;
+      left = left;
+      added = right;
+      rest = rest;
+      equal = equal;
+      takes = takes;
+      acts = shown;
+      right = adds;
+      on = refl;
+    })
+origin (ProcessStep.adversary_makes n unused) = Origin.adversary (inl (n, unused, refl, refl))
+origin (ProcessStep.knows x can) = Origin.adversary (inr (x, can, refl, refl))
 
 -- one thread runs
 abbrev pub Alone : Config → Proc → Type 0
@@ -36,144 +186,24 @@ set_one c t p q o h e = ap (λ ts. slice_set ts t o) h ∙ at t (subst (λ ts. s
     at zero e = refl
     at (suc t) e = absurd (cc)
 
--- a lock takes a term that isn't held
-pub lock_goes : {g : Sig} {c d : Config} {label : List Fact} (m : Tree) (i : ℕ) (p : Proc) → ProcessStep g c label d → Alone c (act (action.lock m i) p) → (d.threads ≡ c.threads) ⊎ ((k : Tree) × IsNormalForm (equations g) m k × (c.held k ≡ false))
-lock_goes {g} m i p (ProcessStep.ends {c = c} t r) h = absurd (let e : act (action.lock m i) p ≡ whole.nil = only_one c t (act (action.lock m i) p) (whole.nil) h r in cc)
-lock_goes {g} m i p (ProcessStep.splits {c = c} {p = u} {q = w} t r) h = absurd (let e : act (action.lock m i) p ≡ whole.parallel u w = only_one c t (act (action.lock m i) p) (whole.parallel u w) h r in cc)
-lock_goes {g} m i p (ProcessStep.copies {c = c} {p = u} t r) h = absurd (let e : act (action.lock m i) p ≡ whole.replicated u = only_one c t (act (action.lock m i) p) (whole.replicated u) h r in cc)
-lock_goes {g} m i p (ProcessStep.makes_name {c = c} {x = y} {p = u} t n r z) h = absurd (let e : act (action.lock m i) p ≡ act (action.new y) u = only_one c t (act (action.lock m i) p) (act (action.new y) u) h r in cc)
-lock_goes {g} m i p (ProcessStep.outputs {c = c} {m = a1} {n = a2} {p = u} t r z) h = absurd (let e : act (action.lock m i) p ≡ act (action.out a1) u = only_one c t (act (action.lock m i) p) (act (action.out a1) u) h r in cc)
-lock_goes {g} m i p (ProcessStep.outputs_on {c = c} {m = a1} {n = a2} {k = a3} {u = a4} {p = u} t r z z2 z3) h = absurd (let e : act (action.lock m i) p ≡ act (action.send a1 a2) u = only_one c t (act (action.lock m i) p) (act (action.send a1 a2) u) h r in cc)
-lock_goes {g} m i p (ProcessStep.inputs {c = c} {n = a1} {x = a2} {p = u} t σ r z z2) h = absurd (let e : act (action.lock m i) p ≡ act (action.input a1) u = only_one c t (act (action.lock m i) p) (act (action.input a1) u) h r in cc)
-lock_goes {g} m i p (ProcessStep.inputs_on {c = c} {m = a1} {n = a2} {x = a3} {p = u} t σ r z z2 z3) h = absurd (let e : act (action.lock m i) p ≡ act (action.receive a1 a2) u = only_one c t (act (action.lock m i) p) (act (action.receive a1 a2) u) h r in cc)
-lock_goes {g} m i p (ProcessStep.meets {c = c} {m = a1} {n = a2} {l = a3} {r = a4} {p = u} {q = w} t t2 σ r z z2 z3) h = absurd (let e : act (action.lock m i) p ≡ act (action.send a1 a2) u = only_one c t (act (action.lock m i) p) (act (action.send a1 a2) u) h r in cc)
-lock_goes {g} m i p (ProcessStep.agrees {c = c} {m = a1} {n = a2} {p = u} {q = w} t r z) h = absurd (let e : act (action.lock m i) p ≡ whole.test a1 a2 u w = only_one c t (act (action.lock m i) p) (whole.test a1 a2 u w) h r in cc)
-lock_goes {g} m i p (ProcessStep.differs {c = c} {m = a1} {n = a2} {p = u} {q = w} t r z) h = absurd (let e : act (action.lock m i) p ≡ whole.test a1 a2 u w = only_one c t (act (action.lock m i) p) (whole.test a1 a2 u w) h r in cc)
-lock_goes {g} m i p (ProcessStep.shows {c = c} {f = a1} {h = a2} {p = u} t r z) h = absurd (let e : act (action.lock m i) p ≡ act (action.event a1) u = only_one c t (act (action.lock m i) p) (act (action.event a1) u) h r in cc)
-lock_goes {g} m i p (ProcessStep.inserts {c = c} {m = a1} {n = a2} {k = a3} {v = a4} {p = u} t r z z2) h = absurd (let e : act (action.lock m i) p ≡ act (action.insert a1 a2) u = only_one c t (act (action.lock m i) p) (act (action.insert a1 a2) u) h r in cc)
-lock_goes {g} m i p (ProcessStep.deletes {c = c} {m = a1} {k = a2} {p = u} t r z) h = absurd (let e : act (action.lock m i) p ≡ act (action.delete a1) u = only_one c t (act (action.lock m i) p) (act (action.delete a1) u) h r in cc)
-lock_goes {g} m i p (ProcessStep.finds {c = c} {m = a1} {k = a2} {v = a3} {x = y} {p = u} {q = w} t r z z2) h = absurd (let e : act (action.lock m i) p ≡ whole.lookup a1 y u w = only_one c t (act (action.lock m i) p) (whole.lookup a1 y u w) h r in cc)
-lock_goes {g} m i p (ProcessStep.misses {c = c} {m = a1} {k = a2} {x = y} {p = u} {q = w} t r z z2) h = absurd (let e : act (action.lock m i) p ≡ whole.lookup a1 y u w = only_one c t (act (action.lock m i) p) (whole.lookup a1 y u w) h r in cc)
-lock_goes {g} m i p (ProcessStep.locks {c = c} {m = a1} {k = a2} {i = j} {p = u} t r z z2) h = (let e : act (action.lock m i) p ≡ act (action.lock a1 j) u = only_one c t (act (action.lock m i) p) (act (action.lock a1 j) u) h r in let same : a1 ≡ m = cc in inr (a2, subst (λ x. IsNormalForm (equations g) x a2) same z, z2))
-lock_goes {g} m i p (ProcessStep.unlocks {c = c} {m = a1} {k = a2} {i = j} {p = u} t r z) h = absurd (let e : act (action.lock m i) p ≡ act (action.unlock a1 j) u = only_one c t (act (action.lock m i) p) (act (action.unlock a1 j) u) h r in cc)
-lock_goes {g} m i p (ProcessStep.embeds {c = c} {l = a1} {e = a2} {r = a3} {rest = a4} {p = u} t ks σ left acts right r z z2 z3 z4 z5) h = absurd (let e : act (action.lock m i) p ≡ act (action.embedded a1 a2 a3) u = only_one c t (act (action.lock m i) p) (act (action.embedded a1 a2 a3) u) h r in cc)
-lock_goes {g} m i p (ProcessStep.adversary_makes {c = c} n z) h = inl refl
-lock_goes {g} m i p (ProcessStep.knows {c = c} x9 z) h = inl refl
+-- no thread both sends and receives
+apart : (m n l r : Tree) (p q : Proc) → act (send m n) p ≡ act (receive l r) q → ⊥
+apart m n l r p q e = cc
 
--- a lookup finds what the store has, or misses where it has nothing
-pub data Looks (g : Sig) (c d : Config) (m : Tree) (x : Var) (p q : Proc) : Type 0 where
-  stays : d.threads ≡ c.threads → Looks g c d m x p q
-  found : (k v : Tree) → IsNormalForm (equations g) m k → c.store k ≡ Some v → Alone d (with_term x v p) → Looks g c d m x p q
-  missed : (k : Tree) → IsNormalForm (equations g) m k → c.store k ≡ None → Alone d q → Looks g c d m x p q
+-- a step where one thread runs is the thread's or the adversary's
+pub alone_goes : {g : Sig} {c d : Config} {label : List Fact} (p : Proc) → ProcessStep g c label d → Alone c p
+    → ((t : ℕ) × ((o : Option Proc) → slice_set c.threads t o ≡ o ∷ []) × After g c d label t p) ⊎ ByAdversary g c d label
+alone_goes {g} {c} {d} {label} p step h = by (origin step)
+  where
+    by : Origin g c d label → ((t : ℕ) × ((o : Option Proc) → slice_set c.threads t o ≡ o ∷ []) × After g c d label t p) ⊎ ByAdversary g c d label
+    by (Origin.one t q r after) =
+        inl (t, λ o. set_one c t p q o h r, subst (After g c d label t) (sym (only_one c t p q h r)) after)
+    by (Origin.two m) = absurd (apart m.channel m.sent m.other m.pattern m.after m.behind (
+        sym (only_one c m.sender p (act (send m.channel m.sent) m.after) h m.sends)
+        ∙ only_one c m.receiver p (act (receive m.other m.pattern) m.behind) h m.receives))
+    by (Origin.adversary b) = inr b
 
-pub lookup_goes : {g : Sig} {c d : Config} {label : List Fact} (m : Tree) (x : Var) (p q : Proc) → ProcessStep g c label d → Alone c (whole.lookup m x p q) → Looks g c d m x p q
-lookup_goes {g} m x p q (ProcessStep.ends {c = c} t r) h = absurd (let e : whole.lookup m x p q ≡ whole.nil = only_one c t (whole.lookup m x p q) (whole.nil) h r in cc)
-lookup_goes {g} m x p q (ProcessStep.splits {c = c} {p = u} {q = w} t r) h = absurd (let e : whole.lookup m x p q ≡ whole.parallel u w = only_one c t (whole.lookup m x p q) (whole.parallel u w) h r in cc)
-lookup_goes {g} m x p q (ProcessStep.copies {c = c} {p = u} t r) h = absurd (let e : whole.lookup m x p q ≡ whole.replicated u = only_one c t (whole.lookup m x p q) (whole.replicated u) h r in cc)
-lookup_goes {g} m x p q (ProcessStep.makes_name {c = c} {x = y} {p = u} t n r z) h = absurd (let e : whole.lookup m x p q ≡ act (action.new y) u = only_one c t (whole.lookup m x p q) (act (action.new y) u) h r in cc)
-lookup_goes {g} m x p q (ProcessStep.outputs {c = c} {m = a1} {n = a2} {p = u} t r z) h = absurd (let e : whole.lookup m x p q ≡ act (action.out a1) u = only_one c t (whole.lookup m x p q) (act (action.out a1) u) h r in cc)
-lookup_goes {g} m x p q (ProcessStep.outputs_on {c = c} {m = a1} {n = a2} {k = a3} {u = a4} {p = u} t r z z2 z3) h = absurd (let e : whole.lookup m x p q ≡ act (action.send a1 a2) u = only_one c t (whole.lookup m x p q) (act (action.send a1 a2) u) h r in cc)
-lookup_goes {g} m x p q (ProcessStep.inputs {c = c} {n = a1} {x = a2} {p = u} t σ r z z2) h = absurd (let e : whole.lookup m x p q ≡ act (action.input a1) u = only_one c t (whole.lookup m x p q) (act (action.input a1) u) h r in cc)
-lookup_goes {g} m x p q (ProcessStep.inputs_on {c = c} {m = a1} {n = a2} {x = a3} {p = u} t σ r z z2 z3) h = absurd (let e : whole.lookup m x p q ≡ act (action.receive a1 a2) u = only_one c t (whole.lookup m x p q) (act (action.receive a1 a2) u) h r in cc)
-lookup_goes {g} m x p q (ProcessStep.meets {c = c} {m = a1} {n = a2} {l = a3} {r = a4} {p = u} {q = w} t t2 σ r z z2 z3) h = absurd (let e : whole.lookup m x p q ≡ act (action.send a1 a2) u = only_one c t (whole.lookup m x p q) (act (action.send a1 a2) u) h r in cc)
-lookup_goes {g} m x p q (ProcessStep.agrees {c = c} {m = a1} {n = a2} {p = u} {q = w} t r z) h = absurd (let e : whole.lookup m x p q ≡ whole.test a1 a2 u w = only_one c t (whole.lookup m x p q) (whole.test a1 a2 u w) h r in cc)
-lookup_goes {g} m x p q (ProcessStep.differs {c = c} {m = a1} {n = a2} {p = u} {q = w} t r z) h = absurd (let e : whole.lookup m x p q ≡ whole.test a1 a2 u w = only_one c t (whole.lookup m x p q) (whole.test a1 a2 u w) h r in cc)
-lookup_goes {g} m x p q (ProcessStep.shows {c = c} {f = a1} {h = a2} {p = u} t r z) h = absurd (let e : whole.lookup m x p q ≡ act (action.event a1) u = only_one c t (whole.lookup m x p q) (act (action.event a1) u) h r in cc)
-lookup_goes {g} m x p q (ProcessStep.inserts {c = c} {m = a1} {n = a2} {k = a3} {v = a4} {p = u} t r z z2) h = absurd (let e : whole.lookup m x p q ≡ act (action.insert a1 a2) u = only_one c t (whole.lookup m x p q) (act (action.insert a1 a2) u) h r in cc)
-lookup_goes {g} m x p q (ProcessStep.deletes {c = c} {m = a1} {k = a2} {p = u} t r z) h = absurd (let e : whole.lookup m x p q ≡ act (action.delete a1) u = only_one c t (whole.lookup m x p q) (act (action.delete a1) u) h r in cc)
-lookup_goes {g} m x p q (ProcessStep.finds {c = c} {m = a1} {k = a2} {v = a3} {x = y} {p = u} {q = w} t r z z2) h = (let e : whole.lookup m x p q ≡ whole.lookup a1 y u w = only_one c t (whole.lookup m x p q) (whole.lookup a1 y u w) h r in let same : a1 ≡ m = cc in let var : y ≡ x = cc in let on : u ≡ p = cc in found a2 a3 (subst (λ b. IsNormalForm (equations g) b a2) same z) z2 (set_one c t (whole.lookup m x p q) (whole.lookup a1 y u w) (Some (with_term y a3 u)) h r ∙ (λ i. Some (with_term (var i) a3 (on i)) ∷ [])))
-lookup_goes {g} m x p q (ProcessStep.misses {c = c} {m = a1} {k = a2} {x = y} {p = u} {q = w} t r z z2) h = (let e : whole.lookup m x p q ≡ whole.lookup a1 y u w = only_one c t (whole.lookup m x p q) (whole.lookup a1 y u w) h r in let same : a1 ≡ m = cc in let on : w ≡ q = cc in missed a2 (subst (λ b. IsNormalForm (equations g) b a2) same z) z2 (set_one c t (whole.lookup m x p q) (whole.lookup a1 y u w) (Some w) h r ∙ (λ i. Some (on i) ∷ [])))
-lookup_goes {g} m x p q (ProcessStep.locks {c = c} {m = a1} {k = a2} {i = j} {p = u} t r z z2) h = absurd (let e : whole.lookup m x p q ≡ act (action.lock a1 j) u = only_one c t (whole.lookup m x p q) (act (action.lock a1 j) u) h r in cc)
-lookup_goes {g} m x p q (ProcessStep.unlocks {c = c} {m = a1} {k = a2} {i = j} {p = u} t r z) h = absurd (let e : whole.lookup m x p q ≡ act (action.unlock a1 j) u = only_one c t (whole.lookup m x p q) (act (action.unlock a1 j) u) h r in cc)
-lookup_goes {g} m x p q (ProcessStep.embeds {c = c} {l = a1} {e = a2} {r = a3} {rest = a4} {p = u} t ks σ left acts right r z z2 z3 z4 z5) h = absurd (let e : whole.lookup m x p q ≡ act (action.embedded a1 a2 a3) u = only_one c t (whole.lookup m x p q) (act (action.embedded a1 a2 a3) u) h r in cc)
-lookup_goes {g} m x p q (ProcessStep.adversary_makes {c = c} n z) h = stays refl
-lookup_goes {g} m x p q (ProcessStep.knows {c = c} x9 z) h = stays refl
-
--- `new` makes a name that nobody has
-pub new_goes : {g : Sig} {c d : Config} {label : List Fact} (x : Var) (p : Proc) → ProcessStep g c label d → Alone c (act (action.new x) p) → (d.threads ≡ c.threads) ⊎ ((n : ℕ) × IsUnused c n × Alone d (with_term x (fresh n) p))
-new_goes {g} x p (ProcessStep.ends {c = c} t r) h = absurd (let e : act (action.new x) p ≡ whole.nil = only_one c t (act (action.new x) p) (whole.nil) h r in cc)
-new_goes {g} x p (ProcessStep.splits {c = c} {p = u} {q = w} t r) h = absurd (let e : act (action.new x) p ≡ whole.parallel u w = only_one c t (act (action.new x) p) (whole.parallel u w) h r in cc)
-new_goes {g} x p (ProcessStep.copies {c = c} {p = u} t r) h = absurd (let e : act (action.new x) p ≡ whole.replicated u = only_one c t (act (action.new x) p) (whole.replicated u) h r in cc)
-new_goes {g} x p (ProcessStep.makes_name {c = c} {x = y} {p = u} t n r z) h = (let e : act (action.new x) p ≡ act (action.new y) u = only_one c t (act (action.new x) p) (act (action.new y) u) h r in let var : y ≡ x = cc in let on : u ≡ p = cc in inr (n, z, set_one c t (act (action.new x) p) (act (action.new y) u) (Some (with_term y (fresh n) u)) h r ∙ (λ i. Some (with_term (var i) (fresh n) (on i)) ∷ [])))
-new_goes {g} x p (ProcessStep.outputs {c = c} {m = a1} {n = a2} {p = u} t r z) h = absurd (let e : act (action.new x) p ≡ act (action.out a1) u = only_one c t (act (action.new x) p) (act (action.out a1) u) h r in cc)
-new_goes {g} x p (ProcessStep.outputs_on {c = c} {m = a1} {n = a2} {k = a3} {u = a4} {p = u} t r z z2 z3) h = absurd (let e : act (action.new x) p ≡ act (action.send a1 a2) u = only_one c t (act (action.new x) p) (act (action.send a1 a2) u) h r in cc)
-new_goes {g} x p (ProcessStep.inputs {c = c} {n = a1} {x = a2} {p = u} t σ r z z2) h = absurd (let e : act (action.new x) p ≡ act (action.input a1) u = only_one c t (act (action.new x) p) (act (action.input a1) u) h r in cc)
-new_goes {g} x p (ProcessStep.inputs_on {c = c} {m = a1} {n = a2} {x = a3} {p = u} t σ r z z2 z3) h = absurd (let e : act (action.new x) p ≡ act (action.receive a1 a2) u = only_one c t (act (action.new x) p) (act (action.receive a1 a2) u) h r in cc)
-new_goes {g} x p (ProcessStep.meets {c = c} {m = a1} {n = a2} {l = a3} {r = a4} {p = u} {q = w} t t2 σ r z z2 z3) h = absurd (let e : act (action.new x) p ≡ act (action.send a1 a2) u = only_one c t (act (action.new x) p) (act (action.send a1 a2) u) h r in cc)
-new_goes {g} x p (ProcessStep.agrees {c = c} {m = a1} {n = a2} {p = u} {q = w} t r z) h = absurd (let e : act (action.new x) p ≡ whole.test a1 a2 u w = only_one c t (act (action.new x) p) (whole.test a1 a2 u w) h r in cc)
-new_goes {g} x p (ProcessStep.differs {c = c} {m = a1} {n = a2} {p = u} {q = w} t r z) h = absurd (let e : act (action.new x) p ≡ whole.test a1 a2 u w = only_one c t (act (action.new x) p) (whole.test a1 a2 u w) h r in cc)
-new_goes {g} x p (ProcessStep.shows {c = c} {f = a1} {h = a2} {p = u} t r z) h = absurd (let e : act (action.new x) p ≡ act (action.event a1) u = only_one c t (act (action.new x) p) (act (action.event a1) u) h r in cc)
-new_goes {g} x p (ProcessStep.inserts {c = c} {m = a1} {n = a2} {k = a3} {v = a4} {p = u} t r z z2) h = absurd (let e : act (action.new x) p ≡ act (action.insert a1 a2) u = only_one c t (act (action.new x) p) (act (action.insert a1 a2) u) h r in cc)
-new_goes {g} x p (ProcessStep.deletes {c = c} {m = a1} {k = a2} {p = u} t r z) h = absurd (let e : act (action.new x) p ≡ act (action.delete a1) u = only_one c t (act (action.new x) p) (act (action.delete a1) u) h r in cc)
-new_goes {g} x p (ProcessStep.finds {c = c} {m = a1} {k = a2} {v = a3} {x = y} {p = u} {q = w} t r z z2) h = absurd (let e : act (action.new x) p ≡ whole.lookup a1 y u w = only_one c t (act (action.new x) p) (whole.lookup a1 y u w) h r in cc)
-new_goes {g} x p (ProcessStep.misses {c = c} {m = a1} {k = a2} {x = y} {p = u} {q = w} t r z z2) h = absurd (let e : act (action.new x) p ≡ whole.lookup a1 y u w = only_one c t (act (action.new x) p) (whole.lookup a1 y u w) h r in cc)
-new_goes {g} x p (ProcessStep.locks {c = c} {m = a1} {k = a2} {i = j} {p = u} t r z z2) h = absurd (let e : act (action.new x) p ≡ act (action.lock a1 j) u = only_one c t (act (action.new x) p) (act (action.lock a1 j) u) h r in cc)
-new_goes {g} x p (ProcessStep.unlocks {c = c} {m = a1} {k = a2} {i = j} {p = u} t r z) h = absurd (let e : act (action.new x) p ≡ act (action.unlock a1 j) u = only_one c t (act (action.new x) p) (act (action.unlock a1 j) u) h r in cc)
-new_goes {g} x p (ProcessStep.embeds {c = c} {l = a1} {e = a2} {r = a3} {rest = a4} {p = u} t ks σ left acts right r z z2 z3 z4 z5) h = absurd (let e : act (action.new x) p ≡ act (action.embedded a1 a2 a3) u = only_one c t (act (action.new x) p) (act (action.embedded a1 a2 a3) u) h r in cc)
-new_goes {g} x p (ProcessStep.adversary_makes {c = c} n z) h = inl refl
-new_goes {g} x p (ProcessStep.knows {c = c} x9 z) h = inl refl
-
--- an input takes what the adversary can give and what fits
-pub record Taken (g : Sig) (c d : Config) (m : Tree) (p : Proc) : Type 0 where
-  pub choice : Choice
-  pub term : Tree
-  pub given : CanGive g c term
-  pub fits : Fits g choice m term
-  pub on : Alone d (with_choice choice (tree_vars m) p)
-
-pub input_goes : {g : Sig} {c d : Config} {label : List Fact} (m : Tree) (p : Proc) → ProcessStep g c label d → Alone c (act (action.input m) p) → (d.threads ≡ c.threads) ⊎ Taken g c d m p
-input_goes {g} m p (ProcessStep.ends {c = c} t r) h = absurd (let e : act (action.input m) p ≡ whole.nil = only_one c t (act (action.input m) p) (whole.nil) h r in cc)
-input_goes {g} m p (ProcessStep.splits {c = c} {p = u} {q = w} t r) h = absurd (let e : act (action.input m) p ≡ whole.parallel u w = only_one c t (act (action.input m) p) (whole.parallel u w) h r in cc)
-input_goes {g} m p (ProcessStep.copies {c = c} {p = u} t r) h = absurd (let e : act (action.input m) p ≡ whole.replicated u = only_one c t (act (action.input m) p) (whole.replicated u) h r in cc)
-input_goes {g} m p (ProcessStep.makes_name {c = c} {x = y} {p = u} t n r z) h = absurd (let e : act (action.input m) p ≡ act (action.new y) u = only_one c t (act (action.input m) p) (act (action.new y) u) h r in cc)
-input_goes {g} m p (ProcessStep.outputs {c = c} {m = a1} {n = a2} {p = u} t r z) h = absurd (let e : act (action.input m) p ≡ act (action.out a1) u = only_one c t (act (action.input m) p) (act (action.out a1) u) h r in cc)
-input_goes {g} m p (ProcessStep.outputs_on {c = c} {m = a1} {n = a2} {k = a3} {u = a4} {p = u} t r z z2 z3) h = absurd (let e : act (action.input m) p ≡ act (action.send a1 a2) u = only_one c t (act (action.input m) p) (act (action.send a1 a2) u) h r in cc)
-input_goes {g} m p (ProcessStep.inputs {c = c} {n = a1} {x = a2} {p = u} t σ r z z2) h = (let e : act (action.input m) p ≡ act (action.input a1) u = only_one c t (act (action.input m) p) (act (action.input a1) u) h r in let same : a1 ≡ m = cc in let on : u ≡ p = cc in inr (record { choice = σ; term = a2; given = z; fits = subst (λ b. Fits g σ b a2) same z2; on = set_one c t (act (action.input m) p) (act (action.input a1) u) (Some (with_choice σ (tree_vars a1) u)) h r ∙ (λ i. Some (with_choice σ (tree_vars (same i)) (on i)) ∷ []) }))
-input_goes {g} m p (ProcessStep.inputs_on {c = c} {m = a1} {n = a2} {x = a3} {p = u} t σ r z z2 z3) h = absurd (let e : act (action.input m) p ≡ act (action.receive a1 a2) u = only_one c t (act (action.input m) p) (act (action.receive a1 a2) u) h r in cc)
-input_goes {g} m p (ProcessStep.meets {c = c} {m = a1} {n = a2} {l = a3} {r = a4} {p = u} {q = w} t t2 σ r z z2 z3) h = absurd (let e : act (action.input m) p ≡ act (action.send a1 a2) u = only_one c t (act (action.input m) p) (act (action.send a1 a2) u) h r in cc)
-input_goes {g} m p (ProcessStep.agrees {c = c} {m = a1} {n = a2} {p = u} {q = w} t r z) h = absurd (let e : act (action.input m) p ≡ whole.test a1 a2 u w = only_one c t (act (action.input m) p) (whole.test a1 a2 u w) h r in cc)
-input_goes {g} m p (ProcessStep.differs {c = c} {m = a1} {n = a2} {p = u} {q = w} t r z) h = absurd (let e : act (action.input m) p ≡ whole.test a1 a2 u w = only_one c t (act (action.input m) p) (whole.test a1 a2 u w) h r in cc)
-input_goes {g} m p (ProcessStep.shows {c = c} {f = a1} {h = a2} {p = u} t r z) h = absurd (let e : act (action.input m) p ≡ act (action.event a1) u = only_one c t (act (action.input m) p) (act (action.event a1) u) h r in cc)
-input_goes {g} m p (ProcessStep.inserts {c = c} {m = a1} {n = a2} {k = a3} {v = a4} {p = u} t r z z2) h = absurd (let e : act (action.input m) p ≡ act (action.insert a1 a2) u = only_one c t (act (action.input m) p) (act (action.insert a1 a2) u) h r in cc)
-input_goes {g} m p (ProcessStep.deletes {c = c} {m = a1} {k = a2} {p = u} t r z) h = absurd (let e : act (action.input m) p ≡ act (action.delete a1) u = only_one c t (act (action.input m) p) (act (action.delete a1) u) h r in cc)
-input_goes {g} m p (ProcessStep.finds {c = c} {m = a1} {k = a2} {v = a3} {x = y} {p = u} {q = w} t r z z2) h = absurd (let e : act (action.input m) p ≡ whole.lookup a1 y u w = only_one c t (act (action.input m) p) (whole.lookup a1 y u w) h r in cc)
-input_goes {g} m p (ProcessStep.misses {c = c} {m = a1} {k = a2} {x = y} {p = u} {q = w} t r z z2) h = absurd (let e : act (action.input m) p ≡ whole.lookup a1 y u w = only_one c t (act (action.input m) p) (whole.lookup a1 y u w) h r in cc)
-input_goes {g} m p (ProcessStep.locks {c = c} {m = a1} {k = a2} {i = j} {p = u} t r z z2) h = absurd (let e : act (action.input m) p ≡ act (action.lock a1 j) u = only_one c t (act (action.input m) p) (act (action.lock a1 j) u) h r in cc)
-input_goes {g} m p (ProcessStep.unlocks {c = c} {m = a1} {k = a2} {i = j} {p = u} t r z) h = absurd (let e : act (action.input m) p ≡ act (action.unlock a1 j) u = only_one c t (act (action.input m) p) (act (action.unlock a1 j) u) h r in cc)
-input_goes {g} m p (ProcessStep.embeds {c = c} {l = a1} {e = a2} {r = a3} {rest = a4} {p = u} t ks σ left acts right r z z2 z3 z4 z5) h = absurd (let e : act (action.input m) p ≡ act (action.embedded a1 a2 a3) u = only_one c t (act (action.input m) p) (act (action.embedded a1 a2 a3) u) h r in cc)
-input_goes {g} m p (ProcessStep.adversary_makes {c = c} n z) h = inl refl
-input_goes {g} m p (ProcessStep.knows {c = c} x9 z) h = inl refl
-
--- an embedded rule takes facts that are there, under a choice of messages
-pub record Ruled (g : Sig) (c d : Config) (l e r : List Fact) (p : Proc) : Type 0 where
-  pub choice : Choice
-  pub messages : IsMessageChoice g choice
-  pub numbers : List ℕ
-  pub left : List Fact
-  pub rest : Pile
-  pub equal : AreEqualFacts (equations g) (instance_facts choice l) left
-  pub takes : Takes c.facts numbers left rest
-  pub on : Alone d (with_choice choice (facts_vars (l ++ (e ++ r))) p)
-
-pub rule_goes : {g : Sig} {c d : Config} {label : List Fact} (l e0 r0 : List Fact) (p : Proc) → ProcessStep g c label d → Alone c (act (action.embedded l e0 r0) p) → (d.threads ≡ c.threads) ⊎ Ruled g c d l e0 r0 p
-rule_goes {g} l e0 r0 p (ProcessStep.ends {c = c} t r) h = absurd (let e : act (action.embedded l e0 r0) p ≡ whole.nil = only_one c t (act (action.embedded l e0 r0) p) (whole.nil) h r in cc)
-rule_goes {g} l e0 r0 p (ProcessStep.splits {c = c} {p = u} {q = w} t r) h = absurd (let e : act (action.embedded l e0 r0) p ≡ whole.parallel u w = only_one c t (act (action.embedded l e0 r0) p) (whole.parallel u w) h r in cc)
-rule_goes {g} l e0 r0 p (ProcessStep.copies {c = c} {p = u} t r) h = absurd (let e : act (action.embedded l e0 r0) p ≡ whole.replicated u = only_one c t (act (action.embedded l e0 r0) p) (whole.replicated u) h r in cc)
-rule_goes {g} l e0 r0 p (ProcessStep.makes_name {c = c} {x = y} {p = u} t n r z) h = absurd (let e : act (action.embedded l e0 r0) p ≡ act (action.new y) u = only_one c t (act (action.embedded l e0 r0) p) (act (action.new y) u) h r in cc)
-rule_goes {g} l e0 r0 p (ProcessStep.outputs {c = c} {m = a1} {n = a2} {p = u} t r z) h = absurd (let e : act (action.embedded l e0 r0) p ≡ act (action.out a1) u = only_one c t (act (action.embedded l e0 r0) p) (act (action.out a1) u) h r in cc)
-rule_goes {g} l e0 r0 p (ProcessStep.outputs_on {c = c} {m = a1} {n = a2} {k = a3} {u = a4} {p = u} t r z z2 z3) h = absurd (let e : act (action.embedded l e0 r0) p ≡ act (action.send a1 a2) u = only_one c t (act (action.embedded l e0 r0) p) (act (action.send a1 a2) u) h r in cc)
-rule_goes {g} l e0 r0 p (ProcessStep.inputs {c = c} {n = a1} {x = a2} {p = u} t σ r z z2) h = absurd (let e : act (action.embedded l e0 r0) p ≡ act (action.input a1) u = only_one c t (act (action.embedded l e0 r0) p) (act (action.input a1) u) h r in cc)
-rule_goes {g} l e0 r0 p (ProcessStep.inputs_on {c = c} {m = a1} {n = a2} {x = a3} {p = u} t σ r z z2 z3) h = absurd (let e : act (action.embedded l e0 r0) p ≡ act (action.receive a1 a2) u = only_one c t (act (action.embedded l e0 r0) p) (act (action.receive a1 a2) u) h r in cc)
-rule_goes {g} l e0 r0 p (ProcessStep.meets {c = c} {m = a1} {n = a2} {l = a3} {r = a4} {p = u} {q = w} t t2 σ r z z2 z3) h = absurd (let e : act (action.embedded l e0 r0) p ≡ act (action.send a1 a2) u = only_one c t (act (action.embedded l e0 r0) p) (act (action.send a1 a2) u) h r in cc)
-rule_goes {g} l e0 r0 p (ProcessStep.agrees {c = c} {m = a1} {n = a2} {p = u} {q = w} t r z) h = absurd (let e : act (action.embedded l e0 r0) p ≡ whole.test a1 a2 u w = only_one c t (act (action.embedded l e0 r0) p) (whole.test a1 a2 u w) h r in cc)
-rule_goes {g} l e0 r0 p (ProcessStep.differs {c = c} {m = a1} {n = a2} {p = u} {q = w} t r z) h = absurd (let e : act (action.embedded l e0 r0) p ≡ whole.test a1 a2 u w = only_one c t (act (action.embedded l e0 r0) p) (whole.test a1 a2 u w) h r in cc)
-rule_goes {g} l e0 r0 p (ProcessStep.shows {c = c} {f = a1} {h = a2} {p = u} t r z) h = absurd (let e : act (action.embedded l e0 r0) p ≡ act (action.event a1) u = only_one c t (act (action.embedded l e0 r0) p) (act (action.event a1) u) h r in cc)
-rule_goes {g} l e0 r0 p (ProcessStep.inserts {c = c} {m = a1} {n = a2} {k = a3} {v = a4} {p = u} t r z z2) h = absurd (let e : act (action.embedded l e0 r0) p ≡ act (action.insert a1 a2) u = only_one c t (act (action.embedded l e0 r0) p) (act (action.insert a1 a2) u) h r in cc)
-rule_goes {g} l e0 r0 p (ProcessStep.deletes {c = c} {m = a1} {k = a2} {p = u} t r z) h = absurd (let e : act (action.embedded l e0 r0) p ≡ act (action.delete a1) u = only_one c t (act (action.embedded l e0 r0) p) (act (action.delete a1) u) h r in cc)
-rule_goes {g} l e0 r0 p (ProcessStep.finds {c = c} {m = a1} {k = a2} {v = a3} {x = y} {p = u} {q = w} t r z z2) h = absurd (let e : act (action.embedded l e0 r0) p ≡ whole.lookup a1 y u w = only_one c t (act (action.embedded l e0 r0) p) (whole.lookup a1 y u w) h r in cc)
-rule_goes {g} l e0 r0 p (ProcessStep.misses {c = c} {m = a1} {k = a2} {x = y} {p = u} {q = w} t r z z2) h = absurd (let e : act (action.embedded l e0 r0) p ≡ whole.lookup a1 y u w = only_one c t (act (action.embedded l e0 r0) p) (whole.lookup a1 y u w) h r in cc)
-rule_goes {g} l e0 r0 p (ProcessStep.locks {c = c} {m = a1} {k = a2} {i = j} {p = u} t r z z2) h = absurd (let e : act (action.embedded l e0 r0) p ≡ act (action.lock a1 j) u = only_one c t (act (action.embedded l e0 r0) p) (act (action.lock a1 j) u) h r in cc)
-rule_goes {g} l e0 r0 p (ProcessStep.unlocks {c = c} {m = a1} {k = a2} {i = j} {p = u} t r z) h = absurd (let e : act (action.embedded l e0 r0) p ≡ act (action.unlock a1 j) u = only_one c t (act (action.embedded l e0 r0) p) (act (action.unlock a1 j) u) h r in cc)
-rule_goes {g} l e0 r0 p (ProcessStep.embeds {c = c} {l = a1} {e = a2} {r = a3} {rest = a4} {p = u} t ks σ left acts right r z z2 z3 z4 z5) h = (let e : act (action.embedded l e0 r0) p ≡ act (action.embedded a1 a2 a3) u = only_one c t (act (action.embedded l e0 r0) p) (act (action.embedded a1 a2 a3) u) h r in let one : a1 ≡ l = cc in let two : a2 ≡ e0 = cc in let three : a3 ≡ r0 = cc in let on : u ≡ p = cc in inr (record { choice = σ; messages = z; numbers = ks; left = left; rest = a4; equal = subst (λ b. AreEqualFacts (equations g) (instance_facts σ b) left) one z2; takes = z3; on = set_one c t (act (action.embedded l e0 r0) p) (act (action.embedded a1 a2 a3) u) (Some (with_choice σ (facts_vars (a1 ++ (a2 ++ a3))) u)) h r ∙ (λ i. Some (with_choice σ (facts_vars (one i ++ (two i ++ three i))) (on i)) ∷ []) }))
-rule_goes {g} l e0 r0 p (ProcessStep.adversary_makes {c = c} n z) h = inl refl
-rule_goes {g} l e0 r0 p (ProcessStep.knows {c = c} x9 z) h = inl refl
+-- what the adversary does changes no thread
+pub threads_stay : {g : Sig} {c d : Config} {label : List Fact} → ByAdversary g c d label → d.threads ≡ c.threads
+threads_stay (inl (n, unused, quiet, on)) = ap (λ (e : Config). e.threads) on
+threads_stay (inr (x, can, told, on)) = ap (λ (e : Config). e.threads) on

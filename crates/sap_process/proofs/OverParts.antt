@@ -12,13 +12,13 @@ use Rattle.sap_terms.specs.declared.var.Var.{Var}
 use Rattle.sap_process.specs.Action as action
 use Rattle.sap_process.specs.Action.{Action}
 use Rattle.sap_process.specs.Flaws.{IsWellFormed}
-use Rattle.sap_process.specs.GroundParts.{AllOver, IsOverProcess}
+use Rattle.sap_process.specs.code.GroundParts.{AllOver, IsOverProcess}
 use Rattle.sap_process.specs.Heads.{facts_terms, action_terms, head_terms}
 use Rattle.sap_process.specs.Instance.{action_instance, without, behind, process_instance}
 use Rattle.sap_process.specs.Proc as whole
 use Rattle.sap_process.specs.Proc.{Proc, act}
 use Rattle.sap_process.specs.Sites.{Site, sites, sites_from, message_var, bound_by}
-use Rattle.sap_terms.specs.code.TermTests.{is_over}
+use Rattle.sap_terms.specs.TermTests.{is_over}
 use Rattle.sap_process.specs.declared.flaw.Flaw.TheVariants.{BadFunction}
 use Rattle.sap_process.proofs.Flawed.{over-sound, over-complete}
 use Rattle.sap_process.proofs.Members.{member-head, member-tail, member-none, member-cases}

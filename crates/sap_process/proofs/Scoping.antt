@@ -5,7 +5,7 @@ use Rattle.std.proofs.lemmas.Bool.{false≢true}
 use Rattle.std.proofs.lemmas.Slice.Eq.{bytes_eq-Decides}
 use Rattle.sap_terms.specs.Variables.{is_known}
 use Rattle.sap_terms.specs.declared.var.Var.{Var}
-use Rattle.sap_process.specs.Binders.{binder_place}
+use Rattle.sap_process.specs.code.Binders.{binder_place}
 use Rattle.sap_process.specs.Flaws.{binder_of}
 use Rattle.sap_process.specs.Sites.{var_names}
 

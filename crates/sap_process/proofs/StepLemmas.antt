@@ -1,18 +1,23 @@
 -- Names and pairs are normal, what the adversary can give, and that 'a' and 'b' differ under each theory.
 use Rattle.std.proofs.Common.{◌≡◌, ◌<◌, ℕ, zero, suc, List, [], ◌∷◌, Bool, true, false, ◌||◌, Option, None, refl, sym, ap, ◌∙◌, inl, inr, lit<, arith}
 use Rattle.std.specs.Prelude.{Contains, slice_index_or, if◌then◌else◌}
+use Rattle.std.specs.List.{AllZip}
 use Rattle.std.specs.Str.{bytes_eq}
 use Rattle.std.proofs.Math.Path.{fun_ext}
 use Rattle.std.proofs.lemmas.Bool.{cases_Bool}
+use Rattle.sap_rewrite.specs.Laws.{FormIsOne}
+use Rattle.sap_terms.specs.AdversaryFacts.{linear}
 use Rattle.sap_terms.specs.Choice.{Choice}
 use Rattle.sap_terms.specs.Deduce.{IsDeducible, a_public, given, applied}
 use Rattle.sap_terms.specs.Equal.{IsStep, IsStepWithin, IsTheoryEqual, same, next, forward, backward, inside, here, later}
 use Rattle.sap_terms.specs.Message.{IsMessage, IsMessageChoice}
+use Rattle.sap_terms.specs.Modulo.{IsFormOfFact}
 use Rattle.sap_terms.specs.Normal.{IsNoLeftSide, IsNormal, IsNormalForm}
 use Rattle.sap_terms.specs.Same.{same_tree}
 use Rattle.sap_terms.specs.Signature.{Sig, pairs_alone}
 use Rattle.sap_terms.specs.Equations.{Equations, equations, IsInstance, first, second, symmetric, asymmetric, signing, revealing, revealed, app0, fst_name, snd_name, sdec_name, adec_name, verify_name, reveal_verify_name, get_message_name, true_name, pair_name}
 use Rattle.sap_terms.specs.Tree.{Tree, variable, public, fresh, apply, Trees, none, more}
+use Rattle.sap_terms.specs.declared.fact.Fact.{Fact}
 use Rattle.sap_terms.specs.declared.var.Sort.{Sort}
 use Rattle.sap_terms.specs.declared.var.Sort.TheVariants.{Msg, Fresh, Pub}
 use Rattle.sap_process.specs.Configuration.{Config, CanGive}
@@ -33,7 +38,7 @@ left_sides e t r (signing s) = refl
 left_sides e t r (revealing s) = refl
 left_sides e t r (revealed s) = refl
 
-no_left_side : (e : Equations) (t : Tree) → heads_left_side t ≡ false → IsNoLeftSide e t
+pub no_left_side : (e : Equations) (t : Tree) → heads_left_side t ≡ false → IsNoLeftSide e t
 no_left_side e t h r i = let s = left_sides e t r i in cc
 
 pub public_normal : (e : Equations) (n : List ℕ) → IsNormal e (public n)
@@ -189,3 +194,20 @@ emptied k v = fun_ext (λ y. elim (cases_Bool (same_tree k y)) [ inl at_it ↦ r
 -- nothing is held once what alone was held isn't
 pub released : (k : Tree) → ◌≡◌ {A = Tree → Bool} (λ y. if same_tree k y then false else just k y) (λ y. false)
 released k = fun_ext (λ y. elim (cases_Bool (same_tree k y)) [ inl at_it ↦ rw at_it refl | inr other ↦ rw other refl ])
+
+-- nothing is held once what wasn't held isn't
+pub freed : (k : Tree) → ◌≡◌ {A = Tree → Bool} (λ y. if same_tree k y then false else false) (λ y. false)
+freed k = fun_ext (λ y. elim (cases_Bool (same_tree k y)) [ inl at_it ↦ rw at_it refl | inr other ↦ rw other refl ])
+
+-- a fact of one argument has one form, where the argument has
+pub one_form : FormIsOne → (g : Sig) (name : List ℕ) (t u : Tree) (h : Fact) → IsNormalForm (equations g) t u → IsFormOfFact (equations g) (linear name (t ∷ [])) h
+    → h ≡ linear name (u ∷ [])
+one_form one g name t u h form is =
+    ap (λ (n : List ℕ). let f : Fact = record { name = n; persistent = h.persistent; args = h.args } in f) is.name
+    ∙ ap (λ (p : Bool). let f : Fact = record { name = name; persistent = p; args = h.args } in f) is.persistent
+    ∙ ap (λ (ts : List Tree). let f : Fact = record { name = name; persistent = false; args = ts } in f) (args h.args is.args)
+  where
+    args : (us : List Tree) → AllZip (IsNormalForm (equations g)) (t ∷ []) us → us ≡ u ∷ []
+    args [] e = absurd e
+    args (w ∷ []) e = ap (λ v. v ∷ []) (one (equations g) t w u e.0 form)
+    args (w ∷ v ∷ us) e = absurd e.1

@@ -32,6 +32,7 @@ use Rattle.sap_process.specs.declared.flaw.Flaw.{Flaw}
 use Rattle.sap_process.specs.declared.flaw.Flaw.TheVariants.{BadFunction, ReservedVar, ReservedFact, FactClash, PatternDestructor, Unbound, Rebound, SortClash, ScopeFull}
 use Rattle.sap_process.proofs.Members.{member-head, member-tail, member-none, member-cases}
 use Rattle.sap_process.proofs.Names.{Member, same_name_true, known-append, names-append}
+use Rattle.sap_process.proofs.NewVars.{same_known}
 use Rattle.sap_process.proofs.VarLists.{facts-append}
 use Rattle.sap_process.proofs.SortedVars.{map_joined, sorted, by_sorted, sorted_name, vars_sorted, vars_facts_sorted, over_sorted, new_mapped, sorted_new}
 use Rattle.sap_process.proofs.SortedTwice.{sorted_action, bound_stays, sorted_once}
@@ -344,11 +345,6 @@ unbound_in_stays v w ts e = ap (filter (unknown v)) (vars_are w ts) ∙ filter_n
 contained : {X : Type 0} (xs : List X) (x : X) → Contains xs x → Member x xs
 contained [] x m = absurd (member-none x m)
 contained (y ∷ xs) x m = elim (member-cases y xs x m) [ inl e ↦ subst (λ z. Member z (y ∷ xs)) e Member.here | inr k ↦ Member.later (contained xs x k) ]
-
-same_known : (k j : List (List ℕ)) (ys : List Var) → ((n : List ℕ) → is_known k n ≡ is_known j n) → new_vars k ys ≡ new_vars j ys
-same_known k j [] h = refl
-same_known k j (y ∷ ys) h =
-    (λ i. cond (h y.name i) (same_known k j ys h i) (y ∷ same_known (k ++ y.name ∷ []) (j ++ y.name ∷ []) ys (λ n. names-append k (y.name ∷ []) n ∙ ap (λ b. b || (bytes_eq y.name n || false)) (h n) ∙ sym (names-append j (y.name ∷ []) n)) i))
 
 or_three : (a b c : Bool) → ((a || (b || false)) || c) ≡ (a || (b || c))
 or_three true b c = refl

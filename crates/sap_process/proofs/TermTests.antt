@@ -1,11 +1,11 @@
 -- The tests of terms over a signature and of destructors, in lists of terms and of facts.
 use Rattle.std.proofs.Common.{◌≡◌, ℕ, ◌+◌, ◌<◌, List, [], ◌∷◌, ◌++◌, Bool, true, false, ◌&&◌, ◌||◌, length, drop, get_or, add-one, refl, sym, ap, ◌∙◌}
 use Rattle.std.proofs.Math.Seq.{drop-cons}
-use Rattle.sap_terms.specs.Signature.{Sig, arity_of}
-use Rattle.sap_terms.specs.Tree.{Tree, apply, trees_of, list_of-trees_of}
+use Rattle.sap_terms.specs.Signature.{Sig}
+use Rattle.sap_terms.specs.Tree.{Tree, trees_of}
 use Rattle.sap_terms.specs.declared.fact.Fact.{Fact}
 use Rattle.sap_process.specs.Heads.{facts_terms}
-use Rattle.sap_terms.specs.code.TermTests.{has_arity, is_over, are_over, has_destructor, any_has_destructor}
+use Rattle.sap_terms.specs.TermTests.{is_over, are_over, has_destructor, any_has_destructor}
 
 and_assoc : (a b c : Bool) → (a && (b && c)) ≡ ((a && b) && c)
 and_assoc true b c = refl

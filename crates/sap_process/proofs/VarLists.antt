@@ -3,11 +3,12 @@ use Rattle.std.proofs.Common.{◌≡◌, List, [], ◌∷◌, ◌++◌, Bool, tr
 use Rattle.std.specs.List.{list_any}
 use Rattle.std.proofs.Math.Bool.{or_assoc}
 use Rattle.std.proofs.lemmas.List.{append_assoc, append-nil}
+use Rattle.sap_terms.proofs.PlainLaws.Trees.{item_le-trees_count}
 use Rattle.sap_terms.specs.Tree.{Tree, trees_of}
 use Rattle.sap_terms.specs.Variables.{tree_vars, trees_vars, facts_vars}
 use Rattle.sap_terms.specs.declared.fact.Fact.{Fact}
 use Rattle.sap_process.specs.Heads.{terms_vars, facts_terms}
-use Rattle.sap_process.specs.Tests.{has_items}
+use Rattle.sap_process.specs.code.Tests.{has_items}
 
 -- of terms, one after another
 pub vars-of-terms : (ts : List Tree) → terms_vars ts ≡ trees_vars (trees_of ts)
@@ -59,8 +60,10 @@ drop-front (x ∷ xs) ys = drop-front xs ys
 
 pub ruleset head_laws = (vars-of-terms, vars-of-one, vars-of-two, vars-of-facts)
 
-pub ruleset facts_laws = (facts-append, vars-of-rule)
-
 pub ruleset any_laws = (any-append)
 
-pub ruleset unbound_laws = (items-filter, drop-front)
+pub ruleset any_vars = (any-append, item_le-trees_count)
+
+pub ruleset any_rule = (any-append, vars-of-rule)
+
+pub ruleset unbound_laws = (items-filter)

@@ -6,8 +6,8 @@ use Rattle.sap_terms.specs.Destructors.{HasDestructor}
 use Rattle.sap_terms.specs.Message.{IsOver}
 use Rattle.sap_terms.specs.Reserved.{is_reserved}
 use Rattle.sap_terms.specs.Same.{same_sort}
-use Rattle.sap_terms.specs.Signature.{Sig, arity_of, is_destructor_of}
-use Rattle.sap_terms.specs.Tree.{Tree, variable, public, fresh, apply, Trees, none, more}
+use Rattle.sap_terms.specs.Signature.{Sig, arity_of}
+use Rattle.sap_terms.specs.Tree.{Tree}
 use Rattle.sap_terms.specs.Variables.{facts_vars, is_known, new_vars}
 use Rattle.sap_terms.specs.declared.fact.Fact.{Fact}
 use Rattle.sap_terms.specs.declared.var.Sort.TheVariants.{Msg, Pub}

@@ -12,13 +12,6 @@ pub mod Sorted
 pub mod Configuration
 pub mod ProcessSteps
 pub mod StepExamples
-pub mod Binders
-pub mod Tests
-pub mod Places
-pub mod Walks
-pub mod Searches
-pub mod SortedHeads
-pub mod Headed
 pub mod Ready
 pub mod GroundProcess
-pub mod GroundParts
+pub mod code

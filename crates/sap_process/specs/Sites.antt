@@ -18,7 +18,8 @@ abbrev pub message_var : Var → Var
 message_var x = record { name = x.name; sort = Msg }
 
 -- what an action binds where these are in scope, each variable with the sort of its binder: `new` a fresh name; a pattern
--- its names that are not in scope, as they are first written; an embedded rule those of its sides, left side first
+-- its names that are not in scope, as they are first written; an embedded rule those of its three sides, left side first;
+-- among them are those that nothing binds, which `unbound_at` tells: a process without a flaw has none
 abbrev pub bound_by : List Var → Action → List Var
 bound_by scope (new x) = fresh_var x ∷ []
 bound_by scope (input t) = new_vars (var_names scope) (tree_vars t)

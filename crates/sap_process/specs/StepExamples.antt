@@ -5,9 +5,10 @@ use Rattle.sap_terms.specs.Same.{same_tree}
 use Rattle.sap_terms.specs.Equations.{app1, app2, fst_name, pair_name}
 use Rattle.sap_terms.specs.Tree.{Tree, variable, public}
 use Rattle.sap_terms.specs.declared.fact.Fact.{Fact}
+use Rattle.sap_terms.specs.declared.var.Sort.{Sort}
 use Rattle.sap_terms.specs.declared.var.Sort.TheVariants.{Msg, Fresh, Pub}
 use Rattle.sap_terms.specs.declared.var.Var.{Var}
-use Rattle.sap_process.specs.Action.{event, input, embedded}
+use Rattle.sap_process.specs.Action.{new, send, receive, event, input, embedded}
 use Rattle.sap_process.specs.Configuration.{Config}
 use Rattle.sap_process.specs.Proc.{Proc, nil, act}
 
@@ -69,12 +70,19 @@ just k y = if same_tree k y then true else false
 abbrev pub input_shown : Proc
 input_shown = act (input var_x) (showing var_x)
 
+-- x with this sort, and the term
+abbrev pub x_of : Sort → Var
+x_of s = record { name = codes "x"; sort = s }
+
+abbrev pub var_of : Sort → Tree
+var_of s = variable (x_of s)
+
 -- ~x and $x
 abbrev pub fresh_x : Var
-fresh_x = record { name = codes "x"; sort = Fresh }
+fresh_x = x_of Fresh
 
 abbrev pub public_x : Var
-public_x = record { name = codes "x"; sort = Pub }
+public_x = x_of Pub
 
 -- an embedded rule that adds M($x), and then event A($x)
 abbrev pub adding_public : Proc
@@ -83,3 +91,31 @@ adding_public = act (embedded [] [] (right_fact (variable public_x) ∷ [])) (sh
 -- an embedded rule that takes L('a') twice, and then event A('a')
 abbrev pub taking_twice : Proc
 taking_twice = act (embedded (left_fact a ∷ left_fact a ∷ []) [] []) (showing a)
+
+-- !L(t)
+abbrev pub lasting_fact : Tree → Fact
+lasting_fact t = record { name = codes "L"; persistent = true; args = t ∷ [] }
+
+-- new x; event A(x)
+abbrev pub new_shown : Proc
+new_shown = act (new x) (showing var_x)
+
+-- out(m, n); event A('b')
+abbrev pub sending : Tree → Tree → Proc
+sending m n = act (send m n) (showing b)
+
+-- in(m, x); event A(x), where x has this sort
+abbrev pub receiving : Tree → Sort → Proc
+receiving m s = act (receive m (var_of s)) (showing (var_of s))
+
+-- an embedded rule that takes L('a'), shows A(fst(<'a','b'>)) and adds M(fst(<'a','b'>)), and then event A('b')
+abbrev pub ruling : Proc
+ruling = act (embedded (left_fact a ∷ []) (shown_fact first_of_pair ∷ []) (right_fact first_of_pair ∷ [])) (showing b)
+
+-- in(x); event A(x), where x has this sort and the message comes from the adversary
+abbrev pub inputting : Sort → Proc
+inputting s = act (input (var_of s)) (showing (var_of s))
+
+-- an embedded rule that takes !L('a') twice, and then event A('a')
+abbrev pub taking_lasting : Proc
+taking_lasting = act (embedded (lasting_fact a ∷ lasting_fact a ∷ []) [] []) (showing a)

@@ -2,9 +2,8 @@ ghost use Rattle.std.specs.Prelude.{◌≡◌, ℕ, List, [], IfOk, IsErrOf};
 ghost use Rattle.sap_process.specs.Proc.{proc};
 ghost use Rattle.sap_process.specs.Flaws.{IsWellFormed, IsFirstFlaw};
 ghost use Rattle.sap_process.specs.Ready.{IsReady};
-ghost use Rattle.sap_process.specs.Sites.{sites};
 ghost use Rattle.sap_process.specs.Sorted.{with_sorts};
-ghost use Rattle.sap_process.specs.Walks.{first_flaw};
+ghost use Rattle.sap_process.specs.code.Walks.{AreRanked, IsCounted};
 ghost use Rattle.sap_process.specs.declared.flaw.Flaw.{Flaw};
 ghost use Rattle.sap_process.specs.declared.flaw.Ill.TheVariants.{At};
 
@@ -12,7 +11,7 @@ use crate::Process;
 use crate::flaw::{Flaw, Ill};
 use crate::scope::Scope;
 use crate::sorting::sorted;
-use crate::walk::first_place;
+use crate::walk::first_flaw;
 use sap_terms::{Mem, Path, Signature};
 use std::alloc::Global;
 
@@ -21,7 +20,7 @@ use std::alloc::Global;
 /// scope, with the sort that the first occurrence has; an embedded rule binds the names of its left side and, on its other
 /// sides, those that are first written `$x`.
 ///
-/// It takes time in proportion to the process, in ten passes, where names are looked up by hashing; it recurses as deep as the
+/// It takes time in proportion to the process, in two passes, where names are looked up by hashing; it recurses as deep as the
 /// process and its terms.
 pub fn well_formed(alloc: Global, sig: &Signature, p: &Process) -> Result<Process, Ill>
     ensures sorted { IfOk result (λ q. proc q ≡ with_sorts [] (proc p.now)) }
@@ -50,7 +49,7 @@ pub fn well_formed_boxed(alloc: Global, sig: &Signature, p: &Process) -> Result<
         Flaw::SortClash,
         Flaw::ScopeFull,
     ];
-    match first_flaw(alloc, sig, p, &flaws)? {
+    match flaw_that_counts(alloc, sig, p, &flaws)? {
         Some((which, path)) => Err(Ill::At { which, path }),
         None => Ok(sorted_whole(alloc, p)?),
     }
@@ -64,19 +63,16 @@ fn sorted_whole(alloc: Global, p: &Process) -> Result<Box<Process>, Mem>
     sorted(alloc, &mut scope, p)
 }
 
-// The first of the flaws that a place has, with the path of the first place that has it.
-fn first_flaw(
+// The flaw that counts, with the path of its first place.
+fn flaw_that_counts(
     alloc: Global,
     sig: &Signature,
     p: &Process,
     flaws: &[Flaw],
 ) -> Result<Option<(Flaw, Path)>, Mem>
-    ensures { IfOk result (λ o. o ≡ first_flaw sig.now flaws.now (sites (proc p.now))) }
+    requires in_order { AreRanked 1 flaws.now }
+    ensures { IfOk result (λ o. IsCounted sig.now (proc p.now) o) }
 {
-    for which in flaws {
-        if let Some(path) = first_place(alloc, sig, *which, p)? {
-            return Ok(Some((*which, path)));
-        }
-    }
-    Ok(None)
+    let found = first_flaw(alloc, sig, p, flaws)?;
+    Ok(found)
 }

@@ -1,18 +1,18 @@
 //! Tests of what stands at the head of a process.
-ghost use Rattle.std.specs.Prelude.{◌≡◌, ◌++◌, IfOk, not, ◌||◌};
+ghost use Rattle.std.specs.Prelude.{◌≡◌, ◌++◌, not, ◌||◌};
 ghost use Rattle.std.specs.List.{list_any};
 ghost use Rattle.std.specs.Option.{option_copied};
 ghost use Rattle.sap_terms.specs.Tree.{trees_of};
 ghost use Rattle.sap_process.specs.Heads.{head_terms, head_vars, binder, listed, facts_terms, patterns, stored_facts, shown_facts};
 ghost use Rattle.sap_process.specs.Proc.{proc};
-ghost use Rattle.sap_terms.specs.code.TermTests.{is_over, are_over, has_destructor, any_has_destructor, has_arity};
-ghost use Rattle.sap_process.specs.Tests.{binds_constant, is_reserved_var, is_reserved_fact};
+ghost use Rattle.sap_terms.specs.TermTests.{is_over, are_over, has_destructor, any_has_destructor, has_arity};
+ghost use Rattle.sap_process.specs.code.Tests.{binds_constant, is_reserved_var, is_reserved_fact};
 ghost use Rattle.sap_terms.specs.Signature.{arity_of};
 
-use crate::Process;
-use crate::occurrences::vars_of_head;
-use sap_terms::{FactList, Mem, Name, Signature, Sort, Var, Vars, is_reserved};
-use std::alloc::Global;
+use crate::occurrences::{any_at_head, is_reserved_var};
+use crate::scope::Scope;
+use crate::{Flaw, Process};
+use sap_terms::{FactList, Name, Signature, Sort, Var, is_reserved};
 
 // The variable that `new` or `lookup` binds.
 pub(crate) fn binder(p: &Process) -> Option<&Var>
@@ -89,14 +89,10 @@ fn are_facts_over(sig: &Signature, fs: &FactList) -> bool
 
 // Whether a variable at the head has a reserved name.
 #[tactic(auto, using(crate::proofs::VarLists::any_laws))]
-pub(crate) fn has_reserved_var(alloc: Global, p: &Process) -> Result<bool, Mem>
-    ensures { IfOk result (λ b. b ≡ list_any is_reserved_var (head_vars (proc p.now))) }
+pub(crate) fn has_reserved_var(scope: &Scope, p: &Process) -> bool
+    ensures { result ≡ list_any is_reserved_var (head_vars (proc p.now)) }
 {
-    if binds_reserved_var(p) {
-        return Ok(true);
-    }
-    let vars = vars_of_head(alloc, p)?;
-    Ok(any_is_reserved_var(&vars))
+    binds_reserved_var(p) || any_at_head(Flaw::ReservedVar, scope, p)
 }
 
 fn binds_reserved_var(p: &Process) -> bool
@@ -106,18 +102,6 @@ fn binds_reserved_var(p: &Process) -> bool
         Some(x) => is_reserved_var(x),
         None => false,
     }
-}
-
-fn any_is_reserved_var(vars: &Vars) -> bool
-    ensures { result ≡ list_any is_reserved_var vars.now }
-{
-    vars.as_slice().iter().any(|v| is_reserved_var(v))
-}
-
-fn is_reserved_var(v: &Var) -> bool
-    ensures { result ≡ is_reserved_var v.now }
-{
-    v.name.as_bytes().starts_with(b"sapic_")
 }
 
 // Whether a fact at the head has a reserved name.

@@ -1,9 +1,11 @@
 //! Processes.
 #![tactic(auto)]
 
+mod binding;
 mod checking;
 mod copying;
 mod flaw;
+mod found;
 mod heads;
 mod laws;
 mod met;
@@ -20,8 +22,10 @@ mod walk;
 pub use checking::{well_formed, well_formed_boxed};
 pub use flaw::{Flaw, Ill};
 pub use laws::{
-    choices_are_bindings, instances_of_processes, no_steps_by_hand, one_flaw, runs_stay_ground,
-    sites_are_the_places, some_flaw, sorting_keeps, steps_by_hand, traces_by_hand,
+    choices_are_bindings, exact_steps_by_hand, instances_of_processes, no_steps_by_hand,
+    no_traces_by_hand, one_flaw, runs_stay_ground, sites_are_the_places, some_flaw, sorting_keeps,
+    steps_by_hand, traces_by_hand,
 };
 pub use process::Process;
 pub use substituting::substitute;
+pub use trail::Trail;

@@ -3,8 +3,8 @@ ghost use Rattle.std.specs.Map.{lookup};
 ghost use Rattle.std.specs.Str.{bytes_eq};
 ghost use Rattle.sap_process.specs.Heads.{stored_facts, shown_facts};
 ghost use Rattle.sap_process.specs.Proc.{proc};
-ghost use Rattle.sap_process.specs.Tests.{is_shape, is_other_shape, noted, noted_all, has_clash, shape_of};
-ghost use Rattle.sap_process.specs.Walks.{seen_at};
+ghost use Rattle.sap_process.specs.code.Tests.{is_shape, is_other_shape, noted, noted_all, has_clash, shape_of};
+ghost use Rattle.sap_process.specs.code.Walks.{seen_at};
 
 use crate::Process;
 use indexmap::IndexMap;

@@ -1,21 +1,18 @@
 //! What the head of a process binds, and tests of its names against those in scope.
-ghost use Rattle.std.specs.Prelude.{◌≡◌, IfOk, OnOk, filter, not};
+ghost use Rattle.std.specs.Prelude.{◌≡◌, IfOk, OnOk};
 ghost use Rattle.std.specs.List.{list_any};
-ghost use Rattle.sap_terms.specs.Variables.{is_known};
 ghost use Rattle.sap_process.specs.Action.{embedded};
 ghost use Rattle.sap_process.specs.Heads.{terms_vars, head_terms};
 ghost use Rattle.sap_process.specs.Proc.{proc};
-ghost use Rattle.sap_process.specs.Sites.{var_names};
 ghost use Rattle.sap_process.specs.Flaws.{unbound, unbound_at, scope_at};
-ghost use Rattle.sap_process.specs.Tests.{has_items, rebinds, has_other_sort};
+ghost use Rattle.sap_process.specs.code.Tests.{has_items, rebinds, has_other_sort};
 
-use crate::Process;
+use crate::binding::{bind_both, bind_facts, bind_rule, bind_term};
 use crate::heads::binder;
-use crate::occurrences::{
-    used_vars, vars_of_both, vars_of_facts, vars_of_head, vars_of_rule, vars_of_term,
-};
+use crate::occurrences::{any_at_head, any_used};
 use crate::scope::Scope;
-use sap_terms::{Copied, FactList, Mem, Sort, Var, Vars};
+use crate::{Flaw, Process};
+use sap_terms::{Copied, FactList, Mem, Sort, Var};
 use std::alloc::Global;
 
 // A copy of the variable, of this sort.
@@ -34,41 +31,26 @@ pub(crate) fn bind(alloc: Global, scope: &mut Scope, p: &Process) -> Result<(), 
 {
     match p {
         Process::New(x, _) => scope.push(alloc, with_sort(alloc, x, Sort::Fresh)?),
-        Process::In(t, _) | Process::Recv(_, t, _) => {
-            scope.push_new(alloc, &vars_of_term(alloc, t)?)
-        }
-        Process::Embedded(l, e, r, _) => scope.push_new(alloc, &vars_of_rule(alloc, l, e, r)?),
+        Process::In(t, _) | Process::Recv(_, t, _) => bind_term(alloc, scope, t),
+        Process::Embedded(l, e, r, _) => bind_rule(alloc, scope, l, e, r),
         _ => Ok(()),
     }
 }
 
 // Whether a name is used that nothing in scope binds.
+#[tactic(auto, using(crate::proofs::VarLists::unbound_laws))]
 pub(crate) fn has_unbound(alloc: Global, scope: &mut Scope, p: &Process) -> Result<bool, Mem>
     ensures found { IfOk result (λ b. b ≡ has_items (unbound scope.old (proc p.now))) }
     ensures same { OnOk result (scope.new ≡ scope.old) }
 {
     match p {
         Process::Embedded(l, e, r, _) => rule_has_unbound(alloc, scope, l, e, r),
-        _ => {
-            let vars = used_vars(alloc, p)?;
-            Ok(any_is_unbound(scope, &vars))
-        }
+        _ => Ok(any_used(Flaw::Unbound, scope, p)),
     }
-}
-
-fn any_is_unbound(scope: &Scope, vars: &Vars) -> bool
-    ensures { result ≡ has_items (filter (λ v. not (is_known (var_names scope.now) v.name)) vars.now) }
-{
-    for v in vars.as_slice() {
-        if !scope.knows(&v.name) {
-            return true;
-        }
-    }
-    false
 }
 
 // The same of an embedded rule, which binds what it takes and what is first written `$x`.
-#[tactic(auto, using(crate::proofs::VarLists::unbound_laws))]
+#[tactic(auto, using(crate::proofs::NewVars::unbound_rule))]
 fn rule_has_unbound(
     alloc: Global,
     scope: &mut Scope,
@@ -80,9 +62,9 @@ fn rule_has_unbound(
     ensures same { OnOk result (scope.new ≡ scope.old) }
 {
     let before = scope.len();
-    scope.push_all(alloc, &vars_of_facts(alloc, l)?)?;
+    bind_facts(alloc, scope, l)?;
     let taken = scope.len();
-    scope.push_new(alloc, &vars_of_both(alloc, e, r)?)?;
+    bind_both(alloc, scope, e, r)?;
     let found = scope.has_unsigned_from(taken);
     scope.cut(before);
     Ok(found)
@@ -104,22 +86,9 @@ pub(crate) fn has_sort_clash(alloc: Global, scope: &mut Scope, p: &Process) -> R
         (has_other_sort (scope_at scope.old (proc p.now))) (terms_vars (head_terms (proc p.now)))) }
     ensures same { OnOk result (scope.new ≡ scope.old) }
 {
-    let vars = vars_of_head(alloc, p)?;
     let before = scope.len();
     bind(alloc, scope, p)?;
-    let found = vars.as_slice().iter().any(|v| has_other_sort(scope, v));
+    let found = any_at_head(Flaw::SortClash, scope, p);
     scope.cut(before);
     Ok(found)
-}
-
-fn has_other_sort(scope: &Scope, v: &Var) -> bool
-    ensures { result ≡ has_other_sort scope.now v.now }
-{
-    if v.sort == Sort::Msg {
-        return false;
-    }
-    match scope.sort_of(&v.name) {
-        Some(s) => s != v.sort,
-        None => false,
-    }
 }

@@ -1,130 +1,142 @@
-//! The variables that stand at the head of a process.
-ghost use Rattle.std.specs.Prelude.{◌≡◌, ◌++◌, IfOk, OnOk};
+//! Tests of each variable that stands at the head of a process.
+ghost use Rattle.std.specs.Prelude.{◌≡◌, ◌++◌, not};
+ghost use Rattle.std.specs.List.{list_any};
 ghost use Rattle.sap_terms.specs.Tree.{trees_of};
 ghost use Rattle.sap_terms.specs.Variables.{tree_vars, trees_vars, facts_vars};
 ghost use Rattle.sap_terms.specs.View.{tree};
 ghost use Rattle.sap_process.specs.Heads.{terms_vars, head_terms};
 ghost use Rattle.sap_process.specs.Proc.{proc};
-ghost use Rattle.sap_process.specs.Places.{used_terms};
+ghost use Rattle.sap_process.specs.code.Places.{used_terms};
+ghost use Rattle.sap_process.specs.code.Tests.{is_reserved_var, has_other_sort, var_flawed};
 
-use crate::Process;
-use sap_terms::{FactList, Mem, Term, Vars, push_all_vars, push_facts_vars, push_vars};
-use std::alloc::Global;
+use crate::scope::Scope;
+use crate::{Flaw, Process};
+use sap_terms::{FactList, Sort, Term, TermList, Var};
 
-// Each occurrence of a variable in the terms at the head, from the left.
+// Whether a variable in the terms at the head has the flaw, where these are in scope.
 #[tactic(auto, using(crate::proofs::VarLists::head_laws))]
-pub(crate) fn vars_of_head(alloc: Global, p: &Process) -> Result<Vars, Mem>
-    ensures { IfOk result (λ vs. vs ≡ terms_vars (head_terms (proc p.now))) }
+pub(crate) fn any_at_head(which: Flaw, scope: &Scope, p: &Process) -> bool
+    ensures { result ≡ list_any (var_flawed which scope.now) (terms_vars (head_terms (proc p.now))) }
 {
-    let mut out = Vars::new(alloc);
     match p {
-        Process::Nil | Process::Par(_, _) | Process::Rep(_) | Process::New(_, _) => {}
+        Process::Nil | Process::Par(_, _) | Process::Rep(_) | Process::New(_, _) => false,
         Process::Out(t, _)
         | Process::In(t, _)
         | Process::Delete(t, _)
         | Process::Lookup(t, _, _, _)
         | Process::Lock(t, _, _)
-        | Process::Unlock(t, _, _) => push_vars(alloc, t, &mut out)?,
+        | Process::Unlock(t, _, _) => any_in_term(which, scope, t),
         Process::Send(t, u, _)
         | Process::Recv(t, u, _)
         | Process::If(t, u, _, _)
-        | Process::Insert(t, u, _) => push_both(alloc, t, u, &mut out)?,
-        Process::Event(f, _) => push_all_vars(alloc, &f.args, &mut out)?,
-        Process::Embedded(l, e, r, _) => push_rule_vars(alloc, l, e, r, &mut out)?,
+        | Process::Insert(t, u, _) => any_in_both(which, scope, t, u),
+        Process::Event(f, _) => any_in_terms(which, scope, &f.args),
+        Process::Embedded(l, e, r, _) => any_in_rule(which, scope, l, e, r),
     }
-    Ok(out)
 }
 
-// Each occurrence in the terms that are evaluated before anything is bound.
+// Whether one has it in the terms that are evaluated before anything is bound.
 #[tactic(auto, using(crate::proofs::VarLists::head_laws))]
-pub(crate) fn used_vars(alloc: Global, p: &Process) -> Result<Vars, Mem>
-    ensures { IfOk result (λ vs. vs ≡ terms_vars (used_terms (proc p.now))) }
+pub(crate) fn any_used(which: Flaw, scope: &Scope, p: &Process) -> bool
+    ensures { result ≡ list_any (var_flawed which scope.now) (terms_vars (used_terms (proc p.now))) }
 {
-    let mut out = Vars::new(alloc);
     match p {
         Process::Out(t, _)
         | Process::Recv(t, _, _)
         | Process::Delete(t, _)
         | Process::Lookup(t, _, _, _)
         | Process::Lock(t, _, _)
-        | Process::Unlock(t, _, _) => push_vars(alloc, t, &mut out)?,
+        | Process::Unlock(t, _, _) => any_in_term(which, scope, t),
         Process::Send(t, u, _) | Process::If(t, u, _, _) | Process::Insert(t, u, _) => {
-            push_both(alloc, t, u, &mut out)?
+            any_in_both(which, scope, t, u)
         }
-        Process::Event(f, _) => push_all_vars(alloc, &f.args, &mut out)?,
+        Process::Event(f, _) => any_in_terms(which, scope, &f.args),
         Process::Nil
         | Process::Par(_, _)
         | Process::Rep(_)
         | Process::New(_, _)
         | Process::In(_, _)
-        | Process::Embedded(_, _, _, _) => {}
+        | Process::Embedded(_, _, _, _) => false,
     }
-    Ok(out)
 }
 
-// Each occurrence in the term.
-pub(crate) fn vars_of_term(alloc: Global, t: &Term) -> Result<Vars, Mem>
-    ensures { IfOk result (λ vs. vs ≡ tree_vars (tree t.now)) }
+#[cycle(any)]
+#[tactic(auto, using(crate::proofs::VarLists::any_vars))]
+fn any_in_term(which: Flaw, scope: &Scope, t: &Term) -> bool
+    ensures { result ≡ list_any (var_flawed which scope.now) (tree_vars (tree t.now)) }
 {
-    let mut out = Vars::new(alloc);
-    push_vars(alloc, t, &mut out)?;
-    Ok(out)
+    match t {
+        Term::Var(v) => is_flawed(which, scope, v),
+        Term::App(_, ts) => any_in_terms(which, scope, ts),
+        _ => false,
+    }
 }
 
-// Each occurrence in the facts.
-pub(crate) fn vars_of_facts(alloc: Global, fs: &FactList) -> Result<Vars, Mem>
-    ensures { IfOk result (λ vs. vs ≡ facts_vars fs.now) }
+#[cycle(any)]
+#[tactic(auto, using(crate::proofs::VarLists::any_vars))]
+fn any_in_terms(which: Flaw, scope: &Scope, ts: &TermList) -> bool
+    ensures { result ≡ list_any (var_flawed which scope.now) (trees_vars (trees_of ts.now)) }
 {
-    let mut out = Vars::new(alloc);
-    push_facts_vars(alloc, fs, &mut out)?;
-    Ok(out)
+    for k in 0..ts.len() {
+        if any_in_term(which, scope, ts.at(k)) {
+            return true;
+        }
+    }
+    false
 }
 
-// Each occurrence in the two lists of facts.
-#[tactic(auto, using(crate::proofs::VarLists::facts_laws))]
-pub(crate) fn vars_of_both(alloc: Global, fs: &FactList, hs: &FactList) -> Result<Vars, Mem>
-    ensures { IfOk result (λ vs. vs ≡ facts_vars (fs.now ++ hs.now)) }
+#[tactic(auto, using(crate::proofs::VarLists::any_laws))]
+fn any_in_both(which: Flaw, scope: &Scope, t: &Term, u: &Term) -> bool
+    ensures { result ≡ list_any (var_flawed which scope.now) (tree_vars (tree t.now) ++ tree_vars (tree u.now)) }
 {
-    let mut out = Vars::new(alloc);
-    push_facts_vars(alloc, fs, &mut out)?;
-    push_facts_vars(alloc, hs, &mut out)?;
-    Ok(out)
+    any_in_term(which, scope, t) || any_in_term(which, scope, u)
 }
 
-// Each occurrence in a rule's three lists of facts.
-pub(crate) fn vars_of_rule(
-    alloc: Global,
-    l: &FactList,
-    e: &FactList,
-    r: &FactList,
-) -> Result<Vars, Mem>
-    ensures { IfOk result (λ vs. vs ≡ facts_vars (l.now ++ (e.now ++ r.now))) }
+#[tactic(auto, using(crate::proofs::VarLists::any_vars))]
+fn any_in_facts(which: Flaw, scope: &Scope, fs: &FactList) -> bool
+    ensures { result ≡ list_any (var_flawed which scope.now) (facts_vars fs.now) }
 {
-    let mut out = Vars::new(alloc);
-    push_rule_vars(alloc, l, e, r, &mut out)?;
-    Ok(out)
+    for f in fs.as_slice() {
+        if any_in_terms(which, scope, &f.args) {
+            return true;
+        }
+    }
+    false
 }
 
-#[tactic(auto, using(crate::proofs::VarLists::facts_laws))]
-fn push_rule_vars(
-    alloc: Global,
-    l: &FactList,
-    e: &FactList,
-    r: &FactList,
-    out: &mut Vars,
-) -> Result<(), Mem>
-    ensures { OnOk result (out.new ≡ out.old ++ facts_vars (l.now ++ (e.now ++ r.now))) }
+#[tactic(auto, using(crate::proofs::VarLists::any_rule))]
+fn any_in_rule(which: Flaw, scope: &Scope, l: &FactList, e: &FactList, r: &FactList) -> bool
+    ensures { result ≡ list_any (var_flawed which scope.now) (facts_vars (l.now ++ (e.now ++ r.now))) }
 {
-    push_facts_vars(alloc, l, out)?;
-    push_facts_vars(alloc, e, out)?;
-    push_facts_vars(alloc, r, out)?;
-    Ok(())
+    any_in_facts(which, scope, l) || any_in_facts(which, scope, e) || any_in_facts(which, scope, r)
 }
 
-fn push_both(alloc: Global, t: &Term, u: &Term, out: &mut Vars) -> Result<(), Mem>
-    ensures { OnOk result (out.new ≡ out.old ++ (tree_vars (tree t.now) ++ tree_vars (tree u.now))) }
+// Whether the variable has the flaw.
+fn is_flawed(which: Flaw, scope: &Scope, v: &Var) -> bool
+    ensures { result ≡ var_flawed which scope.now v.now }
 {
-    push_vars(alloc, t, out)?;
-    push_vars(alloc, u, out)?;
-    Ok(())
+    match which {
+        Flaw::ReservedVar => is_reserved_var(v),
+        Flaw::Unbound => !scope.knows(&v.name),
+        Flaw::SortClash => has_other_sort(scope, v),
+        _ => false,
+    }
+}
+
+pub(crate) fn is_reserved_var(v: &Var) -> bool
+    ensures { result ≡ is_reserved_var v.now }
+{
+    v.name.as_bytes().starts_with(b"sapic_")
+}
+
+fn has_other_sort(scope: &Scope, v: &Var) -> bool
+    ensures { result ≡ has_other_sort scope.now v.now }
+{
+    if v.sort == Sort::Msg {
+        return false;
+    }
+    match scope.sort_of(&v.name) {
+        Some(s) => s != v.sort,
+        None => false,
+    }
 }

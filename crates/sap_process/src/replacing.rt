@@ -3,21 +3,28 @@ ghost use Rattle.std.specs.Prelude.{◌≡◌, IfOk, map};
 ghost use Rattle.sap_terms.specs.Choice.{Choice, instance};
 ghost use Rattle.sap_terms.specs.Modulo.{instance_fact, instance_facts};
 ghost use Rattle.sap_terms.specs.View.{tree};
+ghost use Rattle.sap_terms.specs.declared.var.Var.{Var};
 ghost use Rattle.sap_process.specs.Action.{new, out, send, input, receive, event, insert, delete, lock, unlock, embedded};
-ghost use Rattle.sap_process.specs.Headed.{headed};
+ghost use Rattle.sap_process.specs.code.Headed.{headed, forked};
 ghost use Rattle.sap_process.specs.Proc.{proc, nil, parallel, replicated, act, test, lookup};
 
 use crate::Process;
 use sap_terms::{Copied, Fact, FactList, Mem, Term, TermList, Var};
 use std::alloc::Global;
 
-// What has a term for each variable.
+// What has a term for each variable, and another variable for what `new` binds.
 pub(crate) trait Replacing {
     ghost choice: { Self → Choice };
+
+    ghost bound: { Self → Var → Var };
 
     // The term with each of its variables replaced.
     fn replaced(&self, alloc: Global, t: &Term) -> Result<Term, Mem>
         ensures { IfOk result (λ u. tree u ≡ instance (choice self.now) (tree t.now)) };
+
+    // What `new` binds in place of this.
+    fn bound(&self, alloc: Global, x: &Var) -> Result<Var, Mem>
+        ensures { IfOk result (λ y. y ≡ bound self.now x.now) };
 }
 
 // The head of the process, where one process follows it, over this one.
@@ -27,13 +34,13 @@ pub(crate) fn over<R: Replacing>(
     p: &Process,
     below: Box<Process>,
 ) -> Result<Box<Process>, Mem>
-    ensures { IfOk result (λ q. proc q.value ≡ headed (R.choice r.now) (proc p.now) (proc below.value)) }
+    ensures { IfOk result (λ q. proc q.value ≡ headed (R.choice r.now) (R.bound r.now) (proc p.now) (proc below.value)) }
 {
     match p {
         Process::Nil | Process::Par(_, _) | Process::If(_, _, _, _) | Process::Lookup(_, _, _, _) =>
             Ok(below),
         Process::Rep(_) => repeated(alloc, below),
-        Process::New(x, _) => naming(alloc, x, below),
+        Process::New(x, _) => naming(alloc, r, x, below),
         Process::Out(t, _) => outputting(alloc, r, t, below),
         Process::Send(t, u, _) => sending(alloc, r, t, u, below),
         Process::In(t, _) => inputting(alloc, r, t, below),
@@ -47,23 +54,59 @@ pub(crate) fn over<R: Replacing>(
     }
 }
 
+// The process in a box.
+fn boxed(alloc: Global, p: Process) -> Result<Box<Process>, Mem>
+    ensures { IfOk result (λ q. q.value ≡ p) }
+{
+    Ok(Box::new(alloc, p)?)
+}
+
+// The two terms with their variables replaced.
+fn both_replaced<R: Replacing>(
+    alloc: Global,
+    r: &R,
+    t: &Term,
+    u: &Term,
+) -> Result<(Term, Term), Mem>
+    ensures { IfOk result (λ b. (tree b.0 ≡ instance (R.choice r.now) (tree t.now))
+        × (tree b.1 ≡ instance (R.choice r.now) (tree u.now))) }
+{
+    let first = r.replaced(alloc, t)?;
+    let second = r.replaced(alloc, u)?;
+    Ok((first, second))
+}
+
 pub(crate) fn ended(alloc: Global) -> Result<Box<Process>, Mem>
     ensures { IfOk result (λ q. proc q.value ≡ nil) }
 {
-    Ok(Box::new(alloc, Process::Nil)?)
+    boxed(alloc, Process::Nil)
 }
 
-pub(crate) fn side_by_side(
+// The head of a parallel or of a test over these two.
+pub(crate) fn over_both<R: Replacing>(
     alloc: Global,
-    p: Box<Process>,
-    q: Box<Process>,
+    r: &R,
+    p: &Process,
+    first: Box<Process>,
+    second: Box<Process>,
 ) -> Result<Box<Process>, Mem>
+    ensures { IfOk result (λ q. proc q.value
+        ≡ forked (R.choice r.now) (proc p.now) (proc first.value) (proc second.value)) }
+{
+    match p {
+        Process::Par(_, _) => side_by_side(alloc, first, second),
+        Process::If(t, u, _, _) => testing(alloc, r, t, u, first, second),
+        _ => Ok(first),
+    }
+}
+
+fn side_by_side(alloc: Global, p: Box<Process>, q: Box<Process>) -> Result<Box<Process>, Mem>
     ensures { IfOk result (λ made. proc made.value ≡ parallel (proc p.value) (proc q.value)) }
 {
-    Ok(Box::new(alloc, Process::Par(p, q))?)
+    boxed(alloc, Process::Par(p, q))
 }
 
-pub(crate) fn testing<R: Replacing>(
+fn testing<R: Replacing>(
     alloc: Global,
     r: &R,
     t: &Term,
@@ -75,9 +118,8 @@ pub(crate) fn testing<R: Replacing>(
         (instance (R.choice r.now) (tree t.now)) (instance (R.choice r.now) (tree u.now))
         (proc p.value) (proc q.value)) }
 {
-    let t = r.replaced(alloc, t)?;
-    let u = r.replaced(alloc, u)?;
-    Ok(Box::new(alloc, Process::If(t, u, p, q))?)
+    let (t, u) = both_replaced(alloc, r, t, u)?;
+    boxed(alloc, Process::If(t, u, p, q))
 }
 
 pub(crate) fn looking_up<R: Replacing>(
@@ -92,25 +134,20 @@ pub(crate) fn looking_up<R: Replacing>(
         (instance (R.choice r.now) (tree t.now)) x (proc p.value) (proc q.value)) }
 {
     let t = r.replaced(alloc, t)?;
-    Ok(Box::new(alloc, Process::Lookup(t, x, p, q))?)
+    boxed(alloc, Process::Lookup(t, x, p, q))
 }
 
-pub(crate) fn named(alloc: Global, x: Var, p: Box<Process>) -> Result<Box<Process>, Mem>
-    ensures { IfOk result (λ q. proc q.value ≡ act (new x) (proc p.value)) }
+fn naming<R: Replacing>(alloc: Global, r: &R, x: &Var, p: Box<Process>) -> Result<Box<Process>, Mem>
+    ensures { IfOk result (λ q. proc q.value ≡ act (new (R.bound r.now x.now)) (proc p.value)) }
 {
-    Ok(Box::new(alloc, Process::New(x, p))?)
-}
-
-fn naming(alloc: Global, x: &Var, p: Box<Process>) -> Result<Box<Process>, Mem>
-    ensures { IfOk result (λ q. proc q.value ≡ act (new x.now) (proc p.value)) }
-{
-    named(alloc, x.copy(alloc)?, p)
+    let x = r.bound(alloc, x)?;
+    boxed(alloc, Process::New(x, p))
 }
 
 fn repeated(alloc: Global, p: Box<Process>) -> Result<Box<Process>, Mem>
     ensures { IfOk result (λ q. proc q.value ≡ replicated (proc p.value)) }
 {
-    Ok(Box::new(alloc, Process::Rep(p))?)
+    boxed(alloc, Process::Rep(p))
 }
 
 fn outputting<R: Replacing>(
@@ -123,7 +160,7 @@ fn outputting<R: Replacing>(
         (out (instance (R.choice r.now) (tree t.now))) (proc p.value)) }
 {
     let t = r.replaced(alloc, t)?;
-    Ok(Box::new(alloc, Process::Out(t, p))?)
+    boxed(alloc, Process::Out(t, p))
 }
 
 fn sending<R: Replacing>(
@@ -137,9 +174,8 @@ fn sending<R: Replacing>(
         (send (instance (R.choice r.now) (tree t.now)) (instance (R.choice r.now) (tree u.now)))
         (proc p.value)) }
 {
-    let t = r.replaced(alloc, t)?;
-    let u = r.replaced(alloc, u)?;
-    Ok(Box::new(alloc, Process::Send(t, u, p))?)
+    let (t, u) = both_replaced(alloc, r, t, u)?;
+    boxed(alloc, Process::Send(t, u, p))
 }
 
 fn inputting<R: Replacing>(
@@ -152,7 +188,7 @@ fn inputting<R: Replacing>(
         (input (instance (R.choice r.now) (tree t.now))) (proc p.value)) }
 {
     let t = r.replaced(alloc, t)?;
-    Ok(Box::new(alloc, Process::In(t, p))?)
+    boxed(alloc, Process::In(t, p))
 }
 
 fn receiving<R: Replacing>(
@@ -166,9 +202,8 @@ fn receiving<R: Replacing>(
         (receive (instance (R.choice r.now) (tree t.now)) (instance (R.choice r.now) (tree u.now)))
         (proc p.value)) }
 {
-    let t = r.replaced(alloc, t)?;
-    let u = r.replaced(alloc, u)?;
-    Ok(Box::new(alloc, Process::Recv(t, u, p))?)
+    let (t, u) = both_replaced(alloc, r, t, u)?;
+    boxed(alloc, Process::Recv(t, u, p))
 }
 
 fn showing<R: Replacing>(
@@ -181,7 +216,7 @@ fn showing<R: Replacing>(
         (event (instance_fact (R.choice r.now) f.now)) (proc p.value)) }
 {
     let f = replaced_fact(alloc, r, f)?;
-    Ok(Box::new(alloc, Process::Event(f, p))?)
+    boxed(alloc, Process::Event(f, p))
 }
 
 fn inserting<R: Replacing>(
@@ -195,9 +230,8 @@ fn inserting<R: Replacing>(
         (insert (instance (R.choice r.now) (tree t.now)) (instance (R.choice r.now) (tree u.now)))
         (proc p.value)) }
 {
-    let t = r.replaced(alloc, t)?;
-    let u = r.replaced(alloc, u)?;
-    Ok(Box::new(alloc, Process::Insert(t, u, p))?)
+    let (t, u) = both_replaced(alloc, r, t, u)?;
+    boxed(alloc, Process::Insert(t, u, p))
 }
 
 fn deleting<R: Replacing>(
@@ -210,7 +244,7 @@ fn deleting<R: Replacing>(
         (delete (instance (R.choice r.now) (tree t.now))) (proc p.value)) }
 {
     let t = r.replaced(alloc, t)?;
-    Ok(Box::new(alloc, Process::Delete(t, p))?)
+    boxed(alloc, Process::Delete(t, p))
 }
 
 fn locking<R: Replacing>(
@@ -224,7 +258,7 @@ fn locking<R: Replacing>(
         (lock (instance (R.choice r.now) (tree t.now)) n) (proc p.value)) }
 {
     let t = r.replaced(alloc, t)?;
-    Ok(Box::new(alloc, Process::Lock(t, n, p))?)
+    boxed(alloc, Process::Lock(t, n, p))
 }
 
 fn unlocking<R: Replacing>(
@@ -238,7 +272,7 @@ fn unlocking<R: Replacing>(
         (unlock (instance (R.choice r.now) (tree t.now)) n) (proc p.value)) }
 {
     let t = r.replaced(alloc, t)?;
-    Ok(Box::new(alloc, Process::Unlock(t, n, p))?)
+    boxed(alloc, Process::Unlock(t, n, p))
 }
 
 fn embedding<R: Replacing>(
@@ -257,7 +291,7 @@ fn embedding<R: Replacing>(
     let left = replaced_facts(alloc, r, left)?;
     let shown = replaced_facts(alloc, r, shown)?;
     let right = replaced_facts(alloc, r, right)?;
-    Ok(Box::new(alloc, Process::Embedded(left, shown, right, p))?)
+    boxed(alloc, Process::Embedded(left, shown, right, p))
 }
 
 #[tactic(auto, using(crate::proofs::OtherNames::map_laws))]

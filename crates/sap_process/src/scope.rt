@@ -4,13 +4,14 @@ ghost use Rattle.std.specs.Option.{option_copied};
 ghost use Rattle.std.specs.Str.{bytes_eq};
 ghost use Rattle.indexmap.specs.IndexMap.{get};
 ghost use Rattle.sap_terms.specs.Same.{same_sort};
-ghost use Rattle.sap_terms.specs.Variables.{is_known, new_vars};
+ghost use Rattle.sap_terms.specs.Variables.{is_known};
 ghost use Rattle.sap_terms.specs.declared.var.Sort.TheVariants.{Pub};
+ghost use Rattle.sap_process.specs.code.Binders.{with_new};
 ghost use Rattle.sap_process.specs.Flaws.{binder_of};
 ghost use Rattle.sap_process.specs.Sites.{var_names};
 
 use indexmap::IndexMap;
-use sap_terms::{Copied, Mem, Name, Sort, Var, Vars};
+use sap_terms::{Copied, Mem, Name, Sort, Var};
 use std::alloc::Global;
 use std::marker::Model;
 
@@ -26,7 +27,7 @@ impl Model for Scope {
     ghost use Rattle.std.specs.Str.{bytes_eq};
     ghost use Rattle.indexmap.specs.IndexMap.{get};
     ghost use Rattle.sap_terms.specs.declared.var.Var.{Var};
-    ghost use Rattle.sap_process.specs.Binders.{binder_place};
+    ghost use Rattle.sap_process.specs.code.Binders.{binder_place};
 
     ghost Value = { List Var };
 
@@ -99,26 +100,14 @@ impl Scope {
         }
     }
 
-    // Binds each of the variables.
-    pub(crate) fn push_all(&mut self, alloc: Global, vars: &Vars) -> Result<(), Mem>
-        ensures { OnOk result (self.new ≡ self.old ++ vars.now) }
+    // Binds the variable, where its name isn't in scope.
+    pub(crate) fn push_new(&mut self, alloc: Global, v: &Var) -> Result<(), Mem>
+        ensures { OnOk result (self.new ≡ with_new self.old (v.now ∷ [])) }
     {
-        for x in vars.as_slice() {
-            self.push(alloc, x.copy(alloc)?)?;
+        if self.knows(&v.name) {
+            return Ok(());
         }
-        Ok(())
-    }
-
-    // Binds the first occurrences of names that are not in scope.
-    pub(crate) fn push_new(&mut self, alloc: Global, vars: &Vars) -> Result<(), Mem>
-        ensures { OnOk result (self.new ≡ self.old ++ new_vars (var_names self.old) vars.now) }
-    {
-        for v in vars.as_slice() {
-            if !self.knows(&v.name) {
-                self.push(alloc, v.copy(alloc)?)?;
-            }
-        }
-        Ok(())
+        self.push(alloc, v.copy(alloc)?)
     }
 
     // Leaves the first `len` variables in scope.

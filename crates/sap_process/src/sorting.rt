@@ -1,27 +1,32 @@
 //! Processes with the sorts of binders.
 ghost use Rattle.std.specs.Prelude.{◌≡◌, [], ◌∷◌, ◌++◌, IfOk, OnOk, map};
 ghost use Rattle.sap_terms.specs.Choice.{instance};
-ghost use Rattle.sap_terms.specs.Tree.{variable};
+ghost use Rattle.sap_terms.specs.Tree.{variable, apply, trees_of};
 ghost use Rattle.sap_terms.specs.View.{tree};
-ghost use Rattle.sap_process.specs.Action.{new};
-ghost use Rattle.sap_process.specs.Headed.{headed};
-ghost use Rattle.sap_process.specs.Proc.{proc, act, parallel, test, lookup};
+ghost use Rattle.sap_process.specs.Flaws.{scope_at};
+ghost use Rattle.sap_process.specs.code.Headed.{headed, forked};
+ghost use Rattle.sap_process.specs.Proc.{proc, lookup};
 ghost use Rattle.sap_process.specs.Sites.{fresh_var, message_var};
 ghost use Rattle.sap_process.specs.Sorted.{by_binder, with_sorts};
-ghost use Rattle.sap_process.specs.SortedHeads.{sorted_below};
 
 use crate::Process;
 use crate::naming::{bind, with_sort};
-use crate::replacing::{Replacing, ended, looking_up, named, over, side_by_side, testing};
+use crate::replacing::{Replacing, ended, looking_up, over, over_both};
 use crate::scope::Scope;
-use sap_terms::{Copied, Mem, Sort, Term, TermList, Var};
+use sap_terms::{Copied, Mem, Name, Sort, Term, TermList, Var};
 use std::alloc::Global;
 
 impl Replacing for Scope {
     ghost choice = { by_binder };
 
+    ghost bound = { λ scope. fresh_var };
+
     fn replaced(&self, alloc: Global, t: &Term) -> Result<Term, Mem> {
         sorted_term(alloc, self, t)
+    }
+
+    fn bound(&self, alloc: Global, x: &Var) -> Result<Var, Mem> {
+        with_sort(alloc, x, Sort::Fresh)
     }
 }
 
@@ -31,26 +36,12 @@ pub(crate) fn sorted(alloc: Global, scope: &mut Scope, p: &Process) -> Result<Bo
     ensures made { IfOk result (λ q. proc q.value ≡ with_sorts scope.old (proc p.now)) }
     ensures same { OnOk result (scope.new ≡ scope.old) }
 {
-    let before = scope.len();
-    bind(alloc, scope, p)?;
-    let made = sorted_below(alloc, scope, p)?;
-    scope.cut(before);
-    Ok(made)
-}
-
-// The same, where what the head binds is in scope already.
-#[cycle(sorted)]
-fn sorted_below(alloc: Global, scope: &mut Scope, p: &Process) -> Result<Box<Process>, Mem>
-    ensures made { IfOk result (λ q. proc q.value ≡ sorted_below scope.old (proc p.now)) }
-    ensures same { OnOk result (scope.new ≡ scope.old) }
-{
     match p {
         Process::Nil => ended(alloc),
-        Process::Par(p, q) => sorted_both(alloc, scope, p, q),
-        Process::If(t, u, p, q) => sorted_test(alloc, scope, t, u, p, q),
-        Process::Lookup(t, x, p, q) => sorted_lookup(alloc, scope, t, x, p, q),
-        Process::New(x, q) => sorted_name(alloc, scope, x, q),
+        Process::Par(q, r) | Process::If(_, _, q, r) => sorted_both(alloc, scope, p, q, r),
+        Process::Lookup(t, x, q, r) => sorted_lookup(alloc, scope, t, x, q, r),
         Process::Rep(q)
+        | Process::New(_, q)
         | Process::Out(_, q)
         | Process::Send(_, _, q)
         | Process::In(_, q)
@@ -64,7 +55,7 @@ fn sorted_below(alloc: Global, scope: &mut Scope, p: &Process) -> Result<Box<Pro
     }
 }
 
-// The head of the process over what follows it.
+// The head of the process, with what it binds in scope, over what follows it.
 #[cycle(sorted)]
 fn sorted_over(
     alloc: Global,
@@ -73,56 +64,34 @@ fn sorted_over(
     q: &Process,
 ) -> Result<Box<Process>, Mem>
     ensures made { IfOk result (λ made. proc made.value
-        ≡ headed (by_binder scope.old) (proc p.now) (with_sorts scope.old (proc q.now))) }
+        ≡ headed (by_binder (scope_at scope.old (proc p.now))) fresh_var (proc p.now)
+        (with_sorts (scope_at scope.old (proc p.now)) (proc q.now))) }
     ensures same { OnOk result (scope.new ≡ scope.old) }
 {
+    let before = scope.len();
+    bind(alloc, scope, p)?;
     let below = sorted(alloc, scope, q)?;
-    over(alloc, &*scope, p, below)
+    let made = over(alloc, &*scope, p, below)?;
+    scope.cut(before);
+    Ok(made)
 }
 
-// `new x`, as a fresh name.
-#[cycle(sorted)]
-fn sorted_name(alloc: Global, scope: &mut Scope, x: &Var, q: &Process) -> Result<Box<Process>, Mem>
-    ensures made { IfOk result (λ made. proc made.value
-        ≡ act (new (fresh_var x.now)) (with_sorts scope.old (proc q.now))) }
-    ensures same { OnOk result (scope.new ≡ scope.old) }
-{
-    let below = sorted(alloc, scope, q)?;
-    named(alloc, with_sort(alloc, x, Sort::Fresh)?, below)
-}
-
+// A head that two processes follow and that binds nothing, over these.
 #[cycle(sorted)]
 fn sorted_both(
     alloc: Global,
     scope: &mut Scope,
     p: &Process,
     q: &Process,
+    r: &Process,
 ) -> Result<Box<Process>, Mem>
-    ensures made { IfOk result (λ made. proc made.value
-        ≡ parallel (with_sorts scope.old (proc p.now)) (with_sorts scope.old (proc q.now))) }
+    ensures made { IfOk result (λ made. proc made.value ≡ forked (by_binder scope.old) (proc p.now)
+        (with_sorts scope.old (proc q.now)) (with_sorts scope.old (proc r.now))) }
     ensures same { OnOk result (scope.new ≡ scope.old) }
 {
-    let first = sorted(alloc, scope, p)?;
-    let second = sorted(alloc, scope, q)?;
-    side_by_side(alloc, first, second)
-}
-
-#[cycle(sorted)]
-fn sorted_test(
-    alloc: Global,
-    scope: &mut Scope,
-    t: &Term,
-    u: &Term,
-    p: &Process,
-    q: &Process,
-) -> Result<Box<Process>, Mem>
-    ensures made { IfOk result (λ made. proc made.value
-        ≡ with_sorts scope.old (test (tree t.now) (tree u.now) (proc p.now) (proc q.now))) }
-    ensures same { OnOk result (scope.new ≡ scope.old) }
-{
-    let first = sorted(alloc, scope, p)?;
-    let second = sorted(alloc, scope, q)?;
-    testing(alloc, &*scope, t, u, first, second)
+    let first = sorted(alloc, scope, q)?;
+    let second = sorted(alloc, scope, r)?;
+    over_both(alloc, &*scope, p, first, second)
 }
 
 #[cycle(sorted)]
@@ -170,10 +139,12 @@ fn sorted_term(alloc: Global, scope: &Scope, t: &Term) -> Result<Term, Mem>
     ensures { IfOk result (λ r. tree r ≡ instance (by_binder scope.now) (tree t.now)) }
 {
     match t {
-        Term::Var(v) => Ok(Term::Var(sorted_var(alloc, scope, v)?)),
-        Term::Public(n) => Ok(Term::Public(n.copy(alloc)?)),
-        Term::Fresh(k) => Ok(Term::Fresh(*k)),
-        Term::App(f, ts) => Ok(Term::App(f.copy(alloc)?, sorted_terms(alloc, scope, ts)?)),
+        Term::Var(v) => sorted_leaf(alloc, scope, v),
+        Term::Public(_) | Term::Fresh(_) => t.copy(alloc),
+        Term::App(f, ts) => {
+            let args = sorted_terms(alloc, scope, ts)?;
+            applied(alloc, f, args)
+        }
     }
 }
 
@@ -187,6 +158,22 @@ fn sorted_terms(alloc: Global, scope: &Scope, ts: &TermList) -> Result<TermList,
         out.push(sorted_term(alloc, scope, ts.at(k))?)?;
     }
     Ok(out)
+}
+
+// The symbol on these terms.
+fn applied(alloc: Global, f: &Name, ts: TermList) -> Result<Term, Mem>
+    ensures { IfOk result (λ t. tree t ≡ apply f.now (trees_of ts)) }
+{
+    let f = f.copy(alloc)?;
+    Ok(Term::App(f, ts))
+}
+
+// The variable with the sort of its binder, as a term.
+fn sorted_leaf(alloc: Global, scope: &Scope, v: &Var) -> Result<Term, Mem>
+    ensures { IfOk result (λ t. tree t ≡ by_binder scope.now v.now) }
+{
+    let w = sorted_var(alloc, scope, v)?;
+    Ok(Term::Var(w))
 }
 
 // The variable with the sort of its binder.

@@ -2,12 +2,12 @@
 ghost use Rattle.std.specs.Prelude.{◌≡◌, false, IfOk};
 ghost use Rattle.sap_terms.specs.Subst.{bound_to};
 ghost use Rattle.sap_terms.specs.View.{tree};
-ghost use Rattle.sap_process.specs.Headed.{headed};
+ghost use Rattle.sap_process.specs.code.Headed.{headed, forked};
 ghost use Rattle.sap_process.specs.Instance.{process_instance, without};
-ghost use Rattle.sap_process.specs.Proc.{proc, parallel, act, test, lookup};
+ghost use Rattle.sap_process.specs.Proc.{proc, lookup};
 
 use crate::Process;
-use crate::replacing::{Replacing, ended, looking_up, over, side_by_side, testing};
+use crate::replacing::{Replacing, ended, looking_up, over, over_both};
 use sap_terms::{Bindings, Copied, Mem, Term, Var, subst};
 use std::alloc::Global;
 
@@ -26,8 +26,14 @@ pub fn substitute(alloc: Global, p: &Process, b: &Bindings) -> Result<Process, M
 impl Replacing for Bindings {
     ghost choice = { bound_to };
 
+    ghost bound = { λ b x. x };
+
     fn replaced(&self, alloc: Global, t: &Term) -> Result<Term, Mem> {
         subst(alloc, t, self)
+    }
+
+    fn bound(&self, alloc: Global, x: &Var) -> Result<Var, Mem> {
+        x.copy(alloc)
     }
 }
 
@@ -38,8 +44,7 @@ pub(crate) fn replaced(alloc: Global, p: &Process, b: &Bindings) -> Result<Box<P
 {
     match p {
         Process::Nil => ended(alloc),
-        Process::Par(p, q) => replaced_both(alloc, p, q, b),
-        Process::If(t, u, p, q) => replaced_test(alloc, t, u, p, q, b),
+        Process::Par(q, r) | Process::If(_, _, q, r) => replaced_both(alloc, p, q, r, b),
         Process::Lookup(t, x, p, q) => replaced_lookup(alloc, t, x, p, q, b),
         Process::New(x, q) => replaced_name(alloc, p, x, q, b),
         Process::Rep(q)
@@ -60,7 +65,7 @@ pub(crate) fn replaced(alloc: Global, p: &Process, b: &Bindings) -> Result<Box<P
 #[cycle(replaced)]
 fn replaced_over(alloc: Global, p: &Process, q: &Process, b: &Bindings) -> Result<Box<Process>, Mem>
     ensures { IfOk result (λ made. proc made.value
-        ≡ headed (bound_to b.now) (proc p.now) (process_instance (bound_to b.now) (proc q.now))) }
+        ≡ headed (bound_to b.now) (λ x. x) (proc p.now) (process_instance (bound_to b.now) (proc q.now))) }
 {
     let below = replaced(alloc, q, b)?;
     over(alloc, b, p, below)
@@ -76,37 +81,27 @@ fn replaced_name(
     b: &Bindings,
 ) -> Result<Box<Process>, Mem>
     ensures { IfOk result (λ made. proc made.value
-        ≡ headed (bound_to b.now) (proc p.now) (process_instance (without (bound_to b.now) x.now) (proc q.now))) }
+        ≡ headed (bound_to b.now) (λ x. x) (proc p.now) (process_instance (without (bound_to b.now) x.now) (proc q.now))) }
 {
     let below = replaced_below(alloc, q, x, b)?;
     over(alloc, b, p, below)
 }
 
+// The same of a head that two processes follow and that binds nothing.
 #[cycle(replaced)]
-fn replaced_both(alloc: Global, p: &Process, q: &Process, b: &Bindings) -> Result<Box<Process>, Mem>
-    ensures { IfOk result (λ made. proc made.value ≡ parallel
-        (process_instance (bound_to b.now) (proc p.now)) (process_instance (bound_to b.now) (proc q.now))) }
-{
-    let first = replaced(alloc, p, b)?;
-    let second = replaced(alloc, q, b)?;
-    side_by_side(alloc, first, second)
-}
-
-#[cycle(replaced)]
-fn replaced_test(
+fn replaced_both(
     alloc: Global,
-    t: &Term,
-    u: &Term,
     p: &Process,
     q: &Process,
+    r: &Process,
     b: &Bindings,
 ) -> Result<Box<Process>, Mem>
-    ensures { IfOk result (λ made. proc made.value
-        ≡ process_instance (bound_to b.now) (test (tree t.now) (tree u.now) (proc p.now) (proc q.now))) }
+    ensures { IfOk result (λ made. proc made.value ≡ forked (bound_to b.now) (proc p.now)
+        (process_instance (bound_to b.now) (proc q.now)) (process_instance (bound_to b.now) (proc r.now))) }
 {
-    let first = replaced(alloc, p, b)?;
-    let second = replaced(alloc, q, b)?;
-    testing(alloc, b, t, u, first, second)
+    let first = replaced(alloc, q, b)?;
+    let second = replaced(alloc, r, b)?;
+    over_both(alloc, b, p, first, second)
 }
 
 // The same of `lookup M as x`, in whose first branch the variables named x stay.

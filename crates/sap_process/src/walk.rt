@@ -1,16 +1,16 @@
-//! The search for the first place that has a flaw.
-ghost use Rattle.std.specs.Prelude.{◌≡◌, ◌+◌, ◌<◌, [], ◌∷◌, ◌++◌, IfOk, OnOk};
+//! The search for the flaw that counts.
+ghost use Rattle.std.specs.Prelude.{◌≡◌, ◌+◌, [], ◌∷◌, ◌++◌, IfOk, OnOk};
 ghost use Rattle.sap_terms.specs.Path.{IsDigit};
 ghost use Rattle.sap_process.specs.Proc.{proc};
 ghost use Rattle.sap_process.specs.Flaws.{scope_at};
-ghost use Rattle.sap_process.specs.Places.{head_locks, site, sites_below};
-ghost use Rattle.sap_process.specs.Searches.{Searched};
+ghost use Rattle.sap_process.specs.code.Places.{head_locks, site, sites_below};
+ghost use Rattle.sap_process.specs.code.Searches.{searched};
 ghost use Rattle.sap_process.specs.Sites.{sites, sites_from, message_var};
-ghost use Rattle.sap_process.specs.Tests.{has_flaw};
-ghost use Rattle.sap_process.specs.Walks.{first_place, seen_at, unseen};
+ghost use Rattle.sap_process.specs.code.Tests.{has_flaw, lacking};
+ghost use Rattle.sap_process.specs.code.Walks.{first_flaw, found_at, unmet};
 
+use crate::found::Found;
 use crate::heads::{has_pattern_destructor, has_reserved_fact, has_reserved_var, is_bad_head};
-use crate::met::Seen;
 use crate::naming::{bind, has_sort_clash, has_unbound, is_rebound, with_sort};
 use crate::scope::Scope;
 use crate::trail::Trail;
@@ -18,39 +18,45 @@ use crate::{Flaw, Process};
 use sap_terms::{Mem, Path, Signature, Sort, Var};
 use std::alloc::Global;
 
-// Where a walk in preorder that looks for a flaw stands: the path of the place, what is in scope there, and the facts met
-// before.
+// Where a walk in preorder stands: the path of the place, what is in scope there, and what was found before.
 #[derive(Drop)]
 struct Walk {
-    which: Flaw,
     trail: Trail,
     scope: Scope,
-    seen: Seen,
+    found: Found,
 }
 
-// The path of the first place that has the flaw.
-pub(crate) fn first_place(
+// The first of the flaws that a place has, with the path of the first place that has it. One walk tests each place for the
+// flaws that would count before the one found so far.
+pub(crate) fn first_flaw(
     alloc: Global,
     sig: &Signature,
-    which: Flaw,
     p: &Process,
-) -> Result<Option<Path>, Mem>
-    ensures { IfOk result (λ o. o ≡ first_place sig.now which unseen (sites (proc p.now))) }
+    flaws: &[Flaw],
+) -> Result<Option<(Flaw, Path)>, Mem>
+    ensures { IfOk result (λ o. o ≡ first_flaw sig.now flaws.now (sites (proc p.now))) }
 {
-    let mut walk = Walk {
-        which,
-        trail: Trail::new(alloc),
-        scope: Scope::new(alloc),
-        seen: Seen::new(alloc),
-    };
-    if search(alloc, sig, &mut walk, 0, p)? {
-        let path = walk.trail.path(alloc)?;
-        return Ok(Some(path));
-    }
-    Ok(None)
+    let mut walk = at_the_root(alloc, flaws)?;
+    search(alloc, sig, &mut walk, 0, p)?;
+    walk.found.answer(alloc, flaws)
 }
 
-// Searches the places from this one on.
+// A walk that has met no place.
+fn at_the_root(alloc: Global, flaws: &[Flaw]) -> Result<Box<Walk>, Mem>
+    ensures { IfOk result (λ w. w.value ≡ record { trail = []; scope = []; found = unmet flaws.now }) }
+{
+    let found = Found::nothing(alloc, flaws)?;
+    Ok(Box::new(
+        alloc,
+        Walk {
+            trail: Trail::new(alloc),
+            scope: Scope::new(alloc),
+            found,
+        },
+    )?)
+}
+
+// Meets the places from this one on.
 #[cycle(search)]
 fn search(
     alloc: Global,
@@ -58,18 +64,15 @@ fn search(
     walk: &mut Walk,
     locks: u64,
     p: &Process,
-) -> Result<bool, Mem>
-    ensures { IfOk result (λ b. Searched sig.now
-        (sites_from walk.old.trail walk.old.scope locks (proc p.now))
-        walk.old walk.new b) }
+) -> Result<(), Mem>
+    ensures { OnOk result (walk.new ≡ searched sig.now walk.old
+        (sites_from walk.old.trail walk.old.scope locks (proc p.now))) }
 {
-    if is_flawed(alloc, sig, walk, locks, p)? {
-        return Ok(true);
-    }
+    meet(alloc, sig, walk, locks, p)?;
     search_below(alloc, sig, walk, locks, p)
 }
 
-// Searches the places below this one.
+// Meets the places below this one.
 #[cycle(search)]
 fn search_below(
     alloc: Global,
@@ -77,13 +80,12 @@ fn search_below(
     walk: &mut Walk,
     locks: u64,
     p: &Process,
-) -> Result<bool, Mem>
-    ensures { IfOk result (λ b. Searched sig.now
-        (sites_below walk.old.trail walk.old.scope locks (proc p.now))
-        walk.old walk.new b) }
+) -> Result<(), Mem>
+    ensures { OnOk result (walk.new ≡ searched sig.now walk.old
+        (sites_below walk.old.trail walk.old.scope locks (proc p.now))) }
 {
     match p {
-        Process::Nil => Ok(false),
+        Process::Nil => Ok(()),
         Process::Par(q, r) | Process::If(_, _, q, r) => {
             search_both(alloc, sig, walk, locks, q, r)
         }
@@ -103,7 +105,7 @@ fn search_below(
     }
 }
 
-// Searches the places of the two children.
+// Meets the places of the two children.
 #[cycle(search)]
 fn search_both(
     alloc: Global,
@@ -112,20 +114,17 @@ fn search_both(
     locks: u64,
     q: &Process,
     r: &Process,
-) -> Result<bool, Mem>
-    ensures { IfOk result (λ b. Searched sig.now
+) -> Result<(), Mem>
+    ensures { OnOk result (walk.new ≡ searched sig.now walk.old
         (sites_from (walk.old.trail ++ 1 ∷ []) walk.old.scope locks (proc q.now)
-        ++ sites_from (walk.old.trail ++ 2 ∷ []) walk.old.scope locks (proc r.now))
-        walk.old walk.new b) }
+        ++ sites_from (walk.old.trail ++ 2 ∷ []) walk.old.scope locks (proc r.now))) }
 {
-    if search_child(alloc, sig, walk, 1, locks, q)? {
-        return Ok(true);
-    }
-    let found = search_child(alloc, sig, walk, 2, locks, r)?;
-    Ok(found)
+    search_child(alloc, sig, walk, 1, locks, q)?;
+    search_child(alloc, sig, walk, 2, locks, r)?;
+    Ok(())
 }
 
-// Searches the places of the two branches of `lookup`, the first with its binder.
+// Meets the places of the two branches of `lookup`, the first with its binder.
 #[cycle(search)]
 fn search_branches(
     alloc: Global,
@@ -135,20 +134,17 @@ fn search_branches(
     locks: u64,
     q: &Process,
     r: &Process,
-) -> Result<bool, Mem>
-    ensures { IfOk result (λ b. Searched sig.now
+) -> Result<(), Mem>
+    ensures { OnOk result (walk.new ≡ searched sig.now walk.old
         (sites_from (walk.old.trail ++ 1 ∷ []) (walk.old.scope ++ message_var x.now ∷ []) locks (proc q.now)
-        ++ sites_from (walk.old.trail ++ 2 ∷ []) walk.old.scope locks (proc r.now))
-        walk.old walk.new b) }
+        ++ sites_from (walk.old.trail ++ 2 ∷ []) walk.old.scope locks (proc r.now))) }
 {
-    if search_with(alloc, sig, walk, x, locks, q)? {
-        return Ok(true);
-    }
-    let found = search_child(alloc, sig, walk, 2, locks, r)?;
-    Ok(found)
+    search_with(alloc, sig, walk, x, locks, q)?;
+    search_child(alloc, sig, walk, 2, locks, r)?;
+    Ok(())
 }
 
-// Searches the places of the child with what the head of its parent binds.
+// Meets the places of the child with what the head of its parent binds.
 #[cycle(search)]
 fn search_bound(
     alloc: Global,
@@ -157,23 +153,20 @@ fn search_bound(
     p: &Process,
     locks: u64,
     q: &Process,
-) -> Result<bool, Mem>
-    ensures { IfOk result (λ b. Searched sig.now
+) -> Result<(), Mem>
+    ensures { OnOk result (walk.new ≡ searched sig.now walk.old
         (sites_from (walk.old.trail ++ 1 ∷ []) (scope_at walk.old.scope (proc p.now))
-        (locks + head_locks (proc p.now)) (proc q.now))
-        walk.old walk.new b) }
+        (locks + head_locks (proc p.now)) (proc q.now))) }
 {
     let before = walk.scope.len();
     bind(alloc, &mut walk.scope, p)?;
     let locks = locks_below(p, locks)?;
-    if search_child(alloc, sig, walk, 1, locks, q)? {
-        return Ok(true);
-    }
+    search_child(alloc, sig, walk, 1, locks, q)?;
     walk.scope.cut(before);
-    Ok(false)
+    Ok(())
 }
 
-// Searches the places of the first branch of `lookup`, with its binder.
+// Meets the places of the first branch of `lookup`, with its binder.
 #[cycle(search)]
 fn search_with(
     alloc: Global,
@@ -182,21 +175,18 @@ fn search_with(
     x: &Var,
     locks: u64,
     q: &Process,
-) -> Result<bool, Mem>
-    ensures { IfOk result (λ b. Searched sig.now
-        (sites_from (walk.old.trail ++ 1 ∷ []) (walk.old.scope ++ message_var x.now ∷ []) locks (proc q.now))
-        walk.old walk.new b) }
+) -> Result<(), Mem>
+    ensures { OnOk result (walk.new ≡ searched sig.now walk.old
+        (sites_from (walk.old.trail ++ 1 ∷ []) (walk.old.scope ++ message_var x.now ∷ []) locks (proc q.now))) }
 {
     let outside = walk.scope.len();
     walk.scope.push(alloc, with_sort(alloc, x, Sort::Msg)?)?;
-    if search_child(alloc, sig, walk, 1, locks, q)? {
-        return Ok(true);
-    }
+    search_child(alloc, sig, walk, 1, locks, q)?;
     walk.scope.cut(outside);
-    Ok(false)
+    Ok(())
 }
 
-// Searches the places of the child of this digit.
+// Meets the places of the child of this digit.
 #[cycle(search)]
 fn search_child(
     alloc: Global,
@@ -205,43 +195,74 @@ fn search_child(
     digit: u8,
     locks: u64,
     q: &Process,
-) -> Result<bool, Mem>
+) -> Result<(), Mem>
     requires { IsDigit digit }
-    ensures { IfOk result (λ b. Searched sig.now
-        (sites_from (walk.old.trail ++ digit ∷ []) walk.old.scope locks (proc q.now))
-        walk.old walk.new b) }
+    ensures { OnOk result (walk.new ≡ searched sig.now walk.old
+        (sites_from (walk.old.trail ++ digit ∷ []) walk.old.scope locks (proc q.now))) }
 {
     walk.trail.push(digit)?;
-    if search(alloc, sig, walk, locks, q)? {
-        return Ok(true);
-    }
+    search(alloc, sig, walk, locks, q)?;
     walk.trail.pop();
-    Ok(false)
+    Ok(())
 }
 
-// Whether the place has the flaw. Its facts are noted.
+// Meets the place itself.
+fn meet(alloc: Global, sig: &Signature, walk: &mut Walk, locks: u64, p: &Process) -> Result<(), Mem>
+    ensures { OnOk result (walk.new ≡ record walk.old {
+      found = found_at sig.now walk.old.found
+          (site walk.old.trail walk.old.scope locks (proc p.now));
+    }) }
+{
+    let clash = walk.found.seen.note(alloc, p)?;
+    let flaws = walk.found.sought.as_slice();
+    let free = lacking(alloc, sig, &mut walk.scope, flaws, locks, clash, p)?;
+    walk.found.settle(alloc, free, &walk.trail)
+}
+
+// How many of these flaws stand before the first that the place has.
+fn lacking(
+    alloc: Global,
+    sig: &Signature,
+    scope: &mut Scope,
+    flaws: &[Flaw],
+    locks: u64,
+    clash: bool,
+    p: &Process,
+) -> Result<u64, Mem>
+    ensures free { IfOk result (λ k. k ≡ lacking sig.now clash scope.old locks (proc p.now) flaws.now) }
+    ensures same { OnOk result (scope.new ≡ scope.old) }
+{
+    for k in 0..flaws.len() {
+        if is_flawed(alloc, sig, scope, flaws[k], locks, clash, p)? {
+            return Ok(k as u64);
+        }
+    }
+    Ok(flaws.len() as u64)
+}
+
+// Whether the place has the flaw, where a fact there clashes with an earlier one or not.
 fn is_flawed(
     alloc: Global,
     sig: &Signature,
-    walk: &mut Walk,
+    scope: &mut Scope,
+    which: Flaw,
     locks: u64,
+    clash: bool,
     p: &Process,
 ) -> Result<bool, Mem>
-    ensures found { IfOk result (λ b. b ≡ has_flaw sig.now walk.old.which walk.old.seen.stored walk.old.seen.shown
-        (site walk.old.trail walk.old.scope locks (proc p.now))) }
-    ensures noted { OnOk result (walk.new ≡ record walk.old { seen = seen_at walk.old.seen (proc p.now) }) }
+    ensures found { IfOk result (λ b. b ≡ has_flaw sig.now which clash scope.old locks (proc p.now)) }
+    ensures same { OnOk result (scope.new ≡ scope.old) }
 {
-    let clash = walk.seen.note(alloc, p)?;
-    match walk.which {
+    match which {
         Flaw::BadFunction => Ok(is_bad_head(sig, p)),
-        Flaw::ReservedVar => has_reserved_var(alloc, p),
+        Flaw::ReservedVar => Ok(has_reserved_var(scope, p)),
         Flaw::ReservedFact => Ok(has_reserved_fact(p)),
         Flaw::FactClash => Ok(clash),
         Flaw::PatternDestructor => Ok(has_pattern_destructor(sig, p)),
-        Flaw::Unbound => has_unbound(alloc, &mut walk.scope, p),
-        Flaw::Rebound => Ok(is_rebound(&walk.scope, p)),
-        Flaw::SortClash => has_sort_clash(alloc, &mut walk.scope, p),
-        Flaw::ScopeFull => Ok(walk.scope.len().saturating_add(locks) > 64),
+        Flaw::Unbound => has_unbound(alloc, scope, p),
+        Flaw::Rebound => Ok(is_rebound(scope, p)),
+        Flaw::SortClash => has_sort_clash(alloc, scope, p),
+        Flaw::ScopeFull => Ok(scope.len().saturating_add(locks) > 64),
     }
 }
 

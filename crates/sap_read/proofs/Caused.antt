@@ -15,9 +15,12 @@ use Rattle.sap_read.specs.Causes.{first_of, unlabelled, labels, unknown_from, fi
 use Rattle.sap_read.specs.code.Drafts.{written, body}
 use Rattle.sap_read.specs.code.Meaning.{meaning_of, AreMeant, nodes_in, levels_in, IsCounted, AreCounted, AreTargets, IsExpanded, AreExpanded, size_fault}
 use Rattle.sap_read.proofs.Kept.{nodes_counted, levels_counted}
-use Rattle.sap_read.proofs.Levels.{uncut}
 use Rattle.sap_read.proofs.Meaning.{AreFresh, fixed, process_fixed}
 use Rattle.sap_terms.specs.declared.limits.TheConstants.{MOST_PROCESS_LEVELS, MOST_PROCESS_PLACES}
+
+-- a number that is small enough not to have been cut
+uncut : (n cut most : ℕ) → min n cut ≤ most → most < cut → n ≤ most
+uncut n cut most le lt = omega (arith, le, lt)
 
 -- no name is known before the first process
 nothing_known : (bs : List Body) → AreFresh [] bs
@@ -42,7 +45,7 @@ all_expanded es names known distinct counted targets x = by (get bytes_eq names 
 pub no_process : (bs : List Body) (clash : Option (List ℕ)) → unlabelled bs ≡ [] → cause bs clash ≡ Some NoProcess
 no_process bs clash e = rw e refl
 
-pub two_processes : (bs cs : List Body) (b c : Body) (clash : Option (List ℕ)) → unlabelled bs ≡ b ∷ c ∷ cs → cause bs clash ≡ Some (TwoProcesses c.place)
+pub two_processes : (bs cs : List Body) (b c : Body) (clash : Option (List ℕ)) → unlabelled bs ≡ b ∷ c ∷ cs → cause bs clash ≡ Some (TwoProcesses c.line)
 two_processes bs cs b c clash e = rw e refl
 
 -- where nothing else is wrong, the size of the process decides

@@ -1,7 +1,7 @@
 -- Words are cut into items in one way.
 use Rattle.std.proofs.Common.{◌≡◌, ◌+◌, ℕ, suc, Bool, true, false, List, [], ◌∷◌, ◌++◌, take, drop, refl, sym, ap, ◌∙◌, arith}
 use Rattle.std.specs.Prelude.{if◌then◌else◌}
-use Rattle.sap_read.specs.Words.{Word, name, mark}
+use Rattle.sap_grammar.specs.Words.{Word, name, mark}
 use Rattle.sap_read.specs.Cut.{Placed, begins_item, NoItemWord, StartsItem, IsCut, cut_none, cut_one, IsHeader}
 use Rattle.sap_read.specs.code.ItemReading.{count_on, joined, starts_item, cut}
 

@@ -5,14 +5,14 @@ use Rattle.std.proofs.lemmas.List.{length-drop, map-append}
 use Rattle.sap_terms.specs.declared.signature.Symbol.{Symbol}
 use Rattle.sap_terms.specs.declared.signature.Builtin.{Builtin}
 use Rattle.sap_text.specs.declared.token.Token.{Token}
-use Rattle.sap_read.specs.Words.{Word, words_of, starts}
+use Rattle.sap_grammar.specs.Words.{Word, words_of, starts}
+use Rattle.sap_grammar.specs.Reading.{Read, Reader, given}
 use Rattle.sap_read.specs.Item.{Declaration, of_builtin, of_symbol}
 use Rattle.sap_read.specs.ItemGrammar.{value_from, value, IsBuiltin, IsSymbol}
-use Rattle.sap_read.specs.code.Reading.{Read, Reader, given}
 use Rattle.sap_read.specs.code.ItemReading.{arity_of_digits, builtin_at, symbol_at, mapped, declaration_at, is_over, in_front, whole_list}
 use Rattle.sap_read.specs.declared.declaration.Declaration as code
 use Rattle.sap_read.specs.code.ItemView.{declaration}
-use Rattle.sap_read.proofs.Sound.{OnRead}
+use Rattle.sap_read.proofs.OnRead.{OnRead}
 use Rattle.sap_read.proofs.Steps.{words-drop, length-words}
 use Rattle.sap_read.proofs.ItemWords.{builtin_shorter, builtin_sound, symbol_shorter, symbol_sound}
 use Rattle.sap_terms.specs.declared.limits.TheConstants.{MOST_ARITY}
@@ -103,6 +103,12 @@ module _ (u : Reader Declaration) where
 front_push : (xs : List Declaration) (x : Declaration) (o : Option (List Declaration)) → in_front xs (in_front (x ∷ []) o) ≡ in_front (xs ++ (x ∷ [])) o
 front_push xs x None = refl
 front_push xs x (Some ys) = ap (λ (y : List Declaration). Some y) (sym (append_assoc xs (x ∷ []) ys))
+
+pub front_none : (o : Option (List Declaration)) → in_front [] o ≡ o
+front_none None = refl
+front_none (Some ds) = refl
+
+pub ruleset front_nothing = (front_none)
 
 -- one turn of the loop, where `xs` was read before the tokens `ts`, and `all` is what reading all of them gives
 module _ (c : Bool) (z : List ℕ) (ts : List Token) (xs : List Declaration) (n : ℕ) (all : Option (List Declaration)) (long : length ts < n)

@@ -3,8 +3,8 @@ use Rattle.std.proofs.Common.{◌≡◌, ◌-◌, ℕ, suc, Bool, true, false, �
 use Rattle.std.proofs.lemmas.Slice.Eq.{bytes_eq-Decides}
 use Rattle.std.specs.Prelude.{codes, if◌then◌else◌, slice_get}
 use Rattle.sap_text.specs.declared.token.Token.{Token}
-use Rattle.sap_read.specs.Words.{Word, mark, name, number, quoted, is_mark, word_of, words_of}
-use Rattle.sap_read.specs.code.Reading.{as_name}
+use Rattle.sap_grammar.specs.Words.{Word, mark, name, number, quoted, is_mark, word_of, words_of}
+use Rattle.sap_grammar.specs.Reading.{as_name}
 use Rattle.sap_read.specs.Cut.{Placed, placed, words, IsHeader, last_line}
 use Rattle.sap_read.specs.code.Judged.{header_of}
 

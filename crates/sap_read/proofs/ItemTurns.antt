@@ -5,7 +5,8 @@ use Rattle.std.proofs.lemmas.List.{take-map, drop-map, map-append}
 use Rattle.sap_terms.specs.declared.mem.Mem.{Mem}
 use Rattle.sap_terms.specs.Signature.{Sig, pairs_alone}
 use Rattle.sap_text.specs.declared.token.Token.{Token}
-use Rattle.sap_read.specs.Words.{Word, mark, name, word_of, words_of, starts}
+use Rattle.sap_grammar.specs.Words.{Word, mark, name, word_of, words_of, starts}
+use Rattle.sap_grammar.specs.Reading.{name_at}
 use Rattle.sap_read.specs.Written.{Written}
 use Rattle.sap_read.specs.Item.{Item, definition, process, Standing, Declaration, bodies, declarations}
 use Rattle.sap_read.specs.Cut.{Placed, placed, words, first_line, IsCut}
@@ -13,11 +14,10 @@ use Rattle.sap_read.specs.ItemGrammar.{IsProcess, IsItem, IsEnd, AreItems, IsSom
 use Rattle.sap_read.specs.Signatures.{clash_with, with_declaration, signature_from, signature_of, clash_from}
 use Rattle.sap_read.specs.declared.draft.Definition.{Definition}
 use Rattle.sap_read.specs.code.Drafts.{body}
-use Rattle.sap_read.specs.code.Reading.{name_at}
 use Rattle.sap_read.specs.code.ItemReading.{count_on, cut, kept, declared_in, declared_in_all, told}
 use Rattle.sap_read.specs.declared.declaration.Declaration as code
 use Rattle.sap_read.specs.code.ItemView.{declaration, IsItemOf, IsAdded}
-use Rattle.sap_read.proofs.Sound.{starts_is, name_is}
+use Rattle.sap_read.proofs.OnRead.{starts_is, name_is}
 use Rattle.sap_read.proofs.Steps.{words-drop}
 use Rattle.sap_read.proofs.Cuts.{cut_is, cut_step}
 use Rattle.sap_read.proofs.ItemsRead.{builtins_declared, symbols_declared, declared_are, declared_sound}
@@ -170,7 +170,7 @@ process_spelled (w ∷ v ∷ ws) s e =
 
 pub definition_read : (g : Sig) (z : List ℕ) (ts : List Token) (x : List ℕ) (p : Written) (line : ℕ) → starts (codes "let") (words_of z ts) ≡ true → name_at (drop 1 (words_of z ts)) ≡ Some x
     → starts (codes "=") (drop 2 (words_of z ts)) ≡ true → IsProcess g p (drop 3 (words_of z ts)) → line ≡ first_line (placed z ts)
-    → IsItemOf g z ts (record { label = Some x; content = p; place = line } ∷ [])
+    → IsItemOf g z ts (record { label = Some x; content = p; line = line } ∷ [])
 definition_read g z ts x p line s n e r l = record {
   item = definition x p;
   spelled = subst (λ (w : List Word). IsItem g (definition x p) w) (sym (definition_spelled (words_of z ts) x s n e)) (item_definition r);
@@ -179,7 +179,7 @@ definition_read g z ts x p line s n e r l = record {
 
 pub process_read : (g : Sig) (z : List ℕ) (ts : List Token) (p : Written) (line : ℕ) → starts (codes "process") (words_of z ts) ≡ true → starts (codes ":") (drop 1 (words_of z ts)) ≡ true
     → IsProcess g p (drop 2 (words_of z ts)) → line ≡ first_line (placed z ts)
-    → IsItemOf g z ts (record { label = None; content = p; place = line } ∷ [])
+    → IsItemOf g z ts (record { label = None; content = p; line = line } ∷ [])
 process_read g z ts p line s e r l = record {
   item = process p;
   spelled = subst (λ (w : List Word). IsItem g (process p) w) (sym (process_spelled (words_of z ts) s e)) (item_process r);

@@ -4,11 +4,11 @@ use Rattle.std.specs.Prelude.{codes, if◌then◌else◌, ◌&&◌, nat_le, map,
 use Rattle.sap_terms.specs.declared.signature.Symbol.{Symbol}
 use Rattle.sap_terms.specs.declared.signature.Builtin.{Builtin}
 use Rattle.sap_terms.specs.declared.signature.Builtin.TheVariants.{Hashing, Symmetric, Asymmetric, Signing, RevealingSigning}
-use Rattle.sap_read.specs.Words.{Word, mark, name, number, quoted, starts, is_lower}
+use Rattle.sap_grammar.specs.Words.{Word, mark, name, number, quoted, starts, is_lower}
+use Rattle.sap_grammar.specs.Reading.{Read, Reader, given, name_at, names, number_at}
 use Rattle.sap_read.specs.ItemGrammar.{value, IsBuiltin, AreBuiltins, IsSymbol, AreSymbols, spells_hashing, spells_symmetric, spells_asymmetric, spells_signing, spells_revealing, builtins_last, builtins_more, spells_public, spells_private, symbols_last, symbols_more}
-use Rattle.sap_read.specs.code.Reading.{Read, Reader, given, name_at}
-use Rattle.sap_read.specs.code.ItemReading.{names, is_joined, builtin_at, number_at, arity_of_digits, small_value, arity_at, is_private, with_privacy, symbol_at, mapped, is_over, on_read, in_front, whole_list}
-use Rattle.sap_read.proofs.Sound.{Says, OnRead, given_on, if_on, same_bytes, starts_is, name_is}
+use Rattle.sap_read.specs.code.ItemReading.{is_joined, builtin_at, arity_of_digits, small_value, arity_at, is_private, with_privacy, symbol_at, mapped, is_over, on_read, in_front, whole_list}
+use Rattle.sap_read.proofs.OnRead.{Says, OnRead, given_on, if_on, same_bytes, starts_is, name_is}
 use Rattle.sap_terms.specs.declared.limits.TheConstants.{MOST_ARITY}
 
 -- What is spelled so is read.

@@ -4,16 +4,17 @@ use Rattle.std.specs.Prelude.{codes, if◌then◌else◌, map, option_map}
 use Rattle.sap_terms.specs.declared.signature.Symbol.{Symbol}
 use Rattle.sap_terms.specs.declared.signature.Builtin.{Builtin}
 use Rattle.sap_terms.specs.Signature.{Sig}
-use Rattle.sap_read.specs.Words.{Word, mark, starts}
+use Rattle.sap_grammar.specs.Words.{Word, mark, starts}
 use Rattle.sap_read.specs.Written.{Written}
 use Rattle.sap_read.specs.ProcessGrammar.{IsPar, EndsProcess}
 use Rattle.sap_read.specs.Item.{Item, builtins, functions, definition, process, Standing, Declaration, of_builtin, of_symbol, declared_by, declarations, body_of}
 use Rattle.sap_read.specs.Cut.{Placed, words}
 use Rattle.sap_read.specs.ItemGrammar.{AreBuiltins, AreSymbols, IsProcess, IsItem, IsEnd, AreItems, IsFaulty, item_builtins, item_functions, item_definition, item_process, items_end, items_more, no_end, bad_item, later_item}
 use Rattle.sap_read.specs.code.ItemReading.{builtin_at, symbol_at, declaration_at, whole_list, behind_colon, declared_in, told, declared_in_all}
-use Rattle.sap_read.proofs.Sound.{starts_is}
+use Rattle.sap_read.proofs.OnRead.{starts_is}
 use Rattle.sap_read.proofs.ItemWords.{builtins_read, symbols_read, builtins_sound, symbols_sound, list_mapped}
-use Rattle.sap_terms.specs.declared.limits.TheConstants.{MOST_TERM_LEVELS}
+use Rattle.sap_read.specs.declared.limits.TheConstants.{FILE_LIMITS}
+use Rattle.sap_grammar.specs.declared.limits.Limits.{Limits}
 
 pub builtins_declared : {bs : List Builtin} {a : List Word} → AreBuiltins bs a → (n : ℕ) → length a ≤ n → whole_list (declaration_at true) n a ≡ Some (map of_builtin bs)
 builtins_declared {a = a} r n le = list_mapped of_builtin builtin_at n a ∙ ap (λ (o : Option (List Builtin)). option_map (map of_builtin) o) (builtins_read r n le)
@@ -127,12 +128,12 @@ one_fault last n k cut (later_item s r) (bad_item a b) = absurd (a s)
 one_fault last n k cut (later_item {is = is} s r) (later_item t q) = one_fault last n k is r q
 
 -- where words spell at most one process that nothing of it follows
-module _ (one_process : (g : Sig) (m n k : ℕ) (p q : Written) (a b c : List Word) → IsPar g m p n a b → IsPar g m q k a c → EndsProcess b → EndsProcess c
+module _ (one_process : (g : Sig) (m : Limits) (n k : ℕ) (p q : Written) (a b c : List Word) → IsPar g m p n a b → IsPar g m q k a c → EndsProcess b → EndsProcess c
     → (p ≡ q) × (n ≡ k) × (b ≡ c)) where
   one_whole : (g : Sig) (p q : Written) (a : List Word) → IsProcess g p a → IsProcess g q a → p ≡ q
   one_whole g p q a r s =
       let ends : EndsProcess [] = record { no_parenthesis = refl; no_semicolon = refl; no_else = refl; no_bar = refl; no_bars = refl } in
-      (one_process g MOST_TERM_LEVELS r.levels s.levels p q a [] [] r.spelled s.spelled ends ends).0
+      (one_process g FILE_LIMITS r.levels s.levels p q a [] [] r.spelled s.spelled ends ends).0
 
   one_item : {g : Sig} {u v : Item} {a : List Word} → IsItem g u a → IsItem g v a → u ≡ v
   one_item (item_builtins {bs = bs} {a = a} r) (item_builtins {bs = cs} s) =

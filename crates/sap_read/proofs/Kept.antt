@@ -18,7 +18,7 @@ use Rattle.sap_read.specs.Written.{Written, nil, call, parallel, replicated, act
 use Rattle.sap_read.specs.Replaced.{calls, replaced, after_body, no_meaning}
 use Rattle.sap_read.specs.Causes.{first_of, listed, is_among, unknown_from}
 use Rattle.sap_read.specs.code.Drafts.{written, body}
-use Rattle.sap_read.specs.code.Meaning.{meaning, AreMeant, nodes_kept, nodes_in, levels_kept, levels_in, unknown_among, place_kept, target, meant, kept_behind, IsCounted, AreCounted, is_call, IsTarget, AreBehind}
+use Rattle.sap_read.specs.code.Meaning.{meaning, AreMeant, nodes_kept, nodes_in, levels_kept, levels_in, unknown_among, index_kept, target, meant, kept_behind, IsCounted, AreCounted, is_call, IsTarget, AreBehind}
 
 -- the first unknown name of two lists
 pub unknown_append : {S : Type 0} (names : IndexMap (List ℕ) Meant S) (xs ys : List (List ℕ)) → unknown_among names (xs ++ ys) ≡ (if is_some (unknown_among names xs) then unknown_among names xs else unknown_among names ys)
@@ -133,7 +133,7 @@ known_call names z h = by (get bytes_eq names z) refl where
   by (Some m) e = (m, e)
 
 -- the target of a process' name
-aimed : {S : Type 0} (names : IndexMap (List ℕ) Meant S) (means : List ℕ → Proc) (es : List Definition) (k : ℕ) (e : Definition) (x : List ℕ) → ((z : List ℕ) (m : Meant) → get bytes_eq names z ≡ Some m → IsTarget means es z m.place) → slice_get es k ≡ Some e → means x ≡ replaced means (written e.draft.value) → unknown_among names (calls (written e.draft.value)) ≡ None → IsTarget means es x (target names k (written e.draft.value))
+aimed : {S : Type 0} (names : IndexMap (List ℕ) Meant S) (means : List ℕ → Proc) (es : List Definition) (k : ℕ) (e : Definition) (x : List ℕ) → ((z : List ℕ) (m : Meant) → get bytes_eq names z ≡ Some m → IsTarget means es z m.index) → slice_get es k ≡ Some e → means x ≡ replaced means (written e.draft.value) → unknown_among names (calls (written e.draft.value)) ≡ None → IsTarget means es x (target names k (written e.draft.value))
 aimed names means es k e x old there is known = by (written e.draft.value) refl where
   here : is_call (written e.draft.value) ≡ false → IsTarget means es x k
   here plain = (e, there, plain, is)
@@ -150,18 +150,18 @@ aimed names means es k e x old there is known = by (written e.draft.value) refl 
       let kept = known_call names z single in
       let it = old z kept.0 kept.1 in
       let same : means x ≡ means z = is ∙ ap (replaced means) q in
-      subst (λ o. IsTarget means es x (place_kept k o)) (sym kept.1) (it.0, it.1, it.2, same ∙ it.3)
+      subst (λ o. IsTarget means es x (index_kept k o)) (sym kept.1) (it.0, it.1, it.2, same ∙ it.3)
 
-targets_more : {S : Type 0} (names : IndexMap (List ℕ) Meant S) (means : List ℕ → Proc) (es : List Definition) (k : ℕ) (e : Definition) → AreMeant means (map body es) → ((z : List ℕ) (m : Meant) → get bytes_eq names z ≡ Some m → IsTarget means es z m.place) → slice_get es k ≡ Some e → unknown_among names (calls (written e.draft.value)) ≡ None → (l : Option (List ℕ)) → e.label ≡ l → (x : List ℕ) (m : Meant) → kept_behind names k l (written e.draft.value) x ≡ Some m → IsTarget means es x m.place
+targets_more : {S : Type 0} (names : IndexMap (List ℕ) Meant S) (means : List ℕ → Proc) (es : List Definition) (k : ℕ) (e : Definition) → AreMeant means (map body es) → ((z : List ℕ) (m : Meant) → get bytes_eq names z ≡ Some m → IsTarget means es z m.index) → slice_get es k ≡ Some e → unknown_among names (calls (written e.draft.value)) ≡ None → (l : Option (List ℕ)) → e.label ≡ l → (x : List ℕ) (m : Meant) → kept_behind names k l (written e.draft.value) x ≡ Some m → IsTarget means es x m.index
 targets_more names means es k e all old there known None q x m h = old x m h
 targets_more names means es k e all old there known (Some y) q x m h = at (bytes_eq y x) refl h where
-  at : (t : Bool) → bytes_eq y x ≡ t → (if t then Some (meant names k (written e.draft.value)) else get bytes_eq names x) ≡ Some m → IsTarget means es x m.place
+  at : (t : Bool) → bytes_eq y x ≡ t → (if t then Some (meant names k (written e.draft.value)) else get bytes_eq names x) ≡ Some m → IsTarget means es x m.index
   at true s h =
       let same : meant names k (written e.draft.value) ≡ m = cc in
       let name : y ≡ x = (bytes_eq-Decides y x).0 s in
       let body_there : slice_get (map body es) k ≡ Some (body e) = slice_get-map body es k ∙ ap (option_map body) there in
       let is : means x ≡ replaced means (written e.draft.value) = all k (body e) x body_there (q ∙ ap Some name) in
-      subst (λ (z : Meant). IsTarget means es x z.place) same (aimed names means es k e x old there is known)
+      subst (λ (z : Meant). IsTarget means es x z.index) same (aimed names means es k e x old there is known)
   at false s h = old x m h
 
 -- behind none of the processes

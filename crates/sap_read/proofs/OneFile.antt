@@ -21,6 +21,7 @@ use Rattle.sap_read.specs.Files.{FileContent, AreTokens, IsParted, IsRead, no_to
 use Rattle.sap_read.proofs.Cuts.{one_cut, one_header}
 use Rattle.sap_read.proofs.ItemsRead.{same_declarations, good_or_faulty, one_fault, one_items}
 use Rattle.sap_read.proofs.Processes.{one_process}
+use Rattle.sap_read.specs.code.TermLaws.{AreRead}
 use Rattle.sap_terms.specs.declared.limits.TheConstants.{MOST_FILE_NAME_BYTES}
 
 -- what the whole process of a file makes of it
@@ -61,12 +62,12 @@ in_steps (accepted {ts = ts} {x = x} {cut = cut} {is = is} {p = q} p i c w f) =
     has_tokens ts p.tokens (has_parts x cut p (has_items is i (is_whole q c w (is_well f))))
 
 -- items under their own signatures are the same
-pub same_items : (cut : List (List Placed)) (is js : List Standing) → AreItems (signature_of is) cut is → AreItems (signature_of js) cut js → is ≡ js
-same_items cut is js r s =
+pub same_items : AreRead → (cut : List (List Placed)) (is js : List Standing) → AreItems (signature_of is) cut is → AreItems (signature_of js) cut js → is ≡ js
+same_items read cut is js r s =
     let same : signature_of is ≡ signature_of js = ap (signature_from pairs_alone) (same_declarations (signature_of is) (signature_of js) cut is js r s) in
-    one_items one_process (signature_of js) cut is js (subst (λ (g : Sig). AreItems g cut is) same r) s
+    one_items (one_process read) (signature_of js) cut is js (subst (λ (g : Sig). AreItems g cut is) same r) s
 
-module _ (one_flaw : (g : Sig) (p : Proc) (w v : Flaw) (path other : List ℕ) → IsFirstFlaw g p w path → IsFirstFlaw g p v other → (w ≡ v) × (path ≡ other))
+module _ (read : AreRead) (one_flaw : (g : Sig) (p : Proc) (w v : Flaw) (path other : List ℕ) → IsFirstFlaw g p w path → IsFirstFlaw g p v other → (w ≡ v) × (path ≡ other))
     (no_flaw : (g : Sig) (p : Proc) (w : Flaw) (path : List ℕ) → IsFirstFlaw g p w path → IsWellFormed g p → ⊥)
     (one_answer : (most : ℕ) (z : List ℕ) (o u : Lexed) → IsLexed most 0 1 z o → IsLexed most 0 1 z u → o ≡ u) where
   after_process : (x : List ℕ) (g : Sig) (p : Proc) (o u : Result FileContent ReadFault) → AfterProcess x g p o → AfterProcess x g p u → o ≡ u
@@ -91,7 +92,7 @@ module _ (one_flaw : (g : Sig) (p : Proc) (w v : Flaw) (path other : List ℕ) �
   after_parts x last cut _ u (is_faulty n f) (has_items is i a) = absurd (good_or_faulty (signature_of is) last n cut is i f)
   after_parts x last cut o _ (has_items is i a) (is_faulty n f) = absurd (good_or_faulty (signature_of is) last n cut is i f)
   after_parts x last cut o u (has_items is i a) (has_items js j b) =
-      after_items x js o u (subst (λ (ks : List Standing). AfterItems x ks o) (same_items cut is js i j) a) b
+      after_items x js o u (subst (λ (ks : List Standing). AfterItems x ks o) (same_items read cut is js i j) a) b
 
   after_tokens : (z : List ℕ) (ts : List Token) (o u : Result FileContent ReadFault) → AfterTokens z ts o → AfterTokens z ts u → o ≡ u
   after_tokens z ts _ _ (has_none f) (has_none h) = refl

@@ -5,7 +5,7 @@ use Rattle.sap_terms.specs.Signature.{Sig, pairs_alone}
 use Rattle.sap_process.specs.Proc.{Proc}
 use Rattle.sap_process.specs.Flaws.{IsFirstFlaw, IsWellFormed}
 use Rattle.sap_read.specs.declared.fault.ReadFault.{ReadFault}
-use Rattle.sap_read.specs.Words.{words_of}
+use Rattle.sap_grammar.specs.Words.{words_of}
 use Rattle.sap_read.specs.Item.{Standing, declarations, bodies}
 use Rattle.sap_read.specs.Cut.{Placed, placed, IsCut, last_line}
 use Rattle.sap_read.specs.ItemGrammar.{AreItems}

@@ -2,7 +2,8 @@
 use Rattle.std.proofs.Common.{rules, ◌≡◌, ◌≤◌, ◌<◌, ◌-◌, ℕ, zero, suc, List, None, true, false, refl, arith}
 use Rattle.std.specs.Prelude.{nat_le}
 use Rattle.sap_terms.specs.Signature.{Sig}
-use Rattle.sap_read.specs.Words.{Word}
+use Rattle.sap_grammar.specs.declared.limits.Limits.{Limits}
+use Rattle.sap_grammar.specs.Words.{Word}
 use Rattle.sap_read.specs.code.ProcessReading.{seq, par, seq_at, par_at}
 use Rattle.sap_read.proofs.Steps.{words-drop}
 
@@ -14,20 +15,20 @@ fits m n le = search rules
 pub over : (m n : ℕ) → n < m → nat_le m n ≡ false
 over m n lt = search rules
 
-pub seq_zero : (g : Sig) (m : ℕ) (ws : List Word) → seq g m 0 ws ≡ None
+pub seq_zero : (g : Sig) (m : Limits) (ws : List Word) → seq g m 0 ws ≡ None
 unfolding seq par
 seq_zero g m ws = refl
 
-pub par_zero : (g : Sig) (m : ℕ) (ws : List Word) → par g m 0 ws ≡ None
+pub par_zero : (g : Sig) (m : Limits) (ws : List Word) → par g m 0 ws ≡ None
 unfolding seq par
 par_zero g m ws = refl
 
-pub seq_step : (g : Sig) (m d : ℕ) (ws : List Word) → 0 < d → seq g m d ws ≡ seq_at g m (seq g m (d - 1)) (par g m (d - 1)) (d - 1) ws
+pub seq_step : (g : Sig) (m : Limits) (d : ℕ) (ws : List Word) → 0 < d → seq g m d ws ≡ seq_at g m (seq g m (d - 1)) (par g m (d - 1)) (d - 1) ws
 unfolding seq par
 seq_step g m zero ws lt = absurd (omega (arith, lt))
 seq_step g m (suc d) ws lt = let e : suc d - 1 ≡ d = omega arith in rw e refl
 
-pub par_step : (g : Sig) (m d : ℕ) (ws : List Word) → 0 < d → par g m d ws ≡ par_at (seq g m d) (par g m (d - 1)) (d - 1) ws
+pub par_step : (g : Sig) (m : Limits) (d : ℕ) (ws : List Word) → 0 < d → par g m d ws ≡ par_at (seq g m d) (par g m (d - 1)) (d - 1) ws
 unfolding seq par
 par_step g m zero ws lt = absurd (omega (arith, lt))
 par_step g m (suc d) ws lt = let e : suc d - 1 ≡ d = omega arith in rw e refl

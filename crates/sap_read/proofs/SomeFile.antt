@@ -10,8 +10,10 @@ use Rattle.sap_process.specs.Sorted.{with_sorts}
 use Rattle.sap_process.specs.declared.flaw.Flaw.{Flaw}
 use Rattle.sap_read.specs.declared.fault.ReadFault.{ReadFault}
 use Rattle.sap_read.specs.declared.fault.ReadFault.TheVariants.{Lex as LexFault, Header, Syntax, Ill}
-use Rattle.sap_terms.specs.declared.limits.TheConstants.{MOST_FILE_NAME_BYTES, MOST_PROCESS_LEVELS, MOST_TERM_LEVELS}
-use Rattle.sap_read.specs.Words.{Word, mark, starts, words_of}
+use Rattle.sap_terms.specs.declared.limits.TheConstants.{MOST_FILE_NAME_BYTES, MOST_PROCESS_LEVELS}
+use Rattle.sap_read.specs.declared.limits.TheConstants.{FILE_LIMITS}
+use Rattle.sap_grammar.specs.Words.{Word, mark, starts, words_of}
+use Rattle.sap_grammar.specs.Reading.{Read, name_at}
 use Rattle.sap_read.specs.Written.{Written}
 use Rattle.sap_read.specs.Item.{Item, definition, process, Standing, Declaration, declarations, Body, bodies}
 use Rattle.sap_read.specs.Cut.{Placed, placed, words, first_line, last_line}
@@ -20,11 +22,11 @@ use Rattle.sap_read.specs.Signatures.{signature_from, signature_of, clash_from}
 use Rattle.sap_read.specs.Replaced.{process_of, no_meaning, replaced, after_body}
 use Rattle.sap_read.specs.Causes.{cause, cause_of, unlabelled}
 use Rattle.sap_read.specs.Files.{FileContent, AreTokens, IsParted, IsRead, no_tokens, no_header, no_item, refused, ill, accepted}
-use Rattle.sap_read.specs.code.Reading.{Read, name_at}
 use Rattle.sap_read.specs.code.ItemReading.{declared_in, declared_in_all}
 use Rattle.sap_read.specs.code.ProcessReading.{Levelled, par}
 use Rattle.sap_read.specs.code.Judged.{header_of}
-use Rattle.sap_read.proofs.Sound.{starts_is}
+use Rattle.sap_read.specs.code.TermLaws.{AreRead, AreSpelled}
+use Rattle.sap_read.proofs.OnRead.{starts_is}
 use Rattle.sap_read.proofs.Caused as caused
 use Rattle.sap_read.proofs.Headers.{header_none}
 use Rattle.sap_read.proofs.Parts.{items_of, parted}
@@ -39,110 +41,111 @@ WholeOrNone g ws = ((p : Written) × IsProcess g p ws) ⊎ ((h : Sig) (p : Writt
 abbrev read_up_to : Levelled → List Word → Read Levelled
 read_up_to w b = Some (w, b)
 
-whole_or_none : (g : Sig) (ws : List Word) → WholeOrNone g ws
-whole_or_none g ws = by (par g MOST_TERM_LEVELS MOST_PROCESS_LEVELS ws) refl
-  where
-    ended : (r : Levelled × List Word) → par g MOST_TERM_LEVELS MOST_PROCESS_LEVELS ws ≡ Some r → (b : List Word) → r.1 ≡ b → WholeOrNone g ws
-    ended r e [] q = inl (r.0.0, whole_is g ws r.0.0 r.0.1 (e ∙ ap (read_up_to r.0) q))
-    ended r e (w ∷ more) q = inr (no_other_whole g ws r.1 r.0 e (λ none. absurd (cc (q, none))))
+module _ (read : AreRead) (spelled : AreSpelled) where
+  whole_or_none : (g : Sig) (ws : List Word) → WholeOrNone g ws
+  whole_or_none g ws = by (par g FILE_LIMITS MOST_PROCESS_LEVELS ws) refl
+    where
+      ended : (r : Levelled × List Word) → par g FILE_LIMITS MOST_PROCESS_LEVELS ws ≡ Some r → (b : List Word) → r.1 ≡ b → WholeOrNone g ws
+      ended r e [] q = inl (r.0.0, whole_is read spelled g ws r.0.0 r.0.1 (e ∙ ap (read_up_to r.0) q))
+      ended r e (w ∷ more) q = inr (no_other_whole read spelled g ws r.1 r.0 e (λ none. absurd (cc (q, none))))
 
-    by : (o : Read Levelled) → par g MOST_TERM_LEVELS MOST_PROCESS_LEVELS ws ≡ o → WholeOrNone g ws
-    by None e = inr (nothing_whole g ws e)
-    by (Some r) e = ended r e r.1 refl
+      by : (o : Read Levelled) → par g FILE_LIMITS MOST_PROCESS_LEVELS ws ≡ o → WholeOrNone g ws
+      by None e = inr (nothing_whole read spelled g ws e)
+      by (Some r) e = ended r e r.1 refl
 
--- the words are an item under the signature, or under none
-abbrev ItemOrNone : Sig → List Word → Type 0
-ItemOrNone g ws = ((v : Item) × IsItem g v ws) ⊎ (IsSomeItem ws → ⊥)
+  -- the words are an item under the signature, or under none
+  abbrev ItemOrNone : Sig → List Word → Type 0
+  ItemOrNone g ws = ((v : Item) × IsItem g v ws) ⊎ (IsSomeItem ws → ⊥)
 
-no_name : {g : Sig} {v : Item} {a : List Word} → starts (codes "let") a ≡ true → name_at (drop 1 a) ≡ None → IsItem g v a → ⊥
-no_name s n (item_builtins r) = absurd (cc)
-no_name s n (item_functions r) = absurd (cc)
-no_name s n (item_definition r) = absurd (cc)
-no_name s n (item_process r) = absurd (cc)
+  no_name : {g : Sig} {v : Item} {a : List Word} → starts (codes "let") a ≡ true → name_at (drop 1 a) ≡ None → IsItem g v a → ⊥
+  no_name s n (item_builtins r) = absurd (cc)
+  no_name s n (item_functions r) = absurd (cc)
+  no_name s n (item_definition r) = absurd (cc)
+  no_name s n (item_process r) = absurd (cc)
 
-no_equals : {g : Sig} {v : Item} {a : List Word} → starts (codes "let") a ≡ true → starts (codes "=") (drop 2 a) ≡ false → IsItem g v a → ⊥
-no_equals s e (item_builtins r) = absurd (cc)
-no_equals s e (item_functions r) = absurd (cc)
-no_equals s e (item_definition r) = absurd (cc)
-no_equals s e (item_process r) = absurd (cc)
+  no_equals : {g : Sig} {v : Item} {a : List Word} → starts (codes "let") a ≡ true → starts (codes "=") (drop 2 a) ≡ false → IsItem g v a → ⊥
+  no_equals s e (item_builtins r) = absurd (cc)
+  no_equals s e (item_functions r) = absurd (cc)
+  no_equals s e (item_definition r) = absurd (cc)
+  no_equals s e (item_process r) = absurd (cc)
 
-no_colon : {g : Sig} {v : Item} {a : List Word} → starts (codes "process") a ≡ true → starts (codes ":") (drop 1 a) ≡ false → IsItem g v a → ⊥
-no_colon s e (item_builtins r) = absurd (cc)
-no_colon s e (item_functions r) = absurd (cc)
-no_colon s e (item_definition r) = absurd (cc)
-no_colon s e (item_process r) = absurd (cc)
+  no_colon : {g : Sig} {v : Item} {a : List Word} → starts (codes "process") a ≡ true → starts (codes ":") (drop 1 a) ≡ false → IsItem g v a → ⊥
+  no_colon s e (item_builtins r) = absurd (cc)
+  no_colon s e (item_functions r) = absurd (cc)
+  no_colon s e (item_definition r) = absurd (cc)
+  no_colon s e (item_process r) = absurd (cc)
 
-definition_or_none : (g : Sig) (ws : List Word) → starts (codes "let") ws ≡ true → ItemOrNone g ws
-definition_or_none g ws s = by_name (name_at (drop 1 ws)) refl
-  where
-    by_whole : (x : List ℕ) → name_at (drop 1 ws) ≡ Some x → starts (codes "=") (drop 2 ws) ≡ true → WholeOrNone g (drop 3 ws) → ItemOrNone g ws
-    by_whole x n e (inl r) = inl (definition x r.0, subst (λ (w : List Word). IsItem g (definition x r.0) w) (sym (definition_spelled ws x s n e)) (item_definition r.1))
-    by_whole x n e (inr never) = inr (no_definition ws s never)
+  definition_or_none : (g : Sig) (ws : List Word) → starts (codes "let") ws ≡ true → ItemOrNone g ws
+  definition_or_none g ws s = by_name (name_at (drop 1 ws)) refl
+    where
+      by_whole : (x : List ℕ) → name_at (drop 1 ws) ≡ Some x → starts (codes "=") (drop 2 ws) ≡ true → WholeOrNone g (drop 3 ws) → ItemOrNone g ws
+      by_whole x n e (inl r) = inl (definition x r.0, subst (λ (w : List Word). IsItem g (definition x r.0) w) (sym (definition_spelled ws x s n e)) (item_definition r.1))
+      by_whole x n e (inr never) = inr (no_definition ws s never)
 
-    by_equals : (x : List ℕ) → name_at (drop 1 ws) ≡ Some x → (t : Bool) → starts (codes "=") (drop 2 ws) ≡ t → ItemOrNone g ws
-    by_equals x n true e = by_whole x n e (whole_or_none g (drop 3 ws))
-    by_equals x n false e = inr (λ it. no_equals s e it.is)
+      by_equals : (x : List ℕ) → name_at (drop 1 ws) ≡ Some x → (t : Bool) → starts (codes "=") (drop 2 ws) ≡ t → ItemOrNone g ws
+      by_equals x n true e = by_whole x n e (whole_or_none g (drop 3 ws))
+      by_equals x n false e = inr (λ it. no_equals s e it.is)
 
-    by_name : (o : Option (List ℕ)) → name_at (drop 1 ws) ≡ o → ItemOrNone g ws
-    by_name None n = inr (λ it. no_name s n it.is)
-    by_name (Some x) n = by_equals x n (starts (codes "=") (drop 2 ws)) refl
+      by_name : (o : Option (List ℕ)) → name_at (drop 1 ws) ≡ o → ItemOrNone g ws
+      by_name None n = inr (λ it. no_name s n it.is)
+      by_name (Some x) n = by_equals x n (starts (codes "=") (drop 2 ws)) refl
 
-process_or_none : (g : Sig) (ws : List Word) → starts (codes "process") ws ≡ true → ItemOrNone g ws
-process_or_none g ws s = by_colon (starts (codes ":") (drop 1 ws)) refl
-  where
-    by_whole : starts (codes ":") (drop 1 ws) ≡ true → WholeOrNone g (drop 2 ws) → ItemOrNone g ws
-    by_whole e (inl r) = inl (process r.0, subst (λ (w : List Word). IsItem g (process r.0) w) (sym (process_spelled ws s e)) (item_process r.1))
-    by_whole e (inr never) = inr (no_process ws s never)
+  process_or_none : (g : Sig) (ws : List Word) → starts (codes "process") ws ≡ true → ItemOrNone g ws
+  process_or_none g ws s = by_colon (starts (codes ":") (drop 1 ws)) refl
+    where
+      by_whole : starts (codes ":") (drop 1 ws) ≡ true → WholeOrNone g (drop 2 ws) → ItemOrNone g ws
+      by_whole e (inl r) = inl (process r.0, subst (λ (w : List Word). IsItem g (process r.0) w) (sym (process_spelled ws s e)) (item_process r.1))
+      by_whole e (inr never) = inr (no_process ws s never)
 
-    by_colon : (t : Bool) → starts (codes ":") (drop 1 ws) ≡ t → ItemOrNone g ws
-    by_colon true e = by_whole e (whole_or_none g (drop 2 ws))
-    by_colon false e = inr (λ it. no_colon s e it.is)
+      by_colon : (t : Bool) → starts (codes ":") (drop 1 ws) ≡ t → ItemOrNone g ws
+      by_colon true e = by_whole e (whole_or_none g (drop 2 ws))
+      by_colon false e = inr (λ it. no_colon s e it.is)
 
-item_or_none : (g : Sig) (ws : List Word) → ItemOrNone g ws
-item_or_none g ws = by_let (starts (codes "let") ws) refl
-  where
-    by_declared : starts (codes "let") ws ≡ false → starts (codes "process") ws ≡ false → (o : Option (List Declaration)) → declared_in ws ≡ o → ItemOrNone g ws
-    by_declared l p None e = inr (no_other ws l p e)
-    by_declared l p (Some ds) e = let alone = declared_sound ws ds e in inl (alone.item, alone.spelled g)
+  item_or_none : (g : Sig) (ws : List Word) → ItemOrNone g ws
+  item_or_none g ws = by_let (starts (codes "let") ws) refl
+    where
+      by_declared : starts (codes "let") ws ≡ false → starts (codes "process") ws ≡ false → (o : Option (List Declaration)) → declared_in ws ≡ o → ItemOrNone g ws
+      by_declared l p None e = inr (no_other ws l p e)
+      by_declared l p (Some ds) e = let alone = declared_sound ws ds e in inl (alone.item, alone.spelled g)
 
-    by_process : starts (codes "let") ws ≡ false → (t : Bool) → starts (codes "process") ws ≡ t → ItemOrNone g ws
-    by_process l true p = process_or_none g ws p
-    by_process l false p = by_declared l p (declared_in ws) refl
+      by_process : starts (codes "let") ws ≡ false → (t : Bool) → starts (codes "process") ws ≡ t → ItemOrNone g ws
+      by_process l true p = process_or_none g ws p
+      by_process l false p = by_declared l p (declared_in ws) refl
 
-    by_let : (t : Bool) → starts (codes "let") ws ≡ t → ItemOrNone g ws
-    by_let true l = definition_or_none g ws l
-    by_let false l = by_process l (starts (codes "process") ws) refl
+      by_let : (t : Bool) → starts (codes "let") ws ≡ t → ItemOrNone g ws
+      by_let true l = definition_or_none g ws l
+      by_let false l = by_process l (starts (codes "process") ws) refl
 
--- the words are `end` alone, or not
-end_or_not : (ws : List Word) → (ws ≡ mark (codes "end") ∷ []) ⊎ (ws ≡ mark (codes "end") ∷ [] → ⊥)
-end_or_not [] = inr (λ e. absurd (cc (e)))
-end_or_not (w ∷ v ∷ ws) = inr (λ e. absurd (cc (e)))
-end_or_not (w ∷ []) = by (starts (codes "end") (w ∷ [])) refl
-  where
-    by : (t : Bool) → starts (codes "end") (w ∷ []) ≡ t → (w ∷ [] ≡ mark (codes "end") ∷ []) ⊎ (w ∷ [] ≡ mark (codes "end") ∷ [] → ⊥)
-    by true s = inl (starts_is (codes "end") (w ∷ []) s)
-    by false s = inr (λ e. let there : starts (codes "end") (w ∷ []) ≡ true = ap (starts (codes "end")) e in absurd (cc (s, there)))
+  -- the words are `end` alone, or not
+  end_or_not : (ws : List Word) → (ws ≡ mark (codes "end") ∷ []) ⊎ (ws ≡ mark (codes "end") ∷ [] → ⊥)
+  end_or_not [] = inr (λ e. absurd (cc (e)))
+  end_or_not (w ∷ v ∷ ws) = inr (λ e. absurd (cc (e)))
+  end_or_not (w ∷ []) = by (starts (codes "end") (w ∷ [])) refl
+    where
+      by : (t : Bool) → starts (codes "end") (w ∷ []) ≡ t → (w ∷ [] ≡ mark (codes "end") ∷ []) ⊎ (w ∷ [] ≡ mark (codes "end") ∷ [] → ⊥)
+      by true s = inl (starts_is (codes "end") (w ∷ []) s)
+      by false s = inr (λ e. let there : starts (codes "end") (w ∷ []) ≡ true = ap (starts (codes "end")) e in absurd (cc (s, there)))
 
--- the pieces are items, or the first fault is on some line
-abbrev ItemsOrFault : Sig → ℕ → List (List Placed) → Type 0
-ItemsOrFault g last cut = ((is : List Standing) × AreItems g cut is) ⊎ ((n : ℕ) × IsFaulty last cut n)
+  -- the pieces are items, or the first fault is on some line
+  abbrev ItemsOrFault : Sig → ℕ → List (List Placed) → Type 0
+  ItemsOrFault g last cut = ((is : List Standing) × AreItems g cut is) ⊎ ((n : ℕ) × IsFaulty last cut n)
 
-last_or_fault : (g : Sig) (last : ℕ) (i : List Placed) (is : List (List Placed)) → (IsSomeItem (words i) → ⊥) → ItemsOrFault g last (i ∷ is)
-last_or_fault g last i (j ∷ is) never = inr (first_line i, bad_item never (λ e none. absurd (cc (none))))
-last_or_fault g last i [] never = by (end_or_not (words i))
-  where
-    by : (words i ≡ mark (codes "end") ∷ []) ⊎ (words i ≡ mark (codes "end") ∷ [] → ⊥) → ItemsOrFault g last (i ∷ [])
-    by (inl e) = inl ([], items_end e)
-    by (inr more) = inr (first_line i, bad_item never (λ e none. more e))
+  last_or_fault : (g : Sig) (last : ℕ) (i : List Placed) (is : List (List Placed)) → (IsSomeItem (words i) → ⊥) → ItemsOrFault g last (i ∷ is)
+  last_or_fault g last i (j ∷ is) never = inr (first_line i, bad_item never (λ e none. absurd (cc (none))))
+  last_or_fault g last i [] never = by (end_or_not (words i))
+    where
+      by : (words i ≡ mark (codes "end") ∷ []) ⊎ (words i ≡ mark (codes "end") ∷ [] → ⊥) → ItemsOrFault g last (i ∷ [])
+      by (inl e) = inl ([], items_end e)
+      by (inr more) = inr (first_line i, bad_item never (λ e none. more e))
 
-one_more : (g : Sig) (last : ℕ) (i : List Placed) (is : List (List Placed)) → ItemOrNone g (words i) → ItemsOrFault g last is → ItemsOrFault g last (i ∷ is)
-one_more g last i is (inl r) (inl s) = inl (record { item = r.0; line = first_line i } ∷ s.0, items_more r.1 s.1)
-one_more g last i is (inl r) (inr f) = inr (f.0, later_item (record { sig = g; item = r.0; is = r.1 }) f.1)
-one_more g last i is (inr never) o = last_or_fault g last i is never
+  one_more : (g : Sig) (last : ℕ) (i : List Placed) (is : List (List Placed)) → ItemOrNone g (words i) → ItemsOrFault g last is → ItemsOrFault g last (i ∷ is)
+  one_more g last i is (inl r) (inl s) = inl (record { item = r.0; line = first_line i } ∷ s.0, items_more r.1 s.1)
+  one_more g last i is (inl r) (inr f) = inr (f.0, later_item (record { sig = g; item = r.0; is = r.1 }) f.1)
+  one_more g last i is (inr never) o = last_or_fault g last i is never
 
-items_or_fault : (g : Sig) (last : ℕ) (cut : List (List Placed)) → ItemsOrFault g last cut
-items_or_fault g last [] = inr (last, no_end)
-items_or_fault g last (i ∷ is) = one_more g last i is (item_or_none g (words i)) (items_or_fault g last is)
+  items_or_fault : (g : Sig) (last : ℕ) (cut : List (List Placed)) → ItemsOrFault g last cut
+  items_or_fault g last [] = inr (last, no_end)
+  items_or_fault g last (i ∷ is) = one_more g last i is (item_or_none g (words i)) (items_or_fault g last is)
 
 -- where one process has no label, there is the file's
 abbrev HasProcess : (List ℕ → Proc) → List Body → Type 0
@@ -174,7 +177,7 @@ IsJudged g p = IsWellFormed g p ⊎ ((w : Flaw) × (path : List ℕ) × IsFirstF
 abbrev IsReadSo : List ℕ → Type 0
 IsReadSo z = (o : Result FileContent ReadFault) × IsRead z o
 
-module _ (judged : (g : Sig) (p : Proc) → IsJudged g p) (z : List ℕ) where
+module _ (read : AreRead) (spelled : AreSpelled) (judged : (g : Sig) (p : Proc) → IsJudged g p) (z : List ℕ) where
   from_items : {ts : List Token} {x : List ℕ} {cut : List (List Placed)} (is : List Standing) → IsParted z ts x cut → AreItems (signature_of is) cut is → IsReadSo z
   from_items {x = x} is p i = by_cause (cause_of is) refl
     where
@@ -189,9 +192,9 @@ module _ (judged : (g : Sig) (p : Proc) → IsJudged g p) (z : List ℕ) where
           by_flaw w.0 c w.1 (judged (signature_of is) w.0)
 
   from_parts : (ts : List Token) (x : List ℕ) (cut : List (List Placed)) → IsParted z ts x cut → IsReadSo z
-  from_parts ts x cut p = by (items_or_fault (signature_from pairs_alone (declared_in_all cut)) (last_line (placed z ts)) cut)
+  from_parts ts x cut p = by (items_or_fault read spelled (signature_from pairs_alone (declared_in_all cut)) (last_line (placed z ts)) cut)
     where
-      by : ItemsOrFault (signature_from pairs_alone (declared_in_all cut)) (last_line (placed z ts)) cut → IsReadSo z
+      by : ItemsOrFault read spelled (signature_from pairs_alone (declared_in_all cut)) (last_line (placed z ts)) cut → IsReadSo z
       by (inl r) = from_items r.0 p (subst (λ (g : Sig). AreItems g cut r.0) (ap (signature_from pairs_alone) (sym (declared_are r.1))) r.1)
       by (inr f) = (Err (Syntax f.0), no_item p f.1)
 

@@ -1,28 +1,8 @@
--- What reading does at each depth.
-use Rattle.std.proofs.Common.{◌≡◌, ◌<◌, ◌-◌, ℕ, zero, suc, List, None, drop, length, refl, sym, arith}
+-- The words of tokens.
+use Rattle.std.proofs.Common.{◌≡◌, ℕ, List, drop, length, sym}
 use Rattle.std.proofs.lemmas.List.{drop-map, length-map}
-use Rattle.sap_terms.specs.Signature.{Sig}
 use Rattle.sap_text.specs.declared.token.Token.{Token}
-use Rattle.sap_read.specs.Words.{Word, word_of, words_of}
-use Rattle.sap_read.specs.code.Reading.{term, term_at, rest, rest_at}
-
-pub term_zero : (g : Sig) (ws : List Word) → term g 0 ws ≡ None
-unfolding term rest
-term_zero g ws = refl
-
-pub rest_zero : (g : Sig) (ws : List Word) → rest g 0 ws ≡ None
-unfolding term rest
-rest_zero g ws = refl
-
-pub term_step : (g : Sig) (d : ℕ) (ws : List Word) → 0 < d → term g d ws ≡ term_at g (term g (d - 1)) (rest g (d - 1)) ws
-unfolding term rest
-term_step g zero ws lt = absurd (omega (arith, lt))
-term_step g (suc d) ws lt = let e : suc d - 1 ≡ d = omega arith in rw e refl
-
-pub rest_step : (g : Sig) (d : ℕ) (ws : List Word) → 0 < d → rest g d ws ≡ rest_at (term g d) (rest g (d - 1)) ws
-unfolding term rest
-rest_step g zero ws lt = absurd (omega (arith, lt))
-rest_step g (suc d) ws lt = let e : suc d - 1 ≡ d = omega arith in rw e refl
+use Rattle.sap_grammar.specs.Words.{word_of, words_of}
 
 -- the words of the tokens behind the first n
 pub words-drop : (z : List ℕ) (n : ℕ) (ts : List Token) → words_of z (drop n ts) ≡ drop n (words_of z ts)
@@ -31,4 +11,4 @@ words-drop z n ts = sym (drop-map (word_of z) n ts)
 pub length-words : (z : List ℕ) (ts : List Token) → length (words_of z ts) ≡ length ts
 length-words z ts = length-map ts (word_of z)
 
-pub ruleset steps = (term_zero, rest_zero, term_step, rest_step, words-drop)
+pub ruleset steps = (words-drop)

@@ -54,7 +54,7 @@ above measure most fault (Some p) = if nat_lt most (measure p) then Some fault e
 abbrev pub causes : List Body → Option (List ℕ) → List (Option ReadFault)
 causes bs clash =
     (if is_none (slice_get (unlabelled bs) 0) then Some NoProcess else None)
-    ∷ option_map (λ (b : Body). TwoProcesses b.place) (slice_get (unlabelled bs) 1)
+    ∷ option_map (λ (b : Body). TwoProcesses b.line) (slice_get (unlabelled bs) 1)
     ∷ option_map UnknownProcess (unknown_from [] bs)
     ∷ option_map DuplicateName (first_repeated (labels bs))
     ∷ option_map FunctionClash clash

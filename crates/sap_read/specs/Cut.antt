@@ -2,7 +2,7 @@
 use Rattle.std.specs.Prelude.{◌≡◌, ℕ, Bool, true, false, codes, List, [], ◌∷◌, ◌++◌, map}
 use Rattle.std.specs.List.{list_any}
 use Rattle.sap_text.specs.declared.token.Token.{Token}
-use Rattle.sap_read.specs.Words.{Word, mark, name, is_mark, word_of}
+use Rattle.sap_grammar.specs.Words.{Word, mark, name, is_mark, word_of}
 
 -- a word on its line
 pub record Placed : Type 0 where

@@ -38,13 +38,13 @@ declarations (i ∷ is) = declared_by i.item ++ declarations is
 pub record Body : Type 0 where
   pub label : Option (List ℕ)
   pub content : Written
-  pub place : ℕ
+  pub line : ℕ
 
 abbrev pub body_of : Item → ℕ → List Body
 body_of (builtins bs) n = []
 body_of (functions ss) n = []
-body_of (definition x p) n = record { label = Some x; content = p; place = n } ∷ []
-body_of (process p) n = record { label = None; content = p; place = n } ∷ []
+body_of (definition x p) n = record { label = Some x; content = p; line = n } ∷ []
+body_of (process p) n = record { label = None; content = p; line = n } ∷ []
 
 -- the processes of a file, in order
 abbrev pub bodies : List Standing → List Body

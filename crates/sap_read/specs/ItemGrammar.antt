@@ -4,12 +4,13 @@ use Rattle.sap_terms.specs.declared.signature.Symbol.{Symbol}
 use Rattle.sap_terms.specs.declared.signature.Builtin.{Builtin}
 use Rattle.sap_terms.specs.declared.signature.Builtin.TheVariants.{Hashing, Symmetric, Asymmetric, Signing, RevealingSigning}
 use Rattle.sap_terms.specs.Signature.{Sig}
-use Rattle.sap_read.specs.Words.{Word, mark, name, number, is_lower}
+use Rattle.sap_grammar.specs.Words.{Word, mark, name, number, is_lower}
+use Rattle.sap_read.specs.declared.limits.TheConstants.{FILE_LIMITS}
 use Rattle.sap_read.specs.Written.{Written}
 use Rattle.sap_read.specs.ProcessGrammar.{IsPar}
 use Rattle.sap_read.specs.Item.{Item, builtins, functions, definition, process, Standing}
 use Rattle.sap_read.specs.Cut.{Placed, words, first_line}
-use Rattle.sap_terms.specs.declared.limits.TheConstants.{MOST_ARITY, MOST_PROCESS_LEVELS, MOST_TERM_LEVELS}
+use Rattle.sap_terms.specs.declared.limits.TheConstants.{MOST_ARITY, MOST_PROCESS_LEVELS}
 
 -- the number that these digits write
 abbrev pub value_from : ℕ → List ℕ → ℕ
@@ -44,10 +45,10 @@ pub data AreSymbols : List Symbol → List Word → Type 0 where
   symbols_last : {s : Symbol} {a : List Word} → IsSymbol s a [] → AreSymbols (s ∷ []) a
   symbols_more : {s : Symbol} {ss : List Symbol} {a c : List Word} → IsSymbol s a (mark (codes ",") ∷ c) → AreSymbols ss c → AreSymbols (s ∷ ss) a
 
--- a process in at most MOST_PROCESS_LEVELS levels, whose terms have at most MOST_TERM_LEVELS, and nothing else
+-- a process in at most MOST_PROCESS_LEVELS levels, whose terms keep to a file's limits, and nothing else
 pub record IsProcess (g : Sig) (p : Written) (a : List Word) : Type 0 where
   pub levels : ℕ
-  pub spelled : IsPar g MOST_TERM_LEVELS p levels a []
+  pub spelled : IsPar g FILE_LIMITS p levels a []
   pub few_levels : levels ≤ MOST_PROCESS_LEVELS
 
 pub data IsItem (g : Sig) : Item → List Word → Type 0 where

@@ -3,10 +3,10 @@ pub use Rattle.sap_text.specs.Spans
 pub use Rattle.sap_process.specs.Action
 pub use Rattle.sap_process.specs.Proc
 pub use Rattle.sap_formula.specs.Form
-pub mod Words
-pub mod TermGrammar
-pub mod FactGrammar
-pub mod Places
+pub use Rattle.sap_grammar.specs.Words
+pub use Rattle.sap_grammar.specs.TermGrammar
+pub use Rattle.sap_grammar.specs.FactGrammar
+pub use Rattle.sap_grammar.specs.Places
 pub mod Written
 pub mod ProcessGrammar
 pub mod Item

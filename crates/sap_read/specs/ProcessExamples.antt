@@ -2,9 +2,9 @@
 use Rattle.std.specs.Prelude.{true, false, codes, List, [], ◌∷◌}
 use Rattle.sap_terms.specs.declared.var.Sort.TheVariants.{Msg, Fresh}
 use Rattle.sap_terms.specs.Tree.{Tree, public}
-use Rattle.sap_read.specs.Words.{Word, mark, name, number, quoted}
-use Rattle.sap_read.specs.TermGrammar.{sorted}
-use Rattle.sap_read.specs.FactGrammar.{fact}
+use Rattle.sap_grammar.specs.Words.{Word, mark, name, number, quoted}
+use Rattle.sap_grammar.specs.TermGrammar.{sorted}
+use Rattle.sap_grammar.specs.FactGrammar.{fact}
 use Rattle.sap_read.specs.ProcessGrammar.{var}
 use Rattle.sap_process.specs.Action.{new, send, input, lock, unlock, embedded}
 use Rattle.sap_read.specs.Written.{Written, nil, call, parallel, replicated, act, test, lookup}

@@ -1,16 +1,16 @@
--- Which words spell a process under a signature, where terms have at most so many levels: the process as written, the levels
+-- Which words spell a process under a signature, where terms are within the limits: the process as written, the levels
 -- of its text, the words from its first on, the words behind its last.
-use Rattle.std.specs.Prelude.{◌≡◌, ◌≤◌, ℕ, ◌+◌, max, Bool, true, false, codes, List, [], ◌∷◌}
+use Rattle.std.specs.Prelude.{◌≡◌, ℕ, ◌+◌, max, Bool, true, false, codes, List, [], ◌∷◌}
 use Rattle.sap_terms.specs.declared.fact.Fact.{Fact}
 use Rattle.sap_terms.specs.declared.var.Sort.{Sort}
 use Rattle.sap_terms.specs.declared.var.Sort.TheVariants.{Msg, Fresh}
 use Rattle.sap_terms.specs.declared.var.Var.{Var}
-use Rattle.sap_terms.specs.Tree.{Tree, level_count}
+use Rattle.sap_terms.specs.Tree.{Tree}
 use Rattle.sap_terms.specs.Signature.{Sig}
-use Rattle.sap_read.specs.Words.{Word, mark, name, number, starts}
-use Rattle.sap_read.specs.TermGrammar.{IsTerm}
-use Rattle.sap_read.specs.FactGrammar.{IsFact}
-use Rattle.sap_read.specs.Places.{fact_levels}
+use Rattle.sap_grammar.specs.Words.{Word, mark, name, number, starts}
+use Rattle.sap_grammar.specs.declared.limits.Limits.{Limits}
+use Rattle.sap_grammar.specs.TermGrammar.{IsShort}
+use Rattle.sap_grammar.specs.FactGrammar.{IsShortFact, AreFacts}
 use Rattle.sap_process.specs.Action.{Action, new, out, send, input, receive, event, insert, delete, lock, unlock, embedded}
 use Rattle.sap_read.specs.Written.{Written, nil, call, parallel, replicated, act, test, lookup}
 
@@ -18,30 +18,8 @@ use Rattle.sap_read.specs.Written.{Written, nil, call, parallel, replicated, act
 abbrev pub var : Sort → List ℕ → Var
 var s x = record { name = x; sort = s }
 
--- a term within the levels
-pub record IsShort (g : Sig) (m : ℕ) (t : Tree) (a b : List Word) : Type 0 where
-  pub spelled : IsTerm g t a b
-  pub few_levels : level_count t ≤ m
-
--- a fact whose terms are within the levels, persistent only where that is allowed
-pub record IsShortFact (g : Sig) (m : ℕ) (allowed : Bool) (f : Fact) (a b : List Word) : Type 0 where
-  pub spelled : IsFact g f a b
-  pub few_levels : fact_levels f ≤ m
-  pub sign : f.persistent ≡ true → allowed ≡ true
-
--- such facts, one or more, with commas between them and this mark behind
-pub data AreSomeFacts (g : Sig) (m : ℕ) (allowed : Bool) (closing : List ℕ) : List Fact → List Word → List Word → Type 0 where
-  facts_last : {f : Fact} {a b : List Word} → IsShortFact g m allowed f a (mark closing ∷ b) → AreSomeFacts g m allowed closing (f ∷ []) a b
-  facts_more : {f : Fact} {fs : List Fact} {a b c : List Word} → IsShortFact g m allowed f a (mark (codes ",") ∷ b) → AreSomeFacts g m allowed closing fs b c
-      → AreSomeFacts g m allowed closing (f ∷ fs) a c
-
--- such facts, none or more
-pub data AreFacts (g : Sig) (m : ℕ) (allowed : Bool) (closing : List ℕ) : List Fact → List Word → List Word → Type 0 where
-  facts_none : {a : List Word} → AreFacts g m allowed closing [] (mark closing ∷ a) a
-  facts_some : {fs : List Fact} {a b : List Word} → AreSomeFacts g m allowed closing fs a b → AreFacts g m allowed closing fs a b
-
 -- an action; locks have no label yet
-pub data IsAction (g : Sig) (m : ℕ) : Action → List Word → List Word → Type 0 where
+pub data IsAction (g : Sig) (m : Limits) : Action → List Word → List Word → Type 0 where
   action_new : {x : List ℕ} {a : List Word} → IsAction g m (new (var Msg x)) (mark (codes "new") ∷ name x ∷ a) a
   action_new_fresh : {x : List ℕ} {a : List Word} → IsAction g m (new (var Fresh x)) (mark (codes "new") ∷ mark (codes "~") ∷ name x ∷ a) a
   action_out : {t : Tree} {a b : List Word} → IsShort g m t a (mark (codes ")") ∷ b)
@@ -77,7 +55,7 @@ pub data IsBar : List ℕ → Type 0 where
 mutual
   -- a process that is no parallel without parentheses; what is missing behind an action or for `else` is `0`, and counts as
   -- one level
-  pub data IsSeq (g : Sig) (m : ℕ) : Ending → Written → ℕ → List Word → List Word → Type 0 where
+  pub data IsSeq (g : Sig) (m : Limits) : Ending → Written → ℕ → List Word → List Word → Type 0 where
     seq_nil : {a : List Word} → IsSeq g m closed nil 1 (number (codes "0") ∷ a) a
     seq_call : {x : List ℕ} {a : List Word} → IsSeq g m closed (call x) 1 (name x ∷ a) a
     seq_parentheses : {p : Written} {n : ℕ} {a b : List Word} → IsPar g m p n a (mark (codes ")") ∷ b) → IsSeq g m closed p (n + 1) (mark (codes "(") ∷ a) b
@@ -96,7 +74,7 @@ mutual
         → IsSeq g m closed p n b (mark (codes "else") ∷ c) → IsSeq g m e q k c d → IsSeq g m e (lookup t (var Msg x) p q) (max n k + 1) (mark (codes "lookup") ∷ a) d
 
   -- a process, where a parallel groups to the right
-  pub data IsPar (g : Sig) (m : ℕ) : Written → ℕ → List Word → List Word → Type 0 where
+  pub data IsPar (g : Sig) (m : Limits) : Written → ℕ → List Word → List Word → Type 0 where
     par_one : {e : Ending} {p : Written} {n : ℕ} {a b : List Word} → IsSeq g m e p n a b → IsPar g m p n a b
     par_more : {e : Ending} {p q : Written} {n k : ℕ} {w : List ℕ} {a b c : List Word} → IsBar w → IsSeq g m e p n a (mark w ∷ b) → IsPar g m q k b c
         → IsPar g m (parallel p q) (max n k + 1) a c

@@ -1,11 +1,11 @@
 -- What the code does, step by step: no public contract cites what stands below.
-pub mod Reading
-pub mod View
 pub mod ItemReading
 pub mod ItemView
 pub mod ProcessReading
 pub mod ProcessView
 pub mod Drafts
+pub mod DraftView
 pub mod Meaning
 pub mod Judged
 pub mod Label
+pub mod TermLaws

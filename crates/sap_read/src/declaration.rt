@@ -1,11 +1,12 @@
 //! Reads what items declare.
-ghost use Rattle.std.specs.Prelude.{◌≡◌, ◌+◌, length};
+ghost use Rattle.std.specs.Prelude.{◌≡◌, ◌+◌, length, map, IfOk};
 ghost use Rattle.sap_terms.specs.declared.signature.Symbol.{Symbol};
-ghost use Rattle.sap_read.specs.Words.{words_of};
-ghost use Rattle.sap_read.specs.code.ItemReading.{arity_of_digits, arity_at, is_private, with_privacy, is_joined, builtin_at, symbol_at, declaration_at, whole_list, behind_colon, declared_in};
-ghost use Rattle.sap_read.specs.code.ItemView.{GivesBuiltin, GivesSymbol, GivesDeclaration, GivesDeclarations};
+ghost use Rattle.sap_grammar.specs.Words.{words_of};
+ghost use Rattle.sap_grammar.specs.Reading.{Gives};
+ghost use Rattle.sap_read.specs.code.ItemReading.{arity_of_digits, arity_at, is_private, with_privacy, is_joined, builtin_at, symbol_at, declaration_at, in_front, given_if, whole_list, behind_colon, declared_in};
+ghost use Rattle.sap_read.specs.code.ItemView.{GivesBuiltin, GivesDeclarations, IsNext, declaration};
 
-use crate::look::{beyond, is_lower, name_at, names, number_at, starts};
+use sap_grammar::{beyond, is_lower, name_at, names, number_at, starts};
 use sap_terms::{Builtin, MOST_ARITY, Mem, Name, Symbol};
 use sap_text::Token;
 use std::alloc::Global;
@@ -91,7 +92,7 @@ fn read_privacy<'a>(
     arity: u64,
     tokens: &'a [Token],
 ) -> Result<Option<(Symbol, &'a [Token])>, Mem>
-    ensures { GivesSymbol bytes.now result (with_privacy name.now arity
+    ensures { Gives bytes.now (λ s. s) result (with_privacy name.now arity
         (words_of bytes.now tokens.now)) }
 {
     let name = Name::from_bytes(alloc, name)?;
@@ -112,13 +113,13 @@ fn read_privacy<'a>(
     }
 }
 
-#[tactic(auto, using(crate::proofs::Steps::steps), unfolding(crate::specs::code::Reading::given))]
+#[tactic(auto, using(crate::proofs::Steps::steps), unfolding(sap_grammar::specs::Reading::given))]
 fn read_symbol<'a>(
     alloc: Global,
     bytes: &[u8],
     tokens: &'a [Token],
 ) -> Result<Option<(Symbol, &'a [Token])>, Mem>
-    ensures { GivesSymbol bytes.now result (symbol_at (words_of bytes.now tokens.now)) }
+    ensures { Gives bytes.now (λ s. s) result (symbol_at (words_of bytes.now tokens.now)) }
 {
     let Some(name) = name_at(bytes, tokens) else {
         return Ok(None);
@@ -139,7 +140,7 @@ fn read_one<'a>(
     of_builtins: bool,
     tokens: &'a [Token],
 ) -> Result<Option<(Declaration, &'a [Token])>, Mem>
-    ensures { GivesDeclaration bytes.now result (declaration_at of_builtins
+    ensures { Gives bytes.now declaration result (declaration_at of_builtins
         (words_of bytes.now tokens.now)) }
 {
     if of_builtins {
@@ -155,7 +156,58 @@ fn read_one<'a>(
     }
 }
 
+// Puts the declaration that stands first last in the list; the tokens behind it.
+fn read_next<'a>(
+    alloc: Global,
+    bytes: &[u8],
+    of_builtins: bool,
+    list: &mut Vec<Declaration>,
+    tokens: &'a [Token],
+) -> Result<Option<&'a [Token]>, Mem>
+    ensures { IsNext bytes.now result (declaration_at of_builtins (words_of bytes.now tokens.now))
+        list.old.items list.new.items }
+{
+    match read_one(alloc, bytes, of_builtins, tokens)? {
+        None => Ok(None),
+        Some((declaration, next)) => {
+            list.push(declaration)?;
+            Ok(Some(next))
+        }
+    }
+}
+
+// Puts declarations last, one or more, with commas between them, and nothing else; false where the tokens are none.
+fn read_onto(
+    alloc: Global,
+    bytes: &[u8],
+    of_builtins: bool,
+    list: &mut Vec<Declaration>,
+    tokens: &[Token],
+) -> Result<bool, Mem>
+    ensures { IfOk result (λ b. in_front (map declaration list.old.items)
+        (whole_list (declaration_at of_builtins) (length tokens.now + 1)
+        (words_of bytes.now tokens.now)) ≡ given_if b (map declaration list.new.items)) }
+{
+    let mut rest = tokens;
+    while !rest.is_empty() {
+        match read_next(alloc, bytes, of_builtins, list, rest)? {
+            None => return Ok(false),
+            Some(next) => {
+                if next.is_empty() {
+                    return Ok(true);
+                }
+                if !starts(bytes, next, ",") {
+                    return Ok(false);
+                }
+                rest = beyond(1, next);
+            }
+        }
+    }
+    Ok(false)
+}
+
 // Declarations, one or more, with commas between them, and nothing else.
+#[tactic(auto, using(crate::proofs::Declarations::front_nothing))]
 fn read_list(
     alloc: Global,
     bytes: &[u8],
@@ -166,21 +218,11 @@ fn read_list(
         (length tokens.now + 1) (words_of bytes.now tokens.now)) }
 {
     let mut list = Vec::new(alloc);
-    let mut rest = tokens;
-    while !rest.is_empty() {
-        let Some((declaration, next)) = read_one(alloc, bytes, of_builtins, rest)? else {
-            return Ok(None);
-        };
-        list.push(declaration)?;
-        if next.is_empty() {
-            return Ok(Some(list));
-        }
-        if !starts(bytes, next, ",") {
-            return Ok(None);
-        }
-        rest = beyond(1, next);
+    if read_onto(alloc, bytes, of_builtins, &mut list, tokens)? {
+        Ok(Some(list))
+    } else {
+        Ok(None)
     }
-    Ok(None)
 }
 
 #[tactic(auto, using(crate::proofs::Steps::steps))]

@@ -1,11 +1,12 @@
 //! Processes with their names replaced by what they stand for.
-ghost use Rattle.std.specs.Prelude.{◌≡◌, ◌≤◌, ◌+◌, false, IfOk};
+ghost use Rattle.std.specs.Prelude.{◌≡◌, ◌≤◌, IfOk};
 ghost use Rattle.sap_terms.specs.View.{tree};
 ghost use Rattle.sap_process.specs.Action as action;
 ghost use Rattle.sap_process.specs.Proc.{proc, act, test, lookup, level_count};
 ghost use Rattle.sap_read.specs.Replaced.{replaced};
 ghost use Rattle.sap_read.specs.code.Drafts.{doing, written};
-ghost use Rattle.sap_read.specs.code.Meaning.{meaning_of, is_call, AreExpanded};
+ghost use Rattle.sap_read.specs.code.Meaning.{meaning_of, AreExpanded, IsFormed, with_one, with_two};
+ghost use Rattle.sap_read.specs.code.DraftView.{IsBelow};
 
 use crate::draft::{Definition, Doing, Draft};
 use crate::names::Names;
@@ -177,9 +178,72 @@ fn acting(alloc: Global, first: &Doing, next: Box<Process>) -> Result<Box<Proces
     }
 }
 
-/// The draft's process, its names replaced by what they stand for, which has so many levels at most. It takes time in
-/// proportion to that process, and recurses at most three times as deep as it.
-#[cycle(expand)]
+/// What stands below a draft.
+enum Below<'a> {
+    Nothing,
+    One(&'a Draft),
+    Two(&'a Draft, &'a Draft),
+}
+
+// What stands below the draft; below a name there is nothing.
+fn drafts_below(draft: &Draft) -> Below<'_>
+    ensures { IsBelow result (written draft.now) }
+{
+    match draft {
+        Draft::Nil | Draft::Call(_) => Below::Nothing,
+        Draft::Rep(p) | Draft::Act(_, p) => Below::One(p),
+        Draft::Par(p, q) | Draft::If(_, _, p, q) | Draft::Lookup(_, _, p, q) => Below::Two(p, q),
+    }
+}
+
+// The form of a draft that has one below it, over this process.
+fn over_one(alloc: Global, form: &Draft, next: Box<Process>) -> Result<Box<Process>, Mem>
+    ensures { IfOk result (λ p. proc p.value ≡ with_one (written form.now) (proc next.value)) }
+{
+    match form {
+        Draft::Act(first, _) => acting(alloc, first, next),
+        Draft::Rep(_) => boxed(alloc, Process::Rep(next)),
+        _ => boxed(alloc, Process::Nil),
+    }
+}
+
+// The form of a draft that has two below it, over these processes.
+fn over_two(
+    alloc: Global,
+    form: &Draft,
+    left: Box<Process>,
+    right: Box<Process>,
+) -> Result<Box<Process>, Mem>
+    ensures { IfOk result (λ p. proc p.value ≡ with_two (written form.now) (proc left.value)
+        (proc right.value)) }
+{
+    match form {
+        Draft::Par(_, _) => boxed(alloc, Process::Par(left, right)),
+        Draft::If(t, u, _, _) => testing(alloc, t, u, left, right),
+        Draft::Lookup(t, x, _, _) => looking_up(alloc, t, x, left, right),
+        _ => boxed(alloc, Process::Nil),
+    }
+}
+
+// The draft that a name stands for, which is no name itself; any other draft is what it is.
+#[tactic(auto, using(crate::proofs::Expanded::forms))]
+fn form_of<'a>(entries: &'a Items<Definition>, names: &Names, draft: &'a Draft) -> &'a Draft
+    requires { AreExpanded entries.now names.now }
+    ensures form { IsFormed (meaning_of entries.now) (written result.now) }
+    ensures same { replaced (meaning_of entries.now) (written result.now) ≡ replaced
+        (meaning_of entries.now) (written draft.now) }
+{
+    let Draft::Call(x) = draft else {
+        return draft;
+    };
+    match names.get(x) {
+        None => draft,
+        Some(m) => &entries.at(m.index).draft,
+    }
+}
+
+/// The draft's process, its names replaced by what they stand for, which has so many levels at most. Each term is copied once
+/// for each place where it stands in that process. It takes time in proportion to that process, and recurses as deep as it.
 pub(crate) fn expand(
     alloc: Global,
     entries: &Items<Definition>,
@@ -192,91 +256,17 @@ pub(crate) fn expand(
     ensures { IfOk result (λ p. proc p.value ≡ replaced (meaning_of entries.now)
         (written draft.now)) }
 {
-    let Draft::Call(x) = draft else {
-        return expand_form(alloc, entries, names, depth, draft);
-    };
-    match names.get(x) {
-        None => boxed(alloc, Process::Nil),
-        Some(m) => expand_form(alloc, entries, names, depth, &entries.at(m.place).draft),
-    }
-}
-
-#[cycle(expand)]
-fn expand_below(
-    alloc: Global,
-    entries: &Items<Definition>,
-    names: &Names,
-    depth: u64,
-    draft: &Draft,
-) -> Result<Box<Process>, Mem>
-    requires names { AreExpanded entries.now names.now }
-    requires depth { level_count (replaced (meaning_of entries.now)
-        (written draft.now)) + 1 ≤ depth }
-    ensures { IfOk result (λ p. proc p.value ≡ replaced (meaning_of entries.now)
-        (written draft.now)) }
-{
-    expand(alloc, entries, names, depth - 1, draft)
-}
-
-#[cycle(expand)]
-fn expand_both(
-    alloc: Global,
-    entries: &Items<Definition>,
-    names: &Names,
-    depth: u64,
-    left: &Draft,
-    right: &Draft,
-) -> Result<(Box<Process>, Box<Process>), Mem>
-    requires names { AreExpanded entries.now names.now }
-    requires left { level_count (replaced (meaning_of entries.now) (written left.now)) + 1 ≤ depth }
-    requires right { level_count (replaced (meaning_of entries.now)
-        (written right.now)) + 1 ≤ depth }
-    ensures { IfOk result (λ p. (proc p.0.value ≡ replaced (meaning_of entries.now)
-        (written left.now))
-        × (proc p.1.value ≡ replaced (meaning_of entries.now) (written right.now))) }
-{
-    let left = expand(alloc, entries, names, depth - 1, left)?;
-    let right = expand(alloc, entries, names, depth - 1, right)?;
-    Ok((left, right))
-}
-
-// The same of a draft that is no name.
-#[cycle(expand)]
-fn expand_form(
-    alloc: Global,
-    entries: &Items<Definition>,
-    names: &Names,
-    depth: u64,
-    draft: &Draft,
-) -> Result<Box<Process>, Mem>
-    requires names { AreExpanded entries.now names.now }
-    requires depth { level_count (replaced (meaning_of entries.now) (written draft.now)) ≤ depth }
-    requires form { is_call (written draft.now) ≡ false }
-    ensures { IfOk result (λ p. proc p.value ≡ replaced (meaning_of entries.now)
-        (written draft.now)) }
-{
-    match draft {
-        Draft::Nil => boxed(alloc, Process::Nil),
-        Draft::Call(_) => unreachable!(),
-        Draft::Par(p, q) => {
-            let (left, right) = expand_both(alloc, entries, names, depth, p, q)?;
-            boxed(alloc, Process::Par(left, right))
+    let form = form_of(entries, names, draft);
+    match drafts_below(form) {
+        Below::Nothing => boxed(alloc, Process::Nil),
+        Below::One(p) => {
+            let next = expand(alloc, entries, names, depth - 1, p)?;
+            over_one(alloc, form, next)
         }
-        Draft::Rep(p) => {
-            let next = expand_below(alloc, entries, names, depth, p)?;
-            boxed(alloc, Process::Rep(next))
-        }
-        Draft::Act(first, p) => {
-            let next = expand_below(alloc, entries, names, depth, p)?;
-            acting(alloc, first, next)
-        }
-        Draft::If(t, u, p, q) => {
-            let (then, other) = expand_both(alloc, entries, names, depth, p, q)?;
-            testing(alloc, t, u, then, other)
-        }
-        Draft::Lookup(t, x, p, q) => {
-            let (then, other) = expand_both(alloc, entries, names, depth, p, q)?;
-            looking_up(alloc, t, x, then, other)
+        Below::Two(p, q) => {
+            let left = expand(alloc, entries, names, depth - 1, p)?;
+            let right = expand(alloc, entries, names, depth - 1, q)?;
+            over_two(alloc, form, left, right)
         }
     }
 }

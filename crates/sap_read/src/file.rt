@@ -3,7 +3,7 @@ ghost use Rattle.std.specs.Option.{option_copied};
 ghost use Rattle.sap_text.specs.Tokens.{IsLexed};
 ghost use Rattle.sap_text.specs.declared.fault.Lex.{Lex};
 ghost use Rattle.sap_read.specs.Cut.{Placed, placed, IsCut, last_line};
-ghost use Rattle.sap_read.specs.Words.{words_of};
+ghost use Rattle.sap_grammar.specs.Words.{words_of};
 ghost use Rattle.sap_read.specs.code.Judged.{IsAccepted, IsNoItem, IsRefused, IsRefusedAs, IsWhole, header_of};
 ghost use Rattle.sap_read.specs.Files.{AreTokens};
 ghost use Rattle.sap_process.specs.Proc.{proc};
@@ -17,9 +17,9 @@ ghost use Rattle.sap_read.specs.declared.fault.ReadFault.TheVariants.{Mem as Out
 use crate::expansion::boxed;
 use crate::fault::ReadFault;
 use crate::items::{Declared, read_declarations, read_items};
-use crate::look::{beyond, name_at, starts};
 use crate::whole::whole_process;
 use sap_formula::{LemmaList, RestrictionList};
+use sap_grammar::{beyond, name_at, starts};
 use sap_process::{Process, well_formed_boxed};
 use sap_terms::{Copied, MOST_FILE_NAME_BYTES, Mem, Name, Signature};
 use sap_text::{Lex, Token, tokens};
@@ -47,17 +47,10 @@ impl File {
     pub fn boxed_copy(&self, alloc: Global) -> Result<Box<File>, Mem>
         ensures { IfOk result (λ f. told_by f.value ≡ told_by self.now) }
     {
+        let process = copied_process(alloc, &self.process)?;
         let (name, signature) = self.copied_head(alloc)?;
         let (restrictions, lemmas) = self.copied_lists(alloc)?;
-        let process = copied_process(alloc, &self.process)?;
-        let file = File {
-            name,
-            signature,
-            process: Box::into_inner(process),
-            restrictions,
-            lemmas,
-        };
-        Ok(Box::new(alloc, file)?)
+        boxed_file(alloc, name, signature, process, restrictions, lemmas)
     }
 
     fn copied_head(&self, alloc: Global) -> Result<(Name, Signature), Mem>
@@ -128,7 +121,7 @@ fn read_parts(alloc: Global, bytes: &[u8], tokens: &[Token]) -> Result<Box<File>
     Ok(file_of(alloc, name, declared, process)?)
 }
 
-/// The file of this name with these parts.
+/// The file of this name with what was declared and this process.
 fn file_of(
     alloc: Global,
     name: &[u8],
@@ -139,14 +132,39 @@ fn file_of(
         × (f.value.signature ≡ declared.signature) × (f.value.process ≡ process.value)) }
     ensures none { IfOk result (λ f. (f.value.restrictions ≡ []) × (f.value.lemmas ≡ [])) }
 {
-    let name = Name::from_bytes(alloc, name)?;
     let Declared { signature, .. } = declared;
+    let name = Name::from_bytes(alloc, name)?;
+    let restrictions = RestrictionList::new(alloc);
+    boxed_file(
+        alloc,
+        name,
+        signature,
+        process,
+        restrictions,
+        LemmaList::new(alloc),
+    )
+}
+
+/// The file with these parts.
+fn boxed_file(
+    alloc: Global,
+    name: Name,
+    signature: Signature,
+    process: Box<Process>,
+    restrictions: RestrictionList,
+    lemmas: LemmaList,
+) -> Result<Box<File>, Mem>
+    ensures parts { IfOk result (λ f. (f.value.name ≡ name)
+        × (f.value.signature ≡ signature) × (f.value.process ≡ process.value)) }
+    ensures lists { IfOk result (λ f. (f.value.restrictions ≡ restrictions)
+        × (f.value.lemmas ≡ lemmas)) }
+{
     let file = File {
         name,
         signature,
         process: Box::into_inner(process),
-        restrictions: RestrictionList::new(alloc),
-        lemmas: LemmaList::new(alloc),
+        restrictions,
+        lemmas,
     };
     Ok(Box::new(alloc, file)?)
 }

@@ -1,7 +1,7 @@
 //! Reads the items of a file.
 ghost use Rattle.std.specs.Prelude.{◌≡◌, ◌≤◌, ◌<◌, ◌↔◌, ℕ, true, codes, List, [], ◌∷◌, length, map, is_some, IfOk, IsTrue, OnOk, IsErrOf};
 ghost use Rattle.sap_terms.specs.Signature.{Sig, pairs_alone};
-ghost use Rattle.sap_read.specs.Words.{starts, words_of};
+ghost use Rattle.sap_grammar.specs.Words.{starts, words_of};
 ghost use Rattle.sap_read.specs.Item.{Standing, of_builtin, of_symbol, declarations, bodies};
 ghost use Rattle.sap_read.specs.ItemGrammar.{AreItems, IsEnd, IsFaulty};
 ghost use Rattle.sap_read.specs.Cut.{Placed, placed, first_line, begins_item, IsCut};
@@ -15,8 +15,8 @@ ghost use Rattle.sap_read.specs.declared.fault.ReadFault.TheVariants.{Mem as Out
 use crate::declaration::{Declaration, read_declared};
 use crate::draft::Definition;
 use crate::fault::ReadFault;
-use crate::look::{beyond, is_mark, name_at, starts};
 use crate::process::read_process;
+use sap_grammar::{beyond, is_mark, name_at, starts};
 use sap_terms::{Builtin, Items, Mem, Name, SigFault, Signature, Symbol};
 use sap_text::Token;
 use std::alloc::Global;

@@ -14,7 +14,7 @@ use indexmap::IndexSet;
 use sap_terms::{Copied, Items, Mem, Name};
 use std::alloc::Global;
 
-// The place of the first process without a label at this place or behind it.
+// The index of the first process without a label at this index or behind it.
 fn next_process(entries: &Items<Definition>, from: u64) -> Option<u64>
     ensures next { MatchOption result (unlabelled (map body (drop from entries.now)) ≡ [])
         (IsProcessAt entries.now from) }
@@ -28,7 +28,7 @@ fn next_process(entries: &Items<Definition>, from: u64) -> Option<u64>
     None
 }
 
-/// The place of the file's process; an error where there is none, and where there are several.
+/// The index of the file's process; an error where there is none, and where there are several.
 #[tactic(auto, using(crate::proofs::Caused::one_process))]
 pub(crate) fn the_process(entries: &Items<Definition>) -> Result<u64, ReadFault>
     ensures found { IfOk result (λ k. (e : Definition) × (slice_get entries.now k ≡ Some e)
@@ -61,7 +61,7 @@ fn is_repeated(alloc: Global, names: &mut IndexSet<Name>, entry: &Definition) ->
     Ok(!is_new)
 }
 
-// The place of the first process whose label another behind it has. It takes time in proportion to the list.
+// The index of the first process whose label another behind it has. It takes time in proportion to the list.
 fn first_repeated_at(alloc: Global, entries: &Items<Definition>) -> Result<Option<u64>, Mem>
     ensures { IfOk result (λ k. first_repeated (labels
         (map body entries.now)) ≡ label_of entries.now k) }

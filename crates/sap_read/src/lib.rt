@@ -1,26 +1,26 @@
-//! Files, read from their bytes: their terms, facts and processes, and what they declare.
+//! Files, read from their bytes: their processes, and what they declare.
 #![tactic(auto)]
 
 mod declaration;
 mod draft;
 mod expansion;
-mod fact;
 mod fault;
 mod file;
 mod items;
 mod labels;
 mod laws;
-mod look;
+mod limits;
 mod names;
 mod process;
-mod term;
+mod terms;
 mod whole;
 
-pub use fact::read_fact;
 pub use fault::ReadFault;
 pub use file::{File, read_file, read_file_boxed};
 pub use laws::{
-    grammar_is_one, one_fact, one_file, one_list_of_items, one_process, one_term,
+    file_unless_refused, grammar_is_one, one_file, one_list_of_items, one_process,
     processes_by_hand, some_file,
 };
-pub use term::read_term;
+pub use limits::FILE_LIMITS;
+pub use sap_grammar::{one_fact, one_term};
+pub use terms::{read_fact, read_term};

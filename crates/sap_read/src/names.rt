@@ -16,11 +16,11 @@ use indexmap::IndexMap;
 use sap_terms::{Copied, Items, Mem, Name};
 use std::alloc::Global;
 
-/// What is kept of a name: the place of the process that it stands for, which is no name itself, and the nodes and levels
+/// What is kept of a name: the index of the process that it stands for, which is no name itself, and the nodes and levels
 /// of what it means; from the greatest u64 on, that number.
 #[derive(Clone, Copy)]
 pub(crate) struct Meant {
-    pub(crate) place: u64,
+    pub(crate) index: u64,
     pub(crate) nodes: u64,
     pub(crate) levels: u64,
 }
@@ -91,17 +91,17 @@ fn check_known(alloc: Global, names: &Names, draft: &Draft) -> Result<(), ReadFa
     }
 }
 
-// The place of the process that this one, at place k, is when it is a name; else k.
+// The index of the process that this one, at index k, is when it is a name; else k.
 fn target(names: &Names, draft: &Draft, k: u64) -> u64
     ensures { result ≡ target names.now k (written draft.now) }
 {
     match draft {
-        Draft::Call(x) => names.get(x).map_or(k, |m| m.place),
+        Draft::Call(x) => names.get(x).map_or(k, |m| m.index),
         _ => k,
     }
 }
 
-// Keeps the name of the process at place k, if it has one.
+// Keeps the name of the process at index k, if it has one.
 fn keep(alloc: Global, names: &mut Names, entry: &Definition, k: u64) -> Result<(), Mem>
     ensures { OnOk result ((x : List ℕ)
         → get bytes_eq names.new x ≡ kept_behind names.old k entry.now.label
@@ -111,13 +111,28 @@ fn keep(alloc: Global, names: &mut Names, entry: &Definition, k: u64) -> Result<
         return Ok(());
     };
     let meant = Meant {
-        place: target(names, &entry.draft, k),
+        index: target(names, &entry.draft, k),
         nodes: nodes(names, &entry.draft),
         levels: levels(names, &entry.draft),
     };
     let name = label.copy(alloc)?;
     names.insert(name, meant)?;
     Ok(())
+}
+
+// Keeps the name of the process at index k, if it has one; refuses the process where a name in it isn't defined.
+fn enter(alloc: Global, names: &mut Names, entry: &Definition, k: u64) -> Result<(), ReadFault>
+    ensures known { OnOk result (unknown_among names.old (calls
+        (written entry.now.draft.value)) ≡ None) }
+    ensures kept { OnOk result ((x : List ℕ)
+        → get bytes_eq names.new x ≡ kept_behind names.old k entry.now.label
+        (written entry.now.draft.value) x) }
+    ensures unknown { (e : ReadFault) → IsErrOf result e → (e ≡ OutOfMemory → ⊥)
+        → option_map IsUnknown (unknown_among names.old (calls
+        (written entry.now.draft.value))) ≡ Some e }
+{
+    check_known(alloc, names, &entry.draft)?;
+    Ok(keep(alloc, names, entry, k)?)
 }
 
 /// The names of the processes; an error where a process has a name that none before it defines. It takes time in proportion
@@ -131,8 +146,7 @@ pub(crate) fn names_of(alloc: Global, entries: &Items<Definition>) -> Result<Nam
 {
     let mut names = IndexMap::new(alloc);
     for (k, entry) in entries.as_slice().iter().enumerate() {
-        check_known(alloc, &names, &entry.draft)?;
-        keep(alloc, &mut names, entry, k as u64)?;
+        enter(alloc, &mut names, entry, k as u64)?;
     }
     Ok(names)
 }

@@ -1,7 +1,7 @@
 //! Reads processes.
 ghost use Rattle.std.specs.Prelude.{IfOk, IfSome, IfNone};
 ghost use Rattle.sap_terms.specs.Signature.{Sig};
-ghost use Rattle.sap_read.specs.Words.{words_of};
+ghost use Rattle.sap_grammar.specs.Words.{words_of};
 ghost use Rattle.sap_read.specs.Written.{Written};
 ghost use Rattle.sap_read.specs.ItemGrammar.{IsProcess};
 ghost use Rattle.sap_read.specs.code.Drafts.{written};
@@ -13,6 +13,7 @@ mod grammar;
 mod parts;
 
 use crate::draft::Draft;
+use crate::laws::term_laws;
 use crate::process::grammar::read_par;
 use sap_terms::{MOST_PROCESS_LEVELS, Mem, Signature};
 use sap_text::Token;
@@ -30,6 +31,7 @@ pub(crate) fn read_process(
     ensures none { IfOk result (λ o. IfNone o ((g : Sig) (p : Written)
         → IsProcess g p (words_of bytes.now tokens.now) → ⊥)) }
 {
+    term_laws();
     match read_par(alloc, sig, bytes, MOST_PROCESS_LEVELS as u32, tokens)? {
         None => Ok(None),
         Some((process, _, rest)) => {

@@ -97,7 +97,7 @@ pub(crate) fn whole_process(
     ensures refused { (e : ReadFault) → IsErrOf result e → (e ≡ OutOfMemory → ⊥)
         → cause (map body entries.now) clash.now ≡ Some e }
 {
-    let place = the_process(entries)?;
+    let index = the_process(entries)?;
     let names = names_of(alloc, entries)?;
-    known_process(alloc, entries, &names, clash, entries.at(place))
+    known_process(alloc, entries, &names, clash, entries.at(index))
 }

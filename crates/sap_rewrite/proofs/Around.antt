@@ -14,7 +14,7 @@ use Rattle.sap_terms.specs.Equations.{equations, IsInstance, first, second, symm
 use Rattle.sap_terms.specs.Tree.{Tree, variable, public, fresh, apply, Trees, none, more}
 use Rattle.sap_rewrite.specs.Around.{outer_vars, all_outer_vars, FitsAround, FitAll, HoldsUnder, HoldAll}
 use Rattle.sap_rewrite.specs.Pattern.{IsNormalChoice}
-use Rattle.sap_rewrite.specs.Reduce.{contracted, reduced, nf, nfs}
+use Rattle.sap_rewrite.specs.code.Reduce.{contracted, reduced, nf, nfs}
 use Rattle.sap_rewrite.proofs.NormalForms.{nf-reached, nf-fixed}
 use Rattle.sap_rewrite.proofs.Patterns.{equal_from_same}
 use Rattle.sap_rewrite.proofs.Reach.{AreTheoryEqual, done, join_all, at_head, at_tail, within}

@@ -17,10 +17,10 @@ use Rattle.sap_terms.specs.Equations.{equations}
 use Rattle.sap_terms.specs.Tree.{Tree, public, fresh}
 use Rattle.sap_terms.specs.Variables.{tree_vars, is_known, new_vars}
 use Rattle.sap_terms.specs.View.{tree}
-use Rattle.sap_terms.specs.code.SameLaws.{same_name, and_left, and_right, and_true}
+use Rattle.sap_terms.proofs.PlainLaws.Tests.{same_name, and_left, and_right, and_true}
 use Rattle.sap_rewrite.specs.Bound.{AreNamedOnce}
 use Rattle.sap_rewrite.specs.Match.{Extends, Agrees, HaveOneSort, bound_vars, names}
-use Rattle.sap_rewrite.specs.Walk.{skipped}
+use Rattle.sap_rewrite.specs.code.Walk.{skipped}
 use Rattle.sap_rewrite.proofs.Around.{IsPlain, nothing_in}
 use Rattle.sap_rewrite.proofs.Choices.{SameFor, first_item, later_item, same_fit, bound_as_chosen, known_front, known_here, extended_names, extended_vars, extended_among, agreeing}
 use Rattle.sap_rewrite.proofs.NormalForms.{leaf-normal}

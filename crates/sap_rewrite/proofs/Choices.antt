@@ -12,10 +12,10 @@ use Rattle.sap_terms.specs.Tree.{Tree, variable, public, fresh, apply, Trees, no
 use Rattle.sap_terms.specs.View.{tree, term, tree-term}
 use Rattle.sap_terms.specs.Choice.{Choice, fits_sort, IsSorted}
 use Rattle.sap_terms.specs.Subst.{bound_to}
-use Rattle.sap_terms.specs.code.SameLaws.{same_name}
+use Rattle.sap_terms.proofs.PlainLaws.Tests.{same_name}
 use Rattle.sap_rewrite.specs.Match.{AllSorted, names, Extends, Agrees, HaveOneSort, bound_vars}
 use Rattle.sap_terms.specs.Variables.{is_known, new_vars}
-use Rattle.sap_rewrite.specs.Walk.{match_tree}
+use Rattle.sap_rewrite.specs.code.Walk.{match_tree}
 use Rattle.sap_rewrite.proofs.Skips.{met_vars, all_met_vars, FitsBut, AllFitBut}
 use Rattle.sap_rewrite.proofs.WalkLemmas.{added_names, walk, walk_finds}
 

@@ -12,7 +12,7 @@ use Rattle.sap_terms.specs.Tree.{Tree, variable, public, fresh, apply, Trees, no
 use Rattle.sap_terms.specs.Variables.{tree_vars, trees_vars}
 use Rattle.sap_terms.specs.declared.var.Var.{Var}
 use Rattle.sap_rewrite.specs.Laws.{EqualityIsKept, SymbolsReduceOnce}
-use Rattle.sap_rewrite.specs.Reduce.{contracted}
+use Rattle.sap_rewrite.specs.code.Reduce.{contracted}
 use Rattle.sap_rewrite.proofs.Lent.{all_normal}
 use Rattle.sap_rewrite.proofs.NormalForms.{no_instance, right-normal}
 use Rattle.sap_rewrite.proofs.Reach.{AreTheoryEqual, done, join, join_all, at_head, at_tail, within, back}

@@ -5,10 +5,10 @@ use Rattle.std.specs.Bool.{OnFalse}
 use Rattle.std.proofs.lemmas.Bool.Decides.{nat_tests}
 use Rattle.sap_terms.specs.Tree.{Tree, variable, public, fresh, apply, Trees, none, more, node_count, trees_count, trees_of}
 use Rattle.sap_terms.specs.Equations.{Equations}
-use Rattle.sap_terms.specs.code.SameLaws.{and_left, and_right, and_true}
-use Rattle.sap_terms.proofs.TreeLemmas.{item_le-trees_count}
-use Rattle.sap_rewrite.specs.Reduce.{nf}
-use Rattle.sap_rewrite.specs.Fit.{form_fits, each_fits, all_fit}
+use Rattle.sap_terms.proofs.PlainLaws.Tests.{and_left, and_right, and_true}
+use Rattle.sap_terms.proofs.PlainLaws.Trees.{item_le-trees_count}
+use Rattle.sap_rewrite.specs.code.Reduce.{nf}
+use Rattle.sap_rewrite.specs.code.Fit.{form_fits, each_fits, all_fit}
 use Rattle.sap_rewrite.specs.Large.{SomeSubterm, itself, below, SomeSubtermWithin, here, later, HasLargeForm}
 use Rattle.sap_rewrite.proofs.NormalForms.{has_normal_form, one_normal_form}
 use Rattle.sap_rewrite.proofs.ListLaws.{nf-variable, nf-public, nf-fresh, nf-apply}

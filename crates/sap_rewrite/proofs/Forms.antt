@@ -10,7 +10,7 @@ use Rattle.sap_terms.specs.declared.signature.Builtin.TheVariants.{Signing, Reve
 use Rattle.sap_terms.specs.declared.signature.Symbol.{Symbol}
 use Rattle.sap_terms.specs.Equations.{equations, IsInstance, first, second, symmetric, asymmetric, signing, revealing, revealed}
 use Rattle.sap_terms.specs.Tree.{Tree, variable, public, fresh, apply, Trees, none, more, list_of}
-use Rattle.sap_rewrite.specs.Reduce.{contracted, reduced, nf, nfs}
+use Rattle.sap_rewrite.specs.code.Reduce.{contracted, reduced, nf, nfs}
 use Rattle.sap_rewrite.proofs.NormalForms.{one_normal_form}
 use Rattle.sap_rewrite.proofs.Sound.{contracted-sound}
 

@@ -5,8 +5,8 @@ use Rattle.std.proofs.lemmas.List.Elements.{All-head, All-tail}
 use Rattle.sap_terms.specs.Tree.{Tree, apply, node_count, trees_count, trees_of}
 use Rattle.sap_terms.specs.Equations.{Equations}
 use Rattle.sap_terms.specs.Normal.{IsNormal, AreNormal, IsNormalForm}
-use Rattle.sap_terms.proofs.TreeLemmas.{take_got}
-use Rattle.sap_rewrite.specs.Reduce.{reduced}
+use Rattle.sap_terms.proofs.PlainLaws.Lists.{take_got}
+use Rattle.sap_rewrite.specs.code.Reduce.{reduced}
 use Rattle.sap_rewrite.proofs.Fits.{trees_count-push}
 use Rattle.sap_rewrite.proofs.NormalForms.{reduced-equal, reduced-normal}
 

@@ -2,9 +2,9 @@
 use Rattle.std.proofs.Common.{◌≡◌, ℕ, List, [], ◌∷◌, map, refl, ap}
 use Rattle.sap_terms.specs.declared.var.Var.{Var}
 use Rattle.sap_terms.specs.Tree.{Tree, variable, public, fresh, apply, more, trees_of}
-use Rattle.sap_terms.proofs.TreeLemmas.{item_le-trees_count}
+use Rattle.sap_terms.proofs.PlainLaws.Trees.{item_le-trees_count}
 use Rattle.sap_terms.specs.Equations.{Equations}
-use Rattle.sap_rewrite.specs.Reduce.{nf, nfs, reduced}
+use Rattle.sap_rewrite.specs.code.Reduce.{nf, nfs, reduced}
 
 pub nfs-trees_of : (e : Equations) (ts : List Tree) → nfs e (trees_of ts) ≡ trees_of (map (nf e) ts)
 unfolding nf nfs

@@ -4,7 +4,7 @@ use Rattle.sap_terms.specs.Tree.{Tree, variable, public, fresh, apply, Trees, no
 use Rattle.sap_terms.specs.Equations.{Equations, IsInstance, first, second, symmetric, asymmetric, signing, revealing, revealed, true_name}
 use Rattle.sap_terms.specs.Equal.{forward, IsTheoryEqual, same, next}
 use Rattle.sap_terms.specs.Normal.{IsNoLeftSide, IsNormal, AreNormal, IsNormalForm}
-use Rattle.sap_rewrite.specs.Reduce.{contracted, reduced, nf, nfs}
+use Rattle.sap_rewrite.specs.code.Reduce.{contracted, reduced, nf, nfs}
 use Rattle.sap_rewrite.proofs.Sound.{contracted-sound, contracted-complete, contracted_tree}
 use Rattle.sap_rewrite.proofs.Reach.{AreTheoryEqual, done, join, join_all, at_head, at_tail, within, back}
 use Rattle.sap_rewrite.proofs.Respects.{nf-equal}

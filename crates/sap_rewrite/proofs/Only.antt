@@ -9,7 +9,7 @@ use Rattle.sap_terms.specs.Subst.{bound_to}
 use Rattle.sap_terms.specs.Tree.{Tree}
 use Rattle.sap_rewrite.specs.Around.{IsOnlyFit, HasNoFit}
 use Rattle.sap_rewrite.specs.Match.{Extends, IsMatch, HaveOneSort, bound_vars, IsOnlyMatch, HasNoMatch}
-use Rattle.sap_rewrite.specs.Walk.{match_tree, skipped}
+use Rattle.sap_rewrite.specs.code.Walk.{match_tree, skipped}
 use Rattle.sap_rewrite.proofs.Choices.{found_agrees, none_fits, agreeing_fits}
 use Rattle.sap_rewrite.proofs.Skips.{met-all, met-outer, FitsBut, fits-instance, instance-fits, fits-around, around-fits}
 use Rattle.sap_rewrite.proofs.WalkLemmas.{walk, walk_finds}

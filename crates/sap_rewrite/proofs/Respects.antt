@@ -3,8 +3,8 @@ use Rattle.std.proofs.Common.{◌≡◌, refl, sym, ap, ◌∙◌}
 use Rattle.sap_terms.specs.Tree.{Tree, Trees, more}
 use Rattle.sap_terms.specs.Equations.{Equations, IsInstance, first, second, symmetric, asymmetric, signing, revealing, revealed}
 use Rattle.sap_terms.specs.Equal.{IsStep, forward, backward, inside, IsStepWithin, here, later, IsTheoryEqual, same, next}
-use Rattle.sap_rewrite.specs.Reduce.{nf, nfs, reduced}
-use Rattle.sap_terms.specs.code.SameLaws.{same_tree-refl}
+use Rattle.sap_rewrite.specs.code.Reduce.{nf, nfs, reduced}
+use Rattle.sap_terms.proofs.PlainLaws.Tests.{same_tree-refl}
 
 nf-instance : (e : Equations) {a b : Tree} → IsInstance e a b → nf e a ≡ nf e b
 unfolding nf nfs

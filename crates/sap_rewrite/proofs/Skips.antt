@@ -7,7 +7,7 @@ use Rattle.sap_terms.specs.Signature.{Sig, is_destructor_of}
 use Rattle.sap_terms.specs.Tree.{Tree, variable, public, fresh, apply, Trees, none, more}
 use Rattle.sap_terms.specs.Variables.{tree_vars, trees_vars}
 use Rattle.sap_rewrite.specs.Around.{outer_vars, all_outer_vars, FitsAround, FitAll}
-use Rattle.sap_rewrite.specs.Walk.{skipped}
+use Rattle.sap_rewrite.specs.code.Walk.{skipped}
 
 abbrev mutual
   -- each occurrence of a variable outside what is skipped, from the left

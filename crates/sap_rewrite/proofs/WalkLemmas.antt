@@ -11,12 +11,12 @@ use Rattle.sap_terms.specs.Tree.{Tree, variable, public, fresh, apply, Trees, no
 use Rattle.sap_terms.specs.declared.term.Term.{Term}
 use Rattle.sap_terms.specs.View.{tree, term, term-tree, tree-term}
 use Rattle.sap_terms.specs.Subst.{bound_to}
-use Rattle.sap_terms.specs.code.SameLaws.{same_tree-sound, same_tree-refl, same_name}
+use Rattle.sap_terms.proofs.PlainLaws.Tests.{same_tree-sound, same_tree-refl, same_name}
 use Rattle.sap_terms.specs.Choice.{fits_sort}
 use Rattle.sap_rewrite.specs.Match.{AllSorted, names, Extends}
 use Rattle.sap_terms.specs.Variables.{is_known, new_vars}
-use Rattle.sap_rewrite.specs.Reduce.{guard, ◌>>=◌}
-use Rattle.sap_rewrite.specs.Walk.{bound, match_variable, match_tree, match_trees}
+use Rattle.sap_rewrite.specs.code.Reduce.{guard, ◌>>=◌}
+use Rattle.sap_rewrite.specs.code.Walk.{bound, match_variable, match_tree, match_trees}
 use Rattle.sap_rewrite.proofs.Skips.{met_vars, all_met_vars, FitsBut, AllFitBut}
 
 bound_to-bound : (b : List Binding) (v : Var) → bound_to b v ≡ unwrap_or (bound b v.name) (variable v)

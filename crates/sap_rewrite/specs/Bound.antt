@@ -16,17 +16,23 @@ abbrev pub AreNamedOnce : List Var → Type 0
 AreNamedOnce [] = Unit {0}
 AreNamedOnce (v ∷ vs) = (is_known (map (λ (w : Var). w.name) vs) v.name ≡ false) × AreNamedOnce vs
 
--- bindings extend themselves by no variables; what extends what extends them, extends them by both lists; and what extends
--- them by some variables binds no others
-abbrev pub ExtensionsJoin : Type 0
-ExtensionsJoin =
-    ((b : List Binding) → Extends b [] b) × ((b c d : List Binding) (vs ws : List Var) → Extends b vs c → Extends c ws d → Extends b (vs ++ ws) d) × ((b c : List Binding) (vs : List Var) → Extends b vs c → (v : Var) → Contains (bound_vars c) v → Contains (bound_vars b ++ vs) v)
+-- how extensions of bindings go together
+pub record ExtensionsJoin : Type 0 where
+  -- by no variables bindings extend themselves
+  pub by_none : (b : List Binding) → Extends b [] b
+  -- what extends what extends them, extends them by both lists
+  pub in_turn : (b c d : List Binding) (vs ws : List Var) → Extends b vs c → Extends c ws d → Extends b (vs ++ ws) d
+  -- what extends them by some variables binds no others
+  pub bind_no_others : (b c : List Binding) (vs : List Var) → Extends b vs c → (v : Var) → Contains (bound_vars c) v → Contains (bound_vars b ++ vs) v
 
--- first occurrences are named once; where bindings name each variable once, so does what extends them, and they agree with
--- the choice that they make
-abbrev pub NamedOnceStay : Type 0
-NamedOnceStay =
-    ((known : List (List ℕ)) (vs : List Var) → AreNamedOnce (new_vars known vs)) × ((b c : List Binding) (vs : List Var) → Extends b vs c → AreNamedOnce (bound_vars b) → AreNamedOnce (bound_vars c)) × ((b : List Binding) → AreNamedOnce (bound_vars b) → Agrees b (bound_to b))
+-- where each variable is named once, and what follows
+pub record NamedOnceStay : Type 0 where
+  -- first occurrences are named once
+  pub first_occurrences : (known : List (List ℕ)) (vs : List Var) → AreNamedOnce (new_vars known vs)
+  -- where bindings name each variable once, so does what extends them
+  pub extended : (b c : List Binding) (vs : List Var) → Extends b vs c → AreNamedOnce (bound_vars b) → AreNamedOnce (bound_vars c)
+  -- and they agree with the choice that they make
+  pub agree : (b : List Binding) → AreNamedOnce (bound_vars b) → Agrees b (bound_to b)
 
 -- some choice of messages agrees with bindings to messages that name each variable once
 abbrev pub BindingsGiveChoices : Type 0

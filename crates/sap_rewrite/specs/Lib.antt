@@ -1,12 +1,10 @@
-pub mod Reduce
 pub mod Large
-pub mod Fit
 pub mod Laws
 pub mod Match
-pub mod Walk
 pub mod Pattern
 pub mod Around
 pub mod Bound
+pub mod code
 pub use Rattle.sap_terms.specs.Tree
 pub use Rattle.sap_terms.specs.View
 pub use Rattle.sap_terms.specs.Signature

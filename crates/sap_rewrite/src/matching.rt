@@ -5,7 +5,7 @@ ghost use Rattle.sap_terms.specs.Tree.{trees_of};
 ghost use Rattle.sap_terms.specs.Choice.{fits_sort};
 ghost use Rattle.sap_rewrite.specs.Around.{HasNoFit, IsOnlyFit};
 ghost use Rattle.sap_rewrite.specs.Match.{IsOnlyMatch, HasNoMatch};
-ghost use Rattle.sap_rewrite.specs.Walk.{bound, match_variable, match_tree, match_trees, skipped};
+ghost use Rattle.sap_rewrite.specs.code.Walk.{bound, match_variable, match_tree, match_trees, skipped};
 
 use sap_terms::{Binding, Bindings, Copied, Mem, Name, Signature, Sort, Term, TermList, Var};
 use std::alloc::Global;

@@ -3,7 +3,7 @@ ghost use Rattle.sap_terms.specs.View.{tree};
 ghost use Rattle.sap_terms.specs.Equations.{equations};
 ghost use Rattle.sap_terms.specs.Equal.{IsTheoryEqual};
 ghost use Rattle.sap_terms.specs.Normal.{IsNormalForm};
-ghost use Rattle.sap_rewrite.specs.Reduce.{nf};
+ghost use Rattle.sap_rewrite.specs.code.Reduce.{nf};
 
 use crate::reduce::reduce;
 use sap_terms::{Copied, Mem, Signature, Term, TermList};

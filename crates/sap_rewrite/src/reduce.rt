@@ -4,7 +4,7 @@ ghost use Rattle.std.specs.Bool.{OnFalse};
 ghost use Rattle.sap_terms.specs.View.{tree};
 ghost use Rattle.sap_terms.specs.Tree.{apply, trees_of};
 ghost use Rattle.sap_terms.specs.Equations.{equations, app0, true_name};
-ghost use Rattle.sap_rewrite.specs.Reduce.{inner_part, place, by_signing, by_revealing, by_check, reduced};
+ghost use Rattle.sap_rewrite.specs.code.Reduce.{inner_part, place, by_signing, by_revealing, by_check, reduced};
 
 use crate::lends::Lends;
 use crate::shape::{first_part, opened, opened_by_key, second_part, verifies};

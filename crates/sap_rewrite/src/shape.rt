@@ -4,7 +4,7 @@ ghost use Rattle.std.specs.Option.{option_copied};
 ghost use Rattle.sap_terms.specs.View.{tree};
 ghost use Rattle.sap_terms.specs.Tree.{trees_of};
 ghost use Rattle.sap_terms.specs.Equations.{app0, true_name};
-ghost use Rattle.sap_rewrite.specs.Reduce.{args1, args2, args3, under, first_part, second_part, opened, opened_by_key, verified};
+ghost use Rattle.sap_rewrite.specs.code.Reduce.{args1, args2, args3, under, first_part, second_part, opened, opened_by_key, verified};
 
 use crate::lends::Lends;
 use sap_terms::{Term, TermList};

@@ -4,7 +4,7 @@ ghost use Rattle.sap_terms.specs.View.{tree};
 ghost use Rattle.sap_terms.specs.Tree.{apply, node_count, trees_count, trees_of};
 ghost use Rattle.sap_terms.specs.Equations.{equations};
 ghost use Rattle.sap_terms.specs.Normal.{IsNormal, IsNormalForm};
-ghost use Rattle.sap_rewrite.specs.Reduce.{inner_part, reduced};
+ghost use Rattle.sap_rewrite.specs.code.Reduce.{inner_part, reduced};
 ghost use Rattle.sap_rewrite.specs.Large.{HasLargeForm};
 
 use crate::Cut;

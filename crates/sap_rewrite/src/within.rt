@@ -4,8 +4,8 @@ ghost use Rattle.sap_terms.specs.View.{tree};
 ghost use Rattle.sap_terms.specs.Tree.{apply, node_count, trees_of, trees_count};
 ghost use Rattle.sap_terms.specs.Equations.{equations};
 ghost use Rattle.sap_terms.specs.Normal.{IsNormalForm};
-ghost use Rattle.sap_rewrite.specs.Reduce.{nf, reduced};
-ghost use Rattle.sap_rewrite.specs.Fit.{each_fits, all_fit};
+ghost use Rattle.sap_rewrite.specs.code.Reduce.{nf, reduced};
+ghost use Rattle.sap_rewrite.specs.code.Fit.{each_fits, all_fit};
 ghost use Rattle.sap_rewrite.specs.Large.{HasLargeSubterm};
 
 use crate::Cut;

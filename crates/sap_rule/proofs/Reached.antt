@@ -5,8 +5,9 @@ use Rattle.std.specs.List.{AllZip}
 use Rattle.std.proofs.lemmas.List.Elements.{All-nil, All-cons, All-head, All-tail, All-push, All-contains, All-weaker}
 use Rattle.sap_terms.specs.AdversaryFacts.{linear, in_fact, fr_fact}
 use Rattle.sap_terms.specs.Choice.{Choice, instance, instances}
-use Rattle.sap_terms.specs.Equations.{Equations, equations, IsInstance}
+use Rattle.sap_terms.specs.Equations.{equations}
 use Rattle.sap_terms.specs.Ground.{IsGround, AreGround}
+use Rattle.sap_terms.specs.Laws.{NamesAreMessages}
 use Rattle.sap_terms.specs.Message.{IsMessage, IsMessageChoice, IsOver, AreOver, IsMessageFact, AreMessageFacts}
 use Rattle.sap_terms.specs.Modulo.{instance_facts, AreFormsOfFacts}
 use Rattle.sap_terms.specs.Normal.{IsNormalForm}
@@ -19,19 +20,6 @@ use Rattle.sap_rule.specs.Messages.{TakenAreMessages, StepsKeepMessages, RunsRea
 use Rattle.sap_rule.specs.RuleSteps.{starts, further, makes_name, learns, owns, knows_public, applies, gives, uses}
 use Rattle.sap_rule.specs.WellMade.{IsWellMade, IsFactOver}
 use Rattle.sap_rule.proofs.Takings.{taken, added}
-
--- no equation has a name for its left side
-fresh_normal : (e : Equations) (n : ℕ) (b : Tree) → IsInstance e (fresh n) b → ⊥
-fresh_normal e n b h = elim h [ ]
-
-public_normal : (e : Equations) (a : List ℕ) (b : Tree) → IsInstance e (public a) b → ⊥
-public_normal e a b h = elim h [ ]
-
-fresh_message : (g : Sig) (n : ℕ) → IsMessage g Msg (fresh n)
-fresh_message g n = record { ground = tt; over = tt; normal = fresh_normal (equations g) n; sorted = refl }
-
-public_message : (g : Sig) (a : List ℕ) → IsMessage g Msg (public a)
-public_message g a = record { ground = tt; over = tt; normal = public_normal (equations g) a; sorted = refl }
 
 -- the instance of a term over the signature is ground and over it
 instances_length : (σ : Choice) (ts : Trees) → length (list_of (instances σ ts)) ≡ length (list_of ts)
@@ -90,26 +78,26 @@ argument g name t h = All-head (IsMessage g Msg) t [] (All-head (IsMessageFact g
 pub from_messages : TakenAreMessages
 from_messages g s ks fs rest h takes = (taken (IsMessageFact g) takes h.facts).0
 
-pub kept : FormsAreMessages → StepsKeepMessages
-kept forms g rules s z acts builtins well h (makes_name n new) = (
+pub kept : NamesAreMessages → FormsAreMessages → StepsKeepMessages
+kept names forms g rules s z acts builtins well h (makes_name n new) = (
   All-nil (IsMessageFact g),
-  record { facts = added (IsMessageFact g) s.facts (fr_fact n ∷ []) h.facts (single g _ (fresh n) (fresh_message g n)); known = h.known },
+  record { facts = added (IsMessageFact g) s.facts (fr_fact n ∷ []) h.facts (single g _ (fresh n) (names.fresh_name g Msg n refl)); known = h.known },
 )
-kept forms g rules s z acts builtins well h (learns k t takes) =
+kept names forms g rules s z acts builtins well h (learns k t takes) =
     let q = taken (IsMessageFact g) takes h.facts in (
       All-nil (IsMessageFact g),
       record { facts = q.1; known = All-push (IsMessage g Msg) s.known t h.known (argument g _ t q.0) },
     )
-kept forms g rules s z acts builtins well h (owns k n takes) =
+kept names forms g rules s z acts builtins well h (owns k n takes) =
     let q = taken (IsMessageFact g) takes h.facts in (
       All-nil (IsMessageFact g),
-      record { facts = q.1; known = All-push (IsMessage g Msg) s.known (fresh n) h.known (fresh_message g n) },
+      record { facts = q.1; known = All-push (IsMessage g Msg) s.known (fresh n) h.known (names.fresh_name g Msg n refl) },
     )
-kept forms g rules s z acts builtins well h (knows_public a) = (
+kept names forms g rules s z acts builtins well h (knows_public a) = (
   All-nil (IsMessageFact g),
-  record { facts = h.facts; known = All-push (IsMessage g Msg) s.known (public a) h.known (public_message g a) },
+  record { facts = h.facts; known = All-push (IsMessage g Msg) s.known (public a) h.known (names.public_name g Msg a refl) },
 )
-kept forms g rules s z acts builtins well h (applies f ts t is_public arity known form) =
+kept names forms g rules s z acts builtins well h (applies f ts t is_public arity known form) =
     let all : All (IsMessage g Msg) ts = All-weaker (Contains s.known) (IsMessage g Msg) (λ u c. All-contains (IsMessage g Msg) s.known u h.known c) ts known in
     let held : arity_of g f ≡ Some (length (list_of (trees_of ts))) = arity ∙ ap (λ us. Some (length us)) (sym (list_of-trees_of ts)) in (
       All-nil (IsMessageFact g),
@@ -118,10 +106,10 @@ kept forms g rules s z acts builtins well h (applies f ts t is_public arity know
         known = All-push (IsMessage g Msg) s.known t h.known (forms g (apply f (trees_of ts)) t builtins (all_ground g ts all) (held, all_over g ts all) form);
       },
     )
-kept forms g rules s z acts builtins well h (gives t known) =
+kept names forms g rules s z acts builtins well h (gives t known) =
     let one = All-contains (IsMessage g Msg) s.known t h.known known in
     (single g _ t one, record { facts = added (IsMessageFact g) s.facts (in_fact t ∷ []) h.facts (single g _ t one); known = h.known })
-kept forms g rules s z acts builtins well h (uses {rest = rest} r ks σ left shown right among takes used) =
+kept names forms g rules s z acts builtins well h (uses {rest = rest} r ks σ left shown right among takes used) =
     let q = taken (IsMessageFact g) takes h.facts in
     let over = (All-contains (IsWellMade g) rules r well among).over in (
       facts_messages forms g σ r.acts acts builtins used.messages over.acts used.shows,

@@ -9,13 +9,13 @@ use Rattle.sap_rule.proofs.Elements.{all_at}
 module _ (P : Fact → Type 0) where
   -- it is so of each that stands
   abbrev pub EachStands : Pile → Type 0
-  EachStands facts = All (λ (place : Option Fact). IfSome place P) facts
+  EachStands facts = All (λ (slot : Option Fact). IfSome slot P) facts
 
   stands_set : (facts : Pile) (k : ℕ) → EachStands facts → EachStands (slice_set facts k None)
   stands_set [] k h = h
-  stands_set (x ∷ xs) zero h = All-cons (λ (place : Option Fact). IfSome place P) None xs tt (All-tail (λ (place : Option Fact). IfSome place P) x xs h)
+  stands_set (x ∷ xs) zero h = All-cons (λ (slot : Option Fact). IfSome slot P) None xs tt (All-tail (λ (slot : Option Fact). IfSome slot P) x xs h)
   stands_set (x ∷ xs) (suc k) h =
-      All-cons (λ (place : Option Fact). IfSome place P) x (slice_set xs k None) (All-head (λ (place : Option Fact). IfSome place P) x xs h) (stands_set xs k (All-tail (λ (place : Option Fact). IfSome place P) x xs h))
+      All-cons (λ (slot : Option Fact). IfSome slot P) x (slice_set xs k None) (All-head (λ (slot : Option Fact). IfSome slot P) x xs h) (stands_set xs k (All-tail (λ (slot : Option Fact). IfSome slot P) x xs h))
 
   stands_used : (facts : Pile) (k : ℕ) (f : Fact) → EachStands facts → EachStands (used facts k f)
   stands_used facts k f h = elim f.persistent as (λ b. EachStands (if b then facts else slice_set facts k None)) [ true ↦ h | false ↦ stands_set facts k h ]
@@ -24,8 +24,8 @@ module _ (P : Fact → Type 0) where
   taken nothing h = (All-nil P, h)
   taken {facts = facts} (one {k = k} {f = f} {fs = fs} at t) h =
       let further = taken t (stands_used facts k f h) in
-      (All-cons P f fs (all_at (λ (place : Option Fact). IfSome place P) facts k (Some f) h at) further.0, further.1)
+      (All-cons P f fs (all_at (λ (slot : Option Fact). IfSome slot P) facts k (Some f) h at) further.0, further.1)
 
   pub added : (facts : Pile) (fs : List Fact) → EachStands facts → All P fs → EachStands (adds facts fs)
   added facts fs h a =
-      All-append (λ (place : Option Fact). IfSome place P) facts (map (λ f. Some f) fs) h (All-map (λ (place : Option Fact). IfSome place P) (λ f. Some f) fs a)
+      All-append (λ (slot : Option Fact). IfSome slot P) facts (map (λ f. Some f) fs) h (All-map (λ (slot : Option Fact). IfSome slot P) (λ f. Some f) fs a)

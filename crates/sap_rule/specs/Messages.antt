@@ -12,7 +12,7 @@ use Rattle.sap_rule.specs.declared.rule.Rule.{Rule}
 
 -- the arguments of the facts that stand are messages, and what the adversary knows are
 pub record HoldsMessages (g : Sig) (s : RuleState) : Type 0 where
-  pub facts : All (λ (place : Option Fact). IfSome place (IsMessageFact g)) s.facts
+  pub facts : All (λ (slot : Option Fact). IfSome slot (IsMessageFact g)) s.facts
   pub known : All (IsMessage g Msg) s.known
 
 -- what can be taken from such a state are facts of messages

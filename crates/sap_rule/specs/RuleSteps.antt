@@ -64,7 +64,7 @@ pub data RuleStep (g : Sig) (rules : List Rule) : RuleState → List Fact → Ru
   -- a rule takes its left side, shows its acts and adds its right side
   uses : {s : RuleState} {rest : Pile} (r : Rule) (ks : List ℕ) (σ : Choice) (left acts right : List Fact) → Contains rules r → Takes s.facts ks left rest → IsUse g r σ left acts right → RuleStep g rules s acts (leaves s (adds rest right))
 
--- from the empty state a run leads to this state, and what its steps show, place by place, is this full trace
+-- from the empty state a run leads to this state, and what its steps show, time by time, is this full trace
 pub data RuleRun (g : Sig) (rules : List Rule) : RuleState → Trace → Type 0 where
   starts : RuleRun g rules empty_state []
   further : {s z : RuleState} {full : Trace} {acts : List Fact} → RuleRun g rules s full → RuleStep g rules s acts z → RuleRun g rules z (full ++ acts ∷ [])

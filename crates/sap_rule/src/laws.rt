@@ -2,6 +2,7 @@
 ghost use Rattle.sap_rule.specs.Messages.{TakenAreMessages, StepsKeepMessages, RunsReachMessages};
 
 use sap_rewrite::forms_are_messages;
+use sap_terms::names_are_messages;
 
 /// What can be taken from a state that holds messages are facts of messages.
 pub fn taken_facts_are_messages()
@@ -12,6 +13,7 @@ pub fn taken_facts_are_messages()
 pub fn steps_keep_messages()
     ensures { StepsKeepMessages }
 {
+    names_are_messages();
     forms_are_messages();
 }
 

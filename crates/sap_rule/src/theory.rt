@@ -20,14 +20,33 @@ pub struct Theory {
 
 impl Copied for Theory {
     fn copy(&self, alloc: Global) -> Result<Theory, Mem> {
+        let (restrictions, lemmas) = statements_of(alloc, self)?;
+        let rules = self.rules.copy(alloc)?;
+        let (name, signature) = head_of(alloc, self)?;
         Ok(Theory {
-            name: self.name.copy(alloc)?,
-            signature: self.signature.copy(alloc)?,
-            rules: self.rules.copy(alloc)?,
-            restrictions: self.restrictions.copy(alloc)?,
-            lemmas: self.lemmas.copy(alloc)?,
+            name,
+            signature,
+            rules,
+            restrictions,
+            lemmas,
         })
     }
+}
+
+// Copies of the theory's name and signature.
+fn head_of(alloc: Global, t: &Theory) -> Result<(Name, Signature), Mem>
+    ensures { IfOk result (λ p. (p.0 ≡ t.now.name) × (p.1 ≡ t.now.signature)) }
+{
+    let name = t.name.copy(alloc)?;
+    Ok((name, t.signature.copy(alloc)?))
+}
+
+// Copies of its restrictions and lemmas.
+fn statements_of(alloc: Global, t: &Theory) -> Result<(RestrictionList, LemmaList), Mem>
+    ensures { IfOk result (λ p. (p.0 ≡ t.now.restrictions) × (p.1 ≡ t.now.lemmas)) }
+{
+    let restrictions = t.restrictions.copy(alloc)?;
+    Ok((restrictions, t.lemmas.copy(alloc)?))
 }
 
 impl Theory {

@@ -16,12 +16,18 @@ use std::alloc::Global;
 pub fn open_vars(alloc: Global, sig: &Signature, r: &Rule) -> Result<Vars, Mem>
     ensures { IfOk result (λ vs. vs ≡ open_variables sig.now r.now) }
 {
-    let mut outer = Vars::new(alloc);
-    push_facts_outer_vars(alloc, sig, &r.left, &mut outer)?;
-    let mut known = names_of(alloc, &outer)?;
     let all = vars_of(alloc, r)?;
-    let open_vars = first_occurrences(alloc, &mut known, &all)?;
-    Ok(open_vars)
+    let mut known = outer_names(alloc, sig, &r.left)?;
+    first_occurrences(alloc, &mut known, &all)
+}
+
+// The names of the variables that stand in these facts outside the subterms that a destructor heads.
+fn outer_names(alloc: Global, sig: &Signature, fs: &FactList) -> Result<IndexSet<Name>, Mem>
+    ensures { IfOk result (λ s. (n : List ℕ) → is_known s.keys n ≡ is_known (map (λ v. v.name) (facts_outer_vars sig.now fs.now)) n) }
+{
+    let mut outer = Vars::new(alloc);
+    push_facts_outer_vars(alloc, sig, fs, &mut outer)?;
+    names_of(alloc, &outer)
 }
 
 // Each occurrence of a variable in the rule.

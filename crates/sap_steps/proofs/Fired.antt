@@ -48,17 +48,17 @@ IsGood g e = IsMessage g e.var.sort (tree e.term)
 
 -- no choice fits, so none matches
 pub no_match : (g : Sig) (r : Rule) (b : List Binding) (cited : List Fact) → IsWellMade g r → AreRight g r b → HasNoChoice (FactsFit g r.left cited) (facts_outer_vars g r.left) b → IsRuleRefusal g r b cited NoMatch
-no_match g r b cited well good h = (good, λ σ s a f. h (one_sort g r b well.shape.sorts good.vars) σ s a f)
+no_match g r b cited well good h = record { right = good; none = λ σ s a f. h (one_sort g r b well.shape.sorts good.vars) σ s a f }
 
 module _ (laws : Laws) (g : Sig) (r : Rule) (b c : List Binding) (cited : List Fact) (well : IsWellMade g r) (good : AreRight g r b) (found : IsOnlyChoice (FactsFit g r.left cited) (facts_outer_vars g r.left) b c) (held : All (IsSmallMessageFact g) cited) where
   one : HaveOneSort (bound_vars b ++ facts_outer_vars g r.left)
   one = one_sort g r b well.shape.sorts good.vars
 
   named_once : AreNamedOnce (bound_vars c)
-  named_once = laws.once.1 b c (facts_outer_vars g r.left) found.extends (subst AreNamedOnce (sym good.vars) (laws.once.0 (map (λ (v : Var). v.name) (facts_outer_vars g r.left)) (rule_vars r)))
+  named_once = laws.once.extended b c (facts_outer_vars g r.left) found.extends (subst AreNamedOnce (sym good.vars) (laws.once.first_occurrences (map (λ (v : Var). v.name) (facts_outer_vars g r.left)) (rule_vars r)))
 
   agrees_itself : Agrees c (bound_to c)
-  agrees_itself = laws.once.2 c named_once
+  agrees_itself = laws.once.agree c named_once
 
   -- what was found are messages
   messages : All (IsGood g) c
@@ -70,6 +70,9 @@ module _ (laws : Laws) (g : Sig) (r : Rule) (b c : List Binding) (cited : List F
       let outer = new_among (names b) (facts_outer_vars g r.left) e.var (subst (λ vs. Contains vs e.var) found.extends.on (var_at added e m)) in
       let sorted = ap (fits_sort e.var.sort) is ∙ sorted_at added e found.extends.sorted m in
       subst (IsMessage g e.var.sort) is (facts_message laws.messages g (bound_to c) r.left cited (found.is one (bound_to c) agrees_itself) held e.var outer sorted))))
+
+  pub fits_itself : FactsFit g r.left cited (bound_to c)
+  fits_itself = found.is one (bound_to c) agrees_itself
 
   chosen : (σ : Choice) × IsMessageChoice g σ × Agrees c σ
   chosen = laws.choices g c named_once messages
@@ -121,16 +124,23 @@ module _ (laws : Laws) (g : Sig) (r : Rule) (b c : List Binding) (cited : List F
 
   pub refused : (k : RFault) → IsEvaluationFault g (bound_to c) r cited k → IsRuleRefusal g r b cited k
   refused Mem h = tt
-  refused TermLarge h = (good, (chosen.0, fitting, large_evaluated g r chosen.0 (subst (SomeLarge g) same_terms h)))
-  refused Unequal h = (
-    good,
-    (
-      chosen.0,
-      fitting,
-      evaluated_small g r chosen.0 (small h.small),
-      λ q. h.other (facts_hold laws g chosen.0 r.left h.left cited chosen.1 held (subst (λ xs. AreFormsOfFacts (equations g) xs h.left) same_left h.left_forms) fit q),
-    ),
-  )
+  refused TermLarge h =
+      let found = large_evaluated g r chosen.0 (subst (SomeLarge g) same_terms h) in
+      record {
+        right = good;
+        choice = chosen.0;
+        fitting = fitting;
+        form = found.0;
+        evaluated = found.1;
+        large = found.2;
+      }
+  refused Unequal h = record {
+    right = good;
+    choice = chosen.0;
+    fitting = fitting;
+    small = evaluated_small g r chosen.0 (small h.small);
+    other = λ q. h.other (facts_hold laws g chosen.0 r.left h.left cited chosen.1 held (subst (λ xs. AreFormsOfFacts (equations g) xs h.left) same_left h.left_forms) fit q);
+  }
   refused NoRule h = absurd h
   refused FactCount h = absurd h
   refused (FactMissing p) h = absurd h

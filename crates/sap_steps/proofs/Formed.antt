@@ -20,7 +20,7 @@ none_within P (here s) e = cc
 none_within P (later s) e = cc
 
 -- some subterm of one more tree is of that tree or of the others
-more_cases : (P : Tree → Type 0) (t : Tree) (ts : Trees) → SomeSubtermWithin P (more t ts) → SomeSubterm P t ⊎ SomeSubtermWithin P ts
+pub more_cases : (P : Tree → Type 0) (t : Tree) (ts : Trees) → SomeSubtermWithin P (more t ts) → SomeSubterm P t ⊎ SomeSubtermWithin P ts
 more_cases P t ts s = at s refl where
   at : {us : Trees} → SomeSubtermWithin P us → us ≡ more t ts → SomeSubterm P t ⊎ SomeSubtermWithin P ts
   at (here {t = u} {ts = us} h) e = let is : u ≡ t = cc in inl (subst (SomeSubterm P) is h)

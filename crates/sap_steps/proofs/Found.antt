@@ -36,7 +36,7 @@ front_sorts bs us xs one = fewer_sorts (bs ++ us) (bs ++ (us ++ xs)) (λ v m.
 back_sorts : ExtensionsJoin → (c d : List Binding) (us xs : List Var) → Extends c us d → HaveOneSort (bound_vars c ++ (us ++ xs)) → HaveOneSort (bound_vars d ++ xs)
 back_sorts j c d us xs x one = fewer_sorts (bound_vars d ++ xs) (bound_vars c ++ (us ++ xs)) (λ v m.
     elim (Contains-append_cases (bound_vars d) xs v m) as (λ _. Contains (bound_vars c ++ (us ++ xs)) v) [
-      | inl here ↦ elim (Contains-append_cases (bound_vars c) us v (j.2 c d us x v here)) as (λ _. Contains (bound_vars c ++ (us ++ xs)) v) [
+      | inl here ↦ elim (Contains-append_cases (bound_vars c) us v (j.bind_no_others c d us x v here)) as (λ _. Contains (bound_vars c ++ (us ++ xs)) v) [
         | inl before ↦ Contains-append_left (bound_vars c) (us ++ xs) v before
         | inr new ↦ Contains-append_right (bound_vars c) (us ++ xs) v (Contains-append_left us xs v new)
       ]
@@ -49,7 +49,7 @@ module _ (j : ExtensionsJoin) (P Q : Choice → Type 0) (us xs : List Var) (c d 
 
   both_found : (z : List Binding) → IsOnlyChoice P us c d → IsOnlyChoice Q xs d z → IsOnlyChoice Both (us ++ xs) c z
   both_found z p q = record {
-    extends = j.1 c d z us xs p.extends q.extends;
+    extends = j.in_turn c d z us xs p.extends q.extends;
     is = λ one σ a. (
       p.is (front_sorts (bound_vars c) us xs one) σ (agrees_extended d z xs σ q.extends a),
       q.is (back_sorts j c d us xs p.extends one) σ a,
@@ -81,7 +81,7 @@ pub continues_not : ExtensionsJoin → (F P Q : Choice → Type 0) (vs us xs : L
 continues_not j F P Q vs us xs b c k h = k.not_found (first_none j P Q us xs c c h)
 
 pub continues_end : ExtensionsJoin → (F G : Choice → Type 0) (vs : List Var) (b c : List Binding) → Continues F G vs [] b c → ((σ : Choice) → G σ) → IsOnlyChoice F vs b c
-continues_end j F G vs b c k g = k.found c (record { extends = j.0 c; is = λ one σ a. g σ; only = λ one σ s a f. a })
+continues_end j F G vs b c k g = k.found c (record { extends = j.by_none c; is = λ one σ a. g σ; only = λ one σ s a f. a })
 
 -- one argument
 pub arg_found : (g : Sig) (p t : Tree) (b c : List Binding) → IsOnlyFit g p t b c → IsOnlyChoice (λ σ. FitsAround g σ p t) (outer_vars g p) b c

@@ -6,25 +6,25 @@ use Rattle.std.proofs.lemmas.List.{take_more}
 use Rattle.std.proofs.lemmas.Option.{slice_get-get_or}
 use Rattle.sap_terms.specs.Piles.{Pile, used, Takes, nothing, one}
 use Rattle.sap_terms.specs.declared.fact.Fact.{Fact}
-use Rattle.sap_facts.specs.Facts.{standing, fact_at, places_without}
+use Rattle.sap_facts.specs.Facts.{standing, fact_at, slots_without}
 use Rattle.sap_steps.specs.Faults.{IsFirstMissing}
 use Rattle.sap_steps.specs.code.Held.{cited_at}
 use Rattle.sap_steps.specs.code.Left.{left_of, AreTaken, unless, IsLeft, IsCited}
 
 standing-some : (o : Option (Option Fact)) (f : Fact) → standing o ≡ Some f → o ≡ Some (Some f)
 standing-some None f e = cc
-standing-some (Some place) f e = ap Some e
+standing-some (Some slot) f e = ap Some e
 
 pub fact_at-live : (facts : Pile) (k : ℕ) (f : Fact) → fact_at facts k ≡ Some f → slice_get facts k ≡ Some (Some f)
 fact_at-live facts k f e = standing-some (slice_get facts k) f e
 
-pub used-without : (facts : Pile) (k : ℕ) (f : Fact) → fact_at facts k ≡ Some f → places_without facts k ≡ used facts k f
+pub used-without : (facts : Pile) (k : ℕ) (f : Fact) → fact_at facts k ≡ Some f → slots_without facts k ≡ used facts k f
 used-without facts k f e = by f.persistent refl where
-  by : (b : Bool) → f.persistent ≡ b → places_without facts k ≡ used facts k f
+  by : (b : Bool) → f.persistent ≡ b → slots_without facts k ≡ used facts k f
   by true p = rw (e, p) refl
   by false p = rw (e, p) refl
 
-pub take_one : (facts : Pile) (k : ℕ) (f : Fact) → fact_at facts k ≡ Some f → Takes facts (k ∷ []) (f ∷ []) (places_without facts k)
+pub take_one : (facts : Pile) (k : ℕ) (f : Fact) → fact_at facts k ≡ Some f → Takes facts (k ∷ []) (f ∷ []) (slots_without facts k)
 take_one facts k f e = rw (used-without facts k f e) (one (fact_at-live facts k f e) nothing)
 
 pub one_taken : (facts : Pile) (k : ℕ) (f : Fact) (rest : Pile) → Takes facts (k ∷ []) (f ∷ []) rest → fact_at facts k ≡ Some f
@@ -37,7 +37,7 @@ Takes-push (one h t) k f e = one h (Takes-push t k f e)
 pub taken_more : (facts : Pile) (ks : List ℕ) (k : ℕ) (f : Fact) → AreTaken facts ks → fact_at (left_of facts ks) k ≡ Some f → fact_at facts k ≡ Some f → AreTaken facts (ks ++ k ∷ [])
 taken_more facts ks k f taken here stands =
     let cited : cited_at facts (ks ++ k ∷ []) ≡ cited_at facts ks ++ f ∷ [] = rw (filter_map-append (fact_at facts) ks (k ∷ []), stands) refl in
-    let left : left_of facts (ks ++ k ∷ []) ≡ used (left_of facts ks) k f = fold_push places_without facts ks k ∙ used-without (left_of facts ks) k f here in
+    let left : left_of facts (ks ++ k ∷ []) ≡ used (left_of facts ks) k f = fold_push slots_without facts ks k ∙ used-without (left_of facts ks) k f here in
     rw (cited, left) (Takes-push taken k f (fact_at-live (left_of facts ks) k f here))
 
 get-set_same : {X : Type 0} (xs : List X) (k : ℕ) (x y : X) → slice_get xs k ≡ Some x → slice_get (slice_set xs k y) k ≡ Some y
@@ -79,7 +79,7 @@ missing_at facts ks items i gone same within (taken, left) none = let lt : i < l
   rest = left_of facts (take i ks);
   at = i;
   number = get_or ks i 0;
-  place_is = refl;
+  index_is = refl;
   here = slice_get-get_or ks i 0 lt;
   takes = taken;
   gone = left (get_or ks i 0) ∙ rw same at none;
@@ -92,6 +92,6 @@ one_more_taken facts ks items i before after same within (taken, left) cited_ite
     let cited : IsCited facts before after (get_or ks i 0) = rw same at cited_item in
     let here = cited-left facts (left_of facts (take i ks)) before (get_or ks i 0) cited.fact left cited.is_left cited.stands in
     let left_is : left_of facts (take i ks ++ get_or ks i 0 ∷ []) ≡ used (left_of facts (take i ks)) (get_or ks i 0) cited.fact =
-    fold_push places_without facts (take i ks) (get_or ks i 0) ∙ used-without (left_of facts (take i ks)) (get_or ks i 0) cited.fact here in
+    fold_push slots_without facts (take i ks) (get_or ks i 0) ∙ used-without (left_of facts (take i ks)) (get_or ks i 0) cited.fact here in
     rw (take_more ks i 0 lt)
     (taken_more facts (take i ks) (get_or ks i 0) cited.fact taken here cited.stands, rw left_is (left_more facts (left_of facts (take i ks)) before after (get_or ks i 0) cited.fact left cited.gone))

@@ -15,3 +15,4 @@ pub mod Used
 pub mod Determined
 pub mod OneAnswer
 pub mod Shown
+pub mod Plain

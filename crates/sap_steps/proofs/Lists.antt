@@ -1,4 +1,4 @@
--- Lists by their places.
+-- Lists by their indices.
 use Rattle.std.proofs.Common.{◌≡◌, ℕ, zero, suc, ◌+◌, List, [], ◌∷◌, ◌++◌, Option, Some, None, length, map, take, drop, add-one, refl, sym, ap, subst, ◌∙◌}
 use Rattle.std.specs.Prelude.{All, IsSome, slice_get}
 use Rattle.std.specs.List.{AllZip, cons_option}
@@ -38,7 +38,7 @@ zip_length R [] (v ∷ vs) a = absurd a
 zip_length R (u ∷ us) [] a = absurd a
 zip_length R (u ∷ us) (v ∷ vs) a = ap suc (zip_length R us vs a.1)
 
--- two lists that are the same up to one place, and there
+-- two lists that are the same up to one index, and there
 pub same_further : {X : Type 0} (xs ys : List X) (k : ℕ) (x y : X) → take k xs ≡ take k ys → slice_get xs k ≡ Some x → slice_get ys k ≡ Some y → x ≡ y → take (k + 1) xs ≡ take (k + 1) ys
 same_further xs ys k x y h i j e =
     take_got xs k x i ∙ (λ n. h n ++ e n ∷ []) ∙ sym (take_got ys k y j)
@@ -77,29 +77,29 @@ there : (o : Option Fact) (f : Fact) (fs : List Fact) (k : ℕ) → IsSome o →
 there None f fs k s h = cc
 there (Some x) f fs k s h = h
 
-pub cited_get : (places : List (Option Fact)) (ns : List ℕ) (k n : ℕ) (f : Fact) → All (λ n. IsSome (fact_at places n)) ns → slice_get ns k ≡ Some n → fact_at places n ≡ Some f → slice_get (cited_at places ns) k ≡ Some f
-cited_get places [] k n f a h i = cc
-cited_get places (m ∷ ms) zero n f a h i =
+pub cited_get : (slots : List (Option Fact)) (ns : List ℕ) (k n : ℕ) (f : Fact) → All (λ n. IsSome (fact_at slots n)) ns → slice_get ns k ≡ Some n → fact_at slots n ≡ Some f → slice_get (cited_at slots ns) k ≡ Some f
+cited_get slots [] k n f a h i = cc
+cited_get slots (m ∷ ms) zero n f a h i =
     let e : m ≡ n = cc in
-    let is : fact_at places m ≡ Some f = ap (fact_at places) e ∙ i in
-    ap (λ o. slice_get (cons_option o (cited_at places ms)) 0) is
-cited_get places (m ∷ ms) (suc k) n f a h i =
-    let rest = cited_get places ms k n f (All-tail (λ n. IsSome (fact_at places n)) m ms a) h i in
-    there (fact_at places m) f (cited_at places ms) k (All-head (λ n. IsSome (fact_at places n)) m ms a) rest
+    let is : fact_at slots m ≡ Some f = ap (fact_at slots) e ∙ i in
+    ap (λ o. slice_get (cons_option o (cited_at slots ms)) 0) is
+cited_get slots (m ∷ ms) (suc k) n f a h i =
+    let rest = cited_get slots ms k n f (All-tail (λ n. IsSome (fact_at slots n)) m ms a) h i in
+    there (fact_at slots m) f (cited_at slots ms) k (All-head (λ n. IsSome (fact_at slots n)) m ms a) rest
 
 longer : (o : Option Fact) (fs : List Fact) → IsSome o → length (cons_option o fs) ≡ suc (length fs)
 longer None fs s = cc
 longer (Some x) fs s = refl
 
-pub cited_length : (places : List (Option Fact)) (ns : List ℕ) → All (λ n. IsSome (fact_at places n)) ns → length (cited_at places ns) ≡ length ns
-cited_length places [] a = refl
-cited_length places (m ∷ ms) a =
-    longer (fact_at places m) (cited_at places ms) (All-head (λ n. IsSome (fact_at places n)) m ms a) ∙ ap suc (cited_length places ms (All-tail (λ n. IsSome (fact_at places n)) m ms a))
+pub cited_length : (slots : List (Option Fact)) (ns : List ℕ) → All (λ n. IsSome (fact_at slots n)) ns → length (cited_at slots ns) ≡ length ns
+cited_length slots [] a = refl
+cited_length slots (m ∷ ms) a =
+    longer (fact_at slots m) (cited_at slots ms) (All-head (λ n. IsSome (fact_at slots n)) m ms a) ∙ ap suc (cited_length slots ms (All-tail (λ n. IsSome (fact_at slots n)) m ms a))
 
 -- the facts at live numbers are as all facts that stand are
-pub cited_all : (P : Fact → Type 0) (places : List (Option Fact)) (ns : List ℕ) → ((k : ℕ) (f : Fact) → fact_at places k ≡ Some f → P f) → All P (cited_at places ns)
-cited_all P places [] h = All-nil P
-cited_all P places (m ∷ ms) h = elim (fact_at places m) as (λ o. fact_at places m ≡ o → All P (cons_option o (cited_at places ms))) [
-  | None ↦ λ e. cited_all P places ms h
-  | Some f ↦ λ e. All-cons P f (cited_at places ms) (h m f e) (cited_all P places ms h)
+pub cited_all : (P : Fact → Type 0) (slots : List (Option Fact)) (ns : List ℕ) → ((k : ℕ) (f : Fact) → fact_at slots k ≡ Some f → P f) → All P (cited_at slots ns)
+cited_all P slots [] h = All-nil P
+cited_all P slots (m ∷ ms) h = elim (fact_at slots m) as (λ o. fact_at slots m ≡ o → All P (cons_option o (cited_at slots ms))) [
+  | None ↦ λ e. cited_all P slots ms h
+  | Some f ↦ λ e. All-cons P f (cited_at slots ms) (h m f e) (cited_all P slots ms h)
 ] refl

@@ -23,13 +23,12 @@ use Rattle.sap_rewrite.specs.Large.{SomeSubtermWithin}
 use Rattle.sap_rewrite.specs.Laws.{FormIsOne}
 use Rattle.sap_rewrite.specs.Match.{Agrees}
 use Rattle.sap_rule.specs.Messages.{HoldsMessages, TakenAreMessages, RunsReachMessages}
-use Rattle.sap_rule.specs.Named.{rule_named}
 use Rattle.sap_rule.specs.RuleSteps.{RuleState}
 use Rattle.sap_rule.specs.WellMade.{IsWellMade}
 use Rattle.sap_rule.specs.declared.rule.Rule.{Rule}
 use Rattle.sap_runs.specs.declared.rule_step.RStep.TheVariants.{Fresh, Learn, Own, Apply, Know, Rule as RuleLine}
 use Rattle.sap_steps.specs.Answers.{LinesHaveOneAnswer, ReachedHaveOneAnswer}
-use Rattle.sap_steps.specs.Faults.{FactFits, FactHolds, IsRuleRefusal, IsRuleFault}
+use Rattle.sap_steps.specs.Faults.{FactFits, FactHolds, IsRuleRefusal, IsRuleFault, IsFaultOfNamed}
 use Rattle.sap_steps.specs.Lines.{IsRuleLine, Fires, IsSmall}
 use Rattle.sap_steps.specs.declared.fault.RFault.{RFault}
 use Rattle.sap_steps.specs.declared.fault.RFault.TheVariants.{Mem, NoRule, FactCount, FactMissing, BadBinding, NoMatch, TermLarge, Unequal, UsedName, WrongFact, NoEntry, NotPublic, Arity}
@@ -118,43 +117,45 @@ module _ (modulo : MatchingAroundIsModulo) (one_form : FormIsOne) (taken : Taken
     at : (e : RFault) → IsRuleRefusal g r b left e → e ≡ Mem
     at Mem h = refl
     at BadBinding h = absurd (h (record { vars = fires.binds.vars; terms = good_terms g σ b fires.use_.messages fires.binds.agrees }))
-    at NoMatch h = absurd (h.1 σ (λ v. (fires.use_.messages v).sorted) fires.binds.agrees fits.0)
+    at NoMatch h = absurd (h.none σ (λ v. (fires.use_.messages v).sorted) fires.binds.agrees fits.0)
     at TermLarge h =
-        let other = h.1.1 in
-        let same = terms_same g r b left well.shape.sorts fires.binds.vars h.1.0 σ other.agrees fires.binds.agrees other.facts fits.0 in
-        let n = h.1.2.0 in
-        absurd (large_small n h.1.2.2 (fires.within n (subst (SomeSubtermWithin (λ u. IsNormalForm (equations g) u n)) same h.1.2.1)))
+        let other = h.fitting in
+        let same = terms_same g r b left well.shape.sorts fires.binds.vars h.choice σ other.agrees fires.binds.agrees other.facts fits.0 in
+        let n = h.form in
+        absurd (large_small n h.large (fires.within n (subst (SomeSubtermWithin (λ u. IsNormalForm (equations g) u n)) same h.evaluated)))
     at Unequal h =
-        let other = h.1.1 in
-        let same = left_same g r b left well.shape.sorts fires.binds.vars σ h.1.0 fires.binds.agrees other.agrees fits.0 other.facts in
-        absurd (h.1.3 (facts_fit modulo g h.1.0 r.left left other.messages messages (subst (λ fs. AreEqualFacts (equations g) fs left) same fires.use_.takes)).1)
+        let other = h.fitting in
+        let same = left_same g r b left well.shape.sorts fires.binds.vars σ h.choice fires.binds.agrees other.agrees fits.0 other.facts in
+        absurd (h.other (facts_fit modulo g h.choice r.left left other.messages messages (subst (λ fs. AreEqualFacts (equations g) fs left) same fires.use_.takes)).1)
     at _ h = absurd h
 
   rule_answer : (e : RFault) → IsRuleFault g r s.facts ks b e → e ≡ Mem
   rule_answer FactCount h = absurd (h (takes_length takes ∙ equal_length g (instance_facts σ r.left) left fires.use_.takes ∙ length-map r.left (instance_fact σ)))
   rule_answer (FactMissing p) h =
-      let m = h.1 in
+      let m = h.first in
       absurd (never_missing m.at m.number takes m.here m.takes m.gone)
   rule_answer Mem h = refl
-  rule_answer BadBinding h = refusal BadBinding h.1.0 h.1.1 h.1.2 h.1.3
-  rule_answer NoMatch h = refusal NoMatch h.1.0 h.1.1 h.1.2 h.1.3
-  rule_answer TermLarge h = refusal TermLarge h.1.0 h.1.1 h.1.2 h.1.3
-  rule_answer Unequal h = refusal Unequal h.1.0 h.1.1 h.1.2 h.1.3
-  rule_answer NoRule h = absurd h.1.3
-  rule_answer (UsedName n) h = absurd h.1.3
-  rule_answer (WrongFact n) h = absurd h.1.3
-  rule_answer (NoEntry n) h = absurd h.1.3
-  rule_answer (NotPublic n) h = absurd h.1.3
-  rule_answer (Arity n) h = absurd h.1.3
+  rule_answer BadBinding h = refusal BadBinding h.cited h.rest h.takes h.refusal
+  rule_answer NoMatch h = refusal NoMatch h.cited h.rest h.takes h.refusal
+  rule_answer TermLarge h = refusal TermLarge h.cited h.rest h.takes h.refusal
+  rule_answer Unequal h = refusal Unequal h.cited h.rest h.takes h.refusal
+  rule_answer NoRule h = absurd h.refusal
+  rule_answer (UsedName n) h = absurd h.refusal
+  rule_answer (WrongFact n) h = absurd h.refusal
+  rule_answer (NoEntry n) h = absurd h.refusal
+  rule_answer (NotPublic n) h = absurd h.refusal
+  rule_answer (Arity n) h = absurd h.refusal
 
-named_answer : MatchingAroundIsModulo → FormIsOne → TakenAreMessages → (g : Sig) (rules : List Rule) (s z : RuleState) (name ks : List ℕ) (b : List Binding) (acts : List Fact) (e : RFault) → All (IsWellMade g) rules → HoldsMessages g s → IsRuleLine g rules IsSmall s name ks b acts z → (r : Rule) × (rule_named rules name ≡ Some r) × IsRuleFault g r s.facts ks b e → e ≡ Mem
-named_answer modulo one_form taken g rules s z name ks b acts e well holds line (r, named, h) =
+named_answer : MatchingAroundIsModulo → FormIsOne → TakenAreMessages → (g : Sig) (rules : List Rule) (s z : RuleState) (name ks : List ℕ) (b : List Binding) (acts : List Fact) (e : RFault) → All (IsWellMade g) rules → HoldsMessages g s → IsRuleLine g rules IsSmall s name ks b acts z → IsFaultOfNamed g rules s.facts name ks b e → e ≡ Mem
+named_answer modulo one_form taken g rules s z name ks b acts e well holds line found =
+    let r = found.rule in
+    let named = found.named in
     let same : line.rule ≡ r = cc (line.named, named) in
     let at = Contains-rule_named rules r name named in
-    rule_answer modulo one_form taken g r s ks b acts line.left line.right line.rest (All-contains (IsWellMade g) rules r well (Contains-get rules r at.0 at.1)) holds line.takes (subst (λ q. Fires g IsSmall q b line.left acts line.right) same line.fires) e h
+    rule_answer modulo one_form taken g r s ks b acts line.left line.right line.rest (All-contains (IsWellMade g) rules r well (Contains-get rules r at.0 at.1)) holds line.takes (subst (λ q. Fires g IsSmall q b line.left acts line.right) same line.fires) e found.cause
 
 pub one_answer : MatchingAroundIsModulo → FormIsOne → TakenAreMessages → LinesHaveOneAnswer
-one_answer modulo one_form taken g rules s z acts (Fresh n) (UsedName m) well holds line h = absurd (line.0 h.1)
+one_answer modulo one_form taken g rules s z acts (Fresh n) (UsedName m) well holds line h = absurd (line.new h.1)
 one_answer modulo one_form taken g rules s z acts (Learn k) (WrongFact f) well holds line h = absurd (h.1 line.0 line.1.rest line.1.takes)
 one_answer modulo one_form taken g rules s z acts (Own k) (WrongFact f) well holds line h = absurd (h.1 line.0 line.1.rest line.1.takes)
 one_answer modulo one_form taken g rules s z acts (Apply f ks) (NotPublic n) well holds line h = absurd (h.1 line.public_symbol)
@@ -164,11 +165,11 @@ one_answer modulo one_form taken g rules s z acts (Apply f ks) (NoEntry n) well 
     let unknown = h.2 in
     absurd (cc (never, unknown))
 one_answer modulo one_form taken g rules s z acts (Apply f ks) TermLarge well holds line h =
-    let same : h.2.0 ≡ line.terms = same_terms h.2.0 line.terms (sym h.2.2 ∙ line.entries) in
-    let form = one_form (equations g) (apply f (trees_of line.terms)) h.2.1 line.form (subst (λ ts. IsNormalForm (equations g) (apply f (trees_of ts)) h.2.1) same h.2.3) line.is_form in
-    absurd (large_small h.2.1 h.2.4 (subst (λ t. node_count t ≤ MOST_TERM_NODES) (sym form) line.within))
+    let same : h.terms ≡ line.terms = same_terms h.terms line.terms (sym h.entries ∙ line.entries) in
+    let form = one_form (equations g) (apply f (trees_of line.terms)) h.form line.form (subst (λ ts. IsNormalForm (equations g) (apply f (trees_of ts)) h.form) same h.is_form) line.is_form in
+    absurd (large_small h.form h.large (subst (λ t. node_count t ≤ MOST_TERM_NODES) (sym form) line.within))
 one_answer modulo one_form taken g rules s z acts (Know k) (NoEntry n) well holds line h =
-    let there = line.1 in
+    let there = line.entry in
     let gone = h.1 in
     absurd (cc (there, gone))
 one_answer modulo one_form taken g rules s z acts (RuleLine name ks b) NoRule well holds line h =

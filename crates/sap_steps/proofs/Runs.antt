@@ -15,7 +15,7 @@ use Rattle.sap_steps.specs.Runs.{IsLegalRun, starts as legal_start, further as l
 use Rattle.sap_steps.proofs.Named.{Contains-get, get-Contains, rule_named-Contains, Contains-rule_named, numbers_of, Contains-numbers, bindings_of, bound_vars-bindings_of, Agrees-bindings_of}
 
 pub step-line : (g : Sig) (rules : List Rule) (s z : RuleState) (acts : List Fact) → HaveNamesOfTheirOwn rules → RuleStep g rules s acts z → (line : RStep) × IsLine g rules AnySize s line acts z
-step-line g rules s z acts own (makes_name n h) = (Fresh n, (h, refl, refl))
+step-line g rules s z acts own (makes_name n h) = (Fresh n, record { new = h; silent = refl; becomes = refl })
 step-line g rules s z acts own (learns {rest = rest} k t takes) = (Learn k, (t, record { rest = rest; takes = takes; silent = refl; becomes = refl }))
 step-line g rules s z acts own (owns {rest = rest} k n takes) = (Own k, (n, record { rest = rest; takes = takes; silent = refl; becomes = refl }))
 step-line g rules s z acts own (knows_public a) = (Public a, (refl, refl))
@@ -34,7 +34,7 @@ step-line g rules s z acts own (applies f ts t is_public arity known form) =
         becomes = refl;
       },
     )
-step-line g rules s z acts own (gives t known) = let at = get-Contains s.known t known in (Know at.0, (t, at.1, refl, refl))
+step-line g rules s z acts own (gives t known) = let at = get-Contains s.known t known in (Know at.0, record { term = t; entry = at.1; shows = refl; becomes = refl })
 step-line g rules s z acts own (uses {rest = rest} r ks σ left shown right among takes used) = (
   RuleLine r.name ks (bindings_of σ (open_variables g r)),
   record {
@@ -58,14 +58,14 @@ step-line g rules s z acts own (uses {rest = rest} r ks σ left shown right amon
 )
 
 pub line-step : (W : Tree → Type 0) (g : Sig) (rules : List Rule) (s z : RuleState) (acts : List Fact) (line : RStep) → IsLine g rules W s line acts z → RuleStep g rules s acts z
-line-step W g rules s z acts (Fresh n) h = rw (h.1, h.2) (makes_name n h.0)
+line-step W g rules s z acts (Fresh n) h = rw (h.silent, h.becomes) (makes_name n h.new)
 line-step W g rules s z acts (Learn k) (t, h) = rw (h.silent, h.becomes) (learns k t h.takes)
 line-step W g rules s z acts (Own k) (n, h) = rw (h.silent, h.becomes) (owns k n h.takes)
 line-step W g rules s z acts (Public a) h = rw (h.0, h.1) (knows_public a)
 line-step W g rules s z acts (Apply f ks) h =
     let at = Contains-numbers s.known ks h.terms h.entries in
     rw (h.silent, h.becomes) (applies f h.terms h.form h.public_symbol (h.arity ∙ ap Some at.1) at.0 h.is_form)
-line-step W g rules s z acts (Know k) h = rw (h.2, h.3) (gives h.0 (Contains-get s.known h.0 k h.1))
+line-step W g rules s z acts (Know k) h = rw (h.shows, h.becomes) (gives h.term (Contains-get s.known h.term k h.entry))
 line-step W g rules s z acts (RuleLine name ks b) h =
     let at = Contains-rule_named rules h.rule name h.named in
     rw h.becomes (uses h.rule ks h.fires.choice h.left acts h.right (Contains-get rules h.rule at.0 at.1) h.takes h.fires.use_)

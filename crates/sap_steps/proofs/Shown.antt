@@ -22,11 +22,11 @@ fact_message : (g : Sig) (f : Fact) → IsSmallMessageFact g f → IsMessageFact
 fact_message g f h = All-weaker (IsSmallMessage g) (IsMessage g Msg) (λ t m. m.message) f.args h
 
 -- facts that hold small messages hold messages
-stands_messages : (g : Sig) (facts : Pile) → HoldsSmallMessages g facts → All (λ (place : Option Fact). IfSome place (IsMessageFact g)) facts
-stands_messages g [] h = All-nil (λ (place : Option Fact). IfSome place (IsMessageFact g))
-stands_messages g (None ∷ xs) h = All-cons (λ (place : Option Fact). IfSome place (IsMessageFact g)) None xs tt (stands_messages g xs (λ k f e. h (suc k) f e))
+stands_messages : (g : Sig) (facts : Pile) → HoldsSmallMessages g facts → All (λ (slot : Option Fact). IfSome slot (IsMessageFact g)) facts
+stands_messages g [] h = All-nil (λ (slot : Option Fact). IfSome slot (IsMessageFact g))
+stands_messages g (None ∷ xs) h = All-cons (λ (slot : Option Fact). IfSome slot (IsMessageFact g)) None xs tt (stands_messages g xs (λ k f e. h (suc k) f e))
 stands_messages g (Some x ∷ xs) h =
-    All-cons (λ (place : Option Fact). IfSome place (IsMessageFact g)) (Some x) xs (fact_message g x (h 0 x refl)) (stands_messages g xs (λ k f e. h (suc k) f e))
+    All-cons (λ (slot : Option Fact). IfSome slot (IsMessageFact g)) (Some x) xs (fact_message g x (h 0 x refl)) (stands_messages g xs (λ k f e. h (suc k) f e))
 
 well_rules : (g : Sig) (ps : List Prepared) → All (IsReady g) ps → All (IsWellMade g) (rules_of ps)
 well_rules g [] h = All-nil (IsWellMade g)

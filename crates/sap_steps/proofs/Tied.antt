@@ -1,5 +1,5 @@
 -- What the parts of a state keep having to do with each other.
-use Rattle.std.proofs.Common.{◌≡◌, ℕ, zero, suc, List, [], ◌∷◌, ◌++◌, map, Option, Some, None, slice_set, IsSome, refl, ap, ◌∙◌, append_assoc, inl, inr, ◌⊎◌, arith}
+use Rattle.std.proofs.Common.{◌≡◌, ℕ, zero, suc, List, [], ◌∷◌, ◌++◌, map, Option, Some, None, slice_set, IsSome, refl, ap, sym, subst, ◌∙◌, append_assoc, inl, inr, ◌⊎◌, arith}
 use Rattle.std.specs.List.{All}
 use Rattle.std.proofs.lemmas.List.{map-append, append-nil}
 use Rattle.std.proofs.lemmas.Option.{same_Some}
@@ -7,31 +7,23 @@ use Rattle.std.proofs.lemmas.List.Elements.{All-nil, All-cons, All-head, All-tai
 use Rattle.sap_terms.specs.AdversaryFacts.{linear}
 use Rattle.sap_terms.specs.Piles.{Pile, Takes, nothing, one, used, adds}
 use Rattle.sap_terms.specs.Signature.{Sig}
-use Rattle.sap_terms.specs.Equations.{equations, Equations, IsInstance}
-use Rattle.sap_terms.specs.Tree.{Tree, public, fresh}
+use Rattle.sap_terms.specs.Laws.{NamesAreMessages}
+use Rattle.sap_terms.specs.Tree.{Tree, fresh}
 use Rattle.sap_terms.specs.declared.fact.Fact.{Fact}
+use Rattle.sap_terms.specs.declared.var.Sort.TheVariants.{Msg}
 use Rattle.sap_deduce.specs.Entries.{Entry, Entries, terms_of, Gains}
 use Rattle.sap_deduce.specs.declared.origin.Origin.{Origin}
-use Rattle.sap_facts.specs.Facts.{standing, fact_at, if_linear, places_without}
+use Rattle.sap_facts.specs.Facts.{standing, fact_at, if_linear, slots_without}
 use Rattle.sap_rule.specs.RuleSteps.{RuleState, gains}
 use Rattle.sap_steps.specs.code.Held.{IsSmallMessage, IsSmallMessageFact, HoldsSmallMessages}
 use Rattle.sap_steps.specs.code.Left.{left_of}
+use Rattle.sap_steps.specs.code.Ready.{IsReady}
 use Rattle.sap_steps.specs.code.Tied.{IsTied}
 use Rattle.sap_steps.specs.declared.prepared.Prepared.{Prepared}
 use Rattle.sap_steps.proofs.Left.{gone_at, get-set_other, nat_cases, used-without}
 
--- no equation has a name for its left side
-fresh-normal : (e : Equations) (n : ℕ) (b : Tree) → IsInstance e (fresh n) b → ⊥
-fresh-normal e n b h = elim h [ ]
-
-public-normal : (e : Equations) (a : List ℕ) (b : Tree) → IsInstance e (public a) b → ⊥
-public-normal e a b h = elim h [ ]
-
-pub held_fresh : (g : Sig) (n : ℕ) → IsSmallMessage g (fresh n)
-held_fresh g n = record { message = record { ground = tt; over = tt; normal = fresh-normal (equations g) n; sorted = refl }; small = omega arith }
-
-pub held_public : (g : Sig) (a : List ℕ) → IsSmallMessage g (public a)
-held_public g a = record { message = record { ground = tt; over = tt; normal = public-normal (equations g) a; sorted = refl }; small = omega arith }
+pub held_fresh : NamesAreMessages → (g : Sig) (n : ℕ) → IsSmallMessage g (fresh n)
+held_fresh names g n = record { message = names.fresh_name g Msg n refl; small = omega arith }
 
 pub held_single : (g : Sig) (name : List ℕ) (t : Tree) → IsSmallMessage g t → IsSmallMessageFact g (linear name (t ∷ []))
 held_single g name t h = All-cons (IsSmallMessage g) t [] h (All-nil (IsSmallMessage g))
@@ -39,7 +31,7 @@ held_single g name t h = All-cons (IsSmallMessage g) t [] h (All-nil (IsSmallMes
 pub held_argument : (g : Sig) (facts : Pile) (k : ℕ) (name : List ℕ) (t : Tree) → HoldsSmallMessages g facts → fact_at facts k ≡ Some (linear name (t ∷ [])) → IsSmallMessage g t
 held_argument g facts k name t held e = All-head (IsSmallMessage g) t [] (held k (linear name (t ∷ [])) e)
 
-without-live : (facts : Pile) (k j : ℕ) (f : Fact) → fact_at (places_without facts k) j ≡ Some f → fact_at facts j ≡ Some f
+without-live : (facts : Pile) (k j : ℕ) (f : Fact) → fact_at (slots_without facts k) j ≡ Some f → fact_at facts j ≡ Some f
 without-live facts k j f e = by (if_linear (fact_at facts k)) refl where
   by : (o : Option Fact) → if_linear (fact_at facts k) ≡ o → fact_at facts j ≡ Some f
   by None p = rw p at e
@@ -47,12 +39,12 @@ without-live facts k j f e = by (if_linear (fact_at facts k)) refl where
       let still = rw p at e in
       elim (nat_cases k j) [ inl same ↦ let gone : fact_at (slice_set facts k None) j ≡ None = rw (← same.1) (gone_at facts k) in cc | inr other ↦ rw (get-set_other facts k j None other.1) at still ]
 
-held_without : (g : Sig) (facts : Pile) (k : ℕ) → HoldsSmallMessages g facts → HoldsSmallMessages g (places_without facts k)
+held_without : (g : Sig) (facts : Pile) (k : ℕ) → HoldsSmallMessages g facts → HoldsSmallMessages g (slots_without facts k)
 held_without g facts k held j f e = held j f (without-live facts k j f e)
 
 held_left : (g : Sig) (facts : Pile) (ks : List ℕ) → HoldsSmallMessages g facts → HoldsSmallMessages g (left_of facts ks)
 held_left g facts [] held = held
-held_left g facts (k ∷ ks) held = held_left g (places_without facts k) ks (held_without g facts k held)
+held_left g facts (k ∷ ks) held = held_left g (slots_without facts k) ks (held_without g facts k held)
 
 push-live : (facts : Pile) (f h : Fact) (j : ℕ) → fact_at (facts ++ Some f ∷ []) j ≡ Some h → (fact_at facts j ≡ Some h) ⊎ (f ≡ h)
 push-live [] f h zero e = inr (same_Some f h e)
@@ -69,21 +61,23 @@ held_adds g facts (f ∷ fs) held all =
     let apart : adds (facts ++ Some f ∷ []) fs ≡ adds facts (f ∷ fs) = append_assoc facts (Some f ∷ []) (map (λ f. Some f) fs) in
     rw (← apart) (held_adds g (facts ++ Some f ∷ []) fs (held_push g facts f held (All-head (IsSmallMessageFact g) f fs all)) (All-tail (IsSmallMessageFact g) f fs all))
 
-pub tied_knows : (g : Sig) (rules : List Prepared) (facts : Pile) (old new : Entries) (origin : Origin) (t : Tree) → IsTied g rules facts old → Gains old new origin t → IsTied g rules facts new
-tied_knows g rules facts old new origin t tied more =
-    record { ready = tied.ready; held = tied.held; signature = more.sig ∙ tied.signature }
+pub tied_knows : (rules : List Prepared) (facts : Pile) (old new : Entries) (origin : Origin) (t : Tree) → IsTied rules facts old → Gains old new origin t → IsTied rules facts new
+tied_knows rules facts old new origin t tied more = record {
+  ready = subst (λ g. All (IsReady g) rules) (sym more.sig) tied.ready;
+  held = subst (λ g. HoldsSmallMessages g facts) (sym more.sig) tied.held;
+}
 
-tied_facts : (g : Sig) (rules : List Prepared) (facts after : Pile) (known : Entries) → IsTied g rules facts known → HoldsSmallMessages g after → IsTied g rules after known
-tied_facts g rules facts after known tied held = record { ready = tied.ready; held = held; signature = tied.signature }
+tied_facts : (rules : List Prepared) (facts after : Pile) (known : Entries) → IsTied rules facts known → HoldsSmallMessages known.sig after → IsTied rules after known
+tied_facts rules facts after known tied held = record { ready = tied.ready; held = held }
 
-pub tied_without : (g : Sig) (rules : List Prepared) (facts : Pile) (known : Entries) (k : ℕ) → IsTied g rules facts known → IsTied g rules (places_without facts k) known
-tied_without g rules facts known k tied = tied_facts g rules facts (places_without facts k) known tied (held_without g facts k tied.held)
+pub tied_without : (rules : List Prepared) (facts : Pile) (known : Entries) (k : ℕ) → IsTied rules facts known → IsTied rules (slots_without facts k) known
+tied_without rules facts known k tied = tied_facts rules facts (slots_without facts k) known tied (held_without known.sig facts k tied.held)
 
-pub tied_push : (g : Sig) (rules : List Prepared) (facts : Pile) (known : Entries) (f : Fact) → IsTied g rules facts known → IsSmallMessageFact g f → IsTied g rules (facts ++ Some f ∷ []) known
-tied_push g rules facts known f tied held = tied_facts g rules facts (facts ++ Some f ∷ []) known tied (held_push g facts f tied.held held)
+pub tied_push : (rules : List Prepared) (facts : Pile) (known : Entries) (f : Fact) → IsTied rules facts known → IsSmallMessageFact known.sig f → IsTied rules (facts ++ Some f ∷ []) known
+tied_push rules facts known f tied held = tied_facts rules facts (facts ++ Some f ∷ []) known tied (held_push known.sig facts f tied.held held)
 
-pub tied_used : (g : Sig) (rules : List Prepared) (facts : Pile) (known : Entries) (ks : List ℕ) (fs : List Fact) → IsTied g rules facts known → All (IsSmallMessageFact g) fs → IsTied g rules (adds (left_of facts ks) fs) known
-tied_used g rules facts known ks fs tied held = tied_facts g rules facts (adds (left_of facts ks) fs) known tied (held_adds g (left_of facts ks) fs (held_left g facts ks tied.held) held)
+pub tied_used : (rules : List Prepared) (facts : Pile) (known : Entries) (ks : List ℕ) (fs : List Fact) → IsTied rules facts known → All (IsSmallMessageFact known.sig) fs → IsTied rules (adds (left_of facts ks) fs) known
+tied_used rules facts known ks fs tied held = tied_facts rules facts (adds (left_of facts ks) fs) known tied (held_adds known.sig (left_of facts ks) fs (held_left known.sig facts ks tied.held) held)
 
 is_some-of : (o p : Option Fact) → ((f : Fact) → o ≡ Some f → p ≡ Some f) → IsSome o → IsSome p
 is_some-of None p f h = cc

@@ -18,18 +18,18 @@ use Rattle.sap_steps.specs.declared.fault.RFault.TheVariants.{Mem, NoRule, FactC
 
 fault_of_rule : (g : Sig) (rules : List Rule) (s : RuleState) (name ks : List ℕ) (b : List Binding) (r : Rule) (e : RFault) → rule_named rules name ≡ Some r → IsRuleFault g r s.facts ks b e → IsLineFault g rules s (RuleLine name ks b) e
 fault_of_rule g rules s name ks b r Mem named h = tt
-fault_of_rule g rules s name ks b r NoRule named h = absurd h.1.3
-fault_of_rule g rules s name ks b r FactCount named h = (r, named, h)
-fault_of_rule g rules s name ks b r (FactMissing p) named h = (r, named, h)
-fault_of_rule g rules s name ks b r BadBinding named h = (r, named, h)
-fault_of_rule g rules s name ks b r NoMatch named h = (r, named, h)
-fault_of_rule g rules s name ks b r TermLarge named h = (r, named, h)
-fault_of_rule g rules s name ks b r Unequal named h = (r, named, h)
-fault_of_rule g rules s name ks b r (UsedName n) named h = (r, named, h)
-fault_of_rule g rules s name ks b r (WrongFact n) named h = (r, named, h)
-fault_of_rule g rules s name ks b r (NoEntry n) named h = (r, named, h)
-fault_of_rule g rules s name ks b r (NotPublic n) named h = (r, named, h)
-fault_of_rule g rules s name ks b r (Arity n) named h = (r, named, h)
+fault_of_rule g rules s name ks b r NoRule named h = absurd h.refusal
+fault_of_rule g rules s name ks b r FactCount named h = record { rule = r; named = named; cause = h }
+fault_of_rule g rules s name ks b r (FactMissing p) named h = record { rule = r; named = named; cause = h }
+fault_of_rule g rules s name ks b r BadBinding named h = record { rule = r; named = named; cause = h }
+fault_of_rule g rules s name ks b r NoMatch named h = record { rule = r; named = named; cause = h }
+fault_of_rule g rules s name ks b r TermLarge named h = record { rule = r; named = named; cause = h }
+fault_of_rule g rules s name ks b r Unequal named h = record { rule = r; named = named; cause = h }
+fault_of_rule g rules s name ks b r (UsedName n) named h = record { rule = r; named = named; cause = h }
+fault_of_rule g rules s name ks b r (WrongFact n) named h = record { rule = r; named = named; cause = h }
+fault_of_rule g rules s name ks b r (NoEntry n) named h = record { rule = r; named = named; cause = h }
+fault_of_rule g rules s name ks b r (NotPublic n) named h = record { rule = r; named = named; cause = h }
+fault_of_rule g rules s name ks b r (Arity n) named h = record { rule = r; named = named; cause = h }
 
 pub rule_fault : (g : Sig) (rules : List Rule) (s : RuleState) (name ks : List ℕ) (b : List Binding) (r : Rule) (e : RFault) → rule_named rules name ≡ Some r → (e ≡ Mem) ⊎ IsRuleFault g r s.facts ks b e → IsLineFault g rules s (RuleLine name ks b) e
 rule_fault g rules s name ks b r e named (inl memory) = rw memory tt

@@ -47,12 +47,34 @@ pub record IsFitting (g : Sig) (r : Rule) (b : List Binding) (cited : List Fact)
   pub agrees : Agrees b σ
   pub facts : AllZip (FactFits g σ) r.left cited
 
+-- no sorted choice that agrees with the bindings, which are right, turns the left side into the cited facts around destructors
+pub record FitsNothing (g : Sig) (r : Rule) (b : List Binding) (cited : List Fact) : Type 0 where
+  pub right : AreRight g r b
+  pub none : (σ : Choice) → IsSorted σ → Agrees b σ → AllZip (FactFits g σ) r.left cited → ⊥
+
+-- under a fitting choice a normal form that is evaluated is too large
+pub record EvaluatesLarge (g : Sig) (r : Rule) (b : List Binding) (cited : List Fact) : Type 0 where
+  pub right : AreRight g r b
+  pub choice : Choice
+  pub fitting : IsFitting g r b cited choice
+  pub form : Tree
+  pub evaluated : IsEvaluated g r choice form
+  pub large : MOST_TERM_NODES < node_count form
+
+-- under a fitting choice none is, but a cited fact holds another normal form where a destructor stands in the left side
+pub record HoldsOther (g : Sig) (r : Rule) (b : List Binding) (cited : List Fact) : Type 0 where
+  pub right : AreRight g r b
+  pub choice : Choice
+  pub fitting : IsFitting g r b cited choice
+  pub small : (n : Tree) → IsEvaluated g r choice n → IsSmall n
+  pub other : ¬ AllZip (FactHolds g choice) r.left cited
+
 -- a rule is not used on the cited facts with these bindings, for this cause; each comes only where none before it does
 abbrev pub IsRuleRefusal : Sig → Rule → List Binding → List Fact → RFault → Type 0
 IsRuleRefusal g r b cited BadBinding = ¬ AreRight g r b
-IsRuleRefusal g r b cited NoMatch = AreRight g r b × ((σ : Choice) → IsSorted σ → Agrees b σ → AllZip (FactFits g σ) r.left cited → ⊥)
-IsRuleRefusal g r b cited TermLarge = AreRight g r b × ((σ : Choice) × IsFitting g r b cited σ × ((n : Tree) × IsEvaluated g r σ n × (MOST_TERM_NODES < node_count n)))
-IsRuleRefusal g r b cited Unequal = AreRight g r b × ((σ : Choice) × IsFitting g r b cited σ × ((n : Tree) → IsEvaluated g r σ n → IsSmall n) × ¬ AllZip (FactHolds g σ) r.left cited)
+IsRuleRefusal g r b cited NoMatch = FitsNothing g r b cited
+IsRuleRefusal g r b cited TermLarge = EvaluatesLarge g r b cited
+IsRuleRefusal g r b cited Unequal = HoldsOther g r b cited
 IsRuleRefusal g r b cited Mem = ⊤
 IsRuleRefusal g r b cited NoRule = ⊥
 IsRuleRefusal g r b cited FactCount = ⊥
@@ -63,22 +85,41 @@ IsRuleRefusal g r b cited (NoEntry k) = ⊥
 IsRuleRefusal g r b cited (NotPublic f) = ⊥
 IsRuleRefusal g r b cited (Arity f) = ⊥
 
--- at this place, from 1, stands the first number of which no fact is left once those before it were taken
-pub record IsFirstMissing (facts : Pile) (ks : List ℕ) (place : ℕ) : Type 0 where
+-- at this index, from 1, stands the first number of which no fact is left once those before it were taken
+pub record IsFirstMissing (facts : Pile) (ks : List ℕ) (index : ℕ) : Type 0 where
   pub before : List Fact
   pub rest : Pile
   pub at : ℕ
   pub number : ℕ
-  pub place_is : place ≡ at + 1
+  pub index_is : index ≡ at + 1
   pub here : slice_get ks at ≡ Some number
   pub takes : Takes facts (take at ks) before rest
   pub gone : fact_at rest number ≡ None
 
+-- as many facts are cited as the left side has, and one is missing
+pub record LacksFact (r : Rule) (facts : Pile) (ks : List ℕ) (index : ℕ) : Type 0 where
+  pub count : length ks ≡ length r.left
+  pub first : IsFirstMissing facts ks index
+
+-- as many are cited and can be taken, and the rule is not used on them for this cause
+pub record IsRefusedUse (g : Sig) (r : Rule) (facts : Pile) (ks : List ℕ) (b : List Binding) (fault : RFault) : Type 0 where
+  pub count : length ks ≡ length r.left
+  pub cited : List Fact
+  pub rest : Pile
+  pub takes : Takes facts ks cited rest
+  pub refusal : IsRuleRefusal g r b cited fault
+
 -- why a rule line is refused, once its rule is found
 abbrev pub IsRuleFault : Sig → Rule → Pile → List ℕ → List Binding → RFault → Type 0
 IsRuleFault g r facts ks b FactCount = ¬ (length ks ≡ length r.left)
-IsRuleFault g r facts ks b (FactMissing p) = (length ks ≡ length r.left) × IsFirstMissing facts ks p
-IsRuleFault g r facts ks b fault = (length ks ≡ length r.left) × ((cited : List Fact) × (rest : Pile) × Takes facts ks cited rest × IsRuleRefusal g r b cited fault)
+IsRuleFault g r facts ks b (FactMissing index) = LacksFact r facts ks index
+IsRuleFault g r facts ks b fault = IsRefusedUse g r facts ks b fault
+
+-- the rule of this name is found, and the line is refused for this cause
+pub record IsFaultOfNamed (g : Sig) (rules : List Rule) (facts : Pile) (name ks : List ℕ) (b : List Binding) (fault : RFault) : Type 0 where
+  pub rule : Rule
+  pub named : rule_named rules name ≡ Some rule
+  pub cause : IsRuleFault g rule facts ks b fault
 
 -- no entry has the number
 abbrev pub IsUnknownEntry : RuleState → ℕ → Type 0
@@ -88,13 +129,22 @@ IsUnknownEntry s k = slice_get s.known k ≡ None
 abbrev pub IsFirstUnknownEntry : RuleState → List ℕ → ℕ → Type 0
 IsFirstUnknownEntry s ks k = find (nat_le (length s.known)) ks ≡ Some k
 
+-- the symbol may be applied to the entries, and the normal form is too large
+pub record AppliesLarge (g : Sig) (s : RuleState) (f ks : List ℕ) : Type 0 where
+  pub public_symbol : IsPublic g f
+  pub arity : arity_of g f ≡ Some (length ks)
+  pub terms : List Tree
+  pub entries : map (slice_get s.known) ks ≡ map Some terms
+  pub form : Tree
+  pub is_form : IsNormalForm (equations g) (apply f (trees_of terms)) form
+  pub large : MOST_TERM_NODES < node_count form
+
 -- why a symbol on entries is refused
 abbrev pub IsApplyFault : Sig → RuleState → List ℕ → List ℕ → RFault → Type 0
 IsApplyFault g s f ks (NotPublic n) = (n ≡ f) × ¬ IsPublic g f
 IsApplyFault g s f ks (Arity n) = (n ≡ f) × IsPublic g f × ¬ (arity_of g f ≡ Some (length ks))
 IsApplyFault g s f ks (NoEntry n) = IsPublic g f × (arity_of g f ≡ Some (length ks)) × IsFirstUnknownEntry s ks n
-IsApplyFault g s f ks TermLarge =
-    IsPublic g f × (arity_of g f ≡ Some (length ks)) × ((ts : List Tree) × (n : Tree) × (map (slice_get s.known) ks ≡ map Some ts) × IsNormalForm (equations g) (apply f (trees_of ts)) n × (MOST_TERM_NODES < node_count n))
+IsApplyFault g s f ks TermLarge = AppliesLarge g s f ks
 IsApplyFault g s f ks _ = ⊥
 
 -- the fault is want of memory, or the first test of the line that fails
@@ -106,5 +156,5 @@ IsLineFault g rules s (Own k) (WrongFact f) = (f ≡ k) × ((n : ℕ) (rest : Pi
 IsLineFault g rules s (Apply f ks) fault = IsApplyFault g s f ks fault
 IsLineFault g rules s (Know k) (NoEntry n) = (n ≡ k) × IsUnknownEntry s k
 IsLineFault g rules s (RuleLine name ks b) NoRule = rule_named rules name ≡ None
-IsLineFault g rules s (RuleLine name ks b) fault = (r : Rule) × (rule_named rules name ≡ Some r) × IsRuleFault g r s.facts ks b fault
+IsLineFault g rules s (RuleLine name ks b) fault = IsFaultOfNamed g rules s.facts name ks b fault
 IsLineFault g rules s _ _ = ⊥

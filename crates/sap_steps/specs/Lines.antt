@@ -52,6 +52,19 @@ pub record IsRuleLine (g : Sig) (rules : List Rule) (W : Tree → Type 0) (s : R
   pub fires : Fires g W rule b left acts right
   pub becomes : z ≡ leaves s (adds rest right)
 
+-- the name is new, and is made
+pub record IsMade (s : RuleState) (n : ℕ) (acts : List Fact) (z : RuleState) : Type 0 where
+  pub new : ¬ Contains s.made n
+  pub silent : acts ≡ []
+  pub becomes : z ≡ makes s n
+
+-- the entry of this number is given, and shown
+pub record IsGiven (s : RuleState) (k : ℕ) (acts : List Fact) (z : RuleState) : Type 0 where
+  pub term : Tree
+  pub entry : slice_get s.known k ≡ Some term
+  pub shows : acts ≡ k_fact term ∷ []
+  pub becomes : z ≡ leaves s (adds s.facts (in_fact term ∷ []))
+
 -- the fact of this number is taken, and the adversary knows t
 pub record IsTaken (s : RuleState) (k : ℕ) (f : Fact) (t : Tree) (acts : List Fact) (z : RuleState) : Type 0 where
   pub rest : Pile
@@ -73,12 +86,12 @@ pub record IsApplied (g : Sig) (W : Tree → Type 0) (s : RuleState) (f ks : Lis
 
 -- the line leads from the state s to the state z and shows acts; each normal form that is evaluated is as W says
 abbrev pub IsLine : Sig → List Rule → (Tree → Type 0) → RuleState → RStep → List Fact → RuleState → Type 0
-IsLine g rules W s (Fresh n) acts z = (¬ Contains s.made n) × (acts ≡ []) × (z ≡ makes s n)
+IsLine g rules W s (Fresh n) acts z = IsMade s n acts z
 IsLine g rules W s (Learn k) acts z = (t : Tree) × IsTaken s k (out_fact t) t acts z
 IsLine g rules W s (Own k) acts z = (n : ℕ) × IsTaken s k (fr_fact n) (fresh n) acts z
 IsLine g rules W s (Public a) acts z = (acts ≡ []) × (z ≡ gains s (public a))
 IsLine g rules W s (Apply f ks) acts z = IsApplied g W s f ks acts z
-IsLine g rules W s (Know k) acts z = (t : Tree) × (slice_get s.known k ≡ Some t) × (acts ≡ k_fact t ∷ []) × (z ≡ leaves s (adds s.facts (in_fact t ∷ [])))
+IsLine g rules W s (Know k) acts z = IsGiven s k acts z
 IsLine g rules W s (RuleLine name ks b) acts z = IsRuleLine g rules W s name ks b acts z
 
 -- of whatever size

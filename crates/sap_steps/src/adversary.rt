@@ -1,9 +1,10 @@
-ghost use Rattle.std.specs.Prelude.{codes, ◌≡◌, ℕ, ◌<◌, [], ◌∷◌, Some, false, IfOk, MatchOption};
+ghost use Rattle.std.specs.Prelude.{codes, ◌≡◌, ◌⊎◌, ℕ, ◌<◌, [], ◌∷◌, Some, false, IfOk, IfErr, MatchOption};
 ghost use Rattle.sap_terms.specs.AdversaryFacts.{linear, out_fact, fr_fact};
 ghost use Rattle.sap_terms.specs.Tree.{Tree};
 ghost use Rattle.sap_terms.specs.View.{tree};
 ghost use Rattle.sap_facts.specs.Facts.{fact_at};
 
+use crate::RFault;
 use sap_facts::Pile;
 use sap_terms::{Copied, Fact, FactList, Mem, Name, Term, TermList};
 use std::alloc::Global;
@@ -24,7 +25,8 @@ pub(crate) fn single(alloc: Global, name: &[u8], t: Term) -> Result<Fact, Mem>
 
 // What the adversary gives when it shows that it knows a term, and what it shows.
 pub(crate) fn given_and_shown(alloc: Global, t: &Term) -> Result<(Fact, FactList), Mem>
-    ensures { IfOk result (λ p. (p.0 ≡ linear (codes "In") (tree t.now ∷ [])) × (p.1 ≡ linear (codes "K") (tree t.now ∷ []) ∷ [])) }
+    ensures given { IfOk result (λ p. p.0 ≡ linear (codes "In") (tree t.now ∷ [])) }
+    ensures shown { IfOk result (λ p. p.1 ≡ linear (codes "K") (tree t.now ∷ []) ∷ []) }
 {
     let given = single(alloc, b"In", t.copy(alloc)?)?;
     let shown = shown_alone(alloc, t)?;
@@ -60,7 +62,7 @@ fn argument<'a>(f: &'a Fact, name: &[u8]) -> Option<&'a Term>
 
 // The argument of the fact of this number, if it is linear, has this name and one argument.
 fn argument_at<'a>(facts: &'a Pile, k: u64, name: &[u8]) -> Option<&'a Term>
-    ensures { MatchOption result ((t : Tree) → ¬ (fact_at facts.now.places k ≡ Some (linear name.now (t ∷ [])))) (λ t. fact_at facts.now.places k ≡ Some (linear name.now (tree t.now ∷ []))) }
+    ensures { MatchOption result ((t : Tree) → ¬ (fact_at facts.now.slots k ≡ Some (linear name.now (t ∷ [])))) (λ t. fact_at facts.now.slots k ≡ Some (linear name.now (tree t.now ∷ []))) }
 {
     match facts.get(k) {
         Some(f) => argument(f, name),
@@ -68,16 +70,27 @@ fn argument_at<'a>(facts: &'a Pile, k: u64, name: &[u8]) -> Option<&'a Term>
     }
 }
 
+// A copy of what the fact of this number puts out.
+pub(crate) fn copied_out(alloc: Global, facts: &Pile, k: u64) -> Result<Term, RFault>
+    ensures out { IfOk result (λ t. fact_at facts.now.slots k ≡ Some (out_fact (tree t))) }
+    ensures wrong { IfErr result (λ e. (e ≡ RFault.Mem) ⊎ ((e ≡ RFault.WrongFact k) × ((t : Tree) → ¬ (fact_at facts.now.slots k ≡ Some (out_fact t))))) }
+{
+    match put_out(facts, k) {
+        Some(t) => Ok(t.copy(alloc)?),
+        None => Err(RFault::WrongFact { f: k }),
+    }
+}
+
 // What the fact of this number puts out; None where it is no such fact.
-pub(crate) fn put_out(facts: &Pile, k: u64) -> Option<&Term>
-    ensures { MatchOption result ((t : Tree) → ¬ (fact_at facts.now.places k ≡ Some (out_fact t))) (λ t. fact_at facts.now.places k ≡ Some (out_fact (tree t.now))) }
+fn put_out(facts: &Pile, k: u64) -> Option<&Term>
+    ensures { MatchOption result ((t : Tree) → ¬ (fact_at facts.now.slots k ≡ Some (out_fact t))) (λ t. fact_at facts.now.slots k ≡ Some (out_fact (tree t.now))) }
 {
     argument_at(facts, k, b"Out")
 }
 
 // The name that the fact of this number was made of; None where it is no such fact.
 pub(crate) fn name_made(facts: &Pile, k: u64) -> Option<u64>
-    ensures { MatchOption result ((n : ℕ) → ¬ (fact_at facts.now.places k ≡ Some (fr_fact n))) (λ n. fact_at facts.now.places k ≡ Some (fr_fact n)) }
+    ensures { MatchOption result ((n : ℕ) → ¬ (fact_at facts.now.slots k ≡ Some (fr_fact n))) (λ n. fact_at facts.now.slots k ≡ Some (fr_fact n)) }
 {
     match argument_at(facts, k, b"Fr") {
         Some(Term::Fresh(n)) => Some(*n),

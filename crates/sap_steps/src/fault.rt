@@ -15,7 +15,8 @@ pub enum RFault {
     NoRule,
     /// The line cites too few facts, or too many, for the rule's left side.
     FactCount,
-    /// At this place, from 1, stands the first cited number that is no live fact's, or a linear fact's that was cited before.
+    /// At this index of the line's numbers, from 1, stands the first that is no live fact's, or a linear fact's that was
+    /// cited before.
     FactMissing { place: u64 },
     /// The bindings aren't of the rule's open variables, in order, each to a ground normal term of its sort.
     BadBinding,

@@ -1,11 +1,10 @@
-ghost use Rattle.std.specs.Prelude.{◌≡◌, length, IfOk, IfErr, IsSome, All};
+ghost use Rattle.std.specs.Prelude.{◌≡◌, length, map, IfOk, IfErr, IsErrOf, IsSome, All};
 ghost use Rattle.sap_facts.specs.Facts.{fact_at};
-ghost use Rattle.sap_rule.specs.Variables.{open_variables};
-ghost use Rattle.sap_rule.specs.WellMade.{IsWellMade};
-ghost use Rattle.sap_terms.specs.Subst.{bound_to};
+ghost use Rattle.sap_terms.specs.Subst.{bound_to, subst_tree};
 ghost use Rattle.sap_steps.specs.Faults.{IsRuleRefusal};
-ghost use Rattle.sap_steps.specs.code.Firing.{Evaluates, IsEvaluationFault};
+ghost use Rattle.sap_steps.specs.code.Firing.{Evaluates, FactsFit, IsEvaluationFault, IsLeftSame, SomeLarge, args_of};
 ghost use Rattle.sap_steps.specs.code.Held.{HoldsSmallMessages, IsSmallMessageFact, cited_at};
+ghost use Rattle.sap_steps.specs.code.Ready.{IsReady};
 ghost use Rattle.sap_steps.specs.Lines.{Fires, IsSmall};
 
 use crate::RFault;
@@ -16,10 +15,10 @@ use crate::forms::forms_of_facts;
 use crate::prepared::Prepared;
 use sap_facts::Pile;
 use sap_rewrite::{
-    agreeing_choices_substitute, bindings_give_choices, fitting_gives_messages, forms_are_messages,
-    matching_around_is_modulo, normal_forms_are_unique, variables_named_once_stay_so,
+    Cut, agreeing_choices_substitute, bindings_give_choices, fitting_gives_messages,
+    forms_are_messages, matching_around_is_modulo, normal_forms_are_unique,
+    variables_named_once_stay_so,
 };
-use sap_rule::Rule;
 use sap_terms::{Bindings, Copied, FactList, Numbers, Signature};
 use std::alloc::Global;
 
@@ -39,14 +38,13 @@ pub(crate) fn fire(
     numbers: &Numbers,
     b: &Bindings,
 ) -> Result<Firing, RFault>
-    requires well_made { IsWellMade sig.now rule.now.rule }
-    requires open_variables { rule.now.open_vars ≡ open_variables sig.now rule.now.rule }
+    requires ready { IsReady sig.now rule.now }
     requires count { length numbers.now ≡ length rule.now.rule.left }
-    requires live { All (λ k. IsSome (fact_at facts.now.places k)) numbers.now }
-    requires held { HoldsSmallMessages sig.now facts.now.places }
-    ensures fires { IfOk result (λ x. Fires sig.now IsSmall rule.now.rule b.now (cited_at facts.now.places numbers.now) x.acts x.right) }
+    requires live { All (λ k. IsSome (fact_at facts.now.slots k)) numbers.now }
+    requires held { HoldsSmallMessages sig.now facts.now.slots }
+    ensures fires { IfOk result (λ x. Fires sig.now IsSmall rule.now.rule b.now (cited_at facts.now.slots numbers.now) x.acts x.right) }
     ensures held { IfOk result (λ x. All (IsSmallMessageFact sig.now) x.right) }
-    ensures refused { IfErr result (IsRuleRefusal sig.now rule.now.rule b.now (cited_at facts.now.places numbers.now)) }
+    ensures refused { IfErr result (IsRuleRefusal sig.now rule.now.rule b.now (cited_at facts.now.slots numbers.now)) }
 {
     matching_around_is_modulo();
     fitting_gives_messages();
@@ -63,7 +61,7 @@ pub(crate) fn fire(
         return Err(RFault::BadBinding);
     }
     match match_facts(alloc, sig, &rule.rule.left, facts, numbers, b.copy(alloc)?)? {
-        Some(c) => evaluate(alloc, sig, &rule.rule, facts, numbers, &c),
+        Some(c) => evaluate(alloc, sig, rule, facts, numbers, &c),
         None => Err(RFault::NoMatch),
     }
 }
@@ -72,21 +70,50 @@ pub(crate) fn fire(
 fn evaluate(
     alloc: Global,
     sig: &Signature,
-    rule: &Rule,
+    rule: &Prepared,
     facts: &Pile,
     numbers: &Numbers,
     c: &Bindings,
 ) -> Result<Firing, RFault>
-    requires live { All (λ k. IsSome (fact_at facts.now.places k)) numbers.now }
-    requires count { length numbers.now ≡ length rule.now.left }
-    ensures evaluates { IfOk result (λ x. Evaluates sig.now (bound_to c.now) rule.now (cited_at facts.now.places numbers.now) x.acts x.right) }
-    ensures refused { IfErr result (IsEvaluationFault sig.now (bound_to c.now) rule.now (cited_at facts.now.places numbers.now)) }
+    requires live { All (λ k. IsSome (fact_at facts.now.slots k)) numbers.now }
+    requires count { length numbers.now ≡ length rule.now.rule.left }
+    requires ready { IsReady sig.now rule.now }
+    requires fits { FactsFit sig.now rule.now.rule.left (cited_at facts.now.slots numbers.now) (bound_to c.now) }
+    requires held { HoldsSmallMessages sig.now facts.now.slots }
+    ensures evaluates { IfOk result (λ x. Evaluates sig.now (bound_to c.now) rule.now.rule (cited_at facts.now.slots numbers.now) x.acts x.right) }
+    ensures refused { IfErr result (IsEvaluationFault sig.now (bound_to c.now) rule.now.rule (cited_at facts.now.slots numbers.now)) }
 {
-    let left = forms_of_facts(alloc, sig, &rule.left, c)?;
-    let acts = forms_of_facts(alloc, sig, &rule.acts, c)?;
-    let right = forms_of_facts(alloc, sig, &rule.right, c)?;
-    if !have_args(&left, facts, numbers) {
+    let same = is_left_same(alloc, sig, rule, facts, numbers, c)?;
+    let acts = forms_of_facts(alloc, sig, &rule.rule.acts, c)?;
+    let right = forms_of_facts(alloc, sig, &rule.rule.right, c)?;
+    if !same {
         return Err(RFault::Unequal);
     }
     Ok(Firing { acts, right })
+}
+
+// Whether the rule's left side has the arguments of the cited facts. A plain one has them where it fits them, so it isn't
+// evaluated.
+fn is_left_same(
+    alloc: Global,
+    sig: &Signature,
+    rule: &Prepared,
+    facts: &Pile,
+    numbers: &Numbers,
+    c: &Bindings,
+) -> Result<bool, Cut>
+    requires live { All (λ k. IsSome (fact_at facts.now.slots k)) numbers.now }
+    requires count { length numbers.now ≡ length rule.now.rule.left }
+    requires ready { IsReady sig.now rule.now }
+    requires fits { FactsFit sig.now rule.now.rule.left (cited_at facts.now.slots numbers.now) (bound_to c.now) }
+    requires held { HoldsSmallMessages sig.now facts.now.slots }
+    ensures same { IfOk result (IsLeftSame sig.now (bound_to c.now) rule.now.rule.left (cited_at facts.now.slots numbers.now)) }
+    ensures large { IsErrOf result Cut.Large → SomeLarge sig.now (map (subst_tree c.now) (args_of rule.now.rule.left)) }
+{
+    normal_forms_are_unique();
+    if rule.plain {
+        return Ok(true);
+    }
+    let left = forms_of_facts(alloc, sig, &rule.rule.left, c)?;
+    Ok(have_args(&left, facts, numbers))
 }

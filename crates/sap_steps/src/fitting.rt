@@ -22,11 +22,11 @@ pub(crate) fn match_facts(
     numbers: &Numbers,
     b: Bindings,
 ) -> Result<Option<Bindings>, Mem>
-    requires live { All (λ n. IsSome (fact_at facts.now.places n)) numbers.now }
+    requires live { All (λ n. IsSome (fact_at facts.now.slots n)) numbers.now }
     requires count { length numbers.now ≡ length fs.now }
     ensures { IfOk result (λ o. MatchOption o
-        (HasNoChoice (FactsFit sig.now fs.now (cited_at facts.now.places numbers.now)) (facts_outer_vars sig.now fs.now) b)
-        (λ c. IsOnlyChoice (FactsFit sig.now fs.now (cited_at facts.now.places numbers.now)) (facts_outer_vars sig.now fs.now) b c)) }
+        (HasNoChoice (FactsFit sig.now fs.now (cited_at facts.now.slots numbers.now)) (facts_outer_vars sig.now fs.now) b)
+        (λ c. IsOnlyChoice (FactsFit sig.now fs.now (cited_at facts.now.slots numbers.now)) (facts_outer_vars sig.now fs.now) b c)) }
 {
     extensions_join();
     let mut c = b;

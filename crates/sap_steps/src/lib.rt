@@ -10,7 +10,6 @@ mod fitting;
 mod forms;
 mod laws;
 mod prepared;
-mod rules;
 mod state;
 mod taking;
 mod using;

@@ -1,4 +1,5 @@
-ghost use Rattle.std.specs.Prelude.{◌≡◌, [], ◌∷◌, ◌++◌, IfOk, OnOk, OnErr, IfErr, IsTrue, ◌↔◌, All, Contains};
+ghost use Rattle.std.specs.Prelude.{◌≡◌, ◌<◌, [], ◌∷◌, ◌++◌, IfOk, OnOk, OnErr, IfErr, IsTrue, ◌↔◌, All, Contains};
+ghost use Rattle.indexmap.specs.IndexSet.{spare};
 ghost use Rattle.sap_terms.specs.Message.{AreMessageFacts};
 ghost use Rattle.sap_rule.specs.RuleSteps.{empty_state};
 ghost use Rattle.sap_rule.specs.WellMade.{IsWellMade};
@@ -8,27 +9,26 @@ ghost use Rattle.sap_steps.specs.Lines.{IsLine, IsSmall};
 ghost use Rattle.sap_steps.specs.code.Ready.{IsReady, rules_of};
 
 use crate::RFault;
-use crate::adversary::{given_and_shown, name_made, put_out, single};
-use crate::firing::Firing;
+use crate::adversary::{copied_out, given_and_shown, name_made, single};
 use crate::laws::lines_are_steps;
-use crate::prepared::Prepared;
-use crate::rules::Rules;
-use crate::taking::{add_each, add_one, take_each};
+use crate::prepared::{Prepared, ready_rule};
+use crate::taking::{add_one, carry_out, remove};
 use crate::using::use_rule;
 use indexmap::IndexSet;
 use sap_deduce::Knowledge;
 use sap_facts::Pile;
-use sap_rule::{RuleList, Theory, open_vars, steps_keep_messages};
+use sap_rule::{RuleList, Theory, steps_keep_messages};
 use sap_runs::RStep;
-use sap_terms::{Bindings, Copied, FactList, Mem, Name, Numbers, Signature, Term};
+use sap_terms::{
+    Bindings, Copied, FactList, Mem, Name, Named, Numbers, Signature, Term, names_are_messages,
+};
 use std::alloc::Global;
 use std::marker::Model;
 
 /// Where a run of rules stands: the facts, what the adversary knows, and the names that were made.
 #[derive(Drop)]
 pub struct RuleState {
-    sig: Signature,
-    rules: Rules,
+    rules: Named<Prepared>,
     facts: Pile,
     knowledge: Knowledge,
     made: IndexSet<u64>,
@@ -36,7 +36,7 @@ pub struct RuleState {
 
 impl Model for RuleState {
     ghost use Rattle.std.specs.Coded.{codes};
-    ghost use Rattle.sap_terms.specs.code.Codes.{tree_code};
+    ghost use Rattle.sap_terms.specs.Codes.{tree_code};
     ghost use Rattle.sap_steps.specs.State.{State};
 
     ghost Value = { State };
@@ -48,25 +48,23 @@ impl Model for RuleState {
     ghost use Rattle.sap_steps.specs.code.Tied.{IsTied};
 
     ghost view = { λ a. record {
-      sig = a.sig;
+      sig = a.knowledge.sig;
       rules = rules_of a.rules;
-      at = record { facts = a.facts.places; known = terms_of a.knowledge.entries; made = a.made.keys };
+      at = record { facts = a.facts.slots; known = terms_of a.knowledge.entries; made = a.made.keys };
     } };
 
-    ghost invariant = { λ a. IsTied a.sig a.rules a.facts.places a.knowledge };
+    ghost invariant = { λ a. IsTied a.rules a.facts.slots a.knowledge };
 }
 
 // The rules, ready to be used.
-fn made_ready(alloc: Global, sig: &Signature, rules: &RuleList) -> Result<Rules, Mem>
+fn made_ready(alloc: Global, sig: &Signature, rules: &RuleList) -> Result<Named<Prepared>, Mem>
     requires { All (IsWellMade sig.now) rules.now }
     ensures ready { IfOk result (All (IsReady sig.now)) }
     ensures rules { IfOk result (λ rs. rules_of rs ≡ rules.now) }
 {
-    let mut ready = Rules::new(alloc);
+    let mut ready = Named::new(alloc);
     for r in rules.as_slice() {
-        let open_vars = open_vars(alloc, sig, r)?;
-        let rule = r.copy(alloc)?;
-        ready.push(alloc, Prepared { rule, open_vars })?;
+        ready.push(ready_rule(alloc, sig, r)?)?;
     }
     Ok(ready)
 }
@@ -78,14 +76,25 @@ fn is_among(names: &IndexSet<u64>, n: u64) -> bool
     names.contains(&n)
 }
 
-// Puts a name that isn't among these last.
-fn put_last(names: &mut IndexSet<u64>, n: u64) -> Result<(), Mem>
-    requires { ¬ Contains names.old.keys n }
-    ensures ok { OnOk result (names.new.keys ≡ names.old.keys ++ n ∷ []) }
-    ensures err { OnErr result (names.new.keys ≡ names.old.keys) }
+// Finds memory for one name more.
+fn find_room(names: &mut IndexSet<u64>) -> Result<(), Mem>
+    ensures keys { names.new.keys ≡ names.old.keys }
+    ensures ok { OnOk result (0 < spare names.new) }
 {
-    names.insert(n)?;
+    names.reserve(1)?;
     Ok(())
+}
+
+// Puts a name that isn't among these last, where memory was found for it.
+fn put_last(names: &mut IndexSet<u64>, n: u64)
+    requires new { ¬ Contains names.old.keys n }
+    requires room { 0 < spare names.old }
+    ensures { names.new.keys ≡ names.old.keys ++ n ∷ [] }
+{
+    match names.insert(n) {
+        Ok(_) => {}
+        Err(_) => unreachable!(),
+    }
 }
 
 impl RuleState {
@@ -97,7 +106,6 @@ impl RuleState {
         ensures at { IfOk result (λ s. s.at ≡ empty_state) }
     {
         Ok(RuleState {
-            sig: t.signature.copy(alloc)?,
             knowledge: Knowledge::new(alloc, &t.signature)?,
             rules: made_ready(alloc, &t.signature, &t.rules)?,
             facts: Pile::new(alloc),
@@ -117,7 +125,7 @@ impl RuleState {
     {
         lines_are_steps();
         steps_keep_messages();
-        self.sig.builtins_are_held();
+        self.knowledge.signature().builtins_are_held();
         self.knowledge.each_is_deducible();
         self.advance(alloc, s)
     }
@@ -149,12 +157,14 @@ impl RuleState {
         ensures sig { self.new.sig ≡ self.old.sig }
         ensures rules { self.new.rules ≡ self.old.rules }
     {
+        names_are_messages();
         if is_among(&self.made, n) {
             return Err(RFault::UsedName { n });
         }
-        let fr = single(alloc, b"Fr", Term::Fresh(n))?;
         self.facts.reserve(1)?;
-        put_last(&mut self.made, n)?;
+        find_room(&mut self.made)?;
+        let fr = single(alloc, b"Fr", Term::Fresh(n))?;
+        put_last(&mut self.made, n);
         add_one(&mut self.facts, fr);
         Ok(FactList::new(alloc))
     }
@@ -167,12 +177,9 @@ impl RuleState {
         ensures sig { self.new.sig ≡ self.old.sig }
         ensures rules { self.new.rules ≡ self.old.rules }
     {
-        let t = match put_out(&self.facts, k) {
-            Some(t) => t.copy(alloc)?,
-            None => return Err(RFault::WrongFact { f: k }),
-        };
+        let t = copied_out(alloc, &self.facts, k)?;
         self.knowledge.output(t)?;
-        let _out = self.facts.take(k);
+        remove(&mut self.facts, k);
         Ok(FactList::new(alloc))
     }
 
@@ -188,7 +195,7 @@ impl RuleState {
             return Err(RFault::WrongFact { f: k });
         };
         self.knowledge.name(n)?;
-        let _fr = self.facts.take(k);
+        remove(&mut self.facts, k);
         Ok(FactList::new(alloc))
     }
 
@@ -252,12 +259,9 @@ impl RuleState {
         let Some(rule) = self.rules.named(name) else {
             return Err(RFault::NoRule);
         };
-        let fired = use_rule(alloc, &self.sig, rule, &self.facts, numbers, b)?;
-        let Firing { acts, right } = fired;
-        let added = right.into_vec();
-        self.facts.reserve(added.len() as u64)?;
-        take_each(&mut self.facts, numbers);
-        add_each(&mut self.facts, added);
+        let sig = self.knowledge.signature();
+        let fired = use_rule(alloc, sig, rule, &self.facts, numbers, b)?;
+        let acts = carry_out(&mut self.facts, numbers, fired)?;
         Ok(acts)
     }
 }

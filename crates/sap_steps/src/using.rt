@@ -23,17 +23,17 @@ pub(crate) fn use_rule(
     b: &Bindings,
 ) -> Result<Firing, RFault>
     requires ready { IsReady sig.now rule.now }
-    requires held { HoldsSmallMessages sig.now facts.now.places }
-    ensures taken { IfOk result (λ _. AreTaken facts.now.places numbers.now) }
-    ensures fires { IfOk result (λ x. Fires sig.now IsSmall rule.now.rule b.now (cited_at facts.now.places numbers.now) x.acts x.right) }
+    requires held { HoldsSmallMessages sig.now facts.now.slots }
+    ensures taken { IfOk result (λ _. AreTaken facts.now.slots numbers.now) }
+    ensures fires { IfOk result (λ x. Fires sig.now IsSmall rule.now.rule b.now (cited_at facts.now.slots numbers.now) x.acts x.right) }
     ensures held { IfOk result (λ x. All (IsSmallMessageFact sig.now) x.right) }
-    ensures refused { IfErr result (λ e. (e ≡ RFault.Mem) ⊎ IsRuleFault sig.now rule.now.rule facts.now.places numbers.now b.now e) }
+    ensures refused { IfErr result (λ e. (e ≡ RFault.Mem) ⊎ IsRuleFault sig.now rule.now.rule facts.now.slots numbers.now b.now e) }
 {
     if numbers.len() != rule.rule.left.len() {
         return Err(RFault::FactCount);
     }
-    if let Some(place) = first_missing(alloc, facts, numbers)? {
-        return Err(RFault::FactMissing { place });
+    if let Some(index) = first_missing(alloc, facts, numbers)? {
+        return Err(RFault::FactMissing { place: index });
     }
     fire(alloc, sig, rule, facts, numbers, b)
 }

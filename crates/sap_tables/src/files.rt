@@ -1,34 +1,58 @@
 //! Files as they are read: their processes, sizes, instances and places that aren't built.
 use crate::notation::{bindings, part, push_written};
-use crate::show::{Shown, show_file, show_numbered, show_place, show_process, show_word};
+use crate::page::{Page, Show};
+use crate::show::show_symbol;
 use sap_gen::first_unbuilt;
 use sap_process::{Process, substitute};
 use sap_read::{File, read_file_boxed};
-use sap_terms::{Bindings, Mem, Signature};
-use sap_text::Text;
+use sap_terms::{Bindings, Mem, Path, Signature};
 use std::alloc::Global;
 
-/// Puts last the bytes of a file: what the part says between a header and `end`, or what stands behind `=`.
-pub fn push_file(out: &mut Text, text: &str) -> Shown {
+/// The bytes of a file: what the part says between a header and `end`, or what stands behind `=`.
+pub fn file_bytes(alloc: Global, text: &str) -> Page {
+    let mut bytes = Page::new(alloc);
     match text.strip_prefix('=') {
-        Some(whole) => push_written(out, whole),
+        Some(whole) => push_written(&mut bytes, whole),
         None => {
-            out.push_bytes(b"theory T begin ")?;
-            push_written(out, text)?;
-            out.push_bytes(b" end")
+            bytes.word("theory T begin ");
+            push_written(&mut bytes, text);
+            bytes.word(" end");
         }
     }
+    bytes
 }
 
 fn file_of(alloc: Global, text: &str) -> Option<Box<File>> {
-    let mut bytes = Text::new(alloc);
-    push_file(&mut bytes, text).ok()?;
-    read_file_boxed(alloc, bytes.as_bytes()).ok()
+    read_file_boxed(alloc, file_bytes(alloc, text).as_bytes()).ok()
 }
 
-fn show_sizes(out: &mut Text, p: &Process) -> Shown {
-    show_numbered(out, "", p.nodes())?;
-    show_numbered(out, " ", p.levels())
+// The symbols behind those of pairs, in brackets.
+fn show_symbols(page: &mut Page, sig: &Signature) {
+    page.word("[");
+    if let [_, _, _, others @ ..] = sig.symbols() {
+        for symbol in others {
+            show_symbol(page, symbol, "p ", " ");
+        }
+    }
+    page.word("] ");
+}
+
+fn copied(alloc: Global, p: &Process) -> Result<Box<Process>, Mem> {
+    Ok(Box::new(alloc, p.copy(alloc)?)?)
+}
+
+fn instance(alloc: Global, p: &Process, b: &Bindings) -> Result<Box<Process>, Mem> {
+    Ok(Box::new(alloc, substitute(alloc, p, b)?)?)
+}
+
+fn show_file(page: &mut Page, file: &File) {
+    show_symbols(page, &file.signature);
+    page.show(copied(page.alloc, &file.process));
+}
+
+fn show_sizes(page: &mut Page, p: &Process) {
+    page.numbered("", p.nodes());
+    page.numbered(" ", p.levels());
 }
 
 // What follows the head of the process, where that is an input or a new name.
@@ -40,43 +64,37 @@ fn behind(p: &Process) -> &Process {
 }
 
 // The first place that isn't built, or `built`.
-fn show_unbuilt(alloc: Global, out: &mut Text, p: &Process) -> Shown {
-    match first_unbuilt(alloc, p)? {
-        Some(path) => show_place(out, &path),
-        None => show_word(out, "built"),
+fn show_unbuilt(page: &mut Page, unbuilt: &Result<Option<Path>, Mem>) {
+    match unbuilt {
+        Ok(Some(path)) => path.show_on(page),
+        Ok(None) => page.word("built"),
+        Err(_) => page.fail(),
     }
 }
 
-fn instance(alloc: Global, p: &Process, b: &Bindings) -> Result<Box<Process>, Mem> {
-    Ok(Box::new(alloc, substitute(alloc, p, b)?)?)
+fn show_instance(page: &mut Page, sig: &Signature, p: &Process, bound: &str) {
+    let b = bindings(page, sig, bound);
+    page.show(instance(page.alloc, p, &b));
 }
 
-fn show_instance(alloc: Global, out: &mut Text, p: &Process, b: &Bindings) -> Shown {
-    let instance = instance(alloc, p, b)?;
-    show_process(out, &instance)
-}
-
-fn show_bound(alloc: Global, out: &mut Text, p: &Process, bound: &str) -> Option<()> {
-    let sig = Signature::new(alloc).ok()?;
-    let b = bindings(alloc, &sig, bound)?;
-    show_instance(alloc, out, p, &b).ok()
-}
-
-fn show_kind(alloc: Global, out: &mut Text, file: &File, row: &str) -> Option<()> {
+fn show_kind(page: &mut Page, sig: &Signature, file: &File, row: &str) {
+    let p = &file.process;
     match part(row, 0) {
-        "process" => show_file(alloc, out, file).ok(),
-        "size" => show_sizes(out, &file.process).ok(),
-        "unbuilt" => show_unbuilt(alloc, out, behind(&file.process)).ok(),
-        "whole" => show_bound(alloc, out, &file.process, part(row, 2)),
-        "behind" => show_bound(alloc, out, behind(&file.process), part(row, 2)),
-        _ => None,
+        "process" => show_file(page, file),
+        "size" => show_sizes(page, p),
+        "unbuilt" => show_unbuilt(page, &first_unbuilt(page.alloc, behind(p))),
+        "whole" => show_instance(page, sig, p, part(row, 2)),
+        "behind" => show_instance(page, sig, behind(p), part(row, 2)),
+        _ => page.fail(),
     }
 }
 
 /// Of a file that isn't refused: `process`, its symbols behind those of pairs and a copy of its process; `size`, the nodes and
 /// levels of that; `unbuilt`, what follows a first input or new name, and the first place in it whose rules aren't built, or
 /// `built`; `whole` or `behind`, bindings, and the instance of the process or of what follows a first input or new name.
-pub fn files_row(alloc: Global, out: &mut Text, row: &str) -> Option<()> {
-    let file = file_of(alloc, part(row, 1))?;
-    show_kind(alloc, out, &file, row)
+pub fn files_row(page: &mut Page, sig: &Signature, row: &str) {
+    match &file_of(page.alloc, part(row, 1)) {
+        Some(file) => show_kind(page, sig, file, row),
+        None => page.fail(),
+    }
 }

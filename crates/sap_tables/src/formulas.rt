@@ -1,94 +1,89 @@
 //! Formulas as words, each behind those that it is made of.
 //!
 //! T, F, A(x)@i, x='a', #i=#j and #i<#j, and not, and, or, imp, iff, All:x,#i and Ex:x,#i on those before them.
-use crate::notation::{between, fact, name, part, term, variable};
-use crate::state::empty_theory;
-use crate::theories::{add_lemma, push_theory};
+use crate::notation::{TakesWords, between, fact, fill, name, part, term, variable};
+use crate::page::Page;
+use crate::theories::{add_lemma, begin, push_theory};
 use sap_formula::{Binder, Binders, Formula};
+use sap_rule::Theory;
 use sap_terms::{Name, Signature};
-use sap_text::Text;
 use std::alloc::Global;
 
-fn place(alloc: Global, word: &str) -> Option<Name> {
+fn time(alloc: Global, word: &str) -> Option<Name> {
     name(alloc, word.strip_prefix('#')?)
 }
 
-fn action(alloc: Global, sig: &Signature, shown: &str, i: &str) -> Option<Formula> {
-    let i = name(alloc, i)?;
-    let shown = fact(alloc, sig, shown)?;
+fn action(page: &mut Page, sig: &Signature, shown: &str, i: &str) -> Option<Formula> {
+    let (i, shown) = name(page.alloc, i).zip(fact(page, sig, shown))?;
     Some(Formula::Action(shown, i))
 }
 
-fn same_place(alloc: Global, i: &str, j: &str) -> Option<Formula> {
-    let i = place(alloc, i)?;
-    let j = place(alloc, j)?;
+fn same_time(alloc: Global, i: &str, j: &str) -> Option<Formula> {
+    let (i, j) = time(alloc, i).zip(time(alloc, j))?;
     Some(Formula::Same(i, j))
 }
 
 fn earlier(alloc: Global, i: &str, j: &str) -> Option<Formula> {
-    let i = place(alloc, i)?;
-    let j = place(alloc, j)?;
+    let (i, j) = time(alloc, i).zip(time(alloc, j))?;
     Some(Formula::Less(i, j))
 }
 
-fn equation(alloc: Global, sig: &Signature, s: &str, t: &str) -> Option<Formula> {
-    let s = term(alloc, sig, s)?;
-    let t = term(alloc, sig, t)?;
+fn equation(page: &mut Page, sig: &Signature, s: &str, t: &str) -> Option<Formula> {
+    let (s, t) = term(page, sig, s).zip(term(page, sig, t))?;
     Some(Formula::Equal(s, t))
 }
 
 fn order(alloc: Global, word: &str) -> Option<Formula> {
-    match word.split_once('<') {
-        Some((i, j)) => earlier(alloc, i, j),
-        None => {
-            let (i, j) = word.split_once('=')?;
-            same_place(alloc, i, j)
-        }
+    match (word.split_once('<'), word.split_once('=')) {
+        (Some((i, j)), _) => earlier(alloc, i, j),
+        (None, Some((i, j))) => same_time(alloc, i, j),
+        _ => None,
     }
 }
 
-fn atom(alloc: Global, sig: &Signature, word: &str) -> Option<Formula> {
+fn atom(page: &mut Page, sig: &Signature, word: &str) -> Option<Formula> {
     if word.starts_with('#') {
-        return order(alloc, word);
+        return order(page.alloc, word);
     }
-    match word.split_once('@') {
-        Some((shown, i)) => action(alloc, sig, shown, i),
-        None => {
-            let (s, t) = word.split_once('=')?;
-            equation(alloc, sig, s, t)
-        }
+    match (word.split_once('@'), word.split_once('=')) {
+        (Some((shown, i)), _) => action(page, sig, shown, i),
+        (None, Some((s, t))) => equation(page, sig, s, t),
+        _ => None,
     }
 }
 
-fn leaf(alloc: Global, sig: &Signature, word: &str) -> Option<Formula> {
+fn leaf(page: &mut Page, sig: &Signature, word: &str) -> Option<Formula> {
     match word {
         "T" => Some(Formula::True),
         "F" => Some(Formula::False),
-        _ => atom(alloc, sig, word),
+        _ => atom(page, sig, word),
     }
+}
+
+fn message(alloc: Global, word: &str) -> Option<Binder> {
+    Some(Binder::Message(variable(alloc, word)?))
 }
 
 fn binder(alloc: Global, word: &str) -> Option<Binder> {
     match word.strip_prefix('#') {
         Some(i) => Some(Binder::Time(name(alloc, i)?)),
-        None => Some(Binder::Message(variable(alloc, word)?)),
+        None => message(alloc, word),
     }
 }
 
-fn add_binders(alloc: Global, list: &mut Binders, words: &str) -> Option<()> {
-    for word in words.split(',') {
-        list.push(binder(alloc, word)?).ok()?;
+impl TakesWords for Binders {
+    fn take_word(&mut self, page: &mut Page, word: &str) {
+        page.put(self, binder(page.alloc, word));
     }
-    Some(())
 }
 
-fn binders(alloc: Global, words: &str) -> Option<Binders> {
-    let mut list = Binders::new(alloc);
-    add_binders(alloc, &mut list, words)?;
-    Some(list)
+fn binders(page: &mut Page, words: &str) -> Binders {
+    let mut list = Binders::new(page.alloc);
+    fill(page, &mut list, ',', words);
+    list
 }
 
-fn quantified(list: Binders, quantifier: &str, body: Box<Formula>) -> Formula {
+fn quantified(quantifier: &str, body: Box<Formula>, list: Binders) -> Formula {
     if quantifier == "All" {
         Formula::All(list, body)
     } else {
@@ -96,32 +91,28 @@ fn quantified(list: Binders, quantifier: &str, body: Box<Formula>) -> Formula {
     }
 }
 
-fn joined(word: &str, left: Box<Formula>, right: Box<Formula>) -> Formula {
-    match word {
-        "and" => Formula::And(left, right),
-        "or" => Formula::Or(left, right),
-        "imp" => Formula::Imp(left, right),
-        _ => Formula::Iff(left, right),
-    }
-}
-
 fn bind(
-    alloc: Global,
+    page: &mut Page,
     quantifier: &str,
     words: &str,
     stack: &mut Vec<Box<Formula>>,
 ) -> Option<Formula> {
-    let list = binders(alloc, words)?;
-    Some(quantified(list, quantifier, stack.pop()?))
+    let body = stack.pop()?;
+    Some(quantified(quantifier, body, binders(page, words)))
 }
 
 fn join(word: &str, stack: &mut Vec<Box<Formula>>) -> Option<Formula> {
-    let right = stack.pop()?;
-    Some(joined(word, stack.pop()?, right))
+    let (right, left) = stack.pop().zip(stack.pop())?;
+    match word {
+        "and" => Some(Formula::And(left, right)),
+        "or" => Some(Formula::Or(left, right)),
+        "imp" => Some(Formula::Imp(left, right)),
+        _ => Some(Formula::Iff(left, right)),
+    }
 }
 
 fn made(
-    alloc: Global,
+    page: &mut Page,
     sig: &Signature,
     word: &str,
     stack: &mut Vec<Box<Formula>>,
@@ -130,55 +121,41 @@ fn made(
         "not" => Some(Formula::Not(stack.pop()?)),
         "and" | "or" | "imp" | "iff" => join(word, stack),
         _ => match word.split_once(':') {
-            Some((quantifier, words)) => bind(alloc, quantifier, words, stack),
-            None => leaf(alloc, sig, word),
+            Some((quantifier, words)) => bind(page, quantifier, words, stack),
+            None => leaf(page, sig, word),
         },
     }
 }
 
-fn boxed(
-    alloc: Global,
-    sig: &Signature,
-    word: &str,
-    stack: &mut Vec<Box<Formula>>,
-) -> Option<Box<Formula>> {
-    Box::new(alloc, made(alloc, sig, word, stack)?).ok()
-}
-
-fn push_words(
-    alloc: Global,
-    sig: &Signature,
-    words: &str,
-    stack: &mut Vec<Box<Formula>>,
-) -> Option<()> {
+fn push_words(page: &mut Page, sig: &Signature, words: &str, stack: &mut Vec<Box<Formula>>) {
     for word in words.split(' ') {
-        let f = boxed(alloc, sig, word, stack)?;
-        stack.push(f).ok()?;
+        let made = made(page, sig, word, stack);
+        let boxed = page.boxed(made);
+        page.push(stack, boxed);
     }
-    Some(())
 }
 
-/// The formula that the words leave last on an empty stack, under a signature of pairs.
-pub fn formula(alloc: Global, words: &str) -> Option<Box<Formula>> {
-    let sig = Signature::new(alloc).ok()?;
-    let mut stack: Vec<Box<Formula>> = Vec::new(alloc);
-    push_words(alloc, &sig, words, &mut stack)?;
+/// The formula that the words leave last on an empty stack.
+pub fn formula(page: &mut Page, sig: &Signature, words: &str) -> Option<Box<Formula>> {
+    let mut stack: Vec<Box<Formula>> = Vec::new(page.alloc);
+    push_words(page, sig, words, &mut stack);
     stack.pop()
 }
 
-// The theory of the lemma l, whose formula is the row's, as it is printed.
-fn lemma_text(alloc: Global, row: &str) -> Option<Text> {
-    let mut t = empty_theory(alloc, "")?;
-    add_lemma(alloc, &mut t, "l", "", "all", part(row, 0))?;
-    let mut out = Text::new(alloc);
-    push_theory(alloc, &mut t, &mut out)?;
-    Some(out)
+// The lemma l, whose formula is the row's, as the theory of it alone is printed.
+fn show_lemma(page: &mut Page, t: &mut Theory, words: &str) {
+    let mut whole = Page::new(page.alloc);
+    add_lemma(&mut whole, t, "l", "", "all", words);
+    push_theory(&mut whole, t);
+    let before = "theory T\nbegin\n\nlemma l:\n  all-traces\n  \"";
+    match between(whole.as_bytes(), before, "\"\n\nend\n") {
+        Some(text) => page.bytes(text),
+        None => page.fail(),
+    }
 }
 
 /// The words of a formula, and its text in a lemma.
-pub fn formulas_row(alloc: Global, out: &mut Text, row: &str) -> Option<()> {
-    let text = lemma_text(alloc, row)?;
-    let before = "theory T\nbegin\n\nlemma l:\n  all-traces\n  \"";
-    out.push_bytes(between(text.as_bytes(), before, "\"\n\nend\n")?)
-        .ok()
+pub fn formulas_row(page: &mut Page, t: &mut Theory, row: &str) {
+    begin(page, t, "");
+    show_lemma(page, t, part(row, 0));
 }

@@ -1,71 +1,61 @@
 //! The adversary's knowledge.
 ghost use Rattle.std.specs.Prelude.{◌≡◌};
 
-use crate::notation::{name, number, numbers, part, parted, signature, term};
-use crate::show::{Shown, show_named, show_numbered, show_term, show_word};
+use crate::desk::Desk;
+use crate::notation::{name, number_or_zero, numbers, part, parted};
+use crate::page::{Page, Show};
 use sap_deduce::{Deny, Knowledge};
 use sap_rewrite::{is_message, normal};
-use sap_terms::{MOST_TERM_NODES, Mem, Signature, Sort, Term};
-use sap_text::Text;
+use sap_terms::{MOST_TERM_NODES, Mem, Name, Numbers, Signature, Sort, Term};
 use std::alloc::Global;
 
-// The number, or the cause in words.
-fn show_answer(out: &mut Text, answer: &Result<u64, Deny>) -> Shown {
-    match answer {
-        Ok(number) => out.push_number(*number),
-        Err(Deny::Mem) => show_word(out, "memory"),
-        Err(Deny::NotPublic { f }) => show_named(out, "not public ", f),
-        Err(Deny::Arity { f }) => show_named(out, "arity ", f),
-        Err(Deny::NoEntry { k }) => show_numbered(out, "no entry ", *k),
-        Err(Deny::TermLarge) => show_word(out, "large"),
+impl Show for Deny {
+    fn show_on(&self, page: &mut Page) {
+        match self {
+            Deny::Mem => page.word("memory"),
+            Deny::NotPublic { f } => page.named("not public ", f),
+            Deny::Arity { f } => page.named("arity ", f),
+            Deny::NoEntry { k } => page.numbered("no entry ", *k),
+            Deny::TermLarge => page.word("large"),
+        }
     }
 }
 
-fn apply(alloc: Global, k: &mut Knowledge, out: &mut Text, words: &str) -> Option<()> {
-    let (f, entries) = parted(words);
-    let f = name(alloc, f)?;
-    let entries = numbers(alloc, entries)?;
-    show_answer(out, &k.apply(&f, &entries)).ok()
-}
-
-fn public(alloc: Global, k: &mut Knowledge, out: &mut Text, text: &str) -> Option<()> {
-    let a = name(alloc, text)?;
-    out.push_number(k.public(a).ok()?).ok()
-}
-
-fn show_nodes(k: &Knowledge, out: &mut Text, place: u64) -> Shown {
-    match k.at(place) {
-        Some(t) => out.push_number(t.nodes()),
-        None => out.push_number(0),
+fn apply(page: &mut Page, k: &mut Knowledge, f: &Option<Name>, entries: &Numbers) {
+    match f {
+        Some(f) => page.show(k.apply(f, entries)),
+        None => page.fail(),
     }
 }
 
-fn show_at(k: &Knowledge, out: &mut Text, place: u64) -> Shown {
-    match k.at(place) {
-        Some(t) => show_term(out, t),
-        None => show_word(out, "none"),
+fn public(page: &mut Page, k: &mut Knowledge, a: Option<Name>) {
+    match a {
+        Some(a) => page.show(k.public(a)),
+        None => page.fail(),
     }
 }
 
-fn make_name(k: &mut Knowledge, out: &mut Text, n: u64) -> Option<()> {
-    out.push_number(k.name(n).ok()?).ok()
-}
-
-fn show_entry(alloc: Global, k: &mut Knowledge, out: &mut Text, row: &str) -> Option<()> {
-    let n = number(part(row, 1)).unwrap_or(0);
-    match part(row, 0) {
-        "public" => public(alloc, k, out, part(row, 1)),
-        "name" => make_name(k, out, n),
-        "apply" => apply(alloc, k, out, part(row, 1)),
-        "nodes" => show_nodes(k, out, n).ok(),
-        "at" => show_at(k, out, n).ok(),
-        _ => None,
+fn show_nodes(page: &mut Page, entry: Option<&Term>) {
+    match entry {
+        Some(t) => page.number(t.nodes()),
+        None => page.number(0),
     }
 }
 
-fn entry_row(alloc: Global, k: &mut Knowledge, out: &mut Text, row: &str) -> Option<()> {
-    show_entry(alloc, k, out, row)?;
-    show_numbered(out, ", ", k.len()).ok()
+fn show_entry(page: &mut Page, k: &mut Knowledge, kind: &str, what: &str) {
+    let n = number_or_zero(what);
+    let (first, rest) = parted(what);
+    match kind {
+        "public" => public(page, k, name(page.alloc, what)),
+        "name" => page.show(k.name(n)),
+        "apply" => {
+            let entries = numbers(page, rest);
+            apply(page, k, &name(page.alloc, first), &entries);
+        }
+        "nodes" => show_nodes(page, k.at(n)),
+        "at" => page.show(k.at(n)),
+        _ => page.fail(),
+    }
 }
 
 // Enters a term's normal form, if it is a message and isn't large.
@@ -84,52 +74,40 @@ fn send(alloc: Global, sig: &Signature, k: &mut Knowledge, t: &Term) -> Result<(
 
 // The knowledge of a term that is sent first.
 fn of_sent(alloc: Global, sig: &Signature, t: &Term) -> Result<Box<Knowledge>, Mem> {
-    let mut k = Knowledge::new(alloc, sig)?;
+    let mut k = Box::new(alloc, Knowledge::new(alloc, sig)?)?;
     send(alloc, sig, &mut k, t)?;
-    Ok(Box::new(alloc, k)?)
+    Ok(k)
 }
 
-fn of_sent_text(alloc: Global, sig: &Signature, text: &str) -> Option<Box<Knowledge>> {
-    let t = term(alloc, sig, text)?;
-    of_sent(alloc, sig, &t).ok()
-}
-
-fn show_count(held: &Option<Box<Knowledge>>, out: &mut Text) -> Shown {
-    match held {
-        Some(k) => out.push_number(k.len()),
-        None => Ok(()),
+fn of_terms(alloc: Global, sig: &Signature, terms: &[Term]) -> Option<Box<Knowledge>> {
+    match terms {
+        [t] => of_sent(alloc, sig, t).ok(),
+        _ => None,
     }
 }
 
-fn sent(alloc: Global, held: &mut Option<Box<Knowledge>>, out: &mut Text, row: &str) -> Option<()> {
-    let sig = signature(alloc, part(row, 1))?;
-    *held = of_sent_text(alloc, &sig, part(row, 2));
-    show_count(held, out).ok()
-}
-
-fn of_entries(
-    alloc: Global,
-    held: &mut Option<Box<Knowledge>>,
-    out: &mut Text,
-    row: &str,
-) -> Option<()> {
-    match held {
-        Some(k) => entry_row(alloc, k, out, row),
-        None => None,
+fn sent(page: &mut Page, desk: &mut Desk, row: &str) {
+    desk.begin(page, part(row, 1));
+    desk.put_term(page, part(row, 2));
+    desk.knowledge = of_terms(page.alloc, &desk.signature, desk.terms.as_slice());
+    match &desk.knowledge {
+        Some(k) => page.number(k.len()),
+        None => page.fail(),
     }
 }
 
 /// `sent`, a signature and a term that is sent, begins anew: the number of entries. Then `apply`, `name` and `public`, and the
 /// number that is entered or why none is; `at` and a place, and its term; `nodes` and a place, and those of its term; each with
 /// the number of entries behind it.
-pub fn knowledge_row(
-    alloc: Global,
-    held: &mut Option<Box<Knowledge>>,
-    out: &mut Text,
-    row: &str,
-) -> Option<()> {
+pub fn knowledge_row(page: &mut Page, desk: &mut Desk, row: &str) {
     if part(row, 0) == "sent" {
-        return sent(alloc, held, out, row);
+        return sent(page, desk, row);
     }
-    of_entries(alloc, held, out, row)
+    match &mut desk.knowledge {
+        Some(k) => {
+            show_entry(page, k, part(row, 0), part(row, 1));
+            page.numbered(", ", k.len());
+        }
+        None => page.fail(),
+    }
 }

@@ -4,38 +4,40 @@
 
 mod calls;
 mod copies;
+mod desk;
 mod files;
 mod formulas;
 mod knowledge;
 mod notation;
+mod page;
 mod piles;
 mod rewriting;
 mod rules;
 mod runs;
 mod show;
-mod state;
 mod tables;
 mod terms;
 mod theories;
 mod tokens;
 
-use sap_text::Text;
+use page::Page;
 use std::io::Write;
 use std::{env, fs, io};
 
 // Tells each table that is named.
-fn tell_tables(rt: &HostRuntime, out: &mut Text) -> io::Result<()> {
+fn tell_tables(rt: &HostRuntime, out: &mut Page) -> io::Result<()> {
     for table in env::args(rt)?.skip(1) {
         let rows = fs::read_to_string(rt, table.as_str())?;
-        if tables::report(rt.alloc(), table.as_str(), rows.as_str(), out).is_none() {
-            println!(rt; "want of memory")?;
-        }
+        tables::report(out, table.as_str(), rows.as_str());
     }
     Ok(())
 }
 
 fn main(rt: HostRuntime) -> io::Result<()> {
-    let mut out = Text::new(rt.alloc());
+    let mut out = Page::new(rt.alloc());
     tell_tables(&rt, &mut out)?;
+    if !out.is_whole() {
+        println!(rt; "want of memory")?;
+    }
     rt.stdout().write_all(out.as_bytes())
 }

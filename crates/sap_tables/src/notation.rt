@@ -1,12 +1,12 @@
 //! How rows are written: their parts, line feeds, bytes and repetitions, and what the texts of parts stand for.
-use crate::show::Shown;
+use crate::page::Page;
 use sap_read::{read_fact, read_term};
 use sap_rule::Rule;
 use sap_terms::{
-    Binding, Bindings, Builtin, Copied, Fact, FactList, Name, Numbers, SigFault, Signature, Sort,
-    Term, TermList, Var, subst,
+    Binding, Bindings, Builtin, Fact, FactList, Name, NameList, Numbers, SigFault, Signature, Sort,
+    Term, TermList, Var, Vars, subst,
 };
-use sap_text::{Text, Token, tokens};
+use sap_text::{Token, tokens};
 use std::alloc::Global;
 
 fn nth(text: &str, mark: char, k: usize) -> &str {
@@ -21,38 +21,44 @@ pub fn part(row: &str, k: usize) -> &str {
     nth(row, '%', k)
 }
 
+/// The number that the part spells in decimal; 0 where it spells none.
+pub fn number_or_zero(text: &str) -> u64 {
+    text.parse::<u64>().unwrap_or(0)
+}
+
 /// The number that the part spells in decimal.
-pub fn number(text: &str) -> Option<u64> {
-    text.parse::<u64>().ok()
+pub fn number(page: &mut Page, text: &str) -> u64 {
+    match text.parse::<u64>() {
+        Ok(number) => number,
+        Err(_) => {
+            page.fail();
+            0
+        }
+    }
 }
 
 // The text with line feeds where `^` stands.
-fn push_plain(out: &mut Text, text: &str) -> Shown {
+fn push_plain(page: &mut Page, text: &str) {
     for byte in text.as_bytes() {
-        let byte = if *byte == b'^' { b'\n' } else { *byte };
-        out.push_bytes([byte].as_slice())?;
+        page.byte(if *byte == b'^' { b'\n' } else { *byte });
     }
-    Ok(())
 }
 
-// The text with this number where `#` stands.
-fn push_numbered(out: &mut Text, text: &str, k: u32) -> Shown {
-    let mut is_first = true;
-    for piece in text.split('#') {
-        if !is_first {
-            out.push_number(k as u64)?;
-        }
-        push_plain(out, piece)?;
-        is_first = false;
-    }
-    Ok(())
-}
-
-fn push_repeated(out: &mut Text, times: u32, text: &str) -> Shown {
+// The text so many times, with the number of each where `#` stands.
+fn push_repeated(page: &mut Page, times: u32, text: &str) {
     for k in 0..times {
-        push_numbered(out, text, k)?;
+        push_numbered(page, text, k as u64);
     }
-    Ok(())
+}
+
+fn push_numbered(page: &mut Page, text: &str, k: u64) {
+    for byte in text.as_bytes() {
+        match *byte {
+            b'#' => page.number(k),
+            b'^' => page.byte(b'\n'),
+            byte => page.byte(byte),
+        }
+    }
 }
 
 fn digit(c: u8) -> u8 {
@@ -64,60 +70,112 @@ fn digit(c: u8) -> u8 {
 }
 
 // The byte of two hexadecimal digits; nothing where they aren't two.
-fn push_byte(out: &mut Text, digits: &[u8]) -> Shown {
-    match digits {
-        [high, low] => {
-            let byte = digit(*high).wrapping_mul(16).wrapping_add(digit(*low));
-            out.push_bytes([byte].as_slice())
-        }
-        _ => Ok(()),
+fn push_byte(page: &mut Page, digits: &[u8]) {
+    if let [high, low] = digits {
+        page.byte(digit(*high).wrapping_mul(16).wrapping_add(digit(*low)));
     }
 }
 
 // What stands between braces: a number of times and a text, or two hexadecimal digits.
-fn push_braced(out: &mut Text, inside: &str) -> Shown {
+fn push_braced(page: &mut Page, inside: &str) {
     match inside.split_once(':') {
-        Some((times, text)) => push_repeated(out, times.parse::<u32>().unwrap_or(0), text),
-        None => push_byte(out, inside.as_bytes()),
+        Some((times, text)) => push_repeated(page, times.parse::<u32>().unwrap_or(0), text),
+        None => push_byte(page, inside.as_bytes()),
     }
 }
 
 // What stands between braces, and behind them.
-fn push_behind_brace(out: &mut Text, piece: &str) -> Shown {
+fn push_piece(page: &mut Page, piece: &str) {
     match piece.split_once('}') {
         Some((inside, rest)) => {
-            push_braced(out, inside)?;
-            push_plain(out, rest)
+            push_braced(page, inside);
+            push_plain(page, rest);
         }
-        None => Ok(()),
+        None => push_plain(page, piece),
     }
 }
 
 /// Puts last the bytes that a part stands for: `^` is a line feed, `{0a}` the byte of two hexadecimal digits, `{3:a#}` is
 /// `a0a1a2`, and `{}` is nothing.
-pub fn push_written(out: &mut Text, text: &str) -> Shown {
-    let mut is_first = true;
+pub fn push_written(page: &mut Page, text: &str) {
     for piece in text.split('{') {
-        if is_first {
-            push_plain(out, piece)?;
-        } else {
-            push_behind_brace(out, piece)?;
-        }
-        is_first = false;
+        push_piece(page, piece);
     }
-    Ok(())
 }
 
 /// The bytes that a part stands for.
-pub fn written(alloc: Global, text: &str) -> Option<Text> {
-    let mut out = Text::new(alloc);
-    push_written(&mut out, text).ok()?;
-    Some(out)
+pub fn written(alloc: Global, text: &str) -> Page {
+    let mut bytes = Page::new(alloc);
+    push_written(&mut bytes, text);
+    bytes
 }
 
-/// The name of these bytes; nothing where memory is wanting.
+/// The name of these bytes; none where memory is wanting.
 pub fn name(alloc: Global, text: &str) -> Option<Name> {
     Name::from_bytes(alloc, text.as_bytes()).ok()
+}
+
+/// What words are put into, one after another.
+pub trait TakesWords {
+    fn take_word(&mut self, page: &mut Page, word: &str);
+}
+
+/// Puts in what stands between the marks, without blanks around it; nothing where that is empty.
+pub fn fill<T: TakesWords>(page: &mut Page, taker: &mut T, mark: char, words: &str) {
+    for word in words.split(mark) {
+        let word = word.trim();
+        if !word.is_empty() {
+            taker.take_word(page, word);
+        }
+    }
+}
+
+impl TakesWords for Numbers {
+    fn take_word(&mut self, page: &mut Page, word: &str) {
+        let number = number(page, word);
+        page.put(self, Some(number));
+    }
+}
+
+impl TakesWords for NameList {
+    fn take_word(&mut self, page: &mut Page, word: &str) {
+        page.put(self, name(page.alloc, word));
+    }
+}
+
+impl TakesWords for Vars {
+    fn take_word(&mut self, page: &mut Page, word: &str) {
+        page.put(self, variable(page.alloc, word));
+    }
+}
+
+impl TakesWords for Signature {
+    fn take_word(&mut self, page: &mut Page, word: &str) {
+        if add(page, self, word).is_err() {
+            page.fail();
+        }
+    }
+}
+
+/// The numbers with blanks between them.
+pub fn numbers(page: &mut Page, words: &str) -> Numbers {
+    let mut list = Numbers::new(page.alloc);
+    fill(page, &mut list, ' ', words);
+    list
+}
+
+/// The names with blanks between them.
+pub fn names(page: &mut Page, words: &str) -> NameList {
+    let mut list = NameList::new(page.alloc);
+    fill(page, &mut list, ' ', words);
+    list
+}
+
+/// The variables with blanks between them.
+pub fn variables(page: &mut Page, words: &str) -> Vars {
+    let mut list = Vars::new(page.alloc);
+    fill(page, &mut list, ' ', words);
+    list
 }
 
 fn builtin(word: &str) -> Option<Builtin> {
@@ -131,39 +189,32 @@ fn builtin(word: &str) -> Option<Builtin> {
     }
 }
 
-/// Adds a builtin, or a symbol with its arity, behind `-` where it is private, and gives the answer; nothing where the word is
-/// none of these.
-pub fn add(alloc: Global, sig: &mut Signature, word: &str) -> Option<Result<(), SigFault>> {
+/// Adds a builtin, or a symbol with its arity, behind `-` where it is private, and gives the answer.
+pub fn add(page: &mut Page, sig: &mut Signature, word: &str) -> Result<(), SigFault> {
     match builtin(word) {
-        Some(b) => Some(sig.add_builtin(b)),
-        None => declare(alloc, sig, word),
+        Some(b) => sig.add_builtin(b),
+        None => declare(page, sig, word),
     }
 }
 
-fn declare(alloc: Global, sig: &mut Signature, word: &str) -> Option<Result<(), SigFault>> {
+fn declare(page: &mut Page, sig: &mut Signature, word: &str) -> Result<(), SigFault> {
     let (private, word) = match word.strip_prefix('-') {
         Some(rest) => (true, rest),
         None => (false, word),
     };
-    let (f, arity) = word.split_once('/')?;
-    let arity = number(arity)?;
-    Some(sig.declare(name(alloc, f)?, arity, private))
-}
-
-fn add_words(alloc: Global, sig: &mut Signature, words: &str) -> Option<()> {
-    for word in words.split(' ') {
-        if !word.is_empty() {
-            add(alloc, sig, word)?.ok()?;
-        }
+    let (f, arity) = word.split_once('/').unwrap_or((word, ""));
+    let arity = number(page, arity);
+    match name(page.alloc, f) {
+        Some(f) => sig.declare(f, arity, private),
+        None => Err(SigFault::Mem),
     }
-    Some(())
 }
 
 /// The signature of these words, each a builtin or a symbol with its arity, behind `-` where it is private:
 /// `hashing symmetric asymmetric signing revealing f/2 -k/1`.
-pub fn signature(alloc: Global, words: &str) -> Option<Signature> {
-    let mut sig = Signature::new(alloc).ok()?;
-    add_words(alloc, &mut sig, words)?;
+pub fn signature(page: &mut Page, words: &str) -> Option<Signature> {
+    let mut sig = Signature::new(page.alloc).ok()?;
+    fill(page, &mut sig, ' ', words);
     Some(sig)
 }
 
@@ -175,231 +226,181 @@ pub fn tokens_of(alloc: Global, bytes: &[u8]) -> Vec<Token> {
     }
 }
 
-fn first_term(alloc: Global, sig: &Signature, bytes: &[u8]) -> Option<Term> {
-    let found = tokens_of(alloc, bytes);
-    match read_term(alloc, sig, bytes, &found, 0) {
+fn first_term(alloc: Global, sig: &Signature, bytes: &[u8], found: &Vec<Token>) -> Option<Term> {
+    match read_term(alloc, sig, bytes, found, 0) {
         Ok(Some((term, _))) => Some(term),
         _ => None,
     }
 }
 
 fn spelled(alloc: Global, sig: &Signature, text: &str) -> Option<Term> {
-    let bytes = written(alloc, text)?;
-    first_term(alloc, sig, bytes.as_bytes())
+    let bytes = written(alloc, text);
+    let found = tokens_of(alloc, bytes.as_bytes());
+    first_term(alloc, sig, bytes.as_bytes(), &found)
 }
 
-fn add_fresh_name(alloc: Global, names: &mut Bindings, var: &str, number: u64) -> Option<()> {
-    let name = name(alloc, var)?;
+fn instance(alloc: Global, t: Option<Term>, bound: Bindings) -> Option<Term> {
+    subst(alloc, &t?, &bound).ok()
+}
+
+fn bound_to(var: Option<Var>, term: Option<Term>) -> Option<Binding> {
+    let (var, term) = var.zip(term)?;
+    Some(Binding { var, term })
+}
+
+fn fresh_name(alloc: Global, digit: u8) -> Option<Var> {
+    let name = Name::from_bytes(alloc, [b'n', digit].as_slice()).ok()?;
     let sort = Sort::Fresh;
-    let term = Term::Fresh(number);
-    names
-        .push(Binding {
-            var: Var { name, sort },
-            term,
-        })
-        .ok()
+    Some(Var { name, sort })
 }
 
 // The variables ~n0 to ~n9 stand for the fresh names 0 to 9.
-fn add_fresh_names(alloc: Global, names: &mut Bindings) -> Option<()> {
-    let mut number: u64 = 0;
-    for word in ["n0", "n1", "n2", "n3", "n4", "n5", "n6", "n7", "n8", "n9"] {
-        add_fresh_name(alloc, names, word, number)?;
-        number = number.saturating_add(1);
+fn fresh_names(page: &mut Page) -> Bindings {
+    let mut list = Bindings::new(page.alloc);
+    for digit in b"0123456789" {
+        let term = Term::Fresh(digit.wrapping_sub(b'0') as u64);
+        page.put(
+            &mut list,
+            bound_to(fresh_name(page.alloc, *digit), Some(term)),
+        );
     }
-    Some(())
-}
-
-fn with_fresh_names(alloc: Global, t: &Term) -> Option<Term> {
-    let mut names = Bindings::new(alloc);
-    add_fresh_names(alloc, &mut names)?;
-    subst(alloc, t, &names).ok()
+    list
 }
 
 // The term that the text spells, with fresh names.
-fn named_term(alloc: Global, sig: &Signature, text: &str) -> Option<Term> {
-    let t = spelled(alloc, sig, text)?;
-    with_fresh_names(alloc, &t)
+fn named_term(page: &mut Page, sig: &Signature, text: &str) -> Option<Term> {
+    let term = spelled(page.alloc, sig, text);
+    instance(page.alloc, term, fresh_names(page))
 }
 
 /// The variable of the word: `x`, `~x`, `$x`.
 pub fn variable(alloc: Global, word: &str) -> Option<Var> {
-    let (sort, rest) = match word.strip_prefix('~') {
-        Some(rest) => (Sort::Fresh, rest),
-        None => match word.strip_prefix('$') {
-            Some(rest) => (Sort::Pub, rest),
-            None => (Sort::Msg, word),
-        },
+    let (sort, rest) = match word.as_bytes() {
+        [b'~', rest @ ..] => (Sort::Fresh, rest),
+        [b'$', rest @ ..] => (Sort::Pub, rest),
+        rest => (Sort::Msg, rest),
     };
-    let name = name(alloc, rest)?;
+    let name = Name::from_bytes(alloc, rest).ok()?;
     Some(Var { name, sort })
 }
 
-fn binding(alloc: Global, sig: &Signature, text: &str) -> Option<Binding> {
+fn binding(page: &mut Page, sig: &Signature, text: &str) -> Option<Binding> {
     let (var, bound) = text.split_once('=')?;
-    let term = named_term(alloc, sig, bound.trim())?;
-    let var = variable(alloc, var.trim())?;
-    Some(Binding { var, term })
-}
-
-/// Adds the bindings of the text: `x = 'a'; ~y = ~n1`.
-pub fn add_bindings(alloc: Global, sig: &Signature, list: &mut Bindings, text: &str) -> Option<()> {
-    for part in text.split(';') {
-        if !part.is_empty() {
-            list.push(binding(alloc, sig, part)?).ok()?;
-        }
-    }
-    Some(())
+    let var = variable(page.alloc, var.trim());
+    bound_to(var, named_term(page, sig, bound.trim()))
 }
 
 /// The bindings of the text: `x = 'a'; ~y = ~n1`.
-pub fn bindings(alloc: Global, sig: &Signature, text: &str) -> Option<Bindings> {
-    let mut list = Bindings::new(alloc);
-    add_bindings(alloc, sig, &mut list, text)?;
-    Some(list)
-}
-
-fn instance(alloc: Global, t: &Term, b: &Bindings) -> Option<Term> {
-    let copy = b.copy(alloc).ok()?;
-    subst(alloc, t, &copy).ok()
-}
-
-fn bound_term(alloc: Global, sig: &Signature, t: &Term, bound: &str) -> Option<Term> {
-    let b = bindings(alloc, sig, bound)?;
-    instance(alloc, t, &b)
-}
-
-fn term_where(alloc: Global, sig: &Signature, text: &str, bound: &str) -> Option<Term> {
-    let t = named_term(alloc, sig, text)?;
-    bound_term(alloc, sig, &t, bound)
+pub fn bindings(page: &mut Page, sig: &Signature, text: &str) -> Bindings {
+    let mut list = Bindings::new(page.alloc);
+    for part in text.split(';') {
+        if !part.is_empty() {
+            let binding = binding(page, sig, part);
+            page.put(&mut list, binding);
+        }
+    }
+    list
 }
 
 /// The term that the text spells under the signature, with the fresh names 0 to 9 in place of the variables ~n0 to ~n9; behind
 /// `where` stand bindings, whose instance it is: `<x,y> where x = 'a'; y = ~n1`.
-pub fn term(alloc: Global, sig: &Signature, text: &str) -> Option<Term> {
+pub fn term(page: &mut Page, sig: &Signature, text: &str) -> Option<Term> {
     match text.split_once(" where ") {
-        Some((t, bound)) => term_where(alloc, sig, t, bound),
-        None => named_term(alloc, sig, text),
+        Some((t, bound)) => {
+            let term = named_term(page, sig, t);
+            instance(page.alloc, term, bindings(page, sig, bound))
+        }
+        None => named_term(page, sig, text),
     }
 }
 
 // Puts last the fact at this token, and gives the number of the token behind the comma that follows it.
 fn push_fact_at(
-    alloc: Global,
+    page: &mut Page,
     sig: &Signature,
     bytes: &[u8],
     found: &Vec<Token>,
     at: u64,
     list: &mut FactList,
-) -> Option<u64> {
-    match read_fact(alloc, sig, bytes, found, at) {
+) -> u64 {
+    match read_fact(page.alloc, sig, bytes, found, at) {
         Ok(Some((fact, end))) => {
-            list.push(fact).ok()?;
-            end.checked_add(1)
+            page.put(list, Some(fact));
+            end.saturating_add(1)
         }
-        _ => None,
+        _ => {
+            page.fail();
+            u64::MAX
+        }
     }
 }
 
 fn push_facts(
-    alloc: Global,
+    page: &mut Page,
     sig: &Signature,
     bytes: &[u8],
     found: &Vec<Token>,
     list: &mut FactList,
-) -> Option<()> {
+) {
     let mut at: u64 = 0;
     for _ in 0..found.len() {
-        if at >= found.len() as u64 {
-            break;
+        if at < found.len() as u64 {
+            at = push_fact_at(page, sig, bytes, found, at, list);
         }
-        at = push_fact_at(alloc, sig, bytes, found, at, list)?;
     }
-    Some(())
-}
-
-fn push_all_facts(alloc: Global, sig: &Signature, bytes: &[u8], list: &mut FactList) -> Option<()> {
-    let found = tokens_of(alloc, bytes);
-    push_facts(alloc, sig, bytes, &found, list)
-}
-
-fn add_facts(alloc: Global, sig: &Signature, text: &str, list: &mut FactList) -> Option<()> {
-    let bytes = written(alloc, text)?;
-    push_all_facts(alloc, sig, bytes.as_bytes(), list)
 }
 
 /// The facts that the text spells under the signature, parted by commas.
-pub fn facts(alloc: Global, sig: &Signature, text: &str) -> Option<FactList> {
-    let mut list = FactList::new(alloc);
-    add_facts(alloc, sig, text, &mut list)?;
-    Some(list)
+pub fn facts(page: &mut Page, sig: &Signature, text: &str) -> FactList {
+    let mut list = FactList::new(page.alloc);
+    let bytes = written(page.alloc, text);
+    let found = tokens_of(page.alloc, bytes.as_bytes());
+    push_facts(page, sig, bytes.as_bytes(), &found, &mut list);
+    list
 }
 
-fn args_with_fresh_names(alloc: Global, args: &TermList) -> Option<TermList> {
-    let mut list = TermList::new(alloc);
-    for k in 0..args.len() {
-        list.push(with_fresh_names(alloc, args.at(k))?).ok()?;
+fn put_arg(page: &mut Page, list: &mut TermList, arg: Option<Term>) {
+    match arg {
+        Some(arg) => {
+            if list.push(arg).is_err() {
+                page.fail();
+            }
+        }
+        None => page.fail(),
     }
-    Some(list)
 }
 
-fn fact_with_fresh_names(alloc: Global, f: &Fact) -> Option<Fact> {
-    let args = args_with_fresh_names(alloc, &f.args)?;
-    let name = f.name.copy(alloc).ok()?;
-    Some(Fact {
-        name,
-        persistent: f.persistent,
-        args,
-    })
+fn args_with_fresh_names(page: &mut Page, args: &TermList) -> TermList {
+    let mut list = TermList::new(page.alloc);
+    let names = fresh_names(page);
+    for arg in args.as_slice() {
+        put_arg(page, &mut list, subst(page.alloc, arg, &names).ok());
+    }
+    list
 }
 
 /// The one fact that the text spells under the signature, with fresh names.
-pub fn fact(alloc: Global, sig: &Signature, text: &str) -> Option<Fact> {
-    let list = facts(alloc, sig, text)?;
-    fact_with_fresh_names(alloc, list.get(0)?)
-}
-
-fn add_sides(alloc: Global, sig: &Signature, line: &str, rule: &mut Rule) -> Option<()> {
-    add_facts(alloc, sig, nth(line, '|', 1), &mut rule.left)?;
-    add_facts(alloc, sig, nth(line, '|', 2), &mut rule.acts)?;
-    add_facts(alloc, sig, nth(line, '|', 3), &mut rule.right)
+pub fn fact(page: &mut Page, sig: &Signature, text: &str) -> Option<Fact> {
+    let mut fact = facts(page, sig, text).into_vec().pop()?;
+    let args = args_with_fresh_names(page, &fact.args);
+    page.set(&mut fact.args, Some(args));
+    Some(fact)
 }
 
 /// The rule of a line: its name, its left side, its acts and its right side, with bars between them.
-pub fn rule(alloc: Global, sig: &Signature, line: &str) -> Option<Rule> {
-    let mut rule = Rule {
-        name: name(alloc, nth(line, '|', 0))?,
-        left: FactList::new(alloc),
-        acts: FactList::new(alloc),
-        right: FactList::new(alloc),
-    };
-    add_sides(alloc, sig, line, &mut rule)?;
-    Some(rule)
-}
-
-/// Adds the numbers with blanks between them.
-pub fn add_numbers(numbers: &mut Numbers, words: &str) -> Option<()> {
-    for word in words.split(' ') {
-        if !word.is_empty() {
-            numbers.push(number(word)?).ok()?;
-        }
-    }
-    Some(())
-}
-
-/// The numbers with blanks between them.
-pub fn numbers(alloc: Global, words: &str) -> Option<Numbers> {
-    let mut numbers = Numbers::new(alloc);
-    add_numbers(&mut numbers, words)?;
-    Some(numbers)
+pub fn rule(page: &mut Page, sig: &Signature, line: &str) -> Option<Rule> {
+    let name = name(page.alloc, nth(line, '|', 0))?;
+    Some(Rule {
+        name,
+        left: facts(page, sig, nth(line, '|', 1)),
+        acts: facts(page, sig, nth(line, '|', 2)),
+        right: facts(page, sig, nth(line, '|', 3)),
+    })
 }
 
 /// The first word, and what stands behind the blank that follows it.
 pub fn parted(text: &str) -> (&str, &str) {
-    match text.split_once(' ') {
-        Some(parts) => parts,
-        None => (text, ""),
-    }
+    text.split_once(' ').unwrap_or((text, ""))
 }
 
 /// What stands between these two texts; nothing where the bytes don't begin and end with them.

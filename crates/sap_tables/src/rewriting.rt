@@ -1,38 +1,29 @@
 //! Normal forms, matching and messages.
-use crate::notation::{bindings, name, number, part, signature, term};
-use crate::show::{show_bindings, show_term, show_word, show_yes};
+use crate::desk::Desk;
+use crate::notation::{bindings, name, number, part};
+use crate::page::{Page, Show};
 use sap_rewrite::{
     Cut, is_message, match_around, match_pattern, normal, normal_on, normal_within, same_modulo,
 };
-use sap_terms::{Bindings, Mem, Name, Signature, Sort, Term};
-use sap_text::Text;
+use sap_terms::{Name, Signature, Sort, Term};
 use std::alloc::Global;
 
-fn show_form(alloc: Global, sig: &Signature, out: &mut Text, text: &str) -> Option<()> {
-    let t = term(alloc, sig, text)?;
-    let form = normal(alloc, sig, &t).ok()?;
-    show_term(out, &form).ok()
+impl Show for Cut {
+    fn show_on(&self, page: &mut Page) {
+        match self {
+            Cut::Large => page.word("large"),
+            Cut::Mem => page.fail(),
+        }
+    }
 }
 
-fn show_limited(out: &mut Text, form: &Result<Term, Cut>) -> Option<()> {
+// Whether it isn't large.
+fn show_within(page: &mut Page, form: &Result<Term, Cut>) {
     match form {
-        Ok(form) => show_term(out, form).ok(),
-        Err(Cut::Large) => show_word(out, "large").ok(),
-        Err(Cut::Mem) => None,
+        Ok(_) => page.word("yes"),
+        Err(Cut::Large) => page.word("no"),
+        Err(Cut::Mem) => page.fail(),
     }
-}
-
-fn is_within(alloc: Global, sig: &Signature, t: &Term, most: u64) -> Option<bool> {
-    match normal_within(alloc, sig, t, most.min(100000)) {
-        Ok(_) => Some(true),
-        Err(Cut::Large) => Some(false),
-        Err(Cut::Mem) => None,
-    }
-}
-
-fn within(alloc: Global, sig: &Signature, out: &mut Text, most: u64, text: &str) -> Option<()> {
-    let t = term(alloc, sig, text)?;
-    show_yes(out, is_within(alloc, sig, &t, most)?).ok()
 }
 
 fn form_on(alloc: Global, sig: &Signature, f: &Name, t: &Term, most: u64) -> Result<Term, Cut> {
@@ -44,97 +35,98 @@ fn form_on(alloc: Global, sig: &Signature, f: &Name, t: &Term, most: u64) -> Res
     normal_on(alloc, sig, f, &lent, most.min(100000))
 }
 
-fn on(
-    alloc: Global,
-    sig: &Signature,
-    out: &mut Text,
-    most: u64,
-    f: &str,
-    text: &str,
-) -> Option<()> {
-    let f = name(alloc, f)?;
-    let t = term(alloc, sig, text)?;
-    show_limited(out, &form_on(alloc, sig, &f, &t, most))
+fn show_on(page: &mut Page, sig: &Signature, f: &Option<Name>, t: &Term, most: u64) {
+    match f {
+        Some(f) => page.show(form_on(page.alloc, sig, f, t, most)),
+        None => page.fail(),
+    }
+}
+
+fn show_limited(page: &mut Page, sig: &Signature, t: &Term, row: &str) {
+    let most = number(page, part(row, 3));
+    match part(row, 0) {
+        "within" => show_within(page, &normal_within(page.alloc, sig, t, most.min(100000))),
+        "on" => show_on(page, sig, &name(page.alloc, part(row, 4)), t, most),
+        _ => page.fail(),
+    }
+}
+
+fn show_form(page: &mut Page, sig: &Signature, terms: &[Term], row: &str) {
+    match terms {
+        [t] if part(row, 0) == "normal" => page.show(normal(page.alloc, sig, t)),
+        [t] => show_limited(page, sig, t, row),
+        _ => page.fail(),
+    }
 }
 
 /// Under the signature of the second part: `normal`, a term and its normal form; `within`, a term, a number of nodes, and whether
 /// the normal forms of its subterms have at most so many; `on`, a term, a number of nodes, a symbol, and the normal form of the
 /// symbol on that of the term, or `large` where it has more.
-pub fn forms_row(alloc: Global, out: &mut Text, row: &str) -> Option<()> {
-    let sig = signature(alloc, part(row, 1))?;
-    match part(row, 0) {
-        "normal" => show_form(alloc, &sig, out, part(row, 2)),
-        "within" => within(alloc, &sig, out, number(part(row, 3))?, part(row, 2)),
-        "on" => {
-            let most = number(part(row, 3))?;
-            on(alloc, &sig, out, most, part(row, 4), part(row, 2))
-        }
+pub fn forms_row(page: &mut Page, desk: &mut Desk, row: &str) {
+    desk.begin(page, part(row, 1));
+    desk.put_term(page, part(row, 2));
+    show_form(page, &desk.signature, desk.terms.as_slice(), row);
+}
+
+fn sort_of(word: &str) -> Option<Sort> {
+    match word {
+        "msg" => Some(Sort::Msg),
+        "fresh" => Some(Sort::Fresh),
+        "pub" => Some(Sort::Pub),
         _ => None,
     }
 }
 
-fn show_equal(alloc: Global, sig: &Signature, out: &mut Text, s: &Term, t: &Term) -> Option<()> {
-    show_yes(out, same_modulo(alloc, sig, s, t).ok()?).ok()
+fn show_is_message(page: &mut Page, sig: &Signature, t: &Term, sort: Option<Sort>) {
+    match sort {
+        Some(sort) => page.show(is_message(page.alloc, sig, sort, t)),
+        None => page.fail(),
+    }
 }
 
-fn equal(alloc: Global, sig: &Signature, out: &mut Text, s: &str, t: &str) -> Option<()> {
-    let s = term(alloc, sig, s)?;
-    let t = term(alloc, sig, t)?;
-    show_equal(alloc, sig, out, &s, &t)
-}
-
-fn message(alloc: Global, sig: &Signature, out: &mut Text, sort: Sort, text: &str) -> Option<()> {
-    let t = term(alloc, sig, text)?;
-    show_yes(out, is_message(alloc, sig, sort, &t).ok()?).ok()
+// Of two terms whether they are equal, of one whether it is a message of the sort.
+fn show_messages(page: &mut Page, sig: &Signature, terms: &[Term], sort: Option<Sort>) {
+    match terms {
+        [s, t] => page.show(same_modulo(page.alloc, sig, s, t)),
+        [t] => show_is_message(page, sig, t, sort),
+        _ => page.fail(),
+    }
 }
 
 /// With all builtins: `equal`, two terms, and whether they are equal modulo the equations; `msg`, `fresh` or `pub`, a term, and
 /// whether it is a message of the sort.
-pub fn messages_row(alloc: Global, out: &mut Text, row: &str) -> Option<()> {
-    let sig = signature(alloc, "hashing symmetric asymmetric signing")?;
+pub fn messages_row(page: &mut Page, desk: &mut Desk, row: &str) {
+    desk.begin(page, "hashing symmetric asymmetric signing");
+    desk.put_term(page, part(row, 1));
+    if part(row, 0) == "equal" {
+        desk.put_term(page, part(row, 2));
+    }
+    show_messages(
+        page,
+        &desk.signature,
+        desk.terms.as_slice(),
+        sort_of(part(row, 0)),
+    );
+}
+
+// The bindings before are b.
+fn show_match(page: &mut Page, sig: &Signature, pattern: &Term, t: &Term, row: &str) {
+    let before = bindings(page, sig, part(row, 4));
     match part(row, 0) {
-        "equal" => equal(alloc, &sig, out, part(row, 1), part(row, 2)),
-        "msg" => message(alloc, &sig, out, Sort::Msg, part(row, 1)),
-        "fresh" => message(alloc, &sig, out, Sort::Fresh, part(row, 1)),
-        "pub" => message(alloc, &sig, out, Sort::Pub, part(row, 1)),
-        _ => None,
+        "whole" => page.show(match_pattern(page.alloc, pattern, t, &before)),
+        "around" => page.show(match_around(page.alloc, sig, pattern, t, before)),
+        _ => page.fail(),
     }
-}
-
-fn show_match(out: &mut Text, found: &Result<Option<Bindings>, Mem>) -> Option<()> {
-    match found {
-        Ok(Some(b)) => show_bindings(out, b).ok(),
-        Ok(None) => show_word(out, "none").ok(),
-        Err(_) => None,
-    }
-}
-
-// The bindings so far are b.
-fn matched(
-    alloc: Global,
-    sig: &Signature,
-    out: &mut Text,
-    pattern: &Term,
-    t: &Term,
-    row: &str,
-) -> Option<()> {
-    let b = bindings(alloc, sig, part(row, 4))?;
-    match part(row, 0) {
-        "whole" => show_match(out, &match_pattern(alloc, pattern, t, &b)),
-        "around" => show_match(out, &match_around(alloc, sig, pattern, t, b)),
-        _ => None,
-    }
-}
-
-fn match_row(alloc: Global, sig: &Signature, out: &mut Text, row: &str) -> Option<()> {
-    let pattern = term(alloc, sig, part(row, 2))?;
-    let t = term(alloc, sig, part(row, 3))?;
-    matched(alloc, sig, out, &pattern, &t, row)
 }
 
 /// `whole` or `around` the signature's destructors, a signature, a pattern, a term, the bindings before, and those after or
 /// `none`.
-pub fn matching_row(alloc: Global, out: &mut Text, row: &str) -> Option<()> {
-    let sig = signature(alloc, part(row, 1))?;
-    match_row(alloc, &sig, out, row)
+pub fn matching_row(page: &mut Page, desk: &mut Desk, row: &str) {
+    desk.begin(page, part(row, 1));
+    desk.put_term(page, part(row, 2));
+    desk.put_term(page, part(row, 3));
+    match desk.terms.as_slice() {
+        [pattern, t] => show_match(page, &desk.signature, pattern, t, row),
+        _ => page.fail(),
+    }
 }

@@ -1,54 +1,55 @@
 //! The tables by their names, and what is told of each.
+use crate::desk::{Desk, empty_desk};
 use crate::notation::written;
-use crate::show::{Shown, show_numbered, show_word};
-use crate::state::{State, fresh_state};
+use crate::page::Page;
 use crate::{
     calls, copies, files, formulas, knowledge, piles, rewriting, rules, runs, terms, theories,
     tokens,
 };
-use sap_text::Text;
 use std::alloc::Global;
 
-// Puts last what is found for a row of the table; nothing where the row isn't written as the table's rows are.
-fn push_found(
-    alloc: Global,
-    state: &mut State,
-    table: &str,
-    out: &mut Text,
-    row: &str,
-) -> Option<()> {
+// Puts last what is found for a row of the table. The page isn't whole where the row isn't written as the table's rows are.
+fn push_found(page: &mut Page, desk: &mut Desk, table: &str, row: &str) {
     match table {
-        "tokens" => tokens::tokens_row(alloc, out, row),
-        "pieces" => tokens::pieces_row(alloc, out, row),
-        "numbers" => tokens::numbers_row(out, row),
-        "read-terms" => terms::read_row(alloc, out, row),
-        "terms" => terms::terms_row(alloc, out, row),
-        "signatures" => terms::signatures_row(alloc, out, row),
-        "additions" => terms::additions_row(alloc, &mut state.signature, out, row),
-        "copies" => copies::copies_row(alloc, out, row),
-        "normal-forms" => rewriting::forms_row(alloc, out, row),
-        "messages" => rewriting::messages_row(alloc, out, row),
-        "matching" => rewriting::matching_row(alloc, out, row),
-        "knowledge" => knowledge::knowledge_row(alloc, &mut state.knowledge, out, row),
-        "piles" => piles::piles_row(alloc, &mut state.pile, out, row),
-        "rules" => rules::rules_row(alloc, state, out, row),
-        "rule-runs" => runs::runs_row(alloc, state, out, row),
-        "formulas" => formulas::formulas_row(alloc, out, row),
-        "theories" => theories::theories_row(alloc, state, out, row),
-        "files" => files::files_row(alloc, out, row),
-        "refusals" => calls::refusals_row(alloc, out, row),
-        "generated" => calls::generated_row(alloc, out, row),
-        "calls" => calls::calls_row(alloc, out, row),
-        _ => None,
+        "tokens" => tokens::tokens_row(page, row),
+        "pieces" => tokens::pieces_row(page, row),
+        "numbers" => tokens::numbers_row(page, row),
+        "read-terms" => terms::read_row(page, desk, row),
+        "terms" => terms::terms_row(page, desk, row),
+        "signatures" => terms::signatures_row(page, desk, row),
+        "additions" => terms::additions_row(page, &mut desk.signature, row),
+        "copies" => copies::copies_row(page, &desk.signature, row),
+        "normal-forms" => rewriting::forms_row(page, desk, row),
+        "messages" => rewriting::messages_row(page, desk, row),
+        "matching" => rewriting::matching_row(page, desk, row),
+        _ => push_found_above(page, desk, table, row),
     }
 }
 
-fn found(alloc: Global, state: &mut State, table: &str, row: &str) -> Text {
-    let mut out = Text::new(alloc);
-    if push_found(alloc, state, table, &mut out, row).is_none() {
-        out.push_bytes(b" (no answer)").ok();
+// The same of what stands on rules, knowledge and processes.
+fn push_found_above(page: &mut Page, desk: &mut Desk, table: &str, row: &str) {
+    match table {
+        "knowledge" => knowledge::knowledge_row(page, desk, row),
+        "piles" => piles::piles_row(page, desk, row),
+        "rules" => rules::rules_row(page, desk, row),
+        "rule-runs" => runs::runs_row(page, desk, row),
+        "formulas" => formulas::formulas_row(page, &mut desk.theory, row),
+        "theories" => theories::theories_row(page, desk, row),
+        "files" => files::files_row(page, &desk.signature, row),
+        "refusals" => calls::refusals_row(page, row),
+        "generated" => calls::generated_row(page, row),
+        "calls" => calls::calls_row(page, row),
+        _ => page.fail(),
     }
-    out
+}
+
+fn found(alloc: Global, desk: &mut Desk, table: &str, row: &str) -> Page {
+    let mut page = Page::new(alloc);
+    push_found(&mut page, desk, table, row);
+    if !page.is_whole() {
+        page.word(" (no answer)");
+    }
+    page
 }
 
 // The last part of the row.
@@ -60,39 +61,35 @@ fn wanted(row: &str) -> &str {
 }
 
 // The text with `^` in place of line feeds.
-fn show_on_one_line(out: &mut Text, text: &[u8]) -> Shown {
+fn show_on_one_line(out: &mut Page, text: &[u8]) {
     for byte in text {
-        let byte = if *byte == b'\n' { b'^' } else { *byte };
-        out.push_bytes([byte].as_slice())?;
+        out.byte(if *byte == b'\n' { b'^' } else { *byte });
     }
-    Ok(())
 }
 
 // Tells a row that differs, and what is found.
-fn show_difference(out: &mut Text, table: &str, row: &str, found: &Text) -> Shown {
-    show_word(out, table)?;
-    show_word(out, " differs: ")?;
-    show_word(out, row)?;
-    show_word(out, "\n  found: ")?;
-    show_on_one_line(out, found.as_bytes())?;
-    show_word(out, "\n")
+fn show_difference(out: &mut Page, table: &str, row: &str, found: &[u8]) {
+    out.word(table);
+    out.word(" differs: ");
+    out.word(row);
+    out.word("\n  found: ");
+    show_on_one_line(out, found);
+    out.word("\n");
 }
 
-// Whether the row is as it says; if not, it is told.
-fn is_right(
-    alloc: Global,
-    state: &mut State,
-    table: &str,
-    row: &str,
-    out: &mut Text,
-) -> Option<bool> {
-    let want = written(alloc, wanted(row))?;
-    let found = found(alloc, state, table, row);
-    if found.as_bytes() == want.as_bytes() {
-        return Some(true);
+// Tells the row if it isn't as it says: how many such rows this is.
+fn tell_if_other(out: &mut Page, table: &str, row: &str, found: &[u8], want: &[u8]) -> u64 {
+    if found == want {
+        return 0;
     }
-    show_difference(out, table, row, &found).ok()?;
-    Some(false)
+    show_difference(out, table, row, found);
+    1
+}
+
+fn tell_row(out: &mut Page, desk: &mut Desk, table: &str, row: &str) -> u64 {
+    let want = written(out.alloc, wanted(row));
+    let found = found(out.alloc, desk, table, row);
+    tell_if_other(out, table, row, found.as_bytes(), want.as_bytes())
 }
 
 // Blank lines and comments are none.
@@ -100,36 +97,30 @@ fn is_row(line: &str) -> bool {
     !line.is_empty() && !line.starts_with("-- ")
 }
 
-fn show_total(out: &mut Text, table: &str, rows: u64, differ: u64) -> Shown {
-    show_word(out, table)?;
-    show_numbered(out, ": ", rows)?;
-    show_numbered(out, " rows, ", differ)?;
-    show_word(out, " differ\n")
+fn show_total(out: &mut Page, table: &str, rows: u64, differ: u64) {
+    out.word(table);
+    out.numbered(": ", rows);
+    out.numbered(" rows, ", differ);
+    out.word(" differ\n");
 }
 
-fn push_report(
-    alloc: Global,
-    state: &mut State,
-    table: &str,
-    lines: &str,
-    out: &mut Text,
-) -> Option<()> {
+fn tell_rows(out: &mut Page, desk: &mut Desk, table: &str, lines: &str) {
     let mut rows: u64 = 0;
     let mut differ: u64 = 0;
     for line in lines.split('\n') {
         if is_row(line) {
             rows = rows.saturating_add(1);
-            if !is_right(alloc, state, table, line, out)? {
-                differ = differ.saturating_add(1);
-            }
+            differ = differ.saturating_add(tell_row(out, desk, table, line));
         }
     }
-    show_total(out, table, rows, differ).ok()
+    show_total(out, table, rows, differ);
 }
 
-/// Puts last each row of a table that differs, with what is found, and how many rows there are and how many differ; nothing
-/// where memory is wanting.
-pub fn report(alloc: Global, table: &str, lines: &str, out: &mut Text) -> Option<()> {
-    let mut state = fresh_state(alloc)?;
-    push_report(alloc, &mut state, table, lines, out)
+/// Puts last each row of a table that differs, with what is found, and how many rows there are and how many differ. The page
+/// isn't whole where memory is wanting.
+pub fn report(out: &mut Page, table: &str, lines: &str) {
+    match empty_desk(out) {
+        Some(mut desk) => tell_rows(out, &mut desk, table, lines),
+        None => out.fail(),
+    }
 }

@@ -1,8 +1,7 @@
 //! Tokens of bytes, and texts that are built piece by piece.
 use crate::notation::{number, part, written};
-use crate::show::{Shown, show_numbered};
-use sap_text::{Kind, Lex, Text, Token, token_bytes, tokens};
-use std::alloc::Global;
+use crate::page::{Page, Show};
+use sap_text::{Kind, Lex, Token, token_bytes, tokens};
 
 fn letter(kind: Kind) -> &'static str {
     match kind {
@@ -13,58 +12,54 @@ fn letter(kind: Kind) -> &'static str {
     }
 }
 
-// The letter of the token's kind, its span and its line.
-fn push_token(out: &mut Text, token: &Token) -> Shown {
-    show_numbered(out, letter(token.kind), token.from)?;
-    show_numbered(out, "-", token.to)?;
-    show_numbered(out, "@", token.line)
-}
-
-fn push_tokens(out: &mut Text, found: &[Token]) -> Shown {
-    let mut is_first = true;
-    for token in found {
-        if !is_first {
-            out.push_bytes(b" ")?;
-        }
-        push_token(out, token)?;
-        is_first = false;
+// The letter of its kind, its span and its line.
+impl Show for Token {
+    fn show_on(&self, page: &mut Page) {
+        page.numbered(letter(self.kind), self.from);
+        page.numbered("-", self.to);
+        page.numbered("@", self.line);
     }
-    Ok(())
 }
 
-fn push_answer(out: &mut Text, answer: &Result<Vec<Token>, Lex>) -> Shown {
-    match answer {
-        Ok(found) => push_tokens(out, found),
-        Err(Lex::Mem) => out.push_bytes(b"memory"),
-        Err(Lex::BadByte { at }) => show_numbered(out, "bad byte ", *at),
-        Err(Lex::OpenComment { at }) => show_numbered(out, "open comment ", *at),
-        Err(Lex::OpenQuote { at }) => show_numbered(out, "open quote ", *at),
-        Err(Lex::NameLong { at }) => show_numbered(out, "name long ", *at),
+impl Show for Vec<Token> {
+    fn show_on(&self, page: &mut Page) {
+        page.list(self.as_slice(), " ");
+    }
+}
+
+impl Show for Lex {
+    fn show_on(&self, page: &mut Page) {
+        match self {
+            Lex::Mem => page.word("memory"),
+            Lex::BadByte { at } => page.numbered("bad byte ", *at),
+            Lex::OpenComment { at } => page.numbered("open comment ", *at),
+            Lex::OpenQuote { at } => page.numbered("open quote ", *at),
+            Lex::NameLong { at } => page.numbered("name long ", *at),
+        }
     }
 }
 
 /// The bytes, the longest name, and the tokens or the fault: of each token the letter of its kind, its span and its line.
-pub fn tokens_row(alloc: Global, out: &mut Text, row: &str) -> Option<()> {
-    let longest = number(part(row, 1))?;
-    let bytes = written(alloc, part(row, 0))?;
-    push_answer(out, &tokens(alloc, bytes.as_bytes(), longest)).ok()
+pub fn tokens_row(page: &mut Page, row: &str) {
+    let longest = number(page, part(row, 1));
+    let bytes = written(page.alloc, part(row, 0));
+    page.show(tokens(page.alloc, bytes.as_bytes(), longest));
 }
 
 /// A text, and the bytes of each token, with a bar behind each.
-pub fn pieces_row(alloc: Global, out: &mut Text, row: &str) -> Option<()> {
+pub fn pieces_row(page: &mut Page, row: &str) {
     let bytes = part(row, 0).as_bytes();
-    let Ok(found) = tokens(alloc, bytes, 64) else {
-        return None;
+    let Ok(found) = tokens(page.alloc, bytes, 64) else {
+        return page.fail();
     };
     for k in 0..found.len() {
-        out.push_bytes(token_bytes(bytes, found.as_slice(), k))
-            .ok()?;
-        out.push_bytes(b"|").ok()?;
+        page.bytes(token_bytes(bytes, found.as_slice(), k));
+        page.word("|");
     }
-    Some(())
 }
 
 /// A number, and how it is written in decimal.
-pub fn numbers_row(out: &mut Text, row: &str) -> Option<()> {
-    out.push_number(number(part(row, 0))?).ok()
+pub fn numbers_row(page: &mut Page, row: &str) {
+    let number = number(page, part(row, 0));
+    page.number(number);
 }

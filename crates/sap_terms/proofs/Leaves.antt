@@ -1,12 +1,7 @@
 -- Variables and names are normal, and names are messages.
-use Rattle.std.proofs.Common.{ℕ, List, IsTrue}
-use Rattle.sap_terms.specs.Choice.{fits_sort}
-use Rattle.sap_terms.specs.Equations.{Equations, equations, IsInstance, first, second, symmetric, asymmetric, signing, revealing, revealed, IsDestructor}
+use Rattle.sap_terms.specs.Equations.{Equations, equations, IsInstance, first, second, symmetric, asymmetric, signing, revealing, revealed}
 use Rattle.sap_terms.specs.Laws.{NamesAreMessages, LeavesAreNormal}
-use Rattle.sap_terms.specs.Message.{IsMessage}
-use Rattle.sap_terms.specs.Normal.{IsNormal}
-use Rattle.sap_terms.specs.Signature.{Sig}
-use Rattle.sap_terms.specs.Tree.{Tree, variable, public, fresh, apply, Trees, none, more}
+use Rattle.sap_terms.specs.Tree.{Tree, variable, public, fresh, apply}
 
 -- a symbol heads the tree
 abbrev IsApplied : Tree → Type 0

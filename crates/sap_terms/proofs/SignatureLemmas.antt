@@ -1,5 +1,5 @@
 -- Names stand once in a signature, and its destructors head left sides.
-use Rattle.std.proofs.Common.{◌≡◌, ℕ, List, [], ◌∷◌, ◌++◌, Bool, true, false, ◌&&◌, ◌||◌, Some, None, zero, suc, ◌+◌, add-one, drop, refl, sym, ap, subst, ◌∙◌, IsTrue, is_some, not}
+use Rattle.std.proofs.Common.{◌≡◌, ℕ, List, [], ◌∷◌, ◌++◌, Bool, true, false, ◌&&◌, ◌||◌, Some, None, ◌+◌, drop, refl, sym, ap, subst, ◌∙◌, IsTrue, is_some, not}
 use Rattle.std.proofs.lemmas.Slice.Eq.{bytes_eq-Decides}
 use Rattle.std.specs.Prelude.{if◌then◌else◌, slice_get, nat_eq}
 use Rattle.std.specs.Option.{option_map_or}
@@ -12,6 +12,7 @@ use Rattle.sap_terms.specs.declared.signature.Builtin.{Builtin}
 use Rattle.sap_terms.specs.declared.signature.Builtin.TheVariants.{Hashing, Symmetric, Asymmetric, Signing, RevealingSigning}
 use Rattle.sap_terms.specs.Equations.{equations, IsInstance, first, second, symmetric, asymmetric, signing, revealing, revealed, IsDestructor, app0, app1, app2, pair_name, fst_name, snd_name, senc_name, sdec_name, aenc_name, adec_name, pk_name, sign_name, verify_name, reveal_sign_name, reveal_verify_name, get_message_name, true_name}
 use Rattle.sap_terms.specs.code.SameLaws.{and_left, and_right, same_name}
+use Rattle.sap_terms.proofs.PlainLaws.Lists.{drop_got}
 
 -- names that differ differ the other way round
 other_name : (a b : List ℕ) → bytes_eq a b ≡ false → bytes_eq b a ≡ false
@@ -201,13 +202,6 @@ HoldsBuiltins-added g b h f c t = at b c f t where
   at RevealingSigning Asymmetric f t = old RevealingSigning Asymmetric t
   at RevealingSigning Signing f t = old RevealingSigning Signing t
   at RevealingSigning RevealingSigning f t = new RevealingSigning f
-
-drop_got : {X : Type 0} (xs : List X) (k : ℕ) (x : X) → slice_get xs k ≡ Some x → drop k xs ≡ x ∷ drop (k + 1) xs
-drop_got {X} xs k x h = rw add-one (at xs k h) where
-  at : (xs : List X) (k : ℕ) → slice_get xs k ≡ Some x → drop k xs ≡ x ∷ drop (suc k) xs
-  at [] k h = cc
-  at (y ∷ ys) zero h = let e : y ≡ x = cc in ap (λ z. z ∷ ys) e
-  at (y ∷ ys) (suc k) h = at ys k h
 
 -- the first clash from one place on: there, or later
 pub first_clash-here : (ss xs : List Symbol) (k : ℕ) (x : Symbol) → slice_get xs k ≡ Some x → is_held_otherwise ss x ≡ true → first_clash ss (drop k xs) ≡ Some x.name

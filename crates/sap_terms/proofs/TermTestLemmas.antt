@@ -7,9 +7,9 @@ use Rattle.sap_terms.specs.Ground.{IsGround, AreGround}
 use Rattle.sap_terms.specs.Message.{IsOver, AreOver}
 use Rattle.sap_terms.specs.Signature.{Sig, arity_of, is_destructor_of}
 use Rattle.sap_terms.specs.Tree.{Tree, variable, public, fresh, apply, Trees, none, more, trees_of, list_of, list_of-trees_of}
-use Rattle.sap_terms.specs.code.TermTests.{has_arity, is_over, are_over, is_ground, are_ground, has_destructor, any_has_destructor}
+use Rattle.sap_terms.specs.TermTests.{has_arity, is_over, are_over, is_ground, are_ground, has_destructor, any_has_destructor}
 use Rattle.sap_terms.specs.code.SameLaws.{and_left, and_right, and_true}
-use Rattle.sap_terms.proofs.TreeLemmas.{item_le-trees_count}
+use Rattle.sap_terms.proofs.PlainLaws.Trees.{item_le-trees_count}
 
 -- a symbol on a list of terms
 pub over-apply : (g : Sig) (f : List ℕ) (ts : List Tree) → is_over g (apply f (trees_of ts)) ≡ (has_arity (arity_of g f) (length ts) && are_over g (trees_of ts))

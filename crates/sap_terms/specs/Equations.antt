@@ -1,5 +1,5 @@
 -- The equations that a signature switches on, and their instances.
-use Rattle.std.specs.Prelude.{ℕ, List, Bool, IsTrue, codes}
+use Rattle.std.specs.Prelude.{ℕ, List, IsTrue, codes}
 use Rattle.sap_terms.specs.Signature.{Sig}
 use Rattle.sap_terms.specs.declared.builtins.Builtins.{Builtins}
 use Rattle.sap_terms.specs.Tree.{Tree, Trees, apply, none, more}

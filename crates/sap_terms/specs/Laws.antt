@@ -5,7 +5,7 @@ use Rattle.sap_terms.specs.Equations.{Equations, equations, IsDestructor}
 use Rattle.sap_terms.specs.Message.{IsMessage}
 use Rattle.sap_terms.specs.Normal.{IsNormal, AreNormal}
 use Rattle.sap_terms.specs.Signature.{Sig, is_destructor_of}
-use Rattle.sap_terms.specs.Tree.{Tree, variable, public, fresh, apply, Trees}
+use Rattle.sap_terms.specs.Tree.{variable, public, fresh, apply, Trees}
 use Rattle.sap_terms.specs.declared.var.Sort.{Sort}
 use Rattle.sap_terms.specs.declared.var.Var.{Var}
 

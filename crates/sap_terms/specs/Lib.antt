@@ -18,6 +18,8 @@ pub mod Reserved
 pub mod Message
 pub mod Destructors
 pub mod Laws
+pub mod Codes
+pub mod TermTests
 pub mod code
 pub mod Same
 pub mod Trace

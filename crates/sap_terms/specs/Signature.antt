@@ -56,7 +56,7 @@ is_destructor_of g n =
     bytes_eq n (codes "fst") || bytes_eq n (codes "snd") || (bytes_eq n (codes "sdec") && g.builtins.symmetric) || (bytes_eq n (codes "adec") && g.builtins.asymmetric) || (bytes_eq n (codes "verify") && g.builtins.signing) || (bytes_eq n (codes "revealVerify") && g.builtins.revealing) || (bytes_eq n (codes "getMessage") && g.builtins.revealing)
 
 -- a public symbol of this name and arity
-abbrev public_symbol : List ℕ → ℕ → Symbol
+abbrev pub public_symbol : List ℕ → ℕ → Symbol
 public_symbol n a = record { name = n; arity = a; private = false }
 
 -- a builtin's symbols, in order

@@ -1,5 +1,7 @@
 //! Lists whose items are found by their names.
-ghost use Rattle.std.specs.Prelude.{◌≡◌, ℕ, ◌<◌, List, [], ◌∷◌, ◌++◌, length, is_some, OnOk, OnErr, slice_get};
+ghost use Rattle.std.specs.Prelude.{◌≡◌, ℕ, ◌<◌, ◌≤◌, List, [], ◌∷◌, ◌++◌, length, Some, IfOk, OnOk, OnErr, slice_get};
+ghost use Rattle.std.specs.Str.{bytes_eq};
+ghost use Rattle.indexmap.specs.IndexMap.{spare, IsUnchanged, Updates};
 ghost use Rattle.std.specs.Option.{option_copied};
 ghost use Rattle.sap_terms.specs.Named.{first_named};
 
@@ -63,6 +65,14 @@ impl<T: HasName> Named<T> {
         self.items.get(k)
     }
 
+    // The item at a place that the list has, from 0.
+    pub(crate) fn at(&self, k: u64) -> &T
+        requires { k < length self.now }
+        ensures { slice_get self.now k ≡ Some result.now }
+    {
+        self.items.at(k)
+    }
+
     /// The first item of this name.
     pub fn named(&self, name: &Name) -> Option<&T>
         ensures { option_copied result ≡ first_named T.name_of self.now name.now }
@@ -84,7 +94,37 @@ impl<T: HasName> Named<T> {
     }
 }
 
+// A copy of the name, and room for it among the places.
+fn name_with_room(alloc: Global, name: &Name, places: &mut IndexMap<Name, u64>) -> Result<Name, Mem>
+    ensures name { IfOk result (λ n. n ≡ name.now) }
+    ensures room { OnOk result (1 ≤ spare places.new) }
+    ensures places { IsUnchanged places.old places.new }
+{
+    let copied = name.copy(alloc)?;
+    places.reserve(1)?;
+    Ok(copied)
+}
+
+// Notes the place of a name that has none, where there is room.
+fn note_place(places: &mut IndexMap<Name, u64>, name: Name, place: u64)
+    requires { 1 ≤ spare places.old }
+    ensures { Updates bytes_eq places.old places.new name (Some place) }
+{
+    match places.insert(name, place) {
+        Ok(_) => {}
+        Err(_) => unreachable!(),
+    }
+}
+
 impl<T: HasName + Drop> Named<T> {
+    // Takes the item at a place that the list has, from 0, out of it; the other items are dropped.
+    pub(crate) fn into_item(self, k: u64) -> T
+        requires { k < length self }
+        ensures { slice_get self k ≡ Some result }
+    {
+        self.items.into_item(k)
+    }
+
     /// Puts the item last. Refused, the item is dropped, and the list is as it was.
     pub fn push(&mut self, item: T) -> Result<(), Mem>
         ensures ok { OnOk result (self.new ≡ self.old ++ item ∷ []) }
@@ -94,14 +134,21 @@ impl<T: HasName + Drop> Named<T> {
             self.items.push(item)?;
             return Ok(());
         }
-        let name = item.name().copy(self.items.allocator())?;
+        let name = name_with_room(self.items.allocator(), item.name(), &mut self.places)?;
         let place = self.items.len();
-        self.places.reserve(1)?;
         self.items.push(item)?;
-        match self.places.insert(name, place) {
-            Ok(_) => Ok(()),
-            Err(_) => unreachable!(),
-        }
+        note_place(&mut self.places, name, place);
+        Ok(())
+    }
+}
+
+impl<T: HasName + Copied + Drop> Named<T> {
+    // Puts a copy of the item last.
+    pub(crate) fn push_copy(&mut self, alloc: Global, item: &T) -> Result<(), Mem>
+        ensures { OnOk result (self.new ≡ self.old ++ item.now ∷ []) }
+    {
+        let copied = item.copy(alloc)?;
+        self.push(copied)
     }
 }
 
@@ -109,7 +156,7 @@ impl<T: HasName + Copied + Drop> Copied for Named<T> {
     fn copy(&self, alloc: Global) -> Result<Named<T>, Mem> {
         let mut copied = Named::new(alloc);
         for x in self.items.as_slice() {
-            copied.push(x.copy(alloc)?)?;
+            copied.push_copy(alloc, x)?;
         }
         Ok(copied)
     }

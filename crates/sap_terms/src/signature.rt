@@ -1,9 +1,9 @@
-ghost use Rattle.std.specs.Prelude.{◌≡◌, ℕ, ◌↔◌, List, IsTrue, IsErrOf, OnOk, OnErr, IfOk, MatchOption, option_map, slice_get, None, Some, false};
+ghost use Rattle.std.specs.Prelude.{◌≡◌, ℕ, ◌↔◌, List, [], ◌∷◌, ◌++◌, IsTrue, IsErrOf, OnOk, OnErr, IfOk, MatchOption, option_map, slice_get, map, None, Some, false};
 ghost use Rattle.std.specs.Option.{option_copied};
-ghost use Rattle.sap_terms.specs.Signature.{Sig, find_symbol, arity_of, IsPublic, Clashes, declared, has_builtin, is_destructor_of, builtin_symbols, declared_all, is_held_otherwise, first_clash, added, pairs_alone, IsMap, IsFirstClash, HoldsBuiltins};
+ghost use Rattle.sap_terms.specs.Signature.{Sig, find_symbol, arity_of, IsPublic, Clashes, declared, has_builtin, is_destructor_of, builtin_symbols, public_symbol, declared_all, is_held_otherwise, first_clash, added, pairs_alone, IsMap, IsFirstClash, HoldsBuiltins};
 ghost use Rattle.sap_terms.specs.declared.signature.SigFault.TheVariants.{Mem as OutOfMemory};
 
-use crate::{Builtins, Copied, HasName, Items, Mem, Name, Named};
+use crate::{Builtins, Copied, HasName, Mem, Name, Named};
 use std::alloc::{AllocError, AllocFailed, Global};
 use std::marker::Model;
 
@@ -72,10 +72,7 @@ impl Signature {
     pub fn new(alloc: Global) -> Result<Signature, Mem>
         ensures { IfOk result (λ g. g ≡ pairs_alone) }
     {
-        let mut symbols = Named::new(alloc);
-        symbols.push(public_symbol(alloc, b"pair", 2)?)?;
-        symbols.push(public_symbol(alloc, b"fst", 1)?)?;
-        symbols.push(public_symbol(alloc, b"snd", 1)?)?;
+        let symbols = public_symbols(alloc, &[(b"pair", 2), (b"fst", 1), (b"snd", 1)])?;
         Ok(Signature {
             symbols,
             builtins: Builtins::none(),
@@ -181,53 +178,58 @@ fn held<'a>(symbols: &'a Named<Symbol>, name: &Name) -> Option<&'a Symbol>
     symbols.named(name)
 }
 
-// A public symbol of this name and arity.
-fn public_symbol(alloc: Global, name: &[u8], arity: u64) -> Result<Symbol, Mem>
-    ensures { IfOk result (λ s. s ≡ record { name = name.now; arity = arity; private = false }) }
+// Puts a public symbol of this name and arity last.
+fn push_public(
+    alloc: Global,
+    symbols: &mut Named<Symbol>,
+    name: &[u8],
+    arity: u64,
+) -> Result<(), Mem>
+    ensures { OnOk result (symbols.new ≡ symbols.old ++ public_symbol name.now arity ∷ []) }
 {
-    Ok(Symbol {
-        name: Name::from_bytes(alloc, name)?,
+    let name = Name::from_bytes(alloc, name)?;
+    symbols.push(Symbol {
+        name,
         arity,
         private: false,
     })
 }
 
+// Public symbols of these names and arities, in order.
+fn public_symbols(alloc: Global, rows: &[(&[u8], u64)]) -> Result<Named<Symbol>, Mem>
+    ensures { IfOk result (λ ss. ss ≡ map (λ row. public_symbol row.0.now row.1) rows.now) }
+{
+    let mut symbols = Named::new(alloc);
+    for row in rows {
+        push_public(alloc, &mut symbols, row.0, row.1)?;
+    }
+    Ok(symbols)
+}
+
 // A builtin's symbols, in order.
-fn symbols_of(alloc: Global, b: Builtin) -> Result<Items<Symbol>, Mem>
+fn symbols_of(alloc: Global, b: Builtin) -> Result<Named<Symbol>, Mem>
     ensures { IfOk result (λ ss. ss ≡ builtin_symbols b) }
 {
-    let mut symbols = Items::new(alloc);
     match b {
-        Builtin::Hashing => {
-            symbols.push(public_symbol(alloc, b"h", 1)?)?;
-            Ok(symbols)
-        }
-        Builtin::Symmetric => {
-            symbols.push(public_symbol(alloc, b"senc", 2)?)?;
-            symbols.push(public_symbol(alloc, b"sdec", 2)?)?;
-            Ok(symbols)
-        }
-        Builtin::Asymmetric => {
-            symbols.push(public_symbol(alloc, b"aenc", 2)?)?;
-            symbols.push(public_symbol(alloc, b"adec", 2)?)?;
-            symbols.push(public_symbol(alloc, b"pk", 1)?)?;
-            Ok(symbols)
-        }
+        Builtin::Hashing => public_symbols(alloc, &[(b"h", 1)]),
+        Builtin::Symmetric => public_symbols(alloc, &[(b"senc", 2), (b"sdec", 2)]),
+        Builtin::Asymmetric => { public_symbols(alloc, &[(b"aenc", 2), (b"adec", 2), (b"pk", 1)]) }
         Builtin::Signing => {
-            symbols.push(public_symbol(alloc, b"sign", 2)?)?;
-            symbols.push(public_symbol(alloc, b"verify", 3)?)?;
-            symbols.push(public_symbol(alloc, b"pk", 1)?)?;
-            symbols.push(public_symbol(alloc, b"true", 0)?)?;
-            Ok(symbols)
+            public_symbols(
+                alloc,
+                &[(b"sign", 2), (b"verify", 3), (b"pk", 1), (b"true", 0)],
+            )
         }
-        Builtin::RevealingSigning => {
-            symbols.push(public_symbol(alloc, b"revealSign", 2)?)?;
-            symbols.push(public_symbol(alloc, b"revealVerify", 3)?)?;
-            symbols.push(public_symbol(alloc, b"getMessage", 1)?)?;
-            symbols.push(public_symbol(alloc, b"pk", 1)?)?;
-            symbols.push(public_symbol(alloc, b"true", 0)?)?;
-            Ok(symbols)
-        }
+        Builtin::RevealingSigning => public_symbols(
+            alloc,
+            &[
+                (b"revealSign", 2),
+                (b"revealVerify", 3),
+                (b"getMessage", 1),
+                (b"pk", 1),
+                (b"true", 0),
+            ],
+        ),
     }
 }
 
@@ -242,7 +244,7 @@ fn is_held_otherwise(symbols: &Named<Symbol>, symbol: &Symbol) -> bool
 }
 
 // The place of the first of these symbols that is held otherwise.
-fn first_clash(symbols: &Named<Symbol>, added: &Items<Symbol>) -> Option<u64>
+fn first_clash(symbols: &Named<Symbol>, added: &Named<Symbol>) -> Option<u64>
     ensures { MatchOption result (first_clash symbols.now added.now ≡ None)
         (λ k. IsFirstClash symbols.now added.now k) }
 {
@@ -254,21 +256,51 @@ fn first_clash(symbols: &Named<Symbol>, added: &Items<Symbol>) -> Option<u64>
     None
 }
 
+// Puts a copy of the symbol last, unless its name is held.
+fn declare_copy(alloc: Global, symbols: &mut Named<Symbol>, s: &Symbol) -> Result<(), Mem>
+    ensures { OnOk result (symbols.new ≡ declared symbols.old s.now.name s.now.arity s.now.private) }
+{
+    if held(symbols, &s.name).is_some() {
+        return Ok(());
+    }
+    symbols.push_copy(alloc, s)
+}
+
 // The symbols with these, one after another, where their names are not held.
 fn declare_all(
     alloc: Global,
     symbols: &Named<Symbol>,
-    added: &Items<Symbol>,
+    added: &Named<Symbol>,
 ) -> Result<Named<Symbol>, Mem>
     ensures { IfOk result (λ ss. ss ≡ declared_all symbols.now added.now) }
 {
     let mut all = symbols.copy(alloc)?;
     for s in added.as_slice() {
-        if held(&all, &s.name).is_none() {
-            all.push(s.copy(alloc)?)?;
-        }
+        declare_copy(alloc, &mut all, s)?;
     }
     Ok(all)
+}
+
+// The symbols with these, one after another; where one of these is held otherwise, a clash at the first that is.
+fn joined(
+    alloc: Global,
+    symbols: &Named<Symbol>,
+    added: Named<Symbol>,
+) -> Result<Named<Symbol>, SigFault>
+    ensures ok { IfOk result (λ ss. ss ≡ declared_all symbols.now added) }
+    ensures no_clash { OnOk result (first_clash symbols.now added ≡ None) }
+    ensures clash { (n : List ℕ) → IsErrOf result (SigFault.Clash n) → first_clash symbols.now added ≡ Some n }
+{
+    match first_clash(symbols, &added) {
+        Some(k) => {
+            let symbol = added.into_item(k);
+            Err(SigFault::Clash { name: symbol.name })
+        }
+        None => {
+            let all = declare_all(alloc, symbols, &added)?;
+            Ok(all)
+        }
+    }
 }
 
 impl Signature {
@@ -317,14 +349,9 @@ impl Signature {
             return Ok(());
         }
         let alloc = self.symbols.allocator();
-        let symbols = symbols_of(alloc, b)?;
-        if let Some(k) = first_clash(&self.symbols, &symbols) {
-            let symbol = symbols.into_item(k);
-            return Err(SigFault::Clash { name: symbol.name });
-        }
-        let builtins = self.builtins.including(b);
-        self.symbols = declare_all(alloc, &self.symbols, &symbols)?;
-        self.builtins = builtins;
+        let added = symbols_of(alloc, b)?;
+        self.symbols = joined(alloc, &self.symbols, added)?;
+        self.builtins = self.builtins.including(b);
         Ok(())
     }
 }

@@ -21,7 +21,7 @@ fn find_binding<'a>(b: &'a Bindings, v: &Var) -> Option<&'a Binding>
 
 /// The term with each bound variable replaced by its term. Variables are known by their names.
 #[cycle(subst)]
-#[tactic(auto, using(crate::proofs::TreeLemmas::list_laws))]
+#[tactic(auto, using(crate::proofs::PlainLaws::Trees::list_laws))]
 pub fn subst(alloc: Global, t: &Term, b: &Bindings) -> Result<Term, Mem>
     ensures { IfOk result (λ r. tree r ≡ subst_tree b.now (tree t.now)) }
 {
@@ -37,7 +37,7 @@ pub fn subst(alloc: Global, t: &Term, b: &Bindings) -> Result<Term, Mem>
 }
 
 #[cycle(subst)]
-#[tactic(auto, using(crate::proofs::TreeLemmas::list_laws))]
+#[tactic(auto, using(crate::proofs::PlainLaws::Trees::list_laws))]
 fn subst_all(alloc: Global, ts: &TermList, b: &Bindings) -> Result<TermList, Mem>
     ensures { IfOk result (λ r. r ≡ map (subst_tree b.now) ts.now) }
 {

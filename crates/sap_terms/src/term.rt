@@ -31,7 +31,7 @@ pub struct TermList {
 impl Model for TermList {
     ghost use Rattle.std.specs.Prelude.{List, map};
     ghost use Rattle.sap_terms.specs.Tree.{Tree};
-    ghost use Rattle.sap_terms.specs.code.Codes.{list_code};
+    ghost use Rattle.sap_terms.specs.Codes.{list_code};
 
     ghost Value = { List Tree };
 
@@ -96,7 +96,7 @@ impl TermList {
     }
 
     /// The term at a place that the list has, which is smaller than the list.
-    #[tactic(auto, using(crate::proofs::TreeLemmas::list_laws))]
+    #[tactic(auto, using(crate::proofs::PlainLaws::Trees::list_laws))]
     pub fn at(&self, k: u64) -> &Term
         requires { k < length self.now }
         ensures got { slice_get self.now k ≡ Some (tree result.now) }
@@ -114,7 +114,7 @@ impl TermList {
     }
 
     #[cycle(nodes)]
-    #[tactic(auto, using(crate::proofs::TreeLemmas::list_laws))]
+    #[tactic(auto, using(crate::proofs::PlainLaws::Trees::list_laws))]
     fn nodes(&self) -> u64
         ensures { result ≡ min (trees_count (trees_of self.now)) u64.MAX }
     {

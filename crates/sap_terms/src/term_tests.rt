@@ -5,7 +5,7 @@ ghost use Rattle.sap_terms.specs.Ground.{IsGround, AreGround};
 ghost use Rattle.sap_terms.specs.Message.{IsOver, AreOver};
 ghost use Rattle.sap_terms.specs.Tree.{trees_of};
 ghost use Rattle.sap_terms.specs.View.{tree};
-ghost use Rattle.sap_terms.specs.code.TermTests.{is_over, are_over, is_ground, are_ground, has_destructor, any_has_destructor};
+ghost use Rattle.sap_terms.specs.TermTests.{is_over, are_over, is_ground, are_ground, has_destructor, any_has_destructor};
 
 use crate::{Signature, Term, TermList};
 

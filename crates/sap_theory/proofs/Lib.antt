@@ -1,5 +1,4 @@
 pub mod Pushed
-pub mod Applied
 pub mod Listing
 pub mod Functions
 pub mod Lines

@@ -3,7 +3,8 @@ use Rattle.std.proofs.Common.{◌≡◌, ◌+◌, ℕ, Bool, true, false, not, L
 use Rattle.std.specs.Prelude.{slice_get, codes, filter, if◌then◌else◌, ◌&&◌}
 use Rattle.std.proofs.lemmas.List.{map-append, append-nil}
 use Rattle.std.proofs.lemmas.List.Elements.{filter-append}
-use Rattle.sap_theory.specs.Pieces.{joined, line_of, lead}
+use Rattle.sap_grammar.specs.Pieces.{joined}
+use Rattle.sap_theory.specs.Pieces.{line_of, lead}
 use Rattle.sap_theory.proofs.Pushed.{joined-push, take-next}
 
 -- a line without its end

@@ -4,7 +4,7 @@ use Rattle.std.specs.Prelude.{slice_get, option_map}
 use Rattle.std.specs.List.{flat_map}
 use Rattle.std.proofs.lemmas.List.{take-map}
 use Rattle.std.proofs.lemmas.Option.{slice_get-map}
-use Rattle.sap_theory.specs.Pieces.{joined, separator_before}
+use Rattle.sap_grammar.specs.Pieces.{joined, separator_before}
 
 -- one more item
 pub take-next : {A : Type 0} (xs : List A) (k : ℕ) (x : A) → slice_get xs k ≡ Some x → take (k + 1) xs ≡ take k xs ++ x ∷ []
@@ -36,14 +36,6 @@ pub joined-next : (separator text : List ℕ) (pieces : List (List ℕ)) (k : �
 joined-next separator text pieces k piece h =
     let done = joined separator (take k pieces) in
     rw (take-next pieces k piece h, joined-push separator piece (take k pieces), length-take_next pieces k piece h) (rw (append_assoc text done (separator_before k separator), append_assoc text (done ++ separator_before k separator) piece) refl)
-
--- the same of the texts of items
-pub joined_texts-next : {A : Type 0} (f : A → List ℕ) (separator text : List ℕ) (xs : List A) (k : ℕ) (x : A) → slice_get xs k ≡ Some x
-    → ((text ++ joined separator (map f (take k xs))) ++ separator_before k separator) ++ f x ≡ text ++ joined separator (map f (take (k + 1) xs))
-joined_texts-next f separator text xs k x h =
-    let got = slice_get-map f xs k ∙ ap (option_map f) h in
-    ap (λ ps. ((text ++ joined separator ps) ++ separator_before k separator) ++ f x) (sym (take-map f k xs))
-    ∙ (joined-next separator text (map f xs) k (f x) got ∙ ap (λ ps. text ++ joined separator ps) (take-map f (k + 1) xs))
 
 -- the text of one more item, before the texts of those behind it
 pub flat_map-next : {A : Type 0} (f : A → List ℕ) (text : List ℕ) (xs : List A) (k : ℕ) (x : A) → slice_get xs k ≡ Some x

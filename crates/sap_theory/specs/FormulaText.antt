@@ -1,11 +1,11 @@
 -- How formulas are written.
 use Rattle.std.specs.Prelude.{ℕ, nat_lt, if◌then◌else◌, codes, List, ◌++◌}
 use Rattle.std.specs.List.{flat_map}
-use Rattle.sap_formula.specs.Form.{Form, truth, falsity, action, equal, same_place, earlier, negation, both, either, implies, equivalent, every, exists}
+use Rattle.sap_formula.specs.Form.{Form, truth, falsity, action, equal, same_time, earlier, negation, both, either, implies, equivalent, every, exists}
 use Rattle.sap_formula.specs.declared.binder.Binder.{Binder}
 use Rattle.sap_formula.specs.declared.binder.Binder.TheVariants.{Message, Time}
-use Rattle.sap_theory.specs.TermText.{tree_text, variable_text}
-use Rattle.sap_theory.specs.FactText.{fact_text}
+use Rattle.sap_grammar.specs.TermText.{tree_text, variable_text}
+use Rattle.sap_grammar.specs.FactText.{fact_text}
 
 -- how strongly a formula holds its parts together: a quantifier least, an atom that is written without blanks most
 abbrev pub strength : Form → ℕ
@@ -13,7 +13,7 @@ strength truth = 6
 strength falsity = 6
 strength (action f i) = 6
 strength (equal s t) = 5
-strength (same_place i j) = 5
+strength (same_time i j) = 5
 strength (earlier i j) = 5
 strength (negation f) = 5
 strength (both f g) = 4
@@ -46,7 +46,7 @@ formula_text asked truth = in_place asked truth (codes "T")
 formula_text asked falsity = in_place asked falsity (codes "F")
 formula_text asked (action f i) = in_place asked (action f i) (fact_text f ++ (codes "@" ++ i))
 formula_text asked (equal s t) = in_place asked (equal s t) (tree_text s ++ (codes " = " ++ tree_text t))
-formula_text asked (same_place i j) = in_place asked (same_place i j) (places_text i (codes " = ") j)
+formula_text asked (same_time i j) = in_place asked (same_time i j) (places_text i (codes " = ") j)
 formula_text asked (earlier i j) = in_place asked (earlier i j) (places_text i (codes " < ") j)
 formula_text asked (negation f) = in_place asked (negation f) (codes "not " ++ formula_text 6 f)
 formula_text asked (both f g) = in_place asked (both f g) (formula_text 4 f ++ (codes " & " ++ formula_text 5 g))

@@ -1,6 +1,6 @@
+pub use Rattle.sap_grammar.specs.TermText
+pub use Rattle.sap_grammar.specs.FactText
 pub mod Pieces
-pub mod TermText
-pub mod FactText
 pub mod RuleText
 pub mod FormulaText
 pub mod StatementText

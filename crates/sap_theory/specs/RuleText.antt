@@ -2,7 +2,7 @@
 use Rattle.std.specs.Prelude.{ℕ, codes, List, ◌++◌}
 use Rattle.std.specs.List.{flat_map}
 use Rattle.sap_rule.specs.declared.rule.Rule.{Rule}
-use Rattle.sap_theory.specs.FactText.{facts_text, arrow_text}
+use Rattle.sap_grammar.specs.FactText.{facts_text, arrow_text}
 
 -- a blank line, the line of the name, and a line of the two sides with the arrow between them
 abbrev pub rule_text : Rule → List ℕ

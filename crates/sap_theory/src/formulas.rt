@@ -1,13 +1,12 @@
 ghost use Rattle.std.specs.Prelude.{◌≡◌, ◌++◌, OnOk, codes};
 ghost use Rattle.sap_terms.specs.View.{tree};
 ghost use Rattle.sap_formula.specs.View.{form};
-ghost use Rattle.sap_theory.specs.TermText.{tree_text};
-ghost use Rattle.sap_theory.specs.FactText.{fact_text};
+ghost use Rattle.sap_grammar.specs.TermText.{tree_text};
+ghost use Rattle.sap_grammar.specs.FactText.{fact_text};
 ghost use Rattle.sap_theory.specs.FormulaText.{strength, binder_text, binders_text, places_text, formula_text};
 
-use crate::facts::push_fact;
-use crate::terms::{push_variable, push_whole_term};
 use sap_formula::{Binder, Binders, Formula};
+use sap_grammar::{push_fact, push_variable, push_whole_term};
 use sap_terms::{Fact, Mem, Name, Term};
 use sap_text::Text;
 

@@ -1,18 +1,8 @@
 ghost use Rattle.std.specs.Prelude.{◌≡◌, ◌++◌, OnOk};
-ghost use Rattle.sap_theory.specs.Pieces.{separator_before, lead};
+ghost use Rattle.sap_theory.specs.Pieces.{lead};
 
 use sap_terms::Mem;
 use sap_text::Text;
-
-/// The separator, before each piece but the first, which has number 0.
-pub(crate) fn push_separator(text: &mut Text, k: u64, separator: &[u8]) -> Result<(), Mem>
-    ensures { OnOk result (text.new ≡ text.old ++ separator_before k separator.now) }
-{
-    if k == 0 {
-        return Ok(());
-    }
-    text.push_bytes(separator)
-}
 
 /// What stands before a piece of a line: its heading, or a comma.
 pub(crate) fn push_lead(text: &mut Text, is_first: bool, heading: &[u8]) -> Result<(), Mem>

@@ -1,7 +1,7 @@
 ghost use Rattle.std.specs.Prelude.{◌≡◌, ◌++◌, OnOk};
 ghost use Rattle.sap_theory.specs.RuleText.{rule_text, rules_text};
 
-use crate::facts::{push_arrow, push_facts};
+use sap_grammar::{push_arrow, push_facts};
 use sap_rule::{Rule, RuleList};
 use sap_terms::Mem;
 use sap_text::Text;

@@ -1,15 +1,17 @@
--- What was appended, in parts.
-use Rattle.std.proofs.Common.{◌≡◌, ◌≢◌, ◌≤◌, ℕ, List, [], ◌++◌, take, length, Option, Some, None, sym, ap, subst, ◌∙◌, append_assoc, arith}
+-- What was put, in parts.
+use Rattle.std.proofs.Common.{◌≡◌, ◌≢◌, ◌≤◌, ℕ, List, [], ◌++◌, take, Option, Some, None, inl, inr, ◌⊎◌, refl, sym, ap, ◌∙◌, append_assoc, arith}
 use Rattle.std.proofs.lemmas.List.{append-nil}
 use Rattle.std.specs.Io.KnownBytes.{Appends}
-use Rattle.std.proofs.lemmas.Grind.{common_steps}
-use Rattle.sap_tool.specs.Outside.{Rose, AppendsSome}
-use Rattle.sap_tool.specs.Answers.{usage_text, read_fault_text, write_fault_text, memory_text}
+use Rattle.sap_tool.specs.Outside.{Rose, RoseTwice, AppendsSome, more}
+use Rattle.sap_tool.specs.Answers.{IsLast, complete, cut, usage_text, read_fault_text, write_fault_text, memory_text}
 
 -- nothing was put
-pub appends_nothing : (o : Option (List ℕ)) → Appends o o []
+appends_nothing : (o : Option (List ℕ)) → Appends o o []
 appends_nothing None = tt
 appends_nothing (Some xs) = sym (append-nil xs)
+
+pub nothing_put : (told : Option (List ℕ)) (asked : Option ℕ) → Appends told told [] × (asked ≡ more 0 asked)
+nothing_put told asked = (appends_nothing told, refl)
 
 -- one text was put, and then another
 pub appends_both : (o m n : Option (List ℕ)) (xs ys : List ℕ) → Appends o m xs → Appends m n ys → Appends o n (xs ++ ys)
@@ -18,15 +20,47 @@ appends_both (Some a) None n xs ys h k = absurd h
 appends_both (Some a) (Some b) None xs ys h k = absurd k
 appends_both (Some a) (Some b) (Some c) xs ys h k = k ∙ ap (λ z. z ++ ys) h ∙ append_assoc a xs ys
 
--- a whole text is a first part of itself
-pub appends_whole : (o n : Option (List ℕ)) (xs : List ℕ) → Appends o n xs → AppendsSome o n xs
-appends_whole o n xs h = (length xs, subst (λ zs. Appends o n zs) (whole xs) h) where
-  whole : (zs : List ℕ) → zs ≡ take (length zs) zs
-  whole zs = grind (arith, common_steps)
+-- a word that was put is there: whole, or a first part, where its put was cut short
+pub word_whole : (o n : Option (List ℕ)) (word : List ℕ) (Cut : Type 0) → Appends o n word → ((last : List ℕ) × Appends o n last × IsLast Cut word last)
+word_whole o n word Cut h = (word, h, complete)
+
+pub word_cut : (o n : Option (List ℕ)) (word : List ℕ) (Cut : Type 0) → AppendsSome o n word → Cut → ((last : List ℕ) × Appends o n last × IsLast Cut word last)
+word_cut o n word Cut some why = (take some.0 word, some.1, cut some.0 why)
+
+-- what there is of a word, where its put was cut short for another reason
+pub last_of : {A B : Type 0} (word last : List ℕ) → (A → B) → IsLast A word last → IsLast B word last
+last_of word _ f complete = complete
+last_of word _ f (cut n a) = cut n (f a)
 
 -- a count that rose stays above
 pub rose_later : (before now later : ℕ) → Rose before now → now ≤ later → Rose before later
 rose_later before now later h k = omega arith
+
+rose_twice : (before now later : ℕ) → Rose before now → Rose now later → RoseTwice before later
+rose_twice before now later h k = omega arith
+
+rose_before : (before now later : ℕ) → before ≤ now → Rose now later → Rose before later
+rose_before before now later h k = omega arith
+
+-- what two counts show where two puts were cut short
+abbrev Twice : ℕ → ℕ → ℕ → ℕ → Type 0
+Twice faults faults_after wants wants_after = RoseTwice faults faults_after ⊎ (Rose faults faults_after × Rose wants wants_after) ⊎ RoseTwice wants wants_after
+
+-- the counts of faults and of wants of memory before a put, between it and a second one that was cut short, and behind that
+module _ (faults then_faults last_faults wants then_wants last_wants : ℕ) where
+  -- the first put failed
+  pub cut_after_fault : Rose faults then_faults → then_faults ≤ last_faults → wants ≤ then_wants
+      → Rose then_faults last_faults ⊎ Rose then_wants last_wants → Twice faults last_faults wants last_wants
+  cut_after_fault failed later below (inl again) = inl (rose_twice faults then_faults last_faults failed again)
+  cut_after_fault failed later below (inr wanted) =
+      inr (inl (rose_later faults then_faults last_faults failed later, rose_before wants then_wants last_wants below wanted))
+
+  -- it found no memory
+  pub cut_after_want : Rose wants then_wants → then_wants ≤ last_wants → faults ≤ then_faults
+      → Rose then_faults last_faults ⊎ Rose then_wants last_wants → Twice faults last_faults wants last_wants
+  cut_after_want wanted later below (inl failed) =
+      inr (inl (rose_before faults then_faults last_faults below failed, rose_later wants then_wants last_wants wanted later))
+  cut_after_want wanted later below (inr again) = inr (inr (rose_twice wants then_wants last_wants wanted again))
 
 -- no text of the program is empty
 pub write_fault_is : write_fault_text ≢ []

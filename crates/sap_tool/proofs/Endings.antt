@@ -3,6 +3,7 @@ use Rattle.std.proofs.Common.{◌≡◌, ◌≢◌, ℕ, List, [], sym, subst, �
 use Rattle.sap_tool.specs.Call.{Call, Stream}
 use Rattle.sap_tool.specs.Commands.{Command, compile}
 use Rattle.sap_tool.specs.Answers.{tells, IsAnswerTo, refused, Asks, Fetched, IsAnswer, to_file, Ended, answered, unanswered}
+use Rattle.sap_tool.specs.BuiltFile.{compiled_text, IsTheoryOf}
 use Rattle.sap_tool.specs.Refusals.{IsRefusal, refused_line}
 
 -- a line that refuses a file is an answer to it
@@ -13,8 +14,12 @@ refusal_answers file bytes line r = subst (λ (l : List ℕ). IsAnswerTo (compil
 pub of_file : (c : Call) (k : Command) (bytes : List ℕ) (out err : Stream) (status : ℕ) → Asks c k → Fetched c k bytes
     → Ended (IsAnswerTo k bytes) out err status → Ended (IsAnswer c) out err status
 of_file c k bytes out err status asks fetched (answered a is put) = answered a (to_file k bytes asks fetched is) put
-of_file c k bytes out err status asks fetched (unanswered j six none word last) = unanswered j six none word last
+of_file c k bytes out err status asks fetched (unanswered last six none word whole) = unanswered last six none word whole
 
 -- and it isn't empty
 pub line_is : (bytes line : List ℕ) → IsRefusal bytes line → line ≢ []
 line_is bytes line r e = let both : refused_line r.why ≡ [] = sym r.layout ∙ e in cc
+
+-- nor is the text of a theory
+pub theory_is : (bytes text : List ℕ) → IsTheoryOf bytes text → text ≢ []
+theory_is bytes text t e = let both : compiled_text t.told t.process ≡ [] = sym t.layout ∙ e in cc

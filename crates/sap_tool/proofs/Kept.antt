@@ -1,5 +1,5 @@
 -- However a call ends, the promises are kept.
-use Rattle.std.proofs.Common.{◌≡◌, ◌+◌, ◌<◌, ℕ, List, [], ◌∷◌, take, Option, Some, None, sym, ap, subst, ◌∙◌, inl, inr, ◌⊎◌, arith, lit<}
+use Rattle.std.proofs.Common.{◌≡◌, ◌+◌, ◌<◌, ℕ, List, [], ◌∷◌, take, Option, Some, None, refl, sym, ap, subst, ◌∙◌, inl, inr, ◌⊎◌, arith, lit<}
 use Rattle.std.specs.Prelude.{Contains}
 use Rattle.std.specs.FinMap as files
 use Rattle.sap_terms.specs.Signature.{Sig}
@@ -8,18 +8,20 @@ use Rattle.sap_gen.specs.Theories.{theory_of}
 use Rattle.sap_gen.specs.Faithful.{NoReservedEvents, IsFaithful}
 use Rattle.sap_tool.specs.Outside.{Files, IsFetched, IsFirstPart}
 use Rattle.sap_tool.specs.Refusals.{refused_line}
-use Rattle.sap_tool.specs.Call.{Call, Gained, Failed, FailedOn, Holds}
+use Rattle.sap_tool.specs.Call.{Call, Gained, Failed, CutShort, FailedOn, Holds}
 use Rattle.sap_tool.specs.Commands.{Command, compile, spelled, file_of, limit_of, IsUnknown, Refuses, Allows, Means}
-use Rattle.sap_tool.specs.Answers.{Answer, gives, tells, status_of, IsAnswerTo, allowed, refused, Asks, Fetched, IsAnswer, to_file, usage, unread, IsPut, whole, broken, wanting, Ended, answered, unanswered}
+use Rattle.sap_tool.specs.Answers.{Answer, gives, tells, status_of, IsAnswerTo, allowed, refused, Asks, Fetched, IsAnswer, to_file, usage, unread, IsPut, whole, broken, wanting, IsLast, complete, cut, write_fault_text, memory_text, Ended, answered, unanswered}
 use Rattle.sap_tool.specs.Promises as promised
-use Rattle.sap_tool.proofs.Refused.{OneReading, Frees, NeverBoth, file_free, one_cause, not_built, part_refused, part_built}
+use Rattle.sap_tool.proofs.Refused.{OneReading, SomeReading, Frees, BuiltOrUnbuilt, NeverBoth, file_free, one_cause, one_theory, some_theory, not_built, part_refused, part_built}
 
 -- the laws of the crates below
 pub record Laws : Type 0 where
   pub faithful : (name : List ℕ) (g : Sig) (p : Built) → NoReservedEvents p → IsFaithful p (theory_of name g p [] [])
   pub frees : Frees
+  pub either : BuiltOrUnbuilt
   pub never_both : NeverBoth
   pub one : OneReading
+  pub some : SomeReading
 
 -- what an allowed text means
 means : Laws → (k : Command) (bytes text : List ℕ) → Allows k bytes text → Means k bytes text
@@ -38,6 +40,19 @@ never laws (compile file) bytes text why t r = not_built laws.one bytes laws.nev
 -- and they are refused for one cause
 one_why : Laws → (k : Command) (bytes why other : List ℕ) → Refuses k bytes why → Refuses k bytes other → why ≡ other
 one_why laws (compile file) bytes why other r s = one_cause laws.one bytes why other r s
+
+-- and they are allowed one text
+one_allowed : Laws → (k : Command) (bytes text other : List ℕ) → Allows k bytes text → Allows k bytes other → text ≡ other
+one_allowed laws (compile file) bytes text other t u = one_theory laws.one bytes text other t u
+
+-- what no cause refuses is allowed a text
+some_allowed : Laws → (k : Command) (bytes : List ℕ) → ((why : List ℕ) → Refuses k bytes why → ⊥) → ((text : List ℕ) × Allows k bytes text)
+some_allowed laws (compile file) bytes unrefused = some_theory laws.some laws.either bytes unrefused
+
+-- a word whose put wasn't cut short is there whole
+whole_word : {Cut : Type 0} (word last : List ℕ) → (Cut → ⊥) → IsLast Cut word last → last ≡ word
+whole_word word _ uncut complete = refl
+whole_word word _ uncut (cut n c) = absurd (uncut c)
 
 -- the words ask for one command
 one_command : (words : List (List ℕ)) (k l : Command) → words ≡ spelled k → words ≡ spelled l → k ≡ l
@@ -87,9 +102,9 @@ module _ (laws : Laws) (c : Call) where
     at (to_file k bytes asks fetched (refused why r)) e = (1, lit< tt, sym e)
     at (usage u n) e = (2, lit< tt, sym e)
     at (unread k asks f n) e = (3, lit< tt, sym e)
-  statuses s (answered a is (broken i j e b p l)) = (4, lit< tt, sym e)
-  statuses s (answered a is (wanting i j e p l)) = (5, lit< tt, sym e)
-  statuses s (unanswered j e none word l) = (5, lit< tt, sym e)
+  statuses s (answered a is (broken taken last e b p l)) = (4, lit< tt, sym e)
+  statuses s (answered a is (wanting taken last e b p l)) = (5, lit< tt, sym e)
+  statuses s (unanswered last e none word l) = (5, lit< tt, sym e)
 
   compiled : (s : ℕ) → Ended (IsAnswer c) c.out c.err s → s ≡ 0 → promised.Compiled c
   compiled s (answered (tells n text) is (whole e w)) z = absurd (at is (sym e ∙ z)) where
@@ -108,17 +123,17 @@ module _ (laws : Laws) (c : Call) where
     out = w.0;
     err = w.1;
   }
-  compiled s (answered a is (broken i j e b p l)) z = absurd (omega arith)
-  compiled s (answered a is (wanting i j e p l)) z = absurd (omega arith)
-  compiled s (unanswered j e none word l) z = absurd (omega arith)
+  compiled s (answered a is (broken taken last e b p l)) z = absurd (omega arith)
+  compiled s (answered a is (wanting taken last e b p l)) z = absurd (omega arith)
+  compiled s (unanswered last e none word l) z = absurd (omega arith)
 
   told : (n s : ℕ) → 0 < n → n < 5 → Ended (IsAnswer c) c.out c.err s → s ≡ n → promised.Told c n
   told n s more less (answered (gives text) is (whole e w)) z = absurd (omega (arith, e, z))
   told n s more less (answered (tells m text) is (whole e w)) z =
       record { text = text; cause = subst (λ (i : ℕ). IsAnswer c (tells i text)) (sym e ∙ z) is; out = w.0; err = w.1 }
-  told n s more less (answered a is (broken i j e b p l)) z = absurd (omega arith)
-  told n s more less (answered a is (wanting i j e p l)) z = absurd (omega arith)
-  told n s more less (unanswered j e none word l) z = absurd (omega arith)
+  told n s more less (answered a is (broken taken last e b p l)) z = absurd (omega arith)
+  told n s more less (answered a is (wanting taken last e b p l)) z = absurd (omega arith)
+  told n s more less (unanswered last e none word l) z = absurd (omega arith)
 
   -- what is told or given whole has a status below 5
   below_five : {a : Answer} → IsAnswer c a → status_of a < 5
@@ -129,65 +144,84 @@ module _ (laws : Laws) (c : Call) where
 
   unwritten : (s : ℕ) → Ended (IsAnswer c) c.out c.err s → s ≡ 5 → promised.Unwritten c
   unwritten s (answered a is (whole e w)) z = let l = below_five is in absurd (omega (arith, l, e, z))
-  unwritten s (answered a is (broken i j e b p l)) z = record { answer = a; cause = is; broken = b; taken = i; last = j; part = p; asked = l }
-  unwritten s (answered a is (wanting i j e p l)) z = absurd (omega arith)
-  unwritten s (unanswered j e none word l) z = absurd (omega arith)
+  unwritten s (answered a is (broken taken last e b p l)) z = record { answer = a; cause = is; broken = b; taken = taken; last = last; part = p; word = l }
+  unwritten s (answered a is (wanting taken last e b p l)) z = absurd (omega arith)
+  unwritten s (unanswered last e none word l) z = absurd (omega arith)
 
   wanting_of : (s : ℕ) → Ended (IsAnswer c) c.out c.err s → s ≡ 6 → promised.Wanting c
   wanting_of s (answered a is (whole e w)) z = let l = below_five is in absurd (omega (arith, l, e, z))
-  wanting_of s (answered a is (broken i j e b p l)) z = absurd (omega arith)
-  wanting_of s (answered a is (wanting i j e p l)) z = promised.while_put a i j is p l
-  wanting_of s (unanswered j e none word l) z = promised.before_all j none word l
+  wanting_of s (answered a is (broken taken last e b p l)) z = absurd (omega arith)
+  wanting_of s (answered a is (wanting taken last e b p l)) z = promised.while_put a taken last is b p l
+  wanting_of s (unanswered last e none word l) z = promised.before_all last none word l
+
+  last_word : (s : ℕ) → Ended (IsAnswer c) c.out c.err s → (CutShort c.err → ⊥)
+      → (s ≡ 5 → Gained c.err 1 write_fault_text) × (s ≡ 6 → Gained c.err 1 memory_text)
+  last_word s (answered a is (whole e w)) uncut =
+      let l = below_five is in (λ z. absurd (omega (arith, l, e, z)), λ z. absurd (omega (arith, l, e, z)))
+  last_word s (answered (gives text) is (broken taken last e b p l)) uncut =
+      (λ z. subst (λ (y : List ℕ). Gained c.err 1 y) (whole_word write_fault_text last uncut l) p.1, λ z. absurd (omega (arith, e, z)))
+  last_word s (answered (tells n text) is (broken taken last e b p l)) uncut = absurd (uncut (inl b))
+  last_word s (answered (gives text) is (wanting taken last e b p l)) uncut =
+      (λ z. absurd (omega (arith, e, z)), λ z. subst (λ (y : List ℕ). Gained c.err 1 y) (whole_word memory_text last uncut l) p.1)
+  last_word s (answered (tells n text) is (wanting taken last e b p l)) uncut = absurd (uncut (inr b))
+  last_word s (unanswered last e none word l) uncut =
+      (λ z. absurd (omega (arith, e, z)), λ z. subst (λ (y : List ℕ). Gained c.err 1 y) (whole_word memory_text last uncut l) word)
 
   -- where an answer for err was put, its status, 5 for a fault of err, or 6
   told_ends : (s n : ℕ) (text : List ℕ) → IsPut (tells n text) c.out c.err s
-      → ((s ≡ n) × Gained c.err text) ⊎ ((s ≡ 5) × Failed c.err) ⊎ (s ≡ 6)
+      → ((s ≡ n) × Gained c.err 1 text) ⊎ ((s ≡ 5) × Failed c.err) ⊎ (s ≡ 6)
   told_ends s n text (whole e w) = inl (e, w.1)
-  told_ends s n text (broken i j e b p l) = inr (inl (e, b))
-  told_ends s n text (wanting i j e p l) = inr (inr e)
+  told_ends s n text (broken taken last e b p l) = inr (inl (e, b))
+  told_ends s n text (wanting taken last e b p l) = inr (inr e)
 
   must_tell_usage : (s : ℕ) → Ended (IsAnswer c) c.out c.err s → IsUnknown c.words → (s ≡ 3) ⊎ ((s ≡ 5) × Failed c.err) ⊎ (s ≡ 6)
   must_tell_usage s (answered a (to_file k bytes asks fetched is) put) unknown = absurd (unknown k asks)
   must_tell_usage s (answered _ (usage u n) put) unknown = elim (told_ends s 3 _ put) [ inl h ↦ inl h.0 | inr h ↦ inr h ]
   must_tell_usage s (answered _ (unread k asks f n) put) unknown = absurd (unknown k asks)
-  must_tell_usage s (unanswered j e none word l) unknown = inr (inr e)
+  must_tell_usage s (unanswered last e none word l) unknown = inr (inr e)
 
   module _ (k : Command) (bytes : List ℕ) (asked : Asks c k) (held : Holds c.holds (file_of k) bytes) where
     must_refuse : (s : ℕ) → Ended (IsAnswer c) c.out c.err s → (why : List ℕ) → Refuses k bytes why
-        → ((s ≡ 1) × Gained c.err (refused_line why)) ⊎ ((s ≡ 4) × FailedOn c (file_of k)) ⊎ ((s ≡ 5) × Failed c.err) ⊎ (s ≡ 6)
+        → ((s ≡ 1) × Gained c.err 1 (refused_line why)) ⊎ ((s ≡ 4) × FailedOn c (file_of k)) ⊎ ((s ≡ 5) × Failed c.err) ⊎ (s ≡ 6)
     must_refuse s (answered a (to_file l z asks fetched is) put) why r =
         at (answer_of k bytes asked held l z asks fetched is) put
       where
         at : {b : Answer} → IsAnswerTo k (take (limit_of k + 1) bytes) b → IsPut b c.out c.err s
-            → ((s ≡ 1) × Gained c.err (refused_line why)) ⊎ ((s ≡ 4) × FailedOn c (file_of k)) ⊎ ((s ≡ 5) × Failed c.err) ⊎ (s ≡ 6)
+            → ((s ≡ 1) × Gained c.err 1 (refused_line why)) ⊎ ((s ≡ 4) × FailedOn c (file_of k)) ⊎ ((s ≡ 5) × Failed c.err) ⊎ (s ≡ 6)
         at (allowed {text = text} t) put = absurd (never laws k _ text why t (part_is_refused k bytes why r))
         at (refused other o) put =
             let same : other ≡ why = one_why laws k _ other why o (part_is_refused k bytes why r) in
             elim (told_ends s 1 (refused_line other) put) [
-              | inl h ↦ inl (h.0, subst (λ (y : List ℕ). Gained c.err (refused_line y)) same h.1)
+              | inl h ↦ inl (h.0, subst (λ (y : List ℕ). Gained c.err 1 (refused_line y)) same h.1)
               | inr h ↦ inr (inr h)
             ]
     must_refuse s (answered _ (usage u n) put) why r = absurd (u k asked)
     must_refuse s (answered _ (unread l asks f n) put) why r =
         elim (told_ends s 4 _ put) [ inl h ↦ inr (inl (h.0, failed_of k bytes asked held l asks f)) | inr h ↦ inr (inr h) ]
-    must_refuse s (unanswered j e none word l) why r = inr (inr (inr e))
+    must_refuse s (unanswered last e none word l) why r = inr (inr (inr e))
 
-    must_compile : (s : ℕ) → Ended (IsAnswer c) c.out c.err s → (text : List ℕ) → Allows k bytes text → (FailedOn c (file_of k) → ⊥) → (Failed c.out → ⊥)
-        → (s ≡ 0) ⊎ (s ≡ 6)
-    must_compile s (answered a (to_file l z asks fetched is) put) text t sound open_out =
+    must_give : (s : ℕ) → Ended (IsAnswer c) c.out c.err s → (text : List ℕ) → Allows k bytes text → (FailedOn c (file_of k) → ⊥) → (Failed c.out → ⊥)
+        → ((s ≡ 0) × Gained c.out 1 text) ⊎ (s ≡ 6)
+    must_give s (answered a (to_file l z asks fetched is) put) text t sound open_out =
         at (answer_of k bytes asked held l z asks fetched is) put
       where
-        given : (other : List ℕ) → IsPut (gives other) c.out c.err s → (s ≡ 0) ⊎ (s ≡ 6)
-        given other (whole e w) = inl e
-        given other (broken i j e b p l) = absurd (open_out b)
-        given other (wanting i j e p l) = inr e
+        given : (other : List ℕ) → other ≡ text → IsPut (gives other) c.out c.err s → ((s ≡ 0) × Gained c.out 1 text) ⊎ (s ≡ 6)
+        given other same (whole e w) = inl (e, subst (λ (y : List ℕ). Gained c.out 1 y) same w.0)
+        given other same (broken taken last e b p l) = absurd (open_out b)
+        given other same (wanting taken last e b p l) = inr e
 
-        at : {b : Answer} → IsAnswerTo k (take (limit_of k + 1) bytes) b → IsPut b c.out c.err s → (s ≡ 0) ⊎ (s ≡ 6)
-        at (allowed {text = other} u) put = given other put
+        at : {b : Answer} → IsAnswerTo k (take (limit_of k + 1) bytes) b → IsPut b c.out c.err s → ((s ≡ 0) × Gained c.out 1 text) ⊎ (s ≡ 6)
+        at (allowed {text = other} u) put = given other (one_allowed laws k _ other text u (part_allows k bytes text t)) put
         at (refused why o) put = absurd (never laws k _ text why (part_allows k bytes text t) o)
-    must_compile s (answered _ (usage u n) put) text t sound open_out = absurd (u k asked)
-    must_compile s (answered _ (unread l asks f n) put) text t sound open_out = absurd (sound (failed_of k bytes asked held l asks f))
-    must_compile s (unanswered j e none word l) text t sound open_out = inr e
+    must_give s (answered _ (usage u n) put) text t sound open_out = absurd (u k asked)
+    must_give s (answered _ (unread l asks f n) put) text t sound open_out = absurd (sound (failed_of k bytes asked held l asks f))
+    must_give s (unanswered last e none word l) text t sound open_out = inr e
+
+    must_compile : (s : ℕ) → Ended (IsAnswer c) c.out c.err s → ((why : List ℕ) → Refuses k bytes why → ⊥) → (FailedOn c (file_of k) → ⊥)
+        → (Failed c.out → ⊥) → (s ≡ 0) ⊎ (s ≡ 6)
+    must_compile s o unrefused sound open_out =
+        let t = some_allowed laws k bytes unrefused in
+        elim (must_give s o t.0 t.1 sound open_out) [ inl h ↦ inl h.0 | inr h ↦ inr h ]
 
 pub kept : Laws → (c : Call) (s : ℕ) → Ended (IsAnswer c) c.out c.err s → promised.Promises c s
 kept laws c s o = record {
@@ -198,7 +232,9 @@ kept laws c s o = record {
   unread = told laws c 4 s (lit< tt) (lit< tt) o;
   unwritten = unwritten laws c s o;
   wanting = wanting_of laws c s o;
+  last_word = last_word laws c s o;
   must_tell_usage = must_tell_usage laws c s o;
   must_refuse = λ k bytes why asked held r. must_refuse laws c k bytes asked held s o why r;
-  must_compile = λ k bytes text asked held t sound open_out. must_compile laws c k bytes asked held s o text t sound open_out;
+  must_compile = λ k bytes asked held unrefused sound open_out. must_compile laws c k bytes asked held s o unrefused sound open_out;
+  must_give = λ k bytes text asked held t sound open_out. must_give laws c k bytes asked held s o text t sound open_out;
 }

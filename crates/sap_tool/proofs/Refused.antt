@@ -1,5 +1,5 @@
 -- Bytes are refused for one cause, or have one theory.
-use Rattle.std.proofs.Common.{◌≡◌, ◌≤◌, ◌<◌, ℕ, List, [], length, take, Option, Some, Result, Ok, Err, refl, sym, ap, subst, ◌∙◌, arith}
+use Rattle.std.proofs.Common.{◌≡◌, ◌≤◌, ◌<◌, ℕ, List, [], length, take, Option, Some, Result, Ok, Err, inl, inr, ◌⊎◌, refl, sym, ap, subst, ◌∙◌, arith}
 use Rattle.std.specs.Prelude.{◌+◌, codes}
 use Rattle.std.proofs.lemmas.Grind.{common_steps}
 use Rattle.sap_terms.specs.Signature.{Sig}
@@ -11,12 +11,20 @@ use Rattle.sap_gen.specs.Unbuilt.{first_unbuilt}
 use Rattle.sap_gen.specs.Faithful.{NoReservedEvents}
 use Rattle.sap_read.specs.Files.{FileContent, IsRead, no_tokens, no_header, no_item, refused, ill, accepted}
 use Rattle.sap_read.specs.declared.fault.ReadFault.{ReadFault}
-use Rattle.sap_tool.specs.BuiltFile.{most_bytes, IsBuiltFile}
+use Rattle.sap_tool.specs.BuiltFile.{most_bytes, IsBuiltFile, compiled_text, IsTheoryOf}
 use Rattle.sap_tool.specs.Refusals.{IsRefusedWith, too_long, unread, unbuilt, fault_text, at_place}
 
 -- bytes are read as one file, or refused for one cause
 abbrev pub OneReading : Type 0
 OneReading = (z : List ℕ) (o u : Result FileContent ReadFault) → IsRead z o → IsRead z u → o ≡ u
+
+-- and as some
+abbrev pub SomeReading : Type 0
+SomeReading = (z : List ℕ) → ((o : Result FileContent ReadFault) × IsRead z o)
+
+-- a process is built, or has a first place that isn't
+abbrev pub BuiltOrUnbuilt : Type 0
+BuiltOrUnbuilt = (p : Proc) → IsBuilt p ⊎ ((path : List ℕ) × (first_unbuilt p ≡ Some path))
 
 -- a process without flaws that is built has no event of a reserved name
 abbrev pub Frees : Type 0
@@ -87,6 +95,39 @@ module _ (one : OneReading) (z : List ℕ) where
   not_built never why told b (unread {e = e} l r) file = not_both told e file.read r
   not_built never why told b (unbuilt {told = t} {path = path} l r f) file =
       never told.process path (b, file.process) (ap (λ (x : FileContent). first_unbuilt x.process) (same_file told t file.read r) ∙ f)
+
+  -- they have one theory
+  pub one_theory : (text other : List ℕ) → IsTheoryOf z text → IsTheoryOf z other → text ≡ other
+  one_theory text other t u =
+      let same = same_file t.told u.told t.file.read u.file.read in
+      let processes : ◌≡◌ {A = Option Built} (Some t.process) (Some u.process) =
+      sym t.file.process ∙ (ap (λ (x : FileContent). built x.process) same ∙ u.file.process) in
+      let process : t.process ≡ u.process = cc in
+      t.layout ∙ ((λ i. compiled_text (same i) (process i)) ∙ sym u.layout)
+
+at_most : (most : ℕ) (bytes : List ℕ) → (most < length bytes → ⊥) → length bytes ≤ most
+at_most most bytes h = omega (arith, h)
+
+-- what no cause refuses has a theory
+pub some_theory : SomeReading → BuiltOrUnbuilt → (z : List ℕ) → ((why : List ℕ) → IsRefusedWith z why → ⊥) → ((text : List ℕ) × IsTheoryOf z text)
+some_theory some either z unrefused = at (some z) where
+  short : length z ≤ most_bytes
+  short = at_most most_bytes z (λ l. unrefused _ (too_long l))
+
+  at : ((o : Result FileContent ReadFault) × IsRead z o) → ((text : List ℕ) × IsTheoryOf z text)
+  at (Ok told, read) = elim (either told.process) [
+    | inl b ↦ (
+      compiled_text told b.0,
+      record {
+        told = told;
+        process = b.0;
+        file = record { short = short; read = read; process = b.1 };
+        layout = refl;
+      },
+    )
+    | inr place ↦ absurd (unrefused _ (unbuilt short read place.1))
+  ]
+  at (Err e, read) = absurd (unrefused _ (unread short read))
 
 -- the first bytes of a file, one more than it may have, show what the file is
 abbrev part : List ℕ → List ℕ

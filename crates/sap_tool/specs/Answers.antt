@@ -1,7 +1,7 @@
 -- What there is to say of a call, and how that is put.
 use Rattle.std.specs.Prelude.{◌≡◌, ℕ, codes, List, [], ◌++◌, take}
 use Rattle.sap_tool.specs.Outside.{IsFetched, one_more}
-use Rattle.sap_tool.specs.Call.{Call, Stream, Gained, Failed, FailedOn}
+use Rattle.sap_tool.specs.Call.{Call, Stream, Gained, Failed, Wanted, CutShort, CutTwice, FailedOn}
 use Rattle.sap_tool.specs.Commands.{Command, spelled, file_of, limit_of, IsUnknown, Refuses, Allows}
 use Rattle.sap_tool.specs.Refusals.{refused_line}
 
@@ -49,34 +49,47 @@ pub data IsAnswer (c : Call) : Answer → Type 0 where
   usage : IsUnknown c.words → c.asked_after ≡ c.asked_before → IsAnswer c (tells 3 usage_text)
   unread : (k : Command) → Asks c k → FailedOn c (file_of k) → AskedOnce c → IsAnswer c (tells 4 read_fault_text)
 
--- the answer's text is whole where it belongs, and nothing is elsewhere
+-- the answer's text is whole where it belongs, put at once, and nothing was put elsewhere
 abbrev pub Whole : Answer → Stream → Stream → Type 0
-Whole (gives text) out err = Gained out text × Gained err []
-Whole (tells status text) out err = Gained out [] × Gained err text
+Whole (gives text) out err = Gained out 1 text × Gained err 0 []
+Whole (tells status text) out err = Gained out 0 [] × Gained err 1 text
 
--- the first bytes of the answer's text are where it belongs, and then err gained this
+-- the first bytes of the answer's text are where it belongs, put at once, and then err was asked for one more text, of which
+-- it has this
 abbrev pub Part : Answer → ℕ → List ℕ → Stream → Stream → Type 0
-Part (gives text) i last out err = Gained out (take i text) × Gained err last
-Part (tells status text) i last out err = Gained out [] × Gained err (take i text ++ last)
+Part (gives text) taken last out err = Gained out 1 (take taken text) × Gained err 1 last
+Part (tells status text) taken last out err = Gained out 0 [] × Gained err 2 (take taken text ++ last)
 
 -- the sink failed that the answer's text was put on
 abbrev pub Broken : Answer → Stream → Stream → Type 0
 Broken (gives text) out err = Failed out
 Broken (tells status text) out err = Failed err
 
--- err was asked for the last word, behind the answer's text where that belongs on err
-abbrev pub AsksLast : Answer → Stream → Type 0
-AsksLast (gives text) err = err.asked_after ≡ one_more err.asked_before
-AsksLast (tells status text) err = err.asked_after ≡ one_more (one_more err.asked_before)
+-- it found no memory
+abbrev pub Starved : Answer → Stream → Stream → Type 0
+Starved (gives text) out err = Wanted out
+Starved (tells status text) out err = Wanted err
 
--- the answer was put whole; or its sink failed, or memory was wanting, after a first part of it, and err has a first part of
--- the text of that, for which it was asked
+-- the put of the last word was cut short, beside that of the answer's text where this belongs on err
+abbrev pub CutLast : Answer → Stream → Type 0
+CutLast (gives text) err = CutShort err
+CutLast (tells status text) err = CutTwice err
+
+-- what there is of a word: all of it; or a first part, where its put was cut short
+pub data IsLast (Cut : Type 0) (word : List ℕ) : List ℕ → Type 0 where
+  complete : IsLast Cut word word
+  cut : (n : ℕ) → Cut → IsLast Cut word (take n word)
+
+-- the answer was put whole; or its sink failed, or found no memory, after a first part of it, and then err has the last word,
+-- which says so
 pub data IsPut (a : Answer) (out err : Stream) (status : ℕ) : Type 0 where
   whole : status ≡ status_of a → Whole a out err → IsPut a out err status
-  broken : (i j : ℕ) → status ≡ 5 → Broken a out err → Part a i (take j write_fault_text) out err → AsksLast a err → IsPut a out err status
-  wanting : (i j : ℕ) → status ≡ 6 → Part a i (take j memory_text) out err → AsksLast a err → IsPut a out err status
+  broken : (taken : ℕ) (last : List ℕ) → status ≡ 5 → Broken a out err → Part a taken last out err → IsLast (CutLast a err) write_fault_text last
+      → IsPut a out err status
+  wanting : (taken : ℕ) (last : List ℕ) → status ≡ 6 → Starved a out err → Part a taken last out err → IsLast (CutLast a err) memory_text last
+      → IsPut a out err status
 
--- one of these answers was put, or memory was wanting before there was one
+-- one of these answers was put, or memory was wanting before there was one, and err has the last word
 pub data Ended (P : Answer → Type 0) (out err : Stream) (status : ℕ) : Type 0 where
   answered : (a : Answer) → P a → IsPut a out err status → Ended P out err status
-  unanswered : (j : ℕ) → status ≡ 6 → Gained out [] → Gained err (take j memory_text) → err.asked_after ≡ one_more err.asked_before → Ended P out err status
+  unanswered : (last : List ℕ) → status ≡ 6 → Gained out 0 [] → Gained err 1 last → IsLast (CutShort err) memory_text last → Ended P out err status

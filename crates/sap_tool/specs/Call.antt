@@ -1,16 +1,19 @@
 -- What is seen of one call of the program.
-use Rattle.std.specs.Prelude.{◌≡◌, ℕ, List, map, Option, None, Some, String, string_bytes}
+use Rattle.std.specs.Prelude.{◌≡◌, ◌⊎◌, ℕ, List, map, Option, None, Some, String, string_bytes}
 use Rattle.std.specs.declared.alloc.Global.{Global}
 use Rattle.std.specs.FinMap as files
 use Rattle.std.specs.Io.KnownBytes.{Appends}
-use Rattle.sap_tool.specs.Outside.{Files, Rose}
+use Rattle.sap_tool.specs.Outside.{Files, Rose, RoseTwice, more}
 
--- a sink before and after the call: what it tells, how its faults count, and how often it was asked, where it tells that
+-- a sink before and after the call: what it tells, how its faults and its wants of memory count, and how often it was asked,
+-- where it tells that
 pub record Stream : Type 0 where
   pub before : Option (List ℕ)
   pub after : Option (List ℕ)
   pub faults_before : ℕ
   pub faults_after : ℕ
+  pub wants_before : ℕ
+  pub wants_after : ℕ
   pub asked_before : Option ℕ
   pub asked_after : Option ℕ
 
@@ -26,12 +29,14 @@ pub record Call : Type 0 where
   pub out : Stream
   pub err : Stream
 
-abbrev pub stream : Option (List ℕ) → Option (List ℕ) → ℕ → ℕ → Option ℕ → Option ℕ → Stream
-stream before after faults_before faults_after asked_before asked_after = record {
+abbrev pub stream : Option (List ℕ) → Option (List ℕ) → ℕ → ℕ → ℕ → ℕ → Option ℕ → Option ℕ → Stream
+stream before after faults_before faults_after wants_before wants_after asked_before asked_after = record {
   before = before;
   after = after;
   faults_before = faults_before;
   faults_after = faults_after;
+  wants_before = wants_before;
+  wants_after = wants_after;
   asked_before = asked_before;
   asked_after = asked_after;
 }
@@ -52,13 +57,25 @@ call words holds faults_before faults_after asked_before asked_after out err = r
   err = err;
 }
 
--- these bytes were appended, where the sink tells
-abbrev pub Gained : Stream → List ℕ → Type 0
-Gained s bytes = Appends s.before s.after bytes
+-- so many puts were asked for, and together they appended these bytes, each where the sink tells
+abbrev pub Gained : Stream → ℕ → List ℕ → Type 0
+Gained s puts bytes = Appends s.before s.after bytes × (s.asked_after ≡ more puts s.asked_before)
 
 -- a put of this call failed, as the count shows
 abbrev pub Failed : Stream → Type 0
 Failed s = Rose s.faults_before s.faults_after
+
+-- a put of this call found no memory, as the count shows
+abbrev pub Wanted : Stream → Type 0
+Wanted s = Rose s.wants_before s.wants_after
+
+-- a put of this call was cut short, by a fault or for want of memory
+abbrev pub CutShort : Stream → Type 0
+CutShort s = Failed s ⊎ Wanted s
+
+-- two puts were
+abbrev pub CutTwice : Stream → Type 0
+CutTwice s = RoseTwice s.faults_before s.faults_after ⊎ (Failed s × Wanted s) ⊎ RoseTwice s.wants_before s.wants_after
 
 -- a fetch of this name failed, as its count shows
 abbrev pub FailedOn : Call → List ℕ → Type 0

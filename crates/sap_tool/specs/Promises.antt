@@ -1,12 +1,11 @@
 -- What the program promises of each call.
-use Rattle.std.specs.Prelude.{◌≡◌, ◌⊎◌, ℕ, List, [], ◌∷◌, take, Contains}
-use Rattle.sap_tool.specs.Outside.{one_more}
-use Rattle.sap_tool.specs.Call.{Call, Gained, Failed, FailedOn, Holds}
+use Rattle.std.specs.Prelude.{◌≡◌, ◌⊎◌, ℕ, List, [], ◌∷◌, Contains}
+use Rattle.sap_tool.specs.Call.{Call, Gained, Failed, FailedOn, CutShort, Holds}
 use Rattle.sap_tool.specs.Commands.{Command, file_of, IsUnknown, Refuses, Allows, Means}
-use Rattle.sap_tool.specs.Answers.{Answer, tells, IsAnswer, Asks, Fetched, Part, Broken, AsksLast, write_fault_text, memory_text}
+use Rattle.sap_tool.specs.Answers.{Answer, tells, IsAnswer, Asks, Fetched, Part, Broken, Starved, CutLast, IsLast, write_fault_text, memory_text}
 use Rattle.sap_tool.specs.Refusals.{refused_line}
 
--- out gained a text that the command allows for the file that was fetched, with what it means, and err nothing
+-- out gained, at once, a text that the command allows for the file that was fetched, with what it means, and nothing was put on err
 pub record Compiled (c : Call) : Type 0 where
   pub command : Command
   pub bytes : List ℕ
@@ -15,33 +14,34 @@ pub record Compiled (c : Call) : Type 0 where
   pub fetched : Fetched c command bytes
   pub allowed : Allows command bytes text
   pub means : Means command bytes text
-  pub out : Gained c.out text
-  pub err : Gained c.err []
+  pub out : Gained c.out 1 text
+  pub err : Gained c.err 0 []
 
--- err was told the text of this status, for one of its causes, and out gained nothing
+-- err was told, at once, the text of this status, for one of its causes, and nothing was put on out
 pub record Told (c : Call) (status : ℕ) : Type 0 where
   pub text : List ℕ
   pub cause : IsAnswer c (tells status text)
-  pub out : Gained c.out []
-  pub err : Gained c.err text
+  pub out : Gained c.out 0 []
+  pub err : Gained c.err 1 text
 
--- the sink that an answer belongs on failed while it took it, and err was asked for the last word
+-- the sink that an answer belongs on failed while it took it, and err has the last word, whole unless its put was cut short
 pub record Unwritten (c : Call) : Type 0 where
   pub answer : Answer
   pub cause : IsAnswer c answer
   pub broken : Broken answer c.out c.err
   pub taken : ℕ
-  pub last : ℕ
-  pub part : Part answer taken (take last write_fault_text) c.out c.err
-  pub asked : AsksLast answer c.err
+  pub last : List ℕ
+  pub part : Part answer taken last c.out c.err
+  pub word : IsLast (CutLast answer c.err) write_fault_text last
 
--- memory was wanting, and err was asked for the last word: before there was an answer, or while one was put, so that out has nothing, or a first part of the theory,
--- which is there only where the file is one
+-- memory was wanting, and err has the last word, whole unless its put was cut short: before there was an answer, so that out has
+-- nothing; or its sink found none while it took an answer, so that out may have a first part of a text that is allowed
 pub data Wanting (c : Call) : Type 0 where
-  before_all : (last : ℕ) → Gained c.out [] → Gained c.err (take last memory_text) → c.err.asked_after ≡ one_more c.err.asked_before → Wanting c
-  while_put : (a : Answer) (taken last : ℕ) → IsAnswer c a → Part a taken (take last memory_text) c.out c.err → AsksLast a c.err → Wanting c
+  before_all : (last : List ℕ) → Gained c.out 0 [] → Gained c.err 1 last → IsLast (CutShort c.err) memory_text last → Wanting c
+  while_put : (a : Answer) (taken : ℕ) (last : List ℕ) → IsAnswer c a → Starved a c.out c.err → Part a taken last c.out c.err
+      → IsLast (CutLast a c.err) memory_text last → Wanting c
 
--- Each status comes only with its cause and with what it leaves on the two sinks, and the last three fields say when it must come.
+-- Each status comes only with its cause and with what it leaves on the two sinks, and the last fields say when it must come.
 pub record Promises (c : Call) (status : ℕ) : Type 0 where
   pub statuses : Contains (0 ∷ 1 ∷ 3 ∷ 4 ∷ 5 ∷ 6 ∷ []) status
   pub compiled : status ≡ 0 → Compiled c
@@ -50,8 +50,14 @@ pub record Promises (c : Call) (status : ℕ) : Type 0 where
   pub unread : status ≡ 4 → Told c 4
   pub unwritten : status ≡ 5 → Unwritten c
   pub wanting : status ≡ 6 → Wanting c
+  -- where no put on err was cut short, 5 and 6 leave their word there, and nothing else
+  pub last_word : (CutShort c.err → ⊥) → (status ≡ 5 → Gained c.err 1 write_fault_text) × (status ≡ 6 → Gained c.err 1 memory_text)
   pub must_tell_usage : IsUnknown c.words → (status ≡ 3) ⊎ ((status ≡ 5) × Failed c.err) ⊎ (status ≡ 6)
   pub must_refuse : (k : Command) (bytes why : List ℕ) → Asks c k → Holds c.holds (file_of k) bytes → Refuses k bytes why
-      → ((status ≡ 1) × Gained c.err (refused_line why)) ⊎ ((status ≡ 4) × FailedOn c (file_of k)) ⊎ ((status ≡ 5) × Failed c.err) ⊎ (status ≡ 6)
-  pub must_compile : (k : Command) (bytes text : List ℕ) → Asks c k → Holds c.holds (file_of k) bytes → Allows k bytes text
+      → ((status ≡ 1) × Gained c.err 1 (refused_line why)) ⊎ ((status ≡ 4) × FailedOn c (file_of k)) ⊎ ((status ≡ 5) × Failed c.err) ⊎ (status ≡ 6)
+  -- for bytes that no cause refuses
+  pub must_compile : (k : Command) (bytes : List ℕ) → Asks c k → Holds c.holds (file_of k) bytes → ((why : List ℕ) → Refuses k bytes why → ⊥)
       → (FailedOn c (file_of k) → ⊥) → (Failed c.out → ⊥) → (status ≡ 0) ⊎ (status ≡ 6)
+  -- for bytes with a text that is allowed: it is this text
+  pub must_give : (k : Command) (bytes text : List ℕ) → Asks c k → Holds c.holds (file_of k) bytes → Allows k bytes text
+      → (FailedOn c (file_of k) → ⊥) → (Failed c.out → ⊥) → ((status ≡ 0) × Gained c.out 1 text) ⊎ (status ≡ 6)

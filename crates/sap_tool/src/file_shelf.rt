@@ -3,7 +3,7 @@ ghost use Rattle.std.specs.Prelude.{◌≤◌, length, IfOk, None};
 use crate::{Shelf, ShelfFault};
 use std::alloc::Global;
 use std::fs;
-use std::io::Read;
+use std::io::{ErrorKind, Read};
 use std::rt::Files;
 
 /// The files of the system, which tell nothing. Each fault, of whatever file, raises the one count.
@@ -15,29 +15,29 @@ pub struct FileShelf<'a, R: Files> {
     pub count: u64,
 }
 
-// Where nothing is read the file ends, so each turn before reads some bytes.
-fn read_up_to<F: Read>(alloc: Global, file: &mut F, most: u64) -> Result<Vec<u8>, ShelfFault>
+/// How many bytes there is room for before any is read.
+const FIRST_ROOM: usize = 65_536;
+
+// Reads into the buffer itself, which doubles as it fills up.
+fn read_up_to<F: Read + Drop>(alloc: Global, file: F, most: u64) -> Result<Vec<u8>, ShelfFault>
     requires { most ≤ 16777217 }
     ensures { IfOk result (λ v. length v.items ≤ most) }
 {
-    let mut bytes = Vec::new(alloc);
-    let mut piece = [0u8; 4096];
-    let mut left = most;
-    for _ in 0..most {
-        let room = left.min(4096) as usize;
-        match file.read(&mut piece[..room]) {
-            Ok(0) => return Ok(bytes),
-            Ok(n) => {
-                bytes.extend_from_slice(&piece[..n])?;
-                left -= n as u64;
-            }
-            Err(_) => return Err(ShelfFault::Failed),
+    let mut bytes = Vec::with_capacity(alloc, FIRST_ROOM)?;
+    match file.take(most).read_to_end(&mut bytes) {
+        Ok(_) => {
+            bytes.truncate(most as usize);
+            Ok(bytes)
         }
-        if left == 0 {
-            return Ok(bytes);
-        }
+        Err(e) => Err(fault_of(e.kind())),
     }
-    Ok(bytes)
+}
+
+fn fault_of(kind: ErrorKind) -> ShelfFault {
+    match kind {
+        ErrorKind::OutOfMemory => ShelfFault::Mem,
+        _ => ShelfFault::Failed,
+    }
 }
 
 impl<'a, R: Files> Shelf for FileShelf<'a, R> {
@@ -49,8 +49,8 @@ impl<'a, R: Files> Shelf for FileShelf<'a, R> {
 
     fn fetch(&mut self, alloc: Global, name: &str, limit: u64) -> Result<Vec<u8>, ShelfFault> {
         match fs::open(self.rt, name) {
-            Ok(mut file) => {
-                let read = read_up_to(alloc, &mut file, limit + 1);
+            Ok(file) => {
+                let read = read_up_to(alloc, file, limit + 1);
                 if let Err(ShelfFault::Failed) = read {
                     self.count = self.count.saturating_add(1);
                 }

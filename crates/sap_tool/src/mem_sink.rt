@@ -1,4 +1,4 @@
-ghost use Rattle.std.specs.Prelude.{◌≡◌, ◌≢◌, ◌≤◌, ◌+◌, ◌-◌, ◌^◌, ◌++◌, ℕ, [], take, min, IsOk, OnOk, OnErr, IsErrOf, IfSome, None, Some};
+ghost use Rattle.std.specs.Prelude.{◌≡◌, ◌≢◌, ◌≤◌, ◌+◌, ◌-◌, ◌^◌, ◌++◌, ℕ, [], take, min, IsOk, OnOk, OnErr, IfErr, IsErrOf, IfSome, None, Some};
 ghost use Rattle.sap_tool.specs.Outside.{Rose, one_more, taken_at};
 
 use crate::{Sink, SinkFault};
@@ -15,6 +15,31 @@ pub struct MemSink {
     pub calls: u64,
     /// How many of them failed; it stops at the greatest u64.
     pub count: u64,
+    /// How many of them found no memory; it stops at the greatest u64.
+    pub wants: u64,
+}
+
+impl MemSink {
+    // Appends the bytes, or counts a want of memory.
+    fn append(&mut self, bytes: &[u8]) -> Result<(), SinkFault>
+        ensures whole { OnOk result (self.new.bytes.items ≡ self.old.bytes.items ++ bytes.now) }
+        ensures mem { OnErr result (self.new.bytes.items ≡ self.old.bytes.items) }
+        ensures later { self.old.wants ≤ self.new.wants }
+        ensures wanted { OnErr result (self.new.wants ≡ min (self.old.wants + 1) (2 ^ 64 - 1)) }
+        ensures unwanted { OnOk result (self.new.wants ≡ self.old.wants) }
+        ensures only { IfErr result (λ e. e ≡ SinkFault.Mem) }
+        ensures list { self.new.fail_on.items ≡ self.old.fail_on.items }
+        ensures calls { self.new.calls ≡ self.old.calls }
+        ensures count { self.new.count ≡ self.old.count }
+    {
+        match self.bytes.extend_from_slice(bytes) {
+            Ok(()) => Ok(()),
+            Err(_) => {
+                self.wants = self.wants.saturating_add(1);
+                Err(SinkFault::Mem)
+            }
+        }
+    }
 }
 
 // How many bytes are taken before the failure of this call, if it fails.
@@ -34,6 +59,8 @@ impl Sink for MemSink {
 
     ghost faults = { λ s. s.count };
 
+    ghost wants = { λ s. s.wants };
+
     ghost asked = { λ s. Some s.calls };
 
     // It fails exactly where a pair has the number of the call.
@@ -42,6 +69,8 @@ impl Sink for MemSink {
         ensures part { OnErr result ((n : ℕ) × (self.new.bytes.items ≡ self.old.bytes.items ++ take n bytes.now)) }
         ensures later { self.old.count ≤ self.new.count }
         ensures cause { IsErrOf result SinkFault.Failed → Rose self.old.count self.new.count }
+        ensures later_wants { self.old.wants ≤ self.new.wants }
+        ensures want { IsErrOf result SinkFault.Mem → Rose self.old.wants self.new.wants }
         ensures empty { bytes.now ≡ [] → IsOk result × (self.new.calls ≡ self.old.calls) }
         ensures asked { bytes.now ≢ [] → Some self.new.calls ≡ one_more (Some self.old.calls) }
         ensures list { self.new.fail_on.items ≡ self.old.fail_on.items }
@@ -54,16 +83,18 @@ impl Sink for MemSink {
         ensures uncounted { OnOk result (self.new.count ≡ self.old.count) }
         ensures mem { IsErrOf result SinkFault.Mem → self.new.bytes.items ≡ self.old.bytes.items }
         ensures mem_count { IsErrOf result SinkFault.Mem → self.new.count ≡ self.old.count }
+        ensures wanted { IsErrOf result SinkFault.Mem → self.new.wants ≡ min (self.old.wants + 1) (2 ^ 64 - 1) }
+        ensures unwanted { (IsErrOf result SinkFault.Mem → ⊥) → self.new.wants ≡ self.old.wants }
     {
         if bytes.is_empty() {
             return Ok(());
         }
         self.calls = self.calls.saturating_add(1);
         match taken_before_failure(&self.fail_on, self.calls) {
-            None => Ok(self.bytes.extend_from_slice(bytes)?),
+            None => self.append(bytes),
             Some(n) => {
                 let n = n.min(bytes.len() as u64) as usize;
-                self.bytes.extend_from_slice(&bytes[..n])?;
+                self.append(&bytes[..n])?;
                 self.count = self.count.saturating_add(1);
                 Err(SinkFault::Failed)
             }

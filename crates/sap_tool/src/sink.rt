@@ -30,15 +30,20 @@ pub trait Sink {
     /// How often it has failed; it stops at the greatest u64.
     ghost faults: { Self → ℕ };
 
+    /// How often it found no memory; it stops at the greatest u64.
+    ghost wants: { Self → ℕ };
+
     /// How many puts of some bytes there were, where it tells; it stops at the greatest u64.
     ghost asked: { Self → Option ℕ };
 
-    /// Appends the bytes; after a fault, some first ones of them. No bytes at all are always taken.
+    /// Appends the bytes; after a fault or a want of memory, some first ones of them. No bytes at all are always taken.
     fn put(&mut self, bytes: &[u8]) -> Result<(), SinkFault>
         ensures whole { OnOk result (Appends (written self.old) (written self.new) bytes.now) }
         ensures part { OnErr result (AppendsSome (written self.old) (written self.new) bytes.now) }
         ensures later { faults self.old ≤ faults self.new }
         ensures cause { IsErrOf result SinkFault.Failed → Rose (faults self.old) (faults self.new) }
+        ensures later_wants { wants self.old ≤ wants self.new }
+        ensures want { IsErrOf result SinkFault.Mem → Rose (wants self.old) (wants self.new) }
         ensures empty { bytes.now ≡ [] → IsOk result }
         ensures asked { bytes.now ≢ [] → asked self.new ≡ one_more (asked self.old) };
 }

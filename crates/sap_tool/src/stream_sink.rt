@@ -17,9 +17,11 @@ impl<W: Write> Sink for StreamSink<W> {
 
     ghost faults = { λ s. s.count };
 
+    ghost wants = { λ _. 0 };
+
     ghost asked = { λ _. None };
 
-    // A write that takes nothing is a fault. Each turn writes at least one byte.
+    // It wants no memory. A write that takes nothing is a fault. Each turn writes at least one byte.
     fn put(&mut self, bytes: &[u8]) -> Result<(), SinkFault> {
         let mut rest = bytes;
         for _ in 0..bytes.len() {

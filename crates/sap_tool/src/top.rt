@@ -1,17 +1,19 @@
 //! The top call.
 
-ghost use Rattle.std.specs.Prelude.{◌≡◌, ◌≢◌, ◌≤◌, ℕ, List, [], MatchOption};
-ghost use Rattle.sap_tool.specs.Outside.{AppendsSome, one_more};
+ghost use Rattle.std.specs.Prelude.{◌≡◌, ◌≢◌, ◌≤◌, ◌⊎◌, ℕ, List, [], IfOk, IsErrOf, MatchOption};
+ghost use Rattle.sap_tool.specs.Outside.{Rose, IsFetched, one_more};
+ghost use Rattle.std.specs.Io.KnownBytes.{Appends};
+ghost use Rattle.sap_tool.specs.BuiltFile.{most_bytes};
 ghost use Rattle.sap_tool.specs.Call.{Stream, bytes_of, call, stream, Gained};
 ghost use Rattle.sap_tool.specs.Commands.{compile, spelled, IsUnknown};
-ghost use Rattle.sap_tool.specs.Answers.{gives, tells, IsAnswer, IsAnswerTo, IsPut, Ended};
+ghost use Rattle.sap_tool.specs.Answers.{gives, tells, IsAnswer, IsAnswerTo, IsPut, IsLast, Ended};
 ghost use Rattle.sap_tool.specs.Promises.{Promises};
 
 use crate::compile::{MOST_BYTES, theory_text_of};
 use crate::refusal::Refusal;
 use crate::{Shelf, ShelfFault, Sink, SinkFault};
 use sap_gen::{built_or_unbuilt, theories_show_the_process, well_formed_has_no_reserved_events};
-use sap_read::one_file;
+use sap_read::{one_file, some_file};
 use std::alloc::Global;
 
 /// Runs the program on its words, those after its name, and answers its status.
@@ -36,15 +38,16 @@ pub fn sapic<S: Shelf, O: Sink, E: Sink>(
         (call words.now.items (S.holds shelf.old) (S.faults shelf.old) (S.faults shelf.new)
         (S.asked shelf.old) (S.asked shelf.new)
         (stream (O.written out.old) (O.written out.new) (O.faults out.old) (O.faults out.new)
-        (O.asked out.old) (O.asked out.new))
+        (O.wants out.old) (O.wants out.new) (O.asked out.old) (O.asked out.new))
         (stream (E.written err.old) (E.written err.new) (E.faults err.old) (E.faults err.new)
-        (E.asked err.old) (E.asked err.new)))
+        (E.wants err.old) (E.wants err.new) (E.asked err.old) (E.asked err.new)))
         result }
 {
     theories_show_the_process();
     well_formed_has_no_reserved_events();
     built_or_unbuilt();
     one_file();
+    some_file();
     run(alloc, words, shelf, out, err)
 }
 
@@ -59,19 +62,19 @@ fn run<S: Shelf, O: Sink, E: Sink>(
         (call words.now.items (S.holds shelf.old) (S.faults shelf.old) (S.faults shelf.new)
         (S.asked shelf.old) (S.asked shelf.new)
         (stream (O.written out.old) (O.written out.new) (O.faults out.old) (O.faults out.new)
-        (O.asked out.old) (O.asked out.new))
+        (O.wants out.old) (O.wants out.new) (O.asked out.old) (O.asked out.new))
         (stream (E.written err.old) (E.written err.new) (E.faults err.old) (E.faults err.new)
-        (E.asked err.old) (E.asked err.new))))
+        (E.wants err.old) (E.wants err.new) (E.asked err.old) (E.asked err.new))))
         (stream (O.written out.old) (O.written out.new) (O.faults out.old) (O.faults out.new)
-        (O.asked out.old) (O.asked out.new))
+        (O.wants out.old) (O.wants out.new) (O.asked out.old) (O.asked out.new))
         (stream (E.written err.old) (E.written err.new) (E.faults err.old) (E.faults err.new)
-        (E.asked err.old) (E.asked err.new))
+        (E.wants err.old) (E.wants err.new) (E.asked err.old) (E.asked err.new))
         result }
 {
     let Some(file) = file_to_compile(words) else {
         return tell(err, 3, b"usage: sapic COMMAND ARGUMENTS\n");
     };
-    match shelf.fetch(alloc, file, MOST_BYTES) {
+    match fetched(alloc, shelf, file) {
         Ok(bytes) => deliver(alloc, &bytes, out, err),
         Err(ShelfFault::Failed) => tell(err, 4, b"read fault\n"),
         Err(ShelfFault::Mem) => last_word(err, 6, b"out of memory\n"),
@@ -93,13 +96,22 @@ fn file_to_compile(words: &Vec<String>) -> Option<&str>
     }
 }
 
+// Fetches the file, and nothing else.
+fn fetched<S: Shelf>(alloc: Global, shelf: &mut S, file: &str) -> Result<Vec<u8>, ShelfFault>
+    ensures told { IfOk result (λ v. IsFetched (S.holds shelf.old) file.now most_bytes v.items) }
+    ensures once { S.asked shelf.new ≡ one_more (S.asked shelf.old) }
+    ensures cause { IsErrOf result ShelfFault.Failed → Rose (S.faults shelf.old file.now) (S.faults shelf.new file.now) }
+{
+    shelf.fetch(alloc, file, MOST_BYTES)
+}
+
 // Puts the theory of the bytes on out, or on err why there is none.
 fn deliver<O: Sink, E: Sink>(alloc: Global, bytes: &[u8], out: &mut O, err: &mut E) -> u8
     ensures { (file : List ℕ) → Ended (IsAnswerTo (compile file) bytes.now)
         (stream (O.written out.old) (O.written out.new) (O.faults out.old) (O.faults out.new)
-        (O.asked out.old) (O.asked out.new))
+        (O.wants out.old) (O.wants out.new) (O.asked out.old) (O.asked out.new))
         (stream (E.written err.old) (E.written err.new) (E.faults err.old) (E.faults err.new)
-        (E.asked err.old) (E.asked err.new))
+        (E.wants err.old) (E.wants err.new) (E.asked err.old) (E.asked err.new))
         result }
 {
     match theory_text_of(alloc, bytes) {
@@ -111,11 +123,11 @@ fn deliver<O: Sink, E: Sink>(alloc: Global, bytes: &[u8], out: &mut O, err: &mut
 
 // Puts a text on out.
 fn give<O: Sink, E: Sink>(out: &mut O, err: &mut E, text: &[u8]) -> u8
-    ensures { IsPut (gives text.now)
+    ensures { text.now ≢ [] → IsPut (gives text.now)
         (stream (O.written out.old) (O.written out.new) (O.faults out.old) (O.faults out.new)
-        (O.asked out.old) (O.asked out.new))
+        (O.wants out.old) (O.wants out.new) (O.asked out.old) (O.asked out.new))
         (stream (E.written err.old) (E.written err.new) (E.faults err.old) (E.faults err.new)
-        (E.asked err.old) (E.asked err.new))
+        (E.wants err.old) (E.wants err.new) (E.asked err.old) (E.asked err.new))
         result }
 {
     match out.put(text) {
@@ -127,9 +139,9 @@ fn give<O: Sink, E: Sink>(out: &mut O, err: &mut E, text: &[u8]) -> u8
 
 // Puts the text of a status on err, and nothing on out.
 fn tell<E: Sink>(err: &mut E, status: u8, text: &[u8]) -> u8
-    ensures { (out : Stream) → Gained out [] → text.now ≢ [] → IsPut (tells status text.now) out
+    ensures { (out : Stream) → Gained out 0 [] → text.now ≢ [] → IsPut (tells status text.now) out
         (stream (E.written err.old) (E.written err.new) (E.faults err.old) (E.faults err.new)
-        (E.asked err.old) (E.asked err.new))
+        (E.wants err.old) (E.wants err.new) (E.asked err.old) (E.asked err.new))
         result }
 {
     match err.put(text) {
@@ -139,15 +151,19 @@ fn tell<E: Sink>(err: &mut E, status: u8, text: &[u8]) -> u8
     }
 }
 
-// Puts the text of a fault on err, where err still takes it.
-fn last_word<E: Sink>(err: &mut E, status: u8, text: &[u8]) -> u8
+// Puts the last word on err, where err still takes it.
+#[tactic(auto, using(crate::proofs::Appending::word_whole, crate::proofs::Appending::word_cut))]
+fn last_word<E: Sink>(err: &mut E, status: u8, word: &[u8]) -> u8
     ensures status { result ≡ status }
-    ensures some { AppendsSome (E.written err.old) (E.written err.new) text.now }
-    ensures later { E.faults err.old ≤ E.faults err.new }
-    ensures asked { text.now ≢ [] → E.asked err.new ≡ one_more (E.asked err.old) }
+    ensures faults { E.faults err.old ≤ E.faults err.new }
+    ensures wants { E.wants err.old ≤ E.wants err.new }
+    ensures asked { word.now ≢ [] → E.asked err.new ≡ one_more (E.asked err.old) }
+    ensures ends { (last : List ℕ) × Appends (E.written err.old) (E.written err.new) last
+        × IsLast (Rose (E.faults err.old) (E.faults err.new) ⊎ Rose (E.wants err.old) (E.wants err.new)) word.now last }
 {
-    match err.put(text) {
+    match err.put(word) {
         Ok(()) => status,
-        Err(_) => status,
+        Err(SinkFault::Failed) => status,
+        Err(SinkFault::Mem) => status,
     }
 }

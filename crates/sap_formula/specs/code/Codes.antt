@@ -3,9 +3,9 @@ use Rattle.std.specs.Prelude.{◌≡◌, ℕ, zero, suc, Bool, true, false, List
 use Rattle.std.proofs.Common.{ap}
 use Rattle.std.specs.Coded.{Coded, code_by, coded×, coded_ℕ, coded_list}
 use Rattle.sap_terms.specs.Tree.{Tree, variable, public, fresh, apply, Trees, none, more, trees_of, list_of, list_of-trees_of}
-use Rattle.sap_terms.specs.code.Codes.{tree_code}
+use Rattle.sap_terms.specs.Codes.{tree_code}
 use Rattle.sap_terms.specs.declared.fact.Fact.{Fact}
-use Rattle.sap_formula.specs.Form.{Form, truth, falsity, action, equal, same_place, earlier, negation, both, either, implies, equivalent, every, exists, RestrictionForm, LemmaForm}
+use Rattle.sap_formula.specs.Form.{Form, truth, falsity, action, equal, same_time, earlier, negation, both, either, implies, equivalent, every, exists, RestrictionForm, LemmaForm}
 use Rattle.sap_formula.specs.declared.binder.Binder.{Binder}
 use Rattle.sap_formula.specs.declared.binder.Binder.TheVariants.{Message, Time}
 use Rattle.sap_formula.specs.declared.lemma.Mode.{Mode}
@@ -54,7 +54,7 @@ two_to k a b = apply (k ∷ []) (more a (more b none))
 -- and back
 abbrev two_from : ℕ → Tree → Tree → Form → Form → Form
 two_from zero a b f g = equal a b
-two_from (suc zero) a b f g = same_place (name_in a) (name_in b)
+two_from (suc zero) a b f g = same_time (name_in a) (name_in b)
 two_from (suc (suc zero)) a b f g = earlier (name_in a) (name_in b)
 two_from (suc (suc (suc zero))) a b f g = both f g
 two_from (suc (suc (suc (suc zero)))) a b f g = either f g
@@ -67,7 +67,7 @@ form_to truth = fresh 0
 form_to falsity = fresh 1
 form_to (action f i) = apply (0 ∷ []) (more (public i) (more (fresh (flag_to f.persistent)) (more (apply f.name (trees_of f.args)) none)))
 form_to (equal s t) = two_to 0 s t
-form_to (same_place i j) = two_to 1 (public i) (public j)
+form_to (same_time i j) = two_to 1 (public i) (public j)
 form_to (earlier i j) = two_to 2 (public i) (public j)
 form_to (negation f) = apply (0 ∷ []) (more (form_to f) none)
 form_to (both f g) = two_to 3 (form_to f) (form_to g)
@@ -108,7 +108,7 @@ form_back falsity = refl
 form_back (action f i) =
     λ j. action (record { name = f.name; persistent = flag_back f.persistent j; args = list_of-trees_of f.args j }) i
 form_back (equal s t) = refl
-form_back (same_place i j) = refl
+form_back (same_time i j) = refl
 form_back (earlier i j) = refl
 form_back (negation f) = ap negation (form_back f)
 form_back (both f g) = λ i. both (form_back f i) (form_back g i)

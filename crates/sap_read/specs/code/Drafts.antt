@@ -34,4 +34,4 @@ written (If' t u a p b q) = test (tree t) (tree u) (written p) (written q)
 written (Lookup' t x a p b q) = lookup (tree t) x (written p) (written q)
 
 abbrev pub body : Definition → Body
-body e = record { label = e.label; content = written e.draft.value; place = e.line }
+body e = record { label = e.label; content = written e.draft.value; line = e.line }

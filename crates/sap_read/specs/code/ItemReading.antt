@@ -5,11 +5,11 @@ use Rattle.std.specs.Str.{bytes_eq}
 use Rattle.sap_terms.specs.declared.signature.Symbol.{Symbol}
 use Rattle.sap_terms.specs.declared.signature.Builtin.{Builtin}
 use Rattle.sap_terms.specs.declared.signature.Builtin.TheVariants.{Hashing, Symmetric, Asymmetric, Signing, RevealingSigning}
-use Rattle.sap_read.specs.Words.{Word, mark, name, number, quoted, starts, is_lower}
+use Rattle.sap_grammar.specs.Words.{Word, starts, is_lower}
+use Rattle.sap_grammar.specs.Reading.{Read, Reader, given, name_at, number_at, names}
 use Rattle.sap_read.specs.Item.{Declaration, of_builtin, of_symbol}
 use Rattle.sap_read.specs.Cut.{Placed, words, begins_item}
 use Rattle.sap_read.specs.ItemGrammar.{value}
-use Rattle.sap_read.specs.code.Reading.{Read, Reader, given, name_at}
 use Rattle.sap_terms.specs.declared.limits.TheConstants.{MOST_ARITY}
 
 -- no item begins here
@@ -35,15 +35,6 @@ abbrev pub cut : List Placed → List (List Placed)
 cut [] = []
 cut (p ∷ ps) = if starts_item ps then (p ∷ []) ∷ cut ps else joined p (cut ps)
 
--- it is this name
-abbrev pub is_name : List ℕ → Option (List ℕ) → Bool
-is_name x None = false
-is_name x (Some y) = bytes_eq y x
-
--- the first word is this name
-abbrev pub names : List ℕ → List Word → Bool
-names x ws = is_name x (name_at ws)
-
 -- behind the first name of a builtin: a dash and this name
 abbrev pub is_joined : List ℕ → List Word → Bool
 is_joined x ws = starts (codes "-") ws && names x (drop 1 ws)
@@ -59,17 +50,6 @@ builtin_at ws =
     else if is_joined (codes "signing") (drop 1 ws) then
     (if names (codes "revealing") ws then Some (RevealingSigning, drop 3 ws) else None)
     else None
-
-abbrev pub as_number : Word → Option (List ℕ)
-as_number (mark s) = None
-as_number (name s) = None
-as_number (number s) = Some s
-as_number (quoted s) = None
-
--- the number that stands first, by its digits
-abbrev pub number_at : List Word → Option (List ℕ)
-number_at [] = None
-number_at (w ∷ ws) = as_number w
 
 -- the value of these digits, where it is an arity
 abbrev pub arity_of_digits : List ℕ → Option ℕ
@@ -119,6 +99,10 @@ on_read (Some p) k = k p.0 p.1
 abbrev pub in_front : {A : Type 0} → List A → Option (List A) → Option (List A)
 in_front xs None = None
 in_front xs (Some ys) = Some (xs ++ ys)
+
+-- these, or nothing
+abbrev pub given_if : {A : Type 0} → Bool → A → Option A
+given_if t x = if t then Some x else None
 
 -- values with commas between them, to the last word; the number bounds the turns
 unfoldable pub whole_list : {A : Type 0} → Reader A → ℕ → List Word → Option (List A)

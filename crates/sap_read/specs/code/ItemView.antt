@@ -4,18 +4,17 @@ use Rattle.std.specs.Borrow.{Bor}
 use Rattle.std.specs.declared.alloc.Global.{Global}
 use Rattle.sap_terms.specs.Signature.{Sig}
 use Rattle.sap_terms.specs.declared.mem.Mem.{Mem}
-use Rattle.sap_terms.specs.declared.signature.Symbol as symbol
 use Rattle.sap_terms.specs.declared.signature.Builtin as builtin
 use Rattle.sap_text.specs.declared.token.Token.{Token}
 use Rattle.sap_read.specs.declared.declaration.Declaration as code
 use Rattle.sap_read.specs.declared.declaration.Declaration.TheVariants.{Builtin, Symbol}
 use Rattle.sap_read.specs.declared.draft.Definition.{Definition}
-use Rattle.sap_read.specs.Words.{word_of, words_of}
+use Rattle.sap_grammar.specs.Words.{word_of, words_of}
+use Rattle.sap_grammar.specs.Reading.{Read}
 use Rattle.sap_read.specs.Item.{Item, Declaration, of_builtin, of_symbol, Body, body_of}
 use Rattle.sap_read.specs.Cut.{Placed, placed, first_line}
 use Rattle.sap_read.specs.ItemGrammar.{IsItem, IsSomeItem}
 use Rattle.sap_read.specs.code.Drafts.{body}
-use Rattle.sap_read.specs.code.Reading.{Read}
 
 -- a declaration of the program's own type
 abbrev pub declaration : code.Declaration → Declaration
@@ -27,23 +26,17 @@ abbrev pub GivesBuiltin : List ℕ → Option (builtin.Builtin × Bor (List Toke
 GivesBuiltin bytes None read = read ≡ None
 GivesBuiltin bytes (Some p) read = read ≡ Some (p.0, words_of bytes p.1.now)
 
--- the same symbol
-abbrev pub GivesSymbol : List ℕ → Result (Option (symbol.Symbol × Bor (List Token))) Mem → Read symbol.Symbol → Type 0
-GivesSymbol bytes (Err e) read = ⊤
-GivesSymbol bytes (Ok None) read = read ≡ None
-GivesSymbol bytes (Ok (Some p)) read = read ≡ Some (p.0, words_of bytes p.1.now)
-
--- the same declaration
-abbrev pub GivesDeclaration : List ℕ → Result (Option (code.Declaration × Bor (List Token))) Mem → Read Declaration → Type 0
-GivesDeclaration bytes (Err e) read = ⊤
-GivesDeclaration bytes (Ok None) read = read ≡ None
-GivesDeclaration bytes (Ok (Some p)) read = read ≡ Some (declaration p.0, words_of bytes p.1.now)
-
 -- the same declarations
 abbrev pub GivesDeclarations : Result (Option (Vec code.Declaration Global)) Mem → Option (List Declaration) → Type 0
 GivesDeclarations (Err e) read = ⊤
 GivesDeclarations (Ok None) read = read ≡ None
 GivesDeclarations (Ok (Some ds)) read = read ≡ Some (map declaration ds.items)
+
+-- the declaration that was read stands last, and these are the tokens behind it
+abbrev pub IsNext : List ℕ → Result (Option (Bor (List Token))) Mem → Read Declaration → List code.Declaration → List code.Declaration → Type 0
+IsNext bytes (Err e) read before after = ⊤
+IsNext bytes (Ok None) read before after = read ≡ None
+IsNext bytes (Ok (Some r)) read before after = (d : Declaration) × (read ≡ Some (d, words_of bytes r.now)) × (map declaration after ≡ map declaration before ++ d ∷ [])
 
 -- the word of a token on its line
 abbrev pub placed_token : List ℕ → Token → Placed

@@ -1,7 +1,7 @@
 -- What is said of a header, and of the items behind it.
 use Rattle.std.specs.Prelude.{◌≡◌, ◌⊎◌, ◌&&◌, ℕ, codes, drop, if◌then◌else◌, List, [], Option, Some, None}
-use Rattle.sap_read.specs.Words.{Word, starts}
-use Rattle.sap_read.specs.code.Reading.{name_at}
+use Rattle.sap_grammar.specs.Words.{Word, starts}
+use Rattle.sap_grammar.specs.Reading.{name_at}
 use Rattle.sap_terms.specs.Signature.{Sig}
 use Rattle.sap_process.specs.Proc.{Proc}
 use Rattle.sap_process.specs.Flaws.{IsFirstFlaw, IsWellFormed}

@@ -1,5 +1,5 @@
 -- What names of processes mean, and what the program keeps of it.
-use Rattle.std.specs.Prelude.{◌≡◌, ℕ, ◌+◌, ◌-◌, ◌^◌, max, min, Bool, true, false, List, [], ◌∷◌, Option, Some, None, if◌then◌else◌, map, drop, slice_get, is_some, nat_lt}
+use Rattle.std.specs.Prelude.{◌≡◌, ℕ, ◌+◌, ◌-◌, ◌^◌, max, min, Bool, true, false, ⊤, List, [], ◌∷◌, Option, Some, None, if◌then◌else◌, map, drop, slice_get, is_some, nat_lt}
 use Rattle.std.specs.Str.{bytes_eq}
 use Rattle.indexmap.specs.IndexMap.{IndexMap, get}
 use Rattle.sap_process.specs.Proc as whole
@@ -61,29 +61,29 @@ abbrev pub unknown_among : {S : Type 0} → IndexMap (List ℕ) Meant S → List
 unknown_among names [] = None
 unknown_among names (x ∷ xs) = if is_some (get bytes_eq names x) then unknown_among names xs else Some x
 
--- the place that is kept of the name that a process is, else this place
-abbrev pub place_kept : ℕ → Option Meant → ℕ
-place_kept k None = k
-place_kept k (Some m) = m.place
+-- the index that is kept of the name that a process is, else this index
+abbrev pub index_kept : ℕ → Option Meant → ℕ
+index_kept k None = k
+index_kept k (Some m) = m.index
 
 abbrev pub target : {S : Type 0} → IndexMap (List ℕ) Meant S → ℕ → Written → ℕ
 target names k nil = k
-target names k (call x) = place_kept k (get bytes_eq names x)
+target names k (call x) = index_kept k (get bytes_eq names x)
 target names k (parallel p q) = k
 target names k (replicated p) = k
 target names k (act a p) = k
 target names k (test t u p q) = k
 target names k (lookup t x p q) = k
 
--- what is kept of the name of the process at this place
+-- what is kept of the name of the process at this index
 abbrev pub meant : {S : Type 0} → IndexMap (List ℕ) Meant S → ℕ → Written → Meant
 meant names k w = record {
-  place = target names k w;
+  index = target names k w;
   nodes = min (nodes_in names w) (2 ^ 64 - 1);
   levels = min (levels_in names w) (2 ^ 64 - 1);
 }
 
--- what is kept of a name behind the process at this place
+-- what is kept of a name behind the process at this index
 abbrev pub kept_behind : {S : Type 0} → IndexMap (List ℕ) Meant S → ℕ → Option (List ℕ) → Written → List ℕ → Option Meant
 kept_behind names k None w x = get bytes_eq names x
 kept_behind names k (Some y) w x = if bytes_eq y x then Some (meant names k w) else get bytes_eq names x
@@ -102,7 +102,25 @@ is_call (act a p) = false
 is_call (test t u p q) = false
 is_call (lookup t x p q) = false
 
--- the process at this place is no name, and is what the name means
+-- it is no name, or one that means `0`
+abbrev pub IsFormed : (List ℕ → Proc) → Written → Type 0
+IsFormed means (call x) = means x ≡ whole.nil
+IsFormed means w = ⊤
+
+-- its form over this process, where one stands below it
+abbrev pub with_one : Written → Proc → Proc
+with_one (replicated p) r = whole.replicated r
+with_one (act a p) r = whole.act a r
+with_one w r = whole.nil
+
+-- its form over these processes, where two stand below it
+abbrev pub with_two : Written → Proc → Proc → Proc
+with_two (parallel p q) r s = whole.parallel r s
+with_two (test t u p q) r s = whole.test t u r s
+with_two (lookup t x p q) r s = whole.lookup t x r s
+with_two w r s = whole.nil
+
+-- the process at this index is no name, and is what the name means
 abbrev pub IsTarget : (List ℕ → Proc) → List Definition → List ℕ → ℕ → Type 0
 IsTarget means es x k = (e : Definition) × (slice_get es k ≡ Some e) × (is_call (written e.draft.value) ≡ false) × (means x ≡ replaced means (written e.draft.value))
 
@@ -113,7 +131,7 @@ AreCounted names means = (x : List ℕ) → IsCounted (get bytes_eq names x) (me
 -- each name of which something is kept has its target, if each means what its process is
 abbrev pub AreTargets : {S : Type 0} → List Definition → IndexMap (List ℕ) Meant S → Type 0
 AreTargets es names =
-    (means : List ℕ → Proc) → AreMeant means (map body es) → (x : List ℕ) (m : Meant) → get bytes_eq names x ≡ Some m → IsTarget means es x m.place
+    (means : List ℕ → Proc) → AreMeant means (map body es) → (x : List ℕ) (m : Meant) → get bytes_eq names x ≡ Some m → IsTarget means es x m.index
 
 -- what is kept of names behind the first processes of a file
 pub record AreBehind {S : Type 0} (es : List Definition) (k : ℕ) (names : IndexMap (List ℕ) Meant S) : Type 0 where
@@ -127,7 +145,7 @@ pub record AreBehind {S : Type 0} (es : List Definition) (k : ℕ) (names : Inde
 -- what is kept of a name tells what it means: that of its target, and `0` where nothing is kept
 abbrev pub IsExpanded : List Definition → List ℕ → Option Meant → Type 0
 IsExpanded es x None = meaning_of es x ≡ whole.nil
-IsExpanded es x (Some m) = IsTarget (meaning_of es) es x m.place
+IsExpanded es x (Some m) = IsTarget (meaning_of es) es x m.index
 
 abbrev pub AreExpanded : {S : Type 0} → List Definition → IndexMap (List ℕ) Meant S → Type 0
 AreExpanded es names = (x : List ℕ) → IsExpanded es x (get bytes_eq names x)

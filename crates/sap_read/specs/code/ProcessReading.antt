@@ -4,53 +4,30 @@ use Rattle.std.specs.Str.{bytes_eq}
 use Rattle.sap_terms.specs.declared.fact.Fact.{Fact}
 use Rattle.sap_terms.specs.declared.var.Sort.{Sort}
 use Rattle.sap_terms.specs.declared.var.Sort.TheVariants.{Msg, Fresh}
-use Rattle.sap_terms.specs.Tree.{Tree, level_count}
+use Rattle.sap_terms.specs.Tree.{Tree}
 use Rattle.sap_terms.specs.Signature.{Sig}
-use Rattle.sap_read.specs.Words.{Word, mark, name, number, quoted, starts}
-use Rattle.sap_read.specs.Places.{fact_levels}
-use Rattle.sap_read.specs.code.Reading.{Read, Reader, after, given, name_at, listed, term, fact_at}
+use Rattle.sap_grammar.specs.declared.limits.Limits.{Limits}
+use Rattle.sap_grammar.specs.Words.{Word, starts}
+use Rattle.sap_grammar.specs.Reading.{Read, Reader, after, given, name_at, starts_zero}
+use Rattle.sap_grammar.specs.TermReading.{short_term, short_fact, facts}
 use Rattle.sap_read.specs.ProcessGrammar.{var}
 use Rattle.sap_process.specs.Action.{Action, new, out, send, input, receive, event, insert, delete, lock, unlock, embedded}
 use Rattle.sap_read.specs.Written.{Written, nil, call, parallel, replicated, act, test, lookup}
 
-abbrev pub is_zero : Word → Bool
-is_zero (mark s) = false
-is_zero (name s) = false
-is_zero (number s) = bytes_eq s (codes "0")
-is_zero (quoted s) = false
-
--- the first word is the number 0
-abbrev pub starts_zero : List Word → Bool
-starts_zero [] = false
-starts_zero (w ∷ ws) = is_zero w
-
 -- goes on behind this mark
 unfoldable pub past : {B : Type 0} → List ℕ → List Word → Reader B → Read B
 past m ws k = if starts m ws then k (drop 1 ws) else None
-
--- a term within the levels
-abbrev pub short_term : Sig → ℕ → Reader Tree
-short_term g m ws = after (term g m ws) (λ t r. if nat_le (level_count t) m then Some (t, r) else None)
-
--- a fact within the levels, persistent only where that is allowed
-abbrev pub short_fact : Sig → ℕ → Bool → Reader Fact
-short_fact g m allowed ws = after (fact_at (term g m) ws) (λ f r.
-    if nat_le (fact_levels f) m then (if f.persistent && not allowed then None else Some (f, r)) else None)
-
--- facts up to the closing mark
-abbrev pub facts : Sig → ℕ → Bool → List ℕ → Reader (List Fact)
-facts g m allowed closing = listed closing (short_fact g m allowed)
 
 -- this mark behind what is read already
 abbrev pub up_to : {A : Type 0} → List ℕ → A → Reader A
 up_to m v ws = past m ws (λ r. Some (v, r))
 
 -- a comma, the second of two terms, and a closing parenthesis
-abbrev pub second_term : Sig → ℕ → (Tree → Tree → Action) → Tree → Reader Action
+abbrev pub second_term : Sig → Limits → (Tree → Tree → Action) → Tree → Reader Action
 second_term g m two t ws = past (codes ",") ws (λ r. after (short_term g m r) (λ u z. up_to (codes ")") (two t u) z))
 
 -- one term or two in parentheses
-abbrev pub channel : Sig → ℕ → (Tree → Action) → (Tree → Tree → Action) → Reader Action
+abbrev pub channel : Sig → Limits → (Tree → Action) → (Tree → Tree → Action) → Reader Action
 channel g m one two ws = past (codes "(") ws (λ r. after (short_term g m r) (λ t z.
     if starts (codes ")") z then Some (one t, drop 1 z) else second_term g m two t z))
 
@@ -62,35 +39,35 @@ abbrev pub bound : Reader Action
 bound ws = if starts (codes "~") ws then bound_as Fresh (drop 1 ws) else bound_as Msg ws
 
 -- the right side of an embedded rule
-abbrev pub right_side : Sig → ℕ → List Fact → List Fact → Reader Action
+abbrev pub right_side : Sig → Limits → List Fact → List Fact → Reader Action
 right_side g m l e ws = past (codes "[") ws (λ r. after (facts g m true (codes "]") r) (λ fs z. Some (embedded l e fs, z)))
 
 -- the facts that an embedded rule shows, and its right side
-abbrev pub shown_facts : Sig → ℕ → List Fact → Reader Action
+abbrev pub shown_facts : Sig → Limits → List Fact → Reader Action
 shown_facts g m l ws = past (codes "--[") ws (λ r. after (facts g m false (codes "]->") r) (λ e z. right_side g m l e z))
 
-abbrev pub embedded_rule : Sig → ℕ → Reader Action
+abbrev pub embedded_rule : Sig → Limits → Reader Action
 embedded_rule g m ws = after (facts g m true (codes "]") ws) (λ l r.
     if starts (codes "-->") r then right_side g m l [] (drop 1 r) else shown_facts g m l r)
 
 -- behind `event`
-abbrev pub shown_event : Sig → ℕ → Reader Action
+abbrev pub shown_event : Sig → Limits → Reader Action
 shown_event g m ws = after (short_fact g m false ws) (λ f r. Some (event f, r))
 
 -- what is inserted at this key
-abbrev pub inserted_at : Sig → ℕ → Tree → Reader Action
+abbrev pub inserted_at : Sig → Limits → Tree → Reader Action
 inserted_at g m t ws = past (codes ",") ws (λ r. after (short_term g m r) (λ u z. Some (insert t u, z)))
 
 -- behind `insert`
-abbrev pub inserted : Sig → ℕ → Reader Action
+abbrev pub inserted : Sig → Limits → Reader Action
 inserted g m ws = after (short_term g m ws) (λ t r. inserted_at g m t r)
 
 -- what is done with one term
-abbrev pub on_term : Sig → ℕ → (Tree → Action) → Reader Action
+abbrev pub on_term : Sig → Limits → (Tree → Action) → Reader Action
 on_term g m made ws = after (short_term g m ws) (λ t r. Some (made t, r))
 
 -- what changes the store, holds a term or lets it go, and an embedded rule
-abbrev pub state_action : Sig → ℕ → Reader Action
+abbrev pub state_action : Sig → Limits → Reader Action
 state_action g m ws =
     if starts (codes "insert") ws then inserted g m (drop 1 ws)
     else if starts (codes "delete") ws then on_term g m delete (drop 1 ws)
@@ -98,7 +75,7 @@ state_action g m ws =
     else if starts (codes "unlock") ws then on_term g m (λ t. unlock t 0) (drop 1 ws)
     else past (codes "[") ws (embedded_rule g m)
 
-abbrev pub action_of : Sig → ℕ → Reader Action
+abbrev pub action_of : Sig → Limits → Reader Action
 action_of g m ws =
     if starts (codes "new") ws then bound (drop 1 ws)
     else if starts (codes "out") ws then channel g m out send (drop 1 ws)
@@ -124,14 +101,14 @@ branches seq made ws = after (seq ws) (λ p r.
     if starts (codes "else") r then second_branch seq made p (drop 1 r) else Some ((made p.0 nil, max p.1 1 + 1), r))
 
 -- behind the first of two terms that are compared
-abbrev pub equality : Sig → ℕ → Tree → Reader Choosing
+abbrev pub equality : Sig → Limits → Tree → Reader Choosing
 equality g m t ws = past (codes "=") ws (λ r. after (short_term g m r) (λ u z. up_to (codes "then") (test t u) z))
 
 -- behind `if`, up to the first branch
-abbrev pub compared : Sig → ℕ → Reader Choosing
+abbrev pub compared : Sig → Limits → Reader Choosing
 compared g m ws = after (short_term g m ws) (λ t r. equality g m t r)
 
-abbrev pub condition : Sig → ℕ → Reader Levelled → Reader Levelled
+abbrev pub condition : Sig → Limits → Reader Levelled → Reader Levelled
 condition g m seq ws = after (compared g m ws) (λ made r. branches seq made r)
 
 -- behind the name in a lookup
@@ -143,10 +120,10 @@ abbrev pub entry : Tree → Reader Choosing
 entry t ws = past (codes "as") ws (λ r. given (name_at r) (λ x. found t x (drop 1 r)))
 
 -- behind `lookup`, up to the first branch
-abbrev pub looked_up : Sig → ℕ → Reader Choosing
+abbrev pub looked_up : Sig → Limits → Reader Choosing
 looked_up g m ws = after (short_term g m ws) (λ t r. entry t r)
 
-abbrev pub looking : Sig → ℕ → Reader Levelled → Reader Levelled
+abbrev pub looking : Sig → Limits → Reader Levelled → Reader Levelled
 looking g m seq ws = after (looked_up g m ws) (λ made r. branches seq made r)
 
 -- behind an action; a missing continuation has one level too
@@ -156,7 +133,7 @@ going_on seq d x ws =
     else if nat_le 1 d then Some ((act x nil, 2), ws) else None
 
 -- the name of a process, or what an action begins
-abbrev pub call_or_action : Sig → ℕ → Reader Levelled → ℕ → Option (List ℕ) → Reader Levelled
+abbrev pub call_or_action : Sig → Limits → Reader Levelled → ℕ → Option (List ℕ) → Reader Levelled
 call_or_action g m seq d (Some x) ws = Some ((call x, 1), drop 1 ws)
 call_or_action g m seq d None ws = after (action_of g m ws) (going_on seq d)
 
@@ -168,7 +145,7 @@ enclosed par ws = after (par ws) (λ p r. past (codes ")") r (λ z. Some ((p.0, 
 abbrev pub repeated : Reader Levelled → Reader Levelled
 repeated seq ws = after (seq ws) (λ p r. Some ((replicated p.0, p.1 + 1), r))
 
-abbrev pub seq_at : Sig → ℕ → Reader Levelled → Reader Levelled → ℕ → Reader Levelled
+abbrev pub seq_at : Sig → Limits → Reader Levelled → Reader Levelled → ℕ → Reader Levelled
 seq_at g m seq par d ws =
     if starts (codes "(") ws then enclosed par (drop 1 ws)
     else if starts (codes "!") ws then repeated seq (drop 1 ws)
@@ -190,10 +167,10 @@ abbrev pub par_at : Reader Levelled → Reader Levelled → ℕ → Reader Level
 par_at here par d ws = after (here ws) (λ p r. if starts_bar r then (if nat_le p.1 d then beside par p (drop 1 r) else None) else Some (p, r))
 
 unfoldable mutual
-  pub seq : Sig → ℕ → ℕ → Reader Levelled
+  pub seq : Sig → Limits → ℕ → Reader Levelled
   seq g m zero = λ ws. None
   seq g m (suc d) = seq_at g m (seq g m d) (par g m d) d
 
-  pub par : Sig → ℕ → ℕ → Reader Levelled
+  pub par : Sig → Limits → ℕ → Reader Levelled
   par g m zero = λ ws. None
   par g m (suc d) = par_at (seq_at g m (seq g m d) (par g m d) d) (par g m d) d

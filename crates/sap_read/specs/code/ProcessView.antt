@@ -16,23 +16,11 @@ use Rattle.sap_read.specs.declared.process.build.Branching.{Branching}
 use Rattle.sap_read.specs.declared.process.build.Branching.TheVariants.{Equality, Lookup}
 use Rattle.sap_read.specs.declared.draft.Doing.{Doing}
 use Rattle.sap_read.specs.declared.draft.Draft.{Draft}
-use Rattle.sap_read.specs.Words.{words_of}
+use Rattle.sap_grammar.specs.Words.{words_of}
+use Rattle.sap_grammar.specs.Reading.{Read}
 use Rattle.sap_read.specs.Written.{Written, test, lookup}
-use Rattle.sap_read.specs.code.Reading.{Read}
 use Rattle.sap_read.specs.code.ProcessReading.{Levelled, Choosing}
 use Rattle.sap_read.specs.code.Drafts.{doing, written}
-
--- the same facts and the words of the tokens behind them
-abbrev pub GivesFacts : List ℕ → Result (Option (List Fact × Bor (List Token))) Mem → Read (List Fact) → Type 0
-GivesFacts bytes (Err e) read = ⊤
-GivesFacts bytes (Ok None) read = read ≡ None
-GivesFacts bytes (Ok (Some p)) read = read ≡ Some (p.0, words_of bytes p.1.now)
-
--- the same action
-abbrev pub GivesAction : List ℕ → Result (Option (Box Doing × Bor (List Token))) Mem → Read Action → Type 0
-GivesAction bytes (Err e) read = ⊤
-GivesAction bytes (Ok None) read = read ≡ None
-GivesAction bytes (Ok (Some p)) read = read ≡ Some (doing p.0.value, words_of bytes p.1.now)
 
 -- the same process with the same levels
 abbrev pub GivesDraft : List ℕ → Result (Option (Box Draft × ℕ × Bor (List Token))) Mem → Read Levelled → Type 0
@@ -59,9 +47,3 @@ on_one Unlock = λ t. unlock t 0
 abbrev pub chosen : Branching → Written → Written → Written
 chosen (Equality t u) = test (tree t) (tree u)
 chosen (Lookup t x) = lookup (tree t) x
-
--- the same way to put two branches together
-abbrev pub GivesChoice : List ℕ → Result (Option (Box Branching × Bor (List Token))) Mem → Read Choosing → Type 0
-GivesChoice bytes (Err e) read = ⊤
-GivesChoice bytes (Ok None) read = read ≡ None
-GivesChoice bytes (Ok (Some p)) read = read ≡ Some (chosen p.0.value, words_of bytes p.1.now)

@@ -1,15 +1,16 @@
 //! What a process does before it goes on.
 ghost use Rattle.std.specs.Prelude.{◌≡◌, codes, IfOk};
 ghost use Rattle.sap_terms.specs.View.{tree};
-ghost use Rattle.sap_read.specs.Words.{words_of};
+ghost use Rattle.sap_grammar.specs.Words.{words_of};
+ghost use Rattle.sap_grammar.specs.Reading.{Gives};
 ghost use Rattle.sap_read.specs.code.ProcessReading.{channel, shown_facts, shown_event, up_to, second_term, bound_as, bound, right_side, embedded_rule, inserted_at, inserted, on_term, state_action, action_of};
-ghost use Rattle.sap_read.specs.code.ProcessView.{GivesAction, to_adversary, on_channel, on_one};
+ghost use Rattle.sap_read.specs.code.ProcessView.{to_adversary, on_channel, on_one};
 ghost use Rattle.sap_read.specs.code.Drafts.{doing};
-ghost use Rattle.sap_terms.specs.declared.limits.TheConstants.{MOST_TERM_LEVELS};
+ghost use Rattle.sap_read.specs.declared.limits.TheConstants.{FILE_LIMITS};
 
 use crate::draft::Doing;
-use crate::look::{beyond, name_at, starts};
 use crate::process::parts::{read_facts, read_short_fact, read_short_term};
+use sap_grammar::{beyond, name_at, starts};
 use sap_terms::{FactList, Mem, Name, Signature, Sort, Term, Var};
 use sap_text::Token;
 use std::alloc::Global;
@@ -64,27 +65,24 @@ fn on_one(alloc: Global, deed: Deed, term: Term) -> Result<Box<Doing>, Mem>
     }
 }
 
+// What is done, where a closing parenthesis stands first.
 #[tactic(auto, using(crate::proofs::Steps::steps), unfolding(crate::specs::code::ProcessReading::past))]
 fn read_close<'a>(
-    alloc: Global,
     bytes: &[u8],
-    way: Way,
-    channel: Term,
-    message: Term,
+    first: Box<Doing>,
     tokens: &'a [Token],
 ) -> Result<Option<(Box<Doing>, &'a [Token])>, Mem>
-    ensures { GivesAction bytes.now result (up_to (codes ")") (on_channel way (tree channel)
-        (tree message)) (words_of bytes.now tokens.now)) }
+    ensures { Gives bytes.now (λ d. doing d.value) result (up_to (codes ")") (doing first.value)
+        (words_of bytes.now tokens.now)) }
 {
     if starts(bytes, tokens, ")") {
-        let doing = on_channel(alloc, way, channel, message)?;
-        Ok(Some((doing, beyond(1, tokens))))
+        Ok(Some((first, beyond(1, tokens))))
     } else {
         Ok(None)
     }
 }
 
-#[tactic(auto, using(crate::proofs::Steps::steps), unfolding(crate::specs::code::Reading::after, crate::specs::code::ProcessReading::past))]
+#[tactic(auto, using(crate::proofs::Steps::steps), unfolding(sap_grammar::specs::Reading::after, crate::specs::code::ProcessReading::past))]
 fn read_message<'a>(
     alloc: Global,
     sig: &Signature,
@@ -93,7 +91,7 @@ fn read_message<'a>(
     channel: Term,
     tokens: &'a [Token],
 ) -> Result<Option<(Box<Doing>, &'a [Token])>, Mem>
-    ensures { GivesAction bytes.now result (second_term sig.now MOST_TERM_LEVELS (on_channel way)
+    ensures { Gives bytes.now (λ d. doing d.value) result (second_term sig.now FILE_LIMITS (on_channel way)
         (tree channel) (words_of bytes.now tokens.now)) }
 {
     if !starts(bytes, tokens, ",") {
@@ -101,11 +99,14 @@ fn read_message<'a>(
     }
     match read_short_term(alloc, sig, bytes, beyond(1, tokens))? {
         None => Ok(None),
-        Some((message, rest)) => read_close(alloc, bytes, way, channel, message, rest),
+        Some((message, rest)) => {
+            let first = on_channel(alloc, way, channel, message)?;
+            read_close(bytes, first, rest)
+        }
     }
 }
 
-#[tactic(auto, using(crate::proofs::Steps::steps), unfolding(crate::specs::code::Reading::after, crate::specs::code::ProcessReading::past))]
+#[tactic(auto, using(crate::proofs::Steps::steps), unfolding(sap_grammar::specs::Reading::after, crate::specs::code::ProcessReading::past))]
 fn read_channel<'a>(
     alloc: Global,
     sig: &Signature,
@@ -113,7 +114,7 @@ fn read_channel<'a>(
     way: Way,
     tokens: &'a [Token],
 ) -> Result<Option<(Box<Doing>, &'a [Token])>, Mem>
-    ensures { GivesAction bytes.now result (channel sig.now MOST_TERM_LEVELS (to_adversary way)
+    ensures { Gives bytes.now (λ d. doing d.value) result (channel sig.now FILE_LIMITS (to_adversary way)
         (on_channel way) (words_of bytes.now tokens.now)) }
 {
     if !starts(bytes, tokens, "(") {
@@ -132,14 +133,14 @@ fn read_channel<'a>(
     }
 }
 
-#[tactic(auto, using(crate::proofs::Steps::steps), unfolding(crate::specs::code::Reading::given))]
+#[tactic(auto, using(crate::proofs::Steps::steps), unfolding(sap_grammar::specs::Reading::given))]
 fn read_bound_as<'a>(
     alloc: Global,
     bytes: &[u8],
     sort: Sort,
     tokens: &'a [Token],
 ) -> Result<Option<(Box<Doing>, &'a [Token])>, Mem>
-    ensures { GivesAction bytes.now result (bound_as sort (words_of bytes.now tokens.now)) }
+    ensures { Gives bytes.now (λ d. doing d.value) result (bound_as sort (words_of bytes.now tokens.now)) }
 {
     match name_at(bytes, tokens) {
         None => Ok(None),
@@ -157,7 +158,7 @@ fn read_bound<'a>(
     bytes: &[u8],
     tokens: &'a [Token],
 ) -> Result<Option<(Box<Doing>, &'a [Token])>, Mem>
-    ensures { GivesAction bytes.now result (bound (words_of bytes.now tokens.now)) }
+    ensures { Gives bytes.now (λ d. doing d.value) result (bound (words_of bytes.now tokens.now)) }
 {
     if starts(bytes, tokens, "~") {
         read_bound_as(alloc, bytes, Sort::Fresh, beyond(1, tokens))
@@ -166,7 +167,7 @@ fn read_bound<'a>(
     }
 }
 
-#[tactic(auto, using(crate::proofs::Steps::steps), unfolding(crate::specs::code::Reading::after, crate::specs::code::ProcessReading::past))]
+#[tactic(auto, using(crate::proofs::Steps::steps), unfolding(sap_grammar::specs::Reading::after, crate::specs::code::ProcessReading::past))]
 fn read_right_side<'a>(
     alloc: Global,
     sig: &Signature,
@@ -175,7 +176,7 @@ fn read_right_side<'a>(
     shown: FactList,
     tokens: &'a [Token],
 ) -> Result<Option<(Box<Doing>, &'a [Token])>, Mem>
-    ensures { GivesAction bytes.now result (right_side sig.now MOST_TERM_LEVELS taken shown
+    ensures { Gives bytes.now (λ d. doing d.value) result (right_side sig.now FILE_LIMITS taken shown
         (words_of bytes.now tokens.now)) }
 {
     if !starts(bytes, tokens, "[") {
@@ -190,7 +191,7 @@ fn read_right_side<'a>(
     }
 }
 
-#[tactic(auto, using(crate::proofs::Steps::steps), unfolding(crate::specs::code::Reading::after, crate::specs::code::ProcessReading::past))]
+#[tactic(auto, using(crate::proofs::Steps::steps), unfolding(sap_grammar::specs::Reading::after, crate::specs::code::ProcessReading::past))]
 fn read_shown<'a>(
     alloc: Global,
     sig: &Signature,
@@ -198,7 +199,7 @@ fn read_shown<'a>(
     taken: FactList,
     tokens: &'a [Token],
 ) -> Result<Option<(Box<Doing>, &'a [Token])>, Mem>
-    ensures { GivesAction bytes.now result (shown_facts sig.now MOST_TERM_LEVELS taken
+    ensures { Gives bytes.now (λ d. doing d.value) result (shown_facts sig.now FILE_LIMITS taken
         (words_of bytes.now tokens.now)) }
 {
     if !starts(bytes, tokens, "--[") {
@@ -210,14 +211,14 @@ fn read_shown<'a>(
     }
 }
 
-#[tactic(auto, using(crate::proofs::Steps::steps), unfolding(crate::specs::code::Reading::after, crate::specs::code::ProcessReading::past))]
+#[tactic(auto, using(crate::proofs::Steps::steps), unfolding(sap_grammar::specs::Reading::after, crate::specs::code::ProcessReading::past))]
 fn read_rule<'a>(
     alloc: Global,
     sig: &Signature,
     bytes: &[u8],
     tokens: &'a [Token],
 ) -> Result<Option<(Box<Doing>, &'a [Token])>, Mem>
-    ensures { GivesAction bytes.now result (embedded_rule sig.now MOST_TERM_LEVELS
+    ensures { Gives bytes.now (λ d. doing d.value) result (embedded_rule sig.now FILE_LIMITS
         (words_of bytes.now tokens.now)) }
 {
     let Some((taken, rest)) = read_facts(alloc, sig, bytes, true, "]", tokens)? else {
@@ -237,14 +238,14 @@ fn read_rule<'a>(
     }
 }
 
-#[tactic(auto, using(crate::proofs::Steps::steps), unfolding(crate::specs::code::Reading::after))]
+#[tactic(auto, using(crate::proofs::Steps::steps), unfolding(sap_grammar::specs::Reading::after))]
 fn read_event<'a>(
     alloc: Global,
     sig: &Signature,
     bytes: &[u8],
     tokens: &'a [Token],
 ) -> Result<Option<(Box<Doing>, &'a [Token])>, Mem>
-    ensures { GivesAction bytes.now result (shown_event sig.now MOST_TERM_LEVELS
+    ensures { Gives bytes.now (λ d. doing d.value) result (shown_event sig.now FILE_LIMITS
         (words_of bytes.now tokens.now)) }
 {
     match read_short_fact(alloc, sig, bytes, false, tokens)? {
@@ -256,7 +257,7 @@ fn read_event<'a>(
     }
 }
 
-#[tactic(auto, using(crate::proofs::Steps::steps), unfolding(crate::specs::code::Reading::after, crate::specs::code::ProcessReading::past))]
+#[tactic(auto, using(crate::proofs::Steps::steps), unfolding(sap_grammar::specs::Reading::after, crate::specs::code::ProcessReading::past))]
 fn read_value<'a>(
     alloc: Global,
     sig: &Signature,
@@ -264,7 +265,7 @@ fn read_value<'a>(
     key: Term,
     tokens: &'a [Token],
 ) -> Result<Option<(Box<Doing>, &'a [Token])>, Mem>
-    ensures { GivesAction bytes.now result (inserted_at sig.now MOST_TERM_LEVELS (tree key)
+    ensures { Gives bytes.now (λ d. doing d.value) result (inserted_at sig.now FILE_LIMITS (tree key)
         (words_of bytes.now tokens.now)) }
 {
     if !starts(bytes, tokens, ",") {
@@ -279,14 +280,14 @@ fn read_value<'a>(
     }
 }
 
-#[tactic(auto, using(crate::proofs::Steps::steps), unfolding(crate::specs::code::Reading::after))]
+#[tactic(auto, using(crate::proofs::Steps::steps), unfolding(sap_grammar::specs::Reading::after))]
 fn read_insert<'a>(
     alloc: Global,
     sig: &Signature,
     bytes: &[u8],
     tokens: &'a [Token],
 ) -> Result<Option<(Box<Doing>, &'a [Token])>, Mem>
-    ensures { GivesAction bytes.now result (inserted sig.now MOST_TERM_LEVELS
+    ensures { Gives bytes.now (λ d. doing d.value) result (inserted sig.now FILE_LIMITS
         (words_of bytes.now tokens.now)) }
 {
     match read_short_term(alloc, sig, bytes, tokens)? {
@@ -295,7 +296,7 @@ fn read_insert<'a>(
     }
 }
 
-#[tactic(auto, using(crate::proofs::Steps::steps), unfolding(crate::specs::code::Reading::after))]
+#[tactic(auto, using(crate::proofs::Steps::steps), unfolding(sap_grammar::specs::Reading::after))]
 fn read_deed<'a>(
     alloc: Global,
     sig: &Signature,
@@ -303,7 +304,7 @@ fn read_deed<'a>(
     deed: Deed,
     tokens: &'a [Token],
 ) -> Result<Option<(Box<Doing>, &'a [Token])>, Mem>
-    ensures { GivesAction bytes.now result (on_term sig.now MOST_TERM_LEVELS (on_one deed)
+    ensures { Gives bytes.now (λ d. doing d.value) result (on_term sig.now FILE_LIMITS (on_one deed)
         (words_of bytes.now tokens.now)) }
 {
     match read_short_term(alloc, sig, bytes, tokens)? {
@@ -322,7 +323,7 @@ fn read_state_action<'a>(
     bytes: &[u8],
     tokens: &'a [Token],
 ) -> Result<Option<(Box<Doing>, &'a [Token])>, Mem>
-    ensures { GivesAction bytes.now result (state_action sig.now MOST_TERM_LEVELS
+    ensures { Gives bytes.now (λ d. doing d.value) result (state_action sig.now FILE_LIMITS
         (words_of bytes.now tokens.now)) }
 {
     let next = beyond(1, tokens);
@@ -349,7 +350,7 @@ pub fn read_action<'a>(
     bytes: &[u8],
     tokens: &'a [Token],
 ) -> Result<Option<(Box<Doing>, &'a [Token])>, Mem>
-    ensures { GivesAction bytes.now result (action_of sig.now MOST_TERM_LEVELS
+    ensures { Gives bytes.now (λ d. doing d.value) result (action_of sig.now FILE_LIMITS
         (words_of bytes.now tokens.now)) }
 {
     let next = beyond(1, tokens);

@@ -1,39 +1,37 @@
 //! By what a process chooses, read up to its first branch.
-ghost use Rattle.std.specs.Prelude.{codes};
 ghost use Rattle.sap_terms.specs.View.{tree};
-ghost use Rattle.sap_read.specs.Written.{test};
-ghost use Rattle.sap_read.specs.Words.{words_of};
+ghost use Rattle.sap_grammar.specs.Words.{words_of};
+ghost use Rattle.sap_grammar.specs.Reading.{Gives};
 ghost use Rattle.sap_read.specs.code.ProcessReading.{up_to, equality, compared, found, entry, looked_up};
-ghost use Rattle.sap_read.specs.code.ProcessView.{GivesChoice};
-ghost use Rattle.sap_terms.specs.declared.limits.TheConstants.{MOST_TERM_LEVELS};
+ghost use Rattle.sap_read.specs.code.ProcessView.{chosen};
+ghost use Rattle.sap_read.specs.declared.limits.TheConstants.{FILE_LIMITS};
 
-use crate::look::{beyond, name_at, starts};
 use crate::process::build::{Branching, comparing, looking_up};
 use crate::process::parts::read_short_term;
+use sap_grammar::{beyond, name_at, starts};
 use sap_terms::{Mem, Signature, Term};
 use sap_text::Token;
 use std::alloc::Global;
 
+// By what a process chooses, where this word stands first.
 #[tactic(auto, using(crate::proofs::Steps::steps), unfolding(crate::specs::code::ProcessReading::past))]
-fn read_then<'a>(
-    alloc: Global,
+fn read_up_to<'a>(
     bytes: &[u8],
-    left: Term,
-    right: Term,
+    choice: Box<Branching>,
+    word: &str,
     tokens: &'a [Token],
 ) -> Result<Option<(Box<Branching>, &'a [Token])>, Mem>
-    ensures { GivesChoice bytes.now result (up_to (codes "then") (test (tree left) (tree right))
+    ensures { Gives bytes.now (λ p. chosen p.value) result (up_to word.now (chosen choice.value)
         (words_of bytes.now tokens.now)) }
 {
-    if starts(bytes, tokens, "then") {
-        let choice = comparing(alloc, left, right)?;
+    if starts(bytes, tokens, word) {
         Ok(Some((choice, beyond(1, tokens))))
     } else {
         Ok(None)
     }
 }
 
-#[tactic(auto, using(crate::proofs::Steps::steps), unfolding(crate::specs::code::Reading::after, crate::specs::code::ProcessReading::past))]
+#[tactic(auto, using(crate::proofs::Steps::steps), unfolding(sap_grammar::specs::Reading::after, crate::specs::code::ProcessReading::past))]
 fn read_equality<'a>(
     alloc: Global,
     sig: &Signature,
@@ -41,7 +39,7 @@ fn read_equality<'a>(
     left: Term,
     tokens: &'a [Token],
 ) -> Result<Option<(Box<Branching>, &'a [Token])>, Mem>
-    ensures { GivesChoice bytes.now result (equality sig.now MOST_TERM_LEVELS (tree left)
+    ensures { Gives bytes.now (λ p. chosen p.value) result (equality sig.now FILE_LIMITS (tree left)
         (words_of bytes.now tokens.now)) }
 {
     if !starts(bytes, tokens, "=") {
@@ -49,19 +47,22 @@ fn read_equality<'a>(
     }
     match read_short_term(alloc, sig, bytes, beyond(1, tokens))? {
         None => Ok(None),
-        Some((right, rest)) => read_then(alloc, bytes, left, right, rest),
+        Some((right, rest)) => {
+            let choice = comparing(alloc, left, right)?;
+            read_up_to(bytes, choice, "then", rest)
+        }
     }
 }
 
 /// The two terms that are compared behind `if`, and the tokens behind `then`.
-#[tactic(auto, using(crate::proofs::Steps::steps), unfolding(crate::specs::code::Reading::after))]
+#[tactic(auto, using(crate::proofs::Steps::steps), unfolding(sap_grammar::specs::Reading::after))]
 pub fn read_compared<'a>(
     alloc: Global,
     sig: &Signature,
     bytes: &[u8],
     tokens: &'a [Token],
 ) -> Result<Option<(Box<Branching>, &'a [Token])>, Mem>
-    ensures { GivesChoice bytes.now result (compared sig.now MOST_TERM_LEVELS
+    ensures { Gives bytes.now (λ p. chosen p.value) result (compared sig.now FILE_LIMITS
         (words_of bytes.now tokens.now)) }
 {
     match read_short_term(alloc, sig, bytes, tokens)? {
@@ -70,7 +71,6 @@ pub fn read_compared<'a>(
     }
 }
 
-#[tactic(auto, using(crate::proofs::Steps::steps), unfolding(crate::specs::code::ProcessReading::past))]
 fn read_found<'a>(
     alloc: Global,
     bytes: &[u8],
@@ -78,25 +78,21 @@ fn read_found<'a>(
     name: &[u8],
     tokens: &'a [Token],
 ) -> Result<Option<(Box<Branching>, &'a [Token])>, Mem>
-    ensures { GivesChoice bytes.now result (found (tree key) name.now
+    ensures { Gives bytes.now (λ p. chosen p.value) result (found (tree key) name.now
         (words_of bytes.now tokens.now)) }
 {
-    if starts(bytes, tokens, "in") {
-        let choice = looking_up(alloc, key, name)?;
-        Ok(Some((choice, beyond(1, tokens))))
-    } else {
-        Ok(None)
-    }
+    let choice = looking_up(alloc, key, name)?;
+    read_up_to(bytes, choice, "in", tokens)
 }
 
-#[tactic(auto, using(crate::proofs::Steps::steps), unfolding(crate::specs::code::Reading::given, crate::specs::code::ProcessReading::past))]
+#[tactic(auto, using(crate::proofs::Steps::steps), unfolding(sap_grammar::specs::Reading::given, crate::specs::code::ProcessReading::past))]
 fn read_entry<'a>(
     alloc: Global,
     bytes: &[u8],
     key: Term,
     tokens: &'a [Token],
 ) -> Result<Option<(Box<Branching>, &'a [Token])>, Mem>
-    ensures { GivesChoice bytes.now result (entry (tree key) (words_of bytes.now tokens.now)) }
+    ensures { Gives bytes.now (λ p. chosen p.value) result (entry (tree key) (words_of bytes.now tokens.now)) }
 {
     if !starts(bytes, tokens, "as") {
         return Ok(None);
@@ -109,14 +105,14 @@ fn read_entry<'a>(
 }
 
 /// The term that is looked up behind `lookup` and the variable for what is found, and the tokens behind `in`.
-#[tactic(auto, using(crate::proofs::Steps::steps), unfolding(crate::specs::code::Reading::after))]
+#[tactic(auto, using(crate::proofs::Steps::steps), unfolding(sap_grammar::specs::Reading::after))]
 pub fn read_looked_up<'a>(
     alloc: Global,
     sig: &Signature,
     bytes: &[u8],
     tokens: &'a [Token],
 ) -> Result<Option<(Box<Branching>, &'a [Token])>, Mem>
-    ensures { GivesChoice bytes.now result (looked_up sig.now MOST_TERM_LEVELS
+    ensures { Gives bytes.now (λ p. chosen p.value) result (looked_up sig.now FILE_LIMITS
         (words_of bytes.now tokens.now)) }
 {
     match read_short_term(alloc, sig, bytes, tokens)? {

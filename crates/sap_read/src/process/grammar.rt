@@ -1,19 +1,19 @@
 //! Processes, read from their tokens.
 ghost use Rattle.std.specs.Prelude.{◌≡◌, ◌≤◌, ◌<◌, ◌+◌, ◌^◌, IfOk, IfSome};
-ghost use Rattle.sap_read.specs.Words.{words_of};
-ghost use Rattle.sap_read.specs.code.Reading.{name_at};
+ghost use Rattle.sap_grammar.specs.Words.{words_of};
+ghost use Rattle.sap_grammar.specs.Reading.{name_at};
 ghost use Rattle.sap_read.specs.code.ProcessReading.{second_branch, branches, condition, looking, going_on, call_or_action, enclosed, repeated, beside, starts_bar, seq, par};
 ghost use Rattle.sap_read.specs.code.ProcessView.{GivesDraft, chosen};
 ghost use Rattle.sap_read.specs.code.Drafts.{doing, written};
-ghost use Rattle.sap_terms.specs.declared.limits.TheConstants.{MOST_TERM_LEVELS};
+ghost use Rattle.sap_read.specs.declared.limits.TheConstants.{FILE_LIMITS};
 
 use crate::draft::{Doing, Draft};
-use crate::look::{beyond, name_at, starts, starts_zero};
 use crate::process::actions::read_action;
 use crate::process::build::{
     Branching, acting, acting_last, call, choosing, choosing_one, nil, parallel, replicated,
 };
 use crate::process::choice::{read_compared, read_looked_up};
+use sap_grammar::{beyond, name_at, starts, starts_zero};
 use sap_terms::{Mem, Signature};
 use sap_text::Token;
 use std::alloc::Global;
@@ -25,7 +25,7 @@ fn starts_bar(bytes: &[u8], tokens: &[Token]) -> bool
 }
 
 #[cycle(read)]
-#[tactic(auto, using(crate::proofs::ProcessSteps::tokens), unfolding(crate::specs::code::Reading::after))]
+#[tactic(auto, using(crate::proofs::ProcessSteps::tokens), unfolding(sap_grammar::specs::Reading::after))]
 fn read_second_branch<'a>(
     alloc: Global,
     sig: &Signature,
@@ -38,7 +38,7 @@ fn read_second_branch<'a>(
 ) -> Result<Option<(Box<Draft>, u32, &'a [Token])>, Mem>
     requires deep { depth < 2 ^ 30 }
     requires within { levels ≤ depth }
-    ensures gives { GivesDraft bytes.now result (second_branch (seq sig.now MOST_TERM_LEVELS depth)
+    ensures gives { GivesDraft bytes.now result (second_branch (seq sig.now FILE_LIMITS depth)
         (chosen choice.value) (written yes.value, levels) (words_of bytes.now tokens.now)) }
     ensures within { IfOk result (λ o. IfSome o (λ r. (1 ≤ r.1) × (r.1 ≤ depth + 1))) }
 {
@@ -52,7 +52,7 @@ fn read_second_branch<'a>(
 }
 
 #[cycle(read)]
-#[tactic(auto, using(crate::proofs::ProcessSteps::tokens), unfolding(crate::specs::code::Reading::after))]
+#[tactic(auto, using(crate::proofs::ProcessSteps::tokens), unfolding(sap_grammar::specs::Reading::after))]
 fn read_branches<'a>(
     alloc: Global,
     sig: &Signature,
@@ -62,7 +62,7 @@ fn read_branches<'a>(
     tokens: &'a [Token],
 ) -> Result<Option<(Box<Draft>, u32, &'a [Token])>, Mem>
     requires { depth < 2 ^ 30 }
-    ensures gives { GivesDraft bytes.now result (branches (seq sig.now MOST_TERM_LEVELS depth)
+    ensures gives { GivesDraft bytes.now result (branches (seq sig.now FILE_LIMITS depth)
         (chosen choice.value) (words_of bytes.now tokens.now)) }
     ensures within { IfOk result (λ o. IfSome o (λ r. (1 ≤ r.1) × (r.1 ≤ depth + 1))) }
 {
@@ -81,7 +81,7 @@ fn read_branches<'a>(
 }
 
 #[cycle(read)]
-#[tactic(auto, using(crate::proofs::ProcessSteps::tokens), unfolding(crate::specs::code::Reading::after))]
+#[tactic(auto, using(crate::proofs::ProcessSteps::tokens), unfolding(sap_grammar::specs::Reading::after))]
 fn read_condition<'a>(
     alloc: Global,
     sig: &Signature,
@@ -90,8 +90,8 @@ fn read_condition<'a>(
     tokens: &'a [Token],
 ) -> Result<Option<(Box<Draft>, u32, &'a [Token])>, Mem>
     requires { depth < 2 ^ 30 }
-    ensures gives { GivesDraft bytes.now result (condition sig.now MOST_TERM_LEVELS
-        (seq sig.now MOST_TERM_LEVELS depth) (words_of bytes.now tokens.now)) }
+    ensures gives { GivesDraft bytes.now result (condition sig.now FILE_LIMITS
+        (seq sig.now FILE_LIMITS depth) (words_of bytes.now tokens.now)) }
     ensures within { IfOk result (λ o. IfSome o (λ r. (1 ≤ r.1) × (r.1 ≤ depth + 1))) }
 {
     match read_compared(alloc, sig, bytes, tokens)? {
@@ -101,7 +101,7 @@ fn read_condition<'a>(
 }
 
 #[cycle(read)]
-#[tactic(auto, using(crate::proofs::ProcessSteps::tokens), unfolding(crate::specs::code::Reading::after))]
+#[tactic(auto, using(crate::proofs::ProcessSteps::tokens), unfolding(sap_grammar::specs::Reading::after))]
 fn read_lookup<'a>(
     alloc: Global,
     sig: &Signature,
@@ -110,8 +110,8 @@ fn read_lookup<'a>(
     tokens: &'a [Token],
 ) -> Result<Option<(Box<Draft>, u32, &'a [Token])>, Mem>
     requires { depth < 2 ^ 30 }
-    ensures gives { GivesDraft bytes.now result (looking sig.now MOST_TERM_LEVELS
-        (seq sig.now MOST_TERM_LEVELS depth) (words_of bytes.now tokens.now)) }
+    ensures gives { GivesDraft bytes.now result (looking sig.now FILE_LIMITS
+        (seq sig.now FILE_LIMITS depth) (words_of bytes.now tokens.now)) }
     ensures within { IfOk result (λ o. IfSome o (λ r. (1 ≤ r.1) × (r.1 ≤ depth + 1))) }
 {
     match read_looked_up(alloc, sig, bytes, tokens)? {
@@ -121,7 +121,7 @@ fn read_lookup<'a>(
 }
 
 #[cycle(read)]
-#[tactic(auto, using(crate::proofs::ProcessSteps::limits), unfolding(crate::specs::code::Reading::after))]
+#[tactic(auto, using(crate::proofs::ProcessSteps::limits), unfolding(sap_grammar::specs::Reading::after))]
 fn read_on<'a>(
     alloc: Global,
     sig: &Signature,
@@ -132,7 +132,7 @@ fn read_on<'a>(
 ) -> Result<Option<(Box<Draft>, u32, &'a [Token])>, Mem>
     requires { depth < 2 ^ 30 }
     ensures gives { GivesDraft bytes.now result (going_on
-        (seq sig.now MOST_TERM_LEVELS depth) depth (doing first.value)
+        (seq sig.now FILE_LIMITS depth) depth (doing first.value)
         (words_of bytes.now tokens.now)) }
     ensures within { IfOk result (λ o. IfSome o (λ r. (1 ≤ r.1) × (r.1 ≤ depth + 1))) }
 {
@@ -153,7 +153,7 @@ fn read_on<'a>(
 }
 
 #[cycle(read)]
-#[tactic(auto, using(crate::proofs::ProcessSteps::tokens), unfolding(crate::specs::code::Reading::after))]
+#[tactic(auto, using(crate::proofs::ProcessSteps::tokens), unfolding(sap_grammar::specs::Reading::after))]
 fn read_call_or_action<'a>(
     alloc: Global,
     sig: &Signature,
@@ -162,8 +162,8 @@ fn read_call_or_action<'a>(
     tokens: &'a [Token],
 ) -> Result<Option<(Box<Draft>, u32, &'a [Token])>, Mem>
     requires { depth < 2 ^ 30 }
-    ensures gives { GivesDraft bytes.now result (call_or_action sig.now MOST_TERM_LEVELS
-        (seq sig.now MOST_TERM_LEVELS depth) depth (name_at (words_of bytes.now tokens.now))
+    ensures gives { GivesDraft bytes.now result (call_or_action sig.now FILE_LIMITS
+        (seq sig.now FILE_LIMITS depth) depth (name_at (words_of bytes.now tokens.now))
         (words_of bytes.now tokens.now)) }
     ensures within { IfOk result (λ o. IfSome o (λ r. (1 ≤ r.1) × (r.1 ≤ depth + 1))) }
 {
@@ -178,7 +178,7 @@ fn read_call_or_action<'a>(
 }
 
 #[cycle(read)]
-#[tactic(auto, using(crate::proofs::ProcessSteps::tokens), unfolding(crate::specs::code::Reading::after, crate::specs::code::ProcessReading::past))]
+#[tactic(auto, using(crate::proofs::ProcessSteps::tokens), unfolding(sap_grammar::specs::Reading::after, crate::specs::code::ProcessReading::past))]
 fn read_enclosed<'a>(
     alloc: Global,
     sig: &Signature,
@@ -187,7 +187,7 @@ fn read_enclosed<'a>(
     tokens: &'a [Token],
 ) -> Result<Option<(Box<Draft>, u32, &'a [Token])>, Mem>
     requires { depth < 2 ^ 30 }
-    ensures gives { GivesDraft bytes.now result (enclosed (par sig.now MOST_TERM_LEVELS depth)
+    ensures gives { GivesDraft bytes.now result (enclosed (par sig.now FILE_LIMITS depth)
         (words_of bytes.now tokens.now)) }
     ensures within { IfOk result (λ o. IfSome o (λ r. (1 ≤ r.1) × (r.1 ≤ depth + 1))) }
 {
@@ -204,7 +204,7 @@ fn read_enclosed<'a>(
 }
 
 #[cycle(read)]
-#[tactic(auto, using(crate::proofs::ProcessSteps::tokens), unfolding(crate::specs::code::Reading::after))]
+#[tactic(auto, using(crate::proofs::ProcessSteps::tokens), unfolding(sap_grammar::specs::Reading::after))]
 fn read_replicated<'a>(
     alloc: Global,
     sig: &Signature,
@@ -213,7 +213,7 @@ fn read_replicated<'a>(
     tokens: &'a [Token],
 ) -> Result<Option<(Box<Draft>, u32, &'a [Token])>, Mem>
     requires { depth < 2 ^ 30 }
-    ensures gives { GivesDraft bytes.now result (repeated (seq sig.now MOST_TERM_LEVELS depth)
+    ensures gives { GivesDraft bytes.now result (repeated (seq sig.now FILE_LIMITS depth)
         (words_of bytes.now tokens.now)) }
     ensures within { IfOk result (λ o. IfSome o (λ r. (1 ≤ r.1) × (r.1 ≤ depth + 1))) }
 {
@@ -236,7 +236,7 @@ fn read_seq<'a>(
     tokens: &'a [Token],
 ) -> Result<Option<(Box<Draft>, u32, &'a [Token])>, Mem>
     requires { depth < 2 ^ 30 }
-    ensures gives { GivesDraft bytes.now result (seq sig.now MOST_TERM_LEVELS depth
+    ensures gives { GivesDraft bytes.now result (seq sig.now FILE_LIMITS depth
         (words_of bytes.now tokens.now)) }
     ensures within { IfOk result (λ o. IfSome o (λ r. (1 ≤ r.1) × (r.1 ≤ depth))) }
 {
@@ -261,7 +261,7 @@ fn read_seq<'a>(
 }
 
 #[cycle(read)]
-#[tactic(auto, using(crate::proofs::ProcessSteps::limits), unfolding(crate::specs::code::Reading::after))]
+#[tactic(auto, using(crate::proofs::ProcessSteps::limits), unfolding(sap_grammar::specs::Reading::after))]
 fn read_beside<'a>(
     alloc: Global,
     sig: &Signature,
@@ -273,7 +273,7 @@ fn read_beside<'a>(
 ) -> Result<Option<(Box<Draft>, u32, &'a [Token])>, Mem>
     requires deep { depth < 2 ^ 30 }
     requires within { levels ≤ depth }
-    ensures gives { GivesDraft bytes.now result (beside (par sig.now MOST_TERM_LEVELS depth)
+    ensures gives { GivesDraft bytes.now result (beside (par sig.now FILE_LIMITS depth)
         (written left.value, levels) (words_of bytes.now tokens.now)) }
     ensures within { IfOk result (λ o. IfSome o (λ r. (1 ≤ r.1) × (r.1 ≤ depth + 1))) }
 {
@@ -288,7 +288,7 @@ fn read_beside<'a>(
 
 /// A process of at most so many levels, their number, and the tokens behind it.
 #[cycle(read)]
-#[tactic(auto, using(crate::proofs::ProcessSteps::par_steps), unfolding(crate::specs::code::Reading::after))]
+#[tactic(auto, using(crate::proofs::ProcessSteps::par_steps), unfolding(sap_grammar::specs::Reading::after))]
 pub fn read_par<'a>(
     alloc: Global,
     sig: &Signature,
@@ -297,7 +297,7 @@ pub fn read_par<'a>(
     tokens: &'a [Token],
 ) -> Result<Option<(Box<Draft>, u32, &'a [Token])>, Mem>
     requires { depth < 2 ^ 30 }
-    ensures gives { GivesDraft bytes.now result (par sig.now MOST_TERM_LEVELS depth
+    ensures gives { GivesDraft bytes.now result (par sig.now FILE_LIMITS depth
         (words_of bytes.now tokens.now)) }
     ensures within { IfOk result (λ o. IfSome o (λ r. (1 ≤ r.1) × (r.1 ≤ depth))) }
 {

@@ -1,42 +1,29 @@
 //! The terms and facts of processes.
-ghost use Rattle.std.specs.Prelude.{length};
-ghost use Rattle.sap_read.specs.Words.{words_of};
-ghost use Rattle.sap_read.specs.code.Reading.{list_of};
-ghost use Rattle.sap_read.specs.code.ProcessReading.{short_term, short_fact, facts};
-ghost use Rattle.sap_read.specs.code.View.{GivesTerm, GivesFact};
-ghost use Rattle.sap_read.specs.code.ProcessView.{GivesFacts};
+ghost use Rattle.sap_terms.specs.View.{tree};
+ghost use Rattle.sap_grammar.specs.Words.{words_of};
+ghost use Rattle.sap_grammar.specs.Reading.{Gives};
+ghost use Rattle.sap_grammar.specs.TermReading.{short_term, short_fact, facts};
+ghost use Rattle.sap_read.specs.declared.limits.TheConstants.{FILE_LIMITS};
 
-use crate::fact::has_few_levels;
-use crate::look::{beyond, starts};
-use crate::{fact, term};
-use sap_terms::{Fact, FactList, MOST_TERM_LEVELS, Mem, Signature, Term};
+use crate::limits::FILE_LIMITS;
+use sap_terms::{Fact, FactList, Mem, Signature, Term};
 use sap_text::Token;
 use std::alloc::Global;
 
-/// A term of at most `MOST_TERM_LEVELS` levels, and the tokens behind it.
-#[tactic(auto, using(crate::proofs::ProcessSteps::limits), unfolding(crate::specs::code::Reading::after))]
+/// A term within the limits of a file, and the tokens behind it.
 pub fn read_short_term<'a>(
     alloc: Global,
     sig: &Signature,
     bytes: &[u8],
     tokens: &'a [Token],
 ) -> Result<Option<(Term, &'a [Token])>, Mem>
-    ensures { GivesTerm bytes.now result (short_term sig.now MOST_TERM_LEVELS
+    ensures { Gives bytes.now tree result (short_term sig.now FILE_LIMITS
         (words_of bytes.now tokens.now)) }
 {
-    let Some((term, rest)) = term::read_deep(alloc, sig, bytes, MOST_TERM_LEVELS as u32, tokens)?
-    else {
-        return Ok(None);
-    };
-    if term.levels() <= MOST_TERM_LEVELS {
-        Ok(Some((term, rest)))
-    } else {
-        Ok(None)
-    }
+    sap_grammar::read_short_term(alloc, sig, FILE_LIMITS, bytes, tokens)
 }
 
-/// A fact whose terms have at most `MOST_TERM_LEVELS` levels, persistent only where that is allowed, and the tokens behind it.
-#[tactic(auto, using(crate::proofs::ProcessSteps::limits), unfolding(crate::specs::code::Reading::after))]
+/// A fact whose terms are within these limits, persistent only where that is allowed, and the tokens behind it.
 pub fn read_short_fact<'a>(
     alloc: Global,
     sig: &Signature,
@@ -44,53 +31,13 @@ pub fn read_short_fact<'a>(
     allowed: bool,
     tokens: &'a [Token],
 ) -> Result<Option<(Fact, &'a [Token])>, Mem>
-    ensures { GivesFact bytes.now result (short_fact sig.now MOST_TERM_LEVELS allowed
+    ensures { Gives bytes.now (λ f. f) result (short_fact sig.now FILE_LIMITS allowed
         (words_of bytes.now tokens.now)) }
 {
-    let Some((fact, rest)) = fact::read_deep(alloc, sig, bytes, MOST_TERM_LEVELS as u32, tokens)?
-    else {
-        return Ok(None);
-    };
-    if !has_few_levels(&fact.args) || (fact.persistent && !allowed) {
-        return Ok(None);
-    }
-    Ok(Some((fact, rest)))
+    sap_grammar::read_short_fact(alloc, sig, FILE_LIMITS, bytes, allowed, tokens)
 }
 
-#[tactic(auto, using(crate::proofs::Steps::steps), unfolding(crate::specs::code::Reading::after))]
-fn read_fact_list<'a>(
-    alloc: Global,
-    sig: &Signature,
-    bytes: &[u8],
-    allowed: bool,
-    closing: &str,
-    tokens: &'a [Token],
-) -> Result<Option<(FactList, &'a [Token])>, Mem>
-    ensures { GivesFacts bytes.now result (list_of closing.now
-        (short_fact sig.now MOST_TERM_LEVELS allowed) (length tokens.now)
-        (words_of bytes.now tokens.now)) }
-{
-    let mut facts = FactList::new(alloc);
-    let mut rest = tokens;
-    while !rest.is_empty() {
-        let Some((fact, next)) = read_short_fact(alloc, sig, bytes, allowed, rest)? else {
-            return Ok(None);
-        };
-        facts.push(fact)?;
-        if starts(bytes, next, closing) {
-            return Ok(Some((facts, beyond(1, next))));
-        }
-        if !starts(bytes, next, ",") {
-            return Ok(None);
-        }
-        rest = beyond(1, next);
-    }
-    Ok(None)
-}
-
-/// Facts, none or more, with commas between them, up to the closing mark, each as `read_short_fact` reads it, and the
-/// tokens behind the mark.
-#[tactic(auto, using(crate::proofs::Steps::steps), unfolding(crate::specs::code::Reading::after))]
+/// Such facts, none or more, with commas between them, up to the closing mark, and the tokens behind the mark.
 pub fn read_facts<'a>(
     alloc: Global,
     sig: &Signature,
@@ -99,12 +46,8 @@ pub fn read_facts<'a>(
     closing: &str,
     tokens: &'a [Token],
 ) -> Result<Option<(FactList, &'a [Token])>, Mem>
-    ensures { GivesFacts bytes.now result (facts sig.now MOST_TERM_LEVELS allowed closing.now
+    ensures { Gives bytes.now (λ fs. fs) result (facts sig.now FILE_LIMITS allowed closing.now
         (words_of bytes.now tokens.now)) }
 {
-    if starts(bytes, tokens, closing) {
-        Ok(Some((FactList::new(alloc), beyond(1, tokens))))
-    } else {
-        read_fact_list(alloc, sig, bytes, allowed, closing, tokens)
-    }
+    sap_grammar::read_facts(alloc, sig, FILE_LIMITS, bytes, allowed, closing, tokens)
 }

@@ -1,5 +1,5 @@
 -- The use of a rule in its parts: the choices that are found, and the normal forms that are made.
-use Rattle.std.specs.Prelude.{◌≡◌, List, ◌++◌, map, ⊤}
+use Rattle.std.specs.Prelude.{◌≡◌, ◌↔◌, Bool, List, ◌++◌, map, ⊤, IsTrue}
 use Rattle.std.specs.List.{AllZip, flat_map}
 use Rattle.sap_terms.specs.Choice.{Choice, IsSorted, instance}
 use Rattle.sap_terms.specs.Modulo.{instance_facts, AreFormsOfFacts}
@@ -55,6 +55,14 @@ args_of fs = flat_map (λ (f : Fact). f.args) fs
 -- the facts have the same arguments
 abbrev pub HaveArgs : List Fact → List Fact → Type 0
 HaveArgs fs hs = AllZip (λ (f h : Fact). f.args ≡ h.args) fs hs
+
+-- these are the forms of the left facts under the choice, and none is large; b says whether they have the arguments of
+-- the cited facts
+pub record IsLeftSame (g : Sig) (τ : Choice) (fs cited : List Fact) (b : Bool) : Type 0 where
+  pub left : List Fact
+  pub forms : AreFormsOfFacts (equations g) (instance_facts τ fs) left
+  pub same : IsTrue b ↔ HaveArgs left cited
+  pub small : SomeLarge g (map (instance τ) (args_of fs)) → ⊥
 
 -- the forms of the rule's left side under the choice have the arguments of the cited facts, those of its other sides are
 -- these, and none is large

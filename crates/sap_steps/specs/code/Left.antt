@@ -3,12 +3,12 @@ use Rattle.std.specs.Prelude.{◌≡◌, ℕ, Bool, false, ◌||◌, nat_eq, Lis
 use Rattle.std.specs.List.{fold}
 use Rattle.sap_terms.specs.Piles.{Pile, Takes}
 use Rattle.sap_terms.specs.declared.fact.Fact.{Fact}
-use Rattle.sap_facts.specs.Facts.{fact_at, places_without}
+use Rattle.sap_facts.specs.Facts.{fact_at, slots_without}
 use Rattle.sap_steps.specs.code.Held.{cited_at}
 
--- the places, where the facts with these numbers were used one after another
+-- the slots, where the facts with these numbers were used one after another
 abbrev pub left_of : Pile → List ℕ → Pile
-left_of facts ks = fold places_without facts ks
+left_of facts ks = fold slots_without facts ks
 
 -- the facts with these numbers can be taken, in this order
 abbrev pub AreTaken : Pile → List ℕ → Type 0

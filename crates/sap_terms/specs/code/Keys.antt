@@ -4,7 +4,7 @@ use Rattle.std.specs.Bool.{Decides}
 use Rattle.std.specs.Cmp.{IsEquivalence, IsPartialEquivalence, decided, partial_equiv_from_equiv}
 use Rattle.sap_terms.specs.Same.{same_tree, same_trees}
 use Rattle.sap_terms.specs.code.SameLaws.{same_tree-refl, same_tree-sound, same_trees-refl, same_trees-sound}
-use Rattle.sap_terms.specs.Tree.{Tree, Trees, trees_of, list_of, list_of-trees_of}
+use Rattle.sap_terms.specs.Tree.{Tree, trees_of, list_of, list_of-trees_of}
 use Rattle.sap_terms.specs.View.{tree, term, term-tree}
 use Rattle.sap_terms.specs.declared.term.Term.{Term}
 

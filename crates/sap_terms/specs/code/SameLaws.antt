@@ -1,4 +1,5 @@
--- The test of equal trees is equality. These laws stand here since the keys of maps are proved from them.
+-- The test of equal trees is equality. These laws stand here since the keys of maps are proved from them; other crates name them
+-- in proofs/PlainLaws/Tests.
 use Rattle.std.proofs.Common.{◌≡◌, ℕ, List, Bool, true, false, ◌&&◌, IsTrue, refl, sym, ap, ◌∙◌}
 use Rattle.std.proofs.lemmas.Slice.Eq.{bytes_eq-Decides}
 use Rattle.std.proofs.lemmas.Bool.Decides.{Decides-eqb}

@@ -1,6 +1,6 @@
 use Rattle.std.proofs.Common.{◌≡◌, Some, None, sym, ◌∙◌}
 use Rattle.sap_process.specs.Proc.{proc}
-use Rattle.sap_gen.specs.Sites as sites
+use Rattle.sap_gen.specs.code.Sites as sites
 use Rattle.sap_gen.specs.Templates.{first_of}
 use Rattle.sap_gen.proofs.Sites.{in_left, in_right}
 use Rattle.sap_gen.proofs.unbuilt.+unbuilt_from.Goals as goal

@@ -4,11 +4,11 @@ use Rattle.sap_terms.specs.Equal.{same, next, forward}
 use Rattle.sap_terms.specs.Piles.{one, nothing}
 use Rattle.sap_terms.specs.Equations.{equations, first}
 use Rattle.sap_process.specs.ProcessSteps.{ProcessStep, ends, splits, copies, makes_name, outputs, outputs_on, inputs, inputs_on, meets, agrees, differs, shows, inserts, deletes, finds, misses, locks, unlocks, embeds, adversary_makes, knows}
-use Rattle.sap_process.specs.StepExamples.{a, b, first_of_pair, showing, alone, only, just, left_fact, right_fact, shown_fact}
+use Rattle.sap_process.specs.StepExamples.{a, b, first_of_pair, showing, alone, only, just, left_fact, right_fact, shown_fact, lasting_fact}
 use Rattle.sap_process.specs.Action.{delete, unlock}
 use Rattle.sap_process.specs.Configuration.{Config}
 use Rattle.sap_process.specs.Proc.{act}
-use Rattle.sap_process.proofs.StepLemmas.{first_form, own_form, names, names_messages, gives_public, gives_pair, sent_deducible, fresh_normal, no_other, a_differs, emptied, released}
+use Rattle.sap_process.proofs.StepLemmas.{first_form, own_form, names, names_messages, gives_public, gives_pair, sent_deducible, fresh_normal, no_other, a_differs, emptied, released, freed}
 use Rattle.sap_process.proofs.laws.steps_by_hand.Goals as goal
 
 pub returns-clause-ends : goal.returns-clause-ends
@@ -71,12 +71,25 @@ returns-clause-unlocks c = λ g.
     subst (λ h. ProcessStep g before [] (record (alone (showing b)) { held = h })) (released a)
     (unlocks {c = before} 0 refl (first_form (equations g)))
 
+pub returns-clause-unlocks_free : goal.returns-clause-unlocks_free
+returns-clause-unlocks_free c = λ g.
+    let before : Config = alone (act (unlock a 0) (showing b)) in
+    subst (λ h. ProcessStep g before [] (record (alone (showing b)) { held = h })) (freed a)
+    (unlocks {c = before} 0 refl (own_form (equations g) (codes "a")))
+
 pub returns-clause-embeds : goal.returns-clause-embeds
 returns-clause-embeds c = λ g. embeds 0 (0 ∷ []) names (left_fact a ∷ []) (shown_fact a ∷ []) (right_fact a ∷ []) refl (names_messages g)
     (record { name = refl; persistent = refl; args = (same, tt) }, tt)
     (one refl nothing)
     (record { name = refl; persistent = refl; args = (own_form (equations g) (codes "a"), tt) }, tt)
     (record { name = refl; persistent = refl; args = (own_form (equations g) (codes "a"), tt) }, tt)
+
+pub returns-clause-embeds_lasting : goal.returns-clause-embeds_lasting
+returns-clause-embeds_lasting c = λ g. embeds 0 (0 ∷ 0 ∷ []) names (lasting_fact a ∷ lasting_fact a ∷ []) [] [] refl (names_messages g)
+    (record { name = refl; persistent = refl; args = (same, tt) }, (record { name = refl; persistent = refl; args = (same, tt) }, tt))
+    (one refl (one refl nothing))
+    tt
+    tt
 
 pub returns-clause-adversary_makes : goal.returns-clause-adversary_makes
 returns-clause-adversary_makes c = λ g. adversary_makes 5 (no_other 4 5 (λ e. omega arith), no_other 3 5 (λ e. omega arith))

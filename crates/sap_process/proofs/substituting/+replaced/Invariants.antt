@@ -15,10 +15,7 @@ abbrev pub decreases-replaced_below : goal.decreases-replaced_below
 decreases-replaced_below l = 8 * node_count (proc l.p.now) + 2
 
 abbrev pub decreases-replaced_both : goal.decreases-replaced_both
-decreases-replaced_both l = 8 * (node_count (proc l.p.now) + node_count (proc l.q.now)) + 4
-
-abbrev pub decreases-replaced_test : goal.decreases-replaced_test
-decreases-replaced_test l = 8 * (node_count (proc l.p.now) + node_count (proc l.q.now)) + 4
+decreases-replaced_both l = 8 * (node_count (proc l.q.now) + node_count (proc l.r.now)) + 4
 
 abbrev pub decreases-replaced_lookup : goal.decreases-replaced_lookup
 decreases-replaced_lookup l = 8 * (node_count (proc l.p.now) + node_count (proc l.q.now)) + 4

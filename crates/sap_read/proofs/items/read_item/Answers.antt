@@ -1,6 +1,6 @@
 use Rattle.std.proofs.Common.{◌≡◌, false, ◌∙◌, sym}
 use Rattle.std.specs.Prelude.{codes}
-use Rattle.sap_read.specs.Words.{words_of, starts}
+use Rattle.sap_grammar.specs.Words.{words_of, starts}
 use Rattle.sap_read.proofs.ItemTurns.{declaration_tried}
 use Rattle.sap_read.proofs.items.read_item.Goals as goal
 

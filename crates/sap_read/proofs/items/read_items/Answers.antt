@@ -1,7 +1,7 @@
 use Rattle.std.proofs.Common.{◌≡◌, [], true, arith}
 use Rattle.std.proofs.lemmas.Grind.{common_steps}
 use Rattle.sap_read.specs.Cut.{placed, first_line}
-use Rattle.sap_read.specs.Words.{words_of}
+use Rattle.sap_grammar.specs.Words.{words_of}
 use Rattle.sap_read.specs.ItemGrammar.{IsSomeItem}
 use Rattle.sap_read.specs.code.ItemView.{IsAdded}
 use Rattle.sap_read.proofs.ItemTurns.{turn_end, turn_bad, turn_good, turn_later, turn_over}

@@ -1,7 +1,7 @@
 use Rattle.std.proofs.Common.{◌≡◌, drop, true}
 use Rattle.std.specs.Prelude.{codes}
 use Rattle.sap_terms.specs.Signature.{Sig}
-use Rattle.sap_read.specs.Words.{words_of, starts}
+use Rattle.sap_grammar.specs.Words.{words_of, starts}
 use Rattle.sap_read.specs.Written.{Written}
 use Rattle.sap_read.specs.ItemGrammar.{IsProcess}
 use Rattle.sap_read.specs.code.Drafts.{written}

@@ -1,11 +1,11 @@
-use Rattle.sap_read.proofs.Signatures.{any_fact, any_term, par_too}
+use Rattle.sap_read.proofs.Signatures.{par_too}
 use Rattle.sap_read.proofs.laws.grammar_is_one.Goals as goal
 
 pub returns-clause-terms : goal.returns-clause-terms
-returns-clause-terms c = any_term
+returns-clause-terms c = λ g h t a b r. let u = c.same_grammar.ensures.terms g h t a b r in (u.0, u.1, u.2)
 
 pub returns-clause-facts : goal.returns-clause-facts
-returns-clause-facts c = any_fact
+returns-clause-facts c = λ g h f a b r. let u = c.same_grammar.ensures.facts g h f a b r in (u.0, u.1, u.2)
 
 pub returns-clause-processes : goal.returns-clause-processes
-returns-clause-processes c = λ g h m n p a b r. par_too h r
+returns-clause-processes c = λ g h m n p a b r. par_too c.term_laws.ensures.spelled h r

@@ -1,6 +1,6 @@
 use Rattle.std.proofs.Common.{sym, ◌∙◌}
 use Rattle.std.specs.Option.{option_copied}
-use Rattle.sap_rewrite.specs.Walk.{skipped}
+use Rattle.sap_rewrite.specs.code.Walk.{skipped}
 use Rattle.sap_rewrite.proofs.WalkLemmas.{match_length}
 use Rattle.sap_rewrite.proofs.matching.+extend.Goals as goal
 

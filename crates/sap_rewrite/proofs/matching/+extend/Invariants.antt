@@ -2,7 +2,7 @@ use Rattle.std.proofs.Common.{◌≡◌, ◌+◌, ◌*◌, drop}
 use Rattle.sap_terms.specs.Tree.{node_count, trees_count, trees_of}
 use Rattle.sap_terms.specs.View.{tree}
 use Rattle.std.specs.Option.{option_copied}
-use Rattle.sap_rewrite.specs.Walk.{match_trees, skipped}
+use Rattle.sap_rewrite.specs.code.Walk.{match_trees, skipped}
 use Rattle.sap_rewrite.proofs.matching.+extend.Given as goal
 
 abbrev pub decreases-extend : goal.decreases-extend

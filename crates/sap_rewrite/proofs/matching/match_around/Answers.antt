@@ -1,6 +1,6 @@
 use Rattle.std.proofs.Common.{true, false, Some, refl}
 use Rattle.sap_terms.specs.View.{tree}
-use Rattle.sap_rewrite.specs.Walk.{match_tree, skipped}
+use Rattle.sap_rewrite.specs.code.Walk.{match_tree, skipped}
 use Rattle.sap_rewrite.proofs.WalkLemmas.{answered}
 use Rattle.sap_rewrite.proofs.Only.{only_fit, no_fit}
 use Rattle.sap_rewrite.proofs.matching.match_around.Goals as goal

@@ -1,6 +1,6 @@
 use Rattle.std.proofs.Common.{true, false, None}
 use Rattle.sap_terms.specs.View.{tree}
-use Rattle.sap_rewrite.specs.Walk.{match_tree, skipped}
+use Rattle.sap_rewrite.specs.code.Walk.{match_tree, skipped}
 use Rattle.sap_rewrite.proofs.WalkLemmas.{answered}
 use Rattle.sap_rewrite.proofs.Only.{only_match, no_match}
 use Rattle.sap_rewrite.proofs.matching.match_pattern.Goals as goal

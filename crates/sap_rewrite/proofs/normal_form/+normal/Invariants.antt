@@ -2,7 +2,7 @@ use Rattle.std.proofs.Common.{◌≡◌, ◌+◌, ◌*◌, map, take}
 use Rattle.sap_terms.specs.Tree.{node_count, trees_count, trees_of}
 use Rattle.sap_terms.specs.View.{tree}
 use Rattle.sap_terms.specs.Equations.{equations}
-use Rattle.sap_rewrite.specs.Reduce.{nf}
+use Rattle.sap_rewrite.specs.code.Reduce.{nf}
 use Rattle.sap_rewrite.proofs.normal_form.+normal.Given as goal
 
 abbrev pub decreases-normal_term : goal.decreases-normal_term

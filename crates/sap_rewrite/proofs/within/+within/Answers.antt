@@ -2,9 +2,9 @@ use Rattle.std.proofs.Common.{◌+◌, ◌∷◌, [], ◌++◌, ◌&&◌, map, t
 use Rattle.sap_terms.specs.Tree.{node_count, trees_of, trees_count}
 use Rattle.sap_terms.specs.View.{tree}
 use Rattle.sap_terms.specs.Equations.{equations}
-use Rattle.sap_terms.proofs.TreeLemmas.{map_got}
-use Rattle.sap_rewrite.specs.Reduce.{nf, reduced}
-use Rattle.sap_rewrite.specs.Fit.{all_fit}
+use Rattle.sap_terms.proofs.PlainLaws.Lists.{map_got}
+use Rattle.sap_rewrite.specs.code.Reduce.{nf, reduced}
+use Rattle.sap_rewrite.specs.code.Fit.{all_fit}
 use Rattle.sap_rewrite.proofs.ListLaws.{nf-apply}
 use Rattle.sap_rewrite.proofs.Fits.{trees_count-push, all_fit-got, whole_within, whole_large, on_ok, on_error}
 use Rattle.sap_rewrite.proofs.within.+within.Goals as goal

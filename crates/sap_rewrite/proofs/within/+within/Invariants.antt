@@ -2,8 +2,8 @@ use Rattle.std.proofs.Common.{◌≡◌, ◌+◌, ◌*◌, ◌-◌, ◌^◌, min
 use Rattle.sap_terms.specs.Tree.{node_count, trees_count, trees_of}
 use Rattle.sap_terms.specs.View.{tree}
 use Rattle.sap_terms.specs.Equations.{equations}
-use Rattle.sap_rewrite.specs.Reduce.{nf}
-use Rattle.sap_rewrite.specs.Fit.{all_fit}
+use Rattle.sap_rewrite.specs.code.Reduce.{nf}
+use Rattle.sap_rewrite.specs.code.Fit.{all_fit}
 use Rattle.sap_rewrite.proofs.within.+within.Given as goal
 
 abbrev pub decreases-within_term : goal.decreases-within_term

@@ -1,7 +1,7 @@
 use Rattle.std.proofs.Common.{◌∙◌, sym, ap, take, map, length, refl, arith}
 use Rattle.std.proofs.lemmas.Option.{slice_get_read}
 use Rattle.sap_terms.specs.declared.var.Var.{Var}
-use Rattle.sap_terms.proofs.TreeLemmas.{map_got}
+use Rattle.sap_terms.proofs.PlainLaws.Lists.{map_got}
 use Rattle.sap_terms.specs.Variables.{is_known}
 use Rattle.sap_rule.proofs.Known.{known_noted}
 use Rattle.sap_rule.proofs.variables.names_of.Goals as goal

@@ -6,4 +6,4 @@ use Rattle.sap_steps.proofs.cited.cited.Goals as goal
 pub returns : goal.returns
 returns c =
     let stands = sym c.get.ensures ∙ ap option_copied c.unwrap.ensures in
-    cited_get c.args.facts.now.places c.args.numbers.now c.args.k c.at.result.now c.unwrap.result.now c.requires.live c.at.ensures stands
+    cited_get c.args.facts.now.slots c.args.numbers.now c.args.k c.at.result.now c.unwrap.result.now c.requires.live c.at.ensures stands

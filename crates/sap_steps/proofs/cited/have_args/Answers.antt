@@ -7,12 +7,12 @@ use Rattle.sap_steps.proofs.cited.have_args.Goals as goal
 
 pub loop-k-preserved : goal.loop-k-preserved
 loop-k-preserved c =
-    let hs = cited_at c.args.facts.now.places c.args.numbers.now in
+    let hs = cited_at c.args.facts.now.slots c.args.numbers.now in
     zip_further (λ (f h : Fact). f.args ≡ h.args) c.args.fs.now hs c.loop-k.k c.at.result.now c.cited.result.now c.loop-k.invariant c.at.ensures c.cited.ensures (c.are_same.ensures.0 c.if-not-are_same.false)
 
 pub returns-then-not-are_same : goal.returns-then-not-are_same
 returns-then-not-are_same c =
-    let hs = cited_at c.args.facts.now.places c.args.numbers.now in (
+    let hs = cited_at c.args.facts.now.slots c.args.numbers.now in (
       λ h. cc,
       λ a.
           let same = c.are_same.ensures.1 (zip_at (λ (f h : Fact). f.args ≡ h.args) c.args.fs.now hs c.loop-k.k c.at.result.now c.cited.result.now a c.at.ensures c.cited.ensures) in
@@ -21,9 +21,9 @@ returns-then-not-are_same c =
 
 pub returns : goal.returns
 returns c =
-    let hs = cited_at c.args.facts.now.places c.args.numbers.now in
+    let hs = cited_at c.args.facts.now.slots c.args.numbers.now in
     let fs = c.args.fs.now in
-    let many = cited_length c.args.facts.now.places c.args.numbers.now c.requires.live in
+    let many = cited_length c.args.facts.now.slots c.args.numbers.now c.requires.live in
     let at_end : c.loop-k.k ≡ length fs = omega (arith, c.len-k-end.ensures) in
     let front = take_all fs c.loop-k.k at_end in
     let back = take_all hs c.loop-k.k (at_end ∙ sym c.requires.count ∙ sym many) in

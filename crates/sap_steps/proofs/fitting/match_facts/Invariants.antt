@@ -7,5 +7,5 @@ use Rattle.sap_steps.proofs.fitting.match_facts.Given as goal
 
 abbrev pub invariant-loop-k : goal.invariant-loop-k
 invariant-loop-k l =
-    let cited = cited_at l.facts.places l.numbers in
+    let cited = cited_at l.facts.slots l.numbers in
     Continues (FactsFit l.sig l.fs cited) (FactsFit l.sig (drop l.k l.fs) (drop l.k cited)) (facts_outer_vars l.sig l.fs) (facts_outer_vars l.sig (drop l.k l.fs)) l.fn.b l.c

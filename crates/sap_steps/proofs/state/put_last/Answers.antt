@@ -2,5 +2,5 @@ use Rattle.std.proofs.Common.{◌∙◌}
 use Rattle.sap_steps.proofs.Names.{new_is_last}
 use Rattle.sap_steps.proofs.state.put_last.Goals as goal
 
-pub returns-clause-ok : goal.returns-clause-ok
-returns-clause-ok c = c.in_ok-insert.ensures.keys ∙ new_is_last c.args.names.now.keys c.args.n c.requires
+pub returns : goal.returns
+returns c = c.in-Ok.ensures.keys ∙ new_is_last c.args.names.now.keys c.args.n c.requires.new

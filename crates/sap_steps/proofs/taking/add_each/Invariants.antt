@@ -6,4 +6,4 @@ use Rattle.sap_steps.proofs.taking.add_each.Given as goal
 abbrev pub invariant-loop-f : goal.invariant-loop-f
 invariant-loop-f l =
     (goal.iterator-loop-f).can_next l.f-iterator × (goal.iterator-loop-f).is_finite l.f-iterator × (l.yielded ++ into_iter_items l.f-iterator ≡ l.fn.added.items)
-    × (l.facts.places ≡ adds l.initial.facts.places l.yielded) × (length (into_iter_items l.f-iterator) ≤ l.facts.spare)
+    × (l.facts.slots ≡ adds l.initial.facts.slots l.yielded) × (length (into_iter_items l.f-iterator) ≤ l.facts.spare)

@@ -5,4 +5,4 @@ use Rattle.sap_steps.proofs.taking.first_missing_of.Given as goal
 
 abbrev pub invariant-loop-at : goal.invariant-loop-at
 invariant-loop-at l =
-    AreTaken l.facts.places (take l.at l.numbers) × IsLeft l.facts.places (contains nat_eq l.gone) (left_of l.facts.places (take l.at l.numbers))
+    AreTaken l.facts.slots (take l.at l.numbers) × IsLeft l.facts.slots (contains nat_eq l.gone) (left_of l.facts.slots (take l.at l.numbers))

@@ -6,4 +6,4 @@ use Rattle.sap_steps.proofs.using.use_rule.Goals as goal
 
 pub fire-requires-clause-live : goal.fire-requires-clause-live
 fire-requires-clause-live c =
-    taken-live (MatchOption-at_none (AreTaken c.args.facts.now.places c.args.numbers.now) (IsFirstMissing c.args.facts.now.places c.args.numbers.now) c.in_default.is c.in_ok-place.ensures)
+    taken-live (MatchOption-at_none (AreTaken c.args.facts.now.slots c.args.numbers.now) (IsFirstMissing c.args.facts.now.slots c.args.numbers.now) c.in_default.is c.in_ok-index.ensures)

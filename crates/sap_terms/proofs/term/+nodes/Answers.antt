@@ -1,6 +1,6 @@
 use Rattle.std.proofs.Common.{arith}
 use Rattle.std.proofs.lemmas.Grind.{common_steps}
-use Rattle.sap_terms.proofs.TreeLemmas.{list_laws}
+use Rattle.sap_terms.proofs.PlainLaws.Trees.{list_laws}
 use Rattle.sap_terms.proofs.term.+nodes.Goals as goal
 
 pub TermList::nodes-returns : goal.TermList::nodes-returns

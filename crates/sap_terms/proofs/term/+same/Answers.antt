@@ -1,6 +1,6 @@
 use Rattle.std.proofs.Common.{◌≡◌, get_or, arith, sym, ap, ◌∙◌}
 use Rattle.std.proofs.lemmas.List.{get_or_read}
-use Rattle.sap_terms.proofs.TreeLemmas.{same_terms}
+use Rattle.sap_terms.proofs.PlainLaws.Trees.{same_terms}
 use Rattle.sap_terms.proofs.term.+same.Goals as goal
 
 pub TermList::is-returns-then-not-is : goal.TermList::is-returns-then-not-is

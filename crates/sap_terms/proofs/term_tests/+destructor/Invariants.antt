@@ -1,7 +1,7 @@
 use Rattle.std.proofs.Common.{◌≡◌, ◌+◌, ◌*◌, drop}
 use Rattle.sap_terms.specs.Tree.{node_count, trees_count, trees_of}
 use Rattle.sap_terms.specs.View.{tree}
-use Rattle.sap_terms.specs.code.TermTests.{any_has_destructor}
+use Rattle.sap_terms.specs.TermTests.{any_has_destructor}
 use Rattle.sap_terms.proofs.term_tests.+destructor.Given as goal
 
 abbrev pub decreases-applies_destructor : goal.decreases-applies_destructor

@@ -1,7 +1,7 @@
 use Rattle.std.proofs.Common.{◌≡◌, ◌+◌, ◌*◌, drop}
 use Rattle.sap_terms.specs.Tree.{node_count, trees_count, trees_of}
 use Rattle.sap_terms.specs.View.{tree}
-use Rattle.sap_terms.specs.code.TermTests.{are_ground}
+use Rattle.sap_terms.specs.TermTests.{are_ground}
 use Rattle.sap_terms.proofs.term_tests.+ground.Given as goal
 
 abbrev pub decreases-lacks_variables : goal.decreases-lacks_variables

@@ -4,14 +4,15 @@ use Rattle.sap_tool.proofs.Appending.{write_fault_is, memory_is}
 use Rattle.sap_tool.proofs.top.give.Goals as goal
 
 pub returns-in-Err-Failed : goal.returns-in-Err-Failed
-returns-in-Err-Failed g c =
+returns-in-Err-Failed g c = λ some.
     let part = c.in-Err-Failed.ensures.part in
-    let word = c.last_word.ensures.some in
-    broken part.0 word.0 c.last_word.ensures.status (c.put.ensures.cause (search rules)) (part.1, word.1)
-    (c.last_word.ensures.asked write_fault_is)
+    let word = c.last_word.ensures.ends in
+    broken part.0 word.0 c.last_word.ensures.status (c.put.ensures.cause (search rules))
+    ((part.1, c.put.ensures.asked some), (word.1, c.last_word.ensures.asked write_fault_is)) word.2
 
 pub returns-in-Err-Mem : goal.returns-in-Err-Mem
-returns-in-Err-Mem g c =
+returns-in-Err-Mem g c = λ some.
     let part = c.in-Err-Mem.ensures.part in
-    let word = c.last_word-in-Err-Mem.ensures.some in
-    wanting part.0 word.0 c.last_word-in-Err-Mem.ensures.status (part.1, word.1) (c.last_word-in-Err-Mem.ensures.asked memory_is)
+    let word = c.last_word-in-Err-Mem.ensures.ends in
+    wanting part.0 word.0 c.last_word-in-Err-Mem.ensures.status (c.put.ensures.want (search rules))
+    ((part.1, c.put.ensures.asked some), (word.1, c.last_word-in-Err-Mem.ensures.asked memory_is)) word.2

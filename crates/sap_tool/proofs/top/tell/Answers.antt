@@ -1,20 +1,23 @@
 use Rattle.std.proofs.Common.{rules, ap, ◌∙◌}
 use Rattle.sap_tool.specs.Answers.{broken, wanting}
 use Rattle.sap_tool.specs.Outside.{one_more}
-use Rattle.sap_tool.proofs.Appending.{appends_both, rose_later, write_fault_is, memory_is}
+use Rattle.sap_tool.proofs.Appending.{appends_both, rose_later, last_of, cut_after_fault, cut_after_want, write_fault_is, memory_is}
 use Rattle.sap_tool.proofs.top.tell.Goals as goal
 
 pub returns-in-Err-Failed : goal.returns-in-Err-Failed
 returns-in-Err-Failed g c = λ out none some.
     let part = c.in-Err-Failed.ensures.part in
-    let word = c.last_word.ensures.some in
-    broken part.0 word.0 c.last_word.ensures.status (rose_later _ _ _ (c.put.ensures.cause (search rules)) c.last_word.ensures.later)
-    (none, appends_both _ _ _ _ _ part.1 word.1)
-    (c.last_word.ensures.asked write_fault_is ∙ ap one_more (c.put.ensures.asked some))
+    let failed = c.put.ensures.cause (search rules) in
+    let word = c.last_word.ensures in
+    broken part.0 word.ends.0 word.status (rose_later _ _ _ failed word.faults)
+    (none, (appends_both _ _ _ _ _ part.1 word.ends.1, word.asked write_fault_is ∙ ap one_more (c.put.ensures.asked some)))
+    (last_of _ _ (cut_after_fault _ _ _ _ _ _ failed word.faults c.put.ensures.later_wants) word.ends.2)
 
 pub returns-in-Err-Mem : goal.returns-in-Err-Mem
 returns-in-Err-Mem g c = λ out none some.
     let part = c.in-Err-Mem.ensures.part in
-    let word = c.last_word-in-Err-Mem.ensures.some in
-    wanting part.0 word.0 c.last_word-in-Err-Mem.ensures.status (none, appends_both _ _ _ _ _ part.1 word.1)
-    (c.last_word-in-Err-Mem.ensures.asked memory_is ∙ ap one_more (c.put.ensures.asked some))
+    let wanted = c.put.ensures.want (search rules) in
+    let word = c.last_word-in-Err-Mem.ensures in
+    wanting part.0 word.ends.0 word.status (rose_later _ _ _ wanted word.wants)
+    (none, (appends_both _ _ _ _ _ part.1 word.ends.1, word.asked memory_is ∙ ap one_more (c.put.ensures.asked some)))
+    (last_of _ _ (cut_after_want _ _ _ _ _ _ wanted word.wants c.put.ensures.later) word.ends.2)

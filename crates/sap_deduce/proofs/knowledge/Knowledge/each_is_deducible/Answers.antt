@@ -8,10 +8,10 @@ returns-clause-entered c = rw (← c.self.view_is) c.self.invariant.entered
 
 pub returns-clause-messages : goal.returns-clause-messages
 returns-clause-messages c =
-    rw (← c.self.view_is) (entered-messages c.forms_are_messages.ensures _ _ c.builtins_are_held.ensures c.self.invariant.entered)
+    rw (← c.self.view_is) (entered-messages c.names_are_messages.ensures c.forms_are_messages.ensures _ _ c.builtins_are_held.ensures c.self.invariant.entered)
 
 pub returns-clause-within : goal.returns-clause-within
 returns-clause-within c = rw (← c.self.view_is) (entries-small _ c.self.invariant.within)
 
 pub returns-clause-deducible : goal.returns-clause-deducible
-returns-clause-deducible c = rw (← c.self.view_is) (entered-deducible _ c.self.invariant.entered)
+returns-clause-deducible c = rw (← c.self.view_is) (entered-deducible c.leaves_are_normal.ensures _ c.self.invariant.entered)

@@ -1,5 +1,5 @@
 use Rattle.std.proofs.Common.{◌≡◌, ◌||◌, drop}
-use Rattle.sap_process.specs.Tests.{has_clash, noted_all}
+use Rattle.sap_process.specs.code.Tests.{has_clash, noted_all}
 use Rattle.sap_process.proofs.met.Met.note_all.Given as goal
 
 abbrev pub invariant-loop-f : goal.invariant-loop-f

@@ -1,7 +1,7 @@
 use Rattle.std.proofs.Common.{◌≡◌, length, take, sym, subst, arith, refl}
 use Rattle.std.specs.Prelude.{All}
 use Rattle.std.proofs.lemmas.List.Elements.{All-push}
-use Rattle.sap_terms.proofs.TreeLemmas.{take_got}
+use Rattle.sap_terms.proofs.PlainLaws.Lists.{take_got}
 use Rattle.sap_rule.specs.WellMade.{IsWellMade}
 use Rattle.sap_rule.proofs.Elements.{take_all, all_at}
 use Rattle.sap_rule.proofs.theory.Theory.can_run.Goals as goal

@@ -5,5 +5,5 @@ use Rattle.sap_steps.proofs.state.RuleState.fresh.Goals as goal
 
 pub invariant_of-self-2 : goal.invariant_of-self-2
 invariant_of-self-2 c =
-    rw (c.add_one.ensures.places, c.in_ok-reserve.ensures.places, c.in_ok-fr.ensures)
-    (tied_push _ _ _ _ _ c.self.invariant (held_single _ (codes "Fr") (fresh c.args.n) (held_fresh _ c.args.n)))
+    rw (c.add_one.ensures.slots, c.in_ok-reserve.ensures.slots, c.in_ok-fr.ensures)
+    (tied_push _ _ _ _ c.self.invariant (held_single _ (codes "Fr") (fresh c.args.n) (held_fresh c.names_are_messages.ensures _ c.args.n)))

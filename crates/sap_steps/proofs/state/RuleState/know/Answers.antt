@@ -13,13 +13,12 @@ use Rattle.sap_steps.proofs.state.RuleState.know.Goals as goal
 
 pub invariant_of-self-2 : goal.invariant_of-self-2
 invariant_of-self-2 c =
-    let g = c.self.inside.sig in
+    let g = c.self.inside.knowledge.sig in
     let t : Tree = tree c.in-Some.t.now in
     let known = terms_of c.self.inside.knowledge.entries in
-    let messages = rw c.self.invariant.signature at c.each_is_deducible.ensures.messages in
     let held : IsSmallMessage g t = record {
-      message = all_at (IsMessage g Msg) known c.args.k t messages (sym c.in-Some.ensures);
+      message = all_at (IsMessage g Msg) known c.args.k t c.each_is_deducible.ensures.messages (sym c.in-Some.ensures);
       small = all_at (λ (u : Tree). node_count u ≤ MOST_TERM_NODES) known c.args.k t c.each_is_deducible.ensures.within (sym c.in-Some.ensures);
     } in
-    rw (c.add_one.ensures.places, c.in_ok-reserve.ensures.places, c.in_ok-given.ensures.0)
-    (tied_push _ _ _ _ _ c.self.invariant (held_single g (codes "In") t held))
+    rw (c.add_one.ensures.slots, c.in_ok-reserve.ensures.slots, c.in_ok-given.ensures.given)
+    (tied_push _ _ _ _ c.self.invariant (held_single g (codes "In") t held))

@@ -15,24 +15,25 @@ returns-in_default-clause-refused c =
 
 pub use_rule-requires-clause-ready : goal.use_rule-requires-clause-ready
 use_rule-requires-clause-ready c =
-    ready-all (IsReady c.self.inside.sig) c.self.inside.rules c.args.name.now c.in-Some.rule.now c.self.invariant.ready (sym c.in-Some.ensures)
+    rw c.signature-sig.ensures
+    (ready-all (IsReady c.self.inside.knowledge.sig) c.self.inside.rules c.args.name.now c.in-Some.rule.now c.self.invariant.ready (sym c.in-Some.ensures))
 
 pub returns-in_err-fired-clause-refused : goal.returns-in_err-fired-clause-refused
 returns-in_err-fired-clause-refused c =
     let p = err_from_is_err_and c.from_residual.result c.from_residual.ensures.1 in
-    let s : RuleState = record { facts = c.self.inside.facts.places; known = terms_of c.self.inside.knowledge.entries; made = c.self.inside.made.keys } in
+    let s : RuleState = record { facts = c.self.inside.facts.slots; known = terms_of c.self.inside.knowledge.entries; made = c.self.inside.made.keys } in
     let named = its_rule c.self.inside.rules c.args.name.now c.in-Some.rule.now (sym c.in-Some.ensures) in
     rw (p.1, p.2, ← c.self.view_is)
-    (rule_fault c.self.inside.sig (rules_of c.self.inside.rules) s c.args.name.now c.args.numbers.now c.args.b.now c.in-Some.rule.now.rule _ named c.in_err-fired.ensures.refused)
+    (rule_fault c.self.inside.knowledge.sig (rules_of c.self.inside.rules) s c.args.name.now c.args.numbers.now c.args.b.now c.in-Some.rule.now.rule _ named (rw c.signature-sig.ensures at c.in_err-fired.ensures.refused))
 
 pub invariant_of-self-2 : goal.invariant_of-self-2
 invariant_of-self-2 c =
-    rw (c.add_each.ensures, c.take_each.ensures.places, c.in_ok-reserve.ensures.places, c.into_vec-added.ensures)
-    (tied_used c.self.inside.sig c.self.inside.rules c.self.inside.facts.places c.self.inside.knowledge c.args.numbers.now c.in_ok-fired.fired.right c.self.invariant c.in_ok-fired.ensures.held)
+    rw c.in_ok-acts.ensures.ok
+    (tied_used c.self.inside.rules c.self.inside.facts.slots c.self.inside.knowledge c.args.numbers.now c.in_ok-fired.fired.right c.self.invariant (rw c.signature-sig.ensures at c.in_ok-fired.ensures.held))
 
 pub returns-clause-ok : goal.returns-clause-ok
 returns-clause-ok c =
     let named = its_rule c.self.inside.rules c.args.name.now c.in-Some.rule.now (sym c.in-Some.ensures) in
-    rw (← c.self.view_is)
-    (rule_line c.self.inside.sig (rules_of c.self.inside.rules) c.self.inside.facts.places c.add_each.new.facts.places (terms_of c.self.inside.knowledge.entries) c.self.inside.made.keys c.args.name.now c.args.numbers.now c.args.b.now c.in-Some.rule.now.rule c.in_ok-fired.fired.acts c.in_ok-fired.fired.right named c.in_ok-fired.ensures.taken c.in_ok-fired.ensures.fires
-    (rw (c.add_each.ensures, c.take_each.ensures.places, c.in_ok-reserve.ensures.places, c.into_vec-added.ensures) refl))
+    rw (c.in_ok-acts.ensures.acts, ← c.self.view_is)
+    (rule_line c.self.inside.knowledge.sig (rules_of c.self.inside.rules) c.self.inside.facts.slots c.carry_out.new.facts.slots (terms_of c.self.inside.knowledge.entries) c.self.inside.made.keys c.args.name.now c.args.numbers.now c.args.b.now c.in-Some.rule.now.rule c.in_ok-fired.fired.acts c.in_ok-fired.fired.right named c.in_ok-fired.ensures.taken (rw c.signature-sig.ensures at c.in_ok-fired.ensures.fires)
+    (rw c.in_ok-acts.ensures.ok refl))

@@ -17,4 +17,4 @@ held g b xs ss on m h is f e o =
 
 pub invariant_of-self : goal.invariant_of-self
 invariant_of-self c =
-    held (record { symbols = c.self.inside.symbols; builtins = c.self.inside.builtins }) c.args.b c.in_ok-symbols.symbols c.in_ok-self-inside.field-0 c.including-builtins.result c.self.invariant.0 c.self.invariant.1 c.in_ok-symbols.ensures c.in_default.ensures c.in_ok-self-inside.ensures c.including-builtins.ensures
+    held (record { symbols = c.self.inside.symbols; builtins = c.self.inside.builtins }) c.args.b c.in_ok-added.added c.in_ok-self-inside.field-0 c.including-self-inside.result c.self.invariant.0 c.self.invariant.1 c.in_ok-added.ensures c.in_ok-self-inside.ensures.no_clash c.in_ok-self-inside.ensures.ok c.including-self-inside.ensures

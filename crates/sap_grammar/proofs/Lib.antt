@@ -1,0 +1,10 @@
+pub mod Complete
+pub mod Sound
+pub mod Small
+pub mod Short
+pub mod Places
+pub mod Steps
+pub mod Lists
+pub mod Signatures
+pub mod Pushed
+pub mod Applied

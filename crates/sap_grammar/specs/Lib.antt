@@ -1,0 +1,12 @@
+pub use Rattle.sap_text.specs.Tokens
+pub use Rattle.sap_text.specs.Spans
+pub mod Words
+pub mod Sizes
+pub mod TermGrammar
+pub mod FactGrammar
+pub mod Places
+pub mod Reading
+pub mod TermReading
+pub mod Pieces
+pub mod TermText
+pub mod FactText

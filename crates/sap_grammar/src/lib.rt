@@ -1,0 +1,22 @@
+//! Words, terms and facts as text: the grammar, its readers, and the text that is printed.
+#![tactic(auto)]
+
+mod fact;
+mod fact_text;
+mod laws;
+mod limits;
+mod look;
+mod pieces;
+mod term;
+mod term_text;
+
+pub use fact::{read_fact, read_facts, read_short_fact};
+pub use fact_text::{push_arrow, push_fact, push_facts};
+pub use laws::{facts_are_read, one_fact, one_term, same_grammar, terms_are_read};
+pub use limits::Limits;
+pub use look::{
+    beyond, is_lower, is_mark, is_upper, name_at, names, number_at, quoted_at, starts, starts_zero,
+};
+pub use pieces::push_separator;
+pub use term::{read_short_term, read_term};
+pub use term_text::{push_terms, push_variable, push_whole_term};

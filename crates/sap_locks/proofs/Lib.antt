@@ -1,0 +1,12 @@
+pub mod Members
+pub mod Opened
+pub mod Places
+pub mod Labelled
+pub mod Searched
+pub mod Flawed
+pub mod Bare
+pub mod Annotated
+pub mod Flags
+pub mod Counts
+pub mod Told
+pub mod OpenLocks

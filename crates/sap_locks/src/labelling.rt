@@ -1,0 +1,106 @@
+//! Labels of locks, set in place.
+ghost use Rattle.std.specs.Prelude.{◌≡◌, ◌<◌, ◌+◌, ◌^◌, OnOk, IfOk, ◌∷◌};
+ghost use Rattle.sap_terms.specs.View.{tree};
+ghost use Rattle.sap_process.specs.Proc.{proc};
+ghost use Rattle.sap_locks.specs.code.Held.{opens};
+ghost use Rattle.sap_locks.specs.code.Labels.{labelled_from, dropped, found, label_of};
+ghost use Rattle.sap_locks.specs.Ways.{lock_count};
+
+use crate::held::{Held, last_of, set_open};
+use sap_process::Process;
+use sap_terms::{Copied, Mem, Term};
+use std::alloc::Global;
+
+// The locks above a place, the outermost first, and how many stand before it in preorder.
+#[derive(Drop)]
+pub(crate) struct Locks {
+    pub(crate) held: Vec<Held>,
+    pub(crate) count: u32,
+}
+
+// Sets the labels from this place on.
+#[cycle(label)]
+pub(crate) fn label(p: &mut Process, alloc: Global, locks: &mut Locks) -> Result<(), Mem>
+    requires { locks.now.count + lock_count (proc p.now) < 2 ^ 32 }
+    ensures made { OnOk result (proc p.new ≡ labelled_from (opens locks.old.held.items) locks.old.count (proc p.old)) }
+    ensures same { OnOk result (locks.new.held.items ≡ locks.old.held.items) }
+    ensures count { OnOk result (locks.new.count ≡ locks.old.count + lock_count (proc p.old)) }
+{
+    match p {
+        Process::Nil => Ok(()),
+        Process::Par(q, r) => {
+            label(q, alloc, locks)?;
+            label(r, alloc, locks)
+        }
+        Process::If(_, _, q, r) => {
+            label(q, alloc, locks)?;
+            label(r, alloc, locks)
+        }
+        Process::Lookup(_, _, q, r) => {
+            label(q, alloc, locks)?;
+            label(r, alloc, locks)
+        }
+        Process::Rep(q) => label(q, alloc, locks),
+        Process::New(_, q) => label(q, alloc, locks),
+        Process::Out(_, q) => label(q, alloc, locks),
+        Process::Send(_, _, q) => label(q, alloc, locks),
+        Process::In(_, q) => label(q, alloc, locks),
+        Process::Recv(_, _, q) => label(q, alloc, locks),
+        Process::Event(_, q) => label(q, alloc, locks),
+        Process::Insert(_, _, q) => label(q, alloc, locks),
+        Process::Delete(_, q) => label(q, alloc, locks),
+        Process::Embedded(_, _, _, q) => label(q, alloc, locks),
+        Process::Lock(t, n, q) => {
+            *n = locks.count + 1;
+            label_locked(q, alloc, locks, t)
+        }
+        Process::Unlock(t, n, q) => {
+            *n = label_unlocked(q, alloc, locks, t)?;
+            Ok(())
+        }
+    }
+}
+
+// Sets the labels below a lock of the term.
+#[cycle(label)]
+#[tactic(auto, using(crate::proofs::Flags::pushed_laws))]
+fn label_locked(q: &mut Process, alloc: Global, locks: &mut Locks, t: &Term) -> Result<(), Mem>
+    requires { locks.now.count + 1 + lock_count (proc q.now) < 2 ^ 32 }
+    ensures made { OnOk result (proc q.new ≡ labelled_from ((locks.old.count + 1, tree t.now) ∷ opens locks.old.held.items) (locks.old.count + 1) (proc q.old)) }
+    ensures same { OnOk result (locks.new.held.items ≡ locks.old.held.items) }
+    ensures count { OnOk result (locks.new.count ≡ locks.old.count + 1 + lock_count (proc q.old)) }
+{
+    let term = t.copy(alloc)?;
+    locks.held.push(Held {
+        label: locks.count + 1,
+        term,
+        is_open: true,
+    })?;
+    locks.count += 1;
+    label(q, alloc, locks)?;
+    locks.held.pop();
+    Ok(())
+}
+
+// Sets the labels below an unlock of the term, and gives its own.
+#[cycle(label)]
+fn label_unlocked(q: &mut Process, alloc: Global, locks: &mut Locks, t: &Term) -> Result<u32, Mem>
+    requires { locks.now.count + lock_count (proc q.now) < 2 ^ 32 }
+    ensures made { OnOk result (proc q.new ≡ labelled_from (dropped (tree t.now) (opens locks.old.held.items)) locks.old.count (proc q.old)) }
+    ensures label { IfOk result (λ n. n ≡ label_of (found (tree t.now) (opens locks.old.held.items))) }
+    ensures same { OnOk result (locks.new.held.items ≡ locks.old.held.items) }
+    ensures count { OnOk result (locks.new.count ≡ locks.old.count + lock_count (proc q.old)) }
+{
+    match last_of(locks.held.as_slice(), t) {
+        None => {
+            label(q, alloc, locks)?;
+            Ok(0)
+        }
+        Some(k) => {
+            let n = set_open(&mut locks.held, k, false);
+            label(q, alloc, locks)?;
+            set_open(&mut locks.held, k, true);
+            Ok(n)
+        }
+    }
+}

@@ -1,0 +1,13 @@
+//! Locks: which lock an unlock has.
+#![tactic(auto)]
+
+mod annotating;
+mod fault;
+mod held;
+mod labelling;
+mod laws;
+mod searching;
+
+pub use annotating::{annotate, annotate_boxed};
+pub use fault::LockFault;
+pub use laws::{annotations_by_hand, annotations_of_processes, open_locks_are_by_ways};

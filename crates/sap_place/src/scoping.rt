@@ -1,0 +1,120 @@
+//! Scopes and open locks with what an action adds.
+ghost use Rattle.std.specs.Prelude.{◌≡◌, ◌++◌, ◌∷◌, [], IfOk, codes, decimal, filter, not, nat_eq};
+ghost use Rattle.sap_terms.specs.Variables.{tree_vars, facts_vars, is_known, new_vars};
+ghost use Rattle.sap_terms.specs.View.{tree};
+ghost use Rattle.sap_process.specs.Sites.{var_names};
+ghost use Rattle.sap_locks.specs.Scopes.{lock_var, with_new};
+
+use sap_terms::{
+    Copied, FactList, Mem, Name, Numbers, Sort, Term, Var, Vars, push_facts_vars, push_vars,
+};
+use std::alloc::Global;
+
+// With the variable, of this sort, last.
+pub(crate) fn with_var(alloc: Global, scope: &Vars, x: &Var, sort: Sort) -> Result<Vars, Mem>
+    ensures { IfOk result (λ v. v ≡ scope.now ++ record { name = x.now.name; sort = sort } ∷ []) }
+{
+    let mut out = scope.copy(alloc)?;
+    let name = x.name.copy(alloc)?;
+    out.push(Var { name, sort })?;
+    Ok(out)
+}
+
+// With the new variables of a pattern.
+pub(crate) fn with_pattern(alloc: Global, scope: &Vars, t: &Term) -> Result<Vars, Mem>
+    ensures { IfOk result (λ v. v ≡ with_new scope.now (tree_vars (tree t.now))) }
+{
+    let mut vars = Vars::new(alloc);
+    push_vars(alloc, t, &mut vars)?;
+    with_new_of(alloc, scope, &vars)
+}
+
+// With the new variables of an embedded rule.
+pub(crate) fn with_rule(
+    alloc: Global,
+    scope: &Vars,
+    l: &FactList,
+    e: &FactList,
+    r: &FactList,
+) -> Result<Vars, Mem>
+    ensures { IfOk result (λ v. v ≡ with_new scope.now (facts_vars (l.now ++ (e.now ++ r.now)))) }
+{
+    let vars = rule_vars(alloc, l, e, r)?;
+    with_new_of(alloc, scope, &vars)
+}
+
+#[tactic(auto, using(crate::proofs::RuleVars::vars_of_rule))]
+fn rule_vars(alloc: Global, l: &FactList, e: &FactList, r: &FactList) -> Result<Vars, Mem>
+    ensures { IfOk result (λ v. v ≡ facts_vars (l.now ++ (e.now ++ r.now))) }
+{
+    let mut vars = Vars::new(alloc);
+    push_facts_vars(alloc, l, &mut vars)?;
+    push_facts_vars(alloc, e, &mut vars)?;
+    push_facts_vars(alloc, r, &mut vars)?;
+    Ok(vars)
+}
+
+fn with_new_of(alloc: Global, scope: &Vars, vars: &Vars) -> Result<Vars, Mem>
+    ensures { IfOk result (λ v. v ≡ scope.now ++ new_vars (var_names scope.now) vars.now) }
+{
+    let mut out = scope.copy(alloc)?;
+    for v in vars.as_slice() {
+        if !knows(&out, &v.name) {
+            out.push(v.copy(alloc)?)?;
+        }
+    }
+    Ok(out)
+}
+
+fn knows(scope: &Vars, name: &Name) -> bool
+    ensures { result ≡ is_known (var_names scope.now) name.now }
+{
+    for v in scope.as_slice() {
+        if v.name.same(name) {
+            return true;
+        }
+    }
+    false
+}
+
+// With the variable of the lock of this label, last.
+pub(crate) fn with_lock(alloc: Global, scope: &Vars, label: u32) -> Result<Vars, Mem>
+    ensures { IfOk result (λ v. v ≡ scope.now ++ lock_var label ∷ []) }
+{
+    let mut out = scope.copy(alloc)?;
+    let name = lock_name(alloc, label)?;
+    out.push(Var {
+        name,
+        sort: Sort::Fresh,
+    })?;
+    Ok(out)
+}
+
+fn lock_name(alloc: Global, label: u32) -> Result<Name, Mem>
+    ensures { IfOk result (λ n. n ≡ codes "sapic_lock" ++ decimal label) }
+{
+    let text = format!(in alloc; "sapic_lock{label}")?;
+    Name::from_bytes(alloc, text.as_bytes())
+}
+
+// With the label last.
+pub(crate) fn with_label(alloc: Global, locks: &Numbers, label: u32) -> Result<Numbers, Mem>
+    ensures { IfOk result (λ ls. ls ≡ locks.now ++ label ∷ []) }
+{
+    let mut out = locks.copy(alloc)?;
+    out.push(label as u64)?;
+    Ok(out)
+}
+
+// Without the label.
+pub(crate) fn without_label(alloc: Global, locks: &Numbers, label: u32) -> Result<Numbers, Mem>
+    ensures { IfOk result (λ ls. ls ≡ filter (λ l. not (nat_eq l label)) locks.now) }
+{
+    let mut out = Numbers::new(alloc);
+    for l in locks.as_slice() {
+        if *l != label as u64 {
+            out.push(*l)?;
+        }
+    }
+    Ok(out)
+}

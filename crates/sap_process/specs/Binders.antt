@@ -1,9 +1,0 @@
--- The places of binders in a scope: no public contract cites this file.
-use Rattle.std.specs.Prelude.{ℕ, suc, List, [], ◌∷◌, Option, Some, None, option_map, if◌then◌else◌}
-use Rattle.std.specs.Str.{bytes_eq}
-use Rattle.sap_terms.specs.declared.var.Var.{Var}
-
--- the place of the first variable of this name, from 0
-abbrev pub binder_place : List Var → List ℕ → Option ℕ
-binder_place [] n = None
-binder_place (v ∷ vs) n = if bytes_eq v.name n then Some 0 else option_map suc (binder_place vs n)

@@ -1,0 +1,68 @@
+//! What the rows of a table have made so far, where they go on from one another.
+use crate::notation::{name, signature, term};
+use crate::page::Page;
+use sap_deduce::Knowledge;
+use sap_facts::Pile;
+use sap_rule::Theory;
+use sap_steps::RuleState;
+use sap_terms::{Items, Name, Signature, Term};
+
+/// The symbols and terms of a row, and facts, a theory, knowledge and a run of rules.
+#[derive(Drop)]
+pub struct Desk {
+    pub signature: Signature,
+    pub terms: Vec<Term>,
+    pub pile: Pile,
+    pub theory: Theory,
+    pub knowledge: Option<Box<Knowledge>>,
+    pub run: Option<Box<RuleState>>,
+}
+
+fn theory_of(page: &mut Page, name: Name, signature: Signature) -> Theory {
+    Theory {
+        name,
+        signature,
+        rules: Items::new(page.alloc),
+        restrictions: Items::new(page.alloc),
+        lemmas: Items::new(page.alloc),
+    }
+}
+
+/// The theory T of these symbols, without rules, restrictions and lemmas.
+pub fn empty_theory(page: &mut Page, symbols: &str) -> Option<Theory> {
+    let (name, signature) = name(page.alloc, "T").zip(signature(page, symbols))?;
+    Some(theory_of(page, name, signature))
+}
+
+fn desk_of(page: &mut Page, signature: Signature, theory: Theory) -> Desk {
+    Desk {
+        signature,
+        terms: Vec::new(page.alloc),
+        pile: Pile::new(page.alloc),
+        theory,
+        knowledge: None,
+        run: None,
+    }
+}
+
+/// Before the first row.
+pub fn empty_desk(page: &mut Page) -> Option<Box<Desk>> {
+    let (signature, theory) = signature(page, "").zip(empty_theory(page, ""))?;
+    let desk = Some(desk_of(page, signature, theory));
+    page.boxed(desk)
+}
+
+impl Desk {
+    /// Begins a row over these symbols, without terms.
+    pub fn begin(&mut self, page: &mut Page, symbols: &str) {
+        self.terms.clear();
+        let signature = signature(page, symbols);
+        page.set(&mut self.signature, signature);
+    }
+
+    /// Puts the term last that the text spells.
+    pub fn put_term(&mut self, page: &mut Page, text: &str) {
+        let term = term(page, &self.signature, text);
+        page.push(&mut self.terms, term);
+    }
+}

@@ -1,0 +1,4 @@
+-- Laws of lists, truth values and plain terms that the library lacks: the one folder of proofs that other crates may name.
+pub mod Lists
+pub mod Tests
+pub mod Trees
