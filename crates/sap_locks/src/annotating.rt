@@ -14,10 +14,10 @@ use sap_process::{Process, Trail};
 use sap_terms::{Mem, Path};
 use std::alloc::Global;
 
-/// The process with labels: the n-th lock in preorder has the label n, from 1, and an unlock that of the lowest lock above it
-/// that is open and has the same term. A lock is open below itself until an unlock that has it as its lock. Else the first
-/// place in preorder that can't be annotated: an unlock that has no lock, or a parallel or a replication at which a lock is
-/// open that an unlock below it has as its lock. A refusal doesn't give the process back.
+/// The process with labels: locks are numbered from 1 as they come in preorder, and each unlock gets the number of the lock
+/// that it ends, which of the locks on the way to it that have its term and aren't ended yet is the last one. Else the first
+/// place in preorder that can't be annotated: an unlock that ends nothing, or a parallel or a replication below which an unlock
+/// would end a lock that stands above it. A refusal doesn't give the process back.
 ///
 /// It takes time in proportion to the process, but that each unlock is compared with the locks above it.
 pub fn annotate(alloc: Global, p: Process) -> Result<Process, LockFault>

@@ -10,6 +10,7 @@ pub data Answer : Type 0 where
   gives : (text : List ℕ) → Answer
   tells : (status : ℕ) (text : List ℕ) → Answer
 
+-- its status
 abbrev pub status_of : Answer → ℕ
 status_of (gives text) = 0
 status_of (tells status text) = status
@@ -23,27 +24,31 @@ pub data IsAnswerTo (k : Command) (bytes : List ℕ) : Answer → Type 0 where
 abbrev pub Asks : Call → Command → Type 0
 Asks c k = c.words ≡ spelled k
 
--- the shelf was asked once
+-- the shelf was asked once, where it tells that
 abbrev pub AskedOnce : Call → Type 0
 AskedOnce c = c.asked_after ≡ one_more c.asked_before
 
--- the command's file was fetched as these bytes, and nothing else was fetched
+-- these are bytes that a fetch of the command's file may answer, by what the shelf tells, and nothing else was fetched
 abbrev pub Fetched : Call → Command → List ℕ → Type 0
 Fetched c k bytes = IsFetched c.holds (file_of k) (limit_of k) bytes × AskedOnce c
 
+-- what is told where words ask for nothing
 abbrev pub usage_text : List ℕ
 usage_text = codes "usage: sapic COMMAND ARGUMENTS\n"
 
+-- where the file couldn't be read
 abbrev pub read_fault_text : List ℕ
 read_fault_text = codes "read fault\n"
 
+-- the last word of 5
 abbrev pub write_fault_text : List ℕ
 write_fault_text = codes "write fault\n"
 
+-- the last word of 6
 abbrev pub memory_text : List ℕ
 memory_text = codes "out of memory\n"
 
--- the answers of a call, each with its cause
+-- the answers that a call may have, each with its cause
 pub data IsAnswer (c : Call) : Answer → Type 0 where
   to_file : {a : Answer} (k : Command) (bytes : List ℕ) → Asks c k → Fetched c k bytes → IsAnswerTo k bytes a → IsAnswer c a
   usage : IsUnknown c.words → c.asked_after ≡ c.asked_before → IsAnswer c (tells 3 usage_text)
@@ -65,7 +70,7 @@ abbrev pub Broken : Answer → Stream → Stream → Type 0
 Broken (gives text) out err = Failed out
 Broken (tells status text) out err = Failed err
 
--- it found no memory
+-- the sink that the answer's text was put on found no memory
 abbrev pub Starved : Answer → Stream → Stream → Type 0
 Starved (gives text) out err = Wanted out
 Starved (tells status text) out err = Wanted err

@@ -9,13 +9,14 @@ use Rattle.sap_theory.specs.TheoryText.{theory_text}
 abbrev pub most_bytes : ℕ
 most_bytes = 1048576
 
--- the bytes are read as a file that tells this, and its process is built as b
+-- the bytes aren't too many, they are read as a file that tells this, and its process is built as b
 pub record IsBuiltFile (bytes : List ℕ) (told : FileContent) (b : Built) : Type 0 where
   pub short : length bytes ≤ most_bytes
   pub read : IsRead bytes (Ok told)
   pub process : built told.process ≡ Some b
 
--- the text of the theory of such a file, which has no restrictions and no lemmas of its own
+-- the text of the theory with the name and signature of a file and the rules of a built process, and with no restrictions and no
+-- lemmas of the file's own
 abbrev pub compiled_text : FileContent → Built → List ℕ
 compiled_text told b = theory_text (theory_of told.name told.signature b [] [])
 

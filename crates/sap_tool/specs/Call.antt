@@ -29,6 +29,7 @@ pub record Call : Type 0 where
   pub out : Stream
   pub err : Stream
 
+-- the sink with these before and after
 abbrev pub stream : Option (List ℕ) → Option (List ℕ) → ℕ → ℕ → ℕ → ℕ → Option ℕ → Option ℕ → Stream
 stream before after faults_before faults_after wants_before wants_after asked_before asked_after = record {
   before = before;
@@ -45,6 +46,7 @@ stream before after faults_before faults_after wants_before wants_after asked_be
 abbrev pub bytes_of : List (String Global) → List (List ℕ)
 bytes_of words = map string_bytes words
 
+-- the call of these words
 abbrev pub call : List (String Global) → Option Files → (List ℕ → ℕ) → (List ℕ → ℕ) → Option ℕ → Option ℕ → Stream → Stream → Call
 call words holds faults_before faults_after asked_before asked_after out err = record {
   words = bytes_of words;
@@ -61,23 +63,23 @@ call words holds faults_before faults_after asked_before asked_after out err = r
 abbrev pub Gained : Stream → ℕ → List ℕ → Type 0
 Gained s puts bytes = Appends s.before s.after bytes × (s.asked_after ≡ more puts s.asked_before)
 
--- a put of this call failed, as the count shows
+-- the count of faults rose in this call, as it does where a put fails
 abbrev pub Failed : Stream → Type 0
 Failed s = Rose s.faults_before s.faults_after
 
--- a put of this call found no memory, as the count shows
+-- the count of wants of memory rose in this call, as it does where a put finds none
 abbrev pub Wanted : Stream → Type 0
 Wanted s = Rose s.wants_before s.wants_after
 
--- a put of this call was cut short, by a fault or for want of memory
+-- one of the two counts rose, as one does where a put is cut short
 abbrev pub CutShort : Stream → Type 0
 CutShort s = Failed s ⊎ Wanted s
 
--- two puts were
+-- the two counts rose twice in all, as they do where two puts are cut short
 abbrev pub CutTwice : Stream → Type 0
 CutTwice s = RoseTwice s.faults_before s.faults_after ⊎ (Failed s × Wanted s) ⊎ RoseTwice s.wants_before s.wants_after
 
--- a fetch of this name failed, as its count shows
+-- this name's count of faults rose in this call, as it does where a fetch of it fails
 abbrev pub FailedOn : Call → List ℕ → Type 0
 FailedOn c name = Rose (c.faults_before name) (c.faults_after name)
 

@@ -1,10 +1,10 @@
--- What the program is asked for, and what a command reads, refuses and allows.
+-- What the program is asked for, and what a command reads, refuses and allows, and what it means by that.
 use Rattle.std.specs.Prelude.{◌≡◌, ℕ, codes, List, [], ◌∷◌}
 use Rattle.sap_tool.specs.BuiltFile.{most_bytes, IsTheoryOf}
 use Rattle.sap_tool.specs.Meaning.{IsFaithfulText}
 use Rattle.sap_tool.specs.Refusals.{IsRefusedWith}
 
--- a constructor a command
+-- what words may ask for
 pub data Command : Type 0 where
   -- the theory of a file
   compile : (file : List ℕ) → Command

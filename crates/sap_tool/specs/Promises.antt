@@ -24,7 +24,8 @@ pub record Told (c : Call) (status : ℕ) : Type 0 where
   pub out : Gained c.out 0 []
   pub err : Gained c.err 1 text
 
--- the sink that an answer belongs on failed while it took it, and err has the last word, whole unless its put was cut short
+-- the count of faults rose of the sink that an answer belongs on, which has a first part of it; and err has the last word, whole
+-- unless its put was cut short too
 pub record Unwritten (c : Call) : Type 0 where
   pub answer : Answer
   pub cause : IsAnswer c answer
@@ -34,14 +35,15 @@ pub record Unwritten (c : Call) : Type 0 where
   pub part : Part answer taken last c.out c.err
   pub word : IsLast (CutLast answer c.err) write_fault_text last
 
--- memory was wanting, and err has the last word, whole unless its put was cut short: before there was an answer, so that out has
--- nothing; or its sink found none while it took an answer, so that out may have a first part of a text that is allowed
+-- err has the last word, whole unless its put was cut short, and out has nothing, where there was no answer yet; or the sink
+-- that an answer belongs on counted a want of memory, and has a first part of it
 pub data Wanting (c : Call) : Type 0 where
   before_all : (last : List ℕ) → Gained c.out 0 [] → Gained c.err 1 last → IsLast (CutShort c.err) memory_text last → Wanting c
   while_put : (a : Answer) (taken : ℕ) (last : List ℕ) → IsAnswer c a → Starved a c.out c.err → Part a taken last c.out c.err
       → IsLast (CutLast a c.err) memory_text last → Wanting c
 
--- Each status comes only with its cause and with what it leaves on the two sinks, and the last fields say when it must come.
+-- Each status comes only with its cause and with what it leaves on the two sinks, and the last fields say when 0, 1 and 3 must
+-- come.
 pub record Promises (c : Call) (status : ℕ) : Type 0 where
   pub statuses : Contains (0 ∷ 1 ∷ 3 ∷ 4 ∷ 5 ∷ 6 ∷ []) status
   pub compiled : status ≡ 0 → Compiled c
@@ -52,7 +54,9 @@ pub record Promises (c : Call) (status : ℕ) : Type 0 where
   pub wanting : status ≡ 6 → Wanting c
   -- where no put on err was cut short, 5 and 6 leave their word there, and nothing else
   pub last_word : (CutShort c.err → ⊥) → (status ≡ 5 → Gained c.err 1 write_fault_text) × (status ≡ 6 → Gained c.err 1 memory_text)
+  -- for words that ask for nothing
   pub must_tell_usage : IsUnknown c.words → (status ≡ 3) ⊎ ((status ≡ 5) × Failed c.err) ⊎ (status ≡ 6)
+  -- for bytes that a cause refuses
   pub must_refuse : (k : Command) (bytes why : List ℕ) → Asks c k → Holds c.holds (file_of k) bytes → Refuses k bytes why
       → ((status ≡ 1) × Gained c.err 1 (refused_line why)) ⊎ ((status ≡ 4) × FailedOn c (file_of k)) ⊎ ((status ≡ 5) × Failed c.err) ⊎ (status ≡ 6)
   -- for bytes that no cause refuses

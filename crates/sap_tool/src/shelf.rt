@@ -34,7 +34,7 @@ pub trait Shelf {
     /// What it holds, where it tells.
     ghost holds: { Self → Option Files };
 
-    /// How often the file of a name has failed; it stops at the greatest u64.
+    /// A count that rises each time the file of a name fails, and may rise otherwise; it stops at the greatest u64.
     ghost faults: { Self → List ℕ → ℕ };
 
     /// How many fetches there were, where it tells; it stops at the greatest u64.

@@ -27,10 +27,10 @@ pub trait Sink {
     /// What was written, where it tells.
     ghost written: { Self → Option (List ℕ) };
 
-    /// How often it has failed; it stops at the greatest u64.
+    /// A count that rises each time it fails, and may rise otherwise; it stops at the greatest u64.
     ghost faults: { Self → ℕ };
 
-    /// How often it found no memory; it stops at the greatest u64.
+    /// A count that rises each time it finds no memory, and may rise otherwise; it stops at the greatest u64.
     ghost wants: { Self → ℕ };
 
     /// How many puts of some bytes there were, where it tells; it stops at the greatest u64.

@@ -25,7 +25,7 @@ use std::alloc::Global;
 /// - 5: out or err failed.
 /// - 6: memory was wanting.
 ///
-/// The text of a status from 1 to 6 goes to err, ended by a line feed; a fault while that of 5 or 6 is
+/// The text of status 1 and of each from 3 to 6 goes to err, ended by a line feed; a fault while that of 5 or 6 is
 /// written is passed over.
 pub fn sapic<S: Shelf, O: Sink, E: Sink>(
     alloc: Global,
