@@ -3,11 +3,13 @@
 # time and of the bytes that are read and written.
 #   nodes   balanced parallels of events, up to 4,000 nodes
 #   events  a name that stands 1,000 times for an event with so many arguments
-#   scopes  64 names in scope, and actions on them, up to 4,000 nodes; its forms aren't built, so the file is read and refused
-#   terms   a name that stands so often for a message of 100 levels; likewise read and refused
-#   rules   a name that stands 1,333 times for an embedded rule with so many occurrences of one variable; likewise
-#   facts   a name that stands 1,333 times for an embedded rule of so many facts; likewise
-#   vars    one embedded rule with so many occurrences of one variable; likewise
+#   scopes  64 names in scope, and outputs of them, up to 4,000 nodes
+#   sends   64 names in scope, and messages on channels, three rules each, up to 12,000 rules
+#   locks   balanced parallels of a lock and its unlock, up to 4,000 nodes
+#   terms   a name that stands so often for a message of 100 levels
+#   rules   a name that stands 1,333 times for an embedded rule with so many occurrences of one variable
+#   facts   a name that stands 1,333 times for an embedded rule of so many facts
+#   vars    one embedded rule with so many occurrences of one variable
 #   names   so many doubling `let` items, of which the process uses the last; counted, and refused
 #   items   so many functions that are declared, up to a file of 1 MiB
 # usage: bench/compile.sh [TURNS]
@@ -37,18 +39,29 @@ events() {
     parallel 1000 A "let A = event Shown($args)"
 }
 
-scopes() {
-    awk -v n="$1" 'BEGIN {
+# So many actions under 64 names, each the words with one of them in place of NAME.
+under_names() {
+    awk -v n="$1" -v action="$2" 'BEGIN {
         printf "theory Bench begin process: "
         for (k = 1; k <= 64; k++) printf "new ~n%d; ", k
         printf "("
         for (k = 1; k < n / 200; k++) {
-            for (m = 0; m < 200; m++) printf "out(~n%d); ", m % 64 + 1
+            for (m = 0; m < 200; m++) {
+                one = action
+                sub(/NAME/, "~n" m % 64 + 1, one)
+                printf "%s; ", one
+            }
             printf "0 | "
         }
         print "0) end"
     }'
 }
+
+scopes() { under_names "$1" "out(NAME)"; }
+
+sends() { under_names "$1" "out(~n1, NAME)"; }
+
+locks() { parallel "$1" "(lock 's'; unlock 's')" ""; }
 
 terms() {
     term=$(awk 'BEGIN { for (k = 1; k < 100; k++) printf "f("; printf "\047a\047"; for (k = 1; k < 100; k++) printf ")" }')
@@ -125,6 +138,8 @@ kind() {
 kind nodes 80 160 320 640 1333
 kind events 8 16 32 64 128 256 512
 kind scopes 400 800 1600 3200
+kind sends 400 800 1600 3200
+kind locks 80 160 320 640 1000
 kind terms 80 160 320 640 1333
 kind rules 250 500 1000 2000
 kind facts 250 500 1000 2000

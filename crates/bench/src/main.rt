@@ -1,8 +1,10 @@
 //! Counts what calls of the libraries give on an input of so large a size that a script can time them. The words are `facts N`,
-//! `knowledge N`, `normal ROUNDS NODES`, `steps RULES N` or `tokens FILE`; with none each kind is counted once on a small input.
+//! `guard N`, `judge TIMES`, `knowledge N`, `normal ROUNDS NODES`, `steps RULES N` or `tokens FILE`; with none each kind is counted once on a small input.
 #![tactic(auto)]
 
 mod facts;
+mod guard;
+mod judge;
 mod knowledge;
 mod made;
 mod normal;
@@ -16,6 +18,8 @@ use std::{env, fs, io};
 fn count(alloc: Global, kind: &str, first: u64, second: u64) -> Option<u64> {
     match kind {
         "facts" => facts::taken_of(alloc, first),
+        "guard" => guard::kept_of(alloc, first),
+        "judge" => judge::judged_on(alloc, first),
         "knowledge" => knowledge::nodes_of(alloc, first),
         "normal" => normal::nodes_of(alloc, second, first),
         _ => steps::shown_by(alloc, second, first),
@@ -37,7 +41,7 @@ fn number(words: &Vec<String>, place: usize) -> u64 {
 
 // What each kind counts on a small input.
 fn tell_each(rt: &HostRuntime) -> io::Result<()> {
-    for kind in ["facts", "knowledge", "normal", "steps"] {
+    for kind in ["facts", "guard", "judge", "knowledge", "normal", "steps"] {
         let counted = count(rt.alloc(), kind, 20, 1000);
         println!(rt; "{kind} {counted:?}")?;
     }

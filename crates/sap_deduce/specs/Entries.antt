@@ -82,14 +82,6 @@ pub record AreEntries (k : Entries) : Type 0 where
 abbrev pub IsFirstUnknown : ℕ → List ℕ → ℕ → Type 0
 IsFirstUnknown count ks k = find (nat_le count) ks ≡ Some k
 
--- no more is wrong than that the normal form is too large
-abbrev pub IsLarge : Entries → List ℕ → List ℕ → Deny → Type 0
-IsLarge k f ks Mem = ⊤
-IsLarge k f ks TermLarge = (t : Tree) × IsApplication k.sig k.entries f ks t × (MOST_TERM_NODES < node_count t)
-IsLarge k f ks (NotPublic n) = ⊥
-IsLarge k f ks (Arity n) = ⊥
-IsLarge k f ks (NoEntry n) = ⊥
-
 -- why a symbol on these entries is refused; each cause but want of memory is the first in this order
 abbrev pub IsCause : Entries → List ℕ → List ℕ → Deny → Type 0
 IsCause k f ks Mem = ⊤

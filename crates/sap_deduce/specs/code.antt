@@ -1,2 +1,3 @@
--- How what is stored is seen, for this crate alone: no definition that a theorem speaks of.
+-- What the code of this crate speaks of: how what is stored is seen, and what is left to refuse. No theorem speaks of it.
+pub mod Large
 pub mod Views

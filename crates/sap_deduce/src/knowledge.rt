@@ -4,7 +4,8 @@ ghost use Rattle.sap_terms.specs.View.{tree};
 ghost use Rattle.sap_terms.specs.Tree.{node_count, fresh, public};
 ghost use Rattle.sap_terms.specs.Message.{IsMessage};
 ghost use Rattle.sap_terms.specs.declared.var.Sort.TheVariants.{Msg};
-ghost use Rattle.sap_deduce.specs.Entries.{Gains, Adds, terms_of, AreTermsAt, IsApplication, Applies, IsCause, IsLarge};
+ghost use Rattle.sap_deduce.specs.Entries.{Gains, Adds, terms_of, AreTermsAt, IsApplication, Applies, IsCause};
+ghost use Rattle.sap_deduce.specs.code.Large.{IsLarge};
 ghost use Rattle.sap_terms.specs.Signature.{IsPublic, arity_of};
 ghost use Rattle.sap_deduce.specs.declared.origin.Origin.TheVariants.{Name as NameOrigin, Public as PublicOrigin, Output as OutputOrigin};
 

@@ -11,5 +11,14 @@ pub mod code
 pub mod Times
 pub mod Truth
 pub mod Hide
+pub mod Checked
+pub mod Subterms
+pub mod Slim
+pub mod Parts
+pub mod Faults
+pub mod Sorted
+pub mod Cost
+pub mod Verdict
+pub mod Laws
 pub mod HoldsOf
 pub mod Examples

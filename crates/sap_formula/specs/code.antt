@@ -1,2 +1,12 @@
--- How formulas, restrictions and lemmas are told apart, for the models of this crate's types: no definition that a theorem speaks of.
+-- What serves the code's own proofs: how formulas, restrictions and lemmas are told apart, for the models of this crate's
+-- types, and mirrors of the check and the judge. No definition that a theorem speaks of.
 pub mod Codes
+pub mod Tests
+pub mod Scoped
+pub mod Walk
+pub mod Sighted
+pub mod Environments
+pub mod Picked
+pub mod Quantified
+pub mod Weight
+pub mod Answer

@@ -1,4 +1,4 @@
-ghost use Rattle.std.specs.Prelude.{◌≡◌, IfOk};
+ghost use Rattle.std.specs.Prelude.{◌≡◌, IfOk, Ok};
 ghost use Rattle.sap_formula.specs.Form.{every, exists};
 ghost use Rattle.sap_formula.specs.View.{form};
 
@@ -46,20 +46,20 @@ impl Formula {
             Formula::Less(i, j) => copy_less(alloc, i, j),
             Formula::Not(f) => Ok(Formula::Not(f.boxed_copy(alloc)?)),
             Formula::And(f, g) => {
-                let left = f.boxed_copy(alloc)?;
-                Ok(Formula::And(left, g.boxed_copy(alloc)?))
+                let (f, g) = both(f.boxed_copy(alloc), g.boxed_copy(alloc))?;
+                Ok(Formula::And(f, g))
             }
             Formula::Or(f, g) => {
-                let left = f.boxed_copy(alloc)?;
-                Ok(Formula::Or(left, g.boxed_copy(alloc)?))
+                let (f, g) = both(f.boxed_copy(alloc), g.boxed_copy(alloc))?;
+                Ok(Formula::Or(f, g))
             }
             Formula::Imp(f, g) => {
-                let left = f.boxed_copy(alloc)?;
-                Ok(Formula::Imp(left, g.boxed_copy(alloc)?))
+                let (f, g) = both(f.boxed_copy(alloc), g.boxed_copy(alloc))?;
+                Ok(Formula::Imp(f, g))
             }
             Formula::Iff(f, g) => {
-                let left = f.boxed_copy(alloc)?;
-                Ok(Formula::Iff(left, g.boxed_copy(alloc)?))
+                let (f, g) = both(f.boxed_copy(alloc), g.boxed_copy(alloc))?;
+                Ok(Formula::Iff(f, g))
             }
             Formula::All(binders, f) => copy_all(alloc, binders, f.boxed_copy(alloc)?),
             Formula::Ex(binders, f) => copy_exists(alloc, binders, f.boxed_copy(alloc)?),
@@ -74,6 +74,17 @@ impl Formula {
     }
 }
 
+// Both, where there is memory for both.
+fn both(
+    left: Result<Box<Formula>, Mem>,
+    right: Result<Box<Formula>, Mem>,
+) -> Result<(Box<Formula>, Box<Formula>), Mem>
+    ensures { IfOk result (λ two. (left ≡ Ok two.0) × (right ≡ Ok two.1)) }
+{
+    let left = left?;
+    Ok((left, right?))
+}
+
 fn copy_action(alloc: Global, fact: &Fact, i: &Name) -> Result<Formula, Mem>
     ensures { IfOk result (λ f. f ≡ Formula.Action fact.now i.now) }
 {
@@ -81,27 +92,31 @@ fn copy_action(alloc: Global, fact: &Fact, i: &Name) -> Result<Formula, Mem>
     Ok(Formula::Action(fact, i.copy(alloc)?))
 }
 
-fn copy_same(alloc: Global, i: &Name, j: &Name) -> Result<Formula, Mem>
+pub(crate) fn copy_same(alloc: Global, i: &Name, j: &Name) -> Result<Formula, Mem>
     ensures { IfOk result (λ f. f ≡ Formula.Same i.now j.now) }
 {
     let i = i.copy(alloc)?;
     Ok(Formula::Same(i, j.copy(alloc)?))
 }
 
-fn copy_less(alloc: Global, i: &Name, j: &Name) -> Result<Formula, Mem>
+pub(crate) fn copy_less(alloc: Global, i: &Name, j: &Name) -> Result<Formula, Mem>
     ensures { IfOk result (λ f. f ≡ Formula.Less i.now j.now) }
 {
     let i = i.copy(alloc)?;
     Ok(Formula::Less(i, j.copy(alloc)?))
 }
 
-fn copy_all(alloc: Global, binders: &Binders, body: Box<Formula>) -> Result<Formula, Mem>
+pub(crate) fn copy_all(alloc: Global, binders: &Binders, body: Box<Formula>) -> Result<Formula, Mem>
     ensures { IfOk result (λ f. form f ≡ every binders.now (form body.value)) }
 {
     Ok(Formula::All(binders.copy(alloc)?, body))
 }
 
-fn copy_exists(alloc: Global, binders: &Binders, body: Box<Formula>) -> Result<Formula, Mem>
+pub(crate) fn copy_exists(
+    alloc: Global,
+    binders: &Binders,
+    body: Box<Formula>,
+) -> Result<Formula, Mem>
     ensures { IfOk result (λ f. form f ≡ exists binders.now (form body.value)) }
 {
     Ok(Formula::Ex(binders.copy(alloc)?, body))

@@ -1,4 +1,4 @@
-// Worked examples of truth, as contracts of functions that do nothing.
+// Laws of checked formulas and worked examples of truth, as contracts of functions that do nothing.
 ghost use Rattle.std.specs.Prelude.{[], ◌∷◌, true, false};
 ghost use Rattle.sap_terms.specs.Signature.{Sig};
 ghost use Rattle.sap_formula.specs.Form.{negation};
@@ -6,10 +6,11 @@ ghost use Rattle.sap_terms.specs.Trace.{Trace};
 ghost use Rattle.sap_formula.specs.Truth.{EachIn, IsTrueOn};
 ghost use Rattle.sap_formula.specs.HoldsOf.{HoldsOf};
 ghost use Rattle.sap_formula.specs.Examples.{a, b, x, fresh_x, public_x, fact, other_fact, trace_a, trace_aa, trace_ab, IsEither, only_a, some_time, two_times, some_b, two_binders, first_of_pair, first_is, one_time_alone, true_ones, false_ones};
+ghost use Rattle.sap_formula.specs.Laws.{SubtermLaw, HiddenBinderLaw, HideLaw, CheckLaw, ClosedLaw, OneFaultLaw, NoFaultLaw};
 
 use crate::Mode;
 use sap_rewrite::normal_terms_decide;
-use sap_terms::names_are_messages;
+use sap_terms::{destructors_head_left_sides, leaves_are_normal, names_are_messages};
 
 /// Truth of small formulas on small traces: each connective by its table; an action atom and an equation are true up to
 /// the theory, persistence isn't looked at and the number of arguments is; a time is the same as itself alone; quantifiers
@@ -47,3 +48,36 @@ pub fn lemmas_by_hand()
 {
     truth_by_hand();
 }
+
+/// The truth of a checked formula on a trace of messages stays the same where message variables range over the subterms
+/// of the trace's facts alone, and where binders that later ones of their quantifier hide are left out.
+pub fn variables_range_over_subterms()
+    ensures subterms { SubtermLaw }
+    ensures binders { HiddenBinderLaw }
+{
+    normal_terms_decide();
+    leaves_are_normal();
+    destructors_head_left_sides();
+}
+
+/// It stays the same where a trace is hidden of which the formula doesn't speak.
+pub fn hiding_keeps_truth()
+    ensures { HideLaw }
+{
+    normal_terms_decide();
+    leaves_are_normal();
+    destructors_head_left_sides();
+}
+
+/// A formula without a fault is a checked formula, once its message variables have the sorts of their binders; a checked
+/// formula is closed.
+pub fn faultless_formulas_are_checked()
+    ensures checked { CheckLaw }
+    ensures closed { ClosedLaw }
+{}
+
+/// Of a formula with a fault one fault counts, with one name.
+pub fn one_fault()
+    ensures fault { OneFaultLaw }
+    ensures none { NoFaultLaw }
+{}

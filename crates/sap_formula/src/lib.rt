@@ -1,14 +1,39 @@
-//! Formulas over traces, restrictions and lemmas, and what it means that they are true.
+//! Formulas over traces, restrictions and lemmas: what it means that they are true, their check, and the judge of their
+//! truth on a trace.
 #![tactic(auto)]
 
 mod binder;
+mod checking;
+mod environment;
+mod fault;
 mod formula;
+mod guards;
+mod instances;
 mod laws;
 mod lemma;
+mod picks;
+mod projecting;
 mod restriction;
+mod scope;
+mod search;
+mod sightings;
+mod slimming;
+mod sorting;
+mod truths;
+mod tuples;
+mod verdict;
+mod visible;
 
 pub use binder::{Binder, Binders};
+pub use checking::check;
+pub use fault::{FormulaFault, FormulaFlaw};
 pub use formula::Formula;
-pub use laws::{lemmas_by_hand, truth_by_hand};
+pub use laws::{
+    faultless_formulas_are_checked, hiding_keeps_truth, lemmas_by_hand, one_fault, truth_by_hand,
+    variables_range_over_subterms,
+};
 pub use lemma::{Lemma, LemmaList, Mode};
 pub use restriction::{Restriction, RestrictionList};
+pub use tuples::cost;
+pub use verdict::{Verdict, judge};
+pub use visible::hide;

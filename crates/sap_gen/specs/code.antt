@@ -1,5 +1,2 @@
--- What serves the proofs of this crate alone: no public contract cites it.
-pub mod Members
-pub mod Places
-pub mod Relation
-pub mod Sites
+-- How the walk cuts the rules of a process at a place: no definition that a theorem speaks of.
+pub mod Inside

@@ -1,48 +1,93 @@
-//! Laws of the rules of a process, and of the processes that have them.
-ghost use Rattle.std.specs.Prelude.{◌≡◌, ◌↔◌, ◌⊎◌, ℕ, List, [], Some};
-ghost use Rattle.sap_terms.specs.Signature.{Sig};
-ghost use Rattle.sap_terms.specs.Trace.{Trace};
-ghost use Rattle.sap_process.specs.Proc.{Proc};
-ghost use Rattle.sap_process.specs.Flaws.{IsWellFormed};
-ghost use Rattle.sap_process.specs.Sorted.{with_sorts};
+//! Laws of the rules of a process, as contracts of functions that only call the laws below.
+ghost use Rattle.std.specs.Prelude.{[], All, Contains, List, Some, ◌<◌, ◌^◌, ◌≡◌, ◌↔◌, ℕ};
 ghost use Rattle.sap_formula.specs.Form.{LemmaForm};
-ghost use Rattle.sap_formula.specs.Truth.{IsTrueOn};
-ghost use Rattle.sap_gen.specs.Built.{Built, IsBuilt, built};
-ghost use Rattle.sap_gen.specs.Faithful.{IsFaithful, NoReservedEvents, ShowsAll, ShowsOnly};
-ghost use Rattle.sap_gen.specs.Templates.{rules_of};
-ghost use Rattle.sap_gen.specs.Theories.{one_start, theory_of};
-ghost use Rattle.sap_gen.specs.Traces.{IsAdmitted};
-ghost use Rattle.sap_gen.specs.Unbuilt.{first_unbuilt};
+ghost use Rattle.sap_gen.specs.Faithful.{AreRestrictionsTrue, IsFaithful, ShowsAll, ShowsOnly};
+ghost use Rattle.sap_gen.specs.Sound.{IsSound};
+ghost use Rattle.sap_gen.specs.Templates.{own_rules, rules_of};
+ghost use Rattle.sap_gen.specs.Theories.{theory_of};
+ghost use Rattle.sap_locks.specs.Annotation.{IsAnnotation};
+ghost use Rattle.sap_process.specs.Proc.{Proc, node_count};
+ghost use Rattle.sap_process.specs.Ready.{IsReady};
+ghost use Rattle.sap_restrict.specs.Restrictions.{needed_restrictions};
+ghost use Rattle.sap_restrict.specs.Standard.{IsAdmitted};
+ghost use Rattle.sap_rule.specs.Named.{HaveNamesOfTheirOwn};
+ghost use Rattle.sap_rule.specs.RuleSteps.{IsFullTrace};
+ghost use Rattle.sap_rule.specs.WellMade.{IsWellMade};
+ghost use Rattle.sap_rule.specs.declared.rule.Rule.{Rule};
+ghost use Rattle.sap_terms.specs.Equations.{pair_name};
+ghost use Rattle.sap_terms.specs.Signature.{HoldsBuiltins, Sig, arity_of};
+ghost use Rattle.sap_terms.specs.Trace.{Trace};
+ghost use Rattle.sap_terms.specs.declared.var.Var.{Var};
 
-/// The law of the rules: the visible traces of the admitted runs of a process's rules are exactly the traces of the
-/// process, over all finite runs of either side, where no event has a reserved name. It does nothing when it runs.
+use sap_process::instances_of_processes;
+use sap_restrict::restrictions_say_sentences;
+use sap_rewrite::{
+    each_term_has_a_normal_form, equality_is_kept, forms_are_messages, normal_forms_are_unique,
+};
+use sap_terms::leaves_are_normal;
+
+/// A law: the visible traces of the admitted runs of the rules of a process are exactly the traces of the process, where it
+/// is the annotation of one that is ready: over all finite runs of either side, all sixteen forms, the adversary and the
+/// equations of the signature included. Admitted is a run on whose full trace all seven restrictions are true. The bound is
+/// there for the variables of locks: names by number are known to differ below it.
 pub fn rules_show_the_process()
-    ensures all { (p : Built) → NoReservedEvents p → ShowsAll p (rules_of p) }
-    ensures only { (p : Built) → NoReservedEvents p → ShowsOnly p (rules_of p) }
-{}
+    ensures sound { (g : Sig) (p q : Proc) → IsReady g p → node_count p < 2 ^ 64 → IsAnnotation p q → IsSound g q }
+    ensures all { (g : Sig) (p q : Proc) → HoldsBuiltins g → IsReady g p → node_count p < 2 ^ 64 → IsAnnotation p q
+        → ShowsAll g q (rules_of q) }
+    ensures only { (g : Sig) (p q : Proc) → HoldsBuiltins g → IsReady g p → node_count p < 2 ^ 64 → IsAnnotation p q
+        → ShowsOnly g q (rules_of q) }
+{
+    leaves_are_normal();
+    each_term_has_a_normal_form();
+    normal_forms_are_unique();
+    equality_is_kept();
+    forms_are_messages();
+    instances_of_processes();
+    restrictions_say_sentences();
+}
 
-/// The law of the printed restriction: its formula is true on a trace exactly where the trace is admitted, whatever the
-/// signature. It does nothing when it runs.
-pub fn the_restriction_is_admission()
-    ensures { (g : Sig) (tr : Trace) → IsTrueOn g one_start tr ↔ IsAdmitted tr }
-{}
-
-/// The law of the theory of a process without restrictions of its file: the visible traces of those runs of its rules on
-/// which its restrictions are true are exactly the traces of the process, where no event has a reserved name. It does
-/// nothing when it runs.
+/// A law: so it is with the theory of the process, where its file has no restrictions of its own: the visible traces of those
+/// runs of its rules on whose full traces the restrictions that the process needs are true are exactly the traces of the
+/// process.
 pub fn theories_show_the_process()
-    ensures { (name : List ℕ) (g : Sig) (p : Built) (lemmas : List LemmaForm) → NoReservedEvents p
-        → IsFaithful p (theory_of name g p [] lemmas) }
+    ensures { (name : List ℕ) (g : Sig) (p q : Proc) (lemmas : List LemmaForm) → HoldsBuiltins g → IsReady g p
+        → node_count p < 2 ^ 64 → IsAnnotation p q → IsFaithful g q (theory_of name g q [] lemmas) }
+{
+    leaves_are_normal();
+    each_term_has_a_normal_form();
+    normal_forms_are_unique();
+    equality_is_kept();
+    forms_are_messages();
+    instances_of_processes();
+    restrictions_say_sentences();
+}
+
+/// A law: rules of one name are of one place.
+pub fn rules_name_their_places()
+    ensures { (path other : List ℕ) (v w : List Var) (p q : Proc) (r s : Rule) → Contains (own_rules path v p) r
+        → Contains (own_rules other w q) s → r.name ≡ s.name → path ≡ other }
 {}
 
-/// A law: where a process without flaws is built, with the sorts of its binders, no event of it has a reserved name. It does
-/// nothing when it runs.
-pub fn well_formed_has_no_reserved_events()
-    ensures { (g : Sig) (p : Proc) (b : Built) → IsWellFormed g p → built (with_sorts [] p) ≡ Some b → NoReservedEvents b }
-{}
+/// A law: on the full trace of a run of the rules all seven restrictions are true exactly where those that the process needs
+/// are.
+pub fn needed_restrictions_suffice()
+    ensures { (g : Sig) (p q : Proc) (full : Trace) → IsReady g p → IsAnnotation p q → IsFullTrace g (rules_of q) full
+        → AreRestrictionsTrue g (needed_restrictions q) full ↔ IsAdmitted g full }
+{
+    leaves_are_normal();
+    each_term_has_a_normal_form();
+    normal_forms_are_unique();
+    equality_is_kept();
+    forms_are_messages();
+    instances_of_processes();
+    restrictions_say_sentences();
+}
 
-/// A law: a process is built or has a first place that isn't, and never both. It does nothing when it runs.
-pub fn built_or_unbuilt()
-    ensures one { (p : Proc) → IsBuilt p ⊎ ((path : List ℕ) × (first_unbuilt p ≡ Some path)) }
-    ensures never_both { (p : Proc) (path : List ℕ) → IsBuilt p → first_unbuilt p ≡ Some path → ⊥ }
+/// A law: the rules of a process that is the annotation of one that is ready can be run, over a signature that holds pairs:
+/// each is over the signature, each of its facts stands where it may, and no name of a variable stands in it with two sorts.
+/// No two rules of a process have one name.
+pub fn rules_are_well_made()
+    ensures made { (g : Sig) (p q : Proc) → arity_of g pair_name ≡ Some 2 → IsReady g p → node_count p < 2 ^ 64 → IsAnnotation p q
+        → All (IsWellMade g) (rules_of q) }
+    ensures names { (p : Proc) → HaveNamesOfTheirOwn (rules_of p) }
 {}

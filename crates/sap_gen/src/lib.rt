@@ -1,16 +1,17 @@
-//! The rules of a process.
+//! The rules of a process, the theory of a file, and why the rules show what the process shows.
 #![tactic(auto)]
 
+mod by_hand;
+mod facts;
 mod generation;
 mod laws;
-mod place;
+mod rules;
 mod theory;
-mod unbuilt;
 
+pub use by_hand::runs_by_hand;
 pub use generation::generate;
 pub use laws::{
-    built_or_unbuilt, rules_show_the_process, the_restriction_is_admission,
-    theories_show_the_process, well_formed_has_no_reserved_events,
+    needed_restrictions_suffice, rules_are_well_made, rules_name_their_places,
+    rules_show_the_process, theories_show_the_process,
 };
 pub use theory::theory_of;
-pub use unbuilt::first_unbuilt;

@@ -8,3 +8,9 @@ pub mod Lists
 pub mod Signatures
 pub mod Pushed
 pub mod Applied
+pub mod Cuts
+pub mod Headers
+pub mod Declarations
+pub mod ItemWords
+pub mod ItemTurns
+pub mod DeclaredItems

@@ -32,3 +32,5 @@ pub length-words : (z : List ℕ) (ts : List Token) → length (words_of z ts) �
 length-words z ts = length-map ts (word_of z)
 
 pub ruleset steps = (term_zero, rest_zero, term_step, rest_step, words-drop)
+
+pub ruleset word_steps = (words-drop)

@@ -10,3 +10,9 @@ pub mod TermReading
 pub mod Pieces
 pub mod TermText
 pub mod FactText
+pub mod Cut
+pub mod Declarations
+pub mod Signatures
+pub mod Items
+pub mod ItemReading
+pub mod code

@@ -1,6 +1,6 @@
 -- Terms and facts, read from the left. What is read is what the grammar spells: the laws `terms_are_read` and
 -- `facts_are_read` say so.
-use Rattle.std.specs.Prelude.{ℕ, zero, suc, Bool, true, false, not, ◌&&◌, ◌==◌, if◌then◌else◌, codes, List, [], ◌∷◌, drop, Option, Some, None}
+use Rattle.std.specs.Prelude.{ℕ, zero, suc, Bool, true, false, not, ◌&&◌, ◌==◌, if◌then◌else◌, codes, List, drop, Option, Some, None}
 use Rattle.sap_terms.specs.declared.fact.Fact.{Fact}
 use Rattle.sap_terms.specs.declared.var.Sort.{Sort}
 use Rattle.sap_terms.specs.declared.var.Sort.TheVariants.{Msg, Fresh, Pub}

@@ -1,10 +1,16 @@
 //! What is so of the grammar.
-ghost use Rattle.std.specs.Prelude.{◌≡◌, ℕ, Bool, List, Some, false, codes};
+ghost use Rattle.std.specs.Prelude.{◌≡◌, ℕ, Bool, List, Some, None, drop, false, codes};
 ghost use Rattle.sap_terms.specs.declared.fact.Fact.{Fact};
 ghost use Rattle.sap_terms.specs.Tree.{Tree, level_count, node_count};
 ghost use Rattle.sap_terms.specs.Signature.{Sig};
 ghost use Rattle.sap_grammar.specs.declared.limits.Limits.{Limits};
-ghost use Rattle.sap_grammar.specs.Words.{Word, starts};
+ghost use Rattle.sap_terms.specs.declared.signature.Symbol.{Symbol};
+ghost use Rattle.sap_terms.specs.declared.signature.Builtin.{Builtin};
+ghost use Rattle.sap_text.specs.declared.token.Token.{Token};
+ghost use Rattle.sap_grammar.specs.Words.{Word, starts, words_of};
+ghost use Rattle.sap_grammar.specs.Cut.{Placed, placed, IsCut, IsHeader};
+ghost use Rattle.sap_grammar.specs.Declarations.{Declaration, AreBuiltins, AreSymbols, Declares};
+ghost use Rattle.sap_grammar.specs.ItemReading.{cut, header_of, declared_in};
 ghost use Rattle.sap_grammar.specs.TermGrammar.{IsTerm, IsShort};
 ghost use Rattle.sap_grammar.specs.FactGrammar.{IsFact, IsShortFact, AreFacts, fact_levels};
 ghost use Rattle.sap_grammar.specs.Places.{IsTermAt, IsFactAt};
@@ -65,4 +71,34 @@ pub fn facts_are_read()
     ensures lists_complete { (g : Sig) (m : Limits) (allowed : Bool) (closing : List ℕ)
         (fs : List Fact) (a b : List Word) → (closing ≡ codes "," → ⊥) → (closing ≡ codes "!" → ⊥)
         → AreFacts g m allowed closing fs a b → facts g m allowed closing a ≡ Some (fs, b) }
+{}
+
+/// A law: words are cut into items in one way, which is the one that reading from the left finds.
+pub fn words_are_cut()
+    ensures cut { (ps : List Placed) → IsCut ps (cut ps) }
+    ensures one { (ps : List Placed) (is js : List (List Placed)) → IsCut ps is → IsCut ps js
+        → is ≡ js }
+{}
+
+/// A law: words have one header at most, and it is found where they have one.
+pub fn headers_are_read()
+    ensures one { (x y : List ℕ) (all rest tail : List Placed) → IsHeader x all rest
+        → IsHeader y all tail → (x ≡ y) × (rest ≡ tail) }
+    ensures found { (z : List ℕ) (ts : List Token) (x : List ℕ) → header_of (words_of z ts) ≡ Some x
+        → IsHeader x (placed z ts) (placed z (drop 3 ts)) }
+    ensures none { (z : List ℕ) (ts : List Token) → header_of (words_of z ts) ≡ None
+        → (x : List ℕ) (rest : List Placed) → IsHeader x (placed z ts) rest → ⊥ }
+{}
+
+/// A law: what is read as an item of builtins or functions is one that declares this, and each is read; words spell one list of
+/// builtins at most, and one of symbols.
+pub fn declarations_are_read()
+    ensures sound { (ws : List Word) (ds : List Declaration) → declared_in ws ≡ Some ds
+        → Declares ws ds }
+    ensures complete { (ws : List Word) (ds : List Declaration) → Declares ws ds
+        → declared_in ws ≡ Some ds }
+    ensures builtins { (bs cs : List Builtin) (a : List Word) → AreBuiltins bs a
+        → AreBuiltins cs a → bs ≡ cs }
+    ensures symbols { (ss us : List Symbol) (a : List Word) → AreSymbols ss a
+        → AreSymbols us a → ss ≡ us }
 {}

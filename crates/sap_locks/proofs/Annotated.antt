@@ -7,7 +7,7 @@ use Rattle.sap_process.specs.Action.{Action, lock, unlock}
 use Rattle.sap_process.specs.Heads.{locks_set}
 use Rattle.sap_process.specs.Proc.{Proc, nil, parallel, replicated, act, test, lookup}
 use Rattle.sap_locks.proofs.Members.{member-head, member-tail, member-none, member-cases}
-use Rattle.sap_locks.specs.Ways.{Mark, locked, unlocked, LockSite, lock_count, way_behind, lock_sites, IsLockOf}
+use Rattle.sap_locks.specs.Ways.{LockMark, locked, unlocked, LockSite, lock_count, way_behind, lock_sites, IsLockOf}
 use Rattle.sap_locks.specs.Annotation.{LockFlaw, without, over, HasLockFlaw, IsWithoutLock, IsFirstLockFlaw, IsLabelled, IsAnnotation, is_forking, unlock_at, action_lock, action_unlock, unlabelled, unlabelled_action}
 use Rattle.sap_locks.specs.code.Labels.{Open, found, opened, open_behind, label_of, labelled_action, labelled_from, labelled, first_flaw}
 use Rattle.sap_locks.proofs.Opened.{Descends, lock_is}
@@ -32,13 +32,13 @@ stands_there (y ∷ xs) (suc k) x e = member-tail y xs x (stands_there xs k x e)
 
 -- what is found where the code finds nothing
 right_label : (s : LockSite) → IsMarked s → (IsWithoutLock s → ⊥) → IsLabelled s
-right_label s m none = (m.lock_label, λ t l e. go t l e (found t (opened s.way)) refl)
+right_label s m none = (m.lock_label, λ t l e. go t l e (found t (opened s.above.way)) refl)
   where
-    go : (t : Tree) (l : ℕ) → unlock_at s.body ≡ Some (t, l) → (o : Option ℕ) → found t (opened s.way) ≡ o → IsLockOf s.way l t
-    go t l e None f = absurd (none (record { term = t; is = (l, e); none = λ n own. let g : found t (opened s.way) ≡ Some n = (lock_is s.way (s.before + 1) m.descends n t).0 own in cc }))
+    go : (t : Tree) (l : ℕ) → unlock_at s.body ≡ Some (t, l) → (o : Option ℕ) → found t (opened s.above.way) ≡ o → IsLockOf s.above.way l t
+    go t l e None f = absurd (none (record { term = t; is = (l, e); none = λ n own. let g : found t (opened s.above.way) ≡ Some n = (lock_is s.above.way (s.above.before + 1) m.descends n t).0 own in cc }))
     go t l e (Some n) f =
         let same : n ≡ l = sym (m.unlock_label t l e ∙ ap label_of f) in
-        (lock_is s.way (s.before + 1) m.descends l t).1 (f ∙ ap Some same)
+        (lock_is s.above.way (s.above.before + 1) m.descends l t).1 (f ∙ ap Some same)
 
 all_marked : (p : Proc) → AllAt IsMarked [] [] 0 (labelled p)
 all_marked p = marked p [] [] 0 tt tt
@@ -88,21 +88,21 @@ by_bare (lookup t x p q) o k = λ i. lookup t x (by_bare p o k i) ((ap (λ n. la
 
 -- a process with right labels is what the code makes of it
 
-kept_action : (way : List Mark) (k : ℕ) (a : Action) → Descends (k + 1) way → ((t : Tree) (l : ℕ) → action_lock a ≡ Some (t, l) → l ≡ k + 1) → ((t : Tree) (l : ℕ) → action_unlock a ≡ Some (t, l) → IsLockOf way l t) → labelled_action (opened way) k a ≡ a
+kept_action : (way : List LockMark) (k : ℕ) (a : Action) → Descends (k + 1) way → ((t : Tree) (l : ℕ) → action_lock a ≡ Some (t, l) → l ≡ k + 1) → ((t : Tree) (l : ℕ) → action_unlock a ≡ Some (t, l) → IsLockOf way l t) → labelled_action (opened way) k a ≡ a
 kept_action way k (lock t l) d h g = ap (lock t) (sym (h t l refl))
 kept_action way k (unlock t l) d h g = ap (λ o. unlock t (label_of o)) ((lock_is way (k + 1) d l t).0 (g t l refl))
 kept_action way k a d h g = refl
 
-opened_after : (way : List Mark) (k : ℕ) (a : Action) → open_behind (opened way) k a ≡ opened (way_behind way k a)
+opened_after : (way : List LockMark) (k : ℕ) (a : Action) → open_behind (opened way) k a ≡ opened (way_behind way k a)
 opened_after way k (lock t l) = refl
 opened_after way k (unlock t l) = refl
 opened_after way k a = refl
 
-pub kept : (p : Proc) (path : List ℕ) (way : List Mark) (k : ℕ) → Descends (k + 1) way → AllAt IsLabelled path way k p → labelled_from (opened way) k p ≡ p
+pub kept : (p : Proc) (path : List ℕ) (way : List LockMark) (k : ℕ) → Descends (k + 1) way → AllAt IsLabelled path way k p → labelled_from (opened way) k p ≡ p
 kept nil path way k d h = refl
 kept (parallel p q) path way k d h = λ i. parallel (kept p (path ++ 1 ∷ []) way k d h.1 i) (kept q (path ++ 2 ∷ []) way (k + lock_count p) (further way k (lock_count p) d) h.2 i)
   where
-    further : (way : List Mark) (k n : ℕ) → Descends (k + 1) way → Descends (k + n + 1) way
+    further : (way : List LockMark) (k n : ℕ) → Descends (k + 1) way → Descends (k + n + 1) way
     further [] k n d = tt
     further (locked j t ∷ way) k n d = (let less : j < k + 1 = d.0 in omega (arith, less), d.1)
     further (unlocked t ∷ way) k n d = further way k n d
@@ -110,13 +110,13 @@ kept (replicated p) path way k d h = ap replicated (kept p (path ++ 1 ∷ []) wa
 kept (act a p) path way k d h = λ i. act (kept_action way k a d h.0.0 h.0.1 i) ((ap (λ o. labelled_from o (k + locks_set a) p) (opened_after way k a) ∙ kept p (path ++ 1 ∷ []) (way_behind way k a) (k + locks_set a) (descends_behind way k a d) h.1) i)
 kept (test t u p q) path way k d h = λ i. test t u (kept p (path ++ 1 ∷ []) way k d h.1 i) (kept q (path ++ 2 ∷ []) way (k + lock_count p) (further way k (lock_count p) d) h.2 i)
   where
-    further : (way : List Mark) (k n : ℕ) → Descends (k + 1) way → Descends (k + n + 1) way
+    further : (way : List LockMark) (k n : ℕ) → Descends (k + 1) way → Descends (k + n + 1) way
     further [] k n d = tt
     further (locked j t ∷ way) k n d = (let less : j < k + 1 = d.0 in omega (arith, less), d.1)
     further (unlocked t ∷ way) k n d = further way k n d
 kept (lookup t x p q) path way k d h = λ i. lookup t x (kept p (path ++ 1 ∷ []) way k d h.1 i) (kept q (path ++ 2 ∷ []) way (k + lock_count p) (further way k (lock_count p) d) h.2 i)
   where
-    further : (way : List Mark) (k n : ℕ) → Descends (k + 1) way → Descends (k + n + 1) way
+    further : (way : List LockMark) (k n : ℕ) → Descends (k + 1) way → Descends (k + n + 1) way
     further [] k n d = tt
     further (locked j t ∷ way) k n d = (let less : j < k + 1 = d.0 in omega (arith, less), d.1)
     further (unlocked t ∷ way) k n d = further way k n d

@@ -4,13 +4,14 @@ use Rattle.std.specs.Prelude.{Contains, slice_get}
 use Rattle.sap_terms.specs.Tree.{Tree}
 use Rattle.sap_process.specs.Action.{Action, lock, unlock}
 use Rattle.sap_process.specs.Heads.{locks_set}
+use Rattle.sap_process.specs.Places.{place}
 use Rattle.sap_process.specs.Proc.{Proc, nil, parallel, replicated, act, test, lookup}
 use Rattle.sap_locks.proofs.Members.{member-head, member-tail, member-none, member-cases}
-use Rattle.sap_locks.specs.Ways.{Mark, LockSite, lock_count, way_behind, lock_sites_from, lock_sites, IsLockOf}
+use Rattle.sap_locks.specs.Ways.{way_above, LockMark, LockSite, lock_count, way_behind, lock_sites_from, lock_sites, IsLockOf}
 use Rattle.sap_locks.specs.Annotation.{LockFlaw, without, over, HasLockFlaw, IsFirstIn, is_forking, unlock_at, action_unlock, unlabelled, unlabelled_action}
 
 abbrev pub bare : LockSite → LockSite
-bare s = record { path = s.path; way = s.way; before = s.before; body = unlabelled s.body }
+bare s = place s.path s.above (unlabelled s.body)
 
 bare_set : (a : Action) → locks_set (unlabelled_action a) ≡ locks_set a
 bare_set (lock t l) = refl
@@ -25,7 +26,7 @@ bare_count (act a p) = λ i. bare_set a i + bare_count p i
 bare_count (test t u p q) = λ i. bare_count p i + bare_count q i
 bare_count (lookup t x p q) = λ i. bare_count p i + bare_count q i
 
-bare_way : (way : List Mark) (k : ℕ) (a : Action) → way_behind way k (unlabelled_action a) ≡ way_behind way k a
+bare_way : (way : List LockMark) (k : ℕ) (a : Action) → way_behind way k (unlabelled_action a) ≡ way_behind way k a
 bare_way way k (lock t l) = refl
 bare_way way k (unlock t l) = refl
 bare_way way k a = refl
@@ -34,24 +35,24 @@ map-append : (f : LockSite → LockSite) (xs ys : List LockSite) → map f (xs +
 map-append f [] ys = refl
 map-append f (x ∷ xs) ys = ap (λ zs. f x ∷ zs) (map-append f xs ys)
 
-pub bare_sites : (p : Proc) (path : List ℕ) (way : List Mark) (k : ℕ) → lock_sites_from path way k (unlabelled p) ≡ map bare (lock_sites_from path way k p)
+pub bare_sites : (p : Proc) (path : List ℕ) (way : List LockMark) (k : ℕ) → lock_sites_from path way k (unlabelled p) ≡ map bare (lock_sites_from path way k p)
 bare_sites nil path way k = refl
 bare_sites (parallel p q) path way k =
-    ap (λ zs. bare (record { path = path; way = way; before = k; body = parallel p q }) ∷ zs)
+    ap (λ zs. bare (place path (way_above way k) (parallel p q)) ∷ zs)
     ((λ i. bare_sites p (path ++ 1 ∷ []) way k i ++ lock_sites_from (path ++ 2 ∷ []) way (k + bare_count p i) (unlabelled q))
     ∙ ap (λ zs. map bare (lock_sites_from (path ++ 1 ∷ []) way k p) ++ zs) (bare_sites q (path ++ 2 ∷ []) way (k + lock_count p))
     ∙ sym (map-append bare (lock_sites_from (path ++ 1 ∷ []) way k p) (lock_sites_from (path ++ 2 ∷ []) way (k + lock_count p) q)))
-bare_sites (replicated p) path way k = ap (λ zs. bare (record { path = path; way = way; before = k; body = replicated p }) ∷ zs) (bare_sites p (path ++ 1 ∷ []) way k)
+bare_sites (replicated p) path way k = ap (λ zs. bare (place path (way_above way k) (replicated p)) ∷ zs) (bare_sites p (path ++ 1 ∷ []) way k)
 bare_sites (act a p) path way k =
-    ap (λ zs. bare (record { path = path; way = way; before = k; body = act a p }) ∷ zs)
+    ap (λ zs. bare (place path (way_above way k) (act a p)) ∷ zs)
     ((λ i. lock_sites_from (path ++ 1 ∷ []) (bare_way way k a i) (k + bare_set a i) (unlabelled p)) ∙ bare_sites p (path ++ 1 ∷ []) (way_behind way k a) (k + locks_set a))
 bare_sites (test t u p q) path way k =
-    ap (λ zs. bare (record { path = path; way = way; before = k; body = test t u p q }) ∷ zs)
+    ap (λ zs. bare (place path (way_above way k) (test t u p q)) ∷ zs)
     ((λ i. bare_sites p (path ++ 1 ∷ []) way k i ++ lock_sites_from (path ++ 2 ∷ []) way (k + bare_count p i) (unlabelled q))
     ∙ ap (λ zs. map bare (lock_sites_from (path ++ 1 ∷ []) way k p) ++ zs) (bare_sites q (path ++ 2 ∷ []) way (k + lock_count p))
     ∙ sym (map-append bare (lock_sites_from (path ++ 1 ∷ []) way k p) (lock_sites_from (path ++ 2 ∷ []) way (k + lock_count p) q)))
 bare_sites (lookup t x p q) path way k =
-    ap (λ zs. bare (record { path = path; way = way; before = k; body = lookup t x p q }) ∷ zs)
+    ap (λ zs. bare (place path (way_above way k) (lookup t x p q)) ∷ zs)
     ((λ i. bare_sites p (path ++ 1 ∷ []) way k i ++ lock_sites_from (path ++ 2 ∷ []) way (k + bare_count p i) (unlabelled q))
     ∙ ap (λ zs. map bare (lock_sites_from (path ++ 1 ∷ []) way k p) ++ zs) (bare_sites q (path ++ 2 ∷ []) way (k + lock_count p))
     ∙ sym (map-append bare (lock_sites_from (path ++ 1 ∷ []) way k p) (lock_sites_from (path ++ 2 ∷ []) way (k + lock_count p) q)))
@@ -126,7 +127,7 @@ to_bare over s h = record {
   number = h.number;
   is_open = h.is_open;
   below = bare h.below;
-  stands = subst (λ xs. Contains xs (bare h.below)) (sym (bare_sites s.body s.path s.way s.before)) (in_map bare (lock_sites_from s.path s.way s.before s.body) h.below h.stands);
+  stands = subst (λ xs. Contains xs (bare h.below)) (sym (bare_sites s.body s.path s.above.way s.above.before)) (in_map bare (lock_sites_from s.path s.above.way s.above.before s.body) h.below h.stands);
   term = h.term;
   is = (0, to_bare_at h.below.body h.term h.is.0 h.is.1);
   own = h.own;
@@ -135,7 +136,7 @@ to_bare over s h = record {
 pub of_bare : (u : LockFlaw) (s : LockSite) → HasLockFlaw u (bare s) → HasLockFlaw u s
 of_bare without s h = record { term = h.term; is = of_bare_at s.body h.term h.is.0 h.is.1; none = h.none }
 of_bare over s h =
-    let r = of_map bare (lock_sites_from s.path s.way s.before s.body) h.below (subst (λ xs. Contains xs h.below) (bare_sites s.body s.path s.way s.before) h.stands) in
+    let r = of_map bare (lock_sites_from s.path s.above.way s.above.before s.body) h.below (subst (λ xs. Contains xs h.below) (bare_sites s.body s.path s.above.way s.above.before) h.stands) in
     record {
       forks = sym (forks_bare s.body) ∙ h.forks;
       number = h.number;
@@ -144,7 +145,7 @@ of_bare over s h =
       stands = r.1;
       term = h.term;
       is = of_bare_at r.0.body h.term h.is.0 (subst (λ (z : LockSite). unlock_at z.body ≡ Some (h.term, h.is.0)) (sym r.2) h.is.1);
-      own = subst (λ (z : LockSite). IsLockOf z.way h.number h.term) (sym r.2) h.own;
+      own = subst (λ (z : LockSite). IsLockOf z.above.way h.number h.term) (sym r.2) h.own;
     }
 
 first_to_bare : (ss : List LockSite) (w : LockFlaw) (path : List ℕ) → IsFirstIn ss w path → IsFirstIn (map bare ss) w path

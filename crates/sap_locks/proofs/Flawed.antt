@@ -10,7 +10,7 @@ use Rattle.sap_locks.proofs.Members.{member-head, member-tail}
 use Rattle.sap_process.specs.Action.{Action, lock, unlock}
 use Rattle.sap_process.specs.Heads.{locks_set}
 use Rattle.sap_process.specs.Proc.{Proc, nil, parallel, replicated, act, test, lookup}
-use Rattle.sap_locks.specs.Ways.{Mark, locked, unlocked, IsOpen, IsLockOf, LockSite, lock_count, way_behind, lock_sites_from}
+use Rattle.sap_locks.specs.Ways.{LockMark, locked, unlocked, IsOpen, IsLockOf, LockSite, lock_count, way_behind, lock_sites_from}
 use Rattle.sap_locks.specs.Annotation.{LockFlaw, without, over, HasLockFlaw, IsWithoutLock, is_forking, unlock_at, action_unlock}
 use Rattle.sap_locks.specs.code.Labels.{found, opened, label_of, unlocks, has_unlock, is_low, lesser, own_label, action_lowest, lowest, is_at_most, action_flaw, first_flaw_from, or_else}
 use Rattle.sap_locks.proofs.Opened.{Descends, lock_is}
@@ -19,28 +19,28 @@ use Rattle.sap_locks.proofs.Labelled.{Counted, IsMarked}
 use Rattle.sap_locks.proofs.Searched.{FirstIs, first_append, first_none, first_here}
 
 -- what is open on a way
-open_below : (way : List Mark) (k n : ℕ) → Descends k way → IsOpen way n → n < k
+open_below : (way : List LockMark) (k n : ℕ) → Descends k way → IsOpen way n → n < k
 open_below [] k n d h = absurd h
 open_below (locked j t ∷ way) k n d (inl e) = let less : j < k = d.0 in omega (arith, e, less)
 open_below (locked j t ∷ way) k n d (inr m) = let less : j < k = d.0 in let one : n < j = open_below way j n d.1 m in omega (arith, less, one)
 open_below (unlocked t ∷ way) k n d h = open_below way k n d h.0
 
-open_counted : (way : List Mark) (n : ℕ) → Counted way → IsOpen way n → 0 < n
+open_counted : (way : List LockMark) (n : ℕ) → Counted way → IsOpen way n → 0 < n
 open_counted [] n d h = absurd h
 open_counted (locked j t ∷ way) n d (inl e) = let less : 0 < j = d.0 in omega (arith, e, less)
 open_counted (locked j t ∷ way) n d (inr m) = open_counted way n d.1 m
 open_counted (unlocked t ∷ way) n d h = open_counted way n d h.0
 
 -- locks up to k that are open below a place are open at it
-abbrev FromAbove : ℕ → List Mark → List Mark → Type 0
+abbrev FromAbove : ℕ → List LockMark → List LockMark → Type 0
 FromAbove k top way = (n : ℕ) → n ≤ k → IsOpen way n → IsOpen top n
 
-above_behind : (m : ℕ) (top way : List Mark) (k : ℕ) (a : Action) → m ≤ k → FromAbove m top way → FromAbove m top (way_behind way k a)
+above_behind : (m : ℕ) (top way : List LockMark) (k : ℕ) (a : Action) → m ≤ k → FromAbove m top way → FromAbove m top (way_behind way k a)
 above_behind m top way k (lock t l) le h = λ n small is. elim is [ inl e ↦ absurd (omega (arith, le, small, e)) | inr o ↦ h n small o ]
 above_behind m top way k (unlock t l) le h = λ n small is. h n small is.0
 above_behind m top way k a le h = h
 
-from_above : (m : ℕ) (top : List Mark) (p : Proc) (path : List ℕ) (way : List Mark) (k : ℕ) → m ≤ k → FromAbove m top way → AllAt (λ s. FromAbove m top s.way) path way k p
+from_above : (m : ℕ) (top : List LockMark) (p : Proc) (path : List ℕ) (way : List LockMark) (k : ℕ) → m ≤ k → FromAbove m top way → AllAt (λ s. FromAbove m top s.above.way) path way k p
 from_above m top nil path way k le h = h
 from_above m top (parallel p q) path way k le h = (h, from_above m top p (path ++ 1 ∷ []) way k le h, from_above m top q (path ++ 2 ∷ []) way (k + lock_count p) (omega (arith, le)) h)
 from_above m top (replicated p) path way k le h = (h, from_above m top p (path ++ 1 ∷ []) way k le h)
@@ -70,12 +70,12 @@ or_either : {P : Type 0} (a b : Bool) → (a || b) ≡ true → (a ≡ true → 
 or_either true b h one two = one refl
 or_either false b h one two = two h
 
-low_here : (f : ℕ → Bool) (path : List ℕ) (way : List Mark) (k : ℕ) (a : Action) (p : Proc) (xs : List LockSite) → unlocks f a ≡ true → Passing f (lock_site path way k (act a p) ∷ xs)
+low_here : (f : ℕ → Bool) (path : List ℕ) (way : List LockMark) (k : ℕ) (a : Action) (p : Proc) (xs : List LockSite) → unlocks f a ≡ true → Passing f (lock_site path way k (act a p) ∷ xs)
 low_here f path way k (unlock t l) p xs h = record { site = lock_site path way k (act (unlock t l) p); stands = member-head (lock_site path way k (act (unlock t l) p)) xs; term = t; label = l; is = refl; small = h }
 low_here f path way k (lock t l) p xs h = cc
 low_here f path way k a p xs h = cc
 
-pub low_site : (f : ℕ → Bool) (p : Proc) (path : List ℕ) (way : List Mark) (k : ℕ) → has_unlock f p ≡ true → Passing f (lock_sites_from path way k p)
+pub low_site : (f : ℕ → Bool) (p : Proc) (path : List ℕ) (way : List LockMark) (k : ℕ) → has_unlock f p ≡ true → Passing f (lock_sites_from path way k p)
 low_site f nil path way k h = cc
 low_site f (parallel p q) path way k h =
     let s = lock_site path way k (parallel p q) in
@@ -117,7 +117,7 @@ not_low_here f (unlock u m) h t l e = subst (λ j. f j ≡ false) (label_is u t 
 not_low_here f (lock u m) h t l e = cc
 not_low_here f a h t l e = cc
 
-not_low : (f : ℕ → Bool) (p : Proc) (path : List ℕ) (way : List Mark) (k : ℕ) → has_unlock f p ≡ false → AllAt (NotLow f) path way k p
+not_low : (f : ℕ → Bool) (p : Proc) (path : List ℕ) (way : List LockMark) (k : ℕ) → has_unlock f p ≡ false → AllAt (NotLow f) path way k p
 not_low f nil path way k h = λ t l e. cc
 not_low f (parallel p q) path way k h = (λ t l e. cc, not_low f p (path ++ 1 ∷ []) way k (or_false_left (has_unlock f p) (has_unlock f q) h), not_low f q (path ++ 2 ∷ []) way (k + lock_count p) (or_false_right (has_unlock f p) (has_unlock f q) h))
 not_low f (replicated p) path way k h = (λ t l e. cc, not_low f p (path ++ 1 ∷ []) way k h)
@@ -130,12 +130,12 @@ found_label None l e h = absurd (omega (arith, e, h))
 found_label (Some n) l e h = ap Some (sym e)
 
 -- a place with a label between 1 and k is of a lock that is open above
-lowered : (s : LockSite) (k : ℕ) (t : Tree) (l : ℕ) → IsMarked s → unlock_at s.body ≡ Some (t, l) → 0 < l → IsLockOf s.way l t
-lowered s k t l m e h = (lock_is s.way (s.before + 1) m.descends l t).1 (found_label (found t (opened s.way)) l (m.unlock_label t l e) h)
+lowered : (s : LockSite) (k : ℕ) (t : Tree) (l : ℕ) → IsMarked s → unlock_at s.body ≡ Some (t, l) → 0 < l → IsLockOf s.above.way l t
+lowered s k t l m e h = (lock_is s.above.way (s.above.before + 1) m.descends l t).1 (found_label (found t (opened s.above.way)) l (m.unlock_label t l e) h)
 
 -- an unlock's label is that of its lock
-its_label : (s : LockSite) (t : Tree) (l n : ℕ) → IsMarked s → unlock_at s.body ≡ Some (t, l) → IsLockOf s.way n t → l ≡ n
-its_label s t l n m e own = m.unlock_label t l e ∙ ap label_of ((lock_is s.way (s.before + 1) m.descends n t).0 own)
+its_label : (s : LockSite) (t : Tree) (l n : ℕ) → IsMarked s → unlock_at s.body ≡ Some (t, l) → IsLockOf s.above.way n t → l ≡ n
+its_label s t l n m e own = m.unlock_label t l e ∙ ap label_of ((lock_is s.above.way (s.above.before + 1) m.descends n t).0 own)
 
 low_of : (n l : ℕ) → is_low n l ≡ true → (0 < l) × (l ≤ n)
 low_of n l h = (ltb-true 0 l (and_left (nat_lt 0 l) (nat_lt l (n + 1)) h), (let less : l < n + 1 = ltb-true l (n + 1) (and_right (nat_lt 0 l) (nat_lt l (n + 1)) h) in omega (arith, less)))
@@ -153,7 +153,7 @@ no_unlock (replicated p) h t l e = cc
 no_unlock (test u w p q) h t l e = cc
 no_unlock (lookup u x p q) h t l e = cc
 
-fork_first : (p : Proc) (path : List ℕ) (way : List Mark) (k : ℕ) → is_forking p ≡ true → Descends (k + 1) way → Counted way → ((s : LockSite) → Contains (lock_sites_from path way k p) s → IsMarked s)
+fork_first : (p : Proc) (path : List ℕ) (way : List LockMark) (k : ℕ) → is_forking p ≡ true → Descends (k + 1) way → Counted way → ((s : LockSite) → Contains (lock_sites_from path way k p) s → IsMarked s)
     → (b : Bool) → has_unlock (is_low k) p ≡ b → FirstIs (lock_site path way k p ∷ []) (cond b (Some (over, path)) None)
 fork_first p path way k forks d c marks true e =
     let h = low_site (is_low k) p path way k e in
@@ -162,7 +162,7 @@ fork_first p path way k forks d c marks true e =
     first_here (lock_site path way k p) over path refl (record {
       forks = forks;
       number = h.label;
-      is_open = all_in (λ s. FromAbove k way s.way) path way k p (from_above k way p path way k (omega arith) (λ n small is. is)) h.site h.stands h.label r.1 own.is_open;
+      is_open = all_in (λ s. FromAbove k way s.above.way) path way k p (from_above k way p path way k (omega arith) (λ n small is. is)) h.site h.stands h.label r.1 own.is_open;
       below = h.site;
       stands = h.stands;
       term = h.term;
@@ -233,11 +233,11 @@ no_lock s t l m e zero_is = record {
   is = (l, e);
   none = λ n own.
       let same : l ≡ n = its_label s t l n m e own in
-      let more : 0 < n = open_counted s.way n m.counted own.is_open in
+      let more : 0 < n = open_counted s.above.way n m.counted own.is_open in
       omega (arith, same, more, zero_is);
 }
 
-act_first : (path : List ℕ) (way : List Mark) (k : ℕ) (a : Action) (p : Proc) → IsMarked (lock_site path way k (act a p)) → FirstIs (lock_site path way k (act a p) ∷ []) (action_flaw path a)
+act_first : (path : List ℕ) (way : List LockMark) (k : ℕ) (a : Action) (p : Proc) → IsMarked (lock_site path way k (act a p)) → FirstIs (lock_site path way k (act a p) ∷ []) (action_flaw path a)
 act_first path way k (unlock t l) p m = go (nat_eq l 0) refl
   where
     s : LockSite
@@ -266,7 +266,7 @@ act_first path way k (unlock t l) p m = go (nat_eq l 0) refl
 act_first path way k (lock t l) p m = lone_first (lock_site path way k (act (lock t l) p)) refl (λ u n e. cc)
 act_first path way k a p m = lone_first (lock_site path way k (act a p)) refl (λ u n e. cc)
 
-pub first_is : (p : Proc) (path : List ℕ) (way : List Mark) (k : ℕ) → AllAt IsMarked path way k p → FirstIs (lock_sites_from path way k p) (first_flaw_from path k p)
+pub first_is : (p : Proc) (path : List ℕ) (way : List LockMark) (k : ℕ) → AllAt IsMarked path way k p → FirstIs (lock_sites_from path way k p) (first_flaw_from path k p)
 first_is nil path way k m = lone_first (lock_site path way k nil) refl (λ t l e. cc)
 first_is (parallel p q) path way k m =
     let s = lock_site path way k (parallel p q) in

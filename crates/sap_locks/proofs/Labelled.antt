@@ -4,7 +4,7 @@ use Rattle.sap_terms.specs.Tree.{Tree}
 use Rattle.sap_process.specs.Action.{Action, lock, unlock}
 use Rattle.sap_process.specs.Heads.{locks_set}
 use Rattle.sap_process.specs.Proc.{Proc, nil, parallel, replicated, act, test, lookup}
-use Rattle.sap_locks.specs.Ways.{Mark, locked, unlocked, LockSite, lock_count, way_behind}
+use Rattle.sap_locks.specs.Ways.{LockMark, locked, unlocked, LockSite, lock_count, way_behind}
 use Rattle.sap_locks.specs.Annotation.{lock_at, unlock_at, action_lock, action_unlock, unlabelled, unlabelled_action}
 use Rattle.sap_locks.specs.code.Labels.{Open, found, opened, open_behind, label_of, labelled_action, labelled_from}
 use Rattle.sap_locks.proofs.Opened.{Descends, descends_more}
@@ -38,34 +38,34 @@ plain (test t u p q) o k = λ i. test t u (plain p o k i) (plain q o (k + lock_c
 plain (lookup t x p q) o k = λ i. lookup t x (plain p o k i) (plain q o (k + lock_count p) i)
 
 -- the numbers on the way are at least 1
-abbrev pub Counted : List Mark → Type 0
+abbrev pub Counted : List LockMark → Type 0
 Counted [] = Unit {0}
 Counted (locked j t ∷ way) = (0 < j) × Counted way
 Counted (unlocked t ∷ way) = Counted way
 
 -- the place has the label that the list of open locks says
 pub record IsMarked (s : LockSite) : Type 0 where
-  pub descends : Descends (s.before + 1) s.way
-  pub counted : Counted s.way
-  pub lock_label : (t : Tree) (l : ℕ) → lock_at s.body ≡ Some (t, l) → l ≡ s.before + 1
-  pub unlock_label : (t : Tree) (l : ℕ) → unlock_at s.body ≡ Some (t, l) → l ≡ label_of (found t (opened s.way))
+  pub descends : Descends (s.above.before + 1) s.above.way
+  pub counted : Counted s.above.way
+  pub lock_label : (t : Tree) (l : ℕ) → lock_at s.body ≡ Some (t, l) → l ≡ s.above.before + 1
+  pub unlock_label : (t : Tree) (l : ℕ) → unlock_at s.body ≡ Some (t, l) → l ≡ label_of (found t (opened s.above.way))
 
-pub descends_behind : (way : List Mark) (k : ℕ) (a : Action) → Descends (k + 1) way → Descends (k + locks_set a + 1) (way_behind way k a)
+pub descends_behind : (way : List LockMark) (k : ℕ) (a : Action) → Descends (k + 1) way → Descends (k + locks_set a + 1) (way_behind way k a)
 descends_behind way k (lock t l) d = (omega arith, d)
 descends_behind way k (unlock t l) d = descends_more way (k + 1) (k + 0 + 1) (omega arith) d
 descends_behind way k a d = descends_more way (k + 1) (k + 0 + 1) (omega arith) d
 
-counted_behind : (way : List Mark) (k : ℕ) (a : Action) → Counted way → Counted (way_behind way k a)
+counted_behind : (way : List LockMark) (k : ℕ) (a : Action) → Counted way → Counted (way_behind way k a)
 counted_behind way k (lock t l) d = (omega arith, d)
 counted_behind way k (unlock t l) d = d
 counted_behind way k a d = d
 
-same_way : (way : List Mark) (o : Open) (k : ℕ) (a : Action) → way_behind way k (labelled_action o k a) ≡ way_behind way k a
+same_way : (way : List LockMark) (o : Open) (k : ℕ) (a : Action) → way_behind way k (labelled_action o k a) ≡ way_behind way k a
 same_way way o k (lock t l) = refl
 same_way way o k (unlock t l) = refl
 same_way way o k a = refl
 
-opened_behind : (way : List Mark) (k : ℕ) (a : Action) → opened (way_behind way k a) ≡ open_behind (opened way) k a
+opened_behind : (way : List LockMark) (k : ℕ) (a : Action) → opened (way_behind way k a) ≡ open_behind (opened way) k a
 opened_behind way k (lock t l) = refl
 opened_behind way k (unlock t l) = refl
 opened_behind way k a = refl
@@ -83,14 +83,14 @@ unlock_says o k (unlock u m) t l e = let r = first_of_two u t (label_of (found u
 unlock_says o k (lock u m) t l e = cc
 unlock_says o k a t l e = cc
 
-here : (path : List ℕ) (way : List Mark) (k : ℕ) (p : Proc) → Descends (k + 1) way → Counted way
+here : (path : List ℕ) (way : List LockMark) (k : ℕ) (p : Proc) → Descends (k + 1) way → Counted way
     → ((t : Tree) (l : ℕ) → lock_at p ≡ Some (t, l) → l ≡ k + 1) → ((t : Tree) (l : ℕ) → unlock_at p ≡ Some (t, l) → l ≡ label_of (found t (opened way))) → IsMarked (lock_site path way k p)
 here path way k p d c h g = record { descends = d; counted = c; lock_label = h; unlock_label = g }
 
-mark_second : (path : List ℕ) (way : List Mark) (k n : ℕ) (p : Proc) → n ≡ k → AllAt IsMarked path way k p → AllAt IsMarked path way n p
+mark_second : (path : List ℕ) (way : List LockMark) (k n : ℕ) (p : Proc) → n ≡ k → AllAt IsMarked path way k p → AllAt IsMarked path way n p
 mark_second path way k n p e h = subst (λ m. AllAt IsMarked path way m p) (sym e) h
 
-pub marked : (p : Proc) (path : List ℕ) (way : List Mark) (k : ℕ) → Descends (k + 1) way → Counted way → AllAt IsMarked path way k (labelled_from (opened way) k p)
+pub marked : (p : Proc) (path : List ℕ) (way : List LockMark) (k : ℕ) → Descends (k + 1) way → Counted way → AllAt IsMarked path way k (labelled_from (opened way) k p)
 marked nil path way k d c = here path way k nil d c (λ t l e. cc) (λ t l e. cc)
 marked (parallel p q) path way k d c = (
   here path way k (labelled_from (opened way) k (parallel p q)) d c (λ t l e. cc) (λ t l e. cc),

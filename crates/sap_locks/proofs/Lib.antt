@@ -10,3 +10,4 @@ pub mod Flags
 pub mod Counts
 pub mod Told
 pub mod OpenLocks
+pub mod LabelsNew

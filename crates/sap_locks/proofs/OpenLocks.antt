@@ -9,17 +9,18 @@ use Rattle.sap_locks.proofs.Members.{member-head, member-tail, member-none, memb
 use Rattle.sap_process.specs.Action as action
 use Rattle.sap_process.specs.Action.{Action}
 use Rattle.sap_process.specs.Heads.{locks_set}
+use Rattle.sap_process.specs.Places.{place}
 use Rattle.sap_process.specs.Proc as whole
 use Rattle.sap_process.specs.Proc.{Proc, act}
 use Rattle.sap_process.specs.Sites.{message_var}
-use Rattle.sap_locks.specs.Ways.{Mark, IsOpen, IsLockOf, LockSite, lock_count, way_behind, lock_sites_from, lock_sites}
+use Rattle.sap_locks.specs.Ways.{way_above, LockMark, IsOpen, IsLockOf, LockSite, lock_count, way_behind, lock_sites_from, lock_sites}
 use Rattle.sap_locks.specs.Annotation.{IsLabelled, IsAnnotated, action_lock, action_unlock}
 use Rattle.sap_locks.proofs.Opened.{Descends, descends_more, lock_is}
 use Rattle.sap_locks.proofs.Places.{AllAt, in_all}
 use Rattle.sap_locks.proofs.Labelled.{descends_behind}
 use Rattle.sap_locks.specs.Scopes.{HasOpenLocks, Spot, locks_behind, scope_behind, spot, spots, spots_from}
 
-abbrev Agree : List ℕ → List Mark → Type 0
+abbrev Agree : List ℕ → List LockMark → Type 0
 Agree ls way = (n : ℕ) → (Contains ls n → IsOpen way n) × (IsOpen way n → Contains ls n)
 
 kept_in : (f : ℕ → Bool) (xs : List ℕ) (n : ℕ) → Contains (filter f xs) n → Contains xs n × (f n ≡ true)
@@ -60,7 +61,7 @@ differ n l h = go (nat_eq n l) refl
 some_one : (n l : ℕ) → Some n ≡ Some l → n ≡ l
 some_one n l e = cc
 
-agree_behind : (ls : List ℕ) (way : List Mark) (k : ℕ) (a : Action) → Descends (k + 1) way → Agree ls way
+agree_behind : (ls : List ℕ) (way : List LockMark) (k : ℕ) (a : Action) → Descends (k + 1) way → Agree ls way
     → ((t : Tree) (l : ℕ) → action_lock a ≡ Some (t, l) → l ≡ k + 1) → ((t : Tree) (l : ℕ) → action_unlock a ≡ Some (t, l) → IsLockOf way l t) → Agree (locks_behind ls a) (way_behind way k a)
 agree_behind ls way k (action.lock t l) d g lock_label unlock_label n =
     let e : l ≡ k + 1 = lock_label t l refl in (
@@ -95,10 +96,10 @@ both_append [] ys (u ∷ us) ws h g = absurd h
 both_append (x ∷ xs) ys [] ws h g = absurd h
 both_append (x ∷ xs) ys (u ∷ us) ws h g = (h.0, both_append xs ys us ws h.1 g)
 
-here : (path : List ℕ) (v : List Var) (ls : List ℕ) (way : List Mark) (k : ℕ) (p : Proc) → Agree ls way → HasOpenLocks (spot path v ls p) (record { path = path; way = way; before = k; body = p })
+here : (path : List ℕ) (v : List Var) (ls : List ℕ) (way : List LockMark) (k : ℕ) (p : Proc) → Agree ls way → HasOpenLocks (spot path v ls p) (place path (way_above way k) (p))
 here path v ls way k p g = record { path_is = refl; body_is = refl; labels = λ n. (g n).0; all = λ n. (g n).1 }
 
-both : (p : Proc) (path : List ℕ) (v : List Var) (ls : List ℕ) (way : List Mark) (k : ℕ) → Descends (k + 1) way → Agree ls way → AllAt IsLabelled path way k p → Both (spots_from path v ls p) (lock_sites_from path way k p)
+both : (p : Proc) (path : List ℕ) (v : List Var) (ls : List ℕ) (way : List LockMark) (k : ℕ) → Descends (k + 1) way → Agree ls way → AllAt IsLabelled path way k p → Both (spots_from path v ls p) (lock_sites_from path way k p)
 both whole.nil path v ls way k d g h = (here path v ls way k whole.nil g, tt)
 both (whole.parallel p q) path v ls way k d g h = (
   here path v ls way k (whole.parallel p q) g,

@@ -5,11 +5,11 @@ use Rattle.sap_terms.specs.Same.{same_tree}
 use Rattle.sap_terms.specs.Tree.{Tree}
 use Rattle.sap_terms.proofs.PlainLaws.Tests.{same_tree-refl, same_tree-sound}
 use Rattle.sap_locks.proofs.Members.{member-head, member-tail, member-none, member-cases}
-use Rattle.sap_locks.specs.Ways.{Mark, locked, unlocked, IsOpen, IsLockOf}
+use Rattle.sap_locks.specs.Ways.{LockMark, locked, unlocked, IsOpen, IsLockOf}
 use Rattle.sap_locks.specs.code.Labels.{Open, found, dropped, opened}
 
 -- the numbers on the way are below k, and each is below those nearer the end
-abbrev pub Descends : ℕ → List Mark → Type 0
+abbrev pub Descends : ℕ → List LockMark → Type 0
 Descends k [] = Unit {0}
 Descends k (locked j t ∷ way) = (j < k) × Descends j way
 Descends k (unlocked t ∷ way) = Descends k way
@@ -19,7 +19,7 @@ abbrev pub Falls : ℕ → Open → Type 0
 Falls k [] = Unit {0}
 Falls k (b ∷ o) = (b.0 < k) × Falls b.0 o
 
-abbrev Stands : List Mark → ℕ → Tree → Type 0
+abbrev Stands : List LockMark → ℕ → Tree → Type 0
 Stands [] n t = ⊥
 Stands (locked k u ∷ way) n t = ((k ≡ n) × (u ≡ t)) ⊎ Stands way n t
 Stands (unlocked u ∷ way) n t = Stands way n t
@@ -32,7 +32,7 @@ abbrev pub HasLabel : Open → ℕ → Type 0
 HasLabel [] n = ⊥
 HasLabel (b ∷ o) n = (b.0 ≡ n) ⊎ HasLabel o n
 
-pub descends_more : (way : List Mark) (k n : ℕ) → k ≤ n → Descends k way → Descends n way
+pub descends_more : (way : List LockMark) (k n : ℕ) → k ≤ n → Descends k way → Descends n way
 descends_more [] k n le d = tt
 descends_more (locked j t ∷ way) k n le d = (omega (arith, le, d.0), d.1)
 descends_more (unlocked t ∷ way) k n le d = descends_more way k n le d
@@ -49,32 +49,32 @@ falls_dropped t (b ∷ o) k d = go (same_tree b.1 t) (falls_dropped t o b.0 d.1)
     go true later = falls_more o b.0 k (omega (arith, d.0)) d.1
     go false later = (d.0, later)
 
-pub falls_opened : (way : List Mark) (k : ℕ) → Descends k way → Falls k (opened way)
+pub falls_opened : (way : List LockMark) (k : ℕ) → Descends k way → Falls k (opened way)
 falls_opened [] k d = tt
 falls_opened (locked j t ∷ way) k d = (d.0, falls_opened way j d.1)
 falls_opened (unlocked t ∷ way) k d = falls_dropped t (opened way) k (falls_opened way k d)
 
 -- what stands on the way is what it contains
 
-abbrev mark_term : Tree → Mark → Tree
+abbrev mark_term : Tree → LockMark → Tree
 mark_term u (locked k t) = t
 mark_term u (unlocked t) = t
 
-abbrev mark_number : Mark → ℕ
+abbrev mark_number : LockMark → ℕ
 mark_number (locked k t) = k
 mark_number (unlocked t) = 0
 
 same_mark : (k n : ℕ) (u t : Tree) → locked k u ≡ locked n t → (k ≡ n) × (u ≡ t)
 same_mark k n u t e = (ap mark_number e, ap (mark_term t) e)
 
-abbrev is_locked : Mark → Bool
+abbrev is_locked : LockMark → Bool
 is_locked (locked k t) = true
 is_locked (unlocked t) = false
 
 other_mark : (n : ℕ) (u t : Tree) → unlocked u ≡ locked n t → ⊥
 other_mark n u t e = let h : false ≡ true = ap is_locked e in cc
 
-stands_in : (way : List Mark) (n : ℕ) (t : Tree) → Contains way (locked n t) → Stands way n t
+stands_in : (way : List LockMark) (n : ℕ) (t : Tree) → Contains way (locked n t) → Stands way n t
 stands_in [] n t h = member-none (locked n t) h
 stands_in (locked k u ∷ way) n t h = elim (member-cases (locked k u) way (locked n t) h) [
   | inl e ↦ inl (same_mark k n u t e)
@@ -85,20 +85,20 @@ stands_in (unlocked u ∷ way) n t h = elim (member-cases (unlocked u) way (lock
   | inr m ↦ stands_in way n t m
 ]
 
-in_stands : (way : List Mark) (n : ℕ) (t : Tree) → Stands way n t → Contains way (locked n t)
+in_stands : (way : List LockMark) (n : ℕ) (t : Tree) → Stands way n t → Contains way (locked n t)
 in_stands [] n t h = absurd h
 in_stands (locked k u ∷ way) n t (inl e) = subst (Contains (locked k u ∷ way)) (λ i. locked (e.0 i) (e.1 i)) (member-head (locked k u) way)
 in_stands (locked k u ∷ way) n t (inr m) = member-tail (locked k u) way (locked n t) (in_stands way n t m)
 in_stands (unlocked u ∷ way) n t m = member-tail (unlocked u) way (locked n t) (in_stands way n t m)
 
-stands_below : (way : List Mark) (k n : ℕ) (t : Tree) → Descends k way → Stands way n t → n < k
+stands_below : (way : List LockMark) (k n : ℕ) (t : Tree) → Descends k way → Stands way n t → n < k
 stands_below [] k n t d h = absurd h
 stands_below (locked j u ∷ way) k n t d (inl e) = let same : j ≡ n = e.0 in let less : j < k = d.0 in omega (arith, same, less)
 stands_below (locked j u ∷ way) k n t d (inr m) = let one : n < j = stands_below way j n t d.1 m in let less : j < k = d.0 in omega (arith, one, less)
 stands_below (unlocked u ∷ way) k n t d m = stands_below way k n t d m
 
 -- one number, one term
-stands_one : (way : List Mark) (k n : ℕ) (t u : Tree) → Descends k way → Stands way n t → Stands way n u → t ≡ u
+stands_one : (way : List LockMark) (k n : ℕ) (t u : Tree) → Descends k way → Stands way n t → Stands way n u → t ≡ u
 stands_one [] k n t u d h g = absurd h
 stands_one (locked j w ∷ way) k n t u d (inl e) (inl f) = sym e.1 ∙ f.1
 stands_one (locked j w ∷ way) k n t u d (inl e) (inr m) = let less : n < j = stands_below way j n u d.1 m in let same : j ≡ n = e.0 in absurd (omega (arith, less, same))
@@ -117,7 +117,7 @@ has_dropped t (b ∷ o) n u h = go (same_tree b.1 t) h (has_dropped t o n u)
     go false (inl e) later = inl e
     go false (inr m) later = inr (later m)
 
-has_stands : (way : List Mark) (n : ℕ) (t : Tree) → Has (opened way) n t → Stands way n t
+has_stands : (way : List LockMark) (n : ℕ) (t : Tree) → Has (opened way) n t → Stands way n t
 has_stands [] n t h = h
 has_stands (locked k u ∷ way) n t (inl e) = inl e
 has_stands (locked k u ∷ way) n t (inr m) = inr (has_stands way n t m)
@@ -190,7 +190,7 @@ keep_others t (b ∷ o) n h g = go (same_tree b.1 t) h g (keep_others t o n)
 abbrev pub IsBoth : Type 0 → Type 0 → Type 0
 IsBoth P Q = (P → Q) × (Q → P)
 
-lock_by : (way : List Mark) (k : ℕ) → Descends k way → ((n : ℕ) → IsBoth (IsOpen way n) (HasLabel (opened way) n)) → (n : ℕ) (t : Tree) → IsBoth (IsLockOf way n t) (found t (opened way) ≡ Some n)
+lock_by : (way : List LockMark) (k : ℕ) → Descends k way → ((n : ℕ) → IsBoth (IsOpen way n) (HasLabel (opened way) n)) → (n : ℕ) (t : Tree) → IsBoth (IsLockOf way n t) (found t (opened way) ≡ Some n)
 lock_by way k d same n t = (λ h. to (has_found t (opened way) n (has h)) h, from)
   where
     -- an open lock of the way with its term
@@ -217,7 +217,7 @@ lock_by way k d same n t = (λ h. to (has_found t (opened way) n (has h)) h, fro
         let equal : r.0 ≡ n = omega (arith, up, down) in
         r.1 ∙ ap Some equal
 
-pub open_is : (way : List Mark) (k : ℕ) → Descends k way → (n : ℕ) → IsBoth (IsOpen way n) (HasLabel (opened way) n)
+pub open_is : (way : List LockMark) (k : ℕ) → Descends k way → (n : ℕ) → IsBoth (IsOpen way n) (HasLabel (opened way) n)
 open_is [] k d n = (λ h. h, λ h. h)
 open_is (locked j t ∷ way) k d n = go (open_is way j d.1 n)
   where
@@ -232,5 +232,5 @@ open_is (unlocked t ∷ way) k d n = go (open_is way k d)
           λ h. let r = drop_one t (opened way) k n (falls_opened way k d) h in ((same n).1 r.0, λ own_is. r.1 (own.0 own_is)),
         )
 
-pub lock_is : (way : List Mark) (k : ℕ) → Descends k way → (n : ℕ) (t : Tree) → IsBoth (IsLockOf way n t) (found t (opened way) ≡ Some n)
+pub lock_is : (way : List LockMark) (k : ℕ) → Descends k way → (n : ℕ) (t : Tree) → IsBoth (IsLockOf way n t) (found t (opened way) ≡ Some n)
 lock_is way k d n t = lock_by way k d (open_is way k d) n t

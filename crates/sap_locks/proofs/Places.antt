@@ -4,14 +4,15 @@ use Rattle.std.specs.Prelude.{Contains}
 use Rattle.std.proofs.lemmas.List.Elements.{Contains-append_cases, Contains-append_left, Contains-append_right}
 use Rattle.sap_locks.proofs.Members.{member-head, member-tail, member-none, member-cases}
 use Rattle.sap_process.specs.Heads.{locks_set}
+use Rattle.sap_process.specs.Places.{place}
 use Rattle.sap_process.specs.Proc.{Proc, nil, parallel, replicated, act, test, lookup}
-use Rattle.sap_locks.specs.Ways.{Mark, LockSite, lock_count, way_behind, lock_sites_from}
+use Rattle.sap_locks.specs.Ways.{way_above, LockMark, LockSite, lock_count, way_behind, lock_sites_from}
 
-abbrev pub lock_site : List ℕ → List Mark → ℕ → Proc → LockSite
-lock_site path way k p = record { path = path; way = way; before = k; body = p }
+abbrev pub lock_site : List ℕ → List LockMark → ℕ → Proc → LockSite
+lock_site path way k p = place path (way_above way k) (p)
 
 -- at each place from this one on
-abbrev pub AllAt : (LockSite → Type 0) → List ℕ → List Mark → ℕ → Proc → Type 0
+abbrev pub AllAt : (LockSite → Type 0) → List ℕ → List LockMark → ℕ → Proc → Type 0
 AllAt P path way k nil = P (lock_site path way k nil)
 AllAt P path way k (parallel p q) =
     P (lock_site path way k (parallel p q)) × AllAt P (path ++ 1 ∷ []) way k p × AllAt P (path ++ 2 ∷ []) way (k + lock_count p) q
@@ -22,13 +23,17 @@ AllAt P path way k (test t u p q) =
 AllAt P path way k (lookup t x p q) =
     P (lock_site path way k (lookup t x p q)) × AllAt P (path ++ 1 ∷ []) way k p × AllAt P (path ++ 2 ∷ []) way (k + lock_count p) q
 
-one_of : (P : LockSite → Type 0) (s : LockSite) (xs : List LockSite) → P s → ((u : LockSite) → Contains xs u → P u) → (u : LockSite) → Contains (s ∷ xs) u → P u
+-- at each item of a list
+abbrev pub Each : {X : Type 0} → (X → Type 0) → List X → Type 0
+Each P xs = (u : _) → Contains xs u → P u
+
+pub one_of : {X : Type 0} (P : X → Type 0) (s : X) (xs : List X) → P s → Each P xs → Each P (s ∷ xs)
 one_of P s xs h rest u m = elim (member-cases s xs u m) [ inl e ↦ subst P e h | inr k ↦ rest u k ]
 
-two_of : (P : LockSite → Type 0) (s : LockSite) (xs ys : List LockSite) → P s → ((u : LockSite) → Contains xs u → P u) → ((u : LockSite) → Contains ys u → P u) → (u : LockSite) → Contains (s ∷ (xs ++ ys)) u → P u
+pub two_of : {X : Type 0} (P : X → Type 0) (s : X) (xs ys : List X) → P s → Each P xs → Each P ys → Each P (s ∷ (xs ++ ys))
 two_of P s xs ys h one two u m = one_of P s (xs ++ ys) h (λ v k. elim (Contains-append_cases xs ys v k) [ inl a ↦ one v a | inr b ↦ two v b ]) u m
 
-pub all_in : (P : LockSite → Type 0) (path : List ℕ) (way : List Mark) (k : ℕ) (p : Proc) → AllAt P path way k p → (s : LockSite) → Contains (lock_sites_from path way k p) s → P s
+pub all_in : (P : LockSite → Type 0) (path : List ℕ) (way : List LockMark) (k : ℕ) (p : Proc) → AllAt P path way k p → (s : LockSite) → Contains (lock_sites_from path way k p) s → P s
 all_in P path way k nil h = one_of P (lock_site path way k nil) [] h (λ u m. absurd (member-none u m))
 all_in P path way k (parallel p q) h =
     two_of P (lock_site path way k (parallel p q)) (lock_sites_from (path ++ 1 ∷ []) way k p) (lock_sites_from (path ++ 2 ∷ []) way (k + lock_count p) q) h.0
@@ -44,16 +49,16 @@ all_in P path way k (lookup t x p q) h =
     two_of P (lock_site path way k (lookup t x p q)) (lock_sites_from (path ++ 1 ∷ []) way k p) (lock_sites_from (path ++ 2 ∷ []) way (k + lock_count p) q) h.0
     (all_in P (path ++ 1 ∷ []) way k p h.1) (all_in P (path ++ 2 ∷ []) way (k + lock_count p) q h.2)
 
-abbrev Each : (LockSite → Type 0) → List LockSite → Type 0
-Each P xs = (u : LockSite) → Contains xs u → P u
-
-each_first : (P : LockSite → Type 0) (s : LockSite) (xs ys : List LockSite) → Each P (s ∷ (xs ++ ys)) → Each P xs
+pub each_first : {X : Type 0} (P : X → Type 0) (s : X) (xs ys : List X) → Each P (s ∷ (xs ++ ys)) → Each P xs
 each_first P s xs ys h u m = h u (member-tail s (xs ++ ys) u (Contains-append_left xs ys u m))
 
-each_second : (P : LockSite → Type 0) (s : LockSite) (xs ys : List LockSite) → Each P (s ∷ (xs ++ ys)) → Each P ys
+pub each_second : {X : Type 0} (P : X → Type 0) (s : X) (xs ys : List X) → Each P (s ∷ (xs ++ ys)) → Each P ys
 each_second P s xs ys h u m = h u (member-tail s (xs ++ ys) u (Contains-append_right xs ys u m))
 
-pub in_all : (P : LockSite → Type 0) (path : List ℕ) (way : List Mark) (k : ℕ) (p : Proc) → ((s : LockSite) → Contains (lock_sites_from path way k p) s → P s) → AllAt P path way k p
+pub each_next : {X : Type 0} (P : X → Type 0) (s : X) (xs : List X) → Each P (s ∷ xs) → Each P xs
+each_next P s xs h u m = h u (member-tail s xs u m)
+
+pub in_all : (P : LockSite → Type 0) (path : List ℕ) (way : List LockMark) (k : ℕ) (p : Proc) → ((s : LockSite) → Contains (lock_sites_from path way k p) s → P s) → AllAt P path way k p
 in_all P path way k nil h = h (lock_site path way k nil) (member-head (lock_site path way k nil) [])
 in_all P path way k (parallel p q) h =
     let s = lock_site path way k (parallel p q) in

@@ -1,11 +1,12 @@
 -- The places of an annotated process, each with what is in scope there, the variables of locks included, and which locks are open.
-use Rattle.std.specs.Prelude.{◌≡◌, ℕ, List, [], ◌∷◌, ◌++◌, codes, decimal, filter, not, nat_eq, Contains}
+use Rattle.std.specs.Prelude.{◌≡◌, ℕ, zero, suc, List, [], ◌∷◌, ◌++◌, codes, decimal, filter, not, nat_eq, Contains}
 use Rattle.sap_terms.specs.Variables.{facts_vars, new_vars, tree_vars}
 use Rattle.sap_terms.specs.declared.var.Sort.TheVariants.{Fresh}
 use Rattle.sap_terms.specs.declared.var.Var.{Var}
 use Rattle.sap_process.specs.Action as action
 use Rattle.sap_process.specs.Action.{Action}
-use Rattle.sap_process.specs.Proc.{Proc, nil, parallel, replicated, act, test, lookup}
+use Rattle.sap_process.specs.Places.{Descent, Place, place, places_from}
+use Rattle.sap_process.specs.Proc.{Proc, act, lookup}
 use Rattle.sap_process.specs.Sites.{fresh_var, message_var, var_names}
 use Rattle.sap_locks.specs.Ways.{IsOpen, LockSite}
 
@@ -37,26 +38,31 @@ locks_behind ls (action.lock t n) = ls ++ n ∷ []
 locks_behind ls (action.unlock t n) = filter (λ l. not (nat_eq l n)) ls
 locks_behind ls _ = ls
 
--- a place: its path, the variables in scope in order of binding, those of locks included, the labels of the locks that are
--- open there, the outermost first, and the process there
-pub record Spot : Type 0 where
-  pub path : List ℕ
+-- the variables in scope at a place, in order of binding, those of locks included, and the labels of the locks that are open
+-- there, the outermost first
+pub record LockScope : Type 0 where
   pub scope : List Var
   pub open_locks : List ℕ
-  pub body : Proc
+
+abbrev pub lock_scope : List Var → List ℕ → LockScope
+lock_scope v ls = record { scope = v; open_locks = ls }
+
+-- what a place hands down to a child of that; `lookup` binds in its first branch only
+abbrev pub lock_scope_below : Descent LockScope
+lock_scope_below u (act a p) e = lock_scope (scope_behind u.scope a) (locks_behind u.open_locks a)
+lock_scope_below u (lookup t x p q) (suc zero) = lock_scope (u.scope ++ message_var x ∷ []) u.open_locks
+lock_scope_below u _ e = u
+
+-- a place with what is in scope there and the locks that are open
+abbrev pub Spot : Type 0
+Spot = Place LockScope
 
 abbrev pub spot : List ℕ → List Var → List ℕ → Proc → Spot
-spot path v ls p = record { path = path; scope = v; open_locks = ls; body = p }
+spot path v ls p = place path (lock_scope v ls) p
 
--- the places from this one on, in preorder; `lookup` binds in its first branch only
+-- the places from this one on, in preorder
 abbrev pub spots_from : List ℕ → List Var → List ℕ → Proc → List Spot
-spots_from path v ls nil = spot path v ls nil ∷ []
-spots_from path v ls (parallel p q) = spot path v ls (parallel p q) ∷ (spots_from (path ++ 1 ∷ []) v ls p ++ spots_from (path ++ 2 ∷ []) v ls q)
-spots_from path v ls (replicated p) = spot path v ls (replicated p) ∷ spots_from (path ++ 1 ∷ []) v ls p
-spots_from path v ls (act a p) = spot path v ls (act a p) ∷ spots_from (path ++ 1 ∷ []) (scope_behind v a) (locks_behind ls a) p
-spots_from path v ls (test t u p q) = spot path v ls (test t u p q) ∷ (spots_from (path ++ 1 ∷ []) v ls p ++ spots_from (path ++ 2 ∷ []) v ls q)
-spots_from path v ls (lookup t x p q) =
-    spot path v ls (lookup t x p q) ∷ (spots_from (path ++ 1 ∷ []) (v ++ message_var x ∷ []) ls p ++ spots_from (path ++ 2 ∷ []) v ls q)
+spots_from path v ls p = places_from lock_scope_below path (lock_scope v ls) p
 
 -- all places
 abbrev pub spots : Proc → List Spot
@@ -66,5 +72,5 @@ spots p = spots_from [] [] [] p
 pub record HasOpenLocks (a : Spot) (s : LockSite) : Type 0 where
   pub path_is : a.path ≡ s.path
   pub body_is : a.body ≡ s.body
-  pub labels : (n : ℕ) → Contains a.open_locks n → IsOpen s.way n
-  pub all : (n : ℕ) → IsOpen s.way n → Contains a.open_locks n
+  pub labels : (n : ℕ) → Contains a.above.open_locks n → IsOpen s.above.way n
+  pub all : (n : ℕ) → IsOpen s.above.way n → Contains a.above.open_locks n

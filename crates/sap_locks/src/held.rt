@@ -1,7 +1,8 @@
 //! The locks above a place.
-ghost use Rattle.std.specs.Prelude.{◌≡◌, ◌<◌, ◌+◌, ◌++◌, ◌∷◌, ◌-◌, [], length, take, OnOk, true, false};
+ghost use Rattle.std.specs.Prelude.{◌≡◌, ◌<◌, ◌+◌, ◌++◌, ◌∷◌, ◌-◌, [], Some, cond, length, take, OnOk, true, false};
 ghost use Rattle.sap_terms.specs.View.{tree};
-ghost use Rattle.sap_locks.specs.code.Held.{last_open, with_open, label_at, is_open_of, IsLastOpen};
+ghost use Rattle.sap_locks.specs.code.Held.{last_open, with_open, label_at, is_open_of, opens, IsLastOpen};
+ghost use Rattle.sap_locks.specs.code.Labels.{found, label_of};
 
 use sap_terms::{Copied, Mem, Term};
 use std::alloc::Global;
@@ -14,11 +15,35 @@ pub(crate) struct Held {
     pub(crate) is_open: bool,
 }
 
-// The index of the last of these that is open and has the term.
-pub(crate) fn last_of(held: &[Held], t: &Term) -> Option<u64>
-    ensures { IsLastOpen (tree t.now) held.now result }
+// The lock that an unlock ends: its index, if there is one, and its label, or 0.
+#[derive(Drop)]
+pub(crate) struct Ended {
+    pub(crate) index: Option<u64>,
+    pub(crate) label: u32,
+}
+
+// The last of these that is open and has the term.
+pub(crate) fn last_of(held: &[Held], t: &Term) -> Ended
+    ensures index { IsLastOpen (tree t.now) held.now result.index }
+    ensures label { result.label ≡ label_of (found (tree t.now) (opens held.now)) }
 {
-    last_open(held, t)
+    match last_open(held, t) {
+        None => Ended {
+            index: None,
+            label: 0,
+        },
+        Some(k) => Ended {
+            index: Some(k),
+            label: label_at(held, k),
+        },
+    }
+}
+
+fn label_at(held: &[Held], k: u64) -> u32
+    requires { k < length held.now }
+    ensures { result ≡ label_at held.now k }
+{
+    held[k as usize].label
 }
 
 fn last_open(held: &[Held], t: &Term) -> Option<u64>
@@ -26,11 +51,19 @@ fn last_open(held: &[Held], t: &Term) -> Option<u64>
 {
     let mut last = None;
     for k in 0..held.len() as u64 {
-        if is_open_of(&held[k as usize], t) {
-            last = Some(k);
-        }
+        last = later(last, k, is_open_of(&held[k as usize], t));
     }
     last
+}
+
+// The index, where it is one, else the one before.
+fn later(before: Option<u64>, k: u64, is_one: bool) -> Option<u64>
+    ensures { result ≡ cond is_one (Some k) before }
+{
+    if is_one {
+        return Some(k);
+    }
+    before
 }
 
 // Whether it is open and has the term.
@@ -40,23 +73,19 @@ fn is_open_of(h: &Held, t: &Term) -> bool
     h.is_open && h.term.same(t)
 }
 
-// The lock at the index is open from now on, or isn't; its label.
-pub(crate) fn set_open(held: &mut Vec<Held>, k: u64, is_open: bool) -> u32
+// The lock at the index is open from now on, or isn't.
+pub(crate) fn set_open(held: &mut Vec<Held>, k: u64, is_open: bool)
     requires { k < length held.now.items }
     ensures list { held.new.items ≡ with_open held.old.items k is_open }
-    ensures label { result ≡ label_at held.old.items k }
     ensures len { length held.new.items ≡ length held.old.items }
 {
-    set_in(held.as_mut_slice(), k, is_open)
+    set_in(held.as_mut_slice(), k, is_open);
 }
 
-fn set_in(held: &mut [Held], k: u64, is_open: bool) -> u32
+fn set_in(held: &mut [Held], k: u64, is_open: bool)
     requires { k < length held.now }
     ensures list { held.new ≡ with_open held.old k is_open }
-    ensures label { result ≡ label_at held.old k }
     ensures len { length held.new ≡ length held.old }
 {
-    let h = &mut held[k as usize];
-    h.is_open = is_open;
-    h.label
+    held[k as usize].is_open = is_open;
 }

@@ -1,10 +1,19 @@
 //! Laws of the definitions.
-ghost use Rattle.std.specs.Prelude.{◌≡◌, ◌⊎◌, ℕ, List, [], ◌∷◌, Some, slice_get};
-ghost use Rattle.sap_process.specs.Proc.{Proc, nil, parallel, replicated};
-ghost use Rattle.sap_locks.specs.Scopes.{HasOpenLocks, Spot, spots};
-ghost use Rattle.sap_locks.specs.Ways.{LockSite, lock_sites};
+ghost use Rattle.std.specs.Prelude.{◌≡◌, ◌<◌, ◌^◌, ◌⊎◌, ℕ, List, [], ◌∷◌, Some, Contains, false, slice_get};
+ghost use Rattle.sap_terms.specs.Signature.{Sig};
+ghost use Rattle.sap_terms.specs.Tree.{Tree};
+ghost use Rattle.sap_terms.specs.Variables.{is_known};
+ghost use Rattle.sap_process.specs.Flaws.{IsWellFormed};
+ghost use Rattle.sap_process.specs.Places.{place_at, IsBefore};
+ghost use Rattle.sap_process.specs.Sites.{var_names};
+ghost use Rattle.sap_process.specs.Proc.{Proc, nil, node_count, parallel, replicated};
+ghost use Rattle.sap_locks.specs.Scopes.{HasOpenLocks, Spot, lock_scope, lock_scope_below, lock_var, spots};
+ghost use Rattle.sap_locks.specs.Ways.{IsLockOf, LockSite, lock_sites, way_above, way_below};
 ghost use Rattle.sap_locks.specs.LockExamples.{s, t, locking, unlocking, showing};
-ghost use Rattle.sap_locks.specs.Annotation.{IsAnnotated, IsAnnotation, IsFirstLockFlaw, LockFlaw, without, over};
+ghost use Rattle.sap_locks.specs.Annotation.{IsAnnotated, IsAnnotation, IsFirstLockFlaw, LockFlaw, lock_at, unlock_at, without, over};
+
+use crate::descents::{LockScopeBelow, WayBelow};
+use sap_process::places_are_by_path;
 
 /// A law: each process has exactly one annotation, or exactly one place that is the first that can't be annotated, for one
 /// cause, and never both.
@@ -41,3 +50,32 @@ pub fn open_locks_are_by_ways()
     ensures { (p : Proc) (k : ℕ) (a : Spot) (s : LockSite) → IsAnnotated p → slice_get (spots p) k ≡ Some a
         → slice_get (lock_sites p) k ≡ Some s → HasOpenLocks a s }
 {}
+
+/// A law: in the annotation of a well-formed process the variable of a lock isn't in scope where the lock stands; and in an
+/// annotated process the label of an unlock is that of a lock of the same term that is open there.
+pub fn labels_are_right()
+    ensures not_in_scope { (g : Sig) (p q : Proc) (a : Spot) (t : Tree) (n : ℕ) → IsWellFormed g p → node_count p < 2 ^ 64
+        → IsAnnotation p q → Contains (spots q) a → lock_at a.body ≡ Some (t, n)
+        → is_known (var_names a.above.scope) (lock_var n).name ≡ false }
+    ensures ends_open_lock { (p : Proc) (k : ℕ) (a : Spot) (s : LockSite) (t : Tree) (n : ℕ) → IsAnnotated p
+        → slice_get (spots p) k ≡ Some a → slice_get (lock_sites p) k ≡ Some s → unlock_at a.body ≡ Some (t, n)
+        → Contains a.above.open_locks n × IsLockOf s.above.way n t }
+{}
+
+/// A law: the list of places with their scopes and open locks has each place that a path leads to, and nothing else, in
+/// preorder; and so has that of the places with their ways.
+pub fn lock_places_are_by_path()
+    ensures scopes { (p : Proc) (a : Spot) → Contains (spots p) a → place_at lock_scope_below (lock_scope [] []) p a.path ≡ Some a }
+    ensures scopes_listed { (p : Proc) (path : List ℕ) (a : Spot) → place_at lock_scope_below (lock_scope [] []) p path ≡ Some a
+        → Contains (spots p) a × (a.path ≡ path) }
+    ensures scopes_in_order { (p : Proc) (i j : ℕ) (a b : Spot) → i < j → slice_get (spots p) i ≡ Some a → slice_get (spots p) j ≡ Some b
+        → IsBefore a.path b.path }
+    ensures ways { (p : Proc) (s : LockSite) → Contains (lock_sites p) s → place_at way_below (way_above [] 0) p s.path ≡ Some s }
+    ensures ways_listed { (p : Proc) (path : List ℕ) (s : LockSite) → place_at way_below (way_above [] 0) p path ≡ Some s
+        → Contains (lock_sites p) s × (s.path ≡ path) }
+    ensures ways_in_order { (p : Proc) (i j : ℕ) (s u : LockSite) → i < j → slice_get (lock_sites p) i ≡ Some s
+        → slice_get (lock_sites p) j ≡ Some u → IsBefore s.path u.path }
+{
+    places_are_by_path::<LockScopeBelow>();
+    places_are_by_path::<WayBelow>();
+}

@@ -2,6 +2,7 @@
 #![tactic(auto)]
 
 mod annotating;
+mod descents;
 mod fault;
 mod held;
 mod labelling;
@@ -9,5 +10,9 @@ mod laws;
 mod searching;
 
 pub use annotating::{annotate, annotate_boxed};
+pub use descents::{LockScopeBelow, WayBelow};
 pub use fault::LockFault;
-pub use laws::{annotations_by_hand, annotations_of_processes, open_locks_are_by_ways};
+pub use laws::{
+    annotations_by_hand, annotations_of_processes, labels_are_right, lock_places_are_by_path,
+    open_locks_are_by_ways,
+};

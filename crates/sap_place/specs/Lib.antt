@@ -1,2 +1,3 @@
 pub mod PlaceLists
 pub mod StateFacts
+pub mod code

@@ -1,5 +1,5 @@
 -- The places of an annotated process as values of the program.
-use Rattle.std.specs.Prelude.{ℕ, List, map}
+use Rattle.std.specs.Prelude.{List, map}
 use Rattle.sap_process.specs.Action.{Action, new, out, send, input, receive, event, insert, delete, lock, unlock, embedded}
 use Rattle.sap_process.specs.Proc.{Proc, nil, parallel, replicated, act, test, lookup}
 use Rattle.sap_locks.specs.Scopes.{Spot, spots}
@@ -32,7 +32,7 @@ form_of (lookup t x p q) = Lookup
 
 -- a place with the form of what stands there
 abbrev pub place_of : Spot → Place
-place_of s = record { path = s.path; form = form_of s.body; scope = s.scope; open_locks = s.open_locks }
+place_of s = record { path = s.path; form = form_of s.body; scope = s.above.scope; open_locks = s.above.open_locks }
 
 -- all places, in preorder
 abbrev pub places_of : Proc → List Place

@@ -1,5 +1,5 @@
 -- The facts that say where control is.
-use Rattle.std.specs.Prelude.{ℕ, ◌+◌, Bool, true, false, List, [], ◌∷◌, ◌++◌, map, codes}
+use Rattle.std.specs.Prelude.{ℕ, ◌+◌, true, List, [], ◌∷◌, ◌++◌, map, codes}
 use Rattle.sap_terms.specs.AdversaryFacts.{linear}
 use Rattle.sap_terms.specs.FactNames.{state_prefix, semi_prefix}
 use Rattle.sap_terms.specs.Tree.{Tree, variable}
@@ -7,7 +7,7 @@ use Rattle.sap_terms.specs.declared.fact.Fact.{Fact}
 use Rattle.sap_terms.specs.declared.var.Sort.TheVariants.{Fresh}
 use Rattle.sap_terms.specs.declared.var.Var.{Var}
 use Rattle.sap_place.specs.declared.place.Form.{Form}
-use Rattle.sap_place.specs.declared.place.Form.TheVariants.{Rep, Send}
+use Rattle.sap_place.specs.declared.place.Form.TheVariants.{Rep}
 use Rattle.sap_place.specs.declared.place.Place.{Place}
 
 -- a path in decimal digits

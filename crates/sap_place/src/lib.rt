@@ -7,5 +7,8 @@ mod state;
 mod walking;
 
 pub use place::{Form, Place, PlaceList};
-pub use state::{semi_fact, state_fact};
+pub use scoping::{lock_var, with_lock, with_pattern, with_rule, with_var};
+pub use state::{
+    copies_at, path_below, semi_fact, state_at, state_below, state_fact, tag, waits_at, with_digits,
+};
 pub use walking::places;

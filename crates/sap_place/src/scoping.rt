@@ -10,8 +10,8 @@ use sap_terms::{
 };
 use std::alloc::Global;
 
-// With the variable, of this sort, last.
-pub(crate) fn with_var(alloc: Global, scope: &Vars, x: &Var, sort: Sort) -> Result<Vars, Mem>
+/// The scope with the variable, of this sort, last. Want of memory is the only error, as in all these.
+pub fn with_var(alloc: Global, scope: &Vars, x: &Var, sort: Sort) -> Result<Vars, Mem>
     ensures { IfOk result (λ v. v ≡ scope.now ++ record { name = x.now.name; sort = sort } ∷ []) }
 {
     let mut out = scope.copy(alloc)?;
@@ -20,8 +20,8 @@ pub(crate) fn with_var(alloc: Global, scope: &Vars, x: &Var, sort: Sort) -> Resu
     Ok(out)
 }
 
-// With the new variables of a pattern.
-pub(crate) fn with_pattern(alloc: Global, scope: &Vars, t: &Term) -> Result<Vars, Mem>
+/// The scope with the new variables of a pattern.
+pub fn with_pattern(alloc: Global, scope: &Vars, t: &Term) -> Result<Vars, Mem>
     ensures { IfOk result (λ v. v ≡ with_new scope.now (tree_vars (tree t.now))) }
 {
     let mut vars = Vars::new(alloc);
@@ -29,8 +29,8 @@ pub(crate) fn with_pattern(alloc: Global, scope: &Vars, t: &Term) -> Result<Vars
     with_new_of(alloc, scope, &vars)
 }
 
-// With the new variables of an embedded rule.
-pub(crate) fn with_rule(
+/// The scope with the new variables of an embedded rule, the left side's first.
+pub fn with_rule(
     alloc: Global,
     scope: &Vars,
     l: &FactList,
@@ -77,17 +77,24 @@ fn knows(scope: &Vars, name: &Name) -> bool
     false
 }
 
-// With the variable of the lock of this label, last.
-pub(crate) fn with_lock(alloc: Global, scope: &Vars, label: u32) -> Result<Vars, Mem>
+/// The scope with the variable of the lock of this label last.
+pub fn with_lock(alloc: Global, scope: &Vars, label: u32) -> Result<Vars, Mem>
     ensures { IfOk result (λ v. v ≡ scope.now ++ lock_var label ∷ []) }
 {
     let mut out = scope.copy(alloc)?;
+    out.push(lock_var(alloc, label)?)?;
+    Ok(out)
+}
+
+/// The variable of the lock of this label.
+pub fn lock_var(alloc: Global, label: u32) -> Result<Var, Mem>
+    ensures { IfOk result (λ v. v ≡ lock_var label) }
+{
     let name = lock_name(alloc, label)?;
-    out.push(Var {
+    Ok(Var {
         name,
         sort: Sort::Fresh,
-    })?;
-    Ok(out)
+    })
 }
 
 fn lock_name(alloc: Global, label: u32) -> Result<Name, Mem>

@@ -21,7 +21,7 @@ use Rattle.sap_process.proofs.Flawed.{Kept, flaw-tells, kept-on, kept-none}
 
 -- the test of a flaw at a site
 abbrev tested : Sig → Seen → Site → Flaw → Bool
-tested g m s w = has_flaw g w (clashes m s.body) s.scope s.locks s.body
+tested g m s w = has_flaw g w (clashes m s.body) s.above.scope s.above.locks s.body
 
 -- the place lacks so many of the flaws at most as there are
 lacking-most : (g : Sig) (c : Bool) (scope : List Var) (k : ℕ) (p : Proc) (ws : List Flaw) → lacking g c scope k p ws ≤ length ws
@@ -100,10 +100,10 @@ get-take (u ∷ us) (suc k) (suc j) l = get-take us k j (omega (arith, l))
 
 -- no more flaws are looked for once a place is met
 sought-here : (g : Sig) (f : Found) (s : Site) → length (found_at g f s).sought ≡ lacked g f s
-sought-here g f s = length-take-le (lacked g f s) f.sought (lacking-most g (clashes f.seen s.body) s.scope s.locks s.body f.sought)
+sought-here g f s = length-take-le (lacked g f s) f.sought (lacking-most g (clashes f.seen s.body) s.above.scope s.above.locks s.body f.sought)
 
 lacked-most : (g : Sig) (f : Found) (s : Site) → lacked g f s ≤ length f.sought
-lacked-most g f s = lacking-most g (clashes f.seen s.body) s.scope s.locks s.body f.sought
+lacked-most g f s = lacking-most g (clashes f.seen s.body) s.above.scope s.above.locks s.body f.sought
 
 begins-here : (g : Sig) (ws : List Flaw) (f : Found) (s : Site) → Begins ws f.sought → Begins ws (found_at g f s).sought
 begins-here g ws f s begins j l =
@@ -118,7 +118,7 @@ AreKept ws f before = (j : ℕ) (u : Flaw) → j < length f.sought → slice_get
 not-here : (g : Sig) (ws : List Flaw) (f : Found) (before : List Site) (s : Site) → Begins ws f.sought → (j : ℕ) (u : Flaw) → j < lacked g f s → slice_get ws j ≡ Some u → tested g f.seen s u ≡ false
 not-here g ws f before s begins j u l e =
     let most = lacked-most g f s in
-    lacking-none g (clashes f.seen s.body) s.scope s.locks s.body f.sought j u l (begins j (omega (arith, l, most)) ∙ e)
+    lacking-none g (clashes f.seen s.body) s.above.scope s.above.locks s.body f.sought j u l (begins j (omega (arith, l, most)) ∙ e)
 
 kept-here : (g : Sig) (ws : List Flaw) (f : Found) (before : List Site) (s : Site) → Begins ws f.sought → AreKept ws f before → AreKept ws (found_at g f s) (before ++ s ∷ [])
 kept-here g ws f before s begins kept j u l e =
@@ -176,7 +176,7 @@ finds-more g ws before s ss f begins kept rest = record {
         let equal : length h.sought ≡ lacked g f s = omega (arith, high, rest.less, here) in
         let below : lacked g f s < length f.sought = omega (arith, l, equal) in
         let at : slice_get f.sought (lacked g f s) ≡ Some u = begins (lacked g f s) below ∙ ap (slice_get ws) (sym equal) ∙ e in
-        let has : tested g f.seen s u ≡ true = lacking-next g (clashes f.seen s.body) s.scope s.locks s.body f.sought u at in
+        let has : tested g f.seen s u ≡ true = lacking-next g (clashes f.seen s.body) s.above.scope s.above.locks s.body f.sought u at in
         record {
           place = 0;
           site = s;

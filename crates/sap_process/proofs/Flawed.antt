@@ -211,10 +211,10 @@ items-tell : {X : Type 0} (xs : List X) → Tells (has_items xs) (¬ (xs ≡ [])
 items-tell [] = (λ h. cc, λ h n. n refl)
 items-tell (x ∷ xs) = (λ h e. cc, λ h n. cc)
 
-rebinds-tells : (s : Site) → Tells (rebinds s.scope s.body) (Rebinds s)
+rebinds-tells : (s : Site) → Tells (rebinds s.above.scope s.body) (Rebinds s)
 rebinds-tells s = (
-  λ h. let found = bound-found (λ (v : Var). is_known (var_names s.scope) v.name) (binder s.body) h in record { var = found.0; stands = found.1; in_scope = found.2 },
-  λ h r. let holds = bound-holds (λ (v : Var). is_known (var_names s.scope) v.name) (binder s.body) r.var r.stands r.in_scope in cc,
+  λ h. let found = bound-found (λ (v : Var). is_known (var_names s.above.scope) v.name) (binder s.body) h in record { var = found.0; stands = found.1; in_scope = found.2 },
+  λ h r. let holds = bound-holds (λ (v : Var). is_known (var_names s.above.scope) v.name) (binder s.body) r.var r.stands r.in_scope in cc,
 )
 
 -- the sort of a binder
@@ -235,14 +235,14 @@ apart-tested s t d = by (same_sort s t) refl where
   by true e = absurd (d (sort-equal s t e))
   by false e = refl
 
-sort-clash-tells : (s : Site) → Tells (list_any (has_other_sort (scope_at s.scope s.body)) (terms_vars (head_terms s.body))) (HasSortClash s)
+sort-clash-tells : (s : Site) → Tells (list_any (has_other_sort (scope_at s.above.scope s.body)) (terms_vars (head_terms s.body))) (HasSortClash s)
 sort-clash-tells s = (sound, complete) where
-  sound : list_any (has_other_sort (scope_at s.scope s.body)) (terms_vars (head_terms s.body)) ≡ true → HasSortClash s
+  sound : list_any (has_other_sort (scope_at s.above.scope s.body)) (terms_vars (head_terms s.body)) ≡ true → HasSortClash s
   sound h =
-      let found = any-found (has_other_sort (scope_at s.scope s.body)) (terms_vars (head_terms s.body)) h in
+      let found = any-found (has_other_sort (scope_at s.above.scope s.body)) (terms_vars (head_terms s.body)) h in
       let v = found.0 in
-      let is_other = is_other_sort (option_map (λ (b : Var). b.sort) (binder_of (scope_at s.scope s.body) v.name)) v.sort in
-      let other = other-sort (binder_of (scope_at s.scope s.body) v.name) v.sort (and_right (not (same_sort v.sort Msg)) is_other found.2) in
+      let is_other = is_other_sort (option_map (λ (b : Var). b.sort) (binder_of (scope_at s.above.scope s.body) v.name)) v.sort in
+      let other = other-sort (binder_of (scope_at s.above.scope s.body) v.name) v.sort (and_right (not (same_sort v.sort Msg)) is_other found.2) in
       record {
         var = v;
         stands = found.1;
@@ -255,10 +255,10 @@ sort-clash-tells s = (sound, complete) where
         other = other.2;
       }
 
-  complete : list_any (has_other_sort (scope_at s.scope s.body)) (terms_vars (head_terms s.body)) ≡ false → HasSortClash s → ⊥
+  complete : list_any (has_other_sort (scope_at s.above.scope s.body)) (terms_vars (head_terms s.body)) ≡ false → HasSortClash s → ⊥
   complete h c =
-      let apart : is_other_sort (option_map (λ (b : Var). b.sort) (binder_of (scope_at s.scope s.body) c.var.name)) c.var.sort ≡ true = subst (λ (o : Option Var). is_other_sort (option_map (λ (b : Var). b.sort) o) c.var.sort ≡ true) (sym c.binder) (apart-tested c.bound.sort c.var.sort c.other) in
-      let any = any-holds (has_other_sort (scope_at s.scope s.body)) (terms_vars (head_terms s.body)) c.var c.stands (and_true _ _ (apart-tested c.var.sort Msg c.signed) apart) in
+      let apart : is_other_sort (option_map (λ (b : Var). b.sort) (binder_of (scope_at s.above.scope s.body) c.var.name)) c.var.sort ≡ true = subst (λ (o : Option Var). is_other_sort (option_map (λ (b : Var). b.sort) o) c.var.sort ≡ true) (sym c.binder) (apart-tested c.bound.sort c.var.sort c.other) in
+      let any = any-holds (has_other_sort (scope_at s.above.scope s.body)) (terms_vars (head_terms s.body)) c.var c.stands (and_true _ _ (apart-tested c.var.sort Msg c.signed) apart) in
       cc
 
 full-tells : (n : ℕ) → Tells (nat_lt 64 n) (64 < n)
@@ -281,16 +281,16 @@ clash-tells m before s g kept =
     (clash-sound false m.shown (flat_map (λ (b : Site). shown_facts b.body) before) (shown_facts s.body) kept.shown, clash-complete false m.shown (flat_map (λ (b : Site). shown_facts b.body) before) (shown_facts s.body) kept.shown)
 
 -- each test tells its flaw
-pub flaw-tells : (g : Sig) (w : Flaw) (m : Seen) (before : List Site) (s : Site) → Kept w m before → Tells (has_flaw g w (clashes m s.body) s.scope s.locks s.body) (HasFlaw g before s w)
+pub flaw-tells : (g : Sig) (w : Flaw) (m : Seen) (before : List Site) (s : Site) → Kept w m before → Tells (has_flaw g w (clashes m s.body) s.above.scope s.above.locks s.body) (HasFlaw g before s w)
 flaw-tells g BadFunction m before s kept = both-tell (not (are_over g (trees_of (head_terms s.body)))) (binds_constant g s.body) (AppliesBadly g s) (BindsConstant g s) (applies-tells g s) (binds-tells g s)
 flaw-tells g ReservedVar m before s kept = reserved-var-tells s
 flaw-tells g ReservedFact m before s kept = reserved-fact-tells s
 flaw-tells g FactClash m before s kept = clash-tells m before s g kept
 flaw-tells g PatternDestructor m before s kept = pattern-tells g s
-flaw-tells g Unbound m before s kept = items-tell (unbound s.scope s.body)
+flaw-tells g Unbound m before s kept = items-tell (unbound s.above.scope s.body)
 flaw-tells g Rebound m before s kept = rebinds-tells s
 flaw-tells g SortClash m before s kept = sort-clash-tells s
-flaw-tells g ScopeFull m before s kept = full-tells (length s.scope + s.locks)
+flaw-tells g ScopeFull m before s kept = full-tells (length s.above.scope + s.above.locks)
 
 flat-push : {X Y : Type 0} (f : X → List Y) (xs : List X) (x : X) → flat_map f xs ++ f x ≡ flat_map f (xs ++ x ∷ [])
 flat-push f [] x = sym (append-nil (f x))
@@ -303,7 +303,7 @@ clash-kept m before s kept h = record {
 }
 
 -- and where a place hasn't the flaw, its facts are noted as well
-pub kept-on : (g : Sig) (w : Flaw) (m : Seen) (before : List Site) (s : Site) → Kept w m before → has_flaw g w (clashes m s.body) s.scope s.locks s.body ≡ false → Kept w (seen_at m s.body) (before ++ s ∷ [])
+pub kept-on : (g : Sig) (w : Flaw) (m : Seen) (before : List Site) (s : Site) → Kept w m before → has_flaw g w (clashes m s.body) s.above.scope s.above.locks s.body ≡ false → Kept w (seen_at m s.body) (before ++ s ∷ [])
 kept-on g BadFunction m before s kept h = tt
 kept-on g ReservedVar m before s kept h = tt
 kept-on g ReservedFact m before s kept h = tt

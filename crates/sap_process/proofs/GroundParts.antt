@@ -18,7 +18,8 @@ use Rattle.sap_process.specs.Heads.{terms_vars}
 use Rattle.sap_process.specs.Instance.{action_instance, process_instance, without, behind}
 use Rattle.sap_process.specs.Proc as whole
 use Rattle.sap_process.specs.Proc.{Proc, act}
-use Rattle.sap_process.specs.Sites.{Site, sites_from, var_names, fresh_var, message_var, bound_by}
+use Rattle.sap_process.specs.Places.{place}
+use Rattle.sap_process.specs.Sites.{Site, above_of, sites_from, var_names, fresh_var, message_var, bound_by}
 use Rattle.sap_process.proofs.InstanceLemmas.{one_instance}
 use Rattle.sap_process.proofs.Members.{member-head, member-tail, member-none, member-cases}
 use Rattle.sap_process.specs.GroundProcess.{IsGroundProcess}
@@ -37,10 +38,10 @@ two_case : (P : Site → Type 0) (x : Site) (xs ys : List Site) → P x → ((s 
 two_case P x xs ys one two three s m = one_case P x (xs ++ ys) one (λ u k. elim (Contains-append_cases xs ys u k) [ inl a ↦ two u a | inr b ↦ three u b ]) s m
 
 abbrev Bound : Site → Type 0
-Bound s = unbound s.scope s.body ≡ []
+Bound s = unbound s.above.scope s.body ≡ []
 
 abbrev site : List ℕ → List Var → ℕ → Proc → Site
-site path v k p = record { path = path; scope = v; locks = k; body = p }
+site path v k p = place path (above_of v k) p
 
 pub to_places : (p : Proc) (path : List ℕ) (v : List Var) (k : ℕ) → IsGroundIn v p → (s : Site) → Contains (sites_from path v k p) s → Bound s
 to_places whole.nil path v k h = one_case Bound (site path v k whole.nil) [] refl (λ u m. absurd (member-none u m))

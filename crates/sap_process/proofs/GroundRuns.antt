@@ -305,7 +305,7 @@ nothing_left (x ∷ xs) h = absurd (h (λ e. cc))
 pub well_ground : (g : Sig) (p : Proc) → IsWellFormed g p → IsGroundProcess p
 well_ground g p fine s m =
     let r = where_stands (sites p) s m in
-    nothing_left (unbound s.scope s.body) (λ flaw. fine Unbound r.0 (record { site = s; stands = r.1; flaw = flaw }))
+    nothing_left (unbound s.above.scope s.body) (λ flaw. fine Unbound r.0 (record { site = s; stands = r.1; flaw = flaw }))
 
 ground_run : {g : Sig} {p : Proc} {c : Config} {tr : Trace} → FormsAreMessages → HoldsBuiltins g → IsGroundIn [] p → IsOverProcess g p → ProcessRun g (initial p) c tr → Good g c
 ground_run {g} {p} forms hold ground over ProcessRun.starts = record { threads = start; frame = λ x m. absurd (member-none x m); store = λ k v e. absurd (cc); facts = λ t a e. cc }

@@ -17,7 +17,8 @@ use Rattle.sap_process.specs.Heads.{facts_terms, action_terms, head_terms}
 use Rattle.sap_process.specs.Instance.{action_instance, without, behind, process_instance}
 use Rattle.sap_process.specs.Proc as whole
 use Rattle.sap_process.specs.Proc.{Proc, act}
-use Rattle.sap_process.specs.Sites.{Site, sites, sites_from, message_var, bound_by}
+use Rattle.sap_process.specs.Places.{place}
+use Rattle.sap_process.specs.Sites.{Site, above_of, sites, sites_from, message_var, bound_by}
 use Rattle.sap_terms.specs.TermTests.{is_over}
 use Rattle.sap_process.specs.declared.flaw.Flaw.TheVariants.{BadFunction}
 use Rattle.sap_process.proofs.Flawed.{over-sound, over-complete}
@@ -125,7 +126,7 @@ next_over : (g : Sig) (x : Site) (xs : List Site) → EachOver g (x ∷ xs) → 
 next_over g x xs h u m = h u (member-tail x xs u m)
 
 abbrev at : List ℕ → List Var → ℕ → Proc → Site
-at path v k p = record { path = path; scope = v; locks = k; body = p }
+at path v k p = place path (above_of v k) p
 
 of_sites : (g : Sig) (p : Proc) (path : List ℕ) (v : List Var) (k : ℕ) → EachOver g (sites_from path v k p) → IsOverProcess g p
 of_sites g whole.nil path v k h = tt

@@ -1,127 +1,151 @@
--- The list of places has each place once, at its path, in preorder.
-use Rattle.std.proofs.Common.{◌≡◌, ℕ, zero, suc, ◌+◌, ◌<◌, inl, inr, List, [], ◌∷◌, ◌++◌, Some, arith, refl, sym, ap, subst, ◌∙◌}
+-- The list of places has each place once, at its path, in preorder, whatever is handed down.
+use Rattle.std.proofs.Common.{◌≡◌, ℕ, zero, suc, ◌<◌, inl, inr, List, [], ◌∷◌, ◌++◌, Option, Some, None, arith, refl, sym, ap, subst, ◌∙◌}
 use Rattle.std.specs.Prelude.{Contains, slice_get}
+use Rattle.std.specs.Option.{option_map}
 use Rattle.std.proofs.lemmas.List.{append_assoc, append-nil}
 use Rattle.std.proofs.lemmas.List.Elements.{Contains-append_cases, Contains-append_left, Contains-append_right}
-use Rattle.sap_terms.specs.declared.var.Var.{Var}
 use Rattle.sap_process.proofs.Members.{member-head, member-tail, member-none, member-cases}
-use Rattle.sap_process.specs.Heads.{locks_set}
+use Rattle.sap_process.specs.Places.{Descent, Place, place, places_from, places, child, place_below, place_from, place_at, IsBefore}
 use Rattle.sap_process.specs.Proc.{Proc, nil, parallel, replicated, act, test, lookup}
-use Rattle.sap_process.specs.Sites.{Site, sites_from, sites, bound_by, message_var}
-use Rattle.sap_process.specs.PlaceAt.{Stand, stand, child, place_from, place_at, IsBefore}
 
-abbrev pub site : List ℕ → List Var → ℕ → Proc → Site
-site path v k p = record { path = path; scope = v; locks = k; body = p }
-
-abbrev stand_of : Site → Stand
-stand_of s = stand s.scope s.locks s.body
-
--- a site lies below a place, by these digits
-pub record Below (path : List ℕ) (top : Stand) (s : Site) : Type 0 where
+-- a place lies below another, by these digits
+pub record Below {S : Type 0} (d : Descent S) (top x : Place S) : Type 0 where
   pub rest : List ℕ
-  pub path_is : s.path ≡ path ++ rest
-  pub there : place_from (Some top) rest ≡ Some (stand_of s)
+  pub path_is : x.path ≡ top.path ++ rest
+  pub there : place_from d (Some top) rest ≡ Some x
 
-below_here : (path : List ℕ) (v : List Var) (k : ℕ) (p : Proc) (s : Site) → site path v k p ≡ s → Below path (stand v k p) s
-below_here path v k p s e = subst (Below path (stand v k p)) e (record { rest = []; path_is = sym (append-nil path); there = refl })
+below_here : {S : Type 0} (d : Descent S) (top x : Place S) → top ≡ x → Below d top x
+below_here d top x e = subst (Below d top) e (record { rest = []; path_is = sym (append-nil top.path); there = refl })
 
-below_child : (path : List ℕ) (top kid : Stand) (d : ℕ) (s : Site) → child top d ≡ Some kid → Below (path ++ d ∷ []) kid s → Below path top s
-below_child path top kid d s e b = record {
-  rest = d ∷ b.rest;
-  path_is = b.path_is ∙ append_assoc path (d ∷ []) b.rest;
-  there = ap (λ o. place_from o b.rest) e ∙ b.there;
+below_child : {S : Type 0} (d : Descent S) (top kid x : Place S) (e : ℕ) → place_below d top e ≡ Some kid → kid.path ≡ top.path ++ e ∷ [] → Below d kid x → Below d top x
+below_child d top kid x e is path b = record {
+  rest = e ∷ b.rest;
+  path_is = b.path_is ∙ ap (λ w. w ++ b.rest) path ∙ append_assoc top.path (e ∷ []) b.rest;
+  there = ap (λ o. place_from d o b.rest) is ∙ b.there;
 }
 
-one_case : (P : Site → Type 0) (x : Site) (xs : List Site) (s : Site) → Contains (x ∷ xs) s → (x ≡ s → P s) → (Contains xs s → P s) → P s
-one_case P x xs s m one rest = elim (member-cases x xs s m) [ inl e ↦ one e | inr k ↦ rest k ]
+one_case : {X : Type 0} (P : X → Type 0) (x : X) (xs : List X) (y : X) → Contains (x ∷ xs) y → (x ≡ y → P y) → (Contains xs y → P y) → P y
+one_case P x xs y m one rest = elim (member-cases x xs y m) [ inl e ↦ one e | inr k ↦ rest k ]
 
-two_case : (P : Site → Type 0) (x : Site) (xs ys : List Site) (s : Site) → Contains (x ∷ (xs ++ ys)) s → (x ≡ s → P s) → (Contains xs s → P s) → (Contains ys s → P s) → P s
-two_case P x xs ys s m one two three = one_case P x (xs ++ ys) s m one (λ k. elim (Contains-append_cases xs ys s k) [ inl a ↦ two a | inr b ↦ three b ])
+two_case : {X : Type 0} (P : X → Type 0) (x : X) (xs ys : List X) (y : X) → Contains (x ∷ (xs ++ ys)) y → (x ≡ y → P y) → (Contains xs y → P y) → (Contains ys y → P y) → P y
+two_case P x xs ys y m one two three = one_case P x (xs ++ ys) y m one (λ k. elim (Contains-append_cases xs ys y k) [ inl a ↦ two a | inr b ↦ three b ])
 
-pub each_below : (p : Proc) (path : List ℕ) (v : List Var) (k : ℕ) (s : Site) → Contains (sites_from path v k p) s → Below path (stand v k p) s
-each_below nil path v k s m = one_case (Below path (stand v k nil)) (site path v k nil) [] s m (below_here path v k nil s) (λ n. absurd (member-none s n))
-each_below (parallel p q) path v k s m =
-    two_case (Below path (stand v k (parallel p q))) (site path v k (parallel p q)) (sites_from (path ++ 1 ∷ []) v k p) (sites_from (path ++ 2 ∷ []) v k q) s m (below_here path v k (parallel p q) s)
-    (λ a. below_child path (stand v k (parallel p q)) (stand v k p) 1 s refl (each_below p (path ++ 1 ∷ []) v k s a))
-    (λ b. below_child path (stand v k (parallel p q)) (stand v k q) 2 s refl (each_below q (path ++ 2 ∷ []) v k s b))
-each_below (replicated p) path v k s m =
-    one_case (Below path (stand v k (replicated p))) (site path v k (replicated p)) (sites_from (path ++ 1 ∷ []) v k p) s m (below_here path v k (replicated p) s)
-    (λ a. below_child path (stand v k (replicated p)) (stand v k p) 1 s refl (each_below p (path ++ 1 ∷ []) v k s a))
-each_below (act a p) path v k s m =
-    one_case (Below path (stand v k (act a p))) (site path v k (act a p)) (sites_from (path ++ 1 ∷ []) (v ++ bound_by v a) (k + locks_set a) p) s m (below_here path v k (act a p) s)
-    (λ b. below_child path (stand v k (act a p)) (stand (v ++ bound_by v a) (k + locks_set a) p) 1 s refl (each_below p (path ++ 1 ∷ []) (v ++ bound_by v a) (k + locks_set a) s b))
-each_below (test t u p q) path v k s m =
-    two_case (Below path (stand v k (test t u p q))) (site path v k (test t u p q)) (sites_from (path ++ 1 ∷ []) v k p) (sites_from (path ++ 2 ∷ []) v k q) s m (below_here path v k (test t u p q) s)
-    (λ a. below_child path (stand v k (test t u p q)) (stand v k p) 1 s refl (each_below p (path ++ 1 ∷ []) v k s a))
-    (λ b. below_child path (stand v k (test t u p q)) (stand v k q) 2 s refl (each_below q (path ++ 2 ∷ []) v k s b))
-each_below (lookup t x p q) path v k s m =
-    two_case (Below path (stand v k (lookup t x p q))) (site path v k (lookup t x p q)) (sites_from (path ++ 1 ∷ []) (v ++ message_var x ∷ []) k p) (sites_from (path ++ 2 ∷ []) v k q) s m (below_here path v k (lookup t x p q) s)
-    (λ a. below_child path (stand v k (lookup t x p q)) (stand (v ++ message_var x ∷ []) k p) 1 s refl (each_below p (path ++ 1 ∷ []) (v ++ message_var x ∷ []) k s a))
-    (λ b. below_child path (stand v k (lookup t x p q)) (stand v k q) 2 s refl (each_below q (path ++ 2 ∷ []) v k s b))
+-- where one process follows, and where two do
+abbrev Under : {S : Type 0} → Descent S → Place S → List (Place S) → Type 0
+Under d top xs = (x : Place _) → Contains xs x → Below d top x
 
--- each site stands at its path
-pub at_path : (p : Proc) (s : Site) → Contains (sites p) s → place_at p s.path ≡ Some (stand s.scope s.locks s.body)
-at_path p s m = let b = each_below p [] [] 0 s m in ap (place_at p) b.path_is ∙ b.there
+under_one : {S : Type 0} (d : Descent S) (top kid : Place S) (xs : List (Place S)) → place_below d top 1 ≡ Some kid → kid.path ≡ top.path ++ 1 ∷ [] → Under d kid xs → Under d top (top ∷ xs)
+under_one d top kid xs is path h x m = one_case (Below d top) top xs x m (below_here d top x) (λ a. below_child d top kid x 1 is path (h x a))
 
--- and each place is a site
-some_same : (a b : Stand) → Some a ≡ Some b → a ≡ b
+under_two : {S : Type 0} (d : Descent S) (top one two : Place S) (xs ys : List (Place S)) → place_below d top 1 ≡ Some one → one.path ≡ top.path ++ 1 ∷ []
+    → place_below d top 2 ≡ Some two → two.path ≡ top.path ++ 2 ∷ [] → Under d one xs → Under d two ys → Under d top (top ∷ (xs ++ ys))
+under_two d top one two xs ys a path b other h g x m =
+    two_case (Below d top) top xs ys x m (below_here d top x) (λ k. below_child d top one x 1 a path (h x k)) (λ k. below_child d top two x 2 b other (g x k))
+
+pub each_below : {S : Type 0} (d : Descent S) (p : Proc) (path : List ℕ) (s : S) → Under d (place path s p) (places_from d path s p)
+each_below d nil path s = λ x m. one_case (Below d (place path s nil)) (place path s nil) [] x m (below_here d (place path s nil) x) (λ n. absurd (member-none x n))
+each_below d (parallel p q) path s =
+    under_two d (place path s (parallel p q)) (place (path ++ 1 ∷ []) (d s (parallel p q) 1) p) (place (path ++ 2 ∷ []) (d s (parallel p q) 2) q) _ _ refl refl refl refl
+    (each_below d p (path ++ 1 ∷ []) (d s (parallel p q) 1)) (each_below d q (path ++ 2 ∷ []) (d s (parallel p q) 2))
+each_below d (replicated p) path s =
+    under_one d (place path s (replicated p)) (place (path ++ 1 ∷ []) (d s (replicated p) 1) p) _ refl refl (each_below d p (path ++ 1 ∷ []) (d s (replicated p) 1))
+each_below d (act a p) path s =
+    under_one d (place path s (act a p)) (place (path ++ 1 ∷ []) (d s (act a p) 1) p) _ refl refl (each_below d p (path ++ 1 ∷ []) (d s (act a p) 1))
+each_below d (test t u p q) path s =
+    under_two d (place path s (test t u p q)) (place (path ++ 1 ∷ []) (d s (test t u p q) 1) p) (place (path ++ 2 ∷ []) (d s (test t u p q) 2) q) _ _ refl refl refl refl
+    (each_below d p (path ++ 1 ∷ []) (d s (test t u p q) 1)) (each_below d q (path ++ 2 ∷ []) (d s (test t u p q) 2))
+each_below d (lookup t x p q) path s =
+    under_two d (place path s (lookup t x p q)) (place (path ++ 1 ∷ []) (d s (lookup t x p q) 1) p) (place (path ++ 2 ∷ []) (d s (lookup t x p q) 2) q) _ _ refl refl refl refl
+    (each_below d p (path ++ 1 ∷ []) (d s (lookup t x p q) 1)) (each_below d q (path ++ 2 ∷ []) (d s (lookup t x p q) 2))
+
+-- each place of the list stands at its path
+pub at_path : {S : Type 0} (d : Descent S) (p : Proc) (s : S) (x : Place S) → Contains (places d s p) x → place_at d s p x.path ≡ Some x
+at_path d p s x m = let b = each_below d p [] s x m in ap (place_at d s p) b.path_is ∙ b.there
+
+-- and each place is in the list
+some_same : {X : Type 0} (a b : X) → Some a ≡ Some b → a ≡ b
 some_same a b e = cc
 
-abbrev Listed : List ℕ → Stand → Type 0
-Listed path top = (rest : List ℕ) (b : Stand) → place_from (Some top) rest ≡ Some b → Contains (sites_from path top.scope top.locks top.body) (site (path ++ rest) b.scope b.locks b.body)
+abbrev Listed : {S : Type 0} → Descent S → Place S → List (Place S) → Type 0
+Listed d top xs = (rest : List ℕ) (b : Place _) → place_from d (Some top) rest ≡ Some b → Contains xs b
 
-listed_here : (path : List ℕ) (v : List Var) (k : ℕ) (p : Proc) (xs : List Site) (b : Stand) → stand v k p ≡ b → Contains (site path v k p ∷ xs) (site (path ++ []) b.scope b.locks b.body)
-listed_here path v k p xs b e = subst (λ (z : Stand). Contains (site path v k p ∷ xs) (site (path ++ []) z.scope z.locks z.body)) e (subst (λ w. Contains (site path v k p ∷ xs) (site w v k p)) (sym (append-nil path)) (member-head (site path v k p) xs))
+listed_here : {S : Type 0} (d : Descent S) (top : Place S) (xs : List (Place S)) (b : Place S) → Some top ≡ Some b → Contains (top ∷ xs) b
+listed_here d top xs b e = subst (Contains (top ∷ xs)) (some_same top b e) (member-head top xs)
 
-under : (xs : List Site) (path rest : List ℕ) (d : ℕ) (b : Stand) → Contains xs (site ((path ++ d ∷ []) ++ rest) b.scope b.locks b.body) → Contains xs (site (path ++ d ∷ rest) b.scope b.locks b.body)
-under xs path rest d b h = subst (λ w. Contains xs (site w b.scope b.locks b.body)) (append_assoc path (d ∷ []) rest) h
+listed_none : {S : Type 0} (d : Descent S) (top : Place S) → ((e : ℕ) → place_below d top e ≡ None) → Listed d top (top ∷ [])
+listed_none d top h [] b e = listed_here d top [] b e
+listed_none d top h (n ∷ rest) b e = let no = sym e ∙ ap (λ o. place_from d o rest) (h n) in absurd (cc)
 
-pub all_listed : (p : Proc) (path : List ℕ) (v : List Var) (k : ℕ) → Listed path (stand v k p)
-all_listed nil path v k [] b e = listed_here path v k nil [] b (some_same (stand v k nil) b e)
-all_listed nil path v k (zero ∷ rest) b e = cc
-all_listed nil path v k (suc zero ∷ rest) b e = cc
-all_listed nil path v k (suc (suc zero) ∷ rest) b e = cc
-all_listed nil path v k (suc (suc (suc d)) ∷ rest) b e = cc
-all_listed (parallel p q) path v k [] b e = listed_here path v k (parallel p q) _ b (some_same (stand v k (parallel p q)) b e)
-all_listed (parallel p q) path v k (zero ∷ rest) b e = absurd (cc)
-all_listed (parallel p q) path v k (suc zero ∷ rest) b e = member-tail (site path v k (parallel p q)) _ (site (path ++ 1 ∷ rest) b.scope b.locks b.body) (Contains-append_left (sites_from (path ++ 1 ∷ []) v k p) (sites_from (path ++ 2 ∷ []) v k q) (site (path ++ 1 ∷ rest) b.scope b.locks b.body) (under (sites_from (path ++ 1 ∷ []) v k p) path rest 1 b (all_listed p (path ++ 1 ∷ []) v k rest b e)))
-all_listed (parallel p q) path v k (suc (suc zero) ∷ rest) b e = member-tail (site path v k (parallel p q)) _ (site (path ++ 2 ∷ rest) b.scope b.locks b.body) (Contains-append_right (sites_from (path ++ 1 ∷ []) v k p) (sites_from (path ++ 2 ∷ []) v k q) (site (path ++ 2 ∷ rest) b.scope b.locks b.body) (under (sites_from (path ++ 2 ∷ []) v k q) path rest 2 b (all_listed q (path ++ 2 ∷ []) v k rest b e)))
-all_listed (parallel p q) path v k (suc (suc (suc d)) ∷ rest) b e = absurd (cc)
-all_listed (replicated p) path v k [] b e = listed_here path v k (replicated p) _ b (some_same (stand v k (replicated p)) b e)
-all_listed (replicated p) path v k (zero ∷ rest) b e = absurd (cc)
-all_listed (replicated p) path v k (suc zero ∷ rest) b e = member-tail (site path v k (replicated p)) _ (site (path ++ 1 ∷ rest) b.scope b.locks b.body) (under (sites_from (path ++ 1 ∷ []) v k p) path rest 1 b (all_listed p (path ++ 1 ∷ []) v k rest b e))
-all_listed (replicated p) path v k (suc (suc d) ∷ rest) b e = absurd (none d e)
+listed_one : {S : Type 0} (d : Descent S) (top kid : Place S) (xs : List (Place S)) → place_below d top 0 ≡ None → place_below d top 1 ≡ Some kid
+    → ((n : ℕ) → place_below d top (suc (suc n)) ≡ None) → Listed d kid xs → Listed d top (top ∷ xs)
+listed_one d top kid xs zeroth is other h [] b e = listed_here d top xs b e
+listed_one d top kid xs zeroth is other h (zero ∷ rest) b e = let no = sym e ∙ ap (λ o. place_from d o rest) zeroth in absurd (cc)
+listed_one d top kid xs zeroth is other h (suc zero ∷ rest) b e = member-tail top xs b (h rest b (sym (ap (λ o. place_from d o rest) is) ∙ e))
+listed_one d top kid xs zeroth is other h (suc (suc n) ∷ rest) b e = let no = sym e ∙ ap (λ o. place_from d o rest) (other n) in absurd (cc)
+
+listed_two : {S : Type 0} (d : Descent S) (top one two : Place S) (xs ys : List (Place S)) → place_below d top 0 ≡ None → place_below d top 1 ≡ Some one → place_below d top 2 ≡ Some two
+    → ((n : ℕ) → place_below d top (suc (suc (suc n))) ≡ None) → Listed d one xs → Listed d two ys → Listed d top (top ∷ (xs ++ ys))
+listed_two d top one two xs ys zeroth a c other h g [] b e = listed_here d top (xs ++ ys) b e
+listed_two d top one two xs ys zeroth a c other h g (zero ∷ rest) b e = let no = sym e ∙ ap (λ o. place_from d o rest) zeroth in absurd (cc)
+listed_two d top one two xs ys zeroth a c other h g (suc zero ∷ rest) b e =
+    member-tail top (xs ++ ys) b (Contains-append_left xs ys b (h rest b (sym (ap (λ o. place_from d o rest) a) ∙ e)))
+listed_two d top one two xs ys zeroth a c other h g (suc (suc zero) ∷ rest) b e =
+    member-tail top (xs ++ ys) b (Contains-append_right xs ys b (g rest b (sym (ap (λ o. place_from d o rest) c) ∙ e)))
+listed_two d top one two xs ys zeroth a c other h g (suc (suc (suc n)) ∷ rest) b e = let no = sym e ∙ ap (λ o. place_from d o rest) (other n) in absurd (cc)
+
+none_there : {S : Type 0} (d : Descent S) (path : List ℕ) (s : S) (e : ℕ) → place_below d (place path s nil) e ≡ None
+none_there d path s zero = refl
+none_there d path s (suc zero) = refl
+none_there d path s (suc (suc zero)) = refl
+none_there d path s (suc (suc (suc n))) = refl
+
+one_alone : {S : Type 0} (d : Descent S) (path : List ℕ) (s : S) (p : Proc) (n : ℕ) → place_below d (place path s (replicated p)) (suc (suc n)) ≡ None
+one_alone d path s p zero = refl
+one_alone d path s p (suc n) = refl
+
+pub all_listed : {S : Type 0} (d : Descent S) (p : Proc) (path : List ℕ) (s : S) → Listed d (place path s p) (places_from d path s p)
+all_listed d nil path s = listed_none d (place path s nil) (none_there d path s)
+all_listed d (parallel p q) path s =
+    listed_two d (place path s (parallel p q)) (place (path ++ 1 ∷ []) (d s (parallel p q) 1) p) (place (path ++ 2 ∷ []) (d s (parallel p q) 2) q) _ _ refl refl refl (λ n. refl)
+    (all_listed d p (path ++ 1 ∷ []) (d s (parallel p q) 1)) (all_listed d q (path ++ 2 ∷ []) (d s (parallel p q) 2))
+all_listed d (replicated p) path s =
+    listed_one d (place path s (replicated p)) (place (path ++ 1 ∷ []) (d s (replicated p) 1) p) _ refl refl (one_alone d path s p) (all_listed d p (path ++ 1 ∷ []) (d s (replicated p) 1))
+all_listed d (act a p) path s = listed_one d (place path s (act a p)) (place (path ++ 1 ∷ []) (d s (act a p) 1) p) _ refl refl other (all_listed d p (path ++ 1 ∷ []) (d s (act a p) 1))
   where
-    none : (d : ℕ) → place_from (child (stand v k (replicated p)) (suc (suc d))) rest ≡ Some b → ⊥
-    none zero e = cc
-    none (suc d) e = cc
-all_listed (act a p) path v k [] b e = listed_here path v k (act a p) _ b (some_same (stand v k (act a p)) b e)
-all_listed (act a p) path v k (zero ∷ rest) b e = absurd (cc)
-all_listed (act a p) path v k (suc zero ∷ rest) b e = member-tail (site path v k (act a p)) _ (site (path ++ 1 ∷ rest) b.scope b.locks b.body) (under (sites_from (path ++ 1 ∷ []) (v ++ bound_by v a) (k + locks_set a) p) path rest 1 b (all_listed p (path ++ 1 ∷ []) (v ++ bound_by v a) (k + locks_set a) rest b e))
-all_listed (act a p) path v k (suc (suc d) ∷ rest) b e = absurd (none d e)
+    other : (n : ℕ) → place_below d (place path s (act a p)) (suc (suc n)) ≡ None
+    other zero = refl
+    other (suc n) = refl
+all_listed d (test t u p q) path s =
+    listed_two d (place path s (test t u p q)) (place (path ++ 1 ∷ []) (d s (test t u p q) 1) p) (place (path ++ 2 ∷ []) (d s (test t u p q) 2) q) _ _ refl refl refl (λ n. refl)
+    (all_listed d p (path ++ 1 ∷ []) (d s (test t u p q) 1)) (all_listed d q (path ++ 2 ∷ []) (d s (test t u p q) 2))
+all_listed d (lookup t x p q) path s =
+    listed_two d (place path s (lookup t x p q)) (place (path ++ 1 ∷ []) (d s (lookup t x p q) 1) p) (place (path ++ 2 ∷ []) (d s (lookup t x p q) 2) q) _ _ refl refl refl (λ n. refl)
+    (all_listed d p (path ++ 1 ∷ []) (d s (lookup t x p q) 1)) (all_listed d q (path ++ 2 ∷ []) (d s (lookup t x p q) 2))
+
+pub is_listed : {S : Type 0} (d : Descent S) (p : Proc) (s : S) (path : List ℕ) (b : Place S) → place_at d s p path ≡ Some b → Contains (places d s p) b
+is_listed d p s path b e = all_listed d p [] s path b e
+
+-- the place that the digits lead to has them as its path
+below_path : {S : Type 0} (d : Descent S) (path : List ℕ) (top b : Place S) → place_from d (Some top) path ≡ Some b → b.path ≡ top.path ++ path
+below_path d [] top b e = ap (λ (z : Place _). z.path) (sym (some_same top b e)) ∙ sym (append-nil top.path)
+below_path {S} d (n ∷ path) top b e = go (child top.body n) e (λ q f. below_path d path (place (top.path ++ n ∷ []) (d top.above top.body n) q) b f)
   where
-    none : (d : ℕ) → place_from (child (stand v k (act a p)) (suc (suc d))) rest ≡ Some b → ⊥
-    none zero e = cc
-    none (suc d) e = cc
-all_listed (test t u p q) path v k [] b e = listed_here path v k (test t u p q) _ b (some_same (stand v k (test t u p q)) b e)
-all_listed (test t u p q) path v k (zero ∷ rest) b e = absurd (cc)
-all_listed (test t u p q) path v k (suc zero ∷ rest) b e = member-tail (site path v k (test t u p q)) _ (site (path ++ 1 ∷ rest) b.scope b.locks b.body) (Contains-append_left (sites_from (path ++ 1 ∷ []) v k p) (sites_from (path ++ 2 ∷ []) v k q) (site (path ++ 1 ∷ rest) b.scope b.locks b.body) (under (sites_from (path ++ 1 ∷ []) v k p) path rest 1 b (all_listed p (path ++ 1 ∷ []) v k rest b e)))
-all_listed (test t u p q) path v k (suc (suc zero) ∷ rest) b e = member-tail (site path v k (test t u p q)) _ (site (path ++ 2 ∷ rest) b.scope b.locks b.body) (Contains-append_right (sites_from (path ++ 1 ∷ []) v k p) (sites_from (path ++ 2 ∷ []) v k q) (site (path ++ 2 ∷ rest) b.scope b.locks b.body) (under (sites_from (path ++ 2 ∷ []) v k q) path rest 2 b (all_listed q (path ++ 2 ∷ []) v k rest b e)))
-all_listed (test t u p q) path v k (suc (suc (suc d)) ∷ rest) b e = absurd (cc)
-all_listed (lookup t x p q) path v k [] b e = listed_here path v k (lookup t x p q) _ b (some_same (stand v k (lookup t x p q)) b e)
-all_listed (lookup t x p q) path v k (zero ∷ rest) b e = absurd (cc)
-all_listed (lookup t x p q) path v k (suc zero ∷ rest) b e = member-tail (site path v k (lookup t x p q)) _ (site (path ++ 1 ∷ rest) b.scope b.locks b.body) (Contains-append_left (sites_from (path ++ 1 ∷ []) (v ++ message_var x ∷ []) k p) (sites_from (path ++ 2 ∷ []) v k q) (site (path ++ 1 ∷ rest) b.scope b.locks b.body) (under (sites_from (path ++ 1 ∷ []) (v ++ message_var x ∷ []) k p) path rest 1 b (all_listed p (path ++ 1 ∷ []) (v ++ message_var x ∷ []) k rest b e)))
-all_listed (lookup t x p q) path v k (suc (suc zero) ∷ rest) b e = member-tail (site path v k (lookup t x p q)) _ (site (path ++ 2 ∷ rest) b.scope b.locks b.body) (Contains-append_right (sites_from (path ++ 1 ∷ []) (v ++ message_var x ∷ []) k p) (sites_from (path ++ 2 ∷ []) v k q) (site (path ++ 2 ∷ rest) b.scope b.locks b.body) (under (sites_from (path ++ 2 ∷ []) v k q) path rest 2 b (all_listed q (path ++ 2 ∷ []) v k rest b e)))
-all_listed (lookup t x p q) path v k (suc (suc (suc d)) ∷ rest) b e = absurd (cc)
+    go : (o : Option Proc) → place_from d (option_map (place (top.path ++ n ∷ []) (d top.above top.body n)) o) path ≡ Some b
+        → ((q : Proc) → place_from d (Some (place (top.path ++ n ∷ []) (d top.above top.body n) q)) path ≡ Some b → b.path ≡ (top.path ++ n ∷ []) ++ path) → b.path ≡ top.path ++ n ∷ path
+    go None f later = cc
+    go (Some q) f later = later q f ∙ append_assoc top.path (n ∷ []) path
+
+pub own_path : {S : Type 0} (d : Descent S) (p : Proc) (s : S) (path : List ℕ) (b : Place S) → place_at d s p path ≡ Some b → b.path ≡ path
+own_path d p s path b e = below_path d path (place [] s p) b e
 
 -- order
 
 -- each item stands so to those after it
-abbrev Pairwise : List Site → Type 0
+abbrev Pairwise : {S : Type 0} → List (Place S) → Type 0
 Pairwise [] = Unit {0}
-Pairwise (x ∷ xs) = ((y : Site) → Contains xs y → IsBefore x.path y.path) × Pairwise xs
+Pairwise (x ∷ xs) = ((y : Place _) → Contains xs y → IsBefore x.path y.path) × Pairwise xs
 
-pairs_append : (xs ys : List Site) → Pairwise xs → Pairwise ys → ((x y : Site) → Contains xs x → Contains ys y → IsBefore x.path y.path) → Pairwise (xs ++ ys)
+pairs_append : {S : Type 0} (xs ys : List (Place S)) → Pairwise xs → Pairwise ys → ((x y : Place S) → Contains xs x → Contains ys y → IsBefore x.path y.path) → Pairwise (xs ++ ys)
 pairs_append [] ys h g c = g
 pairs_append (x ∷ xs) ys h g c = (
   λ y m. elim (Contains-append_cases xs ys y m) [ inl a ↦ h.0 y a | inr b ↦ c x y (member-head x xs) b ],
@@ -130,59 +154,57 @@ pairs_append (x ∷ xs) ys h g c = (
 
 before_under : (path a b : List ℕ) → IsBefore a b → IsBefore (path ++ a) (path ++ b)
 before_under [] a b h = h
-before_under (d ∷ path) a b h = inr (refl, before_under path a b h)
+before_under (e ∷ path) a b h = inr (refl, before_under path a b h)
 
 -- a place stands before those below it
-above : (path rest : List ℕ) (d : ℕ) → IsBefore path (path ++ d ∷ rest)
-above path rest d = subst (λ z. IsBefore z (path ++ d ∷ rest)) (append-nil path) (before_under path [] (d ∷ rest) tt)
+above : (path rest : List ℕ) (e : ℕ) → IsBefore path (path ++ e ∷ rest)
+above path rest e = subst (λ z. IsBefore z (path ++ e ∷ rest)) (append-nil path) (before_under path [] (e ∷ rest) tt)
 
 -- those below the first child before those below the second
 turned : (path a b : List ℕ) → IsBefore (path ++ 1 ∷ a) (path ++ 2 ∷ b)
 turned path a b = before_under path (1 ∷ a) (2 ∷ b) (inl (omega arith))
 
-path_below : (path : List ℕ) (d : ℕ) (top : Stand) (s : Site) (b : Below (path ++ d ∷ []) top s) → s.path ≡ path ++ d ∷ b.rest
-path_below path d top s b = b.path_is ∙ append_assoc path (d ∷ []) b.rest
+path_below : {S : Type 0} (d : Descent S) (path : List ℕ) (e : ℕ) (s : S) (p : Proc) (x : Place S) (b : Below d (place (path ++ e ∷ []) s p) x) → x.path ≡ path ++ e ∷ b.rest
+path_below d path e s p x b = b.path_is ∙ append_assoc path (e ∷ []) b.rest
 
-first_before : (path : List ℕ) (v w : List Var) (k n : ℕ) (p r : Proc) (d : ℕ) (y : Site) → Contains (sites_from (path ++ d ∷ []) w n p) y → IsBefore (site path v k r).path y.path
-first_before path v w k n p r d y m = let b = each_below p (path ++ d ∷ []) w n y m in subst (IsBefore path) (sym (path_below path d (stand w n p) y b)) (above path b.rest d)
+first_before : {S : Type 0} (d : Descent S) (path : List ℕ) (s : S) (p : Proc) (e : ℕ) (y : Place S) → Contains (places_from d (path ++ e ∷ []) s p) y → IsBefore path y.path
+first_before d path s p e y m = let b = each_below d p (path ++ e ∷ []) s y m in subst (IsBefore path) (sym (path_below d path e s p y b)) (above path b.rest e)
 
-second_after : (path : List ℕ) (v w : List Var) (k n : ℕ) (p q : Proc) (x y : Site) → Contains (sites_from (path ++ 1 ∷ []) v k p) x → Contains (sites_from (path ++ 2 ∷ []) w n q) y → IsBefore x.path y.path
-second_after path v w k n p q x y m l =
-    let a = each_below p (path ++ 1 ∷ []) v k x m in
-    let b = each_below q (path ++ 2 ∷ []) w n y l in
-    subst (λ z. IsBefore z y.path) (sym (path_below path 1 (stand v k p) x a)) (subst (IsBefore (path ++ 1 ∷ a.rest)) (sym (path_below path 2 (stand w n q) y b)) (turned path a.rest b.rest))
+second_after : {S : Type 0} (d : Descent S) (path : List ℕ) (s u : S) (p q : Proc) (x y : Place S) → Contains (places_from d (path ++ 1 ∷ []) s p) x → Contains (places_from d (path ++ 2 ∷ []) u q) y → IsBefore x.path y.path
+second_after d path s u p q x y m l =
+    let a = each_below d p (path ++ 1 ∷ []) s x m in
+    let b = each_below d q (path ++ 2 ∷ []) u y l in
+    subst (λ z. IsBefore z y.path) (sym (path_below d path 1 s p x a)) (subst (IsBefore (path ++ 1 ∷ a.rest)) (sym (path_below d path 2 u q y b)) (turned path a.rest b.rest))
 
-both_before : (path : List ℕ) (v w : List Var) (k n : ℕ) (p q r : Proc) → Pairwise (sites_from (path ++ 1 ∷ []) w n p) → Pairwise (sites_from (path ++ 2 ∷ []) v k q) → Pairwise (site path v k r ∷ (sites_from (path ++ 1 ∷ []) w n p ++ sites_from (path ++ 2 ∷ []) v k q))
-both_before path v w k n p q r h g = (
-  λ y m. elim (Contains-append_cases (sites_from (path ++ 1 ∷ []) w n p) (sites_from (path ++ 2 ∷ []) v k q) y m) [
-    | inl a ↦ first_before path v w k n p r 1 y a
-    | inr b ↦ first_before path v v k k q r 2 y b
+both_before : {S : Type 0} (d : Descent S) (path : List ℕ) (t s u : S) (r p q : Proc) → Pairwise (places_from d (path ++ 1 ∷ []) s p) → Pairwise (places_from d (path ++ 2 ∷ []) u q)
+    → Pairwise (place path t r ∷ (places_from d (path ++ 1 ∷ []) s p ++ places_from d (path ++ 2 ∷ []) u q))
+both_before d path t s u r p q h g = (
+  λ y m. elim (Contains-append_cases (places_from d (path ++ 1 ∷ []) s p) (places_from d (path ++ 2 ∷ []) u q) y m) [
+    | inl a ↦ first_before d path s p 1 y a
+    | inr b ↦ first_before d path u q 2 y b
   ],
-  pairs_append (sites_from (path ++ 1 ∷ []) w n p) (sites_from (path ++ 2 ∷ []) v k q) h g (second_after path w v n k p q),
+  pairs_append (places_from d (path ++ 1 ∷ []) s p) (places_from d (path ++ 2 ∷ []) u q) h g (second_after d path s u p q),
 )
 
-pairs : (p : Proc) (path : List ℕ) (v : List Var) (k : ℕ) → Pairwise (sites_from path v k p)
-pairs nil path v k = (λ y m. absurd (member-none y m), tt)
-pairs (parallel p q) path v k = both_before path v v k k p q (parallel p q) (pairs p (path ++ 1 ∷ []) v k) (pairs q (path ++ 2 ∷ []) v k)
-pairs (replicated p) path v k = (first_before path v v k k p (replicated p) 1, pairs p (path ++ 1 ∷ []) v k)
-pairs (act a p) path v k = (first_before path v (v ++ bound_by v a) k (k + locks_set a) p (act a p) 1, pairs p (path ++ 1 ∷ []) (v ++ bound_by v a) (k + locks_set a))
-pairs (test t u p q) path v k = both_before path v v k k p q (test t u p q) (pairs p (path ++ 1 ∷ []) v k) (pairs q (path ++ 2 ∷ []) v k)
-pairs (lookup t x p q) path v k = both_before path v (v ++ message_var x ∷ []) k k p q (lookup t x p q) (pairs p (path ++ 1 ∷ []) (v ++ message_var x ∷ []) k) (pairs q (path ++ 2 ∷ []) v k)
+pairs : {S : Type 0} (d : Descent S) (p : Proc) (path : List ℕ) (s : S) → Pairwise (places_from d path s p)
+pairs d nil path s = (λ y m. absurd (member-none y m), tt)
+pairs d (parallel p q) path s = both_before d path s (d s (parallel p q) 1) (d s (parallel p q) 2) (parallel p q) p q (pairs d p (path ++ 1 ∷ []) (d s (parallel p q) 1)) (pairs d q (path ++ 2 ∷ []) (d s (parallel p q) 2))
+pairs d (replicated p) path s = (first_before d path (d s (replicated p) 1) p 1, pairs d p (path ++ 1 ∷ []) (d s (replicated p) 1))
+pairs d (act a p) path s = (first_before d path (d s (act a p) 1) p 1, pairs d p (path ++ 1 ∷ []) (d s (act a p) 1))
+pairs d (test t u p q) path s = both_before d path s (d s (test t u p q) 1) (d s (test t u p q) 2) (test t u p q) p q (pairs d p (path ++ 1 ∷ []) (d s (test t u p q) 1)) (pairs d q (path ++ 2 ∷ []) (d s (test t u p q) 2))
+pairs d (lookup t x p q) path s = both_before d path s (d s (lookup t x p q) 1) (d s (lookup t x p q) 2) (lookup t x p q) p q (pairs d p (path ++ 1 ∷ []) (d s (lookup t x p q) 1)) (pairs d q (path ++ 2 ∷ []) (d s (lookup t x p q) 2))
 
-got_in : (xs : List Site) (j : ℕ) (t : Site) → slice_get xs j ≡ Some t → Contains xs t
+got_in : {X : Type 0} (xs : List X) (j : ℕ) (t : X) → slice_get xs j ≡ Some t → Contains xs t
 got_in [] j t e = absurd (cc)
 got_in (x ∷ xs) zero t e = let same : x ≡ t = cc in subst (Contains (x ∷ xs)) same (member-head x xs)
 got_in (x ∷ xs) (suc j) t e = member-tail x xs t (got_in xs j t e)
 
-pairs_at : (xs : List Site) (i j : ℕ) (s t : Site) → Pairwise xs → i < j → slice_get xs i ≡ Some s → slice_get xs j ≡ Some t → IsBefore s.path t.path
+pairs_at : {S : Type 0} (xs : List (Place S)) (i j : ℕ) (s t : Place S) → Pairwise xs → i < j → slice_get xs i ≡ Some s → slice_get xs j ≡ Some t → IsBefore s.path t.path
 pairs_at [] i j s t h less e f = cc
 pairs_at (x ∷ xs) zero zero s t h less e f = absurd (omega (arith, less))
-pairs_at (x ∷ xs) zero (suc j) s t h less e f = let same : x ≡ s = cc in subst (λ (z : Site). IsBefore z.path t.path) same (h.0 t (got_in xs j t f))
+pairs_at (x ∷ xs) zero (suc j) s t h less e f = let same : x ≡ s = cc in subst (λ (z : Place _). IsBefore z.path t.path) same (h.0 t (got_in xs j t f))
 pairs_at (x ∷ xs) (suc i) zero s t h less e f = absurd (omega (arith, less))
 pairs_at (x ∷ xs) (suc i) (suc j) s t h less e f = pairs_at xs i j s t h.1 (let l : suc i < suc j = less in omega (arith, l)) e f
 
-pub in_order : (p : Proc) (i j : ℕ) (s t : Site) → i < j → slice_get (sites p) i ≡ Some s → slice_get (sites p) j ≡ Some t → IsBefore s.path t.path
-in_order p i j s t less e f = pairs_at (sites p) i j s t (pairs p [] [] 0) less e f
-
-pub is_listed : (p : Proc) (path : List ℕ) (b : Stand) → place_at p path ≡ Some b → Contains (sites p) (site path b.scope b.locks b.body)
-is_listed p path b e = all_listed p [] [] 0 path b e
+pub in_order : {S : Type 0} (d : Descent S) (p : Proc) (s : S) (i j : ℕ) (x y : Place S) → i < j → slice_get (places d s p) i ≡ Some x → slice_get (places d s p) j ≡ Some y → IsBefore x.path y.path
+in_order d p s i j x y less e f = pairs_at (places d s p) i j x y (pairs d p [] s) less e f

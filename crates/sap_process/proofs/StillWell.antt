@@ -26,7 +26,8 @@ use Rattle.sap_process.specs.Instance.{action_instance}
 use Rattle.sap_process.specs.Proc as whole
 use Rattle.sap_process.specs.Proc.{Proc, act}
 use Rattle.sap_process.specs.Ready.{IsReady}
-use Rattle.sap_process.specs.Sites.{Site, sites, sites_from, var_names, fresh_var, message_var, bound_by}
+use Rattle.sap_process.specs.Places.{place}
+use Rattle.sap_process.specs.Sites.{Site, above_of, sites, sites_from, var_names, fresh_var, message_var, bound_by}
 use Rattle.sap_process.specs.Sorted.{by_binder, binding_fresh, with_sorts}
 use Rattle.sap_process.specs.declared.flaw.Flaw.{Flaw}
 use Rattle.sap_process.specs.declared.flaw.Flaw.TheVariants.{BadFunction, ReservedVar, ReservedFact, FactClash, PatternDestructor, Unbound, Rebound, SortClash, ScopeFull}
@@ -39,7 +40,7 @@ use Rattle.sap_process.proofs.SortedTwice.{sorted_action, bound_stays, sorted_on
 
 -- the place with the sorts of its binders
 abbrev pub sorted_site : Site → Site
-sorted_site s = record { path = s.path; scope = s.scope; locks = s.locks; body = with_sorts s.scope s.body }
+sorted_site s = place s.path s.above (with_sorts s.above.scope s.body)
 
 locks_stay : (w : List Var) (a : Action) → locks_set (binding_fresh (action_instance (by_binder w) a)) ≡ locks_set a
 locks_stay w (action.new x) = refl
@@ -59,13 +60,13 @@ both_sites s xs ys zs us e f = (λ i. sorted_site s ∷ (e i ++ f i)) ∙ ap (λ
 
 pub sorted_sites : (p : Proc) (path : List ℕ) (v : List Var) (k : ℕ) → sites_from path v k (with_sorts v p) ≡ map sorted_site (sites_from path v k p)
 sorted_sites whole.nil path v k = refl
-sorted_sites (whole.parallel p q) path v k = both_sites (record { path = path; scope = v; locks = k; body = whole.parallel p q }) _ _ (sites_from (path ++ 1 ∷ []) v k p) (sites_from (path ++ 2 ∷ []) v k q) (sorted_sites p (path ++ 1 ∷ []) v k) (sorted_sites q (path ++ 2 ∷ []) v k)
-sorted_sites (whole.replicated p) path v k = ap (λ zs. sorted_site (record { path = path; scope = v; locks = k; body = whole.replicated p }) ∷ zs) (sorted_sites p (path ++ 1 ∷ []) v k)
+sorted_sites (whole.parallel p q) path v k = both_sites (place path (above_of v k) (whole.parallel p q)) _ _ (sites_from (path ++ 1 ∷ []) v k p) (sites_from (path ++ 2 ∷ []) v k q) (sorted_sites p (path ++ 1 ∷ []) v k) (sorted_sites q (path ++ 2 ∷ []) v k)
+sorted_sites (whole.replicated p) path v k = ap (λ zs. sorted_site (place path (above_of v k) (whole.replicated p)) ∷ zs) (sorted_sites p (path ++ 1 ∷ []) v k)
 sorted_sites (act a p) path v k =
-    ap (λ zs. sorted_site (record { path = path; scope = v; locks = k; body = act a p }) ∷ zs)
+    ap (λ zs. sorted_site (place path (above_of v k) (act a p)) ∷ zs)
     ((λ i. sites_from (path ++ 1 ∷ []) (v ++ bound_stays v a i) (k + locks_stay (v ++ bound_by v a) a i) (with_sorts (v ++ bound_by v a) p)) ∙ sorted_sites p (path ++ 1 ∷ []) (v ++ bound_by v a) (k + locks_set a))
-sorted_sites (whole.test t u p q) path v k = both_sites (record { path = path; scope = v; locks = k; body = whole.test t u p q }) _ _ (sites_from (path ++ 1 ∷ []) v k p) (sites_from (path ++ 2 ∷ []) v k q) (sorted_sites p (path ++ 1 ∷ []) v k) (sorted_sites q (path ++ 2 ∷ []) v k)
-sorted_sites (whole.lookup t x p q) path v k = both_sites (record { path = path; scope = v; locks = k; body = whole.lookup t x p q }) _ _ (sites_from (path ++ 1 ∷ []) (v ++ message_var x ∷ []) k p) (sites_from (path ++ 2 ∷ []) v k q) (sorted_sites p (path ++ 1 ∷ []) (v ++ message_var x ∷ []) k) (sorted_sites q (path ++ 2 ∷ []) v k)
+sorted_sites (whole.test t u p q) path v k = both_sites (place path (above_of v k) (whole.test t u p q)) _ _ (sites_from (path ++ 1 ∷ []) v k p) (sites_from (path ++ 2 ∷ []) v k q) (sorted_sites p (path ++ 1 ∷ []) v k) (sorted_sites q (path ++ 2 ∷ []) v k)
+sorted_sites (whole.lookup t x p q) path v k = both_sites (place path (above_of v k) (whole.lookup t x p q)) _ _ (sites_from (path ++ 1 ∷ []) (v ++ message_var x ∷ []) k p) (sites_from (path ++ 2 ∷ []) v k q) (sorted_sites p (path ++ 1 ∷ []) (v ++ message_var x ∷ []) k) (sorted_sites q (path ++ 2 ∷ []) v k)
 
 -- heads
 
@@ -221,8 +222,8 @@ action_binds g w (action.embedded l e' r) y e = absurd (cc)
 constant_was : (g : Sig) (s : Site) → BindsConstant g (sorted_site s) → BindsConstant g s
 constant_was g s h = go s.body refl h.stands
   where
-    go : (p : Proc) → s.body ≡ p → bound_as (with_sorts s.scope p) ≡ Some h.var → BindsConstant g s
-    go (act a p) e f = absurd (let r = action_binds g (s.scope ++ bound_by s.scope a) a h.var f in fresh_is_not (sym (ap (λ (z : Var). z.sort) r.2) ∙ h.plain))
+    go : (p : Proc) → s.body ≡ p → bound_as (with_sorts s.above.scope p) ≡ Some h.var → BindsConstant g s
+    go (act a p) e f = absurd (let r = action_binds g (s.above.scope ++ bound_by s.above.scope a) a h.var f in fresh_is_not (sym (ap (λ (z : Var). z.sort) r.2) ∙ h.plain))
     go (whole.lookup t x p q) e f =
         record { var = message_var x; stands = ap bound_as e; plain = refl; constant = ap (λ (z : Var). arity_of g z.name) (var_of (message_var x) h.var f) ∙ h.constant }
     go whole.nil e f = absurd (cc)
@@ -289,8 +290,8 @@ from_append fs gs hs ks a b h m = elim (Contains-append_cases hs ks h m) [
 from_places : (facts : Proc → List Fact) → ((v : List Var) (p : Proc) → facts (with_sorts v p) ≡ instance_facts (at_head v p) (facts p)) → (before : List Site) → From (flat_map (λ (b : Site). facts b.body) before) (flat_map (λ (b : Site). facts b.body) (map sorted_site before))
 from_places facts are [] = λ h m. absurd (member-none h m)
 from_places facts are (s ∷ before) =
-    from_append (facts s.body) (flat_map (λ (b : Site). facts b.body) before) (facts (with_sorts s.scope s.body)) (flat_map (λ (b : Site). facts b.body) (map sorted_site before))
-    (subst (From (facts s.body)) (sym (are s.scope s.body)) (from_instance (at_head s.scope s.body) (facts s.body))) (from_places facts are before)
+    from_append (facts s.body) (flat_map (λ (b : Site). facts b.body) before) (facts (with_sorts s.above.scope s.body)) (flat_map (λ (b : Site). facts b.body) (map sorted_site before))
+    (subst (From (facts s.body)) (sym (are s.above.scope s.body)) (from_instance (at_head s.above.scope s.body) (facts s.body))) (from_places facts are before)
 
 got_map : {X Y : Type 0} (f : X → Y) (xs : List X) (k : ℕ) (y : Y) → slice_get (map f xs) k ≡ Some y → (x : X) × (slice_get xs k ≡ Some x) × (f x ≡ y)
 got_map f [] k y e = absurd (cc)
@@ -437,41 +438,41 @@ sort_is w y b e = ap (λ o. (option_map_or (λ (c : Var). record { name = y.name
 
 no_sort_clash : (s : Site) → HasSortClash (sorted_site s) → ⊥
 no_sort_clash s h =
-    let w = scope_at s.scope s.body in
-    let r = of_map (sorted w) (terms_vars (head_terms s.body)) h.var (subst (λ vs. Contains vs h.var) (ap terms_vars (terms_are s.scope s.body) ∙ vars_are w (head_terms s.body)) h.stands) in
+    let w = scope_at s.above.scope s.body in
+    let r = of_map (sorted w) (terms_vars (head_terms s.body)) h.var (subst (λ vs. Contains vs h.var) (ap terms_vars (terms_are s.above.scope s.body) ∙ vars_are w (head_terms s.body)) h.stands) in
     let name : h.var.name ≡ r.0.name = ap (λ (z : Var). z.name) (sym r.2) ∙ sorted_name w r.0 in
-    let bound : binder_of w r.0.name ≡ Some h.bound = ap (binder_of w) (sym name) ∙ ap (λ u. binder_of u h.var.name) (sym (scope_stays s.scope s.body)) ∙ h.binder in
+    let bound : binder_of w r.0.name ≡ Some h.bound = ap (binder_of w) (sym name) ∙ ap (λ u. binder_of u h.var.name) (sym (scope_stays s.above.scope s.body)) ∙ h.binder in
     h.other (sym (ap (λ (z : Var). z.sort) (sym r.2) ∙ sort_is w r.0 h.bound bound))
 
 -- each flaw was there
 
 flaw_was : (g : Sig) (before : List Site) (s : Site) (w : Flaw) → HasFlaw g (map sorted_site before) (sorted_site s) w → HasFlaw g before s w
 flaw_was g before s BadFunction (inl h) =
-    let r = of_map (instance (at_head s.scope s.body)) (head_terms s.body) h.term (subst (λ ts. Contains ts h.term) (terms_are s.scope s.body) h.stands) in
-    inl (record { term = r.0; stands = r.1; bad = λ over. h.bad (subst (IsOver g) r.2 (over_sorted g (scope_at s.scope s.body) r.0 over)) })
+    let r = of_map (instance (at_head s.above.scope s.body)) (head_terms s.body) h.term (subst (λ ts. Contains ts h.term) (terms_are s.above.scope s.body) h.stands) in
+    inl (record { term = r.0; stands = r.1; bad = λ over. h.bad (subst (IsOver g) r.2 (over_sorted g (scope_at s.above.scope s.body) r.0 over)) })
 flaw_was g before s BadFunction (inr h) = inr (constant_was g s h)
 flaw_was g before s ReservedVar h =
-    let r = head_var s.scope s.body h.var h.stands in
+    let r = head_var s.above.scope s.body h.var h.stands in
     record { var = r.0; stands = r.1; reserved = ap (λ n. starts_with nat_eq n (codes "sapic_")) r.2 ∙ h.reserved }
 flaw_was g before s ReservedFact h =
-    let from = from_append (stored_facts s.body) (shown_facts s.body) (stored_facts (with_sorts s.scope s.body)) (shown_facts (with_sorts s.scope s.body))
-    (subst (From (stored_facts s.body)) (sym (stored_are s.scope s.body)) (from_instance (at_head s.scope s.body) (stored_facts s.body)))
-    (subst (From (shown_facts s.body)) (sym (shown_are s.scope s.body)) (from_instance (at_head s.scope s.body) (shown_facts s.body))) in
+    let from = from_append (stored_facts s.body) (shown_facts s.body) (stored_facts (with_sorts s.above.scope s.body)) (shown_facts (with_sorts s.above.scope s.body))
+    (subst (From (stored_facts s.body)) (sym (stored_are s.above.scope s.body)) (from_instance (at_head s.above.scope s.body) (stored_facts s.body)))
+    (subst (From (shown_facts s.body)) (sym (shown_are s.above.scope s.body)) (from_instance (at_head s.above.scope s.body) (shown_facts s.body))) in
     let r = from h.fact h.stands in
     record { fact = r.0; stands = r.1; reserved = ap is_reserved r.2.name ∙ h.reserved }
 flaw_was g before s FactClash (inl h) =
-    inl (clash_was HasOtherForm keeps_form (at_head s.scope s.body) (flat_map (λ (b : Site). stored_facts b.body) before) (flat_map (λ (b : Site). stored_facts b.body) (map sorted_site before)) (stored_facts s.body)
-    (from_places stored_facts stored_are before) (subst (HasClash HasOtherForm (flat_map (λ (b : Site). stored_facts b.body) (map sorted_site before))) (stored_are s.scope s.body) h))
+    inl (clash_was HasOtherForm keeps_form (at_head s.above.scope s.body) (flat_map (λ (b : Site). stored_facts b.body) before) (flat_map (λ (b : Site). stored_facts b.body) (map sorted_site before)) (stored_facts s.body)
+    (from_places stored_facts stored_are before) (subst (HasClash HasOtherForm (flat_map (λ (b : Site). stored_facts b.body) (map sorted_site before))) (stored_are s.above.scope s.body) h))
 flaw_was g before s FactClash (inr h) =
-    inr (clash_was HasOtherArity keeps_arity (at_head s.scope s.body) (flat_map (λ (b : Site). shown_facts b.body) before) (flat_map (λ (b : Site). shown_facts b.body) (map sorted_site before)) (shown_facts s.body)
-    (from_places shown_facts shown_are before) (subst (HasClash HasOtherArity (flat_map (λ (b : Site). shown_facts b.body) (map sorted_site before))) (shown_are s.scope s.body) h))
+    inr (clash_was HasOtherArity keeps_arity (at_head s.above.scope s.body) (flat_map (λ (b : Site). shown_facts b.body) before) (flat_map (λ (b : Site). shown_facts b.body) (map sorted_site before)) (shown_facts s.body)
+    (from_places shown_facts shown_are before) (subst (HasClash HasOtherArity (flat_map (λ (b : Site). shown_facts b.body) (map sorted_site before))) (shown_are s.above.scope s.body) h))
 flaw_was g before s PatternDestructor h =
-    let r = of_map (instance (at_head s.scope s.body)) (patterns s.body) h.term (subst (λ ts. Contains ts h.term) (patterns_are s.scope s.body) h.stands) in
-    record { term = r.0; stands = r.1; destructor = no_new_destructor g (scope_at s.scope s.body) r.0 (subst (HasDestructor g) (sym r.2) h.destructor) }
-flaw_was g before s Unbound h = λ absent. h (unbound_stays s.scope s.body absent)
+    let r = of_map (instance (at_head s.above.scope s.body)) (patterns s.body) h.term (subst (λ ts. Contains ts h.term) (patterns_are s.above.scope s.body) h.stands) in
+    record { term = r.0; stands = r.1; destructor = no_new_destructor g (scope_at s.above.scope s.body) r.0 (subst (HasDestructor g) (sym r.2) h.destructor) }
+flaw_was g before s Unbound h = λ absent. h (unbound_stays s.above.scope s.body absent)
 flaw_was g before s Rebound h =
-    let r = binder_name s.scope s.body h.var h.stands in
-    record { var = r.0; stands = r.1; in_scope = ap (is_known (var_names s.scope)) r.2 ∙ h.in_scope }
+    let r = binder_name s.above.scope s.body h.var h.stands in
+    record { var = r.0; stands = r.1; in_scope = ap (is_known (var_names s.above.scope)) r.2 ∙ h.in_scope }
 flaw_was g before s SortClash h = absurd (no_sort_clash s h)
 flaw_was g before s ScopeFull h = h
 

@@ -92,7 +92,7 @@ unbound scope (lookup t x p q) = unbound_in scope (t ∷ [])
 pub record Rebinds (s : Site) : Type 0 where
   pub var : Var
   pub stands : binder s.body ≡ Some var
-  pub in_scope : is_known (var_names s.scope) var.name ≡ true
+  pub in_scope : is_known (var_names s.above.scope) var.name ≡ true
 
 -- what is in scope at the head, with what a pattern or an embedded rule there binds
 abbrev pub scope_at : List Var → Proc → List Var
@@ -109,7 +109,7 @@ pub record HasSortClash (s : Site) : Type 0 where
   pub stands : Contains (terms_vars (head_terms s.body)) var
   pub signed : ¬ (var.sort ≡ Msg)
   pub bound : Var
-  pub binder : binder_of (scope_at s.scope s.body) var.name ≡ Some bound
+  pub binder : binder_of (scope_at s.above.scope s.body) var.name ≡ Some bound
   pub other : ¬ (bound.sort ≡ var.sort)
 
 -- the place has the flaw, where these places stand before it
@@ -121,10 +121,10 @@ HasFlaw g before s FactClash =
     HasClash HasOtherForm (flat_map (λ (b : Site). stored_facts b.body) before) (stored_facts s.body)
     ⊎ HasClash HasOtherArity (flat_map (λ (b : Site). shown_facts b.body) before) (shown_facts s.body)
 HasFlaw g before s PatternDestructor = HasPatternDestructor g s
-HasFlaw g before s Unbound = ¬ (unbound s.scope s.body ≡ [])
+HasFlaw g before s Unbound = ¬ (unbound s.above.scope s.body ≡ [])
 HasFlaw g before s Rebound = Rebinds s
 HasFlaw g before s SortClash = HasSortClash s
-HasFlaw g before s ScopeFull = 64 < length s.scope + s.locks
+HasFlaw g before s ScopeFull = 64 < length s.above.scope + s.above.locks
 
 -- place k, counted from 0 in preorder, has the flaw, where these variables are in scope at the root
 pub record IsFlawedIn (g : Sig) (scope : List Var) (p : Proc) (w : Flaw) (k : ℕ) : Type 0 where

@@ -12,7 +12,7 @@ use Rattle.sap_process.specs.Sites.{Site, sites}
 
 -- at no place a name is used that nothing above binds
 abbrev pub IsGroundProcess : Proc → Type 0
-IsGroundProcess p = (s : Site) → Contains (sites p) s → unbound s.scope s.body ≡ []
+IsGroundProcess p = (s : Site) → Contains (sites p) s → unbound s.above.scope s.body ≡ []
 
 -- each argument of the fact is a message
 abbrev pub HoldsMessages : Sig → Fact → Type 0

@@ -5,7 +5,7 @@ pub mod Action
 pub mod Proc
 pub mod Heads
 pub mod Sites
-pub mod PlaceAt
+pub mod Places
 pub mod Flaws
 pub mod Instance
 pub mod Sorted

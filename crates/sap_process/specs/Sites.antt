@@ -1,11 +1,12 @@
 -- The places of a process, each with what is in scope there.
-use Rattle.std.specs.Prelude.{ℕ, ◌+◌, List, [], ◌∷◌, ◌++◌, map}
+use Rattle.std.specs.Prelude.{ℕ, zero, suc, ◌+◌, List, [], ◌∷◌, ◌++◌, map}
 use Rattle.sap_terms.specs.declared.var.Sort.TheVariants.{Msg, Fresh}
 use Rattle.sap_terms.specs.declared.var.Var.{Var}
 use Rattle.sap_terms.specs.Variables.{tree_vars, facts_vars, new_vars}
 use Rattle.sap_process.specs.Action.{Action, new, input, receive, embedded}
-use Rattle.sap_process.specs.Proc.{Proc, nil, parallel, replicated, act, test, lookup}
+use Rattle.sap_process.specs.Proc.{Proc, act, lookup}
 use Rattle.sap_process.specs.Heads.{locks_set}
+use Rattle.sap_process.specs.Places.{Descent, Place, places_from}
 
 -- their names
 abbrev pub var_names : List Var → List (List ℕ)
@@ -27,31 +28,29 @@ bound_by scope (receive t u) = new_vars (var_names scope) (tree_vars u)
 bound_by scope (embedded l e r) = new_vars (var_names scope) (facts_vars (l ++ (e ++ r)))
 bound_by scope _ = []
 
--- a place: its path, the variables that the places above it bind, in order of binding, how many locks the places above set,
--- and the process there
-pub record Site : Type 0 where
-  pub path : List ℕ
+-- what the places above a place bind and lock
+pub record Above : Type 0 where
+  -- the variables that they bind, in order of binding
   pub scope : List Var
+  -- how many locks they set
   pub locks : ℕ
-  pub body : Proc
 
--- the places from this one on, in preorder; `lookup` binds in its first branch only
+abbrev pub above_of : List Var → ℕ → Above
+above_of scope k = record { scope = scope; locks = k }
+
+-- what a place hands down to a child of that; `lookup` binds in its first branch only
+abbrev pub scope_below : Descent Above
+scope_below u (act a p) e = above_of (u.scope ++ bound_by u.scope a) (u.locks + locks_set a)
+scope_below u (lookup t x p q) (suc zero) = above_of (u.scope ++ message_var x ∷ []) u.locks
+scope_below u _ e = u
+
+-- a place with what the places above it bind and lock
+abbrev pub Site : Type 0
+Site = Place Above
+
+-- the places from this one on, in preorder
 abbrev pub sites_from : List ℕ → List Var → ℕ → Proc → List Site
-sites_from path scope k nil = record { path = path; scope = scope; locks = k; body = nil } ∷ []
-sites_from path scope k (parallel p q) =
-    record { path = path; scope = scope; locks = k; body = parallel p q }
-    ∷ (sites_from (path ++ 1 ∷ []) scope k p ++ sites_from (path ++ 2 ∷ []) scope k q)
-sites_from path scope k (replicated p) =
-    record { path = path; scope = scope; locks = k; body = replicated p } ∷ sites_from (path ++ 1 ∷ []) scope k p
-sites_from path scope k (act a p) =
-    record { path = path; scope = scope; locks = k; body = act a p }
-    ∷ sites_from (path ++ 1 ∷ []) (scope ++ bound_by scope a) (k + locks_set a) p
-sites_from path scope k (test t u p q) =
-    record { path = path; scope = scope; locks = k; body = test t u p q }
-    ∷ (sites_from (path ++ 1 ∷ []) scope k p ++ sites_from (path ++ 2 ∷ []) scope k q)
-sites_from path scope k (lookup t x p q) =
-    record { path = path; scope = scope; locks = k; body = lookup t x p q }
-    ∷ (sites_from (path ++ 1 ∷ []) (scope ++ message_var x ∷ []) k p ++ sites_from (path ++ 2 ∷ []) scope k q)
+sites_from path scope k p = places_from scope_below path (above_of scope k) p
 
 -- all places, where these are in scope at the root
 abbrev pub sites_in : List Var → Proc → List Site

@@ -25,12 +25,13 @@ ghost use Rattle.sap_process.specs.Flaws.{IsFirstFlaw, IsFirstFlawIn, IsWellForm
 ghost use Rattle.sap_process.specs.declared.flaw.Flaw.{Flaw};
 ghost use Rattle.sap_process.specs.Proc.{Proc, nil, parallel, replicated, act, test, lookup};
 ghost use Rattle.sap_process.specs.ProcessSteps.{ProcessStep, ProcessRun, IsProcessTrace, with_choice};
-ghost use Rattle.sap_process.specs.PlaceAt.{Stand, stand, place_at, IsBefore};
+ghost use Rattle.sap_process.specs.Places.{place_at, IsBefore};
 ghost use Rattle.sap_process.specs.Ready.{IsReady};
-ghost use Rattle.sap_process.specs.Sites.{Site, sites};
+ghost use Rattle.sap_process.specs.Sites.{Site, above_of, scope_below, sites};
 ghost use Rattle.sap_process.specs.Sorted.{with_sorts};
 ghost use Rattle.sap_process.specs.StepExamples.{a, b, c, x, var_x, pair, first_of_pair, shown_fact, left_fact, right_fact, showing, running, alone, only, just, input_shown, fresh_x, public_x, adding_public, taking_twice, new_shown, inputting, sending, receiving, ruling, lasting_fact, taking_lasting};
 
+use crate::places::{ScopeBelow, places_are_by_path};
 use sap_rewrite::{forms_are_messages, normal_forms_are_unique};
 
 /// A law: a small step of each kind, from one configuration to the next. Where `fst(<'a','b'>)` is written, 'a' is sent, shown,
@@ -210,12 +211,14 @@ pub fn choices_are_bindings()
 /// A law: the list of places has each place that a path leads to, with its path, what is in scope and the locks above it, and
 /// nothing else, in preorder; so it has each place once.
 pub fn sites_are_the_places()
-    ensures at_path { (p : Proc) (s : Site) → Contains (sites p) s → place_at p s.path ≡ Some (stand s.scope s.locks s.body) }
-    ensures listed { (p : Proc) (path : List ℕ) (b : Stand) → place_at p path ≡ Some b
-        → Contains (sites p) (record { path = path; scope = b.scope; locks = b.locks; body = b.body }) }
+    ensures at_path { (p : Proc) (s : Site) → Contains (sites p) s → place_at scope_below (above_of [] 0) p s.path ≡ Some s }
+    ensures listed { (p : Proc) (path : List ℕ) (s : Site) → place_at scope_below (above_of [] 0) p path ≡ Some s
+        → Contains (sites p) s × (s.path ≡ path) }
     ensures in_order { (p : Proc) (i j : ℕ) (s t : Site) → i < j → slice_get (sites p) i ≡ Some s → slice_get (sites p) j ≡ Some t
         → IsBefore s.path t.path }
-{}
+{
+    places_are_by_path::<ScopeBelow>();
+}
 
 /// A law: a well-formed process is ground. In each configuration that a run of it leads to, over a signature that holds its
 /// builtins' symbols, each running process is ground, and what was sent, what the store has and the facts hold messages;

@@ -11,6 +11,7 @@ mod laws;
 mod met;
 mod naming;
 mod occurrences;
+mod places;
 mod process;
 mod replacing;
 mod scope;
@@ -26,6 +27,7 @@ pub use laws::{
     no_traces_by_hand, one_flaw, runs_stay_ground, sites_are_the_places, some_flaw, sorting_keeps,
     steps_by_hand, traces_by_hand,
 };
+pub use places::{HandsDown, ScopeBelow, places_are_by_path};
 pub use process::Process;
 pub use substituting::substitute;
 pub use trail::Trail;

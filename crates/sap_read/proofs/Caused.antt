@@ -85,6 +85,18 @@ few_levels es e names counted h =
     let cut : min (levels_in names (written e.draft.value)) (2 ^ 64 - 1) ≤ MOST_PROCESS_LEVELS = low_enough _ _ h in
     uncut _ (2 ^ 64 - 1) MOST_PROCESS_LEVELS (rw (← levels_counted names (meaning_of es) counted (written e.draft.value)) cut) (omega arith)
 
+few_enough : (n l : ℕ) → size_fault n l ≡ None → n ≤ MOST_PROCESS_PLACES
+few_enough n l h = by (nat_lt MOST_PROCESS_PLACES n) (nat_lt MOST_PROCESS_LEVELS l) refl h where
+  by : (s t : Bool) → nat_lt MOST_PROCESS_PLACES n ≡ s → (if s then Some TooMany else (if t then Some TooDeep else None)) ≡ None → n ≤ MOST_PROCESS_PLACES
+  by true t q h = absurd (cc)
+  by false t q h = ltb-false MOST_PROCESS_PLACES n q
+
+-- and how many places it has
+pub few_nodes : {S : Type 0} (es : List Definition) (e : Definition) (names : IndexMap (List ℕ) Meant S) → AreCounted names (meaning_of es) → size_fault (min (nodes_in names (written e.draft.value)) (2 ^ 64 - 1)) (min (levels_in names (written e.draft.value)) (2 ^ 64 - 1)) ≡ None → node_count (replaced (meaning_of es) (written e.draft.value)) ≤ MOST_PROCESS_PLACES
+few_nodes es e names counted h =
+    let cut : min (nodes_in names (written e.draft.value)) (2 ^ 64 - 1) ≤ MOST_PROCESS_PLACES = few_enough _ _ h in
+    uncut _ (2 ^ 64 - 1) MOST_PROCESS_PLACES (rw (← nodes_counted names (meaning_of es) counted (written e.draft.value)) cut) (omega arith)
+
 -- the cause where declarations don't clash
 pub no_clash : (bs : List Body) (clash : Option (List ℕ)) (o : Option ReadFault) → clash ≡ None → cause bs None ≡ o → cause bs clash ≡ o
 no_clash bs clash o none is = subst (λ z. cause bs z ≡ o) (sym none) is

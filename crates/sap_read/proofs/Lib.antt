@@ -1,7 +1,5 @@
 pub mod OnRead
 pub mod Steps
-pub mod Cuts
-pub mod Headers
 pub mod Parts
 pub mod ProcessSteps
 pub mod Processes
@@ -13,10 +11,10 @@ pub mod Expanded
 pub mod Kept
 pub mod Labelled
 pub mod Caused
-pub mod ItemWords
 pub mod ItemsRead
-pub mod Declarations
 pub mod ItemTurns
 pub mod OneFile
 pub mod SomeFile
 pub mod WholeProcesses
+pub mod Sizes
+pub mod Unrefused

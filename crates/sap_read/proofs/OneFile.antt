@@ -5,6 +5,7 @@ use Rattle.sap_text.specs.declared.fault.Lex.{Lex}
 use Rattle.sap_text.specs.declared.token.Token.{Token}
 use Rattle.sap_text.specs.Tokens.{Lexed, IsLexed}
 use Rattle.sap_terms.specs.Signature.{Sig, pairs_alone}
+use Rattle.sap_locks.specs.Annotation.{LockFlaw, IsAnnotation, IsFirstLockFlaw}
 use Rattle.sap_process.specs.Proc.{Proc}
 use Rattle.sap_process.specs.Flaws.{IsFirstFlaw, IsWellFormed}
 use Rattle.sap_process.specs.Sorted.{with_sorts}
@@ -12,22 +13,25 @@ use Rattle.sap_process.specs.declared.flaw.Flaw.{Flaw}
 use Rattle.sap_read.specs.declared.fault.ReadFault.{ReadFault}
 use Rattle.sap_read.specs.declared.fault.ReadFault.TheVariants.{Lex as LexFault, Header, Syntax, Ill}
 use Rattle.sap_read.specs.Item.{Standing, bodies}
-use Rattle.sap_read.specs.Cut.{Placed, placed, IsCut, IsHeader, last_line}
+use Rattle.sap_grammar.specs.Cut.{Placed, placed, IsCut, IsHeader, last_line}
 use Rattle.sap_read.specs.ItemGrammar.{AreItems, IsFaulty}
 use Rattle.sap_read.specs.Replaced.{process_of, no_meaning}
-use Rattle.sap_read.specs.Signatures.{signature_from, signature_of}
-use Rattle.sap_read.specs.Causes.{cause_of}
-use Rattle.sap_read.specs.Files.{FileContent, AreTokens, IsParted, IsRead, no_tokens, no_header, no_item, refused, ill, accepted}
-use Rattle.sap_read.proofs.Cuts.{one_cut, one_header}
+use Rattle.sap_grammar.specs.Signatures.{signature_from}
+use Rattle.sap_read.specs.Item.{signature_of}
+use Rattle.sap_read.specs.Causes.{cause_of, lock_fault}
+use Rattle.sap_read.specs.Files.{FileContent, AreTokens, IsParted, IsRead, no_tokens, no_header, no_item, refused, ill, locked, accepted}
 use Rattle.sap_read.proofs.ItemsRead.{same_declarations, good_or_faulty, one_fault, one_items}
 use Rattle.sap_read.proofs.Processes.{one_process}
+use Rattle.sap_read.specs.code.ItemLaws.{ItemLaws}
 use Rattle.sap_read.specs.code.TermLaws.{AreRead}
 use Rattle.sap_terms.specs.declared.limits.TheConstants.{MOST_FILE_NAME_BYTES}
 
 -- what the whole process of a file makes of it
 data AfterProcess (x : List ℕ) (g : Sig) (p : Proc) : Result FileContent ReadFault → Type 0 where
   is_ill : (w : Flaw) (path : List ℕ) → IsFirstFlaw g p w path → AfterProcess x g p (Err (Ill w path))
-  is_well : IsWellFormed g p → AfterProcess x g p (Ok (record { name = x; signature = g; process = with_sorts [] p; restrictions = []; lemmas = [] }))
+  is_locked : (w : LockFlaw) (path : List ℕ) → IsWellFormed g p → IsFirstLockFlaw (with_sorts [] p) w path → AfterProcess x g p (Err (lock_fault w path))
+  is_well : (q : Proc) → IsWellFormed g p → IsAnnotation (with_sorts [] p) q
+      → AfterProcess x g p (Ok (record { name = x; signature = g; process = q; restrictions = []; lemmas = [] }))
 
 -- what its items make of it
 data AfterItems (x : List ℕ) (is : List Standing) : Result FileContent ReadFault → Type 0 where
@@ -58,25 +62,40 @@ in_steps (no_item {ts = ts} {x = x} {cut = cut} {line = line} p f) = has_tokens 
 in_steps (refused {ts = ts} {x = x} {cut = cut} {is = is} {e = e} p i c) = has_tokens ts p.tokens (has_parts x cut p (has_items is i (is_refused e c)))
 in_steps (ill {ts = ts} {x = x} {cut = cut} {is = is} {p = q} {w = w} {path = path} p i c w' f) =
     has_tokens ts p.tokens (has_parts x cut p (has_items is i (is_whole q c w' (is_ill w path f))))
-in_steps (accepted {ts = ts} {x = x} {cut = cut} {is = is} {p = q} p i c w f) =
-    has_tokens ts p.tokens (has_parts x cut p (has_items is i (is_whole q c w (is_well f))))
+in_steps (locked {ts = ts} {x = x} {cut = cut} {is = is} {p = q} {w = w} {path = path} p i c w' good f) =
+    has_tokens ts p.tokens (has_parts x cut p (has_items is i (is_whole q c w' (is_locked w path good f))))
+in_steps (accepted {ts = ts} {x = x} {cut = cut} {is = is} {p = q} {q = r} p i c w f a) =
+    has_tokens ts p.tokens (has_parts x cut p (has_items is i (is_whole q c w (is_well r f a))))
 
 -- items under their own signatures are the same
-pub same_items : AreRead → (cut : List (List Placed)) (is js : List Standing) → AreItems (signature_of is) cut is → AreItems (signature_of js) cut js → is ≡ js
-same_items read cut is js r s =
-    let same : signature_of is ≡ signature_of js = ap (signature_from pairs_alone) (same_declarations (signature_of is) (signature_of js) cut is js r s) in
-    one_items (one_process read) (signature_of js) cut is js (subst (λ (g : Sig). AreItems g cut is) same r) s
+pub same_items : ItemLaws → AreRead → (cut : List (List Placed)) (is js : List Standing) → AreItems (signature_of is) cut is → AreItems (signature_of js) cut js → is ≡ js
+same_items laws read cut is js r s =
+    let same : signature_of is ≡ signature_of js = ap (signature_from pairs_alone) (same_declarations laws (signature_of is) (signature_of js) cut is js r s) in
+    one_items laws (one_process read) (signature_of js) cut is js (subst (λ (g : Sig). AreItems g cut is) same r) s
 
-module _ (read : AreRead) (one_flaw : (g : Sig) (p : Proc) (w v : Flaw) (path other : List ℕ) → IsFirstFlaw g p w path → IsFirstFlaw g p v other → (w ≡ v) × (path ≡ other))
+module _ (laws : ItemLaws) (read : AreRead) (one_flaw : (g : Sig) (p : Proc) (w v : Flaw) (path other : List ℕ) → IsFirstFlaw g p w path → IsFirstFlaw g p v other → (w ≡ v) × (path ≡ other))
     (no_flaw : (g : Sig) (p : Proc) (w : Flaw) (path : List ℕ) → IsFirstFlaw g p w path → IsWellFormed g p → ⊥)
+    (one_annotation : (p q r : Proc) → IsAnnotation p q → IsAnnotation p r → q ≡ r)
+    (one_lock_path : (p : Proc) (u w : LockFlaw) (a b : List ℕ) → IsFirstLockFlaw p u a → IsFirstLockFlaw p w b → a ≡ b)
+    (one_lock_cause : (p : Proc) (u w : LockFlaw) (a b : List ℕ) → IsFirstLockFlaw p u a → IsFirstLockFlaw p w b → u ≡ w)
+    (no_lock_flaw : (p q : Proc) (w : LockFlaw) (path : List ℕ) → IsAnnotation p q → ¬ IsFirstLockFlaw p w path)
     (one_answer : (most : ℕ) (z : List ℕ) (o u : Lexed) → IsLexed most 0 1 z o → IsLexed most 0 1 z u → o ≡ u) where
   after_process : (x : List ℕ) (g : Sig) (p : Proc) (o u : Result FileContent ReadFault) → AfterProcess x g p o → AfterProcess x g p u → o ≡ u
   after_process x g p _ _ (is_ill w path f) (is_ill v other h) =
       let same = one_flaw g p w v path other f h in
       λ i. Err (Ill (same.0 i) (same.1 i))
-  after_process x g p _ _ (is_ill w path f) (is_well h) = absurd (no_flaw g p w path f h)
-  after_process x g p _ _ (is_well f) (is_ill v other h) = absurd (no_flaw g p v other h f)
-  after_process x g p _ _ (is_well f) (is_well h) = refl
+  after_process x g p _ _ (is_ill w path f) (is_locked v other h l) = absurd (no_flaw g p w path f h)
+  after_process x g p _ _ (is_ill w path f) (is_well r h b) = absurd (no_flaw g p w path f h)
+  after_process x g p _ _ (is_locked w path f l) (is_ill v other h) = absurd (no_flaw g p v other h f)
+  after_process x g p _ _ (is_locked w path f l) (is_locked v other h m) =
+      let causes = one_lock_cause (with_sorts [] p) w v path other l m in
+      let paths = one_lock_path (with_sorts [] p) w v path other l m in
+      λ i. Err (lock_fault (causes i) (paths i))
+  after_process x g p _ _ (is_locked w path f l) (is_well r h b) = absurd (no_lock_flaw (with_sorts [] p) r w path b l)
+  after_process x g p _ _ (is_well q f a) (is_ill v other h) = absurd (no_flaw g p v other h f)
+  after_process x g p _ _ (is_well q f a) (is_locked v other h m) = absurd (no_lock_flaw (with_sorts [] p) q v other a m)
+  after_process x g p _ _ (is_well q f a) (is_well r h b) =
+      ap (λ (s : Proc). Ok (record { name = x; signature = g; process = s; restrictions = []; lemmas = [] })) (one_annotation (with_sorts [] p) q r a b)
 
   after_items : (x : List ℕ) (is : List Standing) (o u : Result FileContent ReadFault) → AfterItems x is o → AfterItems x is u → o ≡ u
   after_items x is _ _ (is_refused e c) (is_refused d b) = let same : Some e ≡ Some d = sym c ∙ b in cc
@@ -92,15 +111,15 @@ module _ (read : AreRead) (one_flaw : (g : Sig) (p : Proc) (w v : Flaw) (path ot
   after_parts x last cut _ u (is_faulty n f) (has_items is i a) = absurd (good_or_faulty (signature_of is) last n cut is i f)
   after_parts x last cut o _ (has_items is i a) (is_faulty n f) = absurd (good_or_faulty (signature_of is) last n cut is i f)
   after_parts x last cut o u (has_items is i a) (has_items js j b) =
-      after_items x js o u (subst (λ (ks : List Standing). AfterItems x ks o) (same_items read cut is js i j) a) b
+      after_items x js o u (subst (λ (ks : List Standing). AfterItems x ks o) (same_items laws read cut is js i j) a) b
 
   after_tokens : (z : List ℕ) (ts : List Token) (o u : Result FileContent ReadFault) → AfterTokens z ts o → AfterTokens z ts u → o ≡ u
   after_tokens z ts _ _ (has_none f) (has_none h) = refl
   after_tokens z ts _ u (has_none f) (has_parts x cut p a) = absurd (f x p.rest p.header)
   after_tokens z ts o _ (has_parts x cut p a) (has_none f) = absurd (f x p.rest p.header)
   after_tokens z ts o u (has_parts x cut p a) (has_parts y dut q b) =
-      let heads = one_header x y (placed z ts) p.rest q.rest p.header q.header in
-      let cuts = one_cut q.rest cut dut (subst (λ (r : List Placed). IsCut r cut) heads.1 p.items) q.items in
+      let heads = laws.one_header x y (placed z ts) p.rest q.rest p.header q.header in
+      let cuts = laws.one_cut q.rest cut dut (subst (λ (r : List Placed). IsCut r cut) heads.1 p.items) q.items in
       let last = last_line (placed z ts) in
       after_parts y last dut o u
       (subst (λ (w : List ℕ). AfterParts w last dut o) heads.0 (subst (λ (c : List (List Placed)). AfterParts x last c o) cuts a)) b

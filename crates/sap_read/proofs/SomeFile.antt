@@ -4,6 +4,7 @@ use Rattle.std.specs.Prelude.{◌⊎◌, codes, Result, is_none, slice_get}
 use Rattle.sap_text.specs.declared.token.Token.{Token}
 use Rattle.sap_text.specs.Tokens.{Lexed, IsLexed}
 use Rattle.sap_terms.specs.Signature.{Sig, pairs_alone}
+use Rattle.sap_locks.specs.Annotation.{LockFlaw, IsAnnotation, IsFirstLockFlaw}
 use Rattle.sap_process.specs.Proc.{Proc}
 use Rattle.sap_process.specs.Flaws.{IsFirstFlaw, IsWellFormed}
 use Rattle.sap_process.specs.Sorted.{with_sorts}
@@ -15,20 +16,23 @@ use Rattle.sap_read.specs.declared.limits.TheConstants.{FILE_LIMITS}
 use Rattle.sap_grammar.specs.Words.{Word, mark, starts, words_of}
 use Rattle.sap_grammar.specs.Reading.{Read, name_at}
 use Rattle.sap_read.specs.Written.{Written}
-use Rattle.sap_read.specs.Item.{Item, definition, process, Standing, Declaration, declarations, Body, bodies}
-use Rattle.sap_read.specs.Cut.{Placed, placed, words, first_line, last_line}
-use Rattle.sap_read.specs.ItemGrammar.{IsProcess, IsItem, AreItems, IsSomeItem, IsFaulty, item_definition, item_process, item_builtins, item_functions, items_end, items_more, no_end, bad_item, later_item}
-use Rattle.sap_read.specs.Signatures.{signature_from, signature_of, clash_from}
+use Rattle.sap_read.specs.Item.{Item, definition, process, Standing, declarations, Body, bodies}
+use Rattle.sap_grammar.specs.Declarations.{Declaration}
+use Rattle.sap_grammar.specs.Cut.{Placed, placed, words, first_line, last_line}
+use Rattle.sap_read.specs.ItemGrammar.{IsProcess, IsItem, AreItems, IsSomeItem, IsFaulty, item_definition, item_process, item_builtins, item_functions}
+use Rattle.sap_grammar.specs.Items.{items_end, items_more, no_end, bad_item, later_item}
+use Rattle.sap_grammar.specs.Signatures.{signature_from, clash_from}
+use Rattle.sap_read.specs.Item.{signature_of}
 use Rattle.sap_read.specs.Replaced.{process_of, no_meaning, replaced, after_body}
-use Rattle.sap_read.specs.Causes.{cause, cause_of, unlabelled}
-use Rattle.sap_read.specs.Files.{FileContent, AreTokens, IsParted, IsRead, no_tokens, no_header, no_item, refused, ill, accepted}
-use Rattle.sap_read.specs.code.ItemReading.{declared_in, declared_in_all}
+use Rattle.sap_read.specs.Causes.{cause, cause_of, lock_fault, unlabelled}
+use Rattle.sap_read.specs.Files.{FileContent, AreTokens, IsParted, IsRead, no_tokens, no_header, no_item, refused, ill, locked, accepted}
+use Rattle.sap_grammar.specs.ItemReading.{declared_in, declared_in_all}
 use Rattle.sap_read.specs.code.ProcessReading.{Levelled, par}
-use Rattle.sap_read.specs.code.Judged.{header_of}
+use Rattle.sap_grammar.specs.ItemReading.{header_of}
+use Rattle.sap_read.specs.code.ItemLaws.{ItemLaws}
 use Rattle.sap_read.specs.code.TermLaws.{AreRead, AreSpelled}
 use Rattle.sap_read.proofs.OnRead.{starts_is}
 use Rattle.sap_read.proofs.Caused as caused
-use Rattle.sap_read.proofs.Headers.{header_none}
 use Rattle.sap_read.proofs.Parts.{items_of, parted}
 use Rattle.sap_read.proofs.ItemsRead.{declared_are, declared_sound}
 use Rattle.sap_read.proofs.ItemTurns.{definition_spelled, process_spelled, no_definition, no_process, no_other}
@@ -41,7 +45,7 @@ WholeOrNone g ws = ((p : Written) × IsProcess g p ws) ⊎ ((h : Sig) (p : Writt
 abbrev read_up_to : Levelled → List Word → Read Levelled
 read_up_to w b = Some (w, b)
 
-module _ (read : AreRead) (spelled : AreSpelled) where
+module _ (laws : ItemLaws) (read : AreRead) (spelled : AreSpelled) where
   whole_or_none : (g : Sig) (ws : List Word) → WholeOrNone g ws
   whole_or_none g ws = by (par g FILE_LIMITS MOST_PROCESS_LEVELS ws) refl
     where
@@ -105,8 +109,8 @@ module _ (read : AreRead) (spelled : AreSpelled) where
   item_or_none g ws = by_let (starts (codes "let") ws) refl
     where
       by_declared : starts (codes "let") ws ≡ false → starts (codes "process") ws ≡ false → (o : Option (List Declaration)) → declared_in ws ≡ o → ItemOrNone g ws
-      by_declared l p None e = inr (no_other ws l p e)
-      by_declared l p (Some ds) e = let alone = declared_sound ws ds e in inl (alone.item, alone.spelled g)
+      by_declared l p None e = inr (no_other laws ws l p e)
+      by_declared l p (Some ds) e = let alone = declared_sound laws ws ds e in inl (alone.item, alone.spelled g)
 
       by_process : starts (codes "let") ws ≡ false → (t : Bool) → starts (codes "process") ws ≡ t → ItemOrNone g ws
       by_process l true p = process_or_none g ws p
@@ -174,15 +178,23 @@ no_cause bs clash h = by (unlabelled bs) refl
 abbrev pub IsJudged : Sig → Proc → Type 0
 IsJudged g p = IsWellFormed g p ⊎ ((w : Flaw) × (path : List ℕ) × IsFirstFlaw g p w path)
 
+-- a process has an annotation, or a first place that can't be annotated
+abbrev pub IsLocked : Proc → Type 0
+IsLocked p = ((q : Proc) × IsAnnotation p q) ⊎ ((w : LockFlaw) × (path : List ℕ) × IsFirstLockFlaw p w path)
+
 abbrev IsReadSo : List ℕ → Type 0
 IsReadSo z = (o : Result FileContent ReadFault) × IsRead z o
 
-module _ (read : AreRead) (spelled : AreSpelled) (judged : (g : Sig) (p : Proc) → IsJudged g p) (z : List ℕ) where
+module _ (laws : ItemLaws) (read : AreRead) (spelled : AreSpelled) (judged : (g : Sig) (p : Proc) → IsJudged g p) (labelled : (p : Proc) → IsLocked p) (z : List ℕ) where
   from_items : {ts : List Token} {x : List ℕ} {cut : List (List Placed)} (is : List Standing) → IsParted z ts x cut → AreItems (signature_of is) cut is → IsReadSo z
   from_items {x = x} is p i = by_cause (cause_of is) refl
     where
+      by_lock : (q : Proc) → cause_of is ≡ None → process_of no_meaning (bodies is) ≡ Some q → IsWellFormed (signature_of is) q → IsLocked (with_sorts [] q) → IsReadSo z
+      by_lock q c w good (inl a) = (Ok (record { name = x; signature = signature_of is; process = a.0; restrictions = []; lemmas = [] }), accepted p i c w good a.1)
+      by_lock q c w good (inr f) = (Err (lock_fault f.0 f.1), locked p i c w good f.2)
+
       by_flaw : (q : Proc) → cause_of is ≡ None → process_of no_meaning (bodies is) ≡ Some q → IsJudged (signature_of is) q → IsReadSo z
-      by_flaw q c w (inl good) = (Ok (record { name = x; signature = signature_of is; process = with_sorts [] q; restrictions = []; lemmas = [] }), accepted p i c w good)
+      by_flaw q c w (inl good) = by_lock q c w good (labelled (with_sorts [] q))
       by_flaw q c w (inr f) = (Err (Ill f.0 f.1), ill p i c w f.2)
 
       by_cause : (o : Option ReadFault) → cause_of is ≡ o → IsReadSo z
@@ -192,18 +204,18 @@ module _ (read : AreRead) (spelled : AreSpelled) (judged : (g : Sig) (p : Proc) 
           by_flaw w.0 c w.1 (judged (signature_of is) w.0)
 
   from_parts : (ts : List Token) (x : List ℕ) (cut : List (List Placed)) → IsParted z ts x cut → IsReadSo z
-  from_parts ts x cut p = by (items_or_fault read spelled (signature_from pairs_alone (declared_in_all cut)) (last_line (placed z ts)) cut)
+  from_parts ts x cut p = by (items_or_fault laws read spelled (signature_from pairs_alone (declared_in_all cut)) (last_line (placed z ts)) cut)
     where
-      by : ItemsOrFault read spelled (signature_from pairs_alone (declared_in_all cut)) (last_line (placed z ts)) cut → IsReadSo z
-      by (inl r) = from_items r.0 p (subst (λ (g : Sig). AreItems g cut r.0) (ap (signature_from pairs_alone) (sym (declared_are r.1))) r.1)
+      by : ItemsOrFault laws read spelled (signature_from pairs_alone (declared_in_all cut)) (last_line (placed z ts)) cut → IsReadSo z
+      by (inl r) = from_items r.0 p (subst (λ (g : Sig). AreItems g cut r.0) (ap (signature_from pairs_alone) (sym (declared_are laws r.1))) r.1)
       by (inr f) = (Err (Syntax f.0), no_item p f.1)
 
   from_tokens : (ts : List Token) → AreTokens z ts → IsReadSo z
   from_tokens ts t = by (header_of (words_of z ts)) refl
     where
       by : (o : Option (List ℕ)) → header_of (words_of z ts) ≡ o → IsReadSo z
-      by None h = (Err Header, no_header t (header_none z ts h))
-      by (Some x) h = from_parts ts x (items_of z ts) (parted z ts x t h)
+      by None h = (Err Header, no_header t (laws.header_none z ts h))
+      by (Some x) h = from_parts ts x (items_of z ts) (parted laws z ts x t h)
 
   pub some_file : (o : Lexed) → IsLexed MOST_FILE_NAME_BYTES 0 1 z o → IsReadSo z
   some_file (Ok ts) l = from_tokens ts l

@@ -4,13 +4,16 @@ use Rattle.std.specs.List.{list_any, find}
 use Rattle.std.specs.Str.{bytes_eq}
 use Rattle.sap_terms.specs.Signature.{pairs_alone}
 use Rattle.sap_process.specs.Proc.{Proc, node_count, level_count}
+use Rattle.sap_locks.specs.Annotation.{LockFlaw, without, over}
+use Rattle.sap_locks.specs.declared.fault.LockFault.{LockFault}
+use Rattle.sap_locks.specs.declared.fault.LockFault.TheVariants as lock
 use Rattle.sap_process.specs.declared.flaw.Ill as declared_ill
 use Rattle.sap_process.specs.declared.flaw.Ill.TheVariants as ill
 use Rattle.sap_read.specs.declared.fault.ReadFault.{ReadFault}
-use Rattle.sap_read.specs.declared.fault.ReadFault.TheVariants.{Mem, Ill, NoProcess, TwoProcesses, UnknownProcess, DuplicateName, FunctionClash, TooMany, TooDeep}
+use Rattle.sap_read.specs.declared.fault.ReadFault.TheVariants.{Mem, Ill, Lock, NoProcess, TwoProcesses, UnknownProcess, DuplicateName, FunctionClash, TooMany, TooDeep}
 use Rattle.sap_read.specs.Item.{Standing, declarations, Body, bodies}
 use Rattle.sap_read.specs.Replaced.{calls, process_of, no_meaning}
-use Rattle.sap_read.specs.Signatures.{clash_from}
+use Rattle.sap_grammar.specs.Signatures.{clash_from}
 use Rattle.sap_terms.specs.declared.limits.TheConstants.{MOST_PROCESS_LEVELS, MOST_PROCESS_PLACES}
 
 -- the first of them, if there is one
@@ -73,3 +76,14 @@ cause_of is = cause (bodies is) (clash_from pairs_alone (declarations is))
 abbrev pub fault_of : declared_ill.Ill → ReadFault
 fault_of ill.Mem = Mem
 fault_of (ill.At w path) = Ill w path
+
+-- the fault of a file whose process can't be annotated
+abbrev pub fault_of_lock : LockFault → ReadFault
+fault_of_lock lock.Mem = Mem
+fault_of_lock (lock.UnlockWithoutLock path) = Lock (lock.UnlockWithoutLock path)
+fault_of_lock (lock.LockOverParallel path) = Lock (lock.LockOverParallel path)
+
+-- that of a place, for why it can't be annotated
+abbrev pub lock_fault : LockFlaw → List ℕ → ReadFault
+lock_fault without path = Lock (lock.UnlockWithoutLock path)
+lock_fault over path = Lock (lock.LockOverParallel path)

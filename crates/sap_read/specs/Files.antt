@@ -1,24 +1,26 @@
 -- What the bytes of a file are read as.
-use Rattle.std.specs.Prelude.{◌≡◌, ℕ, List, [], Some, None, Result, Ok, Err}
+use Rattle.std.specs.Prelude.{◌≤◌, ◌≡◌, ℕ, List, [], Some, None, Result, Ok, Err}
 use Rattle.sap_text.specs.declared.fault.Lex.{Lex}
 use Rattle.sap_text.specs.declared.token.Token.{Token}
 use Rattle.sap_text.specs.Tokens.{IsLexed}
-use Rattle.sap_terms.specs.Signature.{Sig}
+use Rattle.sap_terms.specs.Signature.{Sig, HoldsBuiltins}
 use Rattle.sap_formula.specs.Form.{RestrictionForm, LemmaForm}
-use Rattle.sap_process.specs.Proc.{Proc, proc}
+use Rattle.sap_locks.specs.Annotation.{LockFlaw, IsAnnotation, IsFirstLockFlaw}
+use Rattle.sap_process.specs.Proc.{Proc, node_count, proc}
 use Rattle.sap_process.specs.Flaws.{IsFirstFlaw, IsWellFormed}
+use Rattle.sap_process.specs.Ready.{IsReady}
 use Rattle.sap_process.specs.Sorted.{with_sorts}
 use Rattle.sap_process.specs.declared.flaw.Flaw.{Flaw}
 use Rattle.sap_read.specs.declared.file.File.{File}
 use Rattle.sap_read.specs.declared.fault.ReadFault.{ReadFault}
 use Rattle.sap_read.specs.declared.fault.ReadFault.TheVariants.{Lex as LexFault, Header, Syntax, Ill}
 use Rattle.sap_read.specs.Item.{Standing, bodies}
-use Rattle.sap_read.specs.Cut.{Placed, placed, IsCut, IsHeader, last_line}
+use Rattle.sap_grammar.specs.Cut.{Placed, placed, IsCut, IsHeader, last_line}
 use Rattle.sap_read.specs.ItemGrammar.{AreItems, IsFaulty}
 use Rattle.sap_read.specs.Replaced.{process_of, no_meaning}
-use Rattle.sap_read.specs.Signatures.{signature_of}
-use Rattle.sap_read.specs.Causes.{cause_of}
-use Rattle.sap_terms.specs.declared.limits.TheConstants.{MOST_FILE_NAME_BYTES}
+use Rattle.sap_read.specs.Item.{signature_of}
+use Rattle.sap_read.specs.Causes.{cause_of, lock_fault}
+use Rattle.sap_terms.specs.declared.limits.TheConstants.{MOST_FILE_NAME_BYTES, MOST_PROCESS_PLACES}
 
 -- what a file tells
 pub record FileContent : Type 0 where
@@ -54,6 +56,19 @@ pub data IsRead (z : List ℕ) : Result FileContent ReadFault → Type 0 where
   ill : {ts : List Token} {x : List ℕ} {cut : List (List Placed)} {is : List Standing} {p : Proc} {w : Flaw} {path : List ℕ} → IsParted z ts x cut
       → AreItems (signature_of is) cut is → cause_of is ≡ None → process_of no_meaning (bodies is) ≡ Some p → IsFirstFlaw (signature_of is) p w path
       → IsRead z (Err (Ill w path))
-  accepted : {ts : List Token} {x : List ℕ} {cut : List (List Placed)} {is : List Standing} {p : Proc} → IsParted z ts x cut
+  locked : {ts : List Token} {x : List ℕ} {cut : List (List Placed)} {is : List Standing} {p : Proc} {w : LockFlaw} {path : List ℕ} → IsParted z ts x cut
       → AreItems (signature_of is) cut is → cause_of is ≡ None → process_of no_meaning (bodies is) ≡ Some p → IsWellFormed (signature_of is) p
-      → IsRead z (Ok (record { name = x; signature = signature_of is; process = with_sorts [] p; restrictions = []; lemmas = [] }))
+      → IsFirstLockFlaw (with_sorts [] p) w path → IsRead z (Err (lock_fault w path))
+  accepted : {ts : List Token} {x : List ℕ} {cut : List (List Placed)} {is : List Standing} {p q : Proc} → IsParted z ts x cut
+      → AreItems (signature_of is) cut is → cause_of is ≡ None → process_of no_meaning (bodies is) ≡ Some p → IsWellFormed (signature_of is) p
+      → IsAnnotation (with_sorts [] p) q
+      → IsRead z (Ok (record { name = x; signature = signature_of is; process = q; restrictions = []; lemmas = [] }))
+
+-- the file's signature holds the symbols of its builtins, and its process is what annotation makes of a process that is ready to
+-- run and not too large
+pub record IsRunnable (f : FileContent) : Type 0 where
+  pub builtins : HoldsBuiltins f.signature
+  pub process : Proc
+  pub small : node_count process ≤ MOST_PROCESS_PLACES
+  pub ready : IsReady f.signature process
+  pub annotation : IsAnnotation process f.process

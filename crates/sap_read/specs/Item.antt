@@ -2,6 +2,11 @@
 use Rattle.std.specs.Prelude.{ℕ, List, [], ◌∷◌, ◌++◌, Option, Some, None, map}
 use Rattle.sap_terms.specs.declared.signature.Symbol.{Symbol}
 use Rattle.sap_terms.specs.declared.signature.Builtin.{Builtin}
+use Rattle.sap_terms.specs.Signature.{Sig, pairs_alone}
+use Rattle.sap_grammar.specs.Signatures.{signature_from}
+use Rattle.sap_grammar.specs.Declarations.{Declaration, of_builtin, of_symbol}
+use Rattle.sap_grammar.specs.Items as items
+use Rattle.sap_grammar.specs.Items.{declared_by_all}
 use Rattle.sap_read.specs.Written.{Written}
 
 pub data Item : Type 0 where
@@ -12,11 +17,6 @@ pub data Item : Type 0 where
   -- what the file is about
   process : Written → Item
 
--- what adds to the signature
-pub data Declaration : Type 0 where
-  of_builtin : Builtin → Declaration
-  of_symbol : Symbol → Declaration
-
 -- what an item declares, in order
 abbrev pub declared_by : Item → List Declaration
 declared_by (builtins bs) = map of_builtin bs
@@ -25,14 +25,16 @@ declared_by (definition x p) = []
 declared_by (process p) = []
 
 -- an item and the line of its first token
-pub record Standing : Type 0 where
-  pub item : Item
-  pub line : ℕ
+abbrev pub Standing : Type 0
+Standing = items.Standing Item
 
 -- what a file declares, in order
 abbrev pub declarations : List Standing → List Declaration
-declarations [] = []
-declarations (i ∷ is) = declared_by i.item ++ declarations is
+declarations is = declared_by_all declared_by is
+
+-- the signature of a file; every signature begins with pairs
+abbrev pub signature_of : List Standing → Sig
+signature_of is = signature_from pairs_alone (declarations is)
 
 -- what an item says of a process: what its name is, or, without a name, that it is the file's; and the item's line
 pub record Body : Type 0 where

@@ -7,13 +7,15 @@ pub use Rattle.sap_grammar.specs.Words
 pub use Rattle.sap_grammar.specs.TermGrammar
 pub use Rattle.sap_grammar.specs.FactGrammar
 pub use Rattle.sap_grammar.specs.Places
+pub use Rattle.sap_grammar.specs.Cut
+pub use Rattle.sap_grammar.specs.Declarations
+pub use Rattle.sap_grammar.specs.Signatures
+pub use Rattle.sap_grammar.specs.Items
 pub mod Written
 pub mod ProcessGrammar
 pub mod Item
-pub mod Cut
 pub mod ItemGrammar
 pub mod Replaced
-pub mod Signatures
 pub mod Causes
 pub mod Files
 pub mod ProcessExamples

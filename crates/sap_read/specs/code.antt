@@ -1,6 +1,6 @@
 -- What the code does, step by step: no public contract cites what stands below.
-pub mod ItemReading
 pub mod ItemView
+pub mod ItemLaws
 pub mod ProcessReading
 pub mod ProcessView
 pub mod Drafts

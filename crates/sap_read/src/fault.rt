@@ -1,3 +1,4 @@
+use sap_locks::LockFault;
 use sap_process::{Flaw, Ill};
 use sap_terms::{Mem, Name, Path};
 use sap_text::Lex;
@@ -31,6 +32,8 @@ pub enum ReadFault {
     TooDeep,
     /// That process isn't well-formed: the flaw that counts, and the path of its first place.
     Ill { which: Flaw, path: Path },
+    /// That process, with its sorts, can't be annotated: its first place that can't be, and why.
+    Lock(LockFault),
 }
 
 impl From<Mem> for ReadFault {
@@ -54,6 +57,25 @@ impl From<Ill> for ReadFault {
         match i {
             Ill::Mem => ReadFault::Mem,
             Ill::At { which, path } => ReadFault::Ill { which, path },
+        }
+    }
+}
+
+impl From<LockFault> for ReadFault {
+    ghost use Rattle.std.specs.Prelude.{◌≡◌};
+    ghost use Rattle.sap_read.specs.Causes.{fault_of_lock};
+
+    ghost from_gives = { λ f e. e ≡ fault_of_lock f };
+
+    fn from(f: LockFault) -> ReadFault {
+        match f {
+            LockFault::Mem => ReadFault::Mem,
+            LockFault::UnlockWithoutLock { path } => ReadFault::Lock(LockFault::UnlockWithoutLock {
+                path,
+            }),
+            LockFault::LockOverParallel { path } => ReadFault::Lock(LockFault::LockOverParallel {
+                path,
+            }),
         }
     }
 }

@@ -1,27 +1,28 @@
-ghost use Rattle.std.specs.Prelude.{◌≡◌, ◌⊎◌, ℕ, List, [], Ok, Err, IfOk, IsErrOf};
-ghost use Rattle.std.specs.Option.{option_copied};
+ghost use Rattle.std.specs.Prelude.{◌≡◌, ◌≤◌, ◌<◌, ◌^◌, ◌⊎◌, ℕ, List, [], Ok, Err, IfOk, IsErrOf};
 ghost use Rattle.sap_text.specs.Tokens.{IsLexed};
 ghost use Rattle.sap_text.specs.declared.fault.Lex.{Lex};
-ghost use Rattle.sap_read.specs.Cut.{Placed, placed, IsCut, last_line};
-ghost use Rattle.sap_grammar.specs.Words.{words_of};
-ghost use Rattle.sap_read.specs.code.Judged.{IsAccepted, IsNoItem, IsRefused, IsRefusedAs, IsWhole, header_of};
+ghost use Rattle.sap_grammar.specs.Cut.{Placed, placed, IsCut};
+ghost use Rattle.sap_read.specs.code.Judged.{IsAccepted, IsFlawed, IsNoItem, IsRefused, IsRefusedAs, IsSound, IsUnsound, IsWhole};
 ghost use Rattle.sap_read.specs.Files.{AreTokens};
-ghost use Rattle.sap_process.specs.Proc.{proc};
+ghost use Rattle.sap_process.specs.Proc.{node_count, proc};
+ghost use Rattle.sap_locks.specs.Annotation.{IsAnnotation, IsFirstLockFlaw, LockFlaw};
 ghost use Rattle.sap_process.specs.Flaws.{IsFirstFlaw, IsWellFormed};
 ghost use Rattle.sap_process.specs.Sorted.{with_sorts};
-ghost use Rattle.sap_process.specs.declared.flaw.Flaw.{Flaw};
+ghost use Rattle.sap_read.specs.Causes.{lock_fault};
 ghost use Rattle.sap_read.specs.Files.{IsRead, told_by};
 ghost use Rattle.sap_read.specs.declared.fault.ReadFault.{ReadFault};
-ghost use Rattle.sap_read.specs.declared.fault.ReadFault.TheVariants.{Mem as OutOfMemory, Lex as LexFault, Ill as IllFault};
+ghost use Rattle.sap_read.specs.declared.fault.ReadFault.TheVariants.{Mem as OutOfMemory, Lex as LexFault};
 
 use crate::expansion::boxed;
 use crate::fault::ReadFault;
-use crate::items::{Declared, read_declarations, read_items};
+use crate::items::read_items;
+use crate::laws::item_laws;
 use crate::whole::whole_process;
 use sap_formula::{LemmaList, RestrictionList};
-use sap_grammar::{beyond, name_at, starts};
+use sap_grammar::{Declared, beyond, header_name, last_line, read_declarations};
+use sap_locks::annotate_boxed;
 use sap_process::{Process, well_formed_boxed};
-use sap_terms::{Copied, MOST_FILE_NAME_BYTES, Mem, Name, Signature};
+use sap_terms::{Copied, MOST_FILE_NAME_BYTES, MOST_PROCESS_PLACES, Mem, Name, Signature};
 use sap_text::{Lex, Token, tokens};
 use std::alloc::Global;
 
@@ -76,7 +77,8 @@ fn copied_process(alloc: Global, p: &Process) -> Result<Box<Process>, Mem>
 
 /// The file of these bytes, or the first cause that refuses it, in the order of `ReadFault`. Names of processes are
 /// replaced by what they stand for; an identifier is a constant where any item of the file declares it so; each variable has
-/// the sort of its binder. Restrictions and lemmas are in no grammar yet, so both lists are empty.
+/// the sort of its binder, and each lock and unlock its label. Restrictions and lemmas are in no grammar yet, so both lists
+/// are empty.
 ///
 /// The time and the memory are linear in the bytes and in what is written of the process; what is too large is counted, and
 /// never built.
@@ -112,6 +114,7 @@ fn read_parts(alloc: Global, bytes: &[u8], tokens: &[Token]) -> Result<Box<File>
     ensures refused { (e : ReadFault) → IsErrOf result e → (e ≡ OutOfMemory → ⊥)
         → IsRead bytes.now (Err e) }
 {
+    item_laws();
     let Some(name) = header_name(bytes, tokens) else {
         return Err(ReadFault::Header);
     };
@@ -186,7 +189,18 @@ fn read_process_of(
         → IsRefused declared.now.signature declared.now.clash last cut e }
 {
     let process = read_whole(alloc, declared, bytes, tokens, last)?;
-    sort(alloc, &declared.signature, &process)
+    judge(alloc, &declared.signature, &process)
+}
+
+/// The process with its sorts and labels, where it is well-formed and can be annotated.
+fn judge(alloc: Global, sig: &Signature, p: &Process) -> Result<Box<Process>, ReadFault>
+    requires { node_count (proc p.now) ≤ MOST_PROCESS_PLACES }
+    ensures accepted { IfOk result (λ q. IsSound sig.now (proc p.now) (proc q.value)) }
+    ensures refused { (e : ReadFault) → IsErrOf result e → (e ≡ OutOfMemory → ⊥)
+        → IsUnsound sig.now (proc p.now) e }
+{
+    let sorted = sort(alloc, sig, p)?;
+    label(alloc, sorted)
 }
 
 /// The process with its sorts, where it is well-formed.
@@ -194,10 +208,20 @@ fn sort(alloc: Global, sig: &Signature, p: &Process) -> Result<Box<Process>, Rea
     ensures accepted { IfOk result (λ q. IsWellFormed sig.now (proc p.now)
         × (proc q.value ≡ with_sorts [] (proc p.now))) }
     ensures refused { (e : ReadFault) → IsErrOf result e → (e ≡ OutOfMemory → ⊥)
-        → (w : Flaw) × (path : List ℕ) × (e ≡ IllFault w path)
-        × IsFirstFlaw sig.now (proc p.now) w path }
+        → IsFlawed sig.now (proc p.now) e }
 {
     Ok(well_formed_boxed(alloc, sig, p)?)
+}
+
+/// The process with its labels, where it can be annotated.
+fn label(alloc: Global, p: Box<Process>) -> Result<Box<Process>, ReadFault>
+    requires { node_count (proc p.value) < 2 ^ 32 }
+    ensures annotated { IfOk result (λ q. IsAnnotation (proc p.value) (proc q.value)) }
+    ensures refused { (e : ReadFault) → IsErrOf result e → (e ≡ OutOfMemory → ⊥)
+        → (w : LockFlaw) × (path : List ℕ) × (e ≡ lock_fault w path)
+        × IsFirstLockFlaw (proc p.value) w path }
+{
+    Ok(annotate_boxed(alloc, p)?)
 }
 
 /// The process that the items write, before it is looked at.
@@ -211,6 +235,7 @@ fn read_whole(
     ensures accepted { IfOk result (λ p. (cut : List (List Placed))
         → IsCut (placed bytes.now tokens.now) cut
         → IsWhole declared.now.signature declared.now.clash cut (proc p.value)) }
+    ensures small { IfOk result (λ p. node_count (proc p.value) ≤ MOST_PROCESS_PLACES) }
     ensures refused { (e : ReadFault) → IsErrOf result e → (e ≡ OutOfMemory → ⊥)
         → (cut : List (List Placed)) → IsCut (placed bytes.now tokens.now) cut
         → IsNoItem last cut e ⊎ IsRefusedAs declared.now.signature declared.now.clash cut e }
@@ -229,27 +254,5 @@ fn read_tokens(alloc: Global, bytes: &[u8]) -> Result<Vec<Token>, ReadFault>
         Ok(tokens) => Ok(tokens),
         Err(Lex::Mem) => Err(ReadFault::Mem),
         Err(fault) => Err(ReadFault::Lex(fault)),
-    }
-}
-
-/// The name in the header, where the tokens begin with one.
-fn header_name<'a>(bytes: &'a [u8], tokens: &[Token]) -> Option<&'a [u8]>
-    ensures { option_copied result ≡ header_of (words_of bytes.now tokens.now) }
-{
-    if starts(bytes, tokens, "theory") && starts(bytes, beyond(2, tokens), "begin") {
-        name_at(bytes, beyond(1, tokens))
-    } else {
-        None
-    }
-}
-
-/// The line of the last token.
-#[tactic(auto, using(crate::proofs::Headers::last_lines))]
-fn last_line(tokens: &[Token]) -> u64
-    ensures { (bytes : List ℕ) → result ≡ last_line (placed bytes tokens.now) }
-{
-    match tokens.last() {
-        Some(token) => token.line,
-        None => 1,
     }
 }

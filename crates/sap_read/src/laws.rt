@@ -5,15 +5,16 @@ ghost use Rattle.sap_terms.specs.Signature.{Sig, pairs_alone};
 ghost use Rattle.sap_grammar.specs.Words.{Word};
 ghost use Rattle.sap_grammar.specs.TermGrammar.{IsTerm};
 ghost use Rattle.sap_grammar.specs.FactGrammar.{IsFact, fact_levels};
+ghost use Rattle.sap_read.specs.code.ItemLaws.{ItemLaws};
 ghost use Rattle.sap_read.specs.code.TermLaws.{AreRead, AreSpelled};
 ghost use Rattle.sap_read.specs.Written.{Written};
 ghost use Rattle.sap_read.specs.ProcessGrammar.{IsPar, EndsProcess};
 ghost use Rattle.sap_read.specs.ProcessExamples.{dangling_words, dangling_process, parted_words, parted_process, parallel_words, parallel_process, action_words, action_process, rule_words, rule_process, lookup_words, lookup_process};
-ghost use Rattle.sap_read.specs.Cut.{Placed, IsCut};
+ghost use Rattle.sap_grammar.specs.Cut.{Placed, IsCut};
 ghost use Rattle.sap_read.specs.Item.{Standing};
 ghost use Rattle.sap_read.specs.ItemGrammar.{AreItems};
-ghost use Rattle.sap_read.specs.Signatures.{signature_of};
-ghost use Rattle.sap_read.specs.Files.{FileContent, IsRead};
+ghost use Rattle.sap_read.specs.Item.{signature_of};
+ghost use Rattle.sap_read.specs.Files.{FileContent, IsRead, IsRunnable};
 ghost use Rattle.sap_process.specs.Proc.{Proc};
 ghost use Rattle.sap_process.specs.Flaws.{IsFirstFlaw, IsWellFormed};
 ghost use Rattle.sap_process.specs.declared.flaw.Flaw.{Flaw};
@@ -21,8 +22,13 @@ ghost use Rattle.sap_read.specs.declared.fault.ReadFault.{ReadFault};
 ghost use Rattle.sap_read.specs.declared.limits.TheConstants.{FILE_LIMITS};
 ghost use Rattle.sap_grammar.specs.declared.limits.Limits.{Limits};
 
-use sap_grammar::{facts_are_read, same_grammar, terms_are_read};
-use sap_process::{one_flaw, some_flaw};
+use sap_grammar::{
+    declarations_are_read, facts_are_read, headers_are_read, same_grammar, terms_are_read,
+    words_are_cut,
+};
+use sap_locks::annotations_of_processes;
+use sap_process::{one_flaw, some_flaw, sorting_keeps};
+use sap_terms::builtins_stay_held;
 use sap_text::{one_answer, some_answer};
 
 /// What the laws of terms and facts say, as the proofs on processes need it.
@@ -33,6 +39,15 @@ pub(crate) fn term_laws()
     terms_are_read();
     facts_are_read();
     same_grammar();
+}
+
+/// What the laws of headers, cuts and declarations say, as the proofs on files need it.
+pub(crate) fn item_laws()
+    ensures { ItemLaws }
+{
+    words_are_cut();
+    headers_are_read();
+    declarations_are_read();
 }
 
 /// A law: from one place words spell at most one process that nothing of it follows, with one number of levels, and end it
@@ -79,18 +94,22 @@ pub fn processes_by_hand()
 pub fn one_file()
     ensures { (z : List ℕ) (o u : Result FileContent ReadFault) → IsRead z o → IsRead z u → o ≡ u }
 {
+    item_laws();
     term_laws();
     one_answer();
     one_flaw();
+    annotations_of_processes();
 }
 
 /// A law: each list of bytes is read as something, as a file or as refused for a cause.
 pub fn some_file()
     ensures { (z : List ℕ) → ((o : Result FileContent ReadFault) × IsRead z o) }
 {
+    item_laws();
     term_laws();
     some_answer();
     some_flaw();
+    annotations_of_processes();
 }
 
 /// A law: bytes that no cause refuses are read as a file.
@@ -99,6 +118,15 @@ pub fn file_unless_refused()
         → ((f : FileContent) × IsRead z (Ok f)) }
 {
     some_file();
+}
+
+/// A law: a file that is read has a signature that holds the symbols of its builtins, and the annotation of a process that is
+/// ready to run over it: well-formed, each variable with the sort of its binder.
+pub fn files_are_runnable()
+    ensures { (z : List ℕ) (f : FileContent) → IsRead z (Ok f) → IsRunnable f }
+{
+    sorting_keeps();
+    builtins_stay_held();
 }
 
 /// A law: the words behind a header are cut into items in one way, and spell at most one list of items, under a signature and
@@ -112,5 +140,6 @@ pub fn one_list_of_items()
         → AreItems (signature_of is) cut is → AreItems (signature_of js) cut js
         → is ≡ js }
 {
+    item_laws();
     term_laws();
 }

@@ -1,7 +1,6 @@
 //! Files, read from their bytes: their processes, and what they declare.
 #![tactic(auto)]
 
-mod declaration;
 mod draft;
 mod expansion;
 mod fault;
@@ -18,8 +17,8 @@ mod whole;
 pub use fault::ReadFault;
 pub use file::{File, read_file, read_file_boxed};
 pub use laws::{
-    file_unless_refused, grammar_is_one, one_file, one_list_of_items, one_process,
-    processes_by_hand, some_file,
+    file_unless_refused, files_are_runnable, grammar_is_one, one_file, one_list_of_items,
+    one_process, processes_by_hand, some_file,
 };
 pub use limits::FILE_LIMITS;
 pub use sap_grammar::{one_fact, one_term};

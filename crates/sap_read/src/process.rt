@@ -34,9 +34,9 @@ pub(crate) fn read_process(
     term_laws();
     match read_par(alloc, sig, bytes, MOST_PROCESS_LEVELS as u32, tokens)? {
         None => Ok(None),
-        Some((process, _, rest)) => {
+        Some((process, rest)) => {
             if rest.is_empty() {
-                Ok(Some(process))
+                Ok(Some(process.draft))
             } else {
                 Ok(None)
             }

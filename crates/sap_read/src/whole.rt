@@ -1,6 +1,6 @@
 //! From what is written to the process of the file.
-ghost use Rattle.std.specs.Prelude.{◌≡◌, [], ◌∷◌, Some, None, map, min, IfOk, OnOk, IsErrOf};
-ghost use Rattle.sap_process.specs.Proc.{proc};
+ghost use Rattle.std.specs.Prelude.{◌≡◌, ◌≤◌, [], ◌∷◌, Some, None, map, min, IfOk, OnOk, IsErrOf};
+ghost use Rattle.sap_process.specs.Proc.{node_count, proc};
 ghost use Rattle.sap_read.specs.Replaced.{process_of, no_meaning};
 ghost use Rattle.sap_read.specs.Item.{Body};
 ghost use Rattle.sap_read.specs.Causes.{cause, unlabelled, labels, unknown_from, first_repeated};
@@ -71,6 +71,7 @@ fn known_process(
     requires targets { AreTargets entries.now names.now }
     ensures accepted { IfOk result (λ p. (cause (map body entries.now) clash.now ≡ None)
         × (process_of no_meaning (map body entries.now) ≡ Some (proc p.value))) }
+    ensures small { IfOk result (λ p. node_count (proc p.value) ≤ MOST_PROCESS_PLACES) }
     ensures refused { (e : ReadFault) → IsErrOf result e → (e ≡ OutOfMemory → ⊥)
         → cause (map body entries.now) clash.now ≡ Some e }
 {
@@ -94,6 +95,7 @@ pub(crate) fn whole_process(
 ) -> Result<Box<Process>, ReadFault>
     ensures accepted { IfOk result (λ p. (cause (map body entries.now) clash.now ≡ None)
         × (process_of no_meaning (map body entries.now) ≡ Some (proc p.value))) }
+    ensures small { IfOk result (λ p. node_count (proc p.value) ≤ MOST_PROCESS_PLACES) }
     ensures refused { (e : ReadFault) → IsErrOf result e → (e ≡ OutOfMemory → ⊥)
         → cause (map body entries.now) clash.now ≡ Some e }
 {

@@ -1,33 +1,30 @@
 //! Calls of the program over files and streams in memory, which may fail.
 use crate::files::file_bytes;
-use crate::notation::{TakesWords, between, fill, number, part, parted, written};
+use crate::notation::{FromWord, between, list, number, part, parted, written};
 use crate::page::Page;
 use sap_tool::{MemShelf, MemSink, sapic};
 use std::alloc::Global;
 use std::collections::BTreeMap;
 
 // The call of this number fails after this many bytes: `1 5`.
-impl TakesWords for Vec<(u64, u64)> {
-    fn take_word(&mut self, page: &mut Page, word: &str) {
+impl FromWord for (u64, u64) {
+    fn from_word(page: &mut Page, word: &str) -> Option<(u64, u64)> {
         let (call, taken) = parted(word);
-        let failure = (number(page, call), number(page, taken));
-        page.push(self, Some(failure));
+        Some((number(page, call), number(page, taken)))
     }
 }
 
-impl TakesWords for Vec<String> {
-    fn take_word(&mut self, page: &mut Page, word: &str) {
-        page.push(self, String::from_str(page.alloc, word).ok());
+impl FromWord for String {
+    fn from_word(page: &mut Page, word: &str) -> Option<String> {
+        String::from_str(page.alloc, word).ok()
     }
 }
 
 // A sink with these failures, parted by commas.
 fn sink(page: &mut Page, failures: &str) -> MemSink {
-    let mut fail_on = Vec::new(page.alloc);
-    fill(page, &mut fail_on, ',', failures);
     MemSink {
         bytes: Vec::new(page.alloc),
-        fail_on,
+        fail_on: list(page, ',', failures).into_vec(),
         calls: 0,
         count: 0,
         wants: 0,
@@ -66,28 +63,25 @@ fn shelf(page: &mut Page, bytes: &[u8], failing: u64) -> MemShelf {
     }
 }
 
-// The text behind the word, where there is one.
-fn show_stream(page: &mut Page, word: &str, bytes: &[u8]) {
-    if !bytes.is_empty() {
-        page.word(word);
-        page.bytes(bytes);
-    }
-}
-
 // The status, and what out and err took.
 fn show_end(page: &mut Page, status: u8, out: &MemSink, err: &MemSink) {
     page.numbered("", status as u64);
-    show_stream(page, " out ", out.bytes.as_slice());
-    show_stream(page, " err ", err.bytes.as_slice());
+    if !out.bytes.is_empty() {
+        page.word(" out ");
+        page.bytes(out.bytes.as_slice());
+    }
+    if !err.bytes.is_empty() {
+        page.word(" err ");
+        page.bytes(err.bytes.as_slice());
+    }
 }
 
-// How often the shelf is asked and out and err are written to, the status, and what out and err took.
-fn show_counts(page: &mut Page, status: u8, asked: u64, out: &MemSink, err: &MemSink) {
+// How often the shelf is asked and out and err are written to.
+fn show_counts(page: &mut Page, asked: u64, out: &MemSink, err: &MemSink) {
     page.numbered("", asked);
     page.numbered(" ", out.calls);
     page.numbered(" ", err.calls);
     page.word(", ");
-    show_end(page, status, out, err);
 }
 
 // The cause of a refusal, `compiled`, or all that is left.
@@ -100,21 +94,44 @@ fn show_refusal(page: &mut Page, status: u8, out: &MemSink, err: &MemSink) {
     }
 }
 
-// The rules behind the first, or all that is left.
-fn show_rules(page: &mut Page, status: u8, out: &MemSink, err: &MemSink) {
-    let before = "theory T\nbegin\n\nrule Init:\n  [ ] --[ Init() ]-> [ State_() ]\n";
-    let after =
-        "\nrestriction sapic_init:\n  \"All #i #j. Init()@i & Init()@j ==> #i = #j\"\n\nend\n";
-    match between(out.bytes.as_slice(), before, after) {
-        Some(rules) if status == 0 && err.bytes.is_empty() => page.bytes(rules),
-        _ => show_end(page, status, out, err),
+// What stands behind the first rule of the theory T: its other rules, and its restrictions from the name of the first on.
+fn rules_and_restrictions(text: &str) -> Option<(&str, &str)> {
+    text.strip_prefix("theory T\nbegin\n\nrule Init:\n  [ ] --[ Init() ]-> [ State_() ]\n")?
+        .strip_suffix("\nend\n")?
+        .split_once("\nrestriction ")
+}
+
+// The names of restrictions, from that of the first on.
+fn show_names(page: &mut Page, restrictions: &str) {
+    let mut first = true;
+    for restriction in restrictions.split("\nrestriction ") {
+        if !first {
+            page.word(" ");
+        }
+        page.word(restriction.split(':').next().unwrap_or(""));
+        first = false;
     }
 }
 
-fn words_of(page: &mut Page, words: &str) -> Vec<String> {
-    let mut list = Vec::new(page.alloc);
-    fill(page, &mut list, ' ', words);
-    list
+// Of a theory what the kind asks for.
+fn show_part(page: &mut Page, kind: &str, text: &str) {
+    match (kind, rules_and_restrictions(text)) {
+        ("rules", Some((rules, _))) => page.word(rules),
+        ("needed", Some((_, restrictions))) => show_names(page, restrictions),
+        ("restrictions", Some((_, restrictions))) => {
+            page.word("\nrestriction ");
+            page.word(restrictions);
+        }
+        _ => page.word(text),
+    }
+}
+
+// Of the theory that out took what the kind asks for, or all that is left.
+fn show_theory(page: &mut Page, kind: &str, status: u8, out: &MemSink, err: &MemSink) {
+    match str::from_utf8(out.bytes.as_slice()) {
+        Ok(text) if status == 0 && err.bytes.is_empty() => show_part(page, kind, text),
+        _ => show_end(page, status, out, err),
+    }
 }
 
 // Calls the program, and shows of it what the kind asks for.
@@ -128,17 +145,20 @@ fn call(
 ) {
     let status = sapic(page.alloc, words, shelf, out, err);
     match kind {
-        "counts" => show_counts(page, status, shelf.calls, out, err),
+        "counts" => {
+            show_counts(page, shelf.calls, out, err);
+            show_end(page, status, out, err);
+        }
         "refusal" => show_refusal(page, status, out, err),
-        "rules" => show_rules(page, status, out, err),
-        _ => show_end(page, status, out, err),
+        "theory" => show_end(page, status, out, err),
+        _ => show_theory(page, kind, status, out, err),
     }
 }
 
 /// The words; the bytes of a.spthy; the number of the call at which the shelf fails, or 0; the failures of out and those of err;
 /// how often the shelf is asked and out and err are written to, the status, and what out and err took.
 pub fn calls_row(page: &mut Page, row: &str) {
-    let words = words_of(page, part(row, 0));
+    let words = list(page, ' ', part(row, 0)).into_vec();
     let failing = number(page, part(row, 2));
     let mut shelf = shelf(page, written(page.alloc, part(row, 1)).as_bytes(), failing);
     let mut out = sink(page, part(row, 3));
@@ -146,20 +166,12 @@ pub fn calls_row(page: &mut Page, row: &str) {
     call(page, "counts", &words, &mut shelf, &mut out, &mut err);
 }
 
-fn compile(page: &mut Page, kind: &str, file: &str) {
-    let words = words_of(page, "compile a.spthy");
+/// Compiles a file, and shows: as `refusal` the cause that refuses it, or `compiled`; as `theory` the status, and the text of its
+/// theory; of the theory T, as `rules` its rules behind the first, as `restrictions` its restrictions, as `needed` their names.
+pub fn compile(page: &mut Page, kind: &str, file: &str) {
+    let words = list(page, ' ', "compile a.spthy").into_vec();
     let mut shelf = shelf(page, file_bytes(page.alloc, file).as_bytes(), 0);
     let mut out = sink(page, "");
     let mut err = sink(page, "");
     call(page, kind, &words, &mut shelf, &mut out, &mut err);
-}
-
-/// A file, and the cause that refuses it, or `compiled`.
-pub fn refusals_row(page: &mut Page, row: &str) {
-    compile(page, "refusal", part(row, 0));
-}
-
-/// `rules`, a file of the theory T, and its rules behind the first; `theory`, a file, the status, and the text of its theory.
-pub fn generated_row(page: &mut Page, row: &str) {
-    compile(page, part(row, 0), part(row, 1));
 }

@@ -45,6 +45,16 @@ fn desk_of(page: &mut Page, signature: Signature, theory: Theory) -> Desk {
     }
 }
 
+fn put_terms(page: &mut Page, sig: &Signature, terms: &mut Vec<Term>, texts: &str) {
+    for text in texts.split('|') {
+        let text = text.trim();
+        if !text.is_empty() {
+            let term = term(page, sig, text);
+            page.push(terms, term);
+        }
+    }
+}
+
 /// Before the first row.
 pub fn empty_desk(page: &mut Page) -> Option<Box<Desk>> {
     let (signature, theory) = signature(page, "").zip(empty_theory(page, ""))?;
@@ -53,16 +63,12 @@ pub fn empty_desk(page: &mut Page) -> Option<Box<Desk>> {
 }
 
 impl Desk {
-    /// Begins a row over these symbols, without terms.
-    pub fn begin(&mut self, page: &mut Page, symbols: &str) {
+    /// Begins a row over these symbols, with the terms that the texts spell, with bars between them.
+    pub fn begin(&mut self, page: &mut Page, symbols: &str, first: &str, second: &str) {
         self.terms.clear();
         let signature = signature(page, symbols);
         page.set(&mut self.signature, signature);
-    }
-
-    /// Puts the term last that the text spells.
-    pub fn put_term(&mut self, page: &mut Page, text: &str) {
-        let term = term(page, &self.signature, text);
-        page.push(&mut self.terms, term);
+        put_terms(page, &self.signature, &mut self.terms, first);
+        put_terms(page, &self.signature, &mut self.terms, second);
     }
 }

@@ -1,11 +1,10 @@
-//! Files as they are read: their processes, sizes, instances and places that aren't built.
+//! Files as they are read: their processes, sizes and instances.
 use crate::notation::{bindings, part, push_written};
-use crate::page::{Page, Show};
+use crate::page::Page;
 use crate::show::show_symbol;
-use sap_gen::first_unbuilt;
 use sap_process::{Process, substitute};
 use sap_read::{File, read_file_boxed};
-use sap_terms::{Bindings, Mem, Path, Signature};
+use sap_terms::{Bindings, Mem, Signature};
 use std::alloc::Global;
 
 /// The bytes of a file: what the part says between a header and `end`, or what stands behind `=`.
@@ -45,30 +44,11 @@ fn instance(alloc: Global, p: &Process, b: &Bindings) -> Result<Box<Process>, Me
     Ok(Box::new(alloc, substitute(alloc, p, b)?)?)
 }
 
-fn show_file(page: &mut Page, file: &File) {
-    show_symbols(page, &file.signature);
-    page.show(copied(page.alloc, &file.process));
-}
-
-fn show_sizes(page: &mut Page, p: &Process) {
-    page.numbered("", p.nodes());
-    page.numbered(" ", p.levels());
-}
-
 // What follows the head of the process, where that is an input or a new name.
 fn behind(p: &Process) -> &Process {
     match p {
         Process::In(_, rest) | Process::New(_, rest) => rest,
         _ => p,
-    }
-}
-
-// The first place that isn't built, or `built`.
-fn show_unbuilt(page: &mut Page, unbuilt: &Result<Option<Path>, Mem>) {
-    match unbuilt {
-        Ok(Some(path)) => path.show_on(page),
-        Ok(None) => page.word("built"),
-        Err(_) => page.fail(),
     }
 }
 
@@ -80,9 +60,14 @@ fn show_instance(page: &mut Page, sig: &Signature, p: &Process, bound: &str) {
 fn show_kind(page: &mut Page, sig: &Signature, file: &File, row: &str) {
     let p = &file.process;
     match part(row, 0) {
-        "process" => show_file(page, file),
-        "size" => show_sizes(page, p),
-        "unbuilt" => show_unbuilt(page, &first_unbuilt(page.alloc, behind(p))),
+        "process" => {
+            show_symbols(page, &file.signature);
+            page.show(copied(page.alloc, p));
+        }
+        "size" => {
+            page.numbered("", p.nodes());
+            page.numbered(" ", p.levels());
+        }
         "whole" => show_instance(page, sig, p, part(row, 2)),
         "behind" => show_instance(page, sig, behind(p), part(row, 2)),
         _ => page.fail(),
@@ -90,8 +75,7 @@ fn show_kind(page: &mut Page, sig: &Signature, file: &File, row: &str) {
 }
 
 /// Of a file that isn't refused: `process`, its symbols behind those of pairs and a copy of its process; `size`, the nodes and
-/// levels of that; `unbuilt`, what follows a first input or new name, and the first place in it whose rules aren't built, or
-/// `built`; `whole` or `behind`, bindings, and the instance of the process or of what follows a first input or new name.
+/// levels of that; `whole` or `behind`, bindings, and the instance of the process or of what follows a first input or new name.
 pub fn files_row(page: &mut Page, sig: &Signature, row: &str) {
     match &file_of(page.alloc, part(row, 1)) {
         Some(file) => show_kind(page, sig, file, row),

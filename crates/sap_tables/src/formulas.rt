@@ -1,10 +1,10 @@
 //! Formulas as words, each behind those that it is made of.
 //!
 //! T, F, A(x)@i, x='a', #i=#j and #i<#j, and not, and, or, imp, iff, All:x,#i and Ex:x,#i on those before them.
-use crate::notation::{TakesWords, between, fact, fill, name, part, term, variable};
+use crate::notation::{FromWord, between, fact, list, name, part, term, variable};
 use crate::page::Page;
-use crate::theories::{add_lemma, begin, push_theory};
-use sap_formula::{Binder, Binders, Formula};
+use crate::theories::{begin, push_theory, put_lemma};
+use sap_formula::{Binder, Formula};
 use sap_rule::Theory;
 use sap_terms::{Name, Signature};
 use std::alloc::Global;
@@ -18,27 +18,19 @@ fn action(page: &mut Page, sig: &Signature, shown: &str, i: &str) -> Option<Form
     Some(Formula::Action(shown, i))
 }
 
-fn same_time(alloc: Global, i: &str, j: &str) -> Option<Formula> {
-    let (i, j) = time(alloc, i).zip(time(alloc, j))?;
-    Some(Formula::Same(i, j))
-}
-
-fn earlier(alloc: Global, i: &str, j: &str) -> Option<Formula> {
-    let (i, j) = time(alloc, i).zip(time(alloc, j))?;
-    Some(Formula::Less(i, j))
-}
-
 fn equation(page: &mut Page, sig: &Signature, s: &str, t: &str) -> Option<Formula> {
     let (s, t) = term(page, sig, s).zip(term(page, sig, t))?;
     Some(Formula::Equal(s, t))
 }
 
 fn order(alloc: Global, word: &str) -> Option<Formula> {
-    match (word.split_once('<'), word.split_once('=')) {
-        (Some((i, j)), _) => earlier(alloc, i, j),
-        (None, Some((i, j))) => same_time(alloc, i, j),
-        _ => None,
+    if let Some((i, j)) = word.split_once('<') {
+        let (i, j) = time(alloc, i).zip(time(alloc, j))?;
+        return Some(Formula::Less(i, j));
     }
+    let (i, j) = word.split_once('=')?;
+    let (i, j) = time(alloc, i).zip(time(alloc, j))?;
+    Some(Formula::Same(i, j))
 }
 
 fn atom(page: &mut Page, sig: &Signature, word: &str) -> Option<Formula> {
@@ -52,42 +44,12 @@ fn atom(page: &mut Page, sig: &Signature, word: &str) -> Option<Formula> {
     }
 }
 
-fn leaf(page: &mut Page, sig: &Signature, word: &str) -> Option<Formula> {
-    match word {
-        "T" => Some(Formula::True),
-        "F" => Some(Formula::False),
-        _ => atom(page, sig, word),
-    }
-}
-
-fn message(alloc: Global, word: &str) -> Option<Binder> {
-    Some(Binder::Message(variable(alloc, word)?))
-}
-
-fn binder(alloc: Global, word: &str) -> Option<Binder> {
-    match word.strip_prefix('#') {
-        Some(i) => Some(Binder::Time(name(alloc, i)?)),
-        None => message(alloc, word),
-    }
-}
-
-impl TakesWords for Binders {
-    fn take_word(&mut self, page: &mut Page, word: &str) {
-        page.put(self, binder(page.alloc, word));
-    }
-}
-
-fn binders(page: &mut Page, words: &str) -> Binders {
-    let mut list = Binders::new(page.alloc);
-    fill(page, &mut list, ',', words);
-    list
-}
-
-fn quantified(quantifier: &str, body: Box<Formula>, list: Binders) -> Formula {
-    if quantifier == "All" {
-        Formula::All(list, body)
-    } else {
-        Formula::Ex(list, body)
+impl FromWord for Binder {
+    fn from_word(page: &mut Page, word: &str) -> Option<Binder> {
+        match word.strip_prefix('#') {
+            Some(i) => Some(Binder::Time(name(page.alloc, i)?)),
+            None => Some(Binder::Message(variable(page.alloc, word)?)),
+        }
     }
 }
 
@@ -98,7 +60,12 @@ fn bind(
     stack: &mut Vec<Box<Formula>>,
 ) -> Option<Formula> {
     let body = stack.pop()?;
-    Some(quantified(quantifier, body, binders(page, words)))
+    let binders = list(page, ',', words);
+    if quantifier == "All" {
+        Some(Formula::All(binders, body))
+    } else {
+        Some(Formula::Ex(binders, body))
+    }
 }
 
 fn join(word: &str, stack: &mut Vec<Box<Formula>>) -> Option<Formula> {
@@ -118,11 +85,13 @@ fn made(
     stack: &mut Vec<Box<Formula>>,
 ) -> Option<Formula> {
     match word {
+        "T" => Some(Formula::True),
+        "F" => Some(Formula::False),
         "not" => Some(Formula::Not(stack.pop()?)),
         "and" | "or" | "imp" | "iff" => join(word, stack),
         _ => match word.split_once(':') {
             Some((quantifier, words)) => bind(page, quantifier, words, stack),
-            None => leaf(page, sig, word),
+            None => atom(page, sig, word),
         },
     }
 }
@@ -142,10 +111,11 @@ pub fn formula(page: &mut Page, sig: &Signature, words: &str) -> Option<Box<Form
     stack.pop()
 }
 
-// The lemma l, whose formula is the row's, as the theory of it alone is printed.
-fn show_lemma(page: &mut Page, t: &mut Theory, words: &str) {
+/// Puts last the formula as it is printed: as the lemma l of the theory, in which nothing else stands but symbols that are built in.
+pub fn push_formula(page: &mut Page, t: &mut Theory, formula: Option<Box<Formula>>) {
+    begin(page, t, "");
     let mut whole = Page::new(page.alloc);
-    add_lemma(&mut whole, t, "l", "", "all", words);
+    put_lemma(&mut whole, t, "l", "", "all", formula);
     push_theory(&mut whole, t);
     let before = "theory T\nbegin\n\nlemma l:\n  all-traces\n  \"";
     match between(whole.as_bytes(), before, "\"\n\nend\n") {
@@ -156,6 +126,6 @@ fn show_lemma(page: &mut Page, t: &mut Theory, words: &str) {
 
 /// The words of a formula, and its text in a lemma.
 pub fn formulas_row(page: &mut Page, t: &mut Theory, row: &str) {
-    begin(page, t, "");
-    show_lemma(page, t, part(row, 0));
+    let formula = formula(page, &t.signature, part(row, 0));
+    push_formula(page, t, formula);
 }

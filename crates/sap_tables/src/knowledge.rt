@@ -2,7 +2,7 @@
 ghost use Rattle.std.specs.Prelude.{◌≡◌};
 
 use crate::desk::Desk;
-use crate::notation::{name, number_or_zero, numbers, part, parted};
+use crate::notation::{list, name, number_or_zero, part, parted};
 use crate::page::{Page, Show};
 use sap_deduce::{Deny, Knowledge};
 use sap_rewrite::{is_message, normal};
@@ -49,7 +49,7 @@ fn show_entry(page: &mut Page, k: &mut Knowledge, kind: &str, what: &str) {
         "public" => public(page, k, name(page.alloc, what)),
         "name" => page.show(k.name(n)),
         "apply" => {
-            let entries = numbers(page, rest);
+            let entries = list(page, ' ', rest);
             apply(page, k, &name(page.alloc, first), &entries);
         }
         "nodes" => show_nodes(page, k.at(n)),
@@ -87,8 +87,7 @@ fn of_terms(alloc: Global, sig: &Signature, terms: &[Term]) -> Option<Box<Knowle
 }
 
 fn sent(page: &mut Page, desk: &mut Desk, row: &str) {
-    desk.begin(page, part(row, 1));
-    desk.put_term(page, part(row, 2));
+    desk.begin(page, part(row, 1), part(row, 2), "");
     desk.knowledge = of_terms(page.alloc, &desk.signature, desk.terms.as_slice());
     match &desk.knowledge {
         Some(k) => page.number(k.len()),

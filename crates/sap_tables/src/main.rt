@@ -7,6 +7,8 @@ mod copies;
 mod desk;
 mod files;
 mod formulas;
+mod guards;
+mod judgements;
 mod knowledge;
 mod notation;
 mod page;

@@ -3,8 +3,8 @@ use crate::page::Page;
 use sap_read::{read_fact, read_term};
 use sap_rule::Rule;
 use sap_terms::{
-    Binding, Bindings, Builtin, Fact, FactList, Name, NameList, Numbers, SigFault, Signature, Sort,
-    Term, TermList, Var, Vars, subst,
+    Binding, Bindings, Builtin, Copied, Fact, FactList, Items, Name, SigFault, Signature, Sort,
+    Term, TermList, Var, subst,
 };
 use sap_text::{Token, tokens};
 use std::alloc::Global;
@@ -37,27 +37,21 @@ pub fn number(page: &mut Page, text: &str) -> u64 {
     }
 }
 
-// The text with line feeds where `^` stands.
-fn push_plain(page: &mut Page, text: &str) {
+// The text with line feeds where `^` stands, and with the number, if there is one, where `#` stands.
+fn push_text(page: &mut Page, text: &str, number: Option<u64>) {
     for byte in text.as_bytes() {
-        page.byte(if *byte == b'^' { b'\n' } else { *byte });
+        match (*byte, number) {
+            (b'^', _) => page.byte(b'\n'),
+            (b'#', Some(k)) => page.number(k),
+            (byte, _) => page.byte(byte),
+        }
     }
 }
 
 // The text so many times, with the number of each where `#` stands.
 fn push_repeated(page: &mut Page, times: u32, text: &str) {
     for k in 0..times {
-        push_numbered(page, text, k as u64);
-    }
-}
-
-fn push_numbered(page: &mut Page, text: &str, k: u64) {
-    for byte in text.as_bytes() {
-        match *byte {
-            b'#' => page.number(k),
-            b'^' => page.byte(b'\n'),
-            byte => page.byte(byte),
-        }
+        push_text(page, text, Some(k as u64));
     }
 }
 
@@ -84,22 +78,13 @@ fn push_braced(page: &mut Page, inside: &str) {
     }
 }
 
-// What stands between braces, and behind them.
-fn push_piece(page: &mut Page, piece: &str) {
-    match piece.split_once('}') {
-        Some((inside, rest)) => {
-            push_braced(page, inside);
-            push_plain(page, rest);
-        }
-        None => push_plain(page, piece),
-    }
-}
-
 /// Puts last the bytes that a part stands for: `^` is a line feed, `{0a}` the byte of two hexadecimal digits, `{3:a#}` is
 /// `a0a1a2`, and `{}` is nothing.
 pub fn push_written(page: &mut Page, text: &str) {
     for piece in text.split('{') {
-        push_piece(page, piece);
+        let (inside, rest) = piece.split_once('}').unwrap_or(("", piece));
+        push_braced(page, inside);
+        push_text(page, rest, None);
     }
 }
 
@@ -115,67 +100,41 @@ pub fn name(alloc: Global, text: &str) -> Option<Name> {
     Name::from_bytes(alloc, text.as_bytes()).ok()
 }
 
-/// What words are put into, one after another.
-pub trait TakesWords {
-    fn take_word(&mut self, page: &mut Page, word: &str);
+/// What a word stands for.
+pub trait FromWord: Sized {
+    /// What the word stands for; none where it stands for none, or memory is wanting.
+    fn from_word(page: &mut Page, word: &str) -> Option<Self>;
 }
 
-/// Puts in what stands between the marks, without blanks around it; nothing where that is empty.
-pub fn fill<T: TakesWords>(page: &mut Page, taker: &mut T, mark: char, words: &str) {
+/// What the words stand for that are between the marks, without blanks around them; an empty word stands for nothing.
+pub fn list<T: FromWord + Drop>(page: &mut Page, mark: char, words: &str) -> Items<T> {
+    let mut list = Items::new(page.alloc);
     for word in words.split(mark) {
         let word = word.trim();
         if !word.is_empty() {
-            taker.take_word(page, word);
+            let item = T::from_word(page, word);
+            page.put(&mut list, item);
         }
     }
-}
-
-impl TakesWords for Numbers {
-    fn take_word(&mut self, page: &mut Page, word: &str) {
-        let number = number(page, word);
-        page.put(self, Some(number));
-    }
-}
-
-impl TakesWords for NameList {
-    fn take_word(&mut self, page: &mut Page, word: &str) {
-        page.put(self, name(page.alloc, word));
-    }
-}
-
-impl TakesWords for Vars {
-    fn take_word(&mut self, page: &mut Page, word: &str) {
-        page.put(self, variable(page.alloc, word));
-    }
-}
-
-impl TakesWords for Signature {
-    fn take_word(&mut self, page: &mut Page, word: &str) {
-        if add(page, self, word).is_err() {
-            page.fail();
-        }
-    }
-}
-
-/// The numbers with blanks between them.
-pub fn numbers(page: &mut Page, words: &str) -> Numbers {
-    let mut list = Numbers::new(page.alloc);
-    fill(page, &mut list, ' ', words);
     list
 }
 
-/// The names with blanks between them.
-pub fn names(page: &mut Page, words: &str) -> NameList {
-    let mut list = NameList::new(page.alloc);
-    fill(page, &mut list, ' ', words);
-    list
+impl FromWord for u64 {
+    fn from_word(page: &mut Page, word: &str) -> Option<u64> {
+        Some(number(page, word))
+    }
 }
 
-/// The variables with blanks between them.
-pub fn variables(page: &mut Page, words: &str) -> Vars {
-    let mut list = Vars::new(page.alloc);
-    fill(page, &mut list, ' ', words);
-    list
+impl FromWord for Name {
+    fn from_word(page: &mut Page, word: &str) -> Option<Name> {
+        name(page.alloc, word)
+    }
+}
+
+impl FromWord for Var {
+    fn from_word(page: &mut Page, word: &str) -> Option<Var> {
+        variable(page.alloc, word)
+    }
 }
 
 fn builtin(word: &str) -> Option<Builtin> {
@@ -214,7 +173,11 @@ fn declare(page: &mut Page, sig: &mut Signature, word: &str) -> Result<(), SigFa
 /// `hashing symmetric asymmetric signing revealing f/2 -k/1`.
 pub fn signature(page: &mut Page, words: &str) -> Option<Signature> {
     let mut sig = Signature::new(page.alloc).ok()?;
-    fill(page, &mut sig, ' ', words);
+    for word in words.split(' ') {
+        if !word.is_empty() && add(page, &mut sig, word).is_err() {
+            page.fail();
+        }
+    }
     Some(sig)
 }
 
@@ -408,4 +371,23 @@ pub fn between<'a>(bytes: &'a [u8], before: &str, after: &str) -> Option<&'a [u8
     bytes
         .strip_prefix(before.as_bytes())?
         .strip_suffix(after.as_bytes())
+}
+
+fn ground_fact(page: &mut Page, fact: &Fact) -> Option<Fact> {
+    let args = args_with_fresh_names(page, &fact.args);
+    Some(Fact {
+        name: fact.name.copy(page.alloc).ok()?,
+        persistent: fact.persistent,
+        args,
+    })
+}
+
+/// The facts that the text spells under the signature, parted by commas, with fresh names.
+pub fn ground_facts(page: &mut Page, sig: &Signature, text: &str) -> FactList {
+    let mut list = FactList::new(page.alloc);
+    for fact in facts(page, sig, text).as_slice() {
+        let fact = ground_fact(page, fact);
+        page.put(&mut list, fact);
+    }
+    list
 }

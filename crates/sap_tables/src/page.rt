@@ -134,9 +134,12 @@ impl Page {
     }
 }
 
-/// Shows a copy of the value on the page.
-pub fn show_copy<T: Copied + Show + Drop>(value: T, page: &mut Page) {
-    page.show(value.copy(page.alloc));
+/// Shows a copy of the value on the page; without one the page isn't whole.
+pub fn show_copy<T: Copied + Show + Drop>(value: Option<T>, page: &mut Page) {
+    match value {
+        Some(value) => page.show(value.copy(page.alloc)),
+        None => page.fail(),
+    }
 }
 
 impl Show for u64 {

@@ -1,5 +1,4 @@
 //! Normal forms, matching and messages.
-use crate::desk::Desk;
 use crate::notation::{bindings, name, number, part};
 use crate::page::{Page, Show};
 use sap_rewrite::{
@@ -28,11 +27,10 @@ fn show_within(page: &mut Page, form: &Result<Term, Cut>) {
 
 fn form_on(alloc: Global, sig: &Signature, f: &Name, t: &Term, most: u64) -> Result<Term, Cut> {
     let form = normal(alloc, sig, t)?;
-    let mut lent: Vec<&Term> = Vec::new(alloc);
-    if lent.push(&form).is_err() {
-        return Err(Cut::Mem);
+    match Vec::from_array(alloc, [&form]) {
+        Ok(lent) => normal_on(alloc, sig, f, &lent, most.min(100000)),
+        Err(_) => Err(Cut::Mem),
     }
-    normal_on(alloc, sig, f, &lent, most.min(100000))
 }
 
 fn show_on(page: &mut Page, sig: &Signature, f: &Option<Name>, t: &Term, most: u64) {
@@ -42,30 +40,12 @@ fn show_on(page: &mut Page, sig: &Signature, f: &Option<Name>, t: &Term, most: u
     }
 }
 
-fn show_limited(page: &mut Page, sig: &Signature, t: &Term, row: &str) {
-    let most = number(page, part(row, 3));
+fn show_match(page: &mut Page, sig: &Signature, pattern: &Term, t: &Term, row: &str) {
+    let before = bindings(page, sig, part(row, 4));
     match part(row, 0) {
-        "within" => show_within(page, &normal_within(page.alloc, sig, t, most.min(100000))),
-        "on" => show_on(page, sig, &name(page.alloc, part(row, 4)), t, most),
-        _ => page.fail(),
+        "whole" => page.show(match_pattern(page.alloc, pattern, t, &before)),
+        _ => page.show(match_around(page.alloc, sig, pattern, t, before)),
     }
-}
-
-fn show_form(page: &mut Page, sig: &Signature, terms: &[Term], row: &str) {
-    match terms {
-        [t] if part(row, 0) == "normal" => page.show(normal(page.alloc, sig, t)),
-        [t] => show_limited(page, sig, t, row),
-        _ => page.fail(),
-    }
-}
-
-/// Under the signature of the second part: `normal`, a term and its normal form; `within`, a term, a number of nodes, and whether
-/// the normal forms of its subterms have at most so many; `on`, a term, a number of nodes, a symbol, and the normal form of the
-/// symbol on that of the term, or `large` where it has more.
-pub fn forms_row(page: &mut Page, desk: &mut Desk, row: &str) {
-    desk.begin(page, part(row, 1));
-    desk.put_term(page, part(row, 2));
-    show_form(page, &desk.signature, desk.terms.as_slice(), row);
 }
 
 fn sort_of(word: &str) -> Option<Sort> {
@@ -84,49 +64,25 @@ fn show_is_message(page: &mut Page, sig: &Signature, t: &Term, sort: Option<Sort
     }
 }
 
-// Of two terms whether they are equal, of one whether it is a message of the sort.
-fn show_messages(page: &mut Page, sig: &Signature, terms: &[Term], sort: Option<Sort>) {
-    match terms {
-        [s, t] => page.show(same_modulo(page.alloc, sig, s, t)),
-        [t] => show_is_message(page, sig, t, sort),
-        _ => page.fail(),
-    }
-}
-
-/// With all builtins: `equal`, two terms, and whether they are equal modulo the equations; `msg`, `fresh` or `pub`, a term, and
-/// whether it is a message of the sort.
-pub fn messages_row(page: &mut Page, desk: &mut Desk, row: &str) {
-    desk.begin(page, "hashing symmetric asymmetric signing");
-    desk.put_term(page, part(row, 1));
-    if part(row, 0) == "equal" {
-        desk.put_term(page, part(row, 2));
-    }
-    show_messages(
-        page,
-        &desk.signature,
-        desk.terms.as_slice(),
-        sort_of(part(row, 0)),
-    );
-}
-
-// The bindings before are b.
-fn show_match(page: &mut Page, sig: &Signature, pattern: &Term, t: &Term, row: &str) {
-    let before = bindings(page, sig, part(row, 4));
-    match part(row, 0) {
-        "whole" => page.show(match_pattern(page.alloc, pattern, t, &before)),
-        "around" => page.show(match_around(page.alloc, sig, pattern, t, before)),
-        _ => page.fail(),
-    }
-}
-
-/// `whole` or `around` the signature's destructors, a signature, a pattern, a term, the bindings before, and those after or
-/// `none`.
-pub fn matching_row(page: &mut Page, desk: &mut Desk, row: &str) {
-    desk.begin(page, part(row, 1));
-    desk.put_term(page, part(row, 2));
-    desk.put_term(page, part(row, 3));
-    match desk.terms.as_slice() {
-        [pattern, t] => show_match(page, &desk.signature, pattern, t, row),
+/// `normal`, a term and its normal form; `within`, a term, a number of nodes, and whether the normal forms of its subterms have at
+/// most so many; `on`, a term, a number of nodes, a symbol, and the normal form of the symbol on that of the term, or `large` where
+/// it has more; `equal`, two terms, and whether they are equal modulo the equations; `msg`, `fresh` or `pub`, a term, and whether
+/// it is a message of the sort; `whole` or `around` the signature's destructors, a pattern, a term, the bindings before, and those
+/// after or `none`.
+pub fn show_rewritten(page: &mut Page, sig: &Signature, terms: &[Term], row: &str) {
+    match (part(row, 0), terms) {
+        ("normal", [t]) => page.show(normal(page.alloc, sig, t)),
+        ("within", [t]) => {
+            let most = number(page, part(row, 3)).min(100000);
+            show_within(page, &normal_within(page.alloc, sig, t, most));
+        }
+        ("on", [t]) => {
+            let most = number(page, part(row, 3));
+            show_on(page, sig, &name(page.alloc, part(row, 4)), t, most);
+        }
+        ("equal", [s, t]) => page.show(same_modulo(page.alloc, sig, s, t)),
+        ("whole" | "around", [pattern, t]) => show_match(page, sig, pattern, t, row),
+        (sort, [t]) => show_is_message(page, sig, t, sort_of(sort)),
         _ => page.fail(),
     }
 }

@@ -1,5 +1,4 @@
 //! Rules, and theories of rules.
-use crate::desk::Desk;
 use crate::notation::{name, part, rule};
 use crate::page::Page;
 use crate::theories::made_row;
@@ -25,14 +24,14 @@ fn show_first(page: &mut Page, t: &Theory, f: &Option<Name>) {
 
 /// `runs`, a rule, and whether it can be run; `open`, a rule, and the variables that a line has to bind; `copied`, a rule, and its
 /// copy; `first`, a name, and the first rule of the theory that has it, or `none`; and rows that make the theory.
-pub fn rules_row(page: &mut Page, desk: &mut Desk, row: &str) {
+pub fn rules_row(page: &mut Page, t: &mut Theory, row: &str) {
     match part(row, 0) {
         "runs" | "open" | "copied" => {
-            let rule = rule(page, &desk.theory.signature, part(row, 1));
+            let rule = rule(page, &t.signature, part(row, 1));
             let rule = page.boxed(rule);
-            show_rule(page, &desk.theory.signature, part(row, 0), &rule);
+            show_rule(page, &t.signature, part(row, 0), &rule);
         }
-        "first" => show_first(page, &desk.theory, &name(page.alloc, part(row, 1))),
-        _ => made_row(page, &mut desk.theory, row),
+        "first" => show_first(page, t, &name(page.alloc, part(row, 1))),
+        _ => made_row(page, t, row),
     }
 }

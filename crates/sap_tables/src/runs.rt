@@ -1,6 +1,6 @@
 //! Runs of rules, and lines of runs.
 use crate::desk::Desk;
-use crate::notation::{bindings, name, number, numbers, part, parted};
+use crate::notation::{bindings, list, name, number, part, parted};
 use crate::page::{Page, Show};
 use crate::rules::rules_row;
 use sap_rule::Theory;
@@ -16,41 +16,10 @@ fn started(alloc: Global, theory: &Theory) -> Result<Option<Box<RuleState>>, Mem
     Ok(Some(Box::new(alloc, RuleState::start(alloc, theory)?)?))
 }
 
-fn start(page: &mut Page, desk: &mut Desk) {
-    let run = started(page.alloc, &desk.theory).ok();
-    page.set(&mut desk.run, run);
-    page.show(desk.run.is_some());
-}
-
-fn public_line(page: &mut Page, text: &str) -> Option<RStep> {
-    Some(RStep::Public(name(page.alloc, text)?))
-}
-
-fn apply_line(page: &mut Page, symbol: &str, entries: &str) -> Option<RStep> {
-    let symbol = name(page.alloc, symbol)?;
-    Some(RStep::Apply(symbol, numbers(page, entries)))
-}
-
-fn rule_line(
-    page: &mut Page,
-    sig: &Signature,
-    rule: &str,
-    words: &str,
-    bound: &str,
-) -> Option<RStep> {
-    let rule = name(page.alloc, rule)?;
-    let facts = numbers(page, words);
-    Some(RStep::Rule(rule, facts, bindings(page, sig, bound)))
-}
-
-fn number_line(kind: &str, number: u64) -> Option<RStep> {
-    match kind {
-        "fresh" => Some(RStep::Fresh(number)),
-        "learn" => Some(RStep::Learn(number)),
-        "own" => Some(RStep::Own(number)),
-        "know" => Some(RStep::Know(number)),
-        _ => None,
-    }
+fn start(page: &mut Page, theory: &Theory, run: &mut Option<Box<RuleState>>) {
+    let started = started(page.alloc, theory).ok();
+    page.set(run, started);
+    page.show(run.is_some());
 }
 
 /// The line of these words: `fresh 3`, `learn 0`, `own 0`, `pub a`, `app pair 0 1`, `know 0` and `rule R 0 4`, whose bindings are
@@ -59,10 +28,21 @@ pub fn line(page: &mut Page, sig: &Signature, text: &str, bound: &str) -> Option
     let (kind, rest) = parted(text);
     let (first, words) = parted(rest);
     match kind {
-        "pub" => public_line(page, rest),
-        "app" => apply_line(page, first, words),
-        "rule" => rule_line(page, sig, first, words, bound),
-        _ => number_line(kind, number(page, rest)),
+        "fresh" => Some(RStep::Fresh(number(page, rest))),
+        "learn" => Some(RStep::Learn(number(page, rest))),
+        "own" => Some(RStep::Own(number(page, rest))),
+        "know" => Some(RStep::Know(number(page, rest))),
+        "pub" => Some(RStep::Public(name(page.alloc, rest)?)),
+        "app" => {
+            let symbol = name(page.alloc, first)?;
+            Some(RStep::Apply(symbol, list(page, ' ', words)))
+        }
+        "rule" => {
+            let rule = name(page.alloc, first)?;
+            let facts = list(page, ' ', words);
+            Some(RStep::Rule(rule, facts, bindings(page, sig, bound)))
+        }
+        _ => None,
     }
 }
 
@@ -86,16 +66,17 @@ impl Show for RFault {
     }
 }
 
-fn take(page: &mut Page, run: &mut RuleState, step: &Option<RStep>) {
+fn take(page: &mut Page, run: &mut RuleState, step: &Option<Box<RStep>>) {
     match step {
         Some(step) => page.show(run.step(page.alloc, step)),
         None => page.fail(),
     }
 }
 
-fn take_line(page: &mut Page, desk: &mut Desk, row: &str) {
-    let step = line(page, &desk.signature, part(row, 1), part(row, 2));
-    match &mut desk.run {
+fn take_line(page: &mut Page, sig: &Signature, run: &mut Option<Box<RuleState>>, row: &str) {
+    let step = line(page, sig, part(row, 1), part(row, 2));
+    let step = page.boxed(step);
+    match run {
         Some(run) => take(page, run, &step),
         None => page.fail(),
     }
@@ -105,8 +86,8 @@ fn take_line(page: &mut Page, desk: &mut Desk, row: &str) {
 /// and the facts that it shows, or its fault with the number or name that it names.
 pub fn runs_row(page: &mut Page, desk: &mut Desk, row: &str) {
     match part(row, 0) {
-        "start" => start(page, desk),
-        "line" => take_line(page, desk, row),
-        _ => rules_row(page, desk, row),
+        "start" => start(page, &desk.theory, &mut desk.run),
+        "line" => take_line(page, &desk.signature, &mut desk.run, row),
+        _ => rules_row(page, &mut desk.theory, row),
     }
 }

@@ -1,12 +1,15 @@
 //! The tables by their names, and what is told of each.
 use crate::desk::{Desk, empty_desk};
-use crate::notation::written;
+use crate::notation::{part, written};
 use crate::page::Page;
 use crate::{
-    calls, copies, files, formulas, knowledge, piles, rewriting, rules, runs, terms, theories,
-    tokens,
+    calls, copies, files, formulas, guards, judgements, knowledge, piles, rules, runs, terms,
+    theories, tokens,
 };
 use std::alloc::Global;
+
+// The symbols of messages.
+const BUILTINS: &str = "hashing symmetric asymmetric signing";
 
 // Puts last what is found for a row of the table. The page isn't whole where the row isn't written as the table's rows are.
 fn push_found(page: &mut Page, desk: &mut Desk, table: &str, row: &str) {
@@ -15,13 +18,12 @@ fn push_found(page: &mut Page, desk: &mut Desk, table: &str, row: &str) {
         "pieces" => tokens::pieces_row(page, row),
         "numbers" => tokens::numbers_row(page, row),
         "read-terms" => terms::read_row(page, desk, row),
-        "terms" => terms::terms_row(page, desk, row),
+        "terms" => terms::terms_row(page, desk, "", 1, row),
+        "messages" => terms::terms_row(page, desk, BUILTINS, 1, row),
+        "normal-forms" | "matching" => terms::terms_row(page, desk, part(row, 1), 2, row),
         "signatures" => terms::signatures_row(page, desk, row),
         "additions" => terms::additions_row(page, &mut desk.signature, row),
         "copies" => copies::copies_row(page, &desk.signature, row),
-        "normal-forms" => rewriting::forms_row(page, desk, row),
-        "messages" => rewriting::messages_row(page, desk, row),
-        "matching" => rewriting::matching_row(page, desk, row),
         _ => push_found_above(page, desk, table, row),
     }
 }
@@ -30,14 +32,17 @@ fn push_found(page: &mut Page, desk: &mut Desk, table: &str, row: &str) {
 fn push_found_above(page: &mut Page, desk: &mut Desk, table: &str, row: &str) {
     match table {
         "knowledge" => knowledge::knowledge_row(page, desk, row),
-        "piles" => piles::piles_row(page, desk, row),
-        "rules" => rules::rules_row(page, desk, row),
+        "piles" => piles::piles_row(page, &desk.signature, &mut desk.pile, row),
+        "rules" => rules::rules_row(page, &mut desk.theory, row),
         "rule-runs" => runs::runs_row(page, desk, row),
         "formulas" => formulas::formulas_row(page, &mut desk.theory, row),
-        "theories" => theories::theories_row(page, desk, row),
+        "checks" => judgements::checks_row(page, &mut desk.theory, row),
+        "guards" => guards::guards_row(page, &mut desk.theory, row),
+        "judgements" => judgements::judgements_row(page, &mut desk.theory, row),
+        "theories" => theories::theories_row(page, &mut desk.theory, row),
         "files" => files::files_row(page, &desk.signature, row),
-        "refusals" => calls::refusals_row(page, row),
-        "generated" => calls::generated_row(page, row),
+        "refusals" => calls::compile(page, "refusal", part(row, 0)),
+        "generated" => calls::compile(page, part(row, 0), part(row, 1)),
         "calls" => calls::calls_row(page, row),
         _ => page.fail(),
     }
@@ -60,20 +65,15 @@ fn wanted(row: &str) -> &str {
     }
 }
 
-// The text with `^` in place of line feeds.
-fn show_on_one_line(out: &mut Page, text: &[u8]) {
-    for byte in text {
-        out.byte(if *byte == b'\n' { b'^' } else { *byte });
-    }
-}
-
-// Tells a row that differs, and what is found.
+// Tells a row that differs, and what is found, with `^` in place of line feeds.
 fn show_difference(out: &mut Page, table: &str, row: &str, found: &[u8]) {
     out.word(table);
     out.word(" differs: ");
     out.word(row);
     out.word("\n  found: ");
-    show_on_one_line(out, found);
+    for byte in found {
+        out.byte(if *byte == b'\n' { b'^' } else { *byte });
+    }
     out.word("\n");
 }
 
@@ -97,13 +97,6 @@ fn is_row(line: &str) -> bool {
     !line.is_empty() && !line.starts_with("-- ")
 }
 
-fn show_total(out: &mut Page, table: &str, rows: u64, differ: u64) {
-    out.word(table);
-    out.numbered(": ", rows);
-    out.numbered(" rows, ", differ);
-    out.word(" differ\n");
-}
-
 fn tell_rows(out: &mut Page, desk: &mut Desk, table: &str, lines: &str) {
     let mut rows: u64 = 0;
     let mut differ: u64 = 0;
@@ -113,7 +106,10 @@ fn tell_rows(out: &mut Page, desk: &mut Desk, table: &str, lines: &str) {
             differ = differ.saturating_add(tell_row(out, desk, table, line));
         }
     }
-    show_total(out, table, rows, differ);
+    out.word(table);
+    out.numbered(": ", rows);
+    out.numbered(" rows, ", differ);
+    out.word(" differ\n");
 }
 
 /// Puts last each row of a table that differs, with what is found, and how many rows there are and how many differ. The page

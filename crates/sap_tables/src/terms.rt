@@ -1,7 +1,8 @@
-//! Terms and facts as they are read, substitution and signatures.
+//! Terms and facts as they are read, rows of terms, and signatures.
 use crate::desk::Desk;
 use crate::notation::{add, name, number, part, tokens_of, written};
 use crate::page::Page;
+use crate::rewriting::show_rewritten;
 use indexmap::IndexSet;
 use sap_read::{read_fact, read_term};
 use sap_terms::{Copied, Mem, Name, Signature, Term, is_reserved};
@@ -37,7 +38,7 @@ fn show_read(
 /// it, or `none`; `levels`, a text, 0, and the levels of the term, 0 where there is none. h of one argument is held, and the
 /// constants c, C and true.
 pub fn read_row(page: &mut Page, desk: &mut Desk, row: &str) {
-    desk.begin(page, "hashing signing c/0 -C/0");
+    desk.begin(page, "hashing signing c/0 -C/0", "", "");
     let at = number(page, part(row, 2));
     let bytes = written(page.alloc, part(row, 1));
     let found = tokens_of(page.alloc, bytes.as_bytes());
@@ -51,16 +52,13 @@ pub fn read_row(page: &mut Page, desk: &mut Desk, row: &str) {
     );
 }
 
-// The nodes and the levels of the term.
-fn show_size(page: &mut Page, t: &Term) {
-    page.numbered("", t.nodes());
-    page.numbered(" ", t.levels());
-}
-
-// Those of a copy that is the same.
+// The nodes and the levels of a copy that is the same.
 fn show_size_of_copy(page: &mut Page, t: &Term, copy: &Result<Term, Mem>) {
     match copy {
-        Ok(copy) if copy.same(t) => show_size(page, copy),
+        Ok(copy) if copy.same(t) => {
+            page.numbered("", copy.nodes());
+            page.numbered(" ", copy.levels());
+        }
         _ => page.fail(),
     }
 }
@@ -96,29 +94,27 @@ fn show_lists(page: &mut Page, terms: &[Term]) {
     page.number(keys.len() as u64);
 }
 
-fn show_terms(page: &mut Page, kind: &str, terms: &[Term]) {
-    match (kind, terms) {
+fn show_terms(page: &mut Page, sig: &Signature, terms: &[Term], row: &str) {
+    match (part(row, 0), terms) {
         ("size", [t]) => show_size_of_copy(page, t, &t.copy(page.alloc)),
         ("same", [s, t]) => page.show(s.same(t)),
         ("instance", [t]) => page.show(t),
         ("keys", _) => show_keys(page, terms),
         ("lists", _) => show_lists(page, terms),
-        _ => page.fail(),
+        _ => show_rewritten(page, sig, terms, row),
     }
 }
 
-/// `size`, a term, its nodes and levels; `same`, two terms and whether they are; `instance`, a term and its tree; `keys`, terms
-/// with bars between them, and how many keys of a map they are; `lists`, such terms, and how many keys of a map the lists are
-/// on which their symbols stand.
-pub fn terms_row(page: &mut Page, desk: &mut Desk, row: &str) {
-    desk.begin(page, "");
-    for text in part(row, 1).split('|') {
-        desk.put_term(page, text.trim());
-    }
-    if part(row, 0) == "same" {
-        desk.put_term(page, part(row, 2));
-    }
-    show_terms(page, part(row, 0), desk.terms.as_slice());
+/// A row over these symbols, whose terms begin at this part: `size`, a term, its nodes and levels; `same`, two terms and whether
+/// they are; `instance`, a term and its tree; `keys`, terms with bars between them, and how many keys of a map they are; `lists`,
+/// such terms, and how many keys of a map the lists are on which their symbols stand; and what `show_rewritten` says.
+pub fn terms_row(page: &mut Page, desk: &mut Desk, symbols: &str, at: usize, row: &str) {
+    let second = match part(row, 0) {
+        "same" | "equal" | "whole" | "around" => part(row, at.saturating_add(1)),
+        _ => "",
+    };
+    desk.begin(page, symbols, part(row, at), second);
+    show_terms(page, &desk.signature, desk.terms.as_slice(), row);
 }
 
 // The symbol at this place, with its arity, and whether it is public.
@@ -145,22 +141,19 @@ fn show_of_name(page: &mut Page, sig: &Signature, kind: &str, f: &Option<Name>) 
     }
 }
 
-fn show_of(page: &mut Page, sig: &Signature, kind: &str, what: &str) {
-    if kind == "symbol" {
-        let place = number(page, what);
-        show_symbol_at(page, sig, place);
-    } else {
-        show_of_name(page, sig, kind, &name(page.alloc, what));
-    }
-}
-
 /// Of a copy of the signature of the second part: `symbol`, its place, and the symbol there or `none`; `destructor`, a name and
 /// whether it is one; and `reserved`, a name and whether it is.
 pub fn signatures_row(page: &mut Page, desk: &mut Desk, row: &str) {
-    desk.begin(page, part(row, 1));
+    desk.begin(page, part(row, 1), "", "");
     let copy = desk.signature.copy(page.alloc).ok();
     page.set(&mut desk.signature, copy);
-    show_of(page, &desk.signature, part(row, 0), part(row, 2));
+    match part(row, 0) {
+        "symbol" => {
+            let place = number(page, part(row, 2));
+            show_symbol_at(page, &desk.signature, place);
+        }
+        kind => show_of_name(page, &desk.signature, kind, &name(page.alloc, part(row, 2))),
+    }
 }
 
 /// What is added to the symbols so far, the answer, and the number of symbols behind it.

@@ -1,21 +1,13 @@
 //! Theories that rows make, and how they are printed.
-use crate::desk::{Desk, empty_theory};
+use crate::desk::empty_theory;
 use crate::formulas::formula;
-use crate::notation::{name, names, part, rule};
+use crate::notation::{list, name, part, rule};
 use crate::page::{Page, Show};
 use sap_formula::{Formula, Lemma, Mode, Restriction};
 use sap_rule::Theory;
 use sap_terms::{Copied, Name};
 use sap_text::Text;
 use sap_theory::print;
-
-fn mode_of(word: &str) -> Mode {
-    if word == "all" {
-        Mode::AllTraces
-    } else {
-        Mode::ExistsTrace
-    }
-}
 
 /// Begins a theory of these symbols anew, in which nothing stands yet.
 pub fn begin(page: &mut Page, t: &mut Theory, symbols: &str) -> u64 {
@@ -55,8 +47,11 @@ fn lemma(
     let (name, formula) = name.zip(formula)?;
     Some(Lemma {
         name,
-        attributes: names(page, attributes),
-        mode: mode_of(mode),
+        attributes: list(page, ' ', attributes),
+        mode: match mode {
+            "all" => Mode::AllTraces,
+            _ => Mode::ExistsTrace,
+        },
         formula: Box::into_inner(formula),
     })
 }
@@ -71,6 +66,18 @@ pub fn add_lemma(
     words: &str,
 ) -> u64 {
     let formula = formula(page, &t.signature, words);
+    put_lemma(page, t, title, attributes, mode, formula)
+}
+
+/// The same of a formula.
+pub fn put_lemma(
+    page: &mut Page,
+    t: &mut Theory,
+    title: &str,
+    attributes: &str,
+    mode: &str,
+    formula: Option<Box<Formula>>,
+) -> u64 {
     let lemma = lemma(page, name(page.alloc, title), attributes, mode, formula);
     page.put(&mut t.lemmas, lemma);
     t.lemmas.len()
@@ -108,13 +115,13 @@ pub fn push_theory(page: &mut Page, t: &mut Theory) {
 }
 
 /// Rows that make a theory, and `print`, its text; `symbols`, and the text of the theory that has these alone.
-pub fn theories_row(page: &mut Page, desk: &mut Desk, row: &str) {
+pub fn theories_row(page: &mut Page, t: &mut Theory, row: &str) {
     match part(row, 0) {
-        "print" => push_theory(page, &mut desk.theory),
+        "print" => push_theory(page, t),
         "symbols" => {
-            begin(page, &mut desk.theory, part(row, 1));
-            push_theory(page, &mut desk.theory);
+            begin(page, t, part(row, 1));
+            push_theory(page, t);
         }
-        _ => made_row(page, &mut desk.theory, row),
+        _ => made_row(page, t, row),
     }
 }

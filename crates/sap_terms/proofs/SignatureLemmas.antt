@@ -7,7 +7,7 @@ use Rattle.std.proofs.lemmas.Bool.Decides.{Decides-eqb}
 use Rattle.std.specs.Str.{bytes_eq}
 use Rattle.sap_terms.specs.declared.signature.Symbol.{Symbol}
 use Rattle.sap_terms.specs.Tree.{Tree, apply, none, more}
-use Rattle.sap_terms.specs.Signature.{Sig, find_symbol, IsMap, declared, declared_all, is_destructor_of, first_clash, is_held_otherwise, same_bool, added, HoldsSymbols, HoldsBuiltins, has_builtin, builtin_symbols}
+use Rattle.sap_terms.specs.Signature.{Sig, find_symbol, IsMap, declared, declared_all, is_destructor_of, first_clash, is_held_otherwise, same_bool, added, HoldsSymbols, HoldsBuiltins, has_builtin, builtin_symbols, pairs_alone}
 use Rattle.sap_terms.specs.declared.signature.Builtin.{Builtin}
 use Rattle.sap_terms.specs.declared.signature.Builtin.TheVariants.{Hashing, Symmetric, Asymmetric, Signing, RevealingSigning}
 use Rattle.sap_terms.specs.Equations.{equations, IsInstance, first, second, symmetric, asymmetric, signing, revealing, revealed, IsDestructor, app0, app1, app2, pair_name, fst_name, snd_name, senc_name, sdec_name, aenc_name, adec_name, pk_name, sign_name, verify_name, reveal_sign_name, reveal_verify_name, get_message_name, true_name}
@@ -159,6 +159,22 @@ HoldsBuiltins-push g x h Symmetric b = held-kept g.symbols _ (builtin_symbols Sy
 HoldsBuiltins-push g x h Asymmetric b = held-kept g.symbols _ (builtin_symbols Asymmetric) (find-kept_push g.symbols x) (h Asymmetric b)
 HoldsBuiltins-push g x h Signing b = held-kept g.symbols _ (builtin_symbols Signing) (find-kept_push g.symbols x) (h Signing b)
 HoldsBuiltins-push g x h RevealingSigning b = held-kept g.symbols _ (builtin_symbols RevealingSigning) (find-kept_push g.symbols x) (h RevealingSigning b)
+
+-- and so does a symbol that is declared, be it new or held
+pub HoldsBuiltins-declared : (g : Sig) (x : Symbol) → HoldsBuiltins g → HoldsBuiltins (record g { symbols = declared g.symbols x.name x.arity x.private })
+HoldsBuiltins-declared g x h =
+    elim (find_symbol g.symbols x.name) as (λ o. HoldsBuiltins (record g { symbols = if is_some o then g.symbols else g.symbols ++ x ∷ [] })) [
+      | None ↦ HoldsBuiltins-push g x h
+      | Some s ↦ h
+    ]
+
+-- no builtin was added to pairs alone
+pub HoldsBuiltins-none : HoldsBuiltins pairs_alone
+HoldsBuiltins-none Hashing b = absurd (cc (b))
+HoldsBuiltins-none Symmetric b = absurd (cc (b))
+HoldsBuiltins-none Asymmetric b = absurd (cc (b))
+HoldsBuiltins-none Signing b = absurd (cc (b))
+HoldsBuiltins-none RevealingSigning b = absurd (cc (b))
 
 builtin_map : (b : Builtin) → IsMap (builtin_symbols b)
 builtin_map Hashing = (refl, tt)

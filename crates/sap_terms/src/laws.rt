@@ -1,5 +1,5 @@
 //! Laws of terms and signatures, each as the contract of a function that does nothing.
-ghost use Rattle.sap_terms.specs.Laws.{NamesAreMessages, LeavesAreNormal, DestructorsHeadLeftSides};
+ghost use Rattle.sap_terms.specs.Laws.{NamesAreMessages, LeavesAreNormal, DestructorsHeadLeftSides, BuiltinsStayHeld};
 
 /// Names are messages, under every signature.
 pub fn names_are_messages()
@@ -14,4 +14,9 @@ pub fn leaves_are_normal()
 /// What the test of destructors says of each name of each signature.
 pub fn destructors_head_left_sides()
     ensures { DestructorsHeadLeftSides }
+{}
+
+/// A signature that is made by declarations alone holds the symbols of its builtins.
+pub fn builtins_stay_held()
+    ensures { BuiltinsStayHeld }
 {}

@@ -23,7 +23,9 @@ pub use binding::{Binding, Bindings};
 pub use builtins::Builtins;
 pub use fact::{Fact, FactList, Trace};
 pub use items::{Copied, Items, Numbers};
-pub use laws::{destructors_head_left_sides, leaves_are_normal, names_are_messages};
+pub use laws::{
+    builtins_stay_held, destructors_head_left_sides, leaves_are_normal, names_are_messages,
+};
 pub use limits::{
     MOST_ARITY, MOST_FILE_NAME_BYTES, MOST_PROCESS_LEVELS, MOST_PROCESS_PLACES, MOST_SCOPE_NAMES,
     MOST_TERM_LEVELS, MOST_TERM_NODES, MOST_THEORY_NAME_BYTES,

@@ -3,7 +3,7 @@ use Rattle.std.proofs.Common.{◌≡◌, ◌≢◌, ℕ, List, [], sym, subst, �
 use Rattle.sap_tool.specs.Call.{Call, Stream}
 use Rattle.sap_tool.specs.Commands.{Command, compile}
 use Rattle.sap_tool.specs.Answers.{tells, IsAnswerTo, refused, Asks, Fetched, IsAnswer, to_file, Ended, answered, unanswered}
-use Rattle.sap_tool.specs.BuiltFile.{compiled_text, IsTheoryOf}
+use Rattle.sap_tool.specs.AcceptedFile.{compiled_text, IsTheoryOf}
 use Rattle.sap_tool.specs.Refusals.{IsRefusal, refused_line}
 
 -- a line that refuses a file is an answer to it
@@ -22,4 +22,4 @@ line_is bytes line r e = let both : refused_line r.why ≡ [] = sym r.layout ∙
 
 -- nor is the text of a theory
 pub theory_is : (bytes text : List ℕ) → IsTheoryOf bytes text → text ≢ []
-theory_is bytes text t e = let both : compiled_text t.told t.process ≡ [] = sym t.layout ∙ e in cc
+theory_is bytes text t e = let both : compiled_text t.told ≡ [] = sym t.layout ∙ e in cc

@@ -2,40 +2,29 @@
 use Rattle.std.proofs.Common.{◌≡◌, ◌+◌, ◌<◌, ℕ, List, [], ◌∷◌, take, Option, Some, None, refl, sym, ap, subst, ◌∙◌, inl, inr, ◌⊎◌, arith, lit<}
 use Rattle.std.specs.Prelude.{Contains}
 use Rattle.std.specs.FinMap as files
-use Rattle.sap_terms.specs.Signature.{Sig}
-use Rattle.sap_gen.specs.Built.{Built}
-use Rattle.sap_gen.specs.Theories.{theory_of}
-use Rattle.sap_gen.specs.Faithful.{NoReservedEvents, IsFaithful}
 use Rattle.sap_tool.specs.Outside.{Files, IsFetched, IsFirstPart}
 use Rattle.sap_tool.specs.Refusals.{refused_line}
 use Rattle.sap_tool.specs.Call.{Call, Gained, Failed, CutShort, FailedOn, Holds}
 use Rattle.sap_tool.specs.Commands.{Command, compile, spelled, file_of, limit_of, IsUnknown, Refuses, Allows, Means}
 use Rattle.sap_tool.specs.Answers.{Answer, gives, tells, status_of, IsAnswerTo, allowed, refused, Asks, Fetched, IsAnswer, to_file, usage, unread, IsPut, whole, broken, wanting, IsLast, complete, cut, write_fault_text, memory_text, Ended, answered, unanswered}
 use Rattle.sap_tool.specs.Promises as promised
-use Rattle.sap_tool.proofs.Refused.{OneReading, SomeReading, Frees, BuiltOrUnbuilt, NeverBoth, file_free, one_cause, one_theory, some_theory, not_built, part_refused, part_built}
+use Rattle.sap_tool.proofs.Refused.{OneReading, SomeReading, Runnable, Faithful, file_faithful, one_cause, one_theory, some_theory, not_refused, part_refused, part_accepted}
 
 -- the laws of the crates below
 pub record Laws : Type 0 where
-  pub faithful : (name : List ℕ) (g : Sig) (p : Built) → NoReservedEvents p → IsFaithful p (theory_of name g p [] [])
-  pub frees : Frees
-  pub either : BuiltOrUnbuilt
-  pub never_both : NeverBoth
+  pub faithful : Faithful
+  pub runnable : Runnable
   pub one : OneReading
   pub some : SomeReading
 
 -- what an allowed text means
 means : Laws → (k : Command) (bytes text : List ℕ) → Allows k bytes text → Means k bytes text
-means laws (compile file) bytes text t = record {
-  told = t.told;
-  process = t.process;
-  file = t.file;
-  layout = t.layout;
-  shows = laws.faithful t.told.name t.told.signature t.process (file_free laws.frees bytes t.told t.process t.file);
-}
+means laws (compile file) bytes text t =
+    record { told = t.told; file = t.file; layout = t.layout; shows = file_faithful laws.runnable laws.faithful bytes t.told t.file }
 
 -- no bytes are both allowed and refused
 never : Laws → (k : Command) (bytes text why : List ℕ) → Allows k bytes text → Refuses k bytes why → ⊥
-never laws (compile file) bytes text why t r = not_built laws.one bytes laws.never_both why t.told t.process r t.file
+never laws (compile file) bytes text why t r = not_refused laws.one bytes why t.told r t.file
 
 -- and they are refused for one cause
 one_why : Laws → (k : Command) (bytes why other : List ℕ) → Refuses k bytes why → Refuses k bytes other → why ≡ other
@@ -47,7 +36,7 @@ one_allowed laws (compile file) bytes text other t u = one_theory laws.one bytes
 
 -- what no cause refuses is allowed a text
 some_allowed : Laws → (k : Command) (bytes : List ℕ) → ((why : List ℕ) → Refuses k bytes why → ⊥) → ((text : List ℕ) × Allows k bytes text)
-some_allowed laws (compile file) bytes unrefused = some_theory laws.some laws.either bytes unrefused
+some_allowed laws (compile file) bytes unrefused = some_theory laws.some bytes unrefused
 
 -- a word whose put wasn't cut short is there whole
 whole_word : {Cut : Type 0} (word last : List ℕ) → (Cut → ⊥) → IsLast Cut word last → last ≡ word
@@ -76,7 +65,7 @@ part_is_refused (compile file) bytes why r = part_refused bytes why r
 -- and allows the file's text
 part_allows : (k : Command) (bytes text : List ℕ) → Allows k bytes text → Allows k (take (limit_of k + 1) bytes) text
 part_allows (compile file) bytes text t =
-    record { told = t.told; process = t.process; file = part_built bytes t.told t.process t.file; layout = t.layout }
+    record { told = t.told; file = part_accepted bytes t.told t.file; layout = t.layout }
 
 module _ (laws : Laws) (c : Call) where
   -- the answer of a file that is held, fetched for any command that the words ask for

@@ -1,6 +1,6 @@
 -- What the program is asked for, and what a command reads, refuses and allows, and what it means by that.
 use Rattle.std.specs.Prelude.{◌≡◌, ℕ, codes, List, [], ◌∷◌}
-use Rattle.sap_tool.specs.BuiltFile.{most_bytes, IsTheoryOf}
+use Rattle.sap_tool.specs.AcceptedFile.{most_bytes, IsTheoryOf}
 use Rattle.sap_tool.specs.Meaning.{IsFaithfulText}
 use Rattle.sap_tool.specs.Refusals.{IsRefusedWith}
 

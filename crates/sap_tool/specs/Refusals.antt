@@ -1,15 +1,16 @@
 -- Why a file is refused, in words.
-use Rattle.std.specs.Prelude.{◌≡◌, ◌<◌, ◌≤◌, ℕ, codes, decimal, List, [], ◌∷◌, ◌++◌, length, Some, Ok, Err}
+use Rattle.std.specs.Prelude.{◌≡◌, ◌<◌, ◌≤◌, ℕ, codes, decimal, List, [], ◌∷◌, ◌++◌, length, Err}
 use Rattle.std.specs.List.{flat_map}
 use Rattle.sap_text.specs.declared.fault.Lex.{Lex}
 use Rattle.sap_text.specs.declared.fault.Lex.TheVariants as lex
+use Rattle.sap_locks.specs.declared.fault.LockFault.{LockFault}
+use Rattle.sap_locks.specs.declared.fault.LockFault.TheVariants as lock
 use Rattle.sap_process.specs.declared.flaw.Flaw.{Flaw}
 use Rattle.sap_process.specs.declared.flaw.Flaw.TheVariants.{BadFunction, ReservedVar, ReservedFact, FactClash, PatternDestructor, Unbound, Rebound, SortClash, ScopeFull}
 use Rattle.sap_read.specs.declared.fault.ReadFault.{ReadFault}
 use Rattle.sap_read.specs.declared.fault.ReadFault.TheVariants as fault
-use Rattle.sap_read.specs.Files.{FileContent, IsRead}
-use Rattle.sap_gen.specs.Unbuilt.{first_unbuilt}
-use Rattle.sap_tool.specs.BuiltFile.{most_bytes}
+use Rattle.sap_read.specs.Files.{IsRead}
+use Rattle.sap_tool.specs.AcceptedFile.{most_bytes}
 
 -- the digits of a path side by side; the root has none, and a word of its own
 abbrev pub place_text : List ℕ → List ℕ
@@ -43,6 +44,12 @@ lex_text (lex.OpenComment at) = between (codes "comment at byte ") (decimal at) 
 lex_text (lex.OpenQuote at) = between (codes "quote at byte ") (decimal at) (codes " is not closed")
 lex_text (lex.NameLong at) = between (codes "name at byte ") (decimal at) (codes " is longer than 64 bytes")
 
+-- why a process can't be annotated; that memory was wanting is no such cause
+abbrev pub lock_text : LockFault → List ℕ
+lock_text lock.Mem = codes "out of memory"
+lock_text (lock.UnlockWithoutLock path) = at_place path (codes "unlock without lock")
+lock_text (lock.LockOverParallel path) = at_place path (codes "lock over parallel or replication")
+
 -- why bytes are read as no file; that memory was wanting refuses none
 abbrev pub fault_text : ReadFault → List ℕ
 fault_text fault.Mem = codes "out of memory"
@@ -57,14 +64,12 @@ fault_text (fault.FunctionClash name) = between (codes "function ") name (codes 
 fault_text fault.TooMany = codes "more than 4000 nodes"
 fault_text fault.TooDeep = codes "more than 300 levels"
 fault_text (fault.Ill which path) = at_place path (flaw_text which)
+fault_text (fault.Lock f) = lock_text f
 
--- the bytes are refused for this cause: they are too many; else they are read as no file; else a place of their process,
--- the first of these, has no rules of its own
+-- the bytes are refused for this cause: they are too many; else they are read as no file
 pub data IsRefusedWith (bytes : List ℕ) : List ℕ → Type 0 where
   too_long : most_bytes < length bytes → IsRefusedWith bytes (codes "longer than 1048576 bytes")
   unread : {e : ReadFault} → length bytes ≤ most_bytes → IsRead bytes (Err e) → IsRefusedWith bytes (fault_text e)
-  unbuilt : {told : FileContent} {path : List ℕ} → length bytes ≤ most_bytes → IsRead bytes (Ok told) → first_unbuilt told.process ≡ Some path
-      → IsRefusedWith bytes (at_place path (codes "not built"))
 
 -- the line that says why
 abbrev pub refused_line : List ℕ → List ℕ

@@ -1,20 +1,17 @@
 //! From the bytes of a file to the text of its theory.
 
-ghost use Rattle.std.specs.Prelude.{◌≡◌, ◌≤◌, ◌↔◌, IsTrue, Some, ℕ, List, length, [], Ok, Err, codes, IfOk, IsErrOf};
-ghost use Rattle.sap_process.specs.Proc.{proc};
-ghost use Rattle.sap_gen.specs.Built.{Built, built, IsBuilt};
-ghost use Rattle.sap_gen.specs.Unbuilt as unbuilt;
+ghost use Rattle.std.specs.Prelude.{◌≡◌, ◌≤◌, ◌↔◌, IsTrue, ℕ, List, length, [], Ok, Err, codes, IfOk, IsErrOf};
 ghost use Rattle.sap_read.specs.Files.{FileContent, IsRead, told_by};
 ghost use Rattle.sap_tool.specs.declared.refusal.Refusal.TheVariants as refusals;
 ghost use Rattle.sap_read.specs.declared.fault.ReadFault.TheVariants as faults;
-ghost use Rattle.sap_tool.specs.BuiltFile.{most_bytes, compiled_text, IsTheoryOf};
-ghost use Rattle.sap_tool.specs.Refusals.{IsRefusal, refused_line, fault_text, at_place};
+ghost use Rattle.sap_tool.specs.AcceptedFile.{most_bytes, compiled_text, IsTheoryOf};
+ghost use Rattle.sap_tool.specs.Refusals.{IsRefusal, refused_line, fault_text};
 
-use crate::fault_text::{push_fault, push_placed};
+use crate::fault_text::push_fault;
 use crate::refusal::Refusal;
-use sap_gen::{first_unbuilt, theory_of};
+use sap_gen::theory_of;
 use sap_read::{File, ReadFault, read_file_boxed};
-use sap_terms::{Mem, Path};
+use sap_terms::Mem;
 use sap_text::Text;
 use sap_theory::print;
 use std::alloc::Global;
@@ -41,7 +38,8 @@ fn text_of_short(alloc: Global, bytes: &[u8]) -> Result<Text, Refusal>
     ensures refused { (line : List ℕ) → IsErrOf result (refusals.Told line) → IsRefusal bytes.now line }
 {
     let file = read(alloc, bytes)?;
-    text_of(alloc, &file)
+    let text = text_of(alloc, &file)?;
+    Ok(text)
 }
 
 /// The file that the bytes are read as.
@@ -67,26 +65,11 @@ fn told(line: Result<Text, Mem>) -> Refusal
     }
 }
 
-/// The text of the theory of a file, where each place of its process is built.
-fn text_of(alloc: Global, file: &File) -> Result<Text, Refusal>
+/// The text of the theory of a file.
+fn text_of(alloc: Global, file: &File) -> Result<Text, Mem>
     requires restrictions { file.now.restrictions ≡ [] }
     requires lemmas { file.now.lemmas ≡ [] }
-    ensures given { IfOk result (λ text. (b : Built) × (built (proc file.now.process) ≡ Some b) × (text ≡ compiled_text (told_by file.now) b)) }
-    ensures refused { (line : List ℕ) → IsErrOf result (refusals.Told line)
-        → (path : List ℕ) × (unbuilt.first_unbuilt (proc file.now.process) ≡ Some path) × (line ≡ refused_line (at_place path (codes "not built"))) }
-{
-    match first_unbuilt(alloc, &file.process)? {
-        Some(path) => Err(told(place_line(alloc, &path))),
-        None => Ok(built_text(alloc, file)?),
-    }
-}
-
-/// The text of the theory of a file whose process is built.
-fn built_text(alloc: Global, file: &File) -> Result<Text, Mem>
-    requires built { IsBuilt (proc file.now.process) }
-    requires restrictions { file.now.restrictions ≡ [] }
-    requires lemmas { file.now.lemmas ≡ [] }
-    ensures { IfOk result (λ text. (b : Built) → built (proc file.now.process) ≡ Some b → text ≡ compiled_text (told_by file.now) b) }
+    ensures { IfOk result (λ text. text ≡ compiled_text (told_by file.now)) }
 {
     let theory = theory_of(alloc, file, false)?;
     print(alloc, &theory)
@@ -123,15 +106,4 @@ fn is_memory(fault: &ReadFault) -> bool
         ReadFault::Mem => true,
         _ => false,
     }
-}
-
-/// The line that refuses a file whose place of this path isn't built.
-fn place_line(alloc: Global, path: &Path) -> Result<Text, Mem>
-    ensures { IfOk result (λ line. line ≡ refused_line (at_place path.now (codes "not built"))) }
-{
-    let mut line = Text::new(alloc);
-    line.push_bytes(b"file refused: ")?;
-    push_placed(&mut line, path, b"not built")?;
-    line.push_bytes(b"\n")?;
-    Ok(line)
 }

@@ -2,8 +2,9 @@
 
 ghost use Rattle.std.specs.Prelude.{◌≡◌, ◌++◌, decimal, OnOk};
 ghost use Rattle.std.specs.List.{flat_map};
-ghost use Rattle.sap_tool.specs.Refusals.{at_place, between, fault_text, flaw_text, lex_text, place_text};
+ghost use Rattle.sap_tool.specs.Refusals.{at_place, between, fault_text, flaw_text, lex_text, lock_text, place_text};
 
+use sap_locks::LockFault;
 use sap_process::Flaw;
 use sap_read::ReadFault;
 use sap_terms::{Mem, Name, Path};
@@ -41,6 +42,7 @@ pub fn push_fault(text: &mut Text, fault: &ReadFault) -> Result<(), Mem>
         ReadFault::TooMany => text.push_bytes(b"more than 4000 nodes"),
         ReadFault::TooDeep => text.push_bytes(b"more than 300 levels"),
         ReadFault::Ill { which, path } => push_placed(text, path, flaw_words(*which)),
+        ReadFault::Lock(fault) => push_lock(text, fault),
     }
 }
 
@@ -58,6 +60,21 @@ fn push_lex(text: &mut Text, fault: Lex) -> Result<(), Mem>
             b"name at byte ",
             at,
             b" is longer than 64 bytes",
+        ),
+    }
+}
+
+/// Puts last why a process can't be annotated.
+fn push_lock(text: &mut Text, fault: &LockFault) -> Result<(), Mem>
+    ensures { OnOk result (text.new ≡ text.old ++ lock_text fault.now) }
+{
+    match fault {
+        LockFault::Mem => text.push_bytes(b"out of memory"),
+        LockFault::UnlockWithoutLock { path } => push_placed(text, path, b"unlock without lock"),
+        LockFault::LockOverParallel { path } => push_placed(
+            text,
+            path,
+            b"lock over parallel or replication",
         ),
     }
 }
@@ -98,7 +115,7 @@ fn push_named(text: &mut Text, before: &[u8], name: &Name, after: &[u8]) -> Resu
 }
 
 /// Puts last what is wrong at a place.
-pub fn push_placed(text: &mut Text, path: &Path, what: &[u8]) -> Result<(), Mem>
+fn push_placed(text: &mut Text, path: &Path, what: &[u8]) -> Result<(), Mem>
     ensures { OnOk result (text.new ≡ text.old ++ at_place path.now what.now) }
 {
     text.push_bytes(b"place ")?;

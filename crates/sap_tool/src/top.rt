@@ -3,7 +3,7 @@
 ghost use Rattle.std.specs.Prelude.{◌≡◌, ◌≢◌, ◌≤◌, ◌⊎◌, ℕ, List, [], IfOk, IsErrOf, MatchOption};
 ghost use Rattle.sap_tool.specs.Outside.{Rose, IsFetched, one_more};
 ghost use Rattle.std.specs.Io.KnownBytes.{Appends};
-ghost use Rattle.sap_tool.specs.BuiltFile.{most_bytes};
+ghost use Rattle.sap_tool.specs.AcceptedFile.{most_bytes};
 ghost use Rattle.sap_tool.specs.Call.{Stream, bytes_of, call, stream, Gained};
 ghost use Rattle.sap_tool.specs.Commands.{compile, spelled, IsUnknown};
 ghost use Rattle.sap_tool.specs.Answers.{gives, tells, IsAnswer, IsAnswerTo, IsPut, IsLast, Ended};
@@ -12,8 +12,8 @@ ghost use Rattle.sap_tool.specs.Promises.{Promises};
 use crate::compile::{MOST_BYTES, theory_text_of};
 use crate::refusal::Refusal;
 use crate::{Shelf, ShelfFault, Sink, SinkFault};
-use sap_gen::{built_or_unbuilt, theories_show_the_process, well_formed_has_no_reserved_events};
-use sap_read::{one_file, some_file};
+use sap_gen::theories_show_the_process;
+use sap_read::{files_are_runnable, one_file, some_file};
 use std::alloc::Global;
 
 /// Runs the program on its words, those after its name, and answers its status.
@@ -44,8 +44,7 @@ pub fn sapic<S: Shelf, O: Sink, E: Sink>(
         result }
 {
     theories_show_the_process();
-    well_formed_has_no_reserved_events();
-    built_or_unbuilt();
+    files_are_runnable();
     one_file();
     some_file();
     run(alloc, words, shelf, out, err)

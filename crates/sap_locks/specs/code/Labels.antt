@@ -5,7 +5,7 @@ use Rattle.sap_terms.specs.Tree.{Tree}
 use Rattle.sap_process.specs.Action.{Action, lock, unlock}
 use Rattle.sap_process.specs.Heads.{locks_set}
 use Rattle.sap_process.specs.Proc.{Proc, nil, parallel, replicated, act, test, lookup}
-use Rattle.sap_locks.specs.Ways.{Mark, locked, unlocked, lock_count}
+use Rattle.sap_locks.specs.Ways.{LockMark, locked, unlocked, lock_count}
 use Rattle.sap_locks.specs.Annotation.{LockFlaw, without, over}
 
 -- open locks with their labels and terms, the lowest first
@@ -22,7 +22,7 @@ dropped t [] = []
 dropped t (b ∷ o) = cond (same_tree b.1 t) o (b ∷ dropped t o)
 
 -- those at the end of a way
-abbrev pub opened : List Mark → Open
+abbrev pub opened : List LockMark → Open
 opened [] = []
 opened (locked k t ∷ way) = (k, t) ∷ opened way
 opened (unlocked t ∷ way) = dropped t (opened way)

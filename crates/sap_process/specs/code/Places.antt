@@ -1,10 +1,11 @@
 -- The places below a place, and the terms that are used at it.
-use Rattle.std.specs.Prelude.{ℕ, ◌+◌, List, [], ◌∷◌, ◌++◌}
+use Rattle.std.specs.Prelude.{ℕ, List, [], ◌∷◌}
 use Rattle.sap_terms.specs.Tree.{Tree}
 use Rattle.sap_terms.specs.declared.var.Var.{Var}
 use Rattle.sap_process.specs.Proc.{Proc, nil, parallel, replicated, act, test, lookup}
 use Rattle.sap_process.specs.Heads.{action_used, locks_set}
-use Rattle.sap_process.specs.Sites.{Site, sites_from, bound_by, message_var}
+use Rattle.sap_process.specs.Places.{place, places_below}
+use Rattle.sap_process.specs.Sites.{Site, above_of, scope_below}
 
 -- the terms that are evaluated before anything is bound at the head of a process
 abbrev pub used_terms : Proc → List Tree
@@ -21,14 +22,8 @@ head_locks (act a p) = locks_set a
 head_locks _ = 0
 
 abbrev pub site : List ℕ → List Var → ℕ → Proc → Site
-site path scope k p = record { path = path; scope = scope; locks = k; body = p }
+site path scope k p = place path (above_of scope k) p
 
 -- the places from this one on, but for itself
 abbrev pub sites_below : List ℕ → List Var → ℕ → Proc → List Site
-sites_below path scope k nil = []
-sites_below path scope k (parallel p q) = sites_from (path ++ 1 ∷ []) scope k p ++ sites_from (path ++ 2 ∷ []) scope k q
-sites_below path scope k (replicated p) = sites_from (path ++ 1 ∷ []) scope k p
-sites_below path scope k (act a p) = sites_from (path ++ 1 ∷ []) (scope ++ bound_by scope a) (k + locks_set a) p
-sites_below path scope k (test t u p q) = sites_from (path ++ 1 ∷ []) scope k p ++ sites_from (path ++ 2 ∷ []) scope k q
-sites_below path scope k (lookup t x p q) =
-    sites_from (path ++ 1 ∷ []) (scope ++ message_var x ∷ []) k p ++ sites_from (path ++ 2 ∷ []) scope k q
+sites_below path scope k p = places_below scope_below path (above_of scope k) p

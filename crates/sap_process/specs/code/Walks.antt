@@ -28,7 +28,7 @@ settled f k path = record {
 
 -- how many of the flaws that are looked for stand before the first that the place has
 abbrev pub lacked : Sig → Found → Site → ℕ
-lacked g f s = lacking g (clashes f.seen s.body) s.scope s.locks s.body f.sought
+lacked g f s = lacking g (clashes f.seen s.body) s.above.scope s.above.locks s.body f.sought
 
 -- what is found once the place is met too
 abbrev pub found_at : Sig → Found → Site → Found

@@ -1,10 +1,4 @@
 -- What the answers of the reader of processes stand for.
-use Rattle.std.specs.Prelude.{◌≡◌, ℕ, List, Option, Some, None, Result, Ok, Err, ⊤}
-use Rattle.std.specs.Global.{Box}
-use Rattle.std.specs.Borrow.{Bor}
-use Rattle.sap_terms.specs.declared.mem.Mem.{Mem}
-use Rattle.sap_terms.specs.declared.fact.Fact.{Fact}
-use Rattle.sap_text.specs.declared.token.Token.{Token}
 use Rattle.sap_terms.specs.Tree.{Tree}
 use Rattle.sap_terms.specs.View.{tree}
 use Rattle.sap_process.specs.Action.{Action, out, send, input, receive, delete, lock, unlock}
@@ -13,20 +7,15 @@ use Rattle.sap_read.specs.declared.process.actions.Way.TheVariants.{Out, In}
 use Rattle.sap_read.specs.declared.process.actions.Deed.{Deed}
 use Rattle.sap_read.specs.declared.process.actions.Deed.TheVariants.{Delete, Lock, Unlock}
 use Rattle.sap_read.specs.declared.process.build.Branching.{Branching}
+use Rattle.sap_read.specs.declared.process.build.Measured.{Measured}
 use Rattle.sap_read.specs.declared.process.build.Branching.TheVariants.{Equality, Lookup}
-use Rattle.sap_read.specs.declared.draft.Doing.{Doing}
-use Rattle.sap_read.specs.declared.draft.Draft.{Draft}
-use Rattle.sap_grammar.specs.Words.{words_of}
-use Rattle.sap_grammar.specs.Reading.{Read}
 use Rattle.sap_read.specs.Written.{Written, test, lookup}
-use Rattle.sap_read.specs.code.ProcessReading.{Levelled, Choosing}
-use Rattle.sap_read.specs.code.Drafts.{doing, written}
+use Rattle.sap_read.specs.code.ProcessReading.{Levelled}
+use Rattle.sap_read.specs.code.Drafts.{written}
 
--- the same process with the same levels
-abbrev pub GivesDraft : List ℕ → Result (Option (Box Draft × ℕ × Bor (List Token))) Mem → Read Levelled → Type 0
-GivesDraft bytes (Err e) read = ⊤
-GivesDraft bytes (Ok None) read = read ≡ None
-GivesDraft bytes (Ok (Some p)) read = read ≡ Some ((written p.0.value, p.1), words_of bytes p.2.now)
+-- the process as it is written, and the levels of its text
+abbrev pub levelled : Measured → Levelled
+levelled m = (written m.draft.value, m.levels)
 
 -- what is done with a message that goes this way
 abbrev pub to_adversary : Way → Tree → Action

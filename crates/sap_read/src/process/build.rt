@@ -20,6 +20,13 @@ pub enum Branching {
     Lookup(Term, Var),
 }
 
+/// A process as it is read, and how many levels its text has.
+#[derive(Drop)]
+pub struct Measured {
+    pub draft: Box<Draft>,
+    pub levels: u32,
+}
+
 // A large value stands in a box as soon as it is made.
 fn boxed(alloc: Global, draft: Draft) -> Result<Box<Draft>, Mem>
     ensures { IfOk result (λ p. p.value ≡ draft) }

@@ -1,16 +1,17 @@
 //! Processes, read from their tokens.
 ghost use Rattle.std.specs.Prelude.{◌≡◌, ◌≤◌, ◌<◌, ◌+◌, ◌^◌, IfOk, IfSome};
 ghost use Rattle.sap_grammar.specs.Words.{words_of};
-ghost use Rattle.sap_grammar.specs.Reading.{name_at};
+ghost use Rattle.sap_grammar.specs.Reading.{Gives, name_at};
 ghost use Rattle.sap_read.specs.code.ProcessReading.{second_branch, branches, condition, looking, going_on, call_or_action, enclosed, repeated, beside, starts_bar, seq, par};
-ghost use Rattle.sap_read.specs.code.ProcessView.{GivesDraft, chosen};
+ghost use Rattle.sap_read.specs.code.ProcessView.{chosen, levelled};
 ghost use Rattle.sap_read.specs.code.Drafts.{doing, written};
 ghost use Rattle.sap_read.specs.declared.limits.TheConstants.{FILE_LIMITS};
 
 use crate::draft::{Doing, Draft};
 use crate::process::actions::read_action;
 use crate::process::build::{
-    Branching, acting, acting_last, call, choosing, choosing_one, nil, parallel, replicated,
+    Branching, Measured, acting, acting_last, call, choosing, choosing_one, nil, parallel,
+    replicated,
 };
 use crate::process::choice::{read_compared, read_looked_up};
 use sap_grammar::{beyond, name_at, starts, starts_zero};
@@ -35,18 +36,33 @@ fn read_second_branch<'a>(
     yes: Box<Draft>,
     levels: u32,
     tokens: &'a [Token],
-) -> Result<Option<(Box<Draft>, u32, &'a [Token])>, Mem>
+) -> Result<Option<(Measured, &'a [Token])>, Mem>
     requires deep { depth < 2 ^ 30 }
     requires within { levels ≤ depth }
-    ensures gives { GivesDraft bytes.now result (second_branch (seq sig.now FILE_LIMITS depth)
+    ensures gives { Gives bytes.now levelled result (second_branch (seq sig.now FILE_LIMITS depth)
         (chosen choice.value) (written yes.value, levels) (words_of bytes.now tokens.now)) }
-    ensures within { IfOk result (λ o. IfSome o (λ r. (1 ≤ r.1) × (r.1 ≤ depth + 1))) }
+    ensures within { IfOk result (λ o. IfSome o (λ r. (1 ≤ r.0.levels)
+        × (r.0.levels ≤ depth + 1))) }
 {
     match read_seq(alloc, sig, bytes, depth, tokens)? {
         None => Ok(None),
-        Some((no, more, rest)) => {
+        Some(
+            (
+                Measured {
+                    draft: no,
+                    levels: more,
+                },
+                rest,
+            ),
+        ) => {
             let process = choosing(alloc, choice, yes, no)?;
-            Ok(Some((process, levels.max(more) + 1, rest)))
+            Ok(Some((
+                Measured {
+                    draft: process,
+                    levels: levels.max(more) + 1,
+                },
+                rest,
+            )))
         }
     }
 }
@@ -60,21 +76,28 @@ fn read_branches<'a>(
     depth: u32,
     choice: Box<Branching>,
     tokens: &'a [Token],
-) -> Result<Option<(Box<Draft>, u32, &'a [Token])>, Mem>
+) -> Result<Option<(Measured, &'a [Token])>, Mem>
     requires { depth < 2 ^ 30 }
-    ensures gives { GivesDraft bytes.now result (branches (seq sig.now FILE_LIMITS depth)
+    ensures gives { Gives bytes.now levelled result (branches (seq sig.now FILE_LIMITS depth)
         (chosen choice.value) (words_of bytes.now tokens.now)) }
-    ensures within { IfOk result (λ o. IfSome o (λ r. (1 ≤ r.1) × (r.1 ≤ depth + 1))) }
+    ensures within { IfOk result (λ o. IfSome o (λ r. (1 ≤ r.0.levels)
+        × (r.0.levels ≤ depth + 1))) }
 {
     match read_seq(alloc, sig, bytes, depth, tokens)? {
         None => Ok(None),
-        Some((yes, levels, rest)) => {
+        Some((Measured { draft: yes, levels }, rest)) => {
             if starts(bytes, rest, "else") {
                 let rest = beyond(1, rest);
                 read_second_branch(alloc, sig, bytes, depth, choice, yes, levels, rest)
             } else {
                 let process = choosing_one(alloc, choice, yes)?;
-                Ok(Some((process, levels.max(1) + 1, rest)))
+                Ok(Some((
+                    Measured {
+                        draft: process,
+                        levels: levels.max(1) + 1,
+                    },
+                    rest,
+                )))
             }
         }
     }
@@ -88,11 +111,12 @@ fn read_condition<'a>(
     bytes: &[u8],
     depth: u32,
     tokens: &'a [Token],
-) -> Result<Option<(Box<Draft>, u32, &'a [Token])>, Mem>
+) -> Result<Option<(Measured, &'a [Token])>, Mem>
     requires { depth < 2 ^ 30 }
-    ensures gives { GivesDraft bytes.now result (condition sig.now FILE_LIMITS
+    ensures gives { Gives bytes.now levelled result (condition sig.now FILE_LIMITS
         (seq sig.now FILE_LIMITS depth) (words_of bytes.now tokens.now)) }
-    ensures within { IfOk result (λ o. IfSome o (λ r. (1 ≤ r.1) × (r.1 ≤ depth + 1))) }
+    ensures within { IfOk result (λ o. IfSome o (λ r. (1 ≤ r.0.levels)
+        × (r.0.levels ≤ depth + 1))) }
 {
     match read_compared(alloc, sig, bytes, tokens)? {
         None => Ok(None),
@@ -108,11 +132,12 @@ fn read_lookup<'a>(
     bytes: &[u8],
     depth: u32,
     tokens: &'a [Token],
-) -> Result<Option<(Box<Draft>, u32, &'a [Token])>, Mem>
+) -> Result<Option<(Measured, &'a [Token])>, Mem>
     requires { depth < 2 ^ 30 }
-    ensures gives { GivesDraft bytes.now result (looking sig.now FILE_LIMITS
+    ensures gives { Gives bytes.now levelled result (looking sig.now FILE_LIMITS
         (seq sig.now FILE_LIMITS depth) (words_of bytes.now tokens.now)) }
-    ensures within { IfOk result (λ o. IfSome o (λ r. (1 ≤ r.1) × (r.1 ≤ depth + 1))) }
+    ensures within { IfOk result (λ o. IfSome o (λ r. (1 ≤ r.0.levels)
+        × (r.0.levels ≤ depth + 1))) }
 {
     match read_looked_up(alloc, sig, bytes, tokens)? {
         None => Ok(None),
@@ -129,24 +154,45 @@ fn read_on<'a>(
     depth: u32,
     first: Box<Doing>,
     tokens: &'a [Token],
-) -> Result<Option<(Box<Draft>, u32, &'a [Token])>, Mem>
+) -> Result<Option<(Measured, &'a [Token])>, Mem>
     requires { depth < 2 ^ 30 }
-    ensures gives { GivesDraft bytes.now result (going_on
+    ensures gives { Gives bytes.now levelled result (going_on
         (seq sig.now FILE_LIMITS depth) depth (doing first.value)
         (words_of bytes.now tokens.now)) }
-    ensures within { IfOk result (λ o. IfSome o (λ r. (1 ≤ r.1) × (r.1 ≤ depth + 1))) }
+    ensures within { IfOk result (λ o. IfSome o (λ r. (1 ≤ r.0.levels)
+        × (r.0.levels ≤ depth + 1))) }
 {
     if starts(bytes, tokens, ";") {
         match read_seq(alloc, sig, bytes, depth, beyond(1, tokens))? {
             None => Ok(None),
-            Some((then, levels, rest)) => {
+            Some(
+                (
+                    Measured {
+                        draft: then,
+                        levels,
+                    },
+                    rest,
+                ),
+            ) => {
                 let process = acting(alloc, first, then)?;
-                Ok(Some((process, levels + 1, rest)))
+                Ok(Some((
+                    Measured {
+                        draft: process,
+                        levels: levels + 1,
+                    },
+                    rest,
+                )))
             }
         }
     } else if 1 <= depth {
         let process = acting_last(alloc, first)?;
-        Ok(Some((process, 2, tokens)))
+        Ok(Some((
+            Measured {
+                draft: process,
+                levels: 2,
+            },
+            tokens,
+        )))
     } else {
         Ok(None)
     }
@@ -160,16 +206,23 @@ fn read_call_or_action<'a>(
     bytes: &[u8],
     depth: u32,
     tokens: &'a [Token],
-) -> Result<Option<(Box<Draft>, u32, &'a [Token])>, Mem>
+) -> Result<Option<(Measured, &'a [Token])>, Mem>
     requires { depth < 2 ^ 30 }
-    ensures gives { GivesDraft bytes.now result (call_or_action sig.now FILE_LIMITS
+    ensures gives { Gives bytes.now levelled result (call_or_action sig.now FILE_LIMITS
         (seq sig.now FILE_LIMITS depth) depth (name_at (words_of bytes.now tokens.now))
         (words_of bytes.now tokens.now)) }
-    ensures within { IfOk result (λ o. IfSome o (λ r. (1 ≤ r.1) × (r.1 ≤ depth + 1))) }
+    ensures within { IfOk result (λ o. IfSome o (λ r. (1 ≤ r.0.levels)
+        × (r.0.levels ≤ depth + 1))) }
 {
     if let Some(name) = name_at(bytes, tokens) {
         let process = call(alloc, name)?;
-        return Ok(Some((process, 1, beyond(1, tokens))));
+        return Ok(Some((
+            Measured {
+                draft: process,
+                levels: 1,
+            },
+            beyond(1, tokens),
+        )));
     }
     match read_action(alloc, sig, bytes, tokens)? {
         None => Ok(None),
@@ -185,17 +238,32 @@ fn read_enclosed<'a>(
     bytes: &[u8],
     depth: u32,
     tokens: &'a [Token],
-) -> Result<Option<(Box<Draft>, u32, &'a [Token])>, Mem>
+) -> Result<Option<(Measured, &'a [Token])>, Mem>
     requires { depth < 2 ^ 30 }
-    ensures gives { GivesDraft bytes.now result (enclosed (par sig.now FILE_LIMITS depth)
+    ensures gives { Gives bytes.now levelled result (enclosed (par sig.now FILE_LIMITS depth)
         (words_of bytes.now tokens.now)) }
-    ensures within { IfOk result (λ o. IfSome o (λ r. (1 ≤ r.1) × (r.1 ≤ depth + 1))) }
+    ensures within { IfOk result (λ o. IfSome o (λ r. (1 ≤ r.0.levels)
+        × (r.0.levels ≤ depth + 1))) }
 {
     match read_par(alloc, sig, bytes, depth, tokens)? {
         None => Ok(None),
-        Some((process, levels, rest)) => {
+        Some(
+            (
+                Measured {
+                    draft: process,
+                    levels,
+                },
+                rest,
+            ),
+        ) => {
             if starts(bytes, rest, ")") {
-                Ok(Some((process, levels + 1, beyond(1, rest))))
+                Ok(Some((
+                    Measured {
+                        draft: process,
+                        levels: levels + 1,
+                    },
+                    beyond(1, rest),
+                )))
             } else {
                 Ok(None)
             }
@@ -211,17 +279,32 @@ fn read_replicated<'a>(
     bytes: &[u8],
     depth: u32,
     tokens: &'a [Token],
-) -> Result<Option<(Box<Draft>, u32, &'a [Token])>, Mem>
+) -> Result<Option<(Measured, &'a [Token])>, Mem>
     requires { depth < 2 ^ 30 }
-    ensures gives { GivesDraft bytes.now result (repeated (seq sig.now FILE_LIMITS depth)
+    ensures gives { Gives bytes.now levelled result (repeated (seq sig.now FILE_LIMITS depth)
         (words_of bytes.now tokens.now)) }
-    ensures within { IfOk result (λ o. IfSome o (λ r. (1 ≤ r.1) × (r.1 ≤ depth + 1))) }
+    ensures within { IfOk result (λ o. IfSome o (λ r. (1 ≤ r.0.levels)
+        × (r.0.levels ≤ depth + 1))) }
 {
     match read_seq(alloc, sig, bytes, depth, tokens)? {
         None => Ok(None),
-        Some((copy, levels, rest)) => {
+        Some(
+            (
+                Measured {
+                    draft: copy,
+                    levels,
+                },
+                rest,
+            ),
+        ) => {
             let process = replicated(alloc, copy)?;
-            Ok(Some((process, levels + 1, rest)))
+            Ok(Some((
+                Measured {
+                    draft: process,
+                    levels: levels + 1,
+                },
+                rest,
+            )))
         }
     }
 }
@@ -234,11 +317,11 @@ fn read_seq<'a>(
     bytes: &[u8],
     depth: u32,
     tokens: &'a [Token],
-) -> Result<Option<(Box<Draft>, u32, &'a [Token])>, Mem>
+) -> Result<Option<(Measured, &'a [Token])>, Mem>
     requires { depth < 2 ^ 30 }
-    ensures gives { GivesDraft bytes.now result (seq sig.now FILE_LIMITS depth
+    ensures gives { Gives bytes.now levelled result (seq sig.now FILE_LIMITS depth
         (words_of bytes.now tokens.now)) }
-    ensures within { IfOk result (λ o. IfSome o (λ r. (1 ≤ r.1) × (r.1 ≤ depth))) }
+    ensures within { IfOk result (λ o. IfSome o (λ r. (1 ≤ r.0.levels) × (r.0.levels ≤ depth))) }
 {
     if depth == 0 {
         return Ok(None);
@@ -254,7 +337,13 @@ fn read_seq<'a>(
         read_lookup(alloc, sig, bytes, depth - 1, next)
     } else if starts_zero(bytes, tokens) {
         let process = nil(alloc)?;
-        Ok(Some((process, 1, next)))
+        Ok(Some((
+            Measured {
+                draft: process,
+                levels: 1,
+            },
+            next,
+        )))
     } else {
         read_call_or_action(alloc, sig, bytes, depth - 1, tokens)
     }
@@ -270,18 +359,33 @@ fn read_beside<'a>(
     left: Box<Draft>,
     levels: u32,
     tokens: &'a [Token],
-) -> Result<Option<(Box<Draft>, u32, &'a [Token])>, Mem>
+) -> Result<Option<(Measured, &'a [Token])>, Mem>
     requires deep { depth < 2 ^ 30 }
     requires within { levels ≤ depth }
-    ensures gives { GivesDraft bytes.now result (beside (par sig.now FILE_LIMITS depth)
+    ensures gives { Gives bytes.now levelled result (beside (par sig.now FILE_LIMITS depth)
         (written left.value, levels) (words_of bytes.now tokens.now)) }
-    ensures within { IfOk result (λ o. IfSome o (λ r. (1 ≤ r.1) × (r.1 ≤ depth + 1))) }
+    ensures within { IfOk result (λ o. IfSome o (λ r. (1 ≤ r.0.levels)
+        × (r.0.levels ≤ depth + 1))) }
 {
     match read_par(alloc, sig, bytes, depth, tokens)? {
         None => Ok(None),
-        Some((right, more, rest)) => {
+        Some(
+            (
+                Measured {
+                    draft: right,
+                    levels: more,
+                },
+                rest,
+            ),
+        ) => {
             let both = parallel(alloc, left, right)?;
-            Ok(Some((both, levels.max(more) + 1, rest)))
+            Ok(Some((
+                Measured {
+                    draft: both,
+                    levels: levels.max(more) + 1,
+                },
+                rest,
+            )))
         }
     }
 }
@@ -295,20 +399,34 @@ pub fn read_par<'a>(
     bytes: &[u8],
     depth: u32,
     tokens: &'a [Token],
-) -> Result<Option<(Box<Draft>, u32, &'a [Token])>, Mem>
+) -> Result<Option<(Measured, &'a [Token])>, Mem>
     requires { depth < 2 ^ 30 }
-    ensures gives { GivesDraft bytes.now result (par sig.now FILE_LIMITS depth
+    ensures gives { Gives bytes.now levelled result (par sig.now FILE_LIMITS depth
         (words_of bytes.now tokens.now)) }
-    ensures within { IfOk result (λ o. IfSome o (λ r. (1 ≤ r.1) × (r.1 ≤ depth))) }
+    ensures within { IfOk result (λ o. IfSome o (λ r. (1 ≤ r.0.levels) × (r.0.levels ≤ depth))) }
 {
     if depth == 0 {
         return Ok(None);
     }
     match read_seq(alloc, sig, bytes, depth, tokens)? {
         None => Ok(None),
-        Some((left, levels, rest)) => {
+        Some(
+            (
+                Measured {
+                    draft: left,
+                    levels,
+                },
+                rest,
+            ),
+        ) => {
             if !starts_bar(bytes, rest) {
-                Ok(Some((left, levels, rest)))
+                Ok(Some((
+                    Measured {
+                        draft: left,
+                        levels,
+                    },
+                    rest,
+                )))
             } else if levels < depth {
                 read_beside(alloc, sig, bytes, depth - 1, left, levels, beyond(1, rest))
             } else {

@@ -1,7 +1,16 @@
-use Rattle.sap_gen.proofs.Admission.{faithful}
-use Rattle.sap_gen.proofs.Back.{shows_only}
-use Rattle.sap_gen.proofs.Forward.{shows_all}
+use Rattle.sap_gen.proofs.Restricted.Needed.{theory_faithful}
 use Rattle.sap_gen.proofs.laws.theories_show_the_process.Goals as goal
 
 pub returns : goal.returns
-returns c = λ name g p lemmas free. faithful name g p lemmas (shows_all p free) (shows_only p free)
+returns c = theory_faithful (record {
+  leaves = c.leaves_are_normal.ensures;
+  has_form = c.each_term_has_a_normal_form.ensures;
+  one_form = c.normal_forms_are_unique.ensures;
+  kept = c.equality_is_kept.ensures;
+  messages = c.forms_are_messages.ensures;
+  unchanged = c.instances_of_processes.ensures.unchanged;
+  twice = c.instances_of_processes.ensures.twice;
+  admitted = c.restrictions_say_sentences.ensures.admitted;
+  needed = c.restrictions_say_sentences.ensures.needed;
+  needs = c.restrictions_say_sentences.ensures.needs;
+})

@@ -1,4 +1,4 @@
-use Rattle.std.proofs.Common.{◌≡◌, sym, true, false}
+use Rattle.std.proofs.Common.{sym}
 use Rattle.sap_terms.specs.View.{tree}
 use Rattle.sap_grammar.specs.Sizes.{is_small}
 use Rattle.sap_grammar.proofs.Small.{all-take, all-miss}

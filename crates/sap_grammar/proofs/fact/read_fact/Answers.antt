@@ -1,6 +1,5 @@
 use Rattle.std.proofs.Common.{◌≡◌, true, false, drop, Some, None}
 use Rattle.std.specs.Prelude.{codes}
-use Rattle.std.proofs.Common.{refl}
 use Rattle.sap_grammar.specs.Words.{starts, words_of}
 use Rattle.sap_grammar.specs.TermReading.{short_fact}
 use Rattle.sap_grammar.proofs.Places.{fact_reader, nothing_at, no_other_at, it_is_at, rest_within}

@@ -3,13 +3,9 @@ use Rattle.sap_terms.specs.View.{tree}
 use Rattle.sap_locks.specs.code.Held.{last_open, is_open_of}
 use Rattle.sap_locks.proofs.Flags.{last_step}
 use Rattle.sap_locks.proofs.held.last_open.Goals as goal
-use Rattle.sap_locks.proofs.held.last_open.Goals.{then-is_open_of, else-is_open_of}
 
 pub loop-k-preserved : goal.loop-k-preserved
 loop-k-preserved c =
     let before = last_open (tree c.args.t.now) (take c.loop-k.k c.args.held.now) in
     let step = last_step (tree c.args.t.now) c.args.held.now c.loop-k.k c.index-held-k.result c.loop-k-test.true ∙ ap (λ h. cond (is_open_of (tree c.args.t.now) h) (Some c.loop-k.k) before) (sym c.index-held-k.is) in
-    elim c.if-is_open_of.branch [
-      | then-is_open_of w ↦ w.last-is ∙ sym (step ∙ ap (λ b. cond b (Some c.loop-k.k) before) (sym c.is_open_of.ensures ∙ w.if-is_open_of.true))
-      | else-is_open_of w ↦ w.last-is ∙ c.loop-k.invariant ∙ sym (step ∙ ap (λ b. cond b (Some c.loop-k.k) before) (sym c.is_open_of.ensures ∙ w.if-is_open_of.false))
-    ]
+    c.later-last.ensures ∙ (λ i. cond (c.is_open_of.ensures i) (Some c.loop-k.k) (c.loop-k.invariant i)) ∙ sym step

@@ -5,32 +5,29 @@ use Rattle.std.proofs.Common.{drop}
 use Rattle.sap_text.specs.declared.token.Token.{Token}
 use Rattle.sap_terms.specs.Signature.{Sig, pairs_alone}
 use Rattle.sap_process.specs.Proc.{proc}
-use Rattle.sap_read.specs.Item.{Standing, declarations}
-use Rattle.sap_read.specs.Cut.{Placed, placed, IsCut}
-use Rattle.sap_read.specs.ItemGrammar.{AreItems}
-use Rattle.sap_read.specs.Signatures.{signature_of, clash_from}
+use Rattle.sap_grammar.specs.Cut.{placed, IsCut}
+use Rattle.sap_grammar.specs.Signatures.{clash_from, signature_from}
+use Rattle.sap_grammar.specs.ItemReading.{cut, declared_in_all}
 use Rattle.sap_read.specs.code.Judged.{IsRefused}
 use Rattle.sap_read.specs.declared.fault.ReadFault.{ReadFault}
 use Rattle.sap_read.specs.declared.fault.ReadFault.TheVariants.{Header}
 use Rattle.sap_read.specs.Files.{IsRead, no_header}
-use Rattle.sap_read.proofs.Headers.{header_none}
-use Rattle.sap_read.proofs.Parts.{is_refused, is_accepted, items_of, items_are_cut, IsDeclared}
+use Rattle.sap_read.specs.code.ItemLaws.{ItemLaws}
+use Rattle.sap_read.proofs.Parts.{is_refused, is_accepted, is_declared, items_of, items_are_cut, IsDeclared}
 use Rattle.sap_read.proofs.file.read_parts.Goals as goal
 
 pub returns-in_default-clause-refused : goal.returns-in_default-clause-refused
 returns-in_default-clause-refused c = λ e h n.
     let same : Header ≡ e = search (rules, h) in
-    subst (λ (q : ReadFault). IsRead c.args.bytes.now (Err q)) same (no_header c.requires (header_none c.args.bytes.now c.args.tokens.now (sym c.header_name.ensures ∙ ap option_copied c.in_default.is)))
+    subst (λ (q : ReadFault). IsRead c.args.bytes.now (Err q)) same (no_header c.requires (c.item_laws.ensures.header_none c.args.bytes.now c.args.tokens.now (sym c.header_name.ensures ∙ ap option_copied c.in_default.is)))
 
 -- what the items behind a header declare, where they are read from the tokens behind it
-told : (z : List ℕ) (ts rest : List Token) (g : Sig) (clash : Option (List ℕ)) → rest ≡ drop 3 ts
-    → ((h : Sig) (is : List (List Placed)) (standing : List Standing) → IsCut (placed z rest) is → AreItems h is standing
-    → (g ≡ signature_of standing) × (clash ≡ clash_from pairs_alone (declarations standing)))
-    → IsDeclared z ts g clash
-told z ts rest g clash same d = λ h is standing r a. d h is standing (subst (λ (us : List Token). IsCut (placed z us) is) (sym same) r) a
+told : ItemLaws → (z : List ℕ) (ts rest : List Token) (g : Sig) (clash : Option (List ℕ)) → rest ≡ drop 3 ts → g ≡ signature_from pairs_alone (declared_in_all (cut (placed z rest)))
+    → clash ≡ clash_from pairs_alone (declared_in_all (cut (placed z rest))) → IsDeclared z ts g clash
+told laws z ts rest g clash same e f = is_declared laws z ts g clash (rw (← same) e) (rw (← same) f)
 
-cut_behind : (z : List ℕ) (ts rest : List Token) → rest ≡ drop 3 ts → IsCut (placed z rest) (items_of z ts)
-cut_behind z ts rest same = subst (λ (us : List Token). IsCut (placed z us) (items_of z ts)) (sym same) (items_are_cut z ts)
+cut_behind : ItemLaws → (z : List ℕ) (ts rest : List Token) → rest ≡ drop 3 ts → IsCut (placed z rest) (items_of z ts)
+cut_behind laws z ts rest same = subst (λ (us : List Token). IsCut (placed z us) (items_of z ts)) (sym same) (items_are_cut laws z ts)
 
 pub returns-in_err-process-clause-refused : goal.returns-in_err-process-clause-refused
 returns-in_err-process-clause-refused c = λ e h n.
@@ -40,9 +37,9 @@ returns-in_err-process-clause-refused c = λ e h n.
     let rest = c.beyond-rest.result.now in
     let g = c.in_ok-declared.declared.signature in
     let clash = c.in_ok-declared.declared.clash in
-    let refusal = c.in_err-process.ensures.refused e (search (rules, p, h)) n (items_of z ts) (cut_behind z ts rest c.beyond-rest.ensures) in
-    is_refused z ts c.in-Some.name.now g clash e c.requires (sym c.header_name.ensures ∙ ap option_copied c.in-Some.is)
-    (told z ts rest g clash c.beyond-rest.ensures c.in_ok-declared.ensures)
+    let refusal = c.in_err-process.ensures.refused e (search (rules, p, h)) n (items_of z ts) (cut_behind c.item_laws.ensures z ts rest c.beyond-rest.ensures) in
+    is_refused c.item_laws.ensures z ts c.in-Some.name.now g clash e c.requires (sym c.header_name.ensures ∙ ap option_copied c.in-Some.is)
+    (told c.item_laws.ensures z ts rest g clash c.beyond-rest.ensures c.in_ok-declared.ensures.signature c.in_ok-declared.ensures.clash)
     (subst (λ (n : ℕ). IsRefused g clash n (items_of z ts) e) (c.last_line.ensures z) refusal)
 
 pub returns-clause-accepted : goal.returns-clause-accepted
@@ -55,9 +52,9 @@ returns-clause-accepted c =
     let found = sym c.header_name.ensures ∙ ap option_copied c.in-Some.is in
     let parts = c.in_ok-file_of.ensures.parts in
     let none = c.in_ok-file_of.ensures.none in (
-      rw (parts.0, parts.1, parts.2, none.0, none.1) (is_accepted z ts c.in-Some.name.now g clash (proc c.in_ok-process.process.value) c.requires found
-          (told z ts rest g clash c.beyond-rest.ensures c.in_ok-declared.ensures)
-          (c.in_ok-process.ensures.accepted (items_of z ts) (cut_behind z ts rest c.beyond-rest.ensures))),
+      rw (parts.0, parts.1, parts.2, none.0, none.1) (is_accepted c.item_laws.ensures z ts c.in-Some.name.now g clash (proc c.in_ok-process.process.value) c.requires found
+          (told c.item_laws.ensures z ts rest g clash c.beyond-rest.ensures c.in_ok-declared.ensures.signature c.in_ok-declared.ensures.clash)
+          (c.in_ok-process.ensures.accepted (items_of z ts) (cut_behind c.item_laws.ensures z ts rest c.beyond-rest.ensures))),
       none.0,
       none.1,
     )

@@ -8,4 +8,4 @@ pub returns-else-starts-2 : goal.returns-else-starts-2
 returns-else-starts-2 c =
     let no_name : starts (codes "let") (words_of c.args.bytes.now c.args.item.now) ≡ false = sym c.starts.ensures ∙ c.if-starts.false in
     let no_process : starts (codes "process") (words_of c.args.bytes.now c.args.item.now) ≡ false = sym c.starts-else-starts.ensures ∙ c.if-starts-2.false in
-    declaration_tried c.args.sig.now c.args.bytes.now c.args.item.now c.args.entries.now c.is_declaration.result no_name no_process c.is_declaration.ensures
+    declaration_tried c.item_laws.ensures c.args.sig.now c.args.bytes.now c.args.item.now c.args.entries.now c.is_declaration.result no_name no_process c.is_declaration.ensures

@@ -1,10 +1,10 @@
 use Rattle.std.proofs.Common.{◌≡◌, ℕ, List, ◌++◌, length}
 use Rattle.std.specs.Prelude.{map}
 use Rattle.sap_read.specs.Item.{Standing, bodies}
-use Rattle.sap_read.specs.Cut.{placed}
+use Rattle.sap_grammar.specs.Cut.{placed}
 use Rattle.sap_read.specs.ItemGrammar.{AreItems, IsFaulty}
 use Rattle.sap_read.specs.code.Drafts.{body}
-use Rattle.sap_read.specs.code.ItemReading.{cut}
+use Rattle.sap_grammar.specs.ItemReading.{cut}
 use Rattle.sap_read.proofs.items.read_items.Given as goal
 
 abbrev pub invariant-loop-rest : goal.invariant-loop-rest

@@ -15,13 +15,13 @@ returns-in-None-clause-none c =
 
 pub returns-then-is_empty-clause-found : goal.returns-then-is_empty-clause-found
 returns-then-is_empty-clause-found c =
-    let is : par c.args.sig.now FILE_LIMITS MOST_PROCESS_LEVELS (words_of c.args.bytes.now c.args.tokens.now) ≡ Some ((written c.in-Some.process.value, c.in-Some.field-0-1), words_of c.args.bytes.now c.in-Some.rest.now) = rw c.in-Some.is at c.in_ok-read_par.ensures.gives in
+    let is : par c.args.sig.now FILE_LIMITS MOST_PROCESS_LEVELS (words_of c.args.bytes.now c.args.tokens.now) ≡ Some ((written c.in-Some.process.draft.value, c.in-Some.process.levels), words_of c.args.bytes.now c.in-Some.rest.now) = rw c.in-Some.is at c.in_ok-read_par.ensures.gives in
     let last : c.in-Some.rest.now ≡ [] = grind (arith, common_steps) in
-    let whole : par c.args.sig.now FILE_LIMITS MOST_PROCESS_LEVELS (words_of c.args.bytes.now c.args.tokens.now) ≡ Some ((written c.in-Some.process.value, c.in-Some.field-0-1), []) = rw last at is in
+    let whole : par c.args.sig.now FILE_LIMITS MOST_PROCESS_LEVELS (words_of c.args.bytes.now c.args.tokens.now) ≡ Some ((written c.in-Some.process.draft.value, c.in-Some.process.levels), []) = rw last at is in
     whole_is c.term_laws.ensures.read c.term_laws.ensures.spelled c.args.sig.now _ _ _ whole
 
 pub returns-else-is_empty-clause-none : goal.returns-else-is_empty-clause-none
 returns-else-is_empty-clause-none c =
-    let is : par c.args.sig.now FILE_LIMITS MOST_PROCESS_LEVELS (words_of c.args.bytes.now c.args.tokens.now) ≡ Some ((written c.in-Some.process.value, c.in-Some.field-0-1), words_of c.args.bytes.now c.in-Some.rest.now) = rw c.in-Some.is at c.in_ok-read_par.ensures.gives in
+    let is : par c.args.sig.now FILE_LIMITS MOST_PROCESS_LEVELS (words_of c.args.bytes.now c.args.tokens.now) ≡ Some ((written c.in-Some.process.draft.value, c.in-Some.process.levels), words_of c.args.bytes.now c.in-Some.rest.now) = rw c.in-Some.is at c.in_ok-read_par.ensures.gives in
     let more : c.in-Some.rest.now ≡ [] → ⊥ = λ e. absurd (grind (arith, common_steps)) in
     no_other_whole c.term_laws.ensures.read c.term_laws.ensures.spelled c.args.sig.now _ _ _ is (λ e. more (no_words c.args.bytes.now c.in-Some.rest.now e))

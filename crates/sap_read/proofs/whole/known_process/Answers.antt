@@ -4,7 +4,7 @@ use Rattle.std.specs.Global.{Box}
 use Rattle.sap_process.specs.declared.process.Process.{Process}
 use Rattle.sap_read.specs.declared.fault.ReadFault.{ReadFault}
 use Rattle.sap_read.specs.code.Drafts.{body}
-use Rattle.sap_read.proofs.Caused.{process_is, all_expanded, by_kept_size, few_levels, no_clash}
+use Rattle.sap_read.proofs.Caused.{process_is, all_expanded, by_kept_size, few_levels, few_nodes, no_clash}
 use Rattle.sap_read.proofs.whole.known_process.Goals as goal
 
 same_fault : (e f : ReadFault) → IsErrOf {T = Box Process} (Err f) e → f ≡ e
@@ -31,3 +31,7 @@ returns-in_ok-process-in-None-clause-accepted c =
           (by_kept_size es c.args.entry.now c.args.names.now c.requires.one c.requires.known c.in_ok-check_names.ensures.distinct c.requires.counted ∙ sym (rw c.deref-draft.ensures at c.size_fault.ensures) ∙ c.in-None.is),
       process_is es c.args.entry.now c.requires.one c.requires.known c.in_ok-check_names.ensures.distinct ∙ ap Some (sym (rw c.deref-draft.ensures at c.in_ok-process-in-None.ensures)),
     )
+
+pub returns-in_ok-process-in-None-clause-small : goal.returns-in_ok-process-in-None-clause-small
+returns-in_ok-process-in-None-clause-small c =
+    rw (rw c.deref-draft.ensures at c.in_ok-process-in-None.ensures) (few_nodes c.args.entries.now c.args.entry.now c.args.names.now c.requires.counted (sym (rw c.deref-draft.ensures at c.size_fault.ensures) ∙ c.in-None.is))

@@ -6,10 +6,8 @@ pub returns : goal.returns
 returns g c =
     kept
     (record {
-      faithful = λ name g p free. c.theories_show_the_process.ensures name g p [] free;
-      frees = c.well_formed_has_no_reserved_events.ensures;
-      either = c.built_or_unbuilt.ensures.one;
-      never_both = c.built_or_unbuilt.ensures.never_both;
+      faithful = λ name g p q. c.theories_show_the_process.ensures name g p q [];
+      runnable = c.files_are_runnable.ensures;
       one = c.one_file.ensures;
       some = c.some_file.ensures;
     })

@@ -1,0 +1,57 @@
+-- The first part that has a fault.
+use Rattle.std.proofs.Common.{◌≡◌, ℕ, zero, suc, ◌+◌, List, [], ◌∷◌, ◌++◌, Bool, true, false, Option, Some, None, length, drop, map, refl, ap, ◌∙◌, arith}
+use Rattle.std.specs.Prelude.{if◌then◌else◌, slice_get}
+use Rattle.sap_terms.proofs.PlainLaws.Trees.{item_le-trees_count}
+use Rattle.sap_terms.specs.Signature.{Sig}
+use Rattle.sap_terms.specs.Tree.{Tree, apply, more, trees_of, list_of-trees_of}
+use Rattle.sap_terms.specs.Choice.{Choice, instance, instances}
+use Rattle.sap_formula.specs.Checked.{enter, find_binder}
+use Rattle.sap_formula.specs.declared.binder.Binder.{Binder}
+use Rattle.sap_formula.specs.Parts.{Part, symbol, part_name, term_parts, terms_parts}
+use Rattle.sap_formula.specs.code.Tests.{first_name, has_fault, pick}
+use Rattle.sap_formula.specs.declared.fault.FormulaFlaw.{FormulaFlaw}
+
+-- the first of the two
+abbrev pub or_name : Option (List ℕ) → Option (List ℕ) → Option (List ℕ)
+or_name None o = o
+or_name (Some n) o = Some n
+
+pub first-append : (g : Sig) (r : Bool) (w : FormulaFlaw) (ps qs : List Part) → first_name g r w (ps ++ qs) ≡ or_name (first_name g r w ps) (first_name g r w qs)
+first-append g r w [] qs = refl
+first-append g r w (p ∷ ps) qs = at (has_fault g r w p) (first-append g r w ps qs) where
+  at : (b : Bool) → first_name g r w (ps ++ qs) ≡ or_name (first_name g r w ps) (first_name g r w qs) → (if b then Some (part_name p) else first_name g r w (ps ++ qs)) ≡ or_name (if b then Some (part_name p) else first_name g r w ps) (first_name g r w qs)
+  at true e = refl
+  at false e = e
+
+pub find-picks : (bs scope : List Binder) (n : List ℕ) → find_binder (enter bs scope) n ≡ pick (find_binder scope n) bs n
+find-picks [] scope n = refl
+find-picks (b ∷ bs) scope n = find-picks bs (b ∷ scope) n
+
+pub ruleset pick_laws = (find-picks)
+
+pub or-none : (o : Option (List ℕ)) → or_name o None ≡ o
+or-none None = refl
+or-none (Some n) = refl
+
+-- a symbol before its terms
+pub first-apply : (g : Sig) (r : Bool) (w : FormulaFlaw) (scope : List Binder) (f : List ℕ) (ts : List Tree) → first_name g r w (term_parts scope (apply f (trees_of ts))) ≡ (if has_fault g r w (symbol f (length ts)) then Some f else first_name g r w (terms_parts scope (trees_of ts)))
+first-apply g r w scope f ts = ap (λ (us : List Tree). if has_fault g r w (symbol f (length us)) then Some f else first_name g r w (terms_parts scope (trees_of ts))) (list_of-trees_of ts)
+
+-- the terms from time k on
+pub first-from : (g : Sig) (r : Bool) (w : FormulaFlaw) (scope : List Binder) (ts : List Tree) (k : ℕ) (t : Tree) → slice_get ts k ≡ Some t → first_name g r w (terms_parts scope (trees_of (drop k ts))) ≡ or_name (first_name g r w (term_parts scope t)) (first_name g r w (terms_parts scope (trees_of (drop (k + 1) ts))))
+first-from g r w scope [] k t e = absurd (cc)
+first-from g r w scope (u ∷ ts) zero t e =
+    let same : u ≡ t = cc in
+    first-append g r w (term_parts scope u) (terms_parts scope (trees_of ts)) ∙ ap (λ (x : Tree). or_name (first_name g r w (term_parts scope x)) (first_name g r w (terms_parts scope (trees_of ts)))) same
+first-from g r w scope (u ∷ ts) (suc k) t e =
+    let n : suc k + 1 ≡ suc (k + 1) = omega arith in rw n (first-from g r w scope ts k t e)
+
+pub ruleset first_laws = (first-append, first-apply, or-none, item_le-trees_count)
+
+pub ruleset list_laws = (item_le-trees_count)
+
+pub instances-trees_of : (σ : Choice) (ts : List Tree) → instances σ (trees_of ts) ≡ trees_of (map (instance σ) ts)
+instances-trees_of σ [] = refl
+instances-trees_of σ (t ∷ ts) = ap (more (instance σ t)) (instances-trees_of σ ts)
+
+pub ruleset sort_laws = (instances-trees_of, item_le-trees_count)

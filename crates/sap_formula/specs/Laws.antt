@@ -1,0 +1,60 @@
+-- The laws of checked formulas.
+use Rattle.std.specs.Prelude.{◌≡◌, ℕ, Bool, true, false, ◌↔◌, List, []}
+use Rattle.sap_formula.specs.Checked.{BindsOnce, IsChecked}
+use Rattle.sap_formula.specs.Faults.{HasNoFault, IsFirstFault}
+use Rattle.sap_formula.specs.Form.{Form}
+use Rattle.sap_formula.specs.Hide.{hide, is_hidden}
+use Rattle.sap_formula.specs.Slim.{slim}
+use Rattle.sap_formula.specs.Sorted.{with_sorts}
+use Rattle.sap_formula.specs.Subterms.{IsSeenMessage}
+use Rattle.sap_formula.specs.Times.{IsTime}
+use Rattle.sap_formula.specs.Truth.{IsTrueOn, IsTrueUnder}
+use Rattle.sap_formula.specs.declared.fault.FormulaFlaw.{FormulaFlaw}
+use Rattle.sap_terms.specs.Equations.{equations}
+use Rattle.sap_terms.specs.Message.{IsMessageTrace}
+use Rattle.sap_terms.specs.Signature.{Sig}
+use Rattle.sap_terms.specs.Trace.{Trace}
+use Rattle.sap_terms.specs.Tree.{variable}
+
+-- the names of facts that a check allows: where reserved ones are looked for, those that aren't hidden
+abbrev pub Allowed : Bool → List ℕ → Type 0
+Allowed true n = is_hidden n ≡ false
+Allowed false n = Unit {0}
+
+-- checked and closed, whatever the names of its facts
+abbrev pub IsClosed : Sig → Form → Type 0
+IsClosed g f = IsChecked g (Allowed false) [] f
+
+-- checked and closed, and no fact of it is hidden
+abbrev pub IsCheckedVisible : Sig → Form → Type 0
+IsCheckedVisible g f = IsChecked g (Allowed true) [] f
+
+-- message variables may range over the subterms of the trace's facts alone
+abbrev pub SubtermLaw : Type 0
+SubtermLaw =
+    (g : Sig) (f : Form) (tr : Trace) → IsMessageTrace g tr → IsClosed g f → BindsOnce f → IsTrueOn g f tr ↔ IsTrueUnder (equations g) tr (IsSeenMessage g tr) (IsTime tr) f (λ v. variable v) (λ n. 0)
+
+-- a binder that a later one of its quantifier hides doesn't change truth
+abbrev pub HiddenBinderLaw : Type 0
+HiddenBinderLaw = (g : Sig) (f : Form) (tr : Trace) → IsClosed g f → IsTrueOn g f tr ↔ IsTrueOn g (slim f) tr
+
+-- hiding keeps the truth of a formula that doesn't speak of what is hidden
+abbrev pub HideLaw : Type 0
+HideLaw = (g : Sig) (f : Form) (tr : Trace) → IsMessageTrace g tr → IsCheckedVisible g f → IsTrueOn g f tr ↔ IsTrueOn g f (hide tr)
+
+-- a formula without a fault is checked once it has the sorts of its binders
+abbrev pub CheckLaw : Type 0
+CheckLaw = (g : Sig) (r : Bool) (f : Form) → HasNoFault g r f → IsChecked g (Allowed r) [] (with_sorts [] f)
+
+-- what was checked is closed, whatever names of facts it allows
+abbrev pub ClosedLaw : Type 0
+ClosedLaw = (g : Sig) (r : Bool) (f : Form) → IsChecked g (Allowed r) [] f → IsClosed g f
+
+-- one fault counts, with one name
+abbrev pub OneFaultLaw : Type 0
+OneFaultLaw =
+    (g : Sig) (r : Bool) (f : Form) (w v : FormulaFlaw) (name other : List ℕ) → IsFirstFault g r f w name → IsFirstFault g r f v other → (w ≡ v) × (name ≡ other)
+
+-- and then the formula isn't without a fault
+abbrev pub NoFaultLaw : Type 0
+NoFaultLaw = (g : Sig) (r : Bool) (f : Form) (w : FormulaFlaw) (name : List ℕ) → IsFirstFault g r f w name → HasNoFault g r f → ⊥

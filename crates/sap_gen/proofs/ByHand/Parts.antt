@@ -1,0 +1,110 @@
+-- What it takes to follow a small process by hand: it is sound by its parts, and its rules show what it shows.
+use Rattle.std.proofs.Common.{◌≡◌, ℕ, zero, suc, List, [], ◌∷◌, ◌++◌, Some, refl, subst}
+use Rattle.sap_terms.specs.Choice.{Choice}
+use Rattle.sap_terms.specs.Equal.{IsTheoryEqual}
+use Rattle.sap_terms.specs.Equations.{equations}
+use Rattle.sap_terms.specs.Message.{IsMessage, IsMessageChoice}
+use Rattle.sap_terms.specs.Normal.{IsNormalForm}
+use Rattle.sap_terms.specs.Signature.{Sig, HoldsBuiltins}
+use Rattle.sap_terms.specs.Tree.{Tree, public, fresh}
+use Rattle.sap_terms.specs.Deduce.{IsDerived}
+use Rattle.sap_terms.specs.declared.var.Sort.{Sort}
+use Rattle.sap_terms.specs.declared.var.Sort.TheVariants.{Msg, Fresh, Pub}
+use Rattle.sap_terms.specs.declared.var.Var.{Var}
+use Rattle.sap_locks.specs.Scopes.{scope_behind}
+use Rattle.sap_process.specs.Configuration.{Config, CanGive}
+use Rattle.sap_process.specs.Proc as whole
+use Rattle.sap_process.specs.Proc.{Proc, act}
+use Rattle.sap_process.specs.Sites.{message_var}
+use Rattle.sap_gen.specs.Faithful.{ShowsAll, ShowsOnly}
+use Rattle.sap_gen.specs.OpenLocks.{UnlocksAreOpen}
+use Rattle.sap_gen.specs.Places.{ScopedPlace, scoped_place_at}
+use Rattle.sap_gen.specs.Sound.{SoundAt, IsSound}
+use Rattle.sap_gen.specs.Templates.{rules_of}
+use Rattle.sap_gen.specs.relation.Spelled.{IsProcessOver}
+use Rattle.sap_gen.proofs.Premises.LowerLaws.{Laws}
+use Rattle.sap_gen.proofs.Premises.Messages.{tidy_run}
+use Rattle.sap_gen.proofs.Premises.Spelled.{rules_over}
+use Rattle.sap_gen.proofs.ProcessToRules.Forward.{shows_all}
+use Rattle.sap_gen.proofs.RulesToProcess.Back.{shows_only}
+use Rattle.sap_gen.proofs.Restricted.Truth.{truth_from, truth_to}
+
+-- each part is sound
+abbrev pub SoundParts : Sig → List Var → Proc → Type 0
+SoundParts g v whole.nil = Unit {0}
+SoundParts g v (whole.parallel p q) = SoundParts g v p × SoundParts g v q
+SoundParts g v (whole.replicated p) = SoundParts g v p
+SoundParts g v (act a p) = SoundAt g v (act a p) × SoundParts g (scope_behind v a) p
+SoundParts g v (whole.test m n p q) = SoundAt g v (whole.test m n p q) × SoundParts g v p × SoundParts g v q
+SoundParts g v (whole.lookup m x p q) = SoundAt g v (whole.lookup m x p q) × SoundParts g (v ++ message_var x ∷ []) p × SoundParts g v q
+
+abbrev spot : List Var → Proc → ScopedPlace
+spot v p = record { scope = v; body = p }
+
+sound_here : (g : Sig) (v : List Var) (p : Proc) → SoundParts g v p → SoundAt g v p
+sound_here g v whole.nil h = tt
+sound_here g v (whole.parallel p q) h = tt
+sound_here g v (whole.replicated p) h = tt
+sound_here g v (act a p) h = h.0
+sound_here g v (whole.test m n p q) h = h.0
+sound_here g v (whole.lookup m x p q) h = h.0
+
+parts_sound : (g : Sig) (v : List Var) (p : Proc) → SoundParts g v p → (path : List ℕ) (w : List Var) (b : Proc) → scoped_place_at (Some (spot v p)) path ≡ Some (spot w b) → SoundAt g w b
+parts_sound g v p h [] w b e = subst (λ (z : ScopedPlace). SoundAt g z.scope z.body) (let z : spot v p ≡ spot w b = cc in z) (sound_here g v p h)
+parts_sound g v p h (zero ∷ path) w b e = absurd (cc)
+parts_sound g v (whole.nil) h (suc zero ∷ path) w b e = absurd (cc)
+parts_sound g v (whole.parallel p q) h (suc zero ∷ path) w b e = parts_sound g v p h.0 path w b e
+parts_sound g v (whole.replicated p) h (suc zero ∷ path) w b e = parts_sound g v p h path w b e
+parts_sound g v (act a p) h (suc zero ∷ path) w b e = parts_sound g (scope_behind v a) p h.1 path w b e
+parts_sound g v (whole.test m n p q) h (suc zero ∷ path) w b e = parts_sound g v p h.1 path w b e
+parts_sound g v (whole.lookup m x p q) h (suc zero ∷ path) w b e = parts_sound g (v ++ message_var x ∷ []) p h.1 path w b e
+parts_sound g v (whole.nil) h (suc (suc zero) ∷ path) w b e = absurd (cc)
+parts_sound g v (whole.parallel p q) h (suc (suc zero) ∷ path) w b e = parts_sound g v q h.1 path w b e
+parts_sound g v (whole.replicated p) h (suc (suc zero) ∷ path) w b e = absurd (cc)
+parts_sound g v (act a p) h (suc (suc zero) ∷ path) w b e = absurd (cc)
+parts_sound g v (whole.test m n p q) h (suc (suc zero) ∷ path) w b e = parts_sound g v q h.2 path w b e
+parts_sound g v (whole.lookup m x p q) h (suc (suc zero) ∷ path) w b e = parts_sound g v q h.2 path w b e
+parts_sound g v p h (suc (suc (suc d)) ∷ path) w b e = absurd (cc)
+
+pub sound_by_parts : (g : Sig) (p : Proc) → SoundParts g [] p → UnlocksAreOpen [] p → IsSound g p
+sound_by_parts g p h locks = (parts_sound g [] p h, locks)
+
+-- the rules of a sound process over the signature show what it shows
+pub rules_show : (laws : Laws) → (g : Sig) (p : Proc) → HoldsBuiltins g → IsSound g p → IsProcessOver g p → ShowsAll g p (rules_of p)
+rules_show laws g p hold sound over tr t =
+    let w = (shows_all laws) g p hold sound tr t in
+    let tidy = (tidy_run laws) hold (rules_over g p over) w.2 in
+    (w.1, (w.0, w.2), truth_from laws.admitted g w.1 tidy w.3, w.4)
+
+-- and nothing else
+pub rules_show_only : (laws : Laws) → (g : Sig) (p : Proc) → HoldsBuiltins g → IsSound g p → IsProcessOver g p → ShowsOnly g p (rules_of p)
+rules_show_only laws g p hold sound over tr w =
+    let tidy = (tidy_run laws) hold (rules_over g p over) w.1.1 in
+    (shows_only laws) g p hold sound tr (w.1.0, w.0, w.1.1, truth_to laws.admitted g w.0 tidy w.2, w.3)
+
+-- a public name is its own normal form, and the adversary can give it
+pub own_form : (laws : Laws) → (g : Sig) (n : List ℕ) → IsNormalForm (equations g) (public n) (public n)
+own_form laws g n = record { equal = IsTheoryEqual.same; normal = laws.leaves.of_public_name (equations g) n }
+
+pub gives_name : (laws : Laws) → (g : Sig) (c : Config) (n : List ℕ) → CanGive g c (public n)
+gives_name laws g c n = record {
+  deducible = record { form = public n; is_form = (own_form laws) g n; earlier = []; derivation = (IsDerived.a_public n refl, tt) };
+  normal = laws.leaves.of_public_name (equations g) n;
+}
+
+-- each variable stands for this public name, or for a fresh name where it has that sort
+abbrev pub name_for : List ℕ → Sort → Tree
+name_for n Msg = public n
+name_for n Fresh = fresh 0
+name_for n Pub = public n
+
+abbrev pub all_named : List ℕ → Choice
+all_named n v = name_for n v.sort
+
+name_message : (laws : Laws) → (g : Sig) (n : List ℕ) (s : Sort) → IsMessage g s (name_for n s)
+name_message laws g n Msg = record { ground = tt; over = tt; normal = laws.leaves.of_public_name (equations g) n; sorted = refl }
+name_message laws g n Fresh = record { ground = tt; over = tt; normal = laws.leaves.of_fresh_name (equations g) 0; sorted = refl }
+name_message laws g n Pub = record { ground = tt; over = tt; normal = laws.leaves.of_public_name (equations g) n; sorted = refl }
+
+pub names_messages : (laws : Laws) → (g : Sig) (n : List ℕ) → IsMessageChoice g (all_named n)
+names_messages laws g n v = (name_message laws) g n v.sort

@@ -1,0 +1,5 @@
+pub mod Totals
+pub mod Lookups
+pub mod FactLists
+pub mod Takings
+pub mod Bags

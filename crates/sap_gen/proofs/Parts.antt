@@ -1,0 +1,12 @@
+pub mod Facts
+pub mod Places
+pub mod Owner
+pub mod Control
+pub mod LockPart
+pub mod Holders
+pub mod Users
+pub mod Parts
+pub mod Tidy
+pub mod Kept
+pub mod Embed
+pub mod KeptLocks

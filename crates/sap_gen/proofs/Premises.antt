@@ -1,0 +1,11 @@
+pub mod LowerLaws
+pub mod Sorting
+pub mod Sound
+pub mod Annotations
+pub mod Spelled
+pub mod Messages
+pub mod RuleNames
+pub mod OwnNames
+pub mod OneSort
+pub mod WellMade
+pub mod LeftsOver

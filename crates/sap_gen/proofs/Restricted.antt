@@ -1,0 +1,4 @@
+pub mod Truth
+pub mod Seen
+pub mod Needed
+pub mod Suffices

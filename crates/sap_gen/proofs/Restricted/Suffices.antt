@@ -1,0 +1,18 @@
+-- All seven restrictions are true where those that are needed are.
+use Rattle.sap_gen.proofs.Premises.LowerLaws.{Laws}
+use Rattle.std.specs.Prelude.{◌↔◌}
+use Rattle.sap_terms.specs.Signature.{Sig}
+use Rattle.sap_terms.specs.Trace.{Trace}
+use Rattle.sap_process.specs.Proc.{Proc}
+use Rattle.sap_process.specs.Ready.{IsReady}
+use Rattle.sap_locks.specs.Annotation.{IsAnnotation}
+use Rattle.sap_restrict.specs.Restrictions.{needed_restrictions}
+use Rattle.sap_restrict.specs.Standard.{IsAdmitted}
+use Rattle.sap_rule.specs.RuleSteps.{IsFullTrace}
+use Rattle.sap_gen.specs.Faithful.{AreRestrictionsTrue}
+use Rattle.sap_gen.specs.Templates.{rules_of}
+use Rattle.sap_gen.proofs.Restricted.Needed.{needed_to, needed_from}
+use Rattle.sap_gen.proofs.Restricted.Seen.{ready_over}
+
+pub needed_as_all : (laws : Laws) → (g : Sig) (p q : Proc) (full : Trace) → IsReady g p → IsAnnotation p q → IsFullTrace g (rules_of q) full → AreRestrictionsTrue g (needed_restrictions q) full ↔ IsAdmitted g full
+needed_as_all laws g p q full ready h run = ((needed_to laws) g q run.0 full (ready_over g p q ready h) run.1, (needed_from laws) g q run.0 full (ready_over g p q ready h) run.1)

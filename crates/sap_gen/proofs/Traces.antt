@@ -1,0 +1,6 @@
+pub mod Visible
+pub mod Inputs
+pub mod Store
+pub mod LockTraces
+pub mod Demands
+pub mod Private

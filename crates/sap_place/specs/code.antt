@@ -1,0 +1,2 @@
+-- What the code's own proofs speak of.
+pub mod Below

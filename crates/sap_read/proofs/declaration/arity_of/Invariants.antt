@@ -1,7 +1,0 @@
-use Rattle.std.proofs.Common.{◌≡◌, ◌≤◌, drop}
-use Rattle.sap_read.specs.ItemGrammar.{value, value_from}
-use Rattle.sap_read.proofs.declaration.arity_of.Given as goal
-use Rattle.sap_terms.specs.declared.limits.TheConstants.{MOST_ARITY}
-
-abbrev pub invariant-loop-digit : goal.invariant-loop-digit
-invariant-loop-digit l = (l.arity ≤ MOST_ARITY) × (value l.digits ≡ value_from l.arity (drop l.digit-index l.digits))

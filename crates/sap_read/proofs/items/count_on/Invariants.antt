@@ -1,7 +1,0 @@
-use Rattle.std.proofs.Common.{◌≡◌, ◌+◌, drop}
-use Rattle.sap_read.specs.Cut.{placed}
-use Rattle.sap_read.specs.code.ItemReading.{count_on}
-use Rattle.sap_read.proofs.items.count_on.Given as goal
-
-abbrev pub invariant-loop-k : goal.invariant-loop-k
-invariant-loop-k l = count_on (placed l.bytes l.tokens) ≡ l.k + count_on (placed l.bytes (drop l.k l.tokens))

@@ -1,0 +1,15 @@
+pub mod Elements
+pub mod Shown
+pub mod Meaning
+pub mod Quiets
+pub mod Admissions
+pub mod ByHand
+pub mod Longer
+pub mod Steps
+pub mod Lasts
+pub mod Passing
+pub mod Nexts
+pub mod Telling
+pub mod Maps
+pub mod Inlines
+pub mod Singles

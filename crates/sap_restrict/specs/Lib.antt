@@ -1,0 +1,14 @@
+pub mod ReservedFacts
+pub mod Shown
+pub mod Standard
+pub mod Sentences
+pub mod Quiet
+pub mod Needed
+pub mod Restrictions
+pub mod Examples
+pub mod Laws
+pub mod Stands
+pub mod View
+pub mod code
+pub mod Answer
+pub mod Inline

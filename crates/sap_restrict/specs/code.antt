@@ -1,0 +1,3 @@
+-- Mirrors of code.
+pub mod Deeds
+pub mod Machines

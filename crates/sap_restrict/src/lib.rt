@@ -1,0 +1,25 @@
+//! The seven restrictions of a theory: which a process needs, what they say, and the guard that keeps a trace within them.
+#![tactic(auto)]
+
+mod choosing;
+mod formulas;
+mod guard;
+mod inlining;
+mod laws;
+mod parts;
+mod restrictions;
+mod term_map;
+mod times;
+mod uses;
+mod which;
+
+pub use choosing::needed;
+pub use formulas::standard;
+pub use guard::{Admit, Guard};
+pub use inlining::inline;
+pub use laws::{
+    inlining_keeps_lemmas, needed_by_hand, restrictions_by_hand, restrictions_say_sentences,
+};
+pub use restrictions::{needed_restrictions, restriction};
+pub use times::has_one_reserved;
+pub use which::{Which, WhichList};
