@@ -11,7 +11,7 @@ use Rattle.sap_process.specs.Proc as whole
 use Rattle.sap_process.specs.Proc.{Proc, act}
 use Rattle.sap_gen.specs.Scoped.{Within, AllWithin, FactsWithin, IsFree, AreUnreserved}
 use Rattle.sap_gen.specs.OpenLocks.{IsUnusedIn, UnlocksAreOpen}
-use Rattle.sap_gen.specs.Places.{scoped_place_at, root}
+use Rattle.sap_gen.specs.Places.{ScopedPlace, scoped_place_at, root}
 use Rattle.sap_place.specs.StateFacts.{tag}
 use Rattle.sap_locks.specs.Scopes.{lock_var, scope_behind}
 
@@ -43,7 +43,7 @@ SoundAt g v (whole.lookup m x p q) = Within v m × IsFree x v
 
 -- and at each place
 abbrev pub SoundPlaces : Sig → Proc → Type 0
-SoundPlaces g start = (path : List ℕ) (v : List Var) (p : Proc) → scoped_place_at (root start) path ≡ Some (record { scope = v; body = p }) → SoundAt g v p
+SoundPlaces g start = (path : List ℕ) (a : ScopedPlace) → scoped_place_at (root start) path ≡ Some a → SoundAt g a.above a.body
 
 -- and each unlock is of a lock that is open; those that are open at a parallel or a replication stay so below it
 abbrev pub IsSound : Sig → Proc → Type 0

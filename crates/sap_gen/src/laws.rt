@@ -1,11 +1,14 @@
 //! Laws of the rules of a process, as contracts of functions that only call the laws below.
-ghost use Rattle.std.specs.Prelude.{[], All, Contains, List, Some, ◌<◌, ◌^◌, ◌≡◌, ◌↔◌, ℕ};
+ghost use Rattle.std.specs.List.{flat_map};
+ghost use Rattle.std.specs.Prelude.{[], All, Contains, List, Some, ◌<◌, ◌^◌, ◌≡◌, ◌∷◌, ◌↔◌, ℕ};
 ghost use Rattle.sap_formula.specs.Form.{LemmaForm};
 ghost use Rattle.sap_gen.specs.Faithful.{AreRestrictionsTrue, IsFaithful, ShowsAll, ShowsOnly};
+ghost use Rattle.sap_gen.specs.Places.{ScopedPlace, scope_handed_down};
 ghost use Rattle.sap_gen.specs.Sound.{IsSound};
-ghost use Rattle.sap_gen.specs.Templates.{own_rules, rules_of};
+ghost use Rattle.sap_gen.specs.Templates.{init_rule, own_rules, rules_of};
 ghost use Rattle.sap_gen.specs.Theories.{theory_of};
 ghost use Rattle.sap_locks.specs.Annotation.{IsAnnotation};
+ghost use Rattle.sap_process.specs.Places.{places};
 ghost use Rattle.sap_process.specs.Proc.{Proc, node_count};
 ghost use Rattle.sap_process.specs.Ready.{IsReady};
 ghost use Rattle.sap_restrict.specs.Restrictions.{needed_restrictions};
@@ -61,6 +64,13 @@ pub fn theories_show_the_process()
     instances_of_processes();
     restrictions_say_sentences();
 }
+
+/// A law: the rules of a process are the rule that starts it and, in preorder, those of its places, each with the variables that
+/// are in scope there.
+pub fn rules_go_by_places()
+    ensures rules { (p : Proc) → rules_of p
+        ≡ init_rule ∷ flat_map (λ (a : ScopedPlace). own_rules a.path a.above a.body) (places scope_handed_down [] p) }
+{}
 
 /// A law: rules of one name are of one place.
 pub fn rules_name_their_places()

@@ -1,9 +1,10 @@
-//! Formulas, checked and judged.
+//! Formulas, checked, judged, and with restrictions that they carry.
 use crate::formulas::{formula, push_formula};
 use crate::notation::{ground_facts, part, written};
 use crate::page::{Page, Show};
-use crate::theories::begin;
-use sap_formula::{Formula, FormulaFault, Verdict, check, judge};
+use crate::theories::{add_restriction, begin, mode_of};
+use sap_formula::{Formula, FormulaFault, Mode, Verdict, check, judge};
+use sap_restrict::inline;
 use sap_rule::Theory;
 use sap_terms::{Signature, Trace};
 use std::str;
@@ -82,6 +83,29 @@ pub fn judgements_row(page: &mut Page, t: &mut Theory, row: &str) {
     let trace = trace(page, &t.signature, part(row, 0));
     match formula(page, &t.signature, part(row, 1)) {
         Some(f) => page.show(judge(page.alloc, &f, &trace).ok()),
+        None => page.fail(),
+    }
+}
+
+// The formula that carries the theory's restrictions.
+fn inlined(page: &mut Page, t: &Theory, mode: Mode, f: &Formula) -> Option<Box<Formula>> {
+    let formula = inline(page.alloc, &t.restrictions, mode, f).ok();
+    page.boxed(formula)
+}
+
+fn show_inlined(page: &mut Page, t: &mut Theory, mode: Mode, f: &Formula) {
+    let formula = inlined(page, t, mode, f);
+    push_formula(page, t, formula);
+}
+
+/// `all` or `some`, the words of restrictions with bars between them, the words of a formula, and the formula that carries them.
+pub fn inlines_row(page: &mut Page, t: &mut Theory, row: &str) {
+    begin(page, t, "");
+    for words in part(row, 1).split('|') {
+        add_restriction(page, t, "r", words.trim());
+    }
+    match formula(page, &t.signature, part(row, 2)) {
+        Some(f) => show_inlined(page, t, mode_of(part(row, 0)), &f),
         None => page.fail(),
     }
 }

@@ -38,6 +38,7 @@ fn push_found_above(page: &mut Page, desk: &mut Desk, table: &str, row: &str) {
         "formulas" => formulas::formulas_row(page, &mut desk.theory, row),
         "checks" => judgements::checks_row(page, &mut desk.theory, row),
         "guards" => guards::guards_row(page, &mut desk.theory, row),
+        "inlines" => judgements::inlines_row(page, &mut desk.theory, row),
         "judgements" => judgements::judgements_row(page, &mut desk.theory, row),
         "theories" => theories::theories_row(page, &mut desk.theory, row),
         "files" => files::files_row(page, &desk.signature, row),

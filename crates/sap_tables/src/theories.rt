@@ -30,11 +30,20 @@ fn restriction(name: Option<Name>, formula: Option<Box<Formula>>) -> Option<Rest
     })
 }
 
-fn add_restriction(page: &mut Page, t: &mut Theory, title: &str, words: &str) -> u64 {
+/// Adds to the theory a restriction of a name and the words of a formula.
+pub fn add_restriction(page: &mut Page, t: &mut Theory, title: &str, words: &str) -> u64 {
     let formula = formula(page, &t.signature, words);
     let restriction = restriction(name(page.alloc, title), formula);
     page.put(&mut t.restrictions, restriction);
     t.restrictions.len()
+}
+
+/// The mode of lemmas, `all` or `some`.
+pub fn mode_of(word: &str) -> Mode {
+    match word {
+        "all" => Mode::AllTraces,
+        _ => Mode::ExistsTrace,
+    }
 }
 
 fn lemma(
@@ -48,10 +57,7 @@ fn lemma(
     Some(Lemma {
         name,
         attributes: list(page, ' ', attributes),
-        mode: match mode {
-            "all" => Mode::AllTraces,
-            _ => Mode::ExistsTrace,
-        },
+        mode: mode_of(mode),
         formula: Box::into_inner(formula),
     })
 }

@@ -19,8 +19,9 @@ use Rattle.sap_process.specs.Sites.{message_var}
 use Rattle.sap_gen.specs.Faithful.{ShowsAll, ShowsOnly}
 use Rattle.sap_gen.specs.OpenLocks.{UnlocksAreOpen}
 use Rattle.sap_gen.specs.Places.{ScopedPlace, scoped_place_at}
+use Rattle.sap_process.specs.Places.{place}
 use Rattle.sap_gen.specs.Sound.{SoundAt, IsSound}
-use Rattle.sap_gen.specs.Templates.{rules_of}
+use Rattle.sap_gen.specs.Templates.{first_of, rules_of, second_of}
 use Rattle.sap_gen.specs.relation.Spelled.{IsProcessOver}
 use Rattle.sap_gen.proofs.Premises.LowerLaws.{Laws}
 use Rattle.sap_gen.proofs.Premises.Messages.{tidy_run}
@@ -38,9 +39,6 @@ SoundParts g v (act a p) = SoundAt g v (act a p) × SoundParts g (scope_behind v
 SoundParts g v (whole.test m n p q) = SoundAt g v (whole.test m n p q) × SoundParts g v p × SoundParts g v q
 SoundParts g v (whole.lookup m x p q) = SoundAt g v (whole.lookup m x p q) × SoundParts g (v ++ message_var x ∷ []) p × SoundParts g v q
 
-abbrev spot : List Var → Proc → ScopedPlace
-spot v p = record { scope = v; body = p }
-
 sound_here : (g : Sig) (v : List Var) (p : Proc) → SoundParts g v p → SoundAt g v p
 sound_here g v whole.nil h = tt
 sound_here g v (whole.parallel p q) h = tt
@@ -49,25 +47,25 @@ sound_here g v (act a p) h = h.0
 sound_here g v (whole.test m n p q) h = h.0
 sound_here g v (whole.lookup m x p q) h = h.0
 
-parts_sound : (g : Sig) (v : List Var) (p : Proc) → SoundParts g v p → (path : List ℕ) (w : List Var) (b : Proc) → scoped_place_at (Some (spot v p)) path ≡ Some (spot w b) → SoundAt g w b
-parts_sound g v p h [] w b e = subst (λ (z : ScopedPlace). SoundAt g z.scope z.body) (let z : spot v p ≡ spot w b = cc in z) (sound_here g v p h)
-parts_sound g v p h (zero ∷ path) w b e = absurd (cc)
-parts_sound g v (whole.nil) h (suc zero ∷ path) w b e = absurd (cc)
-parts_sound g v (whole.parallel p q) h (suc zero ∷ path) w b e = parts_sound g v p h.0 path w b e
-parts_sound g v (whole.replicated p) h (suc zero ∷ path) w b e = parts_sound g v p h path w b e
-parts_sound g v (act a p) h (suc zero ∷ path) w b e = parts_sound g (scope_behind v a) p h.1 path w b e
-parts_sound g v (whole.test m n p q) h (suc zero ∷ path) w b e = parts_sound g v p h.1 path w b e
-parts_sound g v (whole.lookup m x p q) h (suc zero ∷ path) w b e = parts_sound g (v ++ message_var x ∷ []) p h.1 path w b e
-parts_sound g v (whole.nil) h (suc (suc zero) ∷ path) w b e = absurd (cc)
-parts_sound g v (whole.parallel p q) h (suc (suc zero) ∷ path) w b e = parts_sound g v q h.1 path w b e
-parts_sound g v (whole.replicated p) h (suc (suc zero) ∷ path) w b e = absurd (cc)
-parts_sound g v (act a p) h (suc (suc zero) ∷ path) w b e = absurd (cc)
-parts_sound g v (whole.test m n p q) h (suc (suc zero) ∷ path) w b e = parts_sound g v q h.2 path w b e
-parts_sound g v (whole.lookup m x p q) h (suc (suc zero) ∷ path) w b e = parts_sound g v q h.2 path w b e
-parts_sound g v p h (suc (suc (suc d)) ∷ path) w b e = absurd (cc)
+parts_sound : (g : Sig) (at : List ℕ) (v : List Var) (p : Proc) → SoundParts g v p → (path : List ℕ) (b : ScopedPlace) → scoped_place_at (Some (place at v p)) path ≡ Some b → SoundAt g b.above b.body
+parts_sound g at v p h [] b e = subst (λ (z : ScopedPlace). SoundAt g z.above z.body) (let z : place at v p ≡ b = cc in z) (sound_here g v p h)
+parts_sound g at v p h (zero ∷ path) b e = absurd (cc)
+parts_sound g at v (whole.nil) h (suc zero ∷ path) b e = absurd (cc)
+parts_sound g at v (whole.parallel p q) h (suc zero ∷ path) b e = parts_sound g (first_of at) v p h.0 path b e
+parts_sound g at v (whole.replicated p) h (suc zero ∷ path) b e = parts_sound g (first_of at) v p h path b e
+parts_sound g at v (act a p) h (suc zero ∷ path) b e = parts_sound g (first_of at) (scope_behind v a) p h.1 path b e
+parts_sound g at v (whole.test m n p q) h (suc zero ∷ path) b e = parts_sound g (first_of at) v p h.1 path b e
+parts_sound g at v (whole.lookup m x p q) h (suc zero ∷ path) b e = parts_sound g (first_of at) (v ++ message_var x ∷ []) p h.1 path b e
+parts_sound g at v (whole.nil) h (suc (suc zero) ∷ path) b e = absurd (cc)
+parts_sound g at v (whole.parallel p q) h (suc (suc zero) ∷ path) b e = parts_sound g (second_of at) v q h.1 path b e
+parts_sound g at v (whole.replicated p) h (suc (suc zero) ∷ path) b e = absurd (cc)
+parts_sound g at v (act a p) h (suc (suc zero) ∷ path) b e = absurd (cc)
+parts_sound g at v (whole.test m n p q) h (suc (suc zero) ∷ path) b e = parts_sound g (second_of at) v q h.2 path b e
+parts_sound g at v (whole.lookup m x p q) h (suc (suc zero) ∷ path) b e = parts_sound g (second_of at) v q h.2 path b e
+parts_sound g at v p h (suc (suc (suc d)) ∷ path) b e = absurd (cc)
 
 pub sound_by_parts : (g : Sig) (p : Proc) → SoundParts g [] p → UnlocksAreOpen [] p → IsSound g p
-sound_by_parts g p h locks = (parts_sound g [] p h, locks)
+sound_by_parts g p h locks = (parts_sound g [] [] p h, locks)
 
 -- the rules of a sound process over the signature show what it shows
 pub rules_show : (laws : Laws) → (g : Sig) (p : Proc) → HoldsBuiltins g → IsSound g p → IsProcessOver g p → ShowsAll g p (rules_of p)

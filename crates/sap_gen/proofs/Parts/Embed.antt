@@ -19,6 +19,7 @@ use Rattle.sap_gen.specs.ChannelFacts.{fresh_fact}
 use Rattle.sap_gen.specs.relation.Relation.{Agent, running, process_of, IsAt, count_live, count_owed, count_user, count_fact, count_tag, is_unborn, has_init, Related, TracePart, StorePart}
 use Rattle.sap_place.specs.StateFacts.{state_fact}
 use Rattle.sap_gen.specs.Places.{scoped_place_at, root}
+use Rattle.sap_process.specs.Places.{place}
 use Rattle.sap_gen.specs.Templates.{first_of, embedded_acts}
 use Rattle.sap_locks.specs.Scopes.{with_new}
 use Rattle.sap_process.specs.Configuration.{Config, becomes}
@@ -67,7 +68,7 @@ module _ (sig : Sig) (start : Proc) (agents : List (Option Agent)) (c : Config) 
       let state : Fact = state_fact (first_of path) (values (join env τ)) in
       record {
         placed = placed_set sig start agents t (running (first_of path) (join env τ) p) r.placed
-            (subst (λ v. scoped_place_at (root start) (first_of path) ≡ Some (record { scope = v; body = p })) scope (spot_below (root start) path 1 (record { scope = names env; body = b }) (record { scope = with_new (names env) (facts_vars (l ++ (a ++ o))); body = p }) here.0 refl), good-append sig env τ here.1 good new_free);
+            (subst (λ v. scoped_place_at (root start) (first_of path) ≡ Some (place (first_of path) v p)) scope (spot_below (root start) path 1 (place path (names env) b) (place (first_of path) (with_new (names env) (facts_vars (l ++ (a ++ o)))) p) here.0 refl), good-append sig env τ here.1 good new_free);
         threads = ap (λ ts. slice_set ts t (Some q)) r.threads ∙ sym (map-set (option_map process_of) agents t new);
         facts = λ test. let owed = total-set (count_owed test) agents t (Some (running path env b)) new e in let live = takes_total (count_live test) refl takes in let more = total-append (count_live test) rest (map (λ f. Some f) (state ∷ right)) in let none = users_spent (count_live test) left (user_live test) uleft in let none' = users_added (count_live test) right (user_live test) uright in let equal = r.facts test in omega arith;
         pile = λ test. let live = takes_total (count_user test) refl takes in let more = total-append (count_user test) rest (map (λ f. Some f) (state ∷ right)) in let plive = takes_total (count_user test) refl ptakes in let pmore = total-append (count_user test) prest (map (λ f. Some f) right) in let equal = r.pile test in omega arith;

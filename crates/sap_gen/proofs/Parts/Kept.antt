@@ -28,6 +28,7 @@ use Rattle.sap_gen.specs.OpenLocks.{UnlocksAreOpen}
 use Rattle.sap_gen.specs.relation.Relation.{Covered, TracePart, Agent, unborn, running, copying, process_of, IsAt, Placed, AllPlaced, count_live, count_owed, count_fact, count_name, count_tag, is_unborn, has_init, Related, Free, Retractable, StorePart, count_user}
 use Rattle.sap_place.specs.StateFacts.{state_fact, copies_fact}
 use Rattle.sap_gen.specs.Places.{scoped_place_at, root, child, ScopedPlace}
+use Rattle.sap_process.specs.Places.{place}
 use Rattle.sap_gen.specs.Templates.{first_of, second_of}
 use Rattle.sap_process.specs.Configuration.{Config, initial, becomes, spawns, makes, owns, sends_out, CanGive}
 use Rattle.sap_process.specs.Instance.{process_instance, without}
@@ -159,7 +160,7 @@ module _ (laws : Laws) (sig : Sig) (start : Proc) (agents : List (Option Agent))
   kept_init t body e =
       let new : Option Agent = Some (running [] no_env body) in
       record {
-        placed = placed_set sig start agents t (running [] no_env body) r.placed (ap (λ p. let z : Option ScopedPlace = Some (record { scope = []; body = p }) in z) (sym (r.placed t (unborn body) e)), good_none sig);
+        placed = placed_set sig start agents t (running [] no_env body) r.placed (ap (λ p. let z : Option ScopedPlace = Some (place [] [] p) in z) (sym (r.placed t (unborn body) e)), good_none sig);
         threads = r.threads ∙ sym (map-set_same (option_map process_of) agents t (Some (unborn body)) new e (ap (λ p. Some p) ((instance_none laws) (chosen no_env) (λ x. refl) body)));
         facts = λ test. let owed = total-set (count_owed test) agents t (Some (unborn body)) new e in let live = total-append (count_live test) s.facts (Some (state_fact [] []) ∷ []) in let equal = r.facts test in omega arith;
         pile = λ test. let live = total-append (count_user test) s.facts (Some (state_fact [] []) ∷ []) in let equal = r.pile test in omega arith;
@@ -212,7 +213,7 @@ module _ (laws : Laws) (sig : Sig) (start : Proc) (agents : List (Option Agent))
       let up = threads_grow c d.threads in
       let down = threads_back c d.threads in
       record {
-        placed = every_push (Placed sig start) agents (running (first_of path) env p) r.placed (spot_below (root start) path 1 (record { scope = names env; body = whole.replicated p }) (record { scope = names env; body = p }) here.0 refl, here.1);
+        placed = every_push (Placed sig start) agents (running (first_of path) env p) r.placed (spot_below (root start) path 1 (place path (names env) (whole.replicated p)) (place (first_of path) (names env) p) here.0 refl, here.1);
         threads = ap (λ ts. ts ++ Some (process_instance (chosen env) p) ∷ []) r.threads ∙ sym (map_push (option_map process_of) agents (Some (running (first_of path) env p)));
         facts = λ test. let owed = total-append (count_owed test) agents (Some (running (first_of path) env p) ∷ []) in let live = takes_total (count_live test) refl takes in let more = total-append (count_live test) rest (Some (state_fact (first_of path) (values env)) ∷ []) in let equal = r.facts test in omega arith;
         pile = λ test. let live = takes_total (count_user test) refl takes in let more = total-append (count_user test) rest (Some (state_fact (first_of path) (values env)) ∷ []) in let equal = r.pile test in omega arith;
@@ -225,7 +226,7 @@ module _ (laws : Laws) (sig : Sig) (start : Proc) (agents : List (Option Agent))
       }
 
   -- one agent goes on at a child with what it has; the rules show acts that the process does not
-  pub kept_branch : (t : ℕ) (ks : List ℕ) (path : List ℕ) (d : ℕ) (env : Env) (b p : Proc) (rest : List (Option Fact)) (acts : List Fact) → NoLock acts → ((o : List (ℕ × Tree)) → UnlocksAreOpen o b → UnlocksAreOpen o p) → child (record { scope = names env; body = b }) d ≡ Some (record { scope = names env; body = p }) → visible acts ≡ [] → has_init acts ≡ 0 → ((y : Tree) → Member (k_fact y) acts → ⊥) → MeetsSix (equations sig) (full ++ acts ∷ []) → NoWrite acts → slice_get agents t ≡ Some (Some (running path env b)) → Takes s.facts ks (state_fact path (values env) ∷ []) rest → ProcessStep sig c [] (becomes c t (Some (process_instance (chosen env) p))) → Related sig start (slice_set agents t (Some (running (path ++ d ∷ []) env p))) pending (becomes c t (Some (process_instance (chosen env) p))) (tr ++ []) (record s { facts = adds rest (state_fact (path ++ d ∷ []) (values env) ∷ []) }) (full ++ acts ∷ [])
+  pub kept_branch : (t : ℕ) (ks : List ℕ) (path : List ℕ) (d : ℕ) (env : Env) (b p : Proc) (rest : List (Option Fact)) (acts : List Fact) → NoLock acts → ((o : List (ℕ × Tree)) → UnlocksAreOpen o b → UnlocksAreOpen o p) → child (place path (names env) b) d ≡ Some (place (path ++ d ∷ []) (names env) p) → visible acts ≡ [] → has_init acts ≡ 0 → ((y : Tree) → Member (k_fact y) acts → ⊥) → MeetsSix (equations sig) (full ++ acts ∷ []) → NoWrite acts → slice_get agents t ≡ Some (Some (running path env b)) → Takes s.facts ks (state_fact path (values env) ∷ []) rest → ProcessStep sig c [] (becomes c t (Some (process_instance (chosen env) p))) → Related sig start (slice_set agents t (Some (running (path ++ d ∷ []) env p))) pending (becomes c t (Some (process_instance (chosen env) p))) (tr ++ []) (record s { facts = adds rest (state_fact (path ++ d ∷ []) (values env) ∷ []) }) (full ++ acts ∷ [])
   kept_branch t ks path d env b p rest acts quiet ok below hidden no_init no_k demands no_write e takes step =
       let here : IsAt sig start path env b = r.placed t (running path env b) e in
       let new : Option Agent = Some (running (path ++ d ∷ []) env p) in
@@ -234,7 +235,7 @@ module _ (laws : Laws) (sig : Sig) (start : Proc) (agents : List (Option Agent))
       let down = threads_back c z.threads in
       let right : List Fact = state_fact (path ++ d ∷ []) (values env) ∷ [] in
       record {
-        placed = placed_set sig start agents t (running (path ++ d ∷ []) env p) r.placed (spot_below (root start) path d (record { scope = names env; body = b }) (record { scope = names env; body = p }) here.0 below, here.1);
+        placed = placed_set sig start agents t (running (path ++ d ∷ []) env p) r.placed (spot_below (root start) path d (place path (names env) b) (place (path ++ d ∷ []) (names env) p) here.0 below, here.1);
         threads = ap (λ ts. slice_set ts t (Some (process_instance (chosen env) p))) r.threads ∙ sym (map-set (option_map process_of) agents t new);
         facts = λ test. let owed = total-set (count_owed test) agents t (Some (running path env b)) new e in let live = takes_total (count_live test) refl takes in let more = total-append (count_live test) rest (map (λ f. Some f) right) in let equal = r.facts test in omega arith;
         pile = λ test. let live = takes_total (count_user test) refl takes in let more = total-append (count_user test) rest (map (λ f. Some f) right) in let equal = r.pile test in omega arith;
@@ -247,7 +248,7 @@ module _ (laws : Laws) (sig : Sig) (start : Proc) (agents : List (Option Agent))
       }
 
   -- the same at the first child, where the store changes
-  pub kept_store : (t : ℕ) (ks : List ℕ) (path : List ℕ) (env : Env) (b p : Proc) (rest : List (Option Fact)) (acts : List Fact) (later : Tree → Option Tree) → NoLock acts → ((o : List (ℕ × Tree)) → UnlocksAreOpen o b → UnlocksAreOpen o p) → child (record { scope = names env; body = b }) 1 ≡ Some (record { scope = names env; body = p }) → visible acts ≡ [] → has_init acts ≡ 0 → ((y : Tree) → Member (k_fact y) acts → ⊥) → MeetsSix (equations sig) (full ++ acts ∷ []) → StorePart sig later (full ++ acts ∷ []) → slice_get agents t ≡ Some (Some (running path env b)) → Takes s.facts ks (state_fact path (values env) ∷ []) rest → ProcessStep sig c [] (record (becomes c t (Some (process_instance (chosen env) p))) { store = later }) → Related sig start (slice_set agents t (Some (running (first_of path) env p))) pending (record (becomes c t (Some (process_instance (chosen env) p))) { store = later }) (tr ++ []) (record s { facts = adds rest (state_fact (first_of path) (values env) ∷ []) }) (full ++ acts ∷ [])
+  pub kept_store : (t : ℕ) (ks : List ℕ) (path : List ℕ) (env : Env) (b p : Proc) (rest : List (Option Fact)) (acts : List Fact) (later : Tree → Option Tree) → NoLock acts → ((o : List (ℕ × Tree)) → UnlocksAreOpen o b → UnlocksAreOpen o p) → child (place path (names env) b) 1 ≡ Some (place (first_of path) (names env) p) → visible acts ≡ [] → has_init acts ≡ 0 → ((y : Tree) → Member (k_fact y) acts → ⊥) → MeetsSix (equations sig) (full ++ acts ∷ []) → StorePart sig later (full ++ acts ∷ []) → slice_get agents t ≡ Some (Some (running path env b)) → Takes s.facts ks (state_fact path (values env) ∷ []) rest → ProcessStep sig c [] (record (becomes c t (Some (process_instance (chosen env) p))) { store = later }) → Related sig start (slice_set agents t (Some (running (first_of path) env p))) pending (record (becomes c t (Some (process_instance (chosen env) p))) { store = later }) (tr ++ []) (record s { facts = adds rest (state_fact (first_of path) (values env) ∷ []) }) (full ++ acts ∷ [])
   kept_store t ks path env b p rest acts later quiet ok below hidden no_init no_k demands store e takes step =
       let here : IsAt sig start path env b = r.placed t (running path env b) e in
       let new : Option Agent = Some (running (first_of path) env p) in
@@ -256,7 +257,7 @@ module _ (laws : Laws) (sig : Sig) (start : Proc) (agents : List (Option Agent))
       let down : Grows z c = record { own = λ n m. m; frame = λ x m. m } in
       let right : List Fact = state_fact (first_of path) (values env) ∷ [] in
       record {
-        placed = placed_set sig start agents t (running (first_of path) env p) r.placed (spot_below (root start) path 1 (record { scope = names env; body = b }) (record { scope = names env; body = p }) here.0 below, here.1);
+        placed = placed_set sig start agents t (running (first_of path) env p) r.placed (spot_below (root start) path 1 (place path (names env) b) (place (first_of path) (names env) p) here.0 below, here.1);
         threads = ap (λ ts. slice_set ts t (Some (process_instance (chosen env) p))) r.threads ∙ sym (map-set (option_map process_of) agents t new);
         facts = λ test. let owed = total-set (count_owed test) agents t (Some (running path env b)) new e in let live = takes_total (count_live test) refl takes in let more = total-append (count_live test) rest (map (λ f. Some f) right) in let equal = r.facts test in omega arith;
         pile = λ test. let live = takes_total (count_user test) refl takes in let more = total-append (count_user test) rest (map (λ f. Some f) right) in let equal = r.pile test in omega arith;
@@ -282,7 +283,7 @@ module _ (laws : Laws) (sig : Sig) (start : Proc) (agents : List (Option Agent))
       let same : inner ≡ process_instance (chosen (join env τ)) p = ap (λ σ. process_instance (chosen τ) (process_instance σ p)) (without_absent env y absent) ∙ (instance_append laws) env τ here.1.ground p in
       let right : List Fact = state_fact (first_of path) (values (join env τ)) ∷ [] in
       record {
-        placed = placed_set sig start agents t (running (first_of path) (join env τ) p) r.placed (spot_below (root start) path 1 (record { scope = names env; body = b }) (record { scope = names env ++ message_var y ∷ []; body = p }) here.0 refl, good-append sig env τ here.1 (good_just sig (message_var y) v good) (just_free env (message_var y) v absent));
+        placed = placed_set sig start agents t (running (first_of path) (join env τ) p) r.placed (spot_below (root start) path 1 (place path (names env) b) (place (first_of path) (names env ++ message_var y ∷ []) p) here.0 refl, good-append sig env τ here.1 (good_just sig (message_var y) v good) (just_free env (message_var y) v absent));
         threads = ap (λ ts. slice_set ts t (Some inner)) r.threads ∙ ap (λ u. slice_set (map (option_map process_of) agents) t (Some u)) same ∙ sym (map-set (option_map process_of) agents t new);
         facts = λ test. let owed = total-set (count_owed test) agents t (Some (running path env b)) new e in let live = takes_total (count_live test) refl takes in let more = total-append (count_live test) rest (map (λ f. Some f) right) in let equal = r.facts test in omega arith;
         pile = λ test. let live = takes_total (count_user test) refl takes in let more = total-append (count_user test) rest (map (λ f. Some f) right) in let equal = r.pile test in omega arith;
@@ -307,7 +308,7 @@ module _ (laws : Laws) (sig : Sig) (start : Proc) (agents : List (Option Agent))
       let right : List Fact = state_fact (first_of path) (values (join env τ)) ∷ [] in
       record {
         placed = placed_set sig start agents t (running (first_of path) (join env τ) p) r.placed
-            (spot_below (root start) path 1 (record { scope = names env; body = act (action.new x) p }) (record { scope = names env ++ fresh_var x ∷ []; body = p }) here.0 refl, good-append sig env τ here.1 (good_just sig (fresh_var x) (fresh n) ((fresh_message laws) sig n)) (just_free env (fresh_var x) (fresh n) absent));
+            (spot_below (root start) path 1 (place path (names env) (act (action.new x) p)) (place (first_of path) (names env ++ fresh_var x ∷ []) p) here.0 refl, good-append sig env τ here.1 (good_just sig (fresh_var x) (fresh n) ((fresh_message laws) sig n)) (just_free env (fresh_var x) (fresh n) absent));
         threads = ap (λ ts. slice_set ts t (Some q)) r.threads ∙ ap (λ z. slice_set (map (option_map process_of) agents) t (Some z)) same ∙ sym (map-set (option_map process_of) agents t new);
         facts = λ test. let owed = total-set (count_owed test) agents t (Some (running path env (act (action.new x) p))) new e in let live = takes_total (count_live test) refl takes in let more = total-append (count_live test) rest (map (λ f. Some f) right) in let equal = r.facts test in omega arith;
         pile = λ test. let live = takes_total (count_user test) refl takes in let more = total-append (count_user test) rest (map (λ f. Some f) right) in let equal = r.pile test in omega arith;
@@ -328,7 +329,7 @@ module _ (laws : Laws) (sig : Sig) (start : Proc) (agents : List (Option Agent))
       let state : Fact = state_fact (first_of path) (values env) in
       let right : List Fact = out_fact y ∷ state ∷ [] in
       record {
-        placed = placed_set sig start agents t (running (first_of path) env p) r.placed (spot_below (root start) path 1 (record { scope = names env; body = act (action.out m) p }) (record { scope = names env; body = p }) here.0 refl, here.1);
+        placed = placed_set sig start agents t (running (first_of path) env p) r.placed (spot_below (root start) path 1 (place path (names env) (act (action.out m) p)) (place (first_of path) (names env) p) here.0 refl, here.1);
         threads = ap (λ ts. slice_set ts t (Some (process_instance (chosen env) p))) r.threads ∙ sym (map-set (option_map process_of) agents t new);
         facts = λ test. let owed = total-set (count_owed test) agents t (Some (running path env (act (action.out m) p))) new e in let live = takes_total (count_live test) refl takes in let more = total-append (count_live test) rest (map (λ f. Some f) right) in let equal = r.facts test in omega arith;
         pile = λ test. let live = takes_total (count_user test) refl takes in let more = total-append (count_user test) rest (map (λ f. Some f) right) in let equal = r.pile test in omega arith;
@@ -359,8 +360,8 @@ module _ (laws : Laws) (sig : Sig) (start : Proc) (agents : List (Option Agent))
       let right : List Fact = state_fact (first_of path) (values env) ∷ state_fact (second_of path) (values env) ∷ [] in
       record {
         placed = every_push (Placed sig start) first (running (second_of path) env q)
-            (placed_set sig start agents t (running (first_of path) env p) r.placed (spot_below (root start) path 1 (record { scope = names env; body = whole.parallel p q }) (record { scope = names env; body = p }) here.0 refl, here.1))
-            (spot_below (root start) path 2 (record { scope = names env; body = whole.parallel p q }) (record { scope = names env; body = q }) here.0 refl, here.1);
+            (placed_set sig start agents t (running (first_of path) env p) r.placed (spot_below (root start) path 1 (place path (names env) (whole.parallel p q)) (place (first_of path) (names env) p) here.0 refl, here.1))
+            (spot_below (root start) path 2 (place path (names env) (whole.parallel p q)) (place (second_of path) (names env) q) here.0 refl, here.1);
         threads = ap (λ ts. slice_set ts t (Some (process_instance (chosen env) p)) ++ Some (process_instance (chosen env) q) ∷ []) r.threads ∙ ap (λ ts. ts ++ Some (process_instance (chosen env) q) ∷ []) (sym (map-set (option_map process_of) agents t one)) ∙ sym (map_push (option_map process_of) first two);
         facts = λ test. let owed = total-set (count_owed test) agents t (Some (running path env (whole.parallel p q))) one e in let owed' = total-append (count_owed test) first (two ∷ []) in let live = takes_total (count_live test) refl takes in let more = total-append (count_live test) rest (map (λ f. Some f) right) in let equal = r.facts test in omega arith;
         pile = λ test. let live = takes_total (count_user test) refl takes in let more = total-append (count_user test) rest (map (λ f. Some f) right) in let equal = r.pile test in omega arith;
@@ -518,7 +519,7 @@ module _ (sig : Sig) (start : Proc) (agents : List (Option Agent)) (c : Config) 
       let right : List Fact = state_fact (first_of path) (values env) ∷ [] in
       let acts : List Fact = event_fact ∷ g ∷ [] in
       record {
-        placed = placed_set sig start agents t (running (first_of path) env p) r.placed (spot_below (root start) path 1 (record { scope = names env; body = act (action.event f) p }) (record { scope = names env; body = p }) here.0 refl, here.1);
+        placed = placed_set sig start agents t (running (first_of path) env p) r.placed (spot_below (root start) path 1 (place path (names env) (act (action.event f) p)) (place (first_of path) (names env) p) here.0 refl, here.1);
         threads = ap (λ ts. slice_set ts t (Some (process_instance (chosen env) p))) r.threads ∙ sym (map-set (option_map process_of) agents t new);
         facts = λ test. let owed = total-set (count_owed test) agents t (Some (running path env (act (action.event f) p))) new e in let live = takes_total (count_live test) refl takes in let more = total-append (count_live test) rest (map (λ f. Some f) right) in let equal = r.facts test in omega arith;
         pile = λ test. let live = takes_total (count_user test) refl takes in let more = total-append (count_user test) rest (map (λ f. Some f) right) in let equal = r.pile test in omega arith;
@@ -547,7 +548,7 @@ module _ (sig : Sig) (start : Proc) (agents : List (Option Agent)) (x : Tree) (c
     store = subst (λ st. StorePart sig st (full ++ (input_fact x ∷ []) ∷ [])) (sym same) (store_quiet sig c.store full (input_fact x ∷ []) r.traces.store (no_write_one (input_fact x) refl));
   }
 
-  pub kept_in : (t : ℕ) (ks : List ℕ) (path : List ℕ) (env τ : Env) (b p : Proc) (v : List Var) (rest : List (Option Fact)) → ((o : List (ℕ × Tree)) → UnlocksAreOpen o b → UnlocksAreOpen o p) → child (record { scope = names env; body = b }) 1 ≡ Some (record { scope = v; body = p }) → v ≡ names (join env τ) → GoodEnv sig τ → ((y : Var) → Member y (names τ) → IsFree y (names env)) → Free full x → slice_get agents t ≡ Some (Some (running path env b)) → Takes s.facts ks (state_fact path (values env) ∷ in_fact x ∷ []) rest → Related sig start (slice_set agents t (Some (running (first_of path) (join env τ) p))) None (becomes c t (Some (process_instance (chosen (join env τ)) p))) (tr ++ shown (k_fact x ∷ [])) (record s { facts = adds rest (state_fact (first_of path) (values (join env τ)) ∷ []) }) (full ++ (input_fact x ∷ []) ∷ [])
+  pub kept_in : (t : ℕ) (ks : List ℕ) (path : List ℕ) (env τ : Env) (b p : Proc) (v : List Var) (rest : List (Option Fact)) → ((o : List (ℕ × Tree)) → UnlocksAreOpen o b → UnlocksAreOpen o p) → child (place path (names env) b) 1 ≡ Some (place (first_of path) v p) → v ≡ names (join env τ) → GoodEnv sig τ → ((y : Var) → Member y (names τ) → IsFree y (names env)) → Free full x → slice_get agents t ≡ Some (Some (running path env b)) → Takes s.facts ks (state_fact path (values env) ∷ in_fact x ∷ []) rest → Related sig start (slice_set agents t (Some (running (first_of path) (join env τ) p))) None (becomes c t (Some (process_instance (chosen (join env τ)) p))) (tr ++ shown (k_fact x ∷ [])) (record s { facts = adds rest (state_fact (first_of path) (values (join env τ)) ∷ []) }) (full ++ (input_fact x ∷ []) ∷ [])
   kept_in t ks path env τ b p v rest ok below scope ground new_free free e takes =
       let here : IsAt sig start path env b = r.placed t (running path env b) e in
       let new : Option Agent = Some (running (first_of path) (join env τ) p) in
@@ -559,7 +560,7 @@ module _ (sig : Sig) (start : Proc) (agents : List (Option Agent)) (x : Tree) (c
       let acts : List Fact = input_fact x ∷ [] in
       record {
         placed = placed_set sig start agents t (running (first_of path) (join env τ) p) r.placed
-            (subst (λ v. scoped_place_at (root start) (first_of path) ≡ Some (record { scope = v; body = p })) scope (spot_below (root start) path 1 (record { scope = names env; body = b }) (record { scope = v; body = p }) here.0 below), good-append sig env τ here.1 ground new_free);
+            (subst (λ v. scoped_place_at (root start) (first_of path) ≡ Some (place (first_of path) v p)) scope (spot_below (root start) path 1 (place path (names env) b) (place (first_of path) v p) here.0 below), good-append sig env τ here.1 ground new_free);
         threads = ap (λ ts. slice_set ts t (Some q)) r.threads ∙ sym (map-set (option_map process_of) agents t new);
         facts = λ test. let owed = total-set (count_owed test) agents t (Some (running path env b)) new e in let live = takes_total (count_live test) refl takes in let more = total-append (count_live test) rest (map (λ f. Some f) right) in let equal = r.facts test in omega arith;
         pile = λ test. let live = takes_total (count_user test) refl takes in let more = total-append (count_user test) rest (map (λ f. Some f) right) in let equal = r.pile test in omega arith;
@@ -582,7 +583,7 @@ module _ (sig : Sig) (start : Proc) (agents : List (Option Agent)) (x : Tree) (c
       let right : List Fact = out_fact y ∷ state ∷ [] in
       let acts : List Fact = input_fact x ∷ [] in
       record {
-        placed = placed_set sig start agents t (running (first_of path) env p) r.placed (spot_below (root start) path 1 (record { scope = names env; body = act (action.send m n) p }) (record { scope = names env; body = p }) here.0 refl, here.1);
+        placed = placed_set sig start agents t (running (first_of path) env p) r.placed (spot_below (root start) path 1 (place path (names env) (act (action.send m n) p)) (place (first_of path) (names env) p) here.0 refl, here.1);
         threads = ap (λ ts. slice_set ts t (Some (process_instance (chosen env) p))) r.threads ∙ sym (map-set (option_map process_of) agents t new);
         facts = λ test. let owed = total-set (count_owed test) agents t (Some (running path env (act (action.send m n) p))) new e in let live = takes_total (count_live test) refl takes in let more = total-append (count_live test) rest (map (λ f. Some f) right) in let equal = r.facts test in omega arith;
         pile = λ test. let live = takes_total (count_user test) refl takes in let more = total-append (count_user test) rest (map (λ f. Some f) right) in let equal = r.pile test in omega arith;

@@ -25,6 +25,7 @@ use Rattle.sap_gen.specs.OpenLocks.{closed, IsUnusedIn}
 use Rattle.sap_gen.specs.relation.Relation.{Agent, running, process_of, IsAt, count_live, count_owed, count_user, count_tag, count_name, count_holder, is_unborn, has_init, Related, Holding, Covered}
 use Rattle.sap_place.specs.StateFacts.{state_fact}
 use Rattle.sap_gen.specs.Places.{root}
+use Rattle.sap_process.specs.Places.{place}
 use Rattle.sap_gen.specs.Templates.{first_of}
 use Rattle.sap_locks.specs.Scopes.{lock_var}
 use Rattle.sap_process.specs.Configuration.{Config, becomes, holds, marked}
@@ -120,7 +121,7 @@ module _ (laws : Laws) (sig : Sig) (start : Proc) (agents : List (Option Agent))
       let a : Holder = record { thread = t; label = l; name = n; term = x } in
       record {
         placed = placed_set sig start agents t (running (first_of path) (join env τ) p) r.placed
-            (spot_below (root start) path 1 (record { scope = names env; body = b }) (record { scope = names env ++ lock_var l ∷ []; body = p }) here.0 refl, good-append sig env τ here.1 (good_just sig (lock_var l) (fresh n) ((fresh_message laws) sig n)) (just_free env (lock_var l) (fresh n) absent));
+            (spot_below (root start) path 1 (place path (names env) b) (place (first_of path) (names env ++ lock_var l ∷ []) p) here.0 refl, good-append sig env τ here.1 (good_just sig (lock_var l) (fresh n) ((fresh_message laws) sig n)) (just_free env (lock_var l) (fresh n) absent));
         threads = ap (λ ts. slice_set ts t (Some (process_instance (chosen env) p))) r.threads ∙ ap (λ z. slice_set (map (option_map process_of) agents) t (Some z)) same ∙ sym (map-set (option_map process_of) agents t new);
         facts = λ test. let owed = total-set (count_owed test) agents t (Some (running path env b)) new e in let live = takes_total (count_live test) refl takes in let more = total-append (count_live test) rest (map (λ f. Some f) right) in let equal = r.facts test in omega arith;
         pile = λ test. let live = takes_total (count_user test) refl takes in let more = total-append (count_user test) rest (map (λ f. Some f) right) in let equal = r.pile test in omega arith;
@@ -167,7 +168,7 @@ module _ (laws : Laws) (sig : Sig) (start : Proc) (agents : List (Option Agent))
       absurd (omega arith) in
       let part' : LockPart (marked c.held a.term false) others (full ++ (unlock_fact (fresh a.name) a.term ∷ []) ∷ []) = unlock_step c.held split.before split.after full a part differ in
       record {
-        placed = placed_set sig start agents t (running (first_of path) env p) r.placed (spot_below (root start) path 1 (record { scope = names env; body = b }) (record { scope = names env; body = p }) here.0 refl, here.1);
+        placed = placed_set sig start agents t (running (first_of path) env p) r.placed (spot_below (root start) path 1 (place path (names env) b) (place (first_of path) (names env) p) here.0 refl, here.1);
         threads = ap (λ ts. slice_set ts t (Some (process_instance (chosen env) p))) r.threads ∙ sym (map-set (option_map process_of) agents t new);
         facts = λ test. let owed = total-set (count_owed test) agents t (Some (running path env b)) new e in let live = takes_total (count_live test) refl takes in let more = total-append (count_live test) rest (map (λ f. Some f) right) in let equal = r.facts test in omega arith;
         pile = λ test. let live = takes_total (count_user test) refl takes in let more = total-append (count_user test) rest (map (λ f. Some f) right) in let equal = r.pile test in omega arith;

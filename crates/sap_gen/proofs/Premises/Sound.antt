@@ -26,6 +26,7 @@ use Rattle.sap_terms.specs.TermTests.{is_over}
 use Rattle.sap_gen.specs.relation.Names.{is_reserved_var, is_reserved_fact, has_items}
 use Rattle.sap_gen.specs.Scoped.{Within, IsFree, FactsWithin, AreUnreserved}
 use Rattle.sap_gen.specs.Places.{ScopedPlace, child, scoped_place_at, root}
+use Rattle.sap_process.specs.Places.{place}
 use Rattle.sap_place.specs.StateFacts.{tag}
 use Rattle.sap_locks.specs.Scopes.{lock_var, scope_behind}
 use Rattle.sap_gen.specs.OpenLocks.{IsUnusedIn, UnlocksAreOpen, closed}
@@ -71,38 +72,38 @@ here_sound g v (act a p) h = h.0
 here_sound g v (whole.test m n p q) h = h.0
 here_sound g v (whole.lookup m x p q) h = h.0
 
-same_spot : (g : Sig) (w : List Var) (q : Proc) (k : ScopedPlace) → Some (record { scope = w; body = q }) ≡ Some k → AllSound g w q → AllSound g k.scope k.body
-same_spot g w q k e h = let same : record { scope = w; body = q } ≡ k = cc in subst (λ (z : ScopedPlace). AllSound g z.scope z.body) same h
+same_spot : (g : Sig) (path : List ℕ) (w : List Var) (q : Proc) (k : ScopedPlace) → Some (place path w q) ≡ Some k → AllSound g w q → AllSound g k.above k.body
+same_spot g path w q k e h = let same : place path w q ≡ k = cc in subst (λ (z : ScopedPlace). AllSound g z.above z.body) same h
 
-first_sound : (g : Sig) (v : List Var) (p : Proc) (k : ScopedPlace) → AllSound g v p → child (record { scope = v; body = p }) 1 ≡ Some k → AllSound g k.scope k.body
-first_sound g v whole.nil k h e = cc
-first_sound g v (whole.parallel p q) k h e = same_spot g v p k e h.1
-first_sound g v (whole.replicated p) k h e = same_spot g v p k e h.1
-first_sound g v (act a p) k h e = same_spot g (scope_behind v a) p k e h.1
-first_sound g v (whole.test m n p q) k h e = same_spot g v p k e h.1
-first_sound g v (whole.lookup m x p q) k h e = same_spot g (v ++ message_var x ∷ []) p k e h.1
+first_sound : (g : Sig) (path : List ℕ) (v : List Var) (p : Proc) (k : ScopedPlace) → AllSound g v p → child (place path v p) 1 ≡ Some k → AllSound g k.above k.body
+first_sound g path v whole.nil k h e = cc
+first_sound g path v (whole.parallel p q) k h e = same_spot g (path ++ 1 ∷ []) v p k e h.1
+first_sound g path v (whole.replicated p) k h e = same_spot g (path ++ 1 ∷ []) v p k e h.1
+first_sound g path v (act a p) k h e = same_spot g (path ++ 1 ∷ []) (scope_behind v a) p k e h.1
+first_sound g path v (whole.test m n p q) k h e = same_spot g (path ++ 1 ∷ []) v p k e h.1
+first_sound g path v (whole.lookup m x p q) k h e = same_spot g (path ++ 1 ∷ []) (v ++ message_var x ∷ []) p k e h.1
 
-second_sound : (g : Sig) (v : List Var) (p : Proc) (k : ScopedPlace) → AllSound g v p → child (record { scope = v; body = p }) 2 ≡ Some k → AllSound g k.scope k.body
-second_sound g v whole.nil k h e = cc
-second_sound g v (whole.parallel p q) k h e = same_spot g v q k e h.2
-second_sound g v (whole.replicated p) k h e = cc
-second_sound g v (act a p) k h e = cc
-second_sound g v (whole.test m n p q) k h e = same_spot g v q k e h.2
-second_sound g v (whole.lookup m x p q) k h e = same_spot g v q k e h.2
+second_sound : (g : Sig) (path : List ℕ) (v : List Var) (p : Proc) (k : ScopedPlace) → AllSound g v p → child (place path v p) 2 ≡ Some k → AllSound g k.above k.body
+second_sound g path v whole.nil k h e = cc
+second_sound g path v (whole.parallel p q) k h e = same_spot g (path ++ 2 ∷ []) v q k e h.2
+second_sound g path v (whole.replicated p) k h e = cc
+second_sound g path v (act a p) k h e = cc
+second_sound g path v (whole.test m n p q) k h e = same_spot g (path ++ 2 ∷ []) v q k e h.2
+second_sound g path v (whole.lookup m x p q) k h e = same_spot g (path ++ 2 ∷ []) v q k e h.2
 
-child_sound : (g : Sig) (s k : ScopedPlace) (d : ℕ) → AllSound g s.scope s.body → child s d ≡ Some k → AllSound g k.scope k.body
+child_sound : (g : Sig) (s k : ScopedPlace) (d : ℕ) → AllSound g s.above s.body → child s d ≡ Some k → AllSound g k.above k.body
 child_sound g s k zero h e = cc
-child_sound g s k (suc zero) h e = first_sound g s.scope s.body k h e
-child_sound g s k (suc (suc zero)) h e = second_sound g s.scope s.body k h e
+child_sound g s k (suc zero) h e = first_sound g s.path s.above s.body k h e
+child_sound g s k (suc (suc zero)) h e = second_sound g s.path s.above s.body k h e
 child_sound g s k (suc (suc (suc d))) h e = cc
 
-spot_sound : (g : Sig) (o : Option ScopedPlace) (path : List ℕ) (b : ScopedPlace) → ((s : ScopedPlace) → o ≡ Some s → AllSound g s.scope s.body) → scoped_place_at o path ≡ Some b → AllSound g b.scope b.body
+spot_sound : (g : Sig) (o : Option ScopedPlace) (path : List ℕ) (b : ScopedPlace) → ((s : ScopedPlace) → o ≡ Some s → AllSound g s.above s.body) → scoped_place_at o path ≡ Some b → AllSound g b.above b.body
 spot_sound g None path b h e = cc
 spot_sound g (Some s) [] b h e = h b e
 spot_sound g (Some s) (d ∷ path) b h e = spot_sound g (child s d) path b (λ k k_is. child_sound g s k d (h s refl) k_is) e
 
 pub places_sound : (g : Sig) (p : Proc) → AllSound g [] p → SoundPlaces g p
-places_sound g p h path v b e = here_sound g v b (spot_sound g (root p) path (record { scope = v; body = b }) (λ s s_is. same_spot g [] p s s_is h) e)
+places_sound g p h path b e = here_sound g b.above b.body (spot_sound g (root p) path b (λ s s_is. same_spot g [] [] p s s_is h) e)
 
 -- reserved names
 

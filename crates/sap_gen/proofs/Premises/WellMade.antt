@@ -26,7 +26,8 @@ use Rattle.sap_rule.specs.WellMade.{IsKnowledge, IsLeftFact, IsRightFact, IsActF
 use Rattle.sap_rule.specs.declared.rule.Rule.{Rule}
 use Rattle.sap_gen.specs.ChannelFacts.{fresh_fact, msg_fact, ack_fact}
 use Rattle.sap_gen.specs.Members.{Member}
-use Rattle.sap_gen.specs.Places.{scoped_place_at}
+use Rattle.sap_gen.specs.Places.{ScopedPlace, scoped_place_at}
+use Rattle.sap_process.specs.Places.{place}
 use Rattle.sap_gen.specs.Scoped.{AllWithin, AreUnreserved, EachWithin, FactsWithin, IsFree, Within}
 use Rattle.sap_gen.specs.Sound.{SoundAt, IsSoundAction}
 use Rattle.sap_gen.specs.Templates.{state, embedded_acts, first_of, second_of, init_rule, action_rules, own_rules, place_rules, rules_of}
@@ -408,30 +409,30 @@ module _ (g : Sig) (pair : arity_of g pair_name ≡ Some 2) (path : List ℕ) (v
       )
 
 -- sound at each place from here on
-abbrev SoundFrom : Sig → List Var → Proc → Type 0
-SoundFrom g v p = (path : List ℕ) (w : List Var) (b : Proc) → scoped_place_at (Some (record { scope = v; body = p })) path ≡ Some (record { scope = w; body = b }) → SoundAt g w b
+abbrev SoundFrom : Sig → List ℕ → List Var → Proc → Type 0
+SoundFrom g at v p = (path : List ℕ) (b : ScopedPlace) → scoped_place_at (Some (place at v p)) path ≡ Some b → SoundAt g b.above b.body
 
 module _ (g : Sig) (pair : arity_of g pair_name ≡ Some 2) where
-  places_made : (path : List ℕ) (v : List Var) (p : Proc) → OneSort v → SoundFrom g v p → IsProcessOver g p → LeftsOver g p → EachIn (IsWellMade g) (place_rules path v p)
+  places_made : (path : List ℕ) (v : List Var) (p : Proc) → OneSort v → SoundFrom g path v p → IsProcessOver g p → LeftsOver g p → EachIn (IsWellMade g) (place_rules path v p)
   places_made path v whole.nil one s o l = nil_made g pair path v one
   places_made path v (whole.parallel p q) one s o l =
       each_both (IsWellMade g) (own_rules path v (whole.parallel p q)) (place_rules (first_of path) v p ++ place_rules (second_of path) v q) (parallel_made g pair path v one p q)
-      (each_both (IsWellMade g) (place_rules (first_of path) v p) (place_rules (second_of path) v q) (places_made (first_of path) v p one (λ k w b e. s (1 ∷ k) w b e) o.0 l.0) (places_made (second_of path) v q one (λ k w b e. s (2 ∷ k) w b e) o.1 l.1))
+      (each_both (IsWellMade g) (place_rules (first_of path) v p) (place_rules (second_of path) v q) (places_made (first_of path) v p one (λ k b e. s (1 ∷ k) b e) o.0 l.0) (places_made (second_of path) v q one (λ k b e. s (2 ∷ k) b e) o.1 l.1))
   places_made path v (whole.replicated p) one s o l =
-      each_both (IsWellMade g) (own_rules path v (whole.replicated p)) (place_rules (first_of path) v p) (replicated_made g pair path v one p) (places_made (first_of path) v p one (λ k w b e. s (1 ∷ k) w b e) o l)
+      each_both (IsWellMade g) (own_rules path v (whole.replicated p)) (place_rules (first_of path) v p) (replicated_made g pair path v one p) (places_made (first_of path) v p one (λ k b e. s (1 ∷ k) b e) o l)
   places_made path v (act a p) one s o l =
-      let here : IsSoundAction g v a p = s [] v (act a p) refl in
+      let here : IsSoundAction g v a p = s [] (place path v (act a p)) refl in
       each_both (IsWellMade g) (action_rules path v a) (place_rules (first_of path) (scope_behind v a) p) (action_made g pair path v one a p here o.0 l.0)
-      (places_made (first_of path) (scope_behind v a) p (one_sort_behind g v a p here one) (λ k w b e. s (1 ∷ k) w b e) o.1 l.1)
+      (places_made (first_of path) (scope_behind v a) p (one_sort_behind g v a p here one) (λ k b e. s (1 ∷ k) b e) o.1 l.1)
   places_made path v (whole.test t u p q) one s o l =
-      let here : Within v t × Within v u = s [] v (whole.test t u p q) refl in
+      let here : Within v t × Within v u = s [] (place path v (whole.test t u p q)) refl in
       each_both (IsWellMade g) (own_rules path v (whole.test t u p q)) (place_rules (first_of path) v p ++ place_rules (second_of path) v q) (test_made g pair path v one t u p q o.0 o.1 here.0 here.1)
-      (each_both (IsWellMade g) (place_rules (first_of path) v p) (place_rules (second_of path) v q) (places_made (first_of path) v p one (λ k w b e. s (1 ∷ k) w b e) o.2 l.0) (places_made (second_of path) v q one (λ k w b e. s (2 ∷ k) w b e) o.3 l.1))
+      (each_both (IsWellMade g) (place_rules (first_of path) v p) (place_rules (second_of path) v q) (places_made (first_of path) v p one (λ k b e. s (1 ∷ k) b e) o.2 l.0) (places_made (second_of path) v q one (λ k b e. s (2 ∷ k) b e) o.3 l.1))
   places_made path v (whole.lookup t x p q) one s o l =
-      let here : Within v t × IsFree x v = s [] v (whole.lookup t x p q) refl in
+      let here : Within v t × IsFree x v = s [] (place path v (whole.lookup t x p q)) refl in
       let w : List Var = v ++ message_var x ∷ [] in
       each_both (IsWellMade g) (own_rules path v (whole.lookup t x p q)) (place_rules (first_of path) w p ++ place_rules (second_of path) v q) (lookup_made g pair path v one t x p q o.0 here.0 here.1)
-      (each_both (IsWellMade g) (place_rules (first_of path) w p) (place_rules (second_of path) v q) (places_made (first_of path) w p (one_sort_more v (message_var x) here.1 one) (λ k u b e. s (1 ∷ k) u b e) o.1 l.0) (places_made (second_of path) v q one (λ k u b e. s (2 ∷ k) u b e) o.2 l.1))
+      (each_both (IsWellMade g) (place_rules (first_of path) w p) (place_rules (second_of path) v q) (places_made (first_of path) w p (one_sort_more v (message_var x) here.1 one) (λ k b e. s (1 ∷ k) b e) o.1 l.0) (places_made (second_of path) v q one (λ k b e. s (2 ∷ k) b e) o.2 l.1))
 
 none_in_scope : OneSort []
 none_in_scope x y m n e = elim m [ ]
@@ -439,5 +440,5 @@ none_in_scope x y m n e = elim m [ ]
 init_made : (g : Sig) → IsWellMade g init_rule
 init_made g = well g [] init_rule none_in_scope tt (act_fine g [] _ refl tt tt, tt) (state_right g [] [] [] (same []), tt)
 
-pub rules_made : (g : Sig) (p : Proc) → arity_of g pair_name ≡ Some 2 → SoundFrom g [] p → IsProcessOver g p → LeftsOver g p → All (IsWellMade g) (rules_of p)
+pub rules_made : (g : Sig) (p : Proc) → arity_of g pair_name ≡ Some 2 → SoundFrom g [] [] p → IsProcessOver g p → LeftsOver g p → All (IsWellMade g) (rules_of p)
 rules_made g p pair s o l = each_of_members (rules_of p) (λ r m. each_at (IsWellMade g) (rules_of p) (init_made g, places_made g pair [] [] p none_in_scope s o l) r m)

@@ -15,6 +15,7 @@ use Rattle.sap_gen.specs.relation.Envs.{Env, names, chosen, filled, values}
 use Rattle.sap_gen.specs.relation.Relation.{Agent, unborn, running, copying, process_of, awaiting, received}
 use Rattle.sap_place.specs.StateFacts.{state_fact, copies_fact}
 use Rattle.sap_gen.specs.Places.{scoped_place_at, root}
+use Rattle.sap_process.specs.Places.{place}
 use Rattle.sap_gen.specs.relation.Names.{vars}
 use Rattle.sap_gen.specs.Templates.{first_of, second_of, rules_of, own_rules, rule}
 use Rattle.sap_gen.specs.Sound.{SoundPlaces}
@@ -43,8 +44,8 @@ use Rattle.sap_gen.proofs.ProcessToRules.Answered.{Answered, Ready, Steady, bran
 
 module _ (laws : Laws) (sig : Sig) (start : Proc) (B : ℕ) (hold : HoldsBuiltins sig) (fine : SoundPlaces sig start) (c : Config) (tr : Trace) where
   -- the rule of a place that takes the state fact alone
-  pub place_rule : (path : List ℕ) (v : List Var) (b : Proc) (r : Rule) → scoped_place_at (root start) path ≡ Some (record { scope = v; body = b }) → Member r (own_rules path v b) → Member r (rules_of start)
-  place_rule path v b r e m = Member.later (own_in (record { scope = []; body = start }) [] path (record { scope = v; body = b }) r e m)
+  pub place_rule : (path : List ℕ) (v : List Var) (b : Proc) (r : Rule) → scoped_place_at (root start) path ≡ Some (place path v b) → Member r (own_rules path v b) → Member r (rules_of start)
+  place_rule path v b r e m = Member.later (own_in (place [] [] start) path (place path v b) r e m)
 
   pub law_ends : (t : ℕ) → Runs c t whole.nil → Answered sig start B c tr → Answered sig start B (becomes c t None) (tr ++ [])
   law_ends t e a = by_agent y.agent y.stands y.gives y.born
@@ -183,7 +184,7 @@ module _ (laws : Laws) (sig : Sig) (start : Proc) (B : ℕ) (hold : HoldsBuiltin
           let same = (own_vars laws) sig env ((choice_good laws) sig env at.1) in
           let one : instance (chosen env) u ≡ m = cc in
           let two : process_instance (chosen env) q ≡ p = cc in
-          let sent : (nf laws) (equations sig) (instance (filled env) u) ≡ n = ap ((nf laws) (equations sig)) (put_choice env u (fine path (names env) (act (action.out u) q) at.0) ∙ one) ∙ sym ((one_normal_form laws) (equations sig) m n form) in
+          let sent : (nf laws) (equations sig) (instance (filled env) u) ≡ n = ap ((nf laws) (equations sig)) (put_choice env u (fine path (place path (names env) (act (action.out u) q)) at.0) ∙ one) ∙ sym ((one_normal_form laws) (equations sig) m n form) in
           let run : Runs c t (act (action.out m) (process_instance (chosen env) q)) = e ∙ ap (λ z. Some (Some (act (action.out m) z))) (sym two) in
           let step : ProcessStep sig c [] (sends_out (becomes c t (Some (process_instance (chosen env) q))) n) = ProcessStep.outputs t run form in
           let done : Answered sig start B (sends_out (becomes c t (Some (process_instance (chosen env) q))) n) (tr ++ []) = record {
@@ -217,7 +218,7 @@ module _ (laws : Laws) (sig : Sig) (start : Proc) (B : ℕ) (hold : HoldsBuiltin
           let takes = takes_one w.s.facts f l in
           let good = (choice_good laws) sig env at.1 in
           let same_args = (own_vars laws) sig env good in
-          let sound = fine path (names env) (whole.test u v p1 q1) at.0 in
+          let sound = fine path (place path (names env) (whole.test u v p1 q1)) at.0 in
           let one : instance (chosen env) u ≡ m = cc in
           let two : instance (chosen env) v ≡ n = cc in
           let three : process_instance (chosen env) p1 ≡ p = cc in
@@ -292,7 +293,7 @@ module _ (laws : Laws) (sig : Sig) (start : Proc) (B : ℕ) (hold : HoldsBuiltin
           let takes = takes_one w.s.facts f l in
           let r : Rule = rule (codes "Event_") path (state_fact path (vars (names env)) ∷ []) (event_fact ∷ u ∷ []) (state_fact (first_of path) (vars (names env)) ∷ []) in
           let same = (own_vars laws) sig env ((choice_good laws) sig env at.1) in
-          let sound = fine path (names env) (act (action.event u) q) at.0 in
+          let sound = fine path (place path (names env) (act (action.event u) q)) at.0 in
           let one : instance_fact (chosen env) u ≡ h = cc in
           let two : process_instance (chosen env) q ≡ p = cc in
           let seen : (nf_fact laws) (equations sig) (instance_fact (filled env) u) ≡ k = ap ((nf_fact laws) (equations sig)) (put_fact_choice env u sound.1 ∙ one) ∙ sym ((form_is laws) (equations sig) h k form) in

@@ -18,6 +18,7 @@ use Rattle.sap_place.specs.StateFacts.{state_fact}
 use Rattle.sap_gen.specs.relation.Names.{vars}
 use Rattle.sap_gen.specs.Templates.{first_of, rule, embedded_acts}
 use Rattle.sap_locks.specs.Scopes.{with_new}
+use Rattle.sap_process.specs.Places.{place}
 use Rattle.sap_gen.specs.Sound.{SoundPlaces}
 use Rattle.sap_process.specs.Configuration.{Config, Runs, becomes}
 use Rattle.sap_process.specs.Instance.{process_instance}
@@ -58,7 +59,7 @@ module _ (laws : Laws) (sig : Sig) (start : Proc) (B : ℕ) (hold : HoldsBuiltin
           let w = y.w in
           let th = equations sig in
           let at = w.related.placed t (running path env (act (action.embedded l0 a0 o0) q)) is in
-          let sound = fine path (names env) (act (action.embedded l0 a0 o0) q) at.0 in
+          let sound = fine path (place path (names env) (act (action.embedded l0 a0 o0) q)) at.0 in
           let l_is : instance_facts (chosen env) l0 ≡ l = cc in
           let a_is : instance_facts (chosen env) a0 ≡ a = cc in
           let o_is : instance_facts (chosen env) o0 ≡ o = cc in

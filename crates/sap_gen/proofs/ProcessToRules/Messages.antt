@@ -23,6 +23,7 @@ use Rattle.sap_gen.specs.OpenLocks.{UnlocksAreOpen}
 use Rattle.sap_gen.specs.relation.Relation.{Agent, unborn, running, copying, process_of, Related, awaiting, received, is_semi}
 use Rattle.sap_place.specs.StateFacts.{state_fact, waits_fact, tag}
 use Rattle.sap_gen.specs.Places.{child}
+use Rattle.sap_process.specs.Places.{place}
 use Rattle.sap_gen.specs.relation.Names.{vars}
 use Rattle.sap_gen.specs.Templates.{first_of, rules_of, own_rules, rule}
 use Rattle.sap_locks.specs.Scopes.{with_new}
@@ -56,7 +57,7 @@ use Rattle.sap_gen.proofs.ProcessToRules.Names.{derive}
 
 module _ (laws : Laws) (sig : Sig) (start : Proc) (B : ℕ) (hold : HoldsBuiltins sig) (fine : SoundPlaces sig start) (c : Config) (tr : Trace) where
   -- a thread takes a K event that the rules know, by a rule with «In»
-  pub take_input : (t : ℕ) (path : List ℕ) (env τ : Env) (b p : Proc) (v : List Var) (m x : Tree) (word : List ℕ) (w0 : Answered sig start B c tr) → slice_get w0.agents t ≡ Some (Some (running path env b)) → CanGive sig c x → ((o : List (ℕ × Tree)) → UnlocksAreOpen o b → UnlocksAreOpen o p) → child (record { scope = names env; body = b }) 1 ≡ Some (record { scope = v; body = p }) → v ≡ names (join env τ) → GoodEnv sig τ → ((y : Var) → Member y (names τ) → IsFree y (names env)) → IsTheoryEqual (equations sig) (instance (filled (join env τ)) m) x → Member (rule word path (state_fact path (vars (names env)) ∷ in_fact m ∷ []) (input_fact m ∷ []) (state_fact (first_of path) (vars v) ∷ [])) (own_rules path (names env) b) → Answered sig start B (becomes c t (Some (process_instance (chosen (join env τ)) p))) (tr ++ shown (k_fact x ∷ []))
+  pub take_input : (t : ℕ) (path : List ℕ) (env τ : Env) (b p : Proc) (v : List Var) (m x : Tree) (word : List ℕ) (w0 : Answered sig start B c tr) → slice_get w0.agents t ≡ Some (Some (running path env b)) → CanGive sig c x → ((o : List (ℕ × Tree)) → UnlocksAreOpen o b → UnlocksAreOpen o p) → child (place path (names env) b) 1 ≡ Some (place (first_of path) v p) → v ≡ names (join env τ) → GoodEnv sig τ → ((y : Var) → Member y (names τ) → IsFree y (names env)) → IsTheoryEqual (equations sig) (instance (filled (join env τ)) m) x → Member (rule word path (state_fact path (vars (names env)) ∷ in_fact m ∷ []) (input_fact m ∷ []) (state_fact (first_of path) (vars v) ∷ [])) (own_rules path (names env) b) → Answered sig start B (becomes c t (Some (process_instance (chosen (join env τ)) p))) (tr ++ shown (k_fact x ∷ []))
   take_input t path env τ b p v m x word w0 is0 deducible ok below scope ground new_free matches listed =
       let k = (derive laws sig start B hold fine c tr) w0 x deducible in
       let w = k.w in
@@ -104,7 +105,7 @@ module _ (laws : Laws) (sig : Sig) (start : Proc) (B : ℕ) (hold : HoldsBuiltin
       by_agent (copying path env body) is g born = absurd (cc)
       by_agent (running path env (act (action.input u) q)) is g born =
           let at = y.w.related.placed t (running path env (act (action.input u) q)) is in
-          let sound = fine path (names env) (act (action.input u) q) at.0 in
+          let sound = fine path (place path (names env) (act (action.input u) q)) at.0 in
           let one' : instance (chosen env) u ≡ m = cc in
           let two' : process_instance (chosen env) q ≡ p = cc in
           let ns = new_vars (var_names (names env)) (tree_vars u) in
@@ -129,7 +130,7 @@ module _ (laws : Laws) (sig : Sig) (start : Proc) (B : ℕ) (hold : HoldsBuiltin
       by_agent (copying path env body) is g born = absurd (cc)
       by_agent (running path env (act (action.receive u v) q)) is g born =
           let at = y.w.related.placed t (running path env (act (action.receive u v) q)) is in
-          let sound = fine path (names env) (act (action.receive u v) q) at.0 in
+          let sound = fine path (place path (names env) (act (action.receive u v) q)) at.0 in
           let zero' : instance (chosen env) u ≡ m = cc in
           let one' : instance (chosen env) v ≡ n = cc in
           let two' : process_instance (chosen env) q ≡ p = cc in
@@ -159,7 +160,7 @@ module _ (laws : Laws) (sig : Sig) (start : Proc) (B : ℕ) (hold : HoldsBuiltin
           let w = k.w in
           let is : slice_get w.agents t ≡ Some (Some (running path env (act (action.send u u') q))) = ap (λ z. slice_get z t) k.same ∙ is0 in
           let at = w.related.placed t (running path env (act (action.send u u') q)) is in
-          let sound = fine path (names env) (act (action.send u u') q) at.0 in
+          let sound = fine path (place path (names env) (act (action.send u u') q)) at.0 in
           let one' : instance (chosen env) u ≡ m = cc in
           let two' : instance (chosen env) u' ≡ n = cc in
           let three' : process_instance (chosen env) q ≡ p = cc in
@@ -215,8 +216,8 @@ module _ (laws : Laws) (sig : Sig) (start : Proc) (B : ℕ) (hold : HoldsBuiltin
           let q_is : process_instance (chosen other) q0 ≡ q = cc in
           let here = w.related.placed a (running path env (act (action.send m0 n0) p0)) ia in
           let there = w.related.placed b (running at other (act (action.receive l0 k0) q0)) ib in
-          let sound = fine path (names env) (act (action.send m0 n0) p0) here.0 in
-          let sound' = fine at (names other) (act (action.receive l0 k0) q0) there.0 in
+          let sound = fine path (place path (names env) (act (action.send m0 n0) p0)) here.0 in
+          let sound' = fine at (place at (names other) (act (action.receive l0 k0) q0)) there.0 in
           let unused : Member g w.s.made → ⊥ = λ h. clear (subst (λ xs. Member g xs) (z.same_names ∙ y.same_names) h) in
           let fr : Fact = fresh_fact (fresh g) in
           -- the tag

@@ -18,6 +18,7 @@ use Rattle.sap_gen.specs.relation.Relation.{Agent, unborn, running, copying, pro
 use Rattle.sap_place.specs.StateFacts.{state_fact}
 use Rattle.sap_gen.specs.relation.Names.{vars}
 use Rattle.sap_gen.specs.Templates.{first_of, rule}
+use Rattle.sap_process.specs.Places.{place}
 use Rattle.sap_gen.specs.Sound.{SoundPlaces}
 use Rattle.sap_process.specs.Configuration.{Config, Runs, initial, becomes, makes, owns, IsUnused, CanGive}
 use Rattle.sap_process.specs.Instance.{process_instance, without}
@@ -61,7 +62,7 @@ module _ (laws : Laws) (sig : Sig) (start : Proc) (B : ℕ) (hold : HoldsBuiltin
       by_agent (running path env (act (action.new u) q)) is g born =
           let w = y.w in
           let at = w.related.placed t (running path env (act (action.new u) q)) is in
-          let sound = fine path (names env) (act (action.new u) q) at.0 in
+          let sound = fine path (place path (names env) (act (action.new u) q)) at.0 in
           let absent : IsFree u (names env) = sound in
           let τ : Env = just (fresh_var u) (fresh n) in
           let s1 : RuleState = record w.s { facts = adds w.s.facts (fresh_fact (fresh n) ∷ []); made = w.s.made ++ n ∷ [] } in

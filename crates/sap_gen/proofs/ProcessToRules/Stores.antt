@@ -20,6 +20,7 @@ use Rattle.sap_gen.specs.OpenLocks.{UnlocksAreOpen}
 use Rattle.sap_gen.specs.relation.Relation.{Agent, unborn, running, copying, process_of, awaiting, received, StorePart, has_init}
 use Rattle.sap_place.specs.StateFacts.{state_fact}
 use Rattle.sap_gen.specs.Places.{child}
+use Rattle.sap_process.specs.Places.{place}
 use Rattle.sap_gen.specs.relation.Names.{vars}
 use Rattle.sap_gen.specs.Templates.{first_of, second_of, own_rules, rule}
 use Rattle.sap_locks.specs.Scopes.{lock_var}
@@ -51,7 +52,7 @@ use Rattle.sap_gen.proofs.ProcessToRules.Control.{place_rule}
 
 module _ (laws : Laws) (sig : Sig) (start : Proc) (B : ℕ) (hold : HoldsBuiltins sig) (fine : SoundPlaces sig start) (c : Config) (tr : Trace) where
   -- a place with one state fact on each side, whose acts the process does not show
-  pub go_store : (t : ℕ) (path : List ℕ) (env : Env) (b p : Proc) (word : List ℕ) (rule_acts acts : List Fact) (later : Tree → Option Tree) (w : Answered sig start B c tr) → slice_get w.agents t ≡ Some (Some (running path env b)) → NoLock acts → ((o : List (ℕ × Tree)) → UnlocksAreOpen o b → UnlocksAreOpen o p) → child (record { scope = names env; body = b }) 1 ≡ Some (record { scope = names env; body = p }) → Member (rule word path (state_fact path (vars (names env)) ∷ []) rule_acts (state_fact (first_of path) (vars (names env)) ∷ [])) (own_rules path (names env) b) → (settled laws) (equations sig) (filled env) rule_acts ≡ acts → visible acts ≡ [] → has_init acts ≡ 0 → ((z : Tree) → Member (k_fact z) acts → ⊥) → MeetsSix (equations sig) (w.full ++ acts ∷ []) → StorePart sig later (w.full ++ acts ∷ []) → ProcessStep sig c [] (record (becomes c t (Some (process_instance (chosen env) p))) { store = later }) → Answered sig start B (record (becomes c t (Some (process_instance (chosen env) p))) { store = later }) (tr ++ [])
+  pub go_store : (t : ℕ) (path : List ℕ) (env : Env) (b p : Proc) (word : List ℕ) (rule_acts acts : List Fact) (later : Tree → Option Tree) (w : Answered sig start B c tr) → slice_get w.agents t ≡ Some (Some (running path env b)) → NoLock acts → ((o : List (ℕ × Tree)) → UnlocksAreOpen o b → UnlocksAreOpen o p) → child (place path (names env) b) 1 ≡ Some (place (first_of path) (names env) p) → Member (rule word path (state_fact path (vars (names env)) ∷ []) rule_acts (state_fact (first_of path) (vars (names env)) ∷ [])) (own_rules path (names env) b) → (settled laws) (equations sig) (filled env) rule_acts ≡ acts → visible acts ≡ [] → has_init acts ≡ 0 → ((z : Tree) → Member (k_fact z) acts → ⊥) → MeetsSix (equations sig) (w.full ++ acts ∷ []) → StorePart sig later (w.full ++ acts ∷ []) → ProcessStep sig c [] (record (becomes c t (Some (process_instance (chosen env) p))) { store = later }) → Answered sig start B (record (becomes c t (Some (process_instance (chosen env) p))) { store = later }) (tr ++ [])
   go_store t path env b p word rule_acts acts later w is quiet ok below listed shown hidden no_init no_k demands store step =
       let at = w.related.placed t (running path env b) is in
       let f : Fact = state_fact path (values env) in
@@ -84,7 +85,7 @@ module _ (laws : Laws) (sig : Sig) (start : Proc) (B : ℕ) (hold : HoldsBuiltin
       by_agent (running path env (act (action.insert u u') q)) is g born =
           let w = y.w in
           let at = w.related.placed t (running path env (act (action.insert u u') q)) is in
-          let sound = fine path (names env) (act (action.insert u u') q) at.0 in
+          let sound = fine path (place path (names env) (act (action.insert u u') q)) at.0 in
           let good = (choice_good laws) sig env at.1 in
           let one' : instance (chosen env) u ≡ m = cc in
           let two' : instance (chosen env) u' ≡ n = cc in
@@ -113,7 +114,7 @@ module _ (laws : Laws) (sig : Sig) (start : Proc) (B : ℕ) (hold : HoldsBuiltin
       by_agent (running path env (act (action.delete u) q)) is g born =
           let w = y.w in
           let at = w.related.placed t (running path env (act (action.delete u) q)) is in
-          let sound = fine path (names env) (act (action.delete u) q) at.0 in
+          let sound = fine path (place path (names env) (act (action.delete u) q)) at.0 in
           let good = (choice_good laws) sig env at.1 in
           let one' : instance (chosen env) u ≡ m = cc in
           let three' : process_instance (chosen env) q ≡ p = cc in
@@ -139,7 +140,7 @@ module _ (laws : Laws) (sig : Sig) (start : Proc) (B : ℕ) (hold : HoldsBuiltin
       by_agent (running path env (act (action.lock u k) q)) is g born =
           let w = y.w in
           let at = w.related.placed t (running path env (act (action.lock u k) q)) is in
-          let sound = fine path (names env) (act (action.lock u k) q) at.0 in
+          let sound = fine path (place path (names env) (act (action.lock u k) q)) at.0 in
           let absent = sound.1 in
           let one' : instance (chosen env) u ≡ m = cc in
           let three' : process_instance (chosen env) q ≡ p = cc in
@@ -191,7 +192,7 @@ module _ (laws : Laws) (sig : Sig) (start : Proc) (B : ℕ) (hold : HoldsBuiltin
       by_agent (running path env (act (action.unlock u k) q)) is g born =
           let w = y.w in
           let at = w.related.placed t (running path env (act (action.unlock u k) q)) is in
-          let sound = fine path (names env) (act (action.unlock u k) q) at.0 in
+          let sound = fine path (place path (names env) (act (action.unlock u k) q)) at.0 in
           let one' : instance (chosen env) u ≡ m = cc in
           let three' : process_instance (chosen env) q ≡ p = cc in
           let form : IsNormalForm (equations sig) (instance (chosen env) u) x = subst (λ z. IsNormalForm (equations sig) z x) (sym one') m_form in
@@ -231,7 +232,7 @@ module _ (laws : Laws) (sig : Sig) (start : Proc) (B : ℕ) (hold : HoldsBuiltin
       by_agent (running path env (whole.lookup u z1 q q2)) is g born =
           let w = y.w in
           let at = w.related.placed t (running path env (whole.lookup u z1 q q2)) is in
-          let sound = fine path (names env) (whole.lookup u z1 q q2) at.0 in
+          let sound = fine path (place path (names env) (whole.lookup u z1 q q2)) at.0 in
           let good = (choice_good laws) sig env at.1 in
           let one' : instance (chosen env) u ≡ m = cc in
           let three' : process_instance (chosen env) q2 ≡ p2 = cc in
@@ -269,7 +270,7 @@ module _ (laws : Laws) (sig : Sig) (start : Proc) (B : ℕ) (hold : HoldsBuiltin
       by_agent (running path env (whole.lookup u z1 q q2)) is g born =
           let w = y.w in
           let at = w.related.placed t (running path env (whole.lookup u z1 q q2)) is in
-          let sound = fine path (names env) (whole.lookup u z1 q q2) at.0 in
+          let sound = fine path (place path (names env) (whole.lookup u z1 q q2)) at.0 in
           let good = (choice_good laws) sig env at.1 in
           let one' : instance (chosen env) u ≡ m = cc in
           let z_is : z1 ≡ z = cc in

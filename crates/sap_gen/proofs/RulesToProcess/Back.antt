@@ -18,6 +18,7 @@ use Rattle.sap_gen.specs.OpenLocks.{UnlocksAreOpen}
 use Rattle.sap_gen.specs.relation.Relation.{unborn}
 use Rattle.sap_place.specs.StateFacts.{state_fact, copies_fact, waits_fact, tag}
 use Rattle.sap_gen.specs.Places.{scoped_place_at, root}
+use Rattle.sap_process.specs.Places.{place}
 use Rattle.sap_gen.specs.relation.Names.{vars}
 use Rattle.sap_gen.specs.Templates.{first_of, second_of, rules_of, own_rules, embedded_acts}
 use Rattle.sap_locks.specs.Scopes.{with_new, lock_var}
@@ -55,7 +56,7 @@ module _ (laws : Laws) (sig : Sig) (start : Proc) (hold : HoldsBuiltins sig) (fi
   abbrev pub Fires : List ℕ → List (Option Fact) → Choice → Rule → Type 0
   Fires ks rest σ r = Takes s.facts ks ((settled laws) (equations sig) σ r.left) rest → MeetsAll (equations sig) (full ++ (settled laws) (equations sig) σ r.acts ∷ []) → Followed sig start (record s { facts = adds rest ((settled laws) (equations sig) σ r.right) }) (full ++ (settled laws) (equations sig) σ r.acts ∷ [])
 
-  pub law_place : (ks : List ℕ) (rest : List (Option Fact)) (σ : Choice) → IsMessageChoice sig σ → (path : List ℕ) (v : List Var) (b : Proc) (r : Rule) → scoped_place_at (root start) path ≡ Some (record { scope = v; body = b }) → Member r (own_rules path v b) → Fires ks rest σ r
+  pub law_place : (ks : List ℕ) (rest : List (Option Fact)) (σ : Choice) → IsMessageChoice sig σ → (path : List ℕ) (v : List Var) (b : Proc) (r : Rule) → scoped_place_at (root start) path ≡ Some (place path v b) → Member r (own_rules path v b) → Fires ks rest σ r
   law_place ks rest σ good path v whole.nil r e m =
       subst (Fires ks rest σ) (sym (only_member m)) (λ takes h. (law_nil laws sig start hold fine s full w clean) ks rest σ good path v e (subst (λ ts. Takes s.facts ks (state_fact path ts ∷ []) rest) ((settled_vars laws) sig σ good v) takes))
   law_place ks rest σ good path v (whole.parallel p q) r e m =

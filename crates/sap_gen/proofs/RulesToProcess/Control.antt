@@ -16,6 +16,7 @@ use Rattle.sap_gen.specs.Scoped.{Within}
 use Rattle.sap_gen.specs.relation.Relation.{running, copying}
 use Rattle.sap_place.specs.StateFacts.{state_fact, copies_fact}
 use Rattle.sap_gen.specs.Places.{scoped_place_at, root, ScopedPlace}
+use Rattle.sap_process.specs.Places.{place}
 use Rattle.sap_gen.specs.Templates.{first_of, second_of}
 use Rattle.sap_gen.specs.Sound.{SoundPlaces}
 use Rattle.sap_process.specs.Configuration.{becomes, spawns, sends_out}
@@ -46,7 +47,7 @@ module _ (laws : Laws) (sig : Sig) (start : Proc) (hold : HoldsBuiltins sig) (fi
     abbrev pub After : List Fact → List Fact → Type 0
     After right acts = Followed sig start (record s { facts = adds rest right }) (full ++ acts ∷ [])
 
-    pub law_nil : scoped_place_at (root start) path ≡ Some (record { scope = v; body = whole.nil }) → Takes s.facts ks (state_fact path (map σ v) ∷ []) rest → After [] []
+    pub law_nil : scoped_place_at (root start) path ≡ Some (place path v whole.nil) → Takes s.facts ks (state_fact path (map σ v) ∷ []) rest → After [] []
     law_nil e takes =
         let y = seat sig start w.agents w.pending w.c w.tr s full w.related path v whole.nil σ e (head_of takes) in
         let takes' = subst (λ ts. Takes s.facts ks (state_fact path ts ∷ []) rest) y.bound takes in
@@ -60,7 +61,7 @@ module _ (laws : Laws) (sig : Sig) (start : Proc) (hold : HoldsBuiltins sig) (fi
           related = (kept_nil laws) sig start w.agents w.pending w.c w.tr s full w.related y.thread ks path y.env rest y.stands takes' step;
         }
 
-    pub law_par : (p q : Proc) → scoped_place_at (root start) path ≡ Some (record { scope = v; body = whole.parallel p q }) → Takes s.facts ks (state_fact path (map σ v) ∷ []) rest → After (state_fact (first_of path) (map σ v) ∷ state_fact (second_of path) (map σ v) ∷ []) []
+    pub law_par : (p q : Proc) → scoped_place_at (root start) path ≡ Some (place path v (whole.parallel p q)) → Takes s.facts ks (state_fact path (map σ v) ∷ []) rest → After (state_fact (first_of path) (map σ v) ∷ state_fact (second_of path) (map σ v) ∷ []) []
     law_par p q e takes =
         let y = seat sig start w.agents w.pending w.c w.tr s full w.related path v (whole.parallel p q) σ e (head_of takes) in
         let takes' = subst (λ ts. Takes s.facts ks (state_fact path ts ∷ []) rest) y.bound takes in
@@ -75,7 +76,7 @@ module _ (laws : Laws) (sig : Sig) (start : Proc) (hold : HoldsBuiltins sig) (fi
           related = (kept_par laws) sig start w.agents w.pending w.c w.tr s full w.related y.thread ks path y.env p q rest y.stands takes' step;
         })
 
-    pub law_rep_start : (p : Proc) → scoped_place_at (root start) path ≡ Some (record { scope = v; body = whole.replicated p }) → Takes s.facts ks (state_fact path (map σ v) ∷ []) rest → After (copies_fact path (map σ v) ∷ []) []
+    pub law_rep_start : (p : Proc) → scoped_place_at (root start) path ≡ Some (place path v (whole.replicated p)) → Takes s.facts ks (state_fact path (map σ v) ∷ []) rest → After (copies_fact path (map σ v) ∷ []) []
     law_rep_start p e takes =
         let y = seat sig start w.agents w.pending w.c w.tr s full w.related path v (whole.replicated p) σ e (head_of takes) in
         let takes' = subst (λ ts. Takes s.facts ks (state_fact path ts ∷ []) rest) y.bound takes in
@@ -89,12 +90,12 @@ module _ (laws : Laws) (sig : Sig) (start : Proc) (hold : HoldsBuiltins sig) (fi
           related = (kept_rep_start laws) sig start w.agents w.pending w.c w.tr s full w.related y.thread ks path y.env p rest y.stands takes';
         })
 
-    pub law_rep_copy : (p : Proc) → scoped_place_at (root start) path ≡ Some (record { scope = v; body = whole.replicated p }) → Takes s.facts ks (copies_fact path (map σ v) ∷ []) rest → After (state_fact (first_of path) (map σ v) ∷ []) []
+    pub law_rep_copy : (p : Proc) → scoped_place_at (root start) path ≡ Some (place path v (whole.replicated p)) → Takes s.facts ks (copies_fact path (map σ v) ∷ []) rest → After (state_fact (first_of path) (map σ v) ∷ []) []
     law_rep_copy p e takes =
         let l = head_of takes in
         let st = copy_agent_of w.agents path (map σ v) s l.number w.related.facts l.is in
         let at = w.related.placed st.thread (copying path st.env st.body) st.is in
-        let same : ◌≡◌ {A = ScopedPlace} (record { scope = names st.env; body = whole.replicated st.body }) (record { scope = v; body = whole.replicated p }) = some_spot _ _ (sym at.0 ∙ e) in
+        let same : place path (names st.env) (whole.replicated st.body) ≡ place path v (whole.replicated p) = some_spot _ _ (sym at.0 ∙ e) in
         let reps : whole.replicated st.body ≡ whole.replicated p = ap (λ (z : ScopedPlace). z.body) same in
         let body : st.body ≡ p = cc in
         let stands : slice_get w.agents st.thread ≡ Some (Some (copying path st.env p)) = st.is ∙ ap (λ z. Some (Some (copying path st.env z))) body in
@@ -110,13 +111,13 @@ module _ (laws : Laws) (sig : Sig) (start : Proc) (hold : HoldsBuiltins sig) (fi
           related = (kept_rep_copy laws) sig start w.agents w.pending w.c w.tr s full w.related st.thread ks path st.env p rest stands takes' step;
         })
 
-    pub law_out : (m : Tree) (p : Proc) → scoped_place_at (root start) path ≡ Some (record { scope = v; body = act (action.out m) p }) → Takes s.facts ks (state_fact path (map σ v) ∷ []) rest → After (out_fact ((nf laws) (equations sig) (instance σ m)) ∷ state_fact (first_of path) (map σ v) ∷ []) []
+    pub law_out : (m : Tree) (p : Proc) → scoped_place_at (root start) path ≡ Some (place path v (act (action.out m) p)) → Takes s.facts ks (state_fact path (map σ v) ∷ []) rest → After (out_fact ((nf laws) (equations sig) (instance σ m)) ∷ state_fact (first_of path) (map σ v) ∷ []) []
     law_out m p e takes =
         let y = seat sig start w.agents w.pending w.c w.tr s full w.related path v (act (action.out m) p) σ e (head_of takes) in
         let takes' = subst (λ ts. Takes s.facts ks (state_fact path ts ∷ []) rest) y.bound takes in
         let agrees : map σ (names y.env) ≡ values y.env = ap (λ z. map σ z) y.scope ∙ y.bound in
         let n : Tree = (nf laws) (equations sig) (instance σ m) in
-        let sent = put_same σ y.env agrees m (subst (λ z. Within z m) (sym y.scope) (fine path v (act (action.out m) p) e)) in
+        let sent = put_same σ y.env agrees m (subst (λ z. Within z m) (sym y.scope) (fine path (place path v (act (action.out m) p)) e)) in
         let form : IsNormalForm (equations sig) (instance (chosen y.env) m) n = subst (λ t. IsNormalForm (equations sig) t n) sent ((has_normal_form laws) (equations sig) (instance σ m)) in
         let step : ProcessStep sig w.c [] (sends_out (becomes w.c y.thread (Some (process_instance (chosen y.env) p))) n) = ProcessStep.outputs y.thread (runs sig start w.agents w.pending w.c w.tr s full w.related y.thread (running path y.env (act (action.out m) p)) y.stands) form in
         subst (λ ts. After (out_fact n ∷ state_fact (first_of path) ts ∷ []) []) (sym y.bound)
@@ -129,12 +130,12 @@ module _ (laws : Laws) (sig : Sig) (start : Proc) (hold : HoldsBuiltins sig) (fi
           related = (kept_out laws) sig start w.agents w.pending w.c w.tr s full w.related y.thread ks path y.env m n p rest y.stands takes' step;
         })
 
-    pub law_then : (m n : Tree) (p q : Proc) → scoped_place_at (root start) path ≡ Some (record { scope = v; body = whole.test m n p q }) → (x z : Tree) → (nf laws) (equations sig) (instance σ m) ≡ x → (nf laws) (equations sig) (instance σ n) ≡ z → MeetsSix (equations sig) (full ++ (eq_fact x z ∷ []) ∷ []) → Takes s.facts ks (state_fact path (map σ v) ∷ []) rest → After (state_fact (first_of path) (map σ v) ∷ []) (eq_fact x z ∷ [])
+    pub law_then : (m n : Tree) (p q : Proc) → scoped_place_at (root start) path ≡ Some (place path v (whole.test m n p q)) → (x z : Tree) → (nf laws) (equations sig) (instance σ m) ≡ x → (nf laws) (equations sig) (instance σ n) ≡ z → MeetsSix (equations sig) (full ++ (eq_fact x z ∷ []) ∷ []) → Takes s.facts ks (state_fact path (map σ v) ∷ []) rest → After (state_fact (first_of path) (map σ v) ∷ []) (eq_fact x z ∷ [])
     law_then m n p q e x z x_is z_is demands takes =
         let y = seat sig start w.agents w.pending w.c w.tr s full w.related path v (whole.test m n p q) σ e (head_of takes) in
         let takes' = subst (λ ts. Takes s.facts ks (state_fact path ts ∷ []) rest) y.bound takes in
         let agrees : map σ (names y.env) ≡ values y.env = ap (λ z. map σ z) y.scope ∙ y.bound in
-        let sound = fine path v (whole.test m n p q) e in
+        let sound = fine path (place path v (whole.test m n p q)) e in
         let m_is = put_same σ y.env agrees m (subst (λ u. Within u m) (sym y.scope) sound.0) in
         let n_is = put_same σ y.env agrees n (subst (λ u. Within u n) (sym y.scope) sound.1) in
         let shown : IsTheoryEqual (equations sig) x z = demands.equal x z (length full) (has_last full (eq_fact x z ∷ []) (eq_fact x z) Member.here) in
@@ -150,12 +151,12 @@ module _ (laws : Laws) (sig : Sig) (start : Proc) (hold : HoldsBuiltins sig) (fi
           related = (kept_branch laws) sig start w.agents w.pending w.c w.tr s full w.related y.thread ks path 1 y.env (whole.test m n p q) p rest (eq_fact x z ∷ []) (no_lock_one (eq_fact x z) refl) (λ o h. h.0) refl refl refl (λ i k. other (k_fact i) (eq_fact x z) refl k) demands (no_write_one (eq_fact x z) refl) y.stands takes' step;
         })
 
-    pub law_else : (m n : Tree) (p q : Proc) → scoped_place_at (root start) path ≡ Some (record { scope = v; body = whole.test m n p q }) → (x z : Tree) → (nf laws) (equations sig) (instance σ m) ≡ x → (nf laws) (equations sig) (instance σ n) ≡ z → MeetsSix (equations sig) (full ++ (not_eq_fact x z ∷ []) ∷ []) → Takes s.facts ks (state_fact path (map σ v) ∷ []) rest → After (state_fact (second_of path) (map σ v) ∷ []) (not_eq_fact x z ∷ [])
+    pub law_else : (m n : Tree) (p q : Proc) → scoped_place_at (root start) path ≡ Some (place path v (whole.test m n p q)) → (x z : Tree) → (nf laws) (equations sig) (instance σ m) ≡ x → (nf laws) (equations sig) (instance σ n) ≡ z → MeetsSix (equations sig) (full ++ (not_eq_fact x z ∷ []) ∷ []) → Takes s.facts ks (state_fact path (map σ v) ∷ []) rest → After (state_fact (second_of path) (map σ v) ∷ []) (not_eq_fact x z ∷ [])
     law_else m n p q e x z x_is z_is demands takes =
         let y = seat sig start w.agents w.pending w.c w.tr s full w.related path v (whole.test m n p q) σ e (head_of takes) in
         let takes' = subst (λ ts. Takes s.facts ks (state_fact path ts ∷ []) rest) y.bound takes in
         let agrees : map σ (names y.env) ≡ values y.env = ap (λ z. map σ z) y.scope ∙ y.bound in
-        let sound = fine path v (whole.test m n p q) e in
+        let sound = fine path (place path v (whole.test m n p q)) e in
         let m_is = put_same σ y.env agrees m (subst (λ u. Within u m) (sym y.scope) sound.0) in
         let n_is = put_same σ y.env agrees n (subst (λ u. Within u n) (sym y.scope) sound.1) in
         let shown : IsTheoryEqual (equations sig) x z → ⊥ = demands.unequal x z (length full) (has_last full (not_eq_fact x z ∷ []) (not_eq_fact x z) Member.here) in

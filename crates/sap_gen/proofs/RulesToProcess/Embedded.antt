@@ -20,6 +20,7 @@ use Rattle.sap_gen.specs.ChannelFacts.{fresh_fact}
 use Rattle.sap_gen.specs.relation.Relation.{running, SamePile, count_user}
 use Rattle.sap_place.specs.StateFacts.{state_fact}
 use Rattle.sap_gen.specs.Places.{scoped_place_at, root}
+use Rattle.sap_process.specs.Places.{place}
 use Rattle.sap_gen.specs.Templates.{first_of, embedded_acts}
 use Rattle.sap_locks.specs.Scopes.{with_new}
 use Rattle.sap_gen.specs.Sound.{SoundPlaces}
@@ -48,7 +49,7 @@ use Rattle.sap_gen.proofs.RulesToProcess.Control.{After}
 
 module _ (laws : Laws) (sig : Sig) (start : Proc) (hold : HoldsBuiltins sig) (fine : SoundPlaces sig start) (s : RuleState) (full : Trace) (w : Followed sig start s full) (clean : Tidy (equations sig) s) where
   module _ (ks : List ℕ) (rest : List (Option Fact)) (σ : Choice) (good : IsMessageChoice sig σ) (path : List ℕ) (v : List Var) where
-    pub law_embed : (l a o : List Fact) (p : Proc) → scoped_place_at (root start) path ≡ Some (record { scope = v; body = act (action.embedded l a o) p }) → Takes s.facts ks (state_fact path (map σ v) ∷ (settled laws) (equations sig) σ l) rest → (After laws sig start hold fine s full w clean ks rest σ good path v) (state_fact (first_of path) (map σ (with_new v (facts_vars (l ++ (a ++ o))))) ∷ (settled laws) (equations sig) σ o) (embedded_acts ((settled laws) (equations sig) σ a))
+    pub law_embed : (l a o : List Fact) (p : Proc) → scoped_place_at (root start) path ≡ Some (place path v (act (action.embedded l a o) p)) → Takes s.facts ks (state_fact path (map σ v) ∷ (settled laws) (equations sig) σ l) rest → (After laws sig start hold fine s full w clean ks rest σ good path v) (state_fact (first_of path) (map σ (with_new v (facts_vars (l ++ (a ++ o))))) ∷ (settled laws) (equations sig) σ o) (embedded_acts ((settled laws) (equations sig) σ a))
     law_embed l a o p e takes =
         let th = equations sig in
         let fs : List Fact = l ++ (a ++ o) in
@@ -60,7 +61,7 @@ module _ (laws : Laws) (sig : Sig) (start : Proc) (hold : HoldsBuiltins sig) (fi
         let at = z.related.placed y.thread (running path y.env (act (action.embedded l a o) p)) y.stands in
         let takes' = subst (λ ts. Takes s.facts ks (state_fact path ts ∷ left) rest) y.bound takes in
         let agrees : map σ (names y.env) ≡ values y.env = ap (λ u. map σ u) y.scope ∙ y.bound in
-        let sound = fine path v (act (action.embedded l a o) p) e in
+        let sound = fine path (place path v (act (action.embedded l a o) p)) e in
         let uleft : AreUnreserved left = form_users th (instance_facts σ l) left ((forms_of_facts laws) th (instance_facts σ l)) (put_users σ l sound.0) in
         let uacts : AreUnreserved acts = form_users th (instance_facts σ a) acts ((forms_of_facts laws) th (instance_facts σ a)) (put_users σ a sound.1) in
         let uright : AreUnreserved right = form_users th (instance_facts σ o) right ((forms_of_facts laws) th (instance_facts σ o)) (put_users σ o sound.2) in
@@ -102,13 +103,13 @@ module _ (laws : Laws) (sig : Sig) (start : Proc) (hold : HoldsBuiltins sig) (fi
           related = kept_embed sig start w.agents z.c z.tr s full z.related y.thread ks taken.ks path y.env τ l a o p left acts right rest taken.left uleft uacts uright refl good_τ free y.stands takes' taken.takes step;
         })
 
-    pub law_event : (f : Fact) (p : Proc) → scoped_place_at (root start) path ≡ Some (record { scope = v; body = act (action.event f) p }) → Takes s.facts ks (state_fact path (map σ v) ∷ []) rest → (After laws sig start hold fine s full w clean ks rest σ good path v) (state_fact (first_of path) (map σ v) ∷ []) (event_fact ∷ (nf_fact laws) (equations sig) (instance_fact σ f) ∷ [])
+    pub law_event : (f : Fact) (p : Proc) → scoped_place_at (root start) path ≡ Some (place path v (act (action.event f) p)) → Takes s.facts ks (state_fact path (map σ v) ∷ []) rest → (After laws sig start hold fine s full w clean ks rest σ good path v) (state_fact (first_of path) (map σ v) ∷ []) (event_fact ∷ (nf_fact laws) (equations sig) (instance_fact σ f) ∷ [])
     law_event f p e takes =
         let z = flushed sig start s full w in
         let y = seat sig start w.agents None z.c z.tr s full z.related path v (act (action.event f) p) σ e (head_of takes) in
         let takes' = subst (λ ts. Takes s.facts ks (state_fact path ts ∷ []) rest) y.bound takes in
         let agrees : map σ (names y.env) ≡ values y.env = ap (λ u. map σ u) y.scope ∙ y.bound in
-        let sound = fine path v (act (action.event f) p) e in
+        let sound = fine path (place path v (act (action.event f) p)) e in
         let h : Fact = (nf_fact laws) (equations sig) (instance_fact σ f) in
         let same = put_fact_same σ y.env agrees f (subst (λ u. AllWithin u f.args) (sym y.scope) sound.1) in
         let form : IsFormOfFact (equations sig) (instance_fact (chosen y.env) f) h = subst (λ u. IsFormOfFact (equations sig) u h) same ((form_of_fact laws) (equations sig) (instance_fact σ f)) in
@@ -123,11 +124,11 @@ module _ (laws : Laws) (sig : Sig) (start : Proc) (hold : HoldsBuiltins sig) (fi
           related = kept_event sig start w.agents z.c z.tr s full z.related y.thread ks path y.env f h p rest sound.0 y.stands takes';
         })
 
-    pub law_new : (x : Var) (p : Proc) → scoped_place_at (root start) path ≡ Some (record { scope = v; body = act (action.new x) p }) → Takes s.facts ks (state_fact path (map σ v) ∷ fresh_fact ((nf laws) (equations sig) (σ (fresh_var x))) ∷ []) rest → (After laws sig start hold fine s full w clean ks rest σ good path v) (state_fact (first_of path) (map σ (v ++ fresh_var x ∷ [])) ∷ []) []
+    pub law_new : (x : Var) (p : Proc) → scoped_place_at (root start) path ≡ Some (place path v (act (action.new x) p)) → Takes s.facts ks (state_fact path (map σ v) ∷ fresh_fact ((nf laws) (equations sig) (σ (fresh_var x))) ∷ []) rest → (After laws sig start hold fine s full w clean ks rest σ good path v) (state_fact (first_of path) (map σ (v ++ fresh_var x ∷ [])) ∷ []) []
     law_new x p e takes =
         let y = seat sig start w.agents w.pending w.c w.tr s full w.related path v (act (action.new x) p) σ e (head_of takes) in
         let agrees : map σ (names y.env) ≡ values y.env = ap (λ u. map σ u) y.scope ∙ y.bound in
-        let sound = fine path v (act (action.new x) p) e in
+        let sound = fine path (place path v (act (action.new x) p)) e in
         let drawn = fresh_fits (σ (fresh_var x)) (good (fresh_var x)).sorted in
         let n : ℕ = drawn.number in
         let given : (nf laws) (equations sig) (σ (fresh_var x)) ≡ fresh n = ap ((nf laws) (equations sig)) drawn.is ∙ (nf-fresh laws) (equations sig) n in

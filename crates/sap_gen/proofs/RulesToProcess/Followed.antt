@@ -12,6 +12,7 @@ use Rattle.sap_gen.specs.relation.Totals.{total}
 use Rattle.sap_gen.specs.relation.Relation.{Agent, running, process_of, Related, count_name, Free}
 use Rattle.sap_place.specs.StateFacts.{state_fact}
 use Rattle.sap_gen.specs.Places.{scoped_place_at, root, ScopedPlace}
+use Rattle.sap_process.specs.Places.{place}
 use Rattle.sap_gen.specs.Templates.{rules_of, init_rule, embedded_acts}
 use Rattle.sap_process.specs.Configuration.{Config, Runs, initial}
 use Rattle.sap_process.specs.Proc.{Proc}
@@ -83,13 +84,13 @@ head_of (Takes.one {k = k} e h) = record { number = k; is = e }
 pub some_spot : (x y : ScopedPlace) → Some x ≡ Some y → x ≡ y
 some_spot x y e = cc
 
-pub seat : (sig : Sig) (start : Proc) (agents : List (Option Agent)) (pending : Option Tree) (c : Config) (tr : Trace) (s : RuleState) (full : Trace) → Related sig start agents pending c tr s full → (path : List ℕ) (v : List Var) (b : Proc) (σ : Choice) → scoped_place_at (root start) path ≡ Some (record { scope = v; body = b }) → LiveFact s.facts (state_fact path (map σ v)) → Seat agents path v b σ
+pub seat : (sig : Sig) (start : Proc) (agents : List (Option Agent)) (pending : Option Tree) (c : Config) (tr : Trace) (s : RuleState) (full : Trace) → Related sig start agents pending c tr s full → (path : List ℕ) (v : List Var) (b : Proc) (σ : Choice) → scoped_place_at (root start) path ≡ Some (place path v b) → LiveFact s.facts (state_fact path (map σ v)) → Seat agents path v b σ
 seat sig start agents pending c tr s full r path v b σ e l =
     let st = agent_of agents path (map σ v) s l.number r.facts l.is in
     let at = r.placed st.thread (running path st.env st.body) st.is in
-    let same : ◌≡◌ {A = ScopedPlace} (record { scope = names st.env; body = st.body }) (record { scope = v; body = b }) = some_spot _ _ (sym at.0 ∙ e) in
+    let same : place path (names st.env) st.body ≡ place path v b = some_spot _ _ (sym at.0 ∙ e) in
     let body : st.body ≡ b = ap (λ (z : ScopedPlace). z.body) same in
-    record { thread = st.thread; env = st.env; stands = st.is ∙ ap (λ z. Some (Some (running path st.env z))) body; scope = ap (λ (z : ScopedPlace). z.scope) same; bound = st.bound }
+    record { thread = st.thread; env = st.env; stands = st.is ∙ ap (λ z. Some (Some (running path st.env z))) body; scope = ap (λ (z : ScopedPlace). z.above) same; bound = st.bound }
 
 pub runs : (sig : Sig) (start : Proc) (agents : List (Option Agent)) (pending : Option Tree) (c : Config) (tr : Trace) (s : RuleState) (full : Trace) → Related sig start agents pending c tr s full → (t : ℕ) (a : Agent) → slice_get agents t ≡ Some (Some a) → Runs c t (process_of a)
 runs sig start agents pending c tr s full r t a e = ap (λ ts. slice_get ts t) r.threads ∙ map_get (option_map process_of) agents t (Some a) e
@@ -112,7 +113,7 @@ took_none Takes.nothing = refl
 
 pub data Whence (r : Rule) (start : Proc) : Type 0 where
   is_init : r ≡ init_rule → Whence r start
-  is_place : Home (record { scope = []; body = start }) [] r → Whence r start
+  is_place : Home [] [] start r → Whence r start
 
 pub whence : (r : Rule) (start : Proc) → Member r (rules_of start) → Whence r start
 whence r start Member.here = is_init refl

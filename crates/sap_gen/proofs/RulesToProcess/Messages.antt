@@ -21,6 +21,7 @@ use Rattle.sap_gen.specs.ChannelFacts.{fresh_fact, msg_fact, ack_fact}
 use Rattle.sap_gen.specs.relation.Relation.{running, awaiting, received}
 use Rattle.sap_place.specs.StateFacts.{state_fact, waits_fact, tag}
 use Rattle.sap_gen.specs.Places.{scoped_place_at, root}
+use Rattle.sap_process.specs.Places.{place}
 use Rattle.sap_gen.specs.Templates.{first_of}
 use Rattle.sap_locks.specs.Scopes.{with_new}
 use Rattle.sap_gen.specs.Sound.{SoundPlaces}
@@ -50,7 +51,7 @@ use Rattle.sap_gen.proofs.RulesToProcess.Control.{After}
 
 module _ (laws : Laws) (sig : Sig) (start : Proc) (hold : HoldsBuiltins sig) (fine : SoundPlaces sig start) (s : RuleState) (full : Trace) (w : Followed sig start s full) (clean : Tidy (equations sig) s) where
   module _ (ks : List ℕ) (rest : List (Option Fact)) (σ : Choice) (good : IsMessageChoice sig σ) (path : List ℕ) (v : List Var) where
-    pub law_in : (m : Tree) (p : Proc) → scoped_place_at (root start) path ≡ Some (record { scope = v; body = act (action.input m) p }) → EachServed (ShowsAt (full ++ (input_fact ((nf laws) (equations sig) (instance σ m)) ∷ []) ∷ [])) → Takes s.facts ks (state_fact path (map σ v) ∷ in_fact ((nf laws) (equations sig) (instance σ m)) ∷ []) rest → (After laws sig start hold fine s full w clean ks rest σ good path v) (state_fact (first_of path) (map σ (with_new v (tree_vars m))) ∷ []) (input_fact ((nf laws) (equations sig) (instance σ m)) ∷ [])
+    pub law_in : (m : Tree) (p : Proc) → scoped_place_at (root start) path ≡ Some (place path v (act (action.input m) p)) → EachServed (ShowsAt (full ++ (input_fact ((nf laws) (equations sig) (instance σ m)) ∷ []) ∷ [])) → Takes s.facts ks (state_fact path (map σ v) ∷ in_fact ((nf laws) (equations sig) (instance σ m)) ∷ []) rest → (After laws sig start hold fine s full w clean ks rest σ good path v) (state_fact (first_of path) (map σ (with_new v (tree_vars m))) ∷ []) (input_fact ((nf laws) (equations sig) (instance σ m)) ∷ [])
     law_in m p e served takes =
         let u : Tree = (nf laws) (equations sig) (instance σ m) in
         let free = served_free full u served in
@@ -63,7 +64,7 @@ module _ (laws : Laws) (sig : Sig) (start : Proc) (hold : HoldsBuiltins sig) (fi
         let new_free' = new_free (var_names (names y.env)) (tree_vars m) in
         let own = new_first σ (var_names (names y.env)) (tree_vars m) in
         let τ : Env = bind σ ns in
-        let within : Within (names y.env ++ ns) m = subst (λ a. Within (with_new a (tree_vars m)) m) (sym y.scope) (fine path v (act (action.input m) p) e) in
+        let within : Within (names y.env ++ ns) m = subst (λ a. Within (with_new a (tree_vars m)) m) (sym y.scope) (fine path (place path v (act (action.input m) p)) e) in
         let run = runs sig start w.agents (Some u) z.c z.tr s full z.related y.thread (running path y.env (act (action.input m) p)) y.stands in
         let matches : IsTheoryEqual (equations sig) (instance σ (instance (chosen y.env) m)) u = subst (λ t. IsTheoryEqual (equations sig) t u) (sym (pattern_matches σ y.env agrees ns new_free' own at.1.ground m within)) ((nf-reached laws) (equations sig) (instance σ m)) in
         let first : ProcessStep sig z.c (k_fact u ∷ []) (becomes z.c y.thread (Some (process_instance (chosen (bind σ (tree_vars (instance (chosen y.env) m)))) (process_instance (chosen y.env) p)))) = step_inputs y.thread σ run (z.related.traces.waiting u refl) (record { messages = good; equal = matches }) in
@@ -79,7 +80,7 @@ module _ (laws : Laws) (sig : Sig) (start : Proc) (hold : HoldsBuiltins sig) (fi
           related = kept_in sig start w.agents u z.c z.tr s full z.related y.thread ks path y.env τ (act (action.input m) p) p (with_new (names y.env) (tree_vars m)) rest (λ o h. h) refl refl (good_bind sig σ ns own good) new_free' free y.stands takes';
         })
 
-    pub law_in_adv : (l k : Tree) (p : Proc) → scoped_place_at (root start) path ≡ Some (record { scope = v; body = act (action.receive l k) p }) → EachServed (ShowsAt (full ++ (input_fact ((nf laws) (equations sig) (instance σ (app2 pair_name l k))) ∷ []) ∷ [])) → Takes s.facts ks (state_fact path (map σ v) ∷ in_fact ((nf laws) (equations sig) (instance σ (app2 pair_name l k))) ∷ []) rest → (After laws sig start hold fine s full w clean ks rest σ good path v) (state_fact (first_of path) (map σ (with_new v (tree_vars k))) ∷ []) (input_fact ((nf laws) (equations sig) (instance σ (app2 pair_name l k))) ∷ [])
+    pub law_in_adv : (l k : Tree) (p : Proc) → scoped_place_at (root start) path ≡ Some (place path v (act (action.receive l k) p)) → EachServed (ShowsAt (full ++ (input_fact ((nf laws) (equations sig) (instance σ (app2 pair_name l k))) ∷ []) ∷ [])) → Takes s.facts ks (state_fact path (map σ v) ∷ in_fact ((nf laws) (equations sig) (instance σ (app2 pair_name l k))) ∷ []) rest → (After laws sig start hold fine s full w clean ks rest σ good path v) (state_fact (first_of path) (map σ (with_new v (tree_vars k))) ∷ []) (input_fact ((nf laws) (equations sig) (instance σ (app2 pair_name l k))) ∷ [])
     law_in_adv l k p e served takes =
         let u : Tree = (nf laws) (equations sig) (instance σ (app2 pair_name l k)) in
         let free = served_free full u served in
@@ -92,7 +93,7 @@ module _ (laws : Laws) (sig : Sig) (start : Proc) (hold : HoldsBuiltins sig) (fi
         let new_free' = new_free (var_names (names y.env)) (tree_vars k) in
         let own = new_first σ (var_names (names y.env)) (tree_vars k) in
         let τ : Env = bind σ ns in
-        let sound = fine path v (act (action.receive l k) p) e in
+        let sound = fine path (place path v (act (action.receive l k) p)) e in
         let within : Within (names y.env ++ ns) k = subst (λ a. Within (with_new a (tree_vars k)) k) (sym y.scope) sound.2 in
         let run = runs sig start w.agents (Some u) z.c z.tr s full z.related y.thread (running path y.env (act (action.receive l k) p)) y.stands in
         let l_is = put_same σ y.env agrees l (subst (λ a. Within a l) (sym y.scope) sound.0) in
@@ -111,7 +112,7 @@ module _ (laws : Laws) (sig : Sig) (start : Proc) (hold : HoldsBuiltins sig) (fi
           related = kept_in sig start w.agents u z.c z.tr s full z.related y.thread ks path y.env τ (act (action.receive l k) p) p (with_new (names y.env) (tree_vars k)) rest (λ o h. h) refl refl (good_bind sig σ ns own good) new_free' free y.stands takes';
         })
 
-    pub law_out_adv : (m n : Tree) (p : Proc) → scoped_place_at (root start) path ≡ Some (record { scope = v; body = act (action.send m n) p }) → EachServed (ShowsAt (full ++ (input_fact ((nf laws) (equations sig) (instance σ m)) ∷ []) ∷ [])) → Takes s.facts ks (state_fact path (map σ v) ∷ in_fact ((nf laws) (equations sig) (instance σ m)) ∷ []) rest → (After laws sig start hold fine s full w clean ks rest σ good path v) (out_fact ((nf laws) (equations sig) (instance σ n)) ∷ state_fact (first_of path) (map σ v) ∷ []) (input_fact ((nf laws) (equations sig) (instance σ m)) ∷ [])
+    pub law_out_adv : (m n : Tree) (p : Proc) → scoped_place_at (root start) path ≡ Some (place path v (act (action.send m n) p)) → EachServed (ShowsAt (full ++ (input_fact ((nf laws) (equations sig) (instance σ m)) ∷ []) ∷ [])) → Takes s.facts ks (state_fact path (map σ v) ∷ in_fact ((nf laws) (equations sig) (instance σ m)) ∷ []) rest → (After laws sig start hold fine s full w clean ks rest σ good path v) (out_fact ((nf laws) (equations sig) (instance σ n)) ∷ state_fact (first_of path) (map σ v) ∷ []) (input_fact ((nf laws) (equations sig) (instance σ m)) ∷ [])
     law_out_adv m n p e served takes =
         let u : Tree = (nf laws) (equations sig) (instance σ m) in
         let o : Tree = (nf laws) (equations sig) (instance σ n) in
@@ -120,7 +121,7 @@ module _ (laws : Laws) (sig : Sig) (start : Proc) (hold : HoldsBuiltins sig) (fi
         let y = seat sig start w.agents (Some u) z.c z.tr s full z.related path v (act (action.send m n) p) σ e (head_of takes) in
         let takes' = subst (λ ts. Takes s.facts ks (state_fact path ts ∷ in_fact u ∷ []) rest) y.bound takes in
         let agrees : map σ (names y.env) ≡ values y.env = ap (λ a. map σ a) y.scope ∙ y.bound in
-        let sound = fine path v (act (action.send m n) p) e in
+        let sound = fine path (place path v (act (action.send m n) p)) e in
         let m_is = put_same σ y.env agrees m (subst (λ a. Within a m) (sym y.scope) sound.0) in
         let n_is = put_same σ y.env agrees n (subst (λ a. Within a n) (sym y.scope) sound.1) in
         let run = runs sig start w.agents (Some u) z.c z.tr s full z.related y.thread (running path y.env (act (action.send m n) p)) y.stands in
@@ -138,7 +139,7 @@ module _ (laws : Laws) (sig : Sig) (start : Proc) (hold : HoldsBuiltins sig) (fi
           related = kept_out_adv sig start w.agents u z.c z.tr s full z.related y.thread ks path y.env m n o p rest free y.stands takes';
         })
 
-    pub law_out_msg : (m n : Tree) (p : Proc) → scoped_place_at (root start) path ≡ Some (record { scope = v; body = act (action.send m n) p }) → Takes s.facts ks (state_fact path (map σ v) ∷ fresh_fact (σ tag) ∷ []) rest → (After laws sig start hold fine s full w clean ks rest σ good path v) (msg_fact (σ tag) ((nf laws) (equations sig) (instance σ m)) ((nf laws) (equations sig) (instance σ n)) ∷ waits_fact path (map σ v ++ σ tag ∷ []) ∷ []) []
+    pub law_out_msg : (m n : Tree) (p : Proc) → scoped_place_at (root start) path ≡ Some (place path v (act (action.send m n) p)) → Takes s.facts ks (state_fact path (map σ v) ∷ fresh_fact (σ tag) ∷ []) rest → (After laws sig start hold fine s full w clean ks rest σ good path v) (msg_fact (σ tag) ((nf laws) (equations sig) (instance σ m)) ((nf laws) (equations sig) (instance σ n)) ∷ waits_fact path (map σ v ++ σ tag ∷ []) ∷ []) []
     law_out_msg m n p e takes =
         let a : Tree = (nf laws) (equations sig) (instance σ m) in
         let o : Tree = (nf laws) (equations sig) (instance σ n) in
@@ -147,7 +148,7 @@ module _ (laws : Laws) (sig : Sig) (start : Proc) (hold : HoldsBuiltins sig) (fi
         let drawn = fresh_fits (σ tag) (good tag).sorted in
         let g : ℕ = drawn.number in
         let takes' = subst (λ t. Takes s.facts ks (state_fact path (values y.env) ∷ fresh_fact t ∷ []) rest) drawn.is (subst (λ ts. Takes s.facts ks (state_fact path ts ∷ fresh_fact (σ tag) ∷ []) rest) y.bound takes) in
-        let sound = fine path v (act (action.send m n) p) e in
+        let sound = fine path (place path v (act (action.send m n) p)) e in
         let m_is = put_same σ y.env agrees m (subst (λ u. Within u m) (sym y.scope) sound.0) in
         let n_is = put_same σ y.env agrees n (subst (λ u. Within u n) (sym y.scope) sound.1) in
         let m_form : IsNormalForm (equations sig) (instance (chosen y.env) m) a = subst (λ t. IsNormalForm (equations sig) t a) m_is ((has_normal_form laws) (equations sig) (instance σ m)) in
@@ -163,7 +164,7 @@ module _ (laws : Laws) (sig : Sig) (start : Proc) (hold : HoldsBuiltins sig) (fi
         subst (λ t. (After laws sig start hold fine s full w clean ks rest σ good path v) (msg_fact t a o ∷ waits_fact path (map σ v ++ t ∷ []) ∷ []) []) (sym drawn.is)
         (subst (λ ts. (After laws sig start hold fine s full w clean ks rest σ good path v) (msg_fact (fresh g) a o ∷ waits_fact path (ts ++ fresh g ∷ []) ∷ []) []) (sym y.bound) done)
 
-    pub law_in_msg : (l k : Tree) (q : Proc) → scoped_place_at (root start) path ≡ Some (record { scope = v; body = act (action.receive l k) q }) → Takes s.facts ks (state_fact path (map σ v) ∷ msg_fact (σ tag) ((nf laws) (equations sig) (instance σ l)) ((nf laws) (equations sig) (instance σ k)) ∷ []) rest → (After laws sig start hold fine s full w clean ks rest σ good path v) (ack_fact (σ tag) ∷ state_fact (first_of path) (map σ (with_new v (tree_vars k))) ∷ []) []
+    pub law_in_msg : (l k : Tree) (q : Proc) → scoped_place_at (root start) path ≡ Some (place path v (act (action.receive l k) q)) → Takes s.facts ks (state_fact path (map σ v) ∷ msg_fact (σ tag) ((nf laws) (equations sig) (instance σ l)) ((nf laws) (equations sig) (instance σ k)) ∷ []) rest → (After laws sig start hold fine s full w clean ks rest σ good path v) (ack_fact (σ tag) ∷ state_fact (first_of path) (map σ (with_new v (tree_vars k))) ∷ []) []
     law_in_msg l k q e takes =
         let a : Tree = (nf laws) (equations sig) (instance σ l) in
         let m0 : Tree = (nf laws) (equations sig) (instance σ k) in
@@ -173,7 +174,7 @@ module _ (laws : Laws) (sig : Sig) (start : Proc) (hold : HoldsBuiltins sig) (fi
         let live = taken_each (λ f. LiveFact s.facts f) (λ i f g. record { number = i; is = g }) takes (msg_fact (σ tag) a m0) (Member.later Member.here) in
         let o = msg_owner w.agents (σ tag) a m0 (owner w.agents s live.number (msg_fact (σ tag) a m0) w.related.facts refl live.is) in
         let there = w.related.placed o.thread (awaiting o.path o.env o.m o.n a m0 o.body o.tag) o.is in
-        let sound = fine path v (act (action.receive l k) q) e in
+        let sound = fine path (place path v (act (action.receive l k) q)) e in
         let l_is = put_same σ y.env agrees l (subst (λ u. Within u l) (sym y.scope) sound.0) in
         let ns = new_vars (var_names (names y.env)) (tree_vars k) in
         let new_free' = new_free (var_names (names y.env)) (tree_vars k) in
@@ -202,7 +203,7 @@ module _ (laws : Laws) (sig : Sig) (start : Proc) (hold : HoldsBuiltins sig) (fi
         subst (λ t. (After laws sig start hold fine s full w clean ks rest σ good path v) (ack_fact t ∷ state_fact (first_of path) (map σ (with_new v (tree_vars k))) ∷ []) []) (sym o.same)
         (subst (λ ts. (After laws sig start hold fine s full w clean ks rest σ good path v) (ack_fact (fresh o.tag) ∷ state_fact (first_of path) ts ∷ []) []) (sym args) done)
 
-    pub law_out_ack : (m n : Tree) (p : Proc) → scoped_place_at (root start) path ≡ Some (record { scope = v; body = act (action.send m n) p }) → Takes s.facts ks (waits_fact path (map σ v ++ σ tag ∷ []) ∷ ack_fact (σ tag) ∷ []) rest → (After laws sig start hold fine s full w clean ks rest σ good path v) (state_fact (first_of path) (map σ v) ∷ []) []
+    pub law_out_ack : (m n : Tree) (p : Proc) → scoped_place_at (root start) path ≡ Some (place path v (act (action.send m n) p)) → Takes s.facts ks (waits_fact path (map σ v ++ σ tag ∷ []) ∷ ack_fact (σ tag) ∷ []) rest → (After laws sig start hold fine s full w clean ks rest σ good path v) (state_fact (first_of path) (map σ v) ∷ []) []
     law_out_ack m n p e takes =
         let l = head_of takes in
         let a = taken_each (λ f. LiveFact s.facts f) (λ i f g. record { number = i; is = g }) takes (ack_fact (σ tag)) (Member.later Member.here) in

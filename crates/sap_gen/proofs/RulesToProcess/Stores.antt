@@ -20,6 +20,7 @@ use Rattle.sap_gen.specs.relation.Locks.{LockFree}
 use Rattle.sap_gen.specs.relation.Relation.{running}
 use Rattle.sap_place.specs.StateFacts.{state_fact}
 use Rattle.sap_gen.specs.Places.{scoped_place_at, root}
+use Rattle.sap_process.specs.Places.{place}
 use Rattle.sap_gen.specs.Templates.{first_of, second_of}
 use Rattle.sap_locks.specs.Scopes.{lock_var}
 use Rattle.sap_gen.specs.Sound.{SoundPlaces}
@@ -48,13 +49,13 @@ use Rattle.sap_gen.proofs.RulesToProcess.Control.{After}
 
 module _ (laws : Laws) (sig : Sig) (start : Proc) (hold : HoldsBuiltins sig) (fine : SoundPlaces sig start) (s : RuleState) (full : Trace) (w : Followed sig start s full) (clean : Tidy (equations sig) s) where
   module _ (ks : List ℕ) (rest : List (Option Fact)) (σ : Choice) (good : IsMessageChoice sig σ) (path : List ℕ) (v : List Var) where
-    pub law_insert : (m n : Tree) (p : Proc) → scoped_place_at (root start) path ≡ Some (record { scope = v; body = act (action.insert m n) p }) → (x z : Tree) → (nf laws) (equations sig) (instance σ m) ≡ x → (nf laws) (equations sig) (instance σ n) ≡ z → MeetsSix (equations sig) (full ++ (insert_fact x z ∷ []) ∷ []) → Takes s.facts ks (state_fact path (map σ v) ∷ []) rest → (After laws sig start hold fine s full w clean ks rest σ good path v) (state_fact (first_of path) (map σ v) ∷ []) (insert_fact x z ∷ [])
+    pub law_insert : (m n : Tree) (p : Proc) → scoped_place_at (root start) path ≡ Some (place path v (act (action.insert m n) p)) → (x z : Tree) → (nf laws) (equations sig) (instance σ m) ≡ x → (nf laws) (equations sig) (instance σ n) ≡ z → MeetsSix (equations sig) (full ++ (insert_fact x z ∷ []) ∷ []) → Takes s.facts ks (state_fact path (map σ v) ∷ []) rest → (After laws sig start hold fine s full w clean ks rest σ good path v) (state_fact (first_of path) (map σ v) ∷ []) (insert_fact x z ∷ [])
     law_insert m n p e x z x_is z_is demands takes =
         let y = seat sig start w.agents w.pending w.c w.tr s full w.related path v (act (action.insert m n) p) σ e (head_of takes) in
         let at = w.related.placed y.thread (running path y.env (act (action.insert m n) p)) y.stands in
         let takes' = subst (λ ts. Takes s.facts ks (state_fact path ts ∷ []) rest) y.bound takes in
         let agrees : map σ (names y.env) ≡ values y.env = ap (λ z. map σ z) y.scope ∙ y.bound in
-        let sound = fine path v (act (action.insert m n) p) e in
+        let sound = fine path (place path v (act (action.insert m n) p)) e in
         let run = runs sig start w.agents w.pending w.c w.tr s full w.related y.thread (running path y.env (act (action.insert m n) p)) y.stands in
         let m_is = put_same σ y.env agrees m (subst (λ u. Within u m) (sym y.scope) sound.0) in
         let m_form : IsNormalForm (equations sig) (instance (chosen y.env) m) x = subst (λ t. IsNormalForm (equations sig) t x) m_is (subst (λ u. IsNormalForm (equations sig) (instance σ m) u) x_is ((has_normal_form laws) (equations sig) (instance σ m))) in
@@ -73,13 +74,13 @@ module _ (laws : Laws) (sig : Sig) (start : Proc) (hold : HoldsBuiltins sig) (fi
           related = (kept_store laws) sig start w.agents w.pending w.c w.tr s full w.related y.thread ks path y.env (act (action.insert m n) p) p rest (insert_fact x z ∷ []) later (no_lock_one (insert_fact x z) refl) (λ o h. h) refl refl refl (λ i k. other (k_fact i) (insert_fact x z) refl k) demands (store_insert sig w.c.store full x z w.related.traces.store message) y.stands takes' step;
         })
 
-    pub law_delete : (m : Tree) (p : Proc) → scoped_place_at (root start) path ≡ Some (record { scope = v; body = act (action.delete m) p }) → (x : Tree) → (nf laws) (equations sig) (instance σ m) ≡ x → MeetsSix (equations sig) (full ++ (delete_fact x ∷ []) ∷ []) → Takes s.facts ks (state_fact path (map σ v) ∷ []) rest → (After laws sig start hold fine s full w clean ks rest σ good path v) (state_fact (first_of path) (map σ v) ∷ []) (delete_fact x ∷ [])
+    pub law_delete : (m : Tree) (p : Proc) → scoped_place_at (root start) path ≡ Some (place path v (act (action.delete m) p)) → (x : Tree) → (nf laws) (equations sig) (instance σ m) ≡ x → MeetsSix (equations sig) (full ++ (delete_fact x ∷ []) ∷ []) → Takes s.facts ks (state_fact path (map σ v) ∷ []) rest → (After laws sig start hold fine s full w clean ks rest σ good path v) (state_fact (first_of path) (map σ v) ∷ []) (delete_fact x ∷ [])
     law_delete m p e x x_is demands takes =
         let y = seat sig start w.agents w.pending w.c w.tr s full w.related path v (act (action.delete m) p) σ e (head_of takes) in
         let at = w.related.placed y.thread (running path y.env (act (action.delete m) p)) y.stands in
         let takes' = subst (λ ts. Takes s.facts ks (state_fact path ts ∷ []) rest) y.bound takes in
         let agrees : map σ (names y.env) ≡ values y.env = ap (λ z. map σ z) y.scope ∙ y.bound in
-        let sound = fine path v (act (action.delete m) p) e in
+        let sound = fine path (place path v (act (action.delete m) p)) e in
         let run = runs sig start w.agents w.pending w.c w.tr s full w.related y.thread (running path y.env (act (action.delete m) p)) y.stands in
         let m_is = put_same σ y.env agrees m (subst (λ u. Within u m) (sym y.scope) sound) in
         let m_form : IsNormalForm (equations sig) (instance (chosen y.env) m) x = subst (λ t. IsNormalForm (equations sig) t x) m_is (subst (λ u. IsNormalForm (equations sig) (instance σ m) u) x_is ((has_normal_form laws) (equations sig) (instance σ m))) in
@@ -99,12 +100,12 @@ module _ (laws : Laws) (sig : Sig) (start : Proc) (hold : HoldsBuiltins sig) (fi
     not_held x true e free = absurd (let b = w.related.locks.part.busy x e in held_not_free full x (fresh b.0) free b.2)
     not_held x false e free = e
 
-    pub law_lock : (m : Tree) (l : ℕ) (p : Proc) → scoped_place_at (root start) path ≡ Some (record { scope = v; body = act (action.lock m l) p }) → (x : Tree) → (nf laws) (equations sig) (instance σ m) ≡ x → MeetsSix (equations sig) (full ++ (lock_fact ((nf laws) (equations sig) (σ (lock_var l))) x ∷ []) ∷ []) → Takes s.facts ks (state_fact path (map σ v) ∷ fresh_fact ((nf laws) (equations sig) (σ (lock_var l))) ∷ []) rest → (After laws sig start hold fine s full w clean ks rest σ good path v) (state_fact (first_of path) (map σ (v ++ lock_var l ∷ [])) ∷ []) (lock_fact ((nf laws) (equations sig) (σ (lock_var l))) x ∷ [])
+    pub law_lock : (m : Tree) (l : ℕ) (p : Proc) → scoped_place_at (root start) path ≡ Some (place path v (act (action.lock m l) p)) → (x : Tree) → (nf laws) (equations sig) (instance σ m) ≡ x → MeetsSix (equations sig) (full ++ (lock_fact ((nf laws) (equations sig) (σ (lock_var l))) x ∷ []) ∷ []) → Takes s.facts ks (state_fact path (map σ v) ∷ fresh_fact ((nf laws) (equations sig) (σ (lock_var l))) ∷ []) rest → (After laws sig start hold fine s full w clean ks rest σ good path v) (state_fact (first_of path) (map σ (v ++ lock_var l ∷ [])) ∷ []) (lock_fact ((nf laws) (equations sig) (σ (lock_var l))) x ∷ [])
     law_lock m l p e x x_is demands takes =
         let y = seat sig start w.agents w.pending w.c w.tr s full w.related path v (act (action.lock m l) p) σ e (head_of takes) in
         let at = w.related.placed y.thread (running path y.env (act (action.lock m l) p)) y.stands in
         let agrees : map σ (names y.env) ≡ values y.env = ap (λ u. map σ u) y.scope ∙ y.bound in
-        let sound = fine path v (act (action.lock m l) p) e in
+        let sound = fine path (place path v (act (action.lock m l) p)) e in
         let within : Within (names y.env) m = subst (λ u. Within u m) (sym y.scope) sound.0 in
         let drawn = fresh_fits (σ (lock_var l)) (good (lock_var l)).sorted in
         let n : ℕ = drawn.number in
@@ -129,12 +130,12 @@ module _ (laws : Laws) (sig : Sig) (start : Proc) (hold : HoldsBuiltins sig) (fi
           related = (kept_lock laws) sig start w.agents w.pending w.c w.tr s full w.related y.thread n ks path y.env m l p x rest absent sound.2 within m_form free y.stands takes' step;
         }))
 
-    pub law_unlock : (m : Tree) (l : ℕ) (p : Proc) → scoped_place_at (root start) path ≡ Some (record { scope = v; body = act (action.unlock m l) p }) → (x : Tree) → (nf laws) (equations sig) (instance σ m) ≡ x → Takes s.facts ks (state_fact path (map σ v) ∷ []) rest → (After laws sig start hold fine s full w clean ks rest σ good path v) (state_fact (first_of path) (map σ v) ∷ []) (unlock_fact ((nf laws) (equations sig) (σ (lock_var l))) x ∷ [])
+    pub law_unlock : (m : Tree) (l : ℕ) (p : Proc) → scoped_place_at (root start) path ≡ Some (place path v (act (action.unlock m l) p)) → (x : Tree) → (nf laws) (equations sig) (instance σ m) ≡ x → Takes s.facts ks (state_fact path (map σ v) ∷ []) rest → (After laws sig start hold fine s full w clean ks rest σ good path v) (state_fact (first_of path) (map σ v) ∷ []) (unlock_fact ((nf laws) (equations sig) (σ (lock_var l))) x ∷ [])
     law_unlock m l p e x x_is takes =
         let y = seat sig start w.agents w.pending w.c w.tr s full w.related path v (act (action.unlock m l) p) σ e (head_of takes) in
         let takes' = subst (λ ts. Takes s.facts ks (state_fact path ts ∷ []) rest) y.bound takes in
         let agrees : map σ (names y.env) ≡ values y.env = ap (λ z. map σ z) y.scope ∙ y.bound in
-        let sound = fine path v (act (action.unlock m l) p) e in
+        let sound = fine path (place path v (act (action.unlock m l) p)) e in
         let run = runs sig start w.agents w.pending w.c w.tr s full w.related y.thread (running path y.env (act (action.unlock m l) p)) y.stands in
         let m_is = put_same σ y.env agrees m (subst (λ u. Within u m) (sym y.scope) sound.0) in
         let m_form : IsNormalForm (equations sig) (instance (chosen y.env) m) x = subst (λ t. IsNormalForm (equations sig) t x) m_is (subst (λ u. IsNormalForm (equations sig) (instance σ m) u) x_is ((has_normal_form laws) (equations sig) (instance σ m))) in
@@ -150,13 +151,13 @@ module _ (laws : Laws) (sig : Sig) (start : Proc) (hold : HoldsBuiltins sig) (fi
           related = (kept_unlock laws) sig start w.agents w.pending w.c w.tr s full w.related y.thread ks path y.env m l p x ((nf laws) (equations sig) (σ (lock_var l))) rest given m_form y.stands takes' step;
         })
 
-    pub law_missing : (m : Tree) (a : Var) (p q : Proc) → scoped_place_at (root start) path ≡ Some (record { scope = v; body = whole.lookup m a p q }) → (x : Tree) → (nf laws) (equations sig) (instance σ m) ≡ x → MeetsSix (equations sig) (full ++ (is_not_set_fact x ∷ []) ∷ []) → Takes s.facts ks (state_fact path (map σ v) ∷ []) rest → (After laws sig start hold fine s full w clean ks rest σ good path v) (state_fact (second_of path) (map σ v) ∷ []) (is_not_set_fact x ∷ [])
+    pub law_missing : (m : Tree) (a : Var) (p q : Proc) → scoped_place_at (root start) path ≡ Some (place path v (whole.lookup m a p q)) → (x : Tree) → (nf laws) (equations sig) (instance σ m) ≡ x → MeetsSix (equations sig) (full ++ (is_not_set_fact x ∷ []) ∷ []) → Takes s.facts ks (state_fact path (map σ v) ∷ []) rest → (After laws sig start hold fine s full w clean ks rest σ good path v) (state_fact (second_of path) (map σ v) ∷ []) (is_not_set_fact x ∷ [])
     law_missing m a p q e x x_is demands takes =
         let y = seat sig start w.agents w.pending w.c w.tr s full w.related path v (whole.lookup m a p q) σ e (head_of takes) in
         let at = w.related.placed y.thread (running path y.env (whole.lookup m a p q)) y.stands in
         let takes' = subst (λ ts. Takes s.facts ks (state_fact path ts ∷ []) rest) y.bound takes in
         let agrees : map σ (names y.env) ≡ values y.env = ap (λ z. map σ z) y.scope ∙ y.bound in
-        let sound = fine path v (whole.lookup m a p q) e in
+        let sound = fine path (place path v (whole.lookup m a p q)) e in
         let run = runs sig start w.agents w.pending w.c w.tr s full w.related y.thread (running path y.env (whole.lookup m a p q)) y.stands in
         let m_is = put_same σ y.env agrees m (subst (λ u. Within u m) (sym y.scope) sound.0) in
         let m_form : IsNormalForm (equations sig) (instance (chosen y.env) m) x = subst (λ t. IsNormalForm (equations sig) t x) m_is (subst (λ u. IsNormalForm (equations sig) (instance σ m) u) x_is ((has_normal_form laws) (equations sig) (instance σ m))) in
@@ -172,13 +173,13 @@ module _ (laws : Laws) (sig : Sig) (start : Proc) (hold : HoldsBuiltins sig) (fi
           related = (kept_branch laws) sig start w.agents w.pending w.c w.tr s full w.related y.thread ks path 2 y.env (whole.lookup m a p q) q rest (is_not_set_fact x ∷ []) (no_lock_one (is_not_set_fact x) refl) (λ o h. h.1) refl refl refl (λ i k. other (k_fact i) (is_not_set_fact x) refl k) demands (no_write_one (is_not_set_fact x) refl) y.stands takes' step;
         })
 
-    pub law_found : (m : Tree) (a : Var) (p q : Proc) → scoped_place_at (root start) path ≡ Some (record { scope = v; body = whole.lookup m a p q }) → (x : Tree) → (nf laws) (equations sig) (instance σ m) ≡ x → MeetsSix (equations sig) (full ++ (is_in_fact x (σ (message_var a)) ∷ []) ∷ []) → Takes s.facts ks (state_fact path (map σ v) ∷ []) rest → (After laws sig start hold fine s full w clean ks rest σ good path v) (state_fact (first_of path) (map σ (v ++ message_var a ∷ [])) ∷ []) (is_in_fact x (σ (message_var a)) ∷ [])
+    pub law_found : (m : Tree) (a : Var) (p q : Proc) → scoped_place_at (root start) path ≡ Some (place path v (whole.lookup m a p q)) → (x : Tree) → (nf laws) (equations sig) (instance σ m) ≡ x → MeetsSix (equations sig) (full ++ (is_in_fact x (σ (message_var a)) ∷ []) ∷ []) → Takes s.facts ks (state_fact path (map σ v) ∷ []) rest → (After laws sig start hold fine s full w clean ks rest σ good path v) (state_fact (first_of path) (map σ (v ++ message_var a ∷ [])) ∷ []) (is_in_fact x (σ (message_var a)) ∷ [])
     law_found m a p q e x x_is demands takes =
         let y = seat sig start w.agents w.pending w.c w.tr s full w.related path v (whole.lookup m a p q) σ e (head_of takes) in
         let at = w.related.placed y.thread (running path y.env (whole.lookup m a p q)) y.stands in
         let takes' = subst (λ ts. Takes s.facts ks (state_fact path ts ∷ []) rest) y.bound takes in
         let agrees : map σ (names y.env) ≡ values y.env = ap (λ z. map σ z) y.scope ∙ y.bound in
-        let sound = fine path v (whole.lookup m a p q) e in
+        let sound = fine path (place path v (whole.lookup m a p q)) e in
         let run = runs sig start w.agents w.pending w.c w.tr s full w.related y.thread (running path y.env (whole.lookup m a p q)) y.stands in
         let m_is = put_same σ y.env agrees m (subst (λ u. Within u m) (sym y.scope) sound.0) in
         let m_form : IsNormalForm (equations sig) (instance (chosen y.env) m) x = subst (λ t. IsNormalForm (equations sig) t x) m_is (subst (λ u. IsNormalForm (equations sig) (instance σ m) u) x_is ((has_normal_form laws) (equations sig) (instance σ m))) in

@@ -16,6 +16,7 @@ use Rattle.sap_gen.specs.ChannelFacts.{fresh_fact, msg_fact, ack_fact}
 use Rattle.sap_gen.specs.relation.Relation.{Agent, running, awaiting, received, process_of, IsAt, count_live, count_owed, count_tag, is_unborn, has_init, Related, count_user}
 use Rattle.sap_place.specs.StateFacts.{state_fact, waits_fact}
 use Rattle.sap_gen.specs.Places.{scoped_place_at, root}
+use Rattle.sap_process.specs.Places.{place}
 use Rattle.sap_gen.specs.Templates.{first_of}
 use Rattle.sap_locks.specs.Scopes.{with_new}
 use Rattle.sap_process.specs.Configuration.{Config, becomes}
@@ -99,7 +100,7 @@ module _ (sig : Sig) (start : Proc) (agents : List (Option Agent)) (pending : Op
       let new_free : (y : Var) → Member y (names τ) → IsFree y (names other) = λ y h. free_of (var_names (names other)) (tree_vars k) y (subst (λ v. Member y v) new_names h) in
       record {
         placed = placed_set sig start mid b (running (first_of at) (join other τ) q) (placed_set sig start agents a (received path env m n p g) r.placed here)
-            (subst (λ v. scoped_place_at (root start) (first_of at) ≡ Some (record { scope = v; body = q })) scope (spot_below (root start) at 1 (record { scope = names other; body = act (action.receive l k) q }) (record { scope = with_new (names other) (tree_vars k); body = q }) there.0 refl), good-append sig other τ there.1 ground new_free);
+            (subst (λ v. scoped_place_at (root start) (first_of at) ≡ Some (place (first_of at) v q)) scope (spot_below (root start) at 1 (place at (names other) (act (action.receive l k) q)) (place (first_of at) (with_new (names other) (tree_vars k)) q) there.0 refl), good-append sig other τ there.1 ground new_free);
         threads = ap (λ ts. slice_set (slice_set ts a (Some (process_instance (chosen env) p))) b (Some inner)) r.threads
             ∙ ap (λ ts. slice_set ts b (Some (process_instance (chosen (join other τ)) q))) (sym (map-set (option_map process_of) agents a new_a))
             ∙ sym (map-set (option_map process_of) mid b new_b);
@@ -122,7 +123,7 @@ module _ (sig : Sig) (start : Proc) (agents : List (Option Agent)) (pending : Op
       let old : Option Agent = Some (received path env m n p g) in
       let right : List Fact = state_fact (first_of path) (values env) ∷ [] in
       record {
-        placed = placed_set sig start agents t (running (first_of path) env p) r.placed (spot_below (root start) path 1 (record { scope = names env; body = act (action.send m n) p }) (record { scope = names env; body = p }) here.0 refl, here.1);
+        placed = placed_set sig start agents t (running (first_of path) env p) r.placed (spot_below (root start) path 1 (place path (names env) (act (action.send m n) p)) (place (first_of path) (names env) p) here.0 refl, here.1);
         threads = r.threads ∙ sym (map-set_same (option_map process_of) agents t old new e refl);
         facts = λ test. let owed = total-set (count_owed test) agents t old new e in let live = takes_total (count_live test) refl takes in let more = total-append (count_live test) rest (map (λ f. Some f) right) in let equal = r.facts test in omega arith;
         pile = λ test. let live = takes_total (count_user test) refl takes in let more = total-append (count_user test) rest (map (λ f. Some f) right) in let equal = r.pile test in omega arith;

@@ -12,6 +12,7 @@ use Rattle.sap_gen.specs.OpenLocks.{UnlocksAreOpen}
 use Rattle.sap_gen.specs.relation.Locks.{Holder, LockPart}
 use Rattle.sap_place.specs.StateFacts.{state_fact, copies_fact, waits_fact}
 use Rattle.sap_gen.specs.Places.{scoped_place_at, root}
+use Rattle.sap_process.specs.Places.{place}
 use Rattle.sap_locks.specs.Scopes.{lock_var}
 use Rattle.sap_process.specs.Configuration.{Config, CanGive, initial}
 use Rattle.sap_process.specs.Instance.{process_instance}
@@ -70,7 +71,7 @@ stands_as (received path env m n body g) = ack_fact (fresh g) ∷ waits_fact pat
 
 -- in the start process this stands at the path, with the variables of env in scope, and what they stand for are messages
 abbrev pub IsAt : Sig → Proc → List ℕ → Env → Proc → Type 0
-IsAt g start path env body = (scoped_place_at (root start) path ≡ Some (record { scope = names env; body = body })) × GoodEnv g env
+IsAt g start path env body = (scoped_place_at (root start) path ≡ Some (place path (names env) body)) × GoodEnv g env
 
 -- the thread stands where it says, and what it sent is in normal form
 abbrev pub Placed : Sig → Proc → Agent → Type 0
