@@ -12,6 +12,7 @@
 #   vars    one embedded rule with so many occurrences of one variable
 #   names   so many doubling `let` items, of which the process uses the last; counted, and refused
 #   items   so many functions that are declared, up to a file of 1 MiB
+#   lemmas  so many lemmas, up to 12,000 in 0.9 MB
 # usage: bench/compile.sh [TURNS]
 set -e
 cd "$(dirname "$0")/.."
@@ -100,6 +101,14 @@ items() {
     }'
 }
 
+lemmas() {
+    awk -v n="$1" 'BEGIN {
+        printf "theory Bench begin process: event Sent(\047a\047) "
+        for (k = 1; k <= n; k++) printf "lemma l%d: \"All x #i. Sent(x)@i ==> (Ex #j. Seen(x)@j & #j < #i)\" ", k
+        print "end"
+    }'
+}
+
 nanoseconds() { date +%s%N; }
 
 # What so many turns on this file take, with the growth since the line before.
@@ -146,3 +155,4 @@ kind facts 250 500 1000 2000
 kind vars 65000 130000 260000 520000
 kind names 500 1000 2000 4000 8000 16000
 kind items 4000 8000 16000 32000
+kind lemmas 1500 3000 6000 12000

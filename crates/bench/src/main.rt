@@ -1,5 +1,6 @@
 //! Counts what calls of the libraries give on an input of so large a size that a script can time them. The words are `facts N`,
-//! `guard N`, `judge TIMES`, `knowledge N`, `normal ROUNDS NODES`, `steps RULES N` or `tokens FILE`; with none each kind is counted once on a small input.
+//! `guard N`, `judge TIMES`, `knowledge N`, `normal ROUNDS NODES`, `share N`, `steps RULES N` or `tokens FILE`; with none each
+//! kind is counted once on a small input.
 #![tactic(auto)]
 
 mod facts;
@@ -8,6 +9,7 @@ mod judge;
 mod knowledge;
 mod made;
 mod normal;
+mod share;
 mod steps;
 
 use sap_text::tokens;
@@ -22,6 +24,7 @@ fn count(alloc: Global, kind: &str, first: u64, second: u64) -> Option<u64> {
         "judge" => judge::judged_on(alloc, first),
         "knowledge" => knowledge::nodes_of(alloc, first),
         "normal" => normal::nodes_of(alloc, second, first),
+        "share" => share::numbers_of(alloc, first),
         _ => steps::shown_by(alloc, second, first),
     }
 }
@@ -41,7 +44,15 @@ fn number(words: &Vec<String>, place: usize) -> u64 {
 
 // What each kind counts on a small input.
 fn tell_each(rt: &HostRuntime) -> io::Result<()> {
-    for kind in ["facts", "guard", "judge", "knowledge", "normal", "steps"] {
+    for kind in [
+        "facts",
+        "guard",
+        "judge",
+        "knowledge",
+        "normal",
+        "share",
+        "steps",
+    ] {
         let counted = count(rt.alloc(), kind, 20, 1000);
         println!(rt; "{kind} {counted:?}")?;
     }

@@ -5,6 +5,7 @@ use Rattle.std.proofs.lemmas.Bool.{cases_lt}
 use Rattle.sap_formula.specs.Form.{Form}
 use Rattle.sap_terms.specs.Signature.{Sig}
 use Rattle.sap_formula.specs.Faults.{HasFault, HasNoFault, IsFaultAt, IsFirstFault, rank, told}
+use Rattle.sap_formula.specs.Laws.{SomeFaultLaw}
 use Rattle.sap_formula.specs.Parts.{Part, part_name, form_parts}
 use Rattle.sap_formula.specs.code.Tests.{has_fault, first_name, with_fault, first_fault}
 use Rattle.sap_formula.specs.declared.fault.FormulaFlaw.{FormulaFlaw}
@@ -208,10 +209,22 @@ abbrev error_in : {T : Type 0} → Result T FormulaFault → FormulaFault
 error_in (Ok x) = Mem
 error_in (Err e) = e
 
+-- and one that is found counts
+pub found-counts : (g : Sig) (r : Bool) (f : Form) (u : FormulaFlaw) (found : List ℕ) → first_fault g r flaws (form_parts [] f) ≡ Some (u, found) → IsFirstFault g r f u found
+found-counts g r f u found h = one-of g r f flaws 1 u found ascending (none-below g r f) h
+
+-- so a formula has no fault, or one that counts
+pub some_fault : SomeFaultLaw
+some_fault g r f = by (first_fault g r flaws (form_parts [] f)) refl
+  where
+    by : (o : Option (FormulaFlaw × List ℕ)) → first_fault g r flaws (form_parts [] f) ≡ o → HasNoFault g r f ⊎ ((w : FormulaFlaw) × (name : List ℕ) × IsFirstFault g r f w name)
+    by None h = inl (faultless g r f h)
+    by (Some found) h = inr (found.0, found.1, found-counts g r f found.0 found.1 h)
+
 -- and one that is found and told counts
 pub first-counts : {T : Type 0} (g : Sig) (r : Bool) (f : Form) (u w : FormulaFlaw) (found name : List ℕ) (x : FormulaFault) → first_fault g r flaws (form_parts [] f) ≡ Some (u, found) → x ≡ told u found → IsErrOf {T = T} {E = FormulaFault} (Err x) (told w name) → IsFirstFault g r f w name
 first-counts {T} g r f u w found name x h t e =
     let same : told u found ≡ told w name = sym t ∙ ap (error_in {T = T}) e in
     let flaw : u ≡ w = sym (flaw-told u found) ∙ ap flaw_of same ∙ flaw-told w name in
     let names : found ≡ name = sym (name-told u found) ∙ ap name_of same ∙ name-told w name in
-    subst (λ (z : FormulaFlaw). IsFirstFault g r f z name) flaw (subst (IsFirstFault g r f u) names (one-of g r f flaws 1 u found ascending (none-below g r f) h))
+    subst (λ (z : FormulaFlaw). IsFirstFault g r f z name) flaw (subst (IsFirstFault g r f u) names (found-counts g r f u found h))

@@ -1,5 +1,5 @@
 -- The laws of checked formulas.
-use Rattle.std.specs.Prelude.{◌≡◌, ℕ, Bool, true, false, ◌↔◌, List, []}
+use Rattle.std.specs.Prelude.{◌≡◌, ℕ, Bool, true, false, ◌↔◌, ◌⊎◌, List, []}
 use Rattle.sap_formula.specs.Checked.{BindsOnce, IsChecked}
 use Rattle.sap_formula.specs.Faults.{HasNoFault, IsFirstFault}
 use Rattle.sap_formula.specs.Form.{Form}
@@ -58,3 +58,7 @@ OneFaultLaw =
 -- and then the formula isn't without a fault
 abbrev pub NoFaultLaw : Type 0
 NoFaultLaw = (g : Sig) (r : Bool) (f : Form) (w : FormulaFlaw) (name : List ℕ) → IsFirstFault g r f w name → HasNoFault g r f → ⊥
+
+-- a formula has no fault, or one that counts
+abbrev pub SomeFaultLaw : Type 0
+SomeFaultLaw = (g : Sig) (r : Bool) (f : Form) → HasNoFault g r f ⊎ ((w : FormulaFlaw) × (name : List ℕ) × IsFirstFault g r f w name)

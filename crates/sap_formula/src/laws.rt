@@ -6,7 +6,7 @@ ghost use Rattle.sap_terms.specs.Trace.{Trace};
 ghost use Rattle.sap_formula.specs.Truth.{EachIn, IsTrueOn};
 ghost use Rattle.sap_formula.specs.HoldsOf.{HoldsOf};
 ghost use Rattle.sap_formula.specs.Examples.{a, b, x, fresh_x, public_x, fact, other_fact, trace_a, trace_aa, trace_ab, IsEither, only_a, some_time, two_times, some_b, two_binders, first_of_pair, first_is, one_time_alone, true_ones, false_ones};
-ghost use Rattle.sap_formula.specs.Laws.{SubtermLaw, HiddenBinderLaw, HideLaw, CheckLaw, ClosedLaw, OneFaultLaw, NoFaultLaw};
+ghost use Rattle.sap_formula.specs.Laws.{SubtermLaw, HiddenBinderLaw, HideLaw, CheckLaw, ClosedLaw, OneFaultLaw, NoFaultLaw, SomeFaultLaw};
 
 use crate::Mode;
 use sap_rewrite::normal_terms_decide;
@@ -80,4 +80,9 @@ pub fn faultless_formulas_are_checked()
 pub fn one_fault()
     ensures fault { OneFaultLaw }
     ensures none { NoFaultLaw }
+{}
+
+/// A formula has no fault, or one that counts.
+pub fn some_fault()
+    ensures { SomeFaultLaw }
 {}

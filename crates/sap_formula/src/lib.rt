@@ -29,8 +29,8 @@ pub use checking::check;
 pub use fault::{FormulaFault, FormulaFlaw};
 pub use formula::Formula;
 pub use laws::{
-    faultless_formulas_are_checked, hiding_keeps_truth, lemmas_by_hand, one_fault, truth_by_hand,
-    variables_range_over_subterms,
+    faultless_formulas_are_checked, hiding_keeps_truth, lemmas_by_hand, one_fault, some_fault,
+    truth_by_hand, variables_range_over_subterms,
 };
 pub use lemma::{Lemma, LemmaList, Mode};
 pub use restriction::{Restriction, RestrictionList};

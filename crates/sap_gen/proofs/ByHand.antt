@@ -1,3 +1,7 @@
+pub mod Moves
+pub mod Lacking
+pub mod RuleRuns
+pub mod Tags
 pub mod Parts
 pub mod Traces
 pub mod Lacks

@@ -9,3 +9,5 @@ pub mod RulesToProcess
 pub mod Premises
 pub mod Restricted
 pub mod ByHand
+pub mod Lemmas
+pub mod Related

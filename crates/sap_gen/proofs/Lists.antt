@@ -1,4 +1,5 @@
 pub mod Totals
+pub mod Numbers
 pub mod Lookups
 pub mod FactLists
 pub mod Takings

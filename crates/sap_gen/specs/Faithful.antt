@@ -31,8 +31,3 @@ AreRestrictionsTrue g rs tr = AreTrueOn g (map (λ (r : RestrictionForm). r.form
 -- this is seen of some run of the theory's rules on whose full trace the theory's restrictions are true
 abbrev pub IsShownBy : Theory → Trace → Type 0
 IsShownBy t tr = (full : Trace) × IsFullTrace t.signature t.rules full × AreRestrictionsTrue t.signature t.restrictions full × (hide full ≡ tr)
-
--- what the theory shows, where its restrictions are true, is what the process shows
-pub record IsFaithful (g : Sig) (p : Proc) (t : Theory) : Type 0 where
-  pub all : (tr : Trace) → IsProcessTrace g p tr → IsShownBy t tr
-  pub only : (tr : Trace) → IsShownBy t tr → IsProcessTrace g p tr

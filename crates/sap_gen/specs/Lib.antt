@@ -7,6 +7,8 @@ pub mod Scoped
 pub mod OpenLocks
 pub mod Sound
 pub mod Faithful
+pub mod Kept
 pub mod relation
 pub mod code
 pub mod Examples
+pub mod LemmaExamples

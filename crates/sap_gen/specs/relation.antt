@@ -1,11 +1,19 @@
--- What the proofs say of states on both sides, and of processes, variables and rules: no theorem of runs speaks of it.
+-- The relation between both sides, of which its laws speak, and what the proofs say besides: no theorem of runs speaks of it.
 pub mod Totals
 pub mod Names
 pub mod Envs
 pub mod Modulo
 pub mod Locks
-pub mod Relation
+pub mod Agents
+pub mod Counts
+pub mod Related
 pub mod Spelled
 pub mod Tidy
 pub mod Labels
 pub mod Shown
+pub mod ProcessMoves
+pub mod RuleMoves
+pub mod Answers
+pub mod Answered
+pub mod Follows
+pub mod Followed

@@ -2,8 +2,9 @@
 ghost use Rattle.std.specs.Prelude.{◌≡◌, [], ◌∷◌, ◌++◌, IfOk, OnOk, unwrap_or};
 ghost use Rattle.sap_terms.specs.Path.{IsDigit};
 ghost use Rattle.sap_process.specs.Proc.{proc};
+ghost use Rattle.sap_gen.specs.Places.{scope_handed_down};
 ghost use Rattle.sap_gen.specs.Templates.{place_rules, rules_of};
-ghost use Rattle.sap_gen.specs.code.Inside.{rules_below, scope_inside};
+ghost use Rattle.sap_gen.specs.code.Inside.{rules_below};
 
 use crate::rules::{add_own, init_rule};
 use sap_place::{path_below, with_lock, with_pattern, with_rule, with_var};
@@ -60,7 +61,7 @@ fn add_from(
     inner: &Vars,
     rules: &mut RuleList,
 ) -> Result<(), Mem>
-    requires { inner.now ≡ scope_inside scope.now (proc p.now) }
+    requires { inner.now ≡ scope_handed_down scope.now (proc p.now) 1 }
     ensures { OnOk result (rules.new ≡ rules.old ++ place_rules path.now scope.now (proc p.now)) }
 {
     add_own(p, alloc, path, scope, inner, rules)?;
@@ -122,7 +123,7 @@ fn add_child(
 
 // The scope at the first child, where the place binds something.
 fn grown_scope(alloc: Global, scope: &Vars, p: &Process) -> Result<Option<Vars>, Mem>
-    ensures { IfOk result (λ o. unwrap_or o scope.now ≡ scope_inside scope.now (proc p.now)) }
+    ensures { IfOk result (λ o. unwrap_or o scope.now ≡ scope_handed_down scope.now (proc p.now) 1) }
 {
     match p {
         Process::New(x, _) => Ok(Some(with_var(alloc, scope, x, Sort::Fresh)?)),

@@ -1,16 +1,16 @@
 //! Laws of the rules of a process, as contracts of functions that only call the laws below.
 ghost use Rattle.std.specs.List.{flat_map};
 ghost use Rattle.std.specs.Prelude.{[], All, Contains, List, Some, ◌<◌, ◌^◌, ◌≡◌, ◌∷◌, ◌↔◌, ℕ};
-ghost use Rattle.sap_formula.specs.Form.{LemmaForm};
-ghost use Rattle.sap_gen.specs.Faithful.{AreRestrictionsTrue, IsFaithful, ShowsAll, ShowsOnly};
+ghost use Rattle.sap_gen.specs.Faithful.{AreRestrictionsTrue, ShowsAll, ShowsOnly};
+ghost use Rattle.sap_gen.specs.Kept.{IsClosedTheory, KeepsFile, KeepsFileInlined, file_theory, inlined_file_theory};
 ghost use Rattle.sap_gen.specs.Places.{ScopedPlace, scope_handed_down};
 ghost use Rattle.sap_gen.specs.Sound.{IsSound};
 ghost use Rattle.sap_gen.specs.Templates.{init_rule, own_rules, rules_of};
-ghost use Rattle.sap_gen.specs.Theories.{theory_of};
 ghost use Rattle.sap_locks.specs.Annotation.{IsAnnotation};
 ghost use Rattle.sap_process.specs.Places.{places};
 ghost use Rattle.sap_process.specs.Proc.{Proc, node_count};
 ghost use Rattle.sap_process.specs.Ready.{IsReady};
+ghost use Rattle.sap_read.specs.Files.{FileContent, IsRunnable};
 ghost use Rattle.sap_restrict.specs.Restrictions.{needed_restrictions};
 ghost use Rattle.sap_restrict.specs.Standard.{IsAdmitted};
 ghost use Rattle.sap_rule.specs.Named.{HaveNamesOfTheirOwn};
@@ -22,8 +22,9 @@ ghost use Rattle.sap_terms.specs.Signature.{HoldsBuiltins, Sig, arity_of};
 ghost use Rattle.sap_terms.specs.Trace.{Trace};
 ghost use Rattle.sap_terms.specs.declared.var.Var.{Var};
 
+use sap_formula::{faultless_formulas_are_checked, hiding_keeps_truth};
 use sap_process::instances_of_processes;
-use sap_restrict::restrictions_say_sentences;
+use sap_restrict::{inlining_keeps_lemmas, restrictions_say_sentences};
 use sap_rewrite::{
     each_term_has_a_normal_form, equality_is_kept, forms_are_messages, normal_forms_are_unique,
 };
@@ -49,12 +50,14 @@ pub fn rules_show_the_process()
     restrictions_say_sentences();
 }
 
-/// A law: so it is with the theory of the process, where its file has no restrictions of its own: the visible traces of those
-/// runs of its rules on whose full traces the restrictions that the process needs are true are exactly the traces of the
-/// process.
-pub fn theories_show_the_process()
-    ensures { (name : List ℕ) (g : Sig) (p q : Proc) (lemmas : List LemmaForm) → HoldsBuiltins g → IsReady g p
-        → node_count p < 2 ^ 64 → IsAnnotation p q → IsFaithful g q (theory_of name g q [] lemmas) }
+/// A law: the theory of a file that can be run keeps it. It has the file's name, signature and lemmas, and its restrictions
+/// behind those that the process needs; admitted runs of its rules show exactly the traces of the process, and runs on whose
+/// full traces its restrictions are true show exactly those on which the file's are; and each lemma holds of the theory exactly
+/// where it holds of the file. The theory whose lemmas carry all these restrictions keeps it in the same way: it has none
+/// itself.
+pub fn theories_keep_files()
+    ensures plain { (f : FileContent) → IsRunnable f → KeepsFile f (file_theory f) }
+    ensures inlined { (f : FileContent) → IsRunnable f → KeepsFileInlined f (inlined_file_theory f) }
 {
     leaves_are_normal();
     each_term_has_a_normal_form();
@@ -63,6 +66,17 @@ pub fn theories_show_the_process()
     forms_are_messages();
     instances_of_processes();
     restrictions_say_sentences();
+    hiding_keeps_truth();
+    inlining_keeps_lemmas();
+}
+
+/// A law: each restriction and each lemma of both theories of a file that can be run is checked where facts may have any names,
+/// so that who reads them back without looking for reserved names refuses none.
+pub fn theories_are_closed()
+    ensures plain { (f : FileContent) → IsRunnable f → IsClosedTheory (file_theory f) }
+    ensures inlined { (f : FileContent) → IsRunnable f → IsClosedTheory (inlined_file_theory f) }
+{
+    faultless_formulas_are_checked();
 }
 
 /// A law: the rules of a process are the rule that starts it and, in preorder, those of its places, each with the variables that

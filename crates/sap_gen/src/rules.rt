@@ -1,9 +1,9 @@
 //! The rules of one place, by the form that stands there.
 ghost use Rattle.std.specs.Prelude.{◌≡◌, [], ◌∷◌, ◌++◌, IfOk, OnOk};
 ghost use Rattle.sap_process.specs.Proc.{proc};
+ghost use Rattle.sap_gen.specs.Places.{scope_handed_down};
 ghost use Rattle.sap_gen.specs.Templates as templates;
 ghost use Rattle.sap_gen.specs.Templates.{own_rules};
-ghost use Rattle.sap_gen.specs.code.Inside.{scope_inside};
 
 mod channels;
 mod control;
@@ -37,7 +37,7 @@ pub fn add_own(
     inner: &Vars,
     rules: &mut RuleList,
 ) -> Result<(), Mem>
-    requires { inner.now ≡ scope_inside scope.now (proc p.now) }
+    requires { inner.now ≡ scope_handed_down scope.now (proc p.now) 1 }
     ensures { OnOk result (rules.new ≡ rules.old ++ own_rules path.now scope.now (proc p.now)) }
 {
     match p {

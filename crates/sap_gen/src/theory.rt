@@ -1,30 +1,56 @@
 //! The theory of a file.
-ghost use Rattle.std.specs.Prelude.{◌≡◌, ◌++◌, false, IfOk, OnOk};
+ghost use Rattle.std.specs.Prelude.{◌≡◌, ◌++◌, true, false, map, IfOk, OnOk};
 ghost use Rattle.sap_process.specs.Proc.{proc};
+ghost use Rattle.sap_read.specs.Files.{told_by};
+ghost use Rattle.sap_restrict.specs.Inline.{formulas};
 ghost use Rattle.sap_restrict.specs.Restrictions.{needed_restrictions};
+ghost use Rattle.sap_gen.specs.Kept.{file_theory, inlined_file_theory};
+ghost use Rattle.sap_gen.specs.Templates.{rules_of};
 ghost use Rattle.sap_gen.specs.Theories as theories;
 
 use crate::generate;
-use sap_formula::RestrictionList;
+use sap_formula::{Lemma, LemmaList, RestrictionList};
 use sap_process::Process;
 use sap_read::File;
-use sap_restrict::needed_restrictions;
+use sap_restrict::{inline, needed_restrictions};
 use sap_rule::Theory;
 use sap_terms::{Copied, Mem};
 use std::alloc::Global;
 
 /// The theory of a file whose process is annotated: the file's name and signature, the rules of the process, the
-/// restrictions that it needs and then the file's own, and the file's lemmas. Want of memory is the only error.
-///
-/// Restrictions are not put into the lemmas yet, so nothing is asked to be inlined.
-pub fn theory_of(alloc: Global, f: &File, _inlined: bool) -> Result<Theory, Mem>
-    requires apart { _inlined ≡ false }
-    ensures { IfOk result (λ t. t ≡ theories.theory_of f.now.name f.now.signature
-        (proc f.now.process) f.now.restrictions f.now.lemmas) }
+/// restrictions that it needs and then the file's own, and the file's lemmas. Where these are to be inlined the theory has no
+/// restrictions, and each lemma carries a copy of all of them in its formula. Want of memory is the only error.
+pub fn theory_of(alloc: Global, f: &File, inlined: bool) -> Result<Theory, Mem>
+    ensures plain { inlined ≡ false → IfOk result (λ t. t ≡ file_theory (told_by f.now)) }
+    ensures inlined { inlined ≡ true → IfOk result (λ t. t ≡ inlined_file_theory (told_by f.now)) }
+{
+    let all = restrictions_of(alloc, &f.process, &f.restrictions)?;
+    if inlined {
+        let lemmas = inlined_lemmas(alloc, &all, &f.lemmas)?;
+        let none = RestrictionList::new(alloc);
+        theory_with(alloc, f, none, lemmas)
+    } else {
+        let lemmas = f.lemmas.copy(alloc)?;
+        theory_with(alloc, f, all, lemmas)
+    }
+}
+
+// The file's name and signature and the rules of its process, with these restrictions and lemmas.
+fn theory_with(
+    alloc: Global,
+    f: &File,
+    restrictions: RestrictionList,
+    lemmas: LemmaList,
+) -> Result<Theory, Mem>
+    ensures { IfOk result (λ t. t ≡ record {
+      name = f.now.name;
+      signature = f.now.signature;
+      rules = rules_of (proc f.now.process);
+      restrictions = restrictions;
+      lemmas = lemmas;
+    }) }
 {
     let rules = generate(alloc, &f.signature, &f.process)?;
-    let restrictions = restrictions_of(alloc, &f.process, &f.restrictions)?;
-    let lemmas = f.lemmas.copy(alloc)?;
     let name = f.name.copy(alloc)?;
     let signature = f.signature.copy(alloc)?;
     Ok(Theory {
@@ -61,4 +87,33 @@ fn add_restrictions(
         all.push(other.copy(alloc)?)?;
     }
     Ok(())
+}
+
+// The lemmas, each with these restrictions in its formula.
+fn inlined_lemmas(
+    alloc: Global,
+    restrictions: &RestrictionList,
+    lemmas: &LemmaList,
+) -> Result<LemmaList, Mem>
+    ensures { IfOk result (λ ls. ls ≡ map (theories.inlined_lemma (formulas restrictions.now)) lemmas.now) }
+{
+    let mut inlined = LemmaList::new(alloc);
+    for lemma in lemmas.as_slice() {
+        inlined.push(inlined_lemma(alloc, restrictions, lemma)?)?;
+    }
+    Ok(inlined)
+}
+
+// The lemma with these restrictions in its formula.
+fn inlined_lemma(alloc: Global, restrictions: &RestrictionList, l: &Lemma) -> Result<Lemma, Mem>
+    ensures { IfOk result (λ m. m ≡ theories.inlined_lemma (formulas restrictions.now) l.now) }
+{
+    let name = l.name.copy(alloc)?;
+    let attributes = l.attributes.copy(alloc)?;
+    Ok(Lemma {
+        name,
+        attributes,
+        mode: l.mode,
+        formula: inline(alloc, restrictions, l.mode, &l.formula)?,
+    })
 }

@@ -14,3 +14,8 @@ pub mod Declarations
 pub mod ItemWords
 pub mod ItemTurns
 pub mod DeclaredItems
+pub mod ByteWords
+pub mod PrintedTerms
+pub mod PrintedBytes
+pub mod Named
+pub mod TermBytes

@@ -21,13 +21,21 @@ abbrev pub cut_words : List (List ℕ)
 cut_words =
     codes "builtins" ∷ codes "functions" ∷ codes "let" ∷ codes "process" ∷ codes "restriction" ∷ codes "lemma" ∷ codes "rule" ∷ codes "end" ∷ []
 
+abbrev pub is_item_word : Word → Bool
+is_item_word w = list_any (λ m. is_mark m w) cut_words
+
 abbrev pub begins_item : Placed → Bool
-begins_item p = list_any (λ m. is_mark m p.word) cut_words
+begins_item p = is_item_word p.word
 
 -- no item begins among these
 abbrev pub NoItemWord : List Placed → Type 0
 NoItemWord [] = Unit {0}
 NoItemWord (p ∷ ps) = (begins_item p ≡ false) × NoItemWord ps
+
+-- so of words without lines
+abbrev pub IsFree : List Word → Type 0
+IsFree [] = Unit {0}
+IsFree (w ∷ ws) = (is_item_word w ≡ false) × IsFree ws
 
 -- there are no more, or an item begins
 abbrev pub StartsItem : List Placed → Type 0

@@ -10,6 +10,11 @@ pub mod TermReading
 pub mod Pieces
 pub mod TermText
 pub mod FactText
+pub mod ByteWords
+pub mod PrintedWords
+pub mod Printable
+pub mod TermBytes
+pub mod Printed
 pub mod Cut
 pub mod Declarations
 pub mod Signatures

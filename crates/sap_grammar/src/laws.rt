@@ -1,7 +1,9 @@
 //! What is so of the grammar.
-ghost use Rattle.std.specs.Prelude.{◌≡◌, ℕ, Bool, List, Some, None, drop, false, codes};
+ghost use Rattle.std.specs.Prelude.{◌≡◌, ◌≤◌, ◌++◌, ℕ, Bool, List, Some, None, Ok, drop, false, codes};
+ghost use Rattle.sap_text.specs.Tokens.{IsLexed};
 ghost use Rattle.sap_terms.specs.declared.fact.Fact.{Fact};
-ghost use Rattle.sap_terms.specs.Tree.{Tree, level_count, node_count};
+ghost use Rattle.sap_terms.specs.Tree.{Tree, level_count, node_count, trees_of};
+ghost use Rattle.sap_terms.specs.Message.{IsOver, AreOver};
 ghost use Rattle.sap_terms.specs.Signature.{Sig};
 ghost use Rattle.sap_grammar.specs.declared.limits.Limits.{Limits};
 ghost use Rattle.sap_terms.specs.declared.signature.Symbol.{Symbol};
@@ -15,6 +17,13 @@ ghost use Rattle.sap_grammar.specs.TermGrammar.{IsTerm, IsShort};
 ghost use Rattle.sap_grammar.specs.FactGrammar.{IsFact, IsShortFact, AreFacts, fact_levels};
 ghost use Rattle.sap_grammar.specs.Places.{IsTermAt, IsFactAt};
 ghost use Rattle.sap_grammar.specs.TermReading.{short_term, short_fact, facts};
+ghost use Rattle.sap_grammar.specs.TermText.{tree_text};
+ghost use Rattle.sap_grammar.specs.FactText.{fact_text};
+ghost use Rattle.sap_grammar.specs.ByteWords.{AreWords, AreTokenWords, AreWritten};
+ghost use Rattle.sap_grammar.specs.Printed.{ArePrinted};
+ghost use Rattle.sap_grammar.specs.TermBytes.{SpellsTerm, SpellsFact};
+
+use sap_text::{longest_tokens, one_answer};
 
 /// A law: from one place words spell at most one term that no opening parenthesis follows, and end it at one place.
 pub fn one_term()
@@ -102,3 +111,55 @@ pub fn declarations_are_read()
     ensures symbols { (ss us : List Symbol) (a : List Word) → AreSymbols ss a
         → AreSymbols us a → ss ≡ us }
 {}
+
+/// A law: bytes are the words of their tokens, and have tokens where they are words; they are one list of words, whatever the
+/// limit of names; a greater limit changes nothing; and each word is one that a token can be.
+pub fn words_of_bytes()
+    ensures tokens { (most : ℕ) (z : List ℕ) (ts : List Token) → IsLexed most 0 1 z (Ok ts)
+        → AreWords most z (words_of z ts) }
+    ensures lexed { (most : ℕ) (z : List ℕ) (ws : List Word) → AreWords most z ws
+        → (ts : List Token) × IsLexed most 0 1 z (Ok ts) × (words_of z ts ≡ ws) }
+    ensures one { (m k : ℕ) (z : List ℕ) (ws vs : List Word) → AreWords m z ws → AreWords k z vs
+        → ws ≡ vs }
+    ensures room { (m k : ℕ) (z : List ℕ) (ws : List Word) → m ≤ k → AreWords m z ws → AreWords k z ws }
+    ensures held { (most : ℕ) (z : List ℕ) (ws : List Word) → AreWords most z ws
+        → AreTokenWords most ws }
+{
+    one_answer();
+}
+
+/// A law: bytes can be written word by word.
+pub fn words_are_written()
+    ensures { (most : ℕ) → AreWritten most }
+{
+    longest_tokens();
+}
+
+/// A law: bytes spell one term at most, and where some bytes spell a term over the signature, its printed text does.
+pub fn terms_are_printed()
+    ensures one { (g : Sig) (m k : ℕ) (z : List ℕ) (t u : Tree) → SpellsTerm g m z t
+        → SpellsTerm g k z u → t ≡ u }
+    ensures printed { (g : Sig) (most : ℕ) (z : List ℕ) (t : Tree) → SpellsTerm g most z t
+        → IsOver g t → SpellsTerm g most (tree_text t) t }
+{
+    words_of_bytes();
+    words_are_written();
+}
+
+/// A law: so it is with facts.
+pub fn facts_are_printed()
+    ensures one { (g : Sig) (m k : ℕ) (z : List ℕ) (f h : Fact) → SpellsFact g m z f
+        → SpellsFact g k z h → f ≡ h }
+    ensures printed { (g : Sig) (most : ℕ) (z : List ℕ) (f : Fact) → SpellsFact g most z f
+        → AreOver g (trees_of f.args) → SpellsFact g most (fact_text f) f }
+{
+    words_of_bytes();
+    words_are_written();
+}
+
+/// A law: what is so of the words of printed terms and facts.
+pub fn printed_words()
+    ensures { ArePrinted }
+{
+    words_are_written();
+}

@@ -19,8 +19,9 @@ pub use fact::{read_fact, read_facts, read_short_fact};
 pub use fact_text::{push_arrow, push_fact, push_facts};
 pub use items::{header_name, is_last, last_line, line_of, split_item};
 pub use laws::{
-    declarations_are_read, facts_are_read, headers_are_read, one_fact, one_term, same_grammar,
-    terms_are_read, words_are_cut,
+    declarations_are_read, facts_are_printed, facts_are_read, headers_are_read, one_fact, one_term,
+    printed_words, same_grammar, terms_are_printed, terms_are_read, words_are_cut,
+    words_are_written, words_of_bytes,
 };
 pub use limits::Limits;
 pub use look::{

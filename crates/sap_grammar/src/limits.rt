@@ -9,4 +9,6 @@ pub struct Limits {
     pub term_levels: u32,
     /// The most nodes of a term, where they are limited.
     pub term_nodes: Option<u32>,
+    /// The most levels of the text of a formula; an atom has 1, and parentheses count. Readers recurse a few calls for each.
+    pub formula_levels: u32,
 }

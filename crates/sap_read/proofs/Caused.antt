@@ -5,13 +5,16 @@ use Rattle.std.specs.Str.{bytes_eq}
 use Rattle.std.proofs.lemmas.Bool.{lt-ltb, le-ltb, ltb-true, ltb-false}
 use Rattle.indexmap.specs.IndexMap.{IndexMap, get}
 use Rattle.sap_process.specs.Proc.{Proc, node_count, level_count}
+use Rattle.sap_restrict.specs.Restrictions.{is_generated}
+use Rattle.sap_statements.specs.declared.statement.Statement.{Statement}
+use Rattle.sap_statements.specs.Statements.{name_of}
 use Rattle.sap_read.specs.declared.draft.Definition.{Definition}
 use Rattle.sap_read.specs.declared.fault.ReadFault.{ReadFault}
 use Rattle.sap_read.specs.declared.fault.ReadFault.TheVariants.{NoProcess, TwoProcesses, DuplicateName, FunctionClash, TooMany, TooDeep}
 use Rattle.sap_read.specs.declared.names.Meant.{Meant}
 use Rattle.sap_read.specs.Item.{Body}
 use Rattle.sap_read.specs.Replaced.{replaced, process_of, no_meaning}
-use Rattle.sap_read.specs.Causes.{first_of, unlabelled, labels, unknown_from, first_repeated, cause}
+use Rattle.sap_read.specs.Causes.{first_of, unlabelled, labels, unknown_from, first_repeated, first_taken, cause}
 use Rattle.sap_read.specs.code.Drafts.{written, body}
 use Rattle.sap_read.specs.code.Meaning.{meaning_of, AreMeant, nodes_in, levels_in, IsCounted, AreCounted, AreTargets, IsExpanded, AreExpanded, size_fault}
 use Rattle.sap_read.proofs.Kept.{nodes_counted, levels_counted}
@@ -42,15 +45,16 @@ all_expanded es names known distinct counted targets x = by (get bytes_eq names 
   by None q h = h
   by (Some m) q h = targets (meaning_of es) (all_meant es known distinct) x m q
 
-pub no_process : (bs : List Body) (clash : Option (List ℕ)) → unlabelled bs ≡ [] → cause bs clash ≡ Some NoProcess
-no_process bs clash e = rw e refl
+pub no_process : (bs : List Body) (ss : List Statement) (clash : Option (List ℕ)) → unlabelled bs ≡ [] → cause bs ss clash ≡ Some NoProcess
+no_process bs ss clash e = rw e refl
 
-pub two_processes : (bs cs : List Body) (b c : Body) (clash : Option (List ℕ)) → unlabelled bs ≡ b ∷ c ∷ cs → cause bs clash ≡ Some (TwoProcesses c.line)
-two_processes bs cs b c clash e = rw e refl
+pub two_processes : (bs cs : List Body) (b c : Body) (ss : List Statement) (clash : Option (List ℕ)) → unlabelled bs ≡ b ∷ c ∷ cs → cause bs ss clash ≡ Some (TwoProcesses c.line)
+two_processes bs cs b c ss clash e = rw e refl
 
 -- where nothing else is wrong, the size of the process decides
-pub by_size : (bs : List Body) (b : Body) (p : Proc) → unlabelled bs ≡ b ∷ [] → unknown_from [] bs ≡ None → first_repeated (labels bs) ≡ None → process_of no_meaning bs ≡ Some p → cause bs None ≡ size_fault (node_count p) (level_count p)
-by_size bs b p e u d is = rw (e, u, d, is) (at (nat_lt MOST_PROCESS_PLACES (node_count p)) (nat_lt MOST_PROCESS_LEVELS (level_count p))) where
+pub by_size : (bs : List Body) (ss : List Statement) (b : Body) (p : Proc) → unlabelled bs ≡ b ∷ [] → unknown_from [] bs ≡ None → first_repeated (labels bs) ≡ None → first_taken is_generated (map name_of ss) ≡ None
+    → process_of no_meaning bs ≡ Some p → cause bs ss None ≡ size_fault (node_count p) (level_count p)
+by_size bs ss b p e u d f is = rw (e, u, d, f, is) (at (nat_lt MOST_PROCESS_PLACES (node_count p)) (nat_lt MOST_PROCESS_LEVELS (level_count p))) where
   at : (s t : Bool) → first_of ((if s then Some TooMany else None) ∷ (if t then Some TooDeep else None) ∷ []) ≡ (if s then Some TooMany else (if t then Some TooDeep else None))
   at true t = refl
   at false true = refl
@@ -64,13 +68,14 @@ same_above limit n m most below e = by (nat_lt limit m) refl where
   by false q = le-ltb _ _ (omega (arith, below, e, ltb-false limit m q))
 
 -- and the numbers that are kept decide it
-pub by_kept_size : {S : Type 0} (es : List Definition) (e : Definition) (names : IndexMap (List ℕ) Meant S) → unlabelled (map body es) ≡ body e ∷ [] → unknown_from [] (map body es) ≡ None → first_repeated (labels (map body es)) ≡ None → AreCounted names (meaning_of es) → cause (map body es) None ≡ size_fault (min (nodes_in names (written e.draft.value)) (2 ^ 64 - 1)) (min (levels_in names (written e.draft.value)) (2 ^ 64 - 1))
-by_kept_size es e names one known distinct counted =
+pub by_kept_size : {S : Type 0} (es : List Definition) (ss : List Statement) (e : Definition) (names : IndexMap (List ℕ) Meant S) → unlabelled (map body es) ≡ body e ∷ [] → unknown_from [] (map body es) ≡ None → first_repeated (labels (map body es)) ≡ None → first_taken is_generated (map name_of ss) ≡ None
+    → AreCounted names (meaning_of es) → cause (map body es) ss None ≡ size_fault (min (nodes_in names (written e.draft.value)) (2 ^ 64 - 1)) (min (levels_in names (written e.draft.value)) (2 ^ 64 - 1))
+by_kept_size es ss e names one known distinct free counted =
     let p = replaced (meaning_of es) (written e.draft.value) in
     let is : process_of no_meaning (map body es) ≡ Some p = process_is es e one known distinct in
     let nodes : nat_lt MOST_PROCESS_PLACES (min (nodes_in names (written e.draft.value)) (2 ^ 64 - 1)) ≡ nat_lt MOST_PROCESS_PLACES (node_count p) = same_above MOST_PROCESS_PLACES _ (node_count p) (2 ^ 64 - 1) (omega arith) (nodes_counted names (meaning_of es) counted (written e.draft.value)) in
     let levels : nat_lt MOST_PROCESS_LEVELS (min (levels_in names (written e.draft.value)) (2 ^ 64 - 1)) ≡ nat_lt MOST_PROCESS_LEVELS (level_count p) = same_above MOST_PROCESS_LEVELS _ (level_count p) (2 ^ 64 - 1) (omega arith) (levels_counted names (meaning_of es) counted (written e.draft.value)) in
-    by_size (map body es) (body e) p one known distinct is ∙ sym (λ i. if nodes i then Some TooMany else (if levels i then Some TooDeep else None))
+    by_size (map body es) ss (body e) p one known distinct free is ∙ sym (λ i. if nodes i then Some TooMany else (if levels i then Some TooDeep else None))
 
 low_enough : (n l : ℕ) → size_fault n l ≡ None → l ≤ MOST_PROCESS_LEVELS
 low_enough n l h = by (nat_lt MOST_PROCESS_PLACES n) (nat_lt MOST_PROCESS_LEVELS l) refl h where
@@ -98,15 +103,22 @@ few_nodes es e names counted h =
     uncut _ (2 ^ 64 - 1) MOST_PROCESS_PLACES (rw (← nodes_counted names (meaning_of es) counted (written e.draft.value)) cut) (omega arith)
 
 -- the cause where declarations don't clash
-pub no_clash : (bs : List Body) (clash : Option (List ℕ)) (o : Option ReadFault) → clash ≡ None → cause bs None ≡ o → cause bs clash ≡ o
-no_clash bs clash o none is = subst (λ z. cause bs z ≡ o) (sym none) is
+pub no_clash : (bs : List Body) (ss : List Statement) (clash : Option (List ℕ)) (o : Option ReadFault) → clash ≡ None → cause bs ss None ≡ o → cause bs ss clash ≡ o
+no_clash bs ss clash o none is = subst (λ z. cause bs ss z ≡ o) (sym none) is
 
 -- where one process is the file's and each name is known, a name that is defined twice decides
-pub name_repeated : (bs : List Body) (b : Body) (clash : Option (List ℕ)) (x : List ℕ) → unlabelled bs ≡ b ∷ [] → unknown_from [] bs ≡ None → first_repeated (labels bs) ≡ Some x → cause bs clash ≡ Some (DuplicateName x)
-name_repeated bs b clash x e u d = rw (e, u, d) refl
+pub name_repeated : (bs : List Body) (ss : List Statement) (b : Body) (clash : Option (List ℕ)) (x : List ℕ) → unlabelled bs ≡ b ∷ [] → unknown_from [] bs ≡ None → first_repeated (labels bs) ≡ Some x
+    → cause bs ss clash ≡ Some (DuplicateName x)
+name_repeated bs ss b clash x e u d = rw (e, u, d) refl
 
--- and where none is, a function that clashes
-pub function_clashes : (bs : List Body) (b : Body) (clash : Option (List ℕ)) (x : List ℕ) → unlabelled bs ≡ b ∷ [] → unknown_from [] bs ≡ None → first_repeated (labels bs) ≡ None → clash ≡ Some x → cause bs clash ≡ Some (FunctionClash x)
-function_clashes bs b clash x e u d c = rw (e, u, d, c) refl
+-- where none is, the name of a restriction or lemma that is taken
+pub name_reused : (bs : List Body) (ss : List Statement) (b : Body) (clash : Option (List ℕ)) (x : List ℕ) → unlabelled bs ≡ b ∷ [] → unknown_from [] bs ≡ None → first_repeated (labels bs) ≡ None
+    → first_taken is_generated (map name_of ss) ≡ Some x → cause bs ss clash ≡ Some (DuplicateName x)
+name_reused bs ss b clash x e u d f = rw (e, u, d, f) refl
+
+-- and where none of them is, a function that clashes
+pub function_clashes : (bs : List Body) (ss : List Statement) (b : Body) (clash : Option (List ℕ)) (x : List ℕ) → unlabelled bs ≡ b ∷ [] → unknown_from [] bs ≡ None → first_repeated (labels bs) ≡ None
+    → first_taken is_generated (map name_of ss) ≡ None → clash ≡ Some x → cause bs ss clash ≡ Some (FunctionClash x)
+function_clashes bs ss b clash x e u d f c = rw (e, u, d, f, c) refl
 
 pub ruleset one_process = (no_process, two_processes)

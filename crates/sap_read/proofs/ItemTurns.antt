@@ -1,7 +1,8 @@
 -- Turns of the readers of items.
-use Rattle.std.proofs.Common.{◌≡◌, ℕ, Bool, true, false, List, [], ◌∷◌, ◌++◌, append_assoc, append-nil, drop, Option, Some, None, refl, sym, ap, subst, ◌∙◌}
+use Rattle.std.proofs.Common.{◌≡◌, ℕ, Bool, true, false, List, [], ◌∷◌, append_assoc, append-nil, drop, Option, Some, None, refl, sym, ap, subst, ◌∙◌}
 use Rattle.std.specs.Prelude.{codes, map, is_some, Result, Ok, Err, IfOk}
 use Rattle.sap_terms.specs.declared.mem.Mem.{Mem}
+use Rattle.std.proofs.lemmas.List.{map_push}
 use Rattle.sap_terms.specs.Signature.{Sig}
 use Rattle.sap_text.specs.declared.token.Token.{Token}
 use Rattle.sap_grammar.specs.Words.{Word, mark, name, word_of, words_of, starts}
@@ -11,11 +12,14 @@ use Rattle.sap_grammar.specs.Declarations.{Declaration, declares_builtins, decla
 use Rattle.sap_grammar.specs.Items.{IsEnd, items_end, items_more, no_end, bad_item, later_item}
 use Rattle.sap_grammar.specs.ItemReading.{cut, declared_in}
 use Rattle.sap_read.specs.Written.{Written}
-use Rattle.sap_read.specs.Item.{Item, definition, process, Standing, bodies}
-use Rattle.sap_read.specs.ItemGrammar.{IsProcess, IsItem, AreItems, IsSomeItem, IsFaulty, item_builtins, item_functions, item_definition, item_process}
+use Rattle.sap_statements.specs.declared.statement.Statement.{Statement}
+use Rattle.sap_statements.specs.Statements.{IsStatement, is_restriction, is_lemma}
+use Rattle.sap_read.specs.declared.limits.TheConstants.{FILE_LIMITS}
+use Rattle.sap_read.specs.Item.{Item, definition, process, statement, bodies, statements}
+use Rattle.sap_read.specs.ItemGrammar.{IsProcess, IsItem, AreItems, IsSomeItem, IsFaulty, item_builtins, item_functions, item_definition, item_process, item_statement}
 use Rattle.sap_read.specs.declared.draft.Definition.{Definition}
 use Rattle.sap_read.specs.code.Drafts.{body}
-use Rattle.sap_read.specs.code.ItemView.{IsItemOf, IsAdded}
+use Rattle.sap_read.specs.code.ItemView.{IsItemOf, IsAdded, IsAdding, IsGoodBehind, IsPushed, IsStated, SaysProcess, AreSaid}
 use Rattle.sap_read.specs.code.ItemLaws.{ItemLaws}
 use Rattle.sap_read.proofs.OnRead.{starts_is, name_is}
 use Rattle.sap_read.proofs.Steps.{words-drop}
@@ -64,21 +68,48 @@ process_spelled (w ∷ v ∷ ws) s e =
 
 pub definition_read : (g : Sig) (z : List ℕ) (ts : List Token) (x : List ℕ) (p : Written) (line : ℕ) → starts (codes "let") (words_of z ts) ≡ true → name_at (drop 1 (words_of z ts)) ≡ Some x
     → starts (codes "=") (drop 2 (words_of z ts)) ≡ true → IsProcess g p (drop 3 (words_of z ts)) → line ≡ first_line (placed z ts)
-    → IsItemOf g z ts (record { label = Some x; content = p; line = line } ∷ [])
+    → IsItemOf g z ts (record { label = Some x; content = p; line = line } ∷ []) []
 definition_read g z ts x p line s n e r l = record {
   item = definition x p;
   spelled = subst (λ (w : List Word). IsItem g (definition x p) w) (sym (definition_spelled (words_of z ts) x s n e)) (item_definition r);
   says = rw l refl;
+  states = refl;
 }
 
 pub process_read : (g : Sig) (z : List ℕ) (ts : List Token) (p : Written) (line : ℕ) → starts (codes "process") (words_of z ts) ≡ true → starts (codes ":") (drop 1 (words_of z ts)) ≡ true
     → IsProcess g p (drop 2 (words_of z ts)) → line ≡ first_line (placed z ts)
-    → IsItemOf g z ts (record { label = None; content = p; line = line } ∷ [])
+    → IsItemOf g z ts (record { label = None; content = p; line = line } ∷ []) []
 process_read g z ts p line s e r l = record {
   item = process p;
   spelled = subst (λ (w : List Word). IsItem g (process p) w) (sym (process_spelled (words_of z ts) s e)) (item_process r);
   says = rw l refl;
+  states = refl;
 }
+
+-- what such an item can't lack
+pub no_name : {g : Sig} {v : Item} {a : List Word} → starts (codes "let") a ≡ true → name_at (drop 1 a) ≡ None → IsItem g v a → ⊥
+no_name s n (item_builtins r) = absurd (cc)
+no_name s n (item_functions r) = absurd (cc)
+no_name s n (item_definition r) = absurd (cc)
+no_name s n (item_process r) = absurd (cc)
+no_name s n (item_statement (is_restriction r)) = absurd (cc)
+no_name s n (item_statement (is_lemma a d r)) = absurd (cc)
+
+pub no_equals : {g : Sig} {v : Item} {a : List Word} → starts (codes "let") a ≡ true → starts (codes "=") (drop 2 a) ≡ false → IsItem g v a → ⊥
+no_equals s e (item_builtins r) = absurd (cc)
+no_equals s e (item_functions r) = absurd (cc)
+no_equals s e (item_definition r) = absurd (cc)
+no_equals s e (item_process r) = absurd (cc)
+no_equals s e (item_statement (is_restriction r)) = absurd (cc)
+no_equals s e (item_statement (is_lemma a d r)) = absurd (cc)
+
+pub no_colon : {g : Sig} {v : Item} {a : List Word} → starts (codes "process") a ≡ true → starts (codes ":") (drop 1 a) ≡ false → IsItem g v a → ⊥
+no_colon s e (item_builtins r) = absurd (cc)
+no_colon s e (item_functions r) = absurd (cc)
+no_colon s e (item_definition r) = absurd (cc)
+no_colon s e (item_process r) = absurd (cc)
+no_colon s e (item_statement (is_restriction r)) = absurd (cc)
+no_colon s e (item_statement (is_lemma a d r)) = absurd (cc)
 
 pub no_definition : (ws : List Word) → starts (codes "let") ws ≡ true → ((g : Sig) (p : Written) → IsProcess g p (drop 3 ws) → ⊥) → IsSomeItem ws → ⊥
 no_definition ws s never it = go s never it.is
@@ -88,6 +119,8 @@ no_definition ws s never it = go s never it.is
     go s never (item_functions r) = absurd (cc)
     go {g = g} s never (item_definition {p = p} r) = never g p r
     go s never (item_process r) = absurd (cc)
+    go s never (item_statement (is_restriction r)) = absurd (cc)
+    go s never (item_statement (is_lemma a d r)) = absurd (cc)
 
 pub no_process : (ws : List Word) → starts (codes "process") ws ≡ true → ((g : Sig) (p : Written) → IsProcess g p (drop 2 ws) → ⊥) → IsSomeItem ws → ⊥
 no_process ws s never it = go s never it.is
@@ -97,46 +130,90 @@ no_process ws s never it = go s never it.is
     go s never (item_functions r) = absurd (cc)
     go s never (item_definition r) = absurd (cc)
     go {g = g} s never (item_process {p = p} r) = never g p r
+    go s never (item_statement (is_restriction r)) = absurd (cc)
+    go s never (item_statement (is_lemma a d r)) = absurd (cc)
 
--- an item that begins with neither word of processes declares something
-pub no_other : ItemLaws → (ws : List Word) → starts (codes "let") ws ≡ false → starts (codes "process") ws ≡ false → declared_in ws ≡ None → IsSomeItem ws → ⊥
-no_other laws ws l p none it = go l p none it.is
-  where
-    go : {g : Sig} {v : Item} {a : List Word} → starts (codes "let") a ≡ false → starts (codes "process") a ≡ false → declared_in a ≡ None → IsItem g v a → ⊥
-    go l p none (item_builtins {a = a} r) = let read = laws.declared _ _ (declares_builtins r) in absurd (cc (read, none))
-    go l p none (item_functions {a = a} r) = let read = laws.declared _ _ (declares_functions r) in absurd (cc (read, none))
-    go l p none (item_definition r) = absurd (cc)
-    go l p none (item_process r) = absurd (cc)
+-- the words are no restriction or lemma, under any signature
+abbrev pub NoStatement : List Word → Type 0
+NoStatement ws = (h : Sig) (s : Statement) → IsStatement h FILE_LIMITS s ws → ⊥
 
--- where the tokens are asked whether they declare something
-declaration_added : ItemLaws → (g : Sig) (z : List ℕ) (ts : List Token) (es : List Definition) (b : Bool) → starts (codes "let") (words_of z ts) ≡ false → starts (codes "process") (words_of z ts) ≡ false
-    → b ≡ is_some (declared_in (words_of z ts)) → IsAdded g z ts es es b
-declaration_added laws g z ts es b l p e = go (declared_in (words_of z ts)) refl b e
+-- an item that begins with neither word of processes declares something, or is a restriction or a lemma
+pub no_other : ItemLaws → (ws : List Word) → starts (codes "let") ws ≡ false → starts (codes "process") ws ≡ false → declared_in ws ≡ None → NoStatement ws → IsSomeItem ws → ⊥
+no_other laws ws l p none never it = go l p none never it.is
   where
-    go : (o : Option (List Declaration)) → declared_in (words_of z ts) ≡ o → (b : Bool) → b ≡ is_some o → IsAdded g z ts es es b
-    go None none false e = no_other laws (words_of z ts) l p none
-    go None none true e = absurd (cc)
-    go (Some ds) some false e = absurd (cc)
-    go (Some ds) some true e =
+    go : {g : Sig} {v : Item} {a : List Word} → starts (codes "let") a ≡ false → starts (codes "process") a ≡ false → declared_in a ≡ None → NoStatement a → IsItem g v a → ⊥
+    go l p none never (item_builtins {a = a} r) = let read = laws.declared _ _ (declares_builtins r) in absurd (cc (read, none))
+    go l p none never (item_functions {a = a} r) = let read = laws.declared _ _ (declares_functions r) in absurd (cc (read, none))
+    go l p none never (item_definition r) = absurd (cc)
+    go l p none never (item_process r) = absurd (cc)
+    go {g = g} l p none never (item_statement {s = s} r) = never g s r
+
+-- an item that says of a process, which stands last
+pub said_added : (g : Sig) (z : List ℕ) (ts : List Token) (before after : List Definition) (ss : List Statement) (b : Bool) (o : Option Definition) → SaysProcess g z ts (Ok o) → IsPushed b o before after → IsAdded g z ts before after ss ss b
+said_added g z ts before after ss true None none p = let no : true ≡ false = p.0 in absurd (cc)
+said_added g z ts before after ss false None none p = none
+said_added g z ts before after ss false (Some e) is p = let no : false ≡ true = p.0 in absurd (cc)
+said_added g z ts before after ss true (Some e) is p = record {
+  said = body e ∷ [];
+  stated = [];
+  is = is;
+  bodies_are = ap (map body) p.1 ∙ map_push body before e;
+  statements_are = sym (append-nil ss);
+}
+
+-- an item that declares something
+pub declaration_added : ItemLaws → (g : Sig) (z : List ℕ) (ts : List Token) (es : List Definition) (ss : List Statement) → is_some (declared_in (words_of z ts)) ≡ true → IsAdded g z ts es es ss ss true
+declaration_added laws g z ts es ss e = go (declared_in (words_of z ts)) refl e
+  where
+    go : (o : Option (List Declaration)) → declared_in (words_of z ts) ≡ o → is_some o ≡ true → IsAdded g z ts es es ss ss true
+    go None none e = absurd (cc)
+    go (Some ds) some e =
         let alone = declared_sound laws (words_of z ts) ds some in
-        ([], record { item = alone.item; spelled = alone.spelled g; says = alone.no_body (first_line (placed z ts)) }, sym (append-nil (map body es)))
+        record {
+          said = [];
+          stated = [];
+          is = record { item = alone.item; spelled = alone.spelled g; says = alone.no_body (first_line (placed z ts)); states = alone.no_statement };
+          bodies_are = sym (append-nil (map body es));
+          statements_are = sym (append-nil ss);
+        }
+
+-- where the tokens declare nothing, and are asked whether they are a restriction or a lemma
+stated_added : ItemLaws → (g : Sig) (z : List ℕ) (ts : List Token) (es : List Definition) (ss after : List Statement) (b : Bool) → starts (codes "let") (words_of z ts) ≡ false
+    → starts (codes "process") (words_of z ts) ≡ false → is_some (declared_in (words_of z ts)) ≡ false → IsStated g z ts ss after b → IsAdded g z ts es es ss after b
+stated_added laws g z ts es ss after true l p none is = record {
+  said = [];
+  stated = is.0 ∷ [];
+  is = record { item = statement is.0; spelled = item_statement is.1; says = refl; states = refl };
+  bodies_are = sym (append-nil (map body es));
+  statements_are = is.2;
+}
+stated_added laws g z ts es ss after false l p none never = no_other laws (words_of z ts) l p (nothing (declared_in (words_of z ts)) none) never
+  where
+    nothing : (o : Option (List Declaration)) → is_some o ≡ false → o ≡ None
+    nothing None e = refl
+    nothing (Some ds) e = absurd (cc)
 
 -- the same, where asking may fail
-pub declaration_tried : ItemLaws → (g : Sig) (z : List ℕ) (ts : List Token) (es : List Definition) (r : Result Bool Mem) → starts (codes "let") (words_of z ts) ≡ false
-    → starts (codes "process") (words_of z ts) ≡ false → IfOk r (λ b. b ≡ is_some (declared_in (words_of z ts))) → IfOk r (λ b. IsAdded g z ts es es b)
-declaration_tried laws g z ts es (Ok b) l p e = declaration_added laws g z ts es b l p e
-declaration_tried laws g z ts es (Err f) l p e = tt
+pub stated_tried : ItemLaws → (g : Sig) (z : List ℕ) (ts : List Token) (es : List Definition) (ss after : List Statement) (r : Result Bool Mem) → starts (codes "let") (words_of z ts) ≡ false
+    → starts (codes "process") (words_of z ts) ≡ false → is_some (declared_in (words_of z ts)) ≡ false → IfOk r (λ b. IsStated g z ts ss after b) → IfOk r (λ b. IsAdded g z ts es es ss after b)
+stated_tried laws g z ts es ss after (Ok b) l p none is = stated_added laws g z ts es ss after b l p none is
+stated_tried laws g z ts es ss after (Err e) l p none is = tt
 
--- Turns of the loop over items, where `entries` were read before the tokens `rest`.
-module _ (laws : ItemLaws) (g : Sig) (last : ℕ) (z : List ℕ) (ts rest item behind : List Token) (entries : List Definition)
-    (good : (is : List Standing) → AreItems g (cut (placed z rest)) is → (js : List Standing) × AreItems g (cut (placed z ts)) js × (map body entries ++ bodies is ≡ bodies js))
+-- Turns of the loop over items, where `entries` and `earlier` were read before the tokens `rest`.
+module _ (laws : ItemLaws) (g : Sig) (last : ℕ) (z : List ℕ) (ts rest item behind : List Token) (entries : List Definition) (earlier : List Statement)
+    (good : IsGoodBehind g z ts rest entries earlier)
     (faulty : (n : ℕ) → IsFaulty last (cut (placed z rest)) n → IsFaulty last (cut (placed z ts)) n)
     (split : cut (placed z rest) ≡ placed z item ∷ cut (placed z behind)) where
-  pub turn_end : IsEnd (placed z item) → behind ≡ [] → (items : List (List Placed)) → IsCut (placed z ts) items → (is : List Standing) × AreItems g items is × (map body entries ≡ bodies is)
+  pub turn_end : IsEnd (placed z item) → behind ≡ [] → (items : List (List Placed)) → IsCut (placed z ts) items → AreSaid g items entries earlier
   turn_end e none items r =
       let over : cut (placed z rest) ≡ placed z item ∷ [] = split ∙ rw none refl in
       let all = good [] (subst (λ (y : List (List Placed)). AreItems g y []) (sym over) (items_end e)) in
-      (all.0, subst (λ (y : List (List Placed)). AreItems g y all.0) (cut_is laws r) all.1, sym (append-nil (map body entries)) ∙ all.2)
+      record {
+        standing = all.0;
+        items = subst (λ (y : List (List Placed)). AreItems g y all.0) (cut_is laws r) all.1;
+        bodies_are = sym (append-nil (map body entries)) ∙ all.2;
+        statements_are = sym (append-nil earlier) ∙ all.3;
+      }
 
   pub turn_bad : (IsEnd (placed z item) × (behind ≡ []) → ⊥) → (IsSomeItem (words_of z item) → ⊥) → (line : ℕ) → line ≡ first_line (placed z item) → (items : List (List Placed)) → IsCut (placed z ts) items → IsFaulty last items line
   turn_bad not_last none line l items r =
@@ -145,20 +222,22 @@ module _ (laws : ItemLaws) (g : Sig) (last : ℕ) (z : List ℕ) (ts rest item b
       let there = faulty (first_line (placed z item)) (subst (λ (y : List (List Placed)). IsFaulty last y (first_line (placed z item))) (sym split) here) in
       rw l (subst (λ (y : List (List Placed)). IsFaulty last y (first_line (placed z item))) (cut_is laws r) there)
 
-  module _ (after : List Definition) (added : IsAdded g z item entries after true) where
-    pub turn_good : (is : List Standing) → AreItems g (cut (placed z behind)) is → (js : List Standing) × AreItems g (cut (placed z ts)) js × (map body after ++ bodies is ≡ bodies js)
+  module _ (after : List Definition) (later : List Statement) (it : IsAdding g z item entries after earlier later) where
+    pub turn_good : IsGoodBehind g z ts behind after later
     turn_good is r =
-        let it = added.1 in
-        let spelled : IsItem g it.item (words (placed z item)) = rw (words_placed z item) it.spelled in
-        let one : AreItems g (placed z item ∷ cut (placed z behind)) (record { item = it.item; line = first_line (placed z item) } ∷ is) = items_more spelled r in
-        let all = good (record { item = it.item; line = first_line (placed z item) } ∷ is) (subst (λ (y : List (List Placed)). AreItems g y (record { item = it.item; line = first_line (placed z item) } ∷ is)) (sym split) one) in
-        (all.0, all.1, rw (added.2, append_assoc (map body entries) added.0 (bodies is), ← it.says) all.2)
+        let spelled : IsItem g it.is.item (words (placed z item)) = rw (words_placed z item) it.is.spelled in
+        let one : AreItems g (placed z item ∷ cut (placed z behind)) (record { item = it.is.item; line = first_line (placed z item) } ∷ is) = items_more spelled r in
+        let all = good (record { item = it.is.item; line = first_line (placed z item) } ∷ is) (subst (λ (y : List (List Placed)). AreItems g y (record { item = it.is.item; line = first_line (placed z item) } ∷ is)) (sym split) one) in (
+          all.0,
+          all.1,
+          rw (it.bodies_are, append_assoc (map body entries) it.said (bodies is), ← it.is.says) all.2,
+          rw (it.statements_are, append_assoc earlier it.stated (statements is), ← it.is.states) all.3,
+        )
 
     pub turn_later : (n : ℕ) → IsFaulty last (cut (placed z behind)) n → IsFaulty last (cut (placed z ts)) n
     turn_later n r =
-        let it = added.1 in
-        let spelled : IsItem g it.item (words (placed z item)) = rw (words_placed z item) it.spelled in
-        faulty n (subst (λ (y : List (List Placed)). IsFaulty last y n) (sym split) (later_item (record { sig = g; item = it.item; is = spelled }) r))
+        let spelled : IsItem g it.is.item (words (placed z item)) = rw (words_placed z item) it.is.spelled in
+        faulty n (subst (λ (y : List (List Placed)). IsFaulty last y n) (sym split) (later_item (record { sig = g; item = it.is.item; is = spelled }) r))
 
 -- where `end` is missing
 pub turn_over : ItemLaws → (last : ℕ) (z : List ℕ) (ts rest : List Token) → ((n : ℕ) → IsFaulty last (cut (placed z rest)) n → IsFaulty last (cut (placed z ts)) n) → rest ≡ []

@@ -11,9 +11,12 @@ use Rattle.sap_grammar.specs.declared.limits.Limits.{Limits}
 use Rattle.sap_read.specs.declared.limits.TheConstants.{FILE_LIMITS}
 use Rattle.sap_read.specs.Written.{Written}
 use Rattle.sap_read.specs.ProcessGrammar.{IsPar, EndsProcess}
-use Rattle.sap_read.specs.Item.{Item, builtins, functions, definition, process, Standing, declared_by, declarations, body_of}
-use Rattle.sap_read.specs.ItemGrammar.{IsProcess, IsItem, AreItems, IsFaulty, item_builtins, item_functions, item_definition, item_process}
+use Rattle.sap_read.specs.Item.{Item, builtins, functions, definition, process, statement, Standing, declared_by, declarations, body_of, stated_by}
+use Rattle.sap_read.specs.ItemGrammar.{IsProcess, IsItem, AreItems, IsFaulty, item_builtins, item_functions, item_definition, item_process, item_statement}
+use Rattle.sap_statements.specs.declared.statement.Statement.{Statement}
+use Rattle.sap_statements.specs.Statements.{is_restriction, is_lemma}
 use Rattle.sap_read.specs.code.ItemLaws.{ItemLaws}
+use Rattle.sap_read.specs.code.StatementLaws.{StatementLaws}
 
 -- what an item declares is read in its words
 declares : ItemLaws → {g : Sig} {v : Item} {a : List Word} → IsItem g v a → told (declared_in a) ≡ declared_by v
@@ -21,6 +24,8 @@ declares laws (item_builtins r) = ap told (laws.declared _ _ (declares_builtins 
 declares laws (item_functions r) = ap told (laws.declared _ _ (declares_functions r))
 declares laws (item_definition r) = refl
 declares laws (item_process r) = refl
+declares laws (item_statement (is_restriction r)) = refl
+declares laws (item_statement (is_lemma a d r)) = refl
 
 -- what items declare is read in their words
 pub declared_are : ItemLaws → {g : Sig} {cut : List (List Placed)} {is : List Standing} → AreItems g cut is → declarations is ≡ declared_in_all cut
@@ -33,20 +38,21 @@ declared_are laws (items_more {v = v} r rs) = rw (declares laws r, declared_are 
 pub same_declarations : ItemLaws → (g h : Sig) (cut : List (List Placed)) (is js : List Standing) → AreItems g cut is → AreItems h cut js → declarations is ≡ declarations js
 same_declarations laws g h cut is js r s = declared_are laws r ∙ sym (declared_are laws s)
 
--- it is an item that declares these and says of no process, under each signature
+-- it is an item that declares these and says nothing of a process or of traces, under each signature
 pub record DeclaresAlone (ws : List Word) (ds : List Declaration) : Type 0 where
   pub item : Item
   pub spelled : (g : Sig) → IsItem g item ws
   pub declares_these : declared_by item ≡ ds
   pub no_body : (n : ℕ) → body_of item n ≡ []
+  pub no_statement : stated_by item ≡ []
 
 -- what is read as declarations is an item that declares them, under each signature
 pub declared_sound : ItemLaws → (ws : List Word) (ds : List Declaration) → declared_in ws ≡ Some ds → DeclaresAlone ws ds
 declared_sound laws ws ds e = go ws ds (laws.declares ws ds e)
   where
     go : (ws : List Word) (ds : List Declaration) → Declares ws ds → DeclaresAlone ws ds
-    go _ _ (declares_builtins {bs = bs} r) = record { item = builtins bs; spelled = λ g. item_builtins r; declares_these = refl; no_body = λ n. refl }
-    go _ _ (declares_functions {ss = ss} r) = record { item = functions ss; spelled = λ g. item_functions r; declares_these = refl; no_body = λ n. refl }
+    go _ _ (declares_builtins {bs = bs} r) = record { item = builtins bs; spelled = λ g. item_builtins r; declares_these = refl; no_body = λ n. refl; no_statement = refl }
+    go _ _ (declares_functions {ss = ss} r) = record { item = functions ss; spelled = λ g. item_functions r; declares_these = refl; no_body = λ n. refl; no_statement = refl }
 
 -- no item begins with `end`
 not_end : {g : Sig} {v : Item} {a : List Word} → IsItem g v a → starts (codes "end") a ≡ false
@@ -54,6 +60,8 @@ not_end (item_builtins r) = refl
 not_end (item_functions r) = refl
 not_end (item_definition r) = refl
 not_end (item_process r) = refl
+not_end (item_statement (is_restriction r)) = refl
+not_end (item_statement (is_lemma a d r)) = refl
 
 never_end : {A : Type 0} (g : Sig) (i : List Placed) (v : Item) → IsEnd i → IsItem g v (words i) → A
 never_end g i v e s =
@@ -74,7 +82,7 @@ one_fault last n k cut (later_item s r) (bad_item a b) = absurd (a s)
 one_fault last n k cut (later_item {is = is} s r) (later_item t q) = one_fault last n k is r q
 
 -- where words spell at most one process that nothing of it follows
-module _ (laws : ItemLaws) (one_process : (g : Sig) (m : Limits) (n k : ℕ) (p q : Written) (a b c : List Word) → IsPar g m p n a b → IsPar g m q k a c → EndsProcess b → EndsProcess c
+module _ (laws : ItemLaws) (stated : StatementLaws) (one_process : (g : Sig) (m : Limits) (n k : ℕ) (p q : Written) (a b c : List Word) → IsPar g m p n a b → IsPar g m q k a c → EndsProcess b → EndsProcess c
     → (p ≡ q) × (n ≡ k) × (b ≡ c)) where
   one_whole : (g : Sig) (p q : Written) (a : List Word) → IsProcess g p a → IsProcess g q a → p ≡ q
   one_whole g p q a r s =
@@ -86,6 +94,15 @@ module _ (laws : ItemLaws) (one_process : (g : Sig) (m : Limits) (n k : ℕ) (p 
   one_item (item_functions {ss = ss} {a = a} r) (item_functions {ss = us} s) = ap functions (laws.one_symbols ss us a r s)
   one_item {g = g} (item_definition {x = x} {p = p} {a = a} r) (item_definition {p = q} s) = ap (λ (y : Written). definition x y) (one_whole g p q a r s)
   one_item {g = g} (item_process {p = p} {a = a} r) (item_process {p = q} s) = ap (λ (y : Written). process y) (one_whole g p q a r s)
+  one_item {g = g} (item_statement {s = x} {a = a} r) (item_statement {s = y} s) = ap (λ (z : Statement). statement z) (stated.one g FILE_LIMITS x y a r s)
+  one_item (item_builtins r) (item_statement s) = elim s [ ]
+  one_item (item_functions r) (item_statement s) = elim s [ ]
+  one_item (item_definition r) (item_statement s) = elim s [ ]
+  one_item (item_process r) (item_statement s) = elim s [ ]
+  one_item (item_statement r) (item_builtins s) = elim r [ ]
+  one_item (item_statement r) (item_functions s) = elim r [ ]
+  one_item (item_statement r) (item_definition s) = elim r [ ]
+  one_item (item_statement r) (item_process s) = elim r [ ]
 
   pub one_items : (g : Sig) (cut : List (List Placed)) (is js : List Standing) → AreItems g cut is → AreItems g cut js → is ≡ js
   one_items g cut is js (items_end e) (items_end f) = refl

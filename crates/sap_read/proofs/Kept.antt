@@ -1,5 +1,5 @@
 -- What is kept of names, and what they mean.
-use Rattle.std.proofs.Common.{◌≡◌, ℕ, ◌+◌, ◌-◌, ◌^◌, min, max, zero, suc, List, [], ◌∷◌, ◌++◌, Bool, true, false, not, ◌||◌, Option, Some, None, refl, sym, ap, subst, ◌∙◌, arith, map, drop, add-one}
+use Rattle.std.proofs.Common.{◌≡◌, ℕ, ◌+◌, ◌-◌, ◌^◌, min, max, List, [], ◌∷◌, ◌++◌, Bool, true, false, not, ◌||◌, Option, Some, None, refl, sym, ap, subst, ◌∙◌, arith, map, drop}
 use Rattle.std.specs.Prelude.{if◌then◌else◌, slice_get, is_some}
 use Rattle.std.specs.List.{find}
 use Rattle.std.specs.Option.{option_map}
@@ -10,6 +10,7 @@ use Rattle.std.proofs.lemmas.Slice.Eq.{bytes_eq-Decides}
 use Rattle.indexmap.specs.IndexMap.{IndexMap, get}
 use Rattle.sap_process.specs.Proc as whole
 use Rattle.sap_process.specs.Proc.{Proc, node_count, level_count}
+use Rattle.sap_terms.proofs.PlainLaws.Lists.{drop_got}
 use Rattle.sap_read.specs.declared.draft.Definition.{Definition}
 use Rattle.sap_read.specs.declared.fault.ReadFault.{ReadFault}
 use Rattle.sap_read.specs.declared.fault.ReadFault.TheVariants.{UnknownProcess}
@@ -81,15 +82,6 @@ levels_counted names means h (test t u p q) =
     max_cut _ _ _ _ (2 ^ 64 - 1) (levels_counted names means h p) (levels_counted names means h q)
 levels_counted names means h (lookup t x p q) =
     max_cut _ _ _ _ (2 ^ 64 - 1) (levels_counted names means h p) (levels_counted names means h q)
-
--- the rest of a list begins with the item there
-pub drop_at : {X : Type 0} (xs : List X) (k : ℕ) (x : X) → slice_get xs k ≡ Some x → drop k xs ≡ x ∷ drop (k + 1) xs
-drop_at {X = X} xs k x e = rw add-one (go xs k e)
-  where
-    go : (xs : List X) (k : ℕ) → slice_get xs k ≡ Some x → drop k xs ≡ x ∷ drop (suc k) xs
-    go [] k e = absurd (cc)
-    go (y ∷ ys) zero e = let same : y ≡ x = cc in ap (λ z. z ∷ ys) same
-    go (y ∷ ys) (suc k) e = go ys k e
 
 first_found : {A : Type 0} → (o p : Option A) (x : A) → o ≡ Some x → first_of (o ∷ p ∷ []) ≡ Some x
 first_found o p x e = rw e refl
@@ -175,7 +167,7 @@ behind_none es names empty = record {
 -- behind one more
 pub behind_more : {S : Type 0} (es : List Definition) (k : ℕ) (e : Definition) (old new : IndexMap (List ℕ) Meant S) → AreBehind es k old → slice_get es k ≡ Some e → unknown_among old (calls (written e.draft.value)) ≡ None → ((x : List ℕ) → get bytes_eq new x ≡ kept_behind old k e.label (written e.draft.value) x) → AreBehind es (k + 1) new
 behind_more es k e old new h there known is =
-    let rest : map body (drop k es) ≡ body e ∷ map body (drop (k + 1) es) = ap (map body) (drop_at es k e there) in
+    let rest : map body (drop k es) ≡ body e ∷ map body (drop (k + 1) es) = ap (map body) (drop_got es k e there) in
     let ks = h.known.0 in
     let means = h.counted.0 in
     let none : find (λ x. not (is_among ks x)) (calls (written e.draft.value)) ≡ None = sym (unknown_same old ks (calls (written e.draft.value)) h.known.2) ∙ known in
@@ -196,7 +188,7 @@ behind_more es k e old new h there known is =
 -- the first unknown name is that of the file
 pub behind_unknown : {S : Type 0} (es : List Definition) (k : ℕ) (e : Definition) (names : IndexMap (List ℕ) Meant S) → AreBehind es k names → slice_get es k ≡ Some e → (x : List ℕ) → unknown_among names (calls (written e.draft.value)) ≡ Some x → unknown_from [] (map body es) ≡ Some x
 behind_unknown es k e names h there x is =
-    let rest : map body (drop k es) ≡ body e ∷ map body (drop (k + 1) es) = ap (map body) (drop_at es k e there) in
+    let rest : map body (drop k es) ≡ body e ∷ map body (drop (k + 1) es) = ap (map body) (drop_got es k e there) in
     let ks = h.known.0 in
     h.known.1 ∙ ap (unknown_from ks) rest ∙ first_found (find (λ x. not (is_among ks x)) (calls (written e.draft.value))) (unknown_from (ks ++ listed e.label) (map body (drop (k + 1) es))) x (sym (unknown_same names ks (calls (written e.draft.value)) h.known.2) ∙ is)
 

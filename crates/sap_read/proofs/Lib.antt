@@ -11,6 +11,7 @@ pub mod Expanded
 pub mod Kept
 pub mod Labelled
 pub mod Caused
+pub mod Unchecked
 pub mod ItemsRead
 pub mod ItemTurns
 pub mod OneFile

@@ -12,32 +12,42 @@ use Rattle.sap_process.specs.Sorted.{with_sorts}
 use Rattle.sap_process.specs.declared.flaw.Flaw.{Flaw}
 use Rattle.sap_read.specs.declared.fault.ReadFault.{ReadFault}
 use Rattle.sap_read.specs.declared.fault.ReadFault.TheVariants.{Lex as LexFault, Header, Syntax, Ill}
-use Rattle.sap_read.specs.Item.{Standing, bodies}
+use Rattle.sap_formula.specs.Laws.{OneFaultLaw, NoFaultLaw}
+use Rattle.sap_statements.specs.declared.statement.Statement.{Statement}
+use Rattle.sap_read.specs.Item.{Standing, bodies, statements}
+use Rattle.sap_read.specs.Stated.{AreFaultless, IsFirstUnchecked, restrictions_of, lemmas_of}
 use Rattle.sap_grammar.specs.Cut.{Placed, placed, IsCut, IsHeader, last_line}
 use Rattle.sap_read.specs.ItemGrammar.{AreItems, IsFaulty}
 use Rattle.sap_read.specs.Replaced.{process_of, no_meaning}
 use Rattle.sap_grammar.specs.Signatures.{signature_from}
 use Rattle.sap_read.specs.Item.{signature_of}
 use Rattle.sap_read.specs.Causes.{cause_of, lock_fault}
-use Rattle.sap_read.specs.Files.{FileContent, AreTokens, IsParted, IsRead, no_tokens, no_header, no_item, refused, ill, locked, accepted}
+use Rattle.sap_read.specs.Files.{FileContent, AreTokens, IsParted, IsRead, no_tokens, no_header, no_item, refused, ill, locked, unchecked, accepted}
 use Rattle.sap_read.proofs.ItemsRead.{same_declarations, good_or_faulty, one_fault, one_items}
 use Rattle.sap_read.proofs.Processes.{one_process}
+use Rattle.sap_read.proofs.Unchecked.{one_unchecked, never_both}
 use Rattle.sap_read.specs.code.ItemLaws.{ItemLaws}
+use Rattle.sap_read.specs.code.StatementLaws.{StatementLaws}
 use Rattle.sap_read.specs.code.TermLaws.{AreRead}
 use Rattle.sap_terms.specs.declared.limits.TheConstants.{MOST_FILE_NAME_BYTES}
 
+-- what its formulas make of it, where q is its process
+data AfterFormulas (x : List ℕ) (g : Sig) (ss : List Statement) (q : Proc) : Result FileContent ReadFault → Type 0 where
+  is_unchecked : (e : ReadFault) → IsFirstUnchecked g ss e → AfterFormulas x g ss q (Err e)
+  is_checked : AreFaultless g ss
+      → AfterFormulas x g ss q (Ok (record { name = x; signature = g; process = q; restrictions = restrictions_of ss; lemmas = lemmas_of ss }))
+
 -- what the whole process of a file makes of it
-data AfterProcess (x : List ℕ) (g : Sig) (p : Proc) : Result FileContent ReadFault → Type 0 where
-  is_ill : (w : Flaw) (path : List ℕ) → IsFirstFlaw g p w path → AfterProcess x g p (Err (Ill w path))
-  is_locked : (w : LockFlaw) (path : List ℕ) → IsWellFormed g p → IsFirstLockFlaw (with_sorts [] p) w path → AfterProcess x g p (Err (lock_fault w path))
-  is_well : (q : Proc) → IsWellFormed g p → IsAnnotation (with_sorts [] p) q
-      → AfterProcess x g p (Ok (record { name = x; signature = g; process = q; restrictions = []; lemmas = [] }))
+data AfterProcess (x : List ℕ) (g : Sig) (ss : List Statement) (p : Proc) : Result FileContent ReadFault → Type 0 where
+  is_ill : (w : Flaw) (path : List ℕ) → IsFirstFlaw g p w path → AfterProcess x g ss p (Err (Ill w path))
+  is_locked : (w : LockFlaw) (path : List ℕ) → IsWellFormed g p → IsFirstLockFlaw (with_sorts [] p) w path → AfterProcess x g ss p (Err (lock_fault w path))
+  is_well : {o : Result FileContent ReadFault} (q : Proc) → IsWellFormed g p → IsAnnotation (with_sorts [] p) q → AfterFormulas x g ss q o → AfterProcess x g ss p o
 
 -- what its items make of it
 data AfterItems (x : List ℕ) (is : List Standing) : Result FileContent ReadFault → Type 0 where
   is_refused : (e : ReadFault) → cause_of is ≡ Some e → AfterItems x is (Err e)
   is_whole : {o : Result FileContent ReadFault} (p : Proc) → cause_of is ≡ None → process_of no_meaning (bodies is) ≡ Some p
-      → AfterProcess x (signature_of is) p o → AfterItems x is o
+      → AfterProcess x (signature_of is) (statements is) p o → AfterItems x is o
 
 -- what its parts make of it
 data AfterParts (x : List ℕ) (last : ℕ) (cut : List (List Placed)) : Result FileContent ReadFault → Type 0 where
@@ -64,38 +74,46 @@ in_steps (ill {ts = ts} {x = x} {cut = cut} {is = is} {p = q} {w = w} {path = pa
     has_tokens ts p.tokens (has_parts x cut p (has_items is i (is_whole q c w' (is_ill w path f))))
 in_steps (locked {ts = ts} {x = x} {cut = cut} {is = is} {p = q} {w = w} {path = path} p i c w' good f) =
     has_tokens ts p.tokens (has_parts x cut p (has_items is i (is_whole q c w' (is_locked w path good f))))
-in_steps (accepted {ts = ts} {x = x} {cut = cut} {is = is} {p = q} {q = r} p i c w f a) =
-    has_tokens ts p.tokens (has_parts x cut p (has_items is i (is_whole q c w (is_well r f a))))
+in_steps (unchecked {ts = ts} {x = x} {cut = cut} {is = is} {p = q} {q = r} {e = e} p i c w f a u) =
+    has_tokens ts p.tokens (has_parts x cut p (has_items is i (is_whole q c w (is_well r f a (is_unchecked e u)))))
+in_steps (accepted {ts = ts} {x = x} {cut = cut} {is = is} {p = q} {q = r} p i c w f a h) =
+    has_tokens ts p.tokens (has_parts x cut p (has_items is i (is_whole q c w (is_well r f a (is_checked h)))))
 
 -- items under their own signatures are the same
-pub same_items : ItemLaws → AreRead → (cut : List (List Placed)) (is js : List Standing) → AreItems (signature_of is) cut is → AreItems (signature_of js) cut js → is ≡ js
-same_items laws read cut is js r s =
+pub same_items : ItemLaws → StatementLaws → AreRead → (cut : List (List Placed)) (is js : List Standing) → AreItems (signature_of is) cut is → AreItems (signature_of js) cut js → is ≡ js
+same_items laws stated read cut is js r s =
     let same : signature_of is ≡ signature_of js = ap (signature_from pairs_alone) (same_declarations laws (signature_of is) (signature_of js) cut is js r s) in
-    one_items laws (one_process read) (signature_of js) cut is js (subst (λ (g : Sig). AreItems g cut is) same r) s
+    one_items laws stated (one_process read) (signature_of js) cut is js (subst (λ (g : Sig). AreItems g cut is) same r) s
 
-module _ (laws : ItemLaws) (read : AreRead) (one_flaw : (g : Sig) (p : Proc) (w v : Flaw) (path other : List ℕ) → IsFirstFlaw g p w path → IsFirstFlaw g p v other → (w ≡ v) × (path ≡ other))
+module _ (laws : ItemLaws) (stated : StatementLaws) (read : AreRead) (one_fault_law : OneFaultLaw) (no_fault_law : NoFaultLaw) (one_flaw : (g : Sig) (p : Proc) (w v : Flaw) (path other : List ℕ) → IsFirstFlaw g p w path → IsFirstFlaw g p v other → (w ≡ v) × (path ≡ other))
     (no_flaw : (g : Sig) (p : Proc) (w : Flaw) (path : List ℕ) → IsFirstFlaw g p w path → IsWellFormed g p → ⊥)
     (one_annotation : (p q r : Proc) → IsAnnotation p q → IsAnnotation p r → q ≡ r)
     (one_lock_path : (p : Proc) (u w : LockFlaw) (a b : List ℕ) → IsFirstLockFlaw p u a → IsFirstLockFlaw p w b → a ≡ b)
     (one_lock_cause : (p : Proc) (u w : LockFlaw) (a b : List ℕ) → IsFirstLockFlaw p u a → IsFirstLockFlaw p w b → u ≡ w)
     (no_lock_flaw : (p q : Proc) (w : LockFlaw) (path : List ℕ) → IsAnnotation p q → ¬ IsFirstLockFlaw p w path)
     (one_answer : (most : ℕ) (z : List ℕ) (o u : Lexed) → IsLexed most 0 1 z o → IsLexed most 0 1 z u → o ≡ u) where
-  after_process : (x : List ℕ) (g : Sig) (p : Proc) (o u : Result FileContent ReadFault) → AfterProcess x g p o → AfterProcess x g p u → o ≡ u
-  after_process x g p _ _ (is_ill w path f) (is_ill v other h) =
+  after_formulas : (x : List ℕ) (g : Sig) (ss : List Statement) (q : Proc) (o u : Result FileContent ReadFault) → AfterFormulas x g ss q o → AfterFormulas x g ss q u → o ≡ u
+  after_formulas x g ss q _ _ (is_unchecked e f) (is_unchecked d h) = ap (λ (b : ReadFault). Err b) (one_unchecked one_fault_law no_fault_law g ss e d f h)
+  after_formulas x g ss q _ _ (is_unchecked e f) (is_checked h) = absurd (never_both one_fault_law no_fault_law g ss e f h)
+  after_formulas x g ss q _ _ (is_checked f) (is_unchecked e h) = absurd (never_both one_fault_law no_fault_law g ss e h f)
+  after_formulas x g ss q _ _ (is_checked f) (is_checked h) = refl
+
+  after_process : (x : List ℕ) (g : Sig) (ss : List Statement) (p : Proc) (o u : Result FileContent ReadFault) → AfterProcess x g ss p o → AfterProcess x g ss p u → o ≡ u
+  after_process x g ss p _ _ (is_ill w path f) (is_ill v other h) =
       let same = one_flaw g p w v path other f h in
       λ i. Err (Ill (same.0 i) (same.1 i))
-  after_process x g p _ _ (is_ill w path f) (is_locked v other h l) = absurd (no_flaw g p w path f h)
-  after_process x g p _ _ (is_ill w path f) (is_well r h b) = absurd (no_flaw g p w path f h)
-  after_process x g p _ _ (is_locked w path f l) (is_ill v other h) = absurd (no_flaw g p v other h f)
-  after_process x g p _ _ (is_locked w path f l) (is_locked v other h m) =
+  after_process x g ss p _ _ (is_ill w path f) (is_locked v other h l) = absurd (no_flaw g p w path f h)
+  after_process x g ss p _ u (is_ill w path f) (is_well r h b d) = absurd (no_flaw g p w path f h)
+  after_process x g ss p _ _ (is_locked w path f l) (is_ill v other h) = absurd (no_flaw g p v other h f)
+  after_process x g ss p _ _ (is_locked w path f l) (is_locked v other h m) =
       let causes = one_lock_cause (with_sorts [] p) w v path other l m in
       let paths = one_lock_path (with_sorts [] p) w v path other l m in
       λ i. Err (lock_fault (causes i) (paths i))
-  after_process x g p _ _ (is_locked w path f l) (is_well r h b) = absurd (no_lock_flaw (with_sorts [] p) r w path b l)
-  after_process x g p _ _ (is_well q f a) (is_ill v other h) = absurd (no_flaw g p v other h f)
-  after_process x g p _ _ (is_well q f a) (is_locked v other h m) = absurd (no_lock_flaw (with_sorts [] p) q v other a m)
-  after_process x g p _ _ (is_well q f a) (is_well r h b) =
-      ap (λ (s : Proc). Ok (record { name = x; signature = g; process = s; restrictions = []; lemmas = [] })) (one_annotation (with_sorts [] p) q r a b)
+  after_process x g ss p _ u (is_locked w path f l) (is_well r h b d) = absurd (no_lock_flaw (with_sorts [] p) r w path b l)
+  after_process x g ss p o _ (is_well q f a c) (is_ill v other h) = absurd (no_flaw g p v other h f)
+  after_process x g ss p o _ (is_well q f a c) (is_locked v other h m) = absurd (no_lock_flaw (with_sorts [] p) q v other a m)
+  after_process x g ss p o u (is_well q f a c) (is_well r h b d) =
+      after_formulas x g ss r o u (subst (λ (s : Proc). AfterFormulas x g ss s o) (one_annotation (with_sorts [] p) q r a b) c) d
 
   after_items : (x : List ℕ) (is : List Standing) (o u : Result FileContent ReadFault) → AfterItems x is o → AfterItems x is u → o ≡ u
   after_items x is _ _ (is_refused e c) (is_refused d b) = let same : Some e ≡ Some d = sym c ∙ b in cc
@@ -104,14 +122,14 @@ module _ (laws : ItemLaws) (read : AreRead) (one_flaw : (g : Sig) (p : Proc) (w 
   after_items x is o u (is_whole p b w a) (is_whole q c v d) =
       let both : Some p ≡ Some q = sym w ∙ v in
       let same : p ≡ q = cc in
-      after_process x (signature_of is) q o u (subst (λ (r : Proc). AfterProcess x (signature_of is) r o) same a) d
+      after_process x (signature_of is) (statements is) q o u (subst (λ (r : Proc). AfterProcess x (signature_of is) (statements is) r o) same a) d
 
   after_parts : (x : List ℕ) (last : ℕ) (cut : List (List Placed)) (o u : Result FileContent ReadFault) → AfterParts x last cut o → AfterParts x last cut u → o ≡ u
   after_parts x last cut _ _ (is_faulty n f) (is_faulty k h) = ap (λ m. Err (Syntax m)) (one_fault last n k cut f h)
   after_parts x last cut _ u (is_faulty n f) (has_items is i a) = absurd (good_or_faulty (signature_of is) last n cut is i f)
   after_parts x last cut o _ (has_items is i a) (is_faulty n f) = absurd (good_or_faulty (signature_of is) last n cut is i f)
   after_parts x last cut o u (has_items is i a) (has_items js j b) =
-      after_items x js o u (subst (λ (ks : List Standing). AfterItems x ks o) (same_items laws read cut is js i j) a) b
+      after_items x js o u (subst (λ (ks : List Standing). AfterItems x ks o) (same_items laws stated read cut is js i j) a) b
 
   after_tokens : (z : List ℕ) (ts : List Token) (o u : Result FileContent ReadFault) → AfterTokens z ts o → AfterTokens z ts u → o ≡ u
   after_tokens z ts _ _ (has_none f) (has_none h) = refl

@@ -1,21 +1,20 @@
 -- From the parts of a file to what it is read as.
-use Rattle.std.proofs.Common.{◌≡◌, ◌⊎◌, ℕ, List, [], drop, sym, ap, subst, ◌∙◌, Some, None, Option, Ok, Err, inl, inr}
+use Rattle.std.proofs.Common.{◌≡◌, ◌⊎◌, ℕ, List, drop, sym, ap, subst, ◌∙◌, Some, Option, Ok, Err, inl, inr}
 use Rattle.sap_text.specs.declared.token.Token.{Token}
 use Rattle.sap_terms.specs.Signature.{Sig, pairs_alone}
 use Rattle.sap_process.specs.Proc.{Proc}
-use Rattle.sap_process.specs.Flaws.{IsFirstFlaw, IsWellFormed}
+use Rattle.sap_formula.specs.Form.{RestrictionForm, LemmaForm}
 use Rattle.sap_read.specs.declared.fault.ReadFault.{ReadFault}
 use Rattle.sap_grammar.specs.Words.{words_of}
-use Rattle.sap_read.specs.Item.{Standing, declarations, bodies}
+use Rattle.sap_read.specs.Item.{Standing, declarations, bodies, statements}
 use Rattle.sap_grammar.specs.Cut.{Placed, placed, IsCut, last_line}
 use Rattle.sap_read.specs.ItemGrammar.{AreItems}
 use Rattle.sap_read.specs.Item.{signature_of}
 use Rattle.sap_grammar.specs.Signatures.{clash_from, signature_from}
-use Rattle.sap_read.specs.Causes.{cause}
-use Rattle.sap_read.specs.Files.{AreTokens, IsParted, IsRead, no_item, refused, ill, locked, accepted}
+use Rattle.sap_read.specs.Files.{AreTokens, IsParted, IsRead, no_item, refused, ill, locked, unchecked, accepted}
 use Rattle.sap_grammar.specs.ItemReading.{cut, declared_in_all}
 use Rattle.sap_grammar.specs.ItemReading.{header_of}
-use Rattle.sap_read.specs.code.Judged.{IsAccepted, IsFlawed, IsMislocked, IsRefused}
+use Rattle.sap_read.specs.code.Judged.{AreAccepted, IsAccepted, IsFlawed, IsMislocked, IsRefused, IsRefusedCut}
 use Rattle.sap_read.specs.code.ItemLaws.{ItemLaws}
 use Rattle.sap_read.proofs.ItemTurns.{cut_is}
 use Rattle.sap_read.proofs.ItemsRead.{declared_are}
@@ -42,39 +41,44 @@ is_declared laws z ts g clash e f h is standing r a =
     let here : declarations standing ≡ declared_in_all (items_of z ts) = declared_are laws a ∙ ap declared_in_all (sym (cut_is laws r)) in
     (rw here e, rw here f)
 
-pub is_refused : ItemLaws → (z : List ℕ) (ts : List Token) (x : List ℕ) (g : Sig) (clash : Option (List ℕ)) (e : ReadFault) → AreTokens z ts
-    → header_of (words_of z ts) ≡ Some x → IsDeclared z ts g clash → IsRefused g clash (last_line (placed z ts)) (items_of z ts) e → IsRead z (Err e)
-is_refused laws z ts x g clash e t h d (inl f) = subst (λ (q : ReadFault). IsRead z (Err q)) (sym f.is) (no_item (parted laws z ts x t h) f.faulty)
-is_refused laws z ts x g clash e t h d (inr (inl r)) =
-    let told = d g (items_of z ts) r.standing (items_are_cut laws z ts) r.items in
-    refused (parted laws z ts x t h) (subst (λ (s : Sig). AreItems s (items_of z ts) r.standing) told.0 r.items)
-    (subst (λ (o : Option (List ℕ)). cause (bodies r.standing) o ≡ Some e) told.1 r.first)
-is_refused laws z ts x g clash e t h d (inr (inr r)) = by r.unsound
+-- items under their own signature that are refused
+own_refused : {z : List ℕ} {ts : List Token} {x : List ℕ} {cut : List (List Placed)} (is : List Standing) (e : ReadFault) → IsParted z ts x cut → AreItems (signature_of is) cut is
+    → IsRefused (signature_of is) (clash_from pairs_alone (declarations is)) (bodies is) (statements is) e → IsRead z (Err e)
+own_refused is e p i (inl (inl first)) = refused p i first
+own_refused {z = z} is e p i (inl (inr r)) = by r.unsound
   where
-    told : (g ≡ signature_of r.whole.standing) × (clash ≡ clash_from pairs_alone (declarations r.whole.standing))
-    told = d g (items_of z ts) r.whole.standing (items_are_cut laws z ts) r.whole.items
+    by : IsFlawed (signature_of is) r.process e ⊎ IsMislocked (signature_of is) r.process e → IsRead z (Err e)
+    by (inl f) = subst (λ (q : ReadFault). IsRead z (Err q)) (sym f.is) (ill p i r.whole.nothing r.whole.whole f.flaw)
+    by (inr f) = subst (λ (q : ReadFault). IsRead z (Err q)) (sym f.is) (locked p i r.whole.nothing r.whole.whole f.well_formed f.flaw)
+own_refused is e p i (inr u) =
+    let a = u.annotated in
+    unchecked p i a.whole.nothing a.whole.whole a.sound.well_formed a.sound.annotation u.first
 
-    items : AreItems (signature_of r.whole.standing) (items_of z ts) r.whole.standing
-    items = subst (λ (s : Sig). AreItems s (items_of z ts) r.whole.standing) told.0 r.whole.items
+pub is_refused : ItemLaws → (z : List ℕ) (ts : List Token) (x : List ℕ) (g : Sig) (clash : Option (List ℕ)) (e : ReadFault) → AreTokens z ts
+    → header_of (words_of z ts) ≡ Some x → IsDeclared z ts g clash → IsRefusedCut g clash (last_line (placed z ts)) (items_of z ts) e → IsRead z (Err e)
+is_refused laws z ts x g clash e t h d (inl f) = subst (λ (q : ReadFault). IsRead z (Err q)) (sym f.is) (no_item (parted laws z ts x t h) f.faulty)
+is_refused laws z ts x g clash e t h d (inr r) =
+    let is = r.standing in
+    let told = d g (items_of z ts) is (items_are_cut laws z ts) r.items in
+    own_refused is e (parted laws z ts x t h) (subst (λ (s : Sig). AreItems s (items_of z ts) is) told.0 r.items)
+    (subst (λ (s : Sig). IsRefused s (clash_from pairs_alone (declarations is)) (bodies is) (statements is) e) told.0
+    (subst (λ (o : Option (List ℕ)). IsRefused g o (bodies is) (statements is) e) told.1 r.refused))
 
-    nothing : cause (bodies r.whole.standing) (clash_from pairs_alone (declarations r.whole.standing)) ≡ None
-    nothing = subst (λ (o : Option (List ℕ)). cause (bodies r.whole.standing) o ≡ None) told.1 r.whole.nothing
+-- items under their own signature that are accepted
+own_accepted : {z : List ℕ} {ts : List Token} {x : List ℕ} {cut : List (List Placed)} (is : List Standing) (q : Proc) (rs : List RestrictionForm) (ls : List LemmaForm) → IsParted z ts x cut
+    → AreItems (signature_of is) cut is → IsAccepted (signature_of is) (clash_from pairs_alone (declarations is)) (bodies is) (statements is) q rs ls
+    → IsRead z (Ok (record { name = x; signature = signature_of is; process = q; restrictions = rs; lemmas = ls }))
+own_accepted is q rs ls p i a =
+    let b = a.annotated in
+    rw (a.checked.restrictions, a.checked.lemmas) (accepted p i b.whole.nothing b.whole.whole b.sound.well_formed b.sound.annotation a.checked.faultless)
 
-    by : IsFlawed g r.process e ⊎ IsMislocked g r.process e → IsRead z (Err e)
-    by (inl f) =
-        subst (λ (q : ReadFault). IsRead z (Err q)) (sym f.is)
-        (ill (parted laws z ts x t h) items nothing r.whole.whole (subst (λ (s : Sig). IsFirstFlaw s r.process f.which f.path) told.0 f.flaw))
-    by (inr f) =
-        subst (λ (q : ReadFault). IsRead z (Err q)) (sym f.is)
-        (locked (parted laws z ts x t h) items nothing r.whole.whole (subst (λ (s : Sig). IsWellFormed s r.process) told.0 f.well_formed) f.flaw)
-
-pub is_accepted : ItemLaws → (z : List ℕ) (ts : List Token) (x : List ℕ) (g : Sig) (clash : Option (List ℕ)) (q : Proc) → AreTokens z ts
-    → header_of (words_of z ts) ≡ Some x → IsDeclared z ts g clash → IsAccepted g clash (items_of z ts) q
-    → IsRead z (Ok (record { name = x; signature = g; process = q; restrictions = []; lemmas = [] }))
-is_accepted laws z ts x g clash q t h d a =
-    let w = a.whole in
-    let told = d g (items_of z ts) w.standing (items_are_cut laws z ts) w.items in
-    subst (λ (s : Sig). IsRead z (Ok (record { name = x; signature = s; process = q; restrictions = []; lemmas = [] }))) (sym told.0)
-    (accepted (parted laws z ts x t h) (subst (λ (s : Sig). AreItems s (items_of z ts) w.standing) told.0 w.items)
-    (subst (λ (o : Option (List ℕ)). cause (bodies w.standing) o ≡ None) told.1 w.nothing) w.whole
-    (subst (λ (s : Sig). IsWellFormed s a.process) told.0 a.sound.well_formed) a.sound.annotation)
+pub is_accepted : ItemLaws → (z : List ℕ) (ts : List Token) (x : List ℕ) (g : Sig) (clash : Option (List ℕ)) (q : Proc) (rs : List RestrictionForm) (ls : List LemmaForm) → AreTokens z ts
+    → header_of (words_of z ts) ≡ Some x → IsDeclared z ts g clash → AreAccepted g clash (items_of z ts) q rs ls
+    → IsRead z (Ok (record { name = x; signature = g; process = q; restrictions = rs; lemmas = ls }))
+is_accepted laws z ts x g clash q rs ls t h d a =
+    let is = a.standing in
+    let told = d g (items_of z ts) is (items_are_cut laws z ts) a.items in
+    subst (λ (s : Sig). IsRead z (Ok (record { name = x; signature = s; process = q; restrictions = rs; lemmas = ls }))) (sym told.0)
+    (own_accepted is q rs ls (parted laws z ts x t h) (subst (λ (s : Sig). AreItems s (items_of z ts) is) told.0 a.items)
+    (subst (λ (s : Sig). IsAccepted s (clash_from pairs_alone (declarations is)) (bodies is) (statements is) q rs ls) told.0
+    (subst (λ (o : Option (List ℕ)). IsAccepted g o (bodies is) (statements is) q rs ls) told.1 a.accepted)))

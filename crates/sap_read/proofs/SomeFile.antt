@@ -16,26 +16,32 @@ use Rattle.sap_read.specs.declared.limits.TheConstants.{FILE_LIMITS}
 use Rattle.sap_grammar.specs.Words.{Word, mark, starts, words_of}
 use Rattle.sap_grammar.specs.Reading.{Read, name_at}
 use Rattle.sap_read.specs.Written.{Written}
-use Rattle.sap_read.specs.Item.{Item, definition, process, Standing, declarations, Body, bodies}
+use Rattle.sap_read.specs.Item.{Item, definition, process, statement, Standing, declarations, Body, bodies, statements}
 use Rattle.sap_grammar.specs.Declarations.{Declaration}
 use Rattle.sap_grammar.specs.Cut.{Placed, placed, words, first_line, last_line}
-use Rattle.sap_read.specs.ItemGrammar.{IsProcess, IsItem, AreItems, IsSomeItem, IsFaulty, item_definition, item_process, item_builtins, item_functions}
+use Rattle.sap_read.specs.ItemGrammar.{IsProcess, IsItem, AreItems, IsSomeItem, IsFaulty, item_definition, item_process, item_statement}
 use Rattle.sap_grammar.specs.Items.{items_end, items_more, no_end, bad_item, later_item}
 use Rattle.sap_grammar.specs.Signatures.{signature_from, clash_from}
 use Rattle.sap_read.specs.Item.{signature_of}
 use Rattle.sap_read.specs.Replaced.{process_of, no_meaning, replaced, after_body}
 use Rattle.sap_read.specs.Causes.{cause, cause_of, lock_fault, unlabelled}
-use Rattle.sap_read.specs.Files.{FileContent, AreTokens, IsParted, IsRead, no_tokens, no_header, no_item, refused, ill, locked, accepted}
+use Rattle.sap_read.specs.Files.{FileContent, AreTokens, IsParted, IsRead, no_tokens, no_header, no_item, refused, ill, locked, unchecked, accepted}
 use Rattle.sap_grammar.specs.ItemReading.{declared_in, declared_in_all}
 use Rattle.sap_read.specs.code.ProcessReading.{Levelled, par}
 use Rattle.sap_grammar.specs.ItemReading.{header_of}
+use Rattle.sap_formula.specs.Laws.{SomeFaultLaw}
+use Rattle.sap_statements.specs.declared.statement.Statement.{Statement}
+use Rattle.sap_statements.specs.Statements.{IsStatement}
+use Rattle.sap_read.specs.Stated.{AreFaultless, IsFirstUnchecked, restrictions_of, lemmas_of}
+use Rattle.sap_read.proofs.Unchecked.{checked_or_not}
+use Rattle.sap_read.specs.code.StatementLaws.{StatementLaws}
 use Rattle.sap_read.specs.code.ItemLaws.{ItemLaws}
 use Rattle.sap_read.specs.code.TermLaws.{AreRead, AreSpelled}
 use Rattle.sap_read.proofs.OnRead.{starts_is}
 use Rattle.sap_read.proofs.Caused as caused
 use Rattle.sap_read.proofs.Parts.{items_of, parted}
 use Rattle.sap_read.proofs.ItemsRead.{declared_are, declared_sound}
-use Rattle.sap_read.proofs.ItemTurns.{definition_spelled, process_spelled, no_definition, no_process, no_other}
+use Rattle.sap_read.proofs.ItemTurns.{definition_spelled, process_spelled, no_name, no_equals, no_colon, no_definition, no_process, no_other}
 use Rattle.sap_read.proofs.WholeProcesses.{whole_is, nothing_whole, no_other_whole}
 
 -- the words are a process under the signature, or under none
@@ -45,7 +51,7 @@ WholeOrNone g ws = ((p : Written) × IsProcess g p ws) ⊎ ((h : Sig) (p : Writt
 abbrev read_up_to : Levelled → List Word → Read Levelled
 read_up_to w b = Some (w, b)
 
-module _ (laws : ItemLaws) (read : AreRead) (spelled : AreSpelled) where
+module _ (laws : ItemLaws) (stated : StatementLaws) (read : AreRead) (spelled : AreSpelled) where
   whole_or_none : (g : Sig) (ws : List Word) → WholeOrNone g ws
   whole_or_none g ws = by (par g FILE_LIMITS MOST_PROCESS_LEVELS ws) refl
     where
@@ -60,24 +66,6 @@ module _ (laws : ItemLaws) (read : AreRead) (spelled : AreSpelled) where
   -- the words are an item under the signature, or under none
   abbrev ItemOrNone : Sig → List Word → Type 0
   ItemOrNone g ws = ((v : Item) × IsItem g v ws) ⊎ (IsSomeItem ws → ⊥)
-
-  no_name : {g : Sig} {v : Item} {a : List Word} → starts (codes "let") a ≡ true → name_at (drop 1 a) ≡ None → IsItem g v a → ⊥
-  no_name s n (item_builtins r) = absurd (cc)
-  no_name s n (item_functions r) = absurd (cc)
-  no_name s n (item_definition r) = absurd (cc)
-  no_name s n (item_process r) = absurd (cc)
-
-  no_equals : {g : Sig} {v : Item} {a : List Word} → starts (codes "let") a ≡ true → starts (codes "=") (drop 2 a) ≡ false → IsItem g v a → ⊥
-  no_equals s e (item_builtins r) = absurd (cc)
-  no_equals s e (item_functions r) = absurd (cc)
-  no_equals s e (item_definition r) = absurd (cc)
-  no_equals s e (item_process r) = absurd (cc)
-
-  no_colon : {g : Sig} {v : Item} {a : List Word} → starts (codes "process") a ≡ true → starts (codes ":") (drop 1 a) ≡ false → IsItem g v a → ⊥
-  no_colon s e (item_builtins r) = absurd (cc)
-  no_colon s e (item_functions r) = absurd (cc)
-  no_colon s e (item_definition r) = absurd (cc)
-  no_colon s e (item_process r) = absurd (cc)
 
   definition_or_none : (g : Sig) (ws : List Word) → starts (codes "let") ws ≡ true → ItemOrNone g ws
   definition_or_none g ws s = by_name (name_at (drop 1 ws)) refl
@@ -108,8 +96,13 @@ module _ (laws : ItemLaws) (read : AreRead) (spelled : AreSpelled) where
   item_or_none : (g : Sig) (ws : List Word) → ItemOrNone g ws
   item_or_none g ws = by_let (starts (codes "let") ws) refl
     where
+      by_stated : starts (codes "let") ws ≡ false → starts (codes "process") ws ≡ false → declared_in ws ≡ None → ((s : Statement) × IsStatement g FILE_LIMITS s ws) ⊎ ((s : Statement) → IsStatement g FILE_LIMITS s ws → ⊥)
+          → ItemOrNone g ws
+      by_stated l p e (inl r) = inl (statement r.0, item_statement r.1)
+      by_stated l p e (inr never) = inr (no_other laws ws l p e (λ h s r. let t = stated.too h g FILE_LIMITS s ws r in never t.0 t.1))
+
       by_declared : starts (codes "let") ws ≡ false → starts (codes "process") ws ≡ false → (o : Option (List Declaration)) → declared_in ws ≡ o → ItemOrNone g ws
-      by_declared l p None e = inr (no_other laws ws l p e)
+      by_declared l p None e = by_stated l p e (stated.some g FILE_LIMITS ws)
       by_declared l p (Some ds) e = let alone = declared_sound laws ws ds e in inl (alone.item, alone.spelled g)
 
       by_process : starts (codes "let") ws ≡ false → (t : Bool) → starts (codes "process") ws ≡ t → ItemOrNone g ws
@@ -167,11 +160,11 @@ has_process : (means : List ℕ → Proc) (bs : List Body) → is_none (slice_ge
 has_process means [] h = absurd (cc (h))
 has_process means (b ∷ bs) h = first_or_later means b bs (λ m k. has_process m bs k) b.label refl h
 
-no_cause : (bs : List Body) (clash : Option (List ℕ)) → cause bs clash ≡ None → is_none (slice_get (unlabelled bs) 0) ≡ false
-no_cause bs clash h = by (unlabelled bs) refl
+no_cause : (bs : List Body) (ss : List Statement) (clash : Option (List ℕ)) → cause bs ss clash ≡ None → is_none (slice_get (unlabelled bs) 0) ≡ false
+no_cause bs ss clash h = by (unlabelled bs) refl
   where
     by : (cs : List Body) → unlabelled bs ≡ cs → is_none (slice_get (unlabelled bs) 0) ≡ false
-    by [] e = let missing = caused.no_process bs clash e in absurd (cc (missing, h))
+    by [] e = let missing = caused.no_process bs ss clash e in absurd (cc (missing, h))
     by (c ∷ cs) e = rw e refl
 
 -- a process has no flaw, or one that counts
@@ -185,12 +178,20 @@ IsLocked p = ((q : Proc) × IsAnnotation p q) ⊎ ((w : LockFlaw) × (path : Lis
 abbrev IsReadSo : List ℕ → Type 0
 IsReadSo z = (o : Result FileContent ReadFault) × IsRead z o
 
-module _ (laws : ItemLaws) (read : AreRead) (spelled : AreSpelled) (judged : (g : Sig) (p : Proc) → IsJudged g p) (labelled : (p : Proc) → IsLocked p) (z : List ℕ) where
+module _ (laws : ItemLaws) (stated : StatementLaws) (read : AreRead) (spelled : AreSpelled) (faults : SomeFaultLaw) (judged : (g : Sig) (p : Proc) → IsJudged g p) (labelled : (p : Proc) → IsLocked p) (z : List ℕ) where
   from_items : {ts : List Token} {x : List ℕ} {cut : List (List Placed)} (is : List Standing) → IsParted z ts x cut → AreItems (signature_of is) cut is → IsReadSo z
   from_items {x = x} is p i = by_cause (cause_of is) refl
     where
+      by_formulas : (q r : Proc) → cause_of is ≡ None → process_of no_meaning (bodies is) ≡ Some q → IsWellFormed (signature_of is) q → IsAnnotation (with_sorts [] q) r
+          → AreFaultless (signature_of is) (statements is) ⊎ ((e : ReadFault) × IsFirstUnchecked (signature_of is) (statements is) e) → IsReadSo z
+      by_formulas q r c w good a (inl all) = (
+        Ok (record { name = x; signature = signature_of is; process = r; restrictions = restrictions_of (statements is); lemmas = lemmas_of (statements is) }),
+        accepted p i c w good a all,
+      )
+      by_formulas q r c w good a (inr f) = (Err f.0, unchecked p i c w good a f.1)
+
       by_lock : (q : Proc) → cause_of is ≡ None → process_of no_meaning (bodies is) ≡ Some q → IsWellFormed (signature_of is) q → IsLocked (with_sorts [] q) → IsReadSo z
-      by_lock q c w good (inl a) = (Ok (record { name = x; signature = signature_of is; process = a.0; restrictions = []; lemmas = [] }), accepted p i c w good a.1)
+      by_lock q c w good (inl a) = by_formulas q a.0 c w good a.1 (checked_or_not faults (signature_of is) (statements is))
       by_lock q c w good (inr f) = (Err (lock_fault f.0 f.1), locked p i c w good f.2)
 
       by_flaw : (q : Proc) → cause_of is ≡ None → process_of no_meaning (bodies is) ≡ Some q → IsJudged (signature_of is) q → IsReadSo z
@@ -200,13 +201,13 @@ module _ (laws : ItemLaws) (read : AreRead) (spelled : AreSpelled) (judged : (g 
       by_cause : (o : Option ReadFault) → cause_of is ≡ o → IsReadSo z
       by_cause (Some e) c = (Err e, refused p i c)
       by_cause None c =
-          let w = has_process no_meaning (bodies is) (no_cause (bodies is) (clash_from pairs_alone (declarations is)) c) in
+          let w = has_process no_meaning (bodies is) (no_cause (bodies is) (statements is) (clash_from pairs_alone (declarations is)) c) in
           by_flaw w.0 c w.1 (judged (signature_of is) w.0)
 
   from_parts : (ts : List Token) (x : List ℕ) (cut : List (List Placed)) → IsParted z ts x cut → IsReadSo z
-  from_parts ts x cut p = by (items_or_fault laws read spelled (signature_from pairs_alone (declared_in_all cut)) (last_line (placed z ts)) cut)
+  from_parts ts x cut p = by (items_or_fault laws stated read spelled (signature_from pairs_alone (declared_in_all cut)) (last_line (placed z ts)) cut)
     where
-      by : ItemsOrFault laws read spelled (signature_from pairs_alone (declared_in_all cut)) (last_line (placed z ts)) cut → IsReadSo z
+      by : ItemsOrFault laws stated read spelled (signature_from pairs_alone (declared_in_all cut)) (last_line (placed z ts)) cut → IsReadSo z
       by (inl r) = from_items r.0 p (subst (λ (g : Sig). AreItems g cut r.0) (ap (signature_from pairs_alone) (sym (declared_are laws r.1))) r.1)
       by (inr f) = (Err (Syntax f.0), no_item p f.1)
 

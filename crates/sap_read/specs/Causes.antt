@@ -1,5 +1,5 @@
 -- Why a file whose items are all in the grammar is refused.
-use Rattle.std.specs.Prelude.{ℕ, Bool, not, nat_lt, List, [], ◌∷◌, ◌++◌, Option, Some, None, if◌then◌else◌, is_some, is_none, option_map, slice_get, filter}
+use Rattle.std.specs.Prelude.{ℕ, Bool, false, not, ◌||◌, nat_lt, List, [], ◌∷◌, ◌++◌, Option, Some, None, if◌then◌else◌, is_some, is_none, option_map, slice_get, filter, map}
 use Rattle.std.specs.List.{list_any, find}
 use Rattle.std.specs.Str.{bytes_eq}
 use Rattle.sap_terms.specs.Signature.{pairs_alone}
@@ -7,11 +7,14 @@ use Rattle.sap_process.specs.Proc.{Proc, node_count, level_count}
 use Rattle.sap_locks.specs.Annotation.{LockFlaw, without, over}
 use Rattle.sap_locks.specs.declared.fault.LockFault.{LockFault}
 use Rattle.sap_locks.specs.declared.fault.LockFault.TheVariants as lock
+use Rattle.sap_restrict.specs.Restrictions.{is_generated}
+use Rattle.sap_statements.specs.declared.statement.Statement.{Statement}
+use Rattle.sap_statements.specs.Statements.{name_of}
 use Rattle.sap_process.specs.declared.flaw.Ill as declared_ill
 use Rattle.sap_process.specs.declared.flaw.Ill.TheVariants as ill
 use Rattle.sap_read.specs.declared.fault.ReadFault.{ReadFault}
 use Rattle.sap_read.specs.declared.fault.ReadFault.TheVariants.{Mem, Ill, Lock, NoProcess, TwoProcesses, UnknownProcess, DuplicateName, FunctionClash, TooMany, TooDeep}
-use Rattle.sap_read.specs.Item.{Standing, declarations, Body, bodies}
+use Rattle.sap_read.specs.Item.{Standing, declarations, Body, bodies, statements}
 use Rattle.sap_read.specs.Replaced.{calls, process_of, no_meaning}
 use Rattle.sap_grammar.specs.Signatures.{clash_from}
 use Rattle.sap_terms.specs.declared.limits.TheConstants.{MOST_PROCESS_LEVELS, MOST_PROCESS_PLACES}
@@ -43,34 +46,40 @@ unknown_from known [] = None
 unknown_from known (b ∷ bs) =
     first_of (find (λ x. not (is_among known x)) (calls b.content) ∷ unknown_from (known ++ listed b.label) bs ∷ [])
 
+-- the first name that is reserved, or stands again behind it
+abbrev pub first_taken : (List ℕ → Bool) → List (List ℕ) → Option (List ℕ)
+first_taken is_reserved [] = None
+first_taken is_reserved (x ∷ xs) = if is_reserved x || is_among xs x then Some x else first_taken is_reserved xs
+
 -- the first name that stands again behind it
 abbrev pub first_repeated : List (List ℕ) → Option (List ℕ)
-first_repeated [] = None
-first_repeated (x ∷ xs) = if is_among xs x then Some x else first_repeated xs
+first_repeated xs = first_taken (λ x. false) xs
 
 -- the fault, where there is a process and its measure is above the limit
 abbrev pub above : (Proc → ℕ) → ℕ → ReadFault → Option Proc → Option ReadFault
 above measure most fault None = None
 above measure most fault (Some p) = if nat_lt most (measure p) then Some fault else None
 
--- each cause where it holds, in the order in which they count; a clash of declarations is told
-abbrev pub causes : List Body → Option (List ℕ) → List (Option ReadFault)
-causes bs clash =
+-- each cause where it holds, in the order in which they count; a clash of declarations is told. A name of a restriction or lemma is
+-- taken where a later one has it, and where a generated restriction has it.
+abbrev pub causes : List Body → List Statement → Option (List ℕ) → List (Option ReadFault)
+causes bs ss clash =
     (if is_none (slice_get (unlabelled bs) 0) then Some NoProcess else None)
     ∷ option_map (λ (b : Body). TwoProcesses b.line) (slice_get (unlabelled bs) 1)
     ∷ option_map UnknownProcess (unknown_from [] bs)
     ∷ option_map DuplicateName (first_repeated (labels bs))
+    ∷ option_map DuplicateName (first_taken is_generated (map name_of ss))
     ∷ option_map FunctionClash clash
     ∷ above node_count MOST_PROCESS_PLACES TooMany (process_of no_meaning bs)
     ∷ above level_count MOST_PROCESS_LEVELS TooDeep (process_of no_meaning bs) ∷ []
 
 -- the first cause that holds
-abbrev pub cause : List Body → Option (List ℕ) → Option ReadFault
-cause bs clash = first_of (causes bs clash)
+abbrev pub cause : List Body → List Statement → Option (List ℕ) → Option ReadFault
+cause bs ss clash = first_of (causes bs ss clash)
 
 -- the first cause that holds of a file with these items
 abbrev pub cause_of : List Standing → Option ReadFault
-cause_of is = cause (bodies is) (clash_from pairs_alone (declarations is))
+cause_of is = cause (bodies is) (statements is) (clash_from pairs_alone (declarations is))
 
 -- the fault of a file whose process isn't well-formed
 abbrev pub fault_of : declared_ill.Ill → ReadFault

@@ -7,6 +7,7 @@ use Rattle.sap_grammar.specs.Signatures.{signature_from}
 use Rattle.sap_grammar.specs.Declarations.{Declaration, of_builtin, of_symbol}
 use Rattle.sap_grammar.specs.Items as items
 use Rattle.sap_grammar.specs.Items.{declared_by_all}
+use Rattle.sap_statements.specs.declared.statement.Statement.{Statement}
 use Rattle.sap_read.specs.Written.{Written}
 
 pub data Item : Type 0 where
@@ -16,6 +17,8 @@ pub data Item : Type 0 where
   definition : List ℕ → Written → Item
   -- what the file is about
   process : Written → Item
+  -- a restriction or a lemma
+  statement : Statement → Item
 
 -- what an item declares, in order
 abbrev pub declared_by : Item → List Declaration
@@ -23,6 +26,7 @@ declared_by (builtins bs) = map of_builtin bs
 declared_by (functions ss) = map of_symbol ss
 declared_by (definition x p) = []
 declared_by (process p) = []
+declared_by (statement s) = []
 
 -- an item and the line of its first token
 abbrev pub Standing : Type 0
@@ -47,8 +51,22 @@ body_of (builtins bs) n = []
 body_of (functions ss) n = []
 body_of (definition x p) n = record { label = Some x; content = p; line = n } ∷ []
 body_of (process p) n = record { label = None; content = p; line = n } ∷ []
+body_of (statement s) n = []
 
 -- the processes of a file, in order
 abbrev pub bodies : List Standing → List Body
 bodies [] = []
 bodies (i ∷ is) = body_of i.item i.line ++ bodies is
+
+-- what an item says of traces
+abbrev pub stated_by : Item → List Statement
+stated_by (builtins bs) = []
+stated_by (functions ss) = []
+stated_by (definition x p) = []
+stated_by (process p) = []
+stated_by (statement s) = s ∷ []
+
+-- the restrictions and lemmas of a file, in order
+abbrev pub statements : List Standing → List Statement
+statements [] = []
+statements (i ∷ is) = stated_by i.item ++ statements is

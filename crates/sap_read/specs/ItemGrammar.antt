@@ -8,10 +8,12 @@ use Rattle.sap_grammar.specs.Words.{Word, mark, name}
 use Rattle.sap_grammar.specs.Cut.{Placed}
 use Rattle.sap_grammar.specs.Declarations.{AreBuiltins, AreSymbols}
 use Rattle.sap_grammar.specs.Items as items
+use Rattle.sap_statements.specs.declared.statement.Statement.{Statement}
+use Rattle.sap_statements.specs.Statements.{IsStatement}
 use Rattle.sap_read.specs.declared.limits.TheConstants.{FILE_LIMITS}
 use Rattle.sap_read.specs.Written.{Written}
 use Rattle.sap_read.specs.ProcessGrammar.{IsPar}
-use Rattle.sap_read.specs.Item.{Item, builtins, functions, definition, process, Standing}
+use Rattle.sap_read.specs.Item.{Item, builtins, functions, definition, process, statement, Standing}
 
 -- a process in at most MOST_PROCESS_LEVELS levels, whose terms keep to a file's limits, and nothing else
 pub record IsProcess (g : Sig) (p : Written) (a : List Word) : Type 0 where
@@ -25,6 +27,7 @@ pub data IsItem (g : Sig) : Item → List Word → Type 0 where
   item_definition : {x : List ℕ} {p : Written} {a : List Word} → IsProcess g p a
       → IsItem g (definition x p) (mark (codes "let") ∷ name x ∷ mark (codes "=") ∷ a)
   item_process : {p : Written} {a : List Word} → IsProcess g p a → IsItem g (process p) (mark (codes "process") ∷ mark (codes ":") ∷ a)
+  item_statement : {s : Statement} {a : List Word} → IsStatement g FILE_LIMITS s a → IsItem g (statement s) a
 
 -- each of these is an item, but for the last, which is `end`
 abbrev pub AreItems : Sig → List (List Placed) → List Standing → Type 0

@@ -11,12 +11,15 @@ pub use Rattle.sap_grammar.specs.Cut
 pub use Rattle.sap_grammar.specs.Declarations
 pub use Rattle.sap_grammar.specs.Signatures
 pub use Rattle.sap_grammar.specs.Items
+pub use Rattle.sap_statements.specs.FormulaGrammar
+pub use Rattle.sap_statements.specs.Statements
 pub mod Written
 pub mod ProcessGrammar
 pub mod Item
 pub mod ItemGrammar
 pub mod Replaced
 pub mod Causes
+pub mod Stated
 pub mod Files
 pub mod ProcessExamples
 pub mod code

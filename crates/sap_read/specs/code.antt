@@ -9,3 +9,4 @@ pub mod Meaning
 pub mod Judged
 pub mod Label
 pub mod TermLaws
+pub mod StatementLaws

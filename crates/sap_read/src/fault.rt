@@ -1,3 +1,4 @@
+use sap_formula::FormulaFault;
 use sap_locks::LockFault;
 use sap_process::{Flaw, Ill};
 use sap_terms::{Mem, Name, Path};
@@ -22,7 +23,8 @@ pub enum ReadFault {
     TwoProcesses { line: u64 },
     /// The first name of a process that no `let` item before the name's own item defines.
     UnknownProcess { name: Name },
-    /// A name that stands at two `let` items: the one whose first item comes first.
+    /// A name that stands at two `let` items: the one whose first item comes first. Where there is none, a name that stands
+    /// at two restrictions or lemmas, or at one and is that of a generated restriction: the one that comes first.
     DuplicateName { name: Name },
     /// The first function that is declared otherwise than before it, by its name.
     FunctionClash { name: Name },
@@ -34,6 +36,9 @@ pub enum ReadFault {
     Ill { which: Flaw, path: Path },
     /// That process, with its sorts, can't be annotated: its first place that can't be, and why.
     Lock(LockFault),
+    /// The first restriction or lemma, by its name, whose formula has a fault, reserved names of facts among them, and the
+    /// fault that counts; never want of memory.
+    Formula { name: Name, fault: FormulaFault },
 }
 
 impl From<Mem> for ReadFault {

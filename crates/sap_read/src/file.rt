@@ -1,8 +1,9 @@
-ghost use Rattle.std.specs.Prelude.{◌≡◌, ◌≤◌, ◌<◌, ◌^◌, ◌⊎◌, ℕ, List, [], Ok, Err, IfOk, IsErrOf};
+ghost use Rattle.std.specs.Prelude.{◌≡◌, ◌≤◌, ◌<◌, ◌^◌, ℕ, List, [], Ok, Err, map, IfOk, IsErrOf};
 ghost use Rattle.sap_text.specs.Tokens.{IsLexed};
 ghost use Rattle.sap_text.specs.declared.fault.Lex.{Lex};
 ghost use Rattle.sap_grammar.specs.Cut.{Placed, placed, IsCut};
-ghost use Rattle.sap_read.specs.code.Judged.{IsAccepted, IsFlawed, IsNoItem, IsRefused, IsRefusedAs, IsSound, IsUnsound, IsWhole};
+ghost use Rattle.sap_read.specs.code.Judged.{AreAccepted, IsAccepted, IsAnnotated, IsFlawed, IsRefused, IsRefusedAs, IsRefusedCut, IsSound, IsUnsound};
+ghost use Rattle.sap_read.specs.code.Drafts.{body};
 ghost use Rattle.sap_read.specs.Files.{AreTokens};
 ghost use Rattle.sap_process.specs.Proc.{node_count, proc};
 ghost use Rattle.sap_locks.specs.Annotation.{IsAnnotation, IsFirstLockFlaw, LockFlaw};
@@ -15,7 +16,8 @@ ghost use Rattle.sap_read.specs.declared.fault.ReadFault.TheVariants.{Mem as Out
 
 use crate::expansion::boxed;
 use crate::fault::ReadFault;
-use crate::items::read_items;
+use crate::formulas::{Checked, check_statements};
+use crate::items::{Contents, read_items};
 use crate::laws::item_laws;
 use crate::whole::whole_process;
 use sap_formula::{LemmaList, RestrictionList};
@@ -77,14 +79,13 @@ fn copied_process(alloc: Global, p: &Process) -> Result<Box<Process>, Mem>
 
 /// The file of these bytes, or the first cause that refuses it, in the order of `ReadFault`. Names of processes are
 /// replaced by what they stand for; an identifier is a constant where any item of the file declares it so; each variable has
-/// the sort of its binder, and each lock and unlock its label. Restrictions and lemmas are in no grammar yet, so both lists
-/// are empty.
+/// the sort of its binder, in the process and in formulas, and each lock and unlock its label. Restrictions and lemmas stand
+/// as they do in the file.
 ///
 /// The time and the memory are linear in the bytes and in what is written of the process; what is too large is counted, and
-/// never built.
+/// never built. Names of restrictions and lemmas are found by their hashes.
 pub fn read_file(alloc: Global, bytes: &[u8]) -> Result<File, ReadFault>
-    ensures accepted { IfOk result (λ f. IsRead bytes.now (Ok (told_by f))
-        × (f.restrictions ≡ []) × (f.lemmas ≡ [])) }
+    ensures accepted { IfOk result (λ f. IsRead bytes.now (Ok (told_by f))) }
     ensures refused { (e : ReadFault) → IsErrOf result e → (e ≡ OutOfMemory → ⊥)
         → IsRead bytes.now (Err e) }
 {
@@ -96,8 +97,7 @@ pub fn read_file(alloc: Global, bytes: &[u8]) -> Result<File, ReadFault>
 
 /// The same file in a box: a caller that lends it on holds nothing large.
 pub fn read_file_boxed(alloc: Global, bytes: &[u8]) -> Result<Box<File>, ReadFault>
-    ensures accepted { IfOk result (λ f. IsRead bytes.now (Ok (told_by f.value))
-        × (f.value.restrictions ≡ []) × (f.value.lemmas ≡ [])) }
+    ensures accepted { IfOk result (λ f. IsRead bytes.now (Ok (told_by f.value))) }
     ensures refused { (e : ReadFault) → IsErrOf result e → (e ≡ OutOfMemory → ⊥)
         → IsRead bytes.now (Err e) }
 {
@@ -109,8 +109,7 @@ pub fn read_file_boxed(alloc: Global, bytes: &[u8]) -> Result<Box<File>, ReadFau
 /// term is a constant where any item, also a later one, declares it so.
 fn read_parts(alloc: Global, bytes: &[u8], tokens: &[Token]) -> Result<Box<File>, ReadFault>
     requires { AreTokens bytes.now tokens.now }
-    ensures accepted { IfOk result (λ f. IsRead bytes.now (Ok (told_by f.value))
-        × (f.value.restrictions ≡ []) × (f.value.lemmas ≡ [])) }
+    ensures accepted { IfOk result (λ f. IsRead bytes.now (Ok (told_by f.value))) }
     ensures refused { (e : ReadFault) → IsErrOf result e → (e ≡ OutOfMemory → ⊥)
         → IsRead bytes.now (Err e) }
 {
@@ -120,32 +119,30 @@ fn read_parts(alloc: Global, bytes: &[u8], tokens: &[Token]) -> Result<Box<File>
     };
     let rest = beyond(3, tokens);
     let declared = read_declarations(alloc, bytes, rest)?;
-    let process = read_process_of(alloc, &declared, bytes, rest, last_line(tokens))?;
-    Ok(file_of(alloc, name, declared, process)?)
+    let content = read_content(alloc, &declared, bytes, rest, last_line(tokens))?;
+    Ok(file_of(alloc, name, declared, content)?)
 }
 
-/// The file of this name with what was declared and this process.
+/// The file of this name with what was declared and these parts.
 fn file_of(
     alloc: Global,
     name: &[u8],
     declared: Declared,
-    process: Box<Process>,
+    content: Content,
 ) -> Result<Box<File>, Mem>
     ensures parts { IfOk result (λ f. (f.value.name ≡ name.now)
-        × (f.value.signature ≡ declared.signature) × (f.value.process ≡ process.value)) }
-    ensures none { IfOk result (λ f. (f.value.restrictions ≡ []) × (f.value.lemmas ≡ [])) }
+        × (f.value.signature ≡ declared.signature) × (f.value.process ≡ content.process.value)) }
+    ensures lists { IfOk result (λ f. (f.value.restrictions ≡ content.checked.restrictions)
+        × (f.value.lemmas ≡ content.checked.lemmas)) }
 {
     let Declared { signature, .. } = declared;
-    let name = Name::from_bytes(alloc, name)?;
-    let restrictions = RestrictionList::new(alloc);
-    boxed_file(
-        alloc,
-        name,
-        signature,
-        process,
+    let Content { process, checked } = content;
+    let Checked {
         restrictions,
-        LemmaList::new(alloc),
-    )
+        lemmas,
+    } = checked;
+    let name = Name::from_bytes(alloc, name)?;
+    boxed_file(alloc, name, signature, process, restrictions, lemmas)
 }
 
 /// The file with these parts.
@@ -172,23 +169,70 @@ fn boxed_file(
     Ok(Box::new(alloc, file)?)
 }
 
-/// The process of the items that these tokens are, under what they declare; or why they are refused. The last line is that
-/// of the file's last token.
-fn read_process_of(
+/// What a file is made of behind its header, but for what it declares.
+#[derive(Drop)]
+struct Content {
+    process: Box<Process>,
+    checked: Checked,
+}
+
+/// The parts of the items that these tokens are, under what they declare; or why they are refused. The last line is that of
+/// the file's last token.
+fn read_content(
     alloc: Global,
     declared: &Declared,
     bytes: &[u8],
     tokens: &[Token],
     last: u64,
-) -> Result<Box<Process>, ReadFault>
-    ensures accepted { IfOk result (λ p. (cut : List (List Placed))
+) -> Result<Content, ReadFault>
+    ensures accepted { IfOk result (λ c. (cut : List (List Placed))
         → IsCut (placed bytes.now tokens.now) cut
-        → IsAccepted declared.now.signature declared.now.clash cut (proc p.value)) }
+        → AreAccepted declared.now.signature declared.now.clash cut (proc c.process.value)
+        c.checked.restrictions c.checked.lemmas) }
     ensures refused { (e : ReadFault) → IsErrOf result e → (e ≡ OutOfMemory → ⊥)
         → (cut : List (List Placed)) → IsCut (placed bytes.now tokens.now) cut
-        → IsRefused declared.now.signature declared.now.clash last cut e }
+        → IsRefusedCut declared.now.signature declared.now.clash last cut e }
 {
-    let process = read_whole(alloc, declared, bytes, tokens, last)?;
+    let contents = read_items(alloc, &declared.signature, bytes, tokens, last)?;
+    judge_contents(alloc, declared, &contents)
+}
+
+/// The parts of what the items say, or why they are refused: their process comes before their formulas.
+fn judge_contents(
+    alloc: Global,
+    declared: &Declared,
+    contents: &Contents,
+) -> Result<Content, ReadFault>
+    ensures accepted { IfOk result (λ c. IsAccepted declared.now.signature declared.now.clash
+        (map body contents.now.entries) contents.now.statements (proc c.process.value)
+        c.checked.restrictions c.checked.lemmas) }
+    ensures refused { (e : ReadFault) → IsErrOf result e → (e ≡ OutOfMemory → ⊥)
+        → IsRefused declared.now.signature declared.now.clash (map body contents.now.entries)
+        contents.now.statements e }
+{
+    let process = process_of(alloc, declared, contents)?;
+    let checked = check_statements(alloc, &declared.signature, &contents.statements)?;
+    Ok(Content { process, checked })
+}
+
+/// The process of what the items say, with its sorts and labels; or why it is refused.
+fn process_of(
+    alloc: Global,
+    declared: &Declared,
+    contents: &Contents,
+) -> Result<Box<Process>, ReadFault>
+    ensures accepted { IfOk result (λ p. IsAnnotated declared.now.signature declared.now.clash
+        (map body contents.now.entries) contents.now.statements (proc p.value)) }
+    ensures refused { (e : ReadFault) → IsErrOf result e → (e ≡ OutOfMemory → ⊥)
+        → IsRefusedAs declared.now.signature declared.now.clash (map body contents.now.entries)
+        contents.now.statements e }
+{
+    let process = whole_process(
+        alloc,
+        &contents.entries,
+        &contents.statements,
+        &declared.clash,
+    )?;
     judge(alloc, &declared.signature, &process)
 }
 
@@ -222,26 +266,6 @@ fn label(alloc: Global, p: Box<Process>) -> Result<Box<Process>, ReadFault>
         × IsFirstLockFlaw (proc p.value) w path }
 {
     Ok(annotate_boxed(alloc, p)?)
-}
-
-/// The process that the items write, before it is looked at.
-fn read_whole(
-    alloc: Global,
-    declared: &Declared,
-    bytes: &[u8],
-    tokens: &[Token],
-    last: u64,
-) -> Result<Box<Process>, ReadFault>
-    ensures accepted { IfOk result (λ p. (cut : List (List Placed))
-        → IsCut (placed bytes.now tokens.now) cut
-        → IsWhole declared.now.signature declared.now.clash cut (proc p.value)) }
-    ensures small { IfOk result (λ p. node_count (proc p.value) ≤ MOST_PROCESS_PLACES) }
-    ensures refused { (e : ReadFault) → IsErrOf result e → (e ≡ OutOfMemory → ⊥)
-        → (cut : List (List Placed)) → IsCut (placed bytes.now tokens.now) cut
-        → IsNoItem last cut e ⊎ IsRefusedAs declared.now.signature declared.now.clash cut e }
-{
-    let entries = read_items(alloc, &declared.signature, bytes, tokens, last)?;
-    whole_process(alloc, &entries, &declared.clash)
 }
 
 /// The tokens of a file, the longest of `MOST_FILE_NAME_BYTES`.

@@ -1,19 +1,19 @@
 //! Reads the items of a file.
-ghost use Rattle.std.specs.Prelude.{◌≡◌, ℕ, true, codes, List, map, IfOk, IsErrOf};
+ghost use Rattle.std.specs.Prelude.{◌≡◌, ℕ, true, codes, List, [], ◌∷◌, ◌++◌, IfOk, OnOk, IsErrOf};
 ghost use Rattle.sap_grammar.specs.Words.{starts, words_of};
 ghost use Rattle.sap_grammar.specs.Cut.{Placed, placed, IsCut};
-ghost use Rattle.sap_read.specs.Item.{Standing, bodies};
-ghost use Rattle.sap_read.specs.ItemGrammar.{AreItems, IsFaulty};
-ghost use Rattle.sap_read.specs.code.Drafts.{body};
-ghost use Rattle.sap_read.specs.code.ItemView.{IsAdded, IsPushed, SaysProcess};
+ghost use Rattle.sap_read.specs.ItemGrammar.{IsFaulty};
+ghost use Rattle.sap_read.specs.code.ItemView.{AreSaid, IsAdded, IsPushed, IsStated, SaysProcess};
 ghost use Rattle.sap_read.specs.declared.fault.ReadFault.{ReadFault};
 ghost use Rattle.sap_read.specs.declared.fault.ReadFault.TheVariants.{Mem as OutOfMemory, Syntax};
 
 use crate::draft::Definition;
 use crate::fault::ReadFault;
 use crate::laws::item_laws;
+use crate::limits::FILE_LIMITS;
 use crate::process::read_process;
 use sap_grammar::{beyond, is_declaration, is_last, line_of, name_at, split_item, starts};
+use sap_statements::{Statement, read_statement};
 use sap_terms::{Items, Mem, Name, Signature};
 use sap_text::Token;
 use std::alloc::Global;
@@ -81,38 +81,75 @@ fn push(entries: &mut Items<Definition>, entry: Option<Definition>) -> Result<bo
     }
 }
 
-// Reads an item, and puts last what it says of a process; false where the tokens are no item.
+// Puts a restriction or a lemma last.
+fn put(statements: &mut Items<Statement>, statement: Box<Statement>) -> Result<(), Mem>
+    ensures { OnOk result (statements.new ≡ statements.old ++ statement.value ∷ []) }
+{
+    statements.push(Box::into_inner(statement))
+}
+
+// Reads a restriction or a lemma, and puts it last; false where the tokens are none.
+fn read_stated(
+    alloc: Global,
+    sig: &Signature,
+    bytes: &[u8],
+    item: &[Token],
+    statements: &mut Items<Statement>,
+) -> Result<bool, Mem>
+    ensures { IfOk result (λ b. IsStated sig.now bytes.now item.now
+        statements.old statements.new b) }
+{
+    match read_statement(alloc, sig, FILE_LIMITS, bytes, item)? {
+        None => Ok(false),
+        Some(statement) => {
+            put(statements, statement)?;
+            Ok(true)
+        }
+    }
+}
+
+// Reads an item, and puts last what it says of a process and of traces; false where the tokens are no item.
 fn read_item(
     alloc: Global,
     sig: &Signature,
     bytes: &[u8],
     item: &[Token],
     entries: &mut Items<Definition>,
+    statements: &mut Items<Statement>,
 ) -> Result<bool, Mem>
-    ensures { IfOk result (λ b. IsAdded sig.now bytes.now item.now entries.old entries.new b) }
+    ensures { IfOk result (λ b. IsAdded sig.now bytes.now item.now entries.old entries.new
+        statements.old statements.new b) }
 {
     item_laws();
     if starts(bytes, item, "let") {
         push(entries, read_definition(alloc, sig, bytes, item)?)
     } else if starts(bytes, item, "process") {
         push(entries, read_main(alloc, sig, bytes, item)?)
+    } else if is_declaration(alloc, bytes, item)? {
+        Ok(true)
     } else {
-        is_declaration(alloc, bytes, item)
+        read_stated(alloc, sig, bytes, item, statements)
     }
 }
 
-/// The processes of the items that these tokens are; `Syntax` with its line where one is in no grammar. The last line is
-/// that of the file's last token.
+/// What the items of a file say: of processes, and of traces.
+#[derive(Drop)]
+pub(crate) struct Contents {
+    pub(crate) entries: Items<Definition>,
+    pub(crate) statements: Items<Statement>,
+}
+
+/// What the items say that these tokens are; `Syntax` with its line where one is in no grammar. The last line is that of the
+/// file's last token.
 pub(crate) fn read_items(
     alloc: Global,
     sig: &Signature,
     bytes: &[u8],
     tokens: &[Token],
     last: u64,
-) -> Result<Items<Definition>, ReadFault>
-    ensures good { IfOk result (λ es. (cut : List (List Placed))
-        → IsCut (placed bytes.now tokens.now) cut
-        → (is : List Standing) × AreItems sig.now cut is × (map body es ≡ bodies is)) }
+) -> Result<Contents, ReadFault>
+    ensures good { IfOk result (λ c. (cut : List (List Placed))
+        → IsCut (placed bytes.now tokens.now) cut → AreSaid sig.now cut c.entries c.statements) }
     ensures faulty { (line : ℕ) → IsErrOf result (Syntax line) → (cut : List (List Placed))
         → IsCut (placed bytes.now tokens.now) cut
         → IsFaulty last cut line }
@@ -121,13 +158,17 @@ pub(crate) fn read_items(
 {
     item_laws();
     let mut entries = Items::new(alloc);
+    let mut statements = Items::new(alloc);
     let mut rest = tokens;
     while !rest.is_empty() {
         let (item, behind) = split_item(bytes, rest);
         if is_last(bytes, item, behind) {
-            return Ok(entries);
+            return Ok(Contents {
+                entries,
+                statements,
+            });
         }
-        if !read_item(alloc, sig, bytes, item, &mut entries)? {
+        if !read_item(alloc, sig, bytes, item, &mut entries, &mut statements)? {
             return Err(ReadFault::Syntax {
                 line: line_of(item),
             });

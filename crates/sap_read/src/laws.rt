@@ -6,6 +6,7 @@ ghost use Rattle.sap_grammar.specs.Words.{Word};
 ghost use Rattle.sap_grammar.specs.TermGrammar.{IsTerm};
 ghost use Rattle.sap_grammar.specs.FactGrammar.{IsFact, fact_levels};
 ghost use Rattle.sap_read.specs.code.ItemLaws.{ItemLaws};
+ghost use Rattle.sap_read.specs.code.StatementLaws.{StatementLaws};
 ghost use Rattle.sap_read.specs.code.TermLaws.{AreRead, AreSpelled};
 ghost use Rattle.sap_read.specs.Written.{Written};
 ghost use Rattle.sap_read.specs.ProcessGrammar.{IsPar, EndsProcess};
@@ -19,15 +20,19 @@ ghost use Rattle.sap_process.specs.Proc.{Proc};
 ghost use Rattle.sap_process.specs.Flaws.{IsFirstFlaw, IsWellFormed};
 ghost use Rattle.sap_process.specs.declared.flaw.Flaw.{Flaw};
 ghost use Rattle.sap_read.specs.declared.fault.ReadFault.{ReadFault};
+ghost use Rattle.sap_statements.specs.declared.statement.Statement.{Statement};
+ghost use Rattle.sap_statements.specs.Statements.{IsStatement};
 ghost use Rattle.sap_read.specs.declared.limits.TheConstants.{FILE_LIMITS};
 ghost use Rattle.sap_grammar.specs.declared.limits.Limits.{Limits};
 
+use sap_formula::{faultless_formulas_are_checked, one_fault, some_fault};
 use sap_grammar::{
     declarations_are_read, facts_are_read, headers_are_read, same_grammar, terms_are_read,
     words_are_cut,
 };
 use sap_locks::annotations_of_processes;
 use sap_process::{one_flaw, some_flaw, sorting_keeps};
+use sap_statements::{one_statement, same_statements, some_statement};
 use sap_terms::builtins_stay_held;
 use sap_text::{one_answer, some_answer};
 
@@ -50,6 +55,15 @@ pub(crate) fn item_laws()
     declarations_are_read();
 }
 
+/// What the laws of restrictions and lemmas say, as the proofs on files need it.
+pub(crate) fn statement_laws()
+    ensures { StatementLaws }
+{
+    one_statement();
+    same_statements();
+    some_statement();
+}
+
 /// A law: from one place words spell at most one process that nothing of it follows, with one number of levels, and end it
 /// at one place. So all of some words spell at most one.
 pub fn one_process()
@@ -65,8 +79,8 @@ pub fn one_process()
     term_laws();
 }
 
-/// A law: which words are a term, a fact or a process, and of how many levels, is the same under each signature. The
-/// signature says only which identifiers are constants.
+/// A law: which words are a term, a fact or a process, and of how many levels, is the same under each signature, and which are
+/// a restriction or a lemma. The signature says only which identifiers are constants.
 pub fn grammar_is_one()
     ensures terms { (g h : Sig) (t : Tree) (a b : List Word) → IsTerm g t a b
         → (u : Tree) × IsTerm h u a b × (level_count u ≡ level_count t) }
@@ -75,9 +89,12 @@ pub fn grammar_is_one()
     ensures processes { (g h : Sig) (m : Limits) (n : ℕ) (p : Written)
         (a b : List Word) → IsPar g m p n a b
         → (q : Written) × IsPar h m q n a b }
+    ensures statements { (g h : Sig) (m : Limits) (s : Statement) (a : List Word) → IsStatement g m s a
+        → (t : Statement) × IsStatement h m t a }
 {
     same_grammar();
     term_laws();
+    statement_laws();
 }
 
 /// A law: six worked examples of which words spell which process, with how many levels.
@@ -96,8 +113,10 @@ pub fn one_file()
 {
     item_laws();
     term_laws();
+    statement_laws();
     one_answer();
     one_flaw();
+    one_fault();
     annotations_of_processes();
 }
 
@@ -107,8 +126,10 @@ pub fn some_file()
 {
     item_laws();
     term_laws();
+    statement_laws();
     some_answer();
     some_flaw();
+    some_fault();
     annotations_of_processes();
 }
 
@@ -120,13 +141,15 @@ pub fn file_unless_refused()
     some_file();
 }
 
-/// A law: a file that is read has a signature that holds the symbols of its builtins, and the annotation of a process that is
-/// ready to run over it: well-formed, each variable with the sort of its binder.
+/// A law: a file that is read has a signature that holds the symbol of pairs and those of its builtins, and the annotation of a
+/// process that is ready to run over it: well-formed, each variable with the sort of its binder. Its restrictions and lemmas are
+/// checked over it, and name no hidden fact.
 pub fn files_are_runnable()
     ensures { (z : List ℕ) (f : FileContent) → IsRead z (Ok f) → IsRunnable f }
 {
     sorting_keeps();
     builtins_stay_held();
+    faultless_formulas_are_checked();
 }
 
 /// A law: the words behind a header are cut into items in one way, and spell at most one list of items, under a signature and
@@ -142,4 +165,5 @@ pub fn one_list_of_items()
 {
     item_laws();
     term_laws();
+    statement_laws();
 }

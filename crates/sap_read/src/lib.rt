@@ -1,16 +1,18 @@
-//! Files, read from their bytes: their processes, and what they declare.
+//! Files, read from their bytes: their processes, what they declare, and their restrictions and lemmas.
 #![tactic(auto)]
 
 mod draft;
 mod expansion;
 mod fault;
 mod file;
+mod formulas;
 mod items;
 mod labels;
 mod laws;
 mod limits;
 mod names;
 mod process;
+mod taken;
 mod terms;
 mod whole;
 
@@ -22,4 +24,5 @@ pub use laws::{
 };
 pub use limits::FILE_LIMITS;
 pub use sap_grammar::{one_fact, one_term};
-pub use terms::{read_fact, read_term};
+pub use sap_statements::{one_formula, one_statement};
+pub use terms::{read_fact, read_formula, read_term};

@@ -1,13 +1,17 @@
-//! Terms and facts, as a file writes them.
+//! Terms, facts and formulas, as a file writes them.
 ghost use Rattle.std.specs.Prelude.{ℕ, IfOk, IfSome, IfNone};
 ghost use Rattle.sap_terms.specs.declared.fact.Fact.{Fact};
 ghost use Rattle.sap_terms.specs.Tree.{Tree};
 ghost use Rattle.sap_terms.specs.View.{tree};
 ghost use Rattle.sap_grammar.specs.Words.{words_of};
 ghost use Rattle.sap_grammar.specs.Places.{IsTermAt, IsFactAt};
+ghost use Rattle.sap_formula.specs.Form.{Form};
+ghost use Rattle.sap_formula.specs.View.{form};
+ghost use Rattle.sap_statements.specs.FormulaGrammar.{IsFormulaAt};
 ghost use Rattle.sap_read.specs.declared.limits.TheConstants.{FILE_LIMITS};
 
 use crate::limits::FILE_LIMITS;
+use sap_formula::Formula;
 use sap_terms::{Fact, Mem, Signature, Term};
 use sap_text::Token;
 use std::alloc::Global;
@@ -46,4 +50,22 @@ pub fn read_fact(
         → IsFactAt FILE_LIMITS sig.now (words_of bytes.now tokens.now.items) at f e → ⊥)) }
 {
     sap_grammar::read_fact(alloc, sig, FILE_LIMITS, bytes, tokens, at)
+}
+
+/// The formula that the tokens spell from number `at`, counted from 0, and the number of the token behind it, which is a
+/// closing quotation mark; None where they spell none of at most `MOST_TERM_LEVELS` levels, in its text and in its terms. Its
+/// variables have the sorts of their signs, and `check` sets those of binders. The work is as that of `read_term`.
+pub fn read_formula(
+    alloc: Global,
+    sig: &Signature,
+    bytes: &[u8],
+    tokens: &Vec<Token>,
+    at: u64,
+) -> Result<Option<(Formula, u64)>, Mem>
+    ensures found { IfOk result (λ o. IfSome o (λ r. IsFormulaAt FILE_LIMITS sig.now
+        (words_of bytes.now tokens.now.items) at (form r.0) r.1)) }
+    ensures none { IfOk result (λ o. IfNone o ((f : Form) (e : ℕ)
+        → IsFormulaAt FILE_LIMITS sig.now (words_of bytes.now tokens.now.items) at f e → ⊥)) }
+{
+    sap_statements::read_formula(alloc, sig, FILE_LIMITS, bytes, tokens, at)
 }

@@ -1,9 +1,11 @@
 //! From what is written to the process of the file.
 ghost use Rattle.std.specs.Prelude.{◌≡◌, ◌≤◌, [], ◌∷◌, Some, None, map, min, IfOk, OnOk, IsErrOf};
 ghost use Rattle.sap_process.specs.Proc.{node_count, proc};
+ghost use Rattle.sap_restrict.specs.Restrictions.{is_generated};
+ghost use Rattle.sap_statements.specs.Statements.{name_of};
 ghost use Rattle.sap_read.specs.Replaced.{process_of, no_meaning};
 ghost use Rattle.sap_read.specs.Item.{Body};
-ghost use Rattle.sap_read.specs.Causes.{cause, unlabelled, labels, unknown_from, first_repeated};
+ghost use Rattle.sap_read.specs.Causes.{cause, unlabelled, labels, unknown_from, first_repeated, first_taken};
 ghost use Rattle.sap_read.specs.code.Drafts.{written, body};
 ghost use Rattle.sap_read.specs.code.Meaning.{nodes_in, levels_in, size_fault, meaning_of, AreCounted, AreTargets};
 ghost use Rattle.sap_read.specs.declared.fault.ReadFault.{ReadFault};
@@ -12,9 +14,11 @@ ghost use Rattle.sap_read.specs.declared.fault.ReadFault.TheVariants.{Mem as Out
 use crate::draft::{Definition, Draft};
 use crate::expansion::expand;
 use crate::fault::ReadFault;
-use crate::labels::{first_repeated, the_process};
+use crate::labels::the_process;
 use crate::names::{Names, levels, names_of, nodes};
+use crate::taken::{first_repeated, first_reused};
 use sap_process::Process;
+use sap_statements::Statement;
 use sap_terms::{Copied, Items, MOST_PROCESS_LEVELS, MOST_PROCESS_PLACES, Name};
 use std::alloc::Global;
 
@@ -32,20 +36,25 @@ fn size_fault(names: &Names, draft: &Draft) -> Option<ReadFault>
     None
 }
 
-// Refuses names that are defined twice, and functions that clash.
+// Refuses names that are defined twice or taken, and functions that clash.
 fn check_names(
     alloc: Global,
     entries: &Items<Definition>,
+    statements: &Items<Statement>,
     clash: &Option<Name>,
 ) -> Result<(), ReadFault>
     requires one { (b : Body) × (unlabelled (map body entries.now) ≡ b ∷ []) }
     requires known { unknown_from [] (map body entries.now) ≡ None }
     ensures distinct { OnOk result (first_repeated (labels (map body entries.now)) ≡ None) }
+    ensures free { OnOk result (first_taken is_generated (map name_of statements.now) ≡ None) }
     ensures no_clash { OnOk result (clash.now ≡ None) }
     ensures refused { (e : ReadFault) → IsErrOf result e → (e ≡ OutOfMemory → ⊥)
-        → cause (map body entries.now) clash.now ≡ Some e }
+        → cause (map body entries.now) statements.now clash.now ≡ Some e }
 {
     if let Some(name) = first_repeated(alloc, entries)? {
+        return Err(ReadFault::DuplicateName { name });
+    }
+    if let Some(name) = first_reused(alloc, statements)? {
         return Err(ReadFault::DuplicateName { name });
     }
     match clash {
@@ -61,6 +70,7 @@ fn check_names(
 fn known_process(
     alloc: Global,
     entries: &Items<Definition>,
+    statements: &Items<Statement>,
     names: &Names,
     clash: &Option<Name>,
     entry: &Definition,
@@ -69,13 +79,13 @@ fn known_process(
     requires known { unknown_from [] (map body entries.now) ≡ None }
     requires counted { AreCounted names.now (meaning_of entries.now) }
     requires targets { AreTargets entries.now names.now }
-    ensures accepted { IfOk result (λ p. (cause (map body entries.now) clash.now ≡ None)
+    ensures accepted { IfOk result (λ p. (cause (map body entries.now) statements.now clash.now ≡ None)
         × (process_of no_meaning (map body entries.now) ≡ Some (proc p.value))) }
     ensures small { IfOk result (λ p. node_count (proc p.value) ≤ MOST_PROCESS_PLACES) }
     ensures refused { (e : ReadFault) → IsErrOf result e → (e ≡ OutOfMemory → ⊥)
-        → cause (map body entries.now) clash.now ≡ Some e }
+        → cause (map body entries.now) statements.now clash.now ≡ Some e }
 {
-    check_names(alloc, entries, clash)?;
+    check_names(alloc, entries, statements, clash)?;
     let draft: &Draft = &entry.draft;
     match size_fault(names, draft) {
         Some(fault) => Err(fault),
@@ -91,15 +101,16 @@ fn known_process(
 pub(crate) fn whole_process(
     alloc: Global,
     entries: &Items<Definition>,
+    statements: &Items<Statement>,
     clash: &Option<Name>,
 ) -> Result<Box<Process>, ReadFault>
-    ensures accepted { IfOk result (λ p. (cause (map body entries.now) clash.now ≡ None)
+    ensures accepted { IfOk result (λ p. (cause (map body entries.now) statements.now clash.now ≡ None)
         × (process_of no_meaning (map body entries.now) ≡ Some (proc p.value))) }
     ensures small { IfOk result (λ p. node_count (proc p.value) ≤ MOST_PROCESS_PLACES) }
     ensures refused { (e : ReadFault) → IsErrOf result e → (e ≡ OutOfMemory → ⊥)
-        → cause (map body entries.now) clash.now ≡ Some e }
+        → cause (map body entries.now) statements.now clash.now ≡ Some e }
 {
     let index = the_process(entries)?;
     let names = names_of(alloc, entries)?;
-    known_process(alloc, entries, &names, clash, entries.at(index))
+    known_process(alloc, entries, statements, &names, clash, entries.at(index))
 }

@@ -20,6 +20,6 @@ pub use inlining::inline;
 pub use laws::{
     inlining_keeps_lemmas, needed_by_hand, restrictions_by_hand, restrictions_say_sentences,
 };
-pub use restrictions::{needed_restrictions, restriction};
+pub use restrictions::{is_generated, needed_restrictions, restriction};
 pub use times::has_one_reserved;
 pub use which::{Which, WhichList};

@@ -1,7 +1,7 @@
 //! The restrictions under their names.
 ghost use Rattle.std.specs.Prelude.{◌≡◌, ◌++◌, map, IfOk, OnOk};
 ghost use Rattle.sap_process.specs.Proc.{proc};
-ghost use Rattle.sap_restrict.specs.Restrictions.{restriction_name, named, needed_restrictions};
+ghost use Rattle.sap_restrict.specs.Restrictions.{is_generated, restriction_name, named, needed_restrictions};
 
 use crate::{Which, needed, standard};
 use sap_formula::{Restriction, RestrictionList};
@@ -44,4 +44,17 @@ pub fn needed_restrictions(alloc: Global, p: &Process) -> Result<RestrictionList
         all.push(restriction(alloc, *which)?)?;
     }
     Ok(all)
+}
+
+/// Whether it is the name of one of the seven, be it needed or not.
+pub fn is_generated(name: &Name) -> bool
+    ensures { result ≡ is_generated name.now }
+{
+    name.is(b"sapic_init")
+        || name.is(b"sapic_eq")
+        || name.is(b"sapic_noteq")
+        || name.is(b"sapic_in")
+        || name.is(b"sapic_notin")
+        || name.is(b"sapic_lock")
+        || name.is(b"sapic_inev")
 }

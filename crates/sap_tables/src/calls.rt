@@ -1,6 +1,6 @@
 //! Calls of the program over files and streams in memory, which may fail.
 use crate::files::file_bytes;
-use crate::notation::{FromWord, between, list, number, part, parted, written};
+use crate::notation::{FromWord, between, list, number, part, parted, push_written, written};
 use crate::page::Page;
 use sap_tool::{MemShelf, MemSink, sapic};
 use std::alloc::Global;
@@ -134,6 +134,27 @@ fn show_theory(page: &mut Page, kind: &str, status: u8, out: &MemSink, err: &Mem
     }
 }
 
+// Of a theory of the process `0` what the file says of traces: its formula, as `formula`, where that is the lemma l alone; as
+// `inlined`, what stands behind the rules; as `items`, what stands behind the restriction that the process needs.
+fn stated<'a>(kind: &str, text: &'a str) -> Option<&'a str> {
+    let (before, behind) = match kind {
+        "formula" => ("\nlemma l:\n  all-traces\n  \"", "\"\n\nend\n"),
+        "inlined" => ("\n  [ State_() ] --> [ ]\n", "\nend\n"),
+        _ => ("#i = #j\"\n", "\nend\n"),
+    };
+    let (_, rest) = text.split_once(before)?;
+    rest.strip_suffix(behind)
+}
+
+// What the file says of traces, as the theory that out took has it; else why it is refused, or all that is left.
+fn show_stated(page: &mut Page, kind: &str, status: u8, out: &MemSink, err: &MemSink) {
+    let text = str::from_utf8(out.bytes.as_slice()).unwrap_or("");
+    match stated(kind, text) {
+        Some(stated) if status == 0 && err.bytes.is_empty() => page.word(stated),
+        _ => show_refusal(page, status, out, err),
+    }
+}
+
 // Calls the program, and shows of it what the kind asks for.
 fn call(
     page: &mut Page,
@@ -151,6 +172,7 @@ fn call(
         }
         "refusal" => show_refusal(page, status, out, err),
         "theory" => show_end(page, status, out, err),
+        "formula" | "items" | "inlined" => show_stated(page, kind, status, out, err),
         _ => show_theory(page, kind, status, out, err),
     }
 }
@@ -166,12 +188,52 @@ pub fn calls_row(page: &mut Page, row: &str) {
     call(page, "counts", &words, &mut shelf, &mut out, &mut err);
 }
 
-/// Compiles a file, and shows: as `refusal` the cause that refuses it, or `compiled`; as `theory` the status, and the text of its
-/// theory; of the theory T, as `rules` its rules behind the first, as `restrictions` its restrictions, as `needed` their names.
-pub fn compile(page: &mut Page, kind: &str, file: &str) {
-    let words = list(page, ' ', "compile a.spthy").into_vec();
-    let mut shelf = shelf(page, file_bytes(page.alloc, file).as_bytes(), 0);
+// Calls the program on the file a.spthy of these bytes alone, and shows of it what the kind asks for.
+fn call_on(page: &mut Page, kind: &str, words: &str, bytes: &[u8]) {
+    let words = list(page, ' ', words).into_vec();
+    let mut shelf = shelf(page, bytes, 0);
     let mut out = sink(page, "");
     let mut err = sink(page, "");
     call(page, kind, &words, &mut shelf, &mut out, &mut err);
+}
+
+/// Compiles a file, and shows: as `refusal` the cause that refuses it, or `compiled`; as `theory` the status, and the text of its
+/// theory; of the theory T, as `rules` its rules behind the first, as `restrictions` its restrictions, as `needed` their names.
+pub fn compile(page: &mut Page, kind: &str, file: &str) {
+    let bytes = file_bytes(page.alloc, file);
+    call_on(page, kind, "compile a.spthy", bytes.as_bytes());
+}
+
+// A file of the process `0` with the symbols c and f: as `formula`, with the text as that of its one lemma l; else with the text
+// as its other items.
+fn small_file(alloc: Global, kind: &str, text: &str) -> Page {
+    let mut bytes = Page::new(alloc);
+    bytes.word("theory T begin functions: c/0, f/1 process: 0 ");
+    if kind == "formula" {
+        bytes.word("lemma l: \"");
+    }
+    push_written(&mut bytes, text);
+    bytes.word(if kind == "formula" { "\" end" } else { " end" });
+    bytes
+}
+
+/// What a file says of traces, a formula or items, and how the theory has it, or why the file is refused: as `inlined` the theory
+/// of `compile-inline`. As `inlined-theory` a file, and the status and text of that command.
+pub fn statements_row(page: &mut Page, row: &str) {
+    let kind = part(row, 0);
+    let file = part(row, 1);
+    match kind {
+        "inlined-theory" => {
+            let bytes = file_bytes(page.alloc, file);
+            call_on(page, "theory", "compile-inline a.spthy", bytes.as_bytes());
+        }
+        "inlined" => {
+            let bytes = small_file(page.alloc, kind, file);
+            call_on(page, kind, "compile-inline a.spthy", bytes.as_bytes());
+        }
+        _ => {
+            let bytes = small_file(page.alloc, kind, file);
+            call_on(page, kind, "compile a.spthy", bytes.as_bytes());
+        }
+    }
 }

@@ -44,6 +44,7 @@ fn push_found_above(page: &mut Page, desk: &mut Desk, table: &str, row: &str) {
         "files" => files::files_row(page, &desk.signature, row),
         "refusals" => calls::compile(page, "refusal", part(row, 0)),
         "generated" => calls::compile(page, part(row, 0), part(row, 1)),
+        "statements" => calls::statements_row(page, row),
         "calls" => calls::calls_row(page, row),
         _ => page.fail(),
     }

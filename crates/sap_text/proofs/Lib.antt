@@ -1,6 +1,7 @@
 pub mod Splits
 pub mod Classes
 pub mod Sound
+pub mod Longest
 pub mod Joins
 pub mod Unique
 pub mod Ordered

@@ -9,9 +9,9 @@ use Rattle.sap_text.specs.declared.token.Kind.TheVariants as kind
 use Rattle.sap_text.specs.declared.front.Front.{Front}
 use Rattle.sap_text.specs.declared.front.Front.TheVariants as front
 use Rattle.sap_text.specs.declared.fault.Lex.TheVariants as fault
-use Rattle.sap_text.specs.Tokens.{is_word, is_blank, is_content, is_not_feed, is_inner, is_symbol, starts_two, begins_comment, IsToken, ident, number, quoted, symbol, IsLongest, EndsLine, IsSkip, blank, line_comment, block_comment, IsFault, bad_byte, bad_content, open_comment, open_quote}
+use Rattle.sap_text.specs.Tokens.{is_word, is_blank, is_content, is_not_feed, is_inner, is_symbol, starts_two, begins_comment, IsToken, ident, number, quoted, symbol, IsLongest, EndsLine, IsSkip, blank, line_comment, block_comment, IsFault, bad_byte, bad_content, open_comment, open_quote, Stops}
 use Rattle.sap_text.specs.code.Front.{close_at, symbol_len, quote_front, comment_front, front_at, Stands, Within}
-use Rattle.sap_text.proofs.Splits.{Stops, Split, split, run_is, run_most, parts}
+use Rattle.sap_text.proofs.Splits.{Split, split, run_is, run_most, parts}
 use Rattle.sap_text.proofs.Classes.{token_some, same_kind, symbol_short}
 
 choose : (P : Front → Type 0) (c : Bool) (x y : Front) → (c ≡ true → P x) → (c ≡ false → P y) → P (if c then x else y)
@@ -113,7 +113,7 @@ comment_stands at z v e (Some n) c =
     }
 
 -- a token of this kind that is as long as each token of the kind
-longest_by_kind : (k : Kind) (p b : List ℕ) → begins_comment (p ++ b) ≡ false → IsToken k p
+pub longest_by_kind : (k : Kind) (p b : List ℕ) → begins_comment (p ++ b) ≡ false → IsToken k p
     → ((q c : List ℕ) → p ++ b ≡ q ++ c → IsToken k q → length q ≤ length p) → IsLongest k p b
 longest_by_kind k p b none is most = record { no_comment = none; is = is; longest = all }
   where
@@ -298,14 +298,14 @@ symbol_at n z q c e k is =
     front_is : (n : ℕ) (z q c : List ℕ) → z ≡ q ++ c → length q ≡ n → take n z ≡ q
     front_is n z q c e k = rw (e, sym k) (grind (arith, common_steps))
 
-symbol_small : (q : List ℕ) → is_symbol q ≡ true → length q ≤ 3
+pub symbol_small : (q : List ℕ) → is_symbol q ≡ true → length q ≤ 3
 symbol_small q is = let e : nat_le (length q) 3 ≡ true = symbol_short q is in grind arith
 
 -- no symbol of this length stands at the front
-abbrev NoSymbol : ℕ → List ℕ → Type 0
+abbrev pub NoSymbol : ℕ → List ℕ → Type 0
 NoSymbol n z = (q c : List ℕ) → z ≡ q ++ c → length q ≡ n → is_symbol q ≡ true → ⊥
 
-no_symbol : (n : ℕ) (z : List ℕ) → is_symbol (take n z) ≡ false → NoSymbol n z
+pub no_symbol : (n : ℕ) (z : List ℕ) → is_symbol (take n z) ≡ false → NoSymbol n z
 no_symbol n z e q c w k is = let yes : is_symbol (take n z) ≡ true = symbol_at n z q c w k is in let clash : true ≡ false = sym yes ∙ e in absurd (cc)
 
 symbol_taken : (at : ℕ) (z : List ℕ) (n : ℕ) → begins_comment z ≡ false → is_symbol (take n z) ≡ true → ((q c : List ℕ) → z ≡ q ++ c → is_symbol q ≡ true → length q ≤ n)

@@ -3,13 +3,8 @@ use Rattle.std.proofs.Common.{◌≡◌, ◌≤◌, ◌<◌, ◌+◌, ℕ, Bool,
 use Rattle.std.specs.Prelude.{◌&&◌, option_map, ⊤, slice_index_or}
 use Rattle.std.specs.List.{list_all, prefix_len}
 use Rattle.std.proofs.lemmas.Grind.{common_steps}
-use Rattle.sap_text.specs.Tokens.{starts_two}
+use Rattle.sap_text.specs.Tokens.{starts_two, Stops}
 use Rattle.sap_text.specs.code.Front.{close_at}
-
--- the first byte of b fails the test, or there is none
-abbrev pub Stops : (ℕ → Bool) → List ℕ → Type 0
-Stops f [] = ⊤
-Stops f (x ∷ xs) = f x ≡ false
 
 pub record Split (f : ℕ → Bool) (z : List ℕ) : Type 0 where
   pub front : List ℕ

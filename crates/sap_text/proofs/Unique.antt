@@ -9,8 +9,8 @@ use Rattle.sap_text.specs.declared.token.Kind.{Kind}
 use Rattle.sap_text.specs.declared.token.Kind.TheVariants as kind
 use Rattle.sap_text.specs.declared.fault.Lex.{Lex}
 use Rattle.sap_text.specs.declared.fault.Lex.TheVariants as fault
-use Rattle.sap_text.specs.Tokens.{is_blank, is_content, is_inner, is_not_feed, begins_comment, line_feeds, counted, EndsLine, IsToken, ident, number, quoted, symbol, IsLongest, IsSkip, blank, line_comment, block_comment, IsFault, bad_byte, bad_content, open_comment, open_quote, Lexed, IsLexed, ended, skipped, taken, long, failed}
-use Rattle.sap_text.proofs.Splits.{Stops, run_is, parts}
+use Rattle.sap_text.specs.Tokens.{is_blank, is_content, is_inner, is_not_feed, begins_comment, line_feeds, counted, EndsLine, IsToken, ident, number, quoted, symbol, IsLongest, IsSkip, blank, line_comment, block_comment, IsFault, bad_byte, bad_content, open_comment, open_quote, Lexed, IsLexed, ended, skipped, taken, long, failed, Stops}
+use Rattle.sap_text.proofs.Splits.{run_is, parts}
 use Rattle.sap_text.proofs.Classes.{class, class_of, head, token_class, token_some, same_kind, same_head}
 use Rattle.sap_text.proofs.Sound.{content_inner, skip_some}
 

@@ -1,6 +1,6 @@
 -- What bytes spell: tokens, blanks and comments, and the first fault.
 -- Bytes by their codes: 10 is a line feed, 39 `'`, 42 `*`, 47 `/`, 95 `_`.
-use Rattle.std.specs.Prelude.{◌≡◌, ◌≤◌, ◌<◌, ℕ, suc, ◌+◌, ◌-◌, Bool, true, false, not, ◌&&◌, ◌||◌, ◌==◌, nat_le, codes, List, [], ◌∷◌, ◌++◌, length, Result, Ok, Err, ⊤}
+use Rattle.std.specs.Prelude.{◌≡◌, ◌≤◌, ◌<◌, ℕ, suc, ◌+◌, ◌-◌, Bool, true, false, not, ◌&&◌, ◌||◌, ◌==◌, nat_le, codes, List, [], ◌∷◌, ◌++◌, length, take, Result, Ok, Err, ⊤, if◌then◌else◌}
 use Rattle.std.specs.List.{list_all, list_any, count_by}
 use Rattle.std.specs.Char.{is_ascii_alphabetic, is_ascii_digit}
 use Rattle.std.specs.Str.{bytes_eq}
@@ -73,6 +73,23 @@ pub record IsLongest (k : Kind) (p b : List ℕ) : Type 0 where
   pub no_comment : begins_comment (p ++ b) ≡ false
   pub is : IsToken k p
   pub longest : (j : Kind) (q c : List ℕ) → p ++ b ≡ q ++ c → IsToken j q → length q ≤ length p
+
+-- the bytes end, or the first of them fails the test
+abbrev pub Stops : (ℕ → Bool) → List ℕ → Type 0
+Stops f [] = ⊤
+Stops f (x ∷ xs) = f x ≡ false
+
+-- the longest symbol that stands first, or nothing; none has more than three bytes
+abbrev pub longest_symbol : List ℕ → List ℕ
+longest_symbol z =
+    if is_symbol (take 3 z) then take 3 z
+    else if is_symbol (take 2 z) then take 2 z
+    else if is_symbol (take 1 z) then take 1 z
+    else []
+
+-- s is a symbol, and the token that is taken where it stands before b: neither a comment nor a longer symbol begins there
+abbrev pub stands_alone : List ℕ → List ℕ → Bool
+stands_alone s b = is_symbol s && (not (begins_comment (s ++ b)) && bytes_eq (longest_symbol (s ++ b)) s)
 
 -- the bytes end, or a line feed stands next
 abbrev pub EndsLine : List ℕ → Type 0

@@ -1,7 +1,10 @@
-ghost use Rattle.std.specs.Prelude.{◌≡◌, ◌≤◌, ◌+◌, ◌-◌, ◌++◌, ℕ, List, length, take, drop, slice_get, Some};
+ghost use Rattle.std.specs.Prelude.{◌≡◌, ◌≤◌, ◌+◌, ◌-◌, ◌++◌, ◌∷◌, [], ℕ, List, true, length, take, drop, slice_get, Some};
+ghost use Rattle.std.specs.List.{list_all};
+ghost use Rattle.std.specs.Char.{is_ascii_digit};
 ghost use Rattle.sap_text.specs.declared.token.Kind.{Kind};
+ghost use Rattle.sap_text.specs.declared.token.Kind.TheVariants as kind;
 ghost use Rattle.sap_text.specs.declared.token.Token.{Token};
-ghost use Rattle.sap_text.specs.Tokens.{IsToken, Lexed, IsLexed, line_feeds};
+ghost use Rattle.sap_text.specs.Tokens.{IsToken, IsLongest, Lexed, IsLexed, Stops, is_word, is_content, stands_alone, line_feeds};
 ghost use Rattle.sap_text.specs.Spans.{AreTokens, InOrder, text_of};
 
 /// A law: any bytes give an answer.
@@ -35,4 +38,13 @@ pub fn longest_is_taken()
 pub fn lines_are_counted()
     ensures { (z : List ℕ) (ts : List Token) (k : ℕ) (t : Token) → AreTokens z ts → slice_get ts k ≡ Some t
         → t.line ≡ 1 + line_feeds (take t.from z) }
+{}
+
+/// A law: what is the longest token where it stands: an identifier or a number before what doesn't go on with it, what stands
+/// between quotes, and a symbol that stands alone. So a text can be written token by token.
+pub fn longest_tokens()
+    ensures names { (p b : List ℕ) → IsToken kind.Ident p → Stops is_word b → IsLongest kind.Ident p b }
+    ensures numbers { (p b : List ℕ) → IsToken kind.Number p → Stops is_ascii_digit b → IsLongest kind.Number p b }
+    ensures quoted { (s b : List ℕ) → list_all is_content s ≡ true → IsLongest kind.Quoted (39 ∷ (s ++ (39 ∷ []))) b }
+    ensures symbols { (s b : List ℕ) → stands_alone s b ≡ true → IsLongest kind.Symbol s b }
 {}

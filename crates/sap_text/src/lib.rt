@@ -12,7 +12,8 @@ mod token;
 
 pub use fault::Lex;
 pub use laws::{
-    lines_are_counted, longest_is_taken, one_answer, some_answer, spans_are_tokens, spans_in_order,
+    lines_are_counted, longest_is_taken, longest_tokens, one_answer, some_answer, spans_are_tokens,
+    spans_in_order,
 };
 pub use lexer::{token_bytes, tokens};
 pub use text::Text;

@@ -1,3 +1,7 @@
+pub use Rattle.sap_text.specs.Tokens
+pub use Rattle.sap_grammar.specs.Words
+pub use Rattle.sap_grammar.specs.Items
+pub use Rattle.sap_statements.specs.Statements
 pub use Rattle.sap_grammar.specs.TermText
 pub use Rattle.sap_grammar.specs.FactText
 pub mod Pieces
@@ -6,3 +10,6 @@ pub mod FormulaText
 pub mod StatementText
 pub mod SignatureText
 pub mod TheoryText
+pub mod TheoryGrammar
+pub mod TheoryOver
+pub mod PrintableTheory

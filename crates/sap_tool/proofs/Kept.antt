@@ -5,50 +5,64 @@ use Rattle.std.specs.FinMap as files
 use Rattle.sap_tool.specs.Outside.{Files, IsFetched, IsFirstPart}
 use Rattle.sap_tool.specs.Refusals.{refused_line}
 use Rattle.sap_tool.specs.Call.{Call, Gained, Failed, CutShort, FailedOn, Holds}
-use Rattle.sap_tool.specs.Commands.{Command, compile, spelled, file_of, limit_of, IsUnknown, Refuses, Allows, Means}
+use Rattle.sap_tool.specs.declared.way.Way.{Way}
+use Rattle.sap_tool.specs.declared.way.Way.TheVariants.{Plain, Inlined}
+use Rattle.sap_tool.specs.Commands.{Command, compile, word_of_way, spelled, file_of, limit_of, IsUnknown, Refuses, Allows, Means}
 use Rattle.sap_tool.specs.Answers.{Answer, gives, tells, status_of, IsAnswerTo, allowed, refused, Asks, Fetched, IsAnswer, to_file, usage, unread, IsPut, whole, broken, wanting, IsLast, complete, cut, write_fault_text, memory_text, Ended, answered, unanswered}
 use Rattle.sap_tool.specs.Promises as promised
-use Rattle.sap_tool.proofs.Refused.{OneReading, SomeReading, Runnable, Faithful, file_faithful, one_cause, one_theory, some_theory, not_refused, part_refused, part_accepted}
+use Rattle.sap_tool.proofs.Refused.{OneReading, SomeReading, Runnable, Keeping, file_kept, one_cause, one_theory, some_theory, not_refused, part_refused, part_accepted}
 
 -- the laws of the crates below
 pub record Laws : Type 0 where
-  pub faithful : Faithful
+  pub keeping : Keeping
   pub runnable : Runnable
   pub one : OneReading
   pub some : SomeReading
 
 -- what an allowed text means
 means : Laws → (k : Command) (bytes text : List ℕ) → Allows k bytes text → Means k bytes text
-means laws (compile file) bytes text t =
-    record { told = t.told; file = t.file; layout = t.layout; shows = file_faithful laws.runnable laws.faithful bytes t.told t.file }
+means laws (compile way file) bytes text t =
+    record { told = t.told; file = t.file; layout = t.layout; keeps = file_kept laws.runnable laws.keeping way bytes t.told t.file }
 
 -- no bytes are both allowed and refused
 never : Laws → (k : Command) (bytes text why : List ℕ) → Allows k bytes text → Refuses k bytes why → ⊥
-never laws (compile file) bytes text why t r = not_refused laws.one bytes why t.told r t.file
+never laws (compile way file) bytes text why t r = not_refused laws.one bytes why t.told r t.file
 
 -- and they are refused for one cause
 one_why : Laws → (k : Command) (bytes why other : List ℕ) → Refuses k bytes why → Refuses k bytes other → why ≡ other
-one_why laws (compile file) bytes why other r s = one_cause laws.one bytes why other r s
+one_why laws (compile way file) bytes why other r s = one_cause laws.one bytes why other r s
 
 -- and they are allowed one text
 one_allowed : Laws → (k : Command) (bytes text other : List ℕ) → Allows k bytes text → Allows k bytes other → text ≡ other
-one_allowed laws (compile file) bytes text other t u = one_theory laws.one bytes text other t u
+one_allowed laws (compile way file) bytes text other t u = one_theory laws.one bytes way text other t u
 
 -- what no cause refuses is allowed a text
 some_allowed : Laws → (k : Command) (bytes : List ℕ) → ((why : List ℕ) → Refuses k bytes why → ⊥) → ((text : List ℕ) × Allows k bytes text)
-some_allowed laws (compile file) bytes unrefused = some_theory laws.some bytes unrefused
+some_allowed laws (compile way file) bytes unrefused = some_theory laws.some way bytes unrefused
 
 -- a word whose put wasn't cut short is there whole
 whole_word : {Cut : Type 0} (word last : List ℕ) → (Cut → ⊥) → IsLast Cut word last → last ≡ word
 whole_word word _ uncut complete = refl
 whole_word word _ uncut (cut n c) = absurd (uncut c)
 
+-- a word asks for one way
+one_way : (way other : Way) → word_of_way way ≡ word_of_way other → way ≡ other
+one_way Plain Plain e = refl
+one_way Plain Inlined e = cc
+one_way Inlined Plain e = cc
+one_way Inlined Inlined e = refl
+
+same_command : (way other_way : Way) (file other : List ℕ) → spelled (compile way file) ≡ spelled (compile other_way other)
+    → compile way file ≡ compile other_way other
+same_command way other_way file other e =
+    let words : word_of_way way ≡ word_of_way other_way = cc in
+    let files : file ≡ other = cc in
+    let ways : way ≡ other_way = one_way way other_way words in
+    cc
+
 -- the words ask for one command
 one_command : (words : List (List ℕ)) (k l : Command) → words ≡ spelled k → words ≡ spelled l → k ≡ l
-one_command words (compile file) (compile other) h e =
-    let same : spelled (compile file) ≡ spelled (compile other) = sym h ∙ e in
-    let names : file ≡ other = cc in
-    ap compile names
+one_command words (compile way file) (compile other_way other) h e = same_command way other_way file other (sym h ∙ e)
 
 -- what is fetched of a file that is held is its first part
 fetched_part : (holds : Option Files) (limit : ℕ) (file bytes z : List ℕ) → Holds holds file bytes → IsFetched holds file limit z → z ≡ take (limit + 1) bytes
@@ -60,11 +74,11 @@ fetched_part (Some all) limit file bytes z held part = at (files.get all file) h
 
 -- which is refused for the file's cause
 part_is_refused : (k : Command) (bytes why : List ℕ) → Refuses k bytes why → Refuses k (take (limit_of k + 1) bytes) why
-part_is_refused (compile file) bytes why r = part_refused bytes why r
+part_is_refused (compile way file) bytes why r = part_refused bytes why r
 
 -- and allows the file's text
 part_allows : (k : Command) (bytes text : List ℕ) → Allows k bytes text → Allows k (take (limit_of k + 1) bytes) text
-part_allows (compile file) bytes text t =
+part_allows (compile way file) bytes text t =
     record { told = t.told; file = part_accepted bytes t.told t.file; layout = t.layout }
 
 module _ (laws : Laws) (c : Call) where

@@ -1,17 +1,13 @@
--- Bytes are refused for one cause, or have one theory, which shows what their process shows.
-use Rattle.std.proofs.Common.{◌≡◌, ◌≤◌, ◌<◌, ◌^◌, ℕ, List, [], length, take, Result, Ok, Err, refl, sym, ap, subst, ◌∙◌, arith}
+-- Bytes are refused for one cause, or have one theory in each way, which keeps their file.
+use Rattle.std.proofs.Common.{◌≡◌, ◌≤◌, ◌<◌, ℕ, List, length, take, Result, Ok, Err, refl, sym, ap, subst, ◌∙◌, arith}
 use Rattle.std.specs.Prelude.{◌+◌}
 use Rattle.std.proofs.lemmas.Grind.{common_steps}
-use Rattle.sap_terms.specs.Signature.{Sig, HoldsBuiltins}
-use Rattle.sap_terms.specs.declared.limits.TheConstants.{MOST_PROCESS_PLACES}
-use Rattle.sap_locks.specs.Annotation.{IsAnnotation}
-use Rattle.sap_process.specs.Proc.{Proc, node_count}
-use Rattle.sap_process.specs.Ready.{IsReady}
-use Rattle.sap_gen.specs.Faithful.{IsFaithful}
-use Rattle.sap_gen.specs.Theories.{theory_of}
 use Rattle.sap_read.specs.Files.{FileContent, IsRead, IsRunnable}
 use Rattle.sap_read.specs.declared.fault.ReadFault.{ReadFault}
+use Rattle.sap_tool.specs.declared.way.Way.{Way}
+use Rattle.sap_tool.specs.declared.way.Way.TheVariants.{Plain, Inlined}
 use Rattle.sap_tool.specs.AcceptedFile.{most_bytes, IsAcceptedFile, compiled_text, compiled_theory, IsTheoryOf}
+use Rattle.sap_tool.specs.Meaning.{Keeps}
 use Rattle.sap_tool.specs.Refusals.{IsRefusedWith, too_long, unread, fault_text}
 
 -- bytes are read as one file, or refused for one cause
@@ -22,23 +18,24 @@ OneReading = (z : List ℕ) (o u : Result FileContent ReadFault) → IsRead z o 
 abbrev pub SomeReading : Type 0
 SomeReading = (z : List ℕ) → ((o : Result FileContent ReadFault) × IsRead z o)
 
--- a file that is read can run: its signature holds its builtins' symbols, and its process is the annotation of one that is ready
+-- a file that is read can run
 abbrev pub Runnable : Type 0
 Runnable = (z : List ℕ) (told : FileContent) → IsRead z (Ok told) → IsRunnable told
 
--- the theory of the annotation of a ready process shows what the process shows
-abbrev pub Faithful : Type 0
-Faithful =
-    (name : List ℕ) (g : Sig) (p q : Proc) → HoldsBuiltins g → IsReady g p → node_count p < 2 ^ 64 → IsAnnotation p q → IsFaithful g q (theory_of name g q [] [])
+-- the theory of a file that can run, written in this way, keeps it
+abbrev pub KeepingBy : Way → Type 0
+KeepingBy way = (told : FileContent) → IsRunnable told → Keeps way told (compiled_theory way told)
 
-few : (n : ℕ) → n ≤ MOST_PROCESS_PLACES → n < 2 ^ 64
-few n h = omega (arith, h)
+abbrev pub Keeping : Type 0
+Keeping = (way : Way) → KeepingBy way
 
--- the theory of an accepted file shows what its process shows
-pub file_faithful : Runnable → Faithful → (z : List ℕ) (told : FileContent) → IsAcceptedFile z told → IsFaithful told.signature told.process (compiled_theory told)
-file_faithful runnable faithful z told file =
-    let r = runnable z told file.read in
-    faithful told.name told.signature r.process told.process r.builtins r.ready (few (node_count r.process) r.small) r.annotation
+pub both_ways : KeepingBy Plain → KeepingBy Inlined → Keeping
+both_ways plain inlined Plain = plain
+both_ways plain inlined Inlined = inlined
+
+-- and so do those of an accepted file
+pub file_kept : Runnable → Keeping → (way : Way) (z : List ℕ) (told : FileContent) → IsAcceptedFile z told → Keeps way told (compiled_theory way told)
+file_kept runnable keeping way z told file = keeping way told (runnable z told file.read)
 
 module _ (one : OneReading) (z : List ℕ) where
   same_fault : (e f : ReadFault) → IsRead z (Err e) → IsRead z (Err f) → e ≡ f
@@ -62,21 +59,21 @@ module _ (one : OneReading) (z : List ℕ) where
   not_refused why told (too_long l) file = omega (arith, l, file.short)
   not_refused why told (unread {e = e} l r) file = not_both told e file.read r
 
-  -- they have one theory
-  pub one_theory : (text other : List ℕ) → IsTheoryOf z text → IsTheoryOf z other → text ≡ other
-  one_theory text other t u = t.layout ∙ (ap compiled_text (same_file t.told u.told t.file.read u.file.read) ∙ sym u.layout)
+  -- they have one theory in each way
+  pub one_theory : (way : Way) (text other : List ℕ) → IsTheoryOf way z text → IsTheoryOf way z other → text ≡ other
+  one_theory way text other t u = t.layout ∙ (ap (compiled_text way) (same_file t.told u.told t.file.read u.file.read) ∙ sym u.layout)
 
 at_most : (most : ℕ) (bytes : List ℕ) → (most < length bytes → ⊥) → length bytes ≤ most
 at_most most bytes h = omega (arith, h)
 
 -- what no cause refuses has a theory
-pub some_theory : SomeReading → (z : List ℕ) → ((why : List ℕ) → IsRefusedWith z why → ⊥) → ((text : List ℕ) × IsTheoryOf z text)
-some_theory some z unrefused = at (some z) where
+pub some_theory : SomeReading → (way : Way) (z : List ℕ) → ((why : List ℕ) → IsRefusedWith z why → ⊥) → ((text : List ℕ) × IsTheoryOf way z text)
+some_theory some way z unrefused = at (some z) where
   short : length z ≤ most_bytes
   short = at_most most_bytes z (λ l. unrefused _ (too_long l))
 
-  at : ((o : Result FileContent ReadFault) × IsRead z o) → ((text : List ℕ) × IsTheoryOf z text)
-  at (Ok told, read) = (compiled_text told, record { told = told; file = record { short = short; read = read }; layout = refl })
+  at : ((o : Result FileContent ReadFault) × IsRead z o) → ((text : List ℕ) × IsTheoryOf way z text)
+  at (Ok told, read) = (compiled_text way told, record { told = told; file = record { short = short; read = read }; layout = refl })
   at (Err e, read) = absurd (unrefused _ (unread short read))
 
 -- the first bytes of a file, one more than it may have, show what the file is

@@ -1,9 +1,11 @@
 -- The files that are compiled, and the texts of their theories.
-use Rattle.std.specs.Prelude.{◌≡◌, ◌≤◌, ℕ, List, [], length, Ok}
-use Rattle.sap_gen.specs.Theories.{theory_of}
+use Rattle.std.specs.Prelude.{◌≡◌, ◌≤◌, ℕ, List, length, Ok}
+use Rattle.sap_gen.specs.Kept.{file_theory, inlined_file_theory}
 use Rattle.sap_read.specs.Files.{FileContent, IsRead}
 use Rattle.sap_rule.specs.declared.theory.Theory.{Theory}
 use Rattle.sap_theory.specs.TheoryText.{theory_text}
+use Rattle.sap_tool.specs.declared.way.Way.{Way}
+use Rattle.sap_tool.specs.declared.way.Way.TheVariants.{Plain, Inlined}
 
 -- how many bytes a file may have
 abbrev pub most_bytes : ℕ
@@ -14,17 +16,18 @@ pub record IsAcceptedFile (bytes : List ℕ) (told : FileContent) : Type 0 where
   pub short : length bytes ≤ most_bytes
   pub read : IsRead bytes (Ok told)
 
--- the theory of what a file tells: its name and signature, the rules of its process and the restrictions that this needs, and no
--- restrictions and no lemmas of the file's own
-abbrev pub compiled_theory : FileContent → Theory
-compiled_theory told = theory_of told.name told.signature told.process [] []
+-- the theory of what a file tells: its name and signature, the rules of its process, and its lemmas; the restrictions that the
+-- process needs, and then the file's own, stand beside these lemmas, or in each of them
+abbrev pub compiled_theory : Way → FileContent → Theory
+compiled_theory Plain told = file_theory told
+compiled_theory Inlined told = inlined_file_theory told
 
 -- its text
-abbrev pub compiled_text : FileContent → List ℕ
-compiled_text told = theory_text (compiled_theory told)
+abbrev pub compiled_text : Way → FileContent → List ℕ
+compiled_text way told = theory_text (compiled_theory way told)
 
 -- the bytes are an accepted file, and the text is that of its theory
-pub record IsTheoryOf (bytes text : List ℕ) : Type 0 where
+pub record IsTheoryOf (way : Way) (bytes text : List ℕ) : Type 0 where
   pub told : FileContent
   pub file : IsAcceptedFile bytes told
-  pub layout : text ≡ compiled_text told
+  pub layout : text ≡ compiled_text way told

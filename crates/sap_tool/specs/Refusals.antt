@@ -5,6 +5,8 @@ use Rattle.sap_text.specs.declared.fault.Lex.{Lex}
 use Rattle.sap_text.specs.declared.fault.Lex.TheVariants as lex
 use Rattle.sap_locks.specs.declared.fault.LockFault.{LockFault}
 use Rattle.sap_locks.specs.declared.fault.LockFault.TheVariants as lock
+use Rattle.sap_formula.specs.declared.fault.FormulaFault.{FormulaFault}
+use Rattle.sap_formula.specs.declared.fault.FormulaFault.TheVariants as formula
 use Rattle.sap_process.specs.declared.flaw.Flaw.{Flaw}
 use Rattle.sap_process.specs.declared.flaw.Flaw.TheVariants.{BadFunction, ReservedVar, ReservedFact, FactClash, PatternDestructor, Unbound, Rebound, SortClash, ScopeFull}
 use Rattle.sap_read.specs.declared.fault.ReadFault.{ReadFault}
@@ -50,6 +52,15 @@ lock_text lock.Mem = codes "out of memory"
 lock_text (lock.UnlockWithoutLock path) = at_place path (codes "unlock without lock")
 lock_text (lock.LockOverParallel path) = at_place path (codes "lock over parallel or replication")
 
+-- what is wrong in a formula; that memory was wanting is no such cause
+abbrev pub formula_text : FormulaFault → List ℕ
+formula_text formula.Mem = codes "out of memory"
+formula_text (formula.BadFunction f) = codes "bad function " ++ f
+formula_text (formula.Destructor f) = codes "destructor " ++ f
+formula_text (formula.Reserved fact) = between (codes "fact ") fact (codes " is reserved")
+formula_text (formula.UnboundVar var) = between (codes "variable ") var (codes " is not bound")
+formula_text (formula.Unguarded var) = between (codes "variable ") var (codes " is not guarded")
+
 -- why bytes are read as no file; that memory was wanting refuses none
 abbrev pub fault_text : ReadFault → List ℕ
 fault_text fault.Mem = codes "out of memory"
@@ -65,6 +76,7 @@ fault_text fault.TooMany = codes "more than 4000 nodes"
 fault_text fault.TooDeep = codes "more than 300 levels"
 fault_text (fault.Ill which path) = at_place path (flaw_text which)
 fault_text (fault.Lock f) = lock_text f
+fault_text (fault.Formula name f) = name ++ (codes ": " ++ formula_text f)
 
 -- the bytes are refused for this cause: they are too many; else they are read as no file
 pub data IsRefusedWith (bytes : List ℕ) : List ℕ → Type 0 where

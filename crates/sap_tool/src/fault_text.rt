@@ -1,9 +1,10 @@
 //! Why a file is refused, in words.
 
-ghost use Rattle.std.specs.Prelude.{◌≡◌, ◌++◌, decimal, OnOk};
+ghost use Rattle.std.specs.Prelude.{◌≡◌, ◌++◌, codes, decimal, OnOk};
 ghost use Rattle.std.specs.List.{flat_map};
-ghost use Rattle.sap_tool.specs.Refusals.{at_place, between, fault_text, flaw_text, lex_text, lock_text, place_text};
+ghost use Rattle.sap_tool.specs.Refusals.{at_place, between, fault_text, flaw_text, formula_text, lex_text, lock_text, place_text};
 
+use sap_formula::FormulaFault;
 use sap_locks::LockFault;
 use sap_process::Flaw;
 use sap_read::ReadFault;
@@ -43,6 +44,7 @@ pub fn push_fault(text: &mut Text, fault: &ReadFault) -> Result<(), Mem>
         ReadFault::TooDeep => text.push_bytes(b"more than 300 levels"),
         ReadFault::Ill { which, path } => push_placed(text, path, flaw_words(*which)),
         ReadFault::Lock(fault) => push_lock(text, fault),
+        ReadFault::Formula { name, fault } => push_of_formula(text, name, fault),
     }
 }
 
@@ -79,6 +81,29 @@ fn push_lock(text: &mut Text, fault: &LockFault) -> Result<(), Mem>
     }
 }
 
+/// Puts last what is wrong in the formula of this name.
+fn push_of_formula(text: &mut Text, name: &Name, fault: &FormulaFault) -> Result<(), Mem>
+    ensures { OnOk result (text.new ≡ text.old ++ (name.now ++ (codes ": " ++ formula_text fault.now))) }
+{
+    text.push_bytes(name.as_bytes())?;
+    text.push_bytes(b": ")?;
+    push_formula(text, fault)
+}
+
+/// Puts last what is wrong in a formula.
+fn push_formula(text: &mut Text, fault: &FormulaFault) -> Result<(), Mem>
+    ensures { OnOk result (text.new ≡ text.old ++ formula_text fault.now) }
+{
+    match fault {
+        FormulaFault::Mem => text.push_bytes(b"out of memory"),
+        FormulaFault::BadFunction { f } => push_behind(text, b"bad function ", f),
+        FormulaFault::Destructor { f } => push_behind(text, b"destructor ", f),
+        FormulaFault::Reserved { fact } => push_named(text, b"fact ", fact, b" is reserved"),
+        FormulaFault::UnboundVar { var } => push_named(text, b"variable ", var, b" is not bound"),
+        FormulaFault::Unguarded { var } => push_named(text, b"variable ", var, b" is not guarded"),
+    }
+}
+
 /// The words of a flaw.
 fn flaw_words(flaw: Flaw) -> &'static [u8]
     ensures { result.now ≡ flaw_text flaw }
@@ -109,9 +134,16 @@ fn push_numbered(text: &mut Text, before: &[u8], number: u64, after: &[u8]) -> R
 fn push_named(text: &mut Text, before: &[u8], name: &Name, after: &[u8]) -> Result<(), Mem>
     ensures { OnOk result (text.new ≡ text.old ++ between before.now name.now after.now) }
 {
-    text.push_bytes(before)?;
-    text.push_bytes(name.as_bytes())?;
+    push_behind(text, before, name)?;
     text.push_bytes(after)
+}
+
+/// Puts last a text, and a name behind it.
+fn push_behind(text: &mut Text, before: &[u8], name: &Name) -> Result<(), Mem>
+    ensures { OnOk result (text.new ≡ text.old ++ (before.now ++ name.now)) }
+{
+    text.push_bytes(before)?;
+    text.push_bytes(name.as_bytes())
 }
 
 /// Puts last what is wrong at a place.

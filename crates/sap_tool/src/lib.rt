@@ -4,6 +4,7 @@
 mod compile;
 mod fault_text;
 mod file_shelf;
+mod laws;
 mod mem_shelf;
 mod mem_sink;
 mod refusal;
@@ -11,8 +12,10 @@ mod shelf;
 mod sink;
 mod stream_sink;
 mod top;
+mod way;
 
 pub use file_shelf::FileShelf;
+pub use laws::unrestricted_files_are_shown;
 pub use mem_shelf::MemShelf;
 pub use mem_sink::MemSink;
 pub use shelf::{Shelf, ShelfFault};

@@ -11,14 +11,15 @@ ghost use Rattle.sap_tool.specs.Promises.{Promises};
 
 use crate::compile::{MOST_BYTES, theory_text_of};
 use crate::refusal::Refusal;
+use crate::way::{Way, way_of};
 use crate::{Shelf, ShelfFault, Sink, SinkFault};
-use sap_gen::theories_show_the_process;
+use sap_gen::theories_keep_files;
 use sap_read::{files_are_runnable, one_file, some_file};
 use std::alloc::Global;
 
 /// Runs the program on its words, those after its name, and answers its status.
 ///
-/// - 0: out gained the theory of the file, whole.
+/// - 0: out gained the theory of the file, written in the way that the words ask for, whole.
 /// - 1: the file is refused.
 /// - 3: the words are none of the program's.
 /// - 4: the file couldn't be read.
@@ -43,7 +44,7 @@ pub fn sapic<S: Shelf, O: Sink, E: Sink>(
         (E.wants err.old) (E.wants err.new) (E.asked err.old) (E.asked err.new)))
         result }
 {
-    theories_show_the_process();
+    theories_keep_files();
     files_are_runnable();
     one_file();
     some_file();
@@ -70,26 +71,25 @@ fn run<S: Shelf, O: Sink, E: Sink>(
         (E.wants err.old) (E.wants err.new) (E.asked err.old) (E.asked err.new))
         result }
 {
-    let Some(file) = file_to_compile(words) else {
+    let Some((way, file)) = file_to_compile(words) else {
         return tell(err, 3, b"usage: sapic COMMAND ARGUMENTS\n");
     };
     match fetched(alloc, shelf, file) {
-        Ok(bytes) => deliver(alloc, &bytes, out, err),
+        Ok(bytes) => deliver(alloc, way, &bytes, out, err),
         Err(ShelfFault::Failed) => tell(err, 4, b"read fault\n"),
         Err(ShelfFault::Mem) => last_word(err, 6, b"out of memory\n"),
     }
 }
 
-// The file that the words ask to compile.
-fn file_to_compile(words: &Vec<String>) -> Option<&str>
+// The file that the words ask to compile, and in which way.
+fn file_to_compile(words: &Vec<String>) -> Option<(Way, &str)>
     ensures { MatchOption result (IsUnknown (bytes_of words.now.items))
-        (λ file. bytes_of words.now.items ≡ spelled (compile file.now)) }
+        (λ asked. bytes_of words.now.items ≡ spelled (compile asked.0 asked.1.now)) }
 {
     match words.as_slice() {
-        [command, file] => if command.as_str() == "compile" {
-            Some(file.as_str())
-        } else {
-            None
+        [command, file] => match way_of(command.as_str()) {
+            Some(way) => Some((way, file.as_str())),
+            None => None,
         },
         _ => None,
     }
@@ -105,15 +105,15 @@ fn fetched<S: Shelf>(alloc: Global, shelf: &mut S, file: &str) -> Result<Vec<u8>
 }
 
 // Puts the theory of the bytes on out, or on err why there is none.
-fn deliver<O: Sink, E: Sink>(alloc: Global, bytes: &[u8], out: &mut O, err: &mut E) -> u8
-    ensures { (file : List ℕ) → Ended (IsAnswerTo (compile file) bytes.now)
+fn deliver<O: Sink, E: Sink>(alloc: Global, way: Way, bytes: &[u8], out: &mut O, err: &mut E) -> u8
+    ensures { (file : List ℕ) → Ended (IsAnswerTo (compile way file) bytes.now)
         (stream (O.written out.old) (O.written out.new) (O.faults out.old) (O.faults out.new)
         (O.wants out.old) (O.wants out.new) (O.asked out.old) (O.asked out.new))
         (stream (E.written err.old) (E.written err.new) (E.faults err.old) (E.faults err.new)
         (E.wants err.old) (E.wants err.new) (E.asked err.old) (E.asked err.new))
         result }
 {
-    match theory_text_of(alloc, bytes) {
+    match theory_text_of(alloc, way, bytes) {
         Ok(text) => give(out, err, text.as_bytes()),
         Err(Refusal::Told(line)) => tell(err, 1, line.as_bytes()),
         Err(Refusal::Mem) => last_word(err, 6, b"out of memory\n"),

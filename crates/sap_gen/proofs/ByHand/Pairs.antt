@@ -10,14 +10,17 @@ use Rattle.sap_terms.specs.Equations.{Equations, equations, IsInstance, app2, pa
 use Rattle.sap_terms.specs.Normal.{IsNormal, IsNormalForm}
 use Rattle.sap_terms.specs.Signature.{Sig, HoldsBuiltins, IsPublic, arity_of}
 use Rattle.sap_terms.specs.Tree.{Tree, variable, public, fresh, apply, more}
-use Rattle.sap_process.specs.Configuration.{CanGive, initial, becomes}
-use Rattle.sap_process.specs.Proc.{nil}
+use Rattle.sap_process.specs.Configuration.{Config, CanGive, initial, becomes}
+use Rattle.sap_process.specs.Action.{event}
+use Rattle.sap_process.specs.Proc.{nil, act}
 use Rattle.sap_process.specs.ProcessSteps.{Fits, ProcessStep, ProcessRun, IsProcessTrace}
-use Rattle.sap_gen.specs.Examples.{term_a, term_b, x, twins, twin_pattern}
+use Rattle.sap_gen.specs.Examples.{term_a, term_b, x, a_fact, twins, twins_told, twin_pattern}
 use Rattle.sap_gen.specs.Faithful.{IsVisibleTrace}
 use Rattle.sap_gen.specs.Members.{Member}
+use Rattle.sap_gen.specs.Sound.{IsSound}
 use Rattle.sap_gen.specs.Templates.{rules_of}
-use Rattle.sap_gen.proofs.ByHand.Parts.{sound_by_parts, rules_show, all_named, names_messages}
+use Rattle.sap_gen.specs.relation.Spelled.{IsProcessOver}
+use Rattle.sap_gen.proofs.ByHand.Parts.{sound_by_parts, rules_show, own_form, all_named, names_messages}
 use Rattle.sap_gen.proofs.Premises.LowerLaws.{Laws}
 use Rattle.sap_gen.proofs.Premises.WellMade.{each_at}
 use Rattle.sap_gen.proofs.Terms.Derive.{contains, each_of_members}
@@ -64,8 +67,8 @@ no_match laws g σ h =
     let z : true ≡ false = ap is_a ends in
     cc
 
-gives_twins : (laws : Laws) → (g : Sig) → IsPublic g pair_name → arity_of g pair_name ≡ Some 2 → CanGive g (initial twins) (app2 pair_name term_a term_a)
-gives_twins laws g free two =
+gives_twins : (laws : Laws) → (g : Sig) (c : Config) → IsPublic g pair_name → arity_of g pair_name ≡ Some 2 → CanGive g c (app2 pair_name term_a term_a)
+gives_twins laws g c free two =
     let name : IsNormal (equations g) term_a = laws.leaves.of_public_name (equations g) (codes "a") in
     let form : IsNormalForm (equations g) (app2 pair_name term_a term_a) (app2 pair_name term_a term_a) = record { equal = IsTheoryEqual.same; normal = pair_normal (equations g) term_a term_a name name } in
     let ts : List Tree = term_a ∷ term_a ∷ [] in
@@ -87,8 +90,34 @@ pub twins_taken : (laws : Laws) → (g : Sig) → IsPublic g pair_name → arity
 twins_taken laws g free two = (
   becomes (initial twins) 0 (Some nil),
   ProcessRun.further {c = initial twins} ProcessRun.starts
-      (ProcessStep.inputs 0 (all_named (codes "a")) refl ((gives_twins laws) g free two) (record { messages = (names_messages laws) g (codes "a"); equal = IsTheoryEqual.same })),
+      (ProcessStep.inputs 0 (all_named (codes "a")) refl ((gives_twins laws) g (initial twins) free two) (record { messages = (names_messages laws) g (codes "a"); equal = IsTheoryEqual.same })),
 )
 
+pub pattern_sound : (g : Sig) → IsSound g twins
+pattern_sound g = sound_by_parts g twins ((Member.here, (Member.here, tt)), tt) tt
+
 pub twins_taken_rules : (laws : Laws) → (g : Sig) → HoldsBuiltins g → IsPublic g pair_name → arity_of g pair_name ≡ Some 2 → IsVisibleTrace g (rules_of twins) ((k_fact (app2 pair_name term_a term_a) ∷ []) ∷ [])
-twins_taken_rules laws g hold free two = (rules_show laws) g twins hold (sound_by_parts g twins ((Member.here, (Member.here, tt)), tt) tt) (tt, tt) _ ((twins_taken laws) g free two)
+twins_taken_rules laws g hold free two = (rules_show laws) g twins hold (pattern_sound g) (tt, tt) _ ((twins_taken laws) g free two)
+
+-- behind that it is shown which term the pair is of
+
+abbrev pair_taken : Config
+pair_taken = becomes (initial twins_told) 0 (Some (act (event (a_fact term_a)) nil))
+
+pub twins_shown : (laws : Laws) → (g : Sig) → IsPublic g pair_name → arity_of g pair_name ≡ Some 2 → IsProcessTrace g twins_told ((k_fact (app2 pair_name term_a term_a) ∷ []) ∷ (a_fact term_a ∷ []) ∷ [])
+twins_shown laws g free two = (
+  becomes pair_taken 0 (Some nil),
+  ProcessRun.further {c = pair_taken}
+      (ProcessRun.further {c = initial twins_told} ProcessRun.starts
+      (ProcessStep.inputs 0 (all_named (codes "a")) refl ((gives_twins laws) g (initial twins_told) free two) (record { messages = (names_messages laws) g (codes "a"); equal = IsTheoryEqual.same })))
+      (ProcessStep.shows 0 refl (record { name = refl; persistent = refl; args = ((own_form laws) g (codes "a"), tt) })),
+)
+
+pub twins_sound : (g : Sig) → IsSound g twins_told
+twins_sound g = sound_by_parts g twins_told ((Member.here, (Member.here, tt)), ((refl, (Member.here, tt)), tt)) tt
+
+pub twins_over : (g : Sig) → IsProcessOver g twins_told
+twins_over g = (tt, ((refl, (tt, tt)), tt))
+
+pub twins_shown_rules : (laws : Laws) → (g : Sig) → HoldsBuiltins g → IsPublic g pair_name → arity_of g pair_name ≡ Some 2 → IsVisibleTrace g (rules_of twins_told) ((k_fact (app2 pair_name term_a term_a) ∷ []) ∷ (a_fact term_a ∷ []) ∷ [])
+twins_shown_rules laws g hold free two = (rules_show laws) g twins_told hold (twins_sound g) (twins_over g) _ ((twins_shown laws) g free two)

@@ -80,9 +80,12 @@ rules_show_only laws g p hold sound over tr w =
     let tidy = (tidy_run laws) hold (rules_over g p over) w.1.1 in
     (shows_only laws) g p hold sound tr (w.1.0, w.0, w.1.1, truth_to laws.admitted g w.0 tidy w.2, w.3)
 
--- a public name is its own normal form, and the adversary can give it
+-- a public name is its own normal form and has no other, and the adversary can give it
 pub own_form : (laws : Laws) → (g : Sig) (n : List ℕ) → IsNormalForm (equations g) (public n) (public n)
 own_form laws g n = record { equal = IsTheoryEqual.same; normal = laws.leaves.of_public_name (equations g) n }
+
+pub form_is_own : (laws : Laws) → (g : Sig) (n : List ℕ) (m k : Tree) → m ≡ public n → IsNormalForm (equations g) m k → k ≡ public n
+form_is_own laws g n m k e form = laws.one_form (equations g) (public n) k (public n) (subst (λ z. IsNormalForm (equations g) z k) e form) ((own_form laws) g n)
 
 pub gives_name : (laws : Laws) → (g : Sig) (c : Config) (n : List ℕ) → CanGive g c (public n)
 gives_name laws g c n = record {

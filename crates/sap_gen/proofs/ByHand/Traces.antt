@@ -13,7 +13,9 @@ use Rattle.sap_terms.specs.Tree.{variable}
 use Rattle.sap_gen.specs.Examples.{term_a, term_k, term_v, x, y, plain_fact, no_fact, yes_fact, a_fact, b_fact, copied_twice, deleted_again, two_inputs}
 use Rattle.sap_gen.specs.Faithful.{IsVisibleTrace}
 use Rattle.sap_gen.specs.Members.{Member}
+use Rattle.sap_gen.specs.Sound.{IsSound}
 use Rattle.sap_gen.specs.Templates.{rules_of}
+use Rattle.sap_gen.specs.relation.Spelled.{IsProcessOver}
 use Rattle.sap_gen.proofs.ByHand.Parts.{sound_by_parts, rules_show, own_form, gives_name, all_named, names_messages}
 use Rattle.sap_gen.proofs.Premises.LowerLaws.{Laws}
 
@@ -49,7 +51,7 @@ twice_copied_rules laws g hold = (rules_show laws) g copied_twice hold (sound_by
 
 -- what was deleted isn't found
 
-abbrev asking : Proc
+abbrev pub asking : Proc
 asking = lookup term_k x (act (event (yes_fact (variable x))) nil) (act (event no_fact) nil)
 
 abbrev with_value : Config
@@ -69,10 +71,14 @@ not_found laws g = (
       (ProcessStep.shows 0 refl (record { name = refl; persistent = refl; args = tt })),
 )
 
+pub deletes_sound : (g : Sig) → IsSound g deleted_again
+deletes_sound g = sound_by_parts g deleted_again ((tt, tt, tt), (tt, ((tt, refl), ((refl, (Member.here, tt)), tt), ((refl, tt), tt)))) (tt, tt)
+
+pub deletes_over : (g : Sig) → IsProcessOver g deleted_again
+deletes_over g = ((tt, tt), (tt, (tt, ((refl, (tt, tt)), tt), ((refl, tt), tt))))
+
 pub not_found_rules : (laws : Laws) → (g : Sig) → HoldsBuiltins g → IsVisibleTrace g (rules_of deleted_again) ((no_fact ∷ []) ∷ [])
-not_found_rules laws g hold = (rules_show laws) g deleted_again hold
-    (sound_by_parts g deleted_again ((tt, tt, tt), (tt, ((tt, refl), ((refl, (Member.here, tt)), tt), ((refl, tt), tt)))) (tt, tt))
-    ((tt, tt), (tt, (tt, ((refl, (tt, tt)), tt), ((refl, tt), tt)))) _ ((not_found laws) g)
+not_found_rules laws g hold = (rules_show laws) g deleted_again hold (deletes_sound g) (deletes_over g) _ ((not_found laws) g)
 
 -- both inputs take a message of their own, which the adversary was shown to know
 
@@ -102,7 +108,36 @@ inputs_taken laws g = (
       (ProcessStep.inputs 1 (all_named (codes "a")) refl ((gives_name laws) g one_served (codes "a")) (record { messages = (names_messages laws) g (codes "a"); equal = IsTheoryEqual.same })),
 )
 
+pub inputs_sound : (g : Sig) → IsSound g two_inputs
+inputs_sound g = sound_by_parts g two_inputs ((Member.here, ((refl, (Member.here, tt)), tt)), (Member.here, ((refl, (Member.here, tt)), tt))) (tt, tt)
+
+pub inputs_over : (g : Sig) → IsProcessOver g two_inputs
+inputs_over g = ((tt, ((refl, (tt, tt)), tt)), (tt, ((refl, (tt, tt)), tt)))
+
 pub inputs_taken_rules : (laws : Laws) → (g : Sig) → HoldsBuiltins g → IsVisibleTrace g (rules_of two_inputs) ((k_fact term_a ∷ []) ∷ (k_fact term_a ∷ []) ∷ (k_fact term_a ∷ []) ∷ [])
-inputs_taken_rules laws g hold = (rules_show laws) g two_inputs hold
-    (sound_by_parts g two_inputs ((Member.here, ((refl, (Member.here, tt)), tt)), (Member.here, ((refl, (Member.here, tt)), tt))) (tt, tt))
-    ((tt, ((refl, (tt, tt)), tt)), (tt, ((refl, (tt, tt)), tt))) _ ((inputs_taken laws) g)
+inputs_taken_rules laws g hold = (rules_show laws) g two_inputs hold (inputs_sound g) (inputs_over g) _ ((inputs_taken laws) g)
+
+-- each takes one, and shows its event
+
+abbrev one_told : Config
+one_told = becomes one_served 0 (Some nil)
+
+abbrev other_served : Config
+other_served = becomes one_told 1 (Some (act (event (b_fact term_a)) nil))
+
+pub inputs_told : (laws : Laws) → (g : Sig) → IsProcessTrace g two_inputs ((k_fact term_a ∷ []) ∷ (a_fact term_a ∷ []) ∷ (k_fact term_a ∷ []) ∷ (b_fact term_a ∷ []) ∷ [])
+inputs_told laws g = (
+  becomes other_served 1 (Some nil),
+  ProcessRun.further {c = other_served}
+      (ProcessRun.further {c = one_told}
+      (ProcessRun.further {c = one_served}
+      (ProcessRun.further {c = waiting}
+      (ProcessRun.further {c = initial two_inputs} ProcessRun.starts (ProcessStep.splits 0 refl))
+      (ProcessStep.inputs 0 (all_named (codes "a")) refl ((gives_name laws) g waiting (codes "a")) (record { messages = (names_messages laws) g (codes "a"); equal = IsTheoryEqual.same })))
+      (ProcessStep.shows 0 refl (record { name = refl; persistent = refl; args = ((own_form laws) g (codes "a"), tt) })))
+      (ProcessStep.inputs 1 (all_named (codes "a")) refl ((gives_name laws) g one_told (codes "a")) (record { messages = (names_messages laws) g (codes "a"); equal = IsTheoryEqual.same })))
+      (ProcessStep.shows 1 refl (record { name = refl; persistent = refl; args = ((own_form laws) g (codes "a"), tt) })),
+)
+
+pub inputs_told_rules : (laws : Laws) → (g : Sig) → HoldsBuiltins g → IsVisibleTrace g (rules_of two_inputs) ((k_fact term_a ∷ []) ∷ (a_fact term_a ∷ []) ∷ (k_fact term_a ∷ []) ∷ (b_fact term_a ∷ []) ∷ [])
+inputs_told_rules laws g hold = (rules_show laws) g two_inputs hold (inputs_sound g) (inputs_over g) _ ((inputs_told laws) g)

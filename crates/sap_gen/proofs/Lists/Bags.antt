@@ -5,7 +5,7 @@ use Rattle.sap_gen.proofs.Parts.Facts.{same_fact_self, same_fact_true}
 use Rattle.sap_gen.proofs.Lists.Takings.{takes_total}
 use Rattle.sap_gen.proofs.Lists.Totals.{total-set, total-append, total_found, Found}
 use Rattle.sap_gen.specs.relation.Names.{same_fact}
-use Rattle.sap_gen.specs.relation.Relation.{count_user, SamePile}
+use Rattle.sap_gen.specs.relation.Counts.{count_user, SamePile}
 use Rattle.sap_gen.specs.Scoped.{AreUnreserved}
 use Rattle.sap_terms.specs.Piles.{Takes, used, adds}
 use Rattle.sap_terms.specs.Reserved.{is_reserved}

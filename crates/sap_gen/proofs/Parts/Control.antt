@@ -3,21 +3,19 @@ use Rattle.sap_gen.specs.Members.{Member}
 use Rattle.sap_gen.proofs.Parts.Facts.{names_apart, same_fact_self, same_fact_true}
 use Rattle.sap_gen.proofs.Lists.Lookups.{only_member}
 use Rattle.sap_gen.proofs.Parts.Owner.{Owner, owner, first, second, of_two}
-use Rattle.sap_gen.proofs.Lists.Takings.{takes_total}
 use Rattle.sap_gen.proofs.Lists.Totals.{total-set, total_found, Found}
-use Rattle.sap_gen.proofs.Traces.Visible.{get_last}
 use Rattle.sap_gen.specs.relation.Envs.{Env, values}
 use Rattle.sap_gen.specs.ChannelFacts.{msg_fact, ack_fact}
 use Rattle.sap_gen.specs.relation.Names.{same_fact, state_name, semi_name}
 use Rattle.sap_gen.specs.relation.Totals.{total}
-use Rattle.sap_gen.specs.relation.Relation.{Agent, unborn, running, copying, awaiting, received, SameFacts, count_one, count_live, count_owed, count_fact, is_control, stands_as}
+use Rattle.sap_gen.specs.relation.Agents.{Agent, unborn, running, copying, awaiting, received, stands_as}
+use Rattle.sap_gen.specs.relation.Counts.{SameFacts, count_one, count_live, count_owed, count_fact, is_control}
 use Rattle.sap_place.specs.StateFacts.{state_fact, copies_fact, waits_fact, digits}
 use Rattle.sap_process.specs.Proc.{Proc}
 use Rattle.sap_rule.specs.RuleSteps.{RuleState}
-use Rattle.sap_terms.specs.Piles.{Takes}
 use Rattle.sap_terms.specs.Tree.{Tree, fresh}
 use Rattle.sap_terms.specs.declared.fact.Fact.{Fact}
-use Rattle.std.proofs.Common.{◌≡◌, ℕ, ◌+◌, ◌<◌, List, [], ◌∷◌, ◌++◌, Option, Some, None, refl, sym, ap, ◌∙◌, arith, Bool, true, false, cond, slice_get, subst, length}
+use Rattle.std.proofs.Common.{◌≡◌, ℕ, ◌+◌, ◌<◌, List, [], ◌∷◌, ◌++◌, Option, Some, None, refl, sym, ap, ◌∙◌, arith, Bool, true, false, cond, slice_get, subst}
 use Rattle.std.specs.Str.{bytes_eq}
 
 cond_pos : (b : Bool) (n : ℕ) → 0 < cond b n 0 → (b ≡ true) × (0 < n)
@@ -104,7 +102,7 @@ digits_same (x ∷ p) (y ∷ q) e =
     let rest : p ≡ q = digits_same p q tail in
     cc
 
-state_name_same : (p q : List ℕ) → state_name p ≡ state_name q → p ≡ q
+pub state_name_same : (p q : List ℕ) → state_name p ≡ state_name q → p ≡ q
 state_name_same p q e = digits_same p q (cc)
 
 semi_name_same : (p q : List ℕ) → semi_name p ≡ semi_name q → p ≡ q
@@ -182,20 +180,3 @@ msg_owner agents t x y o = go o.agent o.is o.stands
       | second h ↦ absurd (name (waits_fact q (values env ++ fresh g ∷ [])) refl h)
     ]
     go (received q env u v body g) e m = elim (of_two m) [ first h ↦ absurd (name (ack_fact (fresh g)) refl h) | second h ↦ absurd (name (waits_fact q (values env ++ fresh g ∷ [])) refl h) ]
-
-cond_zero : (b : Bool) (n : ℕ) → n ≡ 0 → cond b 0 n ≡ 0
-cond_zero true n e = refl
-cond_zero false n e = e
-
--- a fact is still live where another was taken
-pub still_live : {facts rest : List (Option Fact)} {ks : List ℕ} (f g : Fact) → Takes facts ks (f ∷ []) rest → same_fact f g ≡ false → LiveFact facts g → LiveFact rest g
-still_live {facts = facts} {rest = rest} f g takes e l =
-    let live = live_counts facts l.number g l.is in
-    let count = takes_total (count_fact g) refl takes in
-    let none : count_fact g (Some f) ≡ 0 = rw e refl in
-    let zero' = cond_zero f.persistent (count_fact g (Some f)) none in
-    counted_fact rest g (omega arith)
-
--- the newest fact is live
-pub newest_live : (facts : List (Option Fact)) (f : Fact) → LiveFact (facts ++ Some f ∷ []) f
-newest_live facts f = record { number = length facts; is = get_last facts (Some f) }

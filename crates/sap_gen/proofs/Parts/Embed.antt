@@ -16,7 +16,9 @@ use Rattle.sap_gen.proofs.Traces.Visible.{hide_push}
 use Rattle.sap_gen.specs.relation.Envs.{Env, names, chosen, GoodEnv, values, join}
 use Rattle.sap_gen.specs.Scoped.{IsFree, AreUnreserved}
 use Rattle.sap_gen.specs.ChannelFacts.{fresh_fact}
-use Rattle.sap_gen.specs.relation.Relation.{Agent, running, process_of, IsAt, count_live, count_owed, count_user, count_fact, count_tag, is_unborn, has_init, Related, TracePart, StorePart}
+use Rattle.sap_gen.specs.relation.Agents.{Agent, running, process_of, IsAt, is_unborn}
+use Rattle.sap_gen.specs.relation.Counts.{count_live, count_owed, count_user, count_fact, count_tag, has_init}
+use Rattle.sap_gen.specs.relation.Related.{Related, TracePart, StorePart}
 use Rattle.sap_place.specs.StateFacts.{state_fact}
 use Rattle.sap_gen.specs.Places.{scoped_place_at, root}
 use Rattle.sap_process.specs.Places.{place}
@@ -45,19 +47,10 @@ embed_no_out : (path : List ℕ) (args : List Tree) (right : List Fact) → AreU
 embed_no_out path args right u f Member.here x e = facts_apart (state_fact path args) (out_fact x) e (λ h. cc)
 embed_no_out path args right u f (Member.later m) x e = let h : is_reserved (out_fact x).name ≡ false = subst (λ y. is_reserved y.name ≡ false) e (u f m) in let z : true ≡ false = h in cc
 
-module _ (sig : Sig) (start : Proc) (agents : List (Option Agent)) (c : Config) (tr : Trace) (s : RuleState) (full : Trace) (r : Related sig start agents None c tr s full) where
-  embed_traces : (acts : List Fact) (d : Config) → AreUnreserved acts → Grows c d → d.store ≡ c.store → ProcessStep sig c acts d → TracePart sig start None d (tr ++ shown acts) (full ++ embedded_acts acts ∷ [])
-  embed_traces [] d u up same step = trace_silent sig start None c d tr (full ++ [] ∷ []) (trace_rules sig start None c tr full [] r.traces quiet_none) up same step
-  embed_traces (f ∷ fs) d u up same step = record {
-    shows = hide_push full (embedded_acts (f ∷ fs)) ∙ ap (λ v. hide full ++ shown v) (said_visible (f ∷ fs) u) ∙ ap (λ x. x ++ shown (f ∷ fs)) (r.traces.shows ∙ append-nil tr) ∙ sym (append-nil (tr ++ shown (f ∷ fs)));
-    waiting = λ x e. absurd (cc);
-    free = λ x h. absurd (event_frees_none full (embedded_acts (f ∷ fs)) x Member.here h);
-    demands = demands_quiet (equations sig) full (embedded_acts (f ∷ fs)) r.traces.demands (said_asks_none (f ∷ fs) u);
-    store = subst (λ st. StorePart sig st (full ++ embedded_acts (f ∷ fs) ∷ [])) (sym same) (store_quiet sig c.store full (embedded_acts (f ∷ fs)) r.traces.store (said_writes_none (f ∷ fs) u));
-  }
-
-  pub kept_embed : (t : ℕ) (ks pks : List ℕ) (path : List ℕ) (env τ : Env) (l a o : List Fact) (p : Proc) (left acts right : List Fact) (rest prest : List (Option Fact)) → AreUnreserved left → AreUnreserved acts → AreUnreserved right → with_new (names env) (facts_vars (l ++ (a ++ o))) ≡ names (join env τ) → GoodEnv sig τ → ((y : Var) → Member y (names τ) → IsFree y (names env)) → slice_get agents t ≡ Some (Some (running path env (act (action.embedded l a o) p))) → Takes s.facts ks (state_fact path (values env) ∷ left) rest → Takes c.facts pks left prest → ProcessStep sig c acts (record (becomes c t (Some (process_instance (chosen (join env τ)) p))) { facts = adds prest right }) → Related sig start (slice_set agents t (Some (running (first_of path) (join env τ) p))) None (record (becomes c t (Some (process_instance (chosen (join env τ)) p))) { facts = adds prest right }) (tr ++ shown acts) (record s { facts = adds rest (state_fact (first_of path) (values (join env τ)) ∷ right) }) (full ++ embedded_acts acts ∷ [])
-  kept_embed t ks pks path env τ l a o p left acts right rest prest uleft uacts uright scope good new_free e takes ptakes step =
+-- a thread goes on by an embedded rule, where the traces are these behind
+module _ (sig : Sig) (start : Proc) (agents : List (Option Agent)) (pending later : Option Tree) (c : Config) (tr : Trace) (s : RuleState) (full : Trace) (r : Related sig start agents pending c tr s full) where
+  embedded_kept : (t : ℕ) (ks pks : List ℕ) (path : List ℕ) (env τ : Env) (l a o : List Fact) (p : Proc) (left acts right : List Fact) (rest prest : List (Option Fact)) → AreUnreserved left → AreUnreserved acts → AreUnreserved right → with_new (names env) (facts_vars (l ++ (a ++ o))) ≡ names (join env τ) → GoodEnv sig τ → ((y : Var) → Member y (names τ) → IsFree y (names env)) → slice_get agents t ≡ Some (Some (running path env (act (action.embedded l a o) p))) → Takes s.facts ks (state_fact path (values env) ∷ left) rest → Takes c.facts pks left prest → TracePart sig start later (record (becomes c t (Some (process_instance (chosen (join env τ)) p))) { facts = adds prest right }) (tr ++ shown acts) (full ++ embedded_acts acts ∷ []) → Related sig start (slice_set agents t (Some (running (first_of path) (join env τ) p))) later (record (becomes c t (Some (process_instance (chosen (join env τ)) p))) { facts = adds prest right }) (tr ++ shown acts) (record s { facts = adds rest (state_fact (first_of path) (values (join env τ)) ∷ right) }) (full ++ embedded_acts acts ∷ [])
+  embedded_kept t ks pks path env τ l a o p left acts right rest prest uleft uacts uright scope good new_free e takes ptakes traces =
       let b : Proc = act (action.embedded l a o) p in
       let here : IsAt sig start path env b = r.placed t (running path env b) e in
       let new : Option Agent = Some (running (first_of path) (join env τ) p) in
@@ -77,5 +70,28 @@ module _ (sig : Sig) (start : Proc) (agents : List (Option Agent)) (c : Config) 
         init = let unborn = total-set is_unborn agents t (Some (running path env b)) new e in let inits = total-append has_init full (embedded_acts acts ∷ []) in let none = said_no_init acts uacts in let one = r.init in omega arith;
         names = names_kept agents (slice_set agents t new) c d s ks _ rest (state ∷ right) r.names takes (λ n. let tags = total-set (count_tag n) agents t (Some (running path env b)) new e in let none = users_added (count_fact (fresh_fact (fresh n))) right (λ f u. user_fact (fresh_fact (fresh n)) f refl u) uright in omega arith);
         knowledge = knowledge_kept sig c d s ks _ rest (state ∷ right) r.knowledge up down takes (λ x. let none = users_spent (count_fact (out_fact x)) left (λ f u. user_fact (out_fact x) f refl u) uleft in omega arith) (embed_no_out (first_of path) (values (join env τ)) right uright);
-        traces = embed_traces acts d uacts up refl step;
+        traces = traces;
       }
+
+module _ (sig : Sig) (start : Proc) (agents : List (Option Agent)) (c : Config) (tr : Trace) (s : RuleState) (full : Trace) (r : Related sig start agents None c tr s full) where
+  embed_traces : (acts : List Fact) (d : Config) → AreUnreserved acts → Grows c d → d.store ≡ c.store → ProcessStep sig c acts d → TracePart sig start None d (tr ++ shown acts) (full ++ embedded_acts acts ∷ [])
+  embed_traces [] d u up same step = trace_silent sig start None c d tr (full ++ [] ∷ []) (trace_rules sig start None c tr full [] r.traces quiet_none) up same step
+  embed_traces (f ∷ fs) d u up same step = record {
+    shows = hide_push full (embedded_acts (f ∷ fs)) ∙ ap (λ v. hide full ++ shown v) (said_visible (f ∷ fs) u) ∙ ap (λ x. x ++ shown (f ∷ fs)) (r.traces.shows ∙ append-nil tr) ∙ sym (append-nil (tr ++ shown (f ∷ fs)));
+    waiting = λ x e. absurd (cc);
+    free = λ x h. absurd (event_frees_none full (embedded_acts (f ∷ fs)) x Member.here h);
+    demands = demands_quiet (equations sig) full (embedded_acts (f ∷ fs)) r.traces.demands (said_asks_none (f ∷ fs) u);
+    store = subst (λ st. StorePart sig st (full ++ embedded_acts (f ∷ fs) ∷ [])) (sym same) (store_quiet sig c.store full (embedded_acts (f ∷ fs)) r.traces.store (said_writes_none (f ∷ fs) u));
+  }
+
+  pub kept_embed : (t : ℕ) (ks pks : List ℕ) (path : List ℕ) (env τ : Env) (l a o : List Fact) (p : Proc) (left acts right : List Fact) (rest prest : List (Option Fact)) → AreUnreserved left → AreUnreserved acts → AreUnreserved right → with_new (names env) (facts_vars (l ++ (a ++ o))) ≡ names (join env τ) → GoodEnv sig τ → ((y : Var) → Member y (names τ) → IsFree y (names env)) → slice_get agents t ≡ Some (Some (running path env (act (action.embedded l a o) p))) → Takes s.facts ks (state_fact path (values env) ∷ left) rest → Takes c.facts pks left prest → ProcessStep sig c acts (record (becomes c t (Some (process_instance (chosen (join env τ)) p))) { facts = adds prest right }) → Related sig start (slice_set agents t (Some (running (first_of path) (join env τ) p))) None (record (becomes c t (Some (process_instance (chosen (join env τ)) p))) { facts = adds prest right }) (tr ++ shown acts) (record s { facts = adds rest (state_fact (first_of path) (values (join env τ)) ∷ right) }) (full ++ embedded_acts acts ∷ [])
+  kept_embed t ks pks path env τ l a o p left acts right rest prest uleft uacts uright scope good new_free e takes ptakes step =
+      let d : Config = record (becomes c t (Some (process_instance (chosen (join env τ)) p))) { facts = adds prest right } in
+      (embedded_kept sig start agents None None c tr s full r) t ks pks path env τ l a o p left acts right rest prest uleft uacts uright scope good new_free e takes ptakes (embed_traces acts d uacts (record { own = λ n m. m; frame = λ x m. m }) refl step)
+
+-- the same where it shows nothing: what is pending stays so
+module _ (sig : Sig) (start : Proc) (agents : List (Option Agent)) (pending : Option Tree) (c : Config) (tr : Trace) (s : RuleState) (full : Trace) (r : Related sig start agents pending c tr s full) where
+  pub kept_embed_silent : (t : ℕ) (ks pks : List ℕ) (path : List ℕ) (env τ : Env) (l a o : List Fact) (p : Proc) (left right : List Fact) (rest prest : List (Option Fact)) → AreUnreserved left → AreUnreserved right → with_new (names env) (facts_vars (l ++ (a ++ o))) ≡ names (join env τ) → GoodEnv sig τ → ((y : Var) → Member y (names τ) → IsFree y (names env)) → slice_get agents t ≡ Some (Some (running path env (act (action.embedded l a o) p))) → Takes s.facts ks (state_fact path (values env) ∷ left) rest → Takes c.facts pks left prest → ProcessStep sig c [] (record (becomes c t (Some (process_instance (chosen (join env τ)) p))) { facts = adds prest right }) → Related sig start (slice_set agents t (Some (running (first_of path) (join env τ) p))) pending (record (becomes c t (Some (process_instance (chosen (join env τ)) p))) { facts = adds prest right }) (tr ++ []) (record s { facts = adds rest (state_fact (first_of path) (values (join env τ)) ∷ right) }) (full ++ [] ∷ [])
+  kept_embed_silent t ks pks path env τ l a o p left right rest prest uleft uright scope good new_free e takes ptakes step =
+      let d : Config = record (becomes c t (Some (process_instance (chosen (join env τ)) p))) { facts = adds prest right } in
+      (embedded_kept sig start agents pending pending c tr s full r) t ks pks path env τ l a o p left [] right rest prest uleft (λ f m. elim m [ ]) uright scope good new_free e takes ptakes (trace_silent sig start pending c d tr (full ++ [] ∷ []) (trace_rules sig start pending c tr full [] r.traces quiet_none) (record { own = λ n m. m; frame = λ x m. m }) refl step)

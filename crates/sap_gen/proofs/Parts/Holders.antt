@@ -11,7 +11,8 @@ use Rattle.sap_gen.specs.relation.Envs.{Env, names, join}
 use Rattle.sap_gen.specs.relation.Totals.{total}
 use Rattle.sap_gen.specs.OpenLocks.{UnlocksAreOpen, closed}
 use Rattle.sap_gen.specs.relation.Locks.{Holder}
-use Rattle.sap_gen.specs.relation.Relation.{Agent, rest_of, Holding, Covered, LocksPart}
+use Rattle.sap_gen.specs.relation.Agents.{Agent, rest_of}
+use Rattle.sap_gen.specs.relation.Related.{Holding, Covered, LocksPart}
 use Rattle.sap_terms.specs.Normal.{IsNormalForm}
 use Rattle.sap_terms.specs.Equations.{Equations}
 use Rattle.sap_terms.specs.Trace.{Trace}

@@ -25,7 +25,9 @@ use Rattle.sap_gen.specs.relation.Names.{same_fact}
 use Rattle.sap_gen.specs.ChannelFacts.{fresh_fact}
 use Rattle.sap_gen.specs.relation.Totals.{total}
 use Rattle.sap_gen.specs.OpenLocks.{UnlocksAreOpen}
-use Rattle.sap_gen.specs.relation.Relation.{Covered, TracePart, Agent, unborn, running, copying, process_of, IsAt, Placed, AllPlaced, count_live, count_owed, count_fact, count_name, count_tag, is_unborn, has_init, Related, Free, Retractable, StorePart, count_user}
+use Rattle.sap_gen.specs.relation.Related.{Covered, TracePart, Related, Free, Retractable, StorePart}
+use Rattle.sap_gen.specs.relation.Agents.{Agent, unborn, running, copying, process_of, IsAt, Placed, AllPlaced, is_unborn}
+use Rattle.sap_gen.specs.relation.Counts.{count_live, count_owed, count_fact, count_name, count_tag, has_init, count_user}
 use Rattle.sap_place.specs.StateFacts.{state_fact, copies_fact}
 use Rattle.sap_gen.specs.Places.{scoped_place_at, root, child, ScopedPlace}
 use Rattle.sap_process.specs.Places.{place}
@@ -140,7 +142,7 @@ fresh_once n m names unused h = go (n == m) refl
     go true e = let z = none (eq_true n m e) in omega arith
     go false e = omega arith
 
-first_taken : {facts rest : List (Option Fact)} {k : ℕ} {ks : List ℕ} {f : Fact} {fs : List Fact} → Takes facts (k ∷ ks) (f ∷ fs) rest → slice_get facts k ≡ Some (Some f)
+pub first_taken : {facts rest : List (Option Fact)} {k : ℕ} {ks : List ℕ} {f : Fact} {fs : List Fact} → Takes facts (k ∷ ks) (f ∷ fs) rest → slice_get facts k ≡ Some (Some f)
 first_taken (Takes.one e h) = e
 
 fr_arg : (n : ℕ) (x : Tree) → fresh_fact (fresh n) ≡ fresh_fact x → x ≡ fresh n

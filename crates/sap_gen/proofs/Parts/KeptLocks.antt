@@ -22,7 +22,9 @@ use Rattle.sap_gen.specs.ChannelFacts.{fresh_fact}
 use Rattle.sap_gen.specs.relation.Totals.{total}
 use Rattle.sap_gen.specs.relation.Locks.{Holder, LockPart}
 use Rattle.sap_gen.specs.OpenLocks.{closed, IsUnusedIn}
-use Rattle.sap_gen.specs.relation.Relation.{Agent, running, process_of, IsAt, count_live, count_owed, count_user, count_tag, count_name, count_holder, is_unborn, has_init, Related, Holding, Covered}
+use Rattle.sap_gen.specs.relation.Agents.{Agent, running, process_of, IsAt, is_unborn}
+use Rattle.sap_gen.specs.relation.Counts.{count_live, count_owed, count_user, count_tag, count_name, count_holder, has_init}
+use Rattle.sap_gen.specs.relation.Related.{Related, Holding, Covered}
 use Rattle.sap_place.specs.StateFacts.{state_fact}
 use Rattle.sap_gen.specs.Places.{root}
 use Rattle.sap_process.specs.Places.{place}

@@ -9,7 +9,9 @@ use Rattle.sap_gen.specs.relation.Names.{same_fact, semi_name}
 use Rattle.sap_gen.specs.ChannelFacts.{msg_fact, ack_fact}
 use Rattle.sap_gen.specs.relation.Totals.{total}
 use Rattle.sap_gen.specs.relation.Locks.{Holder}
-use Rattle.sap_gen.specs.relation.Relation.{Agent, unborn, running, copying, awaiting, received, SameFacts, count_one, count_live, count_owed, count_name, count_tag, is_control, stands_as, NamesPart}
+use Rattle.sap_gen.specs.relation.Agents.{Agent, unborn, running, copying, awaiting, received, stands_as}
+use Rattle.sap_gen.specs.relation.Counts.{SameFacts, count_one, count_live, count_owed, count_name, count_tag, is_control}
+use Rattle.sap_gen.specs.relation.Related.{NamesPart}
 use Rattle.sap_place.specs.StateFacts.{state_fact, copies_fact, waits_fact, digits}
 use Rattle.sap_process.specs.Configuration.{Config}
 use Rattle.sap_process.specs.Proc.{Proc}

@@ -16,7 +16,9 @@ use Rattle.sap_gen.specs.Scoped.{IsFree}
 use Rattle.sap_gen.specs.ChannelFacts.{fresh_fact}
 use Rattle.sap_gen.specs.relation.Totals.{total}
 use Rattle.sap_gen.specs.relation.Locks.{Holder}
-use Rattle.sap_gen.specs.relation.Relation.{count_holder, Agent, count_tag, count_fact, count_name, NamesPart, KnowledgePart, TracePart, pending_place, StorePart}
+use Rattle.sap_gen.specs.relation.Counts.{count_holder, count_tag, count_fact, count_name}
+use Rattle.sap_gen.specs.relation.Agents.{Agent}
+use Rattle.sap_gen.specs.relation.Related.{NamesPart, KnowledgePart, TracePart, pending_place, StorePart}
 use Rattle.sap_gen.specs.Places.{scoped_place_at, child, ScopedPlace}
 use Rattle.sap_process.specs.Configuration.{Config, CanGive}
 use Rattle.sap_process.specs.Instance.{without}

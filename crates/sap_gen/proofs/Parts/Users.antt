@@ -11,7 +11,7 @@ use Rattle.sap_gen.proofs.Traces.Visible.{not_hidden, not_init}
 use Rattle.sap_gen.specs.relation.Names.{same_fact}
 use Rattle.sap_gen.specs.relation.Totals.{total}
 use Rattle.sap_gen.specs.Scoped.{AreUnreserved}
-use Rattle.sap_gen.specs.relation.Relation.{count_live, count_fact, is_control, has_init}
+use Rattle.sap_gen.specs.relation.Counts.{count_live, count_fact, is_control, has_init}
 use Rattle.sap_gen.specs.Templates.{embedded_acts}
 use Rattle.sap_terms.specs.Choice.{Choice}
 use Rattle.sap_terms.specs.Modulo.{instance_fact, AreEqualFacts, AreFormsOfFacts}

@@ -1,16 +1,14 @@
 -- What the actions of a well-formed process take is over the signature.
-use Rattle.std.proofs.Common.{◌≡◌, ◌<◌, ◌^◌, List, [], ◌∷◌, ◌++◌, Some, true, ◌&&◌, map, refl, sym, ap, subst, ◌∙◌}
+use Rattle.std.proofs.Common.{◌≡◌, ◌<◌, ◌^◌, List, [], ◌∷◌, ◌++◌, Some, true, sym, subst, ◌∙◌}
 use Rattle.std.specs.Prelude.{All}
-use Rattle.sap_terms.specs.Choice.{instance}
 use Rattle.sap_terms.specs.Equations.{pair_name}
 use Rattle.sap_terms.specs.Modulo.{instance_facts}
 use Rattle.sap_terms.specs.Signature.{Sig, arity_of}
-use Rattle.sap_terms.specs.TermTests.{is_over, are_over}
-use Rattle.sap_terms.specs.Tree.{Tree, trees_of}
+use Rattle.sap_terms.specs.TermTests.{are_over}
+use Rattle.sap_terms.specs.Tree.{trees_of}
 use Rattle.sap_terms.specs.Variables.{facts_vars, new_vars}
 use Rattle.sap_terms.specs.declared.fact.Fact.{Fact}
 use Rattle.sap_terms.specs.declared.var.Var.{Var}
-use Rattle.sap_terms.proofs.PlainLaws.Tests.{and_left, and_right}
 use Rattle.sap_locks.specs.Annotation.{IsAnnotation}
 use Rattle.sap_process.specs.Action as action
 use Rattle.sap_process.specs.Flaws.{IsWellFormed}
@@ -23,30 +21,18 @@ use Rattle.sap_process.specs.Sorted.{by_binder, with_sorts}
 use Rattle.sap_rule.specs.WellMade.{IsWellMade}
 use Rattle.sap_gen.specs.Templates.{rules_of}
 use Rattle.sap_gen.specs.relation.Labels.{IsRelabelled, labelled}
-use Rattle.sap_gen.specs.relation.Spelled.{TermsOver, FactsOver}
+use Rattle.sap_gen.specs.relation.Spelled.{FactsOver}
 use Rattle.sap_gen.proofs.Premises.Annotations.{annotation_is}
-use Rattle.sap_gen.proofs.Premises.Sorting.{over_sound, over_sorted}
 use Rattle.sap_gen.proofs.Premises.Sound.{clean_labelled, sorts_labelled}
+use Rattle.sap_gen.proofs.Premises.Spelled.{over_each, over_left, over_right}
 use Rattle.sap_gen.proofs.Premises.WellMade.{LeftsOver, rules_made}
 use Rattle.sap_gen.proofs.Restricted.Seen.{ready_over, ready_sound}
 use Rattle.sap_gen.proofs.Terms.Clean.{AllClean, all_clean}
 
-terms_over : (g : Sig) (w : List Var) (ts : List Tree) → are_over g (trees_of ts) ≡ true → TermsOver g (map (instance (by_binder w)) ts)
-terms_over g w [] h = tt
-terms_over g w (t ∷ ts) h = (over_sorted g w t (over_sound g t (and_left _ _ h)), terms_over g w ts (and_right (is_over g t) _ h))
-
-over_before : (g : Sig) (ts us : List Tree) → are_over g (trees_of (ts ++ us)) ≡ true → are_over g (trees_of ts) ≡ true
-over_before g [] us h = refl
-over_before g (t ∷ ts) us h = ap (λ b. b && are_over g (trees_of ts)) (and_left _ _ h) ∙ over_before g ts us (and_right (is_over g t) _ h)
-
-over_behind : (g : Sig) (ts us : List Tree) → are_over g (trees_of (ts ++ us)) ≡ true → are_over g (trees_of us) ≡ true
-over_behind g [] us h = h
-over_behind g (t ∷ ts) us h = over_behind g ts us (and_right (is_over g t) _ h)
-
 -- the first facts of a longer list
 first_over : (g : Sig) (w : List Var) (fs hs : List Fact) → are_over g (trees_of (facts_terms (fs ++ hs))) ≡ true → FactsOver g (instance_facts (by_binder w) fs)
 first_over g w [] hs h = tt
-first_over g w (f ∷ fs) hs h = (terms_over g w f.args (over_before g f.args (facts_terms (fs ++ hs)) h), first_over g w fs hs (over_behind g f.args (facts_terms (fs ++ hs)) h))
+first_over g w (f ∷ fs) hs h = (over_each g w f.args (over_left g f.args (facts_terms (fs ++ hs)) h), first_over g w fs hs (over_right g f.args (facts_terms (fs ++ hs)) h))
 
 lefts_over : (g : Sig) (v : List Var) (p : Proc) → AllClean g v p → LeftsOver g (with_sorts v p)
 lefts_over g v whole.nil h = tt
@@ -57,9 +43,9 @@ lefts_over g v (whole.lookup t x p q) h = (lefts_over g (v ++ message_var x ∷ 
 lefts_over g v (act (action.new x) p) h = (tt, lefts_over g _ p h.1)
 lefts_over g v (act (action.out t) p) h = (tt, lefts_over g (v ++ []) p h.1)
 lefts_over g v (act (action.send t u) p) h = (tt, lefts_over g (v ++ []) p h.1)
-lefts_over g v (act (action.input t) p) h = ((terms_over g _ (t ∷ []) h.0.over).0, lefts_over g _ p h.1)
+lefts_over g v (act (action.input t) p) h = ((over_each g _ (t ∷ []) h.0.over).0, lefts_over g _ p h.1)
 lefts_over g v (act (action.receive t u) p) h =
-    let both = terms_over g _ (t ∷ u ∷ []) h.0.over in
+    let both = over_each g _ (t ∷ u ∷ []) h.0.over in
     ((both.0, both.1.0), lefts_over g _ p h.1)
 lefts_over g v (act (action.event f) p) h = (tt, lefts_over g (v ++ []) p h.1)
 lefts_over g v (act (action.insert t u) p) h = (tt, lefts_over g (v ++ []) p h.1)

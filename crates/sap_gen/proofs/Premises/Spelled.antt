@@ -36,11 +36,11 @@ use Rattle.sap_gen.proofs.Premises.Sound.{none_in, users_of, users_sorted, clean
 
 -- the rules
 
-vars_over : (g : Sig) (v : List Var) → TermsOver g (vars v)
+pub vars_over : (g : Sig) (v : List Var) → TermsOver g (vars v)
 vars_over g [] = tt
 vars_over g (x ∷ v) = (tt, vars_over g v)
 
-sent_over : (g : Sig) (v : List Var) → TermsOver g (vars v ++ variable tag ∷ [])
+pub sent_over : (g : Sig) (v : List Var) → TermsOver g (vars v ++ variable tag ∷ [])
 sent_over g [] = (tt, tt)
 sent_over g (x ∷ v) = (tt, sent_over g v)
 
@@ -124,15 +124,15 @@ rules_over g p h = (record { acts = ((λ e. refl, inl tt), tt); right = (tt, tt)
 
 -- a process without flaws
 
-over_each : (g : Sig) (w : List Var) (ts : List Tree) → are_over g (trees_of ts) ≡ true → TermsOver g (map (instance (by_binder w)) ts)
+pub over_each : (g : Sig) (w : List Var) (ts : List Tree) → are_over g (trees_of ts) ≡ true → TermsOver g (map (instance (by_binder w)) ts)
 over_each g w [] h = tt
 over_each g w (t ∷ ts) h = (over_sorted g w t (over_sound g t (and_left _ _ h)), over_each g w ts (and_right (is_over g t) _ h))
 
-over_left : (g : Sig) (ts us : List Tree) → are_over g (trees_of (ts ++ us)) ≡ true → are_over g (trees_of ts) ≡ true
+pub over_left : (g : Sig) (ts us : List Tree) → are_over g (trees_of (ts ++ us)) ≡ true → are_over g (trees_of ts) ≡ true
 over_left g [] us h = refl
 over_left g (t ∷ ts) us h = ap (λ b. b && are_over g (trees_of ts)) (and_left _ _ h) ∙ over_left g ts us (and_right (is_over g t) _ h)
 
-over_right : (g : Sig) (ts us : List Tree) → are_over g (trees_of (ts ++ us)) ≡ true → are_over g (trees_of us) ≡ true
+pub over_right : (g : Sig) (ts us : List Tree) → are_over g (trees_of (ts ++ us)) ≡ true → are_over g (trees_of us) ≡ true
 over_right g [] us h = h
 over_right g (t ∷ ts) us h = over_right g ts us (and_right (is_over g t) _ h)
 

@@ -37,6 +37,7 @@ use Rattle.sap_gen.proofs.Lists.Lookups.{member_cases, in_left, in_right, only_m
 use Rattle.sap_gen.proofs.Parts.Facts.{not_reserved, same_name_self}
 use Rattle.sap_gen.proofs.Premises.OneSort.{OneSort, one_sort_more, one_sort_behind}
 use Rattle.sap_gen.proofs.Premises.Sound.{none_in}
+use Rattle.sap_gen.proofs.Premises.Spelled.{vars_over, sent_over}
 use Rattle.sap_gen.proofs.Terms.Derive.{member, each_of_members}
 use Rattle.sap_gen.proofs.Terms.Substitution.{within_more}
 
@@ -181,17 +182,9 @@ out_fine g w t o i = (
 abbrev Inside : List Var → List Var → Type 0
 Inside v w = (x : Var) → Member x v → Member x w
 
-vars_over : (g : Sig) (v : List Var) → TermsOver g (map variable v)
-vars_over g [] = tt
-vars_over g (x ∷ v) = (tt, vars_over g v)
-
 vars_within : (v w : List Var) → Inside v w → AllWithin w (map variable v)
 vars_within [] w h = tt
 vars_within (x ∷ v) w h = (h x Member.here, vars_within v w (λ y m. h y (Member.later m)))
-
-tagged_over : (g : Sig) (v : List Var) → TermsOver g (map variable v ++ variable tag ∷ [])
-tagged_over g [] = (tt, tt)
-tagged_over g (x ∷ v) = (tt, tagged_over g v)
 
 tagged_within : (v w : List Var) → Inside v w → Member tag w → AllWithin w (map variable v ++ variable tag ∷ [])
 tagged_within [] w h m = (m, tt)
@@ -204,10 +197,10 @@ state_right : (g : Sig) (path : List ℕ) (v w : List Var) → Inside v w → Ri
 state_right g path v w h = right_fine g w (state path v) refl (vars_over g v) (vars_within v w h)
 
 waits_left : (g : Sig) (path : List ℕ) (v : List Var) → LeftFine g (v ++ tag ∷ []) (waits_fact path (map variable v ++ variable tag ∷ []))
-waits_left g path v = left_fine g (v ++ tag ∷ []) (waits_fact path (map variable v ++ variable tag ∷ [])) refl (tagged_over g v) (tagged_within v (v ++ tag ∷ []) (λ x m. member_left (tag ∷ []) m) (member_last v tag))
+waits_left g path v = left_fine g (v ++ tag ∷ []) (waits_fact path (map variable v ++ variable tag ∷ [])) refl (sent_over g v) (tagged_within v (v ++ tag ∷ []) (λ x m. member_left (tag ∷ []) m) (member_last v tag))
 
 waits_right : (g : Sig) (path : List ℕ) (v : List Var) → RightFine g (v ++ tag ∷ []) (waits_fact path (map variable v ++ variable tag ∷ []))
-waits_right g path v = right_fine g (v ++ tag ∷ []) (waits_fact path (map variable v ++ variable tag ∷ [])) refl (tagged_over g v) (tagged_within v (v ++ tag ∷ []) (λ x m. member_left (tag ∷ []) m) (member_last v tag))
+waits_right g path v = right_fine g (v ++ tag ∷ []) (waits_fact path (map variable v ++ variable tag ∷ [])) refl (sent_over g v) (tagged_within v (v ++ tag ∷ []) (λ x m. member_left (tag ∷ []) m) (member_last v tag))
 
 users_fine : (P : Fact → Type 0) (g : Sig) (w : List Var) → ((f : Fact) → is_dealing f.name ≡ false → TermsOver g f.args → AllWithin w f.args → P f) → (fs : List Fact) → AreUnreserved fs → FactsOver g fs → FactsWithin w fs → EachIn P fs
 users_fine P g w ok [] u o i = tt

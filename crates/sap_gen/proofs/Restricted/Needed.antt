@@ -2,37 +2,31 @@
 use Rattle.sap_gen.proofs.Premises.LowerLaws.{Laws}
 use Rattle.sap_gen.specs.Members.{Member}
 use Rattle.sap_gen.specs.relation.Shown.{ShowsAt}
-use Rattle.std.proofs.Common.{◌≡◌, ℕ, ◌<◌, ◌^◌, ◌⊎◌, inl, inr, List, [], ◌∷◌, ◌++◌, refl, sym, ap, ◌∙◌, Bool, true, false, ◌||◌, subst, map, Contains, append-nil}
+use Rattle.std.proofs.Common.{◌≡◌, ℕ, ◌⊎◌, inl, inr, List, [], ◌∷◌, ◌++◌, refl, sym, ap, ◌∙◌, Bool, true, false, ◌||◌, subst, map, Contains}
 use Rattle.std.specs.List.{list_any}
 use Rattle.std.specs.Prelude.{codes}
 use Rattle.std.specs.Str.{bytes_eq}
 use Rattle.sap_terms.specs.Choice.{Choice}
 use Rattle.sap_terms.specs.Modulo.{instance_fact, instance_facts}
 use Rattle.sap_terms.specs.Reserved.{is_reserved}
-use Rattle.sap_terms.specs.Signature.{Sig, HoldsBuiltins}
+use Rattle.sap_terms.specs.Signature.{Sig}
 use Rattle.sap_terms.specs.Equations.{Equations, equations}
 use Rattle.sap_terms.specs.Trace.{Trace}
 use Rattle.sap_terms.specs.declared.fact.Fact.{Fact}
 use Rattle.sap_terms.specs.declared.var.Var.{Var}
 use Rattle.sap_process.specs.Action as action
 use Rattle.sap_process.specs.Proc as whole
-use Rattle.sap_process.specs.Proc.{Proc, act, node_count}
+use Rattle.sap_process.specs.Proc.{Proc, act}
 use Rattle.sap_process.specs.Sites.{message_var}
 use Rattle.sap_rule.specs.RuleSteps.{RuleState, RuleStep, RuleRun}
 use Rattle.sap_rule.specs.declared.rule.Rule.{Rule}
 use Rattle.sap_formula.specs.Truth.{EachIn, IsTrueOn}
-use Rattle.sap_locks.specs.Annotation.{IsAnnotation}
-use Rattle.sap_formula.specs.Form.{LemmaForm}
-use Rattle.sap_process.specs.ProcessSteps.{IsProcessTrace}
-use Rattle.sap_process.specs.Ready.{IsReady}
 use Rattle.sap_restrict.specs.Needed.{has, is_input, is_lock, is_lookup, is_test, needed, needs}
 use Rattle.sap_restrict.specs.Quiet.{premise_name}
 use Rattle.sap_restrict.specs.Restrictions.{named, needed_restrictions}
 use Rattle.sap_restrict.specs.Shown.{NoneShows}
 use Rattle.sap_restrict.specs.Standard.{IsAdmitted, standard}
-use Rattle.sap_gen.specs.Faithful.{AreRestrictionsTrue, IsFaithful, IsShownBy}
-use Rattle.sap_gen.specs.Theories.{theory_of}
-use Rattle.sap_gen.proofs.Restricted.Seen.{all_seen, only_seen, ready_over}
+use Rattle.sap_gen.specs.Faithful.{AreRestrictionsTrue}
 use Rattle.sap_gen.proofs.Restricted.Truth.{shown_to}
 use Rattle.sap_restrict.specs.declared.which.Which.{Which}
 use Rattle.sap_restrict.specs.declared.which.Which.TheVariants.{Eq, In, InEv, Init, Lock, NotEq, NotIn}
@@ -292,18 +286,3 @@ module _ (laws : Laws) (g : Sig) (p : Proc) (s : RuleState) (full : Trace) (over
 
   pub needed_from : IsAdmitted g full → AreRestrictionsTrue g (needed_restrictions p) full
   needed_from h = each_named (needed p) ((laws.needed (needed p) g full covered).0 h)
-
--- the theorem
-
-pub theory_faithful : (laws : Laws) → (name : List ℕ) (g : Sig) (p q : Proc) (lemmas : List LemmaForm) → HoldsBuiltins g → IsReady g p → node_count p < 2 ^ 64 → IsAnnotation p q → IsFaithful g q (theory_of name g q [] lemmas)
-theory_faithful laws name g p q lemmas hold ready small h = record { all = all; only = only } where
-  none_more : needed_restrictions q ++ [] ≡ needed_restrictions q
-  none_more = append-nil (needed_restrictions q)
-
-  all : (tr : Trace) → IsProcessTrace g q tr → IsShownBy (theory_of name g q [] lemmas) tr
-  all tr t =
-      let w = (all_seen laws) g p q hold ready small h tr t in
-      (w.0, w.1, subst (λ rs. AreRestrictionsTrue g rs w.0) (sym none_more) ((needed_from laws) g q w.1.0 w.0 (ready_over g p q ready h) w.1.1 w.2), w.3)
-
-  only : (tr : Trace) → IsShownBy (theory_of name g q [] lemmas) tr → IsProcessTrace g q tr
-  only tr w = (only_seen laws) g p q hold ready small h tr (w.0, w.1, (needed_to laws) g q w.1.0 w.0 (ready_over g p q ready h) w.1.1 (subst (λ rs. AreRestrictionsTrue g rs w.0) none_more w.2), w.3)

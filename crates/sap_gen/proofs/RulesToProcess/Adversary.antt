@@ -4,17 +4,15 @@ use Rattle.sap_restrict.specs.ReservedFacts.{init_fact}
 use Rattle.sap_gen.specs.Members.{Member}
 use Rattle.sap_gen.specs.relation.Shown.{ShowsAt}
 use Rattle.sap_restrict.specs.Sentences.{InitOnce}
-use Rattle.sap_gen.proofs.Parts.Control.{LiveFact, live_counts}
-use Rattle.sap_gen.proofs.Terms.Derive.{member}
 use Rattle.sap_gen.proofs.Parts.Kept.{kept_init, kept_know, kept_public, kept_applies, kept_learn, kept_own, kept_fresh}
 use Rattle.sap_gen.proofs.Parts.Tidy.{Tidy}
 use Rattle.sap_gen.proofs.Lists.Totals.{total_found, Found}
 use Rattle.sap_gen.proofs.Traces.Visible.{first_init}
 use Rattle.sap_gen.specs.ChannelFacts.{fresh_fact}
-use Rattle.sap_gen.specs.relation.Relation.{Agent, unborn, running, copying, Related, is_unborn, awaiting, received}
+use Rattle.sap_gen.specs.relation.Agents.{Agent, unborn, running, copying, is_unborn, awaiting, received}
 use Rattle.sap_place.specs.StateFacts.{state_fact}
 use Rattle.sap_gen.specs.Sound.{SoundPlaces}
-use Rattle.sap_process.specs.Configuration.{Config, owns, IsUnused}
+use Rattle.sap_process.specs.Configuration.{owns}
 use Rattle.sap_process.specs.Proc.{Proc}
 use Rattle.sap_process.specs.ProcessSteps.{ProcessStep, ProcessRun}
 use Rattle.sap_rule.specs.RuleSteps.{RuleState}
@@ -28,17 +26,9 @@ use Rattle.sap_terms.specs.Tree.{Tree, public, fresh, apply, trees_of}
 use Rattle.sap_terms.specs.declared.fact.Fact.{Fact}
 use Rattle.std.proofs.Common.{◌≡◌, ℕ, ◌<◌, List, [], ◌∷◌, ◌++◌, Option, Some, None, arith, slice_get}
 use Rattle.std.specs.Prelude.{All, Contains, length}
-use Rattle.sap_gen.proofs.RulesToProcess.Followed.{Followed, flushed, head_of, name_counts}
+use Rattle.sap_gen.proofs.RulesToProcess.Followed.{Followed, flushed, head_of, is_new}
 
 module _ (laws : Laws) (sig : Sig) (start : Proc) (hold : HoldsBuiltins sig) (fine : SoundPlaces sig start) (s : RuleState) (full : Trace) (w : Followed sig start s full) (clean : Tidy (equations sig) s) where
-  -- a live Fr: the name is new
-  pub is_new : (c : Config) (tr : Trace) (agents : List (Option Agent)) (pending : Option Tree) → Related sig start agents pending c tr s full → (n : ℕ) → LiveFact s.facts (fresh_fact (fresh n)) → IsUnused c n
-  is_new c tr agents pending r n l =
-      let live = live_counts s.facts l.number (fresh_fact (fresh n)) l.is in
-      let shares = r.names.shares n in
-      let once = r.names.once n in
-      (λ m. let h = name_counts n c.made (member n c.made m) in absurd (omega arith), λ m. let h = name_counts n c.own (member n c.own m) in absurd (omega arith))
-
   pub law_fresh : (n : ℕ) → (Member n s.made → ⊥) → Followed sig start (record s { facts = adds s.facts (fresh_fact (fresh n) ∷ []); made = s.made ++ n ∷ [] }) (full ++ [] ∷ [])
   law_fresh n u = record { agents = w.agents; pending = w.pending; c = w.c; tr = w.tr; reached = w.reached; related = (kept_fresh laws) sig start w.agents w.pending w.c w.tr s full w.related n u }
 
@@ -47,7 +37,7 @@ module _ (laws : Laws) (sig : Sig) (start : Proc) (hold : HoldsBuiltins sig) (fi
 
   pub law_own : (k n : ℕ) (rest : List (Option Fact)) → Takes s.facts (k ∷ []) (fresh_fact (fresh n) ∷ []) rest → Followed sig start (record s { facts = rest; known = s.known ++ fresh n ∷ [] }) (full ++ [] ∷ [])
   law_own k n rest h =
-      let step : ProcessStep sig w.c [] (owns w.c n) = ProcessStep.adversary_makes n (is_new w.c w.tr w.agents w.pending w.related n (head_of h)) in
+      let step : ProcessStep sig w.c [] (owns w.c n) = ProcessStep.adversary_makes n (is_new w.related n (head_of h)) in
       record { agents = w.agents; pending = w.pending; c = owns w.c n; tr = _; reached = ProcessRun.further w.reached step; related = (kept_own laws) sig start w.agents w.pending w.c w.tr s full w.related k n rest h step }
 
   pub law_public : (a : List ℕ) → Followed sig start (record s { known = s.known ++ public a ∷ [] }) (full ++ [] ∷ [])

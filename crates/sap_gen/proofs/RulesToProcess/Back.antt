@@ -15,7 +15,7 @@ use Rattle.sap_gen.proofs.Parts.Tidy.{Tidy, tidy}
 use Rattle.sap_gen.proofs.Traces.Visible.{admitted_before}
 use Rattle.sap_gen.specs.ChannelFacts.{fresh_fact, msg_fact, ack_fact}
 use Rattle.sap_gen.specs.OpenLocks.{UnlocksAreOpen}
-use Rattle.sap_gen.specs.relation.Relation.{unborn}
+use Rattle.sap_gen.specs.relation.Agents.{unborn}
 use Rattle.sap_place.specs.StateFacts.{state_fact, copies_fact, waits_fact, tag}
 use Rattle.sap_gen.specs.Places.{scoped_place_at, root}
 use Rattle.sap_process.specs.Places.{place}

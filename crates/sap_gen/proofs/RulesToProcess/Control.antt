@@ -13,7 +13,7 @@ use Rattle.sap_gen.proofs.Traces.Store.{no_write_one}
 use Rattle.sap_gen.proofs.Parts.Tidy.{Tidy}
 use Rattle.sap_gen.specs.relation.Envs.{names, chosen, values}
 use Rattle.sap_gen.specs.Scoped.{Within}
-use Rattle.sap_gen.specs.relation.Relation.{running, copying}
+use Rattle.sap_gen.specs.relation.Agents.{running, copying}
 use Rattle.sap_place.specs.StateFacts.{state_fact, copies_fact}
 use Rattle.sap_gen.specs.Places.{scoped_place_at, root, ScopedPlace}
 use Rattle.sap_process.specs.Places.{place}
@@ -40,7 +40,8 @@ use Rattle.std.proofs.Common.{◌≡◌, ℕ, List, [], ◌∷◌, ◌++◌, Opt
 use Rattle.std.specs.Prelude.{length}
 use Rattle.sap_process.specs.Action as action
 use Rattle.sap_process.specs.Proc as whole
-use Rattle.sap_gen.proofs.RulesToProcess.Followed.{Followed, head_of, runs, same_forms, seat, some_spot}
+use Rattle.sap_gen.proofs.Related.Common.{runs_as}
+use Rattle.sap_gen.proofs.RulesToProcess.Followed.{Followed, head_of, same_forms, seat, some_spot}
 
 module _ (laws : Laws) (sig : Sig) (start : Proc) (hold : HoldsBuiltins sig) (fine : SoundPlaces sig start) (s : RuleState) (full : Trace) (w : Followed sig start s full) (clean : Tidy (equations sig) s) where
   module _ (ks : List ℕ) (rest : List (Option Fact)) (σ : Choice) (good : IsMessageChoice sig σ) (path : List ℕ) (v : List Var) where
@@ -51,7 +52,7 @@ module _ (laws : Laws) (sig : Sig) (start : Proc) (hold : HoldsBuiltins sig) (fi
     law_nil e takes =
         let y = seat sig start w.agents w.pending w.c w.tr s full w.related path v whole.nil σ e (head_of takes) in
         let takes' = subst (λ ts. Takes s.facts ks (state_fact path ts ∷ []) rest) y.bound takes in
-        let step : ProcessStep sig w.c [] (becomes w.c y.thread None) = ProcessStep.ends y.thread (runs sig start w.agents w.pending w.c w.tr s full w.related y.thread (running path y.env whole.nil) y.stands) in
+        let step : ProcessStep sig w.c [] (becomes w.c y.thread None) = ProcessStep.ends y.thread (runs_as w.related y.thread (running path y.env whole.nil) y.stands) in
         record {
           agents = _;
           pending = w.pending;
@@ -65,7 +66,7 @@ module _ (laws : Laws) (sig : Sig) (start : Proc) (hold : HoldsBuiltins sig) (fi
     law_par p q e takes =
         let y = seat sig start w.agents w.pending w.c w.tr s full w.related path v (whole.parallel p q) σ e (head_of takes) in
         let takes' = subst (λ ts. Takes s.facts ks (state_fact path ts ∷ []) rest) y.bound takes in
-        let step : ProcessStep sig w.c [] (spawns (becomes w.c y.thread (Some (process_instance (chosen y.env) p))) (process_instance (chosen y.env) q)) = ProcessStep.splits y.thread (runs sig start w.agents w.pending w.c w.tr s full w.related y.thread (running path y.env (whole.parallel p q)) y.stands) in
+        let step : ProcessStep sig w.c [] (spawns (becomes w.c y.thread (Some (process_instance (chosen y.env) p))) (process_instance (chosen y.env) q)) = ProcessStep.splits y.thread (runs_as w.related y.thread (running path y.env (whole.parallel p q)) y.stands) in
         subst (λ ts. After (state_fact (first_of path) ts ∷ state_fact (second_of path) ts ∷ []) []) (sym y.bound)
         (record {
           agents = _;
@@ -100,7 +101,7 @@ module _ (laws : Laws) (sig : Sig) (start : Proc) (hold : HoldsBuiltins sig) (fi
         let body : st.body ≡ p = cc in
         let stands : slice_get w.agents st.thread ≡ Some (Some (copying path st.env p)) = st.is ∙ ap (λ z. Some (Some (copying path st.env z))) body in
         let takes' = subst (λ ts. Takes s.facts ks (copies_fact path ts ∷ []) rest) st.bound takes in
-        let step : ProcessStep sig w.c [] (spawns w.c (process_instance (chosen st.env) p)) = ProcessStep.copies st.thread (runs sig start w.agents w.pending w.c w.tr s full w.related st.thread (copying path st.env p) stands) in
+        let step : ProcessStep sig w.c [] (spawns w.c (process_instance (chosen st.env) p)) = ProcessStep.copies st.thread (runs_as w.related st.thread (copying path st.env p) stands) in
         subst (λ ts. After (state_fact (first_of path) ts ∷ []) []) (sym st.bound)
         (record {
           agents = _;
@@ -119,7 +120,7 @@ module _ (laws : Laws) (sig : Sig) (start : Proc) (hold : HoldsBuiltins sig) (fi
         let n : Tree = (nf laws) (equations sig) (instance σ m) in
         let sent = put_same σ y.env agrees m (subst (λ z. Within z m) (sym y.scope) (fine path (place path v (act (action.out m) p)) e)) in
         let form : IsNormalForm (equations sig) (instance (chosen y.env) m) n = subst (λ t. IsNormalForm (equations sig) t n) sent ((has_normal_form laws) (equations sig) (instance σ m)) in
-        let step : ProcessStep sig w.c [] (sends_out (becomes w.c y.thread (Some (process_instance (chosen y.env) p))) n) = ProcessStep.outputs y.thread (runs sig start w.agents w.pending w.c w.tr s full w.related y.thread (running path y.env (act (action.out m) p)) y.stands) form in
+        let step : ProcessStep sig w.c [] (sends_out (becomes w.c y.thread (Some (process_instance (chosen y.env) p))) n) = ProcessStep.outputs y.thread (runs_as w.related y.thread (running path y.env (act (action.out m) p)) y.stands) form in
         subst (λ ts. After (out_fact n ∷ state_fact (first_of path) ts ∷ []) []) (sym y.bound)
         (record {
           agents = _;
@@ -140,7 +141,7 @@ module _ (laws : Laws) (sig : Sig) (start : Proc) (hold : HoldsBuiltins sig) (fi
         let n_is = put_same σ y.env agrees n (subst (λ u. Within u n) (sym y.scope) sound.1) in
         let shown : IsTheoryEqual (equations sig) x z = demands.equal x z (length full) (has_last full (eq_fact x z ∷ []) (eq_fact x z) Member.here) in
         let equal : IsTheoryEqual (equations sig) (instance (chosen y.env) m) (instance (chosen y.env) n) = (equal-from_nf laws) (equations sig) (instance (chosen y.env) m) (instance (chosen y.env) n) (ap ((nf laws) (equations sig)) (sym m_is) ∙ x_is ∙ (same_forms laws) (equations sig) (instance σ m) (instance σ n) x z x_is z_is shown ∙ sym z_is ∙ ap ((nf laws) (equations sig)) n_is) in
-        let step : ProcessStep sig w.c [] (becomes w.c y.thread (Some (process_instance (chosen y.env) p))) = ProcessStep.agrees y.thread (runs sig start w.agents w.pending w.c w.tr s full w.related y.thread (running path y.env (whole.test m n p q)) y.stands) equal in
+        let step : ProcessStep sig w.c [] (becomes w.c y.thread (Some (process_instance (chosen y.env) p))) = ProcessStep.agrees y.thread (runs_as w.related y.thread (running path y.env (whole.test m n p q)) y.stands) equal in
         subst (λ ts. After (state_fact (first_of path) ts ∷ []) (eq_fact x z ∷ [])) (sym y.bound)
         (record {
           agents = _;
@@ -161,7 +162,7 @@ module _ (laws : Laws) (sig : Sig) (start : Proc) (hold : HoldsBuiltins sig) (fi
         let n_is = put_same σ y.env agrees n (subst (λ u. Within u n) (sym y.scope) sound.1) in
         let shown : IsTheoryEqual (equations sig) x z → ⊥ = demands.unequal x z (length full) (has_last full (not_eq_fact x z ∷ []) (not_eq_fact x z) Member.here) in
         let unequal : IsTheoryEqual (equations sig) (instance (chosen y.env) m) (instance (chosen y.env) n) → ⊥ = λ h. shown (subst (λ u. IsTheoryEqual (equations sig) u z) (ap ((nf laws) (equations sig)) (sym m_is) ∙ x_is) (subst (λ u. IsTheoryEqual (equations sig) ((nf laws) (equations sig) (instance (chosen y.env) m)) u) (ap ((nf laws) (equations sig)) (sym n_is) ∙ z_is) ((chain laws) ((back laws) ((nf-reached laws) (equations sig) (instance (chosen y.env) m))) ((chain laws) h ((nf-reached laws) (equations sig) (instance (chosen y.env) n)))))) in
-        let step : ProcessStep sig w.c [] (becomes w.c y.thread (Some (process_instance (chosen y.env) q))) = ProcessStep.differs y.thread (runs sig start w.agents w.pending w.c w.tr s full w.related y.thread (running path y.env (whole.test m n p q)) y.stands) unequal in
+        let step : ProcessStep sig w.c [] (becomes w.c y.thread (Some (process_instance (chosen y.env) q))) = ProcessStep.differs y.thread (runs_as w.related y.thread (running path y.env (whole.test m n p q)) y.stands) unequal in
         subst (λ ts. After (state_fact (second_of path) ts ∷ []) (not_eq_fact x z ∷ [])) (sym y.bound)
         (record {
           agents = _;

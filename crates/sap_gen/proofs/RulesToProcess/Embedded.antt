@@ -17,7 +17,8 @@ use Rattle.sap_gen.proofs.Parts.Users.{form_users, put_users}
 use Rattle.sap_gen.specs.relation.Envs.{Env, names, chosen, values, just, join, bind}
 use Rattle.sap_gen.specs.Scoped.{AllWithin, FactsWithin, IsFree, AreUnreserved}
 use Rattle.sap_gen.specs.ChannelFacts.{fresh_fact}
-use Rattle.sap_gen.specs.relation.Relation.{running, SamePile, count_user}
+use Rattle.sap_gen.specs.relation.Agents.{running}
+use Rattle.sap_gen.specs.relation.Counts.{SamePile, count_user}
 use Rattle.sap_place.specs.StateFacts.{state_fact}
 use Rattle.sap_gen.specs.Places.{scoped_place_at, root}
 use Rattle.sap_process.specs.Places.{place}
@@ -43,8 +44,8 @@ use Rattle.std.proofs.Common.{◌≡◌, ℕ, List, [], ◌∷◌, ◌++◌, Opt
 use Rattle.sap_process.specs.Action as action
 use Rattle.sap_process.specs.Sites.{var_names, fresh_var}
 use Rattle.sap_terms.specs.Variables.{facts_vars, new_vars}
-use Rattle.sap_gen.proofs.RulesToProcess.Followed.{flushed, head_of, runs, seat, tail_of, Followed}
-use Rattle.sap_gen.proofs.RulesToProcess.Adversary.{is_new}
+use Rattle.sap_gen.proofs.Related.Common.{runs_as}
+use Rattle.sap_gen.proofs.RulesToProcess.Followed.{flushed, head_of, seat, tail_of, Followed, is_new}
 use Rattle.sap_gen.proofs.RulesToProcess.Control.{After}
 
 module _ (laws : Laws) (sig : Sig) (start : Proc) (hold : HoldsBuiltins sig) (fine : SoundPlaces sig start) (s : RuleState) (full : Trace) (w : Followed sig start s full) (clean : Tidy (equations sig) s) where
@@ -84,7 +85,7 @@ module _ (laws : Laws) (sig : Sig) (start : Proc) (hold : HoldsBuiltins sig) (fi
         let a_is = facts_match σ y.env agrees ns free own at.1.ground a wa in
         let o_is = facts_match σ y.env agrees ns free own at.1.ground o wo in
         let joined : map (instance_fact (chosen y.env)) fs ≡ map (instance_fact (chosen y.env)) l ++ (map (instance_fact (chosen y.env)) a ++ map (instance_fact (chosen y.env)) o) = map_joined (instance_fact (chosen y.env)) l (a ++ o) ∙ ap (λ u. map (instance_fact (chosen y.env)) l ++ u) (map_joined (instance_fact (chosen y.env)) a o) in
-        let run = runs sig start w.agents None z.c z.tr s full z.related y.thread (running path y.env (act (action.embedded l a o) p)) y.stands in
+        let run = runs_as z.related y.thread (running path y.env (act (action.embedded l a o) p)) y.stands in
         let inner : Proc = process_instance (chosen (join y.env τ)) p in
         let thread : process_instance (chosen (bind σ (facts_vars (map (instance_fact (chosen y.env)) l ++ (map (instance_fact (chosen y.env)) a ++ map (instance_fact (chosen y.env)) o))))) (process_instance (chosen y.env) p) ≡ inner = ap (λ u. process_instance (chosen (bind σ (facts_vars u))) (process_instance (chosen y.env) p)) (sym joined) ∙ (after_facts laws) σ y.env at.1.ground fs p in
         let step0 : ProcessStep sig z.c acts (record (becomes z.c y.thread (Some (process_instance (chosen (bind σ (facts_vars (map (instance_fact (chosen y.env)) l ++ (map (instance_fact (chosen y.env)) a ++ map (instance_fact (chosen y.env)) o))))) (process_instance (chosen y.env) p)))) { facts = adds taken.left right }) = step_embeds y.thread taken.ks σ left acts right run good
@@ -113,7 +114,7 @@ module _ (laws : Laws) (sig : Sig) (start : Proc) (hold : HoldsBuiltins sig) (fi
         let h : Fact = (nf_fact laws) (equations sig) (instance_fact σ f) in
         let same = put_fact_same σ y.env agrees f (subst (λ u. AllWithin u f.args) (sym y.scope) sound.1) in
         let form : IsFormOfFact (equations sig) (instance_fact (chosen y.env) f) h = subst (λ u. IsFormOfFact (equations sig) u h) same ((form_of_fact laws) (equations sig) (instance_fact σ f)) in
-        let step : ProcessStep sig z.c (h ∷ []) (becomes z.c y.thread (Some (process_instance (chosen y.env) p))) = ProcessStep.shows y.thread (runs sig start w.agents None z.c z.tr s full z.related y.thread (running path y.env (act (action.event f) p)) y.stands) form in
+        let step : ProcessStep sig z.c (h ∷ []) (becomes z.c y.thread (Some (process_instance (chosen y.env) p))) = ProcessStep.shows y.thread (runs_as z.related y.thread (running path y.env (act (action.event f) p)) y.stands) form in
         subst (λ ts. (After laws sig start hold fine s full w clean ks rest σ good path v) (state_fact (first_of path) ts ∷ []) (event_fact ∷ h ∷ [])) (sym y.bound)
         (record {
           agents = _;
@@ -137,7 +138,7 @@ module _ (laws : Laws) (sig : Sig) (start : Proc) (hold : HoldsBuiltins sig) (fi
         let absent : IsFree x (names y.env) = subst (λ u. IsFree x u) (sym y.scope) sound in
         let τ : Env = just (fresh_var x) (fresh n) in
         let q : Proc = process_instance (chosen τ) (process_instance (without (chosen y.env) x) p) in
-        let step : ProcessStep sig w.c [] (makes (becomes w.c y.thread (Some q)) n) = step_makes_name y.thread n (runs sig start w.agents w.pending w.c w.tr s full w.related y.thread (running path y.env (act (action.new x) p)) y.stands) ((is_new laws sig start hold fine s full w clean) w.c w.tr w.agents w.pending w.related n live) in
+        let step : ProcessStep sig w.c [] (makes (becomes w.c y.thread (Some q)) n) = step_makes_name y.thread n (runs_as w.related y.thread (running path y.env (act (action.new x) p)) y.stands) (is_new w.related n live) in
         let args : map σ (v ++ fresh_var x ∷ []) ≡ values (join y.env τ) = ap (λ u. map σ (u ++ fresh_var x ∷ [])) (sym y.scope) ∙ one_more σ y.env agrees (fresh_var x) (fresh n) absent drawn.is in
         subst (λ ts. (After laws sig start hold fine s full w clean ks rest σ good path v) (state_fact (first_of path) ts ∷ []) []) (sym args)
         (record {

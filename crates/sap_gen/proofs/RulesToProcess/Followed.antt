@@ -1,20 +1,26 @@
 -- A run of a process that follows a run of rules.
 use Rattle.sap_gen.proofs.Premises.LowerLaws.{Laws, nf-normal, nf-fixed, nf-equal, nf}
 use Rattle.sap_gen.specs.Members.{Member}
-use Rattle.sap_gen.proofs.Parts.Control.{agent_of, LiveFact}
+use Rattle.sap_gen.proofs.Parts.Control.{agent_of, LiveFact, live_counts}
+use Rattle.sap_gen.proofs.Terms.Derive.{member}
+use Rattle.sap_gen.proofs.Traces.LockTraces.{held_not_free}
+use Rattle.sap_gen.specs.ChannelFacts.{fresh_fact}
+use Rattle.sap_gen.specs.relation.Locks.{LockFree}
 use Rattle.sap_gen.proofs.Parts.Facts.{eq_self}
 use Rattle.sap_gen.proofs.Terms.Forms.{settled}
 use Rattle.sap_gen.proofs.Parts.Kept.{kept_flush, kept_unflush}
-use Rattle.sap_gen.proofs.Lists.Lookups.{map_get, only_member}
+use Rattle.sap_gen.proofs.Lists.Lookups.{only_member}
 use Rattle.sap_gen.proofs.Parts.Places.{home, Home}
 use Rattle.sap_gen.specs.relation.Envs.{Env, names, values}
 use Rattle.sap_gen.specs.relation.Totals.{total}
-use Rattle.sap_gen.specs.relation.Relation.{Agent, running, process_of, Related, count_name, Free}
+use Rattle.sap_gen.specs.relation.Agents.{Agent, running}
+use Rattle.sap_gen.specs.relation.Related.{Related, Free}
+use Rattle.sap_gen.specs.relation.Counts.{count_name}
 use Rattle.sap_place.specs.StateFacts.{state_fact}
 use Rattle.sap_gen.specs.Places.{scoped_place_at, root, ScopedPlace}
 use Rattle.sap_process.specs.Places.{place}
 use Rattle.sap_gen.specs.Templates.{rules_of, init_rule, embedded_acts}
-use Rattle.sap_process.specs.Configuration.{Config, Runs, initial}
+use Rattle.sap_process.specs.Configuration.{Config, initial, IsUnused}
 use Rattle.sap_process.specs.Proc.{Proc}
 use Rattle.sap_process.specs.ProcessSteps.{ProcessStep, ProcessRun}
 use Rattle.sap_rule.specs.RuleSteps.{RuleState}
@@ -27,11 +33,10 @@ use Rattle.sap_terms.specs.Piles.{Takes, used}
 use Rattle.sap_terms.specs.Signature.{Sig}
 use Rattle.sap_terms.specs.Equations.{Equations}
 use Rattle.sap_terms.specs.Trace.{Trace, shown}
-use Rattle.sap_terms.specs.Tree.{Tree}
+use Rattle.sap_terms.specs.Tree.{Tree, fresh}
 use Rattle.sap_terms.specs.declared.fact.Fact.{Fact}
 use Rattle.sap_terms.specs.declared.var.Var.{Var}
-use Rattle.std.proofs.Common.{◌≡◌, ℕ, ◌<◌, ◌⊎◌, inl, inr, List, [], ◌∷◌, ◌++◌, Option, Some, None, refl, sym, ap, ◌∙◌, arith, slice_get, subst, map}
-use Rattle.std.specs.Option.{option_map}
+use Rattle.std.proofs.Common.{Bool, true, false, ◌≡◌, ℕ, ◌<◌, ◌⊎◌, inl, inr, List, [], ◌∷◌, ◌++◌, Option, Some, None, refl, sym, ap, ◌∙◌, arith, slice_get, subst, map}
 
 -- a run of the process that stands for this rule state and full trace
 pub record Followed (sig : Sig) (start : Proc) (s : RuleState) (full : Trace) : Type 0 where
@@ -92,9 +97,6 @@ seat sig start agents pending c tr s full r path v b σ e l =
     let body : st.body ≡ b = ap (λ (z : ScopedPlace). z.body) same in
     record { thread = st.thread; env = st.env; stands = st.is ∙ ap (λ z. Some (Some (running path st.env z))) body; scope = ap (λ (z : ScopedPlace). z.above) same; bound = st.bound }
 
-pub runs : (sig : Sig) (start : Proc) (agents : List (Option Agent)) (pending : Option Tree) (c : Config) (tr : Trace) (s : RuleState) (full : Trace) → Related sig start agents pending c tr s full → (t : ℕ) (a : Agent) → slice_get agents t ≡ Some (Some a) → Runs c t (process_of a)
-runs sig start agents pending c tr s full r t a e = ap (λ ts. slice_get ts t) r.threads ∙ map_get (option_map process_of) agents t (Some a) e
-
 pub two_members : {A : Type 0} {x y z : A} → Member x (y ∷ z ∷ []) → (x ≡ y) ⊎ (x ≡ z)
 two_members Member.here = inl refl
 two_members (Member.later m) = inr (only_member m)
@@ -144,3 +146,16 @@ tail_of (Takes.one {k = k} {ks = ks} e h) = record { k = k; ks = ks; is = e; tak
 pub settled_said : (laws : Laws) → (e : Equations) (σ : Choice) (a : List Fact) → (settled laws) e σ (embedded_acts a) ≡ embedded_acts ((settled laws) e σ a)
 settled_said laws e σ [] = refl
 settled_said laws e σ (f ∷ fs) = refl
+
+-- a live Fr: the name is new
+pub is_new : {sig : Sig} {start : Proc} {agents : List (Option Agent)} {pending : Option Tree} {c : Config} {tr : Trace} {s : RuleState} {full : Trace} → Related sig start agents pending c tr s full → (n : ℕ) → LiveFact s.facts (fresh_fact (fresh n)) → IsUnused c n
+is_new {c = c} {s = s} r n l =
+    let live = live_counts s.facts l.number (fresh_fact (fresh n)) l.is in
+    let shares = r.names.shares n in
+    let once = r.names.once n in
+    (λ m. let h = name_counts n c.made (member n c.made m) in absurd (omega arith), λ m. let h = name_counts n c.own (member n c.own m) in absurd (omega arith))
+
+-- what no lock that is open has isn't held
+pub not_held : {sig : Sig} {start : Proc} {agents : List (Option Agent)} {pending : Option Tree} {c : Config} {tr : Trace} {s : RuleState} {full : Trace} → Related sig start agents pending c tr s full → (x : Tree) (b : Bool) → c.held x ≡ b → LockFree full x → c.held x ≡ false
+not_held {full = full} r x true e free = absurd (let b = r.locks.part.busy x e in held_not_free full x (fresh b.0) free b.2)
+not_held r x false e free = e

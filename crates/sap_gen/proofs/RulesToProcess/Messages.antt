@@ -18,7 +18,7 @@ use Rattle.sap_gen.proofs.Parts.Tidy.{Tidy}
 use Rattle.sap_gen.specs.relation.Envs.{Env, names, chosen, values, join, bind}
 use Rattle.sap_gen.specs.Scoped.{Within}
 use Rattle.sap_gen.specs.ChannelFacts.{fresh_fact, msg_fact, ack_fact}
-use Rattle.sap_gen.specs.relation.Relation.{running, awaiting, received}
+use Rattle.sap_gen.specs.relation.Agents.{running, awaiting, received}
 use Rattle.sap_place.specs.StateFacts.{state_fact, waits_fact, tag}
 use Rattle.sap_gen.specs.Places.{scoped_place_at, root}
 use Rattle.sap_process.specs.Places.{place}
@@ -46,7 +46,8 @@ use Rattle.std.proofs.Common.{◌≡◌, ℕ, List, [], ◌∷◌, ◌++◌, Opt
 use Rattle.sap_process.specs.Action as action
 use Rattle.sap_process.specs.Sites.{var_names}
 use Rattle.sap_terms.specs.Variables.{tree_vars, new_vars}
-use Rattle.sap_gen.proofs.RulesToProcess.Followed.{head_of, runs, seat, waiting, Followed}
+use Rattle.sap_gen.proofs.Related.Common.{runs_as}
+use Rattle.sap_gen.proofs.RulesToProcess.Followed.{head_of, seat, waiting, Followed}
 use Rattle.sap_gen.proofs.RulesToProcess.Control.{After}
 
 module _ (laws : Laws) (sig : Sig) (start : Proc) (hold : HoldsBuiltins sig) (fine : SoundPlaces sig start) (s : RuleState) (full : Trace) (w : Followed sig start s full) (clean : Tidy (equations sig) s) where
@@ -65,7 +66,7 @@ module _ (laws : Laws) (sig : Sig) (start : Proc) (hold : HoldsBuiltins sig) (fi
         let own = new_first σ (var_names (names y.env)) (tree_vars m) in
         let τ : Env = bind σ ns in
         let within : Within (names y.env ++ ns) m = subst (λ a. Within (with_new a (tree_vars m)) m) (sym y.scope) (fine path (place path v (act (action.input m) p)) e) in
-        let run = runs sig start w.agents (Some u) z.c z.tr s full z.related y.thread (running path y.env (act (action.input m) p)) y.stands in
+        let run = runs_as z.related y.thread (running path y.env (act (action.input m) p)) y.stands in
         let matches : IsTheoryEqual (equations sig) (instance σ (instance (chosen y.env) m)) u = subst (λ t. IsTheoryEqual (equations sig) t u) (sym (pattern_matches σ y.env agrees ns new_free' own at.1.ground m within)) ((nf-reached laws) (equations sig) (instance σ m)) in
         let first : ProcessStep sig z.c (k_fact u ∷ []) (becomes z.c y.thread (Some (process_instance (chosen (bind σ (tree_vars (instance (chosen y.env) m)))) (process_instance (chosen y.env) p)))) = step_inputs y.thread σ run (z.related.traces.waiting u refl) (record { messages = good; equal = matches }) in
         let step : ProcessStep sig z.c (k_fact u ∷ []) (becomes z.c y.thread (Some (process_instance (chosen (join y.env τ)) p))) = subst (λ q. ProcessStep sig z.c (k_fact u ∷ []) (becomes z.c y.thread (Some q))) ((after_pattern laws) σ y.env at.1.ground m p) first in
@@ -95,7 +96,7 @@ module _ (laws : Laws) (sig : Sig) (start : Proc) (hold : HoldsBuiltins sig) (fi
         let τ : Env = bind σ ns in
         let sound = fine path (place path v (act (action.receive l k) p)) e in
         let within : Within (names y.env ++ ns) k = subst (λ a. Within (with_new a (tree_vars k)) k) (sym y.scope) sound.2 in
-        let run = runs sig start w.agents (Some u) z.c z.tr s full z.related y.thread (running path y.env (act (action.receive l k) p)) y.stands in
+        let run = runs_as z.related y.thread (running path y.env (act (action.receive l k) p)) y.stands in
         let l_is = put_same σ y.env agrees l (subst (λ a. Within a l) (sym y.scope) sound.0) in
         let k_is = sym (pattern_matches σ y.env agrees ns new_free' own at.1.ground k within) in
         let matches : IsTheoryEqual (equations sig) (app2 pair_name (instance (chosen y.env) l) (instance σ (instance (chosen y.env) k))) u = subst (λ t. IsTheoryEqual (equations sig) t u) (λ i. app2 pair_name (l_is i) (k_is i)) ((nf-reached laws) (equations sig) (instance σ (app2 pair_name l k))) in
@@ -124,7 +125,7 @@ module _ (laws : Laws) (sig : Sig) (start : Proc) (hold : HoldsBuiltins sig) (fi
         let sound = fine path (place path v (act (action.send m n) p)) e in
         let m_is = put_same σ y.env agrees m (subst (λ a. Within a m) (sym y.scope) sound.0) in
         let n_is = put_same σ y.env agrees n (subst (λ a. Within a n) (sym y.scope) sound.1) in
-        let run = runs sig start w.agents (Some u) z.c z.tr s full z.related y.thread (running path y.env (act (action.send m n) p)) y.stands in
+        let run = runs_as z.related y.thread (running path y.env (act (action.send m n) p)) y.stands in
         let d : Config = sends_out (becomes z.c y.thread (Some (process_instance (chosen y.env) p))) o in
         let m_form : IsNormalForm (equations sig) (instance (chosen y.env) m) u = subst (λ t. IsNormalForm (equations sig) t u) m_is ((has_normal_form laws) (equations sig) (instance σ m)) in
         let n_form : IsNormalForm (equations sig) (instance (chosen y.env) n) o = subst (λ t. IsNormalForm (equations sig) t o) n_is ((has_normal_form laws) (equations sig) (instance σ n)) in
@@ -183,8 +184,8 @@ module _ (laws : Laws) (sig : Sig) (start : Proc) (hold : HoldsBuiltins sig) (fi
         let within : Within (names y.env ++ ns) k = subst (λ a. Within (with_new a (tree_vars k)) k) (sym y.scope) sound.2 in
         let takes' = subst (λ ts. Takes s.facts ks (state_fact path ts ∷ msg_fact (fresh o.tag) a m0 ∷ []) rest) y.bound
         (subst (λ t. Takes s.facts ks (state_fact path (map σ v) ∷ msg_fact t a m0 ∷ []) rest) o.same takes) in
-        let sends = runs sig start w.agents w.pending w.c w.tr s full w.related o.thread (awaiting o.path o.env o.m o.n a m0 o.body o.tag) o.is in
-        let takes_it = runs sig start w.agents w.pending w.c w.tr s full w.related y.thread (running path y.env (act (action.receive l k) q)) y.stands in
+        let sends = runs_as w.related o.thread (awaiting o.path o.env o.m o.n a m0 o.body o.tag) o.is in
+        let takes_it = runs_as w.related y.thread (running path y.env (act (action.receive l k) q)) y.stands in
         let inner : Proc = process_instance (chosen (join y.env τ)) q in
         let d : Config = becomes (becomes w.c o.thread (Some (process_instance (chosen o.env) o.body))) y.thread (Some inner) in
         let channel : IsTheoryEqual (equations sig) (instance (chosen o.env) o.m) (instance (chosen y.env) l) = subst (λ t. IsTheoryEqual (equations sig) (instance (chosen o.env) o.m) t) l_is ((chain laws) there.1.equal ((back laws) ((nf-reached laws) (equations sig) (instance σ l)))) in

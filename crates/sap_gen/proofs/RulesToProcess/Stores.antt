@@ -9,15 +9,14 @@ use Rattle.sap_gen.proofs.Terms.Forms.{fresh_fits}
 use Rattle.sap_gen.proofs.Terms.Grounds.{put_message}
 use Rattle.sap_gen.proofs.Parts.Kept.{kept_branch, kept_store, kept_found}
 use Rattle.sap_gen.proofs.Parts.KeptLocks.{kept_lock, kept_unlock}
-use Rattle.sap_gen.proofs.Traces.LockTraces.{no_lock_one, lock_now, held_not_free}
+use Rattle.sap_gen.proofs.Traces.LockTraces.{no_lock_one, lock_now}
 use Rattle.sap_gen.proofs.Traces.Store.{no_write_one, store_insert, store_delete, store_quiet, found_now, missed_now, found_is, missed_is}
 use Rattle.sap_gen.proofs.Terms.Steps.{step_finds}
 use Rattle.sap_gen.proofs.Parts.Tidy.{Tidy}
 use Rattle.sap_gen.specs.relation.Envs.{Env, names, chosen, values, just, join}
 use Rattle.sap_gen.specs.Scoped.{Within, IsFree}
 use Rattle.sap_gen.specs.ChannelFacts.{fresh_fact}
-use Rattle.sap_gen.specs.relation.Locks.{LockFree}
-use Rattle.sap_gen.specs.relation.Relation.{running}
+use Rattle.sap_gen.specs.relation.Agents.{running}
 use Rattle.sap_place.specs.StateFacts.{state_fact}
 use Rattle.sap_gen.specs.Places.{scoped_place_at, root}
 use Rattle.sap_process.specs.Places.{place}
@@ -40,11 +39,12 @@ use Rattle.sap_terms.specs.Trace.{Trace}
 use Rattle.sap_terms.specs.Tree.{Tree, fresh}
 use Rattle.sap_terms.specs.declared.fact.Fact.{Fact}
 use Rattle.sap_terms.specs.declared.var.Var.{Var}
-use Rattle.std.proofs.Common.{◌≡◌, ℕ, List, [], ◌∷◌, ◌++◌, Option, Some, None, refl, sym, ap, ◌∙◌, true, slice_set, subst, map, Bool, false}
+use Rattle.std.proofs.Common.{◌≡◌, ℕ, List, [], ◌∷◌, ◌++◌, Option, Some, None, refl, sym, ap, ◌∙◌, true, slice_set, subst, map, false}
 use Rattle.sap_process.specs.Action as action
 use Rattle.sap_process.specs.Proc as whole
 use Rattle.sap_process.specs.Sites.{message_var}
-use Rattle.sap_gen.proofs.RulesToProcess.Followed.{head_of, runs, seat, Followed}
+use Rattle.sap_gen.proofs.Related.Common.{runs_as}
+use Rattle.sap_gen.proofs.RulesToProcess.Followed.{head_of, seat, Followed, not_held}
 use Rattle.sap_gen.proofs.RulesToProcess.Control.{After}
 
 module _ (laws : Laws) (sig : Sig) (start : Proc) (hold : HoldsBuiltins sig) (fine : SoundPlaces sig start) (s : RuleState) (full : Trace) (w : Followed sig start s full) (clean : Tidy (equations sig) s) where
@@ -56,7 +56,7 @@ module _ (laws : Laws) (sig : Sig) (start : Proc) (hold : HoldsBuiltins sig) (fi
         let takes' = subst (λ ts. Takes s.facts ks (state_fact path ts ∷ []) rest) y.bound takes in
         let agrees : map σ (names y.env) ≡ values y.env = ap (λ z. map σ z) y.scope ∙ y.bound in
         let sound = fine path (place path v (act (action.insert m n) p)) e in
-        let run = runs sig start w.agents w.pending w.c w.tr s full w.related y.thread (running path y.env (act (action.insert m n) p)) y.stands in
+        let run = runs_as w.related y.thread (running path y.env (act (action.insert m n) p)) y.stands in
         let m_is = put_same σ y.env agrees m (subst (λ u. Within u m) (sym y.scope) sound.0) in
         let m_form : IsNormalForm (equations sig) (instance (chosen y.env) m) x = subst (λ t. IsNormalForm (equations sig) t x) m_is (subst (λ u. IsNormalForm (equations sig) (instance σ m) u) x_is ((has_normal_form laws) (equations sig) (instance σ m))) in
         let n_is = put_same σ y.env agrees n (subst (λ u. Within u n) (sym y.scope) sound.1) in
@@ -81,7 +81,7 @@ module _ (laws : Laws) (sig : Sig) (start : Proc) (hold : HoldsBuiltins sig) (fi
         let takes' = subst (λ ts. Takes s.facts ks (state_fact path ts ∷ []) rest) y.bound takes in
         let agrees : map σ (names y.env) ≡ values y.env = ap (λ z. map σ z) y.scope ∙ y.bound in
         let sound = fine path (place path v (act (action.delete m) p)) e in
-        let run = runs sig start w.agents w.pending w.c w.tr s full w.related y.thread (running path y.env (act (action.delete m) p)) y.stands in
+        let run = runs_as w.related y.thread (running path y.env (act (action.delete m) p)) y.stands in
         let m_is = put_same σ y.env agrees m (subst (λ u. Within u m) (sym y.scope) sound) in
         let m_form : IsNormalForm (equations sig) (instance (chosen y.env) m) x = subst (λ t. IsNormalForm (equations sig) t x) m_is (subst (λ u. IsNormalForm (equations sig) (instance σ m) u) x_is ((has_normal_form laws) (equations sig) (instance σ m))) in
         let later : Tree → Option Tree = stored w.c.store x None in
@@ -96,10 +96,6 @@ module _ (laws : Laws) (sig : Sig) (start : Proc) (hold : HoldsBuiltins sig) (fi
           related = (kept_store laws) sig start w.agents w.pending w.c w.tr s full w.related y.thread ks path y.env (act (action.delete m) p) p rest (delete_fact x ∷ []) later (no_lock_one (delete_fact x) refl) (λ o h. h) refl refl refl (λ i k. other (k_fact i) (delete_fact x) refl k) demands (store_delete sig w.c.store full x w.related.traces.store) y.stands takes' step;
         })
 
-    pub not_held : (x : Tree) (b : Bool) → w.c.held x ≡ b → LockFree full x → w.c.held x ≡ false
-    not_held x true e free = absurd (let b = w.related.locks.part.busy x e in held_not_free full x (fresh b.0) free b.2)
-    not_held x false e free = e
-
     pub law_lock : (m : Tree) (l : ℕ) (p : Proc) → scoped_place_at (root start) path ≡ Some (place path v (act (action.lock m l) p)) → (x : Tree) → (nf laws) (equations sig) (instance σ m) ≡ x → MeetsSix (equations sig) (full ++ (lock_fact ((nf laws) (equations sig) (σ (lock_var l))) x ∷ []) ∷ []) → Takes s.facts ks (state_fact path (map σ v) ∷ fresh_fact ((nf laws) (equations sig) (σ (lock_var l))) ∷ []) rest → (After laws sig start hold fine s full w clean ks rest σ good path v) (state_fact (first_of path) (map σ (v ++ lock_var l ∷ [])) ∷ []) (lock_fact ((nf laws) (equations sig) (σ (lock_var l))) x ∷ [])
     law_lock m l p e x x_is demands takes =
         let y = seat sig start w.agents w.pending w.c w.tr s full w.related path v (act (action.lock m l) p) σ e (head_of takes) in
@@ -113,10 +109,10 @@ module _ (laws : Laws) (sig : Sig) (start : Proc) (hold : HoldsBuiltins sig) (fi
         let takes' = subst (λ t. Takes s.facts ks (state_fact path (values y.env) ∷ fresh_fact t ∷ []) rest) given (subst (λ ts. Takes s.facts ks (state_fact path ts ∷ fresh_fact ((nf laws) (equations sig) (σ (lock_var l))) ∷ []) rest) y.bound takes) in
         let absent : IsFree (lock_var l) (names y.env) = subst (λ u. IsFree (lock_var l) u) (sym y.scope) sound.1 in
         let τ : Env = just (lock_var l) (fresh n) in
-        let run = runs sig start w.agents w.pending w.c w.tr s full w.related y.thread (running path y.env (act (action.lock m l) p)) y.stands in
+        let run = runs_as w.related y.thread (running path y.env (act (action.lock m l) p)) y.stands in
         let m_is = put_same σ y.env agrees m within in
         let m_form : IsNormalForm (equations sig) (instance (chosen y.env) m) x = subst (λ t. IsNormalForm (equations sig) t x) m_is (subst (λ u. IsNormalForm (equations sig) (instance σ m) u) x_is ((has_normal_form laws) (equations sig) (instance σ m))) in
-        let free : w.c.held x ≡ false = not_held x (w.c.held x) refl (lock_now full ((nf laws) (equations sig) (σ (lock_var l))) x demands.lock) in
+        let free : w.c.held x ≡ false = not_held w.related x (w.c.held x) refl (lock_now full ((nf laws) (equations sig) (σ (lock_var l))) x demands.lock) in
         let step : ProcessStep sig w.c [] (holds (becomes w.c y.thread (Some (process_instance (chosen y.env) p))) x true) = ProcessStep.locks y.thread run m_form free in
         let args : map σ (v ++ lock_var l ∷ []) ≡ values (join y.env τ) = ap (λ u. map σ (u ++ lock_var l ∷ [])) (sym y.scope) ∙ one_more σ y.env agrees (lock_var l) (fresh n) absent drawn.is in
         subst (λ ts. (After laws sig start hold fine s full w clean ks rest σ good path v) (state_fact (first_of path) ts ∷ []) (lock_fact ((nf laws) (equations sig) (σ (lock_var l))) x ∷ [])) (sym args)
@@ -136,7 +132,7 @@ module _ (laws : Laws) (sig : Sig) (start : Proc) (hold : HoldsBuiltins sig) (fi
         let takes' = subst (λ ts. Takes s.facts ks (state_fact path ts ∷ []) rest) y.bound takes in
         let agrees : map σ (names y.env) ≡ values y.env = ap (λ z. map σ z) y.scope ∙ y.bound in
         let sound = fine path (place path v (act (action.unlock m l) p)) e in
-        let run = runs sig start w.agents w.pending w.c w.tr s full w.related y.thread (running path y.env (act (action.unlock m l) p)) y.stands in
+        let run = runs_as w.related y.thread (running path y.env (act (action.unlock m l) p)) y.stands in
         let m_is = put_same σ y.env agrees m (subst (λ u. Within u m) (sym y.scope) sound.0) in
         let m_form : IsNormalForm (equations sig) (instance (chosen y.env) m) x = subst (λ t. IsNormalForm (equations sig) t x) m_is (subst (λ u. IsNormalForm (equations sig) (instance σ m) u) x_is ((has_normal_form laws) (equations sig) (instance σ m))) in
         let given : y.env.choice (lock_var l) ≡ (nf laws) (equations sig) (σ (lock_var l)) = sym (agree_of σ y.env.choice (names y.env) agrees (lock_var l) (subst (λ u. Member (lock_var l) u) (sym y.scope) sound.1)) ∙ sym ((nf-fixed laws) (equations sig) (σ (lock_var l)) (good (lock_var l)).normal) in
@@ -158,7 +154,7 @@ module _ (laws : Laws) (sig : Sig) (start : Proc) (hold : HoldsBuiltins sig) (fi
         let takes' = subst (λ ts. Takes s.facts ks (state_fact path ts ∷ []) rest) y.bound takes in
         let agrees : map σ (names y.env) ≡ values y.env = ap (λ z. map σ z) y.scope ∙ y.bound in
         let sound = fine path (place path v (whole.lookup m a p q)) e in
-        let run = runs sig start w.agents w.pending w.c w.tr s full w.related y.thread (running path y.env (whole.lookup m a p q)) y.stands in
+        let run = runs_as w.related y.thread (running path y.env (whole.lookup m a p q)) y.stands in
         let m_is = put_same σ y.env agrees m (subst (λ u. Within u m) (sym y.scope) sound.0) in
         let m_form : IsNormalForm (equations sig) (instance (chosen y.env) m) x = subst (λ t. IsNormalForm (equations sig) t x) m_is (subst (λ u. IsNormalForm (equations sig) (instance σ m) u) x_is ((has_normal_form laws) (equations sig) (instance σ m))) in
         let absent = missed_is sig w.c.store full x w.related.traces.store (missed_now full x demands.missed) in
@@ -180,7 +176,7 @@ module _ (laws : Laws) (sig : Sig) (start : Proc) (hold : HoldsBuiltins sig) (fi
         let takes' = subst (λ ts. Takes s.facts ks (state_fact path ts ∷ []) rest) y.bound takes in
         let agrees : map σ (names y.env) ≡ values y.env = ap (λ z. map σ z) y.scope ∙ y.bound in
         let sound = fine path (place path v (whole.lookup m a p q)) e in
-        let run = runs sig start w.agents w.pending w.c w.tr s full w.related y.thread (running path y.env (whole.lookup m a p q)) y.stands in
+        let run = runs_as w.related y.thread (running path y.env (whole.lookup m a p q)) y.stands in
         let m_is = put_same σ y.env agrees m (subst (λ u. Within u m) (sym y.scope) sound.0) in
         let m_form : IsNormalForm (equations sig) (instance (chosen y.env) m) x = subst (λ t. IsNormalForm (equations sig) t x) m_is (subst (λ u. IsNormalForm (equations sig) (instance σ m) u) x_is ((has_normal_form laws) (equations sig) (instance σ m))) in
         let held = found_is sig w.c.store full x (σ (message_var a)) w.related.traces.store (found_now full x (σ (message_var a)) demands.found) in

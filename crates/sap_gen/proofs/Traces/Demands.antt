@@ -10,7 +10,7 @@ use Rattle.sap_gen.proofs.Lists.Lookups.{only_member}
 use Rattle.sap_gen.proofs.Traces.Store.{found_quiet, missed_quiet, found_before, missed_before, found_ok, missed_ok, is_write}
 use Rattle.sap_gen.specs.relation.Names.{name_among}
 use Rattle.sap_gen.specs.relation.Locks.{LockFree}
-use Rattle.sap_gen.specs.relation.Relation.{Free, Stored, NotSet}
+use Rattle.sap_gen.specs.relation.Related.{Free, Stored, NotSet}
 use Rattle.sap_terms.specs.Equal.{IsTheoryEqual}
 use Rattle.sap_terms.specs.Reserved.{is_reserved}
 use Rattle.sap_terms.specs.Equations.{Equations}

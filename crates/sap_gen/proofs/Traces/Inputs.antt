@@ -5,7 +5,7 @@ use Rattle.sap_gen.specs.relation.Shown.{ShowsAt}
 use Rattle.sap_restrict.specs.Sentences.{IsServed, EachServed}
 use Rattle.sap_gen.proofs.Lists.Lookups.{only_member}
 use Rattle.sap_gen.proofs.Traces.Visible.{get-append_left, get_last, get_within}
-use Rattle.sap_gen.specs.relation.Relation.{Free}
+use Rattle.sap_gen.specs.relation.Related.{Free}
 use Rattle.sap_terms.specs.AdversaryFacts.{k_fact}
 use Rattle.sap_terms.specs.Trace.{Trace}
 use Rattle.sap_terms.specs.Tree.{Tree}

@@ -13,7 +13,9 @@ use Rattle.sap_gen.proofs.Lists.Totals.{total-set, total-append}
 use Rattle.sap_gen.specs.relation.Envs.{Env, names, chosen, GoodEnv, values, join}
 use Rattle.sap_gen.specs.Scoped.{IsFree}
 use Rattle.sap_gen.specs.ChannelFacts.{fresh_fact, msg_fact, ack_fact}
-use Rattle.sap_gen.specs.relation.Relation.{Agent, running, awaiting, received, process_of, IsAt, count_live, count_owed, count_tag, is_unborn, has_init, Related, count_user}
+use Rattle.sap_gen.specs.relation.Agents.{Agent, running, awaiting, received, process_of, IsAt, is_unborn}
+use Rattle.sap_gen.specs.relation.Counts.{count_live, count_owed, count_tag, has_init, count_user}
+use Rattle.sap_gen.specs.relation.Related.{Related}
 use Rattle.sap_place.specs.StateFacts.{state_fact, waits_fact}
 use Rattle.sap_gen.specs.Places.{scoped_place_at, root}
 use Rattle.sap_process.specs.Places.{place}

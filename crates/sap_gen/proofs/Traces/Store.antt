@@ -7,7 +7,7 @@ use Rattle.sap_gen.proofs.Parts.Facts.{names_apart}
 use Rattle.sap_gen.proofs.Traces.Inputs.{has_more, has_last, has_within, has_where, Where, old, new}
 use Rattle.sap_gen.proofs.Lists.Lookups.{only_member}
 use Rattle.sap_gen.specs.relation.Names.{name_among}
-use Rattle.sap_gen.specs.relation.Relation.{Stored, NotSet, StorePart}
+use Rattle.sap_gen.specs.relation.Related.{Stored, NotSet, StorePart}
 use Rattle.sap_process.specs.Configuration.{stored}
 use Rattle.sap_terms.proofs.PlainLaws.Tests.{same_tree-refl, same_tree-sound}
 use Rattle.sap_terms.specs.Same.{same_tree}

@@ -8,7 +8,7 @@ use Rattle.sap_gen.proofs.Parts.Facts.{same_fact_true, not_reserved}
 use Rattle.sap_gen.proofs.Lists.Totals.{total_found}
 use Rattle.sap_gen.specs.relation.Names.{same_fact}
 use Rattle.sap_gen.specs.relation.Totals.{total}
-use Rattle.sap_gen.specs.relation.Relation.{has_init}
+use Rattle.sap_gen.specs.relation.Counts.{has_init}
 use Rattle.sap_terms.specs.Reserved.{is_reserved}
 use Rattle.sap_terms.specs.Trace.{Trace, shown}
 use Rattle.sap_terms.specs.declared.fact.Fact.{Fact}

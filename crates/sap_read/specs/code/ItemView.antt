@@ -5,29 +5,60 @@ use Rattle.sap_terms.specs.declared.mem.Mem.{Mem}
 use Rattle.sap_text.specs.declared.token.Token.{Token}
 use Rattle.sap_read.specs.declared.draft.Definition.{Definition}
 use Rattle.sap_grammar.specs.Words.{words_of}
-use Rattle.sap_grammar.specs.Cut.{placed, first_line}
-use Rattle.sap_read.specs.Item.{Item, Body, body_of}
-use Rattle.sap_read.specs.ItemGrammar.{IsItem, IsSomeItem}
+use Rattle.sap_grammar.specs.Cut.{Placed, placed, first_line}
+use Rattle.sap_grammar.specs.ItemReading.{cut}
+use Rattle.sap_read.specs.Item.{Item, Body, body_of, bodies, stated_by, Standing, statements}
+use Rattle.sap_statements.specs.declared.statement.Statement.{Statement}
+use Rattle.sap_statements.specs.Statements.{IsStatement}
+use Rattle.sap_read.specs.declared.limits.TheConstants.{FILE_LIMITS}
+use Rattle.sap_read.specs.ItemGrammar.{IsItem, IsSomeItem, AreItems}
 use Rattle.sap_read.specs.code.Drafts.{body}
 
--- the tokens are an item that says these of processes
-pub record IsItemOf (g : Sig) (bytes : List ℕ) (tokens : List Token) (said : List Body) : Type 0 where
+-- the tokens are an item that says these of processes and these of traces
+pub record IsItemOf (g : Sig) (bytes : List ℕ) (tokens : List Token) (said : List Body) (stated : List Statement) : Type 0 where
   pub item : Item
   pub spelled : IsItem g item (words_of bytes tokens)
   pub says : body_of item (first_line (placed bytes tokens)) ≡ said
+  pub states : stated_by item ≡ stated
 
 -- where it is an entry, the tokens are an item that says this of a process; where there is none, they are no item
 abbrev pub SaysProcess : Sig → List ℕ → List Token → Result (Option Definition) Mem → Type 0
 SaysProcess g bytes tokens (Err e) = ⊤
 SaysProcess g bytes tokens (Ok None) = IsSomeItem (words_of bytes tokens) → ⊥
-SaysProcess g bytes tokens (Ok (Some e)) = IsItemOf g bytes tokens (body e ∷ [])
+SaysProcess g bytes tokens (Ok (Some e)) = IsItemOf g bytes tokens (body e ∷ []) []
 
 -- the entry stands last, where there is one
 abbrev pub IsPushed : Bool → Option Definition → List Definition → List Definition → Type 0
 IsPushed b None before after = (b ≡ false) × (after ≡ before)
 IsPushed b (Some e) before after = (b ≡ true) × (after ≡ before ++ e ∷ [])
 
--- the tokens are an item, and what it says of a process stands last; or they are none
-abbrev pub IsAdded : Sig → List ℕ → List Token → List Definition → List Definition → Bool → Type 0
-IsAdded g bytes tokens before after true = (said : List Body) × IsItemOf g bytes tokens said × (map body after ≡ map body before ++ said)
-IsAdded g bytes tokens before after false = IsSomeItem (words_of bytes tokens) → ⊥
+-- the tokens are a restriction or a lemma, which stands last; or they are none, under any signature
+abbrev pub IsStated : Sig → List ℕ → List Token → List Statement → List Statement → Bool → Type 0
+IsStated g bytes tokens before after true = (s : Statement) × IsStatement g FILE_LIMITS s (words_of bytes tokens) × (after ≡ before ++ s ∷ [])
+IsStated g bytes tokens before after false = (h : Sig) (s : Statement) → IsStatement h FILE_LIMITS s (words_of bytes tokens) → ⊥
+
+-- the tokens are an item, and what it says of a process and of traces stands last
+pub record IsAdding (g : Sig) (bytes : List ℕ) (tokens : List Token) (before after : List Definition) (earlier later : List Statement) : Type 0 where
+  pub said : List Body
+  pub stated : List Statement
+  pub is : IsItemOf g bytes tokens said stated
+  pub bodies_are : map body after ≡ map body before ++ said
+  pub statements_are : later ≡ earlier ++ stated
+
+-- it is so, or they are no item
+abbrev pub IsAdded : Sig → List ℕ → List Token → List Definition → List Definition → List Statement → List Statement → Bool → Type 0
+IsAdded g bytes tokens before after earlier later true = IsAdding g bytes tokens before after earlier later
+IsAdded g bytes tokens before after earlier later false = IsSomeItem (words_of bytes tokens) → ⊥
+
+-- the pieces are items that say these of processes and of traces, in order
+pub record AreSaid (g : Sig) (cut : List (List Placed)) (entries : List Definition) (stated : List Statement) : Type 0 where
+  pub standing : List Standing
+  pub items : AreItems g cut standing
+  pub bodies_are : map body entries ≡ bodies standing
+  pub statements_are : stated ≡ statements standing
+
+-- behind these entries and restrictions and lemmas the items of the tokens `rest` are the last of those of all tokens
+abbrev pub IsGoodBehind : Sig → List ℕ → List Token → List Token → List Definition → List Statement → Type 0
+IsGoodBehind g bytes tokens rest entries earlier =
+    (is : List Standing) → AreItems g (cut (placed bytes rest)) is
+    → (js : List Standing) × AreItems g (cut (placed bytes tokens)) js × (map body entries ++ bodies is ≡ bodies js) × (earlier ++ statements is ≡ statements js)

@@ -1,25 +1,23 @@
--- What is said of a header, and of the items behind it.
-use Rattle.std.specs.Prelude.{◌≡◌, ◌⊎◌, ℕ, List, [], Option, Some, None}
+-- What is said of the items behind a header: of the processes bs and the restrictions and lemmas ss in them.
+use Rattle.std.specs.Prelude.{◌≡◌, ◌⊎◌, ℕ, List, [], Option, Some, None, true}
 use Rattle.sap_terms.specs.Signature.{Sig}
+use Rattle.sap_formula.specs.Faults.{IsFirstFault, told}
+use Rattle.sap_formula.specs.Form.{Form, RestrictionForm, LemmaForm}
+use Rattle.sap_formula.specs.declared.fault.FormulaFlaw.{FormulaFlaw}
 use Rattle.sap_locks.specs.Annotation.{LockFlaw, IsAnnotation, IsFirstLockFlaw}
 use Rattle.sap_process.specs.Proc.{Proc}
 use Rattle.sap_process.specs.Flaws.{IsFirstFlaw, IsWellFormed}
 use Rattle.sap_process.specs.Sorted.{with_sorts}
 use Rattle.sap_process.specs.declared.flaw.Flaw.{Flaw}
+use Rattle.sap_statements.specs.declared.statement.Statement.{Statement}
 use Rattle.sap_read.specs.declared.fault.ReadFault.{ReadFault}
-use Rattle.sap_read.specs.declared.fault.ReadFault.TheVariants.{Syntax, Ill}
-use Rattle.sap_read.specs.Item.{Standing, bodies}
+use Rattle.sap_read.specs.declared.fault.ReadFault.TheVariants.{Syntax, Ill, Formula}
+use Rattle.sap_read.specs.Item.{Body, Standing, bodies, statements}
 use Rattle.sap_grammar.specs.Cut.{Placed}
 use Rattle.sap_read.specs.ItemGrammar.{AreItems, IsFaulty}
 use Rattle.sap_read.specs.Replaced.{process_of, no_meaning}
 use Rattle.sap_read.specs.Causes.{cause, lock_fault}
-
--- these are items under the signature, and with this clash nothing refuses them before their process is looked at
-pub record IsWhole (g : Sig) (clash : Option (List ℕ)) (cut : List (List Placed)) (p : Proc) : Type 0 where
-  pub standing : List Standing
-  pub items : AreItems g cut standing
-  pub nothing : cause (bodies standing) clash ≡ None
-  pub whole : process_of no_meaning (bodies standing) ≡ Some p
+use Rattle.sap_read.specs.Stated.{AreFaultless, IsFirstUnchecked, restrictions_of, lemmas_of}
 
 -- the process has no flaw, and this is it with sorts and labels
 pub record IsSound (g : Sig) (p q : Proc) : Type 0 where
@@ -44,23 +42,66 @@ pub record IsMislocked (g : Sig) (p : Proc) (e : ReadFault) : Type 0 where
 abbrev pub IsUnsound : Sig → Proc → ReadFault → Type 0
 IsUnsound g p e = IsFlawed g p e ⊎ IsMislocked g p e
 
--- their process has no flaw, and this is it with sorts and labels
-pub record IsAccepted (g : Sig) (clash : Option (List ℕ)) (cut : List (List Placed)) (q : Proc) : Type 0 where
+-- with this clash nothing refuses them before their process is looked at, which is this one
+pub record IsWhole (clash : Option (List ℕ)) (bs : List Body) (ss : List Statement) (p : Proc) : Type 0 where
+  pub nothing : cause bs ss clash ≡ None
+  pub whole : process_of no_meaning bs ≡ Some p
+
+-- and the process has no flaw, and this is it with sorts and labels
+pub record IsAnnotated (g : Sig) (clash : Option (List ℕ)) (bs : List Body) (ss : List Statement) (q : Proc) : Type 0 where
   pub process : Proc
-  pub whole : IsWhole g clash cut process
+  pub whole : IsWhole clash bs ss process
   pub sound : IsSound g process q
 
 -- their process is refused for this
-pub record IsIll (g : Sig) (clash : Option (List ℕ)) (cut : List (List Placed)) (e : ReadFault) : Type 0 where
+pub record IsIll (g : Sig) (clash : Option (List ℕ)) (bs : List Body) (ss : List Statement) (e : ReadFault) : Type 0 where
   pub process : Proc
-  pub whole : IsWhole g clash cut process
+  pub whole : IsWhole clash bs ss process
   pub unsound : IsUnsound g process e
 
--- these are items under the signature, and the first cause that refuses them is this
-pub record IsRefusedAs (g : Sig) (clash : Option (List ℕ)) (cut : List (List Placed)) (e : ReadFault) : Type 0 where
+-- their process is accepted, and one of their formulas is refused for this
+pub record IsUnchecked (g : Sig) (clash : Option (List ℕ)) (bs : List Body) (ss : List Statement) (e : ReadFault) : Type 0 where
+  pub process : Proc
+  pub annotated : IsAnnotated g clash bs ss process
+  pub first : IsFirstUnchecked g ss e
+
+-- they are refused for this
+abbrev pub IsRefusedAs : Sig → Option (List ℕ) → List Body → List Statement → ReadFault → Type 0
+IsRefusedAs g clash bs ss e = (cause bs ss clash ≡ Some e) ⊎ IsIll g clash bs ss e
+
+-- these are the restrictions and lemmas among them, with sorts, and none has a fault
+pub record AreChecked (g : Sig) (ss : List Statement) (rs : List RestrictionForm) (ls : List LemmaForm) : Type 0 where
+  pub faultless : AreFaultless g ss
+  pub restrictions : rs ≡ restrictions_of ss
+  pub lemmas : ls ≡ lemmas_of ss
+
+-- a formula of a restriction or lemma of this name is refused for this
+pub record IsFaultOf (g : Sig) (name : List ℕ) (f : Form) (e : ReadFault) : Type 0 where
+  pub which : FormulaFlaw
+  pub part : List ℕ
+  pub is : e ≡ Formula name (told which part)
+  pub fault : IsFirstFault g true f which part
+
+-- they are accepted, and these are their parts
+pub record IsAccepted (g : Sig) (clash : Option (List ℕ)) (bs : List Body) (ss : List Statement) (q : Proc) (rs : List RestrictionForm) (ls : List LemmaForm) : Type 0 where
+  pub annotated : IsAnnotated g clash bs ss q
+  pub checked : AreChecked g ss rs ls
+
+-- they are refused, for their process or for a formula
+abbrev pub IsRefused : Sig → Option (List ℕ) → List Body → List Statement → ReadFault → Type 0
+IsRefused g clash bs ss e = IsRefusedAs g clash bs ss e ⊎ IsUnchecked g clash bs ss e
+
+-- these are items under the signature that are accepted
+pub record AreAccepted (g : Sig) (clash : Option (List ℕ)) (cut : List (List Placed)) (q : Proc) (rs : List RestrictionForm) (ls : List LemmaForm) : Type 0 where
   pub standing : List Standing
   pub items : AreItems g cut standing
-  pub first : cause (bodies standing) clash ≡ Some e
+  pub accepted : IsAccepted g clash (bodies standing) (statements standing) q rs ls
+
+-- these are items under the signature that are refused for this
+pub record AreRefused (g : Sig) (clash : Option (List ℕ)) (cut : List (List Placed)) (e : ReadFault) : Type 0 where
+  pub standing : List Standing
+  pub items : AreItems g cut standing
+  pub refused : IsRefused g clash (bodies standing) (statements standing) e
 
 -- the first that is no item begins on this line
 pub record IsNoItem (last : ℕ) (cut : List (List Placed)) (e : ReadFault) : Type 0 where
@@ -68,5 +109,6 @@ pub record IsNoItem (last : ℕ) (cut : List (List Placed)) (e : ReadFault) : Ty
   pub is : e ≡ Syntax line
   pub faulty : IsFaulty last cut line
 
-abbrev pub IsRefused : Sig → Option (List ℕ) → ℕ → List (List Placed) → ReadFault → Type 0
-IsRefused g clash last cut e = IsNoItem last cut e ⊎ IsRefusedAs g clash cut e ⊎ IsIll g clash cut e
+-- the pieces are refused for this
+abbrev pub IsRefusedCut : Sig → Option (List ℕ) → ℕ → List (List Placed) → ReadFault → Type 0
+IsRefusedCut g clash last cut e = IsNoItem last cut e ⊎ AreRefused g clash cut e

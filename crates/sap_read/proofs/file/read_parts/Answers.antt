@@ -8,7 +8,7 @@ use Rattle.sap_process.specs.Proc.{proc}
 use Rattle.sap_grammar.specs.Cut.{placed, IsCut}
 use Rattle.sap_grammar.specs.Signatures.{clash_from, signature_from}
 use Rattle.sap_grammar.specs.ItemReading.{cut, declared_in_all}
-use Rattle.sap_read.specs.code.Judged.{IsRefused}
+use Rattle.sap_read.specs.code.Judged.{IsRefusedCut}
 use Rattle.sap_read.specs.declared.fault.ReadFault.{ReadFault}
 use Rattle.sap_read.specs.declared.fault.ReadFault.TheVariants.{Header}
 use Rattle.sap_read.specs.Files.{IsRead, no_header}
@@ -29,18 +29,18 @@ told laws z ts rest g clash same e f = is_declared laws z ts g clash (rw (← sa
 cut_behind : ItemLaws → (z : List ℕ) (ts rest : List Token) → rest ≡ drop 3 ts → IsCut (placed z rest) (items_of z ts)
 cut_behind laws z ts rest same = subst (λ (us : List Token). IsCut (placed z us) (items_of z ts)) (sym same) (items_are_cut laws z ts)
 
-pub returns-in_err-process-clause-refused : goal.returns-in_err-process-clause-refused
-returns-in_err-process-clause-refused c = λ e h n.
-    let p = err_from_is_err_and c.from_residual-in_err-process.result c.from_residual-in_err-process.ensures.1 in
+pub returns-in_err-content-clause-refused : goal.returns-in_err-content-clause-refused
+returns-in_err-content-clause-refused c = λ e h n.
+    let p = err_from_is_err_and c.from_residual-in_err-content.result c.from_residual-in_err-content.ensures.1 in
     let z = c.args.bytes.now in
     let ts = c.args.tokens.now in
     let rest = c.beyond-rest.result.now in
     let g = c.in_ok-declared.declared.signature in
     let clash = c.in_ok-declared.declared.clash in
-    let refusal = c.in_err-process.ensures.refused e (search (rules, p, h)) n (items_of z ts) (cut_behind c.item_laws.ensures z ts rest c.beyond-rest.ensures) in
+    let refusal = c.in_err-content.ensures.refused e (search (rules, p, h)) n (items_of z ts) (cut_behind c.item_laws.ensures z ts rest c.beyond-rest.ensures) in
     is_refused c.item_laws.ensures z ts c.in-Some.name.now g clash e c.requires (sym c.header_name.ensures ∙ ap option_copied c.in-Some.is)
     (told c.item_laws.ensures z ts rest g clash c.beyond-rest.ensures c.in_ok-declared.ensures.signature c.in_ok-declared.ensures.clash)
-    (subst (λ (n : ℕ). IsRefused g clash n (items_of z ts) e) (c.last_line.ensures z) refusal)
+    (subst (λ (n : ℕ). IsRefusedCut g clash n (items_of z ts) e) (c.last_line.ensures z) refusal)
 
 pub returns-clause-accepted : goal.returns-clause-accepted
 returns-clause-accepted c =
@@ -51,10 +51,8 @@ returns-clause-accepted c =
     let clash = c.in_ok-declared.declared.clash in
     let found = sym c.header_name.ensures ∙ ap option_copied c.in-Some.is in
     let parts = c.in_ok-file_of.ensures.parts in
-    let none = c.in_ok-file_of.ensures.none in (
-      rw (parts.0, parts.1, parts.2, none.0, none.1) (is_accepted c.item_laws.ensures z ts c.in-Some.name.now g clash (proc c.in_ok-process.process.value) c.requires found
-          (told c.item_laws.ensures z ts rest g clash c.beyond-rest.ensures c.in_ok-declared.ensures.signature c.in_ok-declared.ensures.clash)
-          (c.in_ok-process.ensures.accepted (items_of z ts) (cut_behind c.item_laws.ensures z ts rest c.beyond-rest.ensures))),
-      none.0,
-      none.1,
-    )
+    let lists = c.in_ok-file_of.ensures.lists in
+    let content = c.in_ok-content.content in
+    rw (parts.0, parts.1, parts.2, lists.0, lists.1) (is_accepted c.item_laws.ensures z ts c.in-Some.name.now g clash (proc content.process.value) content.checked.restrictions content.checked.lemmas c.requires found
+    (told c.item_laws.ensures z ts rest g clash c.beyond-rest.ensures c.in_ok-declared.ensures.signature c.in_ok-declared.ensures.clash)
+    (c.in_ok-content.ensures.accepted (items_of z ts) (cut_behind c.item_laws.ensures z ts rest c.beyond-rest.ensures)))

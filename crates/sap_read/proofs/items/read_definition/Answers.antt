@@ -1,4 +1,4 @@
-use Rattle.std.proofs.Common.{◌≡◌, drop, Some, true}
+use Rattle.std.proofs.Common.{◌≡◌, drop, Some, true, false}
 use Rattle.std.specs.Prelude.{codes}
 use Rattle.sap_terms.specs.Signature.{Sig}
 use Rattle.sap_grammar.specs.Words.{words_of, starts}
@@ -6,7 +6,7 @@ use Rattle.sap_grammar.specs.Reading.{name_at}
 use Rattle.sap_read.specs.Written.{Written}
 use Rattle.sap_read.specs.ItemGrammar.{IsProcess}
 use Rattle.sap_read.specs.code.Drafts.{written}
-use Rattle.sap_read.proofs.ItemTurns.{words-beyond, definition_read, no_definition}
+use Rattle.sap_read.proofs.ItemTurns.{words-beyond, definition_read, no_definition, no_equals}
 use Rattle.sap_read.proofs.items.read_definition.Goals as goal
 
 pub returns-in-None : goal.returns-in-None
@@ -25,3 +25,9 @@ returns-in-Some-2 c =
     cc (words-beyond c.args.bytes.now 2 c.args.item.now c.beyond-2.result.now c.beyond-2.ensures, c.starts.ensures, c.if-not-starts.false) in
     rw c.in_ok-label.ensures (definition_read c.args.sig.now c.args.bytes.now c.args.item.now c.in-Some.name.now (written c.in-Some-2.draft.value) c.line_of.result
     c.requires name equals (rw behind at found) (c.line_of.ensures c.args.bytes.now))
+
+pub returns-then-not-starts : goal.returns-then-not-starts
+returns-then-not-starts c = λ it.
+    let lacks : starts (codes "=") (drop 2 (words_of c.args.bytes.now c.args.item.now)) ≡ false =
+    cc (words-beyond c.args.bytes.now 2 c.args.item.now c.beyond-2.result.now c.beyond-2.ensures, c.starts.ensures, c.if-not-starts.true) in
+    no_equals c.requires lacks it.is

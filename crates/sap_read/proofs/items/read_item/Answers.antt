@@ -1,11 +1,16 @@
 use Rattle.std.proofs.Common.{◌≡◌, false, ◌∙◌, sym}
 use Rattle.std.specs.Prelude.{codes}
 use Rattle.sap_grammar.specs.Words.{words_of, starts}
-use Rattle.sap_read.proofs.ItemTurns.{declaration_tried}
+use Rattle.sap_read.proofs.ItemTurns.{declaration_added, stated_tried}
 use Rattle.sap_read.proofs.items.read_item.Goals as goal
 
-pub returns-else-starts-2 : goal.returns-else-starts-2
-returns-else-starts-2 c =
+pub returns-then-branch : goal.returns-then-branch
+returns-then-branch c =
+    declaration_added c.item_laws.ensures c.args.sig.now c.args.bytes.now c.args.item.now c.args.entries.now c.args.statements.now (sym c.in_ok-is_declaration.ensures ∙ c.if-branch.true)
+
+pub returns-else-branch : goal.returns-else-branch
+returns-else-branch c =
     let no_name : starts (codes "let") (words_of c.args.bytes.now c.args.item.now) ≡ false = sym c.starts.ensures ∙ c.if-starts.false in
     let no_process : starts (codes "process") (words_of c.args.bytes.now c.args.item.now) ≡ false = sym c.starts-else-starts.ensures ∙ c.if-starts-2.false in
-    declaration_tried c.item_laws.ensures c.args.sig.now c.args.bytes.now c.args.item.now c.args.entries.now c.is_declaration.result no_name no_process c.is_declaration.ensures
+    stated_tried c.item_laws.ensures c.args.sig.now c.args.bytes.now c.args.item.now c.args.entries.now c.args.statements.now _ c.read_stated.result no_name no_process
+    (sym c.in_ok-is_declaration.ensures ∙ c.if-branch.false) c.read_stated.ensures

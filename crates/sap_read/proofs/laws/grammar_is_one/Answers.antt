@@ -9,3 +9,6 @@ returns-clause-facts c = λ g h f a b r. let u = c.same_grammar.ensures.facts g 
 
 pub returns-clause-processes : goal.returns-clause-processes
 returns-clause-processes c = λ g h m n p a b r. par_too c.term_laws.ensures.spelled h r
+
+pub returns-clause-statements : goal.returns-clause-statements
+returns-clause-statements c = c.statement_laws.ensures.too

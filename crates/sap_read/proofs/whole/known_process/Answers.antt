@@ -13,8 +13,8 @@ same_fault e f is = cc
 pub returns-in-Some-clause-refused : goal.returns-in-Some-clause-refused
 returns-in-Some-clause-refused c = λ e is other.
     let es = c.args.entries.now in
-    no_clash (map body es) c.args.clash.now (Some e) c.in_ok-check_names.ensures.no_clash
-    (by_kept_size es c.args.entry.now c.args.names.now c.requires.one c.requires.known c.in_ok-check_names.ensures.distinct c.requires.counted ∙ sym (rw c.deref-draft.ensures at c.size_fault.ensures) ∙ c.in-Some.is ∙ ap Some (same_fault e c.in-Some.fault is))
+    no_clash (map body es) c.args.statements.now c.args.clash.now (Some e) c.in_ok-check_names.ensures.no_clash
+    (by_kept_size es c.args.statements.now c.args.entry.now c.args.names.now c.requires.one c.requires.known c.in_ok-check_names.ensures.distinct c.in_ok-check_names.ensures.free c.requires.counted ∙ sym (rw c.deref-draft.ensures at c.size_fault.ensures) ∙ c.in-Some.is ∙ ap Some (same_fault e c.in-Some.fault is))
 
 pub expand-requires-clause-names : goal.expand-requires-clause-names
 expand-requires-clause-names c =
@@ -27,8 +27,8 @@ expand-requires-clause-depth c =
 pub returns-in_ok-process-in-None-clause-accepted : goal.returns-in_ok-process-in-None-clause-accepted
 returns-in_ok-process-in-None-clause-accepted c =
     let es = c.args.entries.now in (
-      no_clash (map body es) c.args.clash.now None c.in_ok-check_names.ensures.no_clash
-          (by_kept_size es c.args.entry.now c.args.names.now c.requires.one c.requires.known c.in_ok-check_names.ensures.distinct c.requires.counted ∙ sym (rw c.deref-draft.ensures at c.size_fault.ensures) ∙ c.in-None.is),
+      no_clash (map body es) c.args.statements.now c.args.clash.now None c.in_ok-check_names.ensures.no_clash
+          (by_kept_size es c.args.statements.now c.args.entry.now c.args.names.now c.requires.one c.requires.known c.in_ok-check_names.ensures.distinct c.in_ok-check_names.ensures.free c.requires.counted ∙ sym (rw c.deref-draft.ensures at c.size_fault.ensures) ∙ c.in-None.is),
       process_is es c.args.entry.now c.requires.one c.requires.known c.in_ok-check_names.ensures.distinct ∙ ap Some (sym (rw c.deref-draft.ensures at c.in_ok-process-in-None.ensures)),
     )
 

@@ -6,12 +6,12 @@ use Rattle.sap_tool.proofs.top.deliver.Goals as goal
 
 pub returns-in-Ok : goal.returns-in-Ok
 returns-in-Ok g c = λ file.
-    answered (gives c.in-Ok.text) (allowed c.in-Ok.ensures.given) (rw c.as_bytes.ensures at c.give.ensures (theory_is _ _ c.in-Ok.ensures.given))
+    answered (gives c.in-Ok.text) (allowed c.in-Ok.ensures.given) (rw c.as_bytes.ensures at c.give.ensures (theory_is _ _ _ c.in-Ok.ensures.given))
 
 pub returns-in-Err-Told : goal.returns-in-Err-Told
 returns-in-Err-Told g c = λ file.
     let line = c.in-Err-Told.line in
-    answered (tells 1 line) (refusal_answers file _ line (c.in-Err-Told.ensures.refused line (ap Err c.in-Err-Told.field-0-is)))
+    answered (tells 1 line) (refusal_answers _ file _ line (c.in-Err-Told.ensures.refused line (ap Err c.in-Err-Told.field-0-is)))
     (rw c.as_bytes-in-Err-Told.ensures at c.tell.ensures _ (nothing_put _ _) (line_is _ line (c.in-Err-Told.ensures.refused line (ap Err c.in-Err-Told.field-0-is))))
 
 pub returns-in-Err-Mem : goal.returns-in-Err-Mem

@@ -11,11 +11,11 @@ returns-in_default g c = answered (tells 3 usage_text) (usage c.in_default.ensur
 pub returns-in-Ok : goal.returns-in-Ok
 returns-in-Ok g c =
     let file = c.in-Some.file.now in
-    of_file _ (compile file) c.in-Ok.bytes.items _ _ _ c.in-Some.ensures (c.in-Ok.ensures.told, c.fetched.ensures.once) (rw c.deref.ensures.value at c.deliver.ensures file)
+    of_file _ (compile c.in-Some.way file) c.in-Ok.bytes.items _ _ _ c.in-Some.ensures (c.in-Ok.ensures.told, c.fetched.ensures.once) (rw c.deref.ensures.value at c.deliver.ensures file)
 
 pub returns-in-Err-Failed : goal.returns-in-Err-Failed
 returns-in-Err-Failed g c =
-    answered (tells 4 read_fault_text) (unread (compile c.in-Some.file.now) c.in-Some.ensures (c.fetched.ensures.cause (search rules)) c.fetched.ensures.once)
+    answered (tells 4 read_fault_text) (unread (compile c.in-Some.way c.in-Some.file.now) c.in-Some.ensures (c.fetched.ensures.cause (search rules)) c.fetched.ensures.once)
     (c.tell-in-Err-Failed.ensures _ (nothing_put _ _) read_fault_is)
 
 pub returns-in-Err-Mem : goal.returns-in-Err-Mem

@@ -1,12 +1,12 @@
-use Rattle.std.proofs.Common.{[]}
 use Rattle.sap_tool.proofs.Kept.{kept}
+use Rattle.sap_tool.proofs.Refused.{both_ways}
 use Rattle.sap_tool.proofs.top.sapic.Goals as goal
 
 pub returns : goal.returns
 returns g c =
     kept
     (record {
-      faithful = λ name g p q. c.theories_show_the_process.ensures name g p q [];
+      keeping = both_ways c.theories_keep_files.ensures.plain c.theories_keep_files.ensures.inlined;
       runnable = c.files_are_runnable.ensures;
       one = c.one_file.ensures;
       some = c.some_file.ensures;

@@ -1,0 +1,5 @@
+pub mod Pairs
+pub mod Values
+pub mod Locks
+pub mod Channels
+pub mod Inputs

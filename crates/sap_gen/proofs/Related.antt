@@ -1,0 +1,16 @@
+pub mod Common
+pub mod Starts
+pub mod Control
+pub mod Stores
+pub mod Names
+pub mod Messages
+pub mod Meets
+pub mod Embedded
+pub mod Learnt
+pub mod Every
+pub mod Public
+pub mod Follow
+pub mod FollowControl
+pub mod FollowStores
+pub mod FollowMessages
+pub mod FollowRule

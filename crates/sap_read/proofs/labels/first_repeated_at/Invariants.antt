@@ -1,9 +1,0 @@
-use Rattle.std.proofs.Common.{◌≤◌, length}
-use Rattle.sap_read.specs.code.Label.{AreSeen}
-use Rattle.sap_read.proofs.labels.first_repeated_at.Given as goal
-
-abbrev pub invariant-loop-k : goal.invariant-loop-k
-invariant-loop-k l = (l.k ≤ length l.entries) × AreSeen l.entries l.k l.behind.keys l.found
-
-abbrev pub decreases-loop-k : goal.decreases-loop-k
-decreases-loop-k l = l.k

@@ -1,0 +1,18 @@
+use Rattle.sap_terms.specs.Equations.{equations}
+use Rattle.sap_share.specs.Shared.{node_tree}
+use Rattle.sap_share.proofs.Grown.{node_ground, node_over, over_held}
+use Rattle.sap_share.proofs.Reduced.{form_at}
+use Rattle.sap_share.proofs.table.Table.add_like.Goals as goal
+
+pub add-requires-clause-form : goal.add-requires-clause-form
+add-requires-clause-form c =
+    let s = c.args.self.now in
+    form_at (equations s.sig) s.trees c.args.node c.in-Some.k c.in-Some.ensures.found.0 (rw c.in-Some.ensures.found.1 c.requires.form.1)
+
+pub add_both-requires-clause-held : goal.add_both-requires-clause-held
+add_both-requires-clause-held c =
+    let s = c.args.self.now in
+    let over = node_over s.sig s.trees c.each_is_over.ensures c.args.node c.requires.below c.requires.held in
+    let ground = node_ground s.trees c.each_is_ground.ensures c.args.node c.requires.below in
+    let message = c.forms_are_messages.ensures s.sig (node_tree s.trees c.args.node) (node_tree s.trees c.args.form) (rw c.signature.ensures at c.builtins_are_held.ensures) ground over c.requires.form.1 in
+    over_held s.sig s.trees c.args.form message.over

@@ -1,0 +1,10 @@
+pub mod Shared
+pub mod Env
+pub mod code
+pub use Rattle.sap_terms.specs.Tree
+pub use Rattle.sap_terms.specs.View
+pub use Rattle.sap_terms.specs.Signature
+pub use Rattle.sap_terms.specs.Equations
+pub use Rattle.sap_terms.specs.Normal
+pub use Rattle.sap_terms.specs.Ground
+pub use Rattle.sap_terms.specs.Message

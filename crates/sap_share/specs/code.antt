@@ -1,0 +1,6 @@
+-- What the code of this crate speaks of: what its table keeps, and what it finds. No theorem speaks of it.
+pub mod Inside
+pub mod Forms
+pub mod Sides
+pub mod Found
+pub mod Matching

@@ -1,0 +1,16 @@
+//! Terms that are shared: each node has one number, and each number remembers its normal form's.
+#![tactic(auto)]
+
+mod env;
+mod evaluate;
+mod fits;
+mod intern;
+mod node;
+mod put;
+mod shape;
+mod side;
+mod table;
+
+pub use env::{Bound, Env};
+pub use node::Node;
+pub use table::Table;

@@ -1,0 +1,75 @@
+// Whole terms.
+ghost use Rattle.std.specs.Prelude.{◌≡◌, ◌<◌, length, IfOk};
+ghost use Rattle.sap_terms.specs.View.{tree};
+ghost use Rattle.sap_terms.specs.Tree.{trees_of, trees_count, node_count};
+ghost use Rattle.sap_terms.specs.Ground.{IsGround, AreGround};
+ghost use Rattle.sap_terms.specs.Message.{IsOver, AreOver};
+ghost use Rattle.sap_share.specs.Shared.{tree_at, trees_at, AreBelow, Keeps, Gives};
+
+use crate::{Node, Table};
+use sap_terms::{Copied, Mem, Numbers, Term, TermList};
+use std::alloc::Global;
+
+impl Table {
+    /// The number of a ground term. Refused, the table may have more numbers than before.
+    #[cycle(put)]
+    #[tactic(auto, using(crate::proofs::Kept::put_laws))]
+    pub fn put(&mut self, alloc: Global, t: &Term) -> Result<u64, Mem>
+        requires ground { IsGround (tree t.now) }
+        requires over { IsOver self.old.sig (tree t.now) }
+        ensures gives { IfOk result (λ k. Gives self.old self.new k (tree t.now)) }
+        ensures keeps { Keeps self.old self.new }
+    {
+        match t {
+            Term::Var(_) => unreachable!(),
+            Term::Public(n) => {
+                let name = n.copy(alloc)?;
+                self.intern(alloc, Node::Public(name))
+            }
+            Term::Fresh(k) => self.intern(alloc, Node::Fresh(*k)),
+            Term::App(f, ts) => {
+                let name = f.copy(alloc)?;
+                let ks = self.put_all(alloc, ts)?;
+                self.intern(alloc, Node::App(name, ks))
+            }
+        }
+    }
+
+    // The numbers of ground terms.
+    #[cycle(put)]
+    #[tactic(auto, using(crate::proofs::Kept::put_laws))]
+    fn put_all(&mut self, alloc: Global, ts: &TermList) -> Result<Numbers, Mem>
+        requires ground { AreGround (trees_of ts.now) }
+        requires over { AreOver self.old.sig (trees_of ts.now) }
+        ensures trees { IfOk result (λ ks. trees_at self.new.trees ks ≡ ts.now) }
+        ensures below { IfOk result (AreBelow (length self.new.trees)) }
+        ensures keeps { Keeps self.old self.new }
+    {
+        let mut ks = Numbers::new(alloc);
+        for i in 0..ts.len() {
+            let k = self.put(alloc, ts.at(i))?;
+            ks.push(k)?;
+        }
+        Ok(ks)
+    }
+
+    /// The term of a number. It recurses as deep as the term.
+    #[tactic(auto, using(crate::proofs::Kept::tree_laws))]
+    pub fn tree(&self, alloc: Global, id: u64) -> Result<Term, Mem>
+        requires { id < length self.now.trees }
+        ensures { IfOk result (λ t. tree t ≡ tree_at self.now.trees id) }
+    {
+        match self.node(id) {
+            Node::Public(n) => Ok(Term::Public(n.copy(alloc)?)),
+            Node::Fresh(k) => Ok(Term::Fresh(*k)),
+            Node::App(f, ks) => {
+                let name = f.copy(alloc)?;
+                let mut args = TermList::new(alloc);
+                for k in ks.as_slice() {
+                    args.push(self.tree(alloc, *k)?)?;
+                }
+                Ok(Term::App(name, args))
+            }
+        }
+    }
+}

@@ -1,0 +1,13 @@
+pub mod OnRead
+pub mod Steps
+pub mod FormulaSteps
+pub mod Lists
+pub mod Ends
+pub mod Formulas
+pub mod SoundFormulas
+pub mod FormulaPlaces
+pub mod Signatures
+pub mod Statements
+pub mod ByHand
+pub mod Printable
+pub mod Sorting

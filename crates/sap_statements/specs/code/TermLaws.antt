@@ -1,0 +1,22 @@
+-- What the laws of terms and facts say, as the proofs on formulas need it.
+use Rattle.std.specs.Prelude.{◌≡◌, Bool, false, List, Some, codes}
+use Rattle.sap_terms.specs.declared.fact.Fact.{Fact}
+use Rattle.sap_terms.specs.Tree.{Tree}
+use Rattle.sap_terms.specs.Signature.{Sig}
+use Rattle.sap_grammar.specs.declared.limits.Limits.{Limits}
+use Rattle.sap_grammar.specs.Words.{Word, starts}
+use Rattle.sap_grammar.specs.TermGrammar.{IsShort}
+use Rattle.sap_grammar.specs.FactGrammar.{IsShortFact}
+use Rattle.sap_grammar.specs.TermReading.{short_term, short_fact}
+
+-- what is read is spelled so, and what is spelled so is read
+pub record AreRead : Type 0 where
+  pub term_is : (g : Sig) (m : Limits) (t : Tree) (a b : List Word) → short_term g m a ≡ Some (t, b) → IsShort g m t a b
+  pub term_read : (g : Sig) (m : Limits) (t : Tree) (a b : List Word) → IsShort g m t a b → starts (codes "(") b ≡ false → short_term g m a ≡ Some (t, b)
+  pub fact_is : (g : Sig) (m : Limits) (s : Bool) (f : Fact) (a b : List Word) → short_fact g m s a ≡ Some (f, b) → IsShortFact g m s f a b
+  pub fact_read : (g : Sig) (m : Limits) (s : Bool) (f : Fact) (a b : List Word) → IsShortFact g m s f a b → short_fact g m s a ≡ Some (f, b)
+
+-- the same words spell one under each signature
+pub record AreSpelled : Type 0 where
+  pub term_too : (g h : Sig) (m : Limits) (t : Tree) (a b : List Word) → IsShort g m t a b → (u : Tree) × IsShort h m u a b
+  pub fact_too : (g h : Sig) (m : Limits) (s : Bool) (f : Fact) (a b : List Word) → IsShortFact g m s f a b → (u : Fact) × IsShortFact h m s u a b

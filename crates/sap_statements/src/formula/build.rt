@@ -1,0 +1,133 @@
+//! Formulas made of their parts.
+ghost use Rattle.std.specs.Prelude.{◌≡◌, ◌≤◌, ◌<◌, ◌+◌, ◌^◌, max, IfOk};
+ghost use Rattle.sap_terms.specs.View.{tree};
+ghost use Rattle.sap_formula.specs.Form.{truth, falsity, action, equal, same_time, earlier, negation};
+ghost use Rattle.sap_formula.specs.View.{form};
+ghost use Rattle.sap_statements.specs.code.FormulaView.{made, bound, levelled};
+
+use sap_formula::{Binders, Formula};
+use sap_terms::{Fact, Mem, Name, Term};
+use std::alloc::Global;
+
+/// What joins two formulas.
+#[derive(Clone, Copy)]
+pub enum Connective {
+    And,
+    Or,
+    Imp,
+    Iff,
+}
+
+/// Of how many values of its variables a quantifier speaks.
+#[derive(Clone, Copy)]
+pub enum Quantifier {
+    Every,
+    Exists,
+}
+
+/// A formula as it is read, and how many levels its text has.
+#[derive(Drop)]
+pub struct Measured {
+    pub formula: Box<Formula>,
+    pub levels: u64,
+}
+
+// A large value stands in a box as soon as it is made.
+fn boxed(alloc: Global, formula: Formula) -> Result<Box<Formula>, Mem>
+    ensures { IfOk result (λ f. f.value ≡ formula) }
+{
+    Ok(Box::new(alloc, formula)?)
+}
+
+pub fn truth(alloc: Global) -> Result<Box<Formula>, Mem>
+    ensures { IfOk result (λ f. form f.value ≡ truth) }
+{
+    boxed(alloc, Formula::True)
+}
+
+pub fn falsity(alloc: Global) -> Result<Box<Formula>, Mem>
+    ensures { IfOk result (λ f. form f.value ≡ falsity) }
+{
+    boxed(alloc, Formula::False)
+}
+
+pub fn action(alloc: Global, fact: Fact, time: Name) -> Result<Box<Formula>, Mem>
+    ensures { IfOk result (λ f. form f.value ≡ action fact time) }
+{
+    boxed(alloc, Formula::Action(fact, time))
+}
+
+pub fn equal(alloc: Global, left: Term, right: Term) -> Result<Box<Formula>, Mem>
+    ensures { IfOk result (λ f. form f.value ≡ equal (tree left) (tree right)) }
+{
+    boxed(alloc, Formula::Equal(left, right))
+}
+
+pub fn same(alloc: Global, left: Name, right: Name) -> Result<Box<Formula>, Mem>
+    ensures { IfOk result (λ f. form f.value ≡ same_time left right) }
+{
+    boxed(alloc, Formula::Same(left, right))
+}
+
+pub fn earlier(alloc: Global, first: Name, second: Name) -> Result<Box<Formula>, Mem>
+    ensures { IfOk result (λ f. form f.value ≡ earlier first second) }
+{
+    boxed(alloc, Formula::Less(first, second))
+}
+
+pub fn negated(alloc: Global, formula: Box<Formula>) -> Result<Box<Formula>, Mem>
+    ensures { IfOk result (λ f. form f.value ≡ negation (form formula.value)) }
+{
+    boxed(alloc, Formula::Not(formula))
+}
+
+pub fn quantified(
+    alloc: Global,
+    quantifier: Quantifier,
+    binders: Binders,
+    body: Box<Formula>,
+) -> Result<Box<Formula>, Mem>
+    ensures { IfOk result (λ f. form f.value ≡ bound quantifier binders (form body.value)) }
+{
+    match quantifier {
+        Quantifier::Every => boxed(alloc, Formula::All(binders, body)),
+        Quantifier::Exists => boxed(alloc, Formula::Ex(binders, body)),
+    }
+}
+
+fn joined(
+    alloc: Global,
+    connective: Connective,
+    left: Box<Formula>,
+    right: Box<Formula>,
+) -> Result<Box<Formula>, Mem>
+    ensures { IfOk result (λ f. form f.value
+        ≡ made connective (form left.value) (form right.value)) }
+{
+    match connective {
+        Connective::And => boxed(alloc, Formula::And(left, right)),
+        Connective::Or => boxed(alloc, Formula::Or(left, right)),
+        Connective::Imp => boxed(alloc, Formula::Imp(left, right)),
+        Connective::Iff => boxed(alloc, Formula::Iff(left, right)),
+    }
+}
+
+/// Both with the connective between them, one level above the deeper.
+pub fn join(
+    alloc: Global,
+    connective: Connective,
+    left: Measured,
+    right: Measured,
+) -> Result<Measured, Mem>
+    requires left { left.levels < 2 ^ 40 }
+    requires right { right.levels < 2 ^ 40 }
+    ensures { IfOk result (λ m. levelled m ≡ (
+      made connective (form left.formula.value)
+          (form right.formula.value),
+      max left.levels right.levels + 1,
+    )) }
+{
+    let levels = left.levels.max(right.levels) + 1;
+    let formula = joined(alloc, connective, left.formula, right.formula)?;
+    Ok(Measured { formula, levels })
+}

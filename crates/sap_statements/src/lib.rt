@@ -1,0 +1,15 @@
+//! Formulas, restrictions and lemmas as text: the grammar and its readers.
+#![tactic(auto)]
+
+mod formula;
+mod laws;
+mod reading;
+mod statement;
+
+pub use formula::read_formula;
+pub use laws::{
+    formulas_are_printable, formulas_by_hand, one_formula, one_statement, same_statements,
+    some_statement, sorts_are_kept,
+};
+pub use reading::read_statement;
+pub use statement::Statement;

@@ -1,0 +1,342 @@
+//! Reads restrictions and lemmas.
+ghost use Rattle.std.specs.Prelude.{◌≡◌, codes, length, IfOk, IfSome, IfNone};
+ghost use Rattle.sap_terms.specs.Signature.{Sig};
+ghost use Rattle.sap_formula.specs.View.{form};
+ghost use Rattle.sap_grammar.specs.Words.{words_of};
+ghost use Rattle.sap_grammar.specs.Reading.{Gives, list_of};
+ghost use Rattle.sap_statements.specs.Statements.{Statement, restriction, lemma, IsStatement};
+ghost use Rattle.sap_statements.specs.code.StatementReading.{starts_attribute, attribute, attributes, dashed, mode, quotation, restricted, said, claimed, attributed, a_restriction, a_lemma, statement};
+
+use crate::formula::{read_bare, read_iff};
+use crate::laws::term_laws;
+use crate::statement::Statement;
+use sap_formula::{Formula, Lemma, Mode, Restriction};
+use sap_grammar::{Limits, beyond, names, starts};
+use sap_terms::{Mem, Name, NameList, Signature};
+use sap_text::Token;
+use std::alloc::Global;
+
+fn starts_attribute(bytes: &[u8], tokens: &[Token]) -> bool
+    ensures { result ≡ starts_attribute (words_of bytes.now tokens.now) }
+{
+    names(bytes, tokens, "reuse")
+        || names(bytes, tokens, "use_induction")
+        || names(bytes, tokens, "sources")
+}
+
+fn read_attribute<'a>(
+    alloc: Global,
+    bytes: &[u8],
+    tokens: &'a [Token],
+) -> Result<Option<(Name, &'a [Token])>, Mem>
+    ensures { Gives bytes.now (λ x. x) result (attribute (words_of bytes.now tokens.now)) }
+{
+    if starts_attribute(bytes, tokens) {
+        read_bare(alloc, bytes, tokens)
+    } else {
+        Ok(None)
+    }
+}
+
+#[tactic(auto, using(crate::proofs::Lists::attribute_turns), unfolding(sap_grammar::specs::Reading::after))]
+fn read_some_attributes<'a>(
+    alloc: Global,
+    bytes: &[u8],
+    tokens: &'a [Token],
+) -> Result<Option<(NameList, &'a [Token])>, Mem>
+    ensures { Gives bytes.now (λ xs. xs) result (list_of (codes "]") attribute
+        (length tokens.now) (words_of bytes.now tokens.now)) }
+{
+    let mut attributes = NameList::new(alloc);
+    let mut rest = tokens;
+    let mut turns = tokens.len();
+    while turns > 0 {
+        let Some((name, next)) = read_attribute(alloc, bytes, rest)? else {
+            return Ok(None);
+        };
+        attributes.push(name)?;
+        if starts(bytes, next, "]") {
+            return Ok(Some((attributes, beyond(1, next))));
+        }
+        if !starts(bytes, next, ",") {
+            return Ok(None);
+        }
+        rest = beyond(1, next);
+        turns -= 1;
+    }
+    Ok(None)
+}
+
+#[tactic(auto, using(crate::proofs::Steps::steps))]
+fn read_attributes<'a>(
+    alloc: Global,
+    bytes: &[u8],
+    tokens: &'a [Token],
+) -> Result<Option<(NameList, &'a [Token])>, Mem>
+    ensures { Gives bytes.now (λ xs. xs) result (attributes (words_of bytes.now tokens.now)) }
+{
+    if starts(bytes, tokens, "[") {
+        read_some_attributes(alloc, bytes, beyond(1, tokens))
+    } else {
+        Ok(Some((NameList::new(alloc), tokens)))
+    }
+}
+
+// Whether these names stand first, with `-` between them.
+#[tactic(auto, using(crate::proofs::Steps::steps))]
+fn is_dashed(bytes: &[u8], tokens: &[Token], first: &str, second: &str) -> bool
+    ensures { result ≡ dashed first.now second.now (words_of bytes.now tokens.now) }
+{
+    names(bytes, tokens, first)
+        && starts(bytes, beyond(1, tokens), "-")
+        && names(bytes, beyond(2, tokens), second)
+}
+
+#[tactic(auto, using(crate::proofs::Steps::steps))]
+fn read_mode<'a>(bytes: &[u8], tokens: &'a [Token]) -> (Mode, &'a [Token])
+    ensures mode { result.0 ≡ (mode (words_of bytes.now tokens.now)).0 }
+    ensures rest { words_of bytes.now result.1.now ≡ (mode (words_of bytes.now tokens.now)).1 }
+{
+    if is_dashed(bytes, tokens, "all", "traces") {
+        (Mode::AllTraces, beyond(3, tokens))
+    } else if is_dashed(bytes, tokens, "exists", "trace") {
+        (Mode::ExistsTrace, beyond(3, tokens))
+    } else {
+        (Mode::AllTraces, tokens)
+    }
+}
+
+#[tactic(auto, using(crate::proofs::Steps::steps), unfolding(sap_grammar::specs::Reading::after, crate::specs::code::FormulaReading::past))]
+fn read_quotation<'a>(
+    alloc: Global,
+    sig: &Signature,
+    limits: Limits,
+    bytes: &[u8],
+    tokens: &'a [Token],
+) -> Result<Option<(Box<Formula>, &'a [Token])>, Mem>
+    ensures { Gives bytes.now (λ f. form f.value) result (quotation sig.now limits
+        (words_of bytes.now tokens.now)) }
+{
+    if !starts(bytes, tokens, "\"") {
+        return Ok(None);
+    }
+    let depth = limits.formula_levels as u64;
+    match read_iff(alloc, sig, limits, bytes, depth, beyond(1, tokens))? {
+        None => Ok(None),
+        Some((measured, rest)) => {
+            if starts(bytes, rest, "\"") {
+                Ok(Some((measured.formula, beyond(1, rest))))
+            } else {
+                Ok(None)
+            }
+        }
+    }
+}
+
+// A large value stands in a box as soon as it is made.
+fn boxed(alloc: Global, statement: Statement) -> Result<Box<Statement>, Mem>
+    ensures { IfOk result (λ s. s.value ≡ statement) }
+{
+    Ok(Box::new(alloc, statement)?)
+}
+
+fn restriction(alloc: Global, name: Name, formula: Box<Formula>) -> Result<Box<Statement>, Mem>
+    ensures { IfOk result (λ s. s.value ≡ restriction (record { name = name; formula = form formula.value })) }
+{
+    boxed(
+        alloc,
+        Statement::Restriction(Restriction {
+            name,
+            formula: Box::into_inner(formula),
+        }),
+    )
+}
+
+fn lemma(
+    alloc: Global,
+    name: Name,
+    attributes: NameList,
+    mode: Mode,
+    formula: Box<Formula>,
+) -> Result<Box<Statement>, Mem>
+    ensures { IfOk result (λ s. s.value ≡ lemma (record { name = name; attributes = attributes; mode = mode; formula = form formula.value })) }
+{
+    boxed(
+        alloc,
+        Statement::Lemma(Lemma {
+            name,
+            attributes,
+            mode,
+            formula: Box::into_inner(formula),
+        }),
+    )
+}
+
+#[tactic(auto, using(crate::proofs::Steps::steps), unfolding(sap_grammar::specs::Reading::after, crate::specs::code::FormulaReading::past))]
+fn read_restricted<'a>(
+    alloc: Global,
+    sig: &Signature,
+    limits: Limits,
+    bytes: &[u8],
+    name: Name,
+    tokens: &'a [Token],
+) -> Result<Option<(Box<Statement>, &'a [Token])>, Mem>
+    ensures { Gives bytes.now (λ s. s.value) result (restricted sig.now limits name
+        (words_of bytes.now tokens.now)) }
+{
+    if !starts(bytes, tokens, ":") {
+        return Ok(None);
+    }
+    match read_quotation(alloc, sig, limits, bytes, beyond(1, tokens))? {
+        None => Ok(None),
+        Some((formula, rest)) => {
+            let statement = restriction(alloc, name, formula)?;
+            Ok(Some((statement, rest)))
+        }
+    }
+}
+
+#[tactic(auto, using(crate::proofs::Steps::steps), unfolding(sap_grammar::specs::Reading::after))]
+fn read_said<'a>(
+    alloc: Global,
+    sig: &Signature,
+    limits: Limits,
+    bytes: &[u8],
+    name: Name,
+    attributes: NameList,
+    mode: Mode,
+    tokens: &'a [Token],
+) -> Result<Option<(Box<Statement>, &'a [Token])>, Mem>
+    ensures { Gives bytes.now (λ s. s.value) result (said sig.now limits name attributes mode
+        (words_of bytes.now tokens.now)) }
+{
+    match read_quotation(alloc, sig, limits, bytes, tokens)? {
+        None => Ok(None),
+        Some((formula, rest)) => {
+            let statement = lemma(alloc, name, attributes, mode, formula)?;
+            Ok(Some((statement, rest)))
+        }
+    }
+}
+
+#[tactic(auto, using(crate::proofs::Steps::steps), unfolding(crate::specs::code::FormulaReading::past))]
+fn read_claimed<'a>(
+    alloc: Global,
+    sig: &Signature,
+    limits: Limits,
+    bytes: &[u8],
+    name: Name,
+    attributes: NameList,
+    tokens: &'a [Token],
+) -> Result<Option<(Box<Statement>, &'a [Token])>, Mem>
+    ensures { Gives bytes.now (λ s. s.value) result (claimed sig.now limits name attributes
+        (words_of bytes.now tokens.now)) }
+{
+    if !starts(bytes, tokens, ":") {
+        return Ok(None);
+    }
+    let (mode, rest) = read_mode(bytes, beyond(1, tokens));
+    read_said(alloc, sig, limits, bytes, name, attributes, mode, rest)
+}
+
+#[tactic(auto, using(crate::proofs::Steps::steps), unfolding(sap_grammar::specs::Reading::after))]
+fn read_attributed<'a>(
+    alloc: Global,
+    sig: &Signature,
+    limits: Limits,
+    bytes: &[u8],
+    name: Name,
+    tokens: &'a [Token],
+) -> Result<Option<(Box<Statement>, &'a [Token])>, Mem>
+    ensures { Gives bytes.now (λ s. s.value) result (attributed sig.now limits name
+        (words_of bytes.now tokens.now)) }
+{
+    match read_attributes(alloc, bytes, tokens)? {
+        None => Ok(None),
+        Some((attributes, rest)) => {
+            read_claimed(alloc, sig, limits, bytes, name, attributes, rest)
+        }
+    }
+}
+
+#[tactic(auto, using(crate::proofs::Steps::steps), unfolding(sap_grammar::specs::Reading::after))]
+fn read_restriction<'a>(
+    alloc: Global,
+    sig: &Signature,
+    limits: Limits,
+    bytes: &[u8],
+    tokens: &'a [Token],
+) -> Result<Option<(Box<Statement>, &'a [Token])>, Mem>
+    ensures { Gives bytes.now (λ s. s.value) result (a_restriction sig.now limits
+        (words_of bytes.now tokens.now)) }
+{
+    match read_bare(alloc, bytes, tokens)? {
+        None => Ok(None),
+        Some((name, rest)) => read_restricted(alloc, sig, limits, bytes, name, rest),
+    }
+}
+
+#[tactic(auto, using(crate::proofs::Steps::steps), unfolding(sap_grammar::specs::Reading::after))]
+fn read_lemma<'a>(
+    alloc: Global,
+    sig: &Signature,
+    limits: Limits,
+    bytes: &[u8],
+    tokens: &'a [Token],
+) -> Result<Option<(Box<Statement>, &'a [Token])>, Mem>
+    ensures { Gives bytes.now (λ s. s.value) result (a_lemma sig.now limits
+        (words_of bytes.now tokens.now)) }
+{
+    match read_bare(alloc, bytes, tokens)? {
+        None => Ok(None),
+        Some((name, rest)) => read_attributed(alloc, sig, limits, bytes, name, rest),
+    }
+}
+
+#[tactic(auto, using(crate::proofs::Steps::steps))]
+fn read_any<'a>(
+    alloc: Global,
+    sig: &Signature,
+    limits: Limits,
+    bytes: &[u8],
+    tokens: &'a [Token],
+) -> Result<Option<(Box<Statement>, &'a [Token])>, Mem>
+    ensures { Gives bytes.now (λ s. s.value) result (statement sig.now limits
+        (words_of bytes.now tokens.now)) }
+{
+    if starts(bytes, tokens, "restriction") {
+        read_restriction(alloc, sig, limits, bytes, beyond(1, tokens))
+    } else if starts(bytes, tokens, "lemma") {
+        read_lemma(alloc, sig, limits, bytes, beyond(1, tokens))
+    } else {
+        Ok(None)
+    }
+}
+
+/// The restriction or lemma within the limits that the tokens spell, all of them, its formula as it is written: each variable
+/// has the sort of its sign. None where they spell none, under any signature. The work is linear in the tokens, and it recurses
+/// some calls for each level that the limits allow.
+pub fn read_statement(
+    alloc: Global,
+    sig: &Signature,
+    limits: Limits,
+    bytes: &[u8],
+    item: &[Token],
+) -> Result<Option<Box<Statement>>, Mem>
+    ensures found { IfOk result (λ o. IfSome o (λ s. IsStatement sig.now limits s.value
+        (words_of bytes.now item.now))) }
+    ensures none { IfOk result (λ o. IfNone o ((h : Sig) (s : Statement)
+        → IsStatement h limits s (words_of bytes.now item.now) → ⊥)) }
+{
+    term_laws();
+    match read_any(alloc, sig, limits, bytes, item)? {
+        None => Ok(None),
+        Some((statement, rest)) => {
+            if rest.is_empty() {
+                Ok(Some(statement))
+            } else {
+                Ok(None)
+            }
+        }
+    }
+}
