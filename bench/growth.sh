@@ -1,11 +1,7 @@
 # Read by scripts beside it, which time a program on numbers that double.
 
-# growth WHAT SIZES WORD..: builds the program crates/bench and runs it on the words and each of the sizes, three times. A
-# line for each size has the size, what it counts, the milliseconds of the shortest run, and the ratio to the line before,
-# which is about 2 where time grows with the size.
-growth() {
-    what=$1 sizes=$2
-    shift 2
+# built: builds the program crates/bench, which is $program from then on
+built() {
     folder=$(cd "$(dirname "$0")/../crates/bench" && pwd)
     program=$folder/out/bench
     (cd "$folder" && rt run) > /dev/null 2>&1 || {
@@ -13,11 +9,26 @@ growth() {
         exit 1
     }
     before=
-    for size in $sizes; do
-        now=$(milliseconds "$program" "$@" "$size")
-        ratio=$([ -z "$before" ] && echo '-' || awk "BEGIN { printf \"%.2f\", $now / $before }")
-        printf '%8d %s %9s ms  ratio %5s\n' "$size" "$what" "$now" "$ratio"
-        before=$now
+}
+
+# row SIZE WHAT COMMAND..: a line with the size, what it counts, the milliseconds of the command's shortest run, and the ratio
+# to the line before, which is about 2 where time grows with the size.
+row() {
+    size=$1 what=$2
+    shift 2
+    now=$(milliseconds "$@")
+    ratio=$([ -z "$before" ] && echo '-' || awk "BEGIN { printf \"%.2f\", $now / $before }")
+    printf '%8d %s %9s ms  ratio %5s\n' "$size" "$what" "$now" "$ratio"
+    before=$now
+}
+
+# growth WHAT SIZES WORD..: runs the program on the words and each of the sizes
+growth() {
+    counted=$1 sizes=$2
+    shift 2
+    built
+    for number in $sizes; do
+        row "$number" "$counted" "$program" "$@" "$number"
     done
 }
 

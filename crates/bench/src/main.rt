@@ -1,5 +1,5 @@
 //! Counts what calls of the libraries give on an input of so large a size that a script can time them. The words are `facts N`,
-//! `guard N`, `judge TIMES`, `knowledge N`, `normal ROUNDS NODES`, `share N`, `steps RULES N` or `tokens FILE`; with none each
+//! `guard N`, `judge TIMES`, `knowledge N`, `normal ROUNDS NODES`, `share N`, `steps RULES N`, `theory FILE` or `tokens FILE`; with none each
 //! kind is counted once on a small input.
 #![tactic(auto)]
 
@@ -13,6 +13,7 @@ mod share;
 mod steps;
 
 use sap_text::tokens;
+use sap_theory::read_theory;
 use std::alloc::Global;
 use std::{env, fs, io};
 
@@ -33,6 +34,12 @@ fn count(alloc: Global, kind: &str, first: u64, second: u64) -> Option<u64> {
 fn count_tokens(alloc: Global, bytes: &[u8]) -> Option<u64> {
     let found = tokens(alloc, bytes, 64).ok()?;
     Some(found.len() as u64)
+}
+
+// How many rules and restrictions the theory has that these bytes are.
+fn count_theory(alloc: Global, bytes: &[u8]) -> Option<u64> {
+    let theory = read_theory(alloc, bytes).ok()?;
+    theory.rules.len().checked_add(theory.restrictions.len())
 }
 
 fn number(words: &Vec<String>, place: usize) -> u64 {
@@ -57,17 +64,22 @@ fn tell_each(rt: &HostRuntime) -> io::Result<()> {
         println!(rt; "{kind} {counted:?}")?;
     }
     let counted = count_tokens(rt.alloc(), b"theory A begin process: 0 end");
-    println!(rt; "tokens {counted:?}")
+    println!(rt; "tokens {counted:?}")?;
+    let counted = count_theory(rt.alloc(), b"theory A begin rule R: [ ] --> [ ] end");
+    println!(rt; "theory {counted:?}")
 }
 
-fn count_in_file(rt: &HostRuntime, path: &str) -> io::Result<Option<u64>> {
+fn count_in_file(rt: &HostRuntime, kind: &str, path: &str) -> io::Result<Option<u64>> {
     let bytes = fs::read(rt, path)?;
-    Ok(count_tokens(rt.alloc(), bytes.as_slice()))
+    Ok(match kind {
+        "theory" => count_theory(rt.alloc(), bytes.as_slice()),
+        _ => count_tokens(rt.alloc(), bytes.as_slice()),
+    })
 }
 
 fn counted(rt: &HostRuntime, words: &Vec<String>, kind: &str) -> io::Result<Option<u64>> {
     match (kind, words.get(2)) {
-        ("tokens", Some(path)) => count_in_file(rt, path.as_str()),
+        ("tokens" | "theory", Some(path)) => count_in_file(rt, kind, path.as_str()),
         _ => Ok(count(rt.alloc(), kind, number(words, 2), number(words, 3))),
     }
 }

@@ -1,5 +1,9 @@
-pub mod Entered
+pub mod Lined
+pub mod Prefix
 pub mod Derivations
+pub mod Entered
+pub mod Applied
 pub mod Limits
 pub mod Numbers
+pub mod Numbered
 pub mod Known

@@ -8,6 +8,7 @@ use Rattle.sap_terms.specs.Normal.{IsNormalForm}
 use Rattle.sap_terms.specs.Message.{IsMessage}
 use Rattle.sap_terms.specs.declared.limits.TheConstants.{MOST_TERM_NODES}
 use Rattle.sap_terms.specs.declared.var.Sort.TheVariants.{Msg}
+use Rattle.sap_share.specs.Shared.{Shared, trees_at, AreBelow, Keeps}
 use Rattle.sap_deduce.specs.declared.origin.Origin.{Origin}
 use Rattle.sap_deduce.specs.declared.origin.Origin.TheVariants.{Name, Public, Output, Apply}
 use Rattle.sap_deduce.specs.declared.deny.Deny.{Deny}
@@ -18,10 +19,16 @@ pub record Entry : Type 0 where
   pub term : Tree
   pub origin : Origin
 
--- a signature, and the entries by their numbers
+-- a signature, and the entries by their numbers; terms that have numbers in a table, and the number of each entry's term
 pub record Entries : Type 0 where
   pub sig : Sig
   pub entries : List Entry
+  pub trees : List Tree
+  pub numbers : List ℕ
+
+-- the terms that have numbers
+abbrev pub shared_of : Entries → Shared
+shared_of k = record { sig = k.sig; trees = k.trees }
 
 -- the entries' terms
 abbrev pub terms_of : List Entry → List Tree
@@ -78,6 +85,11 @@ pub record AreEntries (k : Entries) : Type 0 where
   pub entered : AreEntered k.sig k.entries
   pub within : All (λ (e : Entry). node_count e.term ≤ MOST_TERM_NODES) k.entries
 
+-- each entry has a number of the table, that of its term
+pub record AreNumbered (k : Entries) : Type 0 where
+  pub below : AreBelow (length k.trees) k.numbers
+  pub terms : trees_at k.trees k.numbers ≡ terms_of k.entries
+
 -- the first of these numbers that isn't below the count
 abbrev pub IsFirstUnknown : ℕ → List ℕ → ℕ → Type 0
 IsFirstUnknown count ks k = find (nat_le count) ks ≡ Some k
@@ -101,3 +113,9 @@ pub record Applies (old new : Entries) (f ks : List ℕ) : Type 0 where
   pub application : IsApplication old.sig old.entries f ks term
   pub within : node_count term ≤ MOST_TERM_NODES
   pub gains : Gains old new (Apply f ks) term
+
+-- numbers of terms keep their meaning, and the new entry has a number of the table after those of the entries before it
+pub record GainsNumber (old new : Entries) : Type 0 where
+  pub keeps : Keeps (shared_of old) (shared_of new)
+  pub number : ℕ
+  pub numbers : new.numbers ≡ old.numbers ++ number ∷ []

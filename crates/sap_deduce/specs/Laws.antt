@@ -1,5 +1,5 @@
 -- What derivations and entries have to do with each other.
-use Rattle.std.specs.Prelude.{◌≡◌, ℕ, List, All, Contains, reverse}
+use Rattle.std.specs.Prelude.{◌≡◌, ◌<◌, ◌↔◌, ℕ, List, length, slice_get, All, Contains, reverse}
 use Rattle.sap_terms.specs.Tree.{Tree}
 use Rattle.sap_terms.specs.Signature.{Sig}
 use Rattle.sap_terms.specs.Message.{IsMessage}
@@ -23,3 +23,8 @@ pub record CanBeEntered (g : Sig) (names : List ℕ) (frame ts : List Tree) : Ty
 abbrev pub DerivationsCanBeEntered : Type 0
 DerivationsCanBeEntered =
     (g : Sig) (names : List ℕ) (frame ts : List Tree) → All (IsMessage g Msg) frame → IsDerivation g names frame ts → CanBeEntered g names frame ts
+
+-- two entries have one number exactly where they have one term
+abbrev pub NumbersTellTerms : Entries → Type 0
+NumbersTellTerms k =
+    (i j : ℕ) → i < length k.entries → j < length k.entries → (slice_get k.numbers i ≡ slice_get k.numbers j) ↔ (slice_get (terms_of k.entries) i ≡ slice_get (terms_of k.entries) j)

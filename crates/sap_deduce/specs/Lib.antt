@@ -7,3 +7,4 @@ pub use Rattle.sap_terms.specs.Signature
 pub use Rattle.sap_terms.specs.Equations
 pub use Rattle.sap_terms.specs.Normal
 pub use Rattle.sap_terms.specs.Deduce
+pub use Rattle.sap_share.specs.Shared

@@ -1,9 +1,10 @@
-use crate::origin::Origin;
+use crate::way::Way;
 use sap_terms::Term;
 
-// A term, and how it came to be known.
+// A term, its number in the table, and how it came to be known.
 #[derive(Drop)]
 pub(crate) struct Entry {
+    pub(crate) number: u64,
     pub(crate) term: Term,
-    pub(crate) origin: Origin,
+    pub(crate) way: Way,
 }

@@ -1,46 +1,136 @@
-ghost use Rattle.std.specs.Prelude.{◌≡◌, ◌+◌, ◌<◌, ◌≤◌, [], length, IfOk, OnOk, OnErr, IfErr, option_map, slice_get, find, map, nat_le, All, Some};
+ghost use Rattle.std.specs.Prelude.{ℕ, List, ◌≡◌, ◌+◌, ◌<◌, ◌≤◌, [], length, IfOk, OnOk, OnErr, IfErr, IfSome, IfNone, option_map, slice_get, find, nat_le, All, Some};
 ghost use Rattle.std.specs.Option.{option_copied};
 ghost use Rattle.sap_terms.specs.View.{tree};
-ghost use Rattle.sap_terms.specs.Tree.{node_count, fresh, public};
+ghost use Rattle.sap_terms.specs.Tree.{node_count, fresh, public, apply, trees_of};
 ghost use Rattle.sap_terms.specs.Message.{IsMessage};
+ghost use Rattle.sap_terms.specs.Normal.{IsNormal, IsNormalForm};
+ghost use Rattle.sap_terms.specs.Equations.{equations};
 ghost use Rattle.sap_terms.specs.declared.var.Sort.TheVariants.{Msg};
-ghost use Rattle.sap_deduce.specs.Entries.{Gains, Adds, terms_of, AreTermsAt, IsApplication, Applies, IsCause};
-ghost use Rattle.sap_deduce.specs.code.Large.{IsLarge};
+ghost use Rattle.sap_share.specs.Shared.{tree_at, trees_at, AreBelow, Keeps, Gives};
+ghost use Rattle.sap_share.specs.declared.node.Node.TheVariants.{Public as PublicNode};
+ghost use Rattle.sap_rewrite.specs.Large.{HasLargeForm};
+ghost use Rattle.sap_deduce.specs.Entries.{Gains, GainsNumber, Adds, terms_of, shared_of, AreTermsAt, Applies, IsCause};
+ghost use Rattle.sap_deduce.specs.Laws.{NumbersTellTerms};
+ghost use Rattle.sap_deduce.specs.code.Large.{IsLargeOn};
+ghost use Rattle.sap_deduce.specs.code.Lines.{origin_given};
+ghost use Rattle.sap_deduce.specs.code.Views.{seen, AreKept};
 ghost use Rattle.sap_terms.specs.Signature.{IsPublic, arity_of};
-ghost use Rattle.sap_deduce.specs.declared.origin.Origin.TheVariants.{Name as NameOrigin, Public as PublicOrigin, Output as OutputOrigin};
+ghost use Rattle.sap_deduce.specs.declared.origin.Origin.TheVariants.{Name as NameOrigin, Public as PublicOrigin, Output as OutputOrigin, Apply as ApplyOrigin};
 
 use crate::Deny;
-use crate::entry::Entry;
-use crate::origin::Origin;
-use sap_rewrite::{Cut, forms_are_messages, normal_on};
+use crate::lines::Lines;
+use crate::way::Given;
+use sap_rewrite::{Cut, forms_are_messages};
+use sap_share::{Node, Table};
 use sap_terms::{
-    Copied, Items, MOST_TERM_NODES, Mem, Name, Numbers, Signature, Term, leaves_are_normal,
+    Copied, MOST_TERM_NODES, Mem, Name, Numbers, Signature, Term, leaves_are_normal,
     names_are_messages,
 };
 use std::alloc::Global;
 use std::marker::Model;
 
-/// The terms that an adversary knows, as entries that are numbered from 0 and stay. Each keeps how it came to be known.
+/// The terms that an adversary knows, as entries that are numbered from 0 and stay. Each keeps how it came to be known, and
+/// its term has a number in a table of shared terms.
 #[derive(Drop)]
 pub struct Knowledge {
-    sig: Signature,
-    entries: Items<Entry>,
+    table: Table,
+    count: u64,
+    entries: Lines,
 }
 
 impl Model for Knowledge {
     ghost use Rattle.std.specs.Coded.{codes};
     ghost use Rattle.sap_terms.specs.Codes.{tree_code};
-    ghost use Rattle.sap_deduce.specs.Entries.{Entries, AreEntries};
+    ghost use Rattle.sap_deduce.specs.Entries.{Entries};
 
     ghost Value = { Entries };
 
     ghost coded = { Prim.hlevel (codes, tree_code) };
 
-    ghost use Rattle.sap_deduce.specs.code.Views.{entries_of};
+    ghost use Rattle.sap_deduce.specs.code.Views.{seen, AreKept};
 
-    ghost view = { λ a. record { sig = a.sig; entries = entries_of a.entries } };
+    ghost view = { λ a. seen a.table a.count a.entries };
 
-    ghost invariant = { λ a. AreEntries (record { sig = a.sig; entries = entries_of a.entries }) };
+    ghost invariant = { λ a. AreKept a.table a.count a.entries };
+}
+
+// The public name of a node.
+fn public_term(node: Node) -> Term
+    ensures { (a : List ℕ) → node ≡ PublicNode a → tree result ≡ public a }
+{
+    match node {
+        Node::Public(name) => Term::Public(name),
+        Node::Fresh(n) => Term::Fresh(n),
+        Node::App(name, _numbers) => Term::Public(name),
+    }
+}
+
+// The number of a public name, and its term. The name is copied only where it has no number yet.
+fn public_number(table: &mut Table, alloc: Global, a: Name) -> Result<(u64, Term), Mem>
+    ensures gives { IfOk result (λ p. Gives table.old table.new p.0 (public a)) }
+    ensures term { IfOk result (λ p. tree p.1 ≡ public a) }
+    ensures keeps { Keeps table.old table.new }
+{
+    let node = Node::Public(a);
+    if let Some(k) = table.number_of(&node) {
+        return Ok((k, public_term(node)));
+    }
+    let term = public_term(node);
+    let number = table.put(alloc, &term)?;
+    Ok((number, term))
+}
+
+// Adds an entry that came without others, whose term has this number in the table.
+fn enter(
+    table: &Table,
+    count: &mut u64,
+    entries: &mut Lines,
+    number: u64,
+    term: Term,
+    given: Given,
+) -> Result<u64, Mem>
+    requires kept { AreKept table.now count.old entries.old }
+    requires below { number < length table.now.trees }
+    requires tree { tree_at table.now.trees number ≡ tree term }
+    requires adds { Adds table.now.sig (seen table.now count.old entries.old).entries (origin_given given) (tree term) }
+    requires within { node_count (tree term) ≤ MOST_TERM_NODES }
+    ensures number { IfOk result (λ k. k ≡ length entries.old) }
+    ensures gains { OnOk result (Gains (seen table.now count.old entries.old) (seen table.now count.new entries.new) (origin_given given) (tree term)) }
+    ensures numbered { OnOk result (GainsNumber (seen table.now count.old entries.old) (seen table.now count.new entries.new)) }
+    ensures kept { AreKept table.now count.new entries.new }
+    ensures err { OnErr result (seen table.now count.new entries.new ≡ seen table.now count.old entries.old) }
+{
+    let place = entries.len();
+    entries.push(number, term, given)?;
+    *count = table.count();
+    Ok(place)
+}
+
+// Adds an entry that came by a symbol on entries, whose term has this number in the table.
+fn enter_applied(
+    table: &Table,
+    count: &mut u64,
+    entries: &mut Lines,
+    number: u64,
+    term: Term,
+    f: &Name,
+    numbers: &Numbers,
+) -> Result<u64, Mem>
+    requires kept { AreKept table.now count.old entries.old }
+    requires below { number < length table.now.trees }
+    requires tree { tree_at table.now.trees number ≡ tree term }
+    requires adds { Adds table.now.sig (seen table.now count.old entries.old).entries (ApplyOrigin f.now numbers.now) (tree term) }
+    requires within { node_count (tree term) ≤ MOST_TERM_NODES }
+    ensures number { IfOk result (λ k. k ≡ length entries.old) }
+    ensures gains { OnOk result (Gains (seen table.now count.old entries.old) (seen table.now count.new entries.new) (ApplyOrigin f.now numbers.now) (tree term)) }
+    ensures numbered { OnOk result (GainsNumber (seen table.now count.old entries.old) (seen table.now count.new entries.new)) }
+    ensures kept { AreKept table.now count.new entries.new }
+    ensures err { OnErr result (seen table.now count.new entries.new ≡ seen table.now count.old entries.old) }
+{
+    let place = entries.len();
+    entries.push_applied(number, term, f, numbers)?;
+    *count = table.count();
+    Ok(place)
 }
 
 impl Knowledge {
@@ -48,10 +138,10 @@ impl Knowledge {
     pub fn new(alloc: Global, sig: &Signature) -> Result<Knowledge, Mem>
         ensures { IfOk result (λ k. (k.sig ≡ sig.now) × (k.entries ≡ [])) }
     {
-        let sig = sig.copy(alloc)?;
         Ok(Knowledge {
-            sig,
-            entries: Items::new(alloc),
+            table: Table::new(alloc, sig)?,
+            count: 0,
+            entries: Lines::new(alloc),
         })
     }
 
@@ -59,7 +149,14 @@ impl Knowledge {
     pub fn signature(&self) -> &Signature
         ensures { result.now ≡ self.now.sig }
     {
-        &self.sig
+        self.table.signature()
+    }
+
+    /// The table in which the entries' terms have numbers.
+    pub fn table(&self) -> &Table
+        ensures { Keeps (shared_of self.now) result.now }
+    {
+        &self.table
     }
 
     /// The number of entries.
@@ -74,42 +171,76 @@ impl Knowledge {
     pub fn at(&self, k: u64) -> Option<&Term>
         ensures { option_map tree (option_copied result) ≡ slice_get (terms_of self.now.entries) k }
     {
-        match self.entries.get(k) {
-            Some(e) => Some(&e.term),
-            None => None,
+        self.entries.term(k)
+    }
+
+    // The number in the table of an entry's term.
+    fn number_at(&self, k: u64) -> u64
+        requires { k < length self.now.entries }
+        ensures number { slice_get self.now.numbers k ≡ Some result }
+        ensures below { result < length self.now.trees }
+        ensures term { slice_get (terms_of self.now.entries) k ≡ Some (tree_at self.now.trees result) }
+    {
+        self.entries.number(k)
+    }
+
+    /// The number in the table of an entry's term; None where no entry has the number.
+    pub fn number(&self, k: u64) -> Option<u64>
+        ensures number { result ≡ slice_get self.now.numbers k }
+        ensures some { IfSome result (λ n. (n < length self.now.trees) × (slice_get (terms_of self.now.entries) k ≡ Some (tree_at self.now.trees n))) }
+        ensures none { IfNone result (length self.now.entries ≤ k) }
+    {
+        let _table = &self.table;
+        if k < self.len() {
+            Some(self.number_at(k))
+        } else {
+            None
         }
     }
 
-    // Adds an entry of this origin.
-    #[tactic(auto, using(crate::proofs::Entered::entry_laws))]
-    fn enter(&mut self, term: Term, origin: Origin) -> Result<u64, Mem>
-        requires adds { Adds self.old.sig self.old.entries origin (tree term) }
-        requires within { node_count (tree term) ≤ MOST_TERM_NODES }
-        ensures number { IfOk result (λ k. k ≡ length self.old.entries) }
-        ensures ok { OnOk result (Gains self.old self.new origin (tree term)) }
-        ensures err { OnErr result (self.new ≡ self.old) }
+    /// Two entries have one number exactly where they have one term.
+    pub fn numbers_tell_terms(&self)
+        ensures { NumbersTellTerms self.now }
     {
-        let number = self.entries.len();
-        self.entries.push(Entry { term, origin })?;
-        Ok(number)
+        self.table.each_has_one_number();
     }
 
     /// Adds a name that the adversary made, and gives the entry's number.
     pub fn name(&mut self, n: u64) -> Result<u64, Mem>
         ensures number { IfOk result (λ k. k ≡ length self.old.entries) }
         ensures ok { OnOk result (Gains self.old self.new (NameOrigin n) (fresh n)) }
+        ensures numbered { OnOk result (GainsNumber self.old self.new) }
         ensures err { OnErr result (self.new ≡ self.old) }
     {
-        self.enter(Term::Fresh(n), Origin::Name(n))
+        let alloc = self.entries.allocator();
+        let number = self.table.intern(alloc, Node::Fresh(n))?;
+        enter(
+            &self.table,
+            &mut self.count,
+            &mut self.entries,
+            number,
+            Term::Fresh(n),
+            Given::Name(n),
+        )
     }
 
     /// Adds a public name, and gives the entry's number.
     pub fn public(&mut self, a: Name) -> Result<u64, Mem>
         ensures number { IfOk result (λ k. k ≡ length self.old.entries) }
         ensures ok { OnOk result (Gains self.old self.new PublicOrigin (public a)) }
+        ensures numbered { OnOk result (GainsNumber self.old self.new) }
         ensures err { OnErr result (self.new ≡ self.old) }
     {
-        self.enter(Term::Public(a), Origin::Public)
+        let alloc = self.entries.allocator();
+        let (number, term) = public_number(&mut self.table, alloc, a)?;
+        enter(
+            &self.table,
+            &mut self.count,
+            &mut self.entries,
+            number,
+            term,
+            Given::Public,
+        )
     }
 
     /// Adds a term that was sent, and gives the entry's number.
@@ -118,9 +249,19 @@ impl Knowledge {
         requires within { node_count (tree t) ≤ MOST_TERM_NODES }
         ensures number { IfOk result (λ k. k ≡ length self.old.entries) }
         ensures ok { OnOk result (Gains self.old self.new OutputOrigin (tree t)) }
+        ensures numbered { OnOk result (GainsNumber self.old self.new) }
         ensures err { OnErr result (self.new ≡ self.old) }
     {
-        self.enter(t, Origin::Output)
+        let alloc = self.entries.allocator();
+        let number = self.table.put(alloc, &t)?;
+        enter(
+            &self.table,
+            &mut self.count,
+            &mut self.entries,
+            number,
+            t,
+            Given::Output,
+        )
     }
 
     // The first of these numbers that isn't an entry.
@@ -136,79 +277,38 @@ impl Knowledge {
         None
     }
 
-    // The term of an entry.
-    #[tactic(auto, using(crate::proofs::Entered::entry_laws))]
-    fn term_at(&self, k: u64) -> &Term
-        requires { k < length self.now.entries }
-        ensures { slice_get (terms_of self.now.entries) k ≡ Some (tree result.now) }
-    {
-        &self.entries.at(k).term
-    }
-
-    // The terms of these entries, lent.
-    fn terms_at(&self, alloc: Global, numbers: &Numbers) -> Result<Vec<&Term>, Mem>
+    // The numbers in the table of these entries' terms.
+    fn numbers_at(&self, alloc: Global, numbers: &Numbers) -> Result<Numbers, Mem>
         requires { All (λ k. k < length self.now.entries) numbers.now }
-        ensures { IfOk result (λ ts. AreTermsAt self.now.entries numbers.now (map (λ t. tree t.now) ts.items)) }
+        ensures count { IfOk result (λ ks. length ks ≡ length numbers.now) }
+        ensures below { IfOk result (AreBelow (length self.now.trees)) }
+        ensures terms { IfOk result (λ ks. AreTermsAt self.now.entries numbers.now (trees_at self.now.trees ks)) }
     {
-        let mut terms = Vec::new(alloc);
-        for k in 0..numbers.len() {
-            terms.push(self.term_at(*numbers.at(k)))?;
+        let mut ks = Numbers::new(alloc);
+        for k in numbers.as_slice() {
+            ks.push(self.number_at(*k))?;
         }
-        Ok(terms)
+        Ok(ks)
     }
 
-    // The normal form of a symbol on the entries of these numbers. No entry is copied but for what the form needs.
-    fn form_at(&self, alloc: Global, f: &Name, numbers: &Numbers) -> Result<Term, Deny>
-        requires public_symbol { IsPublic self.now.sig f.now }
-        requires arity { arity_of self.now.sig f.now ≡ Some (length numbers.now) }
-        requires known { All (λ k. k < length self.now.entries) numbers.now }
-        ensures application { IfOk result (λ t. IsApplication self.now.sig self.now.entries f.now numbers.now (tree t)) }
-        ensures within { IfOk result (λ t. node_count (tree t) ≤ MOST_TERM_NODES) }
-        ensures denied { IfErr result (IsLarge self.now f.now numbers.now) }
-    {
-        leaves_are_normal();
-        let terms = self.terms_at(alloc, numbers)?;
-        match normal_on(alloc, &self.sig, f, &terms, MOST_TERM_NODES) {
-            Ok(form) => Ok(form),
-            Err(Cut::Large) => Err(Deny::TermLarge),
-            Err(Cut::Mem) => Err(Deny::Mem),
-        }
-    }
-
-    // The term of a symbol on these entries.
-    fn applied(&self, alloc: Global, f: &Name, numbers: &Numbers) -> Result<Term, Deny>
-        ensures application { IfOk result (λ t. IsApplication self.now.sig self.now.entries f.now numbers.now (tree t)) }
-        ensures within { IfOk result (λ t. node_count (tree t) ≤ MOST_TERM_NODES) }
+    // Whether the symbol is public and stands on as many entries as its arity says.
+    fn check(&self, alloc: Global, f: &Name, numbers: &Numbers) -> Result<(), Deny>
+        ensures public_symbol { OnOk result (IsPublic self.now.sig f.now) }
+        ensures arity { OnOk result (arity_of self.now.sig f.now ≡ Some (length numbers.now)) }
+        ensures known { OnOk result (All (λ k. k < length self.now.entries) numbers.now) }
         ensures denied { IfErr result (IsCause self.now f.now numbers.now) }
     {
-        if !self.sig.is_public(f) {
+        let sig = self.table.signature();
+        if !sig.is_public(f) {
             return Err(Deny::NotPublic { f: f.copy(alloc)? });
         }
-        if self.sig.arity(f) != Some(numbers.len()) {
+        if sig.arity(f) != Some(numbers.len()) {
             return Err(Deny::Arity { f: f.copy(alloc)? });
         }
         match self.first_unknown(numbers) {
             Some(k) => Err(Deny::NoEntry { k }),
-            None => self.form_at(alloc, f, numbers),
+            None => Ok(()),
         }
-    }
-
-    // Adds the normal form of a symbol on entries.
-    fn enter_application(
-        &mut self,
-        alloc: Global,
-        term: Term,
-        f: &Name,
-        numbers: &Numbers,
-    ) -> Result<u64, Mem>
-        requires application { IsApplication self.old.sig self.old.entries f.now numbers.now (tree term) }
-        requires within { node_count (tree term) ≤ MOST_TERM_NODES }
-        ensures number { IfOk result (λ k. k ≡ length self.old.entries) }
-        ensures ok { OnOk result (Applies self.old self.new f.now numbers.now) }
-        ensures err { OnErr result (self.new ≡ self.old) }
-    {
-        let origin = applied_to(alloc, f, numbers)?;
-        self.enter(term, origin)
     }
 
     /// Adds the normal form of a symbol on the entries of these numbers, and gives the new entry's number.
@@ -216,13 +316,29 @@ impl Knowledge {
     pub fn apply(&mut self, f: &Name, numbers: &Numbers) -> Result<u64, Deny>
         ensures number { IfOk result (λ k. k ≡ length self.old.entries) }
         ensures ok { OnOk result (Applies self.old self.new f.now numbers.now) }
+        ensures numbered { OnOk result (GainsNumber self.old self.new) }
         ensures denied { IfErr result (IsCause self.old f.now numbers.now) }
         ensures err { OnErr result (self.new ≡ self.old) }
     {
+        leaves_are_normal();
         let alloc = self.entries.allocator();
-        let term = self.applied(alloc, f, numbers)?;
-        let number = self.enter_application(alloc, term, f, numbers)?;
-        Ok(number)
+        self.check(alloc, f, numbers)?;
+        let ks = self.numbers_at(alloc, numbers)?;
+        let number = match form_number(&mut self.table, alloc, f, ks) {
+            Ok(number) => number,
+            Err(cause) => return Err(cause),
+        };
+        let term = self.table.tree(alloc, number)?;
+        let place = enter_applied(
+            &self.table,
+            &mut self.count,
+            &mut self.entries,
+            number,
+            term,
+            f,
+            numbers,
+        )?;
+        Ok(place)
     }
 
     ghost use Rattle.sap_deduce.specs.Entries.{AreEntered};
@@ -239,14 +355,24 @@ impl Knowledge {
         names_are_messages();
         leaves_are_normal();
         forms_are_messages();
-        self.sig.builtins_are_held();
+        self.table.signature().builtins_are_held();
     }
 }
 
-// The origin of a symbol on entries.
-fn applied_to(alloc: Global, f: &Name, numbers: &Numbers) -> Result<Origin, Mem>
-    ensures { IfOk result (λ o. o ≡ Origin.Apply f.now numbers.now) }
+// The number of the normal form of a symbol on numbers of normal terms.
+fn form_number(table: &mut Table, alloc: Global, f: &Name, ks: Numbers) -> Result<u64, Deny>
+    requires below { AreBelow (length table.old.trees) ks }
+    requires held { arity_of table.old.sig f.now ≡ Some (length ks) }
+    requires normal { All (IsNormal (equations table.old.sig)) (trees_at table.old.trees ks) }
+    ensures below { IfOk result (λ k. k < length table.new.trees) }
+    ensures form { IfOk result (λ k. IsNormalForm (equations table.old.sig) (apply f.now (trees_of (trees_at table.old.trees ks))) (tree_at table.new.trees k)) }
+    ensures within { IfOk result (λ k. node_count (tree_at table.new.trees k) ≤ MOST_TERM_NODES) }
+    ensures keeps { Keeps table.old table.new }
+    ensures denied { IfErr result (IsLargeOn (HasLargeForm (equations table.old.sig) MOST_TERM_NODES (apply f.now (trees_of (trees_at table.old.trees ks))))) }
 {
-    let f = f.copy(alloc)?;
-    Ok(Origin::Apply(f, numbers.copy(alloc)?))
+    match table.normal_on(alloc, f, ks, MOST_TERM_NODES) {
+        Ok(number) => Ok(number),
+        Err(Cut::Large) => Err(Deny::TermLarge),
+        Err(Cut::Mem) => Err(Deny::Mem),
+    }
 }

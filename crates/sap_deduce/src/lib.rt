@@ -5,8 +5,11 @@ mod deny;
 mod entry;
 mod knowledge;
 mod laws;
+mod lines;
 mod origin;
+mod way;
 
 pub use deny::Deny;
 pub use knowledge::Knowledge;
 pub use laws::derivations_can_be_entered;
+pub use origin::Origin;

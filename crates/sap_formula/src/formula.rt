@@ -8,7 +8,6 @@ use std::alloc::Global;
 
 /// A formula over a trace, in first-order logic with message variables and time variables. Contracts see it as a plain
 /// tree, by `form` of the specs' `View`.
-#[derive(Drop)]
 pub enum Formula {
     True,
     False,
@@ -29,6 +28,29 @@ pub enum Formula {
     Iff(Box<Formula>, Box<Formula>),
     All(Binders, Box<Formula>),
     Ex(Binders, Box<Formula>),
+}
+
+impl Drop for Formula {
+    // Along first parts it goes in a loop, so that a conjunction of many formulas, leftmost first, takes no more of the stack
+    // than one of two.
+    fn drop(mut self) {
+        loop {
+            match self {
+                Formula::And(first, _second)
+                | Formula::Or(first, _second)
+                | Formula::Imp(first, _second)
+                | Formula::Iff(first, _second) => self = Box::into_inner(first),
+                Formula::Not(only) => self = Box::into_inner(only),
+                Formula::All(_binders, body) | Formula::Ex(_binders, body) => {
+                    self = Box::into_inner(body)
+                }
+                Formula::Action(_fact, _time) => return,
+                Formula::Equal(_left, _right) => return,
+                Formula::Same(_left, _right) | Formula::Less(_left, _right) => return,
+                Formula::True | Formula::False => return,
+            }
+        }
+    }
 }
 
 impl Formula {

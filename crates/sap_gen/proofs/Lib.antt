@@ -11,3 +11,4 @@ pub mod Restricted
 pub mod ByHand
 pub mod Lemmas
 pub mod Related
+pub mod Printable

@@ -1,8 +1,10 @@
 //! Laws of the rules of a process, as contracts of functions that only call the laws below.
 ghost use Rattle.std.specs.List.{flat_map};
-ghost use Rattle.std.specs.Prelude.{[], All, Contains, List, Some, ◌<◌, ◌^◌, ◌≡◌, ◌∷◌, ◌↔◌, ℕ};
+ghost use Rattle.std.specs.Prelude.{[], All, Contains, false, List, Some, ◌<◌, ◌^◌, ◌≡◌, ◌∷◌, ◌↔◌, ℕ};
+ghost use Rattle.sap_theory.specs.ReadAgain.{PassesChecks};
 ghost use Rattle.sap_gen.specs.Faithful.{AreRestrictionsTrue, ShowsAll, ShowsOnly};
 ghost use Rattle.sap_gen.specs.Kept.{IsClosedTheory, KeepsFile, KeepsFileInlined, file_theory, inlined_file_theory};
+ghost use Rattle.sap_read.specs.OwnNames.{HaveOwnNames, IsNamedApart};
 ghost use Rattle.sap_gen.specs.Places.{ScopedPlace, scope_handed_down};
 ghost use Rattle.sap_gen.specs.Sound.{IsSound};
 ghost use Rattle.sap_gen.specs.Templates.{init_rule, own_rules, rules_of};
@@ -11,6 +13,7 @@ ghost use Rattle.sap_process.specs.Places.{places};
 ghost use Rattle.sap_process.specs.Proc.{Proc, node_count};
 ghost use Rattle.sap_process.specs.Ready.{IsReady};
 ghost use Rattle.sap_read.specs.Files.{FileContent, IsRunnable};
+ghost use Rattle.sap_read.specs.Printable.{IsPrintableFile};
 ghost use Rattle.sap_restrict.specs.Restrictions.{needed_restrictions};
 ghost use Rattle.sap_restrict.specs.Standard.{IsAdmitted};
 ghost use Rattle.sap_rule.specs.Named.{HaveNamesOfTheirOwn};
@@ -20,7 +23,10 @@ ghost use Rattle.sap_rule.specs.declared.rule.Rule.{Rule};
 ghost use Rattle.sap_terms.specs.Equations.{pair_name};
 ghost use Rattle.sap_terms.specs.Signature.{HoldsBuiltins, Sig, arity_of};
 ghost use Rattle.sap_terms.specs.Trace.{Trace};
+ghost use Rattle.sap_terms.specs.declared.fact.Fact.{Fact};
+ghost use Rattle.sap_terms.specs.declared.limits.TheConstants.{MOST_FILE_NAME_BYTES, MOST_THEORY_NAME_BYTES};
 ghost use Rattle.sap_terms.specs.declared.var.Var.{Var};
+ghost use Rattle.sap_theory.specs.PrintableTheory.{IsPrintable};
 
 use sap_formula::{faultless_formulas_are_checked, hiding_keeps_truth};
 use sap_process::instances_of_processes;
@@ -115,3 +121,36 @@ pub fn rules_are_well_made()
         → All (IsWellMade g) (rules_of q) }
     ensures names { (p : Proc) → HaveNamesOfTheirOwn (rules_of p) }
 {}
+
+/// A law: both theories of a file that can be run and printed can be printed: each name that stands in them is one, of at most
+/// MOST_THEORY_NAME_BYTES bytes, no plain variable is a constant of the signature, and each formula has the sorts of its binders.
+/// The rules show linear facts alone.
+pub fn theories_are_printable()
+    ensures plain { (f : FileContent) → IsRunnable f → IsPrintableFile MOST_FILE_NAME_BYTES f
+        → IsPrintable MOST_THEORY_NAME_BYTES (file_theory f) }
+    ensures inlined { (f : FileContent) → IsRunnable f → IsPrintableFile MOST_FILE_NAME_BYTES f
+        → IsPrintable MOST_THEORY_NAME_BYTES (inlined_file_theory f) }
+    ensures linear { (f : FileContent) → IsRunnable f → IsPrintableFile MOST_FILE_NAME_BYTES f
+        → All (λ (r : Rule). All (λ (h : Fact). h.persistent ≡ false) r.acts) (rules_of f.process) }
+{}
+
+/// A law: where no two of a file's restrictions and lemmas have one name, and none has that of one of the seven, no two of those
+/// of either theory have one name.
+pub fn theories_are_named_apart()
+    ensures plain { (f : FileContent) → IsNamedApart f
+        → HaveOwnNames (file_theory f).restrictions (file_theory f).lemmas }
+    ensures inlined { (f : FileContent) → IsNamedApart f
+        → HaveOwnNames (inlined_file_theory f).restrictions (inlined_file_theory f).lemmas }
+{}
+
+/// A law: both theories of such a file pass the checks of who reads them back: no two rules have one name, and no two restrictions
+/// or lemmas; each rule is over the signature, each of its facts stands where it may, and those that it shows are linear; no
+/// formula has a fault, where facts may have any names.
+pub fn theories_pass_checks()
+    ensures plain { (f : FileContent) → IsRunnable f → IsPrintableFile MOST_FILE_NAME_BYTES f
+        → IsNamedApart f → PassesChecks (file_theory f) }
+    ensures inlined { (f : FileContent) → IsRunnable f → IsPrintableFile MOST_FILE_NAME_BYTES f
+        → IsNamedApart f → PassesChecks (inlined_file_theory f) }
+{
+    faultless_formulas_are_checked();
+}

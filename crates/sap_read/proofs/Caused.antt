@@ -8,14 +8,15 @@ use Rattle.sap_process.specs.Proc.{Proc, node_count, level_count}
 use Rattle.sap_restrict.specs.Restrictions.{is_generated}
 use Rattle.sap_statements.specs.declared.statement.Statement.{Statement}
 use Rattle.sap_statements.specs.Statements.{name_of}
-use Rattle.sap_read.specs.declared.draft.Definition.{Definition}
+use Rattle.sap_read.specs.declared.definition.Definition.{Definition}
 use Rattle.sap_read.specs.declared.fault.ReadFault.{ReadFault}
 use Rattle.sap_read.specs.declared.fault.ReadFault.TheVariants.{NoProcess, TwoProcesses, DuplicateName, FunctionClash, TooMany, TooDeep}
 use Rattle.sap_read.specs.declared.names.Meant.{Meant}
 use Rattle.sap_read.specs.Item.{Body}
 use Rattle.sap_read.specs.Replaced.{replaced, process_of, no_meaning}
 use Rattle.sap_read.specs.Causes.{first_of, unlabelled, labels, unknown_from, first_repeated, first_taken, cause}
-use Rattle.sap_read.specs.code.Drafts.{written, body}
+use Rattle.sap_draft.specs.Drafts.{written}
+use Rattle.sap_read.specs.code.Bodies.{body}
 use Rattle.sap_read.specs.code.Meaning.{meaning_of, AreMeant, nodes_in, levels_in, IsCounted, AreCounted, AreTargets, IsExpanded, AreExpanded, size_fault}
 use Rattle.sap_read.proofs.Kept.{nodes_counted, levels_counted}
 use Rattle.sap_read.proofs.Meaning.{AreFresh, fixed, process_fixed}

@@ -4,9 +4,9 @@ use Rattle.std.specs.Prelude.{slice_get}
 use Rattle.std.specs.Str.{bytes_eq}
 use Rattle.indexmap.specs.IndexMap.{IndexMap, get}
 use Rattle.sap_process.specs.Proc.{Proc}
-use Rattle.sap_read.specs.declared.draft.Definition.{Definition}
+use Rattle.sap_read.specs.declared.definition.Definition.{Definition}
 use Rattle.sap_read.specs.declared.names.Meant.{Meant}
-use Rattle.sap_read.specs.Written.{Written, nil, call, parallel, replicated, act, test, lookup}
+use Rattle.sap_draft.specs.Written.{Written, nil, call, parallel, replicated, act, test, lookup}
 use Rattle.sap_read.specs.code.Meaning.{is_call, IsFormed, IsExpanded, AreExpanded}
 
 -- what is no name is formed

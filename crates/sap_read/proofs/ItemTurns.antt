@@ -11,18 +11,18 @@ use Rattle.sap_grammar.specs.Cut.{Placed, placed, words, first_line, IsCut, cut_
 use Rattle.sap_grammar.specs.Declarations.{Declaration, declares_builtins, declares_functions}
 use Rattle.sap_grammar.specs.Items.{IsEnd, items_end, items_more, no_end, bad_item, later_item}
 use Rattle.sap_grammar.specs.ItemReading.{cut, declared_in}
-use Rattle.sap_read.specs.Written.{Written}
+use Rattle.sap_draft.specs.Written.{Written}
 use Rattle.sap_statements.specs.declared.statement.Statement.{Statement}
 use Rattle.sap_statements.specs.Statements.{IsStatement, is_restriction, is_lemma}
-use Rattle.sap_read.specs.declared.limits.TheConstants.{FILE_LIMITS}
+use Rattle.sap_draft.specs.declared.limits.TheConstants.{FILE_LIMITS}
 use Rattle.sap_read.specs.Item.{Item, definition, process, statement, bodies, statements}
-use Rattle.sap_read.specs.ItemGrammar.{IsProcess, IsItem, AreItems, IsSomeItem, IsFaulty, item_builtins, item_functions, item_definition, item_process, item_statement}
-use Rattle.sap_read.specs.declared.draft.Definition.{Definition}
-use Rattle.sap_read.specs.code.Drafts.{body}
+use Rattle.sap_draft.specs.ProcessGrammar.{IsProcess}
+use Rattle.sap_read.specs.ItemGrammar.{IsItem, AreItems, IsSomeItem, IsFaulty, item_builtins, item_functions, item_definition, item_process, item_statement}
+use Rattle.sap_read.specs.declared.definition.Definition.{Definition}
+use Rattle.sap_read.specs.code.Bodies.{body}
 use Rattle.sap_read.specs.code.ItemView.{IsItemOf, IsAdded, IsAdding, IsGoodBehind, IsPushed, IsStated, SaysProcess, AreSaid}
 use Rattle.sap_read.specs.code.ItemLaws.{ItemLaws}
-use Rattle.sap_read.proofs.OnRead.{starts_is, name_is}
-use Rattle.sap_read.proofs.Steps.{words-drop}
+use Rattle.sap_read.proofs.WordsRead.{starts_is, name_is, words-drop}
 use Rattle.sap_read.proofs.ItemsRead.{declared_sound}
 
 pub words_placed : (z : List ℕ) (ts : List Token) → words (placed z ts) ≡ words_of z ts

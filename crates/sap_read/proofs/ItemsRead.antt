@@ -7,15 +7,14 @@ use Rattle.sap_grammar.specs.Cut.{Placed, words}
 use Rattle.sap_grammar.specs.Declarations.{Declaration, Declares, declares_builtins, declares_functions}
 use Rattle.sap_grammar.specs.Items.{IsEnd, items_end, items_more, no_end, bad_item, later_item}
 use Rattle.sap_grammar.specs.ItemReading.{declared_in, told, declared_in_all}
-use Rattle.sap_grammar.specs.declared.limits.Limits.{Limits}
-use Rattle.sap_read.specs.declared.limits.TheConstants.{FILE_LIMITS}
-use Rattle.sap_read.specs.Written.{Written}
-use Rattle.sap_read.specs.ProcessGrammar.{IsPar, EndsProcess}
+use Rattle.sap_draft.specs.declared.limits.TheConstants.{FILE_LIMITS}
+use Rattle.sap_draft.specs.Written.{Written}
 use Rattle.sap_read.specs.Item.{Item, builtins, functions, definition, process, statement, Standing, declared_by, declarations, body_of, stated_by}
-use Rattle.sap_read.specs.ItemGrammar.{IsProcess, IsItem, AreItems, IsFaulty, item_builtins, item_functions, item_definition, item_process, item_statement}
+use Rattle.sap_read.specs.ItemGrammar.{IsItem, AreItems, IsFaulty, item_builtins, item_functions, item_definition, item_process, item_statement}
 use Rattle.sap_statements.specs.declared.statement.Statement.{Statement}
 use Rattle.sap_statements.specs.Statements.{is_restriction, is_lemma}
 use Rattle.sap_read.specs.code.ItemLaws.{ItemLaws}
+use Rattle.sap_read.specs.code.ProcessLaws.{ProcessLaws}
 use Rattle.sap_read.specs.code.StatementLaws.{StatementLaws}
 
 -- what an item declares is read in its words
@@ -81,19 +80,12 @@ one_fault last n k cut (bad_item a b) (later_item s r) = absurd (a s)
 one_fault last n k cut (later_item s r) (bad_item a b) = absurd (a s)
 one_fault last n k cut (later_item {is = is} s r) (later_item t q) = one_fault last n k is r q
 
--- where words spell at most one process that nothing of it follows
-module _ (laws : ItemLaws) (stated : StatementLaws) (one_process : (g : Sig) (m : Limits) (n k : ℕ) (p q : Written) (a b c : List Word) → IsPar g m p n a b → IsPar g m q k a c → EndsProcess b → EndsProcess c
-    → (p ≡ q) × (n ≡ k) × (b ≡ c)) where
-  one_whole : (g : Sig) (p q : Written) (a : List Word) → IsProcess g p a → IsProcess g q a → p ≡ q
-  one_whole g p q a r s =
-      let ends : EndsProcess [] = record { no_parenthesis = refl; no_semicolon = refl; no_else = refl; no_bar = refl; no_bars = refl } in
-      (one_process g FILE_LIMITS r.levels s.levels p q a [] [] r.spelled s.spelled ends ends).0
-
+module _ (laws : ItemLaws) (stated : StatementLaws) (written : ProcessLaws) where
   one_item : {g : Sig} {u v : Item} {a : List Word} → IsItem g u a → IsItem g v a → u ≡ v
   one_item (item_builtins {bs = bs} {a = a} r) (item_builtins {bs = cs} s) = ap builtins (laws.one_builtins bs cs a r s)
   one_item (item_functions {ss = ss} {a = a} r) (item_functions {ss = us} s) = ap functions (laws.one_symbols ss us a r s)
-  one_item {g = g} (item_definition {x = x} {p = p} {a = a} r) (item_definition {p = q} s) = ap (λ (y : Written). definition x y) (one_whole g p q a r s)
-  one_item {g = g} (item_process {p = p} {a = a} r) (item_process {p = q} s) = ap (λ (y : Written). process y) (one_whole g p q a r s)
+  one_item {g = g} (item_definition {x = x} {p = p} {a = a} r) (item_definition {p = q} s) = ap (λ (y : Written). definition x y) (written.one g p q a r s)
+  one_item {g = g} (item_process {p = p} {a = a} r) (item_process {p = q} s) = ap (λ (y : Written). process y) (written.one g p q a r s)
   one_item {g = g} (item_statement {s = x} {a = a} r) (item_statement {s = y} s) = ap (λ (z : Statement). statement z) (stated.one g FILE_LIMITS x y a r s)
   one_item (item_builtins r) (item_statement s) = elim s [ ]
   one_item (item_functions r) (item_statement s) = elim s [ ]

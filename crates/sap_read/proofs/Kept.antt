@@ -11,14 +11,15 @@ use Rattle.indexmap.specs.IndexMap.{IndexMap, get}
 use Rattle.sap_process.specs.Proc as whole
 use Rattle.sap_process.specs.Proc.{Proc, node_count, level_count}
 use Rattle.sap_terms.proofs.PlainLaws.Lists.{drop_got}
-use Rattle.sap_read.specs.declared.draft.Definition.{Definition}
+use Rattle.sap_read.specs.declared.definition.Definition.{Definition}
 use Rattle.sap_read.specs.declared.fault.ReadFault.{ReadFault}
 use Rattle.sap_read.specs.declared.fault.ReadFault.TheVariants.{UnknownProcess}
 use Rattle.sap_read.specs.declared.names.Meant.{Meant}
-use Rattle.sap_read.specs.Written.{Written, nil, call, parallel, replicated, act, test, lookup}
+use Rattle.sap_draft.specs.Written.{Written, nil, call, parallel, replicated, act, test, lookup}
 use Rattle.sap_read.specs.Replaced.{calls, replaced, after_body, no_meaning}
 use Rattle.sap_read.specs.Causes.{first_of, listed, is_among, unknown_from}
-use Rattle.sap_read.specs.code.Drafts.{written, body}
+use Rattle.sap_draft.specs.Drafts.{written}
+use Rattle.sap_read.specs.code.Bodies.{body}
 use Rattle.sap_read.specs.code.Meaning.{meaning, AreMeant, nodes_kept, nodes_in, levels_kept, levels_in, unknown_among, index_kept, target, meant, kept_behind, IsCounted, AreCounted, is_call, IsTarget, AreBehind}
 
 -- the first unknown name of two lists

@@ -3,9 +3,9 @@ use Rattle.std.proofs.Common.{◌≡◌, ℕ, ◌+◌, List, ◌∷◌, ◌++◌
 use Rattle.std.specs.Prelude.{slice_get, is_none}
 use Rattle.std.specs.List.{list_any}
 use Rattle.std.specs.Str.{bytes_eq}
-use Rattle.sap_read.specs.declared.draft.Definition.{Definition}
+use Rattle.sap_read.specs.declared.definition.Definition.{Definition}
 use Rattle.sap_read.specs.Causes.{unlabelled, listed, labels, is_among, first_taken}
-use Rattle.sap_read.specs.code.Drafts.{body}
+use Rattle.sap_read.specs.code.Bodies.{body}
 use Rattle.sap_read.specs.code.Label.{AreSeen}
 use Rattle.sap_terms.proofs.PlainLaws.Lists.{drop_got}
 

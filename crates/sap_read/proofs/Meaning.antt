@@ -7,7 +7,7 @@ use Rattle.std.proofs.lemmas.Slice.Eq.{bytes_eq-Decides}
 use Rattle.std.proofs.lemmas.List.Folds.{list_any-append}
 use Rattle.sap_process.specs.Proc as whole
 use Rattle.sap_process.specs.Proc.{Proc}
-use Rattle.sap_read.specs.Written.{Written, nil, call, parallel, replicated, act, test, lookup}
+use Rattle.sap_draft.specs.Written.{Written, nil, call, parallel, replicated, act, test, lookup}
 use Rattle.sap_read.specs.Item.{Body}
 use Rattle.sap_read.specs.Replaced.{calls, replaced, with_meaning, after_body, process_of}
 use Rattle.sap_read.specs.Causes.{first_of, unlabelled, listed, labels, is_among, unknown_from, first_repeated}

@@ -24,11 +24,10 @@ use Rattle.sap_read.specs.Item.{signature_of}
 use Rattle.sap_read.specs.Causes.{cause_of, lock_fault}
 use Rattle.sap_read.specs.Files.{FileContent, AreTokens, IsParted, IsRead, no_tokens, no_header, no_item, refused, ill, locked, unchecked, accepted}
 use Rattle.sap_read.proofs.ItemsRead.{same_declarations, good_or_faulty, one_fault, one_items}
-use Rattle.sap_read.proofs.Processes.{one_process}
 use Rattle.sap_read.proofs.Unchecked.{one_unchecked, never_both}
 use Rattle.sap_read.specs.code.ItemLaws.{ItemLaws}
 use Rattle.sap_read.specs.code.StatementLaws.{StatementLaws}
-use Rattle.sap_read.specs.code.TermLaws.{AreRead}
+use Rattle.sap_read.specs.code.ProcessLaws.{ProcessLaws}
 use Rattle.sap_terms.specs.declared.limits.TheConstants.{MOST_FILE_NAME_BYTES}
 
 -- what its formulas make of it, where q is its process
@@ -80,12 +79,12 @@ in_steps (accepted {ts = ts} {x = x} {cut = cut} {is = is} {p = q} {q = r} p i c
     has_tokens ts p.tokens (has_parts x cut p (has_items is i (is_whole q c w (is_well r f a (is_checked h)))))
 
 -- items under their own signatures are the same
-pub same_items : ItemLaws → StatementLaws → AreRead → (cut : List (List Placed)) (is js : List Standing) → AreItems (signature_of is) cut is → AreItems (signature_of js) cut js → is ≡ js
-same_items laws stated read cut is js r s =
+pub same_items : ItemLaws → StatementLaws → ProcessLaws → (cut : List (List Placed)) (is js : List Standing) → AreItems (signature_of is) cut is → AreItems (signature_of js) cut js → is ≡ js
+same_items laws stated written cut is js r s =
     let same : signature_of is ≡ signature_of js = ap (signature_from pairs_alone) (same_declarations laws (signature_of is) (signature_of js) cut is js r s) in
-    one_items laws stated (one_process read) (signature_of js) cut is js (subst (λ (g : Sig). AreItems g cut is) same r) s
+    one_items laws stated written (signature_of js) cut is js (subst (λ (g : Sig). AreItems g cut is) same r) s
 
-module _ (laws : ItemLaws) (stated : StatementLaws) (read : AreRead) (one_fault_law : OneFaultLaw) (no_fault_law : NoFaultLaw) (one_flaw : (g : Sig) (p : Proc) (w v : Flaw) (path other : List ℕ) → IsFirstFlaw g p w path → IsFirstFlaw g p v other → (w ≡ v) × (path ≡ other))
+module _ (laws : ItemLaws) (stated : StatementLaws) (written : ProcessLaws) (one_fault_law : OneFaultLaw) (no_fault_law : NoFaultLaw) (one_flaw : (g : Sig) (p : Proc) (w v : Flaw) (path other : List ℕ) → IsFirstFlaw g p w path → IsFirstFlaw g p v other → (w ≡ v) × (path ≡ other))
     (no_flaw : (g : Sig) (p : Proc) (w : Flaw) (path : List ℕ) → IsFirstFlaw g p w path → IsWellFormed g p → ⊥)
     (one_annotation : (p q r : Proc) → IsAnnotation p q → IsAnnotation p r → q ≡ r)
     (one_lock_path : (p : Proc) (u w : LockFlaw) (a b : List ℕ) → IsFirstLockFlaw p u a → IsFirstLockFlaw p w b → a ≡ b)
@@ -129,7 +128,7 @@ module _ (laws : ItemLaws) (stated : StatementLaws) (read : AreRead) (one_fault_
   after_parts x last cut _ u (is_faulty n f) (has_items is i a) = absurd (good_or_faulty (signature_of is) last n cut is i f)
   after_parts x last cut o _ (has_items is i a) (is_faulty n f) = absurd (good_or_faulty (signature_of is) last n cut is i f)
   after_parts x last cut o u (has_items is i a) (has_items js j b) =
-      after_items x js o u (subst (λ (ks : List Standing). AfterItems x ks o) (same_items laws stated read cut is js i j) a) b
+      after_items x js o u (subst (λ (ks : List Standing). AfterItems x ks o) (same_items laws stated written cut is js i j) a) b
 
   after_tokens : (z : List ℕ) (ts : List Token) (o u : Result FileContent ReadFault) → AfterTokens z ts o → AfterTokens z ts u → o ≡ u
   after_tokens z ts _ _ (has_none f) (has_none h) = refl

@@ -1,5 +1,5 @@
 -- Bytes are read as something.
-use Rattle.std.proofs.Common.{◌≡◌, ℕ, Bool, true, false, List, [], ◌∷◌, drop, Option, Some, None, Ok, Err, inl, inr, refl, sym, ap, subst, ◌∙◌}
+use Rattle.std.proofs.Common.{◌≡◌, ℕ, Bool, true, false, List, [], ◌∷◌, drop, Option, Some, None, Ok, Err, inl, inr, refl, sym, ap, subst}
 use Rattle.std.specs.Prelude.{◌⊎◌, codes, Result, is_none, slice_get}
 use Rattle.sap_text.specs.declared.token.Token.{Token}
 use Rattle.sap_text.specs.Tokens.{Lexed, IsLexed}
@@ -11,15 +11,16 @@ use Rattle.sap_process.specs.Sorted.{with_sorts}
 use Rattle.sap_process.specs.declared.flaw.Flaw.{Flaw}
 use Rattle.sap_read.specs.declared.fault.ReadFault.{ReadFault}
 use Rattle.sap_read.specs.declared.fault.ReadFault.TheVariants.{Lex as LexFault, Header, Syntax, Ill}
-use Rattle.sap_terms.specs.declared.limits.TheConstants.{MOST_FILE_NAME_BYTES, MOST_PROCESS_LEVELS}
-use Rattle.sap_read.specs.declared.limits.TheConstants.{FILE_LIMITS}
+use Rattle.sap_terms.specs.declared.limits.TheConstants.{MOST_FILE_NAME_BYTES}
+use Rattle.sap_draft.specs.declared.limits.TheConstants.{FILE_LIMITS}
 use Rattle.sap_grammar.specs.Words.{Word, mark, starts, words_of}
-use Rattle.sap_grammar.specs.Reading.{Read, name_at}
-use Rattle.sap_read.specs.Written.{Written}
+use Rattle.sap_grammar.specs.Reading.{name_at}
+use Rattle.sap_draft.specs.Written.{Written}
 use Rattle.sap_read.specs.Item.{Item, definition, process, statement, Standing, declarations, Body, bodies, statements}
 use Rattle.sap_grammar.specs.Declarations.{Declaration}
 use Rattle.sap_grammar.specs.Cut.{Placed, placed, words, first_line, last_line}
-use Rattle.sap_read.specs.ItemGrammar.{IsProcess, IsItem, AreItems, IsSomeItem, IsFaulty, item_definition, item_process, item_statement}
+use Rattle.sap_draft.specs.ProcessGrammar.{IsProcess}
+use Rattle.sap_read.specs.ItemGrammar.{IsItem, AreItems, IsSomeItem, IsFaulty, item_definition, item_process, item_statement}
 use Rattle.sap_grammar.specs.Items.{items_end, items_more, no_end, bad_item, later_item}
 use Rattle.sap_grammar.specs.Signatures.{signature_from, clash_from}
 use Rattle.sap_read.specs.Item.{signature_of}
@@ -27,7 +28,6 @@ use Rattle.sap_read.specs.Replaced.{process_of, no_meaning, replaced, after_body
 use Rattle.sap_read.specs.Causes.{cause, cause_of, lock_fault, unlabelled}
 use Rattle.sap_read.specs.Files.{FileContent, AreTokens, IsParted, IsRead, no_tokens, no_header, no_item, refused, ill, locked, unchecked, accepted}
 use Rattle.sap_grammar.specs.ItemReading.{declared_in, declared_in_all}
-use Rattle.sap_read.specs.code.ProcessReading.{Levelled, par}
 use Rattle.sap_grammar.specs.ItemReading.{header_of}
 use Rattle.sap_formula.specs.Laws.{SomeFaultLaw}
 use Rattle.sap_statements.specs.declared.statement.Statement.{Statement}
@@ -36,32 +36,24 @@ use Rattle.sap_read.specs.Stated.{AreFaultless, IsFirstUnchecked, restrictions_o
 use Rattle.sap_read.proofs.Unchecked.{checked_or_not}
 use Rattle.sap_read.specs.code.StatementLaws.{StatementLaws}
 use Rattle.sap_read.specs.code.ItemLaws.{ItemLaws}
-use Rattle.sap_read.specs.code.TermLaws.{AreRead, AreSpelled}
-use Rattle.sap_read.proofs.OnRead.{starts_is}
+use Rattle.sap_read.specs.code.ProcessLaws.{ProcessLaws}
+use Rattle.sap_read.proofs.WordsRead.{starts_is}
 use Rattle.sap_read.proofs.Caused as caused
 use Rattle.sap_read.proofs.Parts.{items_of, parted}
 use Rattle.sap_read.proofs.ItemsRead.{declared_are, declared_sound}
 use Rattle.sap_read.proofs.ItemTurns.{definition_spelled, process_spelled, no_name, no_equals, no_colon, no_definition, no_process, no_other}
-use Rattle.sap_read.proofs.WholeProcesses.{whole_is, nothing_whole, no_other_whole}
 
 -- the words are a process under the signature, or under none
 abbrev WholeOrNone : Sig → List Word → Type 0
 WholeOrNone g ws = ((p : Written) × IsProcess g p ws) ⊎ ((h : Sig) (p : Written) → IsProcess h p ws → ⊥)
 
-abbrev read_up_to : Levelled → List Word → Read Levelled
-read_up_to w b = Some (w, b)
-
-module _ (laws : ItemLaws) (stated : StatementLaws) (read : AreRead) (spelled : AreSpelled) where
+module _ (laws : ItemLaws) (stated : StatementLaws) (written : ProcessLaws) where
   whole_or_none : (g : Sig) (ws : List Word) → WholeOrNone g ws
-  whole_or_none g ws = by (par g FILE_LIMITS MOST_PROCESS_LEVELS ws) refl
+  whole_or_none g ws = by (written.some g ws)
     where
-      ended : (r : Levelled × List Word) → par g FILE_LIMITS MOST_PROCESS_LEVELS ws ≡ Some r → (b : List Word) → r.1 ≡ b → WholeOrNone g ws
-      ended r e [] q = inl (r.0.0, whole_is read spelled g ws r.0.0 r.0.1 (e ∙ ap (read_up_to r.0) q))
-      ended r e (w ∷ more) q = inr (no_other_whole read spelled g ws r.1 r.0 e (λ none. absurd (cc (q, none))))
-
-      by : (o : Read Levelled) → par g FILE_LIMITS MOST_PROCESS_LEVELS ws ≡ o → WholeOrNone g ws
-      by None e = inr (nothing_whole read spelled g ws e)
-      by (Some r) e = ended r e r.1 refl
+      by : ((p : Written) × IsProcess g p ws) ⊎ ((p : Written) → IsProcess g p ws → ⊥) → WholeOrNone g ws
+      by (inl r) = inl r
+      by (inr never) = inr (λ h p r. let q = written.too h g p ws r in never q.0 q.1)
 
   -- the words are an item under the signature, or under none
   abbrev ItemOrNone : Sig → List Word → Type 0
@@ -178,7 +170,7 @@ IsLocked p = ((q : Proc) × IsAnnotation p q) ⊎ ((w : LockFlaw) × (path : Lis
 abbrev IsReadSo : List ℕ → Type 0
 IsReadSo z = (o : Result FileContent ReadFault) × IsRead z o
 
-module _ (laws : ItemLaws) (stated : StatementLaws) (read : AreRead) (spelled : AreSpelled) (faults : SomeFaultLaw) (judged : (g : Sig) (p : Proc) → IsJudged g p) (labelled : (p : Proc) → IsLocked p) (z : List ℕ) where
+module _ (laws : ItemLaws) (stated : StatementLaws) (written : ProcessLaws) (faults : SomeFaultLaw) (judged : (g : Sig) (p : Proc) → IsJudged g p) (labelled : (p : Proc) → IsLocked p) (z : List ℕ) where
   from_items : {ts : List Token} {x : List ℕ} {cut : List (List Placed)} (is : List Standing) → IsParted z ts x cut → AreItems (signature_of is) cut is → IsReadSo z
   from_items {x = x} is p i = by_cause (cause_of is) refl
     where
@@ -205,9 +197,9 @@ module _ (laws : ItemLaws) (stated : StatementLaws) (read : AreRead) (spelled : 
           by_flaw w.0 c w.1 (judged (signature_of is) w.0)
 
   from_parts : (ts : List Token) (x : List ℕ) (cut : List (List Placed)) → IsParted z ts x cut → IsReadSo z
-  from_parts ts x cut p = by (items_or_fault laws stated read spelled (signature_from pairs_alone (declared_in_all cut)) (last_line (placed z ts)) cut)
+  from_parts ts x cut p = by (items_or_fault laws stated written (signature_from pairs_alone (declared_in_all cut)) (last_line (placed z ts)) cut)
     where
-      by : ItemsOrFault laws stated read spelled (signature_from pairs_alone (declared_in_all cut)) (last_line (placed z ts)) cut → IsReadSo z
+      by : ItemsOrFault laws stated written (signature_from pairs_alone (declared_in_all cut)) (last_line (placed z ts)) cut → IsReadSo z
       by (inl r) = from_items r.0 p (subst (λ (g : Sig). AreItems g cut r.0) (ap (signature_from pairs_alone) (sym (declared_are laws r.1))) r.1)
       by (inr f) = (Err (Syntax f.0), no_item p f.1)
 

@@ -1,6 +1,6 @@
 -- What holds of a file whose items no cause refuses.
 use Rattle.std.proofs.Common.{◌≡◌, ◌≤◌, ℕ, List, [], ◌∷◌, ◌++◌, map, Option, Some, None, Bool, true, false, refl, ap, sym, subst}
-use Rattle.std.specs.Prelude.{nat_lt, if◌then◌else◌, is_none, is_some, option_map, slice_get}
+use Rattle.std.specs.Prelude.{codes, nat_lt, if◌then◌else◌, is_none, is_some, option_map, slice_get}
 use Rattle.std.proofs.lemmas.Bool.{ltb-false}
 use Rattle.std.specs.Str.{bytes_eq}
 use Rattle.sap_terms.specs.Equations.{pair_name}
@@ -9,7 +9,7 @@ use Rattle.sap_restrict.specs.Restrictions.{is_generated}
 use Rattle.sap_statements.specs.declared.statement.Statement.{Statement}
 use Rattle.sap_statements.specs.Statements.{name_of}
 use Rattle.sap_terms.specs.Laws.{BuiltinsStayHeld}
-use Rattle.sap_terms.specs.Signature.{Sig, HoldsBuiltins, added, arity_of, builtin_symbols, declared, declared_all, find_symbol, first_clash, pairs_alone, public_symbol}
+use Rattle.sap_terms.specs.Signature.{Sig, HoldsBuiltins, HoldsSymbols, added, arity_of, builtin_symbols, declared, declared_all, find_symbol, first_clash, pairs_alone, public_symbol}
 use Rattle.sap_terms.specs.declared.limits.TheConstants.{MOST_PROCESS_LEVELS, MOST_PROCESS_PLACES}
 use Rattle.sap_process.specs.Proc.{Proc, node_count, level_count}
 use Rattle.sap_read.specs.Causes.{above, cause, first_of, first_repeated, first_taken, labels, unknown_from, unlabelled}
@@ -29,8 +29,11 @@ nothing_in : {A B : Type 0} (f : A → B) (o : Option A) → option_map f o ≡ 
 nothing_in f None h = refl
 nothing_in f (Some x) h = absurd (cc (h))
 
--- declarations don't clash, and the process isn't too large
-pub no_cause : (bs : List Body) (ss : List Statement) (clash : Option (List ℕ)) → cause bs ss clash ≡ None → (clash ≡ None) × (above node_count MOST_PROCESS_PLACES TooMany (process_of no_meaning bs) ≡ None)
+-- declarations don't clash, the process is neither too large nor too deep, and no name of a restriction or lemma is taken
+pub no_cause : (bs : List Body) (ss : List Statement) (clash : Option (List ℕ)) → cause bs ss clash ≡ None
+    → (clash ≡ None) × (above node_count MOST_PROCESS_PLACES TooMany (process_of no_meaning bs) ≡ None)
+    × (above level_count MOST_PROCESS_LEVELS TooDeep (process_of no_meaning bs) ≡ None)
+    × (first_taken is_generated (map name_of ss) ≡ None)
 no_cause bs ss clash h =
     let none : Option ReadFault = if is_none (slice_get (unlabelled bs) 0) then Some NoProcess else None in
     let two : Option ReadFault = option_map (λ (b : Body). TwoProcesses b.line) (slice_get (unlabelled bs) 1) in
@@ -44,16 +47,21 @@ no_cause bs ss clash h =
     let behind_two = (neither two (first_of (unknown ∷ twice ∷ taken ∷ clashing ∷ large ∷ deep ∷ [])) behind_none).1 in
     let behind_unknown = (neither unknown (first_of (twice ∷ taken ∷ clashing ∷ large ∷ deep ∷ [])) behind_two).1 in
     let behind_twice = (neither twice (first_of (taken ∷ clashing ∷ large ∷ deep ∷ [])) behind_unknown).1 in
-    let behind_taken = (neither taken (first_of (clashing ∷ large ∷ deep ∷ [])) behind_twice).1 in
-    let at_clashing = neither clashing (first_of (large ∷ deep ∷ [])) behind_taken in
-    (nothing_in FunctionClash clash at_clashing.0, (neither large (first_of (deep ∷ [])) at_clashing.1).0)
+    let at_taken = neither taken (first_of (clashing ∷ large ∷ deep ∷ [])) behind_twice in
+    let at_clashing = neither clashing (first_of (large ∷ deep ∷ [])) at_taken.1 in
+    let at_large = neither large (first_of (deep ∷ [])) at_clashing.1 in (
+      nothing_in FunctionClash clash at_clashing.0,
+      at_large.0,
+      (neither deep None at_large.1).0,
+      nothing_in DuplicateName (first_taken is_generated (map name_of ss)) at_taken.0,
+    )
 
 -- a process that isn't above a limit
-pub not_above : (most : ℕ) (e : ReadFault) (p : Proc) → above node_count most e (Some p) ≡ None → node_count p ≤ most
-not_above most e p h = by (nat_lt most (node_count p)) refl h where
-  by : (t : Bool) → nat_lt most (node_count p) ≡ t → (if t then Some e else None) ≡ None → node_count p ≤ most
+pub not_above : (measure : Proc → ℕ) (most : ℕ) (e : ReadFault) (p : Proc) → above measure most e (Some p) ≡ None → measure p ≤ most
+not_above measure most e p h = by (nat_lt most (measure p)) refl h where
+  by : (t : Bool) → nat_lt most (measure p) ≡ t → (if t then Some e else None) ≡ None → measure p ≤ most
   by true q h = absurd (cc (h))
-  by false q h = ltb-false most (node_count p) q
+  by false q h = ltb-false most (measure p) q
 
 -- declarations that don't clash leave the symbols of builtins held
 module _ (laws : BuiltinsStayHeld) where
@@ -101,6 +109,15 @@ pub symbol_stays : (g : Sig) (ds : List Declaration) (s : Symbol) (n : List ℕ)
 symbol_stays g [] s n h = h
 symbol_stays g (d ∷ ds) s n h = symbol_stays (with_declaration g d) ds s n (behind_declaration g d s n h)
 
--- so pairs are held in each signature that declarations make
+-- so pairs are held in each signature that declarations make, with what belongs to them
+pub pairs_stay : (ds : List Declaration) → HoldsSymbols (signature_from pairs_alone ds).symbols pairs_alone.symbols
+pairs_stay ds = (
+  symbol_stays pairs_alone ds (public_symbol (codes "pair") 2) (codes "pair") refl,
+  (
+    symbol_stays pairs_alone ds (public_symbol (codes "fst") 1) (codes "fst") refl,
+    (symbol_stays pairs_alone ds (public_symbol (codes "snd") 1) (codes "snd") refl, tt),
+  ),
+)
+
 pub pairs_held : (ds : List Declaration) → arity_of (signature_from pairs_alone ds) pair_name ≡ Some 2
 pairs_held ds = ap (option_map (λ (s : Symbol). s.arity)) (symbol_stays pairs_alone ds (public_symbol pair_name 2) pair_name refl)

@@ -8,7 +8,7 @@ use Rattle.sap_grammar.specs.Declarations.{Declaration, of_builtin, of_symbol}
 use Rattle.sap_grammar.specs.Items as items
 use Rattle.sap_grammar.specs.Items.{declared_by_all}
 use Rattle.sap_statements.specs.declared.statement.Statement.{Statement}
-use Rattle.sap_read.specs.Written.{Written}
+use Rattle.sap_draft.specs.Written.{Written}
 
 pub data Item : Type 0 where
   builtins : List Builtin → Item

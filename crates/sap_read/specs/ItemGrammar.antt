@@ -1,6 +1,5 @@
 -- Which words spell an item, and which items a file.
-use Rattle.std.specs.Prelude.{◌≤◌, ℕ, codes, List, [], ◌∷◌}
-use Rattle.sap_terms.specs.declared.limits.TheConstants.{MOST_PROCESS_LEVELS}
+use Rattle.std.specs.Prelude.{ℕ, codes, List, ◌∷◌}
 use Rattle.sap_terms.specs.declared.signature.Symbol.{Symbol}
 use Rattle.sap_terms.specs.declared.signature.Builtin.{Builtin}
 use Rattle.sap_terms.specs.Signature.{Sig}
@@ -10,16 +9,10 @@ use Rattle.sap_grammar.specs.Declarations.{AreBuiltins, AreSymbols}
 use Rattle.sap_grammar.specs.Items as items
 use Rattle.sap_statements.specs.declared.statement.Statement.{Statement}
 use Rattle.sap_statements.specs.Statements.{IsStatement}
-use Rattle.sap_read.specs.declared.limits.TheConstants.{FILE_LIMITS}
-use Rattle.sap_read.specs.Written.{Written}
-use Rattle.sap_read.specs.ProcessGrammar.{IsPar}
+use Rattle.sap_draft.specs.declared.limits.TheConstants.{FILE_LIMITS}
+use Rattle.sap_draft.specs.Written.{Written}
+use Rattle.sap_draft.specs.ProcessGrammar.{IsProcess}
 use Rattle.sap_read.specs.Item.{Item, builtins, functions, definition, process, statement, Standing}
-
--- a process in at most MOST_PROCESS_LEVELS levels, whose terms keep to a file's limits, and nothing else
-pub record IsProcess (g : Sig) (p : Written) (a : List Word) : Type 0 where
-  pub levels : ℕ
-  pub spelled : IsPar g FILE_LIMITS p levels a []
-  pub few_levels : levels ≤ MOST_PROCESS_LEVELS
 
 pub data IsItem (g : Sig) : Item → List Word → Type 0 where
   item_builtins : {bs : List Builtin} {a : List Word} → AreBuiltins bs a → IsItem g (builtins bs) (mark (codes "builtins") ∷ mark (codes ":") ∷ a)

@@ -1,6 +1,5 @@
 pub use Rattle.sap_text.specs.Tokens
 pub use Rattle.sap_text.specs.Spans
-pub use Rattle.sap_process.specs.Action
 pub use Rattle.sap_process.specs.Proc
 pub use Rattle.sap_formula.specs.Form
 pub use Rattle.sap_grammar.specs.Words
@@ -11,15 +10,17 @@ pub use Rattle.sap_grammar.specs.Cut
 pub use Rattle.sap_grammar.specs.Declarations
 pub use Rattle.sap_grammar.specs.Signatures
 pub use Rattle.sap_grammar.specs.Items
+pub use Rattle.sap_draft.specs.Written
+pub use Rattle.sap_draft.specs.ProcessGrammar
+pub use Rattle.sap_draft.specs.ProcessExamples
 pub use Rattle.sap_statements.specs.FormulaGrammar
 pub use Rattle.sap_statements.specs.Statements
-pub mod Written
-pub mod ProcessGrammar
 pub mod Item
 pub mod ItemGrammar
 pub mod Replaced
 pub mod Causes
 pub mod Stated
 pub mod Files
-pub mod ProcessExamples
+pub mod Printable
+pub mod OwnNames
 pub mod code

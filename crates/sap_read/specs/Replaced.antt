@@ -3,7 +3,7 @@ use Rattle.std.specs.Prelude.{ℕ, List, [], ◌∷◌, ◌++◌, Option, Some, 
 use Rattle.std.specs.Str.{bytes_eq}
 use Rattle.sap_process.specs.Proc as whole
 use Rattle.sap_process.specs.Proc.{Proc}
-use Rattle.sap_read.specs.Written.{Written, nil, call, parallel, replicated, act, test, lookup}
+use Rattle.sap_draft.specs.Written.{Written, nil, call, parallel, replicated, act, test, lookup}
 use Rattle.sap_read.specs.Item.{Body}
 
 -- the names in a process, from left to right

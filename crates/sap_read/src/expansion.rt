@@ -4,12 +4,13 @@ ghost use Rattle.sap_terms.specs.View.{tree};
 ghost use Rattle.sap_process.specs.Action as action;
 ghost use Rattle.sap_process.specs.Proc.{proc, act, test, lookup, level_count};
 ghost use Rattle.sap_read.specs.Replaced.{replaced};
-ghost use Rattle.sap_read.specs.code.Drafts.{doing, written};
+ghost use Rattle.sap_draft.specs.Drafts.{doing, written};
 ghost use Rattle.sap_read.specs.code.Meaning.{meaning_of, AreExpanded, IsFormed, with_one, with_two};
 ghost use Rattle.sap_read.specs.code.DraftView.{IsBelow};
 
-use crate::draft::{Definition, Doing, Draft};
+use crate::definition::Definition;
 use crate::names::Names;
+use sap_draft::{Doing, Draft};
 use sap_process::Process;
 use sap_terms::{Copied, Fact, FactList, Items, Mem, Term, Var};
 use std::alloc::Global;

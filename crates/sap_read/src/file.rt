@@ -3,7 +3,7 @@ ghost use Rattle.sap_text.specs.Tokens.{IsLexed};
 ghost use Rattle.sap_text.specs.declared.fault.Lex.{Lex};
 ghost use Rattle.sap_grammar.specs.Cut.{Placed, placed, IsCut};
 ghost use Rattle.sap_read.specs.code.Judged.{AreAccepted, IsAccepted, IsAnnotated, IsFlawed, IsRefused, IsRefusedAs, IsRefusedCut, IsSound, IsUnsound};
-ghost use Rattle.sap_read.specs.code.Drafts.{body};
+ghost use Rattle.sap_read.specs.code.Bodies.{body};
 ghost use Rattle.sap_read.specs.Files.{AreTokens};
 ghost use Rattle.sap_process.specs.Proc.{node_count, proc};
 ghost use Rattle.sap_locks.specs.Annotation.{IsAnnotation, IsFirstLockFlaw, LockFlaw};

@@ -7,11 +7,10 @@ ghost use Rattle.sap_read.specs.code.ItemView.{AreSaid, IsAdded, IsPushed, IsSta
 ghost use Rattle.sap_read.specs.declared.fault.ReadFault.{ReadFault};
 ghost use Rattle.sap_read.specs.declared.fault.ReadFault.TheVariants.{Mem as OutOfMemory, Syntax};
 
-use crate::draft::Definition;
+use crate::definition::Definition;
 use crate::fault::ReadFault;
 use crate::laws::item_laws;
-use crate::limits::FILE_LIMITS;
-use crate::process::read_process;
+use sap_draft::{FILE_LIMITS, read_process};
 use sap_grammar::{beyond, is_declaration, is_last, line_of, name_at, split_item, starts};
 use sap_statements::{Statement, read_statement};
 use sap_terms::{Items, Mem, Name, Signature};

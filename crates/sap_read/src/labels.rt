@@ -2,12 +2,12 @@
 ghost use Rattle.std.specs.Prelude.{◌≡◌, ◌<◌, ℕ, List, [], ◌∷◌, map, drop, slice_get, Option, Some, MatchOption, IfOk, IfSome, IfErr};
 ghost use Rattle.sap_read.specs.declared.fault.ReadFault.{ReadFault};
 ghost use Rattle.sap_statements.specs.declared.statement.Statement.{Statement};
-ghost use Rattle.sap_read.specs.declared.draft.Definition.{Definition};
+ghost use Rattle.sap_read.specs.declared.definition.Definition.{Definition};
 ghost use Rattle.sap_read.specs.Causes.{cause, unlabelled};
-ghost use Rattle.sap_read.specs.code.Drafts.{body};
+ghost use Rattle.sap_read.specs.code.Bodies.{body};
 ghost use Rattle.sap_read.specs.code.Label.{IsProcessAt};
 
-use crate::draft::Definition;
+use crate::definition::Definition;
 use crate::fault::ReadFault;
 use sap_terms::Items;
 

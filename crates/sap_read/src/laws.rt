@@ -1,49 +1,52 @@
 ghost use Rattle.std.specs.Prelude.{◌≡◌, ◌⊎◌, ℕ, List, [], Result, Ok, Err};
 ghost use Rattle.sap_terms.specs.declared.fact.Fact.{Fact};
 ghost use Rattle.sap_terms.specs.Tree.{Tree, level_count};
-ghost use Rattle.sap_terms.specs.Signature.{Sig, pairs_alone};
+ghost use Rattle.sap_terms.specs.Signature.{Sig};
 ghost use Rattle.sap_grammar.specs.Words.{Word};
 ghost use Rattle.sap_grammar.specs.TermGrammar.{IsTerm};
 ghost use Rattle.sap_grammar.specs.FactGrammar.{IsFact, fact_levels};
 ghost use Rattle.sap_read.specs.code.ItemLaws.{ItemLaws};
 ghost use Rattle.sap_read.specs.code.StatementLaws.{StatementLaws};
-ghost use Rattle.sap_read.specs.code.TermLaws.{AreRead, AreSpelled};
-ghost use Rattle.sap_read.specs.Written.{Written};
-ghost use Rattle.sap_read.specs.ProcessGrammar.{IsPar, EndsProcess};
-ghost use Rattle.sap_read.specs.ProcessExamples.{dangling_words, dangling_process, parted_words, parted_process, parallel_words, parallel_process, action_words, action_process, rule_words, rule_process, lookup_words, lookup_process};
+ghost use Rattle.sap_read.specs.code.ProcessLaws.{ProcessLaws};
+ghost use Rattle.sap_draft.specs.Written.{Written};
+ghost use Rattle.sap_draft.specs.ProcessGrammar.{IsPar};
 ghost use Rattle.sap_grammar.specs.Cut.{Placed, IsCut};
 ghost use Rattle.sap_read.specs.Item.{Standing};
 ghost use Rattle.sap_read.specs.ItemGrammar.{AreItems};
 ghost use Rattle.sap_read.specs.Item.{signature_of};
 ghost use Rattle.sap_read.specs.Files.{FileContent, IsRead, IsRunnable};
+ghost use Rattle.sap_read.specs.Printable.{IsPrintableFile};
+ghost use Rattle.sap_read.specs.OwnNames.{IsNamedApart};
+ghost use Rattle.sap_terms.specs.declared.limits.TheConstants.{MOST_FILE_NAME_BYTES};
 ghost use Rattle.sap_process.specs.Proc.{Proc};
 ghost use Rattle.sap_process.specs.Flaws.{IsFirstFlaw, IsWellFormed};
 ghost use Rattle.sap_process.specs.declared.flaw.Flaw.{Flaw};
 ghost use Rattle.sap_read.specs.declared.fault.ReadFault.{ReadFault};
 ghost use Rattle.sap_statements.specs.declared.statement.Statement.{Statement};
 ghost use Rattle.sap_statements.specs.Statements.{IsStatement};
-ghost use Rattle.sap_read.specs.declared.limits.TheConstants.{FILE_LIMITS};
 ghost use Rattle.sap_grammar.specs.declared.limits.Limits.{Limits};
 
+use sap_draft::{one_process, processes_are_printable, same_processes, some_process};
 use sap_formula::{faultless_formulas_are_checked, one_fault, some_fault};
 use sap_grammar::{
-    declarations_are_read, facts_are_read, headers_are_read, same_grammar, terms_are_read,
-    words_are_cut,
+    declarations_are_read, headers_are_read, same_grammar, words_are_cut, words_of_bytes,
 };
 use sap_locks::annotations_of_processes;
 use sap_process::{one_flaw, some_flaw, sorting_keeps};
-use sap_statements::{one_statement, same_statements, some_statement};
+use sap_statements::{
+    faultless_formulas_keep_signs, formulas_are_printable, one_statement, same_statements,
+    some_statement, sorts_are_kept,
+};
 use sap_terms::builtins_stay_held;
 use sap_text::{one_answer, some_answer};
 
-/// What the laws of terms and facts say, as the proofs on processes need it.
-pub(crate) fn term_laws()
-    ensures read { AreRead }
-    ensures spelled { AreSpelled }
+/// What the laws of processes say, as the proofs on files need it.
+pub(crate) fn process_laws()
+    ensures { ProcessLaws }
 {
-    terms_are_read();
-    facts_are_read();
-    same_grammar();
+    one_process();
+    same_processes();
+    some_process();
 }
 
 /// What the laws of headers, cuts and declarations say, as the proofs on files need it.
@@ -64,21 +67,6 @@ pub(crate) fn statement_laws()
     some_statement();
 }
 
-/// A law: from one place words spell at most one process that nothing of it follows, with one number of levels, and end it
-/// at one place. So all of some words spell at most one.
-pub fn one_process()
-    ensures place { (g : Sig) (m : Limits) (n k : ℕ) (p q : Written)
-        (a b c : List Word) → IsPar g m p n a b
-        → IsPar g m q k a c
-        → EndsProcess b → EndsProcess c → (p ≡ q) × (n ≡ k) × (b ≡ c) }
-    ensures whole { (g : Sig) (m : Limits) (n k : ℕ) (p q : Written)
-        (a : List Word) → IsPar g m p n a []
-        → IsPar g m q k a []
-        → (p ≡ q) × (n ≡ k) }
-{
-    term_laws();
-}
-
 /// A law: which words are a term, a fact or a process, and of how many levels, is the same under each signature, and which are
 /// a restriction or a lemma. The signature says only which identifiers are constants.
 pub fn grammar_is_one()
@@ -93,26 +81,16 @@ pub fn grammar_is_one()
         → (t : Statement) × IsStatement h m t a }
 {
     same_grammar();
-    term_laws();
+    same_processes();
     statement_laws();
 }
-
-/// A law: six worked examples of which words spell which process, with how many levels.
-pub fn processes_by_hand()
-    ensures dangling { (g : Sig) → IsPar g FILE_LIMITS dangling_process 3 dangling_words [] }
-    ensures parted { (g : Sig) → IsPar g FILE_LIMITS parted_process 4 parted_words [] }
-    ensures parallel { (g : Sig) → IsPar g FILE_LIMITS parallel_process 3 parallel_words [] }
-    ensures actions { IsPar pairs_alone FILE_LIMITS action_process 5 action_words [] }
-    ensures rule { (g : Sig) → IsPar g FILE_LIMITS rule_process 2 rule_words [] }
-    ensures lookup { (g : Sig) → IsPar g FILE_LIMITS lookup_process 3 lookup_words [] }
-{}
 
 /// A law: bytes are read as one file at most, or refused for one cause, and never both.
 pub fn one_file()
     ensures { (z : List ℕ) (o u : Result FileContent ReadFault) → IsRead z o → IsRead z u → o ≡ u }
 {
     item_laws();
-    term_laws();
+    process_laws();
     statement_laws();
     one_answer();
     one_flaw();
@@ -125,7 +103,7 @@ pub fn some_file()
     ensures { (z : List ℕ) → ((o : Result FileContent ReadFault) × IsRead z o) }
 {
     item_laws();
-    term_laws();
+    process_laws();
     statement_laws();
     some_answer();
     some_flaw();
@@ -152,6 +130,25 @@ pub fn files_are_runnable()
     faultless_formulas_are_checked();
 }
 
+/// A law: what is read of a file can be printed. Its names are names of a file, no longer than those may be; no symbol stands
+/// twice in its signature, each can be declared, and those of pairs are held; its process is no deeper than one that is read may
+/// be, its terms and facts, its restrictions and its lemmas are such that words spell them, and what it shows is linear.
+pub fn files_are_printable()
+    ensures { (z : List ℕ) (f : FileContent) → IsRead z (Ok f) → IsPrintableFile MOST_FILE_NAME_BYTES f }
+{
+    words_of_bytes();
+    processes_are_printable();
+    formulas_are_printable();
+    sorts_are_kept();
+    faultless_formulas_keep_signs();
+}
+
+/// A law: each restriction and each lemma of a file that is read has a name of its own, and none of the seven restrictions that a
+/// theory may get has it.
+pub fn files_are_named_apart()
+    ensures { (z : List ℕ) (f : FileContent) → IsRead z (Ok f) → IsNamedApart f }
+{}
+
 /// A law: the words behind a header are cut into items in one way, and spell at most one list of items, under a signature and
 /// under that of the items themselves.
 pub fn one_list_of_items()
@@ -164,6 +161,6 @@ pub fn one_list_of_items()
         → is ≡ js }
 {
     item_laws();
-    term_laws();
+    process_laws();
     statement_laws();
 }

@@ -1,7 +1,7 @@
 //! Files, read from their bytes: their processes, what they declare, and their restrictions and lemmas.
 #![tactic(auto)]
 
-mod draft;
+mod definition;
 mod expansion;
 mod fault;
 mod file;
@@ -9,9 +9,7 @@ mod formulas;
 mod items;
 mod labels;
 mod laws;
-mod limits;
 mod names;
-mod process;
 mod taken;
 mod terms;
 mod whole;
@@ -19,10 +17,10 @@ mod whole;
 pub use fault::ReadFault;
 pub use file::{File, read_file, read_file_boxed};
 pub use laws::{
-    file_unless_refused, files_are_runnable, grammar_is_one, one_file, one_list_of_items,
-    one_process, processes_by_hand, some_file,
+    file_unless_refused, files_are_named_apart, files_are_printable, files_are_runnable,
+    grammar_is_one, one_file, one_list_of_items, some_file,
 };
-pub use limits::FILE_LIMITS;
+pub use sap_draft::{FILE_LIMITS, one_process, processes_by_hand};
 pub use sap_grammar::{one_fact, one_term};
 pub use sap_statements::{one_formula, one_statement};
 pub use terms::{read_fact, read_formula, read_term};

@@ -7,12 +7,14 @@ ghost use Rattle.sap_read.specs.declared.fault.ReadFault.{ReadFault};
 ghost use Rattle.sap_read.specs.declared.fault.ReadFault.TheVariants.{Mem as OutOfMemory, UnknownProcess as IsUnknown};
 ghost use Rattle.sap_read.specs.Replaced.{calls};
 ghost use Rattle.sap_read.specs.Causes.{unknown_from};
-ghost use Rattle.sap_read.specs.code.Drafts.{written, body};
+ghost use Rattle.sap_draft.specs.Drafts.{written};
+ghost use Rattle.sap_read.specs.code.Bodies.{body};
 ghost use Rattle.sap_read.specs.code.Meaning.{nodes_in, levels_in, unknown_among, target, kept_behind, AreCounted, AreTargets, meaning_of};
 
-use crate::draft::{Definition, Draft};
+use crate::definition::Definition;
 use crate::fault::ReadFault;
 use indexmap::IndexMap;
+use sap_draft::Draft;
 use sap_terms::{Copied, Items, Mem, Name};
 use std::alloc::Global;
 

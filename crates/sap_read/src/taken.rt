@@ -5,10 +5,10 @@ ghost use Rattle.std.specs.Str.{bytes_eq};
 ghost use Rattle.sap_restrict.specs.Restrictions.{is_generated};
 ghost use Rattle.sap_statements.specs.Statements.{name_of};
 ghost use Rattle.sap_read.specs.Causes.{labels, listed, first_taken, first_repeated};
-ghost use Rattle.sap_read.specs.code.Drafts.{body};
+ghost use Rattle.sap_read.specs.code.Bodies.{body};
 ghost use Rattle.sap_read.specs.code.Label.{name_there};
 
-use crate::draft::Definition;
+use crate::definition::Definition;
 use indexmap::IndexSet;
 use sap_restrict::is_generated;
 use sap_statements::Statement;

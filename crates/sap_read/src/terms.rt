@@ -8,9 +8,9 @@ ghost use Rattle.sap_grammar.specs.Places.{IsTermAt, IsFactAt};
 ghost use Rattle.sap_formula.specs.Form.{Form};
 ghost use Rattle.sap_formula.specs.View.{form};
 ghost use Rattle.sap_statements.specs.FormulaGrammar.{IsFormulaAt};
-ghost use Rattle.sap_read.specs.declared.limits.TheConstants.{FILE_LIMITS};
+ghost use Rattle.sap_draft.specs.declared.limits.TheConstants.{FILE_LIMITS};
 
-use crate::limits::FILE_LIMITS;
+use sap_draft::FILE_LIMITS;
 use sap_formula::Formula;
 use sap_terms::{Fact, Mem, Signature, Term};
 use sap_text::Token;

@@ -10,7 +10,8 @@ use sap_terms::Mem;
 use std::alloc::Global;
 
 /// The formula under the restrictions, which are joined leftmost first: for all traces they imply it, for some trace they are
-/// true with it. Want of memory is the only error. It recurses as deep as the formulas.
+/// true with it. Want of memory is the only error. It recurses as deep as each formula that it is given, and not as deep as
+/// the answer.
 pub fn inline(
     alloc: Global,
     restrictions: &RestrictionList,

@@ -1,6 +1,6 @@
 -- What the equations make of a symbol on normal forms.
 use Rattle.std.proofs.Common.{◌≡◌, ◌<◌, ℕ, ◌+◌, Bool, false, List, [], ◌∷◌, ◌++◌, length, take, sym, subst, ◌∙◌}
-use Rattle.std.specs.Prelude.{slice_get, nat_eq, Some}
+use Rattle.std.specs.Prelude.{slice_get, nat_eq, Some, All}
 use Rattle.std.specs.Cmp.{unsigned_Decides}
 use Rattle.std.specs.Cmp.Lexicographic.{pointwise, pointwise_decides}
 use Rattle.std.specs.List.{AllZip}
@@ -10,7 +10,8 @@ use Rattle.sap_terms.proofs.PlainLaws.Lists.{map_got}
 use Rattle.sap_terms.specs.Equal.{IsTheoryEqual}
 use Rattle.sap_terms.specs.Equations.{Equations, IsInstance, app0, true_name}
 use Rattle.sap_terms.specs.Normal.{IsNormal, AreNormal, IsNoLeftSide, IsNormalForm}
-use Rattle.sap_terms.specs.Tree.{Tree, apply, trees_of}
+use Rattle.sap_terms.specs.Tree.{Tree, apply, trees_of, node_count}
+use Rattle.sap_rewrite.specs.Large.{HasLargeForm}
 use Rattle.sap_rewrite.specs.Laws.{EqualityIsKept, SymbolsReduceOnce}
 use Rattle.sap_share.specs.Shared.{tree_at, trees_at, node_tree, AreBelow, HaveOneNumber}
 use Rattle.sap_share.specs.declared.node.Node.{Node}
@@ -68,6 +69,15 @@ form_other ts f ks js once below forms_below b off test same =
     let nodes : App f js ≡ App f ks = nodes_same ts once (App f js) (App f ks) forms_below below same in
     let numbers : js ≡ ks = cc in
     false≢true (sym off ∙ test ∙ (pointwise_decides unsigned_Decides ks js).1 (sym numbers))
+
+-- a symbol on normal trees that no equation fits has a large form where it is large itself
+pub large_own : SymbolsReduceOnce → (e : Equations) (f : List ℕ) (ts : List Tree) (most : ℕ) → All (IsNormal e) ts → IsNoLeftSide e (apply f (trees_of ts)) → most < node_count (apply f (trees_of ts))
+    → HasLargeForm e most (apply f (trees_of ts))
+large_own reduce e f ts most normal none large = record {
+  form = apply f (trees_of ts);
+  is_form = reduce.own_form e f (trees_of ts) (reduce.of_lists e ts normal) none;
+  large = large;
+}
 
 -- a normal tree is its own normal form
 pub own_form : EqualityIsKept → (e : Equations) (t : Tree) → IsNormal e t → IsNormalForm e t t

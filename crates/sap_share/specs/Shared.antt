@@ -40,6 +40,10 @@ IsHeld g (Public n) = Unit {0}
 IsHeld g (Fresh k) = Unit {0}
 IsHeld g (App f ks) = arity_of g f ≡ Some (length ks)
 
+-- the node's tree has no number
+abbrev pub IsNew : List Tree → Node → Type 0
+IsNew ts n = (k : ℕ) → k < length ts → tree_at ts k ≡ node_tree ts n → ⊥
+
 -- numbers keep their meaning
 pub record Keeps (old new : Shared) : Type 0 where
   pub sig : new.sig ≡ old.sig

@@ -6,6 +6,7 @@ mod evaluate;
 mod fits;
 mod intern;
 mod node;
+mod normal_on;
 mod put;
 mod shape;
 mod side;

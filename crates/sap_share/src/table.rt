@@ -7,8 +7,7 @@ ghost use Rattle.sap_terms.specs.Message.{IsOver};
 ghost use Rattle.sap_terms.specs.Normal.{IsNormal, IsNormalForm};
 ghost use Rattle.sap_terms.specs.Equations.{equations};
 ghost use Rattle.sap_terms.specs.Tree.{node_count};
-ghost use Rattle.sap_share.specs.Shared.{tree_at, node_tree, StandsBelow, IsHeld, HaveOneNumber};
-ghost use Rattle.sap_share.specs.code.Inside.{IsNew};
+ghost use Rattle.sap_share.specs.Shared.{tree_at, node_tree, StandsBelow, IsHeld, HaveOneNumber, IsNew};
 
 use crate::Node;
 use indexmap::IndexSet;
@@ -199,7 +198,7 @@ impl Table {
     }
 
     /// The number of a node, where it has one.
-    pub(crate) fn number_of(&self, node: &Node) -> Option<u64>
+    pub fn number_of(&self, node: &Node) -> Option<u64>
         requires { StandsBelow (length self.now.trees) node.now }
         ensures found { IfSome result (λ k. (k < length self.now.trees) × (tree_at self.now.trees k ≡ node_tree self.now.trees node.now)) }
         ensures none { IfNone result (IsNew self.now.trees node.now) }
@@ -207,9 +206,9 @@ impl Table {
         find(&self.nodes, node)
     }
 
-    // How many nodes a node's tree has.
+    /// How many nodes a node's tree has.
     #[tactic(auto, using(crate::proofs::Sizes::size_laws))]
-    fn size_of(&self, node: &Node) -> u64
+    pub(crate) fn size_of(&self, node: &Node) -> u64
         requires { StandsBelow (length self.now.trees) node.now }
         ensures { result ≡ min (node_count (node_tree self.now.trees node.now)) u64.MAX }
     {

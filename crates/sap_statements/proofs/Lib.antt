@@ -11,3 +11,4 @@ pub mod Statements
 pub mod ByHand
 pub mod Printable
 pub mod Sorting
+pub mod OwnSorts

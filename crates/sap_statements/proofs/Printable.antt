@@ -8,7 +8,7 @@ use Rattle.sap_terms.specs.Signature.{Sig}
 use Rattle.sap_formula.specs.Form.{Form}
 use Rattle.sap_formula.specs.declared.binder.Binder.{Binder}
 use Rattle.sap_grammar.specs.Words.{Word, mark, is_lower}
-use Rattle.sap_grammar.specs.Cut.{is_item_word, IsFree}
+use Rattle.sap_grammar.specs.Cut.{IsFree}
 use Rattle.sap_grammar.specs.TermGrammar.{IsTerm, term_constant, term_fresh, term_message, term_pub, term_quoted, term_symbol, term_tuple}
 use Rattle.sap_grammar.specs.ByteWords.{IsName, AreTokenWords}
 use Rattle.sap_grammar.specs.Printed.{ArePrinted}

@@ -5,7 +5,7 @@ use Rattle.sap_terms.specs.Modulo.{instance_fact}
 use Rattle.sap_terms.specs.Tree.{variable}
 use Rattle.sap_terms.specs.declared.var.Sort.{Sort}
 use Rattle.sap_terms.specs.declared.var.Sort.TheVariants.{Msg, Fresh, Pub}
-use Rattle.sap_formula.specs.Form.{Form, RestrictionForm, LemmaForm, action, both, earlier, either, equal, equivalent, every, exists, falsity, implies, negation, same_time, truth}
+use Rattle.sap_formula.specs.Form.{Form, action, both, earlier, either, equal, equivalent, every, exists, falsity, implies, negation, same_time, truth}
 use Rattle.sap_formula.specs.Checked.{enter, find_binder}
 use Rattle.sap_formula.specs.declared.binder.Binder.{Binder}
 use Rattle.sap_formula.specs.declared.binder.Binder.TheVariants.{Message, Time}

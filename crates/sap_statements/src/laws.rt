@@ -1,7 +1,9 @@
 //! What is so of formulas, restrictions and lemmas as text.
-ghost use Rattle.std.specs.Prelude.{◌≡◌, ◌≤◌, ◌⊎◌, ℕ, List, []};
+ghost use Rattle.std.specs.Prelude.{◌≡◌, ◌≤◌, ◌⊎◌, ℕ, Bool, List, []};
 ghost use Rattle.sap_terms.specs.Signature.{Sig, pairs_alone};
+ghost use Rattle.sap_formula.specs.Faults.{HasNoFault};
 ghost use Rattle.sap_formula.specs.Form.{Form};
+ghost use Rattle.sap_formula.specs.Sorted.{with_sorts};
 ghost use Rattle.sap_grammar.specs.declared.limits.Limits.{Limits};
 ghost use Rattle.sap_grammar.specs.Words.{Word};
 ghost use Rattle.sap_grammar.specs.Cut.{IsFree};
@@ -13,6 +15,7 @@ ghost use Rattle.sap_statements.specs.Sorted.{plainly_sorted};
 ghost use Rattle.sap_statements.specs.Printable.{IsTidyForm, IsFormOver, FormHasNames};
 ghost use Rattle.sap_statements.specs.code.TermLaws.{AreRead, AreSpelled};
 
+use sap_formula::faultless_formulas_are_checked;
 use sap_grammar::{facts_are_read, printed_words, same_grammar, terms_are_read};
 
 /// What the laws of terms and facts say, as the proofs on formulas need it.
@@ -105,3 +108,15 @@ pub fn sorts_are_kept()
     ensures names { (most : ℕ) (f : Form) → FormHasNames most f
         → FormHasNames most (plainly_sorted [] f) }
 {}
+
+/// A law: in a formula without a fault each sign is that of its binder, so that the sorts of binders change plain variables alone;
+/// and its symbols are held with their arities, as it is written and with those sorts.
+pub fn faultless_formulas_keep_signs()
+    ensures sorts { (g : Sig) (reserved : Bool) (f : Form) → HasNoFault g reserved f
+        → with_sorts [] f ≡ plainly_sorted [] f }
+    ensures over { (g : Sig) (reserved : Bool) (f : Form) → HasNoFault g reserved f → IsFormOver g f }
+    ensures sorted { (g : Sig) (reserved : Bool) (f : Form) → HasNoFault g reserved f
+        → IsFormOver g (with_sorts [] f) }
+{
+    faultless_formulas_are_checked();
+}

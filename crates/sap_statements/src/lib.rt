@@ -8,8 +8,8 @@ mod statement;
 
 pub use formula::read_formula;
 pub use laws::{
-    formulas_are_printable, formulas_by_hand, one_formula, one_statement, same_statements,
-    some_statement, sorts_are_kept,
+    faultless_formulas_keep_signs, formulas_are_printable, formulas_by_hand, one_formula,
+    one_statement, same_statements, some_statement, sorts_are_kept,
 };
 pub use reading::read_statement;
 pub use statement::Statement;

@@ -1,5 +1,5 @@
 -- What the bindings found and the forms made say of the rule's use.
-use Rattle.std.proofs.Common.{◌≡◌, List, [], ◌∷◌, ◌++◌, map, refl, sym, ap, subst, ◌∙◌, append_assoc}
+use Rattle.std.proofs.Common.{◌≡◌, List, [], ◌∷◌, ◌++◌, map, ◌⊎◌, inl, inr, refl, sym, ap, subst, ◌∙◌, append_assoc}
 use Rattle.std.specs.Prelude.{All, Contains, Result, Ok, Err, IfOk, IfErr}
 use Rattle.std.proofs.lemmas.List.Elements.{All-append, Contains-append_left, Contains-append_right}
 use Rattle.sap_terms.specs.Choice.{Choice, fits_sort, instance}
@@ -20,14 +20,18 @@ use Rattle.sap_rule.specs.Variables.{facts_outer_vars, rule_vars}
 use Rattle.sap_rule.specs.WellMade.{IsWellMade}
 use Rattle.sap_rule.specs.declared.rule.Rule.{Rule}
 use Rattle.sap_steps.specs.Faults.{AreRight, IsFitting, IsRuleRefusal}
-use Rattle.sap_steps.specs.code.Firing.{IsOnlyChoice, HasNoChoice, FactsFit, SomeLarge, args_of, Evaluates, IsEvaluationFault}
+use Rattle.sap_steps.specs.code.Firing.{IsGroundFact, IsOnlyChoice, HasNoChoice, FactsFit, SomeLarge, args_of, Evaluates, IsEvaluationFault, limited_fault}
 use Rattle.sap_steps.specs.code.Held.{IsSmallMessageFact}
 use Rattle.sap_steps.specs.Lines.{Fires, IsSmall, rule_terms}
 use Rattle.sap_steps.specs.declared.fault.RFault.{RFault}
 use Rattle.sap_steps.specs.declared.fault.RFault.TheVariants.{Mem, NoRule, FactCount, FactMissing, BadBinding, NoMatch, TermLarge, Unequal, UsedName, WrongFact, NoEntry, NotPublic, Arity}
-use Rattle.sap_steps.proofs.Evaluated.{in_right}
+use Rattle.sap_rewrite.specs.declared.cut.Cut.{Cut}
+use Rattle.sap_rewrite.specs.declared.cut.Cut.TheVariants.{Large}
+use Rattle.sap_steps.specs.code.Ready.{HasNoDestructor}
+use Rattle.sap_steps.proofs.Evaluated.{fault_large, in_acts, in_right, none_large}
+use Rattle.sap_steps.proofs.Plain.{plain_left}
 use Rattle.sap_steps.proofs.Found.{agrees_extended}
-use Rattle.sap_steps.proofs.Uses.{Laws, each_item, agrees_at, sorted_at, var_at, facts_message, facts_same, terms_instance, facts_equal, facts_hold, facts_held, large_evaluated, evaluated_small}
+use Rattle.sap_steps.proofs.Uses.{Laws, each_item, agrees_at, sorted_at, var_at, facts_message, facts_same, terms_instance, facts_ground, facts_equal, facts_hold, facts_held, large_evaluated, evaluated_small}
 use Rattle.sap_steps.proofs.Vars.{new_among, one_sort, covered}
 
 pub if_ok : {T E : Type 0} (P Q : T → Type 0) (r : Result T E) → ((x : T) → P x → Q x) → IfOk r P → IfOk r Q
@@ -102,6 +106,13 @@ module _ (laws : Laws) (g : Sig) (r : Rule) (b c : List Binding) (cited : List F
       let vars : facts_vars fs ≡ rule_vars r = facts_vars_append r.left (r.acts ++ r.right) ∙ ap (λ vs. facts_vars r.left ++ vs) (facts_vars_append r.acts r.right) in
       terms_instance (bound_to c) fs ∙ ap args_of (same_facts fs (λ v m. subst (λ vs. Contains vs v) vars m)) ∙ sym (terms_instance chosen.0 fs)
 
+  -- the sides are ground under what was found
+  pub ground_acts : All IsGroundFact (instance_facts (bound_to c) r.acts)
+  ground_acts = subst (All IsGroundFact) (sym same_acts) (facts_ground g chosen.0 r.acts chosen.1 well.over.acts)
+
+  pub ground_right : All IsGroundFact (instance_facts (bound_to c) r.right)
+  ground_right = subst (All IsGroundFact) (sym same_right) (facts_ground g chosen.0 r.right chosen.1 well.over.right)
+
   small : (SomeLarge g (map (instance (bound_to c)) (rule_terms r)) → ⊥) → SomeLarge g (map (instance chosen.0) (rule_terms r)) → ⊥
   small h s = h (subst (SomeLarge g) (sym same_terms) s)
 
@@ -121,6 +132,36 @@ module _ (laws : Laws) (g : Sig) (r : Rule) (b c : List Binding) (cited : List F
   pub right_held : HoldsBuiltins g → (acts right : List Fact) → Evaluates g (bound_to c) r cited acts right → All (IsSmallMessageFact g) right
   right_held k acts right e =
       facts_held laws g chosen.0 r.right right k chosen.1 well.over.right (λ s. small e.small (in_right g chosen.0 r s)) (subst (λ xs. AreFormsOfFacts (equations g) xs right) same_right e.right_forms)
+
+  -- what holds under a signature and a choice that are these
+  move : (P : Sig → Choice → Type 0) (h : Sig) (τ : Choice) → h ≡ g → τ ≡ bound_to c → P h τ → P g (bound_to c)
+  move P h τ is eq x = subst (λ (σ : Choice). P g σ) eq (subst (λ (k : Sig). P k τ) is x)
+
+  some_moved : (fs : List Fact) (h : Sig) (τ : Choice) → h ≡ g → τ ≡ bound_to c → SomeLarge h (map (instance τ) (args_of fs)) → SomeLarge g (map (instance (bound_to c)) (args_of fs))
+  some_moved fs h τ is eq l = move (λ (k : Sig) (σ : Choice). SomeLarge k (map (instance σ) (args_of fs))) h τ is eq l
+
+  none_moved : (fs : List Fact) (h : Sig) (τ : Choice) → h ≡ g → τ ≡ bound_to c → (SomeLarge h (map (instance τ) (args_of fs)) → ⊥) → SomeLarge g (map (instance (bound_to c)) (args_of fs)) → ⊥
+  none_moved fs h τ is eq l = move (λ (k : Sig) (σ : Choice). SomeLarge k (map (instance σ) (args_of fs)) → ⊥) h τ is eq l
+
+  -- a plain rule is evaluated where its other sides are
+  pub evaluates_plain : All (HasNoDestructor g) r.left → (h : Sig) (τ : Choice) → h ≡ g → τ ≡ bound_to c → (acts right : List Fact) → AreFormsOfFacts (equations h) (instance_facts τ r.acts) acts → AreFormsOfFacts (equations h) (instance_facts τ r.right) right
+      → (SomeLarge h (map (instance τ) (args_of r.acts)) → ⊥) → (SomeLarge h (map (instance τ) (args_of r.right)) → ⊥) → Evaluates g (bound_to c) r cited acts right
+  evaluates_plain plain h τ is eq acts right a z wa wz =
+      let left = plain_left laws.one_form g (bound_to c) r.left cited plain fits_itself held in record {
+        left = left.left;
+        left_forms = left.forms;
+        same = left.same.0 refl;
+        acts_forms = move (λ (k : Sig) (σ : Choice). AreFormsOfFacts (equations k) (instance_facts σ r.acts) acts) h τ is eq a;
+        right_forms = move (λ (k : Sig) (σ : Choice). AreFormsOfFacts (equations k) (instance_facts σ r.right) right) h τ is eq z;
+        small = none_large g (bound_to c) r left.small (none_moved r.acts h τ is eq wa) (none_moved r.right h τ is eq wz);
+      }
+
+  -- a plain rule isn't where one of them is too large
+  pub cut_plain : (h : Sig) (τ : Choice) → h ≡ g → τ ≡ bound_to c → (k : Cut) → (k ≡ Large → SomeLarge h (map (instance τ) (args_of r.acts)) ⊎ SomeLarge h (map (instance τ) (args_of r.right))) → IsEvaluationFault g (bound_to c) r cited (limited_fault k)
+  cut_plain h τ is eq k l = fault_large g (bound_to c) r cited k (λ e. elim (l e) as (λ _. SomeLarge g (map (instance (bound_to c)) (rule_terms r))) [
+    | inl x ↦ in_acts g (bound_to c) r (some_moved r.acts h τ is eq x)
+    | inr y ↦ in_right g (bound_to c) r (some_moved r.right h τ is eq y)
+  ])
 
   pub refused : (k : RFault) → IsEvaluationFault g (bound_to c) r cited k → IsRuleRefusal g r b cited k
   refused Mem h = tt

@@ -16,3 +16,6 @@ pub mod Determined
 pub mod OneAnswer
 pub mod Shown
 pub mod Plain
+pub mod Piled
+pub mod PlainMatch
+pub mod ByNumbers

@@ -1,9 +1,10 @@
 -- Lists by their indices.
-use Rattle.std.proofs.Common.{◌≡◌, ℕ, zero, suc, ◌+◌, List, [], ◌∷◌, ◌++◌, Option, Some, None, length, map, take, drop, add-one, refl, sym, ap, subst, ◌∙◌}
+use Rattle.std.proofs.Common.{◌≡◌, ℕ, zero, suc, ◌+◌, List, [], ◌∷◌, ◌++◌, Option, Some, None, length, map, take, drop, add-one, arith, refl, sym, ap, subst, ◌∙◌}
 use Rattle.std.specs.Prelude.{All, IsSome, slice_get}
 use Rattle.std.specs.List.{AllZip, cons_option}
 use Rattle.std.proofs.Math.Seq.{take-length}
 use Rattle.std.proofs.lemmas.List.Elements.{All-head, All-tail, All-nil, All-cons}
+use Rattle.std.proofs.lemmas.Option.{same_Some}
 use Rattle.sap_terms.specs.declared.fact.Fact.{Fact}
 use Rattle.sap_facts.specs.Facts.{fact_at}
 use Rattle.sap_steps.specs.code.Held.{cited_at}
@@ -103,3 +104,9 @@ cited_all P slots (m ∷ ms) h = elim (fact_at slots m) as (λ o. fact_at slots 
   | None ↦ λ e. cited_all P slots ms h
   | Some f ↦ λ e. All-cons P f (cited_at slots ms) (h m f e) (cited_all P slots ms h)
 ] refl
+
+-- a list of one item is that item
+pub one_item : {X : Type 0} (xs : List X) (x : X) → length xs ≡ 1 → slice_get xs 0 ≡ Some x → xs ≡ x ∷ []
+one_item [] x l e = cc
+one_item (y ∷ []) x l e = let is : y ≡ x = same_Some y x e in λ i. is i ∷ []
+one_item (y ∷ z ∷ zs) x l e = let no : ⊥ = omega (arith, l) in absurd no

@@ -33,7 +33,7 @@ rest_fewer a b most h = omega arith
 
 mutual
   -- a term without destructors is the tree that it fits
-  plain_fits : (g : Sig) (σ : Choice) (p t : Tree) → (HasDestructor g p → ⊥) → FitsAround g σ p t → instance σ p ≡ t
+  pub plain_fits : (g : Sig) (σ : Choice) (p t : Tree) → (HasDestructor g p → ⊥) → FitsAround g σ p t → instance σ p ≡ t
   plain_fits g σ (variable v) t n f = f
   plain_fits g σ (public m) t n f = f
   plain_fits g σ (fresh k) t n f = f

@@ -61,23 +61,24 @@ held_adds g facts (f ∷ fs) held all =
     let apart : adds (facts ++ Some f ∷ []) fs ≡ adds facts (f ∷ fs) = append_assoc facts (Some f ∷ []) (map (λ f. Some f) fs) in
     rw (← apart) (held_adds g (facts ++ Some f ∷ []) fs (held_push g facts f held (All-head (IsSmallMessageFact g) f fs all)) (All-tail (IsSmallMessageFact g) f fs all))
 
-pub tied_knows : (rules : List Prepared) (facts : Pile) (old new : Entries) (origin : Origin) (t : Tree) → IsTied rules facts old → Gains old new origin t → IsTied rules facts new
-tied_knows rules facts old new origin t tied more = record {
+pub tied_knows : (rules : List Prepared) (g : Sig) (facts : Pile) (old new : Entries) (origin : Origin) (t : Tree) → IsTied rules g facts old → Gains old new origin t → IsTied rules g facts new
+tied_knows rules g facts old new origin t tied more = record {
+  sig = tied.sig ∙ sym more.sig;
   ready = subst (λ g. All (IsReady g) rules) (sym more.sig) tied.ready;
   held = subst (λ g. HoldsSmallMessages g facts) (sym more.sig) tied.held;
 }
 
-tied_facts : (rules : List Prepared) (facts after : Pile) (known : Entries) → IsTied rules facts known → HoldsSmallMessages known.sig after → IsTied rules after known
-tied_facts rules facts after known tied held = record { ready = tied.ready; held = held }
+tied_facts : (rules : List Prepared) (g : Sig) (facts after : Pile) (known : Entries) → IsTied rules g facts known → HoldsSmallMessages known.sig after → IsTied rules g after known
+tied_facts rules g facts after known tied held = record { sig = tied.sig; ready = tied.ready; held = held }
 
-pub tied_without : (rules : List Prepared) (facts : Pile) (known : Entries) (k : ℕ) → IsTied rules facts known → IsTied rules (slots_without facts k) known
-tied_without rules facts known k tied = tied_facts rules facts (slots_without facts k) known tied (held_without known.sig facts k tied.held)
+pub tied_without : (rules : List Prepared) (g : Sig) (facts : Pile) (known : Entries) (k : ℕ) → IsTied rules g facts known → IsTied rules g (slots_without facts k) known
+tied_without rules g facts known k tied = tied_facts rules g facts (slots_without facts k) known tied (held_without known.sig facts k tied.held)
 
-pub tied_push : (rules : List Prepared) (facts : Pile) (known : Entries) (f : Fact) → IsTied rules facts known → IsSmallMessageFact known.sig f → IsTied rules (facts ++ Some f ∷ []) known
-tied_push rules facts known f tied held = tied_facts rules facts (facts ++ Some f ∷ []) known tied (held_push known.sig facts f tied.held held)
+pub tied_push : (rules : List Prepared) (g : Sig) (facts : Pile) (known : Entries) (f : Fact) → IsTied rules g facts known → IsSmallMessageFact known.sig f → IsTied rules g (facts ++ Some f ∷ []) known
+tied_push rules g facts known f tied held = tied_facts rules g facts (facts ++ Some f ∷ []) known tied (held_push known.sig facts f tied.held held)
 
-pub tied_used : (rules : List Prepared) (facts : Pile) (known : Entries) (ks : List ℕ) (fs : List Fact) → IsTied rules facts known → All (IsSmallMessageFact known.sig) fs → IsTied rules (adds (left_of facts ks) fs) known
-tied_used rules facts known ks fs tied held = tied_facts rules facts (adds (left_of facts ks) fs) known tied (held_adds known.sig (left_of facts ks) fs (held_left known.sig facts ks tied.held) held)
+pub tied_used : (rules : List Prepared) (g : Sig) (facts : Pile) (known : Entries) (ks : List ℕ) (fs : List Fact) → IsTied rules g facts known → All (IsSmallMessageFact known.sig) fs → IsTied rules g (adds (left_of facts ks) fs) known
+tied_used rules g facts known ks fs tied held = tied_facts rules g facts (adds (left_of facts ks) fs) known tied (held_adds known.sig (left_of facts ks) fs (held_left known.sig facts ks tied.held) held)
 
 is_some-of : (o p : Option Fact) → ((f : Fact) → o ≡ Some f → p ≡ Some f) → IsSome o → IsSome p
 is_some-of None p f h = cc

@@ -9,7 +9,7 @@ use Rattle.sap_terms.specs.Choice.{Choice, fits_sort, instance, instances}
 use Rattle.sap_terms.specs.Equal.{IsTheoryEqual}
 use Rattle.sap_terms.specs.Ground.{IsGround, AreGround}
 use Rattle.sap_terms.specs.Message.{IsMessage, IsMessageChoice, IsOver, AreOver}
-use Rattle.sap_terms.specs.Modulo.{instance_facts, AreEqualFacts, AreFormsOfFacts}
+use Rattle.sap_terms.specs.Modulo.{instance_fact, instance_facts, AreEqualFacts, AreFormsOfFacts}
 use Rattle.sap_terms.specs.Normal.{IsNormalForm}
 use Rattle.sap_terms.specs.Signature.{Sig, HoldsBuiltins}
 use Rattle.sap_terms.specs.Equations.{Equations, equations}
@@ -29,7 +29,7 @@ use Rattle.sap_rule.specs.Variables.{facts_outer_vars}
 use Rattle.sap_rule.specs.WellMade.{IsFactOver}
 use Rattle.sap_rule.specs.declared.rule.Rule.{Rule}
 use Rattle.sap_steps.specs.Faults.{FactHolds}
-use Rattle.sap_steps.specs.code.Firing.{ArgsFit, FactsFit, SomeLarge, args_of, HaveArgs}
+use Rattle.sap_steps.specs.code.Firing.{IsGroundFact, ArgsFit, FactsFit, SomeLarge, args_of, HaveArgs}
 use Rattle.sap_steps.specs.code.Held.{IsSmallMessage, IsSmallMessageFact}
 use Rattle.sap_steps.specs.Lines.{IsEvaluated, IsSmall, rule_terms}
 use Rattle.sap_steps.proofs.Formed.{within_front, within_back}
@@ -210,12 +210,19 @@ mutual
       let q = instances_closed g σ ts m o.1 in
       (q.0, (o.0 ∙ ap Some (sym (instances_length σ ts)), q.1))
 
-  instances_closed : (g : Sig) (σ : Choice) (ts : Trees) → IsMessageChoice g σ → AreOver g ts → AreGround (instances σ ts) × AreOver g (instances σ ts)
+  pub instances_closed : (g : Sig) (σ : Choice) (ts : Trees) → IsMessageChoice g σ → AreOver g ts → AreGround (instances σ ts) × AreOver g (instances σ ts)
   instances_closed g σ none m o = (tt, tt)
   instances_closed g σ (more t ts) m o =
       let x = instance_closed g σ t m o.0 in
       let y = instances_closed g σ ts m o.1 in
       ((x.0, y.0), (x.1, y.1))
+
+-- so are the arguments of the instances of facts
+pub facts_ground : (g : Sig) (σ : Choice) (fs : List Fact) → IsMessageChoice g σ → All (IsFactOver g) fs → All IsGroundFact (instance_facts σ fs)
+facts_ground g σ [] m o = All-nil IsGroundFact
+facts_ground g σ (f ∷ fs) m o =
+    let first = subst AreGround (instances-list σ f.args) (instances_closed g σ (trees_of f.args) m (All-head (IsFactOver g) f fs o)).0 in
+    All-cons IsGroundFact (instance_fact σ f) (instance_facts σ fs) first (facts_ground g σ fs m (All-tail (IsFactOver g) f fs o))
 
 -- forms of terms over the signature are held, where none is large
 small_form : (e : Equations) (t n : Tree) → IsNormalForm e t n → (SomeSubterm (HasLargeForm e MOST_TERM_NODES) t → ⊥) → node_count n ≤ MOST_TERM_NODES

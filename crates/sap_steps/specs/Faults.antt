@@ -1,5 +1,5 @@
 -- Why a line is refused: the first test that fails.
-use Rattle.std.specs.Prelude.{◌≡◌, ◌+◌, ◌<◌, ℕ, nat_le, List, [], ◌∷◌, length, Some, None, map, find, slice_get, All, Contains, take, ⊤}
+use Rattle.std.specs.Prelude.{◌≡◌, ◌<◌, ℕ, nat_le, List, [], ◌∷◌, length, Some, None, map, find, slice_get, All, Contains, ⊤}
 use Rattle.std.specs.List.{AllZip}
 use Rattle.sap_terms.specs.AdversaryFacts.{out_fact, fr_fact}
 use Rattle.sap_terms.specs.Choice.{Choice, IsSorted}
@@ -13,7 +13,7 @@ use Rattle.sap_terms.specs.View.{tree}
 use Rattle.sap_terms.specs.declared.binding.Binding.{Binding}
 use Rattle.sap_terms.specs.declared.fact.Fact.{Fact}
 use Rattle.sap_terms.specs.declared.limits.TheConstants.{MOST_TERM_NODES}
-use Rattle.sap_facts.specs.Facts.{fact_at}
+pub use Rattle.sap_facts.specs.Missing.{IsFirstMissing}
 use Rattle.sap_rewrite.specs.Around.{FitAll, HoldAll}
 use Rattle.sap_rewrite.specs.Match.{Agrees, bound_vars}
 use Rattle.sap_rule.specs.Named.{rule_named}
@@ -84,17 +84,6 @@ IsRuleRefusal g r b cited (WrongFact f) = ⊥
 IsRuleRefusal g r b cited (NoEntry k) = ⊥
 IsRuleRefusal g r b cited (NotPublic f) = ⊥
 IsRuleRefusal g r b cited (Arity f) = ⊥
-
--- at this index, from 1, stands the first number of which no fact is left once those before it were taken
-pub record IsFirstMissing (facts : Pile) (ks : List ℕ) (index : ℕ) : Type 0 where
-  pub before : List Fact
-  pub rest : Pile
-  pub at : ℕ
-  pub number : ℕ
-  pub index_is : index ≡ at + 1
-  pub here : slice_get ks at ≡ Some number
-  pub takes : Takes facts (take at ks) before rest
-  pub gone : fact_at rest number ≡ None
 
 -- as many facts are cited as the left side has, and one is missing
 pub record LacksFact (r : Rule) (facts : Pile) (ks : List ℕ) (index : ℕ) : Type 0 where

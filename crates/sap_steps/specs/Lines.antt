@@ -1,5 +1,5 @@
 -- What a written step of rules means: one step, with its choices named.
-use Rattle.std.specs.Prelude.{◌≡◌, ℕ, ◌≤◌, List, [], ◌∷◌, ◌++◌, length, Some, map, slice_get, Contains}
+use Rattle.std.specs.Prelude.{◌≡◌, ℕ, List, [], ◌∷◌, ◌++◌, length, Some, map, slice_get, Contains}
 use Rattle.std.specs.List.{flat_map}
 use Rattle.sap_terms.specs.AdversaryFacts.{k_fact, in_fact, out_fact, fr_fact}
 use Rattle.sap_terms.specs.Choice.{Choice, instances}
@@ -7,16 +7,16 @@ use Rattle.sap_terms.specs.Normal.{IsNormalForm}
 use Rattle.sap_terms.specs.Piles.{Pile, Takes, adds}
 use Rattle.sap_terms.specs.Signature.{Sig, IsPublic, arity_of}
 use Rattle.sap_terms.specs.Equations.{equations}
-use Rattle.sap_terms.specs.Tree.{Tree, public, fresh, apply, trees_of, node_count}
+use Rattle.sap_terms.specs.Tree.{Tree, public, fresh, apply, trees_of}
 use Rattle.sap_terms.specs.declared.binding.Binding.{Binding}
 use Rattle.sap_terms.specs.declared.fact.Fact.{Fact}
-use Rattle.sap_terms.specs.declared.limits.TheConstants.{MOST_TERM_NODES}
 use Rattle.sap_rewrite.specs.Large.{SomeSubtermWithin}
 use Rattle.sap_rewrite.specs.Match.{Agrees, bound_vars}
 use Rattle.sap_rule.specs.Named.{rule_named}
 use Rattle.sap_rule.specs.RuleSteps.{RuleState, makes, gains, leaves, IsUse}
 use Rattle.sap_rule.specs.Variables.{open_variables}
 use Rattle.sap_rule.specs.declared.rule.Rule.{Rule}
+pub use Rattle.sap_runs.specs.Limits.{AnySize, IsSmall}
 use Rattle.sap_runs.specs.declared.rule_step.RStep.{RStep}
 use Rattle.sap_runs.specs.declared.rule_step.RStep.TheVariants.{Fresh, Learn, Own, Public, Apply, Know, Rule as RuleLine}
 
@@ -93,11 +93,3 @@ IsLine g rules W s (Public a) acts z = (acts ≡ []) × (z ≡ gains s (public a
 IsLine g rules W s (Apply f ks) acts z = IsApplied g W s f ks acts z
 IsLine g rules W s (Know k) acts z = IsGiven s k acts z
 IsLine g rules W s (RuleLine name ks b) acts z = IsRuleLine g rules W s name ks b acts z
-
--- of whatever size
-abbrev pub AnySize : Tree → Type 0
-AnySize t = Unit {0}
-
--- of at most 256 nodes
-abbrev pub IsSmall : Tree → Type 0
-IsSmall t = node_count t ≤ MOST_TERM_NODES

@@ -5,3 +5,4 @@ pub mod Ready
 pub mod Left
 pub mod Tied
 pub mod Denied
+pub mod Piled

@@ -5,7 +5,7 @@ ghost use Rattle.sap_terms.specs.View.{tree};
 ghost use Rattle.sap_facts.specs.Facts.{fact_at};
 
 use crate::RFault;
-use sap_facts::Pile;
+use crate::pile::SharedPile;
 use sap_terms::{Copied, Fact, FactList, Mem, Name, Term, TermList};
 use std::alloc::Global;
 
@@ -51,52 +51,45 @@ fn alone(alloc: Global, f: Fact) -> Result<FactList, Mem>
 }
 
 // The argument of a linear fact of this name with one argument; None for another fact.
-fn argument<'a>(f: &'a Fact, name: &[u8]) -> Option<&'a Term>
-    ensures { MatchOption result ((t : Tree) → ¬ (f.now ≡ linear name.now (t ∷ []))) (λ t. f.now ≡ linear name.now (tree t.now ∷ [])) }
+fn argument(f: Fact, name: &[u8]) -> Option<Term>
+    ensures { MatchOption result ((t : Tree) → ¬ (f ≡ linear name.now (t ∷ []))) (λ t. f ≡ linear name.now (tree t ∷ [])) }
 {
     if f.persistent || f.args.len() != 1 || !f.name.is(name) {
         return None;
     }
-    Some(f.args.at(0))
+    Some(f.args.into_item(0))
 }
 
 // The argument of the fact of this number, if it is linear, has this name and one argument.
-fn argument_at<'a>(facts: &'a Pile, k: u64, name: &[u8]) -> Option<&'a Term>
-    ensures { MatchOption result ((t : Tree) → ¬ (fact_at facts.now.slots k ≡ Some (linear name.now (t ∷ [])))) (λ t. fact_at facts.now.slots k ≡ Some (linear name.now (tree t.now ∷ []))) }
+fn argument_at(alloc: Global, facts: &SharedPile, k: u64, name: &[u8]) -> Result<Option<Term>, Mem>
+    ensures { IfOk result (λ o. MatchOption o ((t : Tree) → ¬ (fact_at facts.now.slots k ≡ Some (linear name.now (t ∷ [])))) (λ t. fact_at facts.now.slots k ≡ Some (linear name.now (tree t ∷ [])))) }
 {
-    match facts.get(k) {
-        Some(f) => argument(f, name),
-        None => None,
+    match facts.fact(alloc, k)? {
+        Some(f) => Ok(argument(f, name)),
+        None => Ok(None),
     }
 }
 
-// A copy of what the fact of this number puts out.
-pub(crate) fn copied_out(alloc: Global, facts: &Pile, k: u64) -> Result<Term, RFault>
+// What the fact of this number puts out, built anew.
+pub(crate) fn put_out(alloc: Global, facts: &SharedPile, k: u64) -> Result<Term, RFault>
     ensures out { IfOk result (λ t. fact_at facts.now.slots k ≡ Some (out_fact (tree t))) }
     ensures wrong { IfErr result (λ e. (e ≡ RFault.Mem) ⊎ ((e ≡ RFault.WrongFact k) × ((t : Tree) → ¬ (fact_at facts.now.slots k ≡ Some (out_fact t))))) }
 {
-    match put_out(facts, k) {
-        Some(t) => Ok(t.copy(alloc)?),
+    match argument_at(alloc, facts, k, b"Out")? {
+        Some(t) => Ok(t),
         None => Err(RFault::WrongFact { f: k }),
     }
 }
 
-// What the fact of this number puts out; None where it is no such fact.
-fn put_out(facts: &Pile, k: u64) -> Option<&Term>
-    ensures { MatchOption result ((t : Tree) → ¬ (fact_at facts.now.slots k ≡ Some (out_fact t))) (λ t. fact_at facts.now.slots k ≡ Some (out_fact (tree t.now))) }
-{
-    argument_at(facts, k, b"Out")
-}
-
 // The name that the fact of this number was made of; None where it is no such fact.
-pub(crate) fn name_made(facts: &Pile, k: u64) -> Option<u64>
-    ensures { MatchOption result ((n : ℕ) → ¬ (fact_at facts.now.slots k ≡ Some (fr_fact n))) (λ n. fact_at facts.now.slots k ≡ Some (fr_fact n)) }
+pub(crate) fn name_made(alloc: Global, facts: &SharedPile, k: u64) -> Result<Option<u64>, Mem>
+    ensures { IfOk result (λ o. MatchOption o ((n : ℕ) → ¬ (fact_at facts.now.slots k ≡ Some (fr_fact n))) (λ n. fact_at facts.now.slots k ≡ Some (fr_fact n))) }
 {
-    match argument_at(facts, k, b"Fr") {
-        Some(Term::Fresh(n)) => Some(*n),
-        Some(Term::Var(_)) => None,
-        Some(Term::Public(_)) => None,
-        Some(Term::App(_, _)) => None,
-        None => None,
+    match argument_at(alloc, facts, k, b"Fr")? {
+        Some(Term::Fresh(n)) => Ok(Some(n)),
+        Some(Term::Var(_)) => Ok(None),
+        Some(Term::Public(_)) => Ok(None),
+        Some(Term::App(_, _)) => Ok(None),
+        None => Ok(None),
     }
 }

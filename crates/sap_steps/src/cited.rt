@@ -1,32 +1,45 @@
-ghost use Rattle.std.specs.Prelude.{◌≡◌, ◌↔◌, ◌<◌, length, IsTrue, IsSome, All, Some, slice_get};
+ghost use Rattle.std.specs.Prelude.{◌≡◌, ◌↔◌, ◌<◌, length, IfOk, IsTrue, IsSome, All, Some, slice_get};
 ghost use Rattle.sap_facts.specs.Facts.{fact_at};
 ghost use Rattle.sap_steps.specs.code.Held.{cited_at};
 ghost use Rattle.sap_steps.specs.code.Firing.{HaveArgs};
 
-use sap_facts::Pile;
-use sap_terms::{Fact, FactList, Numbers, TermList};
+use crate::pile::SharedPile;
+use sap_terms::{Fact, FactList, Mem, Numbers, TermList};
+use std::alloc::Global;
 
-// The fact that is cited at index k, from 0.
-pub(crate) fn cited<'a>(facts: &'a Pile, numbers: &Numbers, k: u64) -> &'a Fact
+// The fact that is cited at index k, from 0, built anew.
+pub(crate) fn cited(
+    alloc: Global,
+    facts: &SharedPile,
+    numbers: &Numbers,
+    k: u64,
+) -> Result<Fact, Mem>
     requires live { All (λ n. IsSome (fact_at facts.now.slots n)) numbers.now }
     requires within { k < length numbers.now }
-    ensures { slice_get (cited_at facts.now.slots numbers.now) k ≡ Some result.now }
+    ensures { IfOk result (λ f. slice_get (cited_at facts.now.slots numbers.now) k ≡ Some f) }
 {
-    facts.get(*numbers.at(k)).unwrap()
+    let f = facts.fact(alloc, *numbers.at(k))?;
+    Ok(f.unwrap())
 }
 
 // Whether the facts have the arguments of those that are cited.
-pub(crate) fn have_args(fs: &FactList, facts: &Pile, numbers: &Numbers) -> bool
+pub(crate) fn have_args(
+    alloc: Global,
+    fs: &FactList,
+    facts: &SharedPile,
+    numbers: &Numbers,
+) -> Result<bool, Mem>
     requires live { All (λ n. IsSome (fact_at facts.now.slots n)) numbers.now }
     requires count { length numbers.now ≡ length fs.now }
-    ensures { IsTrue result ↔ HaveArgs fs.now (cited_at facts.now.slots numbers.now) }
+    ensures { IfOk result (λ b. IsTrue b ↔ HaveArgs fs.now (cited_at facts.now.slots numbers.now)) }
 {
     for k in 0..fs.len() {
-        if !are_same(&fs.at(k).args, &cited(facts, numbers, k).args) {
-            return false;
+        let h = cited(alloc, facts, numbers, k)?;
+        if !are_same(&fs.at(k).args, &h.args) {
+            return Ok(false);
         }
     }
-    true
+    Ok(true)
 }
 
 // Whether the terms are the same, one by one.

@@ -7,7 +7,7 @@ ghost use Rattle.sap_steps.specs.code.Held.{cited_at};
 ghost use Rattle.sap_steps.specs.code.Firing.{IsOnlyChoice, HasNoChoice, ArgsFit, FactFit, FactsFit};
 
 use crate::cited::cited;
-use sap_facts::Pile;
+use crate::pile::SharedPile;
 use sap_rewrite::{extensions_join, match_around};
 use sap_terms::{Bindings, Fact, FactList, Mem, Numbers, Signature, TermList};
 use std::alloc::Global;
@@ -18,7 +18,7 @@ pub(crate) fn match_facts(
     alloc: Global,
     sig: &Signature,
     fs: &FactList,
-    facts: &Pile,
+    facts: &SharedPile,
     numbers: &Numbers,
     b: Bindings,
 ) -> Result<Option<Bindings>, Mem>
@@ -31,7 +31,8 @@ pub(crate) fn match_facts(
     extensions_join();
     let mut c = b;
     for k in 0..fs.len() {
-        match match_fact(alloc, sig, fs.at(k), cited(facts, numbers, k), c)? {
+        let h = cited(alloc, facts, numbers, k)?;
+        match match_fact(alloc, sig, fs.at(k), &h, c)? {
             Some(d) => c = d,
             None => return Ok(None),
         }

@@ -9,14 +9,14 @@ ghost use Rattle.sap_steps.specs.Lines.{IsLine, IsSmall};
 ghost use Rattle.sap_steps.specs.code.Ready.{IsReady, rules_of};
 
 use crate::RFault;
-use crate::adversary::{copied_out, given_and_shown, name_made, single};
+use crate::adversary::{given_and_shown, name_made, put_out, single};
 use crate::laws::lines_are_steps;
+use crate::pile::{SharedPile, find_place};
 use crate::prepared::{Prepared, ready_rule};
-use crate::taking::{add_one, carry_out, remove};
+use crate::taking::carry_out;
 use crate::using::use_rule;
 use indexmap::IndexSet;
 use sap_deduce::Knowledge;
-use sap_facts::Pile;
 use sap_rule::{RuleList, Theory, steps_keep_messages};
 use sap_runs::RStep;
 use sap_terms::{
@@ -29,7 +29,7 @@ use std::marker::Model;
 #[derive(Drop)]
 pub struct RuleState {
     rules: Named<Prepared>,
-    facts: Pile,
+    facts: SharedPile,
     knowledge: Knowledge,
     made: IndexSet<u64>,
 }
@@ -53,7 +53,7 @@ impl Model for RuleState {
       at = record { facts = a.facts.slots; known = terms_of a.knowledge.entries; made = a.made.keys };
     } };
 
-    ghost invariant = { λ a. IsTied a.rules a.facts.slots a.knowledge };
+    ghost invariant = { λ a. IsTied a.rules a.facts.sig a.facts.slots a.knowledge };
 }
 
 // The rules, ready to be used.
@@ -108,7 +108,7 @@ impl RuleState {
         Ok(RuleState {
             knowledge: Knowledge::new(alloc, &t.signature)?,
             rules: made_ready(alloc, &t.signature, &t.rules)?,
-            facts: Pile::new(alloc),
+            facts: SharedPile::new(alloc, &t.signature)?,
             made: IndexSet::new(alloc),
         })
     }
@@ -161,11 +161,11 @@ impl RuleState {
         if is_among(&self.made, n) {
             return Err(RFault::UsedName { n });
         }
-        self.facts.reserve(1)?;
-        find_room(&mut self.made)?;
         let fr = single(alloc, b"Fr", Term::Fresh(n))?;
+        let shared = find_place(&mut self.facts, alloc, &fr)?;
+        find_room(&mut self.made)?;
         put_last(&mut self.made, n);
-        add_one(&mut self.facts, fr);
+        self.facts.add(shared);
         Ok(FactList::new(alloc))
     }
 
@@ -177,9 +177,9 @@ impl RuleState {
         ensures sig { self.new.sig ≡ self.old.sig }
         ensures rules { self.new.rules ≡ self.old.rules }
     {
-        let t = copied_out(alloc, &self.facts, k)?;
+        let t = put_out(alloc, &self.facts, k)?;
         self.knowledge.output(t)?;
-        remove(&mut self.facts, k);
+        self.facts.remove(k);
         Ok(FactList::new(alloc))
     }
 
@@ -191,11 +191,11 @@ impl RuleState {
         ensures sig { self.new.sig ≡ self.old.sig }
         ensures rules { self.new.rules ≡ self.old.rules }
     {
-        let Some(n) = name_made(&self.facts, k) else {
+        let Some(n) = name_made(alloc, &self.facts, k)? else {
             return Err(RFault::WrongFact { f: k });
         };
         self.knowledge.name(n)?;
-        remove(&mut self.facts, k);
+        self.facts.remove(k);
         Ok(FactList::new(alloc))
     }
 
@@ -236,9 +236,9 @@ impl RuleState {
         let Some(t) = self.knowledge.at(k) else {
             return Err(RFault::NoEntry { k });
         };
-        self.facts.reserve(1)?;
         let (given, acts) = given_and_shown(alloc, t)?;
-        add_one(&mut self.facts, given);
+        let shared = find_place(&mut self.facts, alloc, &given)?;
+        self.facts.add(shared);
         Ok(acts)
     }
 
@@ -260,7 +260,7 @@ impl RuleState {
             return Err(RFault::NoRule);
         };
         let sig = self.knowledge.signature();
-        let fired = use_rule(alloc, sig, rule, &self.facts, numbers, b)?;
+        let fired = use_rule(alloc, sig, rule, &mut self.facts, numbers, b)?;
         let acts = carry_out(&mut self.facts, numbers, fired)?;
         Ok(acts)
     }

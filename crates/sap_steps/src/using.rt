@@ -1,15 +1,17 @@
-ghost use Rattle.std.specs.Prelude.{◌≡◌, ◌⊎◌, IfOk, IfErr, All};
+ghost use Rattle.std.specs.Prelude.{◌≡◌, ◌⊎◌, length, map, IfOk, IfErr, All};
 ghost use Rattle.sap_steps.specs.Faults.{IsRuleFault};
 ghost use Rattle.sap_steps.specs.code.Held.{HoldsSmallMessages, IsSmallMessageFact, cited_at};
+ghost use Rattle.sap_share.specs.Shared.{AreBelow};
 ghost use Rattle.sap_steps.specs.code.Left.{AreTaken};
+ghost use Rattle.sap_steps.specs.code.Piled.{fact_seen};
 ghost use Rattle.sap_steps.specs.Lines.{Fires, IsSmall};
 ghost use Rattle.sap_steps.specs.code.Ready.{IsReady};
 
 use crate::RFault;
 use crate::firing::{Firing, fire};
+use crate::pile::SharedPile;
 use crate::prepared::Prepared;
 use crate::taking::first_missing;
-use sap_facts::Pile;
 use sap_terms::{Bindings, Numbers, Signature};
 use std::alloc::Global;
 
@@ -18,16 +20,20 @@ pub(crate) fn use_rule(
     alloc: Global,
     sig: &Signature,
     rule: &Prepared,
-    facts: &Pile,
+    facts: &mut SharedPile,
     numbers: &Numbers,
     b: &Bindings,
 ) -> Result<Firing, RFault>
     requires ready { IsReady sig.now rule.now }
-    requires held { HoldsSmallMessages sig.now facts.now.slots }
-    ensures taken { IfOk result (λ _. AreTaken facts.now.slots numbers.now) }
-    ensures fires { IfOk result (λ x. Fires sig.now IsSmall rule.now.rule b.now (cited_at facts.now.slots numbers.now) x.acts x.right) }
-    ensures held { IfOk result (λ x. All (IsSmallMessageFact sig.now) x.right) }
-    ensures refused { IfErr result (λ e. (e ≡ RFault.Mem) ⊎ IsRuleFault sig.now rule.now.rule facts.now.slots numbers.now b.now e) }
+    requires sig { facts.old.sig ≡ sig.now }
+    requires held { HoldsSmallMessages sig.now facts.old.slots }
+    ensures taken { IfOk result (λ _. AreTaken facts.old.slots numbers.now) }
+    ensures fires { IfOk result (λ x. Fires sig.now IsSmall rule.now.rule b.now (cited_at facts.old.slots numbers.now) x.acts (map (fact_seen facts.new.trees) x.right.items)) }
+    ensures held { IfOk result (λ x. All (IsSmallMessageFact sig.now) (map (fact_seen facts.new.trees) x.right.items)) }
+    ensures below { IfOk result (λ x. All (λ s. AreBelow (length facts.new.trees) s.args) x.right.items) }
+    ensures refused { IfErr result (λ e. (e ≡ RFault.Mem) ⊎ IsRuleFault sig.now rule.now.rule facts.old.slots numbers.now b.now e) }
+    ensures sig { facts.new.sig ≡ facts.old.sig }
+    ensures slots { facts.new.slots ≡ facts.old.slots }
 {
     if numbers.len() != rule.rule.left.len() {
         return Err(RFault::FactCount);

@@ -2,6 +2,7 @@
 use crate::files::file_bytes;
 use crate::notation::{FromWord, between, list, number, part, parted, push_written, written};
 use crate::page::Page;
+use crate::reading::{show_read_back, theory_row};
 use sap_tool::{MemShelf, MemSink, sapic};
 use std::alloc::Global;
 use std::collections::BTreeMap;
@@ -171,6 +172,7 @@ fn call(
             show_end(page, status, out, err);
         }
         "refusal" => show_refusal(page, status, out, err),
+        "back" if status == 0 => show_read_back(page, out.bytes.as_slice()),
         "theory" => show_end(page, status, out, err),
         "formula" | "items" | "inlined" => show_stated(page, kind, status, out, err),
         _ => show_theory(page, kind, status, out, err),
@@ -236,4 +238,18 @@ pub fn statements_row(page: &mut Page, row: &str) {
             call_on(page, kind, "compile a.spthy", bytes.as_bytes());
         }
     }
+}
+
+/// As `read` a theory; else a command and a file: whether the theory that is written is read back as the same text.
+pub fn theories_row(page: &mut Page, row: &str) {
+    if part(row, 0) == "read" {
+        theory_row(page, row);
+        return;
+    }
+    let mut words = Page::new(page.alloc);
+    words.word(part(row, 1));
+    words.word(" a.spthy");
+    let bytes = file_bytes(page.alloc, part(row, 2));
+    let words = str::from_utf8(words.as_bytes()).unwrap_or("");
+    call_on(page, "back", words, bytes.as_bytes());
 }

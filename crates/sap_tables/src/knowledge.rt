@@ -54,6 +54,7 @@ fn show_entry(page: &mut Page, k: &mut Knowledge, kind: &str, what: &str) {
         }
         "nodes" => show_nodes(page, k.at(n)),
         "at" => page.show(k.at(n)),
+        "number" => page.show(k.number(n)),
         _ => page.fail(),
     }
 }
@@ -96,7 +97,8 @@ fn sent(page: &mut Page, desk: &mut Desk, row: &str) {
 }
 
 /// `sent`, a signature and a term that is sent, begins anew: the number of entries. Then `apply`, `name` and `public`, and the
-/// number that is entered or why none is; `at` and a place, and its term; `nodes` and a place, and those of its term; each with
+/// number that is entered or why none is; `at` and a place, and its term; `nodes` and a place, and those of its term; `number` and a
+/// place, and its term's number in the table; each with
 /// the number of entries behind it.
 pub fn knowledge_row(page: &mut Page, desk: &mut Desk, row: &str) {
     if part(row, 0) == "sent" {

@@ -3,8 +3,8 @@ use crate::desk::{Desk, empty_desk};
 use crate::notation::{part, written};
 use crate::page::Page;
 use crate::{
-    calls, copies, files, formulas, guards, judgements, knowledge, piles, rules, runs, terms,
-    theories, tokens,
+    calls, copies, files, formulas, guards, judgements, knowledge, piles, rules, runs, sharing,
+    terms, theories, tokens,
 };
 use std::alloc::Global;
 
@@ -31,6 +31,7 @@ fn push_found(page: &mut Page, desk: &mut Desk, table: &str, row: &str) {
 // The same of what stands on rules, knowledge and processes.
 fn push_found_above(page: &mut Page, desk: &mut Desk, table: &str, row: &str) {
     match table {
+        "sharing" => sharing::sharing_row(page, desk, row),
         "knowledge" => knowledge::knowledge_row(page, desk, row),
         "piles" => piles::piles_row(page, &desk.signature, &mut desk.pile, row),
         "rules" => rules::rules_row(page, &mut desk.theory, row),
@@ -45,6 +46,7 @@ fn push_found_above(page: &mut Page, desk: &mut Desk, table: &str, row: &str) {
         "refusals" => calls::compile(page, "refusal", part(row, 0)),
         "generated" => calls::compile(page, part(row, 0), part(row, 1)),
         "statements" => calls::statements_row(page, row),
+        "read-theories" => calls::theories_row(page, row),
         "calls" => calls::calls_row(page, row),
         _ => page.fail(),
     }

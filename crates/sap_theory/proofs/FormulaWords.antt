@@ -3,7 +3,7 @@ use Rattle.std.specs.Prelude.{ℕ, false, nat_lt, codes, List, [], ◌∷◌}
 use Rattle.sap_formula.specs.Form.{Form, truth, falsity, action, equal, same_time, earlier, negation, both, either, implies, equivalent, every, exists}
 use Rattle.sap_formula.specs.declared.binder.Binder.{Binder}
 use Rattle.sap_formula.specs.declared.binder.Binder.TheVariants.{Message, Time}
-use Rattle.sap_grammar.specs.Words.{Word, mark, name}
+use Rattle.sap_grammar.specs.Words.{mark, name}
 use Rattle.sap_grammar.specs.PrintedWords.{Before, enclosed, variable_words, term_words, fact_words}
 use Rattle.sap_theory.specs.FormulaText.{strength}
 

@@ -1,5 +1,5 @@
 -- No item begins inside an item.
-use Rattle.std.proofs.Common.{◌≡◌, ℕ, Bool, false, List, [], ◌∷◌, drop, refl}
+use Rattle.std.proofs.Common.{◌≡◌, ℕ, Bool, false, List, drop, refl}
 use Rattle.sap_terms.specs.declared.fact.Fact.{Fact}
 use Rattle.sap_terms.specs.declared.signature.Symbol.{Symbol}
 use Rattle.sap_terms.specs.declared.signature.Builtin.{Builtin}

@@ -1,11 +1,9 @@
 -- Bytes spell one theory at most.
-use Rattle.std.proofs.Common.{◌≡◌, ◌≤◌, max, ℕ, Bool, true, false, List, [], ◌∷◌, drop, Some, refl, sym, ap, subst, ◌∙◌, arith}
+use Rattle.std.proofs.Common.{◌≡◌, ◌≤◌, max, ℕ, true, false, List, [], ◌∷◌, drop, Some, refl, sym, ap, subst, ◌∙◌, arith}
 use Rattle.std.specs.Prelude.{codes, Ok, Err, ⊤, if◌then◌else◌}
 use Rattle.sap_text.specs.declared.token.Token.{Token}
 use Rattle.sap_text.specs.Tokens.{Lexed, before, IsLexed, ended, skipped, taken, long, failed}
 use Rattle.sap_terms.specs.declared.fact.Fact.{Fact}
-use Rattle.sap_terms.specs.declared.signature.Symbol.{Symbol}
-use Rattle.sap_terms.specs.declared.signature.Builtin.{Builtin}
 use Rattle.sap_terms.specs.Signature.{Sig, pairs_alone}
 use Rattle.sap_rule.specs.declared.theory.Theory.{Theory}
 use Rattle.sap_grammar.specs.declared.limits.Limits.{Limits}
@@ -13,15 +11,15 @@ use Rattle.sap_grammar.specs.Words.{Word, mark, name, starts}
 use Rattle.sap_grammar.specs.Reading.{Read}
 use Rattle.sap_grammar.specs.FactGrammar.{AreFacts}
 use Rattle.sap_grammar.specs.Cut.{Placed, words, placed, IsHeader, IsCut, first_line}
-use Rattle.sap_grammar.specs.Declarations.{Declaration, AreBuiltins, AreSymbols, declares_builtins, declares_functions}
+use Rattle.sap_grammar.specs.Declarations.{Declaration, AreBuiltins, AreSymbols}
 use Rattle.sap_grammar.specs.Items.{Standing, AreItems, items_end, items_more}
 use Rattle.sap_grammar.specs.Signatures.{signature_from}
-use Rattle.sap_grammar.specs.ItemReading as reading
-use Rattle.sap_grammar.specs.ItemReading.{told, declared_in_all}
+use Rattle.sap_grammar.specs.ItemReading.{told, declared_in}
 use Rattle.sap_statements.specs.declared.statement.Statement.{Statement}
 use Rattle.sap_statements.specs.Statements.{IsStatement, is_restriction, is_lemma}
 use Rattle.sap_statements.specs.Sorted.{sorted_statement}
-use Rattle.sap_theory.specs.TheoryGrammar.{TheoryItem, builtins, functions, rule, statement, IsRuleBody, body_silent, body_acts, IsTheoryItem, item_builtins, item_functions, item_rule, item_statement, IsAnyTheoryItem, declared_by, declarations, items_of, rules_in, restrictions_in, lemmas_in, signature_of, AreSameSignatures, SpellsTheory, AreSameTheories}
+use Rattle.sap_theory.specs.TheoryGrammar.{TheoryItem, builtins, functions, rule, statement, IsRuleBody, body_silent, body_acts, IsItemBy, item_builtins, item_functions, item_rule, item_statement, IsAnyTheoryItem, declared_by, declarations, items_of, rules_in, restrictions_in, lemmas_in, signature_of, AreSameSignatures, SpellsTheory, AreSameTheories}
+use Rattle.sap_theory.proofs.DeclaredItems.{item_declares, items_declare}
 use Rattle.sap_theory.proofs.ReadLaws.{ReadLaws}
 use Rattle.sap_theory.proofs.Wider.{joined_limits, wider_left, wider_right, facts_wider, statement_wider}
 
@@ -65,99 +63,96 @@ module _ (laws : ReadLaws) (g : Sig) where
       let right = square m n r s _ _ _ z (subst (λ (z : List Word). AreFacts g n true (codes "]") s z []) more w) in
       (left.0, middle.0, right.0)
 
-  -- what the words of an item are
-  abbrev Shape : Limits → TheoryItem → List Word → Type 0
-  Shape m (builtins bs) a = (b : List Word) × (a ≡ mark (codes "builtins") ∷ mark (codes ":") ∷ b) × AreBuiltins bs b
-  Shape m (functions ss) a = (b : List Word) × (a ≡ mark (codes "functions") ∷ mark (codes ":") ∷ b) × AreSymbols ss b
-  Shape m (rule r) a = (b : List Word) × (a ≡ mark (codes "rule") ∷ name r.name ∷ mark (codes ":") ∷ b) × IsRuleBody g m r.left r.acts r.right b
-  Shape m (statement s) a = (written : Statement) × (s ≡ sorted_statement written) × IsStatement g m written a
+  module _ (sorting : Statement → Statement) where
+    -- what the words of an item are
+    abbrev Shape : Limits → TheoryItem → List Word → Type 0
+    Shape m (builtins bs) a = (b : List Word) × (a ≡ mark (codes "builtins") ∷ mark (codes ":") ∷ b) × AreBuiltins bs b
+    Shape m (functions ss) a = (b : List Word) × (a ≡ mark (codes "functions") ∷ mark (codes ":") ∷ b) × AreSymbols ss b
+    Shape m (rule r) a = (b : List Word) × (a ≡ mark (codes "rule") ∷ name r.name ∷ mark (codes ":") ∷ b) × IsRuleBody g m r.left r.acts r.right b
+    Shape m (statement s) a = (written : Statement) × (s ≡ sorting written) × IsStatement g m written a
 
-  shape : {m : Limits} {v : TheoryItem} {a : List Word} → IsTheoryItem g m v a → Shape m v a
-  shape (item_builtins r) = (_, refl, r)
-  shape (item_functions r) = (_, refl, r)
-  shape (item_rule r) = (_, refl, r)
-  shape (item_statement r) = (_, refl, r)
+    shape : {m : Limits} {v : TheoryItem} {a : List Word} → IsItemBy sorting g m v a → Shape m v a
+    shape (item_builtins r) = (_, refl, r)
+    shape (item_functions r) = (_, refl, r)
+    shape (item_rule r) = (_, refl, r)
+    shape (item_statement r) = (_, refl, r)
 
-  abbrev kind : TheoryItem → ℕ
-  kind (builtins bs) = 0
-  kind (functions ss) = 1
-  kind (rule r) = 2
-  kind (statement s) = 3
+    abbrev kind : TheoryItem → ℕ
+    kind (builtins bs) = 0
+    kind (functions ss) = 1
+    kind (rule r) = 2
+    kind (statement s) = 3
 
-  abbrev kind_of : List Word → ℕ
-  kind_of ws =
-      if starts (codes "builtins") ws then 0
-      else if starts (codes "functions") ws then 1
-      else if starts (codes "rule") ws then 2
-      else 3
+    abbrev kind_of : List Word → ℕ
+    kind_of ws =
+        if starts (codes "builtins") ws then 0
+        else if starts (codes "functions") ws then 1
+        else if starts (codes "rule") ws then 2
+        else 3
 
-  kind_is : {m : Limits} {v : TheoryItem} {a : List Word} → IsTheoryItem g m v a → kind_of a ≡ kind v
-  kind_is (item_builtins r) = refl
-  kind_is (item_functions r) = refl
-  kind_is (item_rule r) = refl
-  kind_is (item_statement (is_restriction r)) = refl
-  kind_is (item_statement (is_lemma r s t)) = refl
+    kind_is : {m : Limits} {v : TheoryItem} {a : List Word} → IsItemBy sorting g m v a → kind_of a ≡ kind v
+    kind_is (item_builtins r) = refl
+    kind_is (item_functions r) = refl
+    kind_is (item_rule r) = refl
+    kind_is (item_statement (is_restriction r)) = refl
+    kind_is (item_statement (is_lemma r s t)) = refl
 
-  one_item : (m n : Limits) (a : List Word) (v u : TheoryItem) → Shape m v a → Shape n u a → kind v ≡ kind u → v ≡ u
-  one_item m n a (builtins bs) (builtins cs) x y e = ap builtins (laws.one_builtins bs cs x.0 x.2 (subst (λ (z : List Word). AreBuiltins cs z) (behind 2 x.1 y.1) y.2))
-  one_item m n a (builtins bs) (functions ts) x y e = absurd (cc (e))
-  one_item m n a (builtins bs) (rule s) x y e = absurd (cc (e))
-  one_item m n a (builtins bs) (statement s) x y e = absurd (cc (e))
-  one_item m n a (functions ss) (builtins cs) x y e = absurd (cc (e))
-  one_item m n a (functions ss) (functions ts) x y e = ap functions (laws.one_symbols ss ts x.0 x.2 (subst (λ (z : List Word). AreSymbols ts z) (behind 2 x.1 y.1) y.2))
-  one_item m n a (functions ss) (rule s) x y e = absurd (cc (e))
-  one_item m n a (functions ss) (statement s) x y e = absurd (cc (e))
-  one_item m n a (rule r) (builtins cs) x y e = absurd (cc (e))
-  one_item m n a (rule r) (functions ts) x y e = absurd (cc (e))
-  one_item m n a (rule r) (rule s) x y e =
-      let w : name s.name ∷ mark (codes ":") ∷ y.0 ≡ name r.name ∷ mark (codes ":") ∷ x.0 = behind 1 x.1 y.1 in
-      let names : s.name ≡ r.name = first_name w in
-      let body = one_body m n r.left s.left r.acts s.acts r.right s.right x.0 x.2 (subst (λ (z : List Word). IsRuleBody g n s.left s.acts s.right z) (behind 3 x.1 y.1) y.2) in
-      λ i. rule (record { name = sym names i; left = body.0 i; acts = body.1 i; right = body.2 i })
-  one_item m n a (rule r) (statement s) x y e = absurd (cc (e))
-  one_item m n a (statement r) (builtins cs) x y e = absurd (cc (e))
-  one_item m n a (statement r) (functions ts) x y e = absurd (cc (e))
-  one_item m n a (statement r) (rule s) x y e = absurd (cc (e))
-  one_item m n a (statement r) (statement s) x y e =
-      let both = joined_limits m n in
-      let same : x.0 ≡ y.0 = laws.one_statement g both x.0 y.0 a (statement_wider m both (wider_left m n) x.2) (statement_wider n both (wider_right m n) y.2) in
-      ap statement (x.1 ∙ (ap sorted_statement same ∙ sym y.1))
+    one_item : (m n : Limits) (a : List Word) (v u : TheoryItem) → Shape m v a → Shape n u a → kind v ≡ kind u → v ≡ u
+    one_item m n a (builtins bs) (builtins cs) x y e = ap builtins (laws.one_builtins bs cs x.0 x.2 (subst (λ (z : List Word). AreBuiltins cs z) (behind 2 x.1 y.1) y.2))
+    one_item m n a (builtins bs) (functions ts) x y e = absurd (cc (e))
+    one_item m n a (builtins bs) (rule s) x y e = absurd (cc (e))
+    one_item m n a (builtins bs) (statement s) x y e = absurd (cc (e))
+    one_item m n a (functions ss) (builtins cs) x y e = absurd (cc (e))
+    one_item m n a (functions ss) (functions ts) x y e = ap functions (laws.one_symbols ss ts x.0 x.2 (subst (λ (z : List Word). AreSymbols ts z) (behind 2 x.1 y.1) y.2))
+    one_item m n a (functions ss) (rule s) x y e = absurd (cc (e))
+    one_item m n a (functions ss) (statement s) x y e = absurd (cc (e))
+    one_item m n a (rule r) (builtins cs) x y e = absurd (cc (e))
+    one_item m n a (rule r) (functions ts) x y e = absurd (cc (e))
+    one_item m n a (rule r) (rule s) x y e =
+        let w : name s.name ∷ mark (codes ":") ∷ y.0 ≡ name r.name ∷ mark (codes ":") ∷ x.0 = behind 1 x.1 y.1 in
+        let names : s.name ≡ r.name = first_name w in
+        let body = one_body m n r.left s.left r.acts s.acts r.right s.right x.0 x.2 (subst (λ (z : List Word). IsRuleBody g n s.left s.acts s.right z) (behind 3 x.1 y.1) y.2) in
+        λ i. rule (record { name = sym names i; left = body.0 i; acts = body.1 i; right = body.2 i })
+    one_item m n a (rule r) (statement s) x y e = absurd (cc (e))
+    one_item m n a (statement r) (builtins cs) x y e = absurd (cc (e))
+    one_item m n a (statement r) (functions ts) x y e = absurd (cc (e))
+    one_item m n a (statement r) (rule s) x y e = absurd (cc (e))
+    one_item m n a (statement r) (statement s) x y e =
+        let both = joined_limits m n in
+        let same : x.0 ≡ y.0 = laws.one_statement g both x.0 y.0 a (statement_wider m both (wider_left m n) x.2) (statement_wider n both (wider_right m n) y.2) in
+        ap statement (x.1 ∙ (ap sorting same ∙ sym y.1))
 
-  no_items : {vs : List (Standing TheoryItem)} {cut : List (List Placed)} → cut ≡ [] → AreItems (IsAnyTheoryItem g) cut vs → ⊥
-  no_items e (items_end f) = absurd (cc (e))
-  no_items e (items_more r rs) = absurd (cc (e))
+    pub one_item_by : {m n : Limits} {v u : TheoryItem} {a : List Word} → IsItemBy sorting g m v a → IsItemBy sorting g n u a → v ≡ u
+    one_item_by {m = m} {n = n} {v = v} {u = u} {a = a} r s = one_item m n a v u (shape r) (shape s) (sym (kind_is r) ∙ kind_is s)
 
-  -- what is cut is one list of items
-  one_theory_list : (cut : List (List Placed)) (vs us : List (Standing TheoryItem)) → AreItems (IsAnyTheoryItem g) cut vs → AreItems (IsAnyTheoryItem g) cut us → vs ≡ us
-  one_theory_list cut vs us (items_end e) (items_end f) = refl
-  one_theory_list cut vs us (items_end e) (items_more r rs) = absurd (no_items refl rs)
-  one_theory_list cut vs us (items_more r rs) (items_end e) = absurd (no_items refl rs)
-  one_theory_list cut vs us (items_more {i = p} {v = v} {vs = ws} r rs) (items_more {v = u} {vs = xs} s ss) =
-      let here : v ≡ u = one_item r.limits s.limits (words p) v u (shape r.is) (shape s.is) (sym (kind_is r.is) ∙ kind_is s.is) in
-      λ i. record { item = here i; line = first_line p } ∷ one_theory_list _ ws xs rs ss i
+no_items : {Spells : TheoryItem → List Word → Type 0} {vs : List (Standing TheoryItem)} {cut : List (List Placed)} → cut ≡ [] → AreItems Spells cut vs → ⊥
+no_items e (items_end f) = absurd (cc (e))
+no_items e (items_more r rs) = absurd (cc (e))
 
-  item_declares : {m : Limits} {v : TheoryItem} {a : List Word} → IsTheoryItem g m v a → told (reading.declared_in a) ≡ declared_by v
-  item_declares (item_builtins r) = ap told (laws.declared _ _ (declares_builtins r))
-  item_declares (item_functions r) = ap told (laws.declared _ _ (declares_functions r))
-  item_declares (item_rule r) = refl
-  item_declares (item_statement (is_restriction r)) = refl
-  item_declares (item_statement (is_lemma r s t)) = refl
-
-  declared_are : {cut : List (List Placed)} {vs : List (Standing TheoryItem)} → AreItems (IsAnyTheoryItem g) cut vs → declarations vs ≡ declared_in_all cut
-  declared_are (items_end {i = i} e) =
-      let none : told (reading.declared_in (words i)) ≡ [] = ap (λ (w : List Word). told (reading.declared_in w)) e in
-      rw none refl
-  declared_are (items_more r rs) = rw (item_declares r.is, declared_are rs) refl
+-- what is cut is one list of items, where words spell one item at most
+pub one_list : {Spells : TheoryItem → List Word → Type 0} → ((v u : TheoryItem) (a : List Word) → Spells v a → Spells u a → v ≡ u)
+    → (cut : List (List Placed)) (vs us : List (Standing TheoryItem)) → AreItems Spells cut vs → AreItems Spells cut us → vs ≡ us
+one_list one cut vs us (items_end e) (items_end f) = refl
+one_list one cut vs us (items_end e) (items_more r rs) = absurd (no_items refl rs)
+one_list one cut vs us (items_more r rs) (items_end e) = absurd (no_items refl rs)
+one_list one cut vs us (items_more {i = p} {v = v} {vs = ws} r rs) (items_more {v = u} {vs = xs} s ss) =
+    let here : v ≡ u = one v u (words p) r s in
+    λ i. record { item = here i; line = first_line p } ∷ one_list one _ ws xs rs ss i
 
 -- each under the signature of its own items
-one_own_list : ReadLaws → (cut : List (List Placed)) (vs us : List (Standing TheoryItem)) → AreItems (IsAnyTheoryItem (signature_of vs)) cut vs → AreItems (IsAnyTheoryItem (signature_of us)) cut us → vs ≡ us
-one_own_list laws cut vs us r s =
-    let same : declarations us ≡ declarations vs = declared_are laws (signature_of us) s ∙ sym (declared_are laws (signature_of vs) r) in
-    let one : signature_of us ≡ signature_of vs = ap (λ (ds : List Declaration). signature_from pairs_alone ds) same in
-    one_theory_list laws (signature_of vs) cut vs us r (subst (λ (g : Sig). AreItems (IsAnyTheoryItem g) cut us) one s)
+pub one_own_list : {Spells : Sig → TheoryItem → List Word → Type 0} → ((g : Sig) (v u : TheoryItem) (a : List Word) → Spells g v a → Spells g u a → v ≡ u)
+    → ((g : Sig) (v : TheoryItem) (a : List Word) → Spells g v a → told (declared_in a) ≡ declared_by v)
+    → (cut : List (List Placed)) (vs us : List (Standing TheoryItem)) → AreItems (Spells (signature_of vs)) cut vs → AreItems (Spells (signature_of us)) cut us → vs ≡ us
+one_own_list {Spells = Spells} one declares cut vs us r s =
+    let same : declarations us ≡ declarations vs = items_declare (declares (signature_of us)) s ∙ sym (items_declare (declares (signature_of vs)) r) in
+    let own : signature_of us ≡ signature_of vs = ap (λ (ds : List Declaration). signature_from pairs_alone ds) same in
+    one_list (one (signature_of vs)) cut vs us r (subst (λ (g : Sig). AreItems (Spells g) cut us) own s)
+
+one_theory_list : ReadLaws → (cut : List (List Placed)) (vs us : List (Standing TheoryItem)) → AreItems (IsAnyTheoryItem (signature_of vs)) cut vs → AreItems (IsAnyTheoryItem (signature_of us)) cut us → vs ≡ us
+one_theory_list laws cut vs us r s = one_own_list {Spells = IsAnyTheoryItem} (λ g v u a p q. one_item_by laws g sorted_statement p.is q.is) (λ g v a p. item_declares laws.declared p.is) cut vs us r s
 
 -- Tokens with a greater limit of names.
-abbrev AreRead : Lexed → Type 0
+abbrev pub AreRead : Lexed → Type 0
 AreRead (Ok ts) = ⊤
 AreRead (Err f) = ⊥
 
@@ -165,7 +160,7 @@ read_before : (t : Token) (o : Lexed) → AreRead (before t o) → AreRead o
 read_before t (Ok ts) h = h
 read_before t (Err f) h = h
 
-lexed_wider : {m k at line : ℕ} {z : List ℕ} {o : Lexed} → m ≤ k → IsLexed m at line z o → AreRead o → IsLexed k at line z o
+pub lexed_wider : {m k at line : ℕ} {z : List ℕ} {o : Lexed} → m ≤ k → IsLexed m at line z o → AreRead o → IsLexed k at line z o
 lexed_wider le ended h = ended
 lexed_wider le (skipped s r) h = skipped s (lexed_wider le r h)
 lexed_wider le (taken {o = o} l fits r) h = taken l (omega (arith, fits, le)) (lexed_wider le r (read_before _ o h))
@@ -186,7 +181,7 @@ one_theory laws z t u r s =
     let tokens : r.tokens ≡ s.tokens = one_tokens laws r.most s.most z r.tokens s.tokens r.lexed s.lexed in
     let headers = laws.one_header t.name u.name (placed z r.tokens) r.rest s.rest r.header (subst (λ (ts : List Token). IsHeader u.name (placed z ts) s.rest) (sym tokens) s.header) in
     let pieces : r.pieces ≡ s.pieces = laws.one_cut r.rest r.pieces s.pieces r.is_cut (subst (λ (ps : List Placed). IsCut ps s.pieces) (sym headers.1) s.is_cut) in
-    let items : r.items ≡ s.items = one_own_list laws r.pieces r.items s.items r.are (subst (λ (ps : List (List Placed)). AreItems (IsAnyTheoryItem (signature_of s.items)) ps s.items) (sym pieces) s.are) in
+    let items : r.items ≡ s.items = one_theory_list laws r.pieces r.items s.items r.are (subst (λ (ps : List (List Placed)). AreItems (IsAnyTheoryItem (signature_of s.items)) ps s.items) (sym pieces) s.are) in
     record {
       names = headers.0;
       signatures = same_signatures r.signature (subst (λ (vs : List (Standing TheoryItem)). AreSameSignatures u.signature (signature_of vs)) (sym items) s.signature);

@@ -1,5 +1,5 @@
 -- The text of a theory that can be printed spells it.
-use Rattle.std.proofs.Common.{◌≡◌, ◌≤◌, ℕ, Bool, true, false, List, [], ◌∷◌, ◌++◌, Option, Some, None, refl, sym, ap, subst, ◌∙◌}
+use Rattle.std.proofs.Common.{◌≡◌, ℕ, Bool, true, false, List, [], ◌∷◌, ◌++◌, Option, Some, None, refl, sym, ap, subst, ◌∙◌}
 use Rattle.std.specs.Prelude.{codes, map, All, Ok, option_map, if◌then◌else◌}
 use Rattle.std.specs.Str.{bytes_eq}
 use Rattle.std.proofs.lemmas.List.{append-nil}
@@ -15,23 +15,24 @@ use Rattle.sap_formula.specs.Form.{RestrictionForm, LemmaForm}
 use Rattle.sap_rule.specs.declared.rule.Rule.{Rule}
 use Rattle.sap_rule.specs.declared.theory.Theory.{Theory}
 use Rattle.sap_grammar.specs.Words.{Word, mark, name, words_of}
-use Rattle.sap_grammar.specs.Cut.{words, placed}
+use Rattle.sap_grammar.specs.declared.limits.Limits.{Limits}
+use Rattle.sap_grammar.specs.Cut.{Placed, words, placed, IsHeader, IsCut}
 use Rattle.sap_grammar.specs.ByteWords.{AreWords, AreWritten}
 use Rattle.sap_grammar.specs.Printable.{FactHasNames, IsPrintableFact}
 use Rattle.sap_grammar.specs.Printed.{ArePrinted}
 use Rattle.sap_grammar.specs.Declarations.{Declaration}
-use Rattle.sap_grammar.specs.Items.{Standing, AreItems}
+use Rattle.sap_grammar.specs.Items.{Standing, AreItems, items_end, items_more}
 use Rattle.sap_grammar.specs.Signatures.{signature_from, clash_from}
 use Rattle.sap_statements.specs.Statements.{IsAttribute}
 use Rattle.sap_theory.specs.SignatureText.{builtins_of, functions_of}
 use Rattle.sap_theory.specs.TheoryText.{theory_text}
-use Rattle.sap_theory.specs.TheoryGrammar.{TheoryItem, builtins, functions, rule, IsAnyTheoryItem, items_of, rules_in, restrictions_in, lemmas_in, declarations, signature_of, AreSameSignatures, SpellsTheory}
+use Rattle.sap_theory.specs.TheoryGrammar.{TheoryItem, builtins, functions, rule, IsTheoryItem, IsAnyTheoryItem, items_of, rules_in, restrictions_in, lemmas_in, declarations, signature_of, AreSameSignatures, SpellsTheory}
 use Rattle.sap_theory.specs.PrintableTheory.{IsPrintableRule, IsPrintableRestriction, IsPrintableLemma, IsPrintableSymbol, IsPrintable}
 use Rattle.sap_theory.proofs.ItemWords.{item_of, items_words, as_restriction, as_lemma, printed_items}
 use Rattle.sap_theory.proofs.FreeItems.{FormsAreFree}
-use Rattle.sap_theory.proofs.PrintedItems.{AreTidyFacts, AreTidySymbols, AreAllAttributes, IsTidyItem, AllTidy, items_cut, header_of}
+use Rattle.sap_theory.proofs.PrintedItems.{AreTidyFacts, AreTidySymbols, AreAllAttributes, AllTidy, AllSpelled, any_spelled, AllSmall, within_spelled, items_cut, header_of}
 use Rattle.sap_theory.proofs.ItemBytes.{arity_text, Each, RuleHasNames, RestrictionHasNames, LemmaHasNames, SymbolHasName, TheoryHasNames, theory_words}
-use Rattle.sap_theory.proofs.Declared.{IsWithin, declarations_of, printed_fit, same_again}
+use Rattle.sap_theory.proofs.Declared.{IsWithin, printed_fit, same_again}
 use Rattle.sap_theory.proofs.Moved.{items_move, all_declared, declared_are, printed_declare}
 
 pub words_placed : (z : List ℕ) (ts : List Token) → words (placed z ts) ≡ words_of z ts
@@ -201,20 +202,31 @@ module _ (printed : ArePrinted) (form_free : FormsAreFree) (written : (most : �
   own_tidy : AllTidy own (printed_items t)
   own_tidy = items_move t.signature own (λ x. ap (λ (o : Option Symbol). option_map (λ (s : Symbol). s.arity) o) (same_own.symbols x)) (printed_items t) tidy
 
-  -- the text spells the theory
-  pub text_spells_theory : SpellsTheory (theory_text t) t
+  -- the text is cut into the printed items, where each is spelled so
+  record IsTextCut (Spells : TheoryItem → List Word → Type 0) : Type 0 where
+    tokens : List Token
+    lexed : IsLexed most 0 1 (theory_text t) (Ok tokens)
+    rest : List Placed
+    header : IsHeader t.name (placed (theory_text t) tokens) rest
+    pieces : List (List Placed)
+    is_cut : IsCut rest pieces
+    items : List (Standing TheoryItem)
+    are : AreItems Spells pieces items
+    same : items_of items ≡ printed_items t
+    own_too : own ≡ signature_of items
+    no_clash : clash_from pairs_alone (declarations items) ≡ None
+
+  text_cut : (Spells : TheoryItem → List Word → Type 0) → AllSpelled Spells (printed_items t) → IsTextCut Spells
   unfolding own
-  text_spells_theory =
+  text_cut Spells spelled =
       let w : List Word = mark (codes "theory") ∷ name t.name ∷ mark (codes "begin") ∷ items_words (printed_items t ++ []) in
       let lexed = lexed_words most (theory_text t) w (theory_words printed most (written most) p.room t names) in
       let all = words_placed (theory_text t) lexed.0 ∙ lexed.2 in
       let header = header_of t.name (placed (theory_text t) lexed.0) (items_words (printed_items t ++ [])) all in
       let items = header.2 ∙ ap (λ (vs : List TheoryItem). items_words vs) (append-nil (printed_items t)) in
-      let cut = items_cut printed form_free own (printed_items t) own_tidy header.0 items in
+      let cut = items_cut printed form_free Spells own (printed_items t) own_tidy spelled header.0 items in
       let declared : declarations cut.items ≡ all_declared (printed_items t) = declared_are cut.items ∙ ap all_declared cut.same in
-      let same : own ≡ signature_of cut.items = ap (λ (ds : List Declaration). signature_from pairs_alone ds) (sym declared) in
       record {
-        most = most;
         tokens = lexed.0;
         lexed = lexed.1;
         rest = header.0;
@@ -222,10 +234,64 @@ module _ (printed : ArePrinted) (form_free : FormsAreFree) (written : (most : �
         pieces = cut.pieces;
         is_cut = cut.is_cut;
         items = cut.items;
-        are = subst (λ (g : Sig). AreItems (IsAnyTheoryItem g) cut.pieces cut.items) same cut.are;
+        are = cut.are;
+        same = cut.same;
+        own_too = ap (λ (ds : List Declaration). signature_from pairs_alone ds) (sym declared);
         no_clash = ap (λ (ds : List Declaration). clash_from pairs_alone ds) declared ∙ fit;
-        signature = subst (λ (g : Sig). AreSameSignatures t.signature g) same same_own;
-        rules = says_rules t ∙ ap rules_in (sym cut.same);
-        restrictions = says_restrictions t ∙ ap restrictions_in (sym cut.same);
-        lemmas = says_lemmas t ∙ ap lemmas_in (sym cut.same);
+      }
+
+  -- the text spells the theory
+  pub text_spells_theory : SpellsTheory (theory_text t) t
+  text_spells_theory =
+      let c = text_cut (IsAnyTheoryItem own) (any_spelled printed own (printed_items t) own_tidy) in
+      record {
+        most = most;
+        tokens = c.tokens;
+        lexed = c.lexed;
+        rest = c.rest;
+        header = c.header;
+        pieces = c.pieces;
+        is_cut = c.is_cut;
+        items = c.items;
+        are = subst (λ (g : Sig). AreItems (IsAnyTheoryItem g) c.pieces c.items) c.own_too c.are;
+        no_clash = c.no_clash;
+        signature = subst (λ (g : Sig). AreSameSignatures t.signature g) c.own_too same_own;
+        rules = says_rules t ∙ ap rules_in (sym c.same);
+        restrictions = says_restrictions t ∙ ap restrictions_in (sym c.same);
+        lemmas = says_lemmas t ∙ ap lemmas_in (sym c.same);
+      }
+
+  -- and within the limits, where its items are
+  within_any : {g : Sig} {m : Limits} {pieces : List (List Placed)} {items : List (Standing TheoryItem)} → AreItems (IsTheoryItem g m) pieces items → AreItems (IsAnyTheoryItem g) pieces items
+  within_any (items_end e) = items_end e
+  within_any {m = m} (items_more r rs) = items_more (record { limits = m; is = r }) (within_any rs)
+
+  pub record IsTextWithin (m : Limits) : Type 0 where
+    pub spelled : SpellsTheory (theory_text t) t
+    pub short : spelled.most ≡ most
+    pub small : AreItems (IsTheoryItem (signature_of spelled.items) m) spelled.pieces spelled.items
+
+  pub text_within : (m : Limits) → AllSmall m (printed_items t) → IsTextWithin m
+  text_within m small =
+      let c = text_cut (IsTheoryItem own m) (within_spelled printed own m (printed_items t) own_tidy small) in
+      let are : AreItems (IsTheoryItem (signature_of c.items) m) c.pieces c.items = subst (λ (g : Sig). AreItems (IsTheoryItem g m) c.pieces c.items) c.own_too c.are in
+      record {
+        spelled = record {
+          most = most;
+          tokens = c.tokens;
+          lexed = c.lexed;
+          rest = c.rest;
+          header = c.header;
+          pieces = c.pieces;
+          is_cut = c.is_cut;
+          items = c.items;
+          are = within_any are;
+          no_clash = c.no_clash;
+          signature = subst (λ (g : Sig). AreSameSignatures t.signature g) c.own_too same_own;
+          rules = says_rules t ∙ ap rules_in (sym c.same);
+          restrictions = says_restrictions t ∙ ap restrictions_in (sym c.same);
+          lemmas = says_lemmas t ∙ ap lemmas_in (sym c.same);
+        };
+        short = refl;
+        small = are;
       }

@@ -17,6 +17,7 @@ use Rattle.sap_grammar.specs.PrintedWords.{Before, enclosed, variable_words, ter
 use Rattle.sap_statements.specs.FormulaGrammar.{is_truth_name, begins_truth, time_signed, time_plain, atom_true, atom_false, atom_action, atom_equal, atom_same, atom_earlier, IsBinder, binds_message, binds_fresh, binds_pub, binds_time, AreBinders, binders_last, binders_more, Reach, closed, reaching, IsUn, IsAnd, IsOr, IsImp, IsIff, un_atom, un_not, un_every, un_exists, un_parentheses, and_one, and_more, or_one, or_more, imp_one, imp_more, iff_one, iff_more}
 use Rattle.sap_statements.specs.Printable.{is_written_as_truth, AreSome, IsTidyForm}
 use Rattle.sap_theory.specs.FormulaText.{strength}
+use Rattle.sap_theory.specs.FormulaLevels.{levels_in_place, text_levels}
 use Rattle.sap_theory.proofs.FormulaWords.{binder_words, binders_words, placed_words, form_words}
 
 -- Formulas.
@@ -60,26 +61,26 @@ no_truth g (apply f (more t (more u none))) h e k = by_pair (bytes_eq f (codes "
     by_pair false e = rw e refl
 no_truth g (apply f (more t (more u (more w ts)))) h e k = refl
 
--- spelled in a place that asks for so much strength
-abbrev pub IsPlaced : Sig → ℕ → Form → List Word → List Word → Type 0
-IsPlaced g zero f a b = (e : Reach) × (n : ℕ) × IsIff g e f n a b
-IsPlaced g (suc zero) f a b = (n : ℕ) × IsIff g closed f n a b
-IsPlaced g (suc (suc zero)) f a b = (n : ℕ) × IsImp g closed f n a b
-IsPlaced g (suc (suc (suc zero))) f a b = (n : ℕ) × IsOr g closed f n a b
-IsPlaced g (suc (suc (suc (suc zero)))) f a b = (n : ℕ) × IsAnd g closed f n a b
-IsPlaced g (suc (suc (suc (suc (suc s))))) f a b = (n : ℕ) × IsUn g closed f n a b
+-- spelled in so many levels in a place that asks for so much strength
+abbrev pub IsPlaced : Sig → ℕ → ℕ → Form → List Word → List Word → Type 0
+IsPlaced g zero n f a b = (e : Reach) × IsIff g e f n a b
+IsPlaced g (suc zero) n f a b = IsIff g closed f n a b
+IsPlaced g (suc (suc zero)) n f a b = IsImp g closed f n a b
+IsPlaced g (suc (suc (suc zero))) n f a b = IsOr g closed f n a b
+IsPlaced g (suc (suc (suc (suc zero)))) n f a b = IsAnd g closed f n a b
+IsPlaced g (suc (suc (suc (suc (suc s))))) n f a b = IsUn g closed f n a b
 
-module _ (g : Sig) (f : Form) (a b : List Word) where
-  weaker : (s : ℕ) → IsPlaced g (suc s) f a b → IsPlaced g s f a b
-  weaker zero r = (closed, r.0, r.1)
-  weaker (suc zero) r = (r.0, iff_one r.1)
-  weaker (suc (suc zero)) r = (r.0, imp_one r.1)
-  weaker (suc (suc (suc zero))) r = (r.0, or_one r.1)
-  weaker (suc (suc (suc (suc zero)))) r = (r.0, and_one r.1)
+module _ (g : Sig) (n : ℕ) (f : Form) (a b : List Word) where
+  weaker : (s : ℕ) → IsPlaced g (suc s) n f a b → IsPlaced g s n f a b
+  weaker zero r = (closed, r)
+  weaker (suc zero) r = iff_one r
+  weaker (suc (suc zero)) r = imp_one r
+  weaker (suc (suc (suc zero))) r = or_one r
+  weaker (suc (suc (suc (suc zero)))) r = and_one r
   weaker (suc (suc (suc (suc (suc s))))) r = r
 
-  lower : (s asked : ℕ) → asked ≤ s → IsPlaced g s f a b → IsPlaced g asked f a b
-  lower zero asked le r = let same : 0 ≡ asked = omega (arith, le) in subst (λ (i : ℕ). IsPlaced g i f a b) same r
+  lower : (s asked : ℕ) → asked ≤ s → IsPlaced g s n f a b → IsPlaced g asked n f a b
+  lower zero asked le r = let same : 0 ≡ asked = omega (arith, le) in subst (λ (i : ℕ). IsPlaced g i n f a b) same r
   lower (suc s) asked le r = by_place (nat_le asked s) refl (λ le. lower s asked le (weaker s r))
     where
       le_of : (m n : ℕ) → nat_le m n ≡ true → m ≤ n
@@ -88,56 +89,52 @@ module _ (g : Sig) (f : Form) (a b : List Word) where
       more_of : (m n : ℕ) → nat_le m n ≡ false → n < m
       more_of m n e = search rules
 
-      by_place : (c : Bool) → nat_le asked s ≡ c → (asked ≤ s → IsPlaced g asked f a b) → IsPlaced g asked f a b
+      by_place : (c : Bool) → nat_le asked s ≡ c → (asked ≤ s → IsPlaced g asked n f a b) → IsPlaced g asked n f a b
       by_place true e next = next (le_of asked s e)
-      by_place false e next = let same : suc s ≡ asked = omega (arith, le, more_of asked s e) in subst (λ (i : ℕ). IsPlaced g i f a b) same r
+      by_place false e next = let same : suc s ≡ asked = omega (arith, le, more_of asked s e) in subst (λ (i : ℕ). IsPlaced g i n f a b) same r
 
 -- in parentheses where its place asks for more strength than it has
-placed_spelled : (g : Sig) (asked : ℕ) (f : Form) (words : List Word → List Word) → asked ≤ 6
-    → ((k : List Word) → starts (codes "(") k ≡ false → IsPlaced g (strength f) f (words k) k)
-    → (k : List Word) → starts (codes "(") k ≡ false → IsPlaced g asked f (placed_words asked f words k) k
-placed_spelled g asked f words le bare k ends = by_strength (nat_lt (strength f) asked) refl
+placed_spelled : (g : Sig) (asked : ℕ) (f : Form) (n : ℕ) (words : List Word → List Word) → asked ≤ 6
+    → ((k : List Word) → starts (codes "(") k ≡ false → IsPlaced g (strength f) n f (words k) k)
+    → (k : List Word) → starts (codes "(") k ≡ false → IsPlaced g asked (levels_in_place asked f n) f (placed_words asked f words k) k
+placed_spelled g asked f n words le bare k ends = by_strength (nat_lt (strength f) asked) refl
   where
-    enclosing : IsPlaced g 0 f (words (mark (codes ")") ∷ k)) (mark (codes ")") ∷ k) → IsPlaced g 6 f (mark (codes "(") ∷ words (mark (codes ")") ∷ k)) k
-    enclosing r = (r.1 + 1, un_parentheses r.2)
+    enclosing : IsPlaced g 0 n f (words (mark (codes ")") ∷ k)) (mark (codes ")") ∷ k) → IsPlaced g 6 (n + 1) f (mark (codes "(") ∷ words (mark (codes ")") ∷ k)) k
+    enclosing r = un_parentheses r.1
 
     not_less : (m n : ℕ) → nat_lt m n ≡ false → n ≤ m
     not_less m n e = search rules
 
-    by_strength : (c : Bool) → nat_lt (strength f) asked ≡ c → IsPlaced g asked f (placed_words asked f words k) k
+    by_strength : (c : Bool) → nat_lt (strength f) asked ≡ c → IsPlaced g asked (levels_in_place asked f n) f (placed_words asked f words k) k
     by_strength true e =
-        rw e (lower g f _ k 6 asked le (enclosing (lower g f _ _ (strength f) 0 (omega arith) (bare (mark (codes ")") ∷ k) refl))))
-    by_strength false e = rw e (lower g f _ k (strength f) asked (not_less (strength f) asked e) (bare k ends))
+        rw e (lower g (n + 1) f _ k 6 asked le (enclosing (lower g n f _ _ (strength f) 0 (omega arith) (bare (mark (codes ")") ∷ k) refl))))
+    by_strength false e = rw e (lower g n f _ k (strength f) asked (not_less (strength f) asked e) (bare k ends))
 
 module _ (printed : ArePrinted) where
-  pub form_spelled : (g : Sig) (f : Form) → IsTidyForm g f → (asked : ℕ) → asked ≤ 6 → (k : List Word) → starts (codes "(") k ≡ false → IsPlaced g asked f (form_words asked f k) k
-  form_spelled g truth h asked le = placed_spelled g asked truth _ le (λ k e. (1, un_atom (atom_true e)))
-  form_spelled g falsity h asked le = placed_spelled g asked falsity _ le (λ k e. (1, un_atom (atom_false e)))
-  form_spelled g (action f i) h asked le = placed_spelled g asked (action f i) _ le (λ k e. (1, un_atom (atom_action (printed.fact_spelled g f h.1 (mark (codes "@") ∷ name i ∷ k)) h.0 time_plain)))
+  pub form_spelled : (g : Sig) (f : Form) → IsTidyForm g f → (asked : ℕ) → asked ≤ 6 → (k : List Word) → starts (codes "(") k ≡ false → IsPlaced g asked (text_levels asked f) f (form_words asked f k) k
+  form_spelled g truth h asked le = placed_spelled g asked truth 1 _ le (λ k e. un_atom (atom_true e))
+  form_spelled g falsity h asked le = placed_spelled g asked falsity 1 _ le (λ k e. un_atom (atom_false e))
+  form_spelled g (action f i) h asked le = placed_spelled g asked (action f i) 1 _ le (λ k e. un_atom (atom_action (printed.fact_spelled g f h.1 (mark (codes "@") ∷ name i ∷ k)) h.0 time_plain))
   form_spelled g (equal t u) h asked le =
-      placed_spelled g asked (equal t u) _ le (λ k e. (1, un_atom (atom_equal (no_truth g t h.1 h.0 _) (printed.term_spelled g t h.1 (mark (codes "=") ∷ term_words false u k)) (printed.term_spelled g u h.2 k))))
-  form_spelled g (same_time i j) h asked le = placed_spelled g asked (same_time i j) _ le (λ k e. (1, un_atom atom_same))
-  form_spelled g (earlier i j) h asked le = placed_spelled g asked (earlier i j) _ le (λ k e. (1, un_atom (atom_earlier refl time_signed time_signed)))
+      placed_spelled g asked (equal t u) 1 _ le (λ k e. un_atom (atom_equal (no_truth g t h.1 h.0 _) (printed.term_spelled g t h.1 (mark (codes "=") ∷ term_words false u k)) (printed.term_spelled g u h.2 k)))
+  form_spelled g (same_time i j) h asked le = placed_spelled g asked (same_time i j) 1 _ le (λ k e. un_atom atom_same)
+  form_spelled g (earlier i j) h asked le = placed_spelled g asked (earlier i j) 1 _ le (λ k e. un_atom (atom_earlier refl time_signed time_signed))
   form_spelled g (negation f) h asked le =
-      placed_spelled g asked (negation f) _ le (λ k e. let r = form_spelled g f h 6 (omega arith) k e in (r.0 + 1, un_not r.1))
+      placed_spelled g asked (negation f) (text_levels 6 f + 1) _ le (λ k e. un_not (form_spelled g f h 6 (omega arith) k e))
   form_spelled g (both f h) t asked le =
-      placed_spelled g asked (both f h) _ le (λ k e. let r = form_spelled g f t.0 4 (omega arith) (mark (codes "&") ∷ form_words 5 h k) refl in let s = form_spelled g h t.1 5 (omega arith) k e in
-      (max r.0 s.0 + 1, and_more r.1 s.1))
+      placed_spelled g asked (both f h) (max (text_levels 4 f) (text_levels 5 h) + 1) _ le (λ k e. and_more (form_spelled g f t.0 4 (omega arith) (mark (codes "&") ∷ form_words 5 h k) refl) (form_spelled g h t.1 5 (omega arith) k e))
   form_spelled g (either f h) t asked le =
-      placed_spelled g asked (either f h) _ le (λ k e. let r = form_spelled g f t.0 3 (omega arith) (mark (codes "|") ∷ form_words 4 h k) refl in let s = form_spelled g h t.1 4 (omega arith) k e in
-      (max r.0 s.0 + 1, or_more r.1 s.1))
+      placed_spelled g asked (either f h) (max (text_levels 3 f) (text_levels 4 h) + 1) _ le (λ k e. or_more (form_spelled g f t.0 3 (omega arith) (mark (codes "|") ∷ form_words 4 h k) refl) (form_spelled g h t.1 4 (omega arith) k e))
   form_spelled g (implies f h) t asked le =
-      placed_spelled g asked (implies f h) _ le (λ k e. let r = form_spelled g f t.0 3 (omega arith) (mark (codes "==>") ∷ form_words 2 h k) refl in let s = form_spelled g h t.1 2 (omega arith) k e in
-      (max r.0 s.0 + 1, imp_more r.1 s.1))
+      placed_spelled g asked (implies f h) (max (text_levels 3 f) (text_levels 2 h) + 1) _ le (λ k e. imp_more (form_spelled g f t.0 3 (omega arith) (mark (codes "==>") ∷ form_words 2 h k) refl) (form_spelled g h t.1 2 (omega arith) k e))
   form_spelled g (equivalent f h) t asked le =
-      placed_spelled g asked (equivalent f h) _ le (λ k e. let r = form_spelled g f t.0 2 (omega arith) (mark (codes "<=>") ∷ form_words 2 h k) refl in let s = form_spelled g h t.1 2 (omega arith) k e in
-      (max r.0 s.0 + 1, iff_more r.1 s.1))
+      placed_spelled g asked (equivalent f h) (max (text_levels 2 f) (text_levels 2 h) + 1) _ le (λ k e. iff_more (form_spelled g f t.0 2 (omega arith) (mark (codes "<=>") ∷ form_words 2 h k) refl) (form_spelled g h t.1 2 (omega arith) k e))
   form_spelled g (every bs f) h asked le =
-      placed_spelled g asked (every bs f) _ le (λ k e. let r = form_spelled g f h.1 0 (omega arith) k e in
-      (reaching, r.1 + 1, iff_one (imp_one (or_one (and_one (un_every (binders_spelled bs h.0 (form_words 0 f k)) r.2))))))
+      placed_spelled g asked (every bs f) (text_levels 0 f + 1) _ le (λ k e.
+      (reaching, iff_one (imp_one (or_one (and_one (un_every (binders_spelled bs h.0 (form_words 0 f k)) (form_spelled g f h.1 0 (omega arith) k e).1))))))
   form_spelled g (exists bs f) h asked le =
-      placed_spelled g asked (exists bs f) _ le (λ k e. let r = form_spelled g f h.1 0 (omega arith) k e in
-      (reaching, r.1 + 1, iff_one (imp_one (or_one (and_one (un_exists (binders_spelled bs h.0 (form_words 0 f k)) r.2))))))
+      placed_spelled g asked (exists bs f) (text_levels 0 f + 1) _ le (λ k e.
+      (reaching, iff_one (imp_one (or_one (and_one (un_exists (binders_spelled bs h.0 (form_words 0 f k)) (form_spelled g f h.1 0 (omega arith) k e).1))))))
 
 -- What is written before words stands in front of them, whatever they are.
 abbrev pub IsFront : Before → Type 0

@@ -1,7 +1,7 @@
 -- The words of printed items are items, and are cut into them.
 use Rattle.std.proofs.Common.{◌≡◌, ◌≤◌, max, ℕ, Bool, true, false, List, [], ◌∷◌, ◌++◌, None, drop, refl, sym, ap, subst, ◌∙◌, arith}
-use Rattle.std.specs.Prelude.{codes, decimal, if◌then◌else◌}
-use Rattle.std.proofs.lemmas.List.Elements.{All-nil, All-cons}
+use Rattle.std.specs.Prelude.{codes, decimal, if◌then◌else◌, All}
+use Rattle.std.proofs.lemmas.List.Elements.{All-nil, All-cons, All-head, All-tail}
 use Rattle.sap_terms.specs.declared.fact.Fact.{Fact}
 use Rattle.sap_terms.specs.declared.limits.TheConstants.{MOST_ARITY}
 use Rattle.sap_terms.specs.declared.signature.Symbol.{Symbol}
@@ -12,7 +12,6 @@ use Rattle.sap_terms.specs.Signature.{Sig}
 use Rattle.sap_formula.specs.Form.{Form, truth, falsity, action, equal, same_time, earlier, negation, both, either, implies, equivalent, every, exists}
 use Rattle.sap_formula.specs.declared.lemma.Mode.{Mode}
 use Rattle.sap_formula.specs.declared.lemma.Mode.TheVariants.{AllTraces, ExistsTrace}
-use Rattle.sap_rule.specs.declared.rule.Rule.{Rule}
 use Rattle.sap_grammar.specs.declared.limits.Limits.{Limits}
 use Rattle.sap_grammar.specs.Words.{Word, mark, name, number, is_lower}
 use Rattle.sap_grammar.specs.Sizes.{IsSmall, AreSmall}
@@ -29,6 +28,7 @@ use Rattle.sap_statements.specs.Statements.{IsAttribute, AreAttributes, attribut
 use Rattle.sap_statements.specs.Sorted.{plainly_sorted}
 use Rattle.sap_statements.specs.Printable.{IsTidyForm}
 use Rattle.sap_theory.specs.TheoryGrammar.{TheoryItem, builtins, functions, rule, statement, IsRuleBody, body_silent, body_acts, IsTheoryItem, item_builtins, item_functions, item_rule, item_statement, IsAnyTheoryItem, items_of}
+use Rattle.sap_theory.specs.FormulaLevels.{text_levels}
 use Rattle.sap_theory.proofs.FormulaWords.{form_words}
 use Rattle.sap_theory.proofs.ItemWords.{further_facts, facts_words, arrow_words, body_words, builtin_words, symbol_words, further, sequence, further_names, attributes_words, mode_words, quoted_words, item_words, items_words, as_restriction, as_lemma}
 use Rattle.sap_theory.proofs.PrintedFormulas.{IsFront, form_spelled, form_front}
@@ -104,51 +104,53 @@ form_small n k (equivalent f h) le = (form_small n k f (omega (arith, le)), form
 form_small n k (every vs f) le = form_small n k f le
 form_small n k (exists vs f) le = form_small n k f le
 
-module _ (printed : ArePrinted) (g : Sig) where
-  short_fact : (n : ℕ) (f : Fact) → IsTidyFact g f → fact_levels f ≤ n → (b : List Word) → IsShortFact g (limits_of n 0) true f (fact_words f b) b
-  short_fact n f h le b = record { spelled = printed.fact_spelled g f h b; small = terms_small n 0 f.args le; sign = λ s. refl }
+-- facts whose terms are within the limits
+abbrev pub AreSmallFacts : Limits → List Fact → Type 0
+AreSmallFacts m fs = All (λ (f : Fact). AreSmall m f.args) fs
 
-  further_spelled : (n : ℕ) (closing : List ℕ) (fs : List Fact) → AreTidyFacts g fs → deep fs ≤ n → (f : Fact) (k : List Word)
-      → ((b : List Word) → IsShortFact g (limits_of n 0) true f (fact_words f b) b) → AreSomeFacts g (limits_of n 0) true closing (f ∷ fs) (fact_words f (further_facts fs (mark closing ∷ k))) k
-  unfolding deep
-  further_spelled n closing [] h le f k r = facts_last (r (mark closing ∷ k))
-  further_spelled n closing (e ∷ fs) h le f k r =
+-- an item that is printed within the limits
+abbrev pub IsSmallItem : Limits → TheoryItem → Type 0
+IsSmallItem m (builtins bs) = Unit {0}
+IsSmallItem m (functions ss) = Unit {0}
+IsSmallItem m (rule r) = AreSmallFacts m r.left × AreSmallFacts m r.acts × AreSmallFacts m r.right
+IsSmallItem m (statement (restriction r)) = IsSmallForm m r.formula × (text_levels 0 r.formula ≤ m.formula_levels)
+IsSmallItem m (statement (lemma l)) = IsSmallForm m l.formula × (text_levels 0 l.formula ≤ m.formula_levels)
+
+facts_small : (n k : ℕ) (fs : List Fact) → deep fs ≤ n → AreSmallFacts (limits_of n k) fs
+unfolding deep
+facts_small n k [] le = All-nil (λ (f : Fact). AreSmall (limits_of n k) f.args)
+facts_small n k (f ∷ fs) le = All-cons (λ (f : Fact). AreSmall (limits_of n k) f.args) f fs (terms_small n k f.args (omega (arith, le))) (facts_small n k fs (omega (arith, le)))
+
+module _ (printed : ArePrinted) (g : Sig) (m : Limits) where
+  short_fact : (f : Fact) → IsTidyFact g f → AreSmall m f.args → (b : List Word) → IsShortFact g m true f (fact_words f b) b
+  short_fact f h small b = record { spelled = printed.fact_spelled g f h b; small = small; sign = λ s. refl }
+
+  first_small : (f : Fact) (fs : List Fact) → AreSmallFacts m (f ∷ fs) → AreSmall m f.args
+  first_small f fs h = All-head (λ (f : Fact). AreSmall m f.args) f fs h
+
+  others_small : (f : Fact) (fs : List Fact) → AreSmallFacts m (f ∷ fs) → AreSmallFacts m fs
+  others_small f fs h = All-tail (λ (f : Fact). AreSmall m f.args) f fs h
+
+  further_spelled : (closing : List ℕ) (fs : List Fact) → AreTidyFacts g fs → AreSmallFacts m fs → (f : Fact) (k : List Word)
+      → ((b : List Word) → IsShortFact g m true f (fact_words f b) b) → AreSomeFacts g m true closing (f ∷ fs) (fact_words f (further_facts fs (mark closing ∷ k))) k
+  further_spelled closing [] h small f k r = facts_last (r (mark closing ∷ k))
+  further_spelled closing (e ∷ fs) h small f k r =
       facts_more (r (mark (codes ",") ∷ fact_words e (further_facts fs (mark closing ∷ k))))
-      (further_spelled n closing fs h.1 (omega (arith, le)) e k (short_fact n e h.0 (omega (arith, le))))
+      (further_spelled closing fs h.1 (others_small e fs small) e k (short_fact e h.0 (first_small e fs small)))
 
-  facts_spelled : (n : ℕ) (closing : List ℕ) (fs : List Fact) → AreTidyFacts g fs → deep fs ≤ n → (k : List Word) → AreFacts g (limits_of n 0) true closing fs (facts_words closing fs k) k
-  unfolding deep
-  facts_spelled n closing [] h le k = facts_none
-  facts_spelled n closing (f ∷ fs) h le k = facts_some (further_spelled n closing fs h.1 (omega (arith, le)) f k (short_fact n f h.0 (omega (arith, le))))
+  facts_spelled : (closing : List ℕ) (fs : List Fact) → AreTidyFacts g fs → AreSmallFacts m fs → (k : List Word) → AreFacts g m true closing fs (facts_words closing fs k) k
+  facts_spelled closing [] h small k = facts_none
+  facts_spelled closing (f ∷ fs) h small k = facts_some (further_spelled closing fs h.1 (others_small f fs small) f k (short_fact f h.0 (first_small f fs small)))
 
-  body_spelled : (n : ℕ) (l e r : List Fact) → AreTidyFacts g l → AreTidyFacts g e → AreTidyFacts g r → deep l ≤ n → deep e ≤ n → deep r ≤ n
-      → IsRuleBody g (limits_of n 0) l e r (body_words l e r [])
-  body_spelled n l [] r h i j p q o = body_silent (facts_spelled n (codes "]") l h p _) (facts_spelled n (codes "]") r j o [])
-  body_spelled n l (f ∷ e) r h i j p q o = body_acts (facts_spelled n (codes "]") l h p _) (facts_spelled n (codes "]->") (f ∷ e) i q _) (facts_spelled n (codes "]") r j o [])
+  body_spelled : (l e r : List Fact) → AreTidyFacts g l → AreTidyFacts g e → AreTidyFacts g r → AreSmallFacts m l → AreSmallFacts m e → AreSmallFacts m r
+      → IsRuleBody g m l e r (body_words l e r [])
+  body_spelled l [] r h i j p q o = body_silent (facts_spelled (codes "]") l h p _) (facts_spelled (codes "]") r j o [])
+  body_spelled l (f ∷ e) r h i j p q o = body_acts (facts_spelled (codes "]") l h p _) (facts_spelled (codes "]->") (f ∷ e) i q _) (facts_spelled (codes "]") r j o [])
 
-  rule_limits : Rule → Limits
-  rule_limits r = limits_of (max (deep r.left) (max (deep r.acts) (deep r.right))) 0
-
-  rule_spelled : (r : Rule) → AreTidyFacts g r.left → AreTidyFacts g r.acts → AreTidyFacts g r.right
-      → IsRuleBody g (rule_limits r) r.left r.acts r.right (body_words r.left r.acts r.right [])
-  unfolding rule_limits
-  rule_spelled r h i j =
-      body_spelled (max (deep r.left) (max (deep r.acts) (deep r.right))) r.left r.acts r.right h i j (omega arith) (omega arith) (omega arith)
-
-  record Quoted (f : Form) : Type 0 where
-    limits : Limits
-    is : IsQuoted g limits f (form_words 0 f (mark (codes "\"") ∷ []))
-
-  quoted_spelled : (f : Form) → IsTidyForm g f → Quoted f
-  quoted_spelled f tidy =
+  quoted_spelled : (f : Form) → IsTidyForm g f → IsSmallForm m f → text_levels 0 f ≤ m.formula_levels → IsQuoted g m f (form_words 0 f (mark (codes "\"") ∷ []))
+  quoted_spelled f tidy small le =
       let r = form_spelled printed g f tidy 0 (omega arith) (mark (codes "\"") ∷ []) refl in
-      record {
-        limits = limits_of (deepest f) r.1;
-        is = record { reach = r.0; levels = r.1; spelled = r.2; few_levels = at_most (deepest f) r.1; small = form_small (deepest f) r.1 f (omega arith) };
-      }
-    where
-      at_most : (n k : ℕ) → k ≤ (limits_of n k).formula_levels
-      at_most n k = omega arith
+      record { reach = r.0; levels = text_levels 0 f; spelled = r.1; few_levels = le; small = small }
 
   builtin_spelled : (b : Builtin) (k : List Word) → IsBuiltin b (builtin_words b k) k
   builtin_spelled Hashing k = spells_hashing
@@ -193,20 +195,39 @@ module _ (printed : ArePrinted) (g : Sig) where
   mode_spelled AllTraces k = mode_all
   mode_spelled ExistsTrace k = mode_exists
 
-  pub item_spelled : (v : TheoryItem) → IsTidyItem g v → IsAnyTheoryItem g v (item_words v [])
-  item_spelled (builtins bs) h = record { limits = limits_of 0 0; is = item_builtins (builtins_spelled bs h) }
-  item_spelled (functions ss) h = record { limits = limits_of 0 0; is = item_functions (symbols_spelled ss h.0 h.1) }
-  item_spelled (rule r) h = record { limits = rule_limits r; is = item_rule (rule_spelled r h.0 h.1 h.2) }
-  item_spelled (statement (restriction r)) h =
-      let q = quoted_spelled r.formula h.0 in
+  -- within the limits
+  pub small_spelled : (v : TheoryItem) → IsTidyItem g v → IsSmallItem m v → IsTheoryItem g m v (item_words v [])
+  small_spelled (builtins bs) h small = item_builtins (builtins_spelled bs h)
+  small_spelled (functions ss) h small = item_functions (symbols_spelled ss h.0 h.1)
+  small_spelled (rule r) h small = item_rule (body_spelled r.left r.acts r.right h.0 h.1 h.2 small.0 small.1 small.2)
+  small_spelled (statement (restriction r)) h small =
       let same : as_restriction (record { name = r.name; formula = plainly_sorted [] r.formula }) ≡ as_restriction r =
       ap (λ (f : Form). as_restriction (record { name = r.name; formula = f })) (sym h.1) in
-      record { limits = q.limits; is = subst (λ (v : TheoryItem). IsTheoryItem g q.limits v (item_words (as_restriction r) [])) same (item_statement (is_restriction q.is)) }
-  item_spelled (statement (lemma l)) h =
-      let q = quoted_spelled l.formula h.1 in
+      subst (λ (v : TheoryItem). IsTheoryItem g m v (item_words (as_restriction r) [])) same (item_statement (is_restriction (quoted_spelled r.formula h.0 small.0 small.1)))
+  small_spelled (statement (lemma l)) h small =
       let same : as_lemma (record { name = l.name; attributes = l.attributes; mode = l.mode; formula = plainly_sorted [] l.formula }) ≡ as_lemma l =
       ap (λ (f : Form). as_lemma (record { name = l.name; attributes = l.attributes; mode = l.mode; formula = f })) (sym h.2) in
-      record { limits = q.limits; is = subst (λ (v : TheoryItem). IsTheoryItem g q.limits v (item_words (as_lemma l) [])) same (item_statement (is_lemma (has_spelled l.attributes h.0 _) (mode_spelled l.mode _) q.is)) }
+      subst (λ (v : TheoryItem). IsTheoryItem g m v (item_words (as_lemma l) [])) same
+      (item_statement (is_lemma (has_spelled l.attributes h.0 _) (mode_spelled l.mode _) (quoted_spelled l.formula h.1 small.0 small.1)))
+
+-- limits that an item keeps to
+own_limits : TheoryItem → Limits
+own_limits (builtins bs) = limits_of 0 0
+own_limits (functions ss) = limits_of 0 0
+own_limits (rule r) = limits_of (max (deep r.left) (max (deep r.acts) (deep r.right))) 0
+own_limits (statement (restriction r)) = limits_of (deepest r.formula) (text_levels 0 r.formula)
+own_limits (statement (lemma l)) = limits_of (deepest l.formula) (text_levels 0 l.formula)
+
+own_small : (v : TheoryItem) → IsSmallItem (own_limits v) v
+unfolding own_limits
+own_small (builtins bs) = tt
+own_small (functions ss) = tt
+own_small (rule r) = (facts_small _ 0 r.left (omega arith), facts_small _ 0 r.acts (omega arith), facts_small _ 0 r.right (omega arith))
+own_small (statement (restriction r)) = (form_small (deepest r.formula) (text_levels 0 r.formula) r.formula (omega arith), omega arith)
+own_small (statement (lemma l)) = (form_small (deepest l.formula) (text_levels 0 l.formula) l.formula (omega arith), omega arith)
+
+pub item_spelled : ArePrinted → (g : Sig) (v : TheoryItem) → IsTidyItem g v → IsAnyTheoryItem g v (item_words v [])
+item_spelled printed g v h = record { limits = own_limits v; is = small_spelled printed g (own_limits v) v h (own_small v) }
 
 -- Items stand in front of what follows them.
 further_front : {A : Type 0} (words : A → Before) → ((x : A) → IsFront (words x)) → (xs : List A) → IsFront (further words xs)
@@ -330,26 +351,44 @@ abbrev pub AllTidy : Sig → List TheoryItem → Type 0
 AllTidy g [] = Unit {0}
 AllTidy g (v ∷ vs) = IsTidyItem g v × AllTidy g vs
 
+-- each is spelled so by its words
+abbrev pub AllSpelled : (TheoryItem → List Word → Type 0) → List TheoryItem → Type 0
+AllSpelled Spells [] = Unit {0}
+AllSpelled Spells (v ∷ vs) = Spells v (item_words v []) × AllSpelled Spells vs
+
+pub any_spelled : ArePrinted → (g : Sig) (vs : List TheoryItem) → AllTidy g vs → AllSpelled (IsAnyTheoryItem g) vs
+any_spelled printed g [] h = tt
+any_spelled printed g (v ∷ vs) h = (item_spelled printed g v h.0, any_spelled printed g vs h.1)
+
+abbrev pub AllSmall : Limits → List TheoryItem → Type 0
+AllSmall m [] = Unit {0}
+AllSmall m (v ∷ vs) = IsSmallItem m v × AllSmall m vs
+
+pub within_spelled : ArePrinted → (g : Sig) (m : Limits) (vs : List TheoryItem) → AllTidy g vs → AllSmall m vs → AllSpelled (IsTheoryItem g m) vs
+within_spelled printed g m [] h small = tt
+within_spelled printed g m (v ∷ vs) h small = (small_spelled printed g m v h.0 small.0, within_spelled printed g m vs h.1 small.1)
+
 -- what the words of items are cut into
-pub record AreCut (g : Sig) (vs : List TheoryItem) (ps : List Placed) : Type 0 where
+pub record AreCut (Spells : TheoryItem → List Word → Type 0) (vs : List TheoryItem) (ps : List Placed) : Type 0 where
   pub pieces : List (List Placed)
   pub is_cut : IsCut ps pieces
   pub items : List (Standing TheoryItem)
-  pub are : AreItems (IsAnyTheoryItem g) pieces items
+  pub are : AreItems Spells pieces items
   pub same : items_of items ≡ vs
 
 -- words of printed items are cut into them
-pub items_cut : ArePrinted → FormsAreFree → (g : Sig) (vs : List TheoryItem) → AllTidy g vs → (ps : List Placed) → words ps ≡ items_words vs → AreCut g vs ps
-items_cut printed free g [] h [] e = absurd (cc (e))
-items_cut printed free g [] h (p ∷ []) e =
+pub items_cut : ArePrinted → FormsAreFree → (Spells : TheoryItem → List Word → Type 0) (g : Sig) (vs : List TheoryItem) → AllTidy g vs → AllSpelled Spells vs → (ps : List Placed) → words ps ≡ items_words vs
+    → AreCut Spells vs ps
+items_cut printed free Spells g [] h s [] e = absurd (cc (e))
+items_cut printed free Spells g [] h s (p ∷ []) e =
     record { pieces = (p ∷ []) ∷ []; is_cut = cut_one p [] [] tt tt cut_none; items = []; are = items_end e; same = refl }
-items_cut printed free g [] h (p ∷ q ∷ ps) e = absurd (cc (e))
-items_cut printed free g (v ∷ vs) h ps e =
+items_cut printed free Spells g [] h s (p ∷ q ∷ ps) e = absurd (cc (e))
+items_cut printed free Spells g (v ∷ vs) h s ps e =
     let front : words ps ≡ item_words v [] ++ items_words vs = e ∙ item_front printed v [] (items_words vs) in
     let parts = split_words (item_words v []) (items_words vs) ps front in
-    finish parts.0 parts.1 parts.2 parts.3 (items_start vs parts.1 parts.4) (items_cut printed free g vs h.1 parts.1 parts.4)
+    finish parts.0 parts.1 parts.2 parts.3 (items_start vs parts.1 parts.4) (items_cut printed free Spells g vs h.1 s.1 parts.1 parts.4)
   where
-    finish : (qs rs : List Placed) → ps ≡ qs ++ rs → words qs ≡ item_words v [] → StartsItem rs → AreCut g vs rs → AreCut g (v ∷ vs) ps
+    finish : (qs rs : List Placed) → ps ≡ qs ++ rs → words qs ≡ item_words v [] → StartsItem rs → AreCut Spells vs rs → AreCut Spells (v ∷ vs) ps
     finish [] rs whole is starts rest = absurd (let all : [] ≡ mark (first_word v) ∷ drop 1 (item_words v []) = is ∙ item_begins v [] in cc (all))
     finish (q ∷ qs) rs whole is starts rest =
         let item : IsAnyTheoryItem g v (words (q ∷ qs)) = subst (λ (a : List Word). IsAnyTheoryItem g v a) (sym is) (item_spelled printed g v h.0) in
@@ -358,7 +397,7 @@ items_cut printed free g (v ∷ vs) h ps e =
           pieces = (q ∷ qs) ∷ rest.pieces;
           is_cut = subst (λ (x : List Placed). IsCut x ((q ∷ qs) ∷ rest.pieces)) (sym whole) (cut_one q qs rs (free_placed qs unbroken) starts rest.is_cut);
           items = record { item = v; line = first_line (q ∷ qs) } ∷ rest.items;
-          are = items_more item rest.are;
+          are = items_more (subst (λ (a : List Word). Spells v a) (sym is) s.0) rest.are;
           same = ap (λ (us : List TheoryItem). v ∷ us) rest.same;
         }
 

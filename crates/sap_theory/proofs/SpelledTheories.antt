@@ -1,5 +1,5 @@
 -- A theory that some bytes spell, over its signature, can be printed.
-use Rattle.std.proofs.Common.{◌≡◌, ◌≤◌, max, ℕ, Bool, true, false, List, [], ◌∷◌, ◌++◌, Option, Some, refl, sym, ap, subst, ◌∙◌, arith}
+use Rattle.std.proofs.Common.{◌≡◌, ◌≤◌, ℕ, Bool, true, false, List, [], ◌∷◌, ◌++◌, Option, Some, refl, sym, ap, subst, ◌∙◌}
 use Rattle.std.specs.Prelude.{not, ◌||◌, All, map, filter, option_map, if◌then◌else◌}
 use Rattle.std.specs.Str.{bytes_eq}
 use Rattle.std.proofs.lemmas.List.Elements.{All-nil, All-cons, All-head, All-tail, All-weaker}
@@ -23,7 +23,7 @@ use Rattle.sap_grammar.specs.FactGrammar.{AreSomeFacts, AreFacts, facts_last, fa
 use Rattle.sap_grammar.specs.Cut.{Placed, words, placed, IsCut, cut_none, cut_one}
 use Rattle.sap_grammar.specs.Declarations.{Declaration, of_builtin, of_symbol, IsSymbol, spells_public, spells_private, AreSymbols, symbols_last, symbols_more}
 use Rattle.sap_grammar.specs.Items.{Standing, AreItems, items_end, items_more}
-use Rattle.sap_grammar.specs.ByteWords.{AreWords, IsName, AreTokenWords}
+use Rattle.sap_grammar.specs.ByteWords.{IsName, AreTokenWords}
 use Rattle.sap_grammar.specs.Printable.{IsPrintableFact}
 use Rattle.sap_grammar.specs.Printed.{ArePrinted}
 use Rattle.sap_statements.specs.FormulaGrammar.{Reach, IsIff}
@@ -31,7 +31,7 @@ use Rattle.sap_statements.specs.declared.statement.Statement.TheVariants.{Restri
 use Rattle.sap_statements.specs.Statements.{IsAttribute, AreAttributes, attributes_last, attributes_more, HasAttributes, without_attributes, with_attributes, IsMode, mode_missing, mode_all, mode_exists, IsQuoted, is_restriction, is_lemma}
 use Rattle.sap_statements.specs.Sorted.{plainly_sorted}
 use Rattle.sap_statements.specs.Printable.{IsTidyForm, IsFormOver, FormHasNames, IsPrintableForm}
-use Rattle.sap_theory.specs.SignatureText.{builtins_of, functions_of, is_among, is_brought}
+use Rattle.sap_theory.specs.SignatureText.{is_among, is_brought}
 use Rattle.sap_theory.specs.TheoryOver.{IsTheoryOver}
 use Rattle.sap_theory.specs.TheoryGrammar.{TheoryItem, builtins, functions, rule, statement, IsRuleBody, body_silent, body_acts, IsTheoryItem, item_builtins, item_functions, item_rule, item_statement, IsAnyTheoryItem, items_of, rules_in, restrictions_in, lemmas_in, declarations, signature_of, SpellsTheory}
 use Rattle.sap_theory.specs.PrintableTheory.{IsPrintableRule, IsPrintableRestriction, IsPrintableLemma, IsPrintableSymbol, IsPrintable}

@@ -7,9 +7,16 @@ pub use Rattle.sap_grammar.specs.FactText
 pub mod Pieces
 pub mod RuleText
 pub mod FormulaText
+pub mod FormulaLevels
 pub mod StatementText
 pub mod SignatureText
 pub mod TheoryText
 pub mod TheoryGrammar
+pub mod WrittenItems
+pub mod TheoryCauses
+pub mod ReadTheory
+pub mod ReadAgain
 pub mod TheoryOver
 pub mod PrintableTheory
+pub mod WithinLimits
+pub mod code

@@ -1,5 +1,5 @@
 -- Which words spell an item of a theory, and which bytes a theory.
-use Rattle.std.specs.Prelude.{◌≡◌, ℕ, true, codes, List, [], ◌∷◌, ◌++◌, map, None, Ok}
+use Rattle.std.specs.Prelude.{◌≡◌, ℕ, true, codes, List, [], ◌∷◌, map, None, Ok}
 use Rattle.sap_text.specs.declared.token.Token.{Token}
 use Rattle.sap_text.specs.Tokens.{IsLexed}
 use Rattle.sap_terms.specs.declared.fact.Fact.{Fact}
@@ -35,13 +35,23 @@ pub data IsRuleBody (g : Sig) (m : Limits) : List Fact → List Fact → List Fa
   body_acts : {l e r : List Fact} {a b c : List Word} → AreFacts g m true (codes "]") l a (mark (codes "--[") ∷ b)
       → AreFacts g m true (codes "]->") e b (mark (codes "[") ∷ c) → AreFacts g m true (codes "]") r c [] → IsRuleBody g m l e r (mark (codes "[") ∷ a)
 
--- all of the words are this item, its terms and formulas within the limits; a plain variable of a formula has the sort of its binder
-pub data IsTheoryItem (g : Sig) (m : Limits) : TheoryItem → List Word → Type 0 where
-  item_builtins : {bs : List Builtin} {a : List Word} → AreBuiltins bs a → IsTheoryItem g m (builtins bs) (mark (codes "builtins") ∷ mark (codes ":") ∷ a)
-  item_functions : {ss : List Symbol} {a : List Word} → AreSymbols ss a → IsTheoryItem g m (functions ss) (mark (codes "functions") ∷ mark (codes ":") ∷ a)
+-- all of the words are this item, its terms and formulas within the limits; a restriction or lemma stands for what is made of it
+pub data IsItemBy (sorting : Statement → Statement) (g : Sig) (m : Limits) : TheoryItem → List Word → Type 0 where
+  item_builtins : {bs : List Builtin} {a : List Word} → AreBuiltins bs a
+      → IsItemBy sorting g m (builtins bs) (mark (codes "builtins") ∷ mark (codes ":") ∷ a)
+  item_functions : {ss : List Symbol} {a : List Word} → AreSymbols ss a
+      → IsItemBy sorting g m (functions ss) (mark (codes "functions") ∷ mark (codes ":") ∷ a)
   item_rule : {x : List ℕ} {l e r : List Fact} {a : List Word} → IsRuleBody g m l e r a
-      → IsTheoryItem g m (rule (record { name = x; left = l; acts = e; right = r })) (mark (codes "rule") ∷ name x ∷ mark (codes ":") ∷ a)
-  item_statement : {s : Statement} {a : List Word} → IsStatement g m s a → IsTheoryItem g m (statement (sorted_statement s)) a
+      → IsItemBy sorting g m (rule (record { name = x; left = l; acts = e; right = r })) (mark (codes "rule") ∷ name x ∷ mark (codes ":") ∷ a)
+  item_statement : {s : Statement} {a : List Word} → IsStatement g m s a → IsItemBy sorting g m (statement (sorting s)) a
+
+-- so that a plain variable of a formula has the sort of its binder
+abbrev pub IsTheoryItem : Sig → Limits → TheoryItem → List Word → Type 0
+IsTheoryItem = IsItemBy sorted_statement
+
+-- so that each variable of a formula has the sort of its sign, as it is written
+abbrev pub IsWrittenItem : Sig → Limits → TheoryItem → List Word → Type 0
+IsWrittenItem = IsItemBy (λ s. s)
 
 -- the item within some limits
 pub record IsAnyTheoryItem (g : Sig) (v : TheoryItem) (a : List Word) : Type 0 where
@@ -63,7 +73,7 @@ declarations is = declared_by_all declared_by is
 abbrev pub items_of : List (Standing TheoryItem) → List TheoryItem
 items_of is = map (λ (i : Standing TheoryItem). i.item) is
 
--- the rules among items, the restrictions, and the lemmas
+-- the rules among items
 abbrev pub rules_in : List TheoryItem → List Rule
 rules_in [] = []
 rules_in (builtins bs ∷ vs) = rules_in vs
@@ -71,6 +81,15 @@ rules_in (functions ss ∷ vs) = rules_in vs
 rules_in (rule r ∷ vs) = r ∷ rules_in vs
 rules_in (statement s ∷ vs) = rules_in vs
 
+-- the statements among them, both restrictions and lemmas
+abbrev pub statements_in : List TheoryItem → List Statement
+statements_in [] = []
+statements_in (builtins bs ∷ vs) = statements_in vs
+statements_in (functions ss ∷ vs) = statements_in vs
+statements_in (rule r ∷ vs) = statements_in vs
+statements_in (statement s ∷ vs) = s ∷ statements_in vs
+
+-- the restrictions alone, and the lemmas
 abbrev pub restrictions_in : List TheoryItem → List RestrictionForm
 restrictions_in [] = []
 restrictions_in (builtins bs ∷ vs) = restrictions_in vs

@@ -1,14 +1,16 @@
-ghost use Rattle.std.specs.Prelude.{◌≡◌, ◌++◌, OnOk, codes};
+ghost use Rattle.std.specs.Prelude.{◌≡◌, ◌++◌, map, IfOk, OnOk, codes};
 ghost use Rattle.sap_terms.specs.View.{tree};
 ghost use Rattle.sap_formula.specs.View.{form};
 ghost use Rattle.sap_grammar.specs.TermText.{tree_text};
 ghost use Rattle.sap_grammar.specs.FactText.{fact_text};
+ghost use Rattle.sap_theory.specs.code.Chains.{chained, behind_text};
 ghost use Rattle.sap_theory.specs.FormulaText.{strength, binder_text, binders_text, places_text, formula_text};
 
 use sap_formula::{Binder, Binders, Formula};
 use sap_grammar::{push_fact, push_variable, push_whole_term};
 use sap_terms::{Fact, Mem, Name, Term};
 use sap_text::Text;
+use std::alloc::Global;
 
 fn strength(f: &Formula) -> u64
     ensures { result ≡ strength (form f.now) }
@@ -74,30 +76,49 @@ fn push_places(text: &mut Text, i: &Name, sign: &[u8], j: &Name) -> Result<(), M
     push_place(text, j)
 }
 
-/// A formula in a place that asks for so much strength. It recurses as deep as the formula.
+// The first formula of a chain, and those behind it, the last of them first.
+fn chain(alloc: Global, f: &Formula) -> Result<(&Formula, Vec<&Formula>), Mem>
+    ensures { IfOk result (λ p. form f.now ≡ chained (form p.0.now) (map (λ g. form g.now) p.1.items)) }
+{
+    let mut first = f;
+    let mut behind: Vec<&Formula> = Vec::new(alloc);
+    while let Formula::And(left, right) = first {
+        behind.push(right)?;
+        first = left;
+    }
+    Ok((first, behind))
+}
+
+/// A formula in a place that asks for so much strength. It recurses as deep as the formula, but not along a chain of `&`,
+/// leftmost first, of which it keeps a list.
 #[cycle(push_formula)]
-pub(crate) fn push_formula(text: &mut Text, asked: u64, f: &Formula) -> Result<(), Mem>
+pub(crate) fn push_formula(
+    text: &mut Text,
+    alloc: Global,
+    asked: u64,
+    f: &Formula,
+) -> Result<(), Mem>
     ensures { OnOk result (text.new ≡ text.old ++ formula_text asked (form f.now)) }
 {
     if strength(f) < asked {
-        push_enclosed(text, f)
+        push_enclosed(text, alloc, f)
     } else {
-        push_open(text, f)
+        push_open(text, alloc, f)
     }
 }
 
 #[cycle(push_formula)]
-fn push_enclosed(text: &mut Text, f: &Formula) -> Result<(), Mem>
+fn push_enclosed(text: &mut Text, alloc: Global, f: &Formula) -> Result<(), Mem>
     ensures { OnOk result (text.new ≡ text.old ++ (codes "(" ++ (formula_text 0 (form f.now) ++ codes ")"))) }
 {
     text.push_bytes(b"(")?;
-    push_open(text, f)?;
+    push_open(text, alloc, f)?;
     text.push_bytes(b")")
 }
 
 // A formula in a place that asks for no strength.
 #[cycle(push_formula)]
-fn push_open(text: &mut Text, f: &Formula) -> Result<(), Mem>
+fn push_open(text: &mut Text, alloc: Global, f: &Formula) -> Result<(), Mem>
     ensures { OnOk result (text.new ≡ text.old ++ formula_text 0 (form f.now)) }
 {
     match f {
@@ -107,28 +128,63 @@ fn push_open(text: &mut Text, f: &Formula) -> Result<(), Mem>
         Formula::Equal(s, t) => push_equation(text, s, t),
         Formula::Same(i, j) => push_places(text, i, b" = ", j),
         Formula::Less(i, j) => push_places(text, i, b" < ", j),
-        Formula::Not(f) => push_not(text, f),
-        Formula::And(f, g) => push_two(text, (4, 5), f, b" & ", g),
-        Formula::Or(f, g) => push_two(text, (3, 4), f, b" | ", g),
-        Formula::Imp(f, g) => push_two(text, (3, 2), f, b" ==> ", g),
-        Formula::Iff(f, g) => push_two(text, (2, 2), f, b" <=> ", g),
-        Formula::All(binders, f) => push_quantified(text, b"All", binders, f),
-        Formula::Ex(binders, f) => push_quantified(text, b"Ex", binders, f),
+        Formula::Not(f) => push_not(text, alloc, f),
+        Formula::And(f, g) => push_both(text, alloc, f, g),
+        Formula::Or(f, g) => push_two(text, alloc, (3, 4), f, b" | ", g),
+        Formula::Imp(f, g) => push_two(text, alloc, (3, 2), f, b" ==> ", g),
+        Formula::Iff(f, g) => push_two(text, alloc, (2, 2), f, b" <=> ", g),
+        Formula::All(binders, f) => push_quantified(text, alloc, b"All", binders, f),
+        Formula::Ex(binders, f) => push_quantified(text, alloc, b"Ex", binders, f),
     }
 }
 
 #[cycle(push_formula)]
-fn push_not(text: &mut Text, f: &Formula) -> Result<(), Mem>
+fn push_not(text: &mut Text, alloc: Global, f: &Formula) -> Result<(), Mem>
     ensures { OnOk result (text.new ≡ text.old ++ (codes "not " ++ formula_text 6 (form f.now))) }
 {
     text.push_bytes(b"not ")?;
-    push_formula(text, 6, f)
+    push_formula(text, alloc, 6, f)
+}
+
+// `f & g`
+#[cycle(push_formula)]
+fn push_both(text: &mut Text, alloc: Global, f: &Formula, g: &Formula) -> Result<(), Mem>
+    ensures { OnOk result (text.new ≡ text.old ++ (formula_text 4 (form f.now) ++ (codes " & " ++ formula_text 5 (form g.now)))) }
+{
+    push_chain(text, alloc, f)?;
+    text.push_bytes(b" & ")?;
+    push_formula(text, alloc, 5, g)
+}
+
+// What stands in front of an `&`, one formula of the chain after another.
+#[cycle(push_formula)]
+fn push_chain(text: &mut Text, alloc: Global, f: &Formula) -> Result<(), Mem>
+    ensures { OnOk result (text.new ≡ text.old ++ formula_text 4 (form f.now)) }
+{
+    let (first, behind) = chain(alloc, f)?;
+    push_formula(text, alloc, 4, first)?;
+    push_behind(text, alloc, behind.as_slice())
+}
+
+// Formulas behind the first of a chain, the last of them first.
+#[cycle(push_formula)]
+fn push_behind(text: &mut Text, alloc: Global, behind: &[&Formula]) -> Result<(), Mem>
+    ensures { OnOk result (text.new ≡ text.old ++ behind_text (map (λ g. form g.now) behind.now)) }
+{
+    let mut left = behind.len();
+    while left > 0 {
+        left -= 1;
+        text.push_bytes(b" & ")?;
+        push_formula(text, alloc, 5, behind[left])?;
+    }
+    Ok(())
 }
 
 // Two formulas with a sign between them, and what their places ask for.
 #[cycle(push_formula)]
 fn push_two(
     text: &mut Text,
+    alloc: Global,
     asked: (u64, u64),
     f: &Formula,
     sign: &[u8],
@@ -136,17 +192,23 @@ fn push_two(
 ) -> Result<(), Mem>
     ensures { OnOk result (text.new ≡ text.old ++ (formula_text asked.0 (form f.now) ++ (sign.now ++ formula_text asked.1 (form g.now)))) }
 {
-    push_formula(text, asked.0, f)?;
+    push_formula(text, alloc, asked.0, f)?;
     text.push_bytes(sign)?;
-    push_formula(text, asked.1, g)
+    push_formula(text, alloc, asked.1, g)
 }
 
 #[cycle(push_formula)]
-fn push_quantified(text: &mut Text, word: &[u8], binders: &Binders, f: &Formula) -> Result<(), Mem>
+fn push_quantified(
+    text: &mut Text,
+    alloc: Global,
+    word: &[u8],
+    binders: &Binders,
+    f: &Formula,
+) -> Result<(), Mem>
     ensures { OnOk result (text.new ≡ text.old ++ (word.now ++ (binders_text binders.now ++ (codes ". " ++ formula_text 0 (form f.now))))) }
 {
     text.push_bytes(word)?;
     push_binders(text, binders)?;
     text.push_bytes(b". ")?;
-    push_formula(text, 0, f)
+    push_formula(text, alloc, 0, f)
 }

@@ -8,45 +8,50 @@ use sap_formula::{Formula, Lemma, LemmaList, Mode, Restriction, RestrictionList}
 use sap_grammar::push_separator;
 use sap_terms::{Mem, NameList};
 use sap_text::Text;
+use std::alloc::Global;
 
 // The line of a formula.
-fn push_quoted(text: &mut Text, f: &Formula) -> Result<(), Mem>
+fn push_quoted(text: &mut Text, alloc: Global, f: &Formula) -> Result<(), Mem>
     ensures { OnOk result (text.new ≡ text.old ++ quoted (form f.now)) }
 {
     text.push_bytes(b"  \"")?;
-    push_formula(text, 0, f)?;
+    push_formula(text, alloc, 0, f)?;
     text.push_bytes(b"\"\n")
 }
 
-pub(crate) fn push_restrictions(text: &mut Text, restrictions: &RestrictionList) -> Result<(), Mem>
+pub(crate) fn push_restrictions(
+    text: &mut Text,
+    alloc: Global,
+    restrictions: &RestrictionList,
+) -> Result<(), Mem>
     ensures { OnOk result (text.new ≡ text.old ++ restrictions_text restrictions.now) }
 {
     for restriction in restrictions.as_slice() {
-        push_restriction(text, restriction)?;
+        push_restriction(text, alloc, restriction)?;
     }
     Ok(())
 }
 
-fn push_restriction(text: &mut Text, restriction: &Restriction) -> Result<(), Mem>
+fn push_restriction(text: &mut Text, alloc: Global, restriction: &Restriction) -> Result<(), Mem>
     ensures { OnOk result (text.new ≡ text.old ++ restriction_text restriction.now) }
 {
     text.push_bytes(b"\nrestriction ")?;
     text.push_bytes(restriction.name.as_bytes())?;
     text.push_bytes(b":\n")?;
-    push_quoted(text, &restriction.formula)?;
+    push_quoted(text, alloc, &restriction.formula)?;
     Ok(())
 }
 
-pub(crate) fn push_lemmas(text: &mut Text, lemmas: &LemmaList) -> Result<(), Mem>
+pub(crate) fn push_lemmas(text: &mut Text, alloc: Global, lemmas: &LemmaList) -> Result<(), Mem>
     ensures { OnOk result (text.new ≡ text.old ++ lemmas_text lemmas.now) }
 {
     for lemma in lemmas.as_slice() {
-        push_lemma(text, lemma)?;
+        push_lemma(text, alloc, lemma)?;
     }
     Ok(())
 }
 
-fn push_lemma(text: &mut Text, lemma: &Lemma) -> Result<(), Mem>
+fn push_lemma(text: &mut Text, alloc: Global, lemma: &Lemma) -> Result<(), Mem>
     ensures { OnOk result (text.new ≡ text.old ++ lemma_text lemma.now) }
 {
     text.push_bytes(b"\nlemma ")?;
@@ -55,7 +60,7 @@ fn push_lemma(text: &mut Text, lemma: &Lemma) -> Result<(), Mem>
     text.push_bytes(b":\n  ")?;
     push_mode(text, lemma.mode)?;
     text.push_bytes(b"\n")?;
-    push_quoted(text, &lemma.formula)?;
+    push_quoted(text, alloc, &lemma.formula)?;
     Ok(())
 }
 

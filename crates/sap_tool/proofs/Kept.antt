@@ -8,21 +8,31 @@ use Rattle.sap_tool.specs.Call.{Call, Gained, Failed, CutShort, FailedOn, Holds}
 use Rattle.sap_tool.specs.declared.way.Way.{Way}
 use Rattle.sap_tool.specs.declared.way.Way.TheVariants.{Plain, Inlined}
 use Rattle.sap_tool.specs.Commands.{Command, compile, word_of_way, spelled, file_of, limit_of, IsUnknown, Refuses, Allows, Means}
+use Rattle.sap_tool.specs.AcceptedFile.{compiled_theory}
 use Rattle.sap_tool.specs.Answers.{Answer, gives, tells, status_of, IsAnswerTo, allowed, refused, Asks, Fetched, IsAnswer, to_file, usage, unread, IsPut, whole, broken, wanting, IsLast, complete, cut, write_fault_text, memory_text, Ended, answered, unanswered}
 use Rattle.sap_tool.specs.Promises as promised
-use Rattle.sap_tool.proofs.Refused.{OneReading, SomeReading, Runnable, Keeping, file_kept, one_cause, one_theory, some_theory, not_refused, part_refused, part_accepted}
+use Rattle.sap_tool.proofs.Refused.{OneReading, SomeReading, Runnable, Keeping, Writing, file_kept, file_written, one_cause, one_theory, some_theory, not_refused, part_refused, part_accepted}
 
 -- the laws of the crates below
 pub record Laws : Type 0 where
   pub keeping : Keeping
   pub runnable : Runnable
+  pub writing : Writing
   pub one : OneReading
   pub some : SomeReading
 
 -- what an allowed text means
 means : Laws → (k : Command) (bytes text : List ℕ) → Allows k bytes text → Means k bytes text
 means laws (compile way file) bytes text t =
-    record { told = t.told; file = t.file; layout = t.layout; keeps = file_kept laws.runnable laws.keeping way bytes t.told t.file }
+    record {
+      told = t.told;
+      file = t.file;
+      theory = compiled_theory way t.told;
+      written = file_written laws.writing way bytes text t.told t.file t.layout;
+      layout = t.layout;
+      compiled = refl;
+      keeps = file_kept laws.runnable laws.keeping way bytes t.told t.file;
+    }
 
 -- no bytes are both allowed and refused
 never : Laws → (k : Command) (bytes text why : List ℕ) → Allows k bytes text → Refuses k bytes why → ⊥

@@ -7,7 +7,7 @@ use Rattle.sap_read.specs.declared.fault.ReadFault.{ReadFault}
 use Rattle.sap_tool.specs.declared.way.Way.{Way}
 use Rattle.sap_tool.specs.declared.way.Way.TheVariants.{Plain, Inlined}
 use Rattle.sap_tool.specs.AcceptedFile.{most_bytes, IsAcceptedFile, compiled_text, compiled_theory, IsTheoryOf}
-use Rattle.sap_tool.specs.Meaning.{Keeps}
+use Rattle.sap_tool.specs.Meaning.{Keeps, IsWritten}
 use Rattle.sap_tool.specs.Refusals.{IsRefusedWith, too_long, unread, fault_text}
 
 -- bytes are read as one file, or refused for one cause
@@ -33,9 +33,26 @@ pub both_ways : KeepingBy Plain → KeepingBy Inlined → Keeping
 both_ways plain inlined Plain = plain
 both_ways plain inlined Inlined = inlined
 
+-- the text of the theory of a file that is read, written in this way, spells it and no other
+abbrev pub WritingBy : Way → Type 0
+WritingBy way = (z : List ℕ) (told : FileContent) → IsRead z (Ok told) → IsWritten (compiled_text way told) (compiled_theory way told)
+
+abbrev pub Writing : Type 0
+Writing = (way : Way) → WritingBy way
+
+pub in_both_ways : WritingBy Plain → WritingBy Inlined → Writing
+in_both_ways plain inlined Plain = plain
+in_both_ways plain inlined Inlined = inlined
+
 -- and so do those of an accepted file
 pub file_kept : Runnable → Keeping → (way : Way) (z : List ℕ) (told : FileContent) → IsAcceptedFile z told → Keeps way told (compiled_theory way told)
 file_kept runnable keeping way z told file = keeping way told (runnable z told file.read)
+
+-- and their texts are written
+pub file_written : Writing → (way : Way) (z text : List ℕ) (told : FileContent) → IsAcceptedFile z told → text ≡ compiled_text way told
+    → IsWritten text (compiled_theory way told)
+file_written writing way z text told file layout =
+    subst (λ (y : List ℕ). IsWritten y (compiled_theory way told)) (sym layout) (writing way z told file.read)
 
 module _ (one : OneReading) (z : List ℕ) where
   same_fault : (e f : ReadFault) → IsRead z (Err e) → IsRead z (Err f) → e ≡ f

@@ -13,8 +13,9 @@ use crate::compile::{MOST_BYTES, theory_text_of};
 use crate::refusal::Refusal;
 use crate::way::{Way, way_of};
 use crate::{Shelf, ShelfFault, Sink, SinkFault};
-use sap_gen::theories_keep_files;
-use sap_read::{files_are_runnable, one_file, some_file};
+use sap_gen::{theories_are_printable, theories_keep_files};
+use sap_read::{files_are_printable, files_are_runnable, one_file, some_file};
+use sap_theory::printed_theories;
 use std::alloc::Global;
 
 /// Runs the program on its words, those after its name, and answers its status.
@@ -45,7 +46,10 @@ pub fn sapic<S: Shelf, O: Sink, E: Sink>(
         result }
 {
     theories_keep_files();
+    theories_are_printable();
+    printed_theories();
     files_are_runnable();
+    files_are_printable();
     one_file();
     some_file();
     run(alloc, words, shelf, out, err)

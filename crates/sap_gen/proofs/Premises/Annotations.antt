@@ -48,7 +48,7 @@ abbrev lock_site : List ℕ → List LockMark → ℕ → Proc → LockSite
 lock_site path way k p = place path (way_above way k) p
 
 -- each place from this one on has the property
-abbrev At : (LockSite → Type 0) → List ℕ → List LockMark → ℕ → Proc → Type 0
+abbrev pub At : (LockSite → Type 0) → List ℕ → List LockMark → ℕ → Proc → Type 0
 At P path way k p = (s : LockSite) → Member s (lock_sites_from path way k p) → P s
 
 -- the place of such an unlock
@@ -93,7 +93,7 @@ unlocking n (whole.lookup t x p q) path way k (inl h) = below_first _ _ _ n (unl
 unlocking n (whole.lookup t x p q) path way k (inr h) = below_second _ (lock_sites_from (path ++ 1 ∷ []) way k p) _ n (unlocking n q (path ++ 2 ∷ []) way (k + lock_count p) h)
 
 -- the locks on the way have lesser numbers
-abbrev Below : ℕ → List LockMark → Type 0
+abbrev pub Below : ℕ → List LockMark → Type 0
 Below k way = (n : ℕ) (t : Tree) → Member (locked n t) way → n < k
 
 -- lock n of the term stands on the way, and is open at its end
@@ -171,19 +171,19 @@ covers_lock way k o t l p e low c n u has carried = elim (first_mark has.0) [
     elder m (inl at) = let less : n < k + 1 = low n u m in absurd (omega (arith, at, less))
     elder m (inr opened) = c n u (m, opened) carried
 
-below_lock : (way : List LockMark) (k : ℕ) (t : Tree) → Below (k + 1) way → Below (k + 1 + 1) (locked (k + 1) t ∷ way)
+pub below_lock : (way : List LockMark) (k : ℕ) (t : Tree) → Below (k + 1) way → Below (k + 1 + 1) (locked (k + 1) t ∷ way)
 below_lock way k t low n u m = elim (first_mark m) [
   | inl same ↦ (let is : k + 1 ≡ n = ap mark_number same in omega (arith, is))
   | inr l ↦ (let less : n < k + 1 = low n u l in omega (arith, less))
 ]
 
-below_unlock : (way : List LockMark) (k : ℕ) (t : Tree) → Below k way → Below k (unlocked t ∷ way)
+pub below_unlock : (way : List LockMark) (k : ℕ) (t : Tree) → Below k way → Below k (unlocked t ∷ way)
 below_unlock way k t low n u m = low n u (behind_unlock m)
 
-below_more : (way : List LockMark) (k n : ℕ) → Below (k + 1) way → Below (k + n + 1) way
+pub below_more : (way : List LockMark) (k n : ℕ) → Below (k + 1) way → Below (k + n + 1) way
 below_more way k n low m u l = let less : m < k + 1 = low m u l in omega (arith, less)
 
-below_same : (way : List LockMark) (k : ℕ) → Below (k + 1) way → Below (k + 0 + 1) way
+pub below_same : (way : List LockMark) (k : ℕ) → Below (k + 1) way → Below (k + 0 + 1) way
 below_same way k low m u l = let less : m < k + 1 = low m u l in omega (arith, less)
 
 covers_unlock : (way : List LockMark) (o : List (ℕ × Tree)) (t : Tree) (l : ℕ) (p : Proc) → IsLockOf way l t → Covers way o (act (action.unlock t l) p) → Covers (unlocked t ∷ way) (closed l o) p
@@ -191,13 +191,13 @@ covers_unlock way o t l p own c m u has carried =
     not_closed l (m, u) o (c m u (behind_unlock has.0, has.1.0) (inr carried)) (λ e. has.1.1 (subst (λ n. IsLockOf way n t) (sym e) own))
 
 -- the places of the parts
-in_first : (P : LockSite → Type 0) (s : LockSite) (xs ys : List LockSite) → ((z : LockSite) → Member z (s ∷ (xs ++ ys)) → P z) → (z : LockSite) → Member z xs → P z
+pub in_first : (P : LockSite → Type 0) (s : LockSite) (xs ys : List LockSite) → ((z : LockSite) → Member z (s ∷ (xs ++ ys)) → P z) → (z : LockSite) → Member z xs → P z
 in_first P s xs ys h z m = h z (Member.later (member_left ys m))
 
-in_second : (P : LockSite → Type 0) (s : LockSite) (xs ys : List LockSite) → ((z : LockSite) → Member z (s ∷ (xs ++ ys)) → P z) → (z : LockSite) → Member z ys → P z
+pub in_second : (P : LockSite → Type 0) (s : LockSite) (xs ys : List LockSite) → ((z : LockSite) → Member z (s ∷ (xs ++ ys)) → P z) → (z : LockSite) → Member z ys → P z
 in_second P s xs ys h z m = h z (Member.later (member_right xs m))
 
-in_rest : (P : LockSite → Type 0) (s : LockSite) (xs : List LockSite) → ((z : LockSite) → Member z (s ∷ xs) → P z) → (z : LockSite) → Member z xs → P z
+pub in_rest : (P : LockSite → Type 0) (s : LockSite) (xs : List LockSite) → ((z : LockSite) → Member z (s ∷ xs) → P z) → (z : LockSite) → Member z xs → P z
 in_rest P s xs h z m = h z (Member.later m)
 
 locks_ok : (p : Proc) (path : List ℕ) (way : List LockMark) (k : ℕ) (o : List (ℕ × Tree)) → Below (k + 1) way → At annotation.IsLabelled path way k p → At NotOver path way k p → Covers way o p → UnlocksAreOpen o p
@@ -377,7 +377,7 @@ annotation_is p q h = record {
 }
 
 -- no more locks than places
-count_below : (p : Proc) → lock_count p < node_count p
+pub count_below : (p : Proc) → lock_count p < node_count p
 count_below whole.nil = omega arith
 count_below (whole.parallel p q) = (let a = count_below p in let b = count_below q in omega (arith, a, b))
 count_below (whole.replicated p) = (let a = count_below p in omega (arith, a))
@@ -389,7 +389,7 @@ count_below (act a p) = (let b = count_below p in let c = one a in omega (arith,
 count_below (whole.test t u p q) = (let a = count_below p in let b = count_below q in omega (arith, a, b))
 count_below (whole.lookup t x p q) = (let a = count_below p in let b = count_below q in omega (arith, a, b))
 
-same_nodes : (p : Proc) → node_count (unlabelled p) ≡ node_count p
+pub same_nodes : (p : Proc) → node_count (unlabelled p) ≡ node_count p
 same_nodes whole.nil = refl
 same_nodes (whole.parallel p q) = λ i. same_nodes p i + same_nodes q i + 1
 same_nodes (whole.replicated p) = λ i. same_nodes p i + 1

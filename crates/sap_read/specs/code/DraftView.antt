@@ -4,9 +4,9 @@ use Rattle.sap_process.specs.Proc as whole
 use Rattle.sap_process.specs.Proc.{Proc, level_count}
 use Rattle.sap_read.specs.declared.expansion.Below.{Below}
 use Rattle.sap_read.specs.declared.expansion.Below.TheVariants.{Nothing, One, Two}
-use Rattle.sap_read.specs.Written.{Written}
+use Rattle.sap_draft.specs.Written.{Written}
 use Rattle.sap_read.specs.Replaced.{replaced}
-use Rattle.sap_read.specs.code.Drafts.{written}
+use Rattle.sap_draft.specs.Drafts.{written}
 use Rattle.sap_read.specs.code.Meaning.{IsFormed, with_one, with_two}
 
 -- these are the drafts below it: it is their processes under its form, and one level deeper

@@ -3,16 +3,16 @@ use Rattle.std.specs.Prelude.{◌≡◌, ℕ, Bool, true, false, List, [], ◌�
 use Rattle.sap_terms.specs.Signature.{Sig}
 use Rattle.sap_terms.specs.declared.mem.Mem.{Mem}
 use Rattle.sap_text.specs.declared.token.Token.{Token}
-use Rattle.sap_read.specs.declared.draft.Definition.{Definition}
+use Rattle.sap_read.specs.declared.definition.Definition.{Definition}
 use Rattle.sap_grammar.specs.Words.{words_of}
 use Rattle.sap_grammar.specs.Cut.{Placed, placed, first_line}
 use Rattle.sap_grammar.specs.ItemReading.{cut}
 use Rattle.sap_read.specs.Item.{Item, Body, body_of, bodies, stated_by, Standing, statements}
 use Rattle.sap_statements.specs.declared.statement.Statement.{Statement}
 use Rattle.sap_statements.specs.Statements.{IsStatement}
-use Rattle.sap_read.specs.declared.limits.TheConstants.{FILE_LIMITS}
+use Rattle.sap_draft.specs.declared.limits.TheConstants.{FILE_LIMITS}
 use Rattle.sap_read.specs.ItemGrammar.{IsItem, IsSomeItem, AreItems}
-use Rattle.sap_read.specs.code.Drafts.{body}
+use Rattle.sap_read.specs.code.Bodies.{body}
 
 -- the tokens are an item that says these of processes and these of traces
 pub record IsItemOf (g : Sig) (bytes : List ℕ) (tokens : List Token) (said : List Body) (stated : List Statement) : Type 0 where

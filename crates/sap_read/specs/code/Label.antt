@@ -2,9 +2,9 @@
 use Rattle.std.specs.Prelude.{◌≡◌, ℕ, ◌+◌, Bool, List, ◌∷◌, Option, Some, None, map, drop, slice_get}
 use Rattle.std.specs.List.{list_any}
 use Rattle.std.specs.Str.{bytes_eq}
-use Rattle.sap_read.specs.declared.draft.Definition.{Definition}
+use Rattle.sap_read.specs.declared.definition.Definition.{Definition}
 use Rattle.sap_read.specs.Causes.{unlabelled, is_among, first_taken}
-use Rattle.sap_read.specs.code.Drafts.{body}
+use Rattle.sap_read.specs.code.Bodies.{body}
 
 -- at this index is the first process without a label from that index on
 abbrev pub IsProcessAt : List Definition → ℕ → ℕ → Type 0

@@ -4,15 +4,16 @@ use Rattle.std.specs.Str.{bytes_eq}
 use Rattle.indexmap.specs.IndexMap.{IndexMap, get}
 use Rattle.sap_process.specs.Proc as whole
 use Rattle.sap_process.specs.Proc.{Proc, node_count, level_count}
-use Rattle.sap_read.specs.declared.draft.Definition.{Definition}
+use Rattle.sap_read.specs.declared.definition.Definition.{Definition}
 use Rattle.sap_read.specs.declared.fault.ReadFault.{ReadFault}
 use Rattle.sap_read.specs.declared.fault.ReadFault.TheVariants.{TooMany, TooDeep}
 use Rattle.sap_read.specs.declared.names.Meant.{Meant}
-use Rattle.sap_read.specs.Written.{Written, nil, call, parallel, replicated, act, test, lookup}
+use Rattle.sap_draft.specs.Written.{Written, nil, call, parallel, replicated, act, test, lookup}
 use Rattle.sap_read.specs.Item.{Body}
 use Rattle.sap_read.specs.Replaced.{replaced, after_body, no_meaning}
 use Rattle.sap_read.specs.Causes.{unknown_from, is_among}
-use Rattle.sap_read.specs.code.Drafts.{written, body}
+use Rattle.sap_draft.specs.Drafts.{written}
+use Rattle.sap_read.specs.code.Bodies.{body}
 use Rattle.sap_terms.specs.declared.limits.TheConstants.{MOST_PROCESS_LEVELS, MOST_PROCESS_PLACES}
 
 -- what names mean behind these processes, where they mean this before them

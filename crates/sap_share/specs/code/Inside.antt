@@ -7,16 +7,13 @@ use Rattle.sap_terms.specs.Normal.{IsNormalForm}
 use Rattle.sap_terms.specs.Signature.{Sig}
 use Rattle.sap_terms.specs.Tree.{Tree, node_count}
 use Rattle.sap_share.specs.Shared.{tree_at, node_tree, StandsBelow, HaveOneNumber}
+pub use Rattle.sap_share.specs.Shared.{IsNew}
 use Rattle.sap_share.specs.declared.node.Node.{Node}
 
 -- these trees, and then those of the nodes, each over the trees before it
 abbrev pub grown : List Tree → List Node → List Tree
 grown ts [] = ts
 grown ts (n ∷ ns) = grown (ts ++ node_tree ts n ∷ []) ns
-
--- the node's tree has no number
-abbrev pub IsNew : List Tree → Node → Type 0
-IsNew ts n = (k : ℕ) → k < length ts → tree_at ts k ≡ node_tree ts n → ⊥
 
 -- each node stands on earlier ones and is unlike them, and its normal form's number and its size are remembered
 pub record IsTable (g : Sig) (nodes : List Node) (ts : List Tree) (forms sizes : List ℕ) : Type 0 where

@@ -2,6 +2,7 @@
 use Rattle.std.specs.Prelude.{◌≡◌, ◌↔◌, Bool, List, ◌++◌, map, ⊤, IsTrue}
 use Rattle.std.specs.List.{AllZip, flat_map}
 use Rattle.sap_terms.specs.Choice.{Choice, IsSorted, instance}
+use Rattle.sap_terms.specs.Ground.{AreGround}
 use Rattle.sap_terms.specs.Modulo.{instance_facts, AreFormsOfFacts}
 use Rattle.sap_terms.specs.Signature.{Sig}
 use Rattle.sap_terms.specs.Equations.{equations}
@@ -51,6 +52,10 @@ SomeLarge g ts = SomeSubtermWithin (HasLargeForm (equations g) MOST_TERM_NODES) 
 -- the arguments of these facts, one fact after another
 abbrev pub args_of : List Fact → List Tree
 args_of fs = flat_map (λ (f : Fact). f.args) fs
+
+-- the fact's arguments are ground
+abbrev pub IsGroundFact : Fact → Type 0
+IsGroundFact f = AreGround (trees_of f.args)
 
 -- the facts have the same arguments
 abbrev pub HaveArgs : List Fact → List Fact → Type 0

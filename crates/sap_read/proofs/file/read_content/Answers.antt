@@ -1,7 +1,7 @@
 use Rattle.std.proofs.Common.{inr, List, map, subst}
 use Rattle.sap_statements.specs.declared.statement.Statement.{Statement}
 use Rattle.sap_read.specs.Item.{Body, statements}
-use Rattle.sap_read.specs.code.Drafts.{body}
+use Rattle.sap_read.specs.code.Bodies.{body}
 use Rattle.sap_read.specs.code.Judged.{IsRefused}
 use Rattle.sap_read.proofs.file.read_content.Goals as goal
 

@@ -30,7 +30,7 @@ module _ (held : BuiltinsStayHeld) (checks : CheckLaw) (well : (g : Sig) (p : Pr
   runnable z o f e (unchecked l h c m w a u) = absurd (cc (e))
   runnable z _ f e (accepted {is = items} {p = p} l h c m w a all) =
       let free = no_cause (bodies items) (statements items) (clash_from pairs_alone (declarations items)) c in
-      let small : node_count p ≤ MOST_PROCESS_PLACES = not_above MOST_PROCESS_PLACES TooMany p (subst (λ o. above node_count MOST_PROCESS_PLACES TooMany o ≡ None) m free.1) in
+      let small : node_count p ≤ MOST_PROCESS_PLACES = not_above node_count MOST_PROCESS_PLACES TooMany p (subst (λ o. above node_count MOST_PROCESS_PLACES TooMany o ≡ None) m free.1) in
       subst IsRunnable (same _ f e) (record {
         pairs = pairs_held (declarations items);
         builtins = builtins_held held pairs_alone (declarations items) held.at_start free.0;

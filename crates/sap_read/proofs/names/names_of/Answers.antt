@@ -2,7 +2,7 @@ use Rattle.std.proofs.Common.{◌≡◌, ◌<◌, get_or, ap, Err, arith, length
 use Rattle.std.specs.Prelude.{slice_get}
 use Rattle.std.proofs.lemmas.Grind.{common_steps}
 use Rattle.std.proofs.lemmas.Option.{slice_get_read}
-use Rattle.sap_read.specs.declared.draft.Definition.{Definition}
+use Rattle.sap_read.specs.declared.definition.Definition.{Definition}
 use Rattle.sap_read.proofs.Kept.{behind_none, behind_more, behind_fault}
 use Rattle.sap_read.proofs.names.names_of.Goals as goal
 

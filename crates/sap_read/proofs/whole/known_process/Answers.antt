@@ -3,7 +3,7 @@ use Rattle.std.specs.Prelude.{IsErrOf}
 use Rattle.std.specs.Global.{Box}
 use Rattle.sap_process.specs.declared.process.Process.{Process}
 use Rattle.sap_read.specs.declared.fault.ReadFault.{ReadFault}
-use Rattle.sap_read.specs.code.Drafts.{body}
+use Rattle.sap_read.specs.code.Bodies.{body}
 use Rattle.sap_read.proofs.Caused.{process_is, all_expanded, by_kept_size, few_levels, few_nodes, no_clash}
 use Rattle.sap_read.proofs.whole.known_process.Goals as goal
 

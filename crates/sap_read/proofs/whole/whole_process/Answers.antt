@@ -1,8 +1,8 @@
 use Rattle.std.proofs.Common.{◌≡◌, List, ℕ, Some, [], ◌∷◌, map, subst}
 use Rattle.std.specs.Prelude.{slice_get}
-use Rattle.sap_read.specs.declared.draft.Definition.{Definition}
+use Rattle.sap_read.specs.declared.definition.Definition.{Definition}
 use Rattle.sap_read.specs.Causes.{unlabelled}
-use Rattle.sap_read.specs.code.Drafts.{body}
+use Rattle.sap_read.specs.code.Bodies.{body}
 use Rattle.sap_read.proofs.whole.whole_process.Goals as goal
 
 -- the entry at the index of the file's process

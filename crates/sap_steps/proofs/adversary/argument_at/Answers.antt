@@ -7,4 +7,4 @@ weaker P Q None h f g = f h
 weaker P Q (Some x) h f g = g x h
 
 pub returns-in-Some : goal.returns-in-Some
-returns-in-Some c = weaker _ _ c.argument.result c.argument.ensures (λ none t e. none t (same_Some _ _ (c.in-Some.ensures ∙ e))) (λ t is. sym c.in-Some.ensures ∙ (λ i. Some (is i)))
+returns-in-Some c = weaker _ _ c.argument.result c.argument.ensures (λ none t e. none t (same_Some _ _ (sym c.in-Some.is ∙ c.in_ok-f.ensures ∙ e))) (λ t is. sym c.in_ok-f.ensures ∙ c.in-Some.is ∙ (λ i. Some (is i)))

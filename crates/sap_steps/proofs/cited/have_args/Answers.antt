@@ -8,14 +8,14 @@ use Rattle.sap_steps.proofs.cited.have_args.Goals as goal
 pub loop-k-preserved : goal.loop-k-preserved
 loop-k-preserved c =
     let hs = cited_at c.args.facts.now.slots c.args.numbers.now in
-    zip_further (λ (f h : Fact). f.args ≡ h.args) c.args.fs.now hs c.loop-k.k c.at.result.now c.cited.result.now c.loop-k.invariant c.at.ensures c.cited.ensures (c.are_same.ensures.0 c.if-not-are_same.false)
+    zip_further (λ (f h : Fact). f.args ≡ h.args) c.args.fs.now hs c.loop-k.k c.at.result.now c.in_ok-h.h c.loop-k.invariant c.at.ensures c.in_ok-h.ensures (c.are_same.ensures.0 c.if-not-are_same.false)
 
 pub returns-then-not-are_same : goal.returns-then-not-are_same
 returns-then-not-are_same c =
     let hs = cited_at c.args.facts.now.slots c.args.numbers.now in (
       λ h. cc,
       λ a.
-          let same = c.are_same.ensures.1 (zip_at (λ (f h : Fact). f.args ≡ h.args) c.args.fs.now hs c.loop-k.k c.at.result.now c.cited.result.now a c.at.ensures c.cited.ensures) in
+          let same = c.are_same.ensures.1 (zip_at (λ (f h : Fact). f.args ≡ h.args) c.args.fs.now hs c.loop-k.k c.at.result.now c.in_ok-h.h a c.at.ensures c.in_ok-h.ensures) in
           cc (same, c.if-not-are_same.true),
     )
 

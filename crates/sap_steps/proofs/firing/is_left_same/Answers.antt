@@ -23,6 +23,6 @@ pub returns-clause-same : goal.returns-clause-same
 returns-clause-same c = record {
   left = c.in_ok-left.left;
   forms = c.in_ok-left.ensures.forms;
-  same = c.have_args.ensures;
+  same = c.in_ok-have_args.ensures;
   small = c.in_ok-left.ensures.within;
 }

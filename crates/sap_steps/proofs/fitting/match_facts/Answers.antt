@@ -6,11 +6,11 @@ use Rattle.sap_steps.proofs.fitting.match_facts.Goals as goal
 
 pub returns-in-None : goal.returns-in-None
 returns-in-None c =
-    facts_not c.args.sig.now c.args.fs.now (cited_at c.args.facts.now.slots c.args.numbers.now) c.args.b c.loop-k.c c.loop-k.k c.at.result.now c.cited.result.now c.at.ensures c.cited.ensures c.extensions_join.ensures c.loop-k.invariant (option_none _ _ c.in_ok-d.field-0 c.in_ok-d.ensures c.in-None.is)
+    facts_not c.args.sig.now c.args.fs.now (cited_at c.args.facts.now.slots c.args.numbers.now) c.args.b c.loop-k.c c.loop-k.k c.at.result.now c.in_ok-h.h c.at.ensures c.in_ok-h.ensures c.extensions_join.ensures c.loop-k.invariant (option_none _ _ c.in_ok-d.field-0 c.in_ok-d.ensures c.in-None.is)
 
 pub loop-k-preserved : goal.loop-k-preserved
 loop-k-preserved c =
-    facts_past c.args.sig.now c.args.fs.now (cited_at c.args.facts.now.slots c.args.numbers.now) c.args.b c.loop-k.c c.loop-k.k c.at.result.now c.cited.result.now c.at.ensures c.cited.ensures c.extensions_join.ensures c.in-Some.d c.loop-k.invariant (option_some _ _ c.in_ok-d.field-0 c.in-Some.d c.in_ok-d.ensures c.in-Some.is)
+    facts_past c.args.sig.now c.args.fs.now (cited_at c.args.facts.now.slots c.args.numbers.now) c.args.b c.loop-k.c c.loop-k.k c.at.result.now c.in_ok-h.h c.at.ensures c.in_ok-h.ensures c.extensions_join.ensures c.in-Some.d c.loop-k.invariant (option_some _ _ c.in_ok-d.field-0 c.in-Some.d c.in_ok-d.ensures c.in-Some.is)
 
 pub returns : goal.returns
 returns c =

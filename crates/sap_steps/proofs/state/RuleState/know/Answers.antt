@@ -11,6 +11,17 @@ use Rattle.sap_steps.proofs.Lists.{all_at}
 use Rattle.sap_steps.proofs.Tied.{tied_push, held_single}
 use Rattle.sap_steps.proofs.state.RuleState.know.Goals as goal
 
+pub find_place-requires : goal.find_place-requires
+find_place-requires c =
+    let g = c.self.inside.knowledge.sig in
+    let t : Tree = tree c.in-Some.t.now in
+    let known = terms_of c.self.inside.knowledge.entries in
+    let held : IsSmallMessage g t = record {
+      message = all_at (IsMessage g Msg) known c.args.k t c.each_is_deducible.ensures.messages (sym c.in-Some.ensures);
+      small = all_at (λ (u : Tree). node_count u ≤ MOST_TERM_NODES) known c.args.k t c.each_is_deducible.ensures.within (sym c.in-Some.ensures);
+    } in
+    rw (c.self.invariant.sig, c.in_ok-given.ensures.given) (held_single g (codes "In") t held)
+
 pub invariant_of-self-2 : goal.invariant_of-self-2
 invariant_of-self-2 c =
     let g = c.self.inside.knowledge.sig in
@@ -20,5 +31,5 @@ invariant_of-self-2 c =
       message = all_at (IsMessage g Msg) known c.args.k t c.each_is_deducible.ensures.messages (sym c.in-Some.ensures);
       small = all_at (λ (u : Tree). node_count u ≤ MOST_TERM_NODES) known c.args.k t c.each_is_deducible.ensures.within (sym c.in-Some.ensures);
     } in
-    rw (c.add_one.ensures.slots, c.in_ok-reserve.ensures.slots, c.in_ok-given.ensures.given)
-    (tied_push _ _ _ _ c.self.invariant (held_single g (codes "In") t held))
+    rw (c.add.ensures.sig, c.in_ok-shared.ensures.sig, c.add.ensures.slots, c.in_ok-shared.ensures.slots, c.in_ok-shared.ensures.shared.is, c.in_ok-given.ensures.given)
+    (tied_push _ _ _ _ _ c.self.invariant (held_single g (codes "In") t held))

@@ -13,7 +13,7 @@ output-requires-clause-within c = (held_argument _ _ _ _ _ c.self.invariant.held
 
 pub invariant_of-self-2 : goal.invariant_of-self-2
 invariant_of-self-2 c =
-    rw c.remove.ensures.slots (tied_without _ _ _ _ (tied_knows _ _ _ _ _ _ c.self.invariant c.in_ok-output.ensures.ok))
+    rw (c.remove.ensures.sig, c.remove.ensures.slots) (tied_without _ _ _ _ _ (tied_knows _ _ _ _ _ _ _ c.self.invariant c.in_ok-output.ensures.ok))
 
 pub returns-clause-ok : goal.returns-clause-ok
 returns-clause-ok c = rw (← c.self.view_is, c.remove.ensures.slots) (

@@ -1,19 +1,20 @@
 use Rattle.sap_facts.specs.Facts.{slots_without}
+use Rattle.sap_steps.proofs.Found.{option_some}
 use Rattle.sap_steps.proofs.Left.{take_one}
 use Rattle.sap_steps.proofs.Tied.{tied_knows, tied_without, knows_more}
 use Rattle.sap_steps.proofs.state.RuleState.own.Goals as goal
 
 pub invariant_of-self-2 : goal.invariant_of-self-2
 invariant_of-self-2 c =
-    rw c.remove.ensures.slots
-    (tied_without _ _ _ _ (tied_knows _ _ _ _ _ _ c.self.invariant c.in_ok-name.ensures.ok))
+    rw (c.remove.ensures.sig, c.remove.ensures.slots)
+    (tied_without _ _ _ _ _ (tied_knows _ _ _ _ _ _ _ c.self.invariant c.in_ok-name.ensures.ok))
 
 pub returns-clause-ok : goal.returns-clause-ok
 returns-clause-ok c = rw (← c.self.view_is, c.remove.ensures.slots) (
   c.in-Some.n,
   record {
     rest = slots_without c.self.inside.facts.slots c.args.k;
-    takes = take_one _ _ _ c.in-Some.ensures;
+    takes = take_one _ _ _ (option_some _ _ c.in_ok-n.field-0 c.in-Some.n c.in_ok-n.ensures c.in-Some.is);
     silent = c.new.ensures;
     becomes = knows_more _ _ _ _ _ _ c.in_ok-name.ensures.ok;
   },

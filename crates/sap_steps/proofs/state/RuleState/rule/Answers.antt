@@ -1,8 +1,9 @@
-use Rattle.std.proofs.Common.{refl, ap, sym, ◌∙◌}
+use Rattle.std.proofs.Common.{map, refl, ap, sym, ◌∙◌}
 use Rattle.std.specs.Option.{option_copied}
 use Rattle.std.proofs.lemmas.Result.{err_from_is_err_and}
 use Rattle.sap_deduce.specs.Entries.{terms_of}
 use Rattle.sap_rule.specs.RuleSteps.{RuleState}
+use Rattle.sap_steps.specs.code.Piled.{fact_seen}
 use Rattle.sap_steps.specs.code.Ready.{IsReady, rules_of}
 use Rattle.sap_steps.proofs.Ready.{no_rule, its_rule, ready-all}
 use Rattle.sap_steps.proofs.Tied.{tied_used}
@@ -28,12 +29,12 @@ returns-in_err-fired-clause-refused c =
 
 pub invariant_of-self-2 : goal.invariant_of-self-2
 invariant_of-self-2 c =
-    rw c.in_ok-acts.ensures.ok
-    (tied_used c.self.inside.rules c.self.inside.facts.slots c.self.inside.knowledge c.args.numbers.now c.in_ok-fired.fired.right c.self.invariant (rw c.signature-sig.ensures at c.in_ok-fired.ensures.held))
+    rw (c.in_ok-acts.ensures.sig, c.in_ok-fired.ensures.sig, c.in_ok-acts.ensures.ok, c.in_ok-fired.ensures.slots)
+    (tied_used c.self.inside.rules c.self.inside.facts.sig c.self.inside.facts.slots c.self.inside.knowledge c.args.numbers.now (map (fact_seen c.use_rule.new.facts.trees) c.in_ok-fired.fired.right.items) c.self.invariant (rw c.signature-sig.ensures at c.in_ok-fired.ensures.held))
 
 pub returns-clause-ok : goal.returns-clause-ok
 returns-clause-ok c =
     let named = its_rule c.self.inside.rules c.args.name.now c.in-Some.rule.now (sym c.in-Some.ensures) in
     rw (c.in_ok-acts.ensures.acts, ← c.self.view_is)
-    (rule_line c.self.inside.knowledge.sig (rules_of c.self.inside.rules) c.self.inside.facts.slots c.carry_out.new.facts.slots (terms_of c.self.inside.knowledge.entries) c.self.inside.made.keys c.args.name.now c.args.numbers.now c.args.b.now c.in-Some.rule.now.rule c.in_ok-fired.fired.acts c.in_ok-fired.fired.right named c.in_ok-fired.ensures.taken (rw c.signature-sig.ensures at c.in_ok-fired.ensures.fires)
-    (rw c.in_ok-acts.ensures.ok refl))
+    (rule_line c.self.inside.knowledge.sig (rules_of c.self.inside.rules) c.self.inside.facts.slots c.carry_out.new.facts.slots (terms_of c.self.inside.knowledge.entries) c.self.inside.made.keys c.args.name.now c.args.numbers.now c.args.b.now c.in-Some.rule.now.rule c.in_ok-fired.fired.acts (map (fact_seen c.use_rule.new.facts.trees) c.in_ok-fired.fired.right.items) named c.in_ok-fired.ensures.taken (rw c.signature-sig.ensures at c.in_ok-fired.ensures.fires)
+    (rw (c.in_ok-acts.ensures.ok, c.in_ok-fired.ensures.slots) refl))

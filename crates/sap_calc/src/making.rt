@@ -1,0 +1,54 @@
+// Threads that make names.
+ghost use Rattle.std.specs.Prelude.{◌≡◌, IfOk, IfErr, OnErr};
+ghost use Rattle.sap_runs.specs.declared.process_step.PStep.TheVariants.{New as NewLine};
+ghost use Rattle.sap_calc.specs.Running.{IsDone, IsDenied};
+
+use crate::made::{find_room, is_among, put_last};
+use crate::thread::{set, thread_at, with_bound};
+use crate::value::name_value;
+use crate::{Config, PFault};
+use sap_process::instances_of_processes;
+use sap_terms::FactList;
+use std::alloc::Global;
+
+impl Config {
+    /// Lets a thread make a fresh name. Refused, nothing changes.
+    pub fn new(&mut self, alloc: Global, t: u64, n: u64) -> Result<FactList, PFault>
+        ensures ok { IfOk result (IsDone self.old self.new (NewLine t n)) }
+        ensures refused { IfErr result (IsDenied self.old (NewLine t n)) }
+        ensures err { OnErr result (self.new ≡ self.old) }
+    {
+        instances_of_processes();
+        let Some(th) = thread_at(&self.threads, t) else {
+            return Err(PFault::NoThread { t });
+        };
+        let place = self.places.at(th.place);
+        let Some(x) = place.form.creation() else {
+            return Err(PFault::WrongForm { t });
+        };
+        if is_among(&self.made, n) {
+            return Err(PFault::UsedName { n });
+        }
+        if is_among(&self.own, n) {
+            return Err(PFault::UsedName { n });
+        }
+        let next = place.first;
+        match find_room(&mut self.made) {
+            Err(_) => Err(PFault::Mem),
+            Ok(()) => match name_value(alloc, &mut self.table, n) {
+                Err(_) => Err(PFault::Mem),
+                Ok(k) => {
+                    self.table.each_is_ground();
+                    match with_bound(alloc, th, next, x, k) {
+                        Err(_) => Err(PFault::Mem),
+                        Ok(new) => {
+                            set(&mut self.threads, t, new);
+                            put_last(&mut self.made, n);
+                            Ok(FactList::new(alloc))
+                        }
+                    }
+                }
+            },
+        }
+    }
+}

@@ -1,0 +1,228 @@
+// Threads that write to the store, look into it, lock and unlock.
+ghost use Rattle.std.specs.Prelude.{◌≡◌, IfOk, IfErr, OnErr, MatchOption};
+ghost use Rattle.sap_terms.specs.View.{tree};
+ghost use Rattle.sap_runs.specs.declared.process_step.PStep.TheVariants.{Insert as InsertLine, Delete as DeleteLine, Found as FoundLine, Missing as MissingLine, Lock as LockLine, Unlock as UnlockLine};
+ghost use Rattle.sap_calc.specs.Running.{IsDone, IsDenied, WouldFind, FindsNothing};
+
+use crate::stored::{is_marked, put_mark, put_value, value_at};
+use crate::thread::{go_on, set, thread_at, with_bound};
+use crate::value::{value, value_unless_large, values};
+use crate::{Config, PFault};
+use sap_process::instances_of_processes;
+use sap_terms::{FactList, Mem, Term};
+use std::alloc::Global;
+
+impl Config {
+    /// Lets a thread store a value. Refused, nothing changes.
+    pub fn insert(&mut self, alloc: Global, t: u64) -> Result<FactList, PFault>
+        ensures ok { IfOk result (IsDone self.old self.new (InsertLine t)) }
+        ensures refused { IfErr result (IsDenied self.old (InsertLine t)) }
+        ensures err { OnErr result (self.new ≡ self.old) }
+    {
+        self.table.each_is_ground();
+        let Some(th) = thread_at(&self.threads, t) else {
+            return Err(PFault::NoThread { t });
+        };
+        let place = self.places.at(th.place);
+        let Some((m, n)) = place.form.insertion() else {
+            return Err(PFault::WrongForm { t });
+        };
+        let next = place.first;
+        match values(alloc, &mut self.table, &th.env, m, n) {
+            Err(fault) => Err(fault),
+            Ok((j, k)) => {
+                self.table.each_has_one_number();
+                match put_value(&mut self.store, j, Some(k)) {
+                    Err(_) => Err(PFault::Mem),
+                    Ok(()) => {
+                        go_on(&mut self.threads, t, next);
+                        Ok(FactList::new(alloc))
+                    }
+                }
+            }
+        }
+    }
+
+    /// Lets a thread clear a key. Refused, nothing changes.
+    pub fn delete(&mut self, alloc: Global, t: u64) -> Result<FactList, PFault>
+        ensures ok { IfOk result (IsDone self.old self.new (DeleteLine t)) }
+        ensures refused { IfErr result (IsDenied self.old (DeleteLine t)) }
+        ensures err { OnErr result (self.new ≡ self.old) }
+    {
+        self.table.each_is_ground();
+        let Some(th) = thread_at(&self.threads, t) else {
+            return Err(PFault::NoThread { t });
+        };
+        let place = self.places.at(th.place);
+        let Some(m) = place.form.deletion() else {
+            return Err(PFault::WrongForm { t });
+        };
+        let next = place.first;
+        match value(alloc, &mut self.table, &th.env, m) {
+            Err(fault) => Err(fault),
+            Ok(k) => {
+                self.table.each_has_one_number();
+                match put_value(&mut self.store, k, None) {
+                    Err(_) => Err(PFault::Mem),
+                    Ok(()) => {
+                        go_on(&mut self.threads, t, next);
+                        Ok(FactList::new(alloc))
+                    }
+                }
+            }
+        }
+    }
+
+    /// Lets a thread go on whose key isn't set. Refused, nothing changes.
+    pub fn missing(&mut self, alloc: Global, t: u64) -> Result<FactList, PFault>
+        ensures ok { IfOk result (IsDone self.old self.new (MissingLine t)) }
+        ensures refused { IfErr result (IsDenied self.old (MissingLine t)) }
+        ensures err { OnErr result (self.new ≡ self.old) }
+    {
+        self.table.each_is_ground();
+        let Some(th) = thread_at(&self.threads, t) else {
+            return Err(PFault::NoThread { t });
+        };
+        let place = self.places.at(th.place);
+        let Some((m, _)) = place.form.lookup() else {
+            return Err(PFault::WrongForm { t });
+        };
+        let next = place.second;
+        match value(alloc, &mut self.table, &th.env, m) {
+            Err(fault) => Err(fault),
+            Ok(k) => {
+                self.table.each_has_one_number();
+                match value_at(&self.store, k) {
+                    Some(_) => Err(PFault::Set),
+                    None => {
+                        go_on(&mut self.threads, t, next);
+                        Ok(FactList::new(alloc))
+                    }
+                }
+            }
+        }
+    }
+
+    /// Lets a thread take a lock. Refused, nothing changes.
+    pub fn lock(&mut self, alloc: Global, t: u64) -> Result<FactList, PFault>
+        ensures ok { IfOk result (IsDone self.old self.new (LockLine t)) }
+        ensures refused { IfErr result (IsDenied self.old (LockLine t)) }
+        ensures err { OnErr result (self.new ≡ self.old) }
+    {
+        self.table.each_is_ground();
+        let Some(th) = thread_at(&self.threads, t) else {
+            return Err(PFault::NoThread { t });
+        };
+        let place = self.places.at(th.place);
+        let Some((m, _)) = place.form.locking() else {
+            return Err(PFault::WrongForm { t });
+        };
+        let next = place.first;
+        match value(alloc, &mut self.table, &th.env, m) {
+            Err(fault) => Err(fault),
+            Ok(k) => {
+                self.table.each_has_one_number();
+                if is_marked(&self.held, k) {
+                    return Err(PFault::Held);
+                }
+                match put_mark(&mut self.held, k, true) {
+                    Err(_) => Err(PFault::Mem),
+                    Ok(()) => {
+                        go_on(&mut self.threads, t, next);
+                        Ok(FactList::new(alloc))
+                    }
+                }
+            }
+        }
+    }
+
+    /// Lets a thread give a lock back. Refused, nothing changes.
+    pub fn unlock(&mut self, alloc: Global, t: u64) -> Result<FactList, PFault>
+        ensures ok { IfOk result (IsDone self.old self.new (UnlockLine t)) }
+        ensures refused { IfErr result (IsDenied self.old (UnlockLine t)) }
+        ensures err { OnErr result (self.new ≡ self.old) }
+    {
+        self.table.each_is_ground();
+        let Some(th) = thread_at(&self.threads, t) else {
+            return Err(PFault::NoThread { t });
+        };
+        let place = self.places.at(th.place);
+        let Some((m, _)) = place.form.unlocking() else {
+            return Err(PFault::WrongForm { t });
+        };
+        let next = place.first;
+        match value(alloc, &mut self.table, &th.env, m) {
+            Err(fault) => Err(fault),
+            Ok(k) => {
+                self.table.each_has_one_number();
+                match put_mark(&mut self.held, k, false) {
+                    Err(_) => Err(PFault::Mem),
+                    Ok(()) => {
+                        go_on(&mut self.threads, t, next);
+                        Ok(FactList::new(alloc))
+                    }
+                }
+            }
+        }
+    }
+
+    /// Lets a thread go on with the value that its key has. Refused, nothing changes.
+    pub fn found(&mut self, alloc: Global, t: u64) -> Result<FactList, PFault>
+        ensures ok { IfOk result (IsDone self.old self.new (FoundLine t)) }
+        ensures refused { IfErr result (IsDenied self.old (FoundLine t)) }
+        ensures err { OnErr result (self.new ≡ self.old) }
+    {
+        instances_of_processes();
+        self.table.each_is_ground();
+        let Some(th) = thread_at(&self.threads, t) else {
+            return Err(PFault::NoThread { t });
+        };
+        let place = self.places.at(th.place);
+        let Some((m, x)) = place.form.lookup() else {
+            return Err(PFault::WrongForm { t });
+        };
+        let next = place.first;
+        match value(alloc, &mut self.table, &th.env, m) {
+            Err(fault) => Err(fault),
+            Ok(k) => {
+                self.table.each_has_one_number();
+                self.table.each_is_ground();
+                match value_at(&self.store, k) {
+                    None => Err(PFault::Unset),
+                    Some(v) => match with_bound(alloc, th, next, x, v) {
+                        Err(_) => Err(PFault::Mem),
+                        Ok(new) => {
+                            set(&mut self.threads, t, new);
+                            Ok(FactList::new(alloc))
+                        }
+                    },
+                }
+            }
+        }
+    }
+
+    /// The value that the line `found` of a thread would bind; None where that line would be refused for another cause than
+    /// want of memory. Nothing changes.
+    pub fn stored(&mut self, alloc: Global, t: u64) -> Result<Option<Term>, Mem>
+        ensures ok { IfOk result (λ o. MatchOption o (FindsNothing self.old t) (λ v. WouldFind self.old t (tree v))) }
+        ensures kept { self.new ≡ self.old }
+    {
+        self.table.each_is_ground();
+        let Some(th) = thread_at(&self.threads, t) else {
+            return Ok(None);
+        };
+        let place = self.places.at(th.place);
+        let Some((m, _)) = place.form.lookup() else {
+            return Ok(None);
+        };
+        let Some(k) = value_unless_large(alloc, &mut self.table, &th.env, m)? else {
+            return Ok(None);
+        };
+        self.table.each_has_one_number();
+        let Some(v) = value_at(&self.store, k) else {
+            return Ok(None);
+        };
+        let found = self.table.tree(alloc, v)?;
+        Ok(Some(found))
+    }
+}

@@ -1,0 +1,9 @@
+pub mod OnRead
+pub mod Steps
+pub mod ProcessSteps
+pub mod Processes
+pub mod SoundProcesses
+pub mod Signatures
+pub mod WholeProcesses
+pub mod Printable
+pub mod ByHand

@@ -1,0 +1,42 @@
+-- What reading processes does at each depth.
+use Rattle.std.proofs.Common.{rules, ◌≡◌, ◌≤◌, ◌<◌, ◌-◌, ℕ, zero, suc, List, None, true, false, refl, arith}
+use Rattle.std.specs.Prelude.{nat_le}
+use Rattle.sap_terms.specs.Signature.{Sig}
+use Rattle.sap_grammar.specs.declared.limits.Limits.{Limits}
+use Rattle.sap_grammar.specs.Words.{Word}
+use Rattle.sap_draft.specs.code.ProcessReading.{seq, par, seq_at, par_at}
+use Rattle.sap_draft.proofs.Steps.{words-drop}
+
+-- a number within the limit
+pub fits : (m n : ℕ) → m ≤ n → nat_le m n ≡ true
+fits m n le = search rules
+
+-- a number above the limit
+pub over : (m n : ℕ) → n < m → nat_le m n ≡ false
+over m n lt = search rules
+
+pub seq_zero : (g : Sig) (m : Limits) (ws : List Word) → seq g m 0 ws ≡ None
+unfolding seq par
+seq_zero g m ws = refl
+
+pub par_zero : (g : Sig) (m : Limits) (ws : List Word) → par g m 0 ws ≡ None
+unfolding seq par
+par_zero g m ws = refl
+
+pub seq_step : (g : Sig) (m : Limits) (d : ℕ) (ws : List Word) → 0 < d → seq g m d ws ≡ seq_at g m (seq g m (d - 1)) (par g m (d - 1)) (d - 1) ws
+unfolding seq par
+seq_step g m zero ws lt = absurd (omega (arith, lt))
+seq_step g m (suc d) ws lt = let e : suc d - 1 ≡ d = omega arith in rw e refl
+
+pub par_step : (g : Sig) (m : Limits) (d : ℕ) (ws : List Word) → 0 < d → par g m d ws ≡ par_at (seq g m d) (par g m (d - 1)) (d - 1) ws
+unfolding seq par
+par_step g m zero ws lt = absurd (omega (arith, lt))
+par_step g m (suc d) ws lt = let e : suc d - 1 ≡ d = omega arith in rw e refl
+
+pub ruleset tokens = (words-drop)
+
+pub ruleset limits = (words-drop, fits, over)
+
+pub ruleset seq_steps = (words-drop, seq_zero, seq_step)
+
+pub ruleset par_steps = (words-drop, par_zero, par_step)

@@ -1,0 +1,45 @@
+//! Reads processes.
+ghost use Rattle.std.specs.Prelude.{IfOk, IfSome, IfNone};
+ghost use Rattle.sap_terms.specs.Signature.{Sig};
+ghost use Rattle.sap_grammar.specs.Words.{words_of};
+ghost use Rattle.sap_draft.specs.Written.{Written};
+ghost use Rattle.sap_draft.specs.ProcessGrammar.{IsProcess};
+ghost use Rattle.sap_draft.specs.Drafts.{written};
+
+mod actions;
+mod build;
+mod choice;
+mod grammar;
+mod parts;
+
+use crate::draft::Draft;
+use crate::laws::term_laws;
+use crate::process::grammar::read_par;
+use sap_terms::{MOST_PROCESS_LEVELS, Mem, Signature};
+use sap_text::Token;
+use std::alloc::Global;
+
+/// The process that these tokens spell, all of them; None where they spell none of at most `MOST_PROCESS_LEVELS` levels, under any signature.
+pub fn read_process(
+    alloc: Global,
+    sig: &Signature,
+    bytes: &[u8],
+    tokens: &[Token],
+) -> Result<Option<Box<Draft>>, Mem>
+    ensures found { IfOk result (λ o. IfSome o (λ p. IsProcess sig.now (written p.value)
+        (words_of bytes.now tokens.now))) }
+    ensures none { IfOk result (λ o. IfNone o ((g : Sig) (p : Written)
+        → IsProcess g p (words_of bytes.now tokens.now) → ⊥)) }
+{
+    term_laws();
+    match read_par(alloc, sig, bytes, MOST_PROCESS_LEVELS as u32, tokens)? {
+        None => Ok(None),
+        Some((process, rest)) => {
+            if rest.is_empty() {
+                Ok(Some(process.draft))
+            } else {
+                Ok(None)
+            }
+        }
+    }
+}

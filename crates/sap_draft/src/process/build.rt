@@ -1,0 +1,125 @@
+//! Processes made of their parts.
+ghost use Rattle.std.specs.Prelude.{◌≡◌, IfOk};
+ghost use Rattle.sap_draft.specs.Written.{nil, call, parallel, replicated, act, test, lookup};
+ghost use Rattle.sap_terms.specs.View.{tree};
+ghost use Rattle.sap_terms.specs.declared.var.Sort.TheVariants.{Msg};
+ghost use Rattle.sap_draft.specs.ProcessGrammar.{var};
+ghost use Rattle.sap_draft.specs.code.ProcessView.{chosen};
+ghost use Rattle.sap_draft.specs.Drafts.{doing, written};
+
+use crate::draft::{Doing, Draft};
+use sap_terms::{Mem, Name, Sort, Term, Var};
+use std::alloc::Global;
+
+/// By what a process chooses between two branches.
+#[derive(Drop)]
+pub enum Branching {
+    /// Whether two terms are equal.
+    Equality(Term, Term),
+    /// Whether the store has something at the key, which the variable then stands for.
+    Lookup(Term, Var),
+}
+
+/// A process as it is read, and how many levels its text has.
+#[derive(Drop)]
+pub struct Measured {
+    pub draft: Box<Draft>,
+    pub levels: u32,
+}
+
+// A large value stands in a box as soon as it is made.
+fn boxed(alloc: Global, draft: Draft) -> Result<Box<Draft>, Mem>
+    ensures { IfOk result (λ p. p.value ≡ draft) }
+{
+    Ok(Box::new(alloc, draft)?)
+}
+
+// The same of what chooses.
+fn boxed_choice(alloc: Global, choice: Branching) -> Result<Box<Branching>, Mem>
+    ensures { IfOk result (λ p. p.value ≡ choice) }
+{
+    Ok(Box::new(alloc, choice)?)
+}
+
+/// The comparison of these terms.
+pub fn comparing(alloc: Global, left: Term, right: Term) -> Result<Box<Branching>, Mem>
+    ensures { IfOk result (λ p. chosen p.value ≡ test (tree left) (tree right)) }
+{
+    boxed_choice(alloc, Branching::Equality(left, right))
+}
+
+/// The lookup of this key, where what is found gets this name.
+pub fn looking_up(alloc: Global, key: Term, name: &[u8]) -> Result<Box<Branching>, Mem>
+    ensures { IfOk result (λ p. chosen p.value ≡ lookup (tree key) (var Msg name.now)) }
+{
+    let name = Name::from_bytes(alloc, name)?;
+    let sort = Sort::Msg;
+    boxed_choice(alloc, Branching::Lookup(key, Var { name, sort }))
+}
+
+pub fn nil(alloc: Global) -> Result<Box<Draft>, Mem>
+    ensures { IfOk result (λ p. written p.value ≡ nil) }
+{
+    boxed(alloc, Draft::Nil)
+}
+
+pub fn call(alloc: Global, name: &[u8]) -> Result<Box<Draft>, Mem>
+    ensures { IfOk result (λ p. written p.value ≡ call name.now) }
+{
+    let name = Name::from_bytes(alloc, name)?;
+    boxed(alloc, Draft::Call(name))
+}
+
+pub fn acting(alloc: Global, first: Box<Doing>, then: Box<Draft>) -> Result<Box<Draft>, Mem>
+    ensures { IfOk result (λ p. written p.value ≡ act (doing first.value) (written then.value)) }
+{
+    boxed(alloc, Draft::Act(first, then))
+}
+
+/// What does this and nothing behind it.
+pub fn acting_last(alloc: Global, first: Box<Doing>) -> Result<Box<Draft>, Mem>
+    ensures { IfOk result (λ p. written p.value ≡ act (doing first.value) nil) }
+{
+    let then = nil(alloc)?;
+    boxed(alloc, Draft::Act(first, then))
+}
+
+pub fn replicated(alloc: Global, copy: Box<Draft>) -> Result<Box<Draft>, Mem>
+    ensures { IfOk result (λ p. written p.value ≡ replicated (written copy.value)) }
+{
+    boxed(alloc, Draft::Rep(copy))
+}
+
+pub fn parallel(alloc: Global, left: Box<Draft>, right: Box<Draft>) -> Result<Box<Draft>, Mem>
+    ensures { IfOk result (λ p. written p.value ≡ parallel (written left.value)
+        (written right.value)) }
+{
+    boxed(alloc, Draft::Par(left, right))
+}
+
+pub fn choosing(
+    alloc: Global,
+    choice: Box<Branching>,
+    yes: Box<Draft>,
+    no: Box<Draft>,
+) -> Result<Box<Draft>, Mem>
+    ensures { IfOk result (λ p. written p.value ≡ chosen choice.value (written yes.value)
+        (written no.value)) }
+{
+    match Box::into_inner(choice) {
+        Branching::Equality(left, right) => boxed(alloc, Draft::If(left, right, yes, no)),
+        Branching::Lookup(key, var) => boxed(alloc, Draft::Lookup(key, var, yes, no)),
+    }
+}
+
+/// The same with nothing in the second branch.
+pub fn choosing_one(
+    alloc: Global,
+    choice: Box<Branching>,
+    yes: Box<Draft>,
+) -> Result<Box<Draft>, Mem>
+    ensures { IfOk result (λ p. written p.value ≡ chosen choice.value (written yes.value) nil) }
+{
+    let no = nil(alloc)?;
+    choosing(alloc, choice, yes, no)
+}

@@ -1,0 +1,8 @@
+use Rattle.sap_theory.proofs.SomeTheory.{some_theory}
+use Rattle.sap_terms.specs.declared.limits.TheConstants.{MOST_THEORY_NAME_BYTES}
+use Rattle.sap_theory.proofs.laws.some_theory.Goals as goal
+
+pub returns : goal.returns
+returns c = λ z.
+    let tokens = c.some_answer.ensures MOST_THEORY_NAME_BYTES z in
+    some_theory c.fact_laws.ensures c.item_laws.ensures c.statement_laws.ensures c.some_fault.ensures c.headers_are_read.ensures.found c.headers_are_read.ensures.none z tokens.0 tokens.1

@@ -1,0 +1,40 @@
+//! Checks what the items of a theory say, one cause after another.
+ghost use Rattle.std.specs.Prelude.{◌≡◌, ℕ, List, IfOk, IsErrOf};
+ghost use Rattle.sap_theory.specs.TheoryCauses.{IsRefused, AreAccepted, restrictions_of, lemmas_of};
+ghost use Rattle.sap_theory.specs.declared.fault.TheoryFault.{TheoryFault};
+ghost use Rattle.sap_theory.specs.declared.fault.TheoryFault.TheVariants.{Mem as OutOfMemory};
+
+mod names;
+mod rules;
+mod statements;
+
+use crate::checking::names::{check_clash, check_names};
+use crate::checking::rules::{check_shapes, check_symbols};
+use crate::checking::statements::check_statements;
+use crate::fault::TheoryFault;
+use sap_rule::RuleList;
+use sap_statements::Statement;
+use sap_terms::{Items, Name, Signature};
+pub(crate) use statements::Checked;
+use std::alloc::Global;
+
+/// The restrictions and lemmas with the sorts of binders, where no cause refuses them or the rules; else the first that does.
+pub(crate) fn check(
+    alloc: Global,
+    sig: &Signature,
+    clash: &Option<Name>,
+    rules: &RuleList,
+    statements: &Items<Statement>,
+) -> Result<Checked, TheoryFault>
+    ensures accepted { IfOk result (λ c. AreAccepted sig.now clash.now rules.now statements.now) }
+    ensures restrictions { IfOk result (λ c. c.restrictions ≡ restrictions_of statements.now) }
+    ensures lemmas { IfOk result (λ c. c.lemmas ≡ lemmas_of statements.now) }
+    ensures refused { (e : TheoryFault) → IsErrOf result e → (e ≡ OutOfMemory → ⊥)
+        → IsRefused sig.now clash.now rules.now statements.now e }
+{
+    check_names(alloc, rules, statements)?;
+    check_clash(alloc, clash)?;
+    check_symbols(alloc, sig, rules)?;
+    check_shapes(alloc, rules)?;
+    check_statements(alloc, sig, statements)
+}

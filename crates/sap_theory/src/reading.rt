@@ -1,0 +1,4 @@
+//! Reads the items of a theory.
+pub(crate) mod items;
+pub(crate) mod laws;
+mod rule;

@@ -1,0 +1,129 @@
+//! Reads the items of a theory.
+ghost use Rattle.std.specs.Prelude.{◌≡◌, ℕ, List, [], ◌∷◌, ◌++◌, IfOk, OnOk, IsErrOf};
+ghost use Rattle.sap_grammar.specs.Cut.{Placed, placed, IsCut};
+ghost use Rattle.sap_theory.specs.WrittenItems.{IsFaulty};
+ghost use Rattle.sap_theory.specs.code.ItemView.{AreSaid, IsAdded, IsRuled, IsStated};
+ghost use Rattle.sap_theory.specs.declared.fault.TheoryFault.{TheoryFault};
+ghost use Rattle.sap_theory.specs.declared.fault.TheoryFault.TheVariants.{Mem as OutOfMemory, Syntax};
+
+use crate::fault::TheoryFault;
+use crate::limits::THEORY_LIMITS;
+use crate::reading::laws::item_laws;
+use crate::reading::rule::read_rule;
+use sap_grammar::{is_declaration, is_last, line_of, split_item, starts};
+use sap_rule::{Rule, RuleList};
+use sap_statements::{Statement, read_statement};
+use sap_terms::{Items, Mem, Signature};
+use sap_text::Token;
+use std::alloc::Global;
+
+// Puts what is boxed last.
+fn put<T: Drop>(list: &mut Items<T>, one: Box<T>) -> Result<(), Mem>
+    ensures { OnOk result (list.new ≡ list.old ++ one.value ∷ []) }
+{
+    list.push(Box::into_inner(one))
+}
+
+// Reads a rule, and puts it last; false where the tokens are none.
+fn read_ruled(
+    alloc: Global,
+    sig: &Signature,
+    bytes: &[u8],
+    item: &[Token],
+    rules: &mut RuleList,
+) -> Result<bool, Mem>
+    ensures { IfOk result (λ b. IsRuled sig.now bytes.now item.now rules.old rules.new b) }
+{
+    match read_rule(alloc, sig, THEORY_LIMITS, bytes, item)? {
+        None => Ok(false),
+        Some(rule) => {
+            put(rules, rule)?;
+            Ok(true)
+        }
+    }
+}
+
+// Reads a restriction or a lemma, and puts it last; false where the tokens are none.
+fn read_stated(
+    alloc: Global,
+    sig: &Signature,
+    bytes: &[u8],
+    item: &[Token],
+    statements: &mut Items<Statement>,
+) -> Result<bool, Mem>
+    ensures { IfOk result (λ b. IsStated sig.now bytes.now item.now
+        statements.old statements.new b) }
+{
+    match read_statement(alloc, sig, THEORY_LIMITS, bytes, item)? {
+        None => Ok(false),
+        Some(statement) => {
+            put(statements, statement)?;
+            Ok(true)
+        }
+    }
+}
+
+// Reads an item, and where it is a rule, a restriction or a lemma, puts it last; false where the tokens are no item.
+fn read_item(
+    alloc: Global,
+    sig: &Signature,
+    bytes: &[u8],
+    item: &[Token],
+    rules: &mut RuleList,
+    statements: &mut Items<Statement>,
+) -> Result<bool, Mem>
+    ensures { IfOk result (λ b. IsAdded sig.now bytes.now item.now rules.old rules.new
+        statements.old statements.new b) }
+{
+    item_laws();
+    if starts(bytes, item, "rule") {
+        read_ruled(alloc, sig, bytes, item, rules)
+    } else if is_declaration(alloc, bytes, item)? {
+        Ok(true)
+    } else {
+        read_stated(alloc, sig, bytes, item, statements)
+    }
+}
+
+/// What the items of a theory say besides what they declare: its rules, and its restrictions and lemmas as they are written.
+#[derive(Drop)]
+pub(crate) struct Contents {
+    pub(crate) rules: RuleList,
+    pub(crate) statements: Items<Statement>,
+}
+
+/// What the items say that these tokens are; `Syntax` with its line where one is in no grammar. The last line is that of the
+/// theory's last token. The work is linear in the tokens.
+pub(crate) fn read_items(
+    alloc: Global,
+    sig: &Signature,
+    bytes: &[u8],
+    tokens: &[Token],
+    last: u64,
+) -> Result<Contents, TheoryFault>
+    ensures good { IfOk result (λ c. (cut : List (List Placed))
+        → IsCut (placed bytes.now tokens.now) cut → AreSaid sig.now cut c.rules c.statements) }
+    ensures faulty { (line : ℕ) → IsErrOf result (Syntax line) → (cut : List (List Placed))
+        → IsCut (placed bytes.now tokens.now) cut
+        → IsFaulty last cut line }
+    ensures other { (e : TheoryFault) → IsErrOf result e → (e ≡ OutOfMemory → ⊥) → (line : ℕ)
+        × (e ≡ Syntax line) }
+{
+    item_laws();
+    let mut rules = RuleList::new(alloc);
+    let mut statements = Items::new(alloc);
+    let mut rest = tokens;
+    while !rest.is_empty() {
+        let (item, behind) = split_item(bytes, rest);
+        if is_last(bytes, item, behind) {
+            return Ok(Contents { rules, statements });
+        }
+        if !read_item(alloc, sig, bytes, item, &mut rules, &mut statements)? {
+            return Err(TheoryFault::Syntax {
+                line: line_of(item),
+            });
+        }
+        rest = behind;
+    }
+    Err(TheoryFault::Syntax { line: last })
+}
