@@ -14,13 +14,7 @@
 #   items   so many functions that are declared, up to a file of 1 MiB
 #   lemmas  so many lemmas, up to 12,000 in 0.9 MB
 # usage: bench/compile.sh [TURNS]
-set -e
-cd "$(dirname "$0")/.."
-turns=${1:-20}
-(cd crates/sap_main && rt run -- compile ../../examples/go.spthy >/dev/null 2>&1)
-program=$PWD/crates/sap_main/out/sap_main
-work=$(mktemp -d)
-trap 'rm -rf "$work"' EXIT
+. "$(dirname "$0")/turns.sh"
 
 # A balanced parallel of so many copies of a process, and what stands before it.
 parallel() {
@@ -107,41 +101,6 @@ lemmas() {
         for (k = 1; k <= n; k++) printf "lemma l%d: \"All x #i. Sent(x)@i ==> (Ex #j. Seen(x)@j & #j < #i)\" ", k
         print "end"
     }'
-}
-
-nanoseconds() { date +%s%N; }
-
-# What so many turns on this file take, with the growth since the line before.
-line() {
-    "$program" compile "$work/file.spthy" >"$work/theory" 2>"$work/refusal" || true
-    begin=$(nanoseconds)
-    turn=0
-    while [ "$turn" -lt "$turns" ]; do
-        "$program" compile "$work/file.spthy" >/dev/null 2>&1 || true
-        turn=$((turn + 1))
-    done
-    time=$(($(nanoseconds) - begin))
-    bytes=$(($(wc -c <"$work/file.spthy") + $(wc -c <"$work/theory")))
-    awk -v kind="$1" -v size="$2" -v bytes="$bytes" -v time="$time" -v turns="$turns" -v old_time="$3" -v old_bytes="$4" \
-        -v refusal="$(head -c 60 "$work/refusal")" 'BEGIN {
-            printf "%-7s %7d %11d %10.3f", kind, size, bytes, time / turns / 1000000
-            if (old_time > 0) printf " %6.2f %6.2f", time / old_time, bytes / old_bytes; else printf "      -      -"
-            printf "  %s\n", refusal
-        }'
-}
-
-printf '%-7s %7s %11s %10s %6s %6s\n' kind size bytes 'ms a turn' time bytes
-kind() {
-    old_time=0
-    old_bytes=0
-    what=$1
-    shift
-    for size in "$@"; do
-        "$what" "$size" >"$work/file.spthy"
-        line "$what" "$size" "$old_time" "$old_bytes"
-        old_time=$time
-        old_bytes=$bytes
-    done
 }
 
 kind nodes 80 160 320 640 1333
