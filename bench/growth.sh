@@ -22,6 +22,17 @@ row() {
     before=$now
 }
 
+# held SIZE WHAT COMMAND..: a line with the size, what it counts, the most kilobytes that the command holds, and the ratio to the
+# line before.
+held() {
+    size=$1 what=$2
+    shift 2
+    now=$(/usr/bin/time -f %M "$@" 2>&1 > /dev/null)
+    ratio=$([ -z "$before" ] && echo '-' || awk "BEGIN { printf \"%.2f\", $now / $before }")
+    printf '%8d %s %9d kB  ratio %5s\n' "$size" "$what" "$now" "$ratio"
+    before=$now
+}
+
 # growth WHAT SIZES WORD..: runs the program on the words and each of the sizes
 growth() {
     counted=$1 sizes=$2

@@ -1,9 +1,9 @@
 //! Steps of rules.
-use crate::made::{boxed, fact, listed, name, public, variable};
+use crate::made::{applied, boxed, fact, listed, name, public, variable, with_term};
 use sap_rule::{Rule, RuleList, Theory};
 use sap_runs::RStep;
 use sap_steps::RuleState;
-use sap_terms::{Bindings, FactList, Items, Mem, Name, Numbers, Signature, Term};
+use sap_terms::{Bindings, FactList, Items, Mem, Name, Numbers, Signature, Term, TermList};
 use sap_text::Text;
 use std::alloc::Global;
 
@@ -21,11 +21,39 @@ fn rule_name(alloc: Global, k: u64) -> Option<Name> {
     name(alloc, text.as_bytes())
 }
 
-// [ S(x) ] --[ A(x) ]-> [ S(x) ]
-fn rule(alloc: Global, k: u64) -> Option<Rule> {
+// What steps leave behind.
+#[derive(Clone, Copy)]
+enum Left {
+    // Nothing: the term is 'a'.
+    Nothing,
+    // A fact of a term of 49 nodes each.
+    Fact,
+}
+
+impl Left {
+    // How many facts a step gives.
+    fn given(self) -> u64 {
+        match self {
+            Left::Nothing => 1,
+            Left::Fact => 2,
+        }
+    }
+}
+
+// L(x) where steps leave it behind, and S(x).
+fn right(alloc: Global, left: Left) -> Option<FactList> {
+    let next = fact(alloc, b"S", false, variable(alloc, b"x"));
+    match left {
+        Left::Nothing => listed(Some(FactList::new(alloc)), next),
+        Left::Fact => listed(facts(alloc, b"L", variable(alloc, b"x")), next),
+    }
+}
+
+// [ S(x) ] --[ A(x) ]-> [ S(x) ], or -> [ L(x), S(x) ]
+fn rule(alloc: Global, k: u64, left_behind: Left) -> Option<Rule> {
     let left = facts(alloc, b"S", variable(alloc, b"x"));
     let acts = facts(alloc, b"A", variable(alloc, b"x"));
-    let right = facts(alloc, b"S", variable(alloc, b"x"));
+    let right = right(alloc, left_behind);
     let ((name, left), (acts, right)) = rule_name(alloc, k).zip(left).zip(acts.zip(right))?;
     Some(Rule {
         name,
@@ -35,9 +63,26 @@ fn rule(alloc: Global, k: u64) -> Option<Rule> {
     })
 }
 
-// [ ] --[ ]-> [ S('a') ]
-fn first(alloc: Global) -> Option<Rule> {
-    let (name, right) = name(alloc, b"Init").zip(facts(alloc, b"S", public(alloc, b"a")))?;
+// The pair of 'a' and the term.
+fn paired(alloc: Global, term: Option<Term>) -> Option<Term> {
+    let terms = with_term(Some(TermList::new(alloc)), public(alloc, b"a"));
+    applied(alloc, b"pair", with_term(terms, term))
+}
+
+// 'a', or the pair of it and a pair and so on, of 24 pairs.
+fn term(alloc: Global, left: Left) -> Option<Term> {
+    let mut term = public(alloc, b"a");
+    if let Left::Fact = left {
+        for _ in 0..24 {
+            term = paired(alloc, term);
+        }
+    }
+    term
+}
+
+// [ ] --[ ]-> [ S(t) ], where t is that term
+fn first(alloc: Global, left: Left) -> Option<Rule> {
+    let (name, right) = name(alloc, b"Init").zip(facts(alloc, b"S", term(alloc, left)))?;
     Some(Rule {
         name,
         left: FactList::new(alloc),
@@ -46,17 +91,18 @@ fn first(alloc: Global) -> Option<Rule> {
     })
 }
 
-fn rules(alloc: Global, count: u64) -> Option<RuleList> {
-    let mut list = listed(Some(RuleList::new(alloc)), first(alloc));
+fn rules(alloc: Global, count: u64, left: Left) -> Option<RuleList> {
+    let mut list = listed(Some(RuleList::new(alloc)), first(alloc, left));
     for k in 0..count {
-        list = listed(list, rule(alloc, k));
+        list = listed(list, rule(alloc, k, left));
     }
     list
 }
 
-fn theory(alloc: Global, count: u64) -> Option<Theory> {
+fn theory(alloc: Global, count: u64, left: Left) -> Option<Theory> {
     let signature = Signature::new(alloc).ok();
-    let ((name, signature), rules) = name(alloc, b"T").zip(signature).zip(rules(alloc, count))?;
+    let rules = rules(alloc, count, left);
+    let ((name, signature), rules) = name(alloc, b"T").zip(signature).zip(rules)?;
     Some(Theory {
         name,
         signature,
@@ -92,12 +138,13 @@ fn take(alloc: Global, state: &mut RuleState, rule: u64, fact: u64) -> Option<u6
     shown(alloc, state, &line(alloc, rule_name(alloc, rule), facts))
 }
 
-// The facts that so many steps show, one rule after another.
-fn run(alloc: Global, state: &mut RuleState, rules: u64, steps: u64) -> Option<u64> {
+// The facts that so many steps show, one rule after another. Each takes the last fact that the one before it gave.
+fn run(alloc: Global, state: &mut RuleState, rules: u64, steps: u64, left: Left) -> Option<u64> {
     begin(alloc, state)?;
     let mut shown: u64 = 0;
     for k in 0..steps {
-        let more = take(alloc, state, k.checked_rem(rules).unwrap_or(0), k)?;
+        let fact = k.saturating_mul(left.given());
+        let more = take(alloc, state, k.checked_rem(rules).unwrap_or(0), fact)?;
         shown = shown.saturating_add(more);
     }
     Some(shown)
@@ -110,17 +157,26 @@ fn started(alloc: Global, theory: &Theory) -> Result<Option<Box<RuleState>>, Mem
     Ok(Some(Box::new(alloc, RuleState::start(alloc, theory)?)?))
 }
 
-fn shown_of(alloc: Global, theory: &Theory, steps: u64, rules: u64) -> Option<u64> {
+fn shown_of(alloc: Global, theory: &Theory, steps: u64, rules: u64, left: Left) -> Option<u64> {
     match &mut started(alloc, theory) {
-        Ok(Some(state)) => run(alloc, state, rules, steps),
+        Ok(Some(state)) => run(alloc, state, rules, steps, left),
         _ => None,
+    }
+}
+
+fn shown_leaving(alloc: Global, steps: u64, rules: u64, left: Left) -> Option<u64> {
+    match &boxed(alloc, theory(alloc, rules, left)) {
+        Some(theory) => shown_of(alloc, theory, steps, rules, left),
+        None => None,
     }
 }
 
 /// Takes so many steps of so many rules, one rule after another: how many facts they show.
 pub fn shown_by(alloc: Global, steps: u64, rules: u64) -> Option<u64> {
-    match &boxed(alloc, theory(alloc, rules)) {
-        Some(theory) => shown_of(alloc, theory, steps, rules),
-        None => None,
-    }
+    shown_leaving(alloc, steps, rules, Left::Nothing)
+}
+
+/// The same, where each step leaves a fact behind that has a term of 49 nodes.
+pub fn shown_with_terms(alloc: Global, steps: u64, rules: u64) -> Option<u64> {
+    shown_leaving(alloc, steps, rules, Left::Fact)
 }

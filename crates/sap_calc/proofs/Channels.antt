@@ -22,18 +22,18 @@ use Rattle.sap_process.specs.Sites.{above_of, var_names}
 use Rattle.sap_runs.specs.declared.process_step.PStep.TheVariants as line
 use Rattle.sap_share.specs.Env.{given}
 use Rattle.sap_share.specs.Shared.{Shared, tree_at, Keeps, HaveOneNumber}
-use Rattle.sap_calc.specs.Faults.{EvaluateSmall, no_memory, unknown_channel, other_channel}
-use Rattle.sap_calc.specs.Lines.{outputs_on, shows}
+use Rattle.sap_lines.specs.Faults.{EvaluateSmall, no_memory, unknown_channel, other_channel}
+use Rattle.sap_lines.specs.Lines.{outputs_on, shows}
 use Rattle.sap_calc.specs.Running.{configuration, IsDone, IsDenied}
-use Rattle.sap_calc.specs.code.Places.{proc_at, procs_of}
+use Rattle.sap_lines.specs.Places.{proc_at, procs_of}
 use Rattle.sap_calc.specs.code.Parts.{Parts, AreTied, seen}
 use Rattle.sap_calc.specs.code.Sound.{IsSoundFrom}
 use Rattle.sap_calc.specs.code.Threads.{live, IsThread, IsSmallNumber}
 use Rattle.sap_calc.specs.code.Values.{CanEvaluate, AreValues, IsValueFault, IsEntryNumber, IsEntryFault, IsShown}
-use Rattle.sap_calc.specs.declared.fault.PFault.{PFault}
-use Rattle.sap_calc.specs.declared.fault.PFault.TheVariants as fault
-use Rattle.sap_calc.specs.declared.form.Form.TheVariants.{Nil, Send, Event}
-use Rattle.sap_calc.specs.declared.place.Place.{Place}
+use Rattle.sap_lines.specs.declared.fault.PFault.{PFault}
+use Rattle.sap_lines.specs.declared.fault.PFault.TheVariants as fault
+use Rattle.sap_lines.specs.declared.form.Form.TheVariants.{Nil, Send, Event}
+use Rattle.sap_lines.specs.declared.place.Place.{Place}
 use Rattle.sap_calc.specs.declared.thread.Thread.{Thread}
 use Rattle.sap_calc.proofs.Goes.{gone, gone_tied, gone_is, can_first, can_second, can_each, denied_value}
 use Rattle.sap_calc.proofs.Lines.{thread_tied, children_below, moved, runs_form, sound_form}

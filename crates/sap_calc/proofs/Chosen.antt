@@ -16,8 +16,8 @@ use Rattle.sap_terms.specs.declared.var.Var.{Var}
 use Rattle.sap_rewrite.specs.Match.{Agrees, HaveOneSort, bound_vars, names}
 use Rattle.sap_process.specs.Flaws.{binder_of}
 use Rattle.sap_process.specs.ProcessSteps.{chosen}
-use Rattle.sap_calc.proofs.Agreeing.{first_item, later_item}
-use Rattle.sap_calc.proofs.Opened.{cons_cases, known_push}
+use Rattle.sap_terms.proofs.PlainLaws.Items.{cons_cases, first_item, later_item}
+use Rattle.sap_terms.proofs.PlainLaws.Names.{known_push}
 
 pub not_true : (b : Bool) → (b ≡ true → ⊥) → b ≡ false
 not_true true h = absurd (h refl)
@@ -105,7 +105,7 @@ binder_append (x ∷ xs) ys n = by (bytes_eq x.name n) (binder_append xs ys n) w
   by false later = later
 
 mutual
-  ground_vars : (t : Tree) → IsGround t → tree_vars t ≡ []
+  pub ground_vars : (t : Tree) → IsGround t → tree_vars t ≡ []
   ground_vars (variable v) h = absurd h
   ground_vars (public n) h = refl
   ground_vars (fresh k) h = refl

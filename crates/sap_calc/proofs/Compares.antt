@@ -16,18 +16,18 @@ use Rattle.sap_runs.specs.Inner.{equal, different}
 use Rattle.sap_runs.specs.declared.process_step.PStep.TheVariants as line
 use Rattle.sap_share.specs.Env.{given}
 use Rattle.sap_share.specs.Shared.{Shared, tree_at, Keeps, HaveOneNumber}
-use Rattle.sap_calc.specs.Faults.{EvaluateSmall, terms_differ, terms_agree}
-use Rattle.sap_calc.specs.Lines.{agrees, differs}
+use Rattle.sap_lines.specs.Faults.{EvaluateSmall, terms_differ, terms_agree}
+use Rattle.sap_lines.specs.Lines.{agrees, differs}
 use Rattle.sap_calc.specs.Running.{configuration, IsDone, IsDenied}
-use Rattle.sap_calc.specs.code.Places.{proc_at, procs_of}
+use Rattle.sap_lines.specs.Places.{proc_at, procs_of}
 use Rattle.sap_calc.specs.code.Parts.{Parts, AreTied, seen}
 use Rattle.sap_calc.specs.code.Sound.{IsSoundFrom}
 use Rattle.sap_calc.specs.code.Threads.{live}
 use Rattle.sap_calc.specs.code.Values.{CanEvaluate, AreValues, IsValueFault}
-use Rattle.sap_calc.specs.declared.fault.PFault.{PFault}
-use Rattle.sap_calc.specs.declared.fault.PFault.TheVariants as fault
-use Rattle.sap_calc.specs.declared.form.Form.TheVariants.{Nil, If}
-use Rattle.sap_calc.specs.declared.place.Place.{Place}
+use Rattle.sap_lines.specs.declared.fault.PFault.{PFault}
+use Rattle.sap_lines.specs.declared.fault.PFault.TheVariants as fault
+use Rattle.sap_lines.specs.declared.form.Form.TheVariants.{Nil, If}
+use Rattle.sap_lines.specs.declared.place.Place.{Place}
 use Rattle.sap_calc.specs.declared.thread.Thread.{Thread}
 use Rattle.sap_calc.proofs.Goes.{gone, gone_tied, gone_is, can_first, can_second, denied_value}
 use Rattle.sap_calc.proofs.Lines.{thread_tied, children_below, moved, runs_form, sound_form}

@@ -53,7 +53,7 @@ given_ground ts (e ∷ es) v g below h =
 module _ (ts : List Tree) (env : List Bound) (g : (k : ℕ) → k < length ts → IsGround (tree_at ts k)) (below : All (λ (b : Bound). b.id < length ts) env) where
   mutual
     -- a term of bound variables stands for a ground one
-    instance_ground : (t : Tree) → Knows (names_of env) (tree_vars t) → IsGround (instance (given ts env) t)
+    pub instance_ground : (t : Tree) → Knows (names_of env) (tree_vars t) → IsGround (instance (given ts env) t)
     instance_ground (variable v) h = given_ground ts env v g below h.0
     instance_ground (public n) h = tt
     instance_ground (fresh k) h = tt

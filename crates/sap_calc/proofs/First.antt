@@ -16,10 +16,10 @@ use Rattle.sap_share.specs.Env.{IsSmallForm}
 use Rattle.sap_share.specs.Shared.{Shared}
 use Rattle.sap_share.specs.declared.env.Bound.{Bound}
 use Rattle.sap_calc.specs.Running.{configuration}
-use Rattle.sap_calc.specs.code.Places.{IsRooted, proc_at, procs_of}
+use Rattle.sap_lines.specs.Places.{IsRooted, proc_at, procs_of}
 use Rattle.sap_calc.specs.code.Parts.{Parts, AreTied, seen, IsSmallValue}
 use Rattle.sap_calc.specs.code.Threads.{IsThread, IsSmallNumber}
-use Rattle.sap_calc.specs.declared.place.Place.{Place}
+use Rattle.sap_lines.specs.declared.place.Place.{Place}
 use Rattle.sap_calc.specs.declared.thread.Thread.{Thread}
 use Rattle.sap_calc.proofs.Sounds.{sound_root}
 
@@ -36,6 +36,7 @@ first_tied g p s places root k ready rooted sig known none = record {
   values = All-nil (λ (e : ℕ × Option ℕ). IsSmallValue s e.1);
   held = All-nil (λ (e : ℕ × Bool). IsSmallNumber s e.0);
   own = rw none refl;
+  facts = λ k f here. cc;
 } where
   first : IsThread s places (record { place = root; env = [] })
   first = record {

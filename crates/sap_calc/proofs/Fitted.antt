@@ -1,56 +1,35 @@
 -- What a pattern binds that fits a number, and that nothing fits where no match is found.
-use Rattle.std.proofs.Common.{◌≡◌, ◌<◌, ◌≤◌, ℕ, true, false, List, [], ◌∷◌, ◌++◌, length, if◌then◌else◌, refl, sym, ap, subst, ◌∙◌, ◌⊎◌, inl, inr, arith}
+use Rattle.std.proofs.Common.{◌≡◌, ◌<◌, ◌≤◌, ℕ, List, [], ◌∷◌, ◌++◌, length, if◌then◌else◌, refl, sym, ap, subst, ◌∙◌, ◌⊎◌, inl, inr, arith}
 use Rattle.std.specs.Prelude.{All, Contains}
-use Rattle.std.specs.Option.{option_map_or}
-use Rattle.std.proofs.Math.Path.{fun_ext}
 use Rattle.std.proofs.lemmas.List.Elements.{All-nil, All-cons, All-head, All-tail, Contains-append_cases}
-use Rattle.std.specs.Str.{bytes_eq}
 use Rattle.sap_terms.specs.Choice.{Choice, instance, instances, fits_sort}
 use Rattle.sap_terms.specs.Equations.{equations}
 use Rattle.sap_terms.specs.Ground.{IsGround, AreGround}
-use Rattle.sap_terms.specs.Message.{IsMessage, IsMessageChoice, IsOver, AreOver}
+use Rattle.sap_terms.specs.Message.{IsMessage, IsMessageChoice, AreOver}
 use Rattle.sap_terms.specs.Normal.{IsNormal, AreNormal}
 use Rattle.sap_terms.specs.Signature.{Sig}
 use Rattle.sap_terms.specs.Subst.{bound_to}
 use Rattle.sap_terms.specs.Tree.{Tree, variable, public, fresh, apply, Trees, none, more, node_count, trees_count}
-use Rattle.sap_terms.specs.Variables.{tree_vars, trees_vars, is_known, new_vars}
+use Rattle.sap_terms.specs.Variables.{tree_vars, trees_vars, new_vars}
 use Rattle.sap_terms.specs.View.{tree, term, tree-term}
 use Rattle.sap_terms.specs.declared.binding.Binding.{Binding}
 use Rattle.sap_terms.specs.declared.limits.TheConstants.{MOST_TERM_NODES}
 use Rattle.sap_terms.specs.declared.var.Var.{Var}
-use Rattle.sap_rewrite.specs.Bound.{AreNamedOnce, NamedOnceStay, BindingsGiveChoices}
+use Rattle.sap_rewrite.specs.Bound.{NamedOnceStay, BindingsGiveChoices}
 use Rattle.sap_rewrite.specs.Match.{Agrees, AllSorted, HaveOneSort, HasNoMatch, IsOnlyMatch, bound_vars, names}
 use Rattle.sap_process.specs.Instance.{process_instance}
 use Rattle.sap_process.specs.Proc.{Proc}
-use Rattle.sap_process.specs.ProcessSteps.{chosen, with_choice}
+use Rattle.sap_process.specs.ProcessSteps.{with_choice}
 use Rattle.sap_process.specs.Sites.{var_names}
 use Rattle.sap_share.specs.Env.{given, bindings_of, AreBound, AreSmallForms, IsSmallForm}
 use Rattle.sap_share.specs.Shared.{tree_at}
 use Rattle.sap_share.specs.declared.env.Bound.{Bound}
+use Rattle.sap_calc.specs.code.Held.{IsFine}
 use Rattle.sap_calc.specs.code.Threads.{names_of}
-use Rattle.sap_calc.proofs.Agreeing.{first_item, later_item, item_cases, tree_agree}
-use Rattle.sap_calc.proofs.Binds.{given_cases, ground_stays}
-use Rattle.sap_calc.proofs.Chosen.{bound_append, binder_new, chosen_bound, chosen_itself, new_among, binder_stays}
+use Rattle.sap_calc.proofs.Chosen.{new_among}
 use Rattle.sap_calc.proofs.Named as named
-
--- an instance of an instance is one instance
-mutual
-  pub instance_twice : (σ γ : Choice) (t : Tree) → instance σ (instance γ t) ≡ instance (λ v. instance σ (γ v)) t
-  instance_twice σ γ (variable v) = refl
-  instance_twice σ γ (public n) = refl
-  instance_twice σ γ (fresh k) = refl
-  instance_twice σ γ (apply f ts) = ap (apply f) (instances_twice σ γ ts)
-
-  instances_twice : (σ γ : Choice) (ts : Trees) → instances σ (instances γ ts) ≡ instances (λ v. instance σ (γ v)) ts
-  instances_twice σ γ none = refl
-  instances_twice σ γ (more t ts) = λ i. more (instance_twice σ γ t i) (instances_twice σ γ ts i)
-
--- a small ground normal term over the signature
-pub record IsFine (g : Sig) (t : Tree) : Type 0 where
-  pub ground : IsGround t
-  pub over : IsOver g t
-  pub normal : IsNormal (equations g) t
-  pub within : node_count t ≤ MOST_TERM_NODES
+use Rattle.sap_calc.proofs.Extended.{given_bound, names_bound, turned, given_new, named_once, new_names, new_choice, choice_messages, choice_agrees, choice_is}
+use Rattle.sap_terms.proofs.PlainLaws.Items.{first_item, item_cases, later_item}
 
 record AreFine (g : Sig) (ts : Trees) : Type 0 where
   ground : AreGround ts
@@ -81,19 +60,9 @@ module _ (g : Sig) (τ : Choice) where
           | inr k ↦ part_all ts v k (record { ground = h.ground.1; over = h.over.1; normal = h.normal.1; within = rest })
         ]
 
--- bindings and choices by numbers
-pub given_bound : (ts : List Tree) (env : List Bound) (v : Var) → bound_to (bindings_of ts env) v ≡ given ts env v
-given_bound ts [] v = refl
-given_bound ts (e ∷ es) v = let here = tree-term (tree_at ts e.id) in let later = given_bound ts es v in λ i. if bytes_eq e.var.name v.name then here i else later i
-
-pub names_bound : (ts : List Tree) (env : List Bound) → names (bindings_of ts env) ≡ names_of env
-names_bound ts [] = refl
-names_bound ts (e ∷ es) = ap (λ ns. e.var.name ∷ ns) (names_bound ts es)
-
-names_append : (a b : List Binding) → names (a ++ b) ≡ names a ++ var_names (bound_vars b)
-names_append [] [] = refl
-names_append [] (e ∷ es) = ap (λ ns. e.var.name ∷ ns) (names_append [] es)
-names_append (e ∷ es) b = ap (λ ns. e.var.name ∷ ns) (names_append es b)
+-- a small term's parts are small
+pub whole_parts : (g : Sig) (n x : Tree) → IsFine g x → (τ : Choice) → instance τ n ≡ x → (w : Var) → Contains (tree_vars n) w → IsFine g (τ w)
+whole_parts g n x fine τ is w m = part_fine g τ n w m (subst (IsFine g) (sym is) fine)
 
 all_from : (P : Tree → Type 0) (a : List Binding) (τ : Choice) → Agrees a τ → ((w : Var) → Contains (bound_vars a) w → P (τ w)) → All (λ (e : Binding). P (tree e.term)) a
 all_from P [] τ h each = All-nil (λ (e : Binding). P (tree e.term))
@@ -106,12 +75,12 @@ messages_from g (e ∷ es) h s =
     let f = All-head (λ (e : Binding). IsFine g (tree e.term)) e es h in
     All-cons (λ (e : Binding). IsMessage g e.var.sort (tree e.term)) e es (record { ground = f.ground; over = f.over; normal = f.normal; sorted = s.0 }) (messages_from g es (All-tail (λ (e : Binding). IsFine g (tree e.term)) e es h) s.1)
 
-all_append : (P : Binding → Type 0) (a b : List Binding) → All P a → All P b → All P (a ++ b)
+pub all_append : (P : Binding → Type 0) (a b : List Binding) → All P a → All P b → All P (a ++ b)
 all_append P [] b h i = i
 all_append P (e ∷ es) b h i = All-cons P e (es ++ b) (All-head P e es h) (all_append P es b (All-tail P e es h) i)
 
 -- what is normal and small of bindings is so of numbers
-small_from : (g : Sig) (ts : List Tree) (env : List Bound) → AreBound (length ts) env → All (λ (e : Binding). IsNormal (equations g) (tree e.term) × (node_count (tree e.term) ≤ MOST_TERM_NODES)) (bindings_of ts env) → AreSmallForms (equations g) MOST_TERM_NODES ts env
+pub small_from : (g : Sig) (ts : List Tree) (env : List Bound) → AreBound (length ts) env → All (λ (e : Binding). IsNormal (equations g) (tree e.term) × (node_count (tree e.term) ≤ MOST_TERM_NODES)) (bindings_of ts env) → AreSmallForms (equations g) MOST_TERM_NODES ts env
 small_from g ts [] below h = All-nil (λ (b : Bound). IsSmallForm (equations g) MOST_TERM_NODES ts b.id)
 small_from g ts (b ∷ bs) below h =
     let Q : Binding → Type 0 = λ (e : Binding). IsNormal (equations g) (tree e.term) × (node_count (tree e.term) ≤ MOST_TERM_NODES) in
@@ -120,7 +89,7 @@ small_from g ts (b ∷ bs) below h =
     let here : IsNormal (equations g) (tree_at ts b.id) × (node_count (tree_at ts b.id) ≤ MOST_TERM_NODES) = rw (tree-term (tree_at ts b.id)) at (All-head Q e (bindings_of ts bs) h) in
     All-cons (λ (b : Bound). IsSmallForm (equations g) MOST_TERM_NODES ts b.id) b bs (record { below = All-head B b bs below; normal = here.0; within = here.1 }) (small_from g ts bs (All-tail B b bs below) (All-tail Q e (bindings_of ts bs) h))
 
-small_bindings : (g : Sig) (ts : List Tree) (env : List Bound) → AreSmallForms (equations g) MOST_TERM_NODES ts env → All (λ (e : Binding). IsNormal (equations g) (tree e.term) × (node_count (tree e.term) ≤ MOST_TERM_NODES)) (bindings_of ts env)
+pub small_bindings : (g : Sig) (ts : List Tree) (env : List Bound) → AreSmallForms (equations g) MOST_TERM_NODES ts env → All (λ (e : Binding). IsNormal (equations g) (tree e.term) × (node_count (tree e.term) ≤ MOST_TERM_NODES)) (bindings_of ts env)
 small_bindings g ts [] h = All-nil (λ (e : Binding). IsNormal (equations g) (tree e.term) × (node_count (tree e.term) ≤ MOST_TERM_NODES))
 small_bindings g ts (b ∷ bs) h =
     let S : Bound → Type 0 = λ b. IsSmallForm (equations g) MOST_TERM_NODES ts b.id in
@@ -129,24 +98,6 @@ small_bindings g ts (b ∷ bs) h =
     All-cons (λ (e : Binding). IsNormal (equations g) (tree e.term) × (node_count (tree e.term) ≤ MOST_TERM_NODES)) e (bindings_of ts bs) (rw (tree-term (tree_at ts b.id)) (here.normal, here.within)) (small_bindings g ts bs (All-tail S b bs h))
 
 module _ (g : Sig) (ts : List Tree) (grounds : (k : ℕ) → k < length ts → IsGround (tree_at ts k)) (env : List Bound) (small : AreSmallForms (equations g) MOST_TERM_NODES ts env) (n : Tree) (one : HaveOneSort (tree_vars n)) where
-  cases : (v : Var) → ((is_known (names_of env) v.name ≡ true) × IsGround (given ts env v)) ⊎ ((is_known (names_of env) v.name ≡ false) × (given ts env v ≡ variable v))
-  cases v = given_cases ts grounds env v (λ k d lt. (small k d lt).below)
-
-  -- what bindings of the pattern's new variables choose
-  module _ (a : List Binding) (σ : Choice) (agrees : Agrees a σ) (on : bound_vars a ≡ new_vars (names_of env) (tree_vars n)) where
-    new_chosen : (v : Var) → is_known (names_of env) v.name ≡ false → bound_to a v ≡ chosen σ (tree_vars n) v
-    new_chosen v free = chosen_bound a σ agrees v ∙ ap (λ vs. chosen σ vs v) on ∙ ap (λ o. option_map_or σ o (variable v)) (binder_new (names_of env) (tree_vars n) v.name free)
-
-    -- together with what is bound, they turn the pattern into the instance of its instance
-    turned : instance (bound_to (bindings_of ts env ++ a)) n ≡ instance σ (instance (given ts env) n)
-    turned = tree_agree (bound_to (bindings_of ts env ++ a)) (λ v. instance σ (given ts env v)) n each ∙ sym (instance_twice σ (given ts env) n) where
-      each : (v : Var) → Contains (tree_vars n) v → bound_to (bindings_of ts env ++ a) v ≡ instance σ (given ts env v)
-      each v m = bound_append (bindings_of ts env) a v ∙ ap (λ ns. if is_known ns v.name then bound_to (bindings_of ts env) v else bound_to a v) (names_bound ts env) ∙ by (cases v) where
-        by : ((is_known (names_of env) v.name ≡ true) × IsGround (given ts env v)) ⊎ ((is_known (names_of env) v.name ≡ false) × (given ts env v ≡ variable v))
-            → (if is_known (names_of env) v.name then bound_to (bindings_of ts env) v else bound_to a v) ≡ instance σ (given ts env v)
-        by (inl bound) = rw bound.0 (given_bound ts env v ∙ sym (ground_stays σ (given ts env v) bound.1))
-        by (inr free) = rw (free.0, free.1) (new_chosen v free.0 ∙ chosen_itself σ (tree_vars n) one v m)
-
   -- where there is no match, no choice of messages turns the pattern's instance into the term
   pub fits_nothing : (x : Tree) → HasNoMatch n x (bindings_of ts env) → (σ : Choice) → IsMessageChoice g σ → instance σ (instance (given ts env) n) ≡ x → ⊥
   fits_nothing x none_fits σ messages is =
@@ -155,7 +106,7 @@ module _ (g : Sig) (ts : List Tree) (grounds : (k : ℕ) → k < length ts → I
       let on : bound_vars a ≡ new_vars (names_of env) (tree_vars n) = named.bindings_of-vars σ vs ∙ ap (λ ns. new_vars ns (tree_vars n)) (names_bound ts env) in
       none_fits.none (bindings_of ts env ++ a) (record {
         extends = record { added = a; is = refl; on = named.bindings_of-vars σ vs; sorted = sorted vs };
-        turns = turned a σ (named.bindings_of-agrees σ vs) on ∙ is;
+        turns = turned g ts grounds env small n one a σ (named.bindings_of-agrees σ vs) on ∙ is;
       })
     where
       sorted : (vs : List Var) → AllSorted (named.bindings_of σ vs)
@@ -163,20 +114,12 @@ module _ (g : Sig) (ts : List Tree) (grounds : (k : ℕ) → k < length ts → I
       sorted (v ∷ vs) = (ap (fits_sort v.sort) (tree-term (σ v)) ∙ (messages v).sorted, sorted vs)
 
   -- where there is one
-  module _ (x : Tree) (fine : IsFine g x) (new : List Bound) (below : AreBound (length ts) new) (found : IsOnlyMatch n x (bindings_of ts env) (bindings_of ts new)) (once : NamedOnceStay) (give : BindingsGiveChoices) where
-    abbrev added : List Binding
+  module _ (x : Tree) (parts : (τ : Choice) → instance τ n ≡ x → (w : Var) → Contains (tree_vars n) w → IsFine g (τ w)) (new : List Bound) (below : AreBound (length ts) new) (found : IsOnlyMatch n x (bindings_of ts env) (bindings_of ts new)) (once : NamedOnceStay) (give : BindingsGiveChoices) where
+    abbrev pub added : List Binding
     added = found.is_match.extends.added
 
-    on : bound_vars added ≡ new_vars (names_of env) (tree_vars n)
+    pub on : bound_vars added ≡ new_vars (names_of env) (tree_vars n)
     on = found.is_match.extends.on ∙ ap (λ ns. new_vars ns (tree_vars n)) (names_bound ts env)
-
-    named_once : AreNamedOnce (bound_vars added)
-    named_once = subst AreNamedOnce (sym on) (once.first_occurrences (names_of env) (tree_vars n))
-
-    given_new : (v : Var) → given ts new v ≡ (if is_known (names_of env) v.name then given ts env v else bound_to added v)
-    given_new v =
-        sym (given_bound ts new v) ∙ ap (λ b. bound_to b v) found.is_match.extends.is ∙ bound_append (bindings_of ts env) added v ∙ ap (λ ns. if is_known ns v.name then bound_to (bindings_of ts env) v else bound_to added v) (names_bound ts env)
-        ∙ ap (λ t. if is_known (names_of env) v.name then t else bound_to added v) (given_bound ts env v)
 
     whole : instance (bound_to (bindings_of ts new)) n ≡ x
     whole = found.is_match.turns
@@ -184,31 +127,26 @@ module _ (g : Sig) (ts : List Tree) (grounds : (k : ℕ) → k < length ts → I
     each_fine : (w : Var) → Contains (bound_vars added) w → IsFine g (bound_to added w)
     each_fine w m =
         let here = new_among (names_of env) (tree_vars n) w (subst (λ vs. Contains vs w) on m) in
-        let f = part_fine g (bound_to (bindings_of ts new)) n w here.0 (subst (IsFine g) (sym whole) fine) in
-        subst (IsFine g) (given_bound ts new w ∙ given_new w ∙ ap (λ b. if b then given ts env w else bound_to added w) here.1) f
+        let f = parts (bound_to (bindings_of ts new)) whole w here.0 in
+        subst (IsFine g) (given_bound ts new w ∙ given_new g ts grounds env small n one added on new found.is_match.extends.is w ∙ ap (λ b. if b then given ts env w else bound_to added w) here.1) f
 
-    all_fine : All (λ (e : Binding). IsFine g (tree e.term)) added
-    all_fine = all_from (IsFine g) added (bound_to added) (once.agree added named_once) each_fine
+    pub all_fine : All (λ (e : Binding). IsFine g (tree e.term)) added
+    all_fine = all_from (IsFine g) added (bound_to added) (once.agree added (named_once g ts grounds env small n one added on once)) each_fine
 
-    choice : (σ : Choice) × IsMessageChoice g σ × Agrees added σ
-    choice = give g added named_once (messages_from g added all_fine found.is_match.extends.sorted)
+    pub all_messages : All (λ (e : Binding). IsMessage g e.var.sort (tree e.term)) added
+    all_messages = messages_from g added all_fine found.is_match.extends.sorted
 
-    pub fitting : Choice
-    fitting = choice.0
+    abbrev pub fitting : Choice
+    fitting = new_choice g ts grounds env small n one added on once all_messages give
 
     pub fitting_messages : IsMessageChoice g fitting
-    unfolding fitting choice
-    fitting_messages = choice.1
-
-    fitting_agrees : Agrees added fitting
-    unfolding fitting choice
-    fitting_agrees = choice.2
+    fitting_messages = choice_messages g ts grounds env small n one added on once all_messages give
 
     pub fitting_turns : instance fitting (instance (given ts env) n) ≡ x
-    fitting_turns = sym (turned added fitting fitting_agrees on) ∙ ap (λ b. instance (bound_to b) n) (sym found.is_match.extends.is) ∙ whole
+    fitting_turns = sym (turned g ts grounds env small n one added fitting (choice_agrees g ts grounds env small n one added on once all_messages give) on) ∙ ap (λ b. instance (bound_to b) n) (sym found.is_match.extends.is) ∙ whole
 
     pub fitting_names : names_of new ≡ names_of env ++ var_names (new_vars (names_of env) (tree_vars n))
-    fitting_names = sym (names_bound ts new) ∙ ap names found.is_match.extends.is ∙ names_append (bindings_of ts env) added ∙ (λ i. names_bound ts env i ++ var_names (on i))
+    fitting_names = new_names g ts grounds env small n one added on new found.is_match.extends.is
 
     pub fitting_small : AreSmallForms (equations g) MOST_TERM_NODES ts new
     fitting_small =
@@ -218,11 +156,4 @@ module _ (g : Sig) (ts : List Tree) (grounds : (k : ℕ) → k < length ts → I
     -- the instance under all that is bound is what `with_choice` says
     pub fitting_is : ((p : Proc) (s t : Choice) → ((v : Var) → IsGround (s v) ⊎ (s v ≡ variable v)) → process_instance t (process_instance s p) ≡ process_instance (λ v. instance t (s v)) p)
         → (p : Proc) → process_instance (given ts new) p ≡ with_choice fitting (tree_vars (instance (given ts env) n)) (process_instance (given ts env) p)
-    fitting_is twice p =
-        ap (λ σ. process_instance σ p) (fun_ext at_each) ∙ sym (twice p (given ts env) (chosen fitting (tree_vars (instance (given ts env) n))) (λ v. elim (cases v) [ inl bound ↦ inl bound.1 | inr free ↦ inr free.1 ])) where
-          at_each : (v : Var) → given ts new v ≡ instance (chosen fitting (tree_vars (instance (given ts env) n))) (given ts env v)
-          at_each v = given_new v ∙ by (cases v) where
-            by : ((is_known (names_of env) v.name ≡ true) × IsGround (given ts env v)) ⊎ ((is_known (names_of env) v.name ≡ false) × (given ts env v ≡ variable v))
-                → (if is_known (names_of env) v.name then given ts env v else bound_to added v) ≡ instance (chosen fitting (tree_vars (instance (given ts env) n))) (given ts env v)
-            by (inl bound) = rw bound.0 (sym (ground_stays (chosen fitting (tree_vars (instance (given ts env) n))) (given ts env v) bound.1))
-            by (inr free) = rw (free.0, free.1) (new_chosen added fitting fitting_agrees on v free.0 ∙ sym (ap (λ o. option_map_or fitting o (variable v)) (binder_stays (names_of env) (given ts env) cases v.name free.0 n)))
+    fitting_is twice p = choice_is g ts grounds env small n one added on new found.is_match.extends.is fitting (choice_agrees g ts grounds env small n one added on once all_messages give) twice p

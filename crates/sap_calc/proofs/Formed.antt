@@ -2,7 +2,7 @@
 use Rattle.std.proofs.Common.{◌≡◌, ℕ, zero, suc, ◌+◌, List, [], ◌∷◌, ◌++◌, Some, map, take, inl, inr, ◌⊎◌, refl, subst}
 use Rattle.std.specs.Prelude.{slice_get, All}
 use Rattle.std.specs.List.{AllZip}
-use Rattle.std.proofs.lemmas.List.Elements.{AllZip-push, All-contains}
+use Rattle.std.proofs.lemmas.List.Elements.{AllZip-push, All-contains, All-nil, All-push}
 use Rattle.sap_terms.proofs.PlainLaws.Lists.{map_got}
 use Rattle.sap_terms.specs.Choice.{Choice, instance}
 use Rattle.sap_terms.specs.Equations.{equations}
@@ -14,12 +14,13 @@ use Rattle.sap_terms.specs.declared.limits.TheConstants.{MOST_TERM_NODES}
 use Rattle.sap_share.specs.Env.{given, AreSmallForms}
 use Rattle.sap_share.specs.Shared.{Shared, Keeps}
 use Rattle.sap_share.specs.declared.env.Bound.{Bound}
-use Rattle.sap_calc.specs.Faults.{EvaluateSmall}
+use Rattle.sap_lines.specs.Faults.{EvaluateSmall}
+use Rattle.sap_calc.specs.code.Held.{IsFine}
 use Rattle.sap_calc.specs.code.Values.{CanEvaluate, IsFormed, AreFormed, IsValueFault}
-use Rattle.sap_calc.specs.declared.fault.PFault.{PFault}
+use Rattle.sap_lines.specs.declared.fault.PFault.{PFault}
 use Rattle.sap_calc.proofs.Moves.{given_stays}
-use Rattle.sap_calc.proofs.Named.{contains_got}
 use Rattle.sap_calc.proofs.Values.{nothing, only_one, can_stays}
+use Rattle.sap_terms.proofs.PlainLaws.Items.{contains_got}
 
 within_cases : {Q : Tree → Type 0} (xs ys : List Tree) → SomeSubtermWithin Q (trees_of (xs ++ ys)) → SomeSubtermWithin Q (trees_of xs) ⊎ SomeSubtermWithin Q (trees_of ys)
 within_cases [] ys s = inr s
@@ -40,7 +41,7 @@ fault_at g σ ts k t f got (inl h) = inl h
 fault_at g σ ts k t f got (inr h) = inr (h.0, within_at σ ts k t got (only_one (instance σ t) h.1))
 
 pub formed_none : (s : Shared) (env : List Bound) → AreFormed s env [] []
-formed_none s env = record { forms = tt; small = λ n some. absurd (nothing (trees_of []) refl some) }
+formed_none s env = record { forms = tt; small = λ n some. absurd (nothing (trees_of []) refl some); fine = All-nil (IsFine s.sig) }
 
 -- one more, at a larger table
 pub formed_further : (s u : Shared) (env : List Bound) (ts ns ms : List Tree) (k : ℕ) (t n : Tree) → Keeps s u → AreSmallForms (equations s.sig) MOST_TERM_NODES s.trees env → slice_get ts k ≡ Some t
@@ -53,6 +54,7 @@ formed_further s u env ts ns ms k t n keeps small got are one is =
     record {
       forms = rw (turn, is) (zip_push (map (instance σ) (take k ts)) ns are.forms form);
       small = rw turn (small_more s.sig (map (instance σ) (take k ts)) (instance σ t ∷ []) are.small less);
+      fine = rw is (All-push (IsFine s.sig) ns n are.fine (rw keeps.sig at one.fine));
     }
   where
     zip_push : {x y : Tree} (xs ys : List Tree) → AllZip (IsNormalForm (equations s.sig)) xs ys → IsNormalForm (equations s.sig) x y → AllZip (IsNormalForm (equations s.sig)) (xs ++ x ∷ []) (ys ++ y ∷ [])

@@ -18,14 +18,14 @@ use Rattle.sap_process.specs.Proc.{Proc}
 use Rattle.sap_runs.specs.declared.process_step.PStep.{PStep}
 use Rattle.sap_share.specs.Env.{given}
 use Rattle.sap_share.specs.Shared.{Shared, tree_at, Keeps}
-use Rattle.sap_calc.specs.Faults.{HasEntry, thread_of, has_form, evaluated, no_memory, large}
+use Rattle.sap_lines.specs.Faults.{HasEntry, thread_of, has_form, evaluated, no_memory, large}
 use Rattle.sap_calc.specs.Running.{Running, configuration, IsDone, IsDenied}
-use Rattle.sap_calc.specs.code.Places.{proc_at, procs_of}
+use Rattle.sap_lines.specs.Places.{proc_at, procs_of}
 use Rattle.sap_calc.specs.code.Parts.{Parts, AreTied, seen}
 use Rattle.sap_calc.specs.code.Sound.{IsSound}
 use Rattle.sap_calc.specs.code.Threads.{live, IsThread, IsSmallNumber}
 use Rattle.sap_calc.specs.code.Values.{CanEvaluate, IsValueFault}
-use Rattle.sap_calc.specs.declared.fault.PFault.{PFault}
+use Rattle.sap_lines.specs.declared.fault.PFault.{PFault}
 use Rattle.sap_calc.specs.declared.thread.Thread.{Thread}
 use Rattle.sap_calc.proofs.Lines.{thread_tied}
 use Rattle.sap_calc.proofs.Moves.{keeps_tied, keeps_seen, sets_tied, sets_is, thread_stays, given_stays}

@@ -38,25 +38,26 @@ use Rattle.sap_runs.specs.declared.process_step.PStep.TheVariants as line
 use Rattle.sap_share.specs.Env.{given, bindings_of, AreSmallForms, IsSmallForm}
 use Rattle.sap_share.specs.Shared.{Shared, tree_at, Keeps}
 use Rattle.sap_share.specs.declared.env.Bound.{Bound}
-use Rattle.sap_calc.specs.Faults.{FitsNothing, no_memory, unknown_input, unfitting, unfitting_part, other_part}
-use Rattle.sap_calc.specs.Lines.{inputs, inputs_on}
+use Rattle.sap_lines.specs.Faults.{FitsNothing, no_memory, unknown_input, unfitting, unfitting_part, other_part}
+use Rattle.sap_lines.specs.Sorts.{PatternsHaveOneSort}
+use Rattle.sap_lines.specs.Lines.{inputs, inputs_on}
 use Rattle.sap_calc.specs.Running.{configuration, IsDone, IsDenied}
-use Rattle.sap_calc.specs.code.Places.{proc_at, procs_of}
+use Rattle.sap_lines.specs.Places.{proc_at, procs_of}
+use Rattle.sap_calc.specs.code.Held.{IsFine}
 use Rattle.sap_calc.specs.code.Parts.{Parts, AreTied, seen}
 use Rattle.sap_calc.specs.code.Sound.{IsSoundFrom}
 use Rattle.sap_calc.specs.code.Taken.{IsFitted, IsUnfitted, IsReceived, IsUnreceived, unvalued, no_pair, unfitted, other_channel}
 use Rattle.sap_calc.specs.code.Threads.{running, live, IsThread}
 use Rattle.sap_calc.specs.code.Values.{CanEvaluate, IsEntryNumber, IsEntryFault}
-use Rattle.sap_calc.specs.declared.fault.PFault.{PFault}
-use Rattle.sap_calc.specs.declared.form.Form.TheVariants.{Nil, In, Recv}
-use Rattle.sap_calc.specs.declared.place.Place.{Place}
+use Rattle.sap_lines.specs.declared.fault.PFault.{PFault}
+use Rattle.sap_lines.specs.declared.form.Form.TheVariants.{Nil, In, Recv}
+use Rattle.sap_lines.specs.declared.place.Place.{Place}
 use Rattle.sap_calc.specs.declared.thread.Thread.{Thread}
 use Rattle.sap_calc.proofs.Evaluable.{first_of}
-use Rattle.sap_calc.proofs.Fitted.{IsFine, fits_nothing, fitting, fitting_messages, fitting_turns, fitting_names, fitting_small, fitting_is}
+use Rattle.sap_calc.proofs.Fitted.{whole_parts, fits_nothing, fitting, fitting_messages, fitting_turns, fitting_names, fitting_small, fitting_is}
 use Rattle.sap_calc.proofs.Goes.{can_one, denied_value}
 use Rattle.sap_calc.proofs.Lines.{thread_tied, children_below, runs_form, sound_form}
 use Rattle.sap_calc.proofs.Moves.{sets_tied, sets_is, small_stays, tree_stays}
-use Rattle.sap_calc.proofs.Ready.{pattern_sort}
 use Rattle.sap_calc.proofs.Sounds.{sound_head, sound_behind}
 
 -- an entry has its number at a larger table
@@ -64,7 +65,7 @@ pub entry_there : (u v : Shared) (known : Entries) (k e : ℕ) → Keeps u v →
 entry_there u v known k e keeps h = record { small = small_stays u v keeps e h.small; at = h.at ∙ ap Some (sym (tree_stays u v keeps e h.small.below)) }
 
 -- what is bound is ground and normal
-given_fine : (g : Sig) (ts : List Tree) → ((k : ℕ) → k < length ts → IsGround (tree_at ts k)) → (env : List Bound) → AreSmallForms (equations g) MOST_TERM_NODES ts env → (v : Var) → (given ts env v ≡ variable v) ⊎ (IsGround (given ts env v) × IsNormal (equations g) (given ts env v))
+pub given_fine : (g : Sig) (ts : List Tree) → ((k : ℕ) → k < length ts → IsGround (tree_at ts k)) → (env : List Bound) → AreSmallForms (equations g) MOST_TERM_NODES ts env → (v : Var) → (given ts env v ≡ variable v) ⊎ (IsGround (given ts env v) × IsNormal (equations g) (given ts env v))
 given_fine g ts grounds [] small v = inl refl
 given_fine g ts grounds (e ∷ es) small v =
     let S : Bound → Type 0 = λ b. IsSmallForm (equations g) MOST_TERM_NODES ts b.id in
@@ -82,7 +83,7 @@ second_fine g x a b is h =
     let w = f.within in
     record { ground = f.ground.1.0; over = f.over.1.1.0; normal = f.normal.1.1.0; within = omega (arith, w) }
 
-module _ (once : NamedOnceStay) (give : BindingsGiveChoices) (twice : (p : Proc) (s t : Choice) → ((v : Var) → IsGround (s v) ⊎ (s v ≡ variable v)) → process_instance t (process_instance s p) ≡ process_instance (λ v. instance t (s v)) p)
+module _ (once : NamedOnceStay) (give : BindingsGiveChoices) (sorts : PatternsHaveOneSort) (twice : (p : Proc) (s t : Choice) → ((v : Var) → IsGround (s v) ⊎ (s v ≡ variable v)) → process_instance t (process_instance s p) ≡ process_instance (λ v. instance t (s v)) p)
     (modulo : MatchingIsModulo) (stay : PatternsStay) (kept : EqualityIsKept) (P : Parts) (t : ℕ) (th : Thread) (x : Place) (tied : AreTied P) (is : Some th ≡ live P.threads t) (at : slice_get P.places th.place ≡ Some x)
     (grounds : (k : ℕ) → k < length P.table.trees → IsGround (tree_at P.table.trees k)) (overs : (k : ℕ) → k < length P.table.trees → IsOver P.table.sig (tree_at P.table.trees k)) where
   -- an action that takes what fits its pattern
@@ -96,21 +97,21 @@ module _ (once : NamedOnceStay) (give : BindingsGiveChoices) (twice : (p : Proc)
 
     module _ (y : Tree) (fine : IsFine P.table.sig y) (next : ℕ) (r : Thread) (f : IsFitted P.table.trees th.env next n y r) where
       abbrev pub σ : Choice
-      σ = fitting P.table.sig P.table.trees grounds th.env (thread_tied P t th tied is).small n one y fine r.env f.below f.found once give
+      σ = fitting P.table.sig P.table.trees grounds th.env (thread_tied P t th tied is).small n one y (whole_parts P.table.sig n y fine) r.env f.below f.found once give
 
       pub messages : IsMessageChoice P.table.sig σ
-      messages = fitting_messages P.table.sig P.table.trees grounds th.env (thread_tied P t th tied is).small n one y fine r.env f.below f.found once give
+      messages = fitting_messages P.table.sig P.table.trees grounds th.env (thread_tied P t th tied is).small n one y (whole_parts P.table.sig n y fine) r.env f.below f.found once give
 
       pub fits : Fits P.table.sig σ (instance (given P.table.trees th.env) n) y
       fits = record {
         messages = messages;
-        equal = subst (IsTheoryEqual (equations P.table.sig) (instance σ (instance (given P.table.trees th.env) n))) (fitting_turns P.table.sig P.table.trees grounds th.env (thread_tied P t th tied is).small n one y fine r.env f.below f.found once give) same;
+        equal = subst (IsTheoryEqual (equations P.table.sig) (instance σ (instance (given P.table.trees th.env) n))) (fitting_turns P.table.sig P.table.trees grounds th.env (thread_tied P t th tied is).small n one y (whole_parts P.table.sig n y fine) r.env f.below f.found once give) same;
       }
 
       pub goes : running P.table.trees (procs_of P.places) r ≡ with_choice σ (tree_vars (instance (given P.table.trees th.env) n)) (process_instance (given P.table.trees th.env) (proc_at (procs_of P.places) next))
       goes =
           ap (λ j. process_instance (given P.table.trees r.env) (proc_at (procs_of P.places) j)) f.place
-          ∙ fitting_is P.table.sig P.table.trees grounds th.env (thread_tied P t th tied is).small n one y fine r.env f.below f.found once give twice (proc_at (procs_of P.places) next)
+          ∙ fitting_is P.table.sig P.table.trees grounds th.env (thread_tied P t th tied is).small n one y (whole_parts P.table.sig n y fine) r.env f.below f.found once give twice (proc_at (procs_of P.places) next)
 
       pub taken_is : configuration (seen (record P { threads = slice_set P.threads t (Some r) })) ≡ becomes (configuration (seen P)) t (Some (with_choice σ (tree_vars (instance (given P.table.trees th.env) n)) (process_instance (given P.table.trees th.env) (proc_at (procs_of P.places) next))))
       taken_is = sets_is P t r ∙ ap (λ p. becomes (configuration (seen P)) t (Some p)) goes
@@ -118,14 +119,14 @@ module _ (once : NamedOnceStay) (give : BindingsGiveChoices) (twice : (p : Proc)
       pub taken_thread : next < length P.places → IsSoundFrom P.table.sig (thread_tied P t th tied is).above (act a (proc_at (procs_of P.places) next)) → IsThread P.table P.places r
       taken_thread below sound =
           let o = thread_tied P t th tied is in
-          let names = fitting_names P.table.sig P.table.trees grounds th.env o.small n one y fine r.env f.below f.found once give in
+          let names = fitting_names P.table.sig P.table.trees grounds th.env o.small n one y (whole_parts P.table.sig n y fine) r.env f.below f.found once give in
           let there : IsSoundFrom P.table.sig (above_of (o.above.scope ++ bound_by o.above.scope a) (o.above.locks + locks_set a)) (proc_at (procs_of P.places) next) = sound_behind P.table.sig _ _ _ sound in
           record {
             below = rw f.place below;
             above = above_of (o.above.scope ++ bound_by o.above.scope a) (o.above.locks + locks_set a);
             sound = rw f.place there;
             names = names ∙ (λ i. o.names i ++ var_names (new_vars (o.names i) (tree_vars n))) ∙ ap (λ vs. var_names o.above.scope ++ var_names vs) (sym (binds o.above.scope)) ∙ sym (map-append (λ (v : Var). v.name) o.above.scope (bound_by o.above.scope a));
-            small = fitting_small P.table.sig P.table.trees grounds th.env o.small n one y fine r.env f.below f.found once give;
+            small = fitting_small P.table.sig P.table.trees grounds th.env o.small n one y (whole_parts P.table.sig n y fine) r.env f.below f.found once give;
           }
 
       taken_tied : next < length P.places → IsSoundFrom P.table.sig (thread_tied P t th tied is).above (act a (proc_at (procs_of P.places) next)) → AreTied (record P { threads = slice_set P.threads t (Some r) })
@@ -149,7 +150,7 @@ module _ (once : NamedOnceStay) (give : BindingsGiveChoices) (twice : (p : Proc)
         let q = proc_at (procs_of P.places) x.first in
         let e : act (action.receive (instance (by_binder more) (tree m)) (instance (by_binder more) (tree n))) (with_sorts more q) ≡ act (action.receive (tree m) (tree n)) q = recv_sound.sorted in
         let same : instance (by_binder more) (tree n) ≡ tree n = cc in
-        pattern_sort scope (tree n) same
+        sorts scope (tree n) same
 
     pub recv_clean : HasDestructor P.table.sig (tree n) → ⊥
     recv_clean d = (sound_head P.table.sig _ _ recv_sound).plain (record { term = tree n; stands = first_of (tree n) []; destructor = d })
@@ -176,7 +177,7 @@ module _ (once : NamedOnceStay) (give : BindingsGiveChoices) (twice : (p : Proc)
           let q = proc_at (procs_of P.places) x.first in
           let e : act (action.input (instance (by_binder more) (tree n))) (with_sorts more q) ≡ act (action.input (tree n)) q = in_sound.sorted in
           let same : instance (by_binder more) (tree n) ≡ tree n = cc in
-          pattern_sort scope (tree n) same
+          sorts scope (tree n) same
 
       in_clean : HasDestructor P.table.sig (tree n) → ⊥
       in_clean d = (sound_head P.table.sig _ _ in_sound).plain (record { term = tree n; stands = first_of (tree n) []; destructor = d })

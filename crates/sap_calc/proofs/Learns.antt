@@ -13,10 +13,10 @@ use Rattle.sap_deduce.specs.declared.origin.Origin.{Origin}
 use Rattle.sap_deduce.specs.declared.origin.Origin.TheVariants.{Name, Public, Apply}
 use Rattle.sap_process.specs.Configuration.{owns}
 use Rattle.sap_runs.specs.declared.process_step.PStep.TheVariants as line
-use Rattle.sap_calc.specs.Faults.{no_memory, used_own, not_public, other_arity, unknown_argument, large_application}
-use Rattle.sap_calc.specs.Lines.{names, writes, applies, knows}
+use Rattle.sap_lines.specs.Faults.{no_memory, used_own, not_public, other_arity, unknown_argument, large_application}
+use Rattle.sap_lines.specs.Lines.{names, writes, applies, knows}
 use Rattle.sap_calc.specs.Running.{configuration, IsDone, IsDenied}
-use Rattle.sap_calc.specs.declared.fault.PFault.TheVariants as fault
+use Rattle.sap_lines.specs.declared.fault.PFault.TheVariants as fault
 use Rattle.sap_calc.specs.code.Denied.{denied_fault}
 use Rattle.sap_calc.specs.code.Parts.{Parts, AreTied, seen}
 
@@ -56,6 +56,7 @@ module _ (P : Parts) (k : Entries) (t : Tree) (o : Origin) (gains : Gains P.know
     values = tied.values;
     held = tied.held;
     own = tied.own ∙ sym same_names;
+    facts = tied.facts;
   }
 
   pub learns_terms : terms_of k.entries ≡ terms_of P.known.entries ++ t ∷ []
@@ -108,6 +109,7 @@ module _ (P : Parts) (k : Entries) (n : ℕ) (own : List ℕ) (gains : Gains P.k
     values = tied.values;
     held = tied.held;
     own = more ∙ ap (λ ns. ns ++ n ∷ []) tied.own ∙ sym names_more;
+    facts = tied.facts;
   }
 
   pub name_line : (label : List Fact) → label ≡ [] → (¬ Contains P.made n) → (¬ Contains P.own n) → IsDone (seen P) (seen (record P { own = own; known = k })) (line.Name n) label

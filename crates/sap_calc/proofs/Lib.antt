@@ -1,6 +1,4 @@
 mod Numbered
-mod Leaf
-mod Placed
 mod Sounds
 mod First
 mod Moves
@@ -19,24 +17,18 @@ mod Makes
 mod Formed
 mod Channels
 pub mod Chosen
+mod Counted
+mod Extended
+mod Sided
+mod FormedFacts
+mod Stays
+mod Ruled
+mod Uses
+mod Embeds
 pub mod Fitted
 mod Pairs
 mod Inputs
 pub mod MetValues
 pub mod Meets
-pub mod Given
-pub mod Runs
-pub mod Premises
-pub mod Agreeing
-pub mod Fits
-pub mod Opened
-pub mod Plain
-pub mod Ready
-pub mod Reached
-pub mod OneCause
-pub mod Decided
-pub mod SomeAnswer
-pub mod Outcomes
-pub mod Answers
 pub mod Named
-pub mod Written
+mod Replays

@@ -9,23 +9,22 @@ use Rattle.sap_process.specs.Proc.{Proc, nil, parallel, replicated}
 use Rattle.sap_runs.specs.declared.process_step.PStep.{PStep}
 use Rattle.sap_runs.specs.declared.process_step.PStep.TheVariants as line
 use Rattle.sap_share.specs.Env.{given}
-use Rattle.sap_calc.specs.Faults.{thread_of, has_form, unfit, not_running, other_form}
-use Rattle.sap_calc.specs.Lines.{ends, splits, copies}
+use Rattle.sap_lines.specs.Faults.{thread_of, has_form, unfit, not_running, other_form}
+use Rattle.sap_lines.specs.Lines.{ends, splits, copies}
 use Rattle.sap_calc.specs.Running.{configuration, IsDone, IsDenied}
-use Rattle.sap_calc.specs.code.Heads.{Lacks}
-use Rattle.sap_calc.specs.code.Places.{form_proc, proc_at, place_proc, procs_of}
+use Rattle.sap_lines.specs.Heads.{Lacks}
+use Rattle.sap_lines.specs.Places.{form_proc, proc_at, place_proc, procs_of}
 use Rattle.sap_calc.specs.code.Parts.{Parts, AreTied, seen}
 use Rattle.sap_calc.specs.code.Sound.{IsSoundFrom}
 use Rattle.sap_calc.specs.code.Threads.{live, IsThread}
-use Rattle.sap_calc.specs.declared.fault.PFault.TheVariants as fault
-use Rattle.sap_calc.specs.declared.form.Form.{Form}
-use Rattle.sap_calc.specs.declared.form.Form.TheVariants.{Nil, Par, Rep}
+use Rattle.sap_lines.specs.declared.fault.PFault.TheVariants as fault
+use Rattle.sap_lines.specs.declared.form.Form.{Form}
+use Rattle.sap_lines.specs.declared.form.Form.TheVariants.{Nil, Par, Rep}
 use Rattle.sap_process.specs.Sites.{Above, var_names}
-use Rattle.sap_calc.specs.declared.place.Place.{Place}
+use Rattle.sap_lines.specs.declared.place.Place.{Place}
 use Rattle.sap_calc.specs.declared.thread.Thread.{Thread}
 use Rattle.sap_calc.proofs.Moves.{runs_thread, none_runs, running_at, ends_is, sets_tied, sets_is, adds_tied, adds_is}
 use Rattle.sap_calc.proofs.Numbered.{live_got, got_below, set_append}
-use Rattle.sap_calc.proofs.Placed.{placed}
 use Rattle.sap_calc.proofs.Sounds.{sound_left, sound_right, sound_copy}
 
 pub no_thread : (P : Parts) (step : PStep) (t : ℕ) → thread_of step ≡ Some t → None ≡ live P.threads t → IsDenied (seen P) step (fault.NoThread t)
@@ -52,7 +51,7 @@ runs_at P t th x tied is at = runs_thread P t th is ∙ ap (λ p. Some (Some p))
 -- and what it knows of it
 pub sound_at : (P : Parts) (t : ℕ) (th : Thread) (x : Place) → (tied : AreTied P) → (is : Some th ≡ live P.threads t) → slice_get P.places th.place ≡ Some x
     → IsSoundFrom P.table.sig (thread_tied P t th tied is).above (place_proc (procs_of P.places) x)
-sound_at P t th x tied is at = subst (IsSoundFrom P.table.sig (thread_tied P t th tied is).above) (placed P.places th.place x tied.places at) (thread_tied P t th tied is).sound
+sound_at P t th x tied is at = subst (IsSoundFrom P.table.sig (thread_tied P t th tied is).above) (tied.places.procs th.place x at) (thread_tied P t th tied is).sound
 
 -- a thread that is nothing ends
 pub nil_line : (P : Parts) (t : ℕ) (th : Thread) (x : Place) (label : List Fact) → AreTied P → Some th ≡ live P.threads t → slice_get P.places th.place ≡ Some x → x.form ≡ Nil → label ≡ []
@@ -71,7 +70,7 @@ nil_line P t th x label tied is at form silent =
 pub children_below : (P : Parts) (t : ℕ) (th : Thread) (x : Place) → AreTied P → Some th ≡ live P.threads t → slice_get P.places th.place ≡ Some x → (x.form ≡ Nil → ⊥) → (x.first < length P.places) × (x.second < length P.places)
 children_below P t th x tied is at some =
     let lt = place_below P t th tied is in
-    elim (tied.places th.place x at) [ inl leaf ↦ absurd (some leaf) | inr two ↦ (less x.first th.place (length P.places) two.0 lt, less x.second th.place (length P.places) two.1 lt) ] where
+    elim (tied.places.below th.place x at) [ inl leaf ↦ absurd (some leaf) | inr two ↦ (less x.first th.place (length P.places) two.0 lt, less x.second th.place (length P.places) two.1 lt) ] where
       less : (a b c : ℕ) → a < b → b < c → a < c
       less a b c h i = omega arith
 

@@ -20,16 +20,16 @@ use Rattle.sap_runs.specs.declared.process_step.PStep.TheVariants as line
 use Rattle.sap_share.specs.Env.{given, IsSmallForm}
 use Rattle.sap_share.specs.Shared.{Shared, tree_at, Keeps}
 use Rattle.sap_share.specs.declared.env.Bound.{Bound}
-use Rattle.sap_calc.specs.Faults.{used_name}
-use Rattle.sap_calc.specs.Lines.{makes_name}
+use Rattle.sap_lines.specs.Faults.{used_name}
+use Rattle.sap_lines.specs.Lines.{makes_name}
 use Rattle.sap_calc.specs.Running.{configuration, IsDone, IsDenied}
-use Rattle.sap_calc.specs.code.Places.{proc_at, procs_of}
+use Rattle.sap_lines.specs.Places.{proc_at, procs_of}
 use Rattle.sap_calc.specs.code.Parts.{Parts, AreTied, seen}
 use Rattle.sap_calc.specs.code.Sound.{IsSoundFrom}
 use Rattle.sap_calc.specs.code.Threads.{running, names_of, live, IsThread, IsSmallNumber}
-use Rattle.sap_calc.specs.declared.fault.PFault.TheVariants as fault
-use Rattle.sap_calc.specs.declared.form.Form.TheVariants.{Nil, New}
-use Rattle.sap_calc.specs.declared.place.Place.{Place}
+use Rattle.sap_lines.specs.declared.fault.PFault.TheVariants as fault
+use Rattle.sap_lines.specs.declared.form.Form.TheVariants.{Nil, New}
+use Rattle.sap_lines.specs.declared.place.Place.{Place}
 use Rattle.sap_calc.specs.declared.thread.Thread.{Thread}
 use Rattle.sap_calc.proofs.Binds.{bound_is}
 use Rattle.sap_calc.proofs.Lines.{thread_tied, children_below, runs_form, sound_form}
@@ -47,6 +47,7 @@ made_tied P ns tied = record {
   values = tied.values;
   held = tied.held;
   own = tied.own;
+  facts = tied.facts;
 }
 
 module _ (P : Parts) (t : ℕ) (th : Thread) (x : Place) (tied : AreTied P) (is : Some th ≡ live P.threads t) (at : slice_get P.places th.place ≡ Some x) (y : Var) (form : x.form ≡ New y) where

@@ -23,23 +23,24 @@ use Rattle.sap_process.specs.ProcessSteps.{with_choice, Fits}
 use Rattle.sap_runs.specs.declared.process_step.PStep.TheVariants as line
 use Rattle.sap_share.specs.Env.{given}
 use Rattle.sap_share.specs.Shared.{tree_at}
-use Rattle.sap_calc.specs.Faults.{IsUnfit, EvaluateSmall, FitsNothing, is_send, is_receive, not_running, other_form, no_memory, unfit_sender, unfit_receiver, large_meeting, unfitting_message, channels_differ}
-use Rattle.sap_calc.specs.Lines.{meets}
+use Rattle.sap_lines.specs.Faults.{IsUnfit, EvaluateSmall, FitsNothing, is_send, is_receive, not_running, other_form, no_memory, unfit_sender, unfit_receiver, large_meeting, unfitting_message, channels_differ}
+use Rattle.sap_lines.specs.Sorts.{PatternsHaveOneSort}
+use Rattle.sap_lines.specs.Lines.{meets}
 use Rattle.sap_calc.specs.Running.{configuration, IsDone, IsDenied}
-use Rattle.sap_calc.specs.code.Heads.{Lacks}
-use Rattle.sap_calc.specs.code.Places.{proc_at, procs_of}
+use Rattle.sap_lines.specs.Heads.{Lacks}
+use Rattle.sap_lines.specs.Places.{proc_at, procs_of}
+use Rattle.sap_calc.specs.code.Held.{IsFine}
 use Rattle.sap_calc.specs.code.Parts.{Parts, AreTied, seen}
 use Rattle.sap_calc.specs.code.Taken.{IsMet, IsUnmet, too_large, misfit, apart}
 use Rattle.sap_calc.specs.code.Threads.{running, live, IsSmallNumber}
 use Rattle.sap_calc.specs.code.Values.{CanEvaluate}
-use Rattle.sap_calc.specs.declared.fault.PFault.{PFault}
-use Rattle.sap_calc.specs.declared.fault.PFault.TheVariants as fault
-use Rattle.sap_calc.specs.declared.form.Form.TheVariants.{Send, Recv}
-use Rattle.sap_calc.specs.declared.place.Place.{Place}
+use Rattle.sap_lines.specs.declared.fault.PFault.{PFault}
+use Rattle.sap_lines.specs.declared.fault.PFault.TheVariants as fault
+use Rattle.sap_lines.specs.declared.form.Form.TheVariants.{Send, Recv}
+use Rattle.sap_lines.specs.declared.place.Place.{Place}
 use Rattle.sap_calc.specs.declared.thread.Thread.{Thread}
 use Rattle.sap_calc.proofs.Channels.{behind, send_sound, send_runs, send_below}
 use Rattle.sap_calc.proofs.Evaluable.{first_of}
-use Rattle.sap_calc.proofs.Fitted.{IsFine}
 use Rattle.sap_calc.proofs.Goes.{can_one}
 use Rattle.sap_calc.proofs.Inputs.{no_fit, fits, σ, goes, taken_thread, recv_sound, recv_runs, recv_below, recv_one, recv_clean}
 use Rattle.sap_calc.proofs.Lines.{sound_form}
@@ -81,7 +82,7 @@ module _ (P : Parts) (tied : AreTied P) (s : ℕ) (sender : Thread) (from : Plac
           let here = sound_head P.table.sig _ _ sound in
           can_one P t th tied is grounds sound.path (act (action.receive (tree l) (tree p)) (proc_at (procs_of P.places) x.first)) here (tree l) here.bound (first_of (tree l) (tree p ∷ []))
 
-      module _ (once : NamedOnceStay) (give : BindingsGiveChoices) (twice : (p : Proc) (s t : Choice) → ((v : Var) → IsGround (s v) ⊎ (s v ≡ variable v)) → process_instance t (process_instance s p) ≡ process_instance (λ v. instance t (s v)) p)
+      module _ (once : NamedOnceStay) (give : BindingsGiveChoices) (sorts : PatternsHaveOneSort) (twice : (p : Proc) (s t : Choice) → ((v : Var) → IsGround (s v) ⊎ (s v ≡ variable v)) → process_instance t (process_instance s p) ≡ process_instance (λ v. instance t (s v)) p)
           (modulo : MatchingIsModulo) (stay : PatternsStay) (kept : EqualityIsKept) (overs : (k : ℕ) → k < length P.table.trees → IsOver P.table.sig (tree_at P.table.trees k)) where
         number_fine : (j : ℕ) → IsSmallNumber P.table j → IsFine P.table.sig (tree_at P.table.trees j)
         number_fine j h = record { ground = grounds j h.below; over = overs j h.below; normal = h.normal; within = h.within }
@@ -93,29 +94,29 @@ module _ (P : Parts) (tied : AreTied P) (s : ℕ) (sender : Thread) (from : Plac
 
         pub sync_denied : (f : PFault) → IsUnmet P.table sender.env th.env (tree m) (tree n) (tree l) (tree p) f → IsDenied (seen P) (line.Sync s t) f
         sync_denied f (too_large (inl h)) = rw h (no_memory (line.Sync s t))
-        sync_denied f (too_large (inr h)) = rw h.0 (large_meeting s t (send_runs P s sender from tied is_sender at_sender m n sends) (recv_runs once give twice modulo stay kept P t th x tied is at grounds overs l p form) (rw tied.sig at h.1))
+        sync_denied f (too_large (inr h)) = rw h.0 (large_meeting s t (send_runs P s sender from tied is_sender at_sender m n sends) (recv_runs once give sorts twice modulo stay kept P t th x tied is at grounds overs l p form) (rw tied.sig at h.1))
         sync_denied f (misfit j number message small (inl h)) = rw h (no_memory (line.Sync s t))
         sync_denied f (misfit j number message small (inr h)) =
-            let no = no_fit once give twice modulo stay kept P t th x tied is at grounds overs (action.receive (tree l) (tree p)) (tree p) (proc_at (procs_of P.places) x.first) (λ scope. refl) (recv_one once give twice modulo stay kept P t th x tied is at grounds overs l p form) (recv_clean once give twice modulo stay kept P t th x tied is at grounds overs l p form) (tree_at P.table.trees j) number.normal h.1 in
+            let no = no_fit once give sorts twice modulo stay kept P t th x tied is at grounds overs (action.receive (tree l) (tree p)) (tree p) (proc_at (procs_of P.places) x.first) (λ scope. refl) (recv_one once give sorts twice modulo stay kept P t th x tied is at grounds overs l p form) (recv_clean once give sorts twice modulo stay kept P t th x tied is at grounds overs l p form) (tree_at P.table.trees j) number.normal h.1 in
             let none_fits : FitsNothing P.known.sig (instance (given P.table.trees th.env) (tree p)) (instance (given P.table.trees sender.env) (tree n)) = subst (λ h. FitsNothing h (instance (given P.table.trees th.env) (tree p)) (instance (given P.table.trees sender.env) (tree n))) tied.sig (λ τ good. no τ (record { messages = good.messages; equal = kept.onwards (equations P.table.sig) (instance τ (instance (given P.table.trees th.env) (tree p))) (instance (given P.table.trees sender.env) (tree n)) (tree_at P.table.trees j) good.equal message.equal })) in
-            rw h.0 (unfitting_message s t (send_runs P s sender from tied is_sender at_sender m n sends) (recv_runs once give twice modulo stay kept P t th x tied is at grounds overs l p form) (rw tied.sig at small) none_fits)
+            rw h.0 (unfitting_message s t (send_runs P s sender from tied is_sender at_sender m n sends) (recv_runs once give sorts twice modulo stay kept P t th x tied is at grounds overs l p form) (rw tied.sig at small) none_fits)
         sync_denied f (apart j next r number message small fit other) =
-            let good = meets_term (σ once give twice modulo stay kept P t th x tied is at grounds overs (action.receive (tree l) (tree p)) (tree p) (proc_at (procs_of P.places) x.first) (λ scope. refl) (recv_one once give twice modulo stay kept P t th x tied is at grounds overs l p form) (tree_at P.table.trees j) (number_fine j number) next r fit) j message (fits once give twice modulo stay kept P t th x tied is at grounds overs (action.receive (tree l) (tree p)) (tree p) (proc_at (procs_of P.places) x.first) (λ scope. refl) (recv_one once give twice modulo stay kept P t th x tied is at grounds overs l p form) (tree_at P.table.trees j) (number_fine j number) next r fit) in
-            channels_differ s t _ (send_runs P s sender from tied is_sender at_sender m n sends) (recv_runs once give twice modulo stay kept P t th x tied is at grounds overs l p form) (rw tied.sig at small) good (λ e. other (rw tied.sig e))
+            let good = meets_term (σ once give sorts twice modulo stay kept P t th x tied is at grounds overs (action.receive (tree l) (tree p)) (tree p) (proc_at (procs_of P.places) x.first) (λ scope. refl) (recv_one once give sorts twice modulo stay kept P t th x tied is at grounds overs l p form) (tree_at P.table.trees j) (number_fine j number) next r fit) j message (fits once give sorts twice modulo stay kept P t th x tied is at grounds overs (action.receive (tree l) (tree p)) (tree p) (proc_at (procs_of P.places) x.first) (λ scope. refl) (recv_one once give sorts twice modulo stay kept P t th x tied is at grounds overs l p form) (tree_at P.table.trees j) (number_fine j number) next r fit) in
+            channels_differ s t _ (send_runs P s sender from tied is_sender at_sender m n sends) (recv_runs once give sorts twice modulo stay kept P t th x tied is at grounds overs l p form) (rw tied.sig at small) good (λ e. other (rw tied.sig e))
 
         module _ (r : Thread) (f : IsMet P.table sender.env th.env x.first (tree m) (tree n) (tree l) (tree p) r) where
           pub sync_tied : AreTied (record P { threads = slice_set (slice_set P.threads s (Some (record sender { place = from.first }))) t (Some r) })
           sync_tied =
               let first = sets_tied P s (record sender { place = from.first }) tied (behind P s sender from tied is_sender _ (send_below P s sender from tied is_sender at_sender m n sends).0 (sound_behind P.table.sig _ _ _ (send_sound P s sender from tied is_sender at_sender m n sends))) in
-              sets_tied (record P { threads = slice_set P.threads s (Some (record sender { place = from.first })) }) t r first (taken_thread once give twice modulo stay kept P t th x tied is at grounds overs (action.receive (tree l) (tree p)) (tree p) (proc_at (procs_of P.places) x.first) (λ scope. refl) (recv_one once give twice modulo stay kept P t th x tied is at grounds overs l p form) (tree_at P.table.trees f.number) (number_fine f.number f.small_number) x.first r f.fitted (recv_below once give twice modulo stay kept P t th x tied is at grounds overs l p form).0 (recv_sound once give twice modulo stay kept P t th x tied is at grounds overs l p form))
+              sets_tied (record P { threads = slice_set P.threads s (Some (record sender { place = from.first })) }) t r first (taken_thread once give sorts twice modulo stay kept P t th x tied is at grounds overs (action.receive (tree l) (tree p)) (tree p) (proc_at (procs_of P.places) x.first) (λ scope. refl) (recv_one once give sorts twice modulo stay kept P t th x tied is at grounds overs l p form) (tree_at P.table.trees f.number) (number_fine f.number f.small_number) x.first r f.fitted (recv_below once give sorts twice modulo stay kept P t th x tied is at grounds overs l p form).0 (recv_sound once give sorts twice modulo stay kept P t th x tied is at grounds overs l p form))
 
           pub sync_line : (label : List Fact) → label ≡ [] → IsDone (seen P) (seen (record P { threads = slice_set (slice_set P.threads s (Some (record sender { place = from.first }))) t (Some r) })) (line.Sync s t) label
           sync_line label silent =
-              let τ = σ once give twice modulo stay kept P t th x tied is at grounds overs (action.receive (tree l) (tree p)) (tree p) (proc_at (procs_of P.places) x.first) (λ scope. refl) (recv_one once give twice modulo stay kept P t th x tied is at grounds overs l p form) (tree_at P.table.trees f.number) (number_fine f.number f.small_number) x.first r f.fitted in
-              let good = meets_term τ f.number f.message (fits once give twice modulo stay kept P t th x tied is at grounds overs (action.receive (tree l) (tree p)) (tree p) (proc_at (procs_of P.places) x.first) (λ scope. refl) (recv_one once give twice modulo stay kept P t th x tied is at grounds overs l p form) (tree_at P.table.trees f.number) (number_fine f.number f.small_number) x.first r f.fitted) in
+              let τ = σ once give sorts twice modulo stay kept P t th x tied is at grounds overs (action.receive (tree l) (tree p)) (tree p) (proc_at (procs_of P.places) x.first) (λ scope. refl) (recv_one once give sorts twice modulo stay kept P t th x tied is at grounds overs l p form) (tree_at P.table.trees f.number) (number_fine f.number f.small_number) x.first r f.fitted in
+              let good = meets_term τ f.number f.message (fits once give sorts twice modulo stay kept P t th x tied is at grounds overs (action.receive (tree l) (tree p)) (tree p) (proc_at (procs_of P.places) x.first) (λ scope. refl) (recv_one once give sorts twice modulo stay kept P t th x tied is at grounds overs l p form) (tree_at P.table.trees f.number) (number_fine f.number f.small_number) x.first r f.fitted) in
               let channel : IsTheoryEqual (equations P.known.sig) (instance (given P.table.trees sender.env) (tree m)) (instance (given P.table.trees th.env) (tree l)) = rw tied.sig at f.channel in
               let small : EvaluateSmall P.known.sig ((instance (given P.table.trees sender.env) (tree m)) ∷ (instance (given P.table.trees sender.env) (tree n)) ∷ (instance (given P.table.trees th.env) (tree l)) ∷ []) = rw tied.sig at f.small in
               let after : configuration (seen (record P { threads = slice_set (slice_set P.threads s (Some (record sender { place = from.first }))) t (Some r) })) ≡ becomes (becomes (configuration (seen P)) s (Some (process_instance (given P.table.trees sender.env) (proc_at (procs_of P.places) from.first)))) t (Some (with_choice τ (tree_vars (instance (given P.table.trees th.env) (tree p))) (process_instance (given P.table.trees th.env) (proc_at (procs_of P.places) x.first)))) =
               sets_is (record P { threads = slice_set P.threads s (Some (record sender { place = from.first })) }) t r ∙ ap (λ c. becomes c t (Some (running P.table.trees (procs_of P.places) r))) (sets_is P s (record sender { place = from.first }))
-              ∙ ap (λ q. becomes (becomes (configuration (seen P)) s (Some (process_instance (given P.table.trees sender.env) (proc_at (procs_of P.places) from.first)))) t (Some q)) (goes once give twice modulo stay kept P t th x tied is at grounds overs (action.receive (tree l) (tree p)) (tree p) (proc_at (procs_of P.places) x.first) (λ scope. refl) (recv_one once give twice modulo stay kept P t th x tied is at grounds overs l p form) (tree_at P.table.trees f.number) (number_fine f.number f.small_number) x.first r f.fitted) in
-              rw silent (record { inner = []; line = rw after (meets s t τ (send_runs P s sender from tied is_sender at_sender m n sends) (recv_runs once give twice modulo stay kept P t th x tied is at grounds overs l p form) channel good small); sig = refl })
+              ∙ ap (λ q. becomes (becomes (configuration (seen P)) s (Some (process_instance (given P.table.trees sender.env) (proc_at (procs_of P.places) from.first)))) t (Some q)) (goes once give sorts twice modulo stay kept P t th x tied is at grounds overs (action.receive (tree l) (tree p)) (tree p) (proc_at (procs_of P.places) x.first) (λ scope. refl) (recv_one once give sorts twice modulo stay kept P t th x tied is at grounds overs l p form) (tree_at P.table.trees f.number) (number_fine f.number f.small_number) x.first r f.fitted) in
+              rw silent (record { inner = []; line = rw after (meets s t τ (send_runs P s sender from tied is_sender at_sender m n sends) (recv_runs once give sorts twice modulo stay kept P t th x tied is at grounds overs l p form) channel good small); sig = refl })

@@ -11,12 +11,12 @@ use Rattle.sap_terms.specs.declared.limits.TheConstants.{MOST_TERM_NODES}
 use Rattle.sap_share.specs.Env.{given, AreSmallForms}
 use Rattle.sap_share.specs.Shared.{Shared, tree_at, Keeps, HaveOneNumber}
 use Rattle.sap_share.specs.declared.env.Bound.{Bound}
-use Rattle.sap_calc.specs.Faults.{EvaluateSmall}
+use Rattle.sap_lines.specs.Faults.{EvaluateSmall}
 use Rattle.sap_calc.specs.code.Taken.{IsFitted, IsUnfitted, IsMet, IsUnmet, too_large, misfit, apart}
 use Rattle.sap_calc.specs.code.Threads.{IsSmallNumber}
 use Rattle.sap_calc.specs.code.Values.{IsValue, AreValues, IsValueFault}
-use Rattle.sap_calc.specs.declared.fault.PFault.{PFault}
-use Rattle.sap_calc.specs.declared.fault.PFault.TheVariants as fault
+use Rattle.sap_lines.specs.declared.fault.PFault.{PFault}
+use Rattle.sap_lines.specs.declared.fault.PFault.TheVariants as fault
 use Rattle.sap_calc.specs.declared.thread.Thread.{Thread}
 use Rattle.sap_calc.proofs.Formed.{small_more}
 use Rattle.sap_calc.proofs.Moves.{given_stays, env_stays, small_stays, tree_stays}

@@ -14,13 +14,12 @@ use Rattle.sap_share.specs.Env.{given, AreSmallForms, IsSmallForm}
 use Rattle.sap_share.specs.Shared.{Shared, tree_at, Keeps}
 use Rattle.sap_share.specs.declared.env.Bound.{Bound}
 use Rattle.sap_calc.specs.Running.{configuration}
-use Rattle.sap_calc.specs.code.Places.{proc_at, place_proc, procs_of}
+use Rattle.sap_lines.specs.Places.{proc_at, place_proc, procs_of}
 use Rattle.sap_calc.specs.code.Parts.{Parts, AreTied, seen, entry_at, mark_at, IsSmallValue}
 use Rattle.sap_calc.specs.code.Threads.{running, all_running, live, IsThread, IsSmallNumber}
-use Rattle.sap_calc.specs.declared.place.Place.{Place}
+use Rattle.sap_lines.specs.declared.place.Place.{Place}
 use Rattle.sap_calc.specs.declared.thread.Thread.{Thread}
 use Rattle.sap_calc.proofs.Numbered.{live_got, got_set, got_last, map_write, map_last, got_map, some_same}
-use Rattle.sap_calc.proofs.Placed.{placed}
 
 tree_front : (ts us : List Tree) (k : ℕ) → k < length ts → tree_at (ts ++ us) k ≡ tree_at ts k
 tree_front [] us k lt = absurd (omega arith)
@@ -104,6 +103,7 @@ keeps_tied P u h tied = record {
   values = λ k d lt v is. small_stays P.table u h v (tied.values k d lt v is);
   held = λ k d lt. small_stays P.table u h _ (tied.held k d lt);
   own = tied.own;
+  facts = rw h.sig tied.facts;
 }
 
 pub keeps_seen : (P : Parts) (u : Shared) → Keeps P.table u → AreTied P → seen (record P { table = u }) ≡ seen P
@@ -123,6 +123,7 @@ sets_tied P t th tied new = record {
   values = tied.values;
   held = tied.held;
   own = tied.own;
+  facts = tied.facts;
 }
 
 pub sets_is : (P : Parts) (t : ℕ) (th : Thread)
@@ -138,6 +139,7 @@ ends_tied P t tied = record {
   values = tied.values;
   held = tied.held;
   own = tied.own;
+  facts = tied.facts;
 } where
   none_some : {X : Type 0} {x : X} → Some x ≡ None → ⊥
   none_some h = cc
@@ -154,6 +156,7 @@ adds_tied P th tied new = record {
   values = tied.values;
   held = tied.held;
   own = tied.own;
+  facts = tied.facts;
 }
 
 pub adds_is : (P : Parts) (th : Thread)
@@ -177,4 +180,4 @@ none_runs P t is p runs = by P.threads t is runs where
 -- it is the instance of the place's process
 pub running_at : (P : Parts) (th : Thread) (x : Place) → AreTied P → slice_get P.places th.place ≡ Some x
     → running P.table.trees (procs_of P.places) th ≡ process_instance (given P.table.trees th.env) (place_proc (procs_of P.places) x)
-running_at P th x tied at = ap (process_instance (given P.table.trees th.env)) (placed P.places th.place x tied.places at)
+running_at P th x tied at = ap (process_instance (given P.table.trees th.env)) (tied.places.procs th.place x at)

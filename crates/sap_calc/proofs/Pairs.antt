@@ -11,11 +11,11 @@ use Rattle.sap_terms.specs.declared.limits.TheConstants.{MOST_TERM_NODES}
 use Rattle.sap_share.specs.Env.{given, AreSmallForms}
 use Rattle.sap_share.specs.Shared.{Shared, tree_at, trees_at, Keeps, HaveOneNumber}
 use Rattle.sap_share.specs.declared.env.Bound.{Bound}
-use Rattle.sap_calc.specs.Faults.{EvaluateSmall}
+use Rattle.sap_lines.specs.Faults.{EvaluateSmall}
 use Rattle.sap_calc.specs.code.Taken.{IsFitted, IsUnfitted, IsPairOf, IsReceived, IsUnreceived, unvalued, no_pair, unfitted, other_channel}
 use Rattle.sap_calc.specs.code.Values.{IsValue, IsValueFault}
-use Rattle.sap_calc.specs.declared.fault.PFault.{PFault}
-use Rattle.sap_calc.specs.declared.fault.PFault.TheVariants as fault
+use Rattle.sap_lines.specs.declared.fault.PFault.{PFault}
+use Rattle.sap_lines.specs.declared.fault.PFault.TheVariants as fault
 use Rattle.sap_calc.specs.declared.thread.Thread.{Thread}
 use Rattle.sap_calc.proofs.Moves.{given_stays}
 

@@ -22,17 +22,17 @@ use Rattle.sap_process.specs.Sites.{above_of, var_names}
 use Rattle.sap_runs.specs.declared.process_step.PStep.TheVariants as line
 use Rattle.sap_share.specs.Env.{given}
 use Rattle.sap_share.specs.Shared.{Shared, tree_at, Keeps}
-use Rattle.sap_calc.specs.Faults.{EvaluateSmall}
-use Rattle.sap_calc.specs.Lines.{outputs}
+use Rattle.sap_lines.specs.Faults.{EvaluateSmall}
+use Rattle.sap_lines.specs.Lines.{outputs}
 use Rattle.sap_calc.specs.Running.{configuration, IsDone, IsDenied}
-use Rattle.sap_calc.specs.code.Places.{proc_at, procs_of}
+use Rattle.sap_lines.specs.Places.{proc_at, procs_of}
 use Rattle.sap_calc.specs.code.Parts.{Parts, AreTied, seen}
 use Rattle.sap_calc.specs.code.Sound.{IsSoundFrom}
 use Rattle.sap_calc.specs.code.Threads.{live, IsThread}
 use Rattle.sap_calc.specs.code.Values.{CanEvaluate, IsValue, IsValueFault}
-use Rattle.sap_calc.specs.declared.fault.PFault.{PFault}
-use Rattle.sap_calc.specs.declared.form.Form.TheVariants.{Nil, Out}
-use Rattle.sap_calc.specs.declared.place.Place.{Place}
+use Rattle.sap_lines.specs.declared.fault.PFault.{PFault}
+use Rattle.sap_lines.specs.declared.form.Form.TheVariants.{Nil, Out}
+use Rattle.sap_lines.specs.declared.place.Place.{Place}
 use Rattle.sap_calc.specs.declared.thread.Thread.{Thread}
 use Rattle.sap_calc.proofs.Goes.{gone, gone_tied, gone_is, can_one, denied_value}
 use Rattle.sap_calc.proofs.Lines.{thread_tied, children_below, moved, runs_form, sound_form}
@@ -67,6 +67,7 @@ sent_tied P k t gains tied = record {
   values = tied.values;
   held = tied.held;
   own = tied.own ∙ sym (names_output P.known.entries t) ∙ ap names_given (sym gains.entries);
+  facts = tied.facts;
 }
 
 module _ (P : Parts) (t : ℕ) (th : Thread) (x : Place) (tied : AreTied P) (is : Some th ≡ live P.threads t) (at : slice_get P.places th.place ≡ Some x) (m : Term) (form : x.form ≡ Out m) where

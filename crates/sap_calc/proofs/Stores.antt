@@ -95,6 +95,7 @@ module _ (P : Parts) (tied : AreTied P) (once : HaveOneNumber P.table.trees (len
     values = put_all (λ (e : ℕ × Option ℕ). IsSmallValue P.table e.1) P.store k v (λ j e. value) tied.values;
     held = tied.held;
     own = tied.own;
+    facts = tied.facts;
   }
 
   pub stored_is : (configuration (seen P)).store (tree_at P.table.trees k) ≡ option_map (tree_at P.table.trees) (unwrap_or (lookup (nat_eq k) P.store) None)
@@ -114,6 +115,7 @@ module _ (P : Parts) (tied : AreTied P) (once : HaveOneNumber P.table.trees (len
     values = tied.values;
     held = put_all (λ (e : ℕ × Bool). IsSmallNumber P.table e.0) P.held k b (λ j e. subst (IsSmallNumber P.table) e small) tied.held;
     own = tied.own;
+    facts = tied.facts;
   }
 
   pub held_is : (configuration (seen P)).held (tree_at P.table.trees k) ≡ unwrap_or (lookup (nat_eq k) P.held) false

@@ -12,9 +12,9 @@ use Rattle.sap_rewrite.specs.Large.{HasLargeSubterm}
 use Rattle.sap_share.specs.Env.{given, AreSmallForms}
 use Rattle.sap_share.specs.Shared.{Shared, tree_at, Keeps}
 use Rattle.sap_share.specs.declared.env.Bound.{Bound}
-use Rattle.sap_calc.specs.Faults.{EvaluateLarge, EvaluateSmall}
+use Rattle.sap_lines.specs.Faults.{EvaluateLarge, EvaluateSmall}
 use Rattle.sap_calc.specs.code.Values.{CanEvaluate, IsValue, AreValues, IsValueFault}
-use Rattle.sap_calc.specs.declared.fault.PFault.{PFault}
+use Rattle.sap_lines.specs.declared.fault.PFault.{PFault}
 use Rattle.sap_calc.proofs.Moves.{small_stays, tree_stays, given_stays}
 
 module _ {P Q : Tree → Type 0} (f : (t : Tree) → P t → Q t) where

@@ -1,6 +1,3 @@
-pub mod Lines
-pub mod Runs
-pub mod Faults
-pub mod Answers
 pub mod Running
+pub mod Replays
 pub mod code

@@ -12,10 +12,10 @@ use Rattle.sap_runs.specs.Inner.{InnerAction, found}
 use Rattle.sap_runs.specs.Limits.{IsSmall}
 use Rattle.sap_runs.specs.declared.process_step.PStep.{PStep}
 use Rattle.sap_runs.specs.declared.process_step.PStep.TheVariants as line
-use Rattle.sap_calc.specs.Faults.{IsRefused}
-use Rattle.sap_calc.specs.Lines.{IsProcessLine}
-use Rattle.sap_calc.specs.declared.fault.PFault.{PFault}
-use Rattle.sap_calc.specs.declared.fault.PFault.TheVariants.{Mem}
+use Rattle.sap_lines.specs.Faults.{IsRefused}
+use Rattle.sap_lines.specs.Lines.{IsProcessLine}
+use Rattle.sap_lines.specs.declared.fault.PFault.{PFault}
+use Rattle.sap_lines.specs.declared.fault.PFault.TheVariants.{Mem}
 
 -- the signature; the running processes by their numbers; what the store has at keys, nothing where a key was cleared; which
 -- terms are held, or were; the facts by their numbers; the names that processes made; what the adversary knows

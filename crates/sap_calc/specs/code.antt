@@ -1,11 +1,10 @@
--- What the code of this crate speaks of: places by their numbers, threads at them, and what the parts of a configuration have
--- to do with each other. No theorem speaks of it.
-pub mod Places
-pub mod ProcCode
+-- What the code of this crate speaks of: threads at places, and what the parts of a configuration have to do with each other.
+-- No theorem speaks of it.
+pub mod Held
 pub mod Sound
 pub mod Threads
 pub mod Parts
-pub mod Heads
 pub mod Values
+pub mod Used
 pub mod Taken
 pub mod Denied

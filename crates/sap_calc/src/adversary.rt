@@ -6,28 +6,14 @@ ghost use Rattle.sap_terms.specs.View.{tree};
 ghost use Rattle.sap_deduce.specs.Entries.{terms_of};
 ghost use Rattle.sap_runs.specs.declared.process_step.PStep.TheVariants.{Name as NameLine, Public as PublicLine, Apply as ApplyLine, Know as KnowLine};
 ghost use Rattle.sap_calc.specs.Running.{IsDone, IsDenied};
+ghost use Rattle.sap_calc.specs.code.Denied.{denied_fault};
 
-use crate::made::{find_room, is_among, put_last};
-use crate::{Config, PFault};
+use crate::Config;
 use sap_deduce::Deny;
+use sap_lines::PFault;
+use sap_sides::{find_room, is_among, put_last};
 use sap_terms::{Copied, Fact, FactList, Mem, Name, Numbers, Term, TermList};
 use std::alloc::Global;
-
-impl From<Deny> for PFault {
-    ghost use Rattle.sap_calc.specs.code.Denied.{denied_fault};
-
-    ghost from_gives = { λ d e. e ≡ denied_fault d };
-
-    fn from(d: Deny) -> PFault {
-        match d {
-            Deny::Mem => PFault::Mem,
-            Deny::NotPublic { f } => PFault::NotPublic { f },
-            Deny::Arity { f } => PFault::Arity { f },
-            Deny::NoEntry { k } => PFault::NoEntry { k },
-            Deny::TermLarge => PFault::TermLarge,
-        }
-    }
-}
 
 // The fact `K` of the term, alone.
 pub(crate) fn known_fact(alloc: Global, t: Term) -> Result<FactList, Mem>
@@ -45,7 +31,20 @@ pub(crate) fn known_fact(alloc: Global, t: Term) -> Result<FactList, Mem>
     Ok(facts)
 }
 
-// The same of a term that is lent.
+// Why a symbol on entries is refused, as the fault of a line.
+fn fault_of(d: Deny) -> PFault
+    ensures { result ≡ denied_fault d }
+{
+    match d {
+        Deny::Mem => PFault::Mem,
+        Deny::NotPublic { f } => PFault::NotPublic { f },
+        Deny::Arity { f } => PFault::Arity { f },
+        Deny::NoEntry { k } => PFault::NoEntry { k },
+        Deny::TermLarge => PFault::TermLarge,
+    }
+}
+
+// The fact `K` of a term that is lent, alone.
 fn shown(alloc: Global, t: &Term) -> Result<FactList, Mem>
     ensures { IfOk result (λ fs. fs ≡ k_fact (tree t.now) ∷ []) }
 {
@@ -61,7 +60,7 @@ impl Config {
     }
 
     /// Lets the adversary write down a public name. Refused, nothing changes.
-    pub fn public(&mut self, alloc: Global, a: &Name) -> Result<FactList, PFault>
+    pub(crate) fn public(&mut self, alloc: Global, a: &Name) -> Result<FactList, PFault>
         ensures ok { IfOk result (IsDone self.old self.new (PublicLine a.now)) }
         ensures refused { IfErr result (IsDenied self.old (PublicLine a.now)) }
         ensures err { OnErr result (self.new ≡ self.old) }
@@ -72,17 +71,24 @@ impl Config {
     }
 
     /// Lets the adversary apply a symbol to entries. Refused, nothing changes.
-    pub fn apply(&mut self, alloc: Global, f: &Name, entries: &Numbers) -> Result<FactList, PFault>
+    pub(crate) fn apply(
+        &mut self,
+        alloc: Global,
+        f: &Name,
+        entries: &Numbers,
+    ) -> Result<FactList, PFault>
         ensures ok { IfOk result (IsDone self.old self.new (ApplyLine f.now entries.now)) }
         ensures refused { IfErr result (IsDenied self.old (ApplyLine f.now entries.now)) }
         ensures err { OnErr result (self.new ≡ self.old) }
     {
-        self.knowledge.apply(f, entries)?;
-        Ok(FactList::new(alloc))
+        match self.knowledge.apply(f, entries) {
+            Err(d) => Err(fault_of(d)),
+            Ok(_) => Ok(FactList::new(alloc)),
+        }
     }
 
     /// Lets the adversary show an entry. Refused, nothing changes.
-    pub fn know(&mut self, alloc: Global, k: u64) -> Result<FactList, PFault>
+    pub(crate) fn know(&mut self, alloc: Global, k: u64) -> Result<FactList, PFault>
         ensures ok { IfOk result (IsDone self.old self.new (KnowLine k)) }
         ensures refused { IfErr result (IsDenied self.old (KnowLine k)) }
         ensures err { OnErr result (self.new ≡ self.old) }
@@ -94,7 +100,7 @@ impl Config {
     }
 
     /// Lets the adversary make a fresh name. Refused, nothing changes.
-    pub fn name(&mut self, alloc: Global, n: u64) -> Result<FactList, PFault>
+    pub(crate) fn name(&mut self, alloc: Global, n: u64) -> Result<FactList, PFault>
         ensures ok { IfOk result (IsDone self.old self.new (NameLine n)) }
         ensures refused { IfErr result (IsDenied self.old (NameLine n)) }
         ensures err { OnErr result (self.new ≡ self.old) }

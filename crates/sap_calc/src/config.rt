@@ -4,16 +4,14 @@ ghost use Rattle.sap_process.specs.Proc.{proc};
 ghost use Rattle.sap_process.specs.Ready.{IsReady};
 ghost use Rattle.sap_runs.specs.declared.process_step.PStep.TheVariants.{Nil as NilLine, Par as ParLine, Rep as RepLine, Out as OutLine, Then as ThenLine, Else as ElseLine};
 ghost use Rattle.sap_calc.specs.Running.{configuration, IsDone, IsDenied};
-ghost use Rattle.sap_calc.specs.code.Places.{ArePlaces, IsRooted};
 
-use crate::PFault;
 use crate::entry::send;
-use crate::place::{Places, add_process};
 use crate::thread::{Threads, add, copy_at, end, first_thread, go_on, thread_at};
 use crate::value::{value, values};
 use indexmap::{IndexMap, IndexSet};
 use sap_deduce::Knowledge;
 use sap_facts::Pile;
+use sap_lines::{PFault, Places, places_of};
 use sap_process::{Process, instances_of_processes};
 use sap_rewrite::normal_forms_decide;
 use sap_share::Table;
@@ -39,7 +37,7 @@ pub struct Config {
 impl Model for Config {
     ghost use Rattle.std.specs.Coded.{Coded, codes};
     ghost use Rattle.sap_terms.specs.Codes.{tree_code};
-    ghost use Rattle.sap_calc.specs.code.ProcCode.{Head, proc_code};
+    ghost use Rattle.sap_lines.specs.ProcCode.{Head, proc_code};
     ghost use Rattle.sap_calc.specs.Running.{Running};
 
     ghost Value = { Running };
@@ -73,15 +71,6 @@ impl Model for Config {
     }) };
 }
 
-// The places of a process, and the number of its root.
-fn places_of(alloc: Global, p: &Process) -> Result<(Places, u64), Mem>
-    ensures { IfOk result (λ r. IsRooted r.0 r.1 (proc p.now)) }
-{
-    let mut places = Places::new(alloc);
-    let root = add_process(alloc, &mut places, p)?;
-    Ok((places, root))
-}
-
 impl Config {
     /// A configuration in which the process runs as thread 0, and nothing else is there. The process is read once; it is not
     /// kept.
@@ -109,7 +98,7 @@ impl Config {
         })
     }
     /// Lets a thread end that is nothing. Refused, nothing changes.
-    pub fn nil(&mut self, alloc: Global, t: u64) -> Result<FactList, PFault>
+    pub(crate) fn nil(&mut self, alloc: Global, t: u64) -> Result<FactList, PFault>
         ensures ok { IfOk result (IsDone self.old self.new (NilLine t)) }
         ensures refused { IfErr result (IsDenied self.old (NilLine t)) }
         ensures err { OnErr result (self.new ≡ self.old) }
@@ -125,7 +114,7 @@ impl Config {
     }
 
     /// Lets a thread go on as the left part of its parallel, beside the right part. Refused, nothing changes.
-    pub fn par(&mut self, alloc: Global, t: u64) -> Result<FactList, PFault>
+    pub(crate) fn par(&mut self, alloc: Global, t: u64) -> Result<FactList, PFault>
         ensures ok { IfOk result (IsDone self.old self.new (ParLine t)) }
         ensures refused { IfErr result (IsDenied self.old (ParLine t)) }
         ensures err { OnErr result (self.new ≡ self.old) }
@@ -145,7 +134,7 @@ impl Config {
     }
 
     /// Lets a replication give one more thread. Refused, nothing changes.
-    pub fn rep(&mut self, alloc: Global, t: u64) -> Result<FactList, PFault>
+    pub(crate) fn rep(&mut self, alloc: Global, t: u64) -> Result<FactList, PFault>
         ensures ok { IfOk result (IsDone self.old self.new (RepLine t)) }
         ensures refused { IfErr result (IsDenied self.old (RepLine t)) }
         ensures err { OnErr result (self.new ≡ self.old) }
@@ -163,7 +152,7 @@ impl Config {
     }
 
     /// Lets a thread send a message to the adversary. Refused, nothing changes.
-    pub fn output(&mut self, alloc: Global, t: u64) -> Result<FactList, PFault>
+    pub(crate) fn output(&mut self, alloc: Global, t: u64) -> Result<FactList, PFault>
         ensures ok { IfOk result (IsDone self.old self.new (OutLine t)) }
         ensures refused { IfErr result (IsDenied self.old (OutLine t)) }
         ensures err { OnErr result (self.new ≡ self.old) }
@@ -190,7 +179,7 @@ impl Config {
     }
 
     /// Lets a thread go on where its terms are equal. Refused, nothing changes.
-    pub fn then(&mut self, alloc: Global, t: u64) -> Result<FactList, PFault>
+    pub(crate) fn then(&mut self, alloc: Global, t: u64) -> Result<FactList, PFault>
         ensures ok { IfOk result (IsDone self.old self.new (ThenLine t)) }
         ensures refused { IfErr result (IsDenied self.old (ThenLine t)) }
         ensures err { OnErr result (self.new ≡ self.old) }
@@ -219,7 +208,7 @@ impl Config {
     }
 
     /// Lets a thread go on where its terms differ. Refused, nothing changes.
-    pub fn otherwise(&mut self, alloc: Global, t: u64) -> Result<FactList, PFault>
+    pub(crate) fn otherwise(&mut self, alloc: Global, t: u64) -> Result<FactList, PFault>
         ensures ok { IfOk result (IsDone self.old self.new (ElseLine t)) }
         ensures refused { IfErr result (IsDenied self.old (ElseLine t)) }
         ensures err { OnErr result (self.new ≡ self.old) }

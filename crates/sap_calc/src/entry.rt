@@ -7,9 +7,9 @@ ghost use Rattle.sap_share.specs.Shared.{tree_at, Keeps};
 ghost use Rattle.sap_calc.specs.code.Threads.{IsSmallNumber};
 ghost use Rattle.sap_calc.specs.code.Values.{IsEntryNumber, IsEntryFault};
 
-use crate::PFault;
 use crate::adversary::known_fact;
 use sap_deduce::Knowledge;
+use sap_lines::PFault;
 use sap_share::Table;
 use sap_terms::{FactList, Mem};
 use std::alloc::Global;

@@ -2,13 +2,16 @@
 ghost use Rattle.std.specs.Prelude.{map, All, IfOk, IfErr, [], ◌∷◌};
 ghost use Rattle.sap_terms.specs.Choice.{instance};
 ghost use Rattle.sap_terms.specs.Equations.{equations};
+ghost use Rattle.sap_terms.specs.Modulo.{instance_facts};
 ghost use Rattle.sap_terms.specs.View.{tree};
+ghost use Rattle.sap_process.specs.Heads.{facts_terms};
+ghost use Rattle.sap_calc.specs.code.Used.{AreFactsFormed};
 ghost use Rattle.sap_share.specs.Env.{given, AreSmallForms};
 ghost use Rattle.sap_share.specs.Shared.{Keeps};
 ghost use Rattle.sap_calc.specs.code.Values.{CanEvaluate, IsFormed, AreFormed, IsFactFormed, IsShown, IsValueFault};
 
-use crate::PFault;
 use crate::value::value;
+use sap_lines::PFault;
 use sap_share::{Env, Table};
 use sap_terms::{Copied, Fact, FactList, MOST_TERM_NODES, Term, TermList};
 use std::alloc::Global;
@@ -23,10 +26,14 @@ fn form(alloc: Global, table: &mut Table, env: &Env, t: &Term) -> Result<Term, P
 {
     match value(alloc, table, env, t) {
         Err(fault) => Err(fault),
-        Ok(k) => match table.tree(alloc, k) {
-            Err(_) => Err(PFault::Mem),
-            Ok(n) => Ok(n),
-        },
+        Ok(k) => {
+            table.each_is_ground();
+            table.each_is_over();
+            match table.tree(alloc, k) {
+                Err(_) => Err(PFault::Mem),
+                Ok(n) => Ok(n),
+            }
+        }
     }
 }
 
@@ -99,4 +106,27 @@ pub(crate) fn shown_form(
             Ok(()) => Ok(facts),
         },
     }
+}
+
+// Those of facts.
+pub(crate) fn forms_of_facts(
+    alloc: Global,
+    table: &mut Table,
+    env: &Env,
+    fs: &FactList,
+) -> Result<FactList, PFault>
+    requires env { AreSmallForms (equations table.old.sig) MOST_TERM_NODES table.old.trees env.now }
+    requires can { All (CanEvaluate table.old env.now) (facts_terms fs.now) }
+    ensures ok { IfOk result (AreFactsFormed table.old env.now fs.now) }
+    ensures refused { IfErr result (IsValueFault table.old.sig (facts_terms (instance_facts (given table.old.trees env.now) fs.now))) }
+    ensures keeps { Keeps table.old table.new }
+{
+    let mut out = FactList::new(alloc);
+    for i in 0..fs.len() {
+        match form_of_fact(alloc, table, env, fs.at(i)) {
+            Err(fault) => return Err(fault),
+            Ok(h) => out.push(h)?,
+        }
+    }
+    Ok(out)
 }

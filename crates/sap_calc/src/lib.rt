@@ -2,26 +2,25 @@
 #![tactic(auto)]
 
 mod adversary;
+mod bindings;
+mod citing;
 mod config;
+mod embedding;
 mod entry;
-mod fault;
-mod form;
+mod fitting;
 mod forms;
 mod laws;
-mod made;
 mod making;
 mod meeting;
-mod place;
 mod sending;
+mod step;
 mod stored;
 mod taking;
 mod thread;
+mod using;
 mod value;
 mod writing;
 
 pub use config::Config;
-pub use fault::PFault;
-pub use laws::{
-    each_run_can_be_written, limit_excludes, lines_are_steps, lines_have_one_answer,
-    lines_have_some_answer, runs_match_exactly,
-};
+pub use laws::replays_are_legal;
+pub use sap_lines::PFault;

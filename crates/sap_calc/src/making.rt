@@ -3,17 +3,18 @@ ghost use Rattle.std.specs.Prelude.{◌≡◌, IfOk, IfErr, OnErr};
 ghost use Rattle.sap_runs.specs.declared.process_step.PStep.TheVariants.{New as NewLine};
 ghost use Rattle.sap_calc.specs.Running.{IsDone, IsDenied};
 
-use crate::made::{find_room, is_among, put_last};
+use crate::Config;
 use crate::thread::{set, thread_at, with_bound};
 use crate::value::name_value;
-use crate::{Config, PFault};
+use sap_lines::PFault;
 use sap_process::instances_of_processes;
+use sap_sides::{find_room, is_among, put_last};
 use sap_terms::FactList;
 use std::alloc::Global;
 
 impl Config {
     /// Lets a thread make a fresh name. Refused, nothing changes.
-    pub fn new(&mut self, alloc: Global, t: u64, n: u64) -> Result<FactList, PFault>
+    pub(crate) fn new(&mut self, alloc: Global, t: u64, n: u64) -> Result<FactList, PFault>
         ensures ok { IfOk result (IsDone self.old self.new (NewLine t n)) }
         ensures refused { IfErr result (IsDenied self.old (NewLine t n)) }
         ensures err { OnErr result (self.new ≡ self.old) }

@@ -9,10 +9,11 @@ ghost use Rattle.sap_calc.specs.Running.{IsDone, IsDenied};
 ghost use Rattle.sap_calc.specs.code.Taken.{IsMet, IsUnmet};
 ghost use Rattle.sap_calc.specs.code.Values.{CanEvaluate};
 
+use crate::Config;
 use crate::taking::fitted;
 use crate::thread::{Thread, go_on, set, thread_at};
 use crate::value::{value, values};
-use crate::{Config, PFault};
+use sap_lines::{PFault, sorts_are_one};
 use sap_process::instances_of_processes;
 use sap_rewrite::{
     bindings_give_choices, equality_is_kept, matching_is_modulo, normal_forms_decide,
@@ -66,7 +67,7 @@ fn met(
 
 impl Config {
     /// Lets a thread send to another on a channel. Refused, nothing changes.
-    pub fn sync(&mut self, alloc: Global, s: u64, t: u64) -> Result<FactList, PFault>
+    pub(crate) fn sync(&mut self, alloc: Global, s: u64, t: u64) -> Result<FactList, PFault>
         ensures ok { IfOk result (IsDone self.old self.new (SyncLine s t)) }
         ensures refused { IfErr result (IsDenied self.old (SyncLine s t)) }
         ensures err { OnErr result (self.new ≡ self.old) }
@@ -74,6 +75,7 @@ impl Config {
         instances_of_processes();
         variables_named_once_stay_so();
         bindings_give_choices();
+        sorts_are_one();
         matching_is_modulo();
         patterns_stay();
         equality_is_kept();

@@ -3,18 +3,19 @@ ghost use Rattle.std.specs.Prelude.{◌≡◌, IfOk, IfErr, OnErr};
 ghost use Rattle.sap_runs.specs.declared.process_step.PStep.TheVariants.{Send as SendLine, Event as EventLine};
 ghost use Rattle.sap_calc.specs.Running.{IsDone, IsDenied};
 
+use crate::Config;
 use crate::entry::{entry_number, send, shown_number};
 use crate::forms::shown_form;
 use crate::thread::{go_on, thread_at};
 use crate::value::values;
-use crate::{Config, PFault};
+use sap_lines::PFault;
 use sap_rewrite::normal_forms_are_unique;
 use sap_terms::FactList;
 use std::alloc::Global;
 
 impl Config {
     /// Lets a thread show its fact. Refused, nothing changes.
-    pub fn event(&mut self, alloc: Global, t: u64) -> Result<FactList, PFault>
+    pub(crate) fn event(&mut self, alloc: Global, t: u64) -> Result<FactList, PFault>
         ensures ok { IfOk result (IsDone self.old self.new (EventLine t)) }
         ensures refused { IfErr result (IsDenied self.old (EventLine t)) }
         ensures err { OnErr result (self.new ≡ self.old) }
@@ -38,7 +39,7 @@ impl Config {
     }
 
     /// Lets a thread send to the adversary on the channel that entry k is. Refused, nothing changes.
-    pub fn send(&mut self, alloc: Global, t: u64, k: u64) -> Result<FactList, PFault>
+    pub(crate) fn send(&mut self, alloc: Global, t: u64, k: u64) -> Result<FactList, PFault>
         ensures ok { IfOk result (IsDone self.old self.new (SendLine t k)) }
         ensures refused { IfErr result (IsDenied self.old (SendLine t k)) }
         ensures err { OnErr result (self.new ≡ self.old) }

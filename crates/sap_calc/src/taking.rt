@@ -10,10 +10,11 @@ ghost use Rattle.sap_calc.specs.Running.{IsDone, IsDenied};
 ghost use Rattle.sap_calc.specs.code.Taken.{IsFitted, IsUnfitted, IsPairOf, IsReceived, IsUnreceived};
 ghost use Rattle.sap_calc.specs.code.Values.{CanEvaluate};
 
+use crate::Config;
 use crate::entry::{entry_number, shown_number};
 use crate::thread::{Thread, set, thread_at};
 use crate::value::value;
-use crate::{Config, PFault};
+use sap_lines::{PFault, sorts_are_one};
 use sap_process::instances_of_processes;
 use sap_rewrite::{
     bindings_give_choices, equality_is_kept, matching_is_modulo, normal_forms_are_unique,
@@ -127,7 +128,7 @@ fn taken(
 impl Config {
     /// Lets a thread take entry k, which fits its pattern; on a channel, a pair of the channel and of what fits. Refused,
     /// nothing changes.
-    pub fn input(&mut self, alloc: Global, t: u64, k: u64) -> Result<FactList, PFault>
+    pub(crate) fn input(&mut self, alloc: Global, t: u64, k: u64) -> Result<FactList, PFault>
         ensures ok { IfOk result (IsDone self.old self.new (InLine t k)) }
         ensures refused { IfErr result (IsDenied self.old (InLine t k)) }
         ensures err { OnErr result (self.new ≡ self.old) }
@@ -135,6 +136,7 @@ impl Config {
         instances_of_processes();
         variables_named_once_stay_so();
         bindings_give_choices();
+        sorts_are_one();
         matching_is_modulo();
         patterns_stay();
         equality_is_kept();

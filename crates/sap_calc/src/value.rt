@@ -7,10 +7,10 @@ ghost use Rattle.sap_terms.specs.View.{tree};
 ghost use Rattle.sap_share.specs.Env.{given, AreSmallForms};
 ghost use Rattle.sap_share.specs.Shared.{Keeps, tree_at};
 ghost use Rattle.sap_calc.specs.code.Threads.{IsSmallNumber};
-ghost use Rattle.sap_calc.specs.Faults.{EvaluateLarge};
+ghost use Rattle.sap_lines.specs.Faults.{EvaluateLarge};
 ghost use Rattle.sap_calc.specs.code.Values.{CanEvaluate, IsValue, AreValues, IsValueFault};
 
-use crate::PFault;
+use sap_lines::PFault;
 use sap_rewrite::Cut;
 use sap_share::{Env, Table};
 use sap_terms::{MOST_TERM_NODES, Mem, Term, leaves_are_normal};

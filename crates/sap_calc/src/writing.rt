@@ -4,17 +4,18 @@ ghost use Rattle.sap_terms.specs.View.{tree};
 ghost use Rattle.sap_runs.specs.declared.process_step.PStep.TheVariants.{Insert as InsertLine, Delete as DeleteLine, Found as FoundLine, Missing as MissingLine, Lock as LockLine, Unlock as UnlockLine};
 ghost use Rattle.sap_calc.specs.Running.{IsDone, IsDenied, WouldFind, FindsNothing};
 
+use crate::Config;
 use crate::stored::{is_marked, put_mark, put_value, value_at};
 use crate::thread::{go_on, set, thread_at, with_bound};
 use crate::value::{value, value_unless_large, values};
-use crate::{Config, PFault};
+use sap_lines::PFault;
 use sap_process::instances_of_processes;
 use sap_terms::{FactList, Mem, Term};
 use std::alloc::Global;
 
 impl Config {
     /// Lets a thread store a value. Refused, nothing changes.
-    pub fn insert(&mut self, alloc: Global, t: u64) -> Result<FactList, PFault>
+    pub(crate) fn insert(&mut self, alloc: Global, t: u64) -> Result<FactList, PFault>
         ensures ok { IfOk result (IsDone self.old self.new (InsertLine t)) }
         ensures refused { IfErr result (IsDenied self.old (InsertLine t)) }
         ensures err { OnErr result (self.new ≡ self.old) }
@@ -44,7 +45,7 @@ impl Config {
     }
 
     /// Lets a thread clear a key. Refused, nothing changes.
-    pub fn delete(&mut self, alloc: Global, t: u64) -> Result<FactList, PFault>
+    pub(crate) fn delete(&mut self, alloc: Global, t: u64) -> Result<FactList, PFault>
         ensures ok { IfOk result (IsDone self.old self.new (DeleteLine t)) }
         ensures refused { IfErr result (IsDenied self.old (DeleteLine t)) }
         ensures err { OnErr result (self.new ≡ self.old) }
@@ -74,7 +75,7 @@ impl Config {
     }
 
     /// Lets a thread go on whose key isn't set. Refused, nothing changes.
-    pub fn missing(&mut self, alloc: Global, t: u64) -> Result<FactList, PFault>
+    pub(crate) fn missing(&mut self, alloc: Global, t: u64) -> Result<FactList, PFault>
         ensures ok { IfOk result (IsDone self.old self.new (MissingLine t)) }
         ensures refused { IfErr result (IsDenied self.old (MissingLine t)) }
         ensures err { OnErr result (self.new ≡ self.old) }
@@ -104,7 +105,7 @@ impl Config {
     }
 
     /// Lets a thread take a lock. Refused, nothing changes.
-    pub fn lock(&mut self, alloc: Global, t: u64) -> Result<FactList, PFault>
+    pub(crate) fn lock(&mut self, alloc: Global, t: u64) -> Result<FactList, PFault>
         ensures ok { IfOk result (IsDone self.old self.new (LockLine t)) }
         ensures refused { IfErr result (IsDenied self.old (LockLine t)) }
         ensures err { OnErr result (self.new ≡ self.old) }
@@ -137,7 +138,7 @@ impl Config {
     }
 
     /// Lets a thread give a lock back. Refused, nothing changes.
-    pub fn unlock(&mut self, alloc: Global, t: u64) -> Result<FactList, PFault>
+    pub(crate) fn unlock(&mut self, alloc: Global, t: u64) -> Result<FactList, PFault>
         ensures ok { IfOk result (IsDone self.old self.new (UnlockLine t)) }
         ensures refused { IfErr result (IsDenied self.old (UnlockLine t)) }
         ensures err { OnErr result (self.new ≡ self.old) }
@@ -167,7 +168,7 @@ impl Config {
     }
 
     /// Lets a thread go on with the value that its key has. Refused, nothing changes.
-    pub fn found(&mut self, alloc: Global, t: u64) -> Result<FactList, PFault>
+    pub(crate) fn found(&mut self, alloc: Global, t: u64) -> Result<FactList, PFault>
         ensures ok { IfOk result (IsDone self.old self.new (FoundLine t)) }
         ensures refused { IfErr result (IsDenied self.old (FoundLine t)) }
         ensures err { OnErr result (self.new ≡ self.old) }

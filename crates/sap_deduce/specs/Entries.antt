@@ -1,8 +1,9 @@
 -- Entries of a knowledge, each with its origin.
-use Rattle.std.specs.Prelude.{◌≡◌, ◌<◌, ◌≤◌, ℕ, Bool, true, false, List, [], ◌∷◌, ◌++◌, length, Option, Some, None, map, filter, find, slice_get, All, nat_le, ⊤}
+use Rattle.std.specs.Prelude.{◌≡◌, ◌<◌, ◌≤◌, ℕ, Bool, true, false, List, [], ◌∷◌, ◌++◌, length, Option, Some, None, map, filter, slice_get, All, ⊤}
 use Rattle.std.specs.List.{filter_map}
 use Rattle.sap_terms.specs.Tree.{Tree, public, fresh, apply, trees_of, node_count}
 use Rattle.sap_terms.specs.Signature.{Sig, IsPublic, arity_of}
+use Rattle.sap_terms.specs.Deduce.{IsFirstUnknown}
 use Rattle.sap_terms.specs.Equations.{equations}
 use Rattle.sap_terms.specs.Normal.{IsNormalForm}
 use Rattle.sap_terms.specs.Message.{IsMessage}
@@ -89,10 +90,6 @@ pub record AreEntries (k : Entries) : Type 0 where
 pub record AreNumbered (k : Entries) : Type 0 where
   pub below : AreBelow (length k.trees) k.numbers
   pub terms : trees_at k.trees k.numbers ≡ terms_of k.entries
-
--- the first of these numbers that isn't below the count
-abbrev pub IsFirstUnknown : ℕ → List ℕ → ℕ → Type 0
-IsFirstUnknown count ks k = find (nat_le count) ks ≡ Some k
 
 -- why a symbol on these entries is refused; each cause but want of memory is the first in this order
 abbrev pub IsCause : Entries → List ℕ → List ℕ → Deny → Type 0

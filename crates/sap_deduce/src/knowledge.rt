@@ -284,7 +284,7 @@ impl Knowledge {
         ensures below { IfOk result (AreBelow (length self.now.trees)) }
         ensures terms { IfOk result (λ ks. AreTermsAt self.now.entries numbers.now (trees_at self.now.trees ks)) }
     {
-        let mut ks = Numbers::new(alloc);
+        let mut ks = Numbers::with_room(alloc, numbers.len())?;
         for k in numbers.as_slice() {
             ks.push(self.number_at(*k))?;
         }

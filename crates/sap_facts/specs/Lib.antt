@@ -1,2 +1,4 @@
 pub mod Facts
 pub mod Missing
+pub mod Cited
+pub mod code

@@ -1,14 +1,3 @@
-pub mod Cuts
-pub mod Joins
 pub mod Lists
-pub mod Terms
-pub mod Traces
-pub mod Parts
-pub mod ProcessToRules
-pub mod RulesToProcess
-pub mod Premises
-pub mod Restricted
-pub mod ByHand
 pub mod Lemmas
-pub mod Related
 pub mod Printable

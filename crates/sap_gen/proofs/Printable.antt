@@ -4,7 +4,6 @@ pub mod Wider
 pub mod Scopes
 pub mod Rules
 pub mod Places
-pub mod Settled
 pub mod Statements
 pub mod Theories
 pub mod OwnNames

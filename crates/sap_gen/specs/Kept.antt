@@ -12,7 +12,7 @@ use Rattle.sap_restrict.specs.Restrictions.{needed_restrictions}
 use Rattle.sap_rule.specs.RuleSteps.{IsFullTrace}
 use Rattle.sap_rule.specs.declared.theory.Theory.{Theory}
 use Rattle.sap_read.specs.Files.{FileContent}
-use Rattle.sap_gen.specs.Faithful.{AreRestrictionsTrue, IsShownBy, IsVisibleTrace}
+use Rattle.sap_translate.specs.Faithful.{AreRestrictionsTrue, IsShownBy, IsVisibleTrace}
 use Rattle.sap_gen.specs.Theories.{inlined_lemma, inlined_theory_of, theory_of}
 
 -- the lemma holds of the file: of the traces of its process, among those on which its restrictions are true

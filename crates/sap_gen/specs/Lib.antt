@@ -1,14 +1,3 @@
-pub mod ChannelFacts
-pub mod Templates
 pub mod Theories
-pub mod Members
-pub mod Places
-pub mod Scoped
-pub mod OpenLocks
-pub mod Sound
-pub mod Faithful
 pub mod Kept
-pub mod relation
-pub mod code
-pub mod Examples
 pub mod LemmaExamples

@@ -6,12 +6,9 @@ ghost use Rattle.sap_rule.specs.declared.theory.Theory.{Theory};
 ghost use Rattle.sap_terms.specs.Signature.{HoldsBuiltins, Sig};
 
 use sap_formula::hiding_keeps_truth;
-use sap_process::instances_of_processes;
-use sap_restrict::{inlining_keeps_lemmas, restrictions_say_sentences};
-use sap_rewrite::{
-    each_term_has_a_normal_form, equality_is_kept, forms_are_messages, normal_forms_are_unique,
-};
+use sap_restrict::inlining_keeps_lemmas;
 use sap_terms::leaves_are_normal;
+use sap_translate::sound_processes_are_shown;
 
 /// A law: `new ~s; event Secret(~s); out(~s)` doesn't keep its secret, and reaches its event: the file, its theory, and the
 /// theory whose lemmas carry all restrictions. The file with the process `0` has no trace that shows `Init()`, and the rules of its
@@ -31,12 +28,7 @@ pub fn lemmas_by_hand()
     ensures rules_needed { (g : Sig) (t : Theory) → t.rules ≡ [] → ¬ KeepsFile (secret_file g) t }
 {
     leaves_are_normal();
-    each_term_has_a_normal_form();
-    normal_forms_are_unique();
-    equality_is_kept();
-    forms_are_messages();
-    instances_of_processes();
-    restrictions_say_sentences();
+    sound_processes_are_shown();
     hiding_keeps_truth();
     inlining_keeps_lemmas();
 }

@@ -25,7 +25,8 @@ pub use laws::{
 };
 pub use limits::Limits;
 pub use look::{
-    beyond, is_lower, is_mark, is_upper, name_at, names, number_at, quoted_at, starts, starts_zero,
+    beyond, is_grammar_word, is_lower, is_mark, is_upper, name_at, names, number_at, quoted_at,
+    starts, starts_zero,
 };
 pub use pieces::push_separator;
 pub use term::{read_short_term, read_term};

@@ -51,7 +51,8 @@ fn is_process_word(text: &[u8]) -> bool
         || is(text, "not")
 }
 
-fn is_grammar_word(text: &[u8]) -> bool
+/// Whether it is a word of the grammar, which is no name.
+pub fn is_grammar_word(text: &[u8]) -> bool
     ensures { result ≡ is_grammar_word text.now }
 {
     is_item_word(text) || is_process_word(text)

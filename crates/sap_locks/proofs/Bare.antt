@@ -13,7 +13,7 @@ use Rattle.sap_locks.specs.Annotation.{LockFlaw, without, over, HasLockFlaw, IsF
 abbrev pub bare : LockSite → LockSite
 bare s = place s.path s.above (unlabelled s.body)
 
-bare_set : (a : Action) → locks_set (unlabelled_action a) ≡ locks_set a
+pub bare_set : (a : Action) → locks_set (unlabelled_action a) ≡ locks_set a
 bare_set (lock t l) = refl
 bare_set (unlock t l) = refl
 bare_set a = refl
@@ -72,12 +72,12 @@ of_map f (x ∷ xs) y m = elim (member-cases (f x) (map f xs) y m) [
   | inr k ↦ (let r = of_map f xs y k in (r.0, member-tail x xs r.0 r.1, r.2))
 ]
 
-get_map : {X Y : Type 0} (f : X → Y) (xs : List X) (k : ℕ) (x : X) → slice_get xs k ≡ Some x → slice_get (map f xs) k ≡ Some (f x)
+pub get_map : {X Y : Type 0} (f : X → Y) (xs : List X) (k : ℕ) (x : X) → slice_get xs k ≡ Some x → slice_get (map f xs) k ≡ Some (f x)
 get_map f [] k x e = cc
 get_map f (y ∷ xs) zero x e = let same : y ≡ x = cc in ap (λ z. Some (f z)) same
 get_map f (y ∷ xs) (suc k) x e = get_map f xs k x e
 
-got_map : {X Y : Type 0} (f : X → Y) (xs : List X) (k : ℕ) (y : Y) → slice_get (map f xs) k ≡ Some y → (x : X) × (slice_get xs k ≡ Some x) × (f x ≡ y)
+pub got_map : {X Y : Type 0} (f : X → Y) (xs : List X) (k : ℕ) (y : Y) → slice_get (map f xs) k ≡ Some y → (x : X) × (slice_get xs k ≡ Some x) × (f x ≡ y)
 got_map f [] k y e = cc
 got_map f (x ∷ xs) zero y e = let same : f x ≡ y = cc in (x, refl, same)
 got_map f (x ∷ xs) (suc k) y e = got_map f xs k y e

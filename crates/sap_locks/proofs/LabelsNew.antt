@@ -22,7 +22,7 @@ use Rattle.sap_process.specs.Proc as whole
 use Rattle.sap_process.specs.Proc.{Proc, act, node_count}
 use Rattle.sap_process.specs.Sites.{Site, above_of, bound_by, message_var, sites_from, sites, var_names}
 use Rattle.sap_locks.specs.Annotation.{IsLabelled, IsAnnotated, IsAnnotation, lock_at, unlock_at, unlabelled, unlabelled_action}
-use Rattle.sap_locks.specs.Scopes.{Spot, lock_var, scope_behind, locks_behind, spot, spots_from, spots, with_new}
+use Rattle.sap_process.specs.Scopes.{Spot, lock_var, scope_behind, locks_behind, spot, spots_from, spots, with_new}
 use Rattle.sap_locks.specs.Ways.{IsLockOf, LockMark, LockSite, lock_count, lock_sites, way_behind}
 use Rattle.sap_locks.proofs.Counts.{locks_below}
 use Rattle.sap_locks.proofs.Members.{member-head, member-none, member-cases, member-tail}

@@ -11,3 +11,5 @@ pub mod Counts
 pub mod Told
 pub mod OpenLocks
 pub mod LabelsNew
+pub mod SameFlaws
+pub mod SameSorts

@@ -18,7 +18,8 @@ use Rattle.sap_locks.specs.Annotation.{IsLabelled, IsAnnotated, action_lock, act
 use Rattle.sap_locks.proofs.Opened.{Descends, descends_more, lock_is}
 use Rattle.sap_locks.proofs.Places.{AllAt, in_all}
 use Rattle.sap_locks.proofs.Labelled.{descends_behind}
-use Rattle.sap_locks.specs.Scopes.{HasOpenLocks, Spot, locks_behind, scope_behind, spot, spots, spots_from}
+use Rattle.sap_locks.specs.OpenLocks.{HasOpenLocks}
+use Rattle.sap_process.specs.Scopes.{Spot, locks_behind, scope_behind, spot, spots, spots_from}
 
 abbrev Agree : List ℕ → List LockMark → Type 0
 Agree ls way = (n : ℕ) → (Contains ls n → IsOpen way n) × (IsOpen way n → Contains ls n)

@@ -1,5 +1,5 @@
 pub mod Ways
 pub mod Annotation
-pub mod Scopes
+pub mod OpenLocks
 pub mod LockExamples
 pub mod code

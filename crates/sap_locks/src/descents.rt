@@ -18,7 +18,7 @@ impl HandsDown for WayBelow {
 pub struct LockScopeBelow;
 
 impl HandsDown for LockScopeBelow {
-    ghost use Rattle.sap_locks.specs.Scopes.{LockScope, lock_scope_below};
+    ghost use Rattle.sap_process.specs.Scopes.{LockScope, lock_scope_below};
 
     ghost Above = { LockScope };
 

@@ -5,9 +5,11 @@ ghost use Rattle.sap_terms.specs.Tree.{Tree};
 ghost use Rattle.sap_terms.specs.Variables.{is_known};
 ghost use Rattle.sap_process.specs.Flaws.{IsWellFormed};
 ghost use Rattle.sap_process.specs.Places.{place_at, IsBefore};
+ghost use Rattle.sap_process.specs.Ready.{IsReady};
 ghost use Rattle.sap_process.specs.Sites.{var_names};
 ghost use Rattle.sap_process.specs.Proc.{Proc, nil, node_count, parallel, replicated};
-ghost use Rattle.sap_locks.specs.Scopes.{HasOpenLocks, Spot, lock_scope, lock_scope_below, lock_var, spots};
+ghost use Rattle.sap_locks.specs.OpenLocks.{HasOpenLocks};
+ghost use Rattle.sap_process.specs.Scopes.{Spot, lock_scope, lock_scope_below, lock_var, spots};
 ghost use Rattle.sap_locks.specs.Ways.{IsLockOf, LockSite, lock_sites, way_above, way_below};
 ghost use Rattle.sap_locks.specs.LockExamples.{s, t, locking, unlocking, showing};
 ghost use Rattle.sap_locks.specs.Annotation.{IsAnnotated, IsAnnotation, IsFirstLockFlaw, LockFlaw, lock_at, unlock_at, without, over};
@@ -43,6 +45,13 @@ pub fn annotations_by_hand()
     ensures over_parallel { IsFirstLockFlaw (locking s 0 (parallel nil (parallel (unlocking s 0 nil) nil))) over (1 ∷ []) }
     ensures over_replication { IsFirstLockFlaw (locking s 0 (replicated (unlocking s 0 nil))) over (1 ∷ []) }
     ensures above_first { IsFirstLockFlaw (locking s 0 (parallel (unlocking t 0 nil) (unlocking s 0 nil))) over (1 ∷ []) }
+{}
+
+/// A law: labels are no flaw and change no sort. So the annotation of a well-formed process is well-formed, and that of a
+/// process that is ready to run is ready to run.
+pub fn annotations_are_ready()
+    ensures well_formed { (g : Sig) (p q : Proc) → IsWellFormed g p → IsAnnotation p q → IsWellFormed g q }
+    ensures ready { (g : Sig) (p q : Proc) → IsReady g p → IsAnnotation p q → IsReady g q }
 {}
 
 /// A law: in an annotated process the locks that a place holds as open are those that are open there by the way to it.

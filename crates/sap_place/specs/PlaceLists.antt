@@ -2,7 +2,7 @@
 use Rattle.std.specs.Prelude.{List, map}
 use Rattle.sap_process.specs.Action.{Action, new, out, send, input, receive, event, insert, delete, lock, unlock, embedded}
 use Rattle.sap_process.specs.Proc.{Proc, nil, parallel, replicated, act, test, lookup}
-use Rattle.sap_locks.specs.Scopes.{Spot, spots}
+use Rattle.sap_process.specs.Scopes.{Spot, spots}
 use Rattle.sap_place.specs.declared.place.Form.{Form}
 use Rattle.sap_place.specs.declared.place.Form.TheVariants.{Nil, Par, Rep, New, Out, Send, In, Recv, If, Event, Insert, Delete, Lookup, Lock, Unlock, Embedded}
 use Rattle.sap_place.specs.declared.place.Place.{Place}

@@ -3,7 +3,7 @@ ghost use Rattle.std.specs.Prelude.{◌≡◌, ◌++◌, ◌∷◌, [], IfOk, co
 ghost use Rattle.sap_terms.specs.Variables.{tree_vars, facts_vars, is_known, new_vars};
 ghost use Rattle.sap_terms.specs.View.{tree};
 ghost use Rattle.sap_process.specs.Sites.{var_names};
-ghost use Rattle.sap_locks.specs.Scopes.{lock_var, with_new};
+ghost use Rattle.sap_process.specs.Scopes.{lock_var, with_new};
 
 use sap_terms::{
     Copied, FactList, Mem, Name, Numbers, Sort, Term, Var, Vars, push_facts_vars, push_vars,

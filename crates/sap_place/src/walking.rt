@@ -6,7 +6,7 @@ ghost use Rattle.sap_place.specs.PlaceLists.{places_of, place_of};
 ghost use Rattle.sap_terms.specs.Variables.{facts_vars, tree_vars};
 ghost use Rattle.sap_terms.specs.View.{tree};
 ghost use Rattle.sap_process.specs.Sites.{message_var};
-ghost use Rattle.sap_locks.specs.Scopes.{lock_var, spot, spots_from, with_new};
+ghost use Rattle.sap_process.specs.Scopes.{lock_var, spot, spots_from, with_new};
 ghost use Rattle.sap_place.specs.code.Below.{spots_below};
 
 use crate::place::{Place, PlaceList, form_at};

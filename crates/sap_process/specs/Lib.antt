@@ -5,6 +5,7 @@ pub mod Action
 pub mod Proc
 pub mod Heads
 pub mod Sites
+pub mod Scopes
 pub mod Places
 pub mod Flaws
 pub mod Instance

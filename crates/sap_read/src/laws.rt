@@ -20,6 +20,7 @@ ghost use Rattle.sap_read.specs.OwnNames.{IsNamedApart};
 ghost use Rattle.sap_terms.specs.declared.limits.TheConstants.{MOST_FILE_NAME_BYTES};
 ghost use Rattle.sap_process.specs.Proc.{Proc};
 ghost use Rattle.sap_process.specs.Flaws.{IsFirstFlaw, IsWellFormed};
+ghost use Rattle.sap_process.specs.Ready.{IsReady};
 ghost use Rattle.sap_process.specs.declared.flaw.Flaw.{Flaw};
 ghost use Rattle.sap_read.specs.declared.fault.ReadFault.{ReadFault};
 ghost use Rattle.sap_statements.specs.declared.statement.Statement.{Statement};
@@ -31,7 +32,7 @@ use sap_formula::{faultless_formulas_are_checked, one_fault, some_fault};
 use sap_grammar::{
     declarations_are_read, headers_are_read, same_grammar, words_are_cut, words_of_bytes,
 };
-use sap_locks::annotations_of_processes;
+use sap_locks::{annotations_are_ready, annotations_of_processes};
 use sap_process::{one_flaw, some_flaw, sorting_keeps};
 use sap_statements::{
     faultless_formulas_keep_signs, formulas_are_printable, one_statement, same_statements,
@@ -128,6 +129,14 @@ pub fn files_are_runnable()
     sorting_keeps();
     builtins_stay_held();
     faultless_formulas_are_checked();
+}
+
+/// A law: the process of a file that is read, with the labels of its locks, is ready to run over the file's signature.
+pub fn files_are_ready()
+    ensures { (z : List ℕ) (f : FileContent) → IsRead z (Ok f) → IsReady f.signature f.process }
+{
+    files_are_runnable();
+    annotations_are_ready();
 }
 
 /// A law: what is read of a file can be printed. Its names are names of a file, no longer than those may be; no symbol stands

@@ -17,8 +17,8 @@ mod whole;
 pub use fault::ReadFault;
 pub use file::{File, read_file, read_file_boxed};
 pub use laws::{
-    file_unless_refused, files_are_named_apart, files_are_printable, files_are_runnable,
-    grammar_is_one, one_file, one_list_of_items, some_file,
+    file_unless_refused, files_are_named_apart, files_are_printable, files_are_ready,
+    files_are_runnable, grammar_is_one, one_file, one_list_of_items, some_file,
 };
 pub use sap_draft::{FILE_LIMITS, one_process, processes_by_hand};
 pub use sap_grammar::{one_fact, one_term};

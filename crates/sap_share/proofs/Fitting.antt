@@ -271,4 +271,13 @@ no_match p t b x = record {
   of_none = λ one σ q. x.of_none one σ q.sorted q.agrees q.is;
 }
 
+-- one symbol on patterns and on trees that are matched
+pub finds_symbol : (f : List ℕ) (ps ts : Trees) (b c : List Binding) → FindsAll ps ts b c → Finds (apply f ps) (apply f ts) b c
+finds_symbol f ps ts b c x = record {
+  extends = x.extends;
+  turns = λ d. ap (apply f) (x.turns d);
+  only = λ ws d e turns. x.only ws d e (cc);
+  of_all = λ σ s a turns. x.of_all σ s a (cc);
+}
+
 pub ruleset fit_laws = (found_below)

@@ -10,3 +10,4 @@ mod Reduced
 mod Kept
 mod Evaluated
 mod Fitting
+pub mod Own

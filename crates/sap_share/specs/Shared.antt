@@ -1,5 +1,5 @@
 -- Trees that are shared: each is a node over the numbers of other trees.
-use Rattle.std.specs.Prelude.{◌≡◌, ◌<◌, ℕ, List, ◌++◌, map, length, slice_index_or, All, Some}
+use Rattle.std.specs.Prelude.{◌≡◌, ◌<◌, ◌⊎◌, ℕ, List, [], ◌∷◌, ◌++◌, map, length, slice_index_or, All, Some}
 use Rattle.sap_terms.specs.Signature.{Sig, arity_of}
 use Rattle.sap_terms.specs.Tree.{Tree, public, fresh, apply, trees_of}
 use Rattle.sap_share.specs.declared.node.Node.{Node}
@@ -59,3 +59,7 @@ pub record Gives (old new : Shared) (k : ℕ) (t : Tree) : Type 0 where
   pub keeps : Keeps old new
   pub below : k < length new.trees
   pub tree : tree_at new.trees k ≡ t
+
+-- no number came but this one, if it is new
+abbrev pub ComesAlone : Shared → Shared → ℕ → Type 0
+ComesAlone old new k = (new.trees ≡ old.trees) ⊎ (new.trees ≡ old.trees ++ tree_at new.trees k ∷ [])

@@ -4,3 +4,4 @@ pub mod Forms
 pub mod Sides
 pub mod Found
 pub mod Matching
+pub mod Put

@@ -97,7 +97,7 @@ impl Table {
         ensures within { OnOk result (SomeSubtermWithin (HasLargeForm (equations self.old.sig) most) (trees_of (map (instance (given self.old.trees env.now)) ts.now)) → ⊥) }
         ensures large { IsErrOf result Cut.Large → SomeSubtermWithin (HasLargeForm (equations self.old.sig) most) (trees_of (map (instance (given self.old.trees env.now)) ts.now)) }
     {
-        let mut ks = Numbers::new(alloc);
+        let mut ks = Numbers::with_room(alloc, ts.len())?;
         for i in 0..ts.len() {
             match self.evaluate(alloc, env, ts.at(i), most) {
                 Ok(k) => ks.push(k)?,

@@ -1,7 +1,7 @@
 // Patterns matched against numbers.
-ghost use Rattle.std.specs.Prelude.{◌≡◌, ◌<◌, length, true, false, IfOk};
+ghost use Rattle.std.specs.Prelude.{◌≡◌, ◌<◌, ℕ, List, length, true, false, IfOk};
 ghost use Rattle.sap_terms.specs.Choice.{fits_sort};
-ghost use Rattle.sap_terms.specs.Tree.{variable, trees_of};
+ghost use Rattle.sap_terms.specs.Tree.{variable, apply, trees_of};
 ghost use Rattle.sap_terms.specs.View.{tree};
 ghost use Rattle.sap_rewrite.specs.Match.{IsOnlyMatch, HasNoMatch};
 ghost use Rattle.sap_share.specs.Env.{AreBound, bindings_of};
@@ -123,5 +123,23 @@ impl Table {
         ensures below { IfOk result (λ _. AreBound (length self.now.trees) env.new) }
     {
         self.fit(alloc, pattern, id, env)
+    }
+
+    /// The match of patterns with the terms of numbers, one by one: that of a symbol on the patterns with the same symbol on the
+    /// terms, whatever the symbol is. Where it is false or fails, more may be bound than before.
+    pub fn fits_each(
+        &self,
+        alloc: Global,
+        patterns: &TermList,
+        ids: &Numbers,
+        env: &mut Env,
+    ) -> Result<bool, Mem>
+        requires ids { AreBelow (length self.now.trees) ids.now }
+        requires env { AreBound (length self.now.trees) env.old }
+        ensures yes { IfOk result (λ r. r ≡ true → (f : List ℕ) → IsOnlyMatch (apply f (trees_of patterns.now)) (apply f (trees_of (trees_at self.now.trees ids.now))) (bindings_of self.now.trees env.old) (bindings_of self.now.trees env.new)) }
+        ensures not { IfOk result (λ r. r ≡ false → (f : List ℕ) → HasNoMatch (apply f (trees_of patterns.now)) (apply f (trees_of (trees_at self.now.trees ids.now))) (bindings_of self.now.trees env.old)) }
+        ensures below { IfOk result (λ _. AreBound (length self.now.trees) env.new) }
+    {
+        self.fit_all(alloc, patterns, ids, env)
     }
 }

@@ -1,8 +1,9 @@
 // Nodes with their numbers and the numbers of their normal forms.
-ghost use Rattle.std.specs.Prelude.{◌≡◌, ◌<◌, length, IfOk, OnErr};
+ghost use Rattle.std.specs.Prelude.{◌≡◌, ◌<◌, length, IfOk, OnErr, Some};
 ghost use Rattle.std.specs.List.{AllZip};
 ghost use Rattle.sap_terms.specs.Equations.{equations};
 ghost use Rattle.sap_terms.specs.Normal.{IsNormalForm};
+ghost use Rattle.sap_terms.specs.Signature.{arity_of};
 ghost use Rattle.sap_share.specs.Shared.{tree_at, trees_at, node_tree, AreBelow, StandsBelow, IsHeld, Gives};
 ghost use Rattle.sap_share.specs.code.Forms.{IsFormOf};
 ghost use Rattle.sap_share.specs.code.Inside.{IsNew};
@@ -31,7 +32,7 @@ impl Table {
         ensures forms { IfOk result (λ js. AllZip (IsNormalForm (equations self.now.sig)) (trees_at self.now.trees ks.now) (trees_at self.now.trees js)) }
         ensures below { IfOk result (AreBelow (length self.now.trees)) }
     {
-        let mut forms = Numbers::new(alloc);
+        let mut forms = Numbers::with_room(alloc, ks.len())?;
         for k in ks.as_slice() {
             forms.push(self.normal_of(*k))?;
         }
@@ -100,6 +101,24 @@ impl Table {
         }
     }
 
+    // The number of a symbol on numbers: the old one where it is there, else the next.
+    fn intern_applied(&mut self, alloc: Global, f: Name, ks: Numbers) -> Result<u64, Mem>
+        requires below { AreBelow (length self.old.trees) ks }
+        requires held { arity_of self.old.sig f ≡ Some (length ks) }
+        ensures ok { IfOk result (λ k. Gives self.old self.new k (node_tree self.old.trees (OnNumbers f ks))) }
+        ensures err { OnErr result (self.new ≡ self.old) }
+    {
+        let node = Node::App(f, ks);
+        if let Some(k) = self.number_of(&node) {
+            return Ok(k);
+        }
+        match self.form_of(alloc, &node)? {
+            Form::Itself => self.add_own(node),
+            Form::Old(k) => self.add(node, k),
+            Form::Like(form) => self.add_like(form, node),
+        }
+    }
+
     /// The number of a node: the old one where the node is there, else the next, and then the number of its normal form is
     /// remembered, which is given at the same time where there is none. Refused, the table is as it was.
     pub fn intern(&mut self, alloc: Global, node: Node) -> Result<u64, Mem>
@@ -108,16 +127,12 @@ impl Table {
         ensures ok { IfOk result (λ k. Gives self.old self.new k (node_tree self.old.trees node)) }
         ensures err { OnErr result (self.new ≡ self.old) }
     {
-        if let Some(k) = self.number_of(&node) {
-            return Ok(k);
-        }
-        match self.form_of(alloc, &node)? {
-            Form::Itself => {
-                let next = self.count();
-                self.add(node, next)
-            }
-            Form::Old(k) => self.add(node, k),
-            Form::Like(form) => self.add_like(form, node),
+        equality_is_kept();
+        leaves_are_normal();
+        match node {
+            Node::Public(name) => self.add_own(Node::Public(name)),
+            Node::Fresh(n) => self.add_own(Node::Fresh(n)),
+            Node::App(f, ks) => self.intern_applied(alloc, f, ks),
         }
     }
 }

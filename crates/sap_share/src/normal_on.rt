@@ -5,7 +5,7 @@ ghost use Rattle.sap_terms.specs.Normal.{IsNormal, IsNormalForm};
 ghost use Rattle.sap_terms.specs.Signature.{arity_of};
 ghost use Rattle.sap_terms.specs.Tree.{apply, node_count, trees_of};
 ghost use Rattle.sap_rewrite.specs.Large.{HasLargeForm};
-ghost use Rattle.sap_share.specs.Shared.{tree_at, trees_at, node_tree, AreBelow, StandsBelow, IsHeld, Keeps, Gives};
+ghost use Rattle.sap_share.specs.Shared.{tree_at, trees_at, node_tree, AreBelow, StandsBelow, IsHeld, Keeps, Gives, ComesAlone};
 
 use crate::side::Side;
 use crate::{Node, Table};
@@ -21,6 +21,7 @@ impl Table {
         requires held { IsHeld self.old.sig node }
         requires normal { IsNormal (equations self.old.sig) (node_tree self.old.trees node) }
         ensures ok { IfOk result (λ k. Gives self.old self.new k (node_tree self.old.trees node)) }
+        ensures alone { IfOk result (ComesAlone self.old self.new) }
         ensures within { OnOk result (node_count (node_tree self.old.trees node) ≤ most) }
         ensures large { IsErrOf result Cut.Large → most < node_count (node_tree self.old.trees node) }
         ensures err { OnErr result (self.new ≡ self.old) }
@@ -29,11 +30,7 @@ impl Table {
         if self.size_of(&node) > most {
             return Err(Cut::Large);
         }
-        if let Some(k) = self.number_of(&node) {
-            return Ok(k);
-        }
-        let next = self.count();
-        let number = self.add(node, next)?;
+        let number = self.add_own(node)?;
         Ok(number)
     }
 
@@ -44,6 +41,7 @@ impl Table {
         requires held { arity_of self.old.sig f.now ≡ Some (length ks.now) }
         requires form { IsNormalForm (equations self.old.sig) (apply f.now (trees_of (trees_at self.old.trees ks.now))) (app0 true_name) }
         ensures ok { IfOk result (λ k. Gives self.old self.new k (app0 true_name)) }
+        ensures alone { IfOk result (ComesAlone self.old self.new) }
         ensures within { OnOk result (node_count (app0 true_name) ≤ most) }
         ensures large { IsErrOf result Cut.Large → most < node_count (app0 true_name) }
         ensures err { OnErr result (self.new ≡ self.old) }
@@ -57,7 +55,8 @@ impl Table {
     }
 
     /// The number of the normal form of a symbol on numbers of normal terms, if that has at most `most` nodes; `Large` if it
-    /// has more. Where an equation fits, the symbol on the numbers gets no number of its own. Refused, the table is as it was.
+    /// has more. No number comes but the form's: where an equation fits, the symbol on the numbers gets none. Refused, the
+    /// table is as it was.
     pub fn normal_on(&mut self, alloc: Global, f: &Name, ks: Numbers, most: u64) -> Result<u64, Cut>
         requires most { most < u64.MAX }
         requires below { AreBelow (length self.old.trees) ks }
@@ -68,6 +67,7 @@ impl Table {
         ensures within { IfOk result (λ k. node_count (tree_at self.new.trees k) ≤ most) }
         ensures large { IsErrOf result Cut.Large → HasLargeForm (equations self.old.sig) most (apply f.now (trees_of (trees_at self.old.trees ks))) }
         ensures keeps { Keeps self.old self.new }
+        ensures alone { IfOk result (ComesAlone self.old self.new) }
         ensures err { OnErr result (self.new ≡ self.old) }
     {
         symbols_reduce_once();

@@ -45,7 +45,7 @@ impl Table {
         ensures below { IfOk result (AreBelow (length self.new.trees)) }
         ensures keeps { Keeps self.old self.new }
     {
-        let mut ks = Numbers::new(alloc);
+        let mut ks = Numbers::with_room(alloc, ts.len())?;
         for i in 0..ts.len() {
             let k = self.put(alloc, ts.at(i))?;
             ks.push(k)?;
@@ -64,7 +64,7 @@ impl Table {
             Node::Fresh(k) => Ok(Term::Fresh(*k)),
             Node::App(f, ks) => {
                 let name = f.copy(alloc)?;
-                let mut args = TermList::new(alloc);
+                let mut args = TermList::with_room(alloc, ks.len())?;
                 for k in ks.as_slice() {
                     args.push(self.tree(alloc, *k)?)?;
                 }

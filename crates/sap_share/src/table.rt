@@ -1,5 +1,5 @@
 // The table of numbered nodes.
-ghost use Rattle.std.specs.Prelude.{ℕ, ◌≡◌, ◌<◌, ◌≤◌, ◌+◌, ◌^◌, ◌-◌, [], ◌∷◌, ◌++◌, length, IfOk, OnOk, OnErr, IfSome, IfNone, Some, slice_get, slice_index, Contains, min};
+ghost use Rattle.std.specs.Prelude.{ℕ, ◌≡◌, ◌<◌, ◌≤◌, ◌+◌, ◌^◌, ◌-◌, [], ◌∷◌, ◌++◌, length, IfOk, OnOk, OnErr, IfSome, IfNone, Some, true, false, slice_get, slice_index, Contains, min};
 ghost use Rattle.std.specs.Vec.{vec_len, vec_capacity};
 ghost use Rattle.indexmap.specs.IndexSet.{spare};
 ghost use Rattle.sap_terms.specs.Ground.{IsGround};
@@ -7,7 +7,8 @@ ghost use Rattle.sap_terms.specs.Message.{IsOver};
 ghost use Rattle.sap_terms.specs.Normal.{IsNormal, IsNormalForm};
 ghost use Rattle.sap_terms.specs.Equations.{equations};
 ghost use Rattle.sap_terms.specs.Tree.{node_count};
-ghost use Rattle.sap_share.specs.Shared.{tree_at, node_tree, StandsBelow, IsHeld, HaveOneNumber, IsNew};
+ghost use Rattle.sap_share.specs.Shared.{tree_at, node_tree, StandsBelow, IsHeld, HaveOneNumber, IsNew, Gives, ComesAlone};
+ghost use Rattle.sap_share.specs.code.Put.{IsPut};
 
 use crate::Node;
 use indexmap::IndexSet;
@@ -83,6 +84,39 @@ fn put_node(nodes: &mut IndexSet<Node>, node: Node)
         Ok(_) => {}
         Err(_) => unreachable!(),
     }
+}
+
+// Puts a node last that isn't there, and gives its number with whether it came. The node is hashed once.
+fn put_once(nodes: &mut IndexSet<Node>, node: Node) -> Result<(u64, bool), Mem>
+    ensures was { IfOk result (λ r. r.1 ≡ false → (slice_get nodes.old.keys r.0 ≡ Some node) × (nodes.new.keys ≡ nodes.old.keys)) }
+    ensures came { IfOk result (λ r. r.1 ≡ true → (¬ Contains nodes.old.keys node) × (r.0 ≡ length nodes.old.keys) × (nodes.new.keys ≡ nodes.old.keys ++ node ∷ [])) }
+    ensures err { OnErr result (nodes.new.keys ≡ nodes.old.keys) }
+{
+    let (number, came) = nodes.insert_full(node)?;
+    Ok((number as u64, came))
+}
+
+// The number of a node that is its own normal form. Where it isn't there, it is put last, with its size.
+fn put_own(
+    nodes: &mut IndexSet<Node>,
+    forms: &mut Vec<u64>,
+    sizes: &mut Vec<u64>,
+    node: Node,
+    size: u64,
+) -> Result<u64, Mem>
+    ensures put { IfOk result (λ k. IsPut nodes.old.keys forms.old.items sizes.old.items node size k nodes.new.keys forms.new.items sizes.new.items) }
+    ensures nodes { OnErr result (nodes.new.keys ≡ nodes.old.keys) }
+    ensures forms { OnErr result (forms.new.items ≡ forms.old.items) }
+    ensures sizes { OnErr result (sizes.new.items ≡ sizes.old.items) }
+{
+    forms.reserve(1)?;
+    sizes.reserve(1)?;
+    let (number, came) = put_once(nodes, node)?;
+    if came {
+        put_number(forms, number);
+        put_number(sizes, size);
+    }
+    Ok(number)
 }
 
 // Puts a number last. There is room.
@@ -222,6 +256,25 @@ impl Table {
             }
             _ => 1,
         }
+    }
+
+    /// The number of a node that is its own normal form: the old one where the node is there, else the next.
+    pub(crate) fn add_own(&mut self, node: Node) -> Result<u64, Mem>
+        requires below { StandsBelow (length self.old.trees) node }
+        requires held { IsHeld self.old.sig node }
+        requires form { IsNormalForm (equations self.old.sig) (node_tree self.old.trees node) (node_tree self.old.trees node) }
+        ensures ok { IfOk result (λ k. Gives self.old self.new k (node_tree self.old.trees node)) }
+        ensures alone { IfOk result (ComesAlone self.old self.new) }
+        ensures err { OnErr result (self.new ≡ self.old) }
+    {
+        let size = self.size_of(&node);
+        put_own(
+            &mut self.nodes,
+            &mut self.forms,
+            &mut self.sizes,
+            node,
+            size,
+        )
     }
 
     /// Gives a new node a number, and remembers its form's, which may be the new one.

@@ -21,7 +21,7 @@ use Rattle.sap_rule.specs.Variables.{facts_outer_vars, rule_vars, open_variables
 use Rattle.sap_rule.specs.declared.rule.Rule.{Rule}
 use Rattle.sap_steps.specs.Faults.{FactFits, FactHolds}
 use Rattle.sap_steps.specs.Lines.{rule_terms}
-use Rattle.sap_steps.specs.code.Firing.{args_of}
+use Rattle.sap_sides.specs.Forms.{args_of}
 use Rattle.sap_steps.proofs.Fired.{facts_vars_append}
 use Rattle.sap_steps.proofs.Uses.{facts_same, terms_instance, instances-list}
 use Rattle.sap_steps.proofs.Vars.{nothing_in, first_item, item_cases, covered}

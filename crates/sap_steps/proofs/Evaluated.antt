@@ -7,28 +7,29 @@ use Rattle.sap_terms.specs.declared.fact.Fact.{Fact}
 use Rattle.sap_rewrite.specs.declared.cut.Cut.{Cut}
 use Rattle.sap_rewrite.specs.declared.cut.Cut.TheVariants.{Mem as CutMem, Large}
 use Rattle.sap_rule.specs.declared.rule.Rule.{Rule}
-use Rattle.sap_steps.specs.code.Firing.{SomeLarge, args_of, IsEvaluationFault, limited_fault}
+use Rattle.sap_sides.specs.Forms.{SomeLarge, args_of}
+use Rattle.sap_sides.specs.Laws.{LargeInParts}
+use Rattle.sap_steps.specs.code.Firing.{IsEvaluationFault, limited_fault}
 use Rattle.sap_steps.specs.Lines.{rule_terms}
 use Rattle.sap_steps.specs.declared.fault.RFault.{RFault}
-use Rattle.sap_steps.proofs.Formed.{large_cases, large_front, large_back}
 
 pub fault_large : (g : Sig) (τ : Choice) (r : Rule) (cited : List Fact) (k : Cut) → (k ≡ Large → SomeLarge g (map (instance τ) (rule_terms r))) → IsEvaluationFault g τ r cited (limited_fault k)
 fault_large g τ r cited CutMem h = tt
 fault_large g τ r cited Large h = h refl
 
-pub in_left : (g : Sig) (τ : Choice) (r : Rule) → SomeLarge g (map (instance τ) (args_of r.left)) → SomeLarge g (map (instance τ) (rule_terms r))
-in_left g τ r s = large_front g τ r.left (r.acts ++ r.right) s
+pub in_left : LargeInParts → (g : Sig) (τ : Choice) (r : Rule) → SomeLarge g (map (instance τ) (args_of r.left)) → SomeLarge g (map (instance τ) (rule_terms r))
+in_left parts g τ r s = parts.front g τ r.left (r.acts ++ r.right) s
 
-pub in_acts : (g : Sig) (τ : Choice) (r : Rule) → SomeLarge g (map (instance τ) (args_of r.acts)) → SomeLarge g (map (instance τ) (rule_terms r))
-in_acts g τ r s = large_back g τ r.left (r.acts ++ r.right) (large_front g τ r.acts r.right s)
+pub in_acts : LargeInParts → (g : Sig) (τ : Choice) (r : Rule) → SomeLarge g (map (instance τ) (args_of r.acts)) → SomeLarge g (map (instance τ) (rule_terms r))
+in_acts parts g τ r s = parts.back g τ r.left (r.acts ++ r.right) (parts.front g τ r.acts r.right s)
 
-pub in_right : (g : Sig) (τ : Choice) (r : Rule) → SomeLarge g (map (instance τ) (args_of r.right)) → SomeLarge g (map (instance τ) (rule_terms r))
-in_right g τ r s = large_back g τ r.left (r.acts ++ r.right) (large_back g τ r.acts r.right s)
+pub in_right : LargeInParts → (g : Sig) (τ : Choice) (r : Rule) → SomeLarge g (map (instance τ) (args_of r.right)) → SomeLarge g (map (instance τ) (rule_terms r))
+in_right parts g τ r s = parts.back g τ r.left (r.acts ++ r.right) (parts.back g τ r.acts r.right s)
 
-pub none_large : (g : Sig) (τ : Choice) (r : Rule) → (SomeLarge g (map (instance τ) (args_of r.left)) → ⊥) → (SomeLarge g (map (instance τ) (args_of r.acts)) → ⊥) → (SomeLarge g (map (instance τ) (args_of r.right)) → ⊥) → SomeLarge g (map (instance τ) (rule_terms r)) → ⊥
-none_large g τ r a b c s = elim (large_cases g τ r.left (r.acts ++ r.right) s) as (λ _. ⊥) [
+pub none_large : LargeInParts → (g : Sig) (τ : Choice) (r : Rule) → (SomeLarge g (map (instance τ) (args_of r.left)) → ⊥) → (SomeLarge g (map (instance τ) (args_of r.acts)) → ⊥) → (SomeLarge g (map (instance τ) (args_of r.right)) → ⊥) → SomeLarge g (map (instance τ) (rule_terms r)) → ⊥
+none_large parts g τ r a b c s = elim (parts.cases g τ r.left (r.acts ++ r.right) s) as (λ _. ⊥) [
   | inl x ↦ a x
-  | inr y ↦ elim (large_cases g τ r.acts r.right y) as (λ _. ⊥) [ inl u ↦ b u | inr v ↦ c v ]
+  | inr y ↦ elim (parts.cases g τ r.acts r.right y) as (λ _. ⊥) [ inl u ↦ b u | inr v ↦ c v ]
 ]
 
 -- a fault that is passed on

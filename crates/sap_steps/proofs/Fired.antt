@@ -1,5 +1,5 @@
 -- What the bindings found and the forms made say of the rule's use.
-use Rattle.std.proofs.Common.{◌≡◌, List, [], ◌∷◌, ◌++◌, map, ◌⊎◌, inl, inr, refl, sym, ap, subst, ◌∙◌, append_assoc}
+use Rattle.std.proofs.Common.{◌≡◌, true, List, [], ◌∷◌, ◌++◌, map, ◌⊎◌, inl, inr, refl, sym, ap, subst, ◌∙◌, append_assoc}
 use Rattle.std.specs.Prelude.{All, Contains, Result, Ok, Err, IfOk, IfErr}
 use Rattle.std.proofs.lemmas.List.Elements.{All-append, Contains-append_left, Contains-append_right}
 use Rattle.sap_terms.specs.Choice.{Choice, fits_sort, instance}
@@ -20,18 +20,21 @@ use Rattle.sap_rule.specs.Variables.{facts_outer_vars, rule_vars}
 use Rattle.sap_rule.specs.WellMade.{IsWellMade}
 use Rattle.sap_rule.specs.declared.rule.Rule.{Rule}
 use Rattle.sap_steps.specs.Faults.{AreRight, IsFitting, IsRuleRefusal}
-use Rattle.sap_steps.specs.code.Firing.{IsGroundFact, IsOnlyChoice, HasNoChoice, FactsFit, SomeLarge, args_of, Evaluates, IsEvaluationFault, limited_fault}
-use Rattle.sap_steps.specs.code.Held.{IsSmallMessageFact}
+use Rattle.sap_sides.specs.Fitting.{IsOnlyChoice, HasNoChoice, FactsFit}
+use Rattle.sap_sides.specs.Forms.{SomeLarge, args_of, HaveArgs}
+use Rattle.sap_sides.specs.Messages.{IsGroundFact}
+use Rattle.sap_steps.specs.code.Firing.{IsLeftSame, Evaluates, IsEvaluationFault, limited_fault}
+use Rattle.sap_sides.specs.Messages.{IsSmallMessageFact}
 use Rattle.sap_steps.specs.Lines.{Fires, IsSmall, rule_terms}
 use Rattle.sap_steps.specs.declared.fault.RFault.{RFault}
 use Rattle.sap_steps.specs.declared.fault.RFault.TheVariants.{Mem, NoRule, FactCount, FactMissing, BadBinding, NoMatch, TermLarge, Unequal, UsedName, WrongFact, NoEntry, NotPublic, Arity}
 use Rattle.sap_rewrite.specs.declared.cut.Cut.{Cut}
 use Rattle.sap_rewrite.specs.declared.cut.Cut.TheVariants.{Large}
-use Rattle.sap_steps.specs.code.Ready.{HasNoDestructor}
+use Rattle.sap_sides.specs.Messages.{HasNoDestructor}
 use Rattle.sap_steps.proofs.Evaluated.{fault_large, in_acts, in_right, none_large}
-use Rattle.sap_steps.proofs.Plain.{plain_left}
 use Rattle.sap_steps.proofs.Found.{agrees_extended}
-use Rattle.sap_steps.proofs.Uses.{Laws, each_item, agrees_at, sorted_at, var_at, facts_message, facts_same, terms_instance, facts_ground, facts_equal, facts_hold, facts_held, large_evaluated, evaluated_small}
+use Rattle.sap_steps.specs.code.Firing.{Laws}
+use Rattle.sap_steps.proofs.Uses.{each_item, agrees_at, sorted_at, var_at, facts_message, facts_same, terms_instance, facts_ground, facts_equal, facts_hold, facts_held, large_evaluated, evaluated_small}
 use Rattle.sap_steps.proofs.Vars.{new_among, one_sort, covered}
 
 pub if_ok : {T E : Type 0} (P Q : T → Type 0) (r : Result T E) → ((x : T) → P x → Q x) → IfOk r P → IfOk r Q
@@ -46,6 +49,22 @@ pub facts_vars_append : (fs hs : List Fact) → facts_vars (fs ++ hs) ≡ facts_
 facts_vars_append [] hs = refl
 facts_vars_append (f ∷ fs) hs =
     ap (λ vs. trees_vars (trees_of f.args) ++ vs) (facts_vars_append fs hs) ∙ sym (append_assoc (trees_vars (trees_of f.args)) (facts_vars fs) (facts_vars hs))
+
+have_own : (hs : List Fact) → HaveArgs hs hs
+have_own [] = tt
+have_own (x ∷ xs) = (refl, have_own xs)
+
+-- a left side without destructors, which fits messages within the limit, has their arguments
+plain_left : Laws → (g : Sig) (σ : Choice) (fs hs : List Fact) → All (HasNoDestructor g) fs → FactsFit g fs hs σ → All (IsSmallMessageFact g) hs → IsLeftSame g σ fs hs true
+plain_left laws g σ fs hs n f h =
+    let is = laws.plain g σ fs hs n f in
+    let own = laws.own g hs h in
+    record {
+      left = hs;
+      forms = subst (λ (xs : List Fact). AreFormsOfFacts (equations g) xs hs) (sym is) own.0;
+      same = (λ _. have_own hs, λ _. refl);
+      small = λ s. own.1 (subst (SomeLarge g) (terms_instance σ fs ∙ ap args_of is) s);
+    }
 
 abbrev IsGood : Sig → Binding → Type 0
 IsGood g e = IsMessage g e.var.sort (tree e.term)
@@ -131,7 +150,7 @@ module _ (laws : Laws) (g : Sig) (r : Rule) (b c : List Binding) (cited : List F
 
   pub right_held : HoldsBuiltins g → (acts right : List Fact) → Evaluates g (bound_to c) r cited acts right → All (IsSmallMessageFact g) right
   right_held k acts right e =
-      facts_held laws g chosen.0 r.right right k chosen.1 well.over.right (λ s. small e.small (in_right g chosen.0 r s)) (subst (λ xs. AreFormsOfFacts (equations g) xs right) same_right e.right_forms)
+      facts_held laws g chosen.0 r.right right k chosen.1 well.over.right (λ s. small e.small (in_right laws.parts g chosen.0 r s)) (subst (λ xs. AreFormsOfFacts (equations g) xs right) same_right e.right_forms)
 
   -- what holds under a signature and a choice that are these
   move : (P : Sig → Choice → Type 0) (h : Sig) (τ : Choice) → h ≡ g → τ ≡ bound_to c → P h τ → P g (bound_to c)
@@ -147,20 +166,20 @@ module _ (laws : Laws) (g : Sig) (r : Rule) (b c : List Binding) (cited : List F
   pub evaluates_plain : All (HasNoDestructor g) r.left → (h : Sig) (τ : Choice) → h ≡ g → τ ≡ bound_to c → (acts right : List Fact) → AreFormsOfFacts (equations h) (instance_facts τ r.acts) acts → AreFormsOfFacts (equations h) (instance_facts τ r.right) right
       → (SomeLarge h (map (instance τ) (args_of r.acts)) → ⊥) → (SomeLarge h (map (instance τ) (args_of r.right)) → ⊥) → Evaluates g (bound_to c) r cited acts right
   evaluates_plain plain h τ is eq acts right a z wa wz =
-      let left = plain_left laws.one_form g (bound_to c) r.left cited plain fits_itself held in record {
+      let left = plain_left laws g (bound_to c) r.left cited plain fits_itself held in record {
         left = left.left;
         left_forms = left.forms;
         same = left.same.0 refl;
         acts_forms = move (λ (k : Sig) (σ : Choice). AreFormsOfFacts (equations k) (instance_facts σ r.acts) acts) h τ is eq a;
         right_forms = move (λ (k : Sig) (σ : Choice). AreFormsOfFacts (equations k) (instance_facts σ r.right) right) h τ is eq z;
-        small = none_large g (bound_to c) r left.small (none_moved r.acts h τ is eq wa) (none_moved r.right h τ is eq wz);
+        small = none_large laws.parts g (bound_to c) r left.small (none_moved r.acts h τ is eq wa) (none_moved r.right h τ is eq wz);
       }
 
   -- a plain rule isn't where one of them is too large
   pub cut_plain : (h : Sig) (τ : Choice) → h ≡ g → τ ≡ bound_to c → (k : Cut) → (k ≡ Large → SomeLarge h (map (instance τ) (args_of r.acts)) ⊎ SomeLarge h (map (instance τ) (args_of r.right))) → IsEvaluationFault g (bound_to c) r cited (limited_fault k)
   cut_plain h τ is eq k l = fault_large g (bound_to c) r cited k (λ e. elim (l e) as (λ _. SomeLarge g (map (instance (bound_to c)) (rule_terms r))) [
-    | inl x ↦ in_acts g (bound_to c) r (some_moved r.acts h τ is eq x)
-    | inr y ↦ in_right g (bound_to c) r (some_moved r.right h τ is eq y)
+    | inl x ↦ in_acts laws.parts g (bound_to c) r (some_moved r.acts h τ is eq x)
+    | inr y ↦ in_right laws.parts g (bound_to c) r (some_moved r.right h τ is eq y)
   ])
 
   pub refused : (k : RFault) → IsEvaluationFault g (bound_to c) r cited k → IsRuleRefusal g r b cited k

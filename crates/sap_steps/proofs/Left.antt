@@ -8,8 +8,9 @@ use Rattle.sap_terms.specs.Piles.{Pile, used, Takes, nothing, one}
 use Rattle.sap_terms.specs.declared.fact.Fact.{Fact}
 use Rattle.sap_facts.specs.Facts.{standing, fact_at, slots_without}
 use Rattle.sap_steps.specs.Faults.{IsFirstMissing}
-use Rattle.sap_steps.specs.code.Held.{cited_at}
-use Rattle.sap_steps.specs.code.Left.{left_of, AreTaken, unless, IsLeft, IsCited}
+use Rattle.sap_facts.specs.Cited.{cited_at}
+use Rattle.sap_facts.specs.Cited.{left_of, AreTaken}
+use Rattle.sap_steps.specs.code.Left.{unless, IsLeft, IsCited}
 
 standing-some : (o : Option (Option Fact)) (f : Fact) → standing o ≡ Some f → o ≡ Some (Some f)
 standing-some None f e = cc

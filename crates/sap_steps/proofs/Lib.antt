@@ -1,6 +1,5 @@
 pub mod Lists
 pub mod Found
-pub mod Formed
 pub mod Evaluated
 pub mod Vars
 pub mod Uses
@@ -10,12 +9,9 @@ pub mod Runs
 pub mod Ready
 pub mod Left
 pub mod Tied
-pub mod Names
 pub mod Used
 pub mod Determined
 pub mod OneAnswer
 pub mod Shown
-pub mod Plain
 pub mod Piled
-pub mod PlainMatch
-pub mod ByNumbers
+pub mod Joined

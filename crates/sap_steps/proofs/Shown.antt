@@ -14,7 +14,7 @@ use Rattle.sap_rule.specs.WellMade.{IsWellMade}
 use Rattle.sap_runs.specs.declared.rule_step.RStep.{RStep}
 use Rattle.sap_steps.specs.Lines.{IsLine, IsSmall}
 use Rattle.sap_steps.specs.Runs.{LinesAreSteps}
-use Rattle.sap_steps.specs.code.Held.{IsSmallMessage, IsSmallMessageFact, HoldsSmallMessages}
+use Rattle.sap_sides.specs.Messages.{IsSmallMessage, IsSmallMessageFact, HoldsSmallMessages}
 use Rattle.sap_steps.specs.code.Ready.{IsReady, rules_of}
 use Rattle.sap_steps.specs.declared.prepared.Prepared.{Prepared}
 

@@ -15,8 +15,8 @@ use Rattle.sap_deduce.specs.Entries.{Entry, Entries, terms_of, Gains}
 use Rattle.sap_deduce.specs.declared.origin.Origin.{Origin}
 use Rattle.sap_facts.specs.Facts.{standing, fact_at, if_linear, slots_without}
 use Rattle.sap_rule.specs.RuleSteps.{RuleState, gains}
-use Rattle.sap_steps.specs.code.Held.{IsSmallMessage, IsSmallMessageFact, HoldsSmallMessages}
-use Rattle.sap_steps.specs.code.Left.{left_of}
+use Rattle.sap_sides.specs.Messages.{IsSmallMessage, IsSmallMessageFact, HoldsSmallMessages}
+use Rattle.sap_facts.specs.Cited.{left_of}
 use Rattle.sap_steps.specs.code.Ready.{IsReady}
 use Rattle.sap_steps.specs.code.Tied.{IsTied}
 use Rattle.sap_steps.specs.declared.prepared.Prepared.{Prepared}

@@ -10,8 +10,8 @@ use Rattle.sap_rule.specs.RuleSteps.{RuleState}
 use Rattle.sap_rule.specs.declared.rule.Rule.{Rule}
 use Rattle.sap_runs.specs.declared.rule_step.RStep.TheVariants.{Rule as RuleLine}
 use Rattle.sap_steps.specs.Faults.{IsLineFault, IsRuleFault}
-use Rattle.sap_steps.specs.code.Held.{cited_at}
-use Rattle.sap_steps.specs.code.Left.{left_of, AreTaken}
+use Rattle.sap_facts.specs.Cited.{cited_at}
+use Rattle.sap_facts.specs.Cited.{left_of, AreTaken}
 use Rattle.sap_steps.specs.Lines.{IsLine, Fires, IsSmall}
 use Rattle.sap_steps.specs.declared.fault.RFault.{RFault}
 use Rattle.sap_steps.specs.declared.fault.RFault.TheVariants.{Mem, NoRule, FactCount, FactMissing, BadBinding, NoMatch, TermLarge, Unequal, UsedName, WrongFact, NoEntry, NotPublic, Arity}

@@ -3,7 +3,7 @@ use Rattle.std.proofs.Common.{◌≡◌, ℕ, ◌<◌, ◌≤◌, suc, List, [],
 use Rattle.std.specs.Prelude.{All, Contains}
 use Rattle.std.specs.List.{AllZip}
 use Rattle.std.proofs.lemmas.Bool.{cases_lt}
-use Rattle.std.proofs.lemmas.List.{map-append}
+use Rattle.std.proofs.lemmas.List.{append-nil, map-append}
 use Rattle.std.proofs.lemmas.List.Elements.{All-head, All-tail, All-nil, All-cons, All-weaker, All-contains_itself, Contains-append_left, Contains-append_right, Contains-append_cases}
 use Rattle.sap_terms.specs.Choice.{Choice, fits_sort, instance, instances}
 use Rattle.sap_terms.specs.Equal.{IsTheoryEqual}
@@ -20,30 +20,20 @@ use Rattle.sap_terms.specs.declared.binding.Binding.{Binding}
 use Rattle.sap_terms.specs.declared.fact.Fact.{Fact}
 use Rattle.sap_terms.specs.declared.var.Var.{Var}
 use Rattle.sap_terms.specs.declared.limits.TheConstants.{MOST_TERM_NODES}
-use Rattle.sap_rewrite.specs.Around.{HoldAll, outer_vars, all_outer_vars, MatchingAroundIsModulo, FittingGivesMessages}
-use Rattle.sap_rewrite.specs.Bound.{NamedOnceStay, BindingsGiveChoices, AgreeingSubstitutes}
+use Rattle.sap_rewrite.specs.Around.{HoldAll, outer_vars, all_outer_vars, FittingGivesMessages}
 use Rattle.sap_rewrite.specs.Large.{SomeSubterm, SomeSubtermWithin, itself, below, here, later, HasLargeForm}
-use Rattle.sap_rewrite.specs.Laws.{FormIsOne, FormsAreMessages}
 use Rattle.sap_rewrite.specs.Match.{AllSorted, Agrees, bound_vars}
 use Rattle.sap_rule.specs.Variables.{facts_outer_vars}
 use Rattle.sap_rule.specs.WellMade.{IsFactOver}
 use Rattle.sap_rule.specs.declared.rule.Rule.{Rule}
 use Rattle.sap_steps.specs.Faults.{FactHolds}
-use Rattle.sap_steps.specs.code.Firing.{IsGroundFact, ArgsFit, FactsFit, SomeLarge, args_of, HaveArgs}
-use Rattle.sap_steps.specs.code.Held.{IsSmallMessage, IsSmallMessageFact}
+use Rattle.sap_sides.specs.Fitting.{ArgsFit, FactsFit}
+use Rattle.sap_sides.specs.Forms.{SomeLarge, args_of, HaveArgs}
+use Rattle.sap_sides.specs.Messages.{IsGroundFact}
+use Rattle.sap_sides.specs.Messages.{IsSmallMessage, IsSmallMessageFact}
 use Rattle.sap_steps.specs.Lines.{IsEvaluated, IsSmall, rule_terms}
-use Rattle.sap_steps.proofs.Formed.{within_front, within_back}
+use Rattle.sap_steps.specs.code.Firing.{Laws}
 use Rattle.sap_steps.proofs.Vars.{nothing_in, item_cases, first_item, later_item}
-
--- the laws of the layer below
-pub record Laws : Type 0 where
-  pub modulo : MatchingAroundIsModulo
-  pub messages : FittingGivesMessages
-  pub once : NamedOnceStay
-  pub choices : BindingsGiveChoices
-  pub substitutes : AgreeingSubstitutes
-  pub one_form : FormIsOne
-  pub forms : FormsAreMessages
 
 -- each element is so
 pub each_item : {X : Type 0} (P : X → Type 0) (xs : List X) → ((x : X) → Contains xs x → P x) → All P xs
@@ -245,7 +235,7 @@ pub facts_held : Laws → (g : Sig) (σ : Choice) (fs ns : List Fact) → HoldsB
 facts_held laws g σ [] [] k m o s a = All-nil (IsSmallMessageFact g)
 facts_held laws g σ (f ∷ fs) (n ∷ ns) k m o s a =
     All-cons (IsSmallMessageFact g) n ns
-    (args_held laws g σ f.args n.args k m (All-head (IsFactOver g) f fs o) (λ l. s (subst (SomeLarge g) (sym (map-append (instance σ) f.args (args_of fs))) (within_front (HasLargeForm (equations g) MOST_TERM_NODES) (map (instance σ) f.args) (map (instance σ) (args_of fs)) l))) a.0.args)
-    (facts_held laws g σ fs ns k m (All-tail (IsFactOver g) f fs o) (λ l. s (subst (SomeLarge g) (sym (map-append (instance σ) f.args (args_of fs))) (within_back (HasLargeForm (equations g) MOST_TERM_NODES) (map (instance σ) f.args) (map (instance σ) (args_of fs)) l))) a.1)
+    (args_held laws g σ f.args n.args k m (All-head (IsFactOver g) f fs o) (λ l. s (laws.parts.front g σ (f ∷ []) fs (subst (λ (xs : List Tree). SomeLarge g (map (instance σ) xs)) (sym (append-nil f.args)) l))) a.0.args)
+    (facts_held laws g σ fs ns k m (All-tail (IsFactOver g) f fs o) (λ l. s (laws.parts.back g σ (f ∷ []) fs l)) a.1)
 facts_held laws g σ [] (n ∷ ns) k m o s a = absurd a
 facts_held laws g σ (f ∷ fs) [] k m o s a = absurd a

@@ -1,8 +1,9 @@
 -- Why a line is refused: the first test that fails.
-use Rattle.std.specs.Prelude.{◌≡◌, ◌<◌, ℕ, nat_le, List, [], ◌∷◌, length, Some, None, map, find, slice_get, All, Contains, ⊤}
+use Rattle.std.specs.Prelude.{◌≡◌, ◌<◌, ℕ, List, [], ◌∷◌, length, Some, None, map, slice_get, All, Contains, ⊤}
 use Rattle.std.specs.List.{AllZip}
 use Rattle.sap_terms.specs.AdversaryFacts.{out_fact, fr_fact}
 use Rattle.sap_terms.specs.Choice.{Choice, IsSorted}
+use Rattle.sap_terms.specs.Deduce.{IsFirstUnknown}
 use Rattle.sap_terms.specs.Message.{IsMessage, IsMessageChoice}
 use Rattle.sap_terms.specs.Normal.{IsNormalForm}
 use Rattle.sap_terms.specs.Piles.{Pile, Takes}
@@ -14,7 +15,8 @@ use Rattle.sap_terms.specs.declared.binding.Binding.{Binding}
 use Rattle.sap_terms.specs.declared.fact.Fact.{Fact}
 use Rattle.sap_terms.specs.declared.limits.TheConstants.{MOST_TERM_NODES}
 pub use Rattle.sap_facts.specs.Missing.{IsFirstMissing}
-use Rattle.sap_rewrite.specs.Around.{FitAll, HoldAll}
+pub use Rattle.sap_sides.specs.Fitting.{FactFits}
+use Rattle.sap_rewrite.specs.Around.{HoldAll}
 use Rattle.sap_rewrite.specs.Match.{Agrees, bound_vars}
 use Rattle.sap_rule.specs.Named.{rule_named}
 use Rattle.sap_rule.specs.RuleSteps.{RuleState}
@@ -30,12 +32,6 @@ use Rattle.sap_steps.specs.declared.fault.RFault.TheVariants.{Mem, NoRule, FactC
 pub record AreRight (g : Sig) (r : Rule) (b : List Binding) : Type 0 where
   pub vars : bound_vars b ≡ open_variables g r
   pub terms : All (λ (e : Binding). IsMessage g e.var.sort (tree e.term)) b
-
--- around the destructors the choice turns the fact into the other
-pub record FactFits (g : Sig) (σ : Choice) (f h : Fact) : Type 0 where
-  pub name : h.name ≡ f.name
-  pub persistent : h.persistent ≡ f.persistent
-  pub args : FitAll g σ (trees_of f.args) (trees_of h.args)
 
 -- what a destructor heads in the fact has under the choice the normal form that stands there in the other
 abbrev pub FactHolds : Sig → Choice → Fact → Fact → Type 0
@@ -116,7 +112,7 @@ IsUnknownEntry s k = slice_get s.known k ≡ None
 
 -- the first of these numbers that is no entry's
 abbrev pub IsFirstUnknownEntry : RuleState → List ℕ → ℕ → Type 0
-IsFirstUnknownEntry s ks k = find (nat_le (length s.known)) ks ≡ Some k
+IsFirstUnknownEntry s ks k = IsFirstUnknown (length s.known) ks k
 
 -- the symbol may be applied to the entries, and the normal form is too large
 pub record AppliesLarge (g : Sig) (s : RuleState) (f ks : List ℕ) : Type 0 where

@@ -1,5 +1,4 @@
 -- What the code of this crate keeps and makes on its way, for its own contracts: no definition that a theorem speaks of.
-pub mod Held
 pub mod Firing
 pub mod Ready
 pub mod Left

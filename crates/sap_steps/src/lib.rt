@@ -2,16 +2,13 @@
 #![tactic(auto)]
 
 mod adversary;
-mod bindings;
 mod cited;
+mod evaluation;
 mod fault;
 mod firing;
-mod fitting;
-mod forms;
 mod laws;
 mod pile;
 mod prepared;
-mod sides;
 mod state;
 mod taking;
 mod using;

@@ -1,41 +1,34 @@
 // Facts by their numbers, whose arguments are numbers of shared terms.
-ghost use Rattle.std.specs.Prelude.{◌≡◌, ◌+◌, ◌<◌, ◌≤◌, [], ◌∷◌, ◌++◌, map, length, true, false, All, IsSome, MatchOption, IfOk, IsErrOf, OnOk, None, Some, option_map, slice_set, vec_capacity};
+ghost use Rattle.std.specs.Prelude.{◌≡◌, ◌+◌, ◌<◌, ◌≤◌, [], ◌∷◌, ◌++◌, length, true, false, All, IsSome, MatchOption, IfOk, IsErrOf, OnOk, None, Some, option_map, slice_set, vec_capacity};
+ghost use Rattle.sap_facts.specs.Cited.{cited_at};
 ghost use Rattle.sap_facts.specs.Facts.{fact_at, slots_without};
-ghost use Rattle.sap_terms.specs.Destructors.{AnyHasDestructor};
-ghost use Rattle.sap_terms.specs.Ground.{IsGround};
-ghost use Rattle.sap_terms.specs.Message.{IsMessage, IsOver};
-ghost use Rattle.sap_terms.specs.View.{tree};
-ghost use Rattle.sap_terms.specs.Tree.{trees_of};
 ghost use Rattle.sap_rewrite.specs.Around.{all_outer_vars};
-ghost use Rattle.sap_terms.specs.Choice.{instance};
-ghost use Rattle.sap_terms.specs.Equations.{equations};
-ghost use Rattle.sap_terms.specs.Normal.{IsNormalForm};
-ghost use Rattle.sap_rewrite.specs.Large.{HasLargeSubterm};
-ghost use Rattle.sap_share.specs.Env.{given, AreBound, AreSmallForms, IsSmallForm, bindings_of};
-ghost use Rattle.sap_share.specs.Shared.{tree_at, trees_at, AreBelow, Keeps, Gives};
-ghost use Rattle.sap_steps.specs.code.Firing.{IsOnlyChoice, HasNoChoice, ArgsFit, FactFit, FactsFit};
-ghost use Rattle.sap_steps.specs.code.Held.{IsSmallMessage, IsSmallMessageFact, cited_at};
-ghost use Rattle.sap_terms.specs.declared.fact.Fact.{Fact as Held};
 ghost use Rattle.sap_rule.specs.Variables.{facts_outer_vars};
-ghost use Rattle.sap_steps.specs.code.Ready.{HasNoDestructor};
-ghost use Rattle.sap_steps.specs.code.Piled.{shared_of, fact_seen, slots_seen, AreSlotsBelow, IsShared, AreShared, KeepsSlots};
+ghost use Rattle.sap_rule.specs.WellMade.{IsRuleOver};
+ghost use Rattle.sap_share.specs.Env.{given, AreBound, AreSmallForms, bindings_of};
+ghost use Rattle.sap_share.specs.Shared.{AreBelow};
+ghost use Rattle.sap_sides.specs.Fitting.{IsOnlyChoice, HasNoChoice, FactFit, FactsFit};
+ghost use Rattle.sap_sides.specs.Forms.{AreSides, HasLargeSide};
+ghost use Rattle.sap_sides.specs.Messages.{IsSmallMessageFact, HasNoDestructor, IsGroundFact};
+ghost use Rattle.sap_sides.specs.SharedFacts.{fact_seen, IsShared, AreShared};
+ghost use Rattle.sap_steps.specs.code.Piled.{slots_seen, AreSlotsBelow};
+ghost use Rattle.sap_terms.specs.Equations.{equations};
+ghost use Rattle.sap_terms.specs.Message.{IsMessage};
+ghost use Rattle.sap_terms.specs.Modulo.{instance_facts};
+ghost use Rattle.sap_terms.specs.Tree.{trees_of};
+ghost use Rattle.sap_terms.specs.View.{tree};
+ghost use Rattle.sap_terms.specs.declared.fact.Fact.{Fact as Held};
 
-use sap_rewrite::{Cut, agreeing_choices_substitute, extensions_join};
-use sap_share::{Bound, Env, Table};
-use sap_terms::{
-    Binding, Bindings, Copied, Fact, FactList, MOST_TERM_NODES, Mem, Name, Numbers, Signature,
-    Term, TermList,
+use sap_rewrite::Cut;
+use sap_rule::Rule;
+use sap_share::{Env, Table};
+use sap_sides::{
+    SharedFact, Sides, are_small_forms, built_fact, facts_fit_in_turn, fit_fact, form_sides,
+    number_bindings, share_fact, share_facts, shared_facts_stay,
 };
+use sap_terms::{Bindings, Fact, FactList, MOST_TERM_NODES, Mem, Numbers, Signature};
 use std::alloc::Global;
 use std::marker::Model;
-
-// A fact whose arguments are numbers.
-#[derive(Drop)]
-pub(crate) struct SharedFact {
-    pub(crate) name: Name,
-    pub(crate) persistent: bool,
-    pub(crate) args: Numbers,
-}
 
 // Facts that were put on one after another and have numbers from 0, in order, and the table in which their arguments have
 // theirs. A linear fact stays until it is taken, a persistent one for good.
@@ -65,139 +58,6 @@ impl Model for SharedPile {
     } };
 
     ghost invariant = { λ a. AreSlotsBelow (length a.table.trees) a.slots.items };
-}
-
-// The numbers of these terms.
-#[tactic(auto, using(crate::proofs::Piled::pile_laws))]
-fn share_args(table: &mut Table, alloc: Global, ts: &TermList) -> Result<Numbers, Mem>
-    requires { All (IsSmallMessage table.old.sig) ts.now }
-    ensures trees { IfOk result (λ ks. trees_at table.new.trees ks ≡ ts.now) }
-    ensures below { IfOk result (AreBelow (length table.new.trees)) }
-    ensures keeps { Keeps table.old table.new }
-{
-    let mut ks = Numbers::new(alloc);
-    for i in 0..ts.len() {
-        let k = table.put(alloc, ts.at(i))?;
-        ks.push(k)?;
-    }
-    Ok(ks)
-}
-
-// The terms of these numbers.
-#[tactic(auto, using(crate::proofs::Piled::tree_laws))]
-fn trees_of_numbers(table: &Table, alloc: Global, ks: &Numbers) -> Result<TermList, Mem>
-    requires { AreBelow (length table.now.trees) ks.now }
-    ensures { IfOk result (λ ts. ts ≡ trees_at table.now.trees ks.now) }
-{
-    let mut ts = TermList::new(alloc);
-    for k in ks.as_slice() {
-        ts.push(table.tree(alloc, *k)?)?;
-    }
-    Ok(ts)
-}
-
-// Whether patterns without destructors fit what has these numbers, under what is bound and what is bound then.
-fn fit_args(
-    table: &Table,
-    alloc: Global,
-    ps: &TermList,
-    ks: &Numbers,
-    env: &mut Env,
-) -> Result<bool, Mem>
-    requires plain { AnyHasDestructor table.now.sig (trees_of ps.now) → ⊥ }
-    requires below { AreBelow (length table.now.trees) ks.now }
-    requires env { AreBound (length table.now.trees) env.old }
-    ensures yes { IfOk result (λ r. r ≡ true → IsOnlyChoice (ArgsFit table.now.sig ps.now (trees_at table.now.trees ks.now)) (all_outer_vars table.now.sig (trees_of ps.now)) (bindings_of table.now.trees env.old) (bindings_of table.now.trees env.new)) }
-    ensures not { IfOk result (λ r. r ≡ false → HasNoChoice (ArgsFit table.now.sig ps.now (trees_at table.now.trees ks.now)) (all_outer_vars table.now.sig (trees_of ps.now)) (bindings_of table.now.trees env.old)) }
-    ensures bound { IfOk result (λ _. AreBound (length table.now.trees) env.new) }
-{
-    extensions_join();
-    agreeing_choices_substitute();
-    if ps.len() != ks.len() {
-        return Ok(false);
-    }
-    for i in 0..ps.len() {
-        if !table.fits(alloc, ps.at(i), *ks.at(i), env)? {
-            return Ok(false);
-        }
-    }
-    Ok(true)
-}
-
-// The same of a fact.
-fn fit_fact(
-    table: &Table,
-    alloc: Global,
-    f: &Fact,
-    h: &SharedFact,
-    env: &mut Env,
-) -> Result<bool, Mem>
-    requires plain { HasNoDestructor table.now.sig f.now }
-    requires below { AreBelow (length table.now.trees) h.now.args }
-    requires env { AreBound (length table.now.trees) env.old }
-    ensures yes { IfOk result (λ r. r ≡ true → IsOnlyChoice (FactFit table.now.sig f.now (fact_seen table.now.trees h.now)) (all_outer_vars table.now.sig (trees_of f.now.args)) (bindings_of table.now.trees env.old) (bindings_of table.now.trees env.new)) }
-    ensures not { IfOk result (λ r. r ≡ false → HasNoChoice (FactFit table.now.sig f.now (fact_seen table.now.trees h.now)) (all_outer_vars table.now.sig (trees_of f.now.args)) (bindings_of table.now.trees env.old)) }
-    ensures bound { IfOk result (λ _. AreBound (length table.now.trees) env.new) }
-{
-    if !h.name.same(&f.name) {
-        return Ok(false);
-    }
-    if h.persistent != f.persistent {
-        return Ok(false);
-    }
-    fit_args(table, alloc, &f.args, &h.args, env)
-}
-
-// The bindings with terms for their numbers.
-#[tactic(auto, using(crate::proofs::Piled::pile_laws))]
-fn bindings_with_terms(table: &Table, alloc: Global, env: &Env) -> Result<Bindings, Mem>
-    requires { AreBound (length table.now.trees) env.now }
-    ensures { IfOk result (λ b. b ≡ bindings_of table.now.trees env.now) }
-{
-    let mut b = Bindings::new(alloc);
-    for i in 0..env.len() {
-        let e = env.at(i);
-        let term = table.tree(alloc, e.id)?;
-        let var = e.var.copy(alloc)?;
-        b.push(Binding { var, term })?;
-    }
-    Ok(b)
-}
-
-// Whether the term is normal and has at most 256 nodes.
-fn is_small_form(table: &Table, id: u64) -> bool
-    requires { id < length table.now.trees }
-    ensures { result ≡ true → IsSmallForm (equations table.now.sig) MOST_TERM_NODES table.now.trees id }
-{
-    table.normal_of(id) == id && table.size(id) <= MOST_TERM_NODES
-}
-
-// Whether all that is bound is.
-fn are_small_forms(table: &Table, env: &Env) -> bool
-    requires { AreBound (length table.now.trees) env.now }
-    ensures { result ≡ true → AreSmallForms (equations table.now.sig) MOST_TERM_NODES table.now.trees env.now }
-{
-    for i in 0..env.len() {
-        if !is_small_form(table, env.at(i).id) {
-            return false;
-        }
-    }
-    true
-}
-
-// The fact with trees for its numbers.
-fn built_fact(table: &Table, alloc: Global, f: &SharedFact) -> Result<Fact, Mem>
-    requires { AreBelow (length table.now.trees) f.now.args }
-    ensures { IfOk result (λ h. h ≡ fact_seen table.now.trees f.now) }
-{
-    let name = f.name.copy(alloc)?;
-    let args = trees_of_numbers(table, alloc, &f.args)?;
-    let persistent = f.persistent;
-    Ok(Fact {
-        name,
-        persistent,
-        args,
-    })
 }
 
 // Empties a slot.
@@ -233,29 +93,53 @@ impl SharedPile {
     }
 
     // The fact with numbers for its arguments. Refused, there may be more numbers than before.
-    pub(crate) fn share(&mut self, alloc: Global, f: &Fact) -> Result<SharedFact, Mem>
+    fn share(&mut self, alloc: Global, f: &Fact) -> Result<SharedFact, Mem>
         requires { IsSmallMessageFact self.old.sig f.now }
         ensures shared { IfOk result (IsShared self.new.trees f.now) }
-        ensures keeps { KeepsSlots self.old self.new }
+        ensures sig { self.new.sig ≡ self.old.sig }
+        ensures slots { self.new.slots ≡ self.old.slots }
     {
-        let name = f.name.copy(alloc)?;
-        let args = share_args(&mut self.table, alloc, &f.args)?;
-        let persistent = f.persistent;
-        Ok(SharedFact {
-            name,
-            persistent,
-            args,
-        })
+        shared_facts_stay();
+        share_fact(&mut self.table, alloc, f)
     }
 
-    // The number of a term. Refused, there may be more numbers than before.
-    fn number(&mut self, alloc: Global, t: &Term) -> Result<u64, Mem>
-        requires ground { IsGround (tree t.now) }
-        requires over { IsOver self.old.sig (tree t.now) }
-        ensures gives { IfOk result (λ k. Gives (shared_of self.old) (shared_of self.new) k (tree t.now)) }
-        ensures keeps { KeepsSlots self.old self.new }
+    // The facts with numbers for their arguments. Refused, there may be more numbers than before.
+    pub(crate) fn share_all(&mut self, alloc: Global, fs: &FactList) -> Result<Vec<SharedFact>, Mem>
+        requires { All (IsSmallMessageFact self.old.sig) fs.now }
+        ensures shared { IfOk result (λ v. AreShared self.new.trees fs.now v.items) }
+        ensures sig { self.new.sig ≡ self.old.sig }
+        ensures slots { self.new.slots ≡ self.old.slots }
     {
-        self.table.put(alloc, t)
+        shared_facts_stay();
+        share_facts(&mut self.table, alloc, fs)
+    }
+
+    // The bindings with numbers for their terms. Refused, there may be more numbers than before.
+    pub(crate) fn number(&mut self, alloc: Global, b: &Bindings) -> Result<Env, Mem>
+        requires { All (λ e. IsMessage self.old.sig e.var.sort (tree e.term)) b.now }
+        ensures are { IfOk result (λ env. bindings_of self.new.trees env ≡ b.now) }
+        ensures bound { IfOk result (AreBound (length self.new.trees)) }
+        ensures sig { self.new.sig ≡ self.old.sig }
+        ensures slots { self.new.slots ≡ self.old.slots }
+    {
+        shared_facts_stay();
+        number_bindings(&mut self.table, alloc, b)
+    }
+
+    // What a rule with these acts and this right side shows and adds under what is bound; Large where the normal form of a
+    // subterm has more than 256 nodes. Refused, there may be more numbers than before.
+    pub(crate) fn form(&mut self, alloc: Global, env: &Env, rule: &Rule) -> Result<Sides, Cut>
+        requires env { AreSmallForms (equations self.old.sig) MOST_TERM_NODES self.old.trees env.now }
+        requires ground_acts { All IsGroundFact (instance_facts (given self.old.trees env.now) rule.now.acts) }
+        requires ground_right { All IsGroundFact (instance_facts (given self.old.trees env.now) rule.now.right) }
+        requires over { IsRuleOver self.old.sig rule.now }
+        ensures sides { IfOk result (λ x. AreSides self.old.sig (given self.old.trees env.now) rule.now.acts rule.now.right self.new.trees x.acts x.right.items) }
+        ensures large { IsErrOf result Cut.Large → HasLargeSide self.old.sig (given self.old.trees env.now) rule.now.acts rule.now.right }
+        ensures sig { self.new.sig ≡ self.old.sig }
+        ensures slots { self.new.slots ≡ self.old.slots }
+    {
+        shared_facts_stay();
+        form_sides(&mut self.table, alloc, env, &rule.acts, &rule.right)
     }
 
     // Puts a fact on, for which memory was found.
@@ -320,43 +204,12 @@ impl SharedPile {
         }
     }
 
-    // The bindings with terms for their numbers.
-    pub(crate) fn terms_of(&self, alloc: Global, env: &Env) -> Result<Bindings, Mem>
-        requires { AreBound (length self.now.trees) env.now }
-        ensures { IfOk result (λ b. b ≡ bindings_of self.now.trees env.now) }
-    {
-        bindings_with_terms(&self.table, alloc, env)
-    }
-
     // Whether each term that is bound is normal and has at most 256 nodes.
     pub(crate) fn binds_small_forms(&self, env: &Env) -> bool
         requires { AreBound (length self.now.trees) env.now }
         ensures { result ≡ true → AreSmallForms (equations self.now.sig) MOST_TERM_NODES self.now.trees env.now }
     {
         are_small_forms(&self.table, env)
-    }
-
-    // The number of the normal form of a term under what is bound; Large where that of a subterm has more than 256 nodes.
-    // Refused, there may be more numbers than before.
-    pub(crate) fn form(&mut self, alloc: Global, env: &Env, t: &Term) -> Result<u64, Cut>
-        requires env { AreSmallForms (equations self.old.sig) MOST_TERM_NODES self.old.trees env.now }
-        requires ground { IsGround (instance (given self.old.trees env.now) (tree t.now)) }
-        requires over { IsOver self.old.sig (tree t.now) }
-        ensures below { IfOk result (λ k. k < length self.new.trees) }
-        ensures form { IfOk result (λ k. IsNormalForm (equations self.old.sig) (instance (given self.old.trees env.now) (tree t.now)) (tree_at self.new.trees k)) }
-        ensures within { OnOk result (HasLargeSubterm (equations self.old.sig) MOST_TERM_NODES (instance (given self.old.trees env.now) (tree t.now)) → ⊥) }
-        ensures large { IsErrOf result Cut.Large → HasLargeSubterm (equations self.old.sig) MOST_TERM_NODES (instance (given self.old.trees env.now) (tree t.now)) }
-        ensures keeps { KeepsSlots self.old self.new }
-    {
-        self.table.evaluate(alloc, env, t, MOST_TERM_NODES)
-    }
-
-    // The fact with trees for its numbers.
-    pub(crate) fn built(&self, alloc: Global, f: &SharedFact) -> Result<Fact, Mem>
-        requires { AreBelow (length self.now.trees) f.now.args }
-        ensures { IfOk result (λ h. h ≡ fact_seen self.now.trees f.now) }
-    {
-        built_fact(&self.table, alloc, f)
     }
 
     // Takes the linear fact of this number, which is dropped.
@@ -385,25 +238,6 @@ pub(crate) fn find_place(facts: &mut SharedPile, alloc: Global, f: &Fact) -> Res
     Ok(shared)
 }
 
-// The facts with numbers for their arguments. Refused, there may be more numbers than before.
-#[tactic(auto, using(crate::proofs::Piled::pile_laws))]
-pub(crate) fn share_all(
-    facts: &mut SharedPile,
-    alloc: Global,
-    fs: &FactList,
-) -> Result<Vec<SharedFact>, Mem>
-    requires { All (IsSmallMessageFact facts.old.sig) fs.now }
-    ensures shared { IfOk result (λ v. AreShared facts.new.trees fs.now v.items) }
-    ensures keeps { KeepsSlots facts.old facts.new }
-{
-    let mut shared = Vec::new(alloc);
-    for k in 0..fs.len() {
-        let f = facts.share(alloc, fs.at(k))?;
-        shared.push(f)?;
-    }
-    Ok(shared)
-}
-
 // Whether facts without destructors fit those that are cited, under what is bound and what is bound then.
 pub(crate) fn fit_facts(
     alloc: Global,
@@ -420,33 +254,11 @@ pub(crate) fn fit_facts(
     ensures not { IfOk result (λ r. r ≡ false → HasNoChoice (FactsFit facts.now.sig fs.now (cited_at facts.now.slots numbers.now)) (facts_outer_vars facts.now.sig fs.now) (bindings_of facts.now.trees env.old)) }
     ensures bound { IfOk result (λ _. AreBound (length facts.now.trees) env.new) }
 {
-    extensions_join();
+    facts_fit_in_turn();
     for i in 0..fs.len() {
         if !facts.fit(alloc, fs.at(i), *numbers.at(i), env)? {
             return Ok(false);
         }
     }
     Ok(true)
-}
-
-// The bindings with numbers for their terms. Refused, there may be more numbers than before.
-#[tactic(auto, using(crate::proofs::Piled::pile_laws))]
-pub(crate) fn number_bindings(
-    facts: &mut SharedPile,
-    alloc: Global,
-    b: &Bindings,
-) -> Result<Env, Mem>
-    requires { All (λ e. IsMessage facts.old.sig e.var.sort (tree e.term)) b.now }
-    ensures are { IfOk result (λ env. bindings_of facts.new.trees env ≡ b.now) }
-    ensures bound { IfOk result (AreBound (length facts.new.trees)) }
-    ensures keeps { KeepsSlots facts.old facts.new }
-{
-    let mut env = Env::new(alloc);
-    for i in 0..b.len() {
-        let e = b.at(i);
-        let id = facts.number(alloc, &e.term)?;
-        let var = e.var.copy(alloc)?;
-        env.push(Bound { var, id })?;
-    }
-    Ok(env)
 }

@@ -1,6 +1,7 @@
 ghost use Rattle.std.specs.Prelude.{◌≡◌, ◌↔◌, All, IfOk, IsTrue};
 ghost use Rattle.sap_rule.specs.WellMade.{IsWellMade};
-ghost use Rattle.sap_steps.specs.code.Ready.{HasNoDestructor, IsReady};
+ghost use Rattle.sap_sides.specs.Messages.{HasNoDestructor};
+ghost use Rattle.sap_steps.specs.code.Ready.{IsReady};
 
 use sap_rule::{Rule, open_vars};
 use sap_terms::{Copied, Fact, FactList, HasName, Mem, Name, Signature, Vars};

@@ -1,5 +1,4 @@
-ghost use Rattle.std.specs.Prelude.{◌≡◌, ◌<◌, [], ◌∷◌, ◌++◌, IfOk, OnOk, OnErr, IfErr, IsTrue, ◌↔◌, All, Contains};
-ghost use Rattle.indexmap.specs.IndexSet.{spare};
+ghost use Rattle.std.specs.Prelude.{◌≡◌, ◌<◌, IfOk, OnErr, IfErr, All};
 ghost use Rattle.sap_terms.specs.Message.{AreMessageFacts};
 ghost use Rattle.sap_rule.specs.RuleSteps.{empty_state};
 ghost use Rattle.sap_rule.specs.WellMade.{IsWellMade};
@@ -19,6 +18,7 @@ use indexmap::IndexSet;
 use sap_deduce::Knowledge;
 use sap_rule::{RuleList, Theory, steps_keep_messages};
 use sap_runs::RStep;
+use sap_sides::{find_room, is_among, put_last};
 use sap_terms::{
     Bindings, Copied, FactList, Mem, Name, Named, Numbers, Signature, Term, names_are_messages,
 };
@@ -69,34 +69,6 @@ fn made_ready(alloc: Global, sig: &Signature, rules: &RuleList) -> Result<Named<
     Ok(ready)
 }
 
-// Whether the name is among these.
-fn is_among(names: &IndexSet<u64>, n: u64) -> bool
-    ensures { IsTrue result ↔ Contains names.now.keys n }
-{
-    names.contains(&n)
-}
-
-// Finds memory for one name more.
-fn find_room(names: &mut IndexSet<u64>) -> Result<(), Mem>
-    ensures keys { names.new.keys ≡ names.old.keys }
-    ensures ok { OnOk result (0 < spare names.new) }
-{
-    names.reserve(1)?;
-    Ok(())
-}
-
-// Puts a name that isn't among these last, where memory was found for it.
-fn put_last(names: &mut IndexSet<u64>, n: u64)
-    requires new { ¬ Contains names.old.keys n }
-    requires room { 0 < spare names.old }
-    ensures { names.new.keys ≡ names.old.keys ++ n ∷ [] }
-{
-    match names.insert(n) {
-        Ok(_) => {}
-        Err(_) => unreachable!(),
-    }
-}
-
 impl RuleState {
     /// Where each run of the theory's rules starts.
     pub fn start(alloc: Global, t: &Theory) -> Result<RuleState, Mem>
@@ -105,10 +77,14 @@ impl RuleState {
         ensures rules { IfOk result (λ s. s.rules ≡ t.now.rules) }
         ensures at { IfOk result (λ s. s.at ≡ empty_state) }
     {
+        let knowledge = Knowledge::new(alloc, &t.signature).ok();
+        let rules = made_ready(alloc, &t.signature, &t.rules).ok();
+        let facts = SharedPile::new(alloc, &t.signature).ok();
+        let ((knowledge, rules), facts) = knowledge.zip(rules).zip(facts).ok_or(Mem)?;
         Ok(RuleState {
-            knowledge: Knowledge::new(alloc, &t.signature)?,
-            rules: made_ready(alloc, &t.signature, &t.rules)?,
-            facts: SharedPile::new(alloc, &t.signature)?,
+            rules,
+            facts,
+            knowledge,
             made: IndexSet::new(alloc),
         })
     }

@@ -1,15 +1,15 @@
-ghost use Rattle.std.specs.Prelude.{◌≡◌, ℕ, ◌≤◌, true, false, nat_eq, None, length, map, All, IfOk, OnOk, OnErr, MatchOption};
+ghost use Rattle.std.specs.Prelude.{◌≡◌, ℕ, ◌≤◌, true, false, nat_eq, None, length, map, IfOk, OnOk, OnErr, MatchOption};
 ghost use Rattle.indexmap.specs.IndexSet.{contains};
 ghost use Rattle.sap_terms.specs.Piles.{adds};
 ghost use Rattle.sap_facts.specs.Facts.{fact_at};
 ghost use Rattle.sap_steps.specs.Faults.{IsFirstMissing};
-ghost use Rattle.sap_share.specs.Shared.{AreBelow};
-ghost use Rattle.sap_steps.specs.code.Left.{left_of, AreTaken, unless, IsCited};
-ghost use Rattle.sap_steps.specs.code.Piled.{fact_seen};
+ghost use Rattle.sap_facts.specs.Cited.{left_of, AreTaken};
+ghost use Rattle.sap_sides.specs.SharedFacts.{fact_seen, AreFactsBelow};
+ghost use Rattle.sap_steps.specs.code.Left.{unless, IsCited};
 
-use crate::firing::Firing;
-use crate::pile::{SharedFact, SharedPile};
+use crate::pile::SharedPile;
 use indexmap::IndexSet;
+use sap_sides::{SharedFact, Sides};
 use sap_terms::{FactList, Mem, Numbers};
 use std::alloc::Global;
 
@@ -63,22 +63,22 @@ fn first_missing_of(
 pub(crate) fn carry_out(
     facts: &mut SharedPile,
     numbers: &Numbers,
-    fired: Firing,
+    fired: Sides,
 ) -> Result<FactList, Mem>
-    requires { All (λ s. AreBelow (length facts.old.trees) s.args) fired.right.items }
+    requires { AreFactsBelow (length facts.old.trees) fired.right.items }
     ensures ok { OnOk result (facts.new.slots ≡ adds (left_of facts.old.slots numbers.now) (map (fact_seen facts.old.trees) fired.right.items)) }
     ensures err { OnErr result (facts.new.slots ≡ facts.old.slots) }
     ensures sig { facts.new.sig ≡ facts.old.sig }
     ensures acts { IfOk result (λ acts. acts ≡ fired.acts) }
 {
-    let Firing { acts, right } = fired;
+    let Sides { acts, right } = fired;
     exchange(facts, numbers, right)?;
     Ok(acts)
 }
 
 // Takes the facts with these numbers and adds others, if memory is found for them.
 fn exchange(facts: &mut SharedPile, numbers: &Numbers, added: Vec<SharedFact>) -> Result<(), Mem>
-    requires below { All (λ s. AreBelow (length facts.old.trees) s.args) added.items }
+    requires below { AreFactsBelow (length facts.old.trees) added.items }
     ensures ok { OnOk result (facts.new.slots ≡ adds (left_of facts.old.slots numbers.now) (map (fact_seen facts.old.trees) added.items)) }
     ensures err { OnErr result (facts.new.slots ≡ facts.old.slots) }
     ensures sig { facts.new.sig ≡ facts.old.sig }
@@ -104,7 +104,7 @@ fn take_each(facts: &mut SharedPile, numbers: &Numbers)
 // Adds facts for which memory was found.
 fn add_each(facts: &mut SharedPile, added: Vec<SharedFact>)
     requires room { length added.items ≤ facts.old.spare }
-    requires below { All (λ s. AreBelow (length facts.old.trees) s.args) added.items }
+    requires below { AreFactsBelow (length facts.old.trees) added.items }
     ensures sig { facts.new.sig ≡ facts.old.sig }
     ensures slots { facts.new.slots ≡ adds facts.old.slots (map (fact_seen facts.old.trees) added.items) }
 {

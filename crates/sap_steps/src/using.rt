@@ -1,17 +1,17 @@
 ghost use Rattle.std.specs.Prelude.{◌≡◌, ◌⊎◌, length, map, IfOk, IfErr, All};
 ghost use Rattle.sap_steps.specs.Faults.{IsRuleFault};
-ghost use Rattle.sap_steps.specs.code.Held.{HoldsSmallMessages, IsSmallMessageFact, cited_at};
-ghost use Rattle.sap_share.specs.Shared.{AreBelow};
-ghost use Rattle.sap_steps.specs.code.Left.{AreTaken};
-ghost use Rattle.sap_steps.specs.code.Piled.{fact_seen};
+ghost use Rattle.sap_facts.specs.Cited.{cited_at, AreTaken};
+ghost use Rattle.sap_sides.specs.Messages.{HoldsSmallMessages, IsSmallMessageFact};
+ghost use Rattle.sap_sides.specs.SharedFacts.{fact_seen, AreFactsBelow};
 ghost use Rattle.sap_steps.specs.Lines.{Fires, IsSmall};
 ghost use Rattle.sap_steps.specs.code.Ready.{IsReady};
 
 use crate::RFault;
-use crate::firing::{Firing, fire};
+use crate::firing::fire;
 use crate::pile::SharedPile;
 use crate::prepared::Prepared;
 use crate::taking::first_missing;
+use sap_sides::Sides;
 use sap_terms::{Bindings, Numbers, Signature};
 use std::alloc::Global;
 
@@ -23,14 +23,14 @@ pub(crate) fn use_rule(
     facts: &mut SharedPile,
     numbers: &Numbers,
     b: &Bindings,
-) -> Result<Firing, RFault>
+) -> Result<Sides, RFault>
     requires ready { IsReady sig.now rule.now }
     requires sig { facts.old.sig ≡ sig.now }
     requires held { HoldsSmallMessages sig.now facts.old.slots }
     ensures taken { IfOk result (λ _. AreTaken facts.old.slots numbers.now) }
     ensures fires { IfOk result (λ x. Fires sig.now IsSmall rule.now.rule b.now (cited_at facts.old.slots numbers.now) x.acts (map (fact_seen facts.new.trees) x.right.items)) }
     ensures held { IfOk result (λ x. All (IsSmallMessageFact sig.now) (map (fact_seen facts.new.trees) x.right.items)) }
-    ensures below { IfOk result (λ x. All (λ s. AreBelow (length facts.new.trees) s.args) x.right.items) }
+    ensures below { IfOk result (λ x. AreFactsBelow (length facts.new.trees) x.right.items) }
     ensures refused { IfErr result (λ e. (e ≡ RFault.Mem) ⊎ IsRuleFault sig.now rule.now.rule facts.old.slots numbers.now b.now e) }
     ensures sig { facts.new.sig ≡ facts.old.sig }
     ensures slots { facts.new.slots ≡ facts.old.slots }

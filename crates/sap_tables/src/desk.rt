@@ -1,13 +1,14 @@
 //! What the rows of a table have made so far, where they go on from one another.
 use crate::notation::{name, signature, term};
 use crate::page::Page;
+use sap_calc::Config;
 use sap_deduce::Knowledge;
 use sap_facts::Pile;
 use sap_rule::Theory;
 use sap_steps::RuleState;
 use sap_terms::{Items, Name, Signature, Term};
 
-/// The symbols and terms of a row, and facts, a theory, knowledge and a run of rules.
+/// The symbols and terms of a row, and facts, a theory, knowledge, a run of rules and one of a process.
 #[derive(Drop)]
 pub struct Desk {
     pub signature: Signature,
@@ -16,6 +17,7 @@ pub struct Desk {
     pub theory: Theory,
     pub knowledge: Option<Box<Knowledge>>,
     pub run: Option<Box<RuleState>>,
+    pub config: Option<Box<Config>>,
 }
 
 fn theory_of(page: &mut Page, name: Name, signature: Signature) -> Theory {
@@ -42,6 +44,7 @@ fn desk_of(page: &mut Page, signature: Signature, theory: Theory) -> Desk {
         theory,
         knowledge: None,
         run: None,
+        config: None,
     }
 }
 

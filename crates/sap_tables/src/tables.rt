@@ -3,8 +3,8 @@ use crate::desk::{Desk, empty_desk};
 use crate::notation::{part, written};
 use crate::page::Page;
 use crate::{
-    calls, copies, files, formulas, guards, judgements, knowledge, piles, rules, runs, sharing,
-    terms, theories, tokens,
+    calls, copies, files, formulas, guards, judgements, knowledge, piles, processes, rules,
+    run_texts, runs, sharing, terms, theories, tokens,
 };
 use std::alloc::Global;
 
@@ -35,7 +35,9 @@ fn push_found_above(page: &mut Page, desk: &mut Desk, table: &str, row: &str) {
         "knowledge" => knowledge::knowledge_row(page, desk, row),
         "piles" => piles::piles_row(page, &desk.signature, &mut desk.pile, row),
         "rules" => rules::rules_row(page, &mut desk.theory, row),
+        "run-texts" => run_texts::run_texts_row(page, row),
         "rule-runs" => runs::runs_row(page, desk, row),
+        "process-runs" => processes::processes_row(page, desk, row),
         "formulas" => formulas::formulas_row(page, &mut desk.theory, row),
         "checks" => judgements::checks_row(page, &mut desk.theory, row),
         "guards" => guards::guards_row(page, &mut desk.theory, row),

@@ -1,4 +1,7 @@
 -- Laws of lists, truth values and plain terms that the library lacks: the one folder of proofs that other crates may name.
+pub mod Choices
+pub mod Items
 pub mod Lists
+pub mod Names
 pub mod Tests
 pub mod Trees

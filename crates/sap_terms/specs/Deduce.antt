@@ -1,5 +1,5 @@
 -- What can be deduced from names and a frame, that is, from the terms that were sent.
-use Rattle.std.specs.Prelude.{◌≡◌, ℕ, List, [], ◌∷◌, length, Contains, All, Some}
+use Rattle.std.specs.Prelude.{◌≡◌, ℕ, List, [], ◌∷◌, length, find, nat_le, Contains, All, Some}
 use Rattle.sap_terms.specs.Tree.{Tree, public, fresh, apply, trees_of}
 use Rattle.sap_terms.specs.Signature.{Sig, IsPublic, arity_of}
 use Rattle.sap_terms.specs.Equations.{equations}
@@ -23,3 +23,7 @@ pub record IsDeducible (g : Sig) (names : List ℕ) (frame : List Tree) (t : Tre
   pub is_form : IsNormalForm (equations g) t form
   pub earlier : List Tree
   pub derivation : IsDerivation g names frame (form ∷ earlier)
+
+-- entries are numbered from 0: the first of these numbers that is no entry's of so many
+abbrev pub IsFirstUnknown : ℕ → List ℕ → ℕ → Type 0
+IsFirstUnknown count ks k = find (nat_le count) ks ≡ Some k

@@ -41,7 +41,7 @@ pub fn subst(alloc: Global, t: &Term, b: &Bindings) -> Result<Term, Mem>
 fn subst_all(alloc: Global, ts: &TermList, b: &Bindings) -> Result<TermList, Mem>
     ensures { IfOk result (λ r. r ≡ map (subst_tree b.now) ts.now) }
 {
-    let mut out = TermList::new(alloc);
+    let mut out = TermList::with_room(alloc, ts.len())?;
     for k in 0..ts.len() {
         out.push(subst(alloc, ts.at(k), b)?)?;
     }

@@ -1,4 +1,4 @@
-ghost use Rattle.std.specs.Prelude.{◌≡◌, ◌<◌, ◌↔◌, [], ◌∷◌, ◌++◌, length, IsTrue, OnOk, OnErr, slice_get, option_map, min, map, Some, slice_index_or, ◌≤◌};
+ghost use Rattle.std.specs.Prelude.{◌≡◌, ◌<◌, ◌↔◌, [], ◌∷◌, ◌++◌, length, IsTrue, IfOk, OnOk, OnErr, slice_get, option_map, min, map, Some, slice_index_or, ◌≤◌};
 ghost use Rattle.std.specs.Option.{option_copied};
 ghost use Rattle.sap_terms.specs.Same.{same_tree};
 
@@ -61,6 +61,14 @@ impl TermList {
         TermList {
             items: Vec::new(alloc),
         }
+    }
+
+    /// The empty list, with room for so many terms, which push takes no memory for.
+    pub fn with_room(alloc: Global, count: u64) -> Result<TermList, Mem>
+        ensures { IfOk result (λ a. a ≡ []) }
+    {
+        let items = Vec::with_capacity(alloc, count as usize)?;
+        Ok(TermList { items })
     }
 
     /// Puts the term last; a refused term is dropped, and the list is as it was.
@@ -215,7 +223,7 @@ impl Copied for Term {
 impl Copied for TermList {
     #[cycle(copy)]
     fn copy(&self, alloc: Global) -> Result<TermList, Mem> {
-        let mut items = Vec::new(alloc);
+        let mut items = Vec::with_capacity(alloc, self.items.len())?;
         for t in &self.items {
             items.push(t.copy(alloc)?)?;
         }

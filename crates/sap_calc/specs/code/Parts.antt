@@ -5,9 +5,10 @@ use Rattle.sap_terms.specs.Tree.{Tree}
 use Rattle.sap_deduce.specs.Entries.{Entries, names_given}
 use Rattle.sap_share.specs.Shared.{Shared, tree_at}
 use Rattle.sap_calc.specs.Running.{Running}
-use Rattle.sap_calc.specs.code.Places.{ArePlaces, procs_of}
+use Rattle.sap_lines.specs.Places.{ArePlaced, procs_of}
+use Rattle.sap_calc.specs.code.Held.{HoldsFine}
 use Rattle.sap_calc.specs.code.Threads.{all_running, IsThread, IsSmallNumber}
-use Rattle.sap_calc.specs.declared.place.Place.{Place}
+use Rattle.sap_lines.specs.declared.place.Place.{Place}
 use Rattle.sap_calc.specs.declared.thread.Thread.{Thread}
 
 -- terms by numbers; places; threads at them; what the store has at numbers; which are held; facts; names of processes, and
@@ -46,12 +47,14 @@ seen p = record {
 abbrev pub IsSmallValue : Shared → Option ℕ → Type 0
 IsSmallValue s o = (k : ℕ) → o ≡ Some k → IsSmallNumber s k
 
--- places, threads, keys, values and marks are over one table and one signature, and the adversary's names are among its entries
+-- places, threads, keys, values, marks and facts are over one table and one signature, and the adversary's names are among its
+-- entries
 pub record AreTied (p : Parts) : Type 0 where
   pub sig : p.table.sig ≡ p.known.sig
-  pub places : ArePlaces p.places
+  pub places : ArePlaced p.places
   pub threads : (t : ℕ) (th : Thread) → slice_get p.threads t ≡ Some (Some th) → IsThread p.table p.places th
   pub keys : All (λ (e : ℕ × Option ℕ). IsSmallNumber p.table e.0) p.store
   pub values : All (λ (e : ℕ × Option ℕ). IsSmallValue p.table e.1) p.store
   pub held : All (λ (e : ℕ × Bool). IsSmallNumber p.table e.0) p.held
   pub own : p.own ≡ names_given p.known.entries
+  pub facts : HoldsFine p.table.sig p.facts

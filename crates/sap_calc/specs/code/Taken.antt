@@ -9,11 +9,11 @@ use Rattle.sap_rewrite.specs.Match.{IsOnlyMatch, HasNoMatch}
 use Rattle.sap_share.specs.Env.{given, bindings_of, AreBound}
 use Rattle.sap_share.specs.Shared.{Shared, tree_at}
 use Rattle.sap_share.specs.declared.env.Bound.{Bound}
-use Rattle.sap_calc.specs.Faults.{EvaluateSmall}
+use Rattle.sap_lines.specs.Faults.{EvaluateSmall}
 use Rattle.sap_calc.specs.code.Threads.{IsSmallNumber}
 use Rattle.sap_calc.specs.code.Values.{IsValueFault}
-use Rattle.sap_calc.specs.declared.fault.PFault.{PFault}
-use Rattle.sap_calc.specs.declared.fault.PFault.TheVariants.{Mem, NoMatch, Unequal}
+use Rattle.sap_lines.specs.declared.fault.PFault.{PFault}
+use Rattle.sap_lines.specs.declared.fault.PFault.TheVariants.{Mem, NoMatch, Unequal}
 use Rattle.sap_calc.specs.declared.thread.Thread.{Thread}
 
 -- the thread is at the place, and what is bound there is the match of the pattern with the term

@@ -9,9 +9,9 @@ use Rattle.sap_process.specs.Sites.{Above, var_names}
 use Rattle.sap_share.specs.Env.{given, AreSmallForms, IsSmallForm}
 use Rattle.sap_share.specs.Shared.{Shared}
 use Rattle.sap_share.specs.declared.env.Bound.{Bound}
-use Rattle.sap_calc.specs.code.Places.{proc_at, procs_of}
+use Rattle.sap_lines.specs.Places.{proc_at, procs_of}
 use Rattle.sap_calc.specs.code.Sound.{IsSoundFrom}
-use Rattle.sap_calc.specs.declared.place.Place.{Place}
+use Rattle.sap_lines.specs.declared.place.Place.{Place}
 use Rattle.sap_calc.specs.declared.thread.Thread.{Thread}
 
 -- the names that are bound

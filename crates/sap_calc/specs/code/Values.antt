@@ -1,5 +1,5 @@
 -- Terms that are evaluated for a thread.
-use Rattle.std.specs.Prelude.{◌≡◌, ◌⊎◌, List, [], ◌∷◌, ℕ, Some, None, map, slice_get}
+use Rattle.std.specs.Prelude.{◌≡◌, ◌⊎◌, List, [], ◌∷◌, ℕ, Some, None, map, slice_get, All}
 use Rattle.std.specs.List.{AllZip}
 use Rattle.sap_terms.specs.Choice.{instance}
 use Rattle.sap_terms.specs.Equations.{equations}
@@ -14,10 +14,11 @@ use Rattle.sap_deduce.specs.Entries.{Entries, terms_of}
 use Rattle.sap_share.specs.Env.{given}
 use Rattle.sap_share.specs.Shared.{Shared, tree_at}
 use Rattle.sap_share.specs.declared.env.Bound.{Bound}
-use Rattle.sap_calc.specs.Faults.{EvaluateLarge, EvaluateSmall}
+use Rattle.sap_lines.specs.Faults.{EvaluateLarge, EvaluateSmall}
+use Rattle.sap_calc.specs.code.Held.{IsFine, IsFineFact}
 use Rattle.sap_calc.specs.code.Threads.{IsSmallNumber}
-use Rattle.sap_calc.specs.declared.fault.PFault.{PFault}
-use Rattle.sap_calc.specs.declared.fault.PFault.TheVariants.{Mem, NoEntry, TermLarge}
+use Rattle.sap_lines.specs.declared.fault.PFault.{PFault}
+use Rattle.sap_lines.specs.declared.fault.PFault.TheVariants.{Mem, NoEntry, TermLarge}
 
 -- the term stands for a ground term over the signature
 pub record CanEvaluate (s : Shared) (env : List Bound) (t : Tree) : Type 0 where
@@ -46,16 +47,19 @@ IsValueFault g ts f = (f ≡ Mem) ⊎ ((f ≡ TermLarge) × EvaluateLarge g ts)
 pub record IsFormed (s : Shared) (env : List Bound) (t n : Tree) : Type 0 where
   pub form : IsNormalForm (equations s.sig) (instance (given s.trees env) t) n
   pub small : EvaluateSmall s.sig (instance (given s.trees env) t ∷ [])
+  pub fine : IsFine s.sig n
 
 -- so are these terms, one by one
 pub record AreFormed (s : Shared) (env : List Bound) (ts ns : List Tree) : Type 0 where
   pub forms : AllZip (IsNormalForm (equations s.sig)) (map (instance (given s.trees env)) ts) ns
   pub small : EvaluateSmall s.sig (map (instance (given s.trees env)) ts)
+  pub fine : All (IsFine s.sig) ns
 
 -- so is a fact
 pub record IsFactFormed (s : Shared) (env : List Bound) (f h : Fact) : Type 0 where
   pub form : IsFormOfFact (equations s.sig) (instance_fact (given s.trees env) f) h
   pub small : EvaluateSmall s.sig (map (instance (given s.trees env)) f.args)
+  pub fine : IsFineFact s.sig h
 
 -- and this fact alone
 pub record IsShown (s : Shared) (env : List Bound) (f : Fact) (hs : List Fact) : Type 0 where

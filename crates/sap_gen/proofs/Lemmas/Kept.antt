@@ -15,16 +15,11 @@ use Rattle.sap_process.specs.ProcessSteps.{IsProcessTrace}
 use Rattle.sap_restrict.specs.Inline.{formulas, inlined}
 use Rattle.sap_restrict.specs.Restrictions.{needed_restrictions}
 use Rattle.sap_rule.specs.RuleSteps.{IsFullTrace}
-use Rattle.sap_gen.specs.Faithful.{AreRestrictionsTrue}
-use Rattle.sap_gen.specs.Sound.{IsSound}
-use Rattle.sap_gen.specs.Templates.{rules_of}
-use Rattle.sap_gen.specs.relation.Spelled.{IsProcessOver}
-use Rattle.sap_gen.proofs.ByHand.Parts.{rules_show, rules_show_only}
+use Rattle.sap_translate.specs.Faithful.{AreRestrictionsTrue}
+use Rattle.sap_translate.specs.Sound.{IsSound}
+use Rattle.sap_translate.specs.Templates.{rules_of}
+use Rattle.sap_translate.specs.relation.Spelled.{IsProcessOver}
 use Rattle.sap_gen.proofs.Lemmas.LemmaLaws.{LemmaLaws}
-use Rattle.sap_gen.proofs.Premises.Messages.{tidy_run}
-use Rattle.sap_gen.proofs.Premises.Spelled.{rules_over}
-use Rattle.sap_gen.proofs.Restricted.Needed.{needed_to, needed_from}
-use Rattle.sap_gen.proofs.Restricted.Truth.{tidy_messages}
 
 -- the formula of each is checked, and none of its facts is hidden
 abbrev pub AreVisible : Sig → List RestrictionForm → Type 0
@@ -59,7 +54,7 @@ inlined_holds laws g S us ExistsTrace f = (
 
 module _ (laws : LemmaLaws) (g : Sig) (p : Proc) (hold : HoldsBuiltins g) (sound : IsSound g p) (over : IsProcessOver g p) where
   full_messages : (full : Trace) → IsFullTrace g (rules_of p) full → IsMessageTrace g full
-  full_messages full w = tidy_messages g full ((tidy_run laws.below) hold (rules_over g p over) w.1)
+  full_messages full w = laws.shown.messages g p full hold over w
 
   hidden_true : (f : Form) (full : Trace) → IsFullTrace g (rules_of p) full → IsCheckedVisible g f → IsTrueOn g f full ↔ IsTrueOn g f (hide full)
   hidden_true f full w v = laws.hide g f full (full_messages full w) v
@@ -78,16 +73,16 @@ module _ (laws : LemmaLaws) (g : Sig) (p : Proc) (hold : HoldsBuiltins g) (sound
 
     pub seen_from : (tr : Trace) → IsProcessTrace g p tr → AreRestrictionsTrue g rs tr → IsSeen tr
     seen_from tr t h =
-        let w = (rules_show laws.below) g p hold sound over tr t in
-        let needed = (needed_from laws.below) g p w.1.0 w.0 over w.1.1 w.2 in
+        let w = laws.shown.all g p hold sound over tr t in
+        let needed = (laws.shown.needed g p w.0 over w.1).1 w.2 in
         let own = (all_hidden rs w.0 w.1 visible).1 (subst (λ x. AreRestrictionsTrue g rs x) (sym w.3) h) in
         (w.0, w.1, both_true g (needed_restrictions p) rs w.0 needed own, w.3)
 
     pub seen_to : (tr : Trace) → IsSeen tr → IsProcessTrace g p tr × AreRestrictionsTrue g rs tr
     seen_to tr w =
-        let needed = (needed_to laws.below) g p w.1.0 w.0 over w.1.1 (first_true g (needed_restrictions p) rs w.0 w.2) in
+        let needed = (laws.shown.needed g p w.0 over w.1).0 (first_true g (needed_restrictions p) rs w.0 w.2) in
         let own = (all_hidden rs w.0 w.1 visible).0 (second_true g (needed_restrictions p) rs w.0 w.2) in
-        ((rules_show_only laws.below) g p hold sound over tr (w.0, w.1, needed, w.3), subst (λ x. AreRestrictionsTrue g rs x) w.3 own)
+        (laws.shown.only g p hold sound over tr (w.0, w.1, needed, w.3), subst (λ x. AreRestrictionsTrue g rs x) w.3 own)
 
     -- a lemma
     pub lemma_kept : (m : Mode) (f : Form) → IsCheckedVisible g f → HoldsOf g (IsProcessTrace g p) (formulas rs) m f ↔ HoldsOf g (IsFullTrace g (rules_of p)) (formulas (needed_restrictions p ++ rs)) m f

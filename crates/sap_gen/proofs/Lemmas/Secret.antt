@@ -15,8 +15,7 @@ use Rattle.sap_formula.specs.Laws.{IsCheckedVisible}
 use Rattle.sap_process.specs.ProcessSteps.{IsProcessTrace, ProcessRun, ProcessStep}
 use Rattle.sap_gen.specs.Kept.{HoldsOfFile, HoldsOfTheory, file_theory, inlined_file_theory, inlined_file_lemma}
 use Rattle.sap_gen.specs.LemmaExamples.{is_reached, never_known, secret, secret_file, sends_secret, some_secret, stays_secret}
-use Rattle.sap_gen.specs.Members.{Member}
-use Rattle.sap_gen.proofs.ByHand.Parts.{sound_by_parts}
+use Rattle.sap_translate.specs.Members.{Member}
 use Rattle.sap_gen.proofs.Lemmas.LemmaLaws.{LemmaLaws}
 use Rattle.sap_gen.proofs.Lemmas.Theories.{IsSoundFile, theory_holds, inlined_theory_holds}
 
@@ -28,10 +27,10 @@ known_visible g = ((inr (inl refl), (inl refl, tt)), ((refl, (refl, tt), refl), 
 secret_visible : (g : Sig) → IsCheckedVisible g some_secret
 secret_visible g = ((inr (inl refl), (inl refl, tt)), (refl, (refl, tt), refl))
 
-secret_sound : (g : Sig) → HoldsBuiltins g → IsSoundFile (secret_file g)
-secret_sound g hold = record {
+secret_sound : (laws : LemmaLaws) (g : Sig) → HoldsBuiltins g → IsSoundFile (secret_file g)
+secret_sound laws g hold = record {
   hold = hold;
-  sound = sound_by_parts g sends_secret (refl, ((refl, (Member.here, tt)), (Member.here, tt))) tt;
+  sound = laws.shown.parts g sends_secret (refl, ((refl, (Member.here, tt)), (Member.here, tt))) tt;
   over = (tt, ((refl, (tt, tt)), (tt, tt)));
   restrictions = tt;
   lemmas = (known_visible g, (secret_visible g, tt));
@@ -75,13 +74,13 @@ file_reaches leaves g = (leaking, leaks leaves g, tt, (name, name_message leaves
 -- and so on its theories
 
 pub theory_fails : (laws : LemmaLaws) (g : Sig) → HoldsBuiltins g → HoldsOfTheory (file_theory (secret_file g)) stays_secret → ⊥
-theory_fails laws g hold h = file_fails laws.below.leaves g ((theory_holds laws (secret_file g) (secret_sound g hold) stays_secret (known_visible g)).1 h)
+theory_fails laws g hold h = file_fails laws.leaves g ((theory_holds laws (secret_file g) (secret_sound laws g hold) stays_secret (known_visible g)).1 h)
 
 pub theory_reaches : (laws : LemmaLaws) (g : Sig) → HoldsBuiltins g → HoldsOfTheory (file_theory (secret_file g)) is_reached
-theory_reaches laws g hold = (theory_holds laws (secret_file g) (secret_sound g hold) is_reached (secret_visible g)).0 (file_reaches laws.below.leaves g)
+theory_reaches laws g hold = (theory_holds laws (secret_file g) (secret_sound laws g hold) is_reached (secret_visible g)).0 (file_reaches laws.leaves g)
 
 pub inlined_fails : (laws : LemmaLaws) (g : Sig) → HoldsBuiltins g → HoldsOfTheory (inlined_file_theory (secret_file g)) (inlined_file_lemma (secret_file g) stays_secret) → ⊥
-inlined_fails laws g hold h = file_fails laws.below.leaves g ((inlined_theory_holds laws (secret_file g) (secret_sound g hold) stays_secret (known_visible g)).1 h)
+inlined_fails laws g hold h = file_fails laws.leaves g ((inlined_theory_holds laws (secret_file g) (secret_sound laws g hold) stays_secret (known_visible g)).1 h)
 
 pub inlined_reaches : (laws : LemmaLaws) (g : Sig) → HoldsBuiltins g → HoldsOfTheory (inlined_file_theory (secret_file g)) (inlined_file_lemma (secret_file g) is_reached)
-inlined_reaches laws g hold = (inlined_theory_holds laws (secret_file g) (secret_sound g hold) is_reached (secret_visible g)).0 (file_reaches laws.below.leaves g)
+inlined_reaches laws g hold = (inlined_theory_holds laws (secret_file g) (secret_sound laws g hold) is_reached (secret_visible g)).0 (file_reaches laws.leaves g)

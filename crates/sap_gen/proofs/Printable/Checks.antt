@@ -4,13 +4,16 @@ use Rattle.std.specs.Prelude.{All}
 use Rattle.std.specs.List.{IsDistinct, list_any}
 use Rattle.std.specs.Str.{bytes_eq}
 use Rattle.std.proofs.lemmas.List.Elements.{All-weaker}
-use Rattle.sap_terms.specs.Signature.{Sig}
+use Rattle.sap_terms.specs.Signature.{Sig, arity_of}
 use Rattle.sap_terms.specs.declared.limits.TheConstants.{MOST_FILE_NAME_BYTES}
 use Rattle.sap_formula.specs.Faults.{HasNoFault}
 use Rattle.sap_formula.specs.Form.{LemmaForm, RestrictionForm}
 use Rattle.sap_formula.specs.Laws.{ClosedLaw, IsClosed}
 use Rattle.sap_formula.specs.Truth.{EachIn}
-use Rattle.sap_process.specs.Proc.{node_count}
+use Rattle.sap_locks.specs.Annotation.{IsAnnotation}
+use Rattle.sap_process.specs.Proc.{Proc, node_count}
+use Rattle.sap_process.specs.Ready.{IsReady}
+use Rattle.sap_terms.specs.Equations.{pair_name}
 use Rattle.sap_rule.specs.Named.{HaveNamesOfTheirOwn, rule_named}
 use Rattle.sap_rule.specs.WellMade.{IsRuleOver, IsWellMade}
 use Rattle.sap_rule.specs.declared.rule.Rule.{Rule}
@@ -21,14 +24,12 @@ use Rattle.sap_theory.specs.ReadAgain.{PassesChecks}
 use Rattle.sap_theory.specs.TheoryCauses.{IsLinear, IsPlainRule, first_repeated, rule_names}
 use Rattle.sap_gen.specs.Kept.{IsClosedTheory, file_theory, inlined_file_theory}
 use Rattle.sap_read.specs.OwnNames.{HaveOwnNames, IsNamedApart, statement_names}
-use Rattle.sap_gen.specs.Templates.{rules_of}
+use Rattle.sap_translate.specs.Templates.{rules_of}
 use Rattle.sap_gen.proofs.Lemmas.Closed.{inlined_theory_closed, theory_closed}
-use Rattle.sap_gen.proofs.Premises.LeftsOver.{ready_made}
-use Rattle.sap_gen.proofs.Premises.OwnNames.{own_names}
 use Rattle.sap_gen.proofs.Printable.Faultless.{closed_faultless}
 use Rattle.sap_gen.proofs.Printable.OwnNames.{Apart, inlined_theory_names, other, theory_names}
 use Rattle.sap_gen.proofs.Printable.Scopes.{all_of_each, each_of_all}
-use Rattle.sap_gen.proofs.Printable.Theories.{rules_linear}
+use Rattle.sap_gen.proofs.Printable.Theories.{SettledLaws, rules_linear}
 
 -- names that are apart
 
@@ -69,16 +70,23 @@ plain_rules : (g : Sig) (rs : List Rule) → EachIn (IsWellMade g) rs → EachIn
 plain_rules g [] h k = tt
 plain_rules g (r ∷ rs) h k = (record { shape = h.0.shape; acts = k.0 }, plain_rules g rs h.1 k.1)
 
-module _ (closed : ClosedLaw) (f : FileContent) (run : IsRunnable f) (fine : IsPrintableFile MOST_FILE_NAME_BYTES f) (apart : IsNamedApart f) where
+-- what is said of formulas and of rules
+pub record CheckLaws : Type 0 where
+  pub closed : ClosedLaw
+  pub settled : SettledLaws
+  pub made : (g : Sig) (p q : Proc) → arity_of g pair_name ≡ Some 2 → IsReady g p → node_count p < 2 ^ 64 → IsAnnotation p q → All (IsWellMade g) (rules_of q)
+  pub names : (p : Proc) → HaveNamesOfTheirOwn (rules_of p)
+
+module _ (laws : CheckLaws) (f : FileContent) (run : IsRunnable f) (fine : IsPrintableFile MOST_FILE_NAME_BYTES f) (apart : IsNamedApart f) where
   made : All (IsWellMade f.signature) (rules_of f.process)
   made =
       let small : node_count run.process < 2 ^ 64 = omega (arith, run.small) in
-      ready_made f.signature run.process f.process run.pairs run.ready small run.annotation
+      laws.made f.signature run.process f.process run.pairs run.ready small run.annotation
 
   plain : All IsPlainRule (rules_of f.process)
   plain =
       all_of_each IsPlainRule (rules_of f.process)
-      (plain_rules f.signature (rules_of f.process) (each_of_all (IsWellMade f.signature) (rules_of f.process) made) (each_of_all (λ (r : Rule). All IsLinear r.acts) (rules_of f.process) (rules_linear f run fine)))
+      (plain_rules f.signature (rules_of f.process) (each_of_all (IsWellMade f.signature) (rules_of f.process) made) (each_of_all (λ (r : Rule). All IsLinear r.acts) (rules_of f.process) (rules_linear laws.settled f run fine)))
 
   -- a theory with the file's name and signature, and the rules of its process
   abbrev theory : List RestrictionForm → List LemmaForm → Theory
@@ -86,7 +94,7 @@ module _ (closed : ClosedLaw) (f : FileContent) (run : IsRunnable f) (fine : IsP
 
   passes : (rs : List RestrictionForm) (ls : List LemmaForm) → IsClosedTheory (theory rs ls) → HaveOwnNames rs ls → PassesChecks (theory rs ls)
   passes rs ls c n = record {
-    rule_names = rules_unrepeated (rules_of f.process) (own_names f.process);
+    rule_names = rules_unrepeated (rules_of f.process) (laws.names f.process);
     names = unrepeated (statement_names rs ls) n;
     over = All-weaker (IsWellMade f.signature) (IsRuleOver f.signature) (λ r h. h.over) (rules_of f.process) made;
     plain = plain;
@@ -95,7 +103,7 @@ module _ (closed : ClosedLaw) (f : FileContent) (run : IsRunnable f) (fine : IsP
   }
 
   pub theory_passes : PassesChecks (file_theory f)
-  theory_passes = passes (file_theory f).restrictions (file_theory f).lemmas (theory_closed closed f run) (theory_names f apart)
+  theory_passes = passes (file_theory f).restrictions (file_theory f).lemmas (theory_closed laws.closed f run) (theory_names f apart)
 
   pub inlined_theory_passes : PassesChecks (inlined_file_theory f)
-  inlined_theory_passes = passes (inlined_file_theory f).restrictions (inlined_file_theory f).lemmas (inlined_theory_closed closed f run) (inlined_theory_names f apart)
+  inlined_theory_passes = passes (inlined_file_theory f).restrictions (inlined_file_theory f).lemmas (inlined_theory_closed laws.closed f run) (inlined_theory_names f apart)

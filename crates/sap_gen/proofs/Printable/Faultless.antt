@@ -13,7 +13,7 @@ use Rattle.sap_formula.specs.declared.binder.Binder.{Binder}
 use Rattle.sap_formula.specs.declared.binder.Binder.TheVariants.{Message, Time}
 use Rattle.sap_formula.specs.declared.fault.FormulaFlaw.{FormulaFlaw}
 use Rattle.sap_formula.specs.declared.fault.FormulaFlaw.TheVariants.{BadFunction, Destructor, Reserved, UnboundVar, Unguarded}
-use Rattle.sap_gen.proofs.Premises.WellMade.{each_both}
+use Rattle.sap_gen.proofs.Lists.{each_both}
 
 each_got : {A : Type 0} (P : A → Type 0) (xs : List A) (k : ℕ) (x : A) → EachIn P xs → slice_get xs k ≡ Some x → P x
 each_got P [] k x h e = absurd (cc)

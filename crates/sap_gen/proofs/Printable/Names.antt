@@ -11,7 +11,7 @@ use Rattle.sap_text.specs.Tokens.{is_word, ident}
 use Rattle.sap_grammar.specs.Words.{is_grammar_word}
 use Rattle.sap_grammar.specs.ByteWords.{IsName}
 use Rattle.sap_formula.specs.Truth.{EachIn}
-use Rattle.sap_locks.specs.Scopes.{lock_var}
+use Rattle.sap_process.specs.Scopes.{lock_var}
 use Rattle.sap_place.specs.StateFacts.{digits}
 
 -- the first byte is a letter

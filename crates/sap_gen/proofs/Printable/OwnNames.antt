@@ -6,17 +6,15 @@ use Rattle.sap_formula.specs.Form.{LemmaForm, RestrictionForm}
 use Rattle.sap_formula.specs.Truth.{EachIn}
 use Rattle.sap_restrict.specs.Inline.{formulas}
 use Rattle.sap_restrict.specs.Needed.{needed, needs}
-use Rattle.sap_restrict.specs.Restrictions.{generated_names, is_generated, named, needed_restrictions, restriction_name}
+use Rattle.sap_restrict.specs.Restrictions.{is_generated, named, needed_restrictions, restriction_name}
 use Rattle.sap_restrict.specs.Standard.{every_which}
 use Rattle.sap_restrict.specs.declared.which.Which.{Which}
 use Rattle.sap_restrict.specs.declared.which.Which.TheVariants.{Eq, In, InEv, Init, Lock, NotEq, NotIn}
 use Rattle.sap_read.specs.Files.{FileContent}
 use Rattle.sap_gen.specs.Kept.{all_restrictions, file_theory, inlined_file_theory}
-use Rattle.sap_gen.specs.Members.{Member}
 use Rattle.sap_read.specs.OwnNames.{HaveOwnNames, IsNamedApart, statement_names}
 use Rattle.sap_gen.specs.Theories.{inlined_lemma}
-use Rattle.sap_gen.proofs.Parts.Facts.{same_name_self, same_name_true}
-use Rattle.sap_gen.proofs.Premises.Sound.{none_in}
+use Rattle.std.proofs.lemmas.Slice.Eq.{bytes_eq-Decides}
 use Rattle.sap_gen.proofs.Printable.Scopes.{each_of_all}
 
 -- none of these has the name
@@ -66,27 +64,36 @@ distinct_kept test (w ∷ ws) h = go (test w) (apart_kept (restriction_name w) t
     go true k = k
     go false k = k.1
 
-is_one : (w : Which) → Member (restriction_name w) generated_names
-is_one Init = Member.here
-is_one Eq = Member.later Member.here
-is_one NotEq = Member.later (Member.later Member.here)
-is_one In = Member.later (Member.later (Member.later Member.here))
-is_one NotIn = Member.later (Member.later (Member.later (Member.later Member.here)))
-is_one Lock = Member.later (Member.later (Member.later (Member.later (Member.later Member.here))))
-is_one InEv = Member.later (Member.later (Member.later (Member.later (Member.later (Member.later Member.here)))))
+is_one : (w : Which) → is_generated (restriction_name w) ≡ true
+is_one Init = refl
+is_one Eq = refl
+is_one NotEq = refl
+is_one In = refl
+is_one NotIn = refl
+is_one Lock = refl
+is_one InEv = refl
 
 pub other : (x y : List ℕ) → bytes_eq y x ≡ false → bytes_eq x y ≡ false
 other x y h = go (bytes_eq x y) refl
   where
     go : (b : Bool) → bytes_eq x y ≡ b → b ≡ false
     go true e =
-        let same : x ≡ y = same_name_true x y e in
-        absurd (let z : true ≡ false = sym (same_name_self y) ∙ ap (bytes_eq y) (sym same) ∙ h in cc)
+        let same : x ≡ y = (bytes_eq-Decides x y).0 e in
+        absurd (let z : true ≡ false = sym ((bytes_eq-Decides y y).1 refl) ∙ ap (bytes_eq y) (sym same) ∙ h in cc)
+    go false e = refl
+
+not_one : (w : Which) (n : List ℕ) → is_generated n ≡ false → bytes_eq n (restriction_name w) ≡ false
+not_one w n h = go (bytes_eq n (restriction_name w)) refl
+  where
+    go : (b : Bool) → bytes_eq n (restriction_name w) ≡ b → b ≡ false
+    go true e =
+        let same : n ≡ restriction_name w = (bytes_eq-Decides n (restriction_name w)).0 e in
+        absurd (let z : true ≡ false = sym (is_one w) ∙ ap is_generated (sym same) ∙ h in cc)
     go false e = refl
 
 apart_from_own : (w : Which) (ns : List (List ℕ)) → EachIn (λ n. is_generated n ≡ false) ns → Apart (restriction_name w) ns
 apart_from_own w [] h = tt
-apart_from_own w (n ∷ ns) h = (other (restriction_name w) n (none_in (bytes_eq n) generated_names (restriction_name w) h.0 (is_one w)), apart_from_own w ns h.1)
+apart_from_own w (n ∷ ns) h = (other (restriction_name w) n (not_one w n h.0), apart_from_own w ns h.1)
 
 all_apart : (ws : List Which) (ns : List (List ℕ)) → EachIn (λ n. is_generated n ≡ false) ns → EachIn (λ x. Apart x ns) (names ws)
 all_apart [] ns h = tt

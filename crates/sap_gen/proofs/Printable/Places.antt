@@ -1,37 +1,19 @@
 -- The rules of all places of a process that isn't too deep can be printed.
 use Rattle.std.proofs.Common.{◌≡◌, ◌≤◌, ◌<◌, ◌+◌, ℕ, List, [], ◌∷◌, ◌++◌, length, arith, length-append}
 use Rattle.sap_terms.specs.Signature.{Sig}
-use Rattle.sap_terms.specs.declared.var.Sort.TheVariants.{Msg}
 use Rattle.sap_terms.specs.declared.var.Var.{Var}
 use Rattle.sap_process.specs.Proc as whole
 use Rattle.sap_process.specs.Proc.{Proc, act, level_count}
 use Rattle.sap_process.specs.Sites.{message_var}
-use Rattle.sap_locks.specs.Scopes.{scope_behind}
+use Rattle.sap_process.specs.Scopes.{scope_behind}
 use Rattle.sap_rule.specs.declared.rule.Rule.{Rule}
 use Rattle.sap_read.specs.Printable.{IsPrintableProcess}
-use Rattle.sap_gen.specs.Templates.{first_of, second_of, own_rules, place_rules, rules_of}
-use Rattle.sap_gen.proofs.Premises.WellMade.{each_both}
+use Rattle.sap_translate.specs.Templates.{first_of, second_of, own_rules, place_rules, rules_of}
+use Rattle.sap_translate.specs.Settled.{HasSmallLabels, HasPlainLookups}
+use Rattle.sap_gen.proofs.Lists.{each_both}
 use Rattle.sap_gen.proofs.Printable.Names.{HasDigits, digits_more}
-use Rattle.sap_gen.proofs.Printable.Scopes.{AreShown, HasFewLocks, IsPath, IsShown, message_shown, scope_shown}
+use Rattle.sap_gen.proofs.Printable.Scopes.{AreShown, IsPath, IsShown, message_shown, scope_shown}
 use Rattle.sap_gen.proofs.Printable.Rules.{ArePrinted, IsPrintedRule, action_printed, init_printed, lookup_printed, nil_printed, parallel_printed, replicated_printed, test_printed}
-
--- each label is a number of the machine
-abbrev pub FewLocks : Proc → Type 0
-FewLocks whole.nil = Unit {0}
-FewLocks (whole.parallel p q) = FewLocks p × FewLocks q
-FewLocks (whole.replicated p) = FewLocks p
-FewLocks (act a p) = HasFewLocks a × FewLocks p
-FewLocks (whole.test t u p q) = FewLocks p × FewLocks q
-FewLocks (whole.lookup t x p q) = FewLocks p × FewLocks q
-
--- each lookup binds a plain variable
-abbrev pub PlainLookups : Proc → Type 0
-PlainLookups whole.nil = Unit {0}
-PlainLookups (whole.parallel p q) = PlainLookups p × PlainLookups q
-PlainLookups (whole.replicated p) = PlainLookups p
-PlainLookups (act a p) = PlainLookups p
-PlainLookups (whole.test t u p q) = PlainLookups p × PlainLookups q
-PlainLookups (whole.lookup t x p q) = (x.sort ≡ Msg) × PlainLookups p × PlainLookups q
 
 -- the place with this path has so many levels below it
 record Fits (path : List ℕ) (levels : ℕ) : Type 0 where
@@ -55,7 +37,7 @@ module _ (most : ℕ) (room : 330 ≤ most) (g : Sig) where
   both_printed : (rs qs : List Rule) → ArePrinted most room g rs → ArePrinted most room g qs → ArePrinted most room g (rs ++ qs)
   both_printed rs qs h k = each_both (IsPrintedRule most g) rs qs h k
 
-  places_printed : (path : List ℕ) (v : List Var) (p : Proc) → Fits path (level_count p) → AreShown most room g v → IsPrintableProcess most g p → FewLocks p → PlainLookups p → ArePrinted most room g (place_rules path v p)
+  places_printed : (path : List ℕ) (v : List Var) (p : Proc) → Fits path (level_count p) → AreShown most room g v → IsPrintableProcess most g p → HasSmallLabels p → HasPlainLookups p → ArePrinted most room g (place_rules path v p)
   places_printed path v whole.nil fits shown h few plain = nil_printed most room g path (path_of path 1 fits) v shown
   places_printed path v (whole.parallel p q) fits shown h few plain =
       let levels = level_count (whole.parallel p q) in
@@ -91,5 +73,5 @@ module _ (most : ℕ) (room : 330 ≤ most) (g : Sig) where
       (places_printed (first_of path) w p (child_fits path 1 levels (level_count p) (omega arith) (omega arith) fits) (each_both (IsShown most room g) v (message_var x ∷ []) shown (found, tt)) h.2 few.0 plain.1)
       (places_printed (second_of path) v q (child_fits path 2 levels (level_count q) (omega arith) (omega arith) fits) shown h.3 few.1 plain.2))
 
-  pub rules_printed : (p : Proc) → level_count p ≤ 300 → IsPrintableProcess most g p → FewLocks p → PlainLookups p → ArePrinted most room g (rules_of p)
+  pub rules_printed : (p : Proc) → level_count p ≤ 300 → IsPrintableProcess most g p → HasSmallLabels p → HasPlainLookups p → ArePrinted most room g (rules_of p)
   rules_printed p levels h few plain = (init_printed most room g, places_printed [] [] p (record { digits = tt; short = omega (arith, levels) }) tt h few plain)

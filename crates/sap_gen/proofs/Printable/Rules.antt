@@ -14,7 +14,7 @@ use Rattle.sap_formula.specs.Truth.{EachIn}
 use Rattle.sap_process.specs.Action as action
 use Rattle.sap_process.specs.Action.{Action}
 use Rattle.sap_process.specs.Sites.{fresh_var, message_var}
-use Rattle.sap_locks.specs.Scopes.{lock_var, with_new}
+use Rattle.sap_process.specs.Scopes.{lock_var, with_new}
 use Rattle.sap_place.specs.StateFacts.{digits, copies_fact, waits_fact, tag}
 use Rattle.sap_restrict.specs.ReservedFacts.{event_fact}
 use Rattle.sap_rule.specs.declared.rule.Rule.{Rule}
@@ -23,11 +23,12 @@ use Rattle.sap_grammar.specs.Words.{is_grammar_word}
 use Rattle.sap_grammar.specs.ByteWords.{IsName}
 use Rattle.sap_grammar.specs.Printable.{IsPrintableTerm, IsPrintableFact}
 use Rattle.sap_read.specs.Printable.{IsPrintableAct, IsPrintableAction}
-use Rattle.sap_gen.specs.ChannelFacts.{fresh_fact, msg_fact, ack_fact}
-use Rattle.sap_gen.specs.Templates.{action_rules, embedded_acts, first_of, init_rule, lookup_rules, nil_rules, parallel_rules, replicated_rules, rule, second_of, state, test_rules}
-use Rattle.sap_gen.proofs.Premises.WellMade.{each_both}
+use Rattle.sap_translate.specs.ChannelFacts.{fresh_fact, msg_fact, ack_fact}
+use Rattle.sap_translate.specs.Templates.{action_rules, embedded_acts, first_of, init_rule, lookup_rules, nil_rules, parallel_rules, replicated_rules, rule, second_of, state, test_rules}
+use Rattle.sap_translate.specs.Settled.{HasSmallLabel}
+use Rattle.sap_gen.proofs.Lists.{each_both}
 use Rattle.sap_gen.proofs.Printable.Names.{begins_letter, letters_name, placed_name}
-use Rattle.sap_gen.proofs.Printable.Scopes.{AreArgs, AreShown, HasFewLocks, IsPath, IsShown, copies_printed, each_of_all, fresh_shown, lock_shown, no_args, one_arg, scope_shown, state_printed, tag_shown, tree_scope, two_args, args_more, waits_printed, word_act, word_printed}
+use Rattle.sap_gen.proofs.Printable.Scopes.{AreArgs, AreShown, IsPath, IsShown, copies_printed, each_of_all, fresh_shown, lock_shown, no_args, one_arg, scope_shown, state_printed, tag_shown, tree_scope, two_args, args_more, waits_printed, word_act, word_printed}
 
 -- the rule's name is one, its facts can be printed, and those that it shows are linear
 pub record IsPrintedRule (most : ℕ) (g : Sig) (r : Rule) : Type 0 where
@@ -115,7 +116,7 @@ module _ (most : ℕ) (room : 330 ≤ most) (g : Sig) where
           (placed (codes "InMsg_") _ _ _ refl refl refl (omega arith) (at, (msg_printed t u h k, tt)) tt (ack_printed, (on, tt)), tt),
         )
 
-    pub action_printed : (a : Action) → IsPrintableAction most g a → HasFewLocks a → ArePrinted (action_rules path v a)
+    pub action_printed : (a : Action) → IsPrintableAction most g a → HasSmallLabel a → ArePrinted (action_rules path v a)
     action_printed (action.new x) h few = (placed (codes "New_") _ _ _ refl refl refl (omega arith) (at, (fr_printed (fresh_var x) (fresh_shown most room g x h), tt)) tt (next _ (scope_shown most room g v (action.new x) shown h few), tt), tt)
     action_printed (action.out t) h few = (placed (codes "Out_") _ _ _ refl refl refl (omega arith) (at, tt) tt (out_printed t h, (go_on, tt)), tt)
     action_printed (action.send t u) h few = send_printed t u h.0 h.1

@@ -16,15 +16,16 @@ use Rattle.sap_formula.specs.Truth.{EachIn}
 use Rattle.sap_process.specs.Action as action
 use Rattle.sap_process.specs.Action.{Action}
 use Rattle.sap_process.specs.Sites.{fresh_var, message_var, var_names}
-use Rattle.sap_locks.specs.Scopes.{lock_var, scope_behind, with_new}
+use Rattle.sap_process.specs.Scopes.{lock_var, scope_behind, with_new}
 use Rattle.sap_place.specs.StateFacts.{digits, copies_fact, waits_fact, tag}
 use Rattle.sap_text.specs.Tokens.{is_word}
 use Rattle.sap_grammar.specs.Words.{is_grammar_word, is_upper}
 use Rattle.sap_grammar.specs.ByteWords.{IsName}
 use Rattle.sap_grammar.specs.Printable.{IsTidy, IsTidyVariable, AreTidy, HasNames, HaveNames, IsPrintableTerm, IsPrintableFact}
 use Rattle.sap_read.specs.Printable.{IsPrintableAct, IsPrintableAction}
-use Rattle.sap_gen.specs.Templates.{state}
-use Rattle.sap_gen.proofs.Premises.WellMade.{each_both}
+use Rattle.sap_translate.specs.Settled.{HasSmallLabel}
+use Rattle.sap_translate.specs.Templates.{state}
+use Rattle.sap_gen.proofs.Lists.{each_both}
 use Rattle.sap_gen.proofs.Printable.Names.{HasDigits, begins_letter, letters_name, placed_name, lock_name}
 
 -- lists by their items
@@ -45,12 +46,6 @@ new_each P known (v ∷ vs) h = go (is_known known v.name) (new_each P known vs 
     go : (b : Bool) → EachIn P (new_vars known vs) → EachIn P (v ∷ new_vars (known ++ v.name ∷ []) vs) → EachIn P (if b then new_vars known vs else v ∷ new_vars (known ++ v.name ∷ []) vs)
     go true h k = h
     go false h k = k
-
--- the label is a number of the machine
-abbrev pub HasFewLocks : Action → Type 0
-HasFewLocks (action.lock t l) = l < 2 ^ 64
-HasFewLocks (action.unlock t l) = l < 2 ^ 64
-HasFewLocks _ = Unit {0}
 
 -- a path is one of a process that isn't too deep
 pub record IsPath (path : List ℕ) : Type 0 where
@@ -142,7 +137,7 @@ module _ (most : ℕ) (room : 330 ≤ most) (g : Sig) where
   pub tree_scope : (v : List Var) (t : Tree) → AreShown v → IsPrintableTerm most g t → AreShown (with_new v (tree_vars t))
   tree_scope v t h k = new_shown v (tree_vars t) h (tree_shown t k.tidy k.names)
 
-  pub scope_shown : (v : List Var) (a : Action) → AreShown v → IsPrintableAction most g a → HasFewLocks a → AreShown (scope_behind v a)
+  pub scope_shown : (v : List Var) (a : Action) → AreShown v → IsPrintableAction most g a → HasSmallLabel a → AreShown (scope_behind v a)
   scope_shown v (action.new x) h k few = last_shown v (fresh_var x) h (fresh_shown x k)
   scope_shown v (action.out t) h k few = h
   scope_shown v (action.send t u) h k few = h

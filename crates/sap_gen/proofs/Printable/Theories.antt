@@ -4,10 +4,13 @@ use Rattle.std.specs.Prelude.{All, map, not}
 use Rattle.std.proofs.lemmas.List.Elements.{All-filter, All-nil, All-weaker}
 use Rattle.sap_terms.specs.declared.fact.Fact.{Fact}
 use Rattle.sap_terms.specs.declared.limits.TheConstants.{MOST_FILE_NAME_BYTES, MOST_THEORY_NAME_BYTES}
+use Rattle.sap_terms.specs.Signature.{Sig}
 use Rattle.sap_terms.specs.declared.signature.Symbol.{Symbol}
 use Rattle.sap_formula.specs.Form.{LemmaForm, RestrictionForm}
 use Rattle.sap_formula.specs.Truth.{EachIn}
-use Rattle.sap_process.specs.Proc.{node_count}
+use Rattle.sap_locks.specs.Annotation.{IsAnnotation}
+use Rattle.sap_process.specs.Proc.{Proc, node_count}
+use Rattle.sap_process.specs.Ready.{IsReady}
 use Rattle.sap_restrict.specs.Inline.{formulas}
 use Rattle.sap_restrict.specs.Needed.{needed}
 use Rattle.sap_restrict.specs.Restrictions.{needed_restrictions}
@@ -19,13 +22,13 @@ use Rattle.sap_grammar.specs.Printable.{IsPrintableFact}
 use Rattle.sap_theory.specs.PrintableTheory.{IsPrintable, IsPrintableLemma, IsPrintableRestriction, IsPrintableRule, IsPrintableSymbol}
 use Rattle.sap_theory.specs.SignatureText.{is_brought}
 use Rattle.sap_gen.specs.Kept.{all_restrictions, file_theory, inlined_file_theory}
-use Rattle.sap_gen.specs.Templates.{rules_of}
+use Rattle.sap_translate.specs.Templates.{rules_of}
 use Rattle.sap_gen.specs.Theories.{inlined_lemma}
-use Rattle.sap_gen.proofs.Premises.WellMade.{each_both}
+use Rattle.sap_translate.specs.Settled.{HasPlainLookups, HasSmallLabels}
+use Rattle.sap_gen.proofs.Lists.{each_both}
 use Rattle.sap_gen.proofs.Printable.Scopes.{all_of_each, each_of_all, printed_acts}
 use Rattle.sap_gen.proofs.Printable.Rules.{ArePrinted, IsPrintedRule}
 use Rattle.sap_gen.proofs.Printable.Places.{rules_printed}
-use Rattle.sap_gen.proofs.Printable.Settled.{annotation_few, annotation_plain}
 use Rattle.sap_gen.proofs.Printable.Statements.{carrying_printed, named_printed, no_constant}
 use Rattle.sap_gen.proofs.Printable.Wider.{lemma_wider, name_wider, process_wider, restriction_wider, symbol_wider}
 
@@ -41,12 +44,17 @@ le = omega arith
 room : 330 ≤ long
 room = omega arith
 
-module _ (f : FileContent) (run : IsRunnable f) (fine : IsPrintableFile short f) where
+-- what is said of annotated processes
+pub record SettledLaws : Type 0 where
+  pub labels : (p q : Proc) → node_count p < 2 ^ 64 → IsAnnotation p q → HasSmallLabels q
+  pub lookups : (g : Sig) (p q : Proc) → IsReady g p → IsAnnotation p q → HasPlainLookups q
+
+module _ (laws : SettledLaws) (f : FileContent) (run : IsRunnable f) (fine : IsPrintableFile short f) where
   printed : ArePrinted long room f.signature (rules_of f.process)
   printed =
       let small : node_count run.process < 2 ^ 64 = omega (arith, run.small) in
-      rules_printed long room f.signature f.process fine.levels (process_wider short long le f.signature f.process fine.process) (annotation_few run.process f.process small run.annotation)
-      (annotation_plain f.signature run.process f.process run.ready run.annotation)
+      rules_printed long room f.signature f.process fine.levels (process_wider short long le f.signature f.process fine.process) (laws.labels run.process f.process small run.annotation)
+      (laws.lookups f.signature run.process f.process run.ready run.annotation)
 
   printable_rule : (r : Rule) → IsPrintedRule long f.signature r → IsPrintableRule long f.signature r
   printable_rule r h = record {

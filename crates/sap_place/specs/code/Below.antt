@@ -3,7 +3,7 @@ use Rattle.std.specs.Prelude.{ℕ, List}
 use Rattle.sap_terms.specs.declared.var.Var.{Var}
 use Rattle.sap_process.specs.Places.{places_below}
 use Rattle.sap_process.specs.Proc.{Proc}
-use Rattle.sap_locks.specs.Scopes.{Spot, lock_scope, lock_scope_below}
+use Rattle.sap_process.specs.Scopes.{Spot, lock_scope, lock_scope_below}
 
 -- the places from this one on, but for itself
 abbrev pub spots_below : List ℕ → List Var → List ℕ → Proc → List Spot

@@ -1,18 +1,8 @@
--- What is left of the facts while a line takes them.
-use Rattle.std.specs.Prelude.{◌≡◌, ℕ, Bool, false, ◌||◌, nat_eq, List, Option, Some, None, if◌then◌else◌}
-use Rattle.std.specs.List.{fold}
-use Rattle.sap_terms.specs.Piles.{Pile, Takes}
+-- What is left of the facts while a line cites them.
+use Rattle.std.specs.Prelude.{◌≡◌, ℕ, Bool, false, ◌||◌, nat_eq, Option, Some, None, if◌then◌else◌}
+use Rattle.sap_terms.specs.Piles.{Pile}
 use Rattle.sap_terms.specs.declared.fact.Fact.{Fact}
-use Rattle.sap_facts.specs.Facts.{fact_at, slots_without}
-use Rattle.sap_steps.specs.code.Held.{cited_at}
-
--- the slots, where the facts with these numbers were used one after another
-abbrev pub left_of : Pile → List ℕ → Pile
-left_of facts ks = fold slots_without facts ks
-
--- the facts with these numbers can be taken, in this order
-abbrev pub AreTaken : Pile → List ℕ → Type 0
-AreTaken facts ks = Takes facts ks (cited_at facts ks) (left_of facts ks)
+use Rattle.sap_facts.specs.Facts.{fact_at}
 
 -- the fact of this number, unless it was used up
 abbrev pub unless : Bool → Option Fact → Option Fact

@@ -1,18 +1,12 @@
 -- Rules made ready to be used, and looked up by their names.
 use Rattle.std.specs.Prelude.{◌≡◌, ℕ, List, Option, map, All, IsTrue}
-use Rattle.sap_terms.specs.Destructors.{AnyHasDestructor}
 use Rattle.sap_terms.specs.Named.{first_named}
 use Rattle.sap_terms.specs.Signature.{Sig}
-use Rattle.sap_terms.specs.Tree.{trees_of}
-use Rattle.sap_terms.specs.declared.fact.Fact.{Fact}
 use Rattle.sap_rule.specs.Variables.{open_variables}
 use Rattle.sap_rule.specs.WellMade.{IsWellMade}
 use Rattle.sap_rule.specs.declared.rule.Rule.{Rule}
+use Rattle.sap_sides.specs.Messages.{HasNoDestructor}
 use Rattle.sap_steps.specs.declared.prepared.Prepared.{Prepared}
-
--- no destructor stands in the fact
-abbrev pub HasNoDestructor : Sig → Fact → Type 0
-HasNoDestructor g f = AnyHasDestructor g (trees_of f.args) → ⊥
 
 -- the rule can be run, its open variables stand beside it, and no destructor stands in its left side if it is called plain
 pub record IsReady (g : Sig) (p : Prepared) : Type 0 where

@@ -3,7 +3,7 @@ use Rattle.std.specs.Prelude.{◌≡◌, List, All}
 use Rattle.sap_terms.specs.Piles.{Pile}
 use Rattle.sap_terms.specs.Signature.{Sig}
 use Rattle.sap_deduce.specs.Entries.{Entries}
-use Rattle.sap_steps.specs.code.Held.{HoldsSmallMessages}
+use Rattle.sap_sides.specs.Messages.{HoldsSmallMessages}
 use Rattle.sap_steps.specs.code.Ready.{IsReady}
 use Rattle.sap_steps.specs.declared.prepared.Prepared.{Prepared}
 

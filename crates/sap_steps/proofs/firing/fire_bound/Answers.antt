@@ -1,111 +1,81 @@
 use Rattle.std.proofs.Common.{map, sym, ap, subst, Err}
 use Rattle.std.specs.List.{All}
+use Rattle.sap_facts.specs.Cited.{cited_at}
+use Rattle.sap_share.specs.Env.{given, bindings_of}
+use Rattle.sap_sides.specs.Messages.{IsGroundFact, IsSmallMessageFact}
+use Rattle.sap_sides.specs.SharedFacts.{fact_seen}
+use Rattle.sap_steps.specs.Faults.{IsRuleRefusal}
+use Rattle.sap_steps.specs.code.Firing.{limited_fault}
 use Rattle.sap_terms.specs.Choice.{Choice}
 use Rattle.sap_terms.specs.Modulo.{instance_facts}
-use Rattle.sap_share.specs.Env.{given, bindings_of}
-use Rattle.sap_steps.specs.Faults.{IsRuleRefusal}
-use Rattle.sap_steps.specs.code.Firing.{IsGroundFact, limited_fault}
-use Rattle.sap_steps.specs.code.Held.{IsSmallMessageFact, cited_at}
-use Rattle.sap_steps.specs.code.Piled.{fact_seen}
-use Rattle.sap_steps.proofs.ByNumbers.{given_bound}
 use Rattle.sap_steps.proofs.Evaluated.{passed}
 use Rattle.sap_steps.proofs.Fired.{fires, refused, right_held, ground_acts, ground_right, evaluates_plain, cut_plain}
 use Rattle.sap_steps.proofs.Lists.{cited_all}
-use Rattle.sap_steps.proofs.Uses.{Laws}
 use Rattle.sap_steps.proofs.firing.fire_bound.Goals as goal
 
-pub form_sides-requires-clause-ground_acts : goal.form_sides-requires-clause-ground_acts
-form_sides-requires-clause-ground_acts c =
+pub form-requires-clause-ground_acts : goal.form-requires-clause-ground_acts
+form-requires-clause-ground_acts c =
     let g = c.args.sig.now in
     let r = c.args.rule.now.rule in
     let b = c.args.b.now in
-    let hs = cited_at c.args.facts.now.slots c.args.numbers.now in
-    let laws : Laws = record {
-      modulo = c.matching_around_is_modulo.ensures;
-      messages = c.fitting_gives_messages.ensures;
-      once = c.variables_named_once_stay_so.ensures;
-      choices = c.bindings_give_choices.ensures;
-      substitutes = c.agreeing_choices_substitute.ensures;
-      one_form = c.normal_forms_are_unique.ensures;
-      forms = c.forms_are_messages.ensures;
-    } in
-    let held = cited_all (IsSmallMessageFact g) c.args.facts.now.slots c.args.numbers.now c.requires.held in
     let ts = c.args.facts.now.trees in
     let env = c.args.env.now in
     let bs = bindings_of ts env in
-    let eq = given_bound ts env in
+    let laws = c.laws_below.ensures in
+    let eq = laws.given ts env in
+    let hs = cited_at c.args.facts.now.slots c.args.numbers.now in
+    let held = cited_all (IsSmallMessageFact g) c.args.facts.now.slots c.args.numbers.now c.requires.held in
     subst (λ (σ : Choice). All IsGroundFact (instance_facts σ r.acts)) (sym eq) (ground_acts laws g r b bs hs c.requires.ready.well_made c.requires.right c.requires.found held)
 
-pub form_sides-requires-clause-ground_right : goal.form_sides-requires-clause-ground_right
-form_sides-requires-clause-ground_right c =
+pub form-requires-clause-ground_right : goal.form-requires-clause-ground_right
+form-requires-clause-ground_right c =
     let g = c.args.sig.now in
     let r = c.args.rule.now.rule in
     let b = c.args.b.now in
-    let hs = cited_at c.args.facts.now.slots c.args.numbers.now in
-    let laws : Laws = record {
-      modulo = c.matching_around_is_modulo.ensures;
-      messages = c.fitting_gives_messages.ensures;
-      once = c.variables_named_once_stay_so.ensures;
-      choices = c.bindings_give_choices.ensures;
-      substitutes = c.agreeing_choices_substitute.ensures;
-      one_form = c.normal_forms_are_unique.ensures;
-      forms = c.forms_are_messages.ensures;
-    } in
-    let held = cited_all (IsSmallMessageFact g) c.args.facts.now.slots c.args.numbers.now c.requires.held in
     let ts = c.args.facts.now.trees in
     let env = c.args.env.now in
     let bs = bindings_of ts env in
-    let eq = given_bound ts env in
+    let laws = c.laws_below.ensures in
+    let eq = laws.given ts env in
+    let hs = cited_at c.args.facts.now.slots c.args.numbers.now in
+    let held = cited_all (IsSmallMessageFact g) c.args.facts.now.slots c.args.numbers.now c.requires.held in
     subst (λ (σ : Choice). All IsGroundFact (instance_facts σ r.right)) (sym eq) (ground_right laws g r b bs hs c.requires.ready.well_made c.requires.right c.requires.found held)
 
-pub returns-in_err-form_sides-clause-refused : goal.returns-in_err-form_sides-clause-refused
-returns-in_err-form_sides-clause-refused c =
+pub returns-in_err-form-clause-refused : goal.returns-in_err-form-clause-refused
+returns-in_err-form-clause-refused c =
     let g = c.args.sig.now in
     let r = c.args.rule.now.rule in
     let b = c.args.b.now in
-    let hs = cited_at c.args.facts.now.slots c.args.numbers.now in
-    let laws : Laws = record {
-      modulo = c.matching_around_is_modulo.ensures;
-      messages = c.fitting_gives_messages.ensures;
-      once = c.variables_named_once_stay_so.ensures;
-      choices = c.bindings_give_choices.ensures;
-      substitutes = c.agreeing_choices_substitute.ensures;
-      one_form = c.normal_forms_are_unique.ensures;
-      forms = c.forms_are_messages.ensures;
-    } in
-    let held = cited_all (IsSmallMessageFact g) c.args.facts.now.slots c.args.numbers.now c.requires.held in
     let ts = c.args.facts.now.trees in
     let env = c.args.env.now in
     let bs = bindings_of ts env in
-    let eq = given_bound ts env in
-    let k = c.in_err-form_sides.field-0.0 in
-    let cut = cut_plain laws g r b bs hs c.requires.ready.well_made c.requires.right c.requires.found held c.args.facts.now.sig (given ts env) c.requires.sig eq k (λ e. c.in_err-form_sides.ensures.large (ap Err e)) in
+    let laws = c.laws_below.ensures in
+    let eq = laws.given ts env in
+    let hs = cited_at c.args.facts.now.slots c.args.numbers.now in
+    let held = cited_all (IsSmallMessageFact g) c.args.facts.now.slots c.args.numbers.now c.requires.held in
+    let k = c.in_err-form.field-0.0 in
+    let cut = cut_plain laws g r b bs hs c.requires.ready.well_made c.requires.right c.requires.found held c.args.facts.now.sig (given ts env) c.requires.sig eq k (λ e. c.in_err-form.ensures.large (ap Err e)) in
     passed c.from_residual.result (IsRuleRefusal g r b hs) k (refused laws g r b bs hs c.requires.ready.well_made c.requires.right c.requires.found held (limited_fault k) cut) c.from_residual.ensures.1
+
+pub returns-clause-below : goal.returns-clause-below
+returns-clause-below c = c.in_ok-form.ensures.sides.below
 
 pub returns-clause-fires : goal.returns-clause-fires
 returns-clause-fires c =
     let g = c.args.sig.now in
     let r = c.args.rule.now.rule in
     let b = c.args.b.now in
-    let hs = cited_at c.args.facts.now.slots c.args.numbers.now in
-    let laws : Laws = record {
-      modulo = c.matching_around_is_modulo.ensures;
-      messages = c.fitting_gives_messages.ensures;
-      once = c.variables_named_once_stay_so.ensures;
-      choices = c.bindings_give_choices.ensures;
-      substitutes = c.agreeing_choices_substitute.ensures;
-      one_form = c.normal_forms_are_unique.ensures;
-      forms = c.forms_are_messages.ensures;
-    } in
-    let held = cited_all (IsSmallMessageFact g) c.args.facts.now.slots c.args.numbers.now c.requires.held in
     let ts = c.args.facts.now.trees in
     let env = c.args.env.now in
     let bs = bindings_of ts env in
-    let eq = given_bound ts env in
-    let x = c.in_ok-form_sides.field-0 in
-    let right = map (fact_seen c.form_sides.new.facts.trees) x.right.items in
-    let s = c.in_ok-form_sides.ensures in
-    let e = evaluates_plain laws g r b bs hs c.requires.ready.well_made c.requires.right c.requires.found held c.requires.plain c.args.facts.now.sig (given ts env) c.requires.sig eq x.acts right s.acts s.right s.within_acts s.within_right in
+    let laws = c.laws_below.ensures in
+    let eq = laws.given ts env in
+    let hs = cited_at c.args.facts.now.slots c.args.numbers.now in
+    let held = cited_all (IsSmallMessageFact g) c.args.facts.now.slots c.args.numbers.now c.requires.held in
+    let x = c.in_ok-form.field-0 in
+    let right = map (fact_seen c.form.new.self.trees) x.right.items in
+    let s = c.in_ok-form.ensures.sides in
+    let e = evaluates_plain laws g r b bs hs c.requires.ready.well_made c.requires.right c.requires.found held c.requires.plain c.args.facts.now.sig (given ts env) c.requires.sig eq x.acts right s.acts_forms s.right_forms s.within_acts s.within_right in
     fires laws g r b bs hs c.requires.ready.well_made c.requires.right c.requires.found held x.acts right e
 
 pub returns-clause-held : goal.returns-clause-held
@@ -113,23 +83,15 @@ returns-clause-held c =
     let g = c.args.sig.now in
     let r = c.args.rule.now.rule in
     let b = c.args.b.now in
-    let hs = cited_at c.args.facts.now.slots c.args.numbers.now in
-    let laws : Laws = record {
-      modulo = c.matching_around_is_modulo.ensures;
-      messages = c.fitting_gives_messages.ensures;
-      once = c.variables_named_once_stay_so.ensures;
-      choices = c.bindings_give_choices.ensures;
-      substitutes = c.agreeing_choices_substitute.ensures;
-      one_form = c.normal_forms_are_unique.ensures;
-      forms = c.forms_are_messages.ensures;
-    } in
-    let held = cited_all (IsSmallMessageFact g) c.args.facts.now.slots c.args.numbers.now c.requires.held in
     let ts = c.args.facts.now.trees in
     let env = c.args.env.now in
     let bs = bindings_of ts env in
-    let eq = given_bound ts env in
-    let x = c.in_ok-form_sides.field-0 in
-    let right = map (fact_seen c.form_sides.new.facts.trees) x.right.items in
-    let s = c.in_ok-form_sides.ensures in
-    let e = evaluates_plain laws g r b bs hs c.requires.ready.well_made c.requires.right c.requires.found held c.requires.plain c.args.facts.now.sig (given ts env) c.requires.sig eq x.acts right s.acts s.right s.within_acts s.within_right in
+    let laws = c.laws_below.ensures in
+    let eq = laws.given ts env in
+    let hs = cited_at c.args.facts.now.slots c.args.numbers.now in
+    let held = cited_all (IsSmallMessageFact g) c.args.facts.now.slots c.args.numbers.now c.requires.held in
+    let x = c.in_ok-form.field-0 in
+    let right = map (fact_seen c.form.new.self.trees) x.right.items in
+    let s = c.in_ok-form.ensures.sides in
+    let e = evaluates_plain laws g r b bs hs c.requires.ready.well_made c.requires.right c.requires.found held c.requires.plain c.args.facts.now.sig (given ts env) c.requires.sig eq x.acts right s.acts_forms s.right_forms s.within_acts s.within_right in
     right_held laws g r b bs hs c.requires.ready.well_made c.requires.right c.requires.found held c.builtins_are_held.ensures x.acts right e

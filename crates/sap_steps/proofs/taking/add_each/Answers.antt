@@ -1,9 +1,10 @@
 use Rattle.std.proofs.Common.{◌≡◌, ◌++◌, [], ◌∷◌, length, rules, sym, ap, subst, ◌∙◌, append_assoc}
 use Rattle.std.specs.Vec.Iter.{into_iter_items}
 use Rattle.std.proofs.lemmas.List.Elements.{All-tail}
+use Rattle.sap_sides.specs.SharedFacts.{AreFactsBelow}
 use Rattle.sap_share.specs.Shared.{AreBelow}
-use Rattle.sap_steps.specs.declared.pile.SharedFact.{SharedFact}
-use Rattle.sap_steps.proofs.Piled.{AllBelow, adds_seen}
+use Rattle.sap_sides.specs.declared.shared_fact.SharedFact.{SharedFact}
+use Rattle.sap_steps.proofs.Piled.{adds_seen}
 use Rattle.sap_steps.proofs.taking.add_each.Goals as goal
 
 pub loop-f-preserved : goal.loop-f-preserved
@@ -18,5 +19,5 @@ loop-f-preserved c =
       trees = search rules;
       slots = adds_seen c.args.facts.now.slots c.loop-f.facts.slots c.add.new.self.slots ts c.loop-f.yielded f h.slots (rw h.trees at c.add.ensures.slots);
       room = search rules;
-      below = All-tail (λ (s : SharedFact). AreBelow (length ts) s.args) f rest (subst (AllBelow (length ts)) steps h.below);
+      below = All-tail (λ (s : SharedFact). AreBelow (length ts) s.args) f rest (subst (AreFactsBelow (length ts)) steps h.below);
     }

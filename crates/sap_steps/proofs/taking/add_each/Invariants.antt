@@ -1,8 +1,7 @@
 use Rattle.std.proofs.Common.{◌≡◌, ◌≤◌, ◌++◌, length, map}
 use Rattle.std.specs.Vec.Iter.{into_iter_items}
 use Rattle.sap_terms.specs.Piles.{adds}
-use Rattle.sap_steps.specs.code.Piled.{fact_seen}
-use Rattle.sap_steps.proofs.Piled.{AllBelow}
+use Rattle.sap_sides.specs.SharedFacts.{fact_seen, AreFactsBelow}
 use Rattle.sap_steps.proofs.taking.add_each.Given as goal
 
 abbrev pub invariant-loop-f : goal.invariant-loop-f
@@ -12,5 +11,5 @@ invariant-loop-f l = record {
   trees : l.facts.trees ≡ l.initial.facts.trees;
   slots : l.facts.slots ≡ adds l.initial.facts.slots (map (fact_seen l.initial.facts.trees) l.yielded);
   room : length (into_iter_items l.f-iterator) ≤ l.facts.spare;
-  below : AllBelow (length l.initial.facts.trees) (into_iter_items l.f-iterator);
+  below : AreFactsBelow (length l.initial.facts.trees) (into_iter_items l.f-iterator);
 }

@@ -1,6 +1,7 @@
 use Rattle.std.proofs.Common.{take, nat_eq}
 use Rattle.indexmap.specs.IndexSet.{contains}
-use Rattle.sap_steps.specs.code.Left.{left_of, AreTaken, IsLeft}
+use Rattle.sap_facts.specs.Cited.{left_of, AreTaken}
+use Rattle.sap_steps.specs.code.Left.{IsLeft}
 use Rattle.sap_steps.proofs.taking.first_missing_of.Given as goal
 
 abbrev pub invariant-loop-at : goal.invariant-loop-at

@@ -1,5 +1,5 @@
 use Rattle.std.proofs.Common.{◌≡◌, take}
-use Rattle.sap_steps.specs.code.Left.{left_of}
+use Rattle.sap_facts.specs.Cited.{left_of}
 use Rattle.sap_steps.proofs.taking.take_each.Given as goal
 
 abbrev pub invariant-loop-k : goal.invariant-loop-k

@@ -1,6 +1,6 @@
 use Rattle.std.proofs.lemmas.Option.{MatchOption-at_none}
 use Rattle.sap_steps.specs.Faults.{IsFirstMissing}
-use Rattle.sap_steps.specs.code.Left.{AreTaken}
+use Rattle.sap_facts.specs.Cited.{AreTaken}
 use Rattle.sap_steps.proofs.Tied.{taken-live}
 use Rattle.sap_steps.proofs.using.use_rule.Goals as goal
 

@@ -2,7 +2,7 @@ use Rattle.std.proofs.Common.{◌≡◌, List, [], ◌∷◌}
 use Rattle.sap_terms.specs.Signature.{Sig}
 use Rattle.sap_terms.specs.Trace.{Trace}
 use Rattle.sap_formula.specs.Form.{RestrictionForm}
-use Rattle.sap_gen.specs.Faithful.{AreRestrictionsTrue}
+use Rattle.sap_translate.specs.Faithful.{AreRestrictionsTrue}
 use Rattle.sap_tool.proofs.laws.unrestricted_files_are_shown.Goals as goal
 
 no_restriction : (g : Sig) (rs : List RestrictionForm) (tr : Trace) → rs ≡ [] → AreRestrictionsTrue g rs tr

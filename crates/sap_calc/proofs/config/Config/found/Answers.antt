@@ -4,7 +4,7 @@ use Rattle.sap_runs.specs.declared.process_step.PStep.TheVariants as line
 use Rattle.sap_calc.specs.code.Parts.{Parts}
 use Rattle.sap_calc.proofs.Lines.{no_thread, wrong_form, place_below, number_below, thread_tied}
 use Rattle.sap_calc.proofs.Moves.{keeps_tied, keeps_seen}
-use Rattle.sap_calc.specs.Faults.{no_memory}
+use Rattle.sap_lines.specs.Faults.{no_memory}
 use Rattle.sap_calc.proofs.Writes.{lookup_can, found_large, found_tied, found_line, found_denied}
 use Rattle.sap_calc.proofs.config.Config.found.Goals as goal
 

@@ -5,7 +5,7 @@ use Rattle.sap_calc.specs.code.Parts.{Parts}
 use Rattle.std.proofs.lemmas.Result.{err_from_is_err_and}
 use Rattle.std.proofs.Common.{option_map}
 use Rattle.sap_terms.specs.View.{tree}
-use Rattle.sap_calc.specs.Faults.{no_memory, unknown_shown}
+use Rattle.sap_lines.specs.Faults.{no_memory, unknown_shown}
 use Rattle.sap_calc.proofs.Learns.{know_line}
 use Rattle.sap_calc.proofs.config.Config.know.Goals as goal
 

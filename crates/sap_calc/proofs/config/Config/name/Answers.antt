@@ -3,7 +3,7 @@ use Rattle.sap_runs.specs.declared.process_step.PStep.TheVariants as line
 use Rattle.sap_calc.specs.code.Parts.{Parts}
 use Rattle.std.proofs.Common.{inl, inr, ◌++◌}
 use Rattle.std.proofs.lemmas.Bool.{false≢true}
-use Rattle.sap_calc.specs.Faults.{no_memory}
+use Rattle.sap_lines.specs.Faults.{no_memory}
 use Rattle.sap_calc.proofs.Learns.{name_tied, name_line, name_used}
 use Rattle.sap_calc.proofs.config.Config.name.Goals as goal
 

@@ -3,7 +3,7 @@ use Rattle.std.specs.Option.{option_copied}
 use Rattle.sap_runs.specs.declared.process_step.PStep.TheVariants as line
 use Rattle.sap_calc.specs.code.Parts.{Parts}
 use Rattle.std.proofs.lemmas.Bool.{false≢true}
-use Rattle.sap_calc.specs.Faults.{no_memory}
+use Rattle.sap_lines.specs.Faults.{no_memory}
 use Rattle.sap_calc.proofs.Lines.{no_thread, wrong_form, place_below, number_below}
 use Rattle.sap_calc.proofs.Moves.{keeps_tied, keeps_seen}
 use Rattle.sap_calc.proofs.Makes.{new_used, new_tied, new_line}

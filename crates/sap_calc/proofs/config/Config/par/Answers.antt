@@ -3,7 +3,7 @@ use Rattle.std.specs.Option.{option_copied}
 use Rattle.sap_runs.specs.declared.process_step.PStep.TheVariants as line
 use Rattle.sap_calc.specs.code.Parts.{Parts}
 use Rattle.std.proofs.lemmas.Result.{err_from_is_err_and}
-use Rattle.sap_calc.specs.Faults.{no_memory}
+use Rattle.sap_lines.specs.Faults.{no_memory}
 use Rattle.sap_calc.proofs.Numbered.{longer, got_append, live_got}
 use Rattle.sap_calc.proofs.Lines.{no_thread, wrong_form, place_below, number_below, par_tied, par_line}
 use Rattle.sap_calc.proofs.config.Config.par.Goals as goal

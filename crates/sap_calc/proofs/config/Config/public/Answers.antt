@@ -4,7 +4,7 @@ use Rattle.sap_calc.specs.code.Parts.{Parts}
 use Rattle.std.proofs.lemmas.Result.{err_from_is_err_and}
 use Rattle.sap_terms.specs.Tree.{public}
 use Rattle.sap_deduce.specs.declared.origin.Origin.TheVariants.{Public}
-use Rattle.sap_calc.specs.Faults.{no_memory}
+use Rattle.sap_lines.specs.Faults.{no_memory}
 use Rattle.sap_calc.proofs.Learns.{learns_tied, public_line}
 use Rattle.sap_calc.proofs.config.Config.public.Goals as goal
 

@@ -2,7 +2,7 @@ use Rattle.std.proofs.Common.{refl, sym, ap, ◌∙◌}
 use Rattle.std.specs.Option.{option_copied}
 use Rattle.sap_runs.specs.declared.process_step.PStep.TheVariants as line
 use Rattle.sap_calc.specs.code.Parts.{Parts}
-use Rattle.sap_calc.specs.Faults.{no_memory}
+use Rattle.sap_lines.specs.Faults.{no_memory}
 use Rattle.sap_calc.proofs.Numbered.{live_got}
 use Rattle.sap_calc.proofs.Lines.{no_thread, wrong_form, place_below, number_below, thread_tied}
 use Rattle.sap_calc.proofs.Moves.{keeps_tied, keeps_seen}

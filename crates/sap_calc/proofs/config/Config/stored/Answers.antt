@@ -5,9 +5,9 @@ use Rattle.sap_calc.specs.code.Parts.{Parts}
 use Rattle.sap_terms.specs.Choice.{instance}
 use Rattle.sap_terms.specs.View.{tree}
 use Rattle.sap_share.specs.Env.{given}
-use Rattle.sap_calc.specs.Faults.{EvaluateLarge}
+use Rattle.sap_lines.specs.Faults.{EvaluateLarge}
 use Rattle.sap_calc.specs.code.Values.{IsValue}
-use Rattle.sap_calc.specs.declared.fault.PFault.TheVariants as fault
+use Rattle.sap_lines.specs.declared.fault.PFault.TheVariants as fault
 use Rattle.sap_calc.proofs.Lines.{no_thread, wrong_form, place_below, thread_tied}
 use Rattle.sap_calc.proofs.Moves.{keeps_tied, keeps_seen, small_stays}
 use Rattle.sap_calc.proofs.Writes.{lookup_can, finds_large, finds_nothing, would_find, found_small}

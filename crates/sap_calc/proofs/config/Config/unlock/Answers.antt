@@ -5,7 +5,7 @@ use Rattle.sap_calc.specs.code.Parts.{Parts}
 use Rattle.sap_calc.proofs.Numbered.{live_got}
 use Rattle.sap_calc.proofs.Lines.{no_thread, wrong_form, place_below, number_below, thread_tied}
 use Rattle.sap_calc.proofs.Moves.{keeps_tied, keeps_seen}
-use Rattle.sap_calc.specs.Faults.{no_memory}
+use Rattle.sap_lines.specs.Faults.{no_memory}
 use Rattle.sap_calc.proofs.Writes.{unlock_can, unlock_large, unlock_tied, unlock_line}
 use Rattle.sap_calc.proofs.config.Config.unlock.Goals as goal
 

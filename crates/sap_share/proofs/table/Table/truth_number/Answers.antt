@@ -1,7 +1,7 @@
 use Rattle.sap_terms.specs.Equations.{app0, true_name}
 use Rattle.sap_share.specs.Shared.{node_tree}
 use Rattle.sap_share.specs.declared.node.Node.TheVariants.{App}
-use Rattle.sap_share.proofs.Grown.{node_ground, node_over, over_held}
+use Rattle.sap_share.proofs.Grown.{node_ground, node_over}
 use Rattle.sap_share.proofs.table.Table.truth_number.Goals as goal
 
 pub small_number-requires-clause-held : goal.small_number-requires-clause-held

@@ -3,8 +3,8 @@ use Rattle.sap_terms.specs.Tree.{trees_of}
 use Rattle.sap_terms.specs.declared.fact.Fact.{Fact}
 use Rattle.sap_rewrite.specs.Around.{all_outer_vars}
 use Rattle.sap_share.specs.Env.{bindings_of}
-use Rattle.sap_steps.specs.code.Firing.{HasNoChoice, FactFit}
-use Rattle.sap_steps.specs.code.Piled.{fact_seen}
+use Rattle.sap_sides.specs.Fitting.{HasNoChoice, FactFit}
+use Rattle.sap_sides.specs.SharedFacts.{fact_seen}
 use Rattle.sap_steps.proofs.Piled.{said_of}
 use Rattle.sap_steps.proofs.pile.SharedPile.fit.Goals as goal
 

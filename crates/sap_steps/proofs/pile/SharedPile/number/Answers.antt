@@ -1,6 +1,6 @@
-use Rattle.sap_steps.proofs.Piled.{share_keeps}
+use Rattle.sap_steps.proofs.Piled.{slots_stay}
 use Rattle.sap_steps.proofs.pile.SharedPile.number.Goals as goal
 
-pub returns-clause-keeps : goal.returns-clause-keeps
-returns-clause-keeps c =
-    rw (← c.self.view_is) (share_keeps c.self.inside.table c.put.new.self c.self.inside.slots.items _ c.put.ensures.keeps c.self.invariant)
+pub returns-clause-slots : goal.returns-clause-slots
+returns-clause-slots c =
+    rw (← c.self.view_is) (slots_stay c.shared_facts_stay.ensures c.self.inside.table c.number_bindings.new.table c.self.inside.slots.items c.number_bindings.ensures.keeps c.self.invariant).0

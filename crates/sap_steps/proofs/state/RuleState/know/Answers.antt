@@ -6,7 +6,7 @@ use Rattle.sap_terms.specs.Tree.{Tree, node_count}
 use Rattle.sap_terms.specs.View.{tree}
 use Rattle.sap_terms.specs.declared.limits.TheConstants.{MOST_TERM_NODES}
 use Rattle.sap_terms.specs.declared.var.Sort.TheVariants.{Msg}
-use Rattle.sap_steps.specs.code.Held.{IsSmallMessage}
+use Rattle.sap_sides.specs.Messages.{IsSmallMessage}
 use Rattle.sap_steps.proofs.Lists.{all_at}
 use Rattle.sap_steps.proofs.Tied.{tied_push, held_single}
 use Rattle.sap_steps.proofs.state.RuleState.know.Goals as goal

@@ -1,5 +1,5 @@
 use Rattle.sap_facts.specs.Facts.{slots_without}
-use Rattle.sap_steps.proofs.Found.{option_some}
+use Rattle.std.proofs.lemmas.Option.{MatchOption-at_some}
 use Rattle.sap_steps.proofs.Left.{take_one}
 use Rattle.sap_steps.proofs.Tied.{tied_knows, tied_without, knows_more}
 use Rattle.sap_steps.proofs.state.RuleState.own.Goals as goal
@@ -14,7 +14,7 @@ returns-clause-ok c = rw (← c.self.view_is, c.remove.ensures.slots) (
   c.in-Some.n,
   record {
     rest = slots_without c.self.inside.facts.slots c.args.k;
-    takes = take_one _ _ _ (option_some _ _ c.in_ok-n.field-0 c.in-Some.n c.in_ok-n.ensures c.in-Some.is);
+    takes = take_one _ _ _ (MatchOption-at_some _ _ c.in-Some.n c.in-Some.is c.in_ok-n.ensures);
     silent = c.new.ensures;
     becomes = knows_more _ _ _ _ _ _ c.in_ok-name.ensures.ok;
   },

@@ -3,7 +3,7 @@ use Rattle.std.specs.Option.{option_copied}
 use Rattle.std.proofs.lemmas.Result.{err_from_is_err_and}
 use Rattle.sap_deduce.specs.Entries.{terms_of}
 use Rattle.sap_rule.specs.RuleSteps.{RuleState}
-use Rattle.sap_steps.specs.code.Piled.{fact_seen}
+use Rattle.sap_sides.specs.SharedFacts.{fact_seen}
 use Rattle.sap_steps.specs.code.Ready.{IsReady, rules_of}
 use Rattle.sap_steps.proofs.Ready.{no_rule, its_rule, ready-all}
 use Rattle.sap_steps.proofs.Tied.{tied_used}

@@ -1,0 +1,13 @@
+pub mod owners
+pub mod Lines
+pub mod Advance
+pub mod Premises
+pub mod Terms
+pub mod Seats
+pub mod Marked
+pub mod Cases
+pub mod Meets
+pub mod Acknowledged
+pub mod Embedded
+pub mod Adversary
+pub mod Convert

@@ -1,0 +1,3 @@
+pub mod Opposite
+pub mod Written
+pub mod Along

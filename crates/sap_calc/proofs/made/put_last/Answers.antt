@@ -1,6 +1,0 @@
-use Rattle.std.proofs.Common.{◌∙◌}
-use Rattle.sap_calc.proofs.Names.{new_is_last}
-use Rattle.sap_calc.proofs.made.put_last.Goals as goal
-
-pub returns : goal.returns
-returns c = c.in-Ok.ensures.keys ∙ new_is_last c.args.names.now.keys c.args.n c.requires.new

@@ -1,0 +1,56 @@
+// One call over all lines.
+ghost use Rattle.std.specs.Prelude.{◌≡◌, IfOk, IfErr, OnErr};
+ghost use Rattle.sap_calc.specs.Running.{IsDone, IsDenied};
+
+use crate::Config;
+use sap_lines::PFault;
+use sap_runs::PStep;
+use sap_terms::FactList;
+use std::alloc::Global;
+
+impl Config {
+    /// Does one line and gives its label, an empty list for a silent one. Refused, nothing changes; the fault is want of memory,
+    /// or the first test of the line that fails. A line that names a thread is first tested for `NoThread` and `WrongForm`; what
+    /// follows, in order, where it is evaluated that a normal form has more than 256 nodes being `TermLarge`:
+    ///
+    /// - `New`, `Name`: `UsedName`. `Know`: `NoEntry`. `Apply`: `NotPublic`, `Arity`, `NoEntry`, `TermLarge`.
+    /// - `Out`, `Event`, `Insert`, `Delete`, `Unlock`: `TermLarge`. `Lock`: `TermLarge`, `Held`.
+    /// - `Send`: `NoEntry`, `TermLarge`, `Unequal`. `In` without a channel: `NoEntry`, `NoMatch`; with one: `NoEntry`,
+    ///   `TermLarge`, `NoMatch`, `Unequal`.
+    /// - `Sync`: `NoThread` and `WrongForm` of the sender, then of the receiver, `TermLarge`, `NoMatch`, `Unequal`.
+    /// - `Then`: `TermLarge`, `Unequal`. `Else`: `TermLarge`, `Equal`. `Found`: `TermLarge`, `Unset`. `Missing`: `TermLarge`,
+    ///   `Set`.
+    /// - `Embedded`: `FactCount`, `FactMissing`, `BadBinding`, `NoMatch`, `TermLarge`.
+    ///
+    /// Numbers count from 0. The notion is the step of the calculus SAPIC, cut so that each choice is written.
+    pub fn step(&mut self, alloc: Global, s: &PStep) -> Result<FactList, PFault>
+        ensures ok { IfOk result (IsDone self.old self.new s.now) }
+        ensures refused { IfErr result (IsDenied self.old s.now) }
+        ensures err { OnErr result (self.new ≡ self.old) }
+    {
+        match s {
+            PStep::Nil(t) => self.nil(alloc, *t),
+            PStep::Par(t) => self.par(alloc, *t),
+            PStep::Rep(t) => self.rep(alloc, *t),
+            PStep::New(t, n) => self.new(alloc, *t, *n),
+            PStep::Out(t) => self.output(alloc, *t),
+            PStep::Send(t, k) => self.send(alloc, *t, *k),
+            PStep::In(t, k) => self.input(alloc, *t, *k),
+            PStep::Sync(from, to) => self.sync(alloc, *from, *to),
+            PStep::Then(t) => self.then(alloc, *t),
+            PStep::Else(t) => self.otherwise(alloc, *t),
+            PStep::Event(t) => self.event(alloc, *t),
+            PStep::Insert(t) => self.insert(alloc, *t),
+            PStep::Delete(t) => self.delete(alloc, *t),
+            PStep::Found(t) => self.found(alloc, *t),
+            PStep::Missing(t) => self.missing(alloc, *t),
+            PStep::Lock(t) => self.lock(alloc, *t),
+            PStep::Unlock(t) => self.unlock(alloc, *t),
+            PStep::Embedded(t, facts, b) => self.embedded(alloc, *t, facts, b),
+            PStep::Name(n) => self.name(alloc, *n),
+            PStep::Public(a) => self.public(alloc, a),
+            PStep::Apply(f, entries) => self.apply(alloc, f, entries),
+            PStep::Know(k) => self.know(alloc, *k),
+        }
+    }
+}

@@ -1,0 +1,244 @@
+-- Each legal run of a process has lines opposite.
+use Rattle.std.proofs.Common.{◌≡◌, ℕ, zero, suc, ◌<◌, ◌≤◌, ◌^◌, List, [], ◌∷◌, ◌++◌, Option, Some, refl, sym, ap, ◌∙◌, subst, arith, slice_get, length, true, false, Bool, ◌*◌, ◌||◌}
+use Rattle.sap_forward.specs.Answered.{Draws, first_tables, first_state}
+use Rattle.sap_forward.proofs.Answer.{answer}
+use Rattle.sap_forward.proofs.Marked.{marks_join}
+use Rattle.sap_forward.proofs.Lines.{legal_join}
+use Rattle.sap_forward.specs.Opposite.{HasOpposites, init_line}
+use Rattle.sap_steps.specs.Runs.{IsLegalRun}
+use Rattle.sap_lines.specs.Runs.{IsLegalProcessRun}
+use Rattle.sap_runs.specs.Limits.{IsSmall}
+use Rattle.sap_restrict.specs.Shown.{HasFact}
+use Rattle.sap_restrict.specs.ReservedFacts.{init_fact}
+use Rattle.sap_terms.proofs.PlainLaws.Items.{first_item}
+use Rattle.sap_terms.specs.Message.{IsMessage}
+use Rattle.sap_terms.specs.declared.var.Sort.TheVariants.{Msg, Pub, Fresh as FreshSort}
+use Rattle.sap_terms.specs.declared.var.Sort.{Sort}
+use Rattle.sap_terms.specs.Equations.{equations}
+use Rattle.sap_terms.specs.Piles.{nothing}
+use Rattle.sap_terms.specs.Signature.{Sig, HoldsBuiltins}
+use Rattle.sap_terms.specs.Trace.{Trace}
+use Rattle.sap_terms.specs.Tree.{Tree}
+use Rattle.sap_terms.specs.declared.fact.Fact.{Fact}
+use Rattle.sap_process.specs.Configuration.{Config, initial}
+use Rattle.sap_process.specs.Proc.{Proc, node_count}
+use Rattle.sap_process.specs.Ready.{IsReady}
+use Rattle.sap_locks.specs.Annotation.{IsAnnotation}
+use Rattle.sap_place.specs.StateFacts.{state_fact}
+use Rattle.sap_rule.specs.RuleSteps.{RuleState, empty_state}
+use Rattle.sap_runs.specs.Marks.{Mark}
+use Rattle.sap_runs.specs.declared.process_step.PStep.{PStep}
+use Rattle.sap_runs.specs.declared.process_step.PStep.TheVariants as line
+use Rattle.sap_runs.specs.declared.rule_step.RStep.{RStep}
+use Rattle.sap_steps.specs.Lines.{IsLine}
+use Rattle.sap_steps.specs.Marks.{marks}
+use Rattle.sap_translate.specs.Templates as rules
+use Rattle.sap_translate.specs.Templates.{rules_of}
+use Rattle.sap_translate.specs.relation.Agents.{Agent, running, env_of}
+use Rattle.sap_translate.specs.relation.Answers.{gets}
+use Rattle.sap_translate.specs.relation.Envs.{filled, no_env, some_term}
+use Rattle.sap_forward.specs.Least.{is_among, names_made, not_drawn, numbers_below, names_drawn}
+use Rattle.sap_forward.specs.Linked.{Linked, EnvWithin}
+use Rattle.sap_forward.specs.Tables.{Tables}
+use Rattle.sap_forward.proofs.Evaluated.{rule_within}
+use Rattle.sap_forward.proofs.Given.{made_join, not_drawn_join, drawn_join, among_join, among_self}
+use Rattle.sap_forward.proofs.Premises.{Laws, RunLaws}
+use Rattle.sap_forward.proofs.Tabled.{length_join}
+use Rattle.sap_forward.proofs.Advance.{IsLimit}
+
+-- a message of a sort
+some_message : (laws : Laws) (g : Sig) (x : Sort) → IsMessage g x (some_term x)
+some_message laws g Msg = record { ground = tt; over = tt; normal = laws.leaves.of_public_name (equations g) []; sorted = refl }
+some_message laws g Pub = record { ground = tt; over = tt; normal = laws.leaves.of_public_name (equations g) []; sorted = refl }
+some_message laws g FreshSort = record { ground = tt; over = tt; normal = laws.leaves.of_fresh_name (equations g) 0; sorted = refl }
+
+-- the first line
+pub init_is : (laws : Laws) (g : Sig) (W : Tree → Type 0) (q : Proc) → IsLine g (rules_of q) W empty_state init_line (init_fact ∷ []) (gets empty_state (state_fact [] [] ∷ []))
+init_is laws g W q = record {
+  rule = rules.init_rule;
+  named = laws.named q rules.init_rule (first_item rules.init_rule (rules.place_rules [] [] q));
+  left = [];
+  right = state_fact [] [] ∷ [];
+  rest = [];
+  takes = nothing;
+  fires = record {
+    choice = filled no_env;
+    binds = record { vars = sym (laws.init g); agrees = tt };
+    use_ = record {
+      messages = λ v. some_message laws g v.sort;
+      takes = tt;
+      shows = (record { name = refl; persistent = refl; args = tt }, tt);
+      adds = (record { name = refl; persistent = refl; args = tt }, tt);
+    };
+    within = rule_within g W (filled no_env) rules.init_rule tt (tt, tt) (tt, tt);
+  };
+  becomes = refl;
+}
+
+-- the lines so far
+pub record Converted (g : Sig) (W : Tree → Type 0) (q : Proc) (drawn : List ℕ) (lines : List PStep) (c : Config) (es : List Tree) (tr : Trace) (ms : List Mark) : Type 0 where
+  pub rest : List RStep
+  pub agents : List (Option Agent)
+  pub tables : Tables
+  pub state : RuleState
+  pub full : Trace
+  pub legal : IsLegalRun g (rules_of q) W (init_line ∷ rest) state full
+  pub linked : Linked g W q drawn tables agents c es tr state full
+  pub marked : marks full ≡ ms
+  pub short : length rest ≤ 4 * length lines
+  pub names : not_drawn drawn (names_made (init_line ∷ rest)) ≡ not_drawn drawn (numbers_below tables.next)
+
+or_left : (a b : Bool) → a ≡ true → (a || b) ≡ true
+or_left a b e = rw e refl
+
+or_right : (a b : Bool) → b ≡ true → (a || b) ≡ true
+or_right true b e = refl
+or_right false b e = e
+
+draws_last : (drawn : List ℕ) (step : PStep) → ((n : ℕ) → is_among (names_drawn (step ∷ [])) n ≡ true → is_among drawn n ≡ true) → Draws drawn step
+draws_last drawn (line.New t n) h = h n (among_self n)
+draws_last drawn (line.Name n) h = h n (among_self n)
+draws_last drawn (line.Nil t) h = tt
+draws_last drawn (line.Par t) h = tt
+draws_last drawn (line.Rep t) h = tt
+draws_last drawn (line.Out t) h = tt
+draws_last drawn (line.Send t k) h = tt
+draws_last drawn (line.In t k) h = tt
+draws_last drawn (line.Sync a b) h = tt
+draws_last drawn (line.Then t) h = tt
+draws_last drawn (line.Else t) h = tt
+draws_last drawn (line.Event t) h = tt
+draws_last drawn (line.Insert t) h = tt
+draws_last drawn (line.Delete t) h = tt
+draws_last drawn (line.Found t) h = tt
+draws_last drawn (line.Missing t) h = tt
+draws_last drawn (line.Lock t) h = tt
+draws_last drawn (line.Unlock t) h = tt
+draws_last drawn (line.Embedded t ks b) h = tt
+draws_last drawn (line.Public a) h = tt
+draws_last drawn (line.Apply f ks) h = tt
+draws_last drawn (line.Know k) h = tt
+
+module _ (laws : Laws) (g : Sig) (p q : Proc) (ready : IsReady g p) (small : node_count p < 2 ^ 64) (annotated : IsAnnotation p q) (drawn : List ℕ) where
+  pub first_linked : Linked g IsSmall q drawn first_tables (Some (running [] no_env q) ∷ []) (initial q) [] [] first_state ((init_fact ∷ []) ∷ [])
+  first_linked = record {
+    rest = laws.starts g p q ready small annotated;
+    known = refl;
+    tabled = record {
+      threads = record { live = first_live; apart = first_apart; given = first_given; all = refl };
+      facts = record { live = λ t k f e n. absurd (cc); apart = λ t u k e n. absurd (cc); given = λ t k e. absurd (cc); all = refl };
+      apart = λ t u k e n. absurd (cc);
+      count = refl;
+    };
+    made = λ n m. absurd (omega (arith, m.1));
+    entries = λ x m. absurd (omega (arith, m.1));
+    envs = first_env;
+    stored = λ x v e. absurd (cc);
+  }
+    where
+      first_live : (t k : ℕ) (f : Fact) → slice_get (Some (state_fact [] []) ∷ []) t ≡ Some (Some f) → slice_get (0 ∷ []) t ≡ Some k → slice_get (Some (state_fact [] []) ∷ []) k ≡ Some (Some f)
+      first_live zero k f e n = let same : 0 ≡ k = cc in subst (λ i. slice_get (Some (state_fact [] []) ∷ []) i ≡ Some (Some f)) same e
+      first_live (suc t) k f e n = absurd (cc)
+
+      first_apart : (t u k : ℕ) → slice_get (0 ∷ []) t ≡ Some k → slice_get (0 ∷ []) u ≡ Some k → t ≡ u
+      first_apart zero zero k e n = refl
+      first_apart zero (suc u) k e n = absurd (cc)
+      first_apart (suc t) u k e n = absurd (cc)
+
+      first_given : (t k : ℕ) → slice_get (0 ∷ []) t ≡ Some k → k < 1
+      first_given zero k e = let same : 0 ≡ k = cc in omega arith
+      first_given (suc t) k e = absurd (cc)
+
+      none_within : EnvWithin g IsSmall no_env
+      none_within x m = elim m [ ]
+
+      first_env : (t : ℕ) (a : Agent) → slice_get (Some (running [] no_env q) ∷ []) t ≡ Some (Some a) → EnvWithin g IsSmall (env_of a)
+      first_env zero a e = let same : running [] no_env q ≡ a = cc in subst (λ x. EnvWithin g IsSmall (env_of x)) same none_within
+      first_env (suc t) a e = absurd (cc)
+
+module _ (laws : Laws) (more : RunLaws) (g : Sig) (p q : Proc) (hold : HoldsBuiltins g) (ready : IsReady g p) (small : node_count p < 2 ^ 64) (annotated : IsAnnotation p q) (limit : IsLimit g IsSmall) (drawn : List ℕ) where
+  begun : Converted g IsSmall q drawn [] (initial q) [] [] []
+  begun = record {
+    rest = [];
+    agents = Some (running [] no_env q) ∷ [];
+    tables = first_tables;
+    state = first_state;
+    full = (init_fact ∷ []) ∷ [];
+    legal = IsLegalRun.further init_line (init_fact ∷ []) IsLegalRun.starts (init_is laws g IsSmall q);
+    linked = first_linked laws g p q ready small annotated drawn;
+    marked = refl;
+    short = omega arith;
+    names = refl;
+  }
+
+  pub converted : {lines : List PStep} {c : Config} {es : List Tree} {tr : Trace} {ms : List Mark} → IsLegalProcessRun g IsSmall q lines c es tr ms → ((n : ℕ) → is_among (names_drawn lines) n ≡ true → is_among drawn n ≡ true) → Converted g IsSmall q drawn lines c es tr ms
+  converted IsLegalProcessRun.starts h = begun
+  converted (IsLegalProcessRun.further {lines = lines} {c = c} {d = d} {es = es} {fs = fs} {tr = tr} {marks = ms} step inner label run is) h =
+      let joined : (n : ℕ) → is_among (names_drawn (lines ++ step ∷ [])) n ≡ (is_among (names_drawn lines) n || is_among (names_drawn (step ∷ [])) n) = λ n. ap (λ x. is_among x n) (drawn_join lines (step ∷ [])) ∙ among_join (names_drawn lines) (names_drawn (step ∷ [])) n in
+      let w = converted run (λ n e. h n (joined n ∙ or_left (is_among (names_drawn lines) n) (is_among (names_drawn (step ∷ [])) n) e)) in
+      let can = (more.runs g q lines c es tr ms run).1 in
+      let exact = more.exactly g q lines c es tr ms hold (laws.ready g p q ready annotated) (more.excludes g q lines c es tr ms run) in
+      let draws = draws_last drawn step (λ n e. h n (joined n ∙ or_right (is_among (names_drawn lines) n) (is_among (names_drawn (step ∷ [])) n) e)) in
+      let a = answer laws g IsSmall p q hold ready small annotated drawn w.agents c es tr w.state w.full w.tables w.linked limit can exact step inner label d fs draws is in
+      record {
+        rest = w.rest ++ a.lines;
+        agents = a.later;
+        tables = a.behind;
+        state = a.state;
+        full = w.full ++ a.more;
+        legal = legal_join IsSmall g (rules_of q) (init_line ∷ w.rest) a.lines w.state a.state w.full a.more w.legal a.legal;
+        linked = a.linked;
+        marked = marks_join w.full a.more ∙ (λ i. w.marked i ++ a.marked i);
+        short = let one = length_join w.rest a.lines in let two = length_join lines (step ∷ []) in let three = w.short in let four = a.short in omega arith;
+        names = ap (not_drawn drawn) (made_join (init_line ∷ w.rest) a.lines) ∙ not_drawn_join drawn (names_made (init_line ∷ w.rest)) (names_made a.lines) ∙ ap (λ x. x ++ not_drawn drawn (names_made a.lines)) w.names ∙ sym a.names;
+      }
+
+pushed : {A : Type 0} (xs : List A) (x : A) → xs ++ x ∷ [] ≡ [] → ⊥
+pushed [] x e = absurd (cc)
+pushed (y ∷ xs) x e = absurd (cc)
+
+-- without lines nothing is known or shown
+nothing_yet : {g : Sig} {q : Proc} {lines : List PStep} {c : Config} {es : List Tree} {tr : Trace} {ms : List Mark} → IsLegalProcessRun g IsSmall q lines c es tr ms → lines ≡ [] → (es ≡ []) × (tr ≡ []) × (ms ≡ [])
+nothing_yet IsLegalProcessRun.starts e = (refl, refl, refl)
+nothing_yet (IsLegalProcessRun.further {lines = lines} step inner label run is) e = absurd (pushed lines step e)
+
+none_there : (k : ℕ) (f : Fact) → HasFact [] k f → ⊥
+none_there zero f m = absurd (omega (arith, m.1))
+none_there (suc k) f m = absurd (omega (arith, m.1))
+
+pub have_opposites : (laws : Laws) (more : RunLaws) (g : Sig) (p q : Proc) → HoldsBuiltins g → IsReady g p → node_count p < 2 ^ 64 → IsAnnotation p q → IsLimit g IsSmall → HasOpposites g q
+have_opposites laws more g p q hold ready small annotated limit [] c es tr ms run =
+    let none = nothing_yet run refl in (
+      [],
+      record {
+        state = empty_state;
+        full = [];
+        legal = IsLegalRun.starts;
+        admitted = λ w. laws.quiet w g [] (λ k f m e. none_there k f m);
+        shows = sym none.1;
+        marked = sym none.2;
+        entries = sym none.0;
+        starts = refl;
+        short = omega arith;
+        least = (0, refl);
+      },
+    )
+have_opposites laws more g p q hold ready small annotated limit (step ∷ lines) c es tr ms run =
+    let all : List PStep = step ∷ lines in
+    let drawn = names_drawn all in
+    let w = converted laws more g p q hold ready small annotated limit drawn run (λ n e. e) in
+    let same = laws.shows_the_same g p q hold ready small annotated w.agents c tr w.state w.full w.linked.rest in (
+      init_line ∷ w.rest,
+      record {
+        state = w.state;
+        full = w.full;
+        legal = w.legal;
+        admitted = same.1;
+        shows = same.0;
+        marked = w.marked;
+        entries = w.linked.known;
+        starts = (w.rest, refl);
+        short = let s = w.short in omega arith;
+        least = (w.tables.next, w.names);
+      },
+    )

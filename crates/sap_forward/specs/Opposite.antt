@@ -1,0 +1,53 @@
+-- What a run of rules opposite to a written run of a process is.
+use Rattle.std.specs.Prelude.{◌≡◌, ◌≤◌, ◌+◌, ◌*◌, List, [], ◌∷◌, length, codes}
+use Rattle.sap_terms.specs.Signature.{Sig}
+use Rattle.sap_terms.specs.Trace.{Trace}
+use Rattle.sap_terms.specs.Tree.{Tree}
+use Rattle.sap_formula.specs.Hide.{hide}
+use Rattle.sap_process.specs.Configuration.{Config}
+use Rattle.sap_process.specs.Proc.{Proc}
+use Rattle.sap_restrict.specs.Standard.{IsAdmitted}
+use Rattle.sap_rule.specs.RuleSteps.{RuleState}
+use Rattle.sap_runs.specs.Limits.{IsSmall}
+use Rattle.sap_runs.specs.Marks.{Mark}
+use Rattle.sap_runs.specs.declared.process_step.PStep.{PStep}
+use Rattle.sap_runs.specs.declared.rule_step.RStep.{RStep}
+use Rattle.sap_runs.specs.declared.rule_step.RStep.TheVariants.{Rule as RuleLine}
+use Rattle.sap_lines.specs.Runs.{IsLegalProcessRun}
+use Rattle.sap_steps.specs.Marks.{marks}
+use Rattle.sap_steps.specs.Runs.{IsLegalRun}
+use Rattle.sap_translate.specs.Templates.{rules_of}
+use Rattle.sap_forward.specs.Least.{names_drawn, names_made, not_drawn, AreLeast}
+
+-- the line that starts the rules
+abbrev pub init_line : RStep
+init_line = RuleLine (codes "Init") [] []
+
+-- there are no lines where the process has none, and elsewhere the first starts the rules
+abbrev pub StartsOpposite : List PStep → List RStep → Type 0
+StartsOpposite [] rule_lines = rule_lines ≡ []
+StartsOpposite (line ∷ lines) rule_lines = (rest : List RStep) × (rule_lines ≡ init_line ∷ rest)
+
+-- These lines of rules are opposite to the lines of the process, which leave the adversary with these entries and have this trace
+-- and these marks.
+pub record IsOpposite (g : Sig) (start : Proc) (lines : List PStep) (es : List Tree) (tr : Trace) (ms : List Mark) (rule_lines : List RStep) : Type 0 where
+  pub state : RuleState
+  pub full : Trace
+  -- they are legal within the limit, and their full trace counts
+  pub legal : IsLegalRun g (rules_of start) IsSmall rule_lines state full
+  pub admitted : IsAdmitted g full
+  -- they show the same, have the same marks, and leave the adversary with the same
+  pub shows : hide full ≡ tr
+  pub marked : marks full ≡ ms
+  pub entries : state.known ≡ es
+  -- they start the rules first, and are at most four for each and that one
+  pub starts : StartsOpposite lines rule_lines
+  pub short : length rule_lines ≤ 4 * length lines + 1
+  -- locks and tags have the least names that no line of the process draws, in ascending order
+  pub least : AreLeast (names_drawn lines) (not_drawn (names_drawn lines) (names_made rule_lines))
+
+-- each legal run of the process has lines opposite
+abbrev pub HasOpposites : Sig → Proc → Type 0
+HasOpposites g start =
+    (lines : List PStep) (c : Config) (es : List Tree) (tr : Trace) (ms : List Mark) → IsLegalProcessRun g IsSmall start lines c es tr ms
+    → (rule_lines : List RStep) × IsOpposite g start lines es tr ms rule_lines

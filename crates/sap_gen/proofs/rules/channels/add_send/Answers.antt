@@ -1,6 +1,0 @@
-use Rattle.sap_gen.proofs.Joins.{three_last}
-use Rattle.sap_gen.proofs.rules.channels.add_send.Goals as goal
-
-pub returns : goal.returns
-returns c =
-    three_last c.args.rules.now _ _ _ c.in_ok-add_send_to_adversary.ensures c.in_ok-add_send_under_tag.ensures c.in_ok-add_acknowledged.ensures

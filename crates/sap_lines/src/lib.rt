@@ -1,0 +1,15 @@
+//! What written lines of processes mean, when they are refused, and the runs that they are.
+#![tactic(auto)]
+
+mod fault;
+mod form;
+mod laws;
+mod place;
+
+pub use fault::PFault;
+pub use form::{Form, form_of};
+pub use laws::{
+    each_run_can_be_written, limit_excludes, lines_are_steps, lines_have_one_answer,
+    lines_have_some_answer, runs_match_exactly, sorts_are_one,
+};
+pub use place::{Place, Places, places_of};

@@ -1,0 +1,13 @@
+pub mod TakingSteps
+pub mod Prefixes
+pub mod OnTaken
+pub mod Names
+pub mod Digits
+pub mod TermsTaken
+pub mod TermsRead
+pub mod WordsTaken
+pub mod WordTurns
+pub mod StepsTaken
+pub mod TermsPrinted
+pub mod Lines
+pub mod NoFeeds

@@ -1,0 +1,6 @@
+pub mod RunTerms
+pub mod LineWords
+pub mod StepLines
+pub mod LineText
+pub mod Spellable
+pub mod code

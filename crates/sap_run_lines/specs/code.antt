@@ -1,0 +1,5 @@
+-- What the code does, step by step: no public contract cites what stands below.
+pub mod Taking
+pub mod TermTaking
+pub mod WordTaking
+pub mod StepTaking

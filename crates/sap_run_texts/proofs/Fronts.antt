@@ -1,0 +1,54 @@
+-- Where the front of some bytes ends, all of which pass a test.
+use Rattle.std.proofs.Common.{◌≡◌, ◌≤◌, ◌<◌, ◌⊎◌, inl, inr, ℕ, Bool, true, false, List, [], ◌∷◌, ◌++◌, length, refl, arith}
+use Rattle.std.specs.Prelude.{nat_lt}
+use Rattle.std.specs.List.{list_all}
+use Rattle.sap_text.specs.Tokens.{is_not_feed, Stops}
+use Rattle.sap_terms.proofs.PlainLaws.Tests.{and_left, and_right, and_true}
+
+-- a front that passes ends where what follows doesn't
+pub one_front : (f : ℕ → Bool) (p q b c : List ℕ) → list_all f p ≡ true → list_all f q ≡ true → Stops f b → Stops f c → p ++ b ≡ q ++ c
+    → (p ≡ q) × (b ≡ c)
+one_front f [] [] b c l m s r e = (refl, e)
+one_front f [] (y ∷ q) [] c l m s r e = absurd (cc)
+one_front f [] (y ∷ q) (x ∷ b) c l m s r e =
+    let here : f y ≡ true = and_left (f y) (list_all f q) m in
+    let same : x ≡ y = cc in
+    let not : f x ≡ false = s in
+    absurd (cc)
+one_front f (x ∷ p) [] b [] l m s r e = absurd (cc)
+one_front f (x ∷ p) [] b (y ∷ c) l m s r e =
+    let here : f x ≡ true = and_left (f x) (list_all f p) l in
+    let same : x ≡ y = cc in
+    let not : f y ≡ false = r in
+    absurd (cc)
+one_front f (x ∷ p) (y ∷ q) b c l m s r e =
+    let tails : p ++ b ≡ q ++ c = cc in
+    let heads : x ≡ y = cc in
+    let more = one_front f p q b c (and_right (f x) (list_all f p) l) (and_right (f y) (list_all f q) m) s r tails in
+    let fronts : p ≡ q = more.0 in
+    (cc, more.1)
+
+-- what holds no line feed is no longer than what stands before the first one
+pub no_longer : (a y h w : List ℕ) → list_all is_not_feed a ≡ true → a ++ y ≡ h ++ (10 ∷ w) → length a ≤ length h
+no_longer [] y h w o e = omega arith
+no_longer (x ∷ a) y [] w o e =
+    let same : x ≡ 10 = cc in
+    let here : is_not_feed x ≡ true = and_left (is_not_feed x) (list_all is_not_feed a) o in
+    let not : is_not_feed 10 ≡ true = rw same at here in
+    absurd (cc)
+no_longer (x ∷ a) y (c ∷ h) w o e =
+    let tails : a ++ y ≡ h ++ (10 ∷ w) = cc in
+    omega (arith, no_longer a y h w (and_right (is_not_feed x) (list_all is_not_feed a) o) tails)
+
+-- one more byte that passes
+pub one_more : (f : ℕ → Bool) (a : List ℕ) (b : ℕ) → list_all f a ≡ true → f b ≡ true → list_all f (a ++ b ∷ []) ≡ true
+one_more f [] b l h = and_true (f b) true h refl
+one_more f (x ∷ a) b l h =
+    and_true (f x) (list_all f (a ++ b ∷ [])) (and_left (f x) (list_all f a) l) (one_more f a b (and_right (f x) (list_all f a) l) h)
+
+-- a number is below another or not
+pub below_or_not : (m n : ℕ) → (m < n) ⊎ (n ≤ m)
+below_or_not m n = test (nat_lt m n) refl where
+  test : (b : Bool) → nat_lt m n ≡ b → (m < n) ⊎ (n ≤ m)
+  test true e = inl (grind arith)
+  test false e = inr (grind arith)

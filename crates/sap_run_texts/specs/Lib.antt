@@ -1,0 +1,4 @@
+pub mod RunTexts
+pub mod RunPrinted
+pub mod RunReading
+pub mod code

@@ -1,0 +1,46 @@
+//! What is so of the texts of runs.
+ghost use Rattle.std.specs.Prelude.{◌≡◌, ◌≤◌, ℕ, List, Result, Ok, length};
+ghost use Rattle.sap_runs.specs.declared.process_step.PStep.{PStep};
+ghost use Rattle.sap_runs.specs.declared.rule_step.RStep.{RStep};
+ghost use Rattle.sap_run_lines.specs.Spellable.{IsWritableProcess, IsWritableRule};
+ghost use Rattle.sap_run_texts.specs.declared.run_fault.RunFault.{RunFault};
+ghost use Rattle.sap_run_texts.specs.declared.run.Kinds.{Kinds};
+ghost use Rattle.sap_run_texts.specs.declared.run.Run.{Run};
+ghost use Rattle.sap_run_texts.specs.declared.limits.TheConstants.{MOST_PROCESS_STEPS, MOST_RULE_STEPS};
+ghost use Rattle.sap_run_texts.specs.RunTexts.{IsProcessRunText, IsRuleRunText, IsRunRead};
+ghost use Rattle.sap_run_texts.specs.RunPrinted.{Each, process_run_text, rule_run_text};
+
+use sap_run_lines::{lines_are_one, step_lines_are_lines, written_lines_are_read};
+
+/// A law: a text has one answer at most, as a run of each kind and of either.
+pub fn one_run()
+    ensures process { (z : List ℕ) (o r : Result (List PStep) RunFault) → IsProcessRunText z o
+        → IsProcessRunText z r → o ≡ r }
+    ensures rule { (z : List ℕ) (o r : Result (List RStep) RunFault) → IsRuleRunText z o
+        → IsRuleRunText z r → o ≡ r }
+    ensures either { (k : Kinds) (z : List ℕ) (o r : Result Run RunFault) → IsRunRead k z o
+        → IsRunRead k z r → o ≡ r }
+{
+    lines_are_one();
+    step_lines_are_lines();
+}
+
+/// A law: each text has an answer.
+pub fn some_run()
+    ensures process { (z : List ℕ) → ((o : Result (List PStep) RunFault) × IsProcessRunText z o) }
+    ensures rule { (z : List ℕ) → ((o : Result (List RStep) RunFault) × IsRuleRunText z o) }
+    ensures either { (k : Kinds) (z : List ℕ) → ((o : Result Run RunFault) × IsRunRead k z o) }
+{
+    lines_are_one();
+}
+
+/// A law: the text that is printed of a run is this run, where each of its steps can be written and they aren't more than a run
+/// may have.
+pub fn printed_runs_are_read()
+    ensures process { (ss : List PStep) → Each IsWritableProcess ss → length ss ≤ MOST_PROCESS_STEPS
+        → IsProcessRunText (process_run_text ss) (Ok ss) }
+    ensures rule { (ss : List RStep) → Each IsWritableRule ss → length ss ≤ MOST_RULE_STEPS
+        → IsRuleRunText (rule_run_text ss) (Ok ss) }
+{
+    written_lines_are_read();
+}

@@ -1,0 +1,20 @@
+//! The texts of runs, read whole and in pieces, and printed.
+#![tactic(auto)]
+
+mod laws;
+mod limits;
+mod phase;
+mod print;
+mod read;
+mod reader;
+mod run;
+mod run_fault;
+mod step_text;
+
+pub use laws::{one_run, printed_runs_are_read, some_run};
+pub use limits::{MOST_PROCESS_STEPS, MOST_RULE_STEPS};
+pub use print::{print_prun, print_rrun};
+pub use read::{read_prun, read_rrun};
+pub use reader::RunReader;
+pub use run::{Kinds, Run};
+pub use run_fault::RunFault;

@@ -1,0 +1,16 @@
+use crate::RunFault;
+
+/// How far a reader has come.
+#[derive(Clone, Copy, Debug, PartialEq, Eq)]
+pub enum Phase {
+    /// Memory was wanting.
+    Failed,
+    /// The text has this fault, whatever follows.
+    Faulty(RunFault),
+    /// In the first line.
+    Head,
+    /// Behind the head of a run of a process.
+    Process,
+    /// Behind the head of a run of rules.
+    Rules,
+}

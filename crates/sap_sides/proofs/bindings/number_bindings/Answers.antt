@@ -1,0 +1,23 @@
+use Rattle.std.proofs.Common.{sym, subst}
+use Rattle.sap_terms.specs.Message.{IsMessage, IsOver}
+use Rattle.sap_terms.specs.Signature.{Sig}
+use Rattle.sap_terms.specs.View.{tree}
+use Rattle.sap_terms.specs.declared.binding.Binding.{Binding}
+use Rattle.sap_sides.proofs.Lists.{all_at}
+use Rattle.sap_sides.proofs.Kept.{bind_more, keeps-both}
+use Rattle.sap_sides.proofs.bindings.number_bindings.Goals as goal
+
+pub put-requires-clause-ground : goal.put-requires-clause-ground
+put-requires-clause-ground c =
+    (all_at (λ (e : Binding). IsMessage c.args.table.now.sig e.var.sort (tree e.term)) c.args.b.now c.loop-i.i c.at-e.result.now c.requires c.at-e.ensures).ground
+
+pub put-requires-clause-over : goal.put-requires-clause-over
+put-requires-clause-over c =
+    let m = all_at (λ (e : Binding). IsMessage c.args.table.now.sig e.var.sort (tree e.term)) c.args.b.now c.loop-i.i c.at-e.result.now c.requires c.at-e.ensures in
+    subst (λ (g : Sig). IsOver g (tree c.at-e.result.now.term)) (sym c.loop-i.invariant.keeps.sig) m.over
+
+pub loop-i-preserved : goal.loop-i-preserved
+loop-i-preserved c =
+    let h = c.loop-i.invariant in
+    let m = bind_more c.loop-i.table c.put.new.self c.args.b.now c.loop-i.i c.at-e.result.now c.loop-i.env c.push.new.self (record { var = c.in_ok-var.var; id = c.in_ok-id.id }) h.are h.bound c.in_ok-id.ensures.gives c.in_ok-var.ensures c.at-e.ensures c.in_ok-push.ensures.ok in
+    record { are = m.0; bound = m.1; keeps = keeps-both c.args.table.now c.loop-i.table c.put.new.self h.keeps c.in_ok-id.ensures.keeps }

@@ -1,0 +1,28 @@
+use Rattle.std.proofs.Common.{rules}
+use Rattle.sap_terms.specs.declared.limits.TheConstants.{MOST_TERM_NODES}
+use Rattle.sap_sides.proofs.ByNumbers.{forms_kept, fact_ground_then, fact_over_then, fact_large_before, facts_more}
+use Rattle.sap_sides.proofs.Kept.{keeps-both}
+use Rattle.sap_sides.proofs.forms.form_facts.Goals as goal
+
+pub form_fact-requires-clause-ground : goal.form_fact-requires-clause-ground
+form_fact-requires-clause-ground c =
+    fact_ground_then c.args.table.now c.loop-k.table c.args.env.now c.loop-k.invariant.keeps c.requires.env c.args.fs.now c.loop-k.k c.at.result.now c.requires.ground c.at.ensures
+
+pub form_fact-requires-clause-over : goal.form_fact-requires-clause-over
+form_fact-requires-clause-over c =
+    fact_over_then c.args.table.now c.loop-k.table c.args.env.now c.loop-k.invariant.keeps c.requires.env c.args.fs.now c.loop-k.k c.at.result.now c.requires.over c.at.ensures
+
+pub returns-in_err-f-clause-large : goal.returns-in_err-f-clause-large
+returns-in_err-f-clause-large c = λ i.
+    fact_large_before c.args.table.now c.loop-k.table c.args.env.now c.loop-k.invariant.keeps c.requires.env c.args.fs.now c.loop-k.k c.at.result.now c.at.ensures (c.in_err-f.ensures.large (search (rules, c.from_residual.ensures, i)))
+
+pub loop-k-preserved : goal.loop-k-preserved
+loop-k-preserved c =
+    let h = c.loop-k.invariant in
+    let x = c.in_ok-f.ensures in
+    let q = facts_more c.args.table.now c.loop-k.table c.args.env.now h.keeps c.requires.env c.form_fact.new.table c.args.fs.now c.loop-k.k c.at.result.now c.loop-k.shared.items c.push_fact.new.shared.items c.in_ok-f.f h.formed h.below x.keeps x.below x.form x.within c.at.ensures c.in_ok-push_fact.ensures in
+    record { formed = q.0; below = q.1; keeps = keeps-both c.args.table.now c.loop-k.table c.form_fact.new.table h.keeps x.keeps }
+
+pub form_fact-requires-clause-env : goal.form_fact-requires-clause-env
+form_fact-requires-clause-env c =
+    forms_kept MOST_TERM_NODES c.args.table.now c.loop-k.table c.args.env.now c.loop-k.invariant.keeps c.requires.env

@@ -1,0 +1,5 @@
+pub mod SharedFacts
+pub mod Messages
+pub mod Fitting
+pub mod Forms
+pub mod Laws

@@ -1,7 +1,0 @@
-use Rattle.std.proofs.Common.{take}
-use Rattle.sap_terms.specs.Subst.{bound_to}
-use Rattle.sap_steps.proofs.Formed.{AreFactsFormed}
-use Rattle.sap_steps.proofs.forms.forms_of_facts.Given as goal
-
-abbrev pub invariant-loop-k : goal.invariant-loop-k
-invariant-loop-k l = AreFactsFormed l.sig (bound_to l.c) (take l.k l.fs) l.out

@@ -1,5 +1,0 @@
-use Rattle.sap_steps.proofs.Names.{any_decides}
-use Rattle.sap_steps.proofs.state.is_among.Goals as goal
-
-pub returns : goal.returns
-returns c = any_decides c.args.names.now.keys c.args.n c.contains.result c.contains.ensures

@@ -1,0 +1,15 @@
+pub mod Cuts
+pub mod Joins
+pub mod Lists
+pub mod Terms
+pub mod Traces
+pub mod Parts
+pub mod ProcessToRules
+pub mod RulesToProcess
+pub mod Premises
+pub mod Restricted
+pub mod ByHand
+pub mod Related
+pub mod Settled
+pub mod Opened
+pub mod PlaceLaws

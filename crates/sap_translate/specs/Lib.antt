@@ -1,0 +1,14 @@
+pub mod ChannelFacts
+pub mod Templates
+pub mod Members
+pub mod Places
+pub mod Scoped
+pub mod OpenLocks
+pub mod Sound
+pub mod Settled
+pub mod Opened
+pub mod PlaceRules
+pub mod Faithful
+pub mod relation
+pub mod code
+pub mod Examples

@@ -1,0 +1,145 @@
+//! The rules of a process: one walk through its places.
+ghost use Rattle.std.specs.Prelude.{◌≡◌, [], ◌∷◌, ◌++◌, IfOk, OnOk, unwrap_or};
+ghost use Rattle.sap_terms.specs.Path.{IsDigit};
+ghost use Rattle.sap_process.specs.Proc.{proc};
+ghost use Rattle.sap_translate.specs.Places.{scope_handed_down};
+ghost use Rattle.sap_translate.specs.Templates.{place_rules, rules_of};
+ghost use Rattle.sap_translate.specs.code.Inside.{rules_below};
+
+use crate::rules::{add_own, init_rule};
+use sap_place::{path_below, with_lock, with_pattern, with_rule, with_var};
+use sap_process::Process;
+use sap_rule::RuleList;
+use sap_terms::{Mem, Path, Signature, Sort, Vars};
+use std::alloc::Global;
+
+/// The rules of an annotated process: `Init`, and then those of its places in preorder. Want of memory is the only error.
+///
+/// It recurses as deep as the process. No form looks at the signature.
+pub fn generate(alloc: Global, _sig: &Signature, p: &Process) -> Result<RuleList, Mem>
+    ensures { IfOk result (λ rules. rules ≡ rules_of (proc p.now)) }
+{
+    let mut rules = RuleList::new(alloc);
+    rules.push(init_rule(alloc)?)?;
+    add_all(alloc, p, &mut rules)?;
+    Ok(rules)
+}
+
+// Puts the rules of all places last.
+fn add_all(alloc: Global, p: &Process, rules: &mut RuleList) -> Result<(), Mem>
+    ensures { OnOk result (rules.new ≡ rules.old ++ place_rules [] [] (proc p.now)) }
+{
+    let root = Path::new(alloc);
+    let scope = Vars::new(alloc);
+    add_places(p, alloc, &root, &scope, rules)
+}
+
+// Puts the rules of the places from this one on last.
+#[cycle(walk)]
+fn add_places(
+    p: &Process,
+    alloc: Global,
+    path: &Path,
+    scope: &Vars,
+    rules: &mut RuleList,
+) -> Result<(), Mem>
+    ensures { OnOk result (rules.new ≡ rules.old ++ place_rules path.now scope.now (proc p.now)) }
+{
+    match grown_scope(alloc, scope, p)? {
+        Some(inner) => add_from(p, alloc, path, scope, &inner, rules),
+        None => add_from(p, alloc, path, scope, scope, rules),
+    }
+}
+
+// The same, where the inner scope is that at the first child.
+#[cycle(walk)]
+fn add_from(
+    p: &Process,
+    alloc: Global,
+    path: &Path,
+    scope: &Vars,
+    inner: &Vars,
+    rules: &mut RuleList,
+) -> Result<(), Mem>
+    requires { inner.now ≡ scope_handed_down scope.now (proc p.now) 1 }
+    ensures { OnOk result (rules.new ≡ rules.old ++ place_rules path.now scope.now (proc p.now)) }
+{
+    add_own(p, alloc, path, scope, inner, rules)?;
+    add_below(p, alloc, path, scope, inner, rules)?;
+    Ok(())
+}
+
+// Puts the rules of the places below this one last.
+#[cycle(walk)]
+fn add_below(
+    p: &Process,
+    alloc: Global,
+    path: &Path,
+    scope: &Vars,
+    inner: &Vars,
+    rules: &mut RuleList,
+) -> Result<(), Mem>
+    ensures { OnOk result (rules.new
+        ≡ rules.old ++ rules_below path.now scope.now inner.now (proc p.now)) }
+{
+    match p {
+        Process::Nil => Ok(()),
+        Process::Par(q, r) | Process::If(_, _, q, r) | Process::Lookup(_, _, q, r) => {
+            add_child(q, alloc, path, 1, inner, rules)?;
+            add_child(r, alloc, path, 2, scope, rules)
+        }
+        Process::Rep(q)
+        | Process::New(_, q)
+        | Process::Out(_, q)
+        | Process::Send(_, _, q)
+        | Process::In(_, q)
+        | Process::Recv(_, _, q)
+        | Process::Event(_, q)
+        | Process::Insert(_, _, q)
+        | Process::Delete(_, q)
+        | Process::Lock(_, _, q)
+        | Process::Unlock(_, _, q)
+        | Process::Embedded(_, _, _, q) => add_child(q, alloc, path, 1, inner, rules),
+    }
+}
+
+// Puts the rules from the child of this digit on last.
+#[cycle(walk)]
+fn add_child(
+    q: &Process,
+    alloc: Global,
+    path: &Path,
+    digit: u8,
+    scope: &Vars,
+    rules: &mut RuleList,
+) -> Result<(), Mem>
+    requires { IsDigit digit }
+    ensures { OnOk result (rules.new
+        ≡ rules.old ++ place_rules (path.now ++ digit ∷ []) scope.now (proc q.now)) }
+{
+    let child = path_below(alloc, path, digit)?;
+    add_places(q, alloc, &child, scope, rules)
+}
+
+// The scope at the first child, where the place binds something.
+fn grown_scope(alloc: Global, scope: &Vars, p: &Process) -> Result<Option<Vars>, Mem>
+    ensures { IfOk result (λ o. unwrap_or o scope.now ≡ scope_handed_down scope.now (proc p.now) 1) }
+{
+    match p {
+        Process::New(x, _) => Ok(Some(with_var(alloc, scope, x, Sort::Fresh)?)),
+        Process::In(t, _) | Process::Recv(_, t, _) => Ok(Some(with_pattern(alloc, scope, t)?)),
+        Process::Lookup(_, x, _, _) => Ok(Some(with_var(alloc, scope, x, Sort::Msg)?)),
+        Process::Lock(_, l, _) => Ok(Some(with_lock(alloc, scope, *l)?)),
+        Process::Embedded(l, a, r, _) => Ok(Some(with_rule(alloc, scope, l, a, r)?)),
+        Process::Nil
+        | Process::Par(_, _)
+        | Process::Rep(_)
+        | Process::Out(_, _)
+        | Process::Send(_, _, _)
+        | Process::If(_, _, _, _)
+        | Process::Event(_, _)
+        | Process::Insert(_, _, _)
+        | Process::Delete(_, _)
+        | Process::Unlock(_, _, _) => Ok(None),
+    }
+}

@@ -1,0 +1,44 @@
+//! Fresh names.
+ghost use Rattle.std.specs.Prelude.{◌≡◌, [], ◌∷◌, ◌++◌, IfOk, OnOk};
+ghost use Rattle.sap_terms.specs.Tree.{variable};
+ghost use Rattle.sap_process.specs.Sites.{fresh_var};
+ghost use Rattle.sap_translate.specs.ChannelFacts.{fresh_fact};
+ghost use Rattle.sap_translate.specs.Templates as templates;
+
+use super::making::push_taking;
+use crate::facts::{fact_of_var, sorted};
+use sap_rule::RuleList;
+use sap_terms::{Fact, FactList, Mem, Path, Sort, Var, Vars};
+use std::alloc::Global;
+
+/// The rule takes the fresh name that the process makes.
+pub fn add_new(
+    alloc: Global,
+    path: &Path,
+    scope: &Vars,
+    inner: &Vars,
+    x: &Var,
+    rules: &mut RuleList,
+) -> Result<(), Mem>
+    requires { inner.now ≡ scope.now ++ fresh_var x.now ∷ [] }
+    ensures { OnOk result (rules.new ≡ rules.old ++ templates.new_rules path.now scope.now x.now) }
+{
+    let taken = made(alloc, x)?;
+    push_taking(
+        alloc,
+        b"New_",
+        path,
+        scope,
+        taken,
+        FactList::new(alloc),
+        inner,
+        rules,
+    )
+}
+
+// `Fr` of the variable, as one of a fresh name.
+fn made(alloc: Global, x: &Var) -> Result<Fact, Mem>
+    ensures { IfOk result (λ f. f ≡ fresh_fact (variable (fresh_var x.now))) }
+{
+    fact_of_var(alloc, b"Fr", sorted(alloc, x, Sort::Fresh)?)
+}
