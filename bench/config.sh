@@ -1,9 +1,8 @@
 #!/bin/sh
-# Times lines of a process that is replayed: sessions of nine lines each, beside a balanced parallel that makes the process so large.
-# The lines double while the places stay, then the places double while the lines stay. What it takes to read the file and to begin,
-# which is the run of no line, is taken off: so fewer lines than these can't be told from nothing, though a run has 5,000 at most. `growth.sh`
-# says what is printed. The ratio is about 2 first, and then about 1, where a processor is free: beside other work rows stray. From
-# 80,000 lines on the tables outgrow the caches, and it comes to 2.4; counted in instructions it is 2.0 throughout, 1,410 a line.
+# Counts what lines of a process cost that is replayed: sessions of nine lines each, beside a balanced parallel that makes the process
+# so large. The lines double while the places stay, then the places double while the lines stay. What it takes to read the file and to
+# begin, which is the run of no line, is taken off. It counts instructions, by valgrind: a run has 5,000 lines at most, whose
+# milliseconds can't be told from those of the beginning. The ratio is to be about 2 first, at most 2.2, and then about 1, at most 1.2.
 set -eu
 . "$(dirname "$0")/growth.sh"
 built
@@ -24,22 +23,29 @@ places() {
         }' >"$work/file.spthy"
 }
 
-# net SIZE WHAT LINES: a line with the size, what it counts, the milliseconds of so many lines, and the ratio to the line before.
+# The instructions of a replay of so many lines.
+counted() {
+    valgrind --tool=callgrind --callgrind-out-file=/dev/null "$program" config "$work/file.spthy" "$1" 2>&1 > /dev/null |
+        awk '/Collected/ { print $4 }'
+}
+
+# net SIZE WHAT LINES: a line with the size, what it counts, the millions of instructions of so many lines, and the ratio to the line
+# before.
 net() {
-    none=$(milliseconds "$program" config "$work/file.spthy" 0)
-    all=$(milliseconds "$program" config "$work/file.spthy" "$3")
-    now=$(awk "BEGIN { printf \"%.1f\", $all - $none }")
+    none=$(counted 0)
+    all=$(counted "$3")
+    now=$((all - none))
     ratio=$([ -z "$before" ] && echo '-' || awk "BEGIN { printf \"%.2f\", $now / $before }")
-    printf '%8d %s %9s ms  ratio %5s  (begun in %s ms)\n' "$1" "$2" "$now" "$ratio" "$none"
+    awk "BEGIN { printf \"%8d %s %9.2f M  ratio %5s  (begun in %.2f M)\\n\", $1, \"$2\", $now / 1e6, \"$ratio\", $none / 1e6 }"
     before=$now
 }
 
 places 3900
-for lines in 20000 40000 80000; do
+for lines in 5000 10000 20000 40000; do
     net "$lines" lines "$lines"
 done
 before=
 for count in 480 960 1920 3840; do
     places "$count"
-    net "$count" places 40000
+    net "$count" places 5000
 done
