@@ -29,15 +29,11 @@ counted() {
         awk '/Collected/ { print $4 }'
 }
 
-# net SIZE WHAT LINES: a line with the size, what it counts, the millions of instructions of so many lines, and the ratio to the line
-# before.
+# net SIZE WHAT LINES: tells the instructions of so many lines
 net() {
     none=$(counted 0)
     all=$(counted "$3")
-    now=$((all - none))
-    ratio=$([ -z "$before" ] && echo '-' || awk "BEGIN { printf \"%.2f\", $now / $before }")
-    awk "BEGIN { printf \"%8d %s %9.2f M  ratio %5s  (begun in %.2f M)\\n\", $1, \"$2\", $now / 1e6, \"$ratio\", $none / 1e6 }"
-    before=$now
+    told "$1" "$2" $((all - none)) '%10d instructions'
 }
 
 places 3900

@@ -11,26 +11,38 @@ built() {
     before=
 }
 
-# row SIZE WHAT COMMAND..: a line with the size, what it counts, the milliseconds of the command's shortest run, and the ratio
-# to the line before, which is about 2 where time grows with the size.
+# told SIZE WHAT COUNT FORM: a line with the size, what it counts, the count in this form, and the ratio to the line before, which is
+# about 2 where the count grows with the size
+told() {
+    ratio=$([ -z "$before" ] && echo '-' || awk "BEGIN { printf \"%.2f\", $3 / $before }")
+    printf "%8d %s $4  ratio %5s\n" "$1" "$2" "$3" "$ratio"
+    before=$3
+}
+
+# row SIZE WHAT COMMAND..: tells the milliseconds of the command's shortest run
 row() {
     size=$1 what=$2
     shift 2
-    now=$(milliseconds "$@")
-    ratio=$([ -z "$before" ] && echo '-' || awk "BEGIN { printf \"%.2f\", $now / $before }")
-    printf '%8d %s %9s ms  ratio %5s\n' "$size" "$what" "$now" "$ratio"
-    before=$now
+    told "$size" "$what" "$(milliseconds "$@")" '%9s ms'
 }
 
-# held SIZE WHAT COMMAND..: a line with the size, what it counts, the most kilobytes that the command holds, and the ratio to the
-# line before.
+# held SIZE WHAT COMMAND..: tells the most kilobytes that the command holds
 held() {
     size=$1 what=$2
     shift 2
-    now=$(/usr/bin/time -f %M "$@" 2>&1 > /dev/null)
-    ratio=$([ -z "$before" ] && echo '-' || awk "BEGIN { printf \"%.2f\", $now / $before }")
-    printf '%8d %s %9d kB  ratio %5s\n' "$size" "$what" "$now" "$ratio"
-    before=$now
+    told "$size" "$what" "$(/usr/bin/time -f %M "$@" 2>&1 > /dev/null)" '%9d kB'
+}
+
+# answered KIND WORD..: the script ends where the program counts nothing of this kind
+answered() {
+    answer=$("$program" "$@")
+    case $answer in
+        "$1 Some("*) ;;
+        *)
+            echo "$answer" >&2
+            exit 1
+            ;;
+    esac
 }
 
 # growth WHAT SIZES WORD..: runs the program on the words and each of the sizes

@@ -4,12 +4,8 @@
 # kind, the size in KiB, the bytes of a piece, the milliseconds, the best of three, the ratio to the size before, which is
 # about 2 where time grows with the size, and the ratio to pieces of 4,096 bytes.
 set -eu
-top=$(cd "$(dirname "$0")/.." && pwd)
-program="$top/crates/bench/out/bench"
-(cd "$top/crates/bench" && rt run) > /dev/null 2>&1 || {
-    echo "runs.sh: bench cannot be built" >&2
-    exit 1
-}
+. "$(dirname "$0")/growth.sh"
+built
 work=$(mktemp -d)
 trap 'rm -rf "$work"' EXIT
 
@@ -32,37 +28,16 @@ input() {
     }'
 }
 
-# milliseconds FILE BYTES: the least of three runs
-milliseconds() {
-    best=
-    for _ in 1 2 3; do
-        start=$(date +%s%N)
-        "$program" runs "$1" "$2" > "$work/out"
-        end=$(date +%s%N)
-        grep -q '^runs Some' "$work/out" || {
-            echo "runs.sh: $(cat "$work/out")" >&2
-            exit 1
-        }
-        took=$(((end - start) / 1000))
-        if [ -z "$best" ] || [ "$took" -lt "$best" ]; then
-            best=$took
-        fi
-    done
-    awk "BEGIN { printf \"%.1f\", $best / 1000 }"
-}
-
 for kind in facts terms; do
     for bytes in 4096 64 1; do
         before=
         for kib in 1024 2048 4096 8192 16384; do
             input "$kind" "$kib" > "$work/in"
-            now=$(milliseconds "$work/in" "$bytes")
+            answered runs "$work/in" "$bytes"
+            now=$(milliseconds "$program" runs "$work/in" "$bytes")
             [ "$bytes" = 4096 ] && echo "$now" > "$work/whole.$kib"
-            ratio=$([ -z "$before" ] && echo '-' || awk "BEGIN { printf \"%.2f\", $now / $before }")
             pieces=$(awk "BEGIN { printf \"%.2f\", $now / $(cat "$work/whole.$kib") }")
-            printf '%-6s %6d KiB  pieces of %4d  %9s ms  ratio %5s  to large pieces %5s  %s\n' \
-                "$kind" "$kib" "$bytes" "$now" "$ratio" "$pieces" "$(cat "$work/out")"
-            before=$now
+            told "$kib" "KiB of $kind, pieces of $bytes" "$now" "%9s ms  to large pieces $pieces"
         done
     done
 done

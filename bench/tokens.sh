@@ -3,12 +3,8 @@
 # Run it anywhere: it builds the program crates/bench first. Each line has the kind, the size in KiB, the
 # milliseconds, the best of three, and the ratio to the size before, which is about 2 where time grows with the size.
 set -eu
-top=$(cd "$(dirname "$0")/.." && pwd)
-program="$top/crates/bench/out/bench"
-(cd "$top/crates/bench" && rt run) > /dev/null 2>&1 || {
-    echo "tokens.sh: bench cannot be built" >&2
-    exit 1
-}
+. "$(dirname "$0")/growth.sh"
+built
 work=$(mktemp -d)
 trap 'rm -rf "$work"' EXIT
 
@@ -32,32 +28,11 @@ input() {
     esac
 }
 
-# milliseconds FILE: the least of three runs
-milliseconds() {
-    best=
-    for _ in 1 2 3; do
-        start=$(date +%s%N)
-        "$program" tokens "$1" > "$work/out"
-        end=$(date +%s%N)
-        grep -q '^tokens Some' "$work/out" || {
-            echo "tokens.sh: $(cat "$work/out")" >&2
-            exit 1
-        }
-        took=$(((end - start) / 1000))
-        if [ -z "$best" ] || [ "$took" -lt "$best" ]; then
-            best=$took
-        fi
-    done
-    awk "BEGIN { printf \"%.1f\", $best / 1000 }"
-}
-
 for kind in identifiers comments symbols; do
     before=
     for kib in 1024 2048 4096 8192 16384; do
         input "$kind" "$kib" > "$work/in"
-        now=$(milliseconds "$work/in")
-        ratio=$([ -z "$before" ] && echo '-' || awk "BEGIN { printf \"%.2f\", $now / $before }")
-        printf '%-12s %6d KiB %9s ms  ratio %5s  %s\n' "$kind" "$kib" "$now" "$ratio" "$(cat "$work/out")"
-        before=$now
+        answered tokens "$work/in"
+        told "$kib" "KiB of $kind" "$(milliseconds "$program" tokens "$work/in")" '%9s ms'
     done
 done
