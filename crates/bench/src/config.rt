@@ -20,8 +20,8 @@ fn shown(alloc: Global, config: &mut Config, step: &PStep) -> Option<u64> {
     Some(config.step(alloc, step).ok()?.len())
 }
 
-// The line of this number, of nine, in the session whose thread and name this is: what the process of `bench/config.sh` does.
-fn line(place: u64, thread: u64) -> PStep {
+/// The line of this number, of nine, in the session whose thread and name this is: what the process of `bench/config.sh` does.
+pub fn line(place: u64, thread: u64) -> PStep {
     match place {
         0 => PStep::Rep(0),
         1 => PStep::New(thread, thread),

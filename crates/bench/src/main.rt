@@ -1,10 +1,11 @@
 //! Counts what calls of the libraries give on an input of so large a size that a script can time them. The words are
-//! `config FILE STEPS`, `facts N`, `guard N`, `heap RULES N`, `judge TIMES`, `knowledge N`, `normal ROUNDS NODES`,
-//! `runs FILE BYTES`, `share N`, `steps RULES N`, `theory FILE` or `tokens FILE`; with none each kind is counted once on a small
-//! input.
+//! `back FILE STEPS`, `config FILE STEPS`, `facts N`, `forward FILE STEPS`, `guard N`, `heap RULES N`, `judge TIMES`, `knowledge N`,
+//! `normal ROUNDS NODES`, `runs FILE BYTES`, `share N`, `steps RULES N`, `theory FILE` or `tokens FILE`; with none each kind is counted
+//! once on a small input.
 #![tactic(auto)]
 
 mod config;
+mod conversions;
 mod facts;
 mod guard;
 mod judge;
@@ -75,6 +76,10 @@ fn tell_each(rt: &HostRuntime) -> io::Result<()> {
     }
     let counted = config::shown_by(rt.alloc(), SESSIONS, 90);
     println!(rt; "config {counted:?}")?;
+    let counted = conversions::forward(rt.alloc(), SESSIONS, 90);
+    println!(rt; "forward {counted:?}")?;
+    let counted = conversions::back(rt.alloc(), SESSIONS, 90);
+    println!(rt; "back {counted:?}")?;
     let counted = count_tokens(rt.alloc(), b"theory A begin process: 0 end");
     println!(rt; "tokens {counted:?}")?;
     let counted = count_theory(rt.alloc(), b"theory A begin rule R: [ ] --> [ ] end");
@@ -87,6 +92,8 @@ fn count_in_file(rt: &HostRuntime, kind: &str, path: &str, n: u64) -> io::Result
     let bytes = fs::read(rt, path)?;
     Ok(match kind {
         "config" => config::shown_by(rt.alloc(), bytes.as_slice(), n),
+        "forward" => conversions::forward(rt.alloc(), bytes.as_slice(), n),
+        "back" => conversions::back(rt.alloc(), bytes.as_slice(), n),
         "runs" => runs::steps_in(rt.alloc(), bytes.as_slice(), n as usize),
         "theory" => count_theory(rt.alloc(), bytes.as_slice()),
         _ => count_tokens(rt.alloc(), bytes.as_slice()),
@@ -95,7 +102,7 @@ fn count_in_file(rt: &HostRuntime, kind: &str, path: &str, n: u64) -> io::Result
 
 fn counted(rt: &HostRuntime, words: &Vec<String>, kind: &str) -> io::Result<Option<u64>> {
     match (kind, words.get(2)) {
-        ("config" | "tokens" | "theory" | "runs", Some(path)) => {
+        ("config" | "forward" | "back" | "tokens" | "theory" | "runs", Some(path)) => {
             count_in_file(rt, kind, path.as_str(), number(words, 3))
         }
         _ => Ok(count(rt.alloc(), kind, number(words, 2), number(words, 3))),

@@ -1,5 +1,5 @@
 -- How lines of a process go along with one line more of its rules.
-use Rattle.std.proofs.Common.{◌≡◌, ℕ, ◌+◌, ◌≤◌, List, [], ◌∷◌, ◌++◌, Option, Some, None, refl, sym, ap, ◌∙◌, subst, arith, slice_get, length, append-nil, append_assoc, true}
+use Rattle.std.proofs.Common.{◌≡◌, ℕ, ◌+◌, ◌≤◌, List, [], ◌∷◌, ◌++◌, Option, Some, None, refl, sym, ap, ◌∙◌, subst, arith, slice_get, length, append-nil, append_assoc}
 use Rattle.std.specs.Prelude.{Contains}
 use Rattle.std.specs.List.{filter_map}
 use Rattle.std.proofs.lemmas.Grind.{flat_map-append}
@@ -8,7 +8,6 @@ use Rattle.sap_terms.specs.Signature.{Sig}
 use Rattle.sap_terms.specs.Trace.{Trace, shown}
 use Rattle.sap_terms.specs.Tree.{Tree}
 use Rattle.sap_terms.specs.declared.fact.Fact.{Fact}
-use Rattle.sap_terms.proofs.PlainLaws.Items.{got_contained}
 use Rattle.sap_rewrite.specs.Laws.{FormIsOne, FormsDecide}
 use Rattle.sap_formula.specs.Hide.{visible}
 use Rattle.sap_process.specs.Configuration.{Config}
@@ -28,11 +27,13 @@ use Rattle.sap_translate.specs.relation.Follows.{Together, Follows, Waits, writt
 use Rattle.sap_translate.specs.relation.ProcessMoves as move
 use Rattle.sap_translate.specs.relation.ProcessMoves.{ProcessMove, ProcessMoves, IsProcessMove, process_move}
 use Rattle.sap_translate.specs.relation.Related.{pending_place}
-use Rattle.sap_back.specs.Written.{IsWritten, WritesPending}
+use Rattle.sap_back.specs.Followed.{IsWritten, pending_lines}
+use Rattle.sap_back.specs.Tables.{Tables, IsPending}
 use Rattle.sap_terms.specs.declared.binding.Binding.{Binding}
 use Rattle.sap_runs.specs.declared.rule_step.RStep.{RStep}
-use Rattle.sap_back.specs.Along.{IsFollowedBy, IsAlong, SentWithin, count_pending}
-use Rattle.sap_back.proofs.Lines.{Heads, LineOf, line_of, line_for, takes_entry}
+use Rattle.sap_back.specs.Along.{IsAlong, SentWithin, count_pending}
+use Rattle.sap_back.proofs.Effects.{Effect, IsContinued}
+use Rattle.sap_back.proofs.Lines.{Grows, Heads, LineOf, line_of, line_for}
 
 pub marks_join : (full more : Trace) → marks (full ++ more) ≡ marks full ++ marks more
 marks_join full more = flat_map-append (λ acts. marks_of (filter_map inner_of acts) (visible acts)) full more
@@ -88,30 +89,21 @@ this_label : (f : Fact) (fs label : List Fact) → (f ∷ fs) ∷ [] ≡ shown l
 this_label f fs [] e = absurd (cc)
 this_label f fs (h ∷ hs) e = let s : h ∷ hs ≡ f ∷ fs = cc in s
 
--- more lines, of which this holds, go along with the state and the full trace behind
-pub record GoesOn (g : Sig) (W : Tree → Type 0) (start : Proc) (next : List (Option Agent)) (later : Option Tree) (lines : List PStep) (M : List PStep → Type 0) (z : RuleState) (full : Trace) : Type 0 where
-  pub more : List PStep
-  pub are : M more
-  pub config : Config
+-- these more lines, which lead to this configuration, go along with the state and the full trace behind; what entries come was sent
+pub record GoesOn (g : Sig) (W : Tree → Type 0) (start : Proc) (next : List (Option Agent)) (later : Option Tree) (lines more : List PStep) (c : Config) (es : List Tree) (d : Config) (z : RuleState) (full : Trace) : Type 0 where
   pub entries : List Tree
   pub trace : Trace
-  pub is : IsAlong g W start next later (lines ++ more) config entries trace z full
+  pub grows : Grows c es d entries
+  pub is : IsAlong g W start next later (lines ++ more) d entries trace z full
 
--- none
-abbrev pub NoLines : List PStep → Type 0
-NoLines more = more ≡ []
+-- these lines are written for the line of rules, and have the effect that goes with it
+abbrev pub Carries : (g : Sig) (agents : List (Option Agent)) (pending : Option Tree) (c : Config) (es : List Tree) (s : RuleState) (tables : Tables) (step : RStep) (acts : List Fact) (more : List PStep) (next : List (Option Agent)) (later : Option Tree) (behind : Tables) (d : Config) (z : RuleState) → Type 0
+Carries g agents pending c es s tables step acts more next later behind d z =
+    (is : IsWritten g agents pending s tables step acts more next later behind) × ((fs : List Tree) → Grows c es d fs → Effect is z c es d fs)
 
--- the line for a move, with whatever entry
-abbrev pub OneLine : List Binding → ProcessMove → List PStep → Type 0
-OneLine b m more = (e : ℕ) × (more ≡ line_for e b m ∷ [])
-
--- with the entry that is this term
-abbrev pub OneOfEntry : List Tree → List Binding → ProcessMove → Tree → List PStep → Type 0
-OneOfEntry es b m x more = (e : ℕ) × (slice_get es e ≡ Some x) × (more ≡ line_for e b m ∷ [])
-
--- behind the lines that write what is pending
-abbrev pub PendingAndOne : List Tree → Option Tree → List Binding → ProcessMove → List PStep → Type 0
-PendingAndOne es pending b m more = (first : List PStep) × WritesPending es pending first × (e : ℕ) × (more ≡ first ++ line_for e b m ∷ [])
+-- nothing is sent
+nothing_sent : {c : Config} {es : List Tree} → Grows c es c es
+nothing_sent {c = c} {es = es} = record { come = []; entries = sym (append-nil es); frame = sym (append-nil c.frame) }
 
 module _ (g : Sig) (W : Tree → Type 0) (start : Proc) where
   -- lines with room for n more
@@ -130,30 +122,21 @@ module _ (g : Sig) (W : Tree → Type 0) (start : Proc) where
     unwritten = record { legal = w.legal; sent = w.sent; known = w.known; short = w.short }
 
   -- what is pending is written
-  pub pending_written : (agents : List (Option Agent)) (pending : Option Tree) (lines : List PStep) (c : Config) (es : List Tree) (tr : Trace) (s : RuleState) (full : Trace) → IsAlong g W start agents pending lines c es tr s full
-      → (first : List PStep) × WritesPending es pending first × Before 0 (lines ++ first) c es (tr ++ pending_place pending) s full
-  pending_written agents None lines c es tr s full w = (
-    [],
-    refl,
-    record {
-      legal = subst (λ ls. IsLegalProcessRun g W start ls c es (tr ++ []) (marks full)) (sym (append-nil lines)) (subst (λ t. IsLegalProcessRun g W start lines c es t (marks full)) (sym (append-nil tr)) w.legal);
-      sent = w.sent;
-      known = w.known;
-      short = let h = w.short in let same : length (lines ++ []) ≡ length lines = ap length (append-nil lines) in omega arith;
-    },
-  )
-  pending_written agents (Some x) lines c es tr s full w =
-      let at = got_contained es x (w.given x refl) in (
-        line.Know at.0 ∷ [],
-        (at.0, at.1, refl),
-        record {
-          legal = subst (λ m. IsLegalProcessRun g W start (lines ++ line.Know at.0 ∷ []) c es (tr ++ shown (k_fact x ∷ [])) m) (append-nil (marks full))
-              (IsLegalProcessRun.further (line.Know at.0) [] (k_fact x ∷ []) w.legal (IsProcessLine.knows at.0 x at.1));
-          sent = w.sent;
-          known = w.known;
-          short = let h = w.short in let n = length_push lines (line.Know at.0) in omega arith;
-        },
-      )
+  pub pending_written : (agents : List (Option Agent)) (pending : Option Tree) (k : Option ℕ) (lines : List PStep) (c : Config) (es : List Tree) (tr : Trace) (s : RuleState) (full : Trace) → IsPending es pending k → IsAlong g W start agents pending lines c es tr s full
+      → Before 0 (lines ++ pending_lines k) c es (tr ++ pending_place pending) s full
+  pending_written agents None k lines c es tr s full none w = record {
+    legal = subst (λ ls. IsLegalProcessRun g W start ls c es (tr ++ []) (marks full)) (sym (append-nil lines) ∙ ap (λ i. lines ++ pending_lines i) (sym none)) (subst (λ t. IsLegalProcessRun g W start lines c es t (marks full)) (sym (append-nil tr)) w.legal);
+    sent = w.sent;
+    known = w.known;
+    short = let h = w.short in let same : length (lines ++ pending_lines k) ≡ length lines = ap (λ i. length (lines ++ pending_lines i)) none ∙ ap length (append-nil lines) in omega arith;
+  }
+  pending_written agents (Some x) k lines c es tr s full (e, is, at) w = record {
+    legal = subst (λ i. IsLegalProcessRun g W start (lines ++ pending_lines i) c es (tr ++ shown (k_fact x ∷ [])) (marks full)) (sym is) (subst (λ m. IsLegalProcessRun g W start (lines ++ line.Know e ∷ []) c es (tr ++ shown (k_fact x ∷ [])) m) (append-nil (marks full))
+        (IsLegalProcessRun.further (line.Know e) [] (k_fact x ∷ []) w.legal (IsProcessLine.knows e x at)));
+    sent = w.sent;
+    known = w.known;
+    short = let h = w.short in let n = length_push lines (line.Know e) in let same : length (lines ++ pending_lines k) ≡ length (lines ++ line.Know e ∷ []) = ap (λ i. length (lines ++ pending_lines i)) is in omega arith;
+  }
 
   module _ (n : ℕ) (lines : List PStep) (c : Config) (es : List Tree) (tr : Trace) (s : RuleState) (full : Trace) (b : Before n lines c es tr s full) (agents : List (Option Agent)) (later : Option Tree) (z : RuleState) (acts : List Fact) where
     -- a line of rules without a line of the process
@@ -188,93 +171,87 @@ module _ (g : Sig) (W : Tree → Type 0) (start : Proc) where
 
   module _ (one : FormIsOne) (decide : FormsDecide) (agents : List (Option Agent)) (pending : Option Tree) (lines : List PStep) (c : Config) (es : List Tree) (tr : Trace) (s : RuleState) (full : Trace) (w : IsAlong g W start agents pending lines c es tr s full) (b : List Binding) (next : List (Option Agent)) (z : RuleState) (acts : List Fact) where
     -- the process stays
-    pub by_none : Follows g start pending c tr full [] [] c pending next z acts → marks (acts ∷ []) ≡ [] → ((x : Tree) → Contains z.known x → Contains es x) → AllWithin next → GoesOn g W start next pending lines NoLines z (full ++ acts ∷ [])
+    pub by_none : Follows g start pending c tr full [] [] c pending next z acts → marks (acts ∷ []) ≡ [] → ((x : Tree) → Contains z.known x → Contains es x) → AllWithin next → GoesOn g W start next pending lines [] c es c z (full ++ acts ∷ [])
     by_none f none known within = record {
-      more = [];
-      are = refl;
-      config = c;
       entries = es;
       trace = tr;
+      grows = nothing_sent;
       is = subst (λ ls. IsAlong g W start next pending ls c es tr z (full ++ acts ∷ [])) (sym (append-nil lines))
           (stays (count_pending pending) lines c es tr s full (unwritten agents pending lines c es tr s full w) next pending z acts (subst (λ t. Together g start next pending c t z (full ++ acts ∷ [])) (append-nil tr) f.together) (f.waits w.waits) none (omega arith) w.given known within);
     }
 
     -- it makes a move that shows nothing
     pub by_silent : (m : ProcessMove) (inner : List InnerAction) (d : Config) → Follows g start pending c tr full (m ∷ []) [] d pending next z acts → Heads g W c b m inner → marks (acts ∷ []) ≡ marks_of inner [] → z.known ≡ s.known → AllWithin next
-        → GoesOn g W start next pending lines (OneLine b m) z (full ++ acts ∷ [])
+        → GoesOn g W start next pending lines (line_for 0 b m ∷ []) c es d z (full ++ acts ∷ [])
     by_silent m inner d f heads same known within =
         let o = one_move g c d m [] f.process in
         let label : o.label ≡ [] = silent_label o.label o.showing in
-        let l : LineOf g W c es b m inner o.label d = subst (λ k. LineOf g W c es b k inner o.label d) o.is.chooses (line_of one decide g W c es b inner o.is.step (subst (λ k. Heads g W c b k inner) (sym o.is.chooses) heads) (λ x e. absurd (no_k x (sym label ∙ e)))) in
+        let l : LineOf g W c es 0 b m inner o.label d = subst (λ k. LineOf g W c es 0 b k inner o.label d) o.is.chooses (line_of one decide g W c es 0 b inner o.is.step (subst (λ k. Heads g W c b k inner) (sym o.is.chooses) heads) (λ x e. absurd (no_k x (sym label ∙ e)))) in
         record {
-          more = line_for l.entry b m ∷ [];
-          are = (l.entry, refl);
-          config = d;
           entries = l.entries;
           trace = tr ++ [];
-          is = writes (count_pending pending) lines c es tr s full (unwritten agents pending lines c es tr s full w) next pending z acts (line_for l.entry b m) inner [] d l.entries (subst (λ k. IsProcessLine g W c es (line_for l.entry b m) inner k d l.entries) label l.is)
+          grows = l.grows;
+          is = writes (count_pending pending) lines c es tr s full (unwritten agents pending lines c es tr s full w) next pending z acts (line_for 0 b m) inner [] d l.entries (subst (λ k. IsProcessLine g W c es (line_for 0 b m) inner k d l.entries) label l.is)
               f.together (f.waits w.waits) same (omega arith) (l.sent w.sent) (λ x e. l.keeps x (w.given x e)) (λ x k. l.keeps x (w.known x (subst (λ ts. Contains ts x) known k))) within;
         }
 
-    -- it takes what is pending
-    pub by_input : (m : ProcessMove) (x : Tree) (d : Config) → takes_entry m ≡ true → pending ≡ Some x → Follows g start pending c tr full (m ∷ []) ((k_fact x ∷ []) ∷ []) d None next z acts → Heads g W c b m [] → marks (acts ∷ []) ≡ [] → z.known ≡ s.known → AllWithin next
-        → GoesOn g W start next None lines (OneOfEntry es b m x) z (full ++ acts ∷ [])
-    by_input m x d takes is f heads same known within =
+    -- it takes what is pending, which is this entry
+    pub by_input : (m : ProcessMove) (x : Tree) (entry : ℕ) (d : Config) → slice_get es entry ≡ Some x → Follows g start pending c tr full (m ∷ []) ((k_fact x ∷ []) ∷ []) d None next z acts → Heads g W c b m [] → marks (acts ∷ []) ≡ [] → z.known ≡ s.known → AllWithin next
+        → GoesOn g W start next None lines (line_for entry b m ∷ []) c es d z (full ++ acts ∷ [])
+    by_input m x entry d at f heads same known within =
         let o = one_move g c d m ((k_fact x ∷ []) ∷ []) f.process in
         let label : o.label ≡ k_fact x ∷ [] = this_label (k_fact x) [] o.label o.showing in
-        let l : LineOf g W c es b m [] o.label d = subst (λ k. LineOf g W c es b k [] o.label d) o.is.chooses (line_of one decide g W c es b [] o.is.step (subst (λ k. Heads g W c b k []) (sym o.is.chooses) heads) (λ y e. subst (λ t. Contains es t) (k_same x y (sym label ∙ e)) (w.given x is))) in
+        let l : LineOf g W c es entry b m [] o.label d = subst (λ k. LineOf g W c es entry b k [] o.label d) o.is.chooses (line_of one decide g W c es entry b [] o.is.step (subst (λ k. Heads g W c b k []) (sym o.is.chooses) heads) (λ y e. at ∙ ap (λ t. Some t) (k_same x y (sym label ∙ e)))) in
         record {
-          more = line_for l.entry b m ∷ [];
-          are = (l.entry, l.at x takes label, refl);
-          config = d;
           entries = l.entries;
           trace = tr ++ (k_fact x ∷ []) ∷ [];
-          is = writes (count_pending pending) lines c es tr s full (unwritten agents pending lines c es tr s full w) next None z acts (line_for l.entry b m) [] (k_fact x ∷ []) d l.entries (subst (λ k. IsProcessLine g W c es (line_for l.entry b m) [] k d l.entries) label l.is)
+          grows = l.grows;
+          is = writes (count_pending pending) lines c es tr s full (unwritten agents pending lines c es tr s full w) next None z acts (line_for entry b m) [] (k_fact x ∷ []) d l.entries (subst (λ k. IsProcessLine g W c es (line_for entry b m) [] k d l.entries) label l.is)
               f.together (f.waits w.waits) same (omega arith) (l.sent w.sent) (λ y e. absurd (cc)) (λ y k. l.keeps y (w.known y (subst (λ ts. Contains ts y) known k))) within;
         }
 
     -- it shows what is pending, and then this
-    pub by_event : (m : ProcessMove) (h : Fact) (hs : List Fact) (d : Config) → Follows g start pending c tr full (written pending ++ m ∷ []) (pending_place pending ++ (h ∷ hs) ∷ []) d None next z acts → Heads g W c b m []
-        → ((x : Tree) → h ∷ hs ≡ k_fact x ∷ [] → ⊥) → marks (acts ∷ []) ≡ marks_of [] (h ∷ hs) → z.known ≡ s.known → AllWithin next → GoesOn g W start next None lines (PendingAndOne es pending b m) z (full ++ acts ∷ [])
-    by_event m h hs d f heads other same known within =
+    pub by_event : (k : Option ℕ) (m : ProcessMove) (h : Fact) (hs : List Fact) (d : Config) → IsPending es pending k → Follows g start pending c tr full (written pending ++ m ∷ []) (pending_place pending ++ (h ∷ hs) ∷ []) d None next z acts → Heads g W c b m []
+        → ((x : Tree) → h ∷ hs ≡ k_fact x ∷ [] → ⊥) → marks (acts ∷ []) ≡ marks_of [] (h ∷ hs) → z.known ≡ s.known → AllWithin next → GoesOn g W start next None lines (pending_lines k ++ line_for 0 b m ∷ []) c es d z (full ++ acts ∷ [])
+    by_event k m h hs d is f heads other same known within =
         let o = after_pending g c d m pending ((h ∷ hs) ∷ []) f.process in
         let label : o.label ≡ h ∷ hs = this_label h hs o.label o.showing in
-        let l : LineOf g W c es b m [] o.label d = subst (λ k. LineOf g W c es b k [] o.label d) o.is.chooses (line_of one decide g W c es b [] o.is.step (subst (λ k. Heads g W c b k []) (sym o.is.chooses) heads) (λ y e. absurd (other y (sym label ∙ e)))) in
-        let p = pending_written agents pending lines c es tr s full w in
+        let l : LineOf g W c es 0 b m [] o.label d = subst (λ k. LineOf g W c es 0 b k [] o.label d) o.is.chooses (line_of one decide g W c es 0 b [] o.is.step (subst (λ k. Heads g W c b k []) (sym o.is.chooses) heads) (λ y e. absurd (other y (sym label ∙ e)))) in
+        let p = pending_written agents pending k lines c es tr s full is w in
         record {
-          more = p.0 ++ line_for l.entry b m ∷ [];
-          are = (p.0, p.1, l.entry, refl);
-          config = d;
           entries = l.entries;
           trace = (tr ++ pending_place pending) ++ (h ∷ hs) ∷ [];
-          is = subst (λ ls. IsAlong g W start next None ls d l.entries ((tr ++ pending_place pending) ++ (h ∷ hs) ∷ []) z (full ++ acts ∷ [])) (append_assoc lines p.0 (line_for l.entry b m ∷ []))
-              (writes 0 (lines ++ p.0) c es (tr ++ pending_place pending) s full p.2 next None z acts (line_for l.entry b m) [] (h ∷ hs) d l.entries (subst (λ k. IsProcessLine g W c es (line_for l.entry b m) [] k d l.entries) label l.is)
+          grows = l.grows;
+          is = subst (λ ls. IsAlong g W start next None ls d l.entries ((tr ++ pending_place pending) ++ (h ∷ hs) ∷ []) z (full ++ acts ∷ [])) (append_assoc lines (pending_lines k) (line_for 0 b m ∷ []))
+              (writes 0 (lines ++ pending_lines k) c es (tr ++ pending_place pending) s full p next None z acts (line_for 0 b m) [] (h ∷ hs) d l.entries (subst (λ i. IsProcessLine g W c es (line_for 0 b m) [] i d l.entries) label l.is)
               (subst (λ t. Together g start next None d t z (full ++ acts ∷ [])) (sym (append_assoc tr (pending_place pending) ((h ∷ hs) ∷ []))) f.together) (f.waits w.waits) same (omega arith) (l.sent w.sent) (λ y e. absurd (cc))
-              (λ y k. l.keeps y (w.known y (subst (λ ts. Contains ts y) known k))) within);
+              (λ y i. l.keeps y (w.known y (subst (λ ts. Contains ts y) known i))) within);
         }
 
     -- it shows what is pending, and this is pending
-    pub by_know : (x : Tree) → Follows g start pending c tr full (written pending) (pending_place pending) c (Some x) next z acts → marks (acts ∷ []) ≡ [] → Contains es x → z.known ≡ s.known → AllWithin next → GoesOn g W start next (Some x) lines (WritesPending es pending) z (full ++ acts ∷ [])
-    by_know x f none entry known within =
-        let p = pending_written agents pending lines c es tr s full w in
+    pub by_know : (k : Option ℕ) (x : Tree) → IsPending es pending k → Follows g start pending c tr full (written pending) (pending_place pending) c (Some x) next z acts → marks (acts ∷ []) ≡ [] → Contains es x → z.known ≡ s.known → AllWithin next
+        → GoesOn g W start next (Some x) lines (pending_lines k) c es c z (full ++ acts ∷ [])
+    by_know k x is f none entry known within =
+        let p = pending_written agents pending k lines c es tr s full is w in
         record {
-          more = p.0;
-          are = p.1;
-          config = c;
           entries = es;
           trace = tr ++ pending_place pending;
-          is = stays 0 (lines ++ p.0) c es (tr ++ pending_place pending) s full p.2 next (Some x) z acts f.together (f.waits w.waits) none (omega arith) (λ y e. subst (λ t. Contains es t) (some_same x y e) entry) (λ y k. w.known y (subst (λ ts. Contains ts y) known k)) within;
+          grows = nothing_sent;
+          is = stays 0 (lines ++ pending_lines k) c es (tr ++ pending_place pending) s full p next (Some x) z acts f.together (f.waits w.waits) none (omega arith) (λ y e. subst (λ t. Contains es t) (some_same x y e) entry) (λ y i. w.known y (subst (λ ts. Contains ts y) known i)) within;
         }
 
-    -- what follows, where these are the lines that are written
-    pub followed : (threads : ℕ → ℕ) (later : Option Tree) (M : List PStep → Type 0) (step : RStep) → GoesOn g W start next later lines M z (full ++ acts ∷ []) → ((more : List PStep) → M more → IsWritten g agents pending c es s threads step more next later) → IsFollowedBy g W start agents pending lines c es s full threads step z acts
-    followed threads later M step h written = record {
-      more = h.more;
-      written = written h.more h.are;
+    -- what follows, where these are the lines that are written, and this is what they do
+    pub followed : (tables behind : Tables) (later : Option Tree) (step : RStep) (more : List PStep) (d : Config) → GoesOn g W start next later lines more c es d z (full ++ acts ∷ []) → Carries g agents pending c es s tables step acts more next later behind d z
+        → IsContinued g W start agents pending lines c es s full tables step z acts
+    followed tables behind later step more d h written = record {
+      more = more;
       next = next;
       later = later;
-      config = h.config;
+      behind = behind;
+      written = written.0;
+      config = d;
       entries = h.entries;
       trace = h.trace;
       is = h.is;
+      effect = written.1 h.entries h.grows;
     }

@@ -1,7 +1,6 @@
 -- Each line of rules is followed by lines of the process, whichever it is; and so is each legal run whose full trace counts.
-use Rattle.std.proofs.Common.{◌≡◌, ℕ, zero, suc, ◌<◌, ◌^◌, List, [], ◌∷◌, ◌++◌, Option, Some, None, refl, sym, ap, ◌∙◌, subst, arith, slice_get, map, length, true, false, Bool, inl, inr}
+use Rattle.std.proofs.Common.{◌≡◌, ℕ, zero, suc, ◌<◌, ◌^◌, List, [], ◌∷◌, ◌++◌, Option, Some, None, refl, sym, ap, ◌∙◌, subst, arith, slice_get, map, length, inl, inr}
 use Rattle.std.specs.Prelude.{Contains, All}
-use Rattle.std.specs.Str.{bytes_eq}
 use Rattle.sap_terms.specs.Choice.{Choice}
 use Rattle.sap_terms.specs.Piles.{Pile, adds}
 use Rattle.sap_terms.specs.Signature.{Sig, HoldsBuiltins}
@@ -20,7 +19,6 @@ use Rattle.sap_process.specs.Proc.{Proc, act, node_count}
 use Rattle.sap_process.specs.Ready.{IsReady}
 use Rattle.sap_locks.specs.Annotation.{IsAnnotation}
 use Rattle.sap_restrict.specs.Standard.{IsAdmitted}
-use Rattle.sap_rule.specs.Named.{rule_named}
 use Rattle.sap_rule.specs.RuleSteps.{RuleState, RuleStep, RuleRun, leaves}
 use Rattle.sap_rule.specs.declared.rule.Rule.{Rule}
 use Rattle.sap_runs.specs.Limits.{IsSmall}
@@ -33,28 +31,28 @@ use Rattle.sap_steps.specs.Marks.{marks}
 use Rattle.sap_steps.specs.Runs.{IsLegalRun}
 use Rattle.sap_translate.specs.Places.{root, scoped_place_at}
 use Rattle.sap_translate.specs.Templates as rules
-use Rattle.sap_translate.specs.Templates.{rules_of, init_rule, own_rules}
-use Rattle.sap_translate.specs.relation.Agents.{Agent, unborn, stands_as}
+use Rattle.sap_translate.specs.Templates.{rules_of, own_rules}
+use Rattle.sap_translate.specs.relation.Agents.{Agent, unborn}
 use Rattle.sap_translate.specs.relation.Followed.{IsFollowed}
 use Rattle.sap_translate.specs.relation.Related.{Free}
-use Rattle.sap_back.specs.Along.{IsAlong, IsFollowedBy, SentWithin, BeginsAlong, LinesAreFollowed, EndsOpposite, ThreadsAreThere}
-use Rattle.sap_back.specs.Written.{HasThreads}
-use Rattle.sap_back.proofs.owners.Owner.{owner}
-use Rattle.sap_translate.specs.Members.{Member}
-use Rattle.sap_translate.specs.relation.Counts.{SameFacts, is_control}
-use Rattle.sap_back.proofs.owners.Facts.{same_name_true}
+use Rattle.sap_back.specs.Along.{IsAlong, SentWithin, BeginsAlong}
+use Rattle.sap_back.specs.Followed.{EndsTabled, LinesAreFollowed, pending_lines}
+use Rattle.sap_back.specs.Tables.{AreTables, Tables, first_tables}
+use Rattle.sap_back.proofs.Named.{found_among, found_named}
 use Rattle.sap_back.specs.Opposite.{HasOpposites}
 use Rattle.sap_back.proofs.Acknowledged.{out_ack_case, init_case}
 use Rattle.sap_back.proofs.Advance.{length_push, pending_written}
 use Rattle.sap_back.proofs.Adversary.{fresh_line, learn_line, own_line, public_line, apply_line, know_line}
 use Rattle.sap_back.proofs.Cases as cases
 use Rattle.sap_back.proofs.Cases.{law, Goes}
+use Rattle.sap_back.proofs.Effects.{IsContinued}
 use Rattle.sap_back.proofs.Embedded.{rule_case}
 use Rattle.sap_back.proofs.Meets.{new_case, lock_case, in_case, in_adv_case, in_msg_case, out_adv_case, out_msg_case}
 use Rattle.sap_back.proofs.Premises.{Laws}
 use Rattle.sap_back.proofs.Seats.{Fired}
+use Rattle.sap_back.proofs.Tabled.{begins_tabled, followed_tabled}
 
--- some lines of the process go along with the state of the rules
+-- some lines of the process go along with the state of the rules, and have their tables
 record GoesAlong (g : Sig) (W : Tree → Type 0) (start : Proc) (s : RuleState) (full : Trace) : Type 0 where
   agents : List (Option Agent)
   pending : Option Tree
@@ -63,60 +61,14 @@ record GoesAlong (g : Sig) (W : Tree → Type 0) (start : Proc) (s : RuleState) 
   entries : List Tree
   trace : Trace
   is : IsAlong g W start agents pending lines config entries trace s full
-
--- a rule that a name finds is one of the rules
-found_among : (rs : List Rule) (name : List ℕ) (r : Rule) → rule_named rs name ≡ Some r → Contains rs r
-found_among [] name r e = absurd (cc)
-found_among (q ∷ rs) name r e = by (bytes_eq q.name name) refl (found_among rs name r)
-  where
-    some_rule : (x y : Rule) → Some x ≡ Some y → x ≡ y
-    some_rule x y i = cc
-
-    by : (b : Bool) → bytes_eq q.name name ≡ b → (rule_named rs name ≡ Some r → Contains rs r) → Contains (q ∷ rs) r
-    by true t more = let same : Some q ≡ Some r = (let h : Some q ≡ rule_named (q ∷ rs) name = rw t refl in h ∙ e) in subst (λ z. Contains (q ∷ rs) z) (some_rule q r same) (first_item q rs)
-    by false t more = later_item q rs r (more ((let h : rule_named rs name ≡ rule_named (q ∷ rs) name = rw t refl in h) ∙ e))
-
--- and it has that name
-found_named : (rs : List Rule) (name : List ℕ) (r : Rule) → rule_named rs name ≡ Some r → r.name ≡ name
-found_named [] name r e = absurd (cc)
-found_named (q ∷ rs) name r e = by (bytes_eq q.name name) refl (found_named rs name r)
-  where
-    some_rule : (x y : Rule) → Some x ≡ Some y → x ≡ y
-    some_rule x y i = cc
-
-    by : (b : Bool) → bytes_eq q.name name ≡ b → (rule_named rs name ≡ Some r → r.name ≡ name) → r.name ≡ name
-    by true t more = let h : Some q ≡ rule_named (q ∷ rs) name = rw t refl in let same = some_rule q r (h ∙ e) in ap (λ (z : Rule). z.name) (sym same) ∙ same_name_true q.name name t
-    by false t more = more ((let h : rule_named rs name ≡ rule_named (q ∷ rs) name = rw t refl in h) ∙ e)
+  tables : Tables
+  table : AreTables agents pending config entries s tables
 
 -- what holds of each that is contained holds of all
 each_item : {A : Type 0} (P : A → Type 0) (xs : List A) → ((x : A) → Contains xs x → P x) → All P xs
 each_item P [] h k d lt = absurd (omega arith)
 each_item P (x ∷ xs) h zero d lt = h x (first_item x xs)
 each_item P (x ∷ xs) h (suc k) d lt = each_item P xs (λ y m. h y (later_item x xs y m)) k d (omega arith)
-
--- a table of the threads, by counting
-counted_one : (agents : List (Option Agent)) (s : RuleState) → SameFacts agents s → (k : ℕ) → (t : ℕ) × ((f : Fact) → is_control f ≡ true → slice_get s.facts k ≡ Some (Some f) → (a : Agent) × (slice_get agents t ≡ Some (Some a)) × Member f (stands_as a))
-counted_one agents s same k = by (slice_get s.facts k) refl
-  where
-    One : Type 0
-    One = (t : ℕ) × ((f : Fact) → is_control f ≡ true → slice_get s.facts k ≡ Some (Some f) → (a : Agent) × (slice_get agents t ≡ Some (Some a)) × Member f (stands_as a))
-
-    some_fact : (x y : Fact) → Some (Some x) ≡ Some (Some y) → x ≡ y
-    some_fact x y e = cc
-
-    of_control : (h : Fact) (b : Bool) → is_control h ≡ b → slice_get s.facts k ≡ Some (Some h) → One
-    of_control h true control e =
-        let o = owner agents s k h same control e in
-        (o.thread, λ f c i. (o.agent, o.is, subst (λ z. Member z (stands_as o.agent)) (some_fact h f (sym e ∙ i)) o.stands))
-    of_control h false control e = (0, λ f c i. absurd (let z : false ≡ true = sym control ∙ ap is_control (some_fact h f (sym e ∙ i)) ∙ c in cc))
-
-    by : (o : Option (Option Fact)) → slice_get s.facts k ≡ o → One
-    by None e = (0, λ f c i. absurd (let z : None ≡ Some (Some f) = sym e ∙ i in cc))
-    by (Some None) e = (0, λ f c i. absurd (let z : Some None ≡ Some (Some f) = sym e ∙ i in cc))
-    by (Some (Some h)) e = of_control h (is_control h) refl e
-
-counted : (agents : List (Option Agent)) (s : RuleState) → SameFacts agents s → (threads : ℕ → ℕ) × HasThreads agents s threads
-counted agents s same = (λ k. (counted_one agents s same k).0, λ k f control e. (counted_one agents s same k).1 f control e)
 
 -- one of two, or of three
 one_of_two : {A : Type 0} (P : A → Type 0) (x y z : A) → P x → P y → Contains (x ∷ y ∷ []) z → P z
@@ -126,54 +78,54 @@ one_of_three : {A : Type 0} (P : A → Type 0) (x y w z : A) → P x → P y →
 one_of_three P x y w z a b d m = elim (cons_cases x (y ∷ w ∷ []) z m) [ inl e ↦ subst P e a | inr k ↦ one_of_two P y w z b d k ]
 
 module _ (laws : Laws) (g : Sig) (p q : Proc) (hold : HoldsBuiltins g) (ready : IsReady g p) (small : node_count p < 2 ^ 64) (annotated : IsAnnotation p q) where
-  module _ (agents : List (Option Agent)) (pending : Option Tree) (lines : List PStep) (c : Config) (es : List Tree) (tr : Trace) (s : RuleState) (full : Trace) (w : IsAlong g IsSmall q agents pending lines c es tr s full) (threads : ℕ → ℕ) (table : HasThreads agents s threads) where
+  module _ (agents : List (Option Agent)) (pending : Option Tree) (lines : List PStep) (c : Config) (es : List Tree) (tr : Trace) (s : RuleState) (full : Trace) (w : IsAlong g IsSmall q agents pending lines c es tr s full) (tables : Tables) (table : AreTables agents pending c es s tables) where
     -- lines go along with a use of the rule, whatever it takes
     abbrev Followable : Rule → Type 0
-    Followable r = (ks : List ℕ) (b : List Binding) (σ : Choice) (left acts right : List Fact) (rest : Pile) → Fired g IsSmall s full r ks b σ left acts right rest → Goes laws g IsSmall p q hold ready small annotated agents pending lines c es tr s full w threads table r.name ks b rest acts right
+    Followable r = (ks : List ℕ) (b : List Binding) (σ : Choice) (left acts right : List Fact) (rest : Pile) → Fired g IsSmall s full r ks b σ left acts right rest → Goes laws g IsSmall p q hold ready small annotated agents pending lines c es tr s full w tables table r.name ks b rest acts right
 
     action_case : (path : List ℕ) (v : List Var) (a : Action) (u : Proc) → scoped_place_at (root q) path ≡ Some (place path v (act a u)) → (r : Rule) → Contains (own_rules path v (act a u)) r → Followable r
-    action_case path v (action.new x) u at r m = subst Followable (item_cases (rules.new_rule path v x) r m) (new_case laws g IsSmall p q hold ready small annotated agents pending lines c es tr s full w threads table path v x u at)
-    action_case path v (action.out t) u at r m = subst Followable (item_cases (rules.out_rule path v t) r m) (cases.out_case laws g IsSmall p q hold ready small annotated agents pending lines c es tr s full w threads table path v t u at)
+    action_case path v (action.new x) u at r m = subst Followable (item_cases (rules.new_rule path v x) r m) (new_case laws g IsSmall p q hold ready small annotated agents pending lines c es tr s full w tables table path v x u at)
+    action_case path v (action.out t) u at r m = subst Followable (item_cases (rules.out_rule path v t) r m) (cases.out_case laws g IsSmall p q hold ready small annotated agents pending lines c es tr s full w tables table path v t u at)
     action_case path v (action.send t o) u at r m =
-        one_of_three Followable (rules.out_adv_rule path v t o) (rules.out_msg_rule path v t o) (rules.out_ack_rule path v) r (out_adv_case laws g IsSmall p q hold ready small annotated agents pending lines c es tr s full w threads table path v t o u at)
-        (out_msg_case laws g IsSmall p q hold ready small annotated agents pending lines c es tr s full w threads table path v t o u at) (out_ack_case laws g IsSmall p q hold ready small annotated agents pending lines c es tr s full w threads table path v t o u at) m
-    action_case path v (action.input t) u at r m = subst Followable (item_cases (rules.in_rule path v t) r m) (in_case laws g IsSmall p q hold ready small annotated agents pending lines c es tr s full w threads table path v t u at)
+        one_of_three Followable (rules.out_adv_rule path v t o) (rules.out_msg_rule path v t o) (rules.out_ack_rule path v) r (out_adv_case laws g IsSmall p q hold ready small annotated agents pending lines c es tr s full w tables table path v t o u at)
+        (out_msg_case laws g IsSmall p q hold ready small annotated agents pending lines c es tr s full w tables table path v t o u at) (out_ack_case laws g IsSmall p q hold ready small annotated agents pending lines c es tr s full w tables table path v t o u at) m
+    action_case path v (action.input t) u at r m = subst Followable (item_cases (rules.in_rule path v t) r m) (in_case laws g IsSmall p q hold ready small annotated agents pending lines c es tr s full w tables table path v t u at)
     action_case path v (action.receive t o) u at r m =
-        one_of_two Followable (rules.in_adv_rule path v t o) (rules.in_msg_rule path v t o) r (in_adv_case laws g IsSmall p q hold ready small annotated agents pending lines c es tr s full w threads table path v t o u at)
-        (in_msg_case laws g IsSmall p q hold ready small annotated agents pending lines c es tr s full w threads table path v t o u at) m
-    action_case path v (action.event f) u at r m = subst Followable (item_cases (rules.event_rule path v f) r m) (cases.event_case laws g IsSmall p q hold ready small annotated agents pending lines c es tr s full w threads table path v f u at)
-    action_case path v (action.insert t o) u at r m = subst Followable (item_cases (rules.insert_rule path v t o) r m) (cases.insert_case laws g IsSmall p q hold ready small annotated agents pending lines c es tr s full w threads table path v t o u at)
-    action_case path v (action.delete t) u at r m = subst Followable (item_cases (rules.delete_rule path v t) r m) (cases.delete_case laws g IsSmall p q hold ready small annotated agents pending lines c es tr s full w threads table path v t u at)
-    action_case path v (action.lock t l) u at r m = subst Followable (item_cases (rules.lock_rule path v t l) r m) (lock_case laws g IsSmall p q hold ready small annotated agents pending lines c es tr s full w threads table path v t l u at)
-    action_case path v (action.unlock t l) u at r m = subst Followable (item_cases (rules.unlock_rule path v t l) r m) (cases.unlock_case laws g IsSmall p q hold ready small annotated agents pending lines c es tr s full w threads table path v t l u at)
-    action_case path v (action.embedded l a o) u at r m = subst Followable (item_cases (rules.embedded_rule path v l a o) r m) (rule_case laws g IsSmall p q hold ready small annotated agents pending lines c es tr s full w threads table path v l a o u at)
+        one_of_two Followable (rules.in_adv_rule path v t o) (rules.in_msg_rule path v t o) r (in_adv_case laws g IsSmall p q hold ready small annotated agents pending lines c es tr s full w tables table path v t o u at)
+        (in_msg_case laws g IsSmall p q hold ready small annotated agents pending lines c es tr s full w tables table path v t o u at) m
+    action_case path v (action.event f) u at r m = subst Followable (item_cases (rules.event_rule path v f) r m) (cases.event_case laws g IsSmall p q hold ready small annotated agents pending lines c es tr s full w tables table path v f u at)
+    action_case path v (action.insert t o) u at r m = subst Followable (item_cases (rules.insert_rule path v t o) r m) (cases.insert_case laws g IsSmall p q hold ready small annotated agents pending lines c es tr s full w tables table path v t o u at)
+    action_case path v (action.delete t) u at r m = subst Followable (item_cases (rules.delete_rule path v t) r m) (cases.delete_case laws g IsSmall p q hold ready small annotated agents pending lines c es tr s full w tables table path v t u at)
+    action_case path v (action.lock t l) u at r m = subst Followable (item_cases (rules.lock_rule path v t l) r m) (lock_case laws g IsSmall p q hold ready small annotated agents pending lines c es tr s full w tables table path v t l u at)
+    action_case path v (action.unlock t l) u at r m = subst Followable (item_cases (rules.unlock_rule path v t l) r m) (cases.unlock_case laws g IsSmall p q hold ready small annotated agents pending lines c es tr s full w tables table path v t l u at)
+    action_case path v (action.embedded l a o) u at r m = subst Followable (item_cases (rules.embedded_rule path v l a o) r m) (rule_case laws g IsSmall p q hold ready small annotated agents pending lines c es tr s full w tables table path v l a o u at)
 
     place_case : (path : List ℕ) (v : List Var) (b : Proc) → scoped_place_at (root q) path ≡ Some (place path v b) → (r : Rule) → Contains (own_rules path v b) r → Followable r
-    place_case path v whole.nil at r m = subst Followable (item_cases (rules.nil_rule path v) r m) (cases.nil_case laws g IsSmall p q hold ready small annotated agents pending lines c es tr s full w threads table path v at)
-    place_case path v (whole.parallel u o) at r m = subst Followable (item_cases (rules.parallel_rule path v) r m) (cases.parallel_case laws g IsSmall p q hold ready small annotated agents pending lines c es tr s full w threads table path v u o at)
+    place_case path v whole.nil at r m = subst Followable (item_cases (rules.nil_rule path v) r m) (cases.nil_case laws g IsSmall p q hold ready small annotated agents pending lines c es tr s full w tables table path v at)
+    place_case path v (whole.parallel u o) at r m = subst Followable (item_cases (rules.parallel_rule path v) r m) (cases.parallel_case laws g IsSmall p q hold ready small annotated agents pending lines c es tr s full w tables table path v u o at)
     place_case path v (whole.replicated u) at r m =
-        one_of_two Followable (rules.rep_start_rule path v) (rules.rep_copy_rule path v) r (cases.rep_start_case laws g IsSmall p q hold ready small annotated agents pending lines c es tr s full w threads table path v u at)
-        (cases.rep_copy_case laws g IsSmall p q hold ready small annotated agents pending lines c es tr s full w threads table path v u at) m
+        one_of_two Followable (rules.rep_start_rule path v) (rules.rep_copy_rule path v) r (cases.rep_start_case laws g IsSmall p q hold ready small annotated agents pending lines c es tr s full w tables table path v u at)
+        (cases.rep_copy_case laws g IsSmall p q hold ready small annotated agents pending lines c es tr s full w tables table path v u at) m
     place_case path v (act a u) at r m = action_case path v a u at r m
     place_case path v (whole.test t y u o) at r m =
-        one_of_two Followable (rules.then_rule path v t y) (rules.else_rule path v t y) r (cases.then_case laws g IsSmall p q hold ready small annotated agents pending lines c es tr s full w threads table path v t y u o at)
-        (cases.else_case laws g IsSmall p q hold ready small annotated agents pending lines c es tr s full w threads table path v t y u o at) m
+        one_of_two Followable (rules.then_rule path v t y) (rules.else_rule path v t y) r (cases.then_case laws g IsSmall p q hold ready small annotated agents pending lines c es tr s full w tables table path v t y u o at)
+        (cases.else_case laws g IsSmall p q hold ready small annotated agents pending lines c es tr s full w tables table path v t y u o at) m
     place_case path v (whole.lookup t x u o) at r m =
-        one_of_two Followable (rules.found_rule path v t x) (rules.missing_rule path v t) r (cases.found_case laws g IsSmall p q hold ready small annotated agents pending lines c es tr s full w threads table path v t x u o at)
-        (cases.missing_case laws g IsSmall p q hold ready small annotated agents pending lines c es tr s full w threads table path v t x u o at) m
+        one_of_two Followable (rules.found_rule path v t x) (rules.missing_rule path v t) r (cases.found_case laws g IsSmall p q hold ready small annotated agents pending lines c es tr s full w tables table path v t x u o at)
+        (cases.missing_case laws g IsSmall p q hold ready small annotated agents pending lines c es tr s full w tables table path v t x u o at) m
 
     followable : (r : Rule) → Contains (rules_of q) r → Followable r
     followable r m = elim (laws.origin q r m) [
-      | inl e ↦ subst Followable (sym e) (init_case laws g IsSmall p q hold ready small annotated agents pending lines c es tr s full w threads table)
+      | inl e ↦ subst Followable (sym e) (init_case laws g IsSmall p q hold ready small annotated agents pending lines c es tr s full w tables table)
       | inr o ↦ place_case o.path o.scope o.body o.stands r o.own
     ]
 
     -- a line of a rule
-    rule_line : (name ks : List ℕ) (b : List Binding) (acts : List Fact) (z : RuleState) → IsRuleLine g (rules_of q) IsSmall s name ks b acts z → RuleStep g (rules_of q) s acts z → IsAdmitted g (full ++ acts ∷ []) → IsFollowedBy g IsSmall q agents pending lines c es s full threads (rline.Rule name ks b) z acts
+    rule_line : (name ks : List ℕ) (b : List Binding) (acts : List Fact) (z : RuleState) → IsRuleLine g (rules_of q) IsSmall s name ks b acts z → RuleStep g (rules_of q) s acts z → IsAdmitted g (full ++ acts ∷ []) → IsContinued g IsSmall q agents pending lines c es s full tables (rline.Rule name ks b) z acts
     rule_line name ks b acts z l step admitted =
-        let f : IsFollowed g q z (full ++ acts ∷ []) = law laws g IsSmall p q hold ready small annotated agents pending lines c es tr s full w threads table _ laws.follows_every acts z step admitted in
+        let f : IsFollowed g q z (full ++ acts ∷ []) = law laws g IsSmall p q hold ready small annotated agents pending lines c es tr s full w tables table _ laws.follows_every acts z step admitted in
         let once = f.together.related.init in
-        subst (λ y. IsFollowedBy g IsSmall q agents pending lines c es s full threads (rline.Rule name ks b) y acts) (sym l.becomes) (subst (λ y. IsFollowedBy g IsSmall q agents pending lines c es s full threads (rline.Rule y ks b) (leaves s (adds l.rest l.right)) acts) (found_named (rules_of q) name l.rule l.named)
+        subst (λ y. IsContinued g IsSmall q agents pending lines c es s full tables (rline.Rule name ks b) y acts) (sym l.becomes) (subst (λ y. IsContinued g IsSmall q agents pending lines c es s full tables (rline.Rule y ks b) (leaves s (adds l.rest l.right)) acts) (found_named (rules_of q) name l.rule l.named)
         (followable l.rule (found_among (rules_of q) name l.rule l.named) ks b l.fires.choice l.left acts l.right l.rest
         (record {
           used = record { takes = l.takes; fits = l.fires.use_; admitted = admitted };
@@ -198,21 +150,21 @@ module _ (laws : Laws) (g : Sig) (p q : Proc) (hold : HoldsBuiltins g) (ready : 
     lengths known (t ∷ ts) (k ∷ ks) e = ap suc (lengths known ts ks (let h : map (slice_get known) ks ≡ map (λ y. Some y) ts = cc in h))
 
     -- what a line without acts leads to
-    quietly : (l : RStep) (acts : List Fact) (z y : RuleState) → acts ≡ [] → z ≡ y → IsFollowedBy g IsSmall q agents pending lines c es s full threads l y [] → IsFollowedBy g IsSmall q agents pending lines c es s full threads l z acts
-    quietly l acts z y e f h = subst (λ a. IsFollowedBy g IsSmall q agents pending lines c es s full threads l z a) (sym e) (subst (λ x. IsFollowedBy g IsSmall q agents pending lines c es s full threads l x []) (sym f) h)
+    quietly : (l : RStep) (acts : List Fact) (z y : RuleState) → acts ≡ [] → z ≡ y → IsContinued g IsSmall q agents pending lines c es s full tables l y [] → IsContinued g IsSmall q agents pending lines c es s full tables l z acts
+    quietly l acts z y e f h = subst (λ a. IsContinued g IsSmall q agents pending lines c es s full tables l z a) (sym e) (subst (λ x. IsContinued g IsSmall q agents pending lines c es s full tables l x []) (sym f) h)
 
     -- any line
-    pub any_line : (l : RStep) (acts : List Fact) (z : RuleState) → IsLine g (rules_of q) IsSmall s l acts z → IsAdmitted g (full ++ acts ∷ []) → IsFollowedBy g IsSmall q agents pending lines c es s full threads l z acts
-    any_line (rline.Fresh n) acts z h admitted = quietly (rline.Fresh n) acts z _ h.silent h.becomes (fresh_line laws g IsSmall p q hold ready small annotated agents pending lines c es tr s full w threads table n h.new)
-    any_line (rline.Learn k) acts z (t, h) admitted = quietly (rline.Learn k) acts z _ h.silent h.becomes (learn_line laws g IsSmall p q hold ready small annotated agents pending lines c es tr s full w threads table k t h.rest h.takes)
-    any_line (rline.Own k) acts z (n, h) admitted = quietly (rline.Own k) acts z _ h.silent h.becomes (own_line laws g IsSmall p q hold ready small annotated agents pending lines c es tr s full w threads table k n h.rest h.takes)
-    any_line (rline.Public a) acts z h admitted = quietly (rline.Public a) acts z _ h.0 h.1 (public_line laws g IsSmall p q hold ready small annotated agents pending lines c es tr s full w threads table a)
+    pub any_line : (l : RStep) (acts : List Fact) (z : RuleState) → IsLine g (rules_of q) IsSmall s l acts z → IsAdmitted g (full ++ acts ∷ []) → IsContinued g IsSmall q agents pending lines c es s full tables l z acts
+    any_line (rline.Fresh n) acts z h admitted = quietly (rline.Fresh n) acts z _ h.silent h.becomes (fresh_line laws g IsSmall p q hold ready small annotated agents pending lines c es tr s full w tables table n h.new)
+    any_line (rline.Learn k) acts z (t, h) admitted = quietly (rline.Learn k) acts z _ h.silent h.becomes (learn_line laws g IsSmall p q hold ready small annotated agents pending lines c es tr s full w tables table k t h.rest h.takes)
+    any_line (rline.Own k) acts z (n, h) admitted = quietly (rline.Own k) acts z _ h.silent h.becomes (own_line laws g IsSmall p q hold ready small annotated agents pending lines c es tr s full w tables table k n h.rest h.takes)
+    any_line (rline.Public a) acts z h admitted = quietly (rline.Public a) acts z _ h.0 h.1 (public_line laws g IsSmall p q hold ready small annotated agents pending lines c es tr s full w tables table a)
     any_line (rline.Apply f ks) acts z h admitted =
         let all = all_known s.known h.terms ks h.entries in
-        quietly (rline.Apply f ks) acts z _ h.silent h.becomes (apply_line laws g IsSmall p q hold ready small annotated agents pending lines c es tr s full w threads table f ks h.terms h.form h.entries h.public_symbol (h.arity ∙ ap (λ i. Some i) (lengths s.known h.terms ks h.entries)) all (each_item (Contains s.known) h.terms all) h.is_form h.within)
+        quietly (rline.Apply f ks) acts z _ h.silent h.becomes (apply_line laws g IsSmall p q hold ready small annotated agents pending lines c es tr s full w tables table f ks h.terms h.form h.entries h.public_symbol (h.arity ∙ ap (λ i. Some i) (lengths s.known h.terms ks h.entries)) (each_item (Contains s.known) h.terms all) h.is_form h.within)
     any_line (rline.Know k) acts z h admitted =
-        subst (λ a. IsFollowedBy g IsSmall q agents pending lines c es s full threads (rline.Know k) z a) (sym h.shows) (subst (λ x. IsFollowedBy g IsSmall q agents pending lines c es s full threads (rline.Know k) x (Rattle.sap_terms.specs.AdversaryFacts.k_fact h.term ∷ [])) (sym h.becomes)
-        (know_line laws g IsSmall p q hold ready small annotated agents pending lines c es tr s full w threads table k h.term h.entry (contains_got s.known h.term k h.entry)))
+        subst (λ a. IsContinued g IsSmall q agents pending lines c es s full tables (rline.Know k) z a) (sym h.shows) (subst (λ x. IsContinued g IsSmall q agents pending lines c es s full tables (rline.Know k) x (Rattle.sap_terms.specs.AdversaryFacts.k_fact h.term ∷ [])) (sym h.becomes)
+        (know_line laws g IsSmall p q hold ready small annotated agents pending lines c es tr s full w tables table k h.term h.entry (contains_got s.known h.term k h.entry)))
     any_line (rline.Rule name ks b) acts z h admitted = rule_line name ks b acts z h (laws.steps g (rules_of q) s z acts (rline.Rule name ks b) h) admitted
 
   -- before the first line
@@ -236,27 +188,23 @@ module _ (laws : Laws) (g : Sig) (p q : Proc) (hold : HoldsBuiltins g) (ready : 
       first (suc t) a e = absurd (cc)
 
   pub lines_followed : LinesAreFollowed g q
-  lines_followed agents pending lines c es tr s z full threads step acts w table is admitted = any_line agents pending lines c es tr s full w threads table step acts z is admitted
+  lines_followed agents pending lines c es tr s z full tables step acts w table is admitted = followed_tabled g IsSmall q agents pending lines c es s full tables step z acts table (any_line agents pending lines c es tr s full w tables table step acts z is admitted)
 
-  pub threads_there : ThreadsAreThere g q
-  threads_there agents pending lines c es tr s full w = counted agents s w.together.related.facts
-
-  pub ends_opposite : EndsOpposite g q
-  ends_opposite agents pending lines c es tr s full w =
-      let b = pending_written g IsSmall q agents pending lines c es tr s full w in
-      (b.0, b.1, subst (λ t. IsLegalProcessRun g IsSmall q (lines ++ b.0) c es t (marks full)) (sym w.together.related.traces.shows) b.2.legal)
+  pub ends_tabled : EndsTabled g q
+  ends_tabled agents pending lines c es tr s full tables w waits =
+      let b = pending_written g IsSmall q agents pending tables.pending lines c es tr s full waits w in
+      subst (λ t. IsLegalProcessRun g IsSmall q (lines ++ pending_lines tables.pending) c es t (marks full)) (sym w.together.related.traces.shows) b.legal
 
   -- what counts, counts before its last time
   admitted_before : (s : RuleState) (full : Trace) (acts : List Fact) → RuleRun g (rules_of q) s (full ++ acts ∷ []) → IsAdmitted g (full ++ acts ∷ []) → IsAdmitted g full
   admitted_before s full acts run h which = laws.prefix which g full (acts ∷ []) (laws.messages g q (full ++ acts ∷ []) hold (laws.over g p q ready annotated) (s, run)) (h which)
 
   along : (rule_lines : List RStep) (s : RuleState) (full : Trace) → IsLegalRun g (rules_of q) IsSmall rule_lines s full → IsAdmitted g full → GoesAlong g IsSmall q s full
-  along rule_lines s full IsLegalRun.starts h = record { agents = Some (unborn q) ∷ []; pending = None; lines = []; config = initial q; entries = []; trace = []; is = begins_along }
+  along rule_lines s full IsLegalRun.starts h = record { agents = Some (unborn q) ∷ []; pending = None; lines = []; config = initial q; entries = []; trace = []; is = begins_along; tables = first_tables; table = begins_tabled q }
   along rule_lines s full (IsLegalRun.further {lines = before} {s = y} {full = seen} l acts run is) h =
       let a = along before y seen run (admitted_before s seen acts (laws.runs g (rules_of q) (before ++ l ∷ []) s (seen ++ acts ∷ []) (IsLegalRun.further l acts run is)) h) in
-      let t = counted a.agents y a.is.together.related.facts in
-      let f = any_line a.agents a.pending a.lines a.config a.entries a.trace y seen a.is t.0 t.1 l acts s is h in
-      record { agents = f.next; pending = f.later; lines = a.lines ++ f.more; config = f.config; entries = f.entries; trace = f.trace; is = f.is }
+      let f = lines_followed a.agents a.pending a.lines a.config a.entries a.trace y s seen a.tables l acts a.is a.table is h in
+      record { agents = f.next; pending = f.later; lines = a.lines ++ f.more; config = f.config; entries = f.entries; trace = f.trace; is = f.is; tables = f.behind; table = f.tabled }
 
   -- each line shows one time
   one_each : (rule_lines : List RStep) (s : RuleState) (full : Trace) → IsLegalRun g (rules_of q) IsSmall rule_lines s full → length full ≡ length rule_lines
@@ -270,14 +218,14 @@ module _ (laws : Laws) (g : Sig) (p q : Proc) (hold : HoldsBuiltins g) (ready : 
   pub have_opposites : HasOpposites g q
   have_opposites rule_lines s full legal admitted =
       let a = along rule_lines s full legal admitted in
-      let b = pending_written g IsSmall q a.agents a.pending a.lines a.config a.entries a.trace s full a.is in
+      let b = pending_written g IsSmall q a.agents a.pending a.tables.pending a.lines a.config a.entries a.trace s full a.table.waits a.is in
       let shows = a.is.together.related.traces.shows in (
-        a.lines ++ b.0,
+        a.lines ++ pending_lines a.tables.pending,
         record {
           config = a.config;
           entries = a.entries;
-          legal = subst (λ t. IsLegalProcessRun g IsSmall q (a.lines ++ b.0) a.config a.entries t (marks full)) (sym shows) b.2.legal;
-          known = b.2.known;
-          short = let h = b.2.short in let n = one_each rule_lines s full legal in omega arith;
+          legal = subst (λ t. IsLegalProcessRun g IsSmall q (a.lines ++ pending_lines a.tables.pending) a.config a.entries t (marks full)) (sym shows) b.legal;
+          known = b.known;
+          short = let h = b.short in let n = one_each rule_lines s full legal in omega arith;
         },
       )

@@ -1,11 +1,11 @@
 -- A line of rules for an embedded rule: the same facts are taken on both sides.
-use Rattle.std.proofs.Common.{◌≡◌, ℕ, ◌<◌, ◌^◌, List, [], ◌∷◌, ◌++◌, Option, Some, refl, sym, ap, ◌∙◌, subst, arith, false, None}
+use Rattle.std.proofs.Common.{◌≡◌, ℕ, ◌<◌, ◌^◌, List, [], ◌∷◌, ◌++◌, Option, Some, refl, sym, ap, ◌∙◌, subst, false, None, length, suc}
 use Rattle.std.specs.List.{AllZip}
 use Rattle.sap_terms.specs.AdversaryFacts.{k_fact}
 use Rattle.sap_terms.specs.Choice.{Choice}
 use Rattle.sap_terms.specs.Equations.{equations}
 use Rattle.sap_terms.specs.Modulo.{instance_fact, instance_facts, AreFormsOfFacts, AreEqualFacts}
-use Rattle.sap_terms.specs.Piles.{Takes, used, adds}
+use Rattle.sap_terms.specs.Piles.{used, adds}
 use Rattle.sap_terms.specs.Reserved.{is_reserved}
 use Rattle.sap_terms.specs.Signature.{Sig, HoldsBuiltins}
 use Rattle.sap_terms.specs.Trace.{Trace}
@@ -24,7 +24,7 @@ use Rattle.sap_process.specs.Sites.{var_names}
 use Rattle.sap_locks.specs.Annotation.{IsAnnotation}
 use Rattle.sap_place.specs.StateFacts.{state_fact}
 use Rattle.sap_restrict.specs.ReservedFacts.{event_fact}
-use Rattle.sap_rule.specs.RuleSteps.{RuleState}
+use Rattle.sap_rule.specs.RuleSteps.{RuleState, leaves}
 use Rattle.sap_rule.specs.Variables.{open_variables}
 use Rattle.sap_rule.specs.declared.rule.Rule.{Rule}
 use Rattle.sap_runs.specs.declared.process_step.PStep.{PStep}
@@ -37,23 +37,24 @@ use Rattle.sap_translate.specs.Templates as rules
 use Rattle.sap_translate.specs.Templates.{embedded_acts, first_of, state}
 use Rattle.sap_translate.specs.relation.Agents.{Agent, running}
 use Rattle.sap_translate.specs.relation.Answers.{under, goes_on, widened}
-use Rattle.sap_translate.specs.relation.Counts.{count_user, SamePile}
 use Rattle.sap_translate.specs.relation.Envs.{Env, GoodEnv, names, values, chosen, filled}
 use Rattle.sap_translate.specs.relation.Followed.{IsUsed}
 use Rattle.sap_translate.specs.relation.ProcessMoves as process
 use Rattle.sap_back.specs.Along.{IsAlong}
-use Rattle.sap_back.specs.Written.{HasThreads, IsWritten, WritesPending, PendingBefore, pending_behind}
+use Rattle.sap_back.specs.Followed.{IsWritten, pending_lines, with_pile}
+use Rattle.sap_back.specs.Tables.{Tables, AreTables, waiting}
 use Rattle.sap_runs.specs.declared.process_step.PStep.TheVariants as line
 use Rattle.sap_back.proofs.Cases.{law, sound_at, Goes, Case, head_is, on_set, silent, event_written, Writes}
-use Rattle.sap_back.proofs.Lines.{Does}
+use Rattle.sap_back.proofs.Added.{first_form, state_form, wider_by_new, FirstForm}
+use Rattle.sap_back.proofs.Effects.{kept, traded, Embeds}
+use Rattle.sap_back.proofs.Lines.{Does, Grows}
+use Rattle.sap_back.proofs.Piled.{take_there, Corresponds, TakenThere}
 use Rattle.sap_back.proofs.Marked.{embedded_marks}
 use Rattle.sap_back.proofs.Premises.{Laws}
-use Rattle.sap_back.proofs.Seats.{Seat, seat}
-use Rattle.sap_back.proofs.Terms.{contains, SameOn, same_facts, facts_within, rule_fact, rule_term_within, fact_forms}
+use Rattle.sap_back.proofs.Seats.{numbered, seat, was_there, Seat}
+use Rattle.sap_back.proofs.Terms.{contains, SameOn, same_facts, facts_within, rule_fact, rule_term_within}
 use Rattle.sap_back.proofs.owners.Facts.{made}
 use Rattle.sap_back.proofs.owners.Lookups.{member_left, member_right, member_cases, in_left, in_right}
-use Rattle.sap_back.proofs.owners.Piles.{take_same}
-use Rattle.sap_back.proofs.owners.Takings.{takes_total}
 
 -- facts that are equal to unreserved ones are unreserved
 equal_unreserved : (g : Sig) (σ : Choice) (l fs : List Fact) → AreEqualFacts (equations g) (instance_facts σ l) fs → AreUnreserved l → AreUnreserved fs
@@ -67,6 +68,12 @@ form_unreserved g σ [] [] h free x m = elim m [ ]
 form_unreserved g σ [] (f ∷ fs) h free x m = absurd h
 form_unreserved g σ (a ∷ l) [] h free x m = absurd h
 form_unreserved g σ (a ∷ l) (f ∷ fs) h free x m = Rattle.sap_back.proofs.Terms.first_or (λ z. is_reserved z.name ≡ false) (ap is_reserved h.0.name ∙ free a Member.here) (λ k. form_unreserved g σ l fs h.1 (λ y n. free y (Member.later n)) x k) m
+
+forms_many : (g : Sig) (σ : Choice) (l fs : List Fact) → AreFormsOfFacts (equations g) (instance_facts σ l) fs → length fs ≡ length l
+forms_many g σ [] [] h = refl
+forms_many g σ [] (f ∷ fs) h = absurd h
+forms_many g σ (a ∷ l) [] h = absurd h
+forms_many g σ (a ∷ l) (f ∷ fs) h = ap suc (forms_many g σ l fs h.1)
 
 -- what is shown beside Event()
 record Shows (g : Sig) (σ : Choice) (a acts : List Fact) : Type 0 where
@@ -104,15 +111,15 @@ module _ (laws : Laws) (g : Sig) (W : Tree → Type 0) (env : Env) (σ : Choice)
   facts_are : (fs : List Fact) → GoodEnv g env → Rattle.sap_translate.specs.Scoped.FactsWithin (names (widened env σ vs)) fs → instance_facts σ fs ≡ instance_facts σ (instance_facts (chosen env) fs)
   facts_are fs good in_scope = same_facts (names (widened env σ vs)) σ (filled (widened env σ vs)) fs wide_same in_scope ∙ laws.facts g env σ vs fs good in_scope
 
-module _ (laws : Laws) (g : Sig) (W : Tree → Type 0) (p q : Proc) (hold : HoldsBuiltins g) (ready : IsReady g p) (small : node_count p < 2 ^ 64) (annotated : IsAnnotation p q) (agents : List (Option Agent)) (pending : Option Tree) (lines : List PStep) (c : Config) (es : List Tree) (tr : Trace) (s : RuleState) (full : Trace) (w : IsAlong g W q agents pending lines c es tr s full) (threads : ℕ → ℕ) (table : HasThreads agents s threads) where
-  pub rule_case : (path : List ℕ) (v : List Var) (l a o : List Fact) (u : Proc) → Case laws g W p q hold ready small annotated agents pending lines c es tr s full w threads table path v (act (action.embedded l a o) u) (rules.embedded_rule path v l a o)
+module _ (laws : Laws) (g : Sig) (W : Tree → Type 0) (p q : Proc) (hold : HoldsBuiltins g) (ready : IsReady g p) (small : node_count p < 2 ^ 64) (annotated : IsAnnotation p q) (agents : List (Option Agent)) (pending : Option Tree) (lines : List PStep) (c : Config) (es : List Tree) (tr : Trace) (s : RuleState) (full : Trace) (w : IsAlong g W q agents pending lines c es tr s full) (tables : Tables) (table : AreTables agents pending c es s tables) where
+  pub rule_case : (path : List ℕ) (v : List Var) (l a o : List Fact) (u : Proc) → Case laws g W p q hold ready small annotated agents pending lines c es tr s full w tables table path v (act (action.embedded l a o) u) (rules.embedded_rule path v l a o)
   rule_case path v l a o u at ks b σ left acts right rest fired = go shown.shows shown.is shown.forms
     where
       body : Proc
       body = act (action.embedded l a o) u
 
-      st : Seat g W q agents s full threads path (λ x. rules.embedded_rule path x l a o) body ks b σ left acts right rest
-      st = seat laws g W q agents pending c tr s full w.together.related threads table path v body (λ x. rules.embedded_rule path x l a o) l refl at ks b σ left acts right rest fired
+      st : Seat g W q agents s full tables path (λ x. rules.embedded_rule path x l a o) body ks b σ left acts right rest
+      st = seat laws g W q agents pending c tr s full w.together.related es tables table path v body (λ x. rules.embedded_rule path x l a o) l refl at ks b σ left acts right rest fired
 
       rule : Rule
       rule = rules.embedded_rule path (names st.env) l a o
@@ -126,25 +133,56 @@ module _ (laws : Laws) (g : Sig) (W : Tree → Type 0) (p q : Proc) (hold : Hold
       wider : Env
       wider = widened st.env σ vs
 
+      name : List ℕ
+      name = (rules.embedded_rule path v l a o).name
+
+      next : List (Option Agent)
+      next = goes_on agents st.thread path wider u
+
       used_there : IsUsed g s full rule (st.number ∷ st.others) σ (state_fact path (values st.env) ∷ st.taken) acts right rest
       used_there = subst (λ fs. IsUsed g s full rule (st.number ∷ st.others) σ fs acts right rest) st.lefts (subst (λ js. IsUsed g s full rule js σ left acts right rest) st.numbers st.fired.used)
 
       sound : Rattle.sap_translate.specs.Sound.SoundAt g (names st.env) body
-      sound = sound_at laws g W p q hold ready small annotated agents pending lines c es tr s full w threads table path st.env body st.at
+      sound = sound_at laws g W p q hold ready small annotated agents pending lines c es tr s full w tables table path st.env body st.at
 
-      -- the process's facts are what is left when the state fact is gone
-      piles : SamePile (used s.facts st.number (state_fact path (values st.env))) c.facts
-      piles test =
-          let first : Takes s.facts (st.number ∷ []) (state_fact path (values st.env) ∷ []) (used s.facts st.number (state_fact path (values st.env))) = Takes.one st.stands.fact Takes.nothing in
-          let h = takes_total (count_user test) refl first in
-          let k = w.together.related.pile test in
-          omega arith
+      own : AreUnreserved st.taken
+      own = equal_unreserved g σ l st.taken used_there.fits.takes.1 sound.0
 
-      taken : Rattle.sap_back.proofs.owners.Piles.Taken c.facts st.taken rest
-      taken = take_same c.facts piles (equal_unreserved g σ l st.taken used_there.fits.takes.1 sound.0) st.later
+      -- the table says which the facts are in the process, once the state fact is gone
+      piles : Corresponds tables.facts (used s.facts st.number (state_fact path (values st.env))) c.facts
+      piles = record {
+        number = λ i h e. numbered laws g W q agents pending c tr s full w.together.related es tables table i h (was_there s.facts st.number i h e);
+        there = λ i j h u e n. table.piles i j h u (was_there s.facts st.number i h e) n;
+        apart = λ i m j h k u v e f n o. table.pile_apart i m j h k u v (was_there s.facts st.number i h e) (was_there s.facts st.number m k f) n o;
+      }
 
-      gives : (hs : List Fact) × AreFormsOfFacts (equations g) (instance_facts σ o) hs
-      gives = fact_forms laws.each_form (equations g) (instance_facts σ o)
+      taken : TakenThere tables.facts c.facts st.others st.taken
+      taken = take_there c.facts piles own st.later
+
+      -- what is added: the state fact of the child, and the forms of the right side
+      added : FirstForm g (instance_fact σ (state (first_of path) (names wider))) (instance_facts σ o) right
+      added = first_form g (instance_fact σ (state (first_of path) (names wider))) (instance_facts σ o) right used_there.fits.adds
+
+      adds_are : right ≡ state_fact (first_of path) (values wider) ∷ added.others
+      adds_are = added.is ∙ ap (λ h. h ∷ added.others) (state_form laws g σ used_there.fits.messages (first_of path) wider added.first (wider_by_new laws st.env σ vs st.same) added.form)
+
+      -- the configuration behind
+      d : Config
+      d = config.leaves (becomes c st.thread (Some (under wider u))) (adds taken.left added.others)
+
+      embedded_so : (fs : List Tree) → Grows c es d fs → Embeds s (leaves s (adds rest right)) c es d fs st.number st.others taken.js (state_fact path (values st.env)) (state_fact (first_of path) (values wider)) o
+      embedded_so fs grows = record {
+        taken = st.taken;
+        right = added.others;
+        own = own;
+        user = form_unreserved g σ o added.others added.forms sound.2;
+        many = forms_many g σ o added.others added.forms;
+        trades = traded used_there.takes refl adds_are;
+        left = taken.left;
+        takes = taken.takes;
+        facts = refl;
+        entries = (kept {c = c} {d = becomes c st.thread (Some (under wider u))} {es = es} {fs = fs} refl refl (record { come = grows.come; entries = grows.entries; frame = grows.frame })).entries;
+      }
 
       opens : bound_vars b ≡ left_open (names st.env) l a o
       opens = st.fired.binds.vars ∙ head_same (open_variables g rule) (left_open (names st.env) l a o) (laws.places g p q path (names st.env) body ready small annotated (laws.ready g p q ready annotated).well_formed st.at.0)
@@ -168,39 +206,37 @@ module _ (laws : Laws) (g : Sig) (W : Tree → Type 0) (p q : Proc) (hold : Hold
       terms_are = facts_are laws g W st.env σ vs st.same (l ++ (a ++ o)) st.at.1 sound.3
           ∙ ap (instance_facts σ) (map_joined (chosen st.env) l (a ++ o) ∙ ap (λ fs. instance_facts (chosen st.env) l ++ fs) (map_joined (chosen st.env) a o))
 
-      does : Does g W c b (process.embeds st.thread taken.ks σ) (Rattle.sap_translate.specs.relation.Agents.process_of (running path st.env body)) []
+      does : Does g W c b (process.embeds st.thread taken.js σ) (Rattle.sap_translate.specs.relation.Agents.process_of (running path st.env body)) []
       does = (opens ∙ sym (laws.instances g st.env l a o st.at.1), st.fired.binds.agrees, subst (λ fs. EvaluateWithin g W (facts_terms fs)) terms_are fits_within, refl)
 
       none_of : (x : List Fact) → AreFormsOfFacts (equations g) (instance_facts σ x) [] → x ≡ []
       none_of [] h = refl
       none_of (f ∷ fs) h = absurd h
 
-      quiet_before : AreFormsOfFacts (equations g) (instance_facts σ a) [] → PendingBefore es pending a []
-      quiet_before h = subst (λ x. PendingBefore es pending x []) (sym (none_of a h)) refl
+      behind : Option ℕ → Tables
+      behind k = waiting (with_pile tables st.thread (length o)) k
 
-      loud : (x : List Fact) (h : Fact) (hs : List Fact) (first : List PStep) → AreFormsOfFacts (equations g) (instance_facts σ x) (h ∷ hs) → WritesPending es pending first → PendingBefore es pending x first
-      loud [] h hs first i j = absurd i
-      loud (f ∷ fs) h hs first i j = j
+      -- the line that is written, behind what is pending where something is shown
+      quiet : acts ≡ [] → Writes laws g W p q hold ready small annotated agents pending lines c es tr s full w tables table name (st.number ∷ st.others) b acts (line.Embedded st.thread taken.js b ∷ []) next pending (behind tables.pending) d rest right
+      quiet is = subst (λ z. Writes laws g W p q hold ready small annotated agents pending lines c es tr s full w tables table name (st.number ∷ st.others) b z (line.Embedded st.thread taken.js b ∷ []) next pending (behind tables.pending) d rest right) (sym is)
+          (IsWritten.embeds st.thread st.number st.others taken.js path st.env b l a o σ u st.seated taken.are, embedded_so)
 
-      quiet_behind : AreFormsOfFacts (equations g) (instance_facts σ a) [] → pending_behind a pending ≡ pending
-      quiet_behind h = ap (λ x. pending_behind x pending) (none_of a h)
+      loud : (h : Fact) (hs : List Fact) → acts ≡ event_fact ∷ h ∷ hs → Writes laws g W p q hold ready small annotated agents pending lines c es tr s full w tables table name (st.number ∷ st.others) b acts (pending_lines tables.pending ++ line.Embedded st.thread taken.js b ∷ []) next None (behind None) d rest right
+      loud h hs is = subst (λ z. Writes laws g W p q hold ready small annotated agents pending lines c es tr s full w tables table name (st.number ∷ st.others) b z (pending_lines tables.pending ++ line.Embedded st.thread taken.js b ∷ []) next None (behind None) d rest right) (sym is)
+          (IsWritten.embeds st.thread st.number st.others taken.js path st.env b l a o σ u st.seated taken.are, embedded_so)
 
-      loud_behind : (x : List Fact) (h : Fact) (hs : List Fact) → AreFormsOfFacts (equations g) (instance_facts σ x) (h ∷ hs) → pending_behind x pending ≡ None
-      loud_behind [] h hs i = absurd i
-      loud_behind (f ∷ fs) h hs i = refl
-
-      go : (shows : List Fact) → acts ≡ embedded_acts shows → AreFormsOfFacts (equations g) (instance_facts σ a) shows → Goes laws g W p q hold ready small annotated agents pending lines c es tr s full w threads table (rules.embedded_rule path v l a o).name ks b rest acts right
+      go : (shows : List Fact) → acts ≡ embedded_acts shows → AreFormsOfFacts (equations g) (instance_facts σ a) shows → Goes laws g W p q hold ready small annotated agents pending lines c es tr s full w tables table name ks b rest acts right
       go [] is forms =
-          let f = law laws g W p q hold ready small annotated agents pending lines c es tr s full w threads table _ laws.follows_rule st.thread st.number st.others taken.ks path st.env l a o u σ st.taken [] gives.0 acts right rest taken.left st.stands used_there taken.takes forms gives.1 in
-          silent laws g W p q hold ready small annotated agents pending lines c es tr s full w threads table (rules.embedded_rule path v l a o).name ks (st.number ∷ st.others) b st.numbers (goes_on agents st.thread path wider u) rest acts right (process.embeds st.thread taken.ks σ) (λ e. subst (λ later. Writes laws g W p q hold ready small annotated agents pending lines c es tr s full w threads table (rules.embedded_rule path v l a o).name (st.number ∷ st.others) b (line.Embedded st.thread taken.ks b ∷ []) (goes_on agents st.thread path wider u) later) (quiet_behind forms) (IsWritten.embeds st.thread st.number st.others taken.ks path st.env b l a o st.taken rest taken.left σ u [] st.stands st.chosen used_there.takes taken.takes (quiet_before forms))) [] (config.leaves (becomes c st.thread (Some (under wider u))) (adds taken.left gives.0)) f
-          (head_is laws g W p q hold ready small annotated agents pending lines c es tr s full w threads table b st.thread (running path st.env body) st.stands.thread (process.embeds st.thread taken.ks σ) [] does)
-          (ap (λ z. marks (z ∷ [])) is) (on_set laws g W p q hold ready small annotated agents pending lines c es tr s full w threads table st.thread (first_of path) wider u)
+          let f = law laws g W p q hold ready small annotated agents pending lines c es tr s full w tables table _ laws.follows_rule st.thread st.number st.others taken.js path st.env l a o u σ st.taken [] added.others acts right rest taken.left st.seated.stands used_there taken.takes forms added.forms in
+          silent laws g W p q hold ready small annotated agents pending lines c es tr s full w tables table name ks (st.number ∷ st.others) b st.numbers next (behind tables.pending) rest acts right (process.embeds st.thread taken.js σ) [] d (quiet is) f
+          (head_is laws g W p q hold ready small annotated agents pending lines c es tr s full w tables table b st.thread (running path st.env body) st.seated.stands.thread (process.embeds st.thread taken.js σ) [] does)
+          (ap (λ z. marks (z ∷ [])) is) (on_set laws g W p q hold ready small annotated agents pending lines c es tr s full w tables table st.thread (first_of path) wider u)
       go (h ∷ hs) is forms =
-          let f = law laws g W p q hold ready small annotated agents pending lines c es tr s full w threads table _ laws.follows_rule st.thread st.number st.others taken.ks path st.env l a o u σ st.taken (h ∷ hs) gives.0 acts right rest taken.left st.stands used_there taken.takes forms gives.1 in
+          let f = law laws g W p q hold ready small annotated agents pending lines c es tr s full w tables table _ laws.follows_rule st.thread st.number st.others taken.js path st.env l a o u σ st.taken (h ∷ hs) added.others acts right rest taken.left st.seated.stands used_there taken.takes forms added.forms in
           let free = form_unreserved g σ a (h ∷ hs) forms sound.1 in
-          event_written laws g W p q hold ready small annotated agents pending lines c es tr s full w threads table (rules.embedded_rule path v l a o).name ks (st.number ∷ st.others) b st.numbers (goes_on agents st.thread path wider u) rest acts right (process.embeds st.thread taken.ks σ) (λ first i e. subst (λ later. Writes laws g W p q hold ready small annotated agents pending lines c es tr s full w threads table (rules.embedded_rule path v l a o).name (st.number ∷ st.others) b (first ++ line.Embedded st.thread taken.ks b ∷ []) (goes_on agents st.thread path wider u) later) (loud_behind a h hs forms) (IsWritten.embeds st.thread st.number st.others taken.ks path st.env b l a o st.taken rest taken.left σ u first st.stands st.chosen used_there.takes taken.takes (loud a h hs first forms i))) h hs (config.leaves (becomes c st.thread (Some (under wider u))) (adds taken.left gives.0)) f
-          (head_is laws g W p q hold ready small annotated agents pending lines c es tr s full w threads table b st.thread (running path st.env body) st.stands.thread (process.embeds st.thread taken.ks σ) [] does)
-          (λ x i. not_k h hs x (free h Member.here) i) (ap (λ z. marks (z ∷ [])) is ∙ embedded_marks (h ∷ hs) free) (on_set laws g W p q hold ready small annotated agents pending lines c es tr s full w threads table st.thread (first_of path) wider u)
+          event_written laws g W p q hold ready small annotated agents pending lines c es tr s full w tables table name ks (st.number ∷ st.others) b st.numbers next (behind None) rest acts right (process.embeds st.thread taken.js σ) h hs d (loud h hs is) f
+          (head_is laws g W p q hold ready small annotated agents pending lines c es tr s full w tables table b st.thread (running path st.env body) st.seated.stands.thread (process.embeds st.thread taken.js σ) [] does)
+          (λ x i. not_k h hs x (free h Member.here) i) (ap (λ z. marks (z ∷ [])) is ∙ embedded_marks (h ∷ hs) free) (on_set laws g W p q hold ready small annotated agents pending lines c es tr s full w tables table st.thread (first_of path) wider u)
         where
           not_k : (f : Fact) (fs : List Fact) (x : Tree) → is_reserved f.name ≡ false → f ∷ fs ≡ k_fact x ∷ [] → ⊥
           not_k f fs x free i =

@@ -1,19 +1,19 @@
 -- Each move of a process is written by a line.
-use Rattle.std.proofs.Common.{◌≡◌, ℕ, List, [], ◌∷◌, ◌++◌, Some, refl, sym, ap, ◌∙◌, subst, inl, inr, Bool, true, false, slice_get}
+use Rattle.std.proofs.Common.{◌≡◌, ℕ, List, [], ◌∷◌, ◌++◌, Some, refl, sym, ◌∙◌, subst, inl, inr, slice_get, append-nil}
 use Rattle.std.specs.Prelude.{Contains}
 use Rattle.sap_terms.specs.AdversaryFacts.{k_fact}
 use Rattle.sap_terms.specs.Equations.{equations}
 use Rattle.sap_terms.specs.Modulo.{instance_facts}
 use Rattle.sap_terms.specs.Normal.{IsNormalForm}
 use Rattle.sap_terms.specs.Signature.{Sig}
-use Rattle.sap_terms.specs.Tree.{Tree, fresh}
+use Rattle.sap_terms.specs.Tree.{Tree}
 use Rattle.sap_terms.specs.declared.binding.Binding.{Binding}
 use Rattle.sap_terms.specs.declared.fact.Fact.{Fact}
 use Rattle.sap_terms.proofs.PlainLaws.Items.{got_contained, cons_cases, first_item, later_item}
 use Rattle.sap_rewrite.specs.Laws.{FormIsOne, FormsDecide}
 use Rattle.sap_rewrite.specs.Match.{Agrees, bound_vars}
 use Rattle.sap_process.specs.Action as action
-use Rattle.sap_process.specs.Configuration.{Config, Runs, owns}
+use Rattle.sap_process.specs.Configuration.{Config, Runs}
 use Rattle.sap_process.specs.Heads.{facts_terms}
 use Rattle.sap_process.specs.Proc as whole
 use Rattle.sap_process.specs.Proc.{Proc, act}
@@ -71,11 +71,12 @@ thread_of (move.embeds t ks σ) = t
 thread_of (move.adversary_makes n) = 0
 thread_of (move.knows x) = 0
 
--- what the move does inside, whatever its thread runs; for a meeting, what both run
+-- what the move does inside, whatever its thread runs; for a meeting, what both run. None of a name of the adversary's, which is an
+-- entry though nothing is sent.
 abbrev pub Heads : Sig → (Tree → Type 0) → Config → List Binding → ProcessMove → List InnerAction → Type 0
 Heads g W c b (move.meets s t σ) inner =
     (inner ≡ []) × ((m n l r : Tree) (p q : Proc) → Runs c s (act (action.send m n) p) → Runs c t (act (action.receive l r) q) → EvaluateWithin g W (m ∷ n ∷ l ∷ []))
-Heads g W c b (move.adversary_makes n) inner = inner ≡ []
+Heads g W c b (move.adversary_makes n) inner = ⊥
 Heads g W c b (move.knows x) inner = inner ≡ []
 Heads g W c b m inner = (p : Proc) → Runs c (thread_of m) p → Does g W c b m p inner
 
@@ -103,25 +104,19 @@ line_for e b (move.embeds t ks σ) = line.Embedded t ks b
 line_for e b (move.adversary_makes n) = line.Name n
 line_for e b (move.knows x) = line.Know e
 
--- whether the line has the number of an entry
-abbrev pub takes_entry : ProcessMove → Bool
-takes_entry (move.outputs_on t) = true
-takes_entry (move.inputs t σ) = true
-takes_entry (move.inputs_on t σ) = true
-takes_entry (move.knows x) = true
-takes_entry m = false
+-- the entries behind are those before, and what was sent
+pub record Grows (c : Config) (es : List Tree) (d : Config) (fs : List Tree) : Type 0 where
+  pub come : List Tree
+  pub entries : fs ≡ es ++ come
+  pub frame : d.frame ≡ c.frame ++ come
 
--- the line for a move, and the entries behind it: those before, and what was sent
-pub record LineOf (g : Sig) (W : Tree → Type 0) (c : Config) (es : List Tree) (b : List Binding) (m : ProcessMove) (inner : List InnerAction) (label : List Fact) (d : Config) : Type 0 where
-  pub entry : ℕ
+-- the line for a move, with this entry where it takes one, and the entries behind it: those before, and what was sent
+pub record LineOf (g : Sig) (W : Tree → Type 0) (c : Config) (es : List Tree) (entry : ℕ) (b : List Binding) (m : ProcessMove) (inner : List InnerAction) (label : List Fact) (d : Config) : Type 0 where
   pub entries : List Tree
   pub is : IsProcessLine g W c es (line_for entry b m) inner label d entries
-  pub at : (x : Tree) → takes_entry m ≡ true → label ≡ k_fact x ∷ [] → slice_get es entry ≡ Some x
+  pub grows : Grows c es d entries
   pub keeps : (x : Tree) → Contains es x → Contains entries x
   pub sent : ((x : Tree) → Contains c.frame x → Contains es x) → (x : Tree) → Contains d.frame x → Contains entries x
-
-k_same : (x y : Tree) → k_fact x ∷ [] ≡ k_fact y ∷ [] → x ≡ y
-k_same x y e = let k : (k_fact x).args ≡ (k_fact y).args = (let f : k_fact x ≡ k_fact y = cc in ap (λ (z : Fact). z.args) f) in cc
 
 pub in_front : {A : Type 0} (xs ys : List A) (x : A) → Contains xs x → Contains (xs ++ ys) x
 in_front [] ys x h = absurd (let k = (got_contained [] x h).1 in cc)
@@ -142,104 +137,78 @@ pushed_cases (z ∷ xs) y P all h x m = elim (cons_cases z (xs ++ y ∷ []) x m)
 sent_more : (frame es : List Tree) (y : Tree) → ((x : Tree) → Contains frame x → Contains es x) → (x : Tree) → Contains (frame ++ y ∷ []) x → Contains (es ++ y ∷ []) x
 sent_more frame es y h x m = pushed_cases frame y (λ z. Contains (es ++ y ∷ []) z) (λ z k. in_front es (y ∷ []) z (h z k)) (at_end es y) x m
 
-module _ (one : FormIsOne) (decide : FormsDecide) (g : Sig) (W : Tree → Type 0) (c : Config) (es : List Tree) (b : List Binding) where
-  -- where the inner actions are these, and no entry is named
-  does : (m : ProcessMove) (inner known : List InnerAction) (label : List Fact) (d : Config) → takes_entry m ≡ false → inner ≡ known → d.frame ≡ c.frame → IsProcessLine g W c es (line_for 0 b m) known label d es → LineOf g W c es b m inner label d
-  does m inner known label d none e f is = record {
-    entry = 0;
+module _ (one : FormIsOne) (decide : FormsDecide) (g : Sig) (W : Tree → Type 0) (c : Config) (es : List Tree) (entry : ℕ) (b : List Binding) where
+  -- where the inner actions are these, and nothing is sent
+  does : (m : ProcessMove) (inner known : List InnerAction) (label : List Fact) (d : Config) → inner ≡ known → d.frame ≡ c.frame → IsProcessLine g W c es (line_for entry b m) known label d es → LineOf g W c es entry b m inner label d
+  does m inner known label d e f is = record {
     entries = es;
-    is = subst (λ i. IsProcessLine g W c es (line_for 0 b m) i label d es) (sym e) is;
-    at = λ x k. absurd (let z : true ≡ false = sym k ∙ none in cc);
+    is = subst (λ i. IsProcessLine g W c es (line_for entry b m) i label d es) (sym e) is;
+    grows = record { come = []; entries = sym (append-nil es); frame = f ∙ sym (append-nil c.frame) };
     keeps = λ x k. k;
     sent = λ h x k. h x (subst (λ z. Contains z x) f k);
   }
 
-  -- or this one
-  names : (m : ProcessMove) (inner : List InnerAction) (k : ℕ) (y : Tree) (d : Config) → slice_get es k ≡ Some y → inner ≡ [] → d.frame ≡ c.frame → IsProcessLine g W c es (line_for k b m) [] (k_fact y ∷ []) d es → LineOf g W c es b m inner (k_fact y ∷ []) d
-  names m inner k y d at e f is = record {
-    entry = k;
-    entries = es;
-    is = subst (λ i. IsProcessLine g W c es (line_for k b m) i (k_fact y ∷ []) d es) (sym e) is;
-    at = λ x i h. at ∙ ap (λ z. Some z) (k_same y x h);
-    keeps = λ x i. i;
-    sent = λ h x i. h x (subst (λ z. Contains z x) f i);
-  }
-
   -- one more entry comes
-  plus : (m : ProcessMove) (inner : List InnerAction) (label : List Fact) (d : Config) (k : ℕ) (y : Tree) → ((x : Tree) → takes_entry m ≡ true → label ≡ k_fact x ∷ [] → slice_get es k ≡ Some x) → inner ≡ [] → d.frame ≡ c.frame ++ y ∷ [] → IsProcessLine g W c es (line_for k b m) [] label d (es ++ y ∷ [])
-      → LineOf g W c es b m inner label d
-  plus m inner label d k y at e f is = record {
-    entry = k;
+  plus : (m : ProcessMove) (inner : List InnerAction) (label : List Fact) (d : Config) (y : Tree) → inner ≡ [] → d.frame ≡ c.frame ++ y ∷ [] → IsProcessLine g W c es (line_for entry b m) [] label d (es ++ y ∷ []) → LineOf g W c es entry b m inner label d
+  plus m inner label d y e f is = record {
     entries = es ++ y ∷ [];
-    is = subst (λ i. IsProcessLine g W c es (line_for k b m) i label d (es ++ y ∷ [])) (sym e) is;
-    at = at;
+    is = subst (λ i. IsProcessLine g W c es (line_for entry b m) i label d (es ++ y ∷ [])) (sym e) is;
+    grows = record { come = y ∷ []; entries = refl; frame = f };
     keeps = λ x i. in_front es (y ∷ []) x i;
     sent = λ h x i. sent_more c.frame es y h x (subst (λ z. Contains z x) f i);
   }
 
-  pub line_of : (inner : List InnerAction) {label : List Fact} {d : Config} (step : ProcessStep g c label d) → Heads g W c b (process_move step) inner → ((x : Tree) → label ≡ k_fact x ∷ [] → Contains es x) → LineOf g W c es b (process_move step) inner label d
-  line_of inner (ProcessStep.ends t e) h given = does (move.ends t) inner [] [] _ refl (h _ e) refl (IsProcessLine.ends t e)
-  line_of inner (ProcessStep.splits t e) h given = does (move.splits t) inner [] [] _ refl (h _ e) refl (IsProcessLine.splits t e)
-  line_of inner (ProcessStep.copies t e) h given = does (move.copies t) inner [] [] _ refl (h _ e) refl (IsProcessLine.copies t e)
-  line_of inner (ProcessStep.makes_name t n e u) h given = does (move.makes_name t n) inner [] [] _ refl (h _ e) refl (IsProcessLine.makes_name t n e u)
-  line_of inner (ProcessStep.outputs {n = n} t e f) h given = let a = h _ e in plus (move.outputs t) inner [] _ 0 n (λ x i. absurd (cc)) a.1 refl (IsProcessLine.outputs t e f a.0)
+  pub line_of : (inner : List InnerAction) {label : List Fact} {d : Config} (step : ProcessStep g c label d) → Heads g W c b (process_move step) inner → ((x : Tree) → label ≡ k_fact x ∷ [] → slice_get es entry ≡ Some x) → LineOf g W c es entry b (process_move step) inner label d
+  line_of inner (ProcessStep.ends t e) h given = does (move.ends t) inner [] [] _ (h _ e) refl (IsProcessLine.ends t e)
+  line_of inner (ProcessStep.splits t e) h given = does (move.splits t) inner [] [] _ (h _ e) refl (IsProcessLine.splits t e)
+  line_of inner (ProcessStep.copies t e) h given = does (move.copies t) inner [] [] _ (h _ e) refl (IsProcessLine.copies t e)
+  line_of inner (ProcessStep.makes_name t n e u) h given = does (move.makes_name t n) inner [] [] _ (h _ e) refl (IsProcessLine.makes_name t n e u)
+  line_of inner (ProcessStep.outputs {n = n} t e f) h given = let a = h _ e in plus (move.outputs t) inner [] _ n a.1 refl (IsProcessLine.outputs t e f a.0)
   line_of inner (ProcessStep.outputs_on {k = k} {u = u} t e f can i) h given =
       let a = h _ e in
-      let at = got_contained es k (given k refl) in
-      plus (move.outputs_on t) inner (k_fact k ∷ []) _ at.0 u (λ x i h. at.1 ∙ ap (λ z. Some z) (k_same k x h)) a.1 refl (IsProcessLine.outputs_on t at.0 e at.1 f i a.0)
+      plus (move.outputs_on t) inner (k_fact k ∷ []) _ u a.1 refl (IsProcessLine.outputs_on t entry e (given k refl) f i a.0)
   line_of inner (ProcessStep.inputs {x = x} t σ e can k) h given =
-      let at = got_contained es x (given x refl) in
-      names (move.inputs t σ) inner at.0 x _ at.1 (h _ e) refl (IsProcessLine.inputs t at.0 σ e at.1 k)
+      does (move.inputs t σ) inner [] (k_fact x ∷ []) _ (h _ e) refl (IsProcessLine.inputs t entry σ e (given x refl) k)
   line_of inner (ProcessStep.inputs_on {x = x} t σ e can k i) h given =
       let a = h _ e in
-      let at = got_contained es x (given x refl) in
-      names (move.inputs_on t σ) inner at.0 x _ at.1 a.1 refl (IsProcessLine.inputs_on t at.0 σ e at.1 k i a.0)
+      does (move.inputs_on t σ) inner [] (k_fact x ∷ []) _ a.1 refl (IsProcessLine.inputs_on t entry σ e (given x refl) k i a.0)
   line_of inner (ProcessStep.meets {m = m} {n = n} {l = l} {r = r} {p = p} {q = q} s t σ e f i k) h given =
-      does (move.meets s t σ) inner [] [] _ refl h.0 refl (IsProcessLine.meets s t σ e f i k (h.1 m n l r p q e f))
+      does (move.meets s t σ) inner [] [] _ h.0 refl (IsProcessLine.meets s t σ e f i k (h.1 m n l r p q e f))
   line_of inner (ProcessStep.agrees {m = m} {n = n} t e i) h given =
       let a = h _ e in
-      does (move.agrees t) inner (equal a.0 a.1 ∷ []) [] _ refl a.5 refl (IsProcessLine.agrees t e a.2 a.3 ((decide (equations g) m n a.0 a.1 a.2 a.3).0 i) a.4)
+      does (move.agrees t) inner (equal a.0 a.1 ∷ []) [] _ a.5 refl (IsProcessLine.agrees t e a.2 a.3 ((decide (equations g) m n a.0 a.1 a.2 a.3).0 i) a.4)
   line_of inner (ProcessStep.differs {m = m} {n = n} t e i) h given =
       let a = h _ e in
-      does (move.differs t) inner (different a.0 a.1 ∷ []) [] _ refl a.5 refl (IsProcessLine.differs t e a.2 a.3 (λ same. i ((decide (equations g) m n a.0 a.1 a.2 a.3).1 same)) a.4)
-  line_of inner (ProcessStep.shows {h = shown} t e f) h given = let a = h _ e in does (move.shows t) inner [] (shown ∷ []) _ refl a.1 refl (IsProcessLine.shows t e f a.0)
+      does (move.differs t) inner (different a.0 a.1 ∷ []) [] _ a.5 refl (IsProcessLine.differs t e a.2 a.3 (λ same. i ((decide (equations g) m n a.0 a.1 a.2 a.3).1 same)) a.4)
+  line_of inner (ProcessStep.shows {h = shown} t e f) h given = let a = h _ e in does (move.shows t) inner [] (shown ∷ []) _ a.1 refl (IsProcessLine.shows t e f a.0)
   line_of inner (ProcessStep.inserts {m = m} {n = n} {k = k} {v = v} t e f i) h given =
       let a = h _ e in
       let key : a.0 ≡ k = one (equations g) m a.0 k a.2 f in
       let value : a.1 ≡ v = one (equations g) n a.1 v a.3 i in
-      does (move.inserts t) inner (inserted k v ∷ []) [] _ refl (a.5 ∙ (λ j. inserted (key j) (value j) ∷ [])) refl (IsProcessLine.inserts t e f i a.4)
+      does (move.inserts t) inner (inserted k v ∷ []) [] _ (a.5 ∙ (λ j. inserted (key j) (value j) ∷ [])) refl (IsProcessLine.inserts t e f i a.4)
   line_of inner (ProcessStep.deletes {m = m} {k = k} t e f) h given =
       let a = h _ e in
       let key : a.0 ≡ k = one (equations g) m a.0 k a.1 f in
-      does (move.deletes t) inner (deleted k ∷ []) [] _ refl (a.3 ∙ (λ j. deleted (key j) ∷ [])) refl (IsProcessLine.deletes t e f a.2)
+      does (move.deletes t) inner (deleted k ∷ []) [] _ (a.3 ∙ (λ j. deleted (key j) ∷ [])) refl (IsProcessLine.deletes t e f a.2)
   line_of inner (ProcessStep.finds {m = m} {k = k} {v = v} t e f i) h given =
       let a = h _ e in
       let key : a.0 ≡ k = one (equations g) m a.0 k a.2 f in
       let value : a.1 ≡ v = a.3 k v f i in
-      does (move.finds t) inner (found k v ∷ []) [] _ refl (a.5 ∙ (λ j. found (key j) (value j) ∷ [])) refl (IsProcessLine.finds t e f i a.4)
+      does (move.finds t) inner (found k v ∷ []) [] _ (a.5 ∙ (λ j. found (key j) (value j) ∷ [])) refl (IsProcessLine.finds t e f i a.4)
   line_of inner (ProcessStep.misses {m = m} {k = k} t e f i) h given =
       let a = h _ e in
       let key : a.0 ≡ k = one (equations g) m a.0 k a.1 f in
-      does (move.misses t) inner (missing k ∷ []) [] _ refl (a.3 ∙ (λ j. missing (key j) ∷ [])) refl (IsProcessLine.misses t e f i a.2)
+      does (move.misses t) inner (missing k ∷ []) [] _ (a.3 ∙ (λ j. missing (key j) ∷ [])) refl (IsProcessLine.misses t e f i a.2)
   line_of inner (ProcessStep.locks {m = m} {k = k} t e f i) h given =
       let a = h _ e in
       let key : a.0 ≡ k = one (equations g) m a.0 k a.1 f in
-      does (move.locks t) inner (locked k ∷ []) [] _ refl (a.3 ∙ (λ j. locked (key j) ∷ [])) refl (IsProcessLine.locks t e f i a.2)
+      does (move.locks t) inner (locked k ∷ []) [] _ (a.3 ∙ (λ j. locked (key j) ∷ [])) refl (IsProcessLine.locks t e f i a.2)
   line_of inner (ProcessStep.unlocks {m = m} {k = k} t e f) h given =
       let a = h _ e in
       let key : a.0 ≡ k = one (equations g) m a.0 k a.1 f in
-      does (move.unlocks t) inner (unlocked k ∷ []) [] _ refl (a.3 ∙ (λ j. unlocked (key j) ∷ [])) refl (IsProcessLine.unlocks t e f a.2)
+      does (move.unlocks t) inner (unlocked k ∷ []) [] _ (a.3 ∙ (λ j. unlocked (key j) ∷ [])) refl (IsProcessLine.unlocks t e f a.2)
   line_of inner (ProcessStep.embeds t ks σ left acts right e m k i j n) h given =
       let a = h _ e in
-      does (move.embeds t ks σ) inner [] acts _ refl a.3 refl (IsProcessLine.embeds t ks b σ left acts right e m a.0 a.1 k i j n a.2)
-  line_of inner (ProcessStep.adversary_makes n u) h given = record {
-    entry = 0;
-    entries = es ++ fresh n ∷ [];
-    is = subst (λ i. IsProcessLine g W c es (line.Name n) i [] (owns c n) (es ++ fresh n ∷ [])) (sym h) (IsProcessLine.names n u);
-    at = λ x i. absurd (cc);
-    keeps = λ x m. in_front es (fresh n ∷ []) x m;
-    sent = λ k x m. in_front es (fresh n ∷ []) x (k x m);
-  }
-  line_of inner (ProcessStep.knows x can) h given =
-      let at = got_contained es x (given x refl) in
-      names (move.knows x) inner at.0 x _ at.1 h refl (IsProcessLine.knows at.0 x at.1)
+      does (move.embeds t ks σ) inner [] acts _ a.3 refl (IsProcessLine.embeds t ks b σ left acts right e m a.0 a.1 k i j n a.2)
+  line_of inner (ProcessStep.adversary_makes n u) h given = absurd h
+  line_of inner (ProcessStep.knows x can) h given = does (move.knows x) inner [] (k_fact x ∷ []) _ h refl (IsProcessLine.knows entry x (given x refl))

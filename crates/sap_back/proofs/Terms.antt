@@ -16,7 +16,7 @@ use Rattle.sap_terms.specs.Tree as tree
 use Rattle.sap_terms.specs.declared.fact.Fact.{Fact}
 use Rattle.sap_terms.specs.declared.var.Sort.TheVariants.{Fresh as FreshSort}
 use Rattle.sap_terms.specs.declared.var.Var.{Var}
-use Rattle.sap_rewrite.specs.Laws.{EachHasForm, FormsDecide}
+use Rattle.sap_rewrite.specs.Laws.{FormsDecide}
 use Rattle.sap_rule.specs.declared.rule.Rule.{Rule}
 use Rattle.sap_process.specs.Heads.{facts_terms}
 use Rattle.sap_lines.specs.Lines.{EvaluateWithin}
@@ -112,18 +112,6 @@ two_forms_of e name t u (f ∷ g ∷ fs) h = absurd h.1
 pub no_acts : (e : Equations) (acts : List Fact) → AreFormsOfFacts e [] acts → acts ≡ []
 no_acts e [] h = refl
 no_acts e (f ∷ fs) h = absurd h
-
--- each list of facts has normal forms
-pub args_forms : (each : EachHasForm) (e : Equations) (ts : List Tree) → (us : List Tree) × AllZip (IsNormalForm e) ts us
-args_forms each e [] = ([], tt)
-args_forms each e (t ∷ ts) = let a = each e t in let b = args_forms each e ts in (a.0 ∷ b.0, (a.1, b.1))
-
-pub fact_forms : (each : EachHasForm) (e : Equations) (fs : List Fact) → (hs : List Fact) × AreFormsOfFacts e fs hs
-fact_forms each e [] = ([], tt)
-fact_forms each e (f ∷ fs) =
-    let a = args_forms each e f.args in
-    let b = fact_forms each e fs in
-    (record { name = f.name; persistent = f.persistent; args = a.0 } ∷ b.0, (record { name = refl; persistent = refl; args = a.1 }, b.1))
 
 -- a term of a rule is evaluated
 among : {P : Tree → Type 0} (σ : Choice) (t : Tree) (ts : List Tree) → Member t ts → SomeSubtermWithin P (trees_of (instance σ t ∷ [])) → SomeSubtermWithin P (instances σ (trees_of ts))

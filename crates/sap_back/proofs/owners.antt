@@ -5,4 +5,3 @@ pub mod Takings
 pub mod Inputs
 pub mod Owner
 pub mod Standing
-pub mod Piles

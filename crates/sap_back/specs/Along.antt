@@ -1,26 +1,19 @@
 -- What holds of both sides between two lines of rules.
-use Rattle.std.specs.Prelude.{◌≡◌, ◌≤◌, ◌+◌, ℕ, List, [], ◌∷◌, ◌++◌, Option, Some, None, length, slice_get, Contains}
+use Rattle.std.specs.Prelude.{◌≡◌, ◌≤◌, ◌+◌, ℕ, List, [], ◌∷◌, Option, Some, None, length, slice_get, Contains}
 use Rattle.sap_terms.specs.Signature.{Sig}
 use Rattle.sap_terms.specs.Trace.{Trace}
 use Rattle.sap_terms.specs.Tree.{Tree}
-use Rattle.sap_terms.specs.declared.fact.Fact.{Fact}
-use Rattle.sap_formula.specs.Hide.{hide}
 use Rattle.sap_process.specs.Configuration.{Config, initial}
 use Rattle.sap_process.specs.Proc.{Proc}
-use Rattle.sap_restrict.specs.Standard.{IsAdmitted}
 use Rattle.sap_rule.specs.RuleSteps.{RuleState, empty_state}
 use Rattle.sap_runs.specs.Limits.{IsSmall}
 use Rattle.sap_runs.specs.declared.process_step.PStep.{PStep}
-use Rattle.sap_runs.specs.declared.rule_step.RStep.{RStep}
 use Rattle.sap_lines.specs.Lines.{EvaluateWithin}
 use Rattle.sap_lines.specs.Runs.{IsLegalProcessRun}
-use Rattle.sap_steps.specs.Lines.{IsLine}
 use Rattle.sap_steps.specs.Marks.{marks}
-use Rattle.sap_translate.specs.Templates.{rules_of}
 use Rattle.sap_translate.specs.relation.Agents.{Agent, unborn, running, copying, awaiting, received}
 use Rattle.sap_translate.specs.relation.Answers.{term_under}
 use Rattle.sap_translate.specs.relation.Follows.{Together, Waits}
-use Rattle.sap_back.specs.Written.{HasThreads, IsWritten, WritesPending}
 
 -- what a sender sends that waits was evaluated within the limit
 abbrev pub SentWithin : Sig → (Tree → Type 0) → Agent → Type 0
@@ -52,38 +45,6 @@ pub record IsAlong (g : Sig) (W : Tree → Type 0) (start : Proc) (agents : List
   -- there are no more lines than of the rules, the one for what is pending included
   pub short : length lines + count_pending pending ≤ length full
 
--- Where these lines go along with the state, the line of rules is followed: by the lines of the process that are written for it,
--- which go along with the state and the full trace behind.
-pub record IsFollowedBy (g : Sig) (W : Tree → Type 0) (start : Proc) (agents : List (Option Agent)) (pending : Option Tree) (lines : List PStep) (c : Config) (es : List Tree) (s : RuleState) (full : Trace) (threads : ℕ → ℕ) (step : RStep) (z : RuleState) (acts : List Fact) : Type 0 where
-  pub more : List PStep
-  pub next : List (Option Agent)
-  pub later : Option Tree
-  pub written : IsWritten g agents pending c es s threads step more next later
-  pub config : Config
-  pub entries : List Tree
-  pub trace : Trace
-  pub is : IsAlong g W start next later (lines ++ more) config entries trace z (full ++ acts ∷ [])
-
 -- before the first line of rules, none of the process go along
 abbrev pub BeginsAlong : Sig → Proc → Type 0
 BeginsAlong g start = IsAlong g IsSmall start (Some (unborn start) ∷ []) None [] (initial start) [] [] empty_state []
-
--- wherever lines go along, each line of rules that is possible within the limit, and behind which the full trace counts, is followed
-abbrev pub LinesAreFollowed : Sig → Proc → Type 0
-LinesAreFollowed g start =
-    (agents : List (Option Agent)) (pending : Option Tree) (lines : List PStep) (c : Config) (es : List Tree) (tr : Trace) (s z : RuleState) (full : Trace) (threads : ℕ → ℕ) (step : RStep) (acts : List Fact)
-    → IsAlong g IsSmall start agents pending lines c es tr s full → HasThreads agents s threads → IsLine g (rules_of start) IsSmall s step acts z → IsAdmitted g (full ++ acts ∷ [])
-    → IsFollowedBy g IsSmall start agents pending lines c es s full threads step z acts
-
--- Behind the last line what is pending is written: then the lines are legal, show what is seen of the full trace, and have its marks.
-abbrev pub EndsOpposite : Sig → Proc → Type 0
-EndsOpposite g start =
-    (agents : List (Option Agent)) (pending : Option Tree) (lines : List PStep) (c : Config) (es : List Tree) (tr : Trace) (s : RuleState) (full : Trace)
-    → IsAlong g IsSmall start agents pending lines c es tr s full
-    → (first : List PStep) × WritesPending es pending first × IsLegalProcessRun g IsSmall start (lines ++ first) c es (hide full) (marks full)
-
--- wherever lines go along, there is a table of the threads
-abbrev pub ThreadsAreThere : Sig → Proc → Type 0
-ThreadsAreThere g start =
-    (agents : List (Option Agent)) (pending : Option Tree) (lines : List PStep) (c : Config) (es : List Tree) (tr : Trace) (s : RuleState) (full : Trace)
-    → IsAlong g IsSmall start agents pending lines c es tr s full → (threads : ℕ → ℕ) × HasThreads agents s threads

@@ -1,3 +1,7 @@
 pub mod Opposite
-pub mod Written
+pub mod Converted
+pub mod Tables
 pub mod Along
+pub mod Followed
+pub mod Answers
+pub mod code

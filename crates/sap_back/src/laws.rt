@@ -1,36 +1,44 @@
 //! The law of runs of rules and of the process, as the contract of a function that only calls the laws below.
-ghost use Rattle.std.specs.Prelude.{◌<◌, ◌^◌};
-ghost use Rattle.sap_back.specs.Along.{BeginsAlong, EndsOpposite, LinesAreFollowed, ThreadsAreThere};
+ghost use Rattle.std.specs.Prelude.{All, List, Some, ◌<◌, ◌^◌, ◌≡◌};
+ghost use Rattle.sap_back.specs.Along.{BeginsAlong};
+ghost use Rattle.sap_back.specs.Followed.{BeginsTabled, EndsTabled, LinesAreFollowed};
 ghost use Rattle.sap_back.specs.Opposite.{HasOpposites};
 ghost use Rattle.sap_locks.specs.Annotation.{IsAnnotation};
 ghost use Rattle.sap_process.specs.Proc.{Proc, node_count};
 ghost use Rattle.sap_process.specs.Ready.{IsReady};
-ghost use Rattle.sap_terms.specs.Signature.{HoldsBuiltins, Sig};
+ghost use Rattle.sap_read.specs.Files.{FileContent, IsRunnable};
+ghost use Rattle.sap_rule.specs.WellMade.{IsWellMade};
+ghost use Rattle.sap_runs.specs.declared.rule_step.RStep.{RStep};
+ghost use Rattle.sap_terms.specs.Equations.{pair_name};
+ghost use Rattle.sap_terms.specs.Signature.{HoldsBuiltins, Sig, arity_of};
+ghost use Rattle.sap_back.specs.Answers.{HaveOneAnswer};
+ghost use Rattle.sap_translate.specs.Templates.{rules_of};
+ghost use Rattle.sap_back.specs.code.Replayed.{ShowOneReserved};
 
 use sap_locks::annotations_are_ready;
 use sap_restrict::restrictions_say_sentences;
 use sap_rewrite::{each_term_has_a_normal_form, normal_forms_are_unique, normal_forms_decide};
-use sap_steps::lines_are_steps;
+use sap_rule::runs_reach_messages;
+use sap_steps::{lines_are_steps, lines_have_one_answer, lines_have_one_outcome};
 use sap_terms::leaves_are_normal;
 use sap_translate::{
-    rule_steps_are_followed, rules_are_found_by_name, rules_leave_open, rules_show_the_process,
-    sound_processes_are_shown, terms_stand_under_choices,
+    rule_steps_are_followed, rules_are_found_by_name, rules_are_well_made, rules_leave_open,
+    rules_show_the_process, sound_processes_are_shown, terms_stand_under_choices,
 };
 
 /// A law: before the first line of rules no line of the process goes along, and from there on each line of the rules that is
 /// possible within the limit on terms, and behind which the full trace counts, is followed, where the process is the annotation of
-/// one that is ready: by the lines of the process that `IsWritten` tells from it. A K event is left pending until an input takes
-/// it, or another, an event or the end has it written; at the end it is. The threads may be told by any table that has for each
-/// live fact of control a thread that stands for it; there is one.
+/// one that is ready: by the lines of the process that `IsWritten` tells from it and from tables, which say what the facts and the
+/// entries of the rules are in the process. There are tables before the first line, and `IsWritten` tells those behind each. A K
+/// event is left pending until an input takes it, or another, an event or the end has it written; at the end it is.
 pub fn lines_are_followed()
     ensures begins { (g : Sig) (p q : Proc) → HoldsBuiltins g → IsReady g p → node_count p < 2 ^ 64 → IsAnnotation p q
         → BeginsAlong g q }
+    ensures tabled { (p : Proc) → BeginsTabled p }
     ensures lines { (g : Sig) (p q : Proc) → HoldsBuiltins g → IsReady g p → node_count p < 2 ^ 64 → IsAnnotation p q
         → LinesAreFollowed g q }
-    ensures threads { (g : Sig) (p q : Proc) → HoldsBuiltins g → IsReady g p → node_count p < 2 ^ 64 → IsAnnotation p q
-        → ThreadsAreThere g q }
     ensures ends { (g : Sig) (p q : Proc) → HoldsBuiltins g → IsReady g p → node_count p < 2 ^ 64 → IsAnnotation p q
-        → EndsOpposite g q }
+        → EndsTabled g q }
 {
     rule_steps_are_followed();
     rules_show_the_process();
@@ -45,6 +53,17 @@ pub fn lines_are_followed()
     normal_forms_are_unique();
     normal_forms_decide();
     leaves_are_normal();
+}
+
+// A law: the rules of a file's process can be run, and of what a line of them shows one fact has a reserved name, or none.
+pub(crate) fn files_are_replayed()
+    ensures made { (f : FileContent) → IsRunnable f → All (IsWellMade f.signature) (rules_of f.process) }
+    ensures shown { (f : FileContent) → IsRunnable f → ShowOneReserved f.signature (rules_of f.process) }
+    ensures small { (f : FileContent) → (r : IsRunnable f) → node_count r.process < 2 ^ 64 }
+{
+    rules_are_well_made();
+    rules_show_the_process();
+    rules_are_found_by_name();
 }
 
 /// A law: each run of the rules of a process that is legal within the limit on terms, and whose full trace counts, has lines of the
@@ -67,4 +86,19 @@ pub fn legal_runs_have_runs_opposite()
     normal_forms_are_unique();
     normal_forms_decide();
     leaves_are_normal();
+}
+
+/// A law: of the lines of a run of the rules of a process one answer is right at most, where the process is the annotation of one that is
+/// ready, over a signature that holds pairs: they count, with one state and one full trace; or one of them is the first that is
+/// refused; or one of them is the first behind which a restriction is false, and that is one restriction.
+pub fn rule_runs_have_one_answer()
+    ensures { (g : Sig) (p q : Proc) (rule_lines : List RStep) → arity_of g pair_name ≡ Some 2 → HoldsBuiltins g → IsReady g p
+        → node_count p < 2 ^ 64 → IsAnnotation p q → HaveOneAnswer g q rule_lines }
+{
+    rules_are_well_made();
+    lines_are_steps();
+    lines_have_one_answer();
+    lines_have_one_outcome();
+    runs_reach_messages();
+    restrictions_say_sentences();
 }

@@ -1,6 +1,16 @@
 //! Runs of the rules of a process to runs of the process.
 #![tactic(auto)]
 
+mod back_at;
+mod cited;
+mod conversion;
+mod desk;
+mod kind;
+mod knowing;
 mod laws;
+mod replay;
+mod rules;
 
-pub use laws::{legal_runs_have_runs_opposite, lines_are_followed};
+pub use back_at::BackAt;
+pub use conversion::{rule_trace, to_process};
+pub use laws::{legal_runs_have_runs_opposite, lines_are_followed, rule_runs_have_one_answer};

@@ -1,11 +1,11 @@
 -- Each legal run of a process has lines opposite.
-use Rattle.std.proofs.Common.{◌≡◌, ℕ, zero, suc, ◌<◌, ◌≤◌, ◌^◌, List, [], ◌∷◌, ◌++◌, Option, Some, refl, sym, ap, ◌∙◌, subst, arith, slice_get, length, true, false, Bool, ◌*◌, ◌||◌}
-use Rattle.sap_forward.specs.Answered.{Draws, first_tables, first_state}
-use Rattle.sap_forward.proofs.Answer.{answer}
+use Rattle.std.proofs.Common.{◌≡◌, ℕ, zero, suc, ◌<◌, ◌^◌, List, [], ◌∷◌, ◌++◌, Some, refl, sym, ap, ◌∙◌, subst, arith, slice_get, true, false, Bool, ◌||◌}
+use Rattle.sap_forward.specs.Answered.{Draws, IsAnswered, StartsLinked, first_tables, first_state}
 use Rattle.sap_forward.proofs.Marked.{marks_join}
 use Rattle.sap_forward.proofs.Lines.{legal_join}
-use Rattle.sap_forward.specs.Opposite.{HasOpposites, init_line}
+use Rattle.sap_forward.specs.Opposite.{HasOpposites, IsOpposite, init_line}
 use Rattle.sap_steps.specs.Runs.{IsLegalRun}
+use Rattle.sap_lines.specs.Lines.{IsProcessLine}
 use Rattle.sap_lines.specs.Runs.{IsLegalProcessRun}
 use Rattle.sap_runs.specs.Limits.{IsSmall}
 use Rattle.sap_restrict.specs.Shown.{HasFact}
@@ -17,7 +17,7 @@ use Rattle.sap_terms.specs.declared.var.Sort.{Sort}
 use Rattle.sap_terms.specs.Equations.{equations}
 use Rattle.sap_terms.specs.Piles.{nothing}
 use Rattle.sap_terms.specs.Signature.{Sig, HoldsBuiltins}
-use Rattle.sap_terms.specs.Trace.{Trace}
+use Rattle.sap_terms.specs.Trace.{Trace, shown}
 use Rattle.sap_terms.specs.Tree.{Tree}
 use Rattle.sap_terms.specs.declared.fact.Fact.{Fact}
 use Rattle.sap_process.specs.Configuration.{Config, initial}
@@ -25,26 +25,24 @@ use Rattle.sap_process.specs.Proc.{Proc, node_count}
 use Rattle.sap_process.specs.Ready.{IsReady}
 use Rattle.sap_locks.specs.Annotation.{IsAnnotation}
 use Rattle.sap_place.specs.StateFacts.{state_fact}
-use Rattle.sap_rule.specs.RuleSteps.{RuleState, empty_state}
-use Rattle.sap_runs.specs.Marks.{Mark}
+use Rattle.sap_rule.specs.RuleSteps.{empty_state}
+use Rattle.sap_runs.specs.Inner.{InnerAction}
+use Rattle.sap_runs.specs.Marks.{Mark, marks_of}
 use Rattle.sap_runs.specs.declared.process_step.PStep.{PStep}
 use Rattle.sap_runs.specs.declared.process_step.PStep.TheVariants as line
-use Rattle.sap_runs.specs.declared.rule_step.RStep.{RStep}
 use Rattle.sap_steps.specs.Lines.{IsLine}
-use Rattle.sap_steps.specs.Marks.{marks}
 use Rattle.sap_translate.specs.Templates as rules
 use Rattle.sap_translate.specs.Templates.{rules_of}
 use Rattle.sap_translate.specs.relation.Agents.{Agent, running, env_of}
 use Rattle.sap_translate.specs.relation.Answers.{gets}
 use Rattle.sap_translate.specs.relation.Envs.{filled, no_env, some_term}
-use Rattle.sap_forward.specs.Least.{is_among, names_made, not_drawn, numbers_below, names_drawn}
+use Rattle.sap_forward.specs.Least.{is_among, names_made, not_drawn, names_drawn}
 use Rattle.sap_forward.specs.Linked.{Linked, EnvWithin}
-use Rattle.sap_forward.specs.Tables.{Tables}
+use Rattle.sap_forward.specs.code.Begun.{Converted}
 use Rattle.sap_forward.proofs.Evaluated.{rule_within}
 use Rattle.sap_forward.proofs.Given.{made_join, not_drawn_join, drawn_join, among_join, among_self}
 use Rattle.sap_forward.proofs.Premises.{Laws, RunLaws}
 use Rattle.sap_forward.proofs.Tabled.{length_join}
-use Rattle.sap_forward.proofs.Advance.{IsLimit}
 
 -- a message of a sort
 some_message : (laws : Laws) (g : Sig) (x : Sort) → IsMessage g x (some_term x)
@@ -75,27 +73,14 @@ init_is laws g W q = record {
   becomes = refl;
 }
 
--- the lines so far
-pub record Converted (g : Sig) (W : Tree → Type 0) (q : Proc) (drawn : List ℕ) (lines : List PStep) (c : Config) (es : List Tree) (tr : Trace) (ms : List Mark) : Type 0 where
-  pub rest : List RStep
-  pub agents : List (Option Agent)
-  pub tables : Tables
-  pub state : RuleState
-  pub full : Trace
-  pub legal : IsLegalRun g (rules_of q) W (init_line ∷ rest) state full
-  pub linked : Linked g W q drawn tables agents c es tr state full
-  pub marked : marks full ≡ ms
-  pub short : length rest ≤ 4 * length lines
-  pub names : not_drawn drawn (names_made (init_line ∷ rest)) ≡ not_drawn drawn (numbers_below tables.next)
-
-or_left : (a b : Bool) → a ≡ true → (a || b) ≡ true
+pub or_left : (a b : Bool) → a ≡ true → (a || b) ≡ true
 or_left a b e = rw e refl
 
-or_right : (a b : Bool) → b ≡ true → (a || b) ≡ true
+pub or_right : (a b : Bool) → b ≡ true → (a || b) ≡ true
 or_right true b e = refl
 or_right false b e = e
 
-draws_last : (drawn : List ℕ) (step : PStep) → ((n : ℕ) → is_among (names_drawn (step ∷ [])) n ≡ true → is_among drawn n ≡ true) → Draws drawn step
+pub draws_last : (drawn : List ℕ) (step : PStep) → ((n : ℕ) → is_among (names_drawn (step ∷ [])) n ≡ true → is_among drawn n ≡ true) → Draws drawn step
 draws_last drawn (line.New t n) h = h n (among_self n)
 draws_last drawn (line.Name n) h = h n (among_self n)
 draws_last drawn (line.Nil t) h = tt
@@ -156,42 +141,75 @@ module _ (laws : Laws) (g : Sig) (p q : Proc) (ready : IsReady g p) (small : nod
       first_env zero a e = let same : running [] no_env q ≡ a = cc in subst (λ x. EnvWithin g IsSmall (env_of x)) same none_within
       first_env (suc t) a e = absurd (cc)
 
-module _ (laws : Laws) (more : RunLaws) (g : Sig) (p q : Proc) (hold : HoldsBuiltins g) (ready : IsReady g p) (small : node_count p < 2 ^ 64) (annotated : IsAnnotation p q) (limit : IsLimit g IsSmall) (drawn : List ℕ) where
-  begun : Converted g IsSmall q drawn [] (initial q) [] [] []
-  begun = record {
+-- what one more line makes of the lines so far
+pub record Grows {g : Sig} {W : Tree → Type 0} {q : Proc} {drawn : List ℕ} {lines : List PStep} {step : PStep} {c d : Config} {es fs : List Tree} {tr tr2 : Trace} {ms ms2 : List Mark} (w : Converted g W q drawn lines c es tr ms) (a : IsAnswered g W q drawn w.agents c w.tables w.state w.full step d fs tr2 ms2) : Type 0 where
+  pub after : Converted g W q drawn (lines ++ step ∷ []) d fs tr2 (ms ++ ms2)
+  pub rest : after.rest ≡ w.rest ++ a.lines
+  pub agents : after.agents ≡ a.later
+  pub tables : after.tables ≡ a.behind
+
+pub grows : {g : Sig} {W : Tree → Type 0} {q : Proc} {drawn : List ℕ} {lines : List PStep} {step : PStep} {c d : Config} {es fs : List Tree} {tr tr2 : Trace} {ms ms2 : List Mark} (w : Converted g W q drawn lines c es tr ms) (a : IsAnswered g W q drawn w.agents c w.tables w.state w.full step d fs tr2 ms2) → Grows w a
+grows {g = g} {W = W} {q = q} {drawn = drawn} {lines = lines} {step = step} w a = record {
+  after = record {
+    rest = w.rest ++ a.lines;
+    agents = a.later;
+    tables = a.behind;
+    state = a.state;
+    full = w.full ++ a.more;
+    legal = legal_join W g (rules_of q) (init_line ∷ w.rest) a.lines w.state a.state w.full a.more w.legal a.legal;
+    linked = a.linked;
+    marked = marks_join w.full a.more ∙ (λ i. w.marked i ++ a.marked i);
+    short = let one = length_join w.rest a.lines in let two = length_join lines (step ∷ []) in let three = w.short in let four = a.short in omega arith;
+    names = ap (not_drawn drawn) (made_join (init_line ∷ w.rest) a.lines) ∙ not_drawn_join drawn (names_made (init_line ∷ w.rest)) (names_made a.lines) ∙ ap (λ x. x ++ not_drawn drawn (names_made a.lines)) w.names ∙ sym a.names;
+  };
+  rest = refl;
+  agents = refl;
+  tables = refl;
+}
+
+-- what is converted before the first line
+pub record Starts (g : Sig) (q : Proc) (drawn : List ℕ) (c : Config) (es : List Tree) : Type 0 where
+  pub so_far : Converted g IsSmall q drawn [] c es [] []
+  pub rest : so_far.rest ≡ []
+  pub agents : so_far.agents ≡ Some (running [] no_env q) ∷ []
+  pub tables : so_far.tables ≡ first_tables
+
+pub first_converted : (g : Sig) (q : Proc) → StartsLinked g q → (drawn : List ℕ) → Starts g q drawn (initial q) []
+first_converted g q starts drawn = record {
+  so_far = record {
     rest = [];
     agents = Some (running [] no_env q) ∷ [];
     tables = first_tables;
     state = first_state;
     full = (init_fact ∷ []) ∷ [];
-    legal = IsLegalRun.further init_line (init_fact ∷ []) IsLegalRun.starts (init_is laws g IsSmall q);
-    linked = first_linked laws g p q ready small annotated drawn;
+    legal = IsLegalRun.further init_line (init_fact ∷ []) IsLegalRun.starts starts.line;
+    linked = starts.linked drawn;
     marked = refl;
     short = omega arith;
     names = refl;
-  }
+  };
+  rest = refl;
+  agents = refl;
+  tables = refl;
+}
+
+module _ (laws : RunLaws) (g : Sig) (p q : Proc) (hold : HoldsBuiltins g) (ready : IsReady g p) (small : node_count p < 2 ^ 64) (annotated : IsAnnotation p q) (drawn : List ℕ) where
+  -- the line behind a legal run is answered
+  pub answered : {lines : List PStep} {c : Config} {es : List Tree} {tr : Trace} {ms : List Mark} (w : Converted g IsSmall q drawn lines c es tr ms) → IsLegalProcessRun g IsSmall q lines c es tr ms
+      → (step : PStep) (inner : List InnerAction) (label : List Fact) (d : Config) (fs : List Tree) → Draws drawn step → IsProcessLine g IsSmall c es step inner label d fs
+      → IsAnswered g IsSmall q drawn w.agents c w.tables w.state w.full step d fs (tr ++ shown label) (marks_of inner label)
+  answered {lines = lines} {c = c} {es = es} {tr = tr} {ms = ms} w run step inner label d fs draws is =
+      let can = (laws.runs g q lines c es tr ms run).1 in
+      let exact = laws.exactly g q lines c es tr ms hold (laws.ready g p q ready annotated) (laws.excludes g q lines c es tr ms run) in
+      laws.lines g p q hold ready small annotated drawn w.tables w.agents c d es fs tr w.state w.full step inner label w.linked can exact draws is
 
   pub converted : {lines : List PStep} {c : Config} {es : List Tree} {tr : Trace} {ms : List Mark} → IsLegalProcessRun g IsSmall q lines c es tr ms → ((n : ℕ) → is_among (names_drawn lines) n ≡ true → is_among drawn n ≡ true) → Converted g IsSmall q drawn lines c es tr ms
-  converted IsLegalProcessRun.starts h = begun
+  converted IsLegalProcessRun.starts h = (first_converted g q (laws.starts g p q ready small annotated) drawn).so_far
   converted (IsLegalProcessRun.further {lines = lines} {c = c} {d = d} {es = es} {fs = fs} {tr = tr} {marks = ms} step inner label run is) h =
       let joined : (n : ℕ) → is_among (names_drawn (lines ++ step ∷ [])) n ≡ (is_among (names_drawn lines) n || is_among (names_drawn (step ∷ [])) n) = λ n. ap (λ x. is_among x n) (drawn_join lines (step ∷ [])) ∙ among_join (names_drawn lines) (names_drawn (step ∷ [])) n in
       let w = converted run (λ n e. h n (joined n ∙ or_left (is_among (names_drawn lines) n) (is_among (names_drawn (step ∷ [])) n) e)) in
-      let can = (more.runs g q lines c es tr ms run).1 in
-      let exact = more.exactly g q lines c es tr ms hold (laws.ready g p q ready annotated) (more.excludes g q lines c es tr ms run) in
       let draws = draws_last drawn step (λ n e. h n (joined n ∙ or_right (is_among (names_drawn lines) n) (is_among (names_drawn (step ∷ [])) n) e)) in
-      let a = answer laws g IsSmall p q hold ready small annotated drawn w.agents c es tr w.state w.full w.tables w.linked limit can exact step inner label d fs draws is in
-      record {
-        rest = w.rest ++ a.lines;
-        agents = a.later;
-        tables = a.behind;
-        state = a.state;
-        full = w.full ++ a.more;
-        legal = legal_join IsSmall g (rules_of q) (init_line ∷ w.rest) a.lines w.state a.state w.full a.more w.legal a.legal;
-        linked = a.linked;
-        marked = marks_join w.full a.more ∙ (λ i. w.marked i ++ a.marked i);
-        short = let one = length_join w.rest a.lines in let two = length_join lines (step ∷ []) in let three = w.short in let four = a.short in omega arith;
-        names = ap (not_drawn drawn) (made_join (init_line ∷ w.rest) a.lines) ∙ not_drawn_join drawn (names_made (init_line ∷ w.rest)) (names_made a.lines) ∙ ap (λ x. x ++ not_drawn drawn (names_made a.lines)) w.names ∙ sym a.names;
-      }
+      (grows w (answered w run step inner label d fs draws is)).after
 
 pushed : {A : Type 0} (xs : List A) (x : A) → xs ++ x ∷ [] ≡ [] → ⊥
 pushed [] x e = absurd (cc)
@@ -206,39 +224,43 @@ none_there : (k : ℕ) (f : Fact) → HasFact [] k f → ⊥
 none_there zero f m = absurd (omega (arith, m.1))
 none_there (suc k) f m = absurd (omega (arith, m.1))
 
-pub have_opposites : (laws : Laws) (more : RunLaws) (g : Sig) (p q : Proc) → HoldsBuiltins g → IsReady g p → node_count p < 2 ^ 64 → IsAnnotation p q → IsLimit g IsSmall → HasOpposites g q
-have_opposites laws more g p q hold ready small annotated limit [] c es tr ms run =
-    let none = nothing_yet run refl in (
-      [],
-      record {
-        state = empty_state;
-        full = [];
-        legal = IsLegalRun.starts;
-        admitted = λ w. laws.quiet w g [] (λ k f m e. none_there k f m);
-        shows = sym none.1;
-        marked = sym none.2;
-        entries = sym none.0;
-        starts = refl;
-        short = omega arith;
-        least = (0, refl);
-      },
-    )
-have_opposites laws more g p q hold ready small annotated limit (step ∷ lines) c es tr ms run =
-    let all : List PStep = step ∷ lines in
-    let drawn = names_drawn all in
-    let w = converted laws more g p q hold ready small annotated limit drawn run (λ n e. e) in
-    let same = laws.shows_the_same g p q hold ready small annotated w.agents c tr w.state w.full w.linked.rest in (
-      init_line ∷ w.rest,
-      record {
-        state = w.state;
-        full = w.full;
-        legal = w.legal;
-        admitted = same.1;
-        shows = same.0;
-        marked = w.marked;
-        entries = w.linked.known;
-        starts = (w.rest, refl);
-        short = let s = w.short in omega arith;
-        least = (w.tables.next, w.names);
-      },
-    )
+-- no lines stand opposite to none
+pub none_opposite : (laws : RunLaws) (g : Sig) (q : Proc) → IsOpposite g q [] [] [] [] []
+none_opposite laws g q = record {
+  state = empty_state;
+  full = [];
+  legal = IsLegalRun.starts;
+  admitted = λ w. laws.quiet w g [] (λ k f m e. none_there k f m);
+  shows = refl;
+  marked = refl;
+  entries = refl;
+  starts = refl;
+  short = omega arith;
+  least = (0, refl);
+}
+
+-- what is converted behind the last line is opposite to all
+pub all_opposite : (laws : RunLaws) (g : Sig) (p q : Proc) → HoldsBuiltins g → IsReady g p → node_count p < 2 ^ 64 → IsAnnotation p q → (step : PStep) (lines : List PStep) (c : Config) (es : List Tree) (tr : Trace) (ms : List Mark)
+    (w : Converted g IsSmall q (names_drawn (step ∷ lines)) (step ∷ lines) c es tr ms) → IsOpposite g q (step ∷ lines) es tr ms (init_line ∷ w.rest)
+all_opposite laws g p q hold ready small annotated step lines c es tr ms w =
+    let same = laws.shows_the_same g p q hold ready small annotated w.agents c tr w.state w.full w.linked.rest in
+    record {
+      state = w.state;
+      full = w.full;
+      legal = w.legal;
+      admitted = same.1;
+      shows = same.0;
+      marked = w.marked;
+      entries = w.linked.known;
+      starts = (w.rest, refl);
+      short = let s = w.short in omega arith;
+      least = (w.tables.next, w.names);
+    }
+
+pub have_opposites : (laws : RunLaws) (g : Sig) (p q : Proc) → HoldsBuiltins g → IsReady g p → node_count p < 2 ^ 64 → IsAnnotation p q → HasOpposites g q
+have_opposites laws g p q hold ready small annotated [] c es tr ms run =
+    let none = nothing_yet run refl in
+    ([], subst (λ x. IsOpposite g q [] x tr ms []) (sym none.0) (subst (λ x. IsOpposite g q [] [] x ms []) (sym none.1) (subst (λ x. IsOpposite g q [] [] [] x []) (sym none.2) (none_opposite laws g q))))
+have_opposites laws g p q hold ready small annotated (step ∷ lines) c es tr ms run =
+    let w = converted laws g p q hold ready small annotated (names_drawn (step ∷ lines)) run (λ n e. e) in
+    (init_line ∷ w.rest, all_opposite laws g p q hold ready small annotated step lines c es tr ms w)

@@ -16,11 +16,11 @@ or_cases : (b c : Bool) → b ≡ false → c ≡ false → (b || c) ≡ false
 or_cases b c e h = rw (e, h) refl
 
 -- two numbers are the same or apart
-data Cases (m n : ℕ) : Type 0 where
+pub data Cases (m n : ℕ) : Type 0 where
   same : nat_eq m n ≡ true → m ≡ n → Cases m n
   apart : nat_eq m n ≡ false → (m ≡ n → ⊥) → Cases m n
 
-cases : (m n : ℕ) → Cases m n
+pub cases : (m n : ℕ) → Cases m n
 cases m n = by (nat_eq m n) refl where
   by : (b : Bool) → nat_eq m n ≡ b → Cases m n
   by true e = same e ((Decides-eqb m n).0 e)

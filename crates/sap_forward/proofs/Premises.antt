@@ -5,7 +5,7 @@ use Rattle.sap_terms.specs.Equations.{equations, app2, pair_name}
 use Rattle.sap_terms.specs.Laws.{LeavesAreNormal}
 use Rattle.sap_terms.specs.Modulo.{instance_facts}
 use Rattle.sap_terms.specs.Normal.{IsNormalForm}
-use Rattle.sap_terms.specs.Signature.{Sig}
+use Rattle.sap_terms.specs.Signature.{Sig, HoldsBuiltins}
 use Rattle.sap_terms.specs.Tree.{Tree}
 use Rattle.sap_terms.specs.Variables.{facts_vars, new_vars}
 use Rattle.sap_terms.specs.declared.binding.Binding.{Binding}
@@ -37,6 +37,7 @@ use Rattle.sap_translate.specs.relation.Answered.{WhereAtRest, Starts, ShowsTheS
 use Rattle.sap_translate.specs.relation.Answers.{term_under, widened}
 use Rattle.sap_translate.specs.relation.Envs.{Env, GoodEnv, chosen, filled, join, names}
 use Rattle.sap_translate.specs.relation.Followed.{WhereTogether, FollowsLearn, FollowsPublic, FollowsApply}
+use Rattle.sap_forward.specs.Answered.{StartsLinked, LinesAreAnswered}
 
 -- each is the contract of a law
 pub record Laws : Type 0 where
@@ -88,7 +89,6 @@ pub record Laws : Type 0 where
   pub facts : (g : Sig) (env : Env) (σ : Choice) (vs : List Var) (fs : List Fact) → GoodEnv g env → FactsWithin (names (widened env σ vs)) fs → instance_facts (filled (widened env σ vs)) fs ≡ instance_facts σ (instance_facts (chosen env) fs)
   -- of terms
   pub init : (g : Sig) → open_variables g init_rule ≡ []
-  pub quiet : QuietLaw
   pub pairs : (g : Sig) (t u m n : Tree) → IsNormalForm (equations g) t m → IsNormalForm (equations g) u n → IsNormalForm (equations g) (app2 pair_name t u) (app2 pair_name m n)
   pub kept : EqualityIsKept
   pub each_form : EachHasForm
@@ -97,8 +97,13 @@ pub record Laws : Type 0 where
   pub modulo : MatchingIsModulo
   pub leaves : LeavesAreNormal
 
--- those of written runs of processes
+-- those of written runs of processes, and what follows from the laws above for each line
 pub record RunLaws : Type 0 where
+  pub starts : (g : Sig) (p q : Proc) → IsReady g p → node_count p < 2 ^ 64 → IsAnnotation p q → StartsLinked g q
+  pub lines : (g : Sig) (p q : Proc) → HoldsBuiltins g → IsReady g p → node_count p < 2 ^ 64 → IsAnnotation p q → LinesAreAnswered g q
+  pub shows_the_same : WhereAtRest ShowsTheSame
+  pub ready : (g : Sig) (p q : Proc) → IsReady g p → IsAnnotation p q → IsReady g q
   pub runs : ProcessLinesAreRuns IsSmall
   pub exactly : RunsMatchExactly
   pub excludes : SmallProcessRunsAreLegal
+  pub quiet : QuietLaw

@@ -3,4 +3,8 @@ pub mod Tables
 pub mod Linked
 pub mod Written
 pub mod Opposite
+pub mod Counted
+pub mod Converted
+pub mod Answers
 pub mod Answered
+pub mod code

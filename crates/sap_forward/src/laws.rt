@@ -1,13 +1,17 @@
 //! Laws of runs of processes and of their rules, as contracts of functions that only call the laws below.
 ghost use Rattle.std.specs.Prelude.{◌<◌, ◌^◌};
 ghost use Rattle.sap_forward.specs.Answered.{LinesAreAnswered, StartsLinked};
+ghost use Rattle.sap_forward.specs.Answers.{HasOneFirst, HasOneTrace, HasSomeAnswer, LegalIsNotRefused};
 ghost use Rattle.sap_forward.specs.Opposite.{HasOpposites};
 ghost use Rattle.sap_locks.specs.Annotation.{IsAnnotation};
 ghost use Rattle.sap_process.specs.Proc.{Proc, node_count};
 ghost use Rattle.sap_process.specs.Ready.{IsReady};
 ghost use Rattle.sap_terms.specs.Signature.{HoldsBuiltins, Sig};
 
-use sap_lines::{limit_excludes, lines_are_steps, runs_match_exactly};
+use sap_lines::{
+    limit_excludes, lines_are_steps, lines_have_one_answer, lines_have_some_answer,
+    runs_match_exactly,
+};
 use sap_locks::annotations_are_ready;
 use sap_restrict::restrictions_say_sentences;
 use sap_rewrite::{
@@ -36,7 +40,6 @@ pub fn lines_are_answered()
     rules_leave_open();
     terms_stand_under_choices();
     annotations_are_ready();
-    restrictions_say_sentences();
     each_term_has_a_normal_form();
     normal_forms_are_unique();
     normal_forms_decide();
@@ -54,21 +57,28 @@ pub fn legal_runs_have_lines_opposite()
     ensures { (g : Sig) (p q : Proc) → HoldsBuiltins g → IsReady g p → node_count p < 2 ^ 64 → IsAnnotation p q
         → HasOpposites g q }
 {
+    lines_are_answered();
     process_steps_are_answered();
-    rule_steps_are_followed();
-    rules_show_the_process();
-    rules_are_found_by_name();
-    rules_leave_open();
-    terms_stand_under_choices();
     annotations_are_ready();
     lines_are_steps();
     runs_match_exactly();
     limit_excludes();
     restrictions_say_sentences();
-    each_term_has_a_normal_form();
-    normal_forms_are_unique();
-    normal_forms_decide();
-    equality_is_kept();
-    matching_is_modulo();
-    leaves_are_normal();
+}
+
+/// A law: each written run of a process is legal within the limit on terms, and then it has one trace, or one line of it is the
+/// first that is refused, for one cause that isn't want of memory, and not both; where the process is the annotation of one that
+/// is ready.
+pub fn process_runs_have_one_answer()
+    ensures some { (g : Sig) (p q : Proc) → HoldsBuiltins g → IsReady g p → IsAnnotation p q → HasSomeAnswer g q }
+    ensures apart { (g : Sig) (p q : Proc) → HoldsBuiltins g → IsReady g p → IsAnnotation p q
+        → LegalIsNotRefused g q }
+    ensures trace { (g : Sig) (p q : Proc) → HoldsBuiltins g → IsReady g p → IsAnnotation p q → HasOneTrace g q }
+    ensures first { (g : Sig) (p q : Proc) → HoldsBuiltins g → IsReady g p → IsAnnotation p q → HasOneFirst g q }
+{
+    annotations_are_ready();
+    limit_excludes();
+    lines_have_one_answer();
+    lines_have_some_answer();
+    runs_match_exactly();
 }

@@ -1,6 +1,25 @@
 //! Runs of processes to runs of their rules.
 #![tactic(auto)]
 
+mod adversary;
+mod at;
+mod conversion;
+mod desk;
+mod embedding;
+mod exchange;
+mod finding;
 mod laws;
+mod meeting;
+mod moving;
+mod names;
+mod naming;
+mod one_rule;
+mod rule_line;
+mod seats;
+mod splitting;
+mod trace;
 
-pub use laws::{legal_runs_have_lines_opposite, lines_are_answered};
+pub use at::At;
+pub use conversion::to_rules;
+pub use laws::{legal_runs_have_lines_opposite, lines_are_answered, process_runs_have_one_answer};
+pub use trace::process_trace;

@@ -29,7 +29,12 @@ fn main(rt: HostRuntime) -> ExitCode {
     let Ok(words) = words(&rt) else {
         return ExitCode::from(6);
     };
-    let mut shelf = FileShelf { rt: &rt, count: 0 };
+    let mut shelf = FileShelf {
+        rt: &rt,
+        count: 0,
+        file: None,
+        name: None,
+    };
     let mut out = StreamSink {
         to: rt.stdout(),
         count: 0,

@@ -116,6 +116,13 @@ module _ (g : Sig) (r : Rule) (b : List Binding) (cited : List Fact) (sorts : Ha
   pub left_same : instance_facts σ r.left ≡ instance_facts τ r.left
   left_same = facts_same σ τ r.left (λ t k. instance_same σ τ t (λ v m. same_on v (Contains-append_left (facts_vars r.left) (facts_vars r.acts ++ facts_vars r.right) v (k v m))))
 
+  -- so are what it shows and its right side
+  pub acts_same : instance_facts σ r.acts ≡ instance_facts τ r.acts
+  acts_same = facts_same σ τ r.acts (λ t k. instance_same σ τ t (λ v m. same_on v (Contains-append_right (facts_vars r.left) (facts_vars r.acts ++ facts_vars r.right) v (Contains-append_left (facts_vars r.acts) (facts_vars r.right) v (k v m)))))
+
+  pub right_same : instance_facts σ r.right ≡ instance_facts τ r.right
+  right_same = facts_same σ τ r.right (λ t k. instance_same σ τ t (λ v m. same_on v (Contains-append_right (facts_vars r.left) (facts_vars r.acts ++ facts_vars r.right) v (Contains-append_right (facts_vars r.acts) (facts_vars r.right) v (k v m)))))
+
   -- and all its terms are
   pub terms_same : instances σ (trees_of (rule_terms r)) ≡ instances τ (trees_of (rule_terms r))
   terms_same =

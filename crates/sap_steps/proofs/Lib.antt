@@ -12,6 +12,7 @@ pub mod Tied
 pub mod Used
 pub mod Determined
 pub mod OneAnswer
+pub mod OneOutcome
 pub mod Shown
 pub mod Piled
 pub mod Joined

@@ -37,10 +37,10 @@ use Rattle.sap_steps.proofs.Named.{Contains-get, Contains-rule_named}
 use Rattle.std.proofs.lemmas.List.Elements.{All-contains}
 
 -- facts with the same numbers are the same, and so is what is left
-one_live : (facts : Pile) (k : ℕ) (f h : Fact) → slice_get facts k ≡ Some (Some f) → slice_get facts k ≡ Some (Some h) → h ≡ f
+pub one_live : (facts : Pile) (k : ℕ) (f h : Fact) → slice_get facts k ≡ Some (Some f) → slice_get facts k ≡ Some (Some h) → h ≡ f
 one_live facts k f h a b = cc
 
-takes_same : {facts rest left : Pile} {ks : List ℕ} {fs hs : List Fact} → Takes facts ks fs rest → Takes facts ks hs left → hs ≡ fs
+pub takes_same : {facts rest left : Pile} {ks : List ℕ} {fs hs : List Fact} → Takes facts ks fs rest → Takes facts ks hs left → hs ≡ fs
 takes_same nothing nothing = refl
 takes_same {facts = facts} {left = left} (one {k = k} {ks = ks} {f = f} {fs = fs} a t) (one {f = h} {fs = hs} b u) =
     let e : h ≡ f = one_live facts k f h a b in
@@ -85,7 +85,7 @@ none_unknown xs (k ∷ ks) (t ∷ ts) h =
     let tail : map (slice_get xs) ks ≡ map Some ts = cc in
     rw (known_test (length xs) k (slice_get_within xs k t head)) (none_unknown xs ks ts tail)
 
-same_terms : (ts us : List Tree) → map Some ts ≡ map Some us → ts ≡ us
+pub same_terms : (ts us : List Tree) → map Some ts ≡ map Some us → ts ≡ us
 same_terms [] [] h = refl
 same_terms [] (u ∷ us) h = cc
 same_terms (t ∷ ts) [] h = cc

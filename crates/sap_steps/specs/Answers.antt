@@ -1,7 +1,8 @@
--- A line has one answer: it is possible, or refused.
+-- A line has one answer: it is possible, in one way, or refused.
 use Rattle.std.specs.Prelude.{◌≡◌, List, All}
 use Rattle.sap_terms.specs.Signature.{Sig, HoldsBuiltins}
 use Rattle.sap_terms.specs.Trace.{Trace}
+use Rattle.sap_terms.specs.Tree.{Tree}
 use Rattle.sap_terms.specs.declared.fact.Fact.{Fact}
 use Rattle.sap_rule.specs.Messages.{HoldsMessages}
 use Rattle.sap_rule.specs.RuleSteps.{RuleState, RuleRun}
@@ -22,3 +23,13 @@ LinesHaveOneAnswer =
 abbrev pub ReachedHaveOneAnswer : Type 0
 ReachedHaveOneAnswer =
     (g : Sig) (rules : List Rule) (s z : RuleState) (full : Trace) (acts : List Fact) (line : RStep) (e : RFault) → HoldsBuiltins g → All (IsWellMade g) rules → RuleRun g rules s full → IsLine g rules IsSmall s line acts z → IsLineFault g rules s line e → e ≡ Mem
+
+-- in a state that holds messages a line is possible in one way
+abbrev pub LinesHaveOneOutcome : (Tree → Type 0) → Type 0
+LinesHaveOneOutcome W =
+    (g : Sig) (rules : List Rule) (s z y : RuleState) (acts others : List Fact) (line : RStep) → All (IsWellMade g) rules → HoldsMessages g s → IsLine g rules W s line acts z → IsLine g rules W s line others y → (acts ≡ others) × (z ≡ y)
+
+-- so in each state that a run of well-made rules reaches
+abbrev pub ReachedHaveOneOutcome : (Tree → Type 0) → Type 0
+ReachedHaveOneOutcome W =
+    (g : Sig) (rules : List Rule) (s z y : RuleState) (full : Trace) (acts others : List Fact) (line : RStep) → HoldsBuiltins g → All (IsWellMade g) rules → RuleRun g rules s full → IsLine g rules W s line acts z → IsLine g rules W s line others y → (acts ≡ others) × (z ≡ y)

@@ -1,6 +1,6 @@
 // Laws of written runs of rules and worked examples, as contracts of functions that do nothing.
 ghost use Rattle.std.specs.Prelude.{◌≡◌};
-ghost use Rattle.sap_steps.specs.Answers.{LinesHaveOneAnswer, ReachedHaveOneAnswer};
+ghost use Rattle.sap_steps.specs.Answers.{LinesHaveOneAnswer, LinesHaveOneOutcome, ReachedHaveOneAnswer, ReachedHaveOneOutcome};
 ghost use Rattle.sap_steps.specs.Inner.{inner_actions, shown_by_hand, inner_by_hand};
 ghost use Rattle.sap_steps.specs.Lines.{AnySize, IsSmall};
 ghost use Rattle.sap_steps.specs.Marks.{marks, marks_by_hand};
@@ -33,6 +33,19 @@ pub fn limit_excludes()
 pub fn lines_have_one_answer()
     ensures held { LinesHaveOneAnswer }
     ensures reached { ReachedHaveOneAnswer }
+{
+    matching_around_is_modulo();
+    normal_forms_are_unique();
+    taken_facts_are_messages();
+    runs_reach_messages();
+}
+
+/// A line is possible in one way: it shows the same and leads to the same.
+pub fn lines_have_one_outcome()
+    ensures held { LinesHaveOneOutcome AnySize }
+    ensures small { LinesHaveOneOutcome IsSmall }
+    ensures reached { ReachedHaveOneOutcome AnySize }
+    ensures small_reached { ReachedHaveOneOutcome IsSmall }
 {
     matching_around_is_modulo();
     normal_forms_are_unique();

@@ -15,7 +15,7 @@ mod using;
 
 pub use fault::RFault;
 pub use laws::{
-    inner_actions_by_hand, limit_excludes, lines_are_steps, lines_have_one_answer, marks_by_hand,
-    steps_have_lines,
+    inner_actions_by_hand, limit_excludes, lines_are_steps, lines_have_one_answer,
+    lines_have_one_outcome, marks_by_hand, steps_have_lines,
 };
 pub use state::RuleState;

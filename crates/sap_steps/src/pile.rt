@@ -70,6 +70,13 @@ fn clear(slots: &mut Vec<Option<SharedFact>>, k: u64)
 }
 
 impl SharedPile {
+    // The number that the next fact gets.
+    pub(crate) fn count(&self) -> u64
+        ensures { result ≡ length self.now.slots }
+    {
+        self.slots.len() as u64
+    }
+
     // The pile without facts, of terms over a signature.
     pub(crate) fn new(alloc: Global, sig: &Signature) -> Result<SharedPile, Mem>
         ensures sig { IfOk result (λ p. p.sig ≡ sig.now) }

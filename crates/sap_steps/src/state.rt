@@ -1,4 +1,4 @@
-ghost use Rattle.std.specs.Prelude.{◌≡◌, ◌<◌, IfOk, OnErr, IfErr, All};
+ghost use Rattle.std.specs.Prelude.{◌≡◌, ◌<◌, IfOk, OnErr, IfErr, All, length};
 ghost use Rattle.sap_terms.specs.Message.{AreMessageFacts};
 ghost use Rattle.sap_rule.specs.RuleSteps.{empty_state};
 ghost use Rattle.sap_rule.specs.WellMade.{IsWellMade};
@@ -87,6 +87,13 @@ impl RuleState {
             knowledge,
             made: IndexSet::new(alloc),
         })
+    }
+
+    /// The number that the next fact gets.
+    pub fn fact_count(&self) -> u64
+        ensures { result ≡ length self.now.at.facts }
+    {
+        self.facts.count()
     }
 
     /// Takes one step, and gives what it shows, which are facts of messages. Refused, the state is as it was; the fault is

@@ -21,8 +21,8 @@ impl FromWord for String {
     }
 }
 
-// A sink with these failures, parted by commas.
-fn sink(page: &mut Page, failures: &str) -> MemSink {
+/// A sink with these failures, parted by commas.
+pub fn sink(page: &mut Page, failures: &str) -> MemSink {
     MemSink {
         bytes: Vec::new(page.alloc),
         fail_on: list(page, ',', failures).into_vec(),
@@ -42,30 +42,40 @@ fn add_file(
     Some(())
 }
 
-// The file a.spthy alone.
-fn files_with(page: &mut Page, bytes: &[u8]) -> BTreeMap<String, Vec<u8>> {
-    let mut files = BTreeMap::new(page.alloc);
-    let name = String::from_str(page.alloc, "a.spthy").ok();
-    if add_file(&mut files, name, bytes.to_vec(page.alloc).ok()).is_none() {
+// Puts a file of this name to the others.
+fn put_file(page: &mut Page, files: &mut BTreeMap<String, Vec<u8>>, name: &str, bytes: &[u8]) {
+    let name = String::from_str(page.alloc, name).ok();
+    if add_file(files, name, bytes.to_vec(page.alloc).ok()).is_none() {
         page.fail();
     }
+}
+
+// The files a.spthy and b.run.
+fn files_with(page: &mut Page, file: &[u8], run: &[u8]) -> BTreeMap<String, Vec<u8>> {
+    let mut files = BTreeMap::new(page.alloc);
+    put_file(page, &mut files, "a.spthy", file);
+    put_file(page, &mut files, "b.run", run);
     files
 }
 
-// A shelf with one file, whose call of this number fails; none does where the number is 0.
-fn shelf(page: &mut Page, bytes: &[u8], failing: u64) -> MemShelf {
+// A shelf with these two files, whose call of this number fails, none where that is 0, and which gives so many bytes of a run at
+// once.
+fn shelf(page: &mut Page, file: &[u8], run: &[u8], failing: u64, piece: u64) -> MemShelf {
     let mut fail_on = Vec::new(page.alloc);
     page.push(&mut fail_on, Some(failing));
     MemShelf {
-        files: files_with(page, bytes),
+        files: files_with(page, file, run),
         fail_on,
         calls: 0,
         count: 0,
+        rest: Vec::new(page.alloc),
+        name: None,
+        piece,
     }
 }
 
-// The status, and what out and err took.
-fn show_end(page: &mut Page, status: u8, out: &MemSink, err: &MemSink) {
+/// The status, and what out and err took.
+pub fn show_end(page: &mut Page, status: u8, out: &MemSink, err: &MemSink) {
     page.numbered("", status as u64);
     if !out.bytes.is_empty() {
         page.word(" out ");
@@ -184,16 +194,31 @@ fn call(
 pub fn calls_row(page: &mut Page, row: &str) {
     let words = list(page, ' ', part(row, 0)).into_vec();
     let failing = number(page, part(row, 2));
-    let mut shelf = shelf(page, written(page.alloc, part(row, 1)).as_bytes(), failing);
+    let file = written(page.alloc, part(row, 1));
+    let mut shelf = shelf(page, file.as_bytes(), b"", failing, 1);
     let mut out = sink(page, part(row, 3));
     let mut err = sink(page, part(row, 4));
+    call(page, "counts", &words, &mut shelf, &mut out, &mut err);
+}
+
+/// The words; the bytes of a.spthy and of b.run; the number of the call at which the shelf fails, or 0; how many bytes of a run it
+/// gives at once; the failures of out and those of err; and what `calls_row` shows.
+pub fn run_calls_row(page: &mut Page, row: &str) {
+    let words = list(page, ' ', part(row, 0)).into_vec();
+    let file = written(page.alloc, part(row, 1));
+    let run = written(page.alloc, part(row, 2));
+    let failing = number(page, part(row, 3));
+    let piece = number(page, part(row, 4));
+    let mut shelf = shelf(page, file.as_bytes(), run.as_bytes(), failing, piece);
+    let mut out = sink(page, part(row, 5));
+    let mut err = sink(page, part(row, 6));
     call(page, "counts", &words, &mut shelf, &mut out, &mut err);
 }
 
 // Calls the program on the file a.spthy of these bytes alone, and shows of it what the kind asks for.
 fn call_on(page: &mut Page, kind: &str, words: &str, bytes: &[u8]) {
     let words = list(page, ' ', words).into_vec();
-    let mut shelf = shelf(page, bytes, 0);
+    let mut shelf = shelf(page, bytes, b"", 0, 1);
     let mut out = sink(page, "");
     let mut err = sink(page, "");
     call(page, kind, &words, &mut shelf, &mut out, &mut err);

@@ -7,8 +7,10 @@ use sap_facts::Pile;
 use sap_rule::Theory;
 use sap_steps::RuleState;
 use sap_terms::{Items, Name, Signature, Term};
+use sap_tool::MemShelf;
+use std::collections::BTreeMap;
 
-/// The symbols and terms of a row, and facts, a theory, knowledge, a run of rules and one of a process.
+/// The symbols and terms of a row, and facts, a theory, knowledge, a run of rules and one of a process, and files by name.
 #[derive(Drop)]
 pub struct Desk {
     pub signature: Signature,
@@ -18,6 +20,7 @@ pub struct Desk {
     pub knowledge: Option<Box<Knowledge>>,
     pub run: Option<Box<RuleState>>,
     pub config: Option<Box<Config>>,
+    pub shelf: MemShelf,
 }
 
 fn theory_of(page: &mut Page, name: Name, signature: Signature) -> Theory {
@@ -36,7 +39,20 @@ pub fn empty_theory(page: &mut Page, symbols: &str) -> Option<Theory> {
     Some(theory_of(page, name, signature))
 }
 
-fn desk_of(page: &mut Page, signature: Signature, theory: Theory) -> Desk {
+// A shelf with these files.
+fn shelf(page: &mut Page, files: BTreeMap<String, Vec<u8>>) -> MemShelf {
+    MemShelf {
+        files,
+        fail_on: Vec::new(page.alloc),
+        calls: 0,
+        count: 0,
+        rest: Vec::new(page.alloc),
+        name: None,
+        piece: 4096,
+    }
+}
+
+fn desk_of(page: &mut Page, signature: Signature, theory: Theory, shelf: MemShelf) -> Desk {
     Desk {
         signature,
         terms: Vec::new(page.alloc),
@@ -45,6 +61,7 @@ fn desk_of(page: &mut Page, signature: Signature, theory: Theory) -> Desk {
         knowledge: None,
         run: None,
         config: None,
+        shelf,
     }
 }
 
@@ -59,9 +76,10 @@ fn put_terms(page: &mut Page, sig: &Signature, terms: &mut Vec<Term>, texts: &st
 }
 
 /// Before the first row.
-pub fn empty_desk(page: &mut Page) -> Option<Box<Desk>> {
+pub fn empty_desk(page: &mut Page, files: BTreeMap<String, Vec<u8>>) -> Option<Box<Desk>> {
+    let shelf = shelf(page, files);
     let (signature, theory) = signature(page, "").zip(empty_theory(page, ""))?;
-    let desk = Some(desk_of(page, signature, theory));
+    let desk = Some(desk_of(page, signature, theory, shelf));
     page.boxed(desk)
 }
 

@@ -19,11 +19,17 @@ fn name_of(which: Which) -> &'static str {
     }
 }
 
+impl Show for Which {
+    fn show_on(&self, page: &mut Page) {
+        page.word(name_of(*self));
+    }
+}
+
 impl Show for Admit {
     fn show_on(&self, page: &mut Page) {
         match self {
             Admit::Kept => page.word("+"),
-            Admit::Broken { which } => page.word(name_of(*which)),
+            Admit::Broken { which } => which.show_on(page),
         }
     }
 }

@@ -3,8 +3,10 @@
 #![tactic(auto)]
 
 mod calls;
+mod conversions;
 mod copies;
 mod desk;
+mod examples;
 mod files;
 mod formulas;
 mod guards;
@@ -34,7 +36,8 @@ use std::{env, fs, io};
 fn tell_tables(rt: &HostRuntime, out: &mut Page) -> io::Result<()> {
     for table in env::args(rt)?.skip(1) {
         let rows = fs::read_to_string(rt, table.as_str())?;
-        tables::report(out, table.as_str(), rows.as_str());
+        let files = examples::read_files(rt, rows.as_str())?;
+        tables::report(out, table.as_str(), rows.as_str(), files);
     }
     Ok(())
 }

@@ -3,10 +3,11 @@ use crate::desk::{Desk, empty_desk};
 use crate::notation::{part, written};
 use crate::page::Page;
 use crate::{
-    calls, copies, files, formulas, guards, judgements, knowledge, piles, processes, rules,
-    run_texts, runs, sharing, terms, theories, tokens,
+    calls, conversions, copies, examples, files, formulas, guards, judgements, knowledge, piles,
+    processes, rules, run_texts, runs, sharing, terms, theories, tokens,
 };
 use std::alloc::Global;
+use std::collections::BTreeMap;
 
 // The symbols of messages.
 const BUILTINS: &str = "hashing symmetric asymmetric signing";
@@ -38,6 +39,8 @@ fn push_found_above(page: &mut Page, desk: &mut Desk, table: &str, row: &str) {
         "run-texts" => run_texts::run_texts_row(page, row),
         "rule-runs" => runs::runs_row(page, desk, row),
         "process-runs" => processes::processes_row(page, desk, row),
+        "conversions" => conversions::conversions_row(page, row),
+        "runs-of-examples" => examples::examples_row(page, desk, row),
         "formulas" => formulas::formulas_row(page, &mut desk.theory, row),
         "checks" => judgements::checks_row(page, &mut desk.theory, row),
         "guards" => guards::guards_row(page, &mut desk.theory, row),
@@ -50,6 +53,7 @@ fn push_found_above(page: &mut Page, desk: &mut Desk, table: &str, row: &str) {
         "statements" => calls::statements_row(page, row),
         "read-theories" => calls::theories_row(page, row),
         "calls" => calls::calls_row(page, row),
+        "run-calls" => calls::run_calls_row(page, row),
         _ => page.fail(),
     }
 }
@@ -120,8 +124,8 @@ fn tell_rows(out: &mut Page, desk: &mut Desk, table: &str, lines: &str) {
 
 /// Puts last each row of a table that differs, with what is found, and how many rows there are and how many differ. The page
 /// isn't whole where memory is wanting.
-pub fn report(out: &mut Page, table: &str, lines: &str) {
-    match empty_desk(out) {
+pub fn report(out: &mut Page, table: &str, lines: &str, files: BTreeMap<String, Vec<u8>>) {
+    match empty_desk(out, files) {
         Some(mut desk) => tell_rows(out, &mut desk, table, lines),
         None => out.fail(),
     }

@@ -1,24 +1,14 @@
 -- What was put, in parts.
-use Rattle.std.proofs.Common.{◌≡◌, ◌≢◌, ◌≤◌, ℕ, List, [], ◌++◌, take, Option, Some, None, inl, inr, ◌⊎◌, refl, sym, ap, ◌∙◌, append_assoc, arith}
-use Rattle.std.proofs.lemmas.List.{append-nil}
+use Rattle.std.proofs.Common.{◌≡◌, ◌≢◌, ◌≤◌, ℕ, List, [], take, Option, inl, inr, ◌⊎◌, refl}
 use Rattle.std.specs.Io.KnownBytes.{Appends}
 use Rattle.sap_tool.specs.Outside.{Rose, RoseTwice, AppendsSome, more}
+use Rattle.sap_tool.proofs.Appends.{appends_nothing}
+use Rattle.sap_tool.proofs.Rises.{rose_later, rose_twice, rose_before}
 use Rattle.sap_tool.specs.Answers.{IsLast, complete, cut, usage_text, read_fault_text, write_fault_text, memory_text}
 
 -- nothing was put
-appends_nothing : (o : Option (List ℕ)) → Appends o o []
-appends_nothing None = tt
-appends_nothing (Some xs) = sym (append-nil xs)
-
 pub nothing_put : (told : Option (List ℕ)) (asked : Option ℕ) → Appends told told [] × (asked ≡ more 0 asked)
 nothing_put told asked = (appends_nothing told, refl)
-
--- one text was put, and then another
-pub appends_both : (o m n : Option (List ℕ)) (xs ys : List ℕ) → Appends o m xs → Appends m n ys → Appends o n (xs ++ ys)
-appends_both None m n xs ys h k = tt
-appends_both (Some a) None n xs ys h k = absurd h
-appends_both (Some a) (Some b) None xs ys h k = absurd k
-appends_both (Some a) (Some b) (Some c) xs ys h k = k ∙ ap (λ z. z ++ ys) h ∙ append_assoc a xs ys
 
 -- a word that was put is there: whole, or a first part, where its put was cut short
 pub word_whole : (o n : Option (List ℕ)) (word : List ℕ) (Cut : Type 0) → Appends o n word → ((last : List ℕ) × Appends o n last × IsLast Cut word last)
@@ -31,16 +21,6 @@ word_cut o n word Cut some why = (take some.0 word, some.1, cut some.0 why)
 pub last_of : {A B : Type 0} (word last : List ℕ) → (A → B) → IsLast A word last → IsLast B word last
 last_of word _ f complete = complete
 last_of word _ f (cut n a) = cut n (f a)
-
--- a count that rose stays above
-pub rose_later : (before now later : ℕ) → Rose before now → now ≤ later → Rose before later
-rose_later before now later h k = omega arith
-
-rose_twice : (before now later : ℕ) → Rose before now → Rose now later → RoseTwice before later
-rose_twice before now later h k = omega arith
-
-rose_before : (before now later : ℕ) → before ≤ now → Rose now later → Rose before later
-rose_before before now later h k = omega arith
 
 -- what two counts show where two puts were cut short
 abbrev Twice : ℕ → ℕ → ℕ → ℕ → Type 0

@@ -58,7 +58,7 @@ module _ (one : OneReading) (z : List ℕ) where
   same_fault : (e f : ReadFault) → IsRead z (Err e) → IsRead z (Err f) → e ≡ f
   same_fault e f r s = let same : ◌≡◌ {A = Result FileContent ReadFault} (Err e) (Err f) = one z (Err e) (Err f) r s in cc
 
-  same_file : (t u : FileContent) → IsRead z (Ok t) → IsRead z (Ok u) → t ≡ u
+  pub same_file : (t u : FileContent) → IsRead z (Ok t) → IsRead z (Ok u) → t ≡ u
   same_file t u r s = let same : ◌≡◌ {A = Result FileContent ReadFault} (Ok t) (Ok u) = one z (Ok t) (Ok u) r s in cc
 
   not_both : (t : FileContent) (e : ReadFault) → IsRead z (Ok t) → IsRead z (Err e) → ⊥
@@ -109,3 +109,18 @@ part_refused bytes why (unread {e = e} l r) = subst (λ (y : List ℕ). IsRefuse
 
 pub part_accepted : (bytes : List ℕ) (told : FileContent) → IsAcceptedFile bytes told → IsAcceptedFile (part bytes) told
 part_accepted bytes told file = subst (λ (y : List ℕ). IsAcceptedFile y told) (sym (whole_part most_bytes bytes file.short)) file
+
+short_part : (most : ℕ) (bytes : List ℕ) → length (take (most + 1) bytes) ≤ most → length bytes ≤ most
+short_part most bytes h = grind (arith, common_steps)
+
+longer_whole : (most : ℕ) (bytes : List ℕ) → most < length (take (most + 1) bytes) → most < length bytes
+longer_whole most bytes h = grind (arith, common_steps)
+
+pub refused_by_part : (bytes why : List ℕ) → IsRefusedWith (part bytes) why → IsRefusedWith bytes why
+refused_by_part bytes why (too_long l) = too_long (longer_whole most_bytes bytes l)
+refused_by_part bytes why (unread {e = e} l r) =
+    subst (λ (y : List ℕ). IsRefusedWith y (fault_text e)) (whole_part most_bytes bytes (short_part most_bytes bytes l)) (unread l r)
+
+pub accepted_by_part : (bytes : List ℕ) (told : FileContent) → IsAcceptedFile (part bytes) told → IsAcceptedFile bytes told
+accepted_by_part bytes told file =
+    subst (λ (y : List ℕ). IsAcceptedFile y told) (whole_part most_bytes bytes (short_part most_bytes bytes file.short)) file

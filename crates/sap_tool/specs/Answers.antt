@@ -1,9 +1,13 @@
 -- What there is to say of a call, and how that is put.
-use Rattle.std.specs.Prelude.{◌≡◌, ℕ, codes, List, [], ◌++◌, take}
-use Rattle.sap_tool.specs.Outside.{IsFetched, one_more}
+use Rattle.std.specs.Prelude.{◌≡◌, ◌+◌, ℕ, codes, List, [], ◌++◌, take, Some}
+use Rattle.sap_tool.specs.Outside.{IsFetched, more, one_more}
 use Rattle.sap_tool.specs.Call.{Call, Stream, Gained, Failed, Wanted, CutShort, CutTwice, FailedOn}
-use Rattle.sap_tool.specs.Commands.{Command, spelled, file_of, limit_of, IsUnknown, Refuses, Allows}
+use Rattle.sap_tool.specs.Commands.{Command, Input, alone, and_run, spelled, file_of, run_of, limit_of, IsUnknown, Accepts, Refuses, RefusesRun, Allows}
+use Rattle.sap_tool.specs.Pieces.{pieces, GainedPart}
 use Rattle.sap_tool.specs.Refusals.{refused_line}
+use Rattle.sap_tool.specs.RunPieces.{IsJoined}
+use Rattle.sap_tool.specs.RunRefusals.{run_refused_line}
+use Rattle.sap_tool.specs.Sample.{IsSample, sample_text}
 
 -- a text for out, which is status 0, or a status and a text for err
 pub data Answer : Type 0 where
@@ -15,10 +19,11 @@ abbrev pub status_of : Answer → ℕ
 status_of (gives text) = 0
 status_of (tells status text) = status
 
--- a command's answers to a file of these bytes
-pub data IsAnswerTo (k : Command) (bytes : List ℕ) : Answer → Type 0 where
-  allowed : {text : List ℕ} → Allows k bytes text → IsAnswerTo k bytes (gives text)
-  refused : (why : List ℕ) → Refuses k bytes why → IsAnswerTo k bytes (tells 1 (refused_line why))
+-- a command's answers to what it read: a text that is allowed; a file that is refused, before a run is read; a run that is refused
+pub data IsAnswerTo (k : Command) : Input → Answer → Type 0 where
+  allowed : {input : Input} {text : List ℕ} → Allows k input text → IsAnswerTo k input (gives text)
+  refused : {bytes : List ℕ} (why : List ℕ) → Refuses k bytes why → IsAnswerTo k (alone bytes) (tells 1 (refused_line why))
+  run_refused : {bytes z : List ℕ} (why : List ℕ) → RefusesRun k bytes z why → IsAnswerTo k (and_run bytes z) (tells 2 (run_refused_line why))
 
 -- the words ask for this command
 abbrev pub Asks : Call → Command → Type 0
@@ -28,15 +33,26 @@ Asks c k = c.words ≡ spelled k
 abbrev pub AskedOnce : Call → Type 0
 AskedOnce c = c.asked_after ≡ one_more c.asked_before
 
--- these are bytes that a fetch of the command's file may answer, by what the shelf tells, and nothing else was fetched
-abbrev pub Fetched : Call → Command → List ℕ → Type 0
-Fetched c k bytes = IsFetched c.holds (file_of k) (limit_of k) bytes × AskedOnce c
+-- the shelf was asked for a file, and then for a run and for so many pieces of it, where it tells that
+abbrev pub AskedForRun : Call → ℕ → Type 0
+AskedForRun c nexts = c.asked_after ≡ more (nexts + 1) (one_more c.asked_before)
+
+-- these are bytes that a fetch of the command's file may answer, and pieces of its run, by what the shelf tells, and nothing else
+-- was fetched
+abbrev pub Fetched : Call → Command → Input → Type 0
+Fetched c k (alone bytes) = IsFetched c.holds (file_of k) (limit_of k) bytes × AskedOnce c
+Fetched c k (and_run bytes z) =
+    IsFetched c.holds (file_of k) (limit_of k) bytes × ((run : List ℕ) × (run_of k ≡ Some run) × IsJoined c.holds run z) × ((nexts : ℕ) × AskedForRun c nexts)
+
+-- these are bytes that a fetch of the command's file may answer, and it accepts them
+abbrev pub FetchedAccepted : Call → Command → List ℕ → Type 0
+FetchedAccepted c k bytes = IsFetched c.holds (file_of k) (limit_of k) bytes × Accepts k bytes
 
 -- what is told where words ask for nothing
 abbrev pub usage_text : List ℕ
 usage_text = codes "usage: sapic COMMAND ARGUMENTS\n"
 
--- where the file couldn't be read
+-- where a file or a run couldn't be read
 abbrev pub read_fault_text : List ℕ
 read_fault_text = codes "read fault\n"
 
@@ -50,19 +66,22 @@ memory_text = codes "out of memory\n"
 
 -- the answers that a call may have, each with its cause
 pub data IsAnswer (c : Call) : Answer → Type 0 where
-  to_file : {a : Answer} (k : Command) (bytes : List ℕ) → Asks c k → Fetched c k bytes → IsAnswerTo k bytes a → IsAnswer c a
+  to_input : {a : Answer} (k : Command) (input : Input) → Asks c k → Fetched c k input → IsAnswerTo k input a → IsAnswer c a
+  sampled : (n : ℕ) → IsSample c.words n → c.asked_after ≡ c.asked_before → IsAnswer c (gives (sample_text n))
   usage : IsUnknown c.words → c.asked_after ≡ c.asked_before → IsAnswer c (tells 3 usage_text)
   unread : (k : Command) → Asks c k → FailedOn c (file_of k) → AskedOnce c → IsAnswer c (tells 4 read_fault_text)
+  unread_run : (k : Command) (bytes run : List ℕ) (nexts : ℕ) → Asks c k → FetchedAccepted c k bytes → run_of k ≡ Some run → FailedOn c run
+      → AskedForRun c nexts → IsAnswer c (tells 4 read_fault_text)
 
--- the answer's text is whole where it belongs, put at once, and nothing was put elsewhere
+-- the answer's text is whole where it belongs, put in pieces on out and at once on err, and nothing was put elsewhere
 abbrev pub Whole : Answer → Stream → Stream → Type 0
-Whole (gives text) out err = Gained out 1 text × Gained err 0 []
+Whole (gives text) out err = Gained out (pieces text) text × Gained err 0 []
 Whole (tells status text) out err = Gained out 0 [] × Gained err 1 text
 
--- the first bytes of the answer's text are where it belongs, put at once, and then err was asked for one more text, of which
--- it has this
+-- the first bytes of the answer's text are where it belongs, put in the same way, and then err was asked for one more text, of
+-- which it has this
 abbrev pub Part : Answer → ℕ → List ℕ → Stream → Stream → Type 0
-Part (gives text) taken last out err = Gained out 1 (take taken text) × Gained err 1 last
+Part (gives text) taken last out err = GainedPart out taken text × Gained err 1 last
 Part (tells status text) taken last out err = Gained out 0 [] × Gained err 2 (take taken text ++ last)
 
 -- the sink failed that the answer's text was put on

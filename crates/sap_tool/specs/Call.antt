@@ -46,10 +46,10 @@ stream before after faults_before faults_after wants_before wants_after asked_be
 abbrev pub bytes_of : List (String Global) → List (List ℕ)
 bytes_of words = map string_bytes words
 
--- the call of these words
-abbrev pub call : List (String Global) → Option Files → (List ℕ → ℕ) → (List ℕ → ℕ) → Option ℕ → Option ℕ → Stream → Stream → Call
-call words holds faults_before faults_after asked_before asked_after out err = record {
-  words = bytes_of words;
+-- the call of words with these bytes
+abbrev pub call_of : List (List ℕ) → Option Files → (List ℕ → ℕ) → (List ℕ → ℕ) → Option ℕ → Option ℕ → Stream → Stream → Call
+call_of words holds faults_before faults_after asked_before asked_after out err = record {
+  words = words;
   holds = holds;
   faults_before = faults_before;
   faults_after = faults_after;
@@ -58,6 +58,10 @@ call words holds faults_before faults_after asked_before asked_after out err = r
   out = out;
   err = err;
 }
+
+-- the call of these words
+abbrev pub call : List (String Global) → Option Files → (List ℕ → ℕ) → (List ℕ → ℕ) → Option ℕ → Option ℕ → Stream → Stream → Call
+call words = call_of (bytes_of words)
 
 -- so many puts were asked for, and together they appended these bytes, each where the sink tells
 abbrev pub Gained : Stream → ℕ → List ℕ → Type 0

@@ -1,20 +1,45 @@
 -- What the program promises of each call.
-use Rattle.std.specs.Prelude.{◌≡◌, ◌⊎◌, ℕ, List, [], ◌∷◌, Contains}
+use Rattle.std.specs.Prelude.{◌≡◌, ◌⊎◌, ℕ, List, [], ◌∷◌, Contains, Some, None}
 use Rattle.sap_tool.specs.Call.{Call, Gained, Failed, FailedOn, CutShort, Holds}
-use Rattle.sap_tool.specs.Commands.{Command, file_of, IsUnknown, Refuses, Allows, Means}
+use Rattle.sap_tool.specs.Commands.{Command, Input, alone, and_run, compile, file_of, run_of, IsUnknown, Refuses, RefusesRun, Allows, Means}
 use Rattle.sap_tool.specs.Answers.{Answer, tells, IsAnswer, Asks, Fetched, Part, Broken, Starved, CutLast, IsLast, write_fault_text, memory_text}
+use Rattle.sap_tool.specs.Pieces.{pieces}
 use Rattle.sap_tool.specs.Refusals.{refused_line}
+use Rattle.sap_tool.specs.Sample.{IsSample, sample_text}
+use Rattle.sap_tool.specs.declared.way.Way.{Way}
 
--- out gained, at once, a text that the command allows for the file that was fetched, with what it means, and nothing was put on err
-pub record Compiled (c : Call) : Type 0 where
+-- the shelf tells that it holds what the command reads
+abbrev pub HoldsInput : Call → Command → Input → Type 0
+HoldsInput c k (alone bytes) = Holds c.holds (file_of k) bytes × (run_of k ≡ None)
+HoldsInput c k (and_run bytes z) = Holds c.holds (file_of k) bytes × ((run : List ℕ) × (run_of k ≡ Some run) × Holds c.holds run z)
+
+-- a cause refuses the file, or the run
+abbrev pub RefusesInput : Command → Input → List ℕ → Type 0
+RefusesInput k (alone bytes) why = Refuses k bytes why
+RefusesInput k (and_run bytes z) why = Refuses k bytes why ⊎ RefusesRun k bytes z why
+
+-- the count of faults rose of a name that the command reads
+abbrev pub FailedOnNamed : Call → Command → Type 0
+FailedOnNamed c k = FailedOn c (file_of k) ⊎ ((run : List ℕ) × (run_of k ≡ Some run) × FailedOn c run)
+
+-- out gained a text that the command allows for what was fetched, with what it means, and nothing was put on err
+pub record Given (c : Call) : Type 0 where
   pub command : Command
-  pub bytes : List ℕ
+  pub input : Input
   pub text : List ℕ
   pub asked : Asks c command
-  pub fetched : Fetched c command bytes
-  pub allowed : Allows command bytes text
-  pub means : Means command bytes text
-  pub out : Gained c.out 1 text
+  pub fetched : Fetched c command input
+  pub allowed : Allows command input text
+  pub means : Means command input text
+  pub out : Gained c.out (pieces text) text
+  pub err : Gained c.err 0 []
+
+-- out gained what is told of the sample that the words ask for, nothing was fetched, and nothing was put on err
+pub record GivenSample (c : Call) : Type 0 where
+  pub sessions : ℕ
+  pub asked : IsSample c.words sessions
+  pub fetched : c.asked_after ≡ c.asked_before
+  pub out : Gained c.out (pieces (sample_text sessions)) (sample_text sessions)
   pub err : Gained c.err 0 []
 
 -- err was told, at once, the text of this status, for one of its causes, and nothing was put on out
@@ -42,12 +67,13 @@ pub data Wanting (c : Call) : Type 0 where
   while_put : (a : Answer) (taken : ℕ) (last : List ℕ) → IsAnswer c a → Starved a c.out c.err → Part a taken last c.out c.err
       → IsLast (CutLast a c.err) memory_text last → Wanting c
 
--- Each status comes only with its cause and with what it leaves on the two sinks, and the last fields say when 0, 1 and 3 must
+-- Each status comes only with its cause and with what it leaves on the two sinks, and the last fields say when 0, 1, 2 and 3 must
 -- come.
 pub record Promises (c : Call) (status : ℕ) : Type 0 where
-  pub statuses : Contains (0 ∷ 1 ∷ 3 ∷ 4 ∷ 5 ∷ 6 ∷ []) status
-  pub compiled : status ≡ 0 → Compiled c
+  pub statuses : Contains (0 ∷ 1 ∷ 2 ∷ 3 ∷ 4 ∷ 5 ∷ 6 ∷ []) status
+  pub given : status ≡ 0 → Given c ⊎ GivenSample c
   pub refused : status ≡ 1 → Told c 1
+  pub refused_run : status ≡ 2 → Told c 2
   pub usage : status ≡ 3 → Told c 3
   pub unread : status ≡ 4 → Told c 4
   pub unwritten : status ≡ 5 → Unwritten c
@@ -56,12 +82,17 @@ pub record Promises (c : Call) (status : ℕ) : Type 0 where
   pub last_word : (CutShort c.err → ⊥) → (status ≡ 5 → Gained c.err 1 write_fault_text) × (status ≡ 6 → Gained c.err 1 memory_text)
   -- for words that ask for nothing
   pub must_tell_usage : IsUnknown c.words → (status ≡ 3) ⊎ ((status ≡ 5) × Failed c.err) ⊎ (status ≡ 6)
-  -- for bytes that a cause refuses
+  -- for a file that a cause refuses, whatever the run
   pub must_refuse : (k : Command) (bytes why : List ℕ) → Asks c k → Holds c.holds (file_of k) bytes → Refuses k bytes why
       → ((status ≡ 1) × Gained c.err 1 (refused_line why)) ⊎ ((status ≡ 4) × FailedOn c (file_of k)) ⊎ ((status ≡ 5) × Failed c.err) ⊎ (status ≡ 6)
-  -- for bytes that no cause refuses
-  pub must_compile : (k : Command) (bytes : List ℕ) → Asks c k → Holds c.holds (file_of k) bytes → ((why : List ℕ) → Refuses k bytes why → ⊥)
-      → (FailedOn c (file_of k) → ⊥) → (Failed c.out → ⊥) → (status ≡ 0) ⊎ (status ≡ 6)
-  -- for bytes with a text that is allowed: it is this text
-  pub must_give : (k : Command) (bytes text : List ℕ) → Asks c k → Holds c.holds (file_of k) bytes → Allows k bytes text
-      → (FailedOn c (file_of k) → ⊥) → (Failed c.out → ⊥) → ((status ≡ 0) × Gained c.out 1 text) ⊎ (status ≡ 6)
+  -- for a run that a cause refuses, of a file that is accepted
+  pub must_refuse_run : (k : Command) (bytes z why : List ℕ) → Asks c k → HoldsInput c k (and_run bytes z) → RefusesRun k bytes z why
+      → (status ≡ 2) ⊎ ((status ≡ 4) × FailedOnNamed c k) ⊎ ((status ≡ 5) × Failed c.err) ⊎ (status ≡ 6)
+  -- for a file, and a run, that no cause refuses
+  pub must_answer : (k : Command) (input : Input) → Asks c k → HoldsInput c k input → ((why : List ℕ) → RefusesInput k input why → ⊥)
+      → (FailedOnNamed c k → ⊥) → (Failed c.out → ⊥) → (status ≡ 0) ⊎ (status ≡ 6)
+  -- for a file with a theory: it is its text
+  pub must_give : (way : Way) (file bytes text : List ℕ) → Asks c (compile way file) → Holds c.holds file bytes → Allows (compile way file) (alone bytes) text
+      → (FailedOn c file → ⊥) → (Failed c.out → ⊥) → ((status ≡ 0) × Gained c.out (pieces text) text) ⊎ (status ≡ 6)
+  -- for a sample: it is what is told of it
+  pub must_tell_sample : (n : ℕ) → IsSample c.words n → (Failed c.out → ⊥) → ((status ≡ 0) × Gained c.out (pieces (sample_text n)) (sample_text n)) ⊎ (status ≡ 6)

@@ -38,13 +38,13 @@ flaw_text Rebound = codes "rebound"
 flaw_text SortClash = codes "sort clash"
 flaw_text ScopeFull = codes "scope is full"
 
--- why bytes have no tokens; that memory was wanting is no such cause, and refuses no file
-abbrev pub lex_text : Lex → List ℕ
-lex_text lex.Mem = codes "out of memory"
-lex_text (lex.BadByte at) = between (codes "byte ") (decimal at) (codes " begins no token")
-lex_text (lex.OpenComment at) = between (codes "comment at byte ") (decimal at) (codes " is not closed")
-lex_text (lex.OpenQuote at) = between (codes "quote at byte ") (decimal at) (codes " is not closed")
-lex_text (lex.NameLong at) = between (codes "name at byte ") (decimal at) (codes " is longer than 64 bytes")
+-- why bytes have no tokens, where this says of a name that it's too long; that memory was wanting is no such cause, and refuses no file
+abbrev pub lex_text : List ℕ → Lex → List ℕ
+lex_text long lex.Mem = codes "out of memory"
+lex_text long (lex.BadByte at) = between (codes "byte ") (decimal at) (codes " begins no token")
+lex_text long (lex.OpenComment at) = between (codes "comment at byte ") (decimal at) (codes " is not closed")
+lex_text long (lex.OpenQuote at) = between (codes "quote at byte ") (decimal at) (codes " is not closed")
+lex_text long (lex.NameLong at) = between (codes "name at byte ") (decimal at) long
 
 -- why a process can't be annotated; that memory was wanting is no such cause
 abbrev pub lock_text : LockFault → List ℕ
@@ -64,7 +64,7 @@ formula_text (formula.Unguarded var) = between (codes "variable ") var (codes " 
 -- why bytes are read as no file; that memory was wanting refuses none
 abbrev pub fault_text : ReadFault → List ℕ
 fault_text fault.Mem = codes "out of memory"
-fault_text (fault.Lex f) = lex_text f
+fault_text (fault.Lex f) = lex_text (codes " is longer than 64 bytes") f
 fault_text fault.Header = codes "no theory header"
 fault_text (fault.Syntax line) = between (codes "line ") (decimal line) (codes ": not in the grammar")
 fault_text fault.NoProcess = codes "no process"

@@ -17,7 +17,7 @@ pub fn push_fault(text: &mut Text, fault: &ReadFault) -> Result<(), Mem>
 {
     match fault {
         ReadFault::Mem => text.push_bytes(b"out of memory"),
-        ReadFault::Lex(fault) => push_lex(text, *fault),
+        ReadFault::Lex(fault) => push_lex(text, *fault, b" is longer than 64 bytes"),
         ReadFault::Header => text.push_bytes(b"no theory header"),
         ReadFault::Syntax { line } => push_numbered(text, b"line ", *line, b": not in the grammar"),
         ReadFault::NoProcess => text.push_bytes(b"no process"),
@@ -48,21 +48,16 @@ pub fn push_fault(text: &mut Text, fault: &ReadFault) -> Result<(), Mem>
     }
 }
 
-/// Puts last why bytes have no tokens.
-fn push_lex(text: &mut Text, fault: Lex) -> Result<(), Mem>
-    ensures { OnOk result (text.new ≡ text.old ++ lex_text fault) }
+/// Puts last why bytes have no tokens, of a name that is too long with these words.
+pub fn push_lex(text: &mut Text, fault: Lex, long: &[u8]) -> Result<(), Mem>
+    ensures { OnOk result (text.new ≡ text.old ++ lex_text long.now fault) }
 {
     match fault {
         Lex::Mem => text.push_bytes(b"out of memory"),
         Lex::BadByte { at } => push_numbered(text, b"byte ", at, b" begins no token"),
         Lex::OpenComment { at } => push_numbered(text, b"comment at byte ", at, b" is not closed"),
         Lex::OpenQuote { at } => push_numbered(text, b"quote at byte ", at, b" is not closed"),
-        Lex::NameLong { at } => push_numbered(
-            text,
-            b"name at byte ",
-            at,
-            b" is longer than 64 bytes",
-        ),
+        Lex::NameLong { at } => push_numbered(text, b"name at byte ", at, long),
     }
 }
 
@@ -82,7 +77,7 @@ fn push_lock(text: &mut Text, fault: &LockFault) -> Result<(), Mem>
 }
 
 /// Puts last what is wrong in the formula of this name.
-fn push_of_formula(text: &mut Text, name: &Name, fault: &FormulaFault) -> Result<(), Mem>
+pub fn push_of_formula(text: &mut Text, name: &Name, fault: &FormulaFault) -> Result<(), Mem>
     ensures { OnOk result (text.new ≡ text.old ++ (name.now ++ (codes ": " ++ formula_text fault.now))) }
 {
     text.push_bytes(name.as_bytes())?;
@@ -91,7 +86,7 @@ fn push_of_formula(text: &mut Text, name: &Name, fault: &FormulaFault) -> Result
 }
 
 /// Puts last what is wrong in a formula.
-fn push_formula(text: &mut Text, fault: &FormulaFault) -> Result<(), Mem>
+pub fn push_formula(text: &mut Text, fault: &FormulaFault) -> Result<(), Mem>
     ensures { OnOk result (text.new ≡ text.old ++ formula_text fault.now) }
 {
     match fault {
@@ -122,7 +117,7 @@ fn flaw_words(flaw: Flaw) -> &'static [u8]
 }
 
 /// Puts last a number between two texts.
-fn push_numbered(text: &mut Text, before: &[u8], number: u64, after: &[u8]) -> Result<(), Mem>
+pub fn push_numbered(text: &mut Text, before: &[u8], number: u64, after: &[u8]) -> Result<(), Mem>
     ensures { OnOk result (text.new ≡ text.old ++ between before.now (decimal number) after.now) }
 {
     text.push_bytes(before)?;
@@ -131,7 +126,7 @@ fn push_numbered(text: &mut Text, before: &[u8], number: u64, after: &[u8]) -> R
 }
 
 /// Puts last a name between two texts.
-fn push_named(text: &mut Text, before: &[u8], name: &Name, after: &[u8]) -> Result<(), Mem>
+pub fn push_named(text: &mut Text, before: &[u8], name: &Name, after: &[u8]) -> Result<(), Mem>
     ensures { OnOk result (text.new ≡ text.old ++ between before.now name.now after.now) }
 {
     push_behind(text, before, name)?;
@@ -139,7 +134,7 @@ fn push_named(text: &mut Text, before: &[u8], name: &Name, after: &[u8]) -> Resu
 }
 
 /// Puts last a text, and a name behind it.
-fn push_behind(text: &mut Text, before: &[u8], name: &Name) -> Result<(), Mem>
+pub fn push_behind(text: &mut Text, before: &[u8], name: &Name) -> Result<(), Mem>
     ensures { OnOk result (text.new ≡ text.old ++ (before.now ++ name.now)) }
 {
     text.push_bytes(before)?;

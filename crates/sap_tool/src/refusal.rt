@@ -1,12 +1,15 @@
+ghost use Rattle.std.specs.Prelude.{◌≡◌, ℕ, List, Ok};
+ghost use Rattle.sap_tool.specs.declared.refusal.Refusal.TheVariants as refusals;
+
 use sap_terms::Mem;
 use sap_text::Text;
 
-/// Why a file has no theory.
+/// Why a file, or a run, has no text.
 #[derive(Drop)]
 pub enum Refusal {
     /// Want of memory.
     Mem,
-    /// The file is refused; the line that says why, with its line feed.
+    /// It is refused; the line that says why, with its line feed.
     Told(Text),
 }
 
@@ -18,5 +21,15 @@ impl From<Mem> for Refusal {
 
     fn from(_e: Mem) -> Refusal {
         Refusal::Mem
+    }
+}
+
+/// Refuses by this line, or for want of memory where there is none.
+pub fn told(line: Result<Text, Mem>) -> Refusal
+    ensures { (text : List ℕ) → result ≡ refusals.Told text → line ≡ Ok text }
+{
+    match line {
+        Ok(text) => Refusal::Told(text),
+        Err(_) => Refusal::Mem,
     }
 }

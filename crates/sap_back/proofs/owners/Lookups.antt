@@ -1,7 +1,6 @@
 -- Look-ups in lists of options after a write and after a push.
 use Rattle.sap_translate.specs.Members.{Member}
-use Rattle.std.proofs.Common.{◌≡◌, ℕ, zero, suc, List, [], ◌∷◌, ◌++◌, Option, Some, None, refl, ap, slice_get, slice_set, map, subst}
-use Rattle.std.specs.Option.{option_map}
+use Rattle.std.proofs.Common.{◌≡◌, ℕ, zero, suc, List, [], ◌∷◌, ◌++◌, Option, Some, refl, ap, slice_get, slice_set, map, subst}
 
 -- P holds of each item that is there
 abbrev pub Every : {A : Type 0} → (A → Type 0) → List (Option A) → Type 0
@@ -19,27 +18,6 @@ every_push P [] y all h zero a e = let same : y ≡ a = cc in subst P same h
 every_push P [] y all h (suc k) a e = cc
 every_push P (x ∷ xs) y all h zero a e = all zero a e
 every_push P (x ∷ xs) y all h (suc k) a e = every_push P xs y (λ j b g. all (suc j) b g) h k a e
-
-pub map-set : {A B : Type 0} (f : A → B) (xs : List A) (t : ℕ) (x : A) → map f (slice_set xs t x) ≡ slice_set (map f xs) t (f x)
-map-set f [] t x = refl
-map-set f (y ∷ xs) zero x = refl
-map-set f (y ∷ xs) (suc t) x = ap (λ ys. f y ∷ ys) (map-set f xs t x)
-
-pub map_push : {A B : Type 0} (f : A → B) (xs : List A) (x : A) → map f (xs ++ x ∷ []) ≡ map f xs ++ f x ∷ []
-map_push f [] x = refl
-map_push f (y ∷ xs) x = ap (λ ys. f y ∷ ys) (map_push f xs x)
-
--- the item behind an item of a mapped list
-pub record Behind {A B : Type 0} (f : A → B) (xs : List (Option A)) (t : ℕ) (y : B) : Type 0 where
-  pub item : A
-  pub is : slice_get xs t ≡ Some (Some item)
-  pub gives : f item ≡ y
-
-pub behind : {A B : Type 0} (f : A → B) (xs : List (Option A)) (t : ℕ) (y : B) → slice_get (map (option_map f) xs) t ≡ Some (Some y) → Behind f xs t y
-behind f [] t y e = cc
-behind f (None ∷ xs) zero y e = cc
-behind f (Some a ∷ xs) zero y e = record { item = a; is = refl; gives = cc }
-behind f (x ∷ xs) (suc t) y e = let b = behind f xs t y e in record { item = b.item; is = b.is; gives = b.gives }
 
 pub get-set_same : {A : Type 0} (xs : List A) (t : ℕ) (x y : A) → slice_get xs t ≡ Some x → slice_get (slice_set xs t y) t ≡ Some y
 get-set_same [] t x y e = cc
@@ -63,22 +41,6 @@ pub member_cases : {A : Type 0} {x : A} (xs ys : List A) → Member x (xs ++ ys)
 member_cases [] ys m = in_right m
 member_cases (y ∷ xs) ys Member.here = in_left Member.here
 member_cases {x = x} (y ∷ xs) ys (Member.later m) = elim (member_cases xs ys m) [ in_left a ↦ in_left (Member.later a) | in_right b ↦ in_right b ]
-
--- a write that f can't tell from what was there
-pub map-set_same : {A B : Type 0} (f : A → B) (xs : List A) (t : ℕ) (x y : A) → slice_get xs t ≡ Some x → f y ≡ f x → map f (slice_set xs t y) ≡ map f xs
-map-set_same f [] t x y e h = refl
-map-set_same f (z ∷ xs) zero x y e h = let same : f z ≡ f x = cc in cc
-map-set_same f (z ∷ xs) (suc t) x y e h = ap (λ ys. f z ∷ ys) (map-set_same f xs t x y e h)
-
-pub member_last : {A : Type 0} (xs : List A) (x : A) → Member x (xs ++ x ∷ [])
-member_last xs x = member_right xs Member.here
-
--- a member is the last or one before
-pub every_member_push : {A : Type 0} (P : A → Type 0) (xs : List A) (y : A) → ((x : A) → Member x xs → P x) → P y → (x : A) → Member x (xs ++ y ∷ []) → P x
-every_member_push P [] y all h x Member.here = h
-every_member_push P [] y all h x (Member.later m) = elim m [ ]
-every_member_push P (z ∷ xs) y all h x Member.here = all z Member.here
-every_member_push P (z ∷ xs) y all h x (Member.later m) = every_member_push P xs y (λ w n. all w (Member.later n)) h x m
 
 pub map_get : {A B : Type 0} (f : A → B) (xs : List A) (t : ℕ) (x : A) → slice_get xs t ≡ Some x → slice_get (map f xs) t ≡ Some (f x)
 map_get f [] t x e = cc

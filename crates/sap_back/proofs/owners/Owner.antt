@@ -1,16 +1,15 @@
--- Who stands as a live fact: by the counts, whatever the form; and the one owner of a tag.
+-- Who stands as a live fact, and the one owner of a tag.
 use Rattle.sap_translate.specs.Members.{Member}
-use Rattle.sap_back.proofs.owners.Facts.{same_fact_self, same_fact_true, names_apart, eq_self}
+use Rattle.sap_back.proofs.owners.Facts.{names_apart, eq_self}
 use Rattle.sap_back.proofs.owners.Inputs.{last_same, init_same}
 use Rattle.sap_back.proofs.owners.Lookups.{only_member}
-use Rattle.sap_back.proofs.owners.Totals.{total-set, total_found, Found}
 use Rattle.sap_translate.specs.relation.Envs.{Env, names, values}
-use Rattle.sap_translate.specs.relation.Names.{same_fact, semi_name}
+use Rattle.sap_translate.specs.relation.Names.{semi_name}
 use Rattle.sap_translate.specs.ChannelFacts.{msg_fact, ack_fact}
 use Rattle.sap_translate.specs.relation.Totals.{total}
 use Rattle.sap_translate.specs.relation.Locks.{Holder}
 use Rattle.sap_translate.specs.relation.Agents.{Agent, unborn, running, copying, awaiting, received, stands_as}
-use Rattle.sap_translate.specs.relation.Counts.{SameFacts, count_one, count_live, count_owed, count_name, count_tag, is_control}
+use Rattle.sap_translate.specs.relation.Counts.{count_name, count_tag, is_control}
 use Rattle.sap_translate.specs.relation.Related.{NamesPart}
 use Rattle.sap_place.specs.StateFacts.{state_fact, copies_fact, waits_fact, digits}
 use Rattle.sap_process.specs.Configuration.{Config}
@@ -18,7 +17,7 @@ use Rattle.sap_process.specs.Proc.{Proc}
 use Rattle.sap_rule.specs.RuleSteps.{RuleState}
 use Rattle.sap_terms.specs.Tree.{Tree, fresh}
 use Rattle.sap_terms.specs.declared.fact.Fact.{Fact}
-use Rattle.std.proofs.Common.{◌≡◌, ℕ, zero, suc, ◌+◌, ◌<◌, ◌≤◌, List, [], ◌∷◌, ◌++◌, Option, Some, None, refl, sym, ap, ◌∙◌, arith, Bool, true, false, cond, slice_get, subst}
+use Rattle.std.proofs.Common.{◌≡◌, ℕ, zero, suc, ◌+◌, ◌≤◌, List, [], ◌∷◌, ◌++◌, Option, Some, refl, sym, ap, ◌∙◌, arith, true, false, slice_get, subst}
 
 pub record Owner (agents : List (Option Agent)) (f : Fact) : Type 0 where
   pub thread : ℕ
@@ -26,51 +25,11 @@ pub record Owner (agents : List (Option Agent)) (f : Fact) : Type 0 where
   pub is : slice_get agents thread ≡ Some (Some agent)
   pub stands : Member f (stands_as agent)
 
-cond_pos : (b : Bool) (n : ℕ) → 0 < cond b n 0 → (b ≡ true) × (0 < n)
-cond_pos true n h = (refl, h)
-cond_pos false n h = absurd (omega arith)
-
-counted_member : (f : Fact) (fs : List Fact) → 0 < total (count_one (same_fact f)) fs → Member f fs
-counted_member f [] h = absurd (omega arith)
-counted_member f (g ∷ fs) h = go (count_one (same_fact f) g) refl (counted_member f fs)
-  where
-    go : (n : ℕ) → count_one (same_fact f) g ≡ n → (0 < total (count_one (same_fact f)) fs → Member f fs) → Member f (g ∷ fs)
-    go zero e more = Member.later (more (omega arith))
-    go (suc n) e more =
-        let a = cond_pos (is_control g) (cond (same_fact f g) 1 0) (let z : 0 < count_one (same_fact f) g = omega arith in z) in
-        let b = cond_pos (same_fact f g) 1 a.1 in
-        let same : f ≡ g = same_fact_true f g b.0 in
-        subst (λ x. Member f (x ∷ fs)) same Member.here
-
-pub owner : (agents : List (Option Agent)) (s : RuleState) (k : ℕ) (f : Fact) → SameFacts agents s → is_control f ≡ true → slice_get s.facts k ≡ Some (Some f) → Owner agents f
-owner agents s k f same control e =
-    let test = same_fact f in
-    let self : count_one test f ≡ 1 = rw (control, same_fact_self f) refl in
-    let all = total-set (count_live test) s.facts k (Some f) None e in
-    let equal = same test in
-    by_found (total_found (count_owed test) agents (omega arith))
-  where
-    by_found : Found (count_owed (same_fact f)) agents → Owner agents f
-    by_found x = go x.item refl
-      where
-        go : (o : Option Agent) → x.item ≡ o → Owner agents f
-        go None g = absurd (let h : 0 < count_owed (same_fact f) None = subst (λ i. 0 < count_owed (same_fact f) i) g x.counts in omega arith)
-        go (Some a) g = record {
-          thread = x.number;
-          agent = a;
-          is = x.is ∙ ap (λ i. Some i) g;
-          stands = counted_member f (stands_as a) (subst (λ i. 0 < count_owed (same_fact f) i) g x.counts);
-        }
-
 -- for each live fact of control who stands for it
 abbrev pub Owners : List (Option Agent) → RuleState → Type 0
 Owners agents s = (k : ℕ) (f : Fact) → is_control f ≡ true → slice_get s.facts k ≡ Some (Some f) → Owner agents f
 
 -- which agents stand as a message, an acknowledgement, a waiting sender
-
-no_member : (f : Fact) (fs : List Fact) → fs ≡ [] → Member f fs → ⊥
-no_member f [] e m = elim m [ ]
-no_member f (g ∷ fs) e m = cc
 
 differs : (f g : Fact) → (f.name ≡ g.name → ⊥) → f ≡ g → ⊥
 differs f g h e = h (ap (λ (z : Fact). z.name) e)
@@ -84,8 +43,9 @@ pub of_two : {f a b : Fact} → Member f (a ∷ b ∷ []) → OfTwo f a b
 of_two Member.here = first refl
 of_two (Member.later m) = second (only_member m)
 
-pub record AckOwner (agents : List (Option Agent)) (t : Tree) : Type 0 where
+pub record AckOwner (agents : List (Option Agent)) (where_at : ℕ) (t : Tree) : Type 0 where
   pub thread : ℕ
+  pub from : thread ≡ where_at
   pub path : List ℕ
   pub env : Env
   pub m : Tree
@@ -110,10 +70,10 @@ ack_sent t path args = differs (ack_fact t) (waits_fact path args) (λ e. names_
 ack_msg : (t u x y : Tree) → ack_fact t ≡ msg_fact u x y → ⊥
 ack_msg t u x y = differs (ack_fact t) (msg_fact u x y) (λ e. names_apart (ack_fact t).name (msg_fact u x y).name refl e)
 
-pub ack_owner : (agents : List (Option Agent)) (t : Tree) → Owner agents (ack_fact t) → AckOwner agents t
+pub ack_owner : (agents : List (Option Agent)) (t : Tree) → (o : Owner agents (ack_fact t)) → AckOwner agents o.thread t
 ack_owner agents t o = go o.agent o.is o.stands
   where
-    go : (a : Agent) → slice_get agents o.thread ≡ Some (Some a) → Member (ack_fact t) (stands_as a) → AckOwner agents t
+    go : (a : Agent) → slice_get agents o.thread ≡ Some (Some a) → Member (ack_fact t) (stands_as a) → AckOwner agents o.thread t
     go (unborn body) e m = elim m [ ]
     go (running path env body) e m = absurd (ack_state t path (values env) (only_member m))
     go (copying path env body) e m = absurd (ack_semi t path (values env) (only_member m))
@@ -122,7 +82,7 @@ ack_owner agents t o = go o.agent o.is o.stands
       | second h ↦ absurd (ack_sent t path (values env ++ fresh g ∷ []) h)
     ]
     go (received path env x y body g) e m = elim (of_two m) [
-      | first h ↦ record { thread = o.thread; path = path; env = env; m = x; n = y; body = body; tag = g; is = e; same = ack_arg t (fresh g) h }
+      | first h ↦ record { thread = o.thread; from = refl; path = path; env = env; m = x; n = y; body = body; tag = g; is = e; same = ack_arg t (fresh g) h }
       | second h ↦ absurd (ack_sent t path (values env ++ fresh g ∷ []) h)
     ]
 
@@ -188,9 +148,10 @@ same_time w (z ∷ xs) (suc i) zero x y e f g h k = let a : w z ≡ w y = cc in 
 same_time w (z ∷ xs) (suc i) (suc j) x y e f g h k = ap suc (same_time w xs i j x y e f g h (omega arith))
 
 -- an acknowledgement and a linear semi-state with one tag are one sender's
-pub record Handshake (agents : List (Option Agent)) (where_at : ℕ) (path : List ℕ) (t : Tree) (args : List Tree) : Type 0 where
+pub record Handshake (agents : List (Option Agent)) (where_at also_at : ℕ) (path : List ℕ) (t : Tree) (args : List Tree) : Type 0 where
   pub thread : ℕ
   pub from : thread ≡ where_at
+  pub also : thread ≡ also_at
   pub env : Env
   pub m : Tree
   pub n : Tree
@@ -214,7 +175,7 @@ digits_same (x ∷ p) (y ∷ q) e =
 semi_name_same : (p q : List ℕ) → semi_name p ≡ semi_name q → p ≡ q
 semi_name_same p q e = digits_same p q (cc)
 
-pub handshake : {holders : List Holder} (agents : List (Option Agent)) (c : Config) (s : RuleState) (i j : ℕ) (path : List ℕ) (t : Tree) (args : List Tree) → (own : Owners agents s) → NamesPart agents c s holders → (there : slice_get s.facts i ≡ Some (Some (waits_fact path (args ++ t ∷ [])))) → slice_get s.facts j ≡ Some (Some (ack_fact t)) → Handshake agents (own i (waits_fact path (args ++ t ∷ [])) refl there).thread path t args
+pub handshake : {holders : List Holder} (agents : List (Option Agent)) (c : Config) (s : RuleState) (i j : ℕ) (path : List ℕ) (t : Tree) (args : List Tree) → (own : Owners agents s) → NamesPart agents c s holders → (there : slice_get s.facts i ≡ Some (Some (waits_fact path (args ++ t ∷ [])))) → (ack : slice_get s.facts j ≡ Some (Some (ack_fact t))) → Handshake agents (own i (waits_fact path (args ++ t ∷ [])) refl there).thread (own j (ack_fact t) refl ack).thread path t args
 handshake agents c s i j path t args own names e f =
     let a = ack_owner agents t (own j (ack_fact t) refl f) in
     let b = sent_owner agents path t args (own i (waits_fact path (args ++ t ∷ [])) refl e) in
@@ -231,7 +192,7 @@ handshake agents c s i j path t args own names e f =
     some_some : {x y : Agent} → Some (Some x) ≡ Some (Some y) → x ≡ y
     some_some h = cc
 
-    by_two : (a : AckOwner agents t) → a.thread ≡ (own i (waits_fact path (args ++ t ∷ [])) refl e).thread → OfTwo (waits_fact path (args ++ t ∷ [])) (ack_fact (fresh a.tag)) (waits_fact a.path (values a.env ++ fresh a.tag ∷ [])) → Handshake agents (own i (waits_fact path (args ++ t ∷ [])) refl e).thread path t args
+    by_two : (a : AckOwner agents (own j (ack_fact t) refl f).thread t) → a.thread ≡ (own i (waits_fact path (args ++ t ∷ [])) refl e).thread → OfTwo (waits_fact path (args ++ t ∷ [])) (ack_fact (fresh a.tag)) (waits_fact a.path (values a.env ++ fresh a.tag ∷ [])) → Handshake agents (own i (waits_fact path (args ++ t ∷ [])) refl e).thread (own j (ack_fact t) refl f).thread path t args
     by_two a from (first h) = absurd (ack_sent (fresh a.tag) path (args ++ t ∷ []) (sym h))
     by_two a from (second h) =
         let paths : path ≡ a.path = semi_name_same path a.path (ap (λ (z : Fact). z.name) h) in
@@ -239,6 +200,7 @@ handshake agents c s i j path t args own names e f =
         record {
           thread = a.thread;
           from = from;
+          also = a.from;
           env = a.env;
           m = a.m;
           n = a.n;

@@ -1,55 +1,66 @@
--- What taking facts does to counts and to what holds of each fact.
-use Rattle.sap_translate.specs.Members.{Member}
-use Rattle.sap_back.proofs.owners.Lookups.{Every, every-set}
-use Rattle.sap_back.proofs.owners.Totals.{total-set}
-use Rattle.sap_translate.specs.relation.Totals.{total}
-use Rattle.sap_terms.specs.Piles.{Takes, nothing, one, used, adds}
+-- What taking facts leaves.
+use Rattle.sap_terms.specs.Piles.{Takes, nothing, one, used}
 use Rattle.sap_terms.specs.declared.fact.Fact.{Fact}
-use Rattle.std.proofs.Common.{◌≡◌, ℕ, zero, suc, ◌+◌, List, [], ◌∷◌, Option, Some, None, arith, Bool, true, false, cond, slice_get, slice_set}
+use Rattle.std.proofs.Common.{◌≡◌, ℕ, zero, suc, List, [], ◌∷◌, Option, Some, None, refl, arith, Bool, true, false, length, slice_get, slice_set}
 use Rattle.std.specs.Prelude.{if◌then◌else◌}
 
--- what a fact weighs that is used
-abbrev pub spent : (Option Fact → ℕ) → Fact → ℕ
-spent w f = cond f.persistent 0 (w (Some f))
+-- where one is taken, the others stay
+set_none_kept : (xs : List (Option Fact)) (i j : ℕ) (x : Fact) → slice_get (slice_set xs i None) j ≡ Some (Some x) → slice_get xs j ≡ Some (Some x)
+set_none_kept [] i j x e = e
+set_none_kept (y ∷ xs) zero zero x e = absurd (cc)
+set_none_kept (y ∷ xs) zero (suc j) x e = e
+set_none_kept (y ∷ xs) (suc i) zero x e = e
+set_none_kept (y ∷ xs) (suc i) (suc j) x e = set_none_kept xs i j x e
 
-used_total : (w : Option Fact → ℕ) (facts : List (Option Fact)) (k : ℕ) (f : Fact) → w None ≡ 0 → slice_get facts k ≡ Some (Some f) → total w (used facts k f) + spent w f ≡ total w facts
-used_total w facts k f z e = go f.persistent
+set_none_gone : (xs : List (Option Fact)) (i : ℕ) (x : Fact) → slice_get (slice_set xs i None) i ≡ Some (Some x) → ⊥
+set_none_gone [] i x e = cc
+set_none_gone (y ∷ xs) zero x e = cc
+set_none_gone (y ∷ xs) (suc i) x e = set_none_gone xs i x e
+
+pub length_set : {A : Type 0} (xs : List A) (i : ℕ) (x : A) → length (slice_set xs i x) ≡ length xs
+length_set [] i x = refl
+length_set (y ∷ xs) zero x = omega arith
+length_set (y ∷ xs) (suc i) x = let h = length_set xs i x in omega arith
+
+pub used_kept : (facts : List (Option Fact)) (k j : ℕ) (f h : Fact) → slice_get (used facts k f) j ≡ Some (Some h) → slice_get facts j ≡ Some (Some h)
+used_kept facts k j f h e = go f.persistent e
   where
-    go : (b : Bool) → total w (if b then facts else slice_set facts k None) + cond b 0 (w (Some f)) ≡ total w facts
-    go true = omega arith
-    go false = omega (arith, total-set w facts k (Some f) None e)
+    go : (b : Bool) → slice_get (if b then facts else slice_set facts k None) j ≡ Some (Some h) → slice_get facts j ≡ Some (Some h)
+    go true e = e
+    go false e = set_none_kept facts k j h e
 
-pub takes_total : {facts rest : List (Option Fact)} {ks : List ℕ} {fs : List Fact} (w : Option Fact → ℕ) → w None ≡ 0 → Takes facts ks fs rest → total w rest + total (spent w) fs ≡ total w facts
-takes_total w z nothing = omega arith
-takes_total w z (one {facts = facts} {k = k} {f = f} e h) = omega (arith, takes_total w z h, used_total w facts k f z e)
-
-pub takes_every : {facts rest : List (Option Fact)} {ks : List ℕ} {fs : List Fact} (P : Fact → Type 0) → Every P facts → Takes facts ks fs rest → Every P rest
-takes_every P all nothing = all
-takes_every P all (one {facts = facts} {k = k} {f = f} e h) = takes_every P (go f.persistent) h
+used_length : (facts : List (Option Fact)) (k : ℕ) (f : Fact) → length (used facts k f) ≡ length facts
+used_length facts k f = go f.persistent
   where
-    go : (b : Bool) → Every P (if b then facts else slice_set facts k None)
-    go true = all
-    go false = every-set P facts k None all (λ a g. absurd (cc))
+    go : (b : Bool) → length (if b then facts else slice_set facts k None) ≡ length facts
+    go true = refl
+    go false = length_set facts k None
 
-pub every-adds : (P : Fact → Type 0) (facts : List (Option Fact)) (more : List Fact) → Every P facts → ((f : Fact) → Member f more → P f) → Every P (adds facts more)
-every-adds P [] [] all h t a e = cc
-every-adds P [] (f ∷ more) all h zero a e = h a (let same : f ≡ a = cc in go same)
+pub used_gone : (facts : List (Option Fact)) (k : ℕ) (f h : Fact) → f.persistent ≡ false → slice_get (used facts k f) k ≡ Some (Some h) → ⊥
+used_gone facts k f h linear e = go f.persistent linear e
   where
-    go : {g : Fact} → f ≡ g → Member g (f ∷ more)
-    go s = rw (← s) Member.here
-every-adds P [] (f ∷ more) all h (suc t) a e = every-adds P [] more (λ k b g. absurd (cc)) (λ g m. h g (Member.later m)) t a e
-every-adds P (x ∷ facts) more all h zero a e = all zero a e
-every-adds P (x ∷ facts) more all h (suc t) a e = every-adds P facts more (λ k b g. all (suc k) b g) h t a e
+    go : (b : Bool) → b ≡ false → slice_get (if b then facts else slice_set facts k None) k ≡ Some (Some h) → ⊥
+    go true l e = cc
+    go false l e = set_none_gone facts k h e
 
-each_member : {g f : Fact} {fs : List Fact} (P : Fact → Type 0) → P g → Member f (g ∷ fs) → (Member f fs → P f) → P f
-each_member P h Member.here more = h
-each_member P h (Member.later n) more = more n
+-- what is left was there, under the same numbers
+pub takes_kept : {facts rest : List (Option Fact)} {ks : List ℕ} {fs : List Fact} → Takes facts ks fs rest → (j : ℕ) (h : Fact) → slice_get rest j ≡ Some (Some h) → slice_get facts j ≡ Some (Some h)
+takes_kept nothing j h e = e
+takes_kept (one {facts = facts} {k = k} {f = f} i t) j h e = used_kept facts k j f h (takes_kept t j h e)
 
--- each fact that is taken was there
-pub taken_each : {facts rest : List (Option Fact)} {ks : List ℕ} {fs : List Fact} (P : Fact → Type 0) → Every P facts → Takes facts ks fs rest → (f : Fact) → Member f fs → P f
-taken_each P all nothing f m = elim m [ ]
-taken_each P all (one {facts = facts} {k = k} {f = g} e h) f m = each_member P (all k g e) m (λ n. taken_each P (go g.persistent) h f n)
-  where
-    go : (b : Bool) → Every P (if b then facts else slice_set facts k None)
-    go true = all
-    go false = every-set P facts k None all (λ a l. absurd (cc))
+pub takes_length : {facts rest : List (Option Fact)} {ks : List ℕ} {fs : List Fact} → Takes facts ks fs rest → length rest ≡ length facts
+takes_length nothing = refl
+takes_length (one {facts = facts} {k = k} {f = f} i t) = let h = takes_length t in let l = used_length facts k f in omega arith
+
+pub takes_later : {facts rest : List (Option Fact)} {k : ℕ} {ks : List ℕ} {f : Fact} {fs : List Fact} → Takes facts (k ∷ ks) (f ∷ fs) rest → Takes (used facts k f) ks fs rest
+takes_later (one i t) = t
+
+-- the first that is taken is gone, where it is linear
+pub first_gone : {facts rest : List (Option Fact)} {k : ℕ} {ks : List ℕ} {f : Fact} {fs : List Fact} → Takes facts (k ∷ ks) (f ∷ fs) rest → f.persistent ≡ false → (h : Fact) → slice_get rest k ≡ Some (Some h) → ⊥
+first_gone {facts = facts} {k = k} {f = f} t linear h e = used_gone facts k f h linear (takes_kept (takes_later t) k h e)
+
+pub first_there : {facts rest : List (Option Fact)} {k : ℕ} {ks : List ℕ} {f : Fact} {fs : List Fact} → Takes facts (k ∷ ks) (f ∷ fs) rest → slice_get facts k ≡ Some (Some f)
+first_there (one i t) = i
+
+pub second_there : {facts rest : List (Option Fact)} {k j : ℕ} {ks : List ℕ} {f h : Fact} {fs : List Fact} → Takes facts (k ∷ j ∷ ks) (f ∷ h ∷ fs) rest → slice_get facts j ≡ Some (Some h)
+second_there {facts = facts} {k = k} {j = j} {f = f} {h = h} t = used_kept facts k j f h (first_there (takes_later t))

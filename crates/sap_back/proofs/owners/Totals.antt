@@ -1,15 +1,10 @@
 -- Sums of weights over lists.
 use Rattle.sap_translate.specs.relation.Totals.{total}
-use Rattle.std.proofs.Common.{◌≡◌, ℕ, zero, suc, ◌+◌, ◌<◌, List, [], ◌∷◌, ◌++◌, Some, refl, arith, slice_get, slice_set}
+use Rattle.std.proofs.Common.{◌≡◌, ℕ, zero, suc, ◌+◌, ◌<◌, List, [], ◌∷◌, ◌++◌, Some, refl, arith, slice_get}
 
 pub total-append : {A : Type 0} (w : A → ℕ) (xs ys : List A) → total w (xs ++ ys) ≡ total w xs + total w ys
 total-append w [] ys = omega arith
 total-append w (x ∷ xs) ys = omega (arith, total-append w xs ys)
-
-pub total-set : {A : Type 0} (w : A → ℕ) (xs : List A) (t : ℕ) (x y : A) → slice_get xs t ≡ Some x → total w (slice_set xs t y) + w x ≡ total w xs + w y
-total-set w [] t x y e = cc
-total-set w (z ∷ xs) zero x y e = let same : w z ≡ w x = cc in omega (arith, same)
-total-set w (z ∷ xs) (suc t) x y e = omega (arith, total-set w xs t x y e)
 
 -- what has weight can be found
 pub record Found {A : Type 0} (w : A → ℕ) (xs : List A) : Type 0 where

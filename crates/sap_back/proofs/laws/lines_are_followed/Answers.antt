@@ -1,5 +1,6 @@
-use Rattle.sap_back.proofs.Convert.{begins_along, lines_followed, threads_there, ends_opposite}
+use Rattle.sap_back.proofs.Convert.{begins_along, ends_tabled, lines_followed}
 use Rattle.sap_back.proofs.Premises.{Laws}
+use Rattle.sap_back.proofs.Tabled.{begins_tabled}
 use Rattle.sap_back.proofs.laws.lines_are_followed.Goals as goal
 
 pub returns : goal.returns
@@ -63,7 +64,7 @@ returns c =
     } in
     record {
       begins = λ g p q hold ready small annotated. begins_along laws g p q hold ready small annotated;
+      tabled = begins_tabled;
       lines = λ g p q hold ready small annotated. lines_followed laws g p q hold ready small annotated;
-      threads = λ g p q hold ready small annotated. threads_there laws g p q hold ready small annotated;
-      ends = λ g p q hold ready small annotated. ends_opposite laws g p q hold ready small annotated;
+      ends = λ g p q hold ready small annotated. ends_tabled laws g p q hold ready small annotated;
     }

@@ -54,7 +54,6 @@ returns c =
       patterns = t.patterns;
       facts = t.facts;
       pairs = t.pairs;
-      quiet = c.restrictions_say_sentences.ensures.quiet;
       kept = c.equality_is_kept.ensures;
       each_form = c.each_term_has_a_normal_form.ensures;
       one_form = c.normal_forms_are_unique.ensures;

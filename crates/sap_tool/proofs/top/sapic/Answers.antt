@@ -14,6 +14,26 @@ returns g c =
           (λ z told read. let t = c.theories_are_printable.ensures.inlined told (c.files_are_runnable.ensures z told read) (c.files_are_printable.ensures z told read) in
           record { spelled = c.printed_theories.ensures.printable _ _ t; no_other = λ u. c.printed_theories.ensures.no_other _ _ u t });
       one = c.one_file.ensures;
-      some = c.some_file.ensures;
+      one_theory = c.one_answer_of_theories.ensures;
+      one_run = c.one_run.ensures.either;
+      theories = λ z t read. record { builtins = c.read_theories_can_run.ensures.builtins z t read; made = (c.read_theories_can_run.ensures.checkable z t read).made };
+      legal = record {
+        process = record {
+          outcome = c.process_lines.ensures.outcome;
+          answer = c.process_lines.ensures.answer;
+          exactly = c.process_lines.ensures.exactly;
+          small_lines = c.process_lines.ensures.small_lines;
+          small_runs = c.process_lines.ensures.small_runs;
+        };
+        rules = record {
+          outcome = c.rule_lines.ensures.outcome;
+          answer = c.rule_lines.ensures.answer;
+          runs = c.rule_lines.ensures.runs;
+          messages = c.rule_lines.ensures.messages;
+          prefix = c.rule_lines.ensures.prefix;
+        };
+        ready = c.annotations_are_ready.ensures.ready;
+        made = c.rules_are_well_made.ensures.made;
+      };
     })
     _ _ c.run.ensures

@@ -1,7 +1,9 @@
 use Rattle.std.proofs.Common.{rules, ap, ◌∙◌}
 use Rattle.sap_tool.specs.Answers.{broken, wanting}
 use Rattle.sap_tool.specs.Outside.{one_more}
-use Rattle.sap_tool.proofs.Appending.{appends_both, rose_later, last_of, cut_after_fault, cut_after_want, write_fault_is, memory_is}
+use Rattle.sap_tool.proofs.Appends.{appends_both}
+use Rattle.sap_tool.proofs.Rises.{rose_later}
+use Rattle.sap_tool.proofs.Appending.{last_of, cut_after_fault, cut_after_want, write_fault_is, memory_is}
 use Rattle.sap_tool.proofs.top.tell.Goals as goal
 
 pub returns-in-Err-Failed : goal.returns-in-Err-Failed

@@ -1,0 +1,20 @@
+-- The conversion of a run of rules has one answer.
+use Rattle.std.specs.Prelude.{◌≡◌, ℕ, List}
+use Rattle.sap_terms.specs.Signature.{Sig}
+use Rattle.sap_terms.specs.Trace.{Trace}
+use Rattle.sap_process.specs.Proc.{Proc}
+use Rattle.sap_restrict.specs.declared.which.Which.{Which}
+use Rattle.sap_rule.specs.RuleSteps.{RuleState}
+use Rattle.sap_runs.specs.declared.rule_step.RStep.{RStep}
+use Rattle.sap_steps.specs.declared.fault.RFault.{RFault}
+use Rattle.sap_back.specs.Converted.{IsCounted, IsFirstBroken, IsFirstRefused}
+
+-- of the lines one of these holds at most, and in one way: they are a run that counts, one of them is the first that is refused, or one of
+-- them is the first behind which a restriction is false
+pub record HaveOneAnswer (g : Sig) (start : Proc) (rule_lines : List RStep) : Type 0 where
+  pub one_run : (s z : RuleState) (full tr : Trace) → IsCounted g start rule_lines s full → IsCounted g start rule_lines z tr → (s ≡ z) × (full ≡ tr)
+  pub counted_or_refused : (s : RuleState) (full : Trace) (number : ℕ) (fault : RFault) → IsCounted g start rule_lines s full → IsFirstRefused g start rule_lines number fault → ⊥
+  pub counted_or_broken : (s : RuleState) (full : Trace) (number : ℕ) (which : Which) → IsCounted g start rule_lines s full → IsFirstBroken g start rule_lines number which → ⊥
+  pub refused_or_broken : (number other : ℕ) (fault : RFault) (which : Which) → IsFirstRefused g start rule_lines number fault → IsFirstBroken g start rule_lines other which → ⊥
+  pub one_refused : (number other : ℕ) (fault cause : RFault) → IsFirstRefused g start rule_lines number fault → IsFirstRefused g start rule_lines other cause → number ≡ other
+  pub one_broken : (number other : ℕ) (which second : Which) → IsFirstBroken g start rule_lines number which → IsFirstBroken g start rule_lines other second → (number ≡ other) × (which ≡ second)

@@ -1,0 +1,54 @@
+// Lines of rules, as a conversion makes them.
+ghost use Rattle.std.specs.Prelude.{◌≡◌, ◌+◌, [], ◌∷◌, IfOk};
+ghost use Rattle.sap_forward.specs.Written.{uses};
+
+use sap_place::with_digits;
+use sap_runs::RStep;
+use sap_terms::{Bindings, Mem, Numbers, Path};
+use std::alloc::Global;
+
+// The number so much later; beyond the greatest u64 it is want of memory.
+pub(crate) fn later(number: u64, by: u64) -> Result<u64, Mem>
+    ensures { IfOk result (λ n. n ≡ number + by) }
+{
+    number.checked_add(by).ok_or(Mem)
+}
+
+// The rule of this word at the place with this path, on these facts.
+pub(crate) fn rule_on(
+    alloc: Global,
+    word: &[u8],
+    path: &Path,
+    facts: Numbers,
+    bindings: Bindings,
+) -> Result<RStep, Mem>
+    ensures { IfOk result (λ line. line ≡ uses word.now path.now facts bindings) }
+{
+    let name = with_digits(alloc, word, path)?;
+    Ok(RStep::Rule(name, facts, bindings))
+}
+
+// That rule on one fact.
+pub(crate) fn rule_on_one(alloc: Global, word: &[u8], path: &Path, fact: u64) -> Result<RStep, Mem>
+    ensures { IfOk result (λ line. line ≡ uses word.now path.now (fact ∷ []) []) }
+{
+    let mut facts = Numbers::new(alloc);
+    facts.push(fact)?;
+    rule_on(alloc, word, path, facts, Bindings::new(alloc))
+}
+
+// That rule on two facts.
+pub(crate) fn rule_on_two(
+    alloc: Global,
+    word: &[u8],
+    path: &Path,
+    first: u64,
+    second: u64,
+) -> Result<RStep, Mem>
+    ensures { IfOk result (λ line. line ≡ uses word.now path.now (first ∷ second ∷ []) []) }
+{
+    let mut facts = Numbers::new(alloc);
+    facts.push(first)?;
+    facts.push(second)?;
+    rule_on(alloc, word, path, facts, Bindings::new(alloc))
+}

@@ -1,0 +1,71 @@
+-- Bytes of a run that were read up, and the whole run.
+use Rattle.std.proofs.Common.{◌≡◌, ◌≤◌, ◌<◌, ℕ, zero, suc, List, ◌++◌, length, Option, Some, None, Result, Ok, Err, inl, inr, ◌⊎◌, sym, ap, subst, ◌∙◌, arith}
+use Rattle.std.specs.Prelude.{IsSomeAnd}
+use Rattle.std.specs.FinMap as files
+use Rattle.std.proofs.lemmas.Grind.{common_steps}
+use Rattle.std.proofs.lemmas.List.{append-nil}
+use Rattle.sap_run_texts.specs.RunTexts.{IsRunRead}
+use Rattle.sap_run_texts.specs.declared.run.Kinds.{Kinds}
+use Rattle.sap_run_texts.specs.declared.run.Run.{Run}
+use Rattle.sap_run_texts.specs.declared.run_fault.RunFault.{RunFault}
+use Rattle.sap_tool.specs.Call.{Holds}
+use Rattle.sap_tool.specs.Outside.{Files}
+use Rattle.sap_tool.specs.RunPieces.{most_run_bytes, IsReadUp, IsJoined, IsRunAnswer, is_run, too_long, bad_head, bad_line, too_many_of_process, too_many_of_rules}
+use Rattle.sap_tool.specs.RunRefusals.{IsRunRefusedWith, no_run}
+use Rattle.sap_tool.specs.declared.run_refusal.RunRefusal.{RunRefusal}
+
+-- bytes are read as one run, or refused for one cause
+abbrev pub OneRun : Type 0
+OneRun = (k : Kinds) (z : List ℕ) (o r : Result Run RunFault) → IsRunRead k z o → IsRunRead k z r → o ≡ r
+
+module _ (one : OneRun) (k : Kinds) (z : List ℕ) where
+  clash : (r : Run) (e : RunFault) → IsRunRead k z (Ok r) → IsRunRead k z (Err e) → ⊥
+  clash r e a b = let same : ◌≡◌ {A = Result Run RunFault} (Ok r) (Err e) = one k z (Ok r) (Err e) a b in cc (same)
+
+  -- what is answered is a run, or a refusal
+  pub not_both : (r : Run) (e : RunRefusal) → IsRunAnswer k z (Ok r) → IsRunAnswer k z (Err e) → ⊥
+  not_both r e (is_run l a) (too_long m) = omega (arith, l, m)
+  not_both r e (is_run l a) (bad_head m b) = clash r _ a b
+  not_both r e (is_run l a) (bad_line m b) = clash r _ a b
+  not_both r e (is_run l a) (too_many_of_process m h b) = clash r _ a b
+  not_both r e (is_run l a) (too_many_of_rules m h b) = clash r _ a b
+
+  -- and one run
+  pub same_run : (r s : Run) → IsRunAnswer k z (Ok r) → IsRunAnswer k z (Ok s) → r ≡ s
+  same_run r s (is_run l a) (is_run m b) = let same : ◌≡◌ {A = Result Run RunFault} (Ok r) (Ok s) = one k z (Ok r) (Ok s) a b in cc
+
+short_or_long : (n most : ℕ) → (n ≤ most) ⊎ (most < n)
+short_or_long zero most = inl (omega arith)
+short_or_long (suc n) zero = inr (omega arith)
+short_or_long (suc n) (suc most) = elim (short_or_long n most) [ inl h ↦ inl (omega (arith, h)) | inr h ↦ inr (omega (arith, h)) ]
+
+-- bytes that were read up, and aren't too many, are all
+all_read : (z y : List ℕ) → IsReadUp z y → length y ≤ most_run_bytes → z ≡ y
+all_read z y up short = up.part ∙ ap (λ (x : List ℕ). y ++ x) (up.whole short) ∙ append-nil y
+
+longer : (y left : List ℕ) (most : ℕ) → most < length y → most < length (y ++ left)
+longer y left most h = grind (arith, common_steps)
+
+-- what refuses a run refuses the bytes of it that were read up
+pub read_up_refused : (k : Kinds) (Is : Run → List ℕ → Type 0) (z y why : List ℕ) → IsReadUp z y → IsRunRefusedWith k Is z why
+    → ((other : List ℕ) × IsRunRefusedWith k Is y other)
+read_up_refused k Is z y why up r = elim (short_or_long (length y) most_run_bytes) [
+  | inl short ↦ (why, subst (λ (x : List ℕ). IsRunRefusedWith k Is x why) (all_read z y up short) r)
+  | inr long ↦ (_, no_run (too_long long))
+]
+
+-- and the other way about
+pub refused_by_read_up : (k : Kinds) (Is : Run → List ℕ → Type 0) (z y why : List ℕ) → IsReadUp z y → IsRunRefusedWith k Is y why
+    → ((other : List ℕ) × IsRunRefusedWith k Is z other)
+refused_by_read_up k Is z y why up r = elim (short_or_long (length y) most_run_bytes) [
+  | inl short ↦ (why, subst (λ (x : List ℕ). IsRunRefusedWith k Is x why) (sym (all_read z y up short)) r)
+  | inr long ↦ (_, no_run (too_long (subst (λ (x : List ℕ). most_run_bytes < length x) (sym up.part) (longer y up.left most_run_bytes long))))
+]
+
+-- the joined pieces of a run that is held are its bytes, read up
+pub joined_part : (holds : Option Files) (name z y : List ℕ) → Holds holds name z → IsJoined holds name y → IsReadUp z y
+joined_part None name z y held joined = absurd held
+joined_part (Some all) name z y held joined = at (files.get all name) held joined where
+  at : (o : Option (List ℕ)) → o ≡ Some z → IsSomeAnd o (λ (file : List ℕ). IsReadUp file y) → IsReadUp z y
+  at None h k = absurd k
+  at (Some other) h k = let e : other ≡ z = cc in subst (λ (x : List ℕ). IsReadUp x y) e k

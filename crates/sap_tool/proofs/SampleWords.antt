@@ -1,0 +1,64 @@
+-- The words that ask for a sample.
+use Rattle.std.proofs.Common.{◌≡◌, ◌≢◌, ◌≤◌, ◌<◌, ◌^◌, ℕ, List, Option, Some, None, Result, Ok, Err, sym, ap, subst, ◌∙◌, arith, decimal}
+use Rattle.std.specs.Prelude.{IfOk, MatchOption}
+use Rattle.std.specs.Str.Parse.{ParsesUnsigned}
+use Rattle.std.proofs.lemmas.Fmt.{parse-decimal, decimal_injective}
+use Rattle.sap_tool.specs.Call.{Call}
+use Rattle.sap_tool.specs.Commands.{Command, compile, replay, check, spelled}
+use Rattle.sap_tool.specs.Sample.{IsSample, most_sessions, sample_words}
+use Rattle.sap_tool.specs.Answers.{gives, IsAnswer, sampled, usage}
+use Rattle.sap_tool.specs.code.Endings.{Ends}
+use Rattle.sap_tool.specs.code.Sampled.{EndsSample}
+use Rattle.sap_tool.specs.declared.ending.Ending.{Ending}
+use Rattle.sap_tool.specs.declared.ending.Ending.TheVariants as ending
+use Rattle.sap_tool.specs.declared.task.Task.{Task}
+use Rattle.sap_tool.specs.declared.way.Way.{Way}
+use Rattle.sap_tool.specs.declared.way.Way.TheVariants.{Plain, Inlined}
+
+-- a word that asks for so many sessions is read as that number
+pub read_sessions : {E : Type 0} (word : List ℕ) (r : Result ℕ E) (m : ℕ) → ParsesUnsigned 64 10 word r → m ≤ most_sessions → word ≡ decimal m → r ≡ Ok m
+read_sessions word r m parses most is =
+    let small : m < 2 ^ 64 = omega (arith, most) in parse-decimal 64 m word r small small is parses
+
+-- it asks for no other number, so the one that it is read as is right where the word is that in decimal
+pub sessions_spelled : {E : Type 0} (r : Result (Option ℕ) E) (word : List ℕ) (n : ℕ) → 1 ≤ n → n ≤ most_sessions → ((m : ℕ) → m ≤ most_sessions → word ≡ decimal m → n ≡ m)
+    → IfOk r (λ found. MatchOption found (word ≢ decimal n) (λ m. (m ≡ n) × (word ≡ decimal n)))
+    → IfOk r (λ found. MatchOption found ((m : ℕ) → 1 ≤ m → m ≤ most_sessions → word ≢ decimal m) (λ m. (1 ≤ m) × (m ≤ most_sessions) × (word ≡ decimal m)))
+sessions_spelled (Err e) word n some most only h = h
+sessions_spelled (Ok None) word n some most only h = λ m more less is. h (is ∙ ap decimal (sym (only m less is)))
+sessions_spelled (Ok (Some m)) word n some most only h = (omega (arith, h.0, some), omega (arith, h.0, most), h.1 ∙ ap decimal (sym h.0))
+
+-- words that ask for a sample ask for one of so many sessions
+pub one_sample : (words : List (List ℕ)) (m n : ℕ) → IsSample words m → IsSample words n → m ≡ n
+one_sample words m n h k =
+    let most = h.most in
+    let most_too = k.most in
+    let both : sample_words m ≡ sample_words n = sym h.spelled ∙ k.spelled in
+    let spelled : decimal m ≡ decimal n = cc in
+    decimal_injective m n (omega (arith, most)) (omega (arith, most_too)) spelled
+
+other_words : (k : Command) (n : ℕ) → spelled k ≡ sample_words n → ⊥
+other_words (compile Plain file) n e = cc
+other_words (compile Inlined file) n e = cc
+other_words (replay task file run) n e = cc
+other_words (check theory run) n e = cc
+
+-- and for nothing else
+pub no_command_is_sample : (words : List (List ℕ)) (k : Command) (n : ℕ) → words ≡ spelled k → IsSample words n → ⊥
+no_command_is_sample words k n asks sample = other_words k n (sym asks ∙ sample.spelled)
+
+-- what a call ends with that asks for no command
+pub ends_of_sample : (c : Call) (e : Ending) → ((k : Command) → c.words ≡ spelled k → ⊥) → c.asked_after ≡ c.asked_before → EndsSample c.words e → Ends c e
+ends_of_sample c (ending.Given text) none same h = subst (λ (y : List ℕ). IsAnswer c (gives y)) (sym h.2) (sampled h.0 h.1 same)
+ends_of_sample c ending.Usage none same h = usage (record { no_command = none; no_sample = h }) same
+ends_of_sample c ending.Unread none same h = absurd h
+ends_of_sample c (ending.File line) none same h = absurd h
+ends_of_sample c (ending.Run line) none same h = absurd h
+ends_of_sample c ending.Mem none same h = h
+
+-- no command is asked for, where none of each kind is
+pub no_command_of : (words : List (List ℕ)) → ((way : Way) (file : List ℕ) → words ≢ spelled (compile way file)) → ((task : Task) (file run : List ℕ) → words ≢ spelled (replay task file run))
+    → ((theory run : List ℕ) → words ≢ spelled (check theory run)) → (k : Command) → words ≡ spelled k → ⊥
+no_command_of words f r t (compile way file) e = f way file e
+no_command_of words f r t (replay task file run) e = r task file run e
+no_command_of words f r t (check theory run) e = t theory run e

@@ -1,0 +1,18 @@
+use Rattle.std.proofs.Common.{refl}
+use Rattle.sap_tool.specs.Call.{bytes_of}
+use Rattle.sap_tool.proofs.SampleWords.{ends_of_sample, no_command_of}
+use Rattle.sap_tool.proofs.asking.ending.Goals as goal
+
+pub returns-in-Some : goal.returns-in-Some
+returns-in-Some g c = λ out err. c.end_compile.ensures (bytes_of c.args.words.now.items) out err c.in-Some.ensures
+
+pub returns-in-Some-run_to_replay : goal.returns-in-Some-run_to_replay
+returns-in-Some-run_to_replay g c = λ out err. c.end_replay.ensures (bytes_of c.args.words.now.items) out err c.in-Some-run_to_replay.ensures
+
+pub returns-in-Some-run_to_check : goal.returns-in-Some-run_to_check
+returns-in-Some-run_to_check g c = λ out err. c.end_check.ensures (bytes_of c.args.words.now.items) out err c.in-Some-run_to_check.ensures
+
+pub returns-in-None : goal.returns-in-None
+returns-in-None g c = λ out err.
+    ends_of_sample _ c.end_sample.result (no_command_of (bytes_of c.args.words.now.items) c.in_default.ensures c.in_default-run_to_replay.ensures c.in-None.ensures) refl
+    c.end_sample.ensures

@@ -1,0 +1,100 @@
+-- What is written of a run, and what that means.
+use Rattle.std.specs.Prelude.{◌≡◌, ℕ, List, Ok, Contains}
+use Rattle.sap_back.specs.Converted as back
+use Rattle.sap_forward.specs.Converted as forward
+use Rattle.sap_formula.specs.Hide.{hide}
+use Rattle.sap_lines.specs.Runs.{IsLegalProcessRun}
+use Rattle.sap_process.specs.Configuration.{Config}
+use Rattle.sap_read.specs.Files.{FileContent}
+use Rattle.sap_restrict.specs.Standard.{IsAdmitted}
+use Rattle.sap_rule.specs.RuleSteps.{RuleState}
+use Rattle.sap_rule.specs.declared.theory.Theory.{Theory}
+use Rattle.sap_run_texts.specs.RunPrinted.{process_run_text, rule_run_text}
+use Rattle.sap_run_texts.specs.declared.run.Kinds.{Kinds}
+use Rattle.sap_run_texts.specs.declared.run.Kinds.TheVariants.{Rules}
+use Rattle.sap_run_texts.specs.declared.run.Run.{Run}
+use Rattle.sap_run_texts.specs.declared.run.Run.TheVariants as run
+use Rattle.sap_runs.specs.Limits.{IsSmall}
+use Rattle.sap_runs.specs.Marks.{Mark}
+use Rattle.sap_runs.specs.declared.process_step.PStep.{PStep}
+use Rattle.sap_runs.specs.declared.rule_step.RStep.{RStep}
+use Rattle.sap_steps.specs.Marks.{marks}
+use Rattle.sap_steps.specs.Runs.{IsLegalRun}
+use Rattle.sap_terms.specs.Trace.{Trace}
+use Rattle.sap_terms.specs.Tree.{Tree}
+use Rattle.sap_tool.specs.AcceptedFile.{IsAcceptedFile, compiled_theory}
+use Rattle.sap_tool.specs.AcceptedTheory.{IsAcceptedTheory}
+use Rattle.sap_tool.specs.RunPieces.{IsRunAnswer}
+use Rattle.sap_tool.specs.Verdicts.{all_judged, AreVerdicts}
+use Rattle.sap_tool.specs.declared.way.Way.TheVariants.{Plain}
+
+-- the text is that of a run opposite, of the other kind
+pub data IsConvertedText (f : FileContent) : Run → List ℕ → Type 0 where
+  to_rules : {lines : List PStep} (rule_lines : List RStep) → forward.IsConverted f.signature f.process lines rule_lines
+      → IsConvertedText f (run.Process lines) (rule_run_text rule_lines)
+  to_process : {rule_lines : List RStep} (lines : List PStep) → back.IsConverted f.signature f.process rule_lines lines
+      → IsConvertedText f (run.Rules rule_lines) (process_run_text lines)
+
+-- the run is legal within the limit, and this is its visible trace
+pub data IsSeen (f : FileContent) : Run → Trace → Type 0 where
+  of_process : {lines : List PStep} {tr : Trace} → forward.IsShownBy f.signature f.process lines tr → IsSeen f (run.Process lines) tr
+  of_rules : {lines : List RStep} (s : RuleState) (full : Trace) → back.IsCounted f.signature f.process lines s full
+      → IsSeen f (run.Rules lines) (hide full)
+
+-- the text says of each restriction and lemma of the file whether it is true on the visible trace of the run
+pub record IsJudgedText (f : FileContent) (r : Run) (text : List ℕ) : Type 0 where
+  pub trace : Trace
+  pub seen : IsSeen f r trace
+  pub verdicts : AreVerdicts f.signature trace (all_judged f.restrictions f.lemmas) text
+
+-- the run is one of the theory's rules, legal within the limit, and this is its full trace
+pub data IsFullOf (t : Theory) : Run → Trace → Type 0 where
+  of_theory : {lines : List RStep} {full : Trace} (s : RuleState) → IsLegalRun t.signature t.rules IsSmall lines s full → IsFullOf t (run.Rules lines) full
+
+-- the text says of each restriction and lemma of the theory whether it is true on the full trace of the run
+pub record IsCheckedText (t : Theory) (r : Run) (text : List ℕ) : Type 0 where
+  pub full : Trace
+  pub shown : IsFullOf t r full
+  pub verdicts : AreVerdicts t.signature full (all_judged t.restrictions t.lemmas) text
+
+-- the bytes are an accepted file, and those of the run an accepted run of a kind that is asked for, of which such a text is written
+pub record IsReplayed (kinds : Kinds) (Is : FileContent → Run → List ℕ → Type 0) (bytes z text : List ℕ) : Type 0 where
+  pub told : FileContent
+  pub file : IsAcceptedFile bytes told
+  pub lines : Run
+  pub read : IsRunAnswer kinds z (Ok lines)
+  pub written : Is told lines text
+
+-- the bytes are an accepted theory, and those of the run an accepted run of rules, of which such a text is written
+pub record IsChecked (bytes z text : List ℕ) : Type 0 where
+  pub theory : Theory
+  pub file : IsAcceptedTheory bytes theory
+  pub lines : Run
+  pub read : IsRunAnswer Rules z (Ok lines)
+  pub written : IsCheckedText theory lines text
+
+-- A run of the file's process and one of the rules of its theory are both legal within the limit on terms, and the full trace of the
+-- second counts. What the first shows is what is seen of the second, they have the same marks, which are the same inner actions and
+-- events in order, and what the adversary knows behind the second is among its entries behind the first.
+pub record AreOpposite (f : FileContent) (lines : List PStep) (rule_lines : List RStep) : Type 0 where
+  pub theory : Theory
+  pub compiled : theory ≡ compiled_theory Plain f
+  pub config : Config
+  pub entries : List Tree
+  pub trace : Trace
+  pub marks_of_both : List Mark
+  pub legal : IsLegalProcessRun f.signature IsSmall f.process lines config entries trace marks_of_both
+  pub state : RuleState
+  pub full : Trace
+  pub legal_rules : IsLegalRun theory.signature theory.rules IsSmall rule_lines state full
+  pub admitted : IsAdmitted theory.signature full
+  pub shows : hide full ≡ trace
+  pub marked : marks full ≡ marks_of_both
+  pub known : (t : Tree) → Contains state.known t → Contains entries t
+
+-- the text is that of a run that is opposite to the one that was read
+pub data IsOppositeText (f : FileContent) : Run → List ℕ → Type 0 where
+  rules_of_process : {lines : List PStep} (rule_lines : List RStep) → AreOpposite f lines rule_lines
+      → IsOppositeText f (run.Process lines) (rule_run_text rule_lines)
+  process_of_rules : {rule_lines : List RStep} (lines : List PStep) → AreOpposite f lines rule_lines
+      → IsOppositeText f (run.Rules rule_lines) (process_run_text lines)

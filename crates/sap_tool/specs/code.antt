@@ -1,0 +1,8 @@
+-- What the code does, step by step: no public contract cites what stands below.
+pub mod Endings
+pub mod Checked
+pub mod Refused
+pub mod Verdicts
+pub mod PutUpTo
+pub mod RunFed
+pub mod Sampled

@@ -1,0 +1,87 @@
+-- What a call ends with, step by step.
+use Rattle.std.specs.Prelude.{◌≡◌, ◌+◌, ℕ, List, Option, Result, Ok, Err}
+use Rattle.sap_tool.specs.Outside.{Files, Rose, more}
+use Rattle.sap_tool.specs.RunPieces.{IsJoined}
+use Rattle.sap_tool.specs.Call.{Call}
+use Rattle.sap_tool.specs.Commands.{Command, alone, and_run, Accepts, Allows}
+use Rattle.sap_tool.specs.Answers.{gives, tells, IsAnswer, IsAnswerTo, usage_text, read_fault_text}
+use Rattle.sap_tool.specs.declared.refusal.Refusal.{Refusal}
+use Rattle.sap_tool.specs.declared.refusal.Refusal.TheVariants as refusal
+use Rattle.sap_tool.specs.declared.ending.Ending.{Ending}
+use Rattle.sap_tool.specs.declared.ending.Ending.TheVariants as ending
+
+-- it is an answer that the call may have, unless memory was wanting
+abbrev pub Ends : Call → Ending → Type 0
+Ends c (ending.Given text) = IsAnswer c (gives text)
+Ends c ending.Usage = IsAnswer c (tells 3 usage_text)
+Ends c ending.Unread = IsAnswer c (tells 4 read_fault_text)
+Ends c (ending.File line) = IsAnswer c (tells 1 line)
+Ends c (ending.Run line) = IsAnswer c (tells 2 line)
+Ends c ending.Mem = Unit {0}
+
+-- what a text of a run, or the line that refuses it, ends with
+abbrev pub ending_of : Result (List ℕ) Refusal → Ending
+ending_of (Ok text) = ending.Given text
+ending_of (Err (refusal.Told line)) = ending.Run line
+ending_of (Err refusal.Mem) = ending.Mem
+
+-- what the line that refuses a file or theory ends with
+abbrev pub refused_ending : Refusal → Ending
+refused_ending (refusal.Told line) = ending.File line
+refused_ending refusal.Mem = ending.Mem
+
+-- what the bytes of a file or theory alone end with: a text, a refusal, or that memory was wanting
+abbrev pub EndsFile : Command → List ℕ → Ending → Type 0
+EndsFile k bytes (ending.Given text) = Allows k (alone bytes) text
+EndsFile k bytes ending.Usage = ⊥
+EndsFile k bytes ending.Unread = ⊥
+EndsFile k bytes (ending.File line) = IsAnswerTo k (alone bytes) (tells 1 line)
+EndsFile k bytes (ending.Run line) = ⊥
+EndsFile k bytes ending.Mem = Unit {0}
+
+-- what these bytes, and then those of a run, end with
+abbrev pub EndsRun : Command → List ℕ → List ℕ → Ending → Type 0
+EndsRun k bytes z (ending.Given text) = Allows k (and_run bytes z) text
+EndsRun k bytes z ending.Usage = ⊥
+EndsRun k bytes z ending.Unread = ⊥
+EndsRun k bytes z (ending.File line) = ⊥
+EndsRun k bytes z (ending.Run line) = IsAnswerTo k (and_run bytes z) (tells 2 line)
+EndsRun k bytes z ending.Mem = Unit {0}
+
+-- what the shelf tells of a run: what it holds, this name's count of faults before and after, and how often it was asked
+pub record Reading : Type 0 where
+  pub holds : Option Files
+  pub run : List ℕ
+  pub faults_before : ℕ
+  pub faults_after : ℕ
+  pub asked_before : Option ℕ
+  pub asked_after : Option ℕ
+
+-- with these
+abbrev pub reading : Option Files → List ℕ → ℕ → ℕ → Option ℕ → Option ℕ → Reading
+reading holds run faults_before faults_after asked_before asked_after = record {
+  holds = holds;
+  run = run;
+  faults_before = faults_before;
+  faults_after = faults_after;
+  asked_before = asked_before;
+  asked_after = asked_after;
+}
+
+-- the run was opened, and so many pieces of it were asked for
+abbrev pub HasAsked : Reading → Type 0
+HasAsked r = (nexts : ℕ) × (r.asked_after ≡ more (nexts + 1) r.asked_before)
+
+-- these bytes were read
+abbrev pub HasRead : Reading → List ℕ → Type 0
+HasRead r z = IsJoined r.holds r.run z × HasAsked r
+
+-- What the bytes of a file or theory end with, where a run is read behind them, unless they are refused: with what they and the run end
+-- with, or with a fault of the run.
+abbrev pub EndsBoth : Command → List ℕ → Reading → Ending → Type 0
+EndsBoth k bytes r (ending.Given text) = (z : List ℕ) × HasRead r z × Allows k (and_run bytes z) text
+EndsBoth k bytes r ending.Usage = ⊥
+EndsBoth k bytes r ending.Unread = Accepts k bytes × Rose r.faults_before r.faults_after × HasAsked r
+EndsBoth k bytes r (ending.File line) = IsAnswerTo k (alone bytes) (tells 1 line) × (r.asked_after ≡ r.asked_before)
+EndsBoth k bytes r (ending.Run line) = (z : List ℕ) × HasRead r z × IsAnswerTo k (and_run bytes z) (tells 2 line)
+EndsBoth k bytes r ending.Mem = Unit {0}
