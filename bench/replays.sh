@@ -14,6 +14,7 @@ set -eu
 main=$(cd "$(dirname "$0")/../crates/sap_main" && pwd)
 program=$main/out/sap_main
 [ -x "$program" ] || (cd "$main" && rt run -- sample 1) > /dev/null 2>&1
+before=
 
 # instructions WORD..: those of one call
 instructions() {

@@ -1,4 +1,6 @@
 //! Calls of the program over files and streams in memory, which may fail.
+ghost use Rattle.std.specs.Prelude.{◌<◌};
+
 use crate::files::file_bytes;
 use crate::notation::{FromWord, between, list, number, part, parted, push_written, written};
 use crate::page::Page;
@@ -60,7 +62,9 @@ fn files_with(page: &mut Page, file: &[u8], run: &[u8]) -> BTreeMap<String, Vec<
 
 // A shelf with these two files, whose call of this number fails, none where that is 0, and which gives so many bytes of a run at
 // once.
-fn shelf(page: &mut Page, file: &[u8], run: &[u8], failing: u64, piece: u64) -> MemShelf {
+fn shelf(page: &mut Page, file: &[u8], run: &[u8], failing: u64, piece: u64) -> MemShelf
+    requires { 0 < piece }
+{
     let mut fail_on = Vec::new(page.alloc);
     page.push(&mut fail_on, Some(failing));
     MemShelf {
@@ -209,6 +213,10 @@ pub fn run_calls_row(page: &mut Page, row: &str) {
     let run = written(page.alloc, part(row, 2));
     let failing = number(page, part(row, 3));
     let piece = number(page, part(row, 4));
+    if piece == 0 {
+        page.fail();
+        return;
+    }
     let mut shelf = shelf(page, file.as_bytes(), run.as_bytes(), failing, piece);
     let mut out = sink(page, part(row, 5));
     let mut err = sink(page, part(row, 6));
