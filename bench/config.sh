@@ -7,13 +7,4 @@ set -eu
 . "$(dirname "$0")/growth.sh"
 . "$(dirname "$0")/sessions.sh"
 built
-
-places 3900
-for lines in 5000 10000 20000 40000; do
-    net "$lines" lines config "$lines"
-done
-before=
-for count in 480 960 1920 3840; do
-    places "$count"
-    net "$count" places config 5000
-done
+doubles config 5000 10000 20000 40000

@@ -7,12 +7,4 @@ set -eu
 . "$(dirname "$0")/growth.sh"
 . "$(dirname "$0")/sessions.sh"
 built
-places 3900
-for lines in 1250 2500 5000 10000 20000; do
-    net "$lines" lines forward "$lines"
-done
-before=
-for count in 480 960 1920 3840; do
-    places "$count"
-    net "$count" places forward 5000
-done
+doubles forward 1250 2500 5000 10000 20000

@@ -28,3 +28,18 @@ net() {
     all=$(counted "$3" "$4")
     told "$1" "$2" $((all - none)) '%10d instructions'
 }
+
+# doubles KIND LINES..: tells so many lines of the kind on some 3,900 places, and then 5,000 lines on places that double
+doubles() {
+    kind=$1
+    shift
+    places 3900
+    for lines in "$@"; do
+        net "$lines" lines "$kind" "$lines"
+    done
+    before=
+    for count in 480 960 1920 3840; do
+        places "$count"
+        net "$count" places "$kind" 5000
+    done
+}
