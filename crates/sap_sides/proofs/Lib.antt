@@ -6,3 +6,4 @@ pub mod Plain
 pub mod PlainMatch
 pub mod ByNumbers
 pub mod Names
+pub mod Normals

@@ -1,5 +1,5 @@
 // Bindings, and what is bound by numbers.
-ghost use Rattle.std.specs.Prelude.{◌≡◌, ◌↔◌, ◌<◌, true, length, All, IfOk, IsTrue};
+ghost use Rattle.std.specs.Prelude.{◌≡◌, ◌↔◌, ◌<◌, length, All, IfOk, IsTrue};
 ghost use Rattle.sap_terms.specs.Equations.{equations};
 ghost use Rattle.sap_terms.specs.Message.{IsMessage};
 ghost use Rattle.sap_terms.specs.View.{tree};
@@ -7,7 +7,7 @@ ghost use Rattle.sap_rewrite.specs.Match.{bound_vars};
 ghost use Rattle.sap_share.specs.Env.{AreBound, AreSmallForms, IsSmallForm, bindings_of};
 ghost use Rattle.sap_share.specs.Shared.{Keeps};
 
-use sap_rewrite::is_message;
+use sap_rewrite::{is_message, normal_forms_are_unique};
 use sap_share::{Bound, Env, Table};
 use sap_terms::{Bindings, Copied, MOST_TERM_NODES, Mem, Signature, Vars};
 use std::alloc::Global;
@@ -33,15 +33,17 @@ pub fn number_bindings(table: &mut Table, alloc: Global, b: &Bindings) -> Result
 // Whether the term is normal and has at most 256 nodes.
 fn is_small_form(table: &Table, id: u64) -> bool
     requires { id < length table.now.trees }
-    ensures { result ≡ true → IsSmallForm (equations table.now.sig) MOST_TERM_NODES table.now.trees id }
+    ensures { IsTrue result ↔ IsSmallForm (equations table.now.sig) MOST_TERM_NODES table.now.trees id }
 {
+    normal_forms_are_unique();
+    table.each_has_one_number();
     table.normal_of(id) == id && table.size(id) <= MOST_TERM_NODES
 }
 
 /// Whether each term that is bound is normal and has at most 256 nodes.
 pub fn are_small_forms(table: &Table, env: &Env) -> bool
     requires { AreBound (length table.now.trees) env.now }
-    ensures { result ≡ true → AreSmallForms (equations table.now.sig) MOST_TERM_NODES table.now.trees env.now }
+    ensures { IsTrue result ↔ AreSmallForms (equations table.now.sig) MOST_TERM_NODES table.now.trees env.now }
 {
     for i in 0..env.len() {
         if !is_small_form(table, env.at(i).id) {
