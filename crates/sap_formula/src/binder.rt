@@ -1,3 +1,4 @@
+//! What a quantifier binds.
 use sap_terms::{Copied, Items, Mem, Name, Var};
 use std::alloc::Global;
 

@@ -18,8 +18,8 @@ use sap_terms::{Copied, Mem, Name, Signature};
 use std::alloc::Global;
 
 /// The formula with each message variable carrying its binder's sort, where it has no fault; else the fault that counts.
-/// Each fault is looked for over the whole formula, in reading order, before the next; reserved names of facts only where
-/// `reserved` says so. It recurses as deep as the formula and its terms.
+/// One kind of fault is sought from left to right in all of the formula, then the next kind; reserved names of facts only
+/// where `reserved` says so. It recurses as deep as the formula and its terms.
 pub fn check(
     alloc: Global,
     sig: &Signature,

@@ -1,3 +1,4 @@
+//! Formulas over traces.
 ghost use Rattle.std.specs.Prelude.{◌≡◌, IfOk, Ok};
 ghost use Rattle.sap_formula.specs.Form.{every, exists};
 ghost use Rattle.sap_formula.specs.View.{form};

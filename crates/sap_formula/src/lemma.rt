@@ -1,3 +1,4 @@
+//! Lemmas: formulas that are said of all traces, or of some one.
 use crate::Formula;
 use sap_terms::{Copied, Items, Mem, Name, NameList};
 use std::alloc::Global;

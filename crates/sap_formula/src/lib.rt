@@ -35,5 +35,5 @@ pub use laws::{
 pub use lemma::{Lemma, LemmaList, Mode};
 pub use restriction::{Restriction, RestrictionList};
 pub use tuples::cost;
-pub use verdict::{Verdict, judge};
+pub use verdict::{MOST_COST, Verdict, judge};
 pub use visible::hide;

@@ -1,3 +1,4 @@
+//! Restrictions: formulas that say which traces count.
 use crate::Formula;
 use sap_terms::{Copied, Items, Mem, Name};
 use std::alloc::Global;

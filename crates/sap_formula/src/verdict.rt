@@ -17,12 +17,15 @@ use sap_rewrite::normal_terms_decide;
 use sap_terms::{Mem, Trace, destructors_head_left_sides, leaves_are_normal};
 use std::alloc::Global;
 
+/// The most that a formula may cost to judge on a trace, by `cost`.
+pub const MOST_COST: u64 = 10_000_000;
+
 /// What the judge says of a formula on a trace.
 #[derive(Clone, Copy, Debug, PartialEq, Eq)]
 pub enum Verdict {
     Holds,
     Fails,
-    /// The cost is above 10,000,000; nothing was tried.
+    /// The cost is above `MOST_COST`; nothing was tried.
     TooCostly { cost: u64 },
 }
 
@@ -44,7 +47,7 @@ fn answer(alloc: Global, f: &Formula, trace: &Trace) -> Result<Verdict, Mem>
     ensures { IfOk result (λ v. IsAnswer (form f.now) trace.now v) }
 {
     let spent = cost(f, trace);
-    if spent > 10_000_000 {
+    if spent > MOST_COST {
         return Ok(Verdict::TooCostly { cost: spent });
     }
     if is_true(alloc, f, trace)? {
@@ -53,7 +56,7 @@ fn answer(alloc: Global, f: &Formula, trace: &Trace) -> Result<Verdict, Mem>
     Ok(Verdict::Fails)
 }
 
-/// Whether a checked closed formula is true on a trace of messages, where that doesn't cost more than 10,000,000 by
+/// Whether a checked closed formula is true on a trace of messages, where that doesn't cost more than `MOST_COST` by
 /// `cost`. It recurses as deep as the formula, its conjuncts and its binders.
 pub fn judge(alloc: Global, f: &Formula, trace: &Trace) -> Result<Verdict, Mem>
     ensures { (g : Sig) → IsMessageTrace g trace.now → IsClosed g (form f.now) → IfOk result (λ v. IsVerdict g (form f.now) trace.now v) }

@@ -3,12 +3,13 @@ use Rattle.std.specs.Prelude.{◌≡◌, true, false, ◌<◌, ◌≤◌, ◌-�
 use Rattle.sap_formula.specs.Cost.{form_cost}
 use Rattle.sap_formula.specs.Form.{Form}
 use Rattle.sap_formula.specs.code.Walk.{judged}
+use Rattle.sap_formula.specs.declared.verdict.TheConstants.{MOST_COST}
 use Rattle.sap_formula.specs.declared.verdict.Verdict.{Verdict}
 use Rattle.sap_formula.specs.declared.verdict.Verdict.TheVariants.{Holds, Fails, TooCostly}
 use Rattle.sap_terms.specs.Trace.{Trace}
 
 -- too costly, or what the walk says
 abbrev pub IsAnswer : Form → Trace → Verdict → Type 0
-IsAnswer f tr Holds = (form_cost tr f ≤ 10000000) × (judged f tr ≡ true)
-IsAnswer f tr Fails = (form_cost tr f ≤ 10000000) × (judged f tr ≡ false)
-IsAnswer f tr (TooCostly c) = (10000000 < form_cost tr f) × (c ≡ min (form_cost tr f) (2 ^ 64 - 1))
+IsAnswer f tr Holds = (form_cost tr f ≤ MOST_COST) × (judged f tr ≡ true)
+IsAnswer f tr Fails = (form_cost tr f ≤ MOST_COST) × (judged f tr ≡ false)
+IsAnswer f tr (TooCostly c) = (MOST_COST < form_cost tr f) × (c ≡ min (form_cost tr f) (2 ^ 64 - 1))
