@@ -18,14 +18,14 @@ use Rattle.sap_rule.specs.RuleSteps.{RuleState}
 use Rattle.sap_rule.specs.WellMade.{IsWellMade}
 use Rattle.sap_runs.specs.Limits.{IsSmall}
 use Rattle.sap_runs.specs.declared.rule_step.RStep.{RStep}
-use Rattle.sap_steps.specs.Answers.{ReachedHaveOneAnswer, ReachedHaveOneOutcome}
+use Rattle.sap_steps.specs.Answers.{ReachedHaveOneAnswer, ReachedHaveOneOutcome, RefusalsAreOne}
 use Rattle.sap_steps.specs.Faults.{IsLineFault}
 use Rattle.sap_steps.specs.Lines.{IsLine}
 use Rattle.sap_steps.specs.Runs.{IsLegalRun, LinesAreRuns}
 use Rattle.sap_steps.specs.declared.fault.RFault.{RFault}
 use Rattle.sap_steps.specs.declared.fault.RFault.TheVariants.{Mem}
 use Rattle.sap_translate.specs.Templates.{rules_of}
-use Rattle.sap_back.specs.Answers.{HaveOneAnswer}
+use Rattle.sap_back.specs.Answers.{HasSomeAnswer, HaveOneAnswer}
 use Rattle.sap_back.specs.Converted.{IsCounted, IsFirstBroken, IsFirstRefused}
 
 -- none has an item at its end
@@ -103,7 +103,7 @@ one_which v w h = by (nat_eq (place_of v) (place_of w)) refl
     by true e = sym (placed_back v) ∙ ap at_place (same_number (place_of v) (place_of w) e) ∙ placed_back w
     by false e = absurd (h (λ s. let k : nat_eq (place_of v) (place_of v) ≡ false = subst (λ z. nat_eq (place_of v) (place_of z) ≡ false) (sym s) e in let z : true ≡ false = sym (placed_alike v) ∙ k in cc))
 
-module _ (prefix : PrefixLaw) (runs : LinesAreRuns IsSmall) (reached : RunsReachMessages) (answer : ReachedHaveOneAnswer) (outcome : ReachedHaveOneOutcome IsSmall) (g : Sig) (q : Proc) (hold : HoldsBuiltins g) (well : All (IsWellMade g) (rules_of q)) where
+module _ (prefix : PrefixLaw) (runs : LinesAreRuns IsSmall) (reached : RunsReachMessages) (answer : ReachedHaveOneAnswer) (outcome : ReachedHaveOneOutcome IsSmall) (causes : RefusalsAreOne) (g : Sig) (q : Proc) (hold : HoldsBuiltins g) (well : All (IsWellMade g) (rules_of q)) where
   -- lines that are legal lead to one state
   one_run : (lines other : List RStep) (s z : RuleState) (full tr : Trace) → lines ≡ other → IsLegalRun g (rules_of q) IsSmall lines s full → IsLegalRun g (rules_of q) IsSmall other z tr → (s ≡ z) × (full ≡ tr)
   one_run lines other s z full tr e IsLegalRun.starts IsLegalRun.starts = (refl, refl)
@@ -202,11 +202,22 @@ module _ (prefix : PrefixLaw) (runs : LinesAreRuns IsSmall) (reached : RunsReach
   of_refused : (lines : List RStep) (n : ℕ) (fault : RFault) → (r : IsFirstRefused g q lines n fault) → Refused r.state r.line
   of_refused lines n fault r = record { fault = fault; refused = r.refused; cause = r.cause }
 
+  -- what one line is refused for is one
+  one_cause : (lines : List RStep) (n m : ℕ) (fault other : RFault) → (a : IsFirstRefused g q lines n fault) → (b : IsFirstRefused g q lines m other) → (a.before ≡ b.before) × (a.line ≡ b.line) → fault ≡ other
+  one_cause lines n m fault other a b same =
+      let states = one_run a.before b.before a.state b.state a.full b.full same.0 a.counted.legal b.counted.legal in
+      let there = subst (λ w. IsLineFault g (rules_of q) w a.line other) (sym states.0) (subst (λ w. IsLineFault g (rules_of q) b.state w other) (sym same.1) b.refused) in
+      elim (causes g (rules_of q) a.state a.line fault other well a.refused there) [
+        | inl mem ↦ absurd (a.cause mem)
+        | inr o ↦ elim o [ inl mem ↦ absurd (b.cause mem) | inr is ↦ is ]
+      ]
+
   of_broken : (lines : List RStep) (n : ℕ) (which : Which) → (r : IsFirstBroken g q lines n which) → Breaks r.state r.full r.line
   of_broken lines n which r = record { acts = r.acts; next = r.next; which = which; possible = r.possible; broken = r.broken.this }
 
-  pub one_answer : (rule_lines : List RStep) → HaveOneAnswer g q rule_lines
-  one_answer lines = record {
+  pub one_answer : (rule_lines : List RStep) → HasSomeAnswer g q rule_lines → HaveOneAnswer g q rule_lines
+  one_answer lines some = record {
+    some = some;
     one_run = λ s z full tr a b. one_run lines lines s z full tr refl a.legal b.legal;
     counted_or_refused = λ s full n fault a r. goes_on lines r.before r.after r.line s r.state full r.full r.cut a r.counted (inl (of_refused lines n fault r));
     counted_or_broken = λ s full n which a r. goes_on lines r.before r.after r.line s r.state full r.full r.cut a r.counted (inr (of_broken lines n which r));
@@ -216,7 +227,7 @@ module _ (prefix : PrefixLaw) (runs : LinesAreRuns IsSmall) (reached : RunsReach
         not_both a.before a.state b.next a.full a.line b.acts a.counted.legal (subst (λ w. IsLine g (rules_of q) IsSmall w a.line b.acts b.next) (sym states.0) (subst (λ w. IsLine g (rules_of q) IsSmall b.state w b.acts b.next) (sym same.1) b.possible)) (of_refused lines n fault a);
     one_refused = λ n m fault cause a b.
         let same = stops_once lines a.before b.before a.after b.after a.line b.line a.state b.state a.full b.full a.cut b.cut a.counted b.counted (inl (of_refused lines n fault a)) (inl (of_refused lines m cause b)) in
-        a.counts ∙ ap (λ w. length w + 1) same.0 ∙ sym b.counts;
+        (a.counts ∙ ap (λ w. length w + 1) same.0 ∙ sym b.counts, one_cause lines n m fault cause a b same);
     one_broken = λ n m v w a b.
         let same = stops_once lines a.before b.before a.after b.after a.line b.line a.state b.state a.full b.full a.cut b.cut a.counted b.counted (inr (of_broken lines n v a)) (inr (of_broken lines m w b)) in
         let states = one_run a.before b.before a.state b.state a.full b.full same.0 a.counted.legal b.counted.legal in

@@ -1,5 +1,5 @@
 -- The conversion of a run of rules has one answer.
-use Rattle.std.specs.Prelude.{◌≡◌, ℕ, List}
+use Rattle.std.specs.Prelude.{◌≡◌, ◌⊎◌, ℕ, List}
 use Rattle.sap_terms.specs.Signature.{Sig}
 use Rattle.sap_terms.specs.Trace.{Trace}
 use Rattle.sap_process.specs.Proc.{Proc}
@@ -9,12 +9,19 @@ use Rattle.sap_runs.specs.declared.rule_step.RStep.{RStep}
 use Rattle.sap_steps.specs.declared.fault.RFault.{RFault}
 use Rattle.sap_back.specs.Converted.{IsCounted, IsFirstBroken, IsFirstRefused}
 
--- of the lines one of these holds at most, and in one way: they are a run that counts, one of them is the first that is refused, or one of
--- them is the first behind which a restriction is false
+-- the lines are a run that counts, or one of them is the first that is refused, or one of them is the first behind which a restriction is
+-- false
+abbrev pub HasSomeAnswer : Sig → Proc → List RStep → Type 0
+HasSomeAnswer g start rule_lines =
+    ((s : RuleState) × (full : Trace) × IsCounted g start rule_lines s full)
+    ⊎ (((number : ℕ) × (fault : RFault) × IsFirstRefused g start rule_lines number fault) ⊎ ((number : ℕ) × (which : Which) × IsFirstBroken g start rule_lines number which))
+
+-- one of these holds, no two do, and it holds in one way
 pub record HaveOneAnswer (g : Sig) (start : Proc) (rule_lines : List RStep) : Type 0 where
+  pub some : HasSomeAnswer g start rule_lines
   pub one_run : (s z : RuleState) (full tr : Trace) → IsCounted g start rule_lines s full → IsCounted g start rule_lines z tr → (s ≡ z) × (full ≡ tr)
   pub counted_or_refused : (s : RuleState) (full : Trace) (number : ℕ) (fault : RFault) → IsCounted g start rule_lines s full → IsFirstRefused g start rule_lines number fault → ⊥
   pub counted_or_broken : (s : RuleState) (full : Trace) (number : ℕ) (which : Which) → IsCounted g start rule_lines s full → IsFirstBroken g start rule_lines number which → ⊥
   pub refused_or_broken : (number other : ℕ) (fault : RFault) (which : Which) → IsFirstRefused g start rule_lines number fault → IsFirstBroken g start rule_lines other which → ⊥
-  pub one_refused : (number other : ℕ) (fault cause : RFault) → IsFirstRefused g start rule_lines number fault → IsFirstRefused g start rule_lines other cause → number ≡ other
+  pub one_refused : (number other : ℕ) (fault cause : RFault) → IsFirstRefused g start rule_lines number fault → IsFirstRefused g start rule_lines other cause → (number ≡ other) × (fault ≡ cause)
   pub one_broken : (number other : ℕ) (which second : Which) → IsFirstBroken g start rule_lines number which → IsFirstBroken g start rule_lines other second → (number ≡ other) × (which ≡ second)

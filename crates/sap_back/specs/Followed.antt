@@ -1,5 +1,5 @@
 -- Which lines of the process a conversion writes for a line of rules, by its tables.
-use Rattle.std.specs.Prelude.{◌≡◌, ◌+◌, ℕ, zero, suc, List, [], ◌∷◌, ◌++◌, Option, Some, None, map, codes, length, slice_get, slice_set}
+use Rattle.std.specs.Prelude.{◌≡◌, ◌+◌, ℕ, List, [], ◌∷◌, ◌++◌, Option, Some, None, map, codes, length, slice_get, slice_set}
 use Rattle.sap_terms.specs.AdversaryFacts.{fr_fact}
 use Rattle.sap_terms.specs.Choice.{Choice}
 use Rattle.sap_terms.specs.Equations.{equations}
@@ -17,7 +17,7 @@ use Rattle.sap_process.specs.Configuration.{Config, initial}
 use Rattle.sap_process.specs.Proc.{Proc, nil, parallel, replicated, act, test, lookup}
 use Rattle.sap_process.specs.Scopes.{lock_var}
 use Rattle.sap_process.specs.Sites.{fresh_var, message_var}
-use Rattle.sap_place.specs.StateFacts.{digits, waits_fact}
+use Rattle.sap_place.specs.StateFacts.{waits_fact}
 use Rattle.sap_restrict.specs.Standard.{IsAdmitted}
 use Rattle.sap_rule.specs.RuleSteps.{RuleState, empty_state}
 use Rattle.sap_runs.specs.Limits.{IsSmall}
@@ -29,16 +29,13 @@ use Rattle.sap_lines.specs.Runs.{IsLegalProcessRun}
 use Rattle.sap_steps.specs.Lines.{IsLine}
 use Rattle.sap_steps.specs.Marks.{marks}
 use Rattle.sap_translate.specs.ChannelFacts.{msg_fact}
+pub use Rattle.sap_translate.specs.RuleLines.{uses, numbers_from}
 use Rattle.sap_translate.specs.Templates.{rules_of, first_of, second_of}
 use Rattle.sap_translate.specs.relation.Agents.{Agent, unborn, running, copying, awaiting, received}
 use Rattle.sap_translate.specs.relation.Answers.{Stands, Copies, goes_on as onwards, goes_aside as aside, term_under, widened}
 use Rattle.sap_translate.specs.relation.Envs.{Env, no_env, just, join, values}
 use Rattle.sap_back.specs.Along.{IsAlong}
 use Rattle.sap_back.specs.Tables.{Tables, AreTables, IsPending, come, with_thread, with_known, enters, waiting, first_tables}
-
--- the rule of this word at the place with this path is used on these facts
-abbrev pub uses : List ℕ → List ℕ → List ℕ → List Binding → RStep
-uses word path ks b = RuleLine (word ++ digits path) ks b
 
 -- the lines that write what is pending
 abbrev pub pending_lines : Option ℕ → List PStep
@@ -54,11 +51,6 @@ lines_before (f ∷ fs) k = pending_lines k
 abbrev pub left_pending : {A : Type 0} → List Fact → Option A → Option A
 left_pending [] k = k
 left_pending (f ∷ fs) k = None
-
--- this many numbers, from this one on
-abbrev pub numbers_from : ℕ → ℕ → List ℕ
-numbers_from n zero = []
-numbers_from n (suc k) = n ∷ numbers_from (n + 1) k
 
 -- so many facts of the process come behind the fact of thread t
 abbrev pub with_pile : Tables → (t many : ℕ) → Tables

@@ -1,3 +1,4 @@
+//! Why a run of rules is not converted.
 ghost use Rattle.std.specs.Prelude.{◌≡◌};
 ghost use Rattle.sap_back.specs.declared.back_at.BackAt.TheVariants.{Mem as OutOfMemory};
 

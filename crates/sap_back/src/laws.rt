@@ -16,10 +16,12 @@ ghost use Rattle.sap_translate.specs.Templates.{rules_of};
 ghost use Rattle.sap_back.specs.code.Replayed.{ShowOneReserved};
 
 use sap_locks::annotations_are_ready;
-use sap_restrict::restrictions_say_sentences;
+use sap_restrict::{one_restriction_breaks, restrictions_say_sentences};
 use sap_rewrite::{each_term_has_a_normal_form, normal_forms_are_unique, normal_forms_decide};
 use sap_rule::runs_reach_messages;
-use sap_steps::{lines_are_steps, lines_have_one_answer, lines_have_one_outcome};
+use sap_steps::{
+    lines_are_steps, lines_have_one_answer, lines_have_one_outcome, lines_have_some_answer,
+};
 use sap_terms::leaves_are_normal;
 use sap_translate::{
     rule_steps_are_followed, rules_are_found_by_name, rules_are_well_made, rules_leave_open,
@@ -88,9 +90,10 @@ pub fn legal_runs_have_runs_opposite()
     leaves_are_normal();
 }
 
-/// A law: of the lines of a run of the rules of a process one answer is right at most, where the process is the annotation of one that is
+/// A law: of the lines of a run of the rules of a process one answer is right, where the process is the annotation of one that is
 /// ready, over a signature that holds pairs: they count, with one state and one full trace; or one of them is the first that is
-/// refused; or one of them is the first behind which a restriction is false, and that is one restriction.
+/// refused, for one cause that isn't want of memory; or one of them is the first behind which a restriction is false, and that is one
+/// restriction.
 pub fn rule_runs_have_one_answer()
     ensures { (g : Sig) (p q : Proc) (rule_lines : List RStep) → arity_of g pair_name ≡ Some 2 → HoldsBuiltins g → IsReady g p
         → node_count p < 2 ^ 64 → IsAnnotation p q → HaveOneAnswer g q rule_lines }
@@ -99,6 +102,10 @@ pub fn rule_runs_have_one_answer()
     lines_are_steps();
     lines_have_one_answer();
     lines_have_one_outcome();
+    lines_have_some_answer();
     runs_reach_messages();
     restrictions_say_sentences();
+    one_restriction_breaks();
+    rules_show_the_process();
+    rules_are_found_by_name();
 }

@@ -10,6 +10,7 @@ pub mod Lasts
 pub mod Passing
 pub mod Nexts
 pub mod Telling
+pub mod OneMore
 pub mod Maps
 pub mod Inlines
 pub mod Singles

@@ -31,7 +31,7 @@ use Rattle.sap_terms.specs.Trace.{Trace}
 use Rattle.sap_terms.specs.declared.fact.Fact.{Fact}
 use Rattle.sap_terms.specs.declared.mem.Mem.{Mem}
 
-messages_before : (g : Sig) (tr us : Trace) → IsMessageTrace g (tr ++ us) → IsMessageTrace g tr
+pub messages_before : (g : Sig) (tr us : Trace) → IsMessageTrace g (tr ++ us) → IsMessageTrace g tr
 messages_before g [] us m = All-nil (AreMessageFacts g)
 messages_before g (p ∷ tr) us m =
     All-cons (AreMessageFacts g) p tr (All-head (AreMessageFacts g) p (tr ++ us) m) (messages_before g tr us (All-tail (AreMessageFacts g) p (tr ++ us) m))
@@ -84,7 +84,7 @@ module _ (decide : NormalTermsDecide) (g : Sig) (tr : Trace) (p : List Fact) (on
             (says_on (HasAlike tr) (HasAlike (tr ++ p ∷ [])) (length tr) done longer (equations g) v (said m s v) (unwatched (equations g) (HasAlike tr) done v (λ q. no (some_is v w (sym q ∙ f.0)))));
       }
 
-stands_next : NormalTermsDecide → (p : List Fact) → HasOneReserved p → (m : Machine) (tr : Trace) → Stands m tr → broken m (deed_by (reserved_in p)) ≡ None → Stands (after m (deed_by (reserved_in p))) (tr ++ p ∷ [])
+pub stands_next : NormalTermsDecide → (p : List Fact) → HasOneReserved p → (m : Machine) (tr : Trace) → Stands m tr → broken m (deed_by (reserved_in p)) ≡ None → Stands (after m (deed_by (reserved_in p))) (tr ++ p ∷ [])
 stands_next decide p one m tr s h =
     let k = keeps_after (HasAlike tr) (HasAlike (tr ++ p ∷ [])) (length tr) m (keeps m tr s) (deed_by (reserved_in p)) (one_longer tr p one) h in
     record {

@@ -11,4 +11,5 @@ pub mod Stands
 pub mod View
 pub mod code
 pub mod Answer
+pub mod OneMore
 pub mod Inline

@@ -9,6 +9,7 @@ ghost use Rattle.sap_restrict.specs.Standard.{one_start, each_equal, each_unequa
 ghost use Rattle.sap_restrict.specs.Examples.{started, started_twice, same_found_equal, different_found_equal, different_found_different, same_found_different, stored_found, deleted_found, replaced_found, found_before, deleted_missed, stored_missed, other_missed, locked_again, locked_while_held, known_input, unknown_input, input_twice, input_after_event, input_not_last};
 ghost use Rattle.sap_restrict.specs.Needed.{needed};
 ghost use Rattle.sap_restrict.specs.declared.which.Which.TheVariants as which;
+ghost use Rattle.sap_restrict.specs.OneMore.{OneMoreLaw};
 ghost use Rattle.sap_restrict.specs.Laws.{MeaningLaw, PrefixLaw, QuietLaw, NeededLaw, NeedsLaw, EnoughLaw, AdmittedLaw, InlinedForAllLaw, InlinedForSomeLaw};
 
 use sap_rewrite::normal_terms_decide;
@@ -26,6 +27,14 @@ pub fn restrictions_say_sentences()
     ensures needs { NeedsLaw }
     ensures enough { EnoughLaw }
     ensures admitted { AdmittedLaw }
+{
+    normal_terms_decide();
+}
+
+/// A law: behind a trace of messages on which all seven formulas are true, one time more leaves them true, or makes one of them false
+/// and no other, where each time has one fact with a reserved name or none.
+pub fn one_restriction_breaks()
+    ensures { OneMoreLaw }
 {
     normal_terms_decide();
 }

@@ -18,7 +18,8 @@ pub use formulas::standard;
 pub use guard::{Admit, Guard};
 pub use inlining::inline;
 pub use laws::{
-    inlining_keeps_lemmas, needed_by_hand, restrictions_by_hand, restrictions_say_sentences,
+    inlining_keeps_lemmas, needed_by_hand, one_restriction_breaks, restrictions_by_hand,
+    restrictions_say_sentences,
 };
 pub use restrictions::{is_generated, needed_restrictions, restriction};
 pub use times::has_one_reserved;

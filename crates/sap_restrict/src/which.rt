@@ -1,3 +1,4 @@
+//! Names of the seven restrictions.
 use sap_terms::{Copied, Items, Mem};
 use std::alloc::Global;
 

@@ -13,6 +13,10 @@ pub mod Used
 pub mod Determined
 pub mod OneAnswer
 pub mod OneOutcome
+pub mod OneCause
+pub mod Decided
+pub mod SomeChoice
+pub mod SomeAnswer
 pub mod Shown
 pub mod Piled
 pub mod Joined

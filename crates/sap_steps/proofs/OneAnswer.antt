@@ -63,7 +63,7 @@ live_at facts k n f a e gone =
     let live : fact_at facts n ≡ Some f = ap (fact_at facts) (sym e) ∙ ap standing a in
     cc
 
-never_missing : {facts rest left : Pile} {ks : List ℕ} {fs before : List Fact} (at number : ℕ) → Takes facts ks fs rest → slice_get ks at ≡ Some number → Takes facts (take at ks) before left → fact_at left number ≡ None → ⊥
+pub never_missing : {facts rest left : Pile} {ks : List ℕ} {fs before : List Fact} (at number : ℕ) → Takes facts ks fs rest → slice_get ks at ≡ Some number → Takes facts (take at ks) before left → fact_at left number ≡ None → ⊥
 never_missing at number nothing here t gone = cc
 never_missing {facts = facts} zero number (one {k = k} {f = f} a more) here nothing gone = live_at facts k number f a (cc) gone
 never_missing {facts = facts} {left = left} (suc at) number (one {k = k} {ks = ks} {f = f} a more) here (one {f = h} {fs = hs} b t) gone =
@@ -77,7 +77,7 @@ known_test n k h = by (nat_le n k) refl where
   by true e = let le : n ≤ k = search (rules, e) in absurd (omega (arith, h, le))
   by false e = refl
 
-none_unknown : (xs : List Tree) (ks : List ℕ) (ts : List Tree) → map (slice_get xs) ks ≡ map Some ts → find (nat_le (length xs)) ks ≡ None
+pub none_unknown : (xs : List Tree) (ks : List ℕ) (ts : List Tree) → map (slice_get xs) ks ≡ map Some ts → find (nat_le (length xs)) ks ≡ None
 none_unknown xs [] ts h = refl
 none_unknown xs (k ∷ ks) [] h = cc
 none_unknown xs (k ∷ ks) (t ∷ ts) h =
@@ -94,7 +94,7 @@ same_terms (t ∷ ts) (u ∷ us) h =
     let rest = same_terms ts us (cc) in
     λ i. head i ∷ rest i
 
-large_small : (n : Tree) → MOST_TERM_NODES < node_count n → node_count n ≤ MOST_TERM_NODES → ⊥
+pub large_small : (n : Tree) → MOST_TERM_NODES < node_count n → node_count n ≤ MOST_TERM_NODES → ⊥
 large_small n a b = omega arith
 
 -- bindings that a choice of messages agrees with are to messages

@@ -1,13 +1,12 @@
 -- A line of rules is possible in one way.
-use Rattle.std.proofs.Common.{◌≡◌, ℕ, Bool, List, [], ◌∷◌, ◌++◌, map, Some, slice_get, refl, sym, ap, subst, ◌∙◌}
+use Rattle.std.proofs.Common.{◌≡◌, ℕ, List, [], ◌∷◌, refl, sym, ap, subst, ◌∙◌}
 use Rattle.std.specs.Prelude.{All}
 use Rattle.std.specs.List.{AllZip}
 use Rattle.std.proofs.lemmas.List.Elements.{All-contains}
 use Rattle.sap_terms.specs.AdversaryFacts.{in_fact, k_fact}
-use Rattle.sap_terms.specs.Choice.{Choice}
 use Rattle.sap_terms.specs.Equations.{Equations, equations}
 use Rattle.sap_terms.specs.Message.{AreMessageFacts}
-use Rattle.sap_terms.specs.Modulo.{instance_facts, IsFormOfFact, AreFormsOfFacts}
+use Rattle.sap_terms.specs.Modulo.{instance_facts, AreFormsOfFacts}
 use Rattle.sap_terms.specs.Normal.{IsNormalForm}
 use Rattle.sap_terms.specs.Piles.{Pile, Takes, nothing, one, used, adds}
 use Rattle.sap_terms.specs.Signature.{Sig}

@@ -1,3 +1,4 @@
+//! Facts that the adversary puts out, takes and shows.
 ghost use Rattle.std.specs.Prelude.{codes, ◌≡◌, ◌⊎◌, ℕ, ◌<◌, [], ◌∷◌, Some, false, IfOk, IfErr, MatchOption};
 ghost use Rattle.sap_terms.specs.AdversaryFacts.{linear, out_fact, fr_fact};
 ghost use Rattle.sap_terms.specs.Tree.{Tree};

@@ -1,3 +1,4 @@
+//! Why a line of a rule run is refused.
 ghost use Rattle.std.specs.Prelude.{◌≡◌};
 ghost use Rattle.sap_steps.specs.declared.fault.RFault.TheVariants.{Mem as OutOfMemory};
 ghost use Rattle.sap_steps.specs.code.Firing.{limited_fault};

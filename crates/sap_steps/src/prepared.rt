@@ -1,3 +1,4 @@
+//! Rules, with what is asked of them at each use found once.
 ghost use Rattle.std.specs.Prelude.{◌≡◌, ◌↔◌, All, IfOk, IsTrue};
 ghost use Rattle.sap_rule.specs.WellMade.{IsWellMade};
 ghost use Rattle.sap_sides.specs.Messages.{HasNoDestructor};

@@ -1,3 +1,4 @@
+//! Where a run of rules stands, and each line done on it.
 ghost use Rattle.std.specs.Prelude.{◌≡◌, ◌<◌, IfOk, OnErr, IfErr, All, length};
 ghost use Rattle.sap_terms.specs.Message.{AreMessageFacts};
 ghost use Rattle.sap_rule.specs.RuleSteps.{empty_state};

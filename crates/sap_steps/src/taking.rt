@@ -1,3 +1,4 @@
+//! Whether cited facts can be taken, and facts exchanged for others.
 ghost use Rattle.std.specs.Prelude.{◌≡◌, ℕ, ◌≤◌, true, false, nat_eq, None, length, map, IfOk, OnOk, OnErr, MatchOption};
 ghost use Rattle.indexmap.specs.IndexSet.{contains};
 ghost use Rattle.sap_terms.specs.Piles.{adds};

@@ -1,3 +1,4 @@
+//! A rule used on cited facts.
 ghost use Rattle.std.specs.Prelude.{◌≡◌, ◌⊎◌, length, map, IfOk, IfErr, All};
 ghost use Rattle.sap_steps.specs.Faults.{IsRuleFault};
 ghost use Rattle.sap_facts.specs.Cited.{cited_at, AreTaken};
