@@ -1,5 +1,5 @@
 -- Each legal run of a process has lines opposite.
-use Rattle.std.proofs.Common.{◌≡◌, ℕ, zero, suc, ◌<◌, ◌^◌, List, [], ◌∷◌, ◌++◌, Some, refl, sym, ap, ◌∙◌, subst, arith, slice_get, true, false, Bool, ◌||◌}
+use Rattle.std.proofs.Common.{◌≡◌, ℕ, zero, suc, ◌+◌, ◌<◌, ◌^◌, List, [], ◌∷◌, ◌++◌, Some, refl, sym, ap, ◌∙◌, subst, arith, slice_get, length, true, ◌||◌}
 use Rattle.sap_forward.specs.Answered.{Draws, IsAnswered, StartsLinked, first_tables, first_state}
 use Rattle.sap_forward.proofs.Marked.{marks_join}
 use Rattle.sap_forward.proofs.Lines.{legal_join}
@@ -31,16 +31,21 @@ use Rattle.sap_runs.specs.Marks.{Mark, marks_of}
 use Rattle.sap_runs.specs.declared.process_step.PStep.{PStep}
 use Rattle.sap_runs.specs.declared.process_step.PStep.TheVariants as line
 use Rattle.sap_steps.specs.Lines.{IsLine}
+use Rattle.sap_translate.specs.LineCounts.{back_count}
 use Rattle.sap_translate.specs.Templates as rules
 use Rattle.sap_translate.specs.Templates.{rules_of}
 use Rattle.sap_translate.specs.relation.Agents.{Agent, running, env_of}
 use Rattle.sap_translate.specs.relation.Answers.{gets}
 use Rattle.sap_translate.specs.relation.Envs.{filled, no_env, some_term}
-use Rattle.sap_forward.specs.Least.{is_among, names_made, not_drawn, names_drawn}
+use Rattle.sap_forward.specs.Counted.{rule_count, all_copying}
+use Rattle.sap_forward.specs.Least.{is_among, names_drawn}
+use Rattle.sap_forward.specs.LinesFor.{no_lines}
 use Rattle.sap_forward.specs.Linked.{Linked, EnvWithin}
-use Rattle.sap_forward.specs.code.Begun.{Converted}
+use Rattle.sap_forward.specs.code.Begun.{AreCopying, Converted}
+use Rattle.sap_forward.proofs.Counting.{counts, copying_join, first_copying, grown, back_grown}
+use Rattle.sap_forward.proofs.EachLine.{written_for, for_join}
 use Rattle.sap_forward.proofs.Evaluated.{rule_within}
-use Rattle.sap_forward.proofs.Given.{made_join, not_drawn_join, drawn_join, among_join, among_self}
+use Rattle.sap_forward.proofs.Given.{drawn_join, among_join, among_self, or_left, or_right}
 use Rattle.sap_forward.proofs.Premises.{Laws, RunLaws}
 use Rattle.sap_forward.proofs.Tabled.{length_join}
 
@@ -72,13 +77,6 @@ init_is laws g W q = record {
   };
   becomes = refl;
 }
-
-pub or_left : (a b : Bool) → a ≡ true → (a || b) ≡ true
-or_left a b e = rw e refl
-
-pub or_right : (a b : Bool) → b ≡ true → (a || b) ≡ true
-or_right true b e = refl
-or_right false b e = e
 
 pub draws_last : (drawn : List ℕ) (step : PStep) → ((n : ℕ) → is_among (names_drawn (step ∷ [])) n ≡ true → is_among drawn n ≡ true) → Draws drawn step
 draws_last drawn (line.New t n) h = h n (among_self n)
@@ -149,7 +147,7 @@ pub record Grows {g : Sig} {W : Tree → Type 0} {q : Proc} {drawn : List ℕ} {
   pub tables : after.tables ≡ a.behind
 
 pub grows : {g : Sig} {W : Tree → Type 0} {q : Proc} {drawn : List ℕ} {lines : List PStep} {step : PStep} {c d : Config} {es fs : List Tree} {tr tr2 : Trace} {ms ms2 : List Mark} (w : Converted g W q drawn lines c es tr ms) (a : IsAnswered g W q drawn w.agents c w.tables w.state w.full step d fs tr2 ms2) → Grows w a
-grows {g = g} {W = W} {q = q} {drawn = drawn} {lines = lines} {step = step} w a = record {
+grows {g = g} {W = W} {q = q} {drawn = drawn} {lines = lines} {step = step} w a = let own = written_for a.written in let count = counts (all_copying [] lines) w.copying a.written in record {
   after = record {
     rest = w.rest ++ a.lines;
     agents = a.later;
@@ -160,7 +158,12 @@ grows {g = g} {W = W} {q = q} {drawn = drawn} {lines = lines} {step = step} w a 
     linked = a.linked;
     marked = marks_join w.full a.more ∙ (λ i. w.marked i ++ a.marked i);
     short = let one = length_join w.rest a.lines in let two = length_join lines (step ∷ []) in let three = w.short in let four = a.short in omega arith;
-    names = ap (not_drawn drawn) (made_join (init_line ∷ w.rest) a.lines) ∙ not_drawn_join drawn (names_made (init_line ∷ w.rest)) (names_made a.lines) ∙ ap (λ x. x ++ not_drawn drawn (names_made a.lines)) w.names ∙ sym a.names;
+    given = w.given ++ own.given;
+    each = for_join w.each own.are;
+    names = ap (λ x. x ++ own.given) w.names ∙ sym own.names;
+    copying = subst (λ x. AreCopying x a.later) (sym (copying_join [] lines step)) count.copying;
+    counted = grown lines step w.rest a.lines w.counted count.counted;
+    back = back_grown lines step w.rest a.lines w.back count.back;
   };
   rest = refl;
   agents = refl;
@@ -186,7 +189,12 @@ first_converted g q starts drawn = record {
     linked = starts.linked drawn;
     marked = refl;
     short = omega arith;
+    given = [];
+    each = no_lines;
     names = refl;
+    copying = first_copying q;
+    counted = refl;
+    back = refl;
   };
   rest = refl;
   agents = refl;
@@ -234,9 +242,8 @@ none_opposite laws g q = record {
   shows = refl;
   marked = refl;
   entries = refl;
-  starts = refl;
+  turns = refl;
   short = omega arith;
-  least = (0, refl);
 }
 
 -- what is converted behind the last line is opposite to all
@@ -252,15 +259,23 @@ all_opposite laws g p q hold ready small annotated step lines c es tr ms w =
       shows = same.0;
       marked = w.marked;
       entries = w.linked.known;
-      starts = (w.rest, refl);
+      turns = record { rest = w.rest; given = w.given; starts = refl; each = w.each; least = (w.tables.next, w.names) };
       short = let s = w.short in omega arith;
-      least = (w.tables.next, w.names);
     }
+
+module _ {g : Sig} {W : Tree → Type 0} {q : Proc} {drawn : List ℕ} {step : PStep} {lines : List PStep} {c : Config} {es : List Tree} {tr : Trace} {ms : List Mark} (w : Converted g W q drawn (step ∷ lines) c es tr ms) where
+  -- so many lines of rules stand opposite to these
+  pub all_counted : length (init_line ∷ w.rest) ≡ rule_count (step ∷ lines)
+  all_counted = let h = w.counted in let k : length (init_line ∷ w.rest) ≡ length w.rest + 1 = omega arith in k ∙ ap (λ n. n + 1) h
+
+  -- and as many of the process as there are stand opposite to those
+  pub all_back : back_count (init_line ∷ w.rest) ≡ length (step ∷ lines)
+  all_back = let k : back_count (init_line ∷ w.rest) ≡ back_count w.rest = omega arith in k ∙ w.back
 
 pub have_opposites : (laws : RunLaws) (g : Sig) (p q : Proc) → HoldsBuiltins g → IsReady g p → node_count p < 2 ^ 64 → IsAnnotation p q → HasOpposites g q
 have_opposites laws g p q hold ready small annotated [] c es tr ms run =
     let none = nothing_yet run refl in
-    ([], subst (λ x. IsOpposite g q [] x tr ms []) (sym none.0) (subst (λ x. IsOpposite g q [] [] x ms []) (sym none.1) (subst (λ x. IsOpposite g q [] [] [] x []) (sym none.2) (none_opposite laws g q))))
+    ([], subst (λ x. IsOpposite g q [] x tr ms []) (sym none.0) (subst (λ x. IsOpposite g q [] [] x ms []) (sym none.1) (subst (λ x. IsOpposite g q [] [] [] x []) (sym none.2) (none_opposite laws g q))), refl, refl)
 have_opposites laws g p q hold ready small annotated (step ∷ lines) c es tr ms run =
     let w = converted laws g p q hold ready small annotated (names_drawn (step ∷ lines)) run (λ n e. e) in
-    (init_line ∷ w.rest, all_opposite laws g p q hold ready small annotated step lines c es tr ms w)
+    (init_line ∷ w.rest, all_opposite laws g p q hold ready small annotated step lines c es tr ms w, all_counted w, all_back w)

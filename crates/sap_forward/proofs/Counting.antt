@@ -16,7 +16,7 @@ use Rattle.sap_forward.specs.Tables.{Tables}
 use Rattle.sap_forward.specs.Written.{IsWritten}
 use Rattle.sap_forward.specs.code.Begun.{has_started, AreCopying}
 use Rattle.sap_forward.proofs.Given.{cases, same, apart}
-use Rattle.sap_forward.proofs.Tabled.{get_set, get_other}
+use Rattle.sap_forward.proofs.Tabled.{get_set, get_other, length_join}
 
 -- what one line adds
 pub record IsCount (ts : List ℕ) (step : PStep) (lines : List RStep) (later : List (Option Agent)) : Type 0 where
@@ -109,3 +109,18 @@ back_join (x ∷ lines) more = let h = back_join lines more in omega arith
 pub first_copying : (q : Proc) → AreCopying [] (Some (running [] no_env q) ∷ [])
 first_copying q zero = refl
 first_copying q (suc t) = refl
+
+-- as many lines as are counted, one by one
+pub grown : (lines : List PStep) (step : PStep) (rest more : List RStep) → length rest ≡ lines_for_all lines + length (all_copying [] lines)
+    → length more + length (all_copying [] lines) ≡ lines_for step + length (copying_behind (all_copying [] lines) step) → length (rest ++ more) ≡ lines_for_all (lines ++ step ∷ []) + length (all_copying [] (lines ++ step ∷ []))
+grown lines step rest more h k =
+    let one = length_join rest more in
+    let two = counted_join lines step in
+    let three = ap length (copying_join [] lines step) in
+    omega arith
+
+pub back_grown : (lines : List PStep) (step : PStep) (rest more : List RStep) → back_count rest ≡ length lines → back_count more ≡ 1 → back_count (rest ++ more) ≡ length (lines ++ step ∷ [])
+back_grown lines step rest more h k =
+    let one = back_join rest more in
+    let two = length_join lines (step ∷ []) in
+    omega arith

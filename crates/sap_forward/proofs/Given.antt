@@ -53,7 +53,7 @@ search_from drawn (suc fuel) bound e = by (is_among drawn bound) refl (search_fr
 pub next_from : (drawn : List ℕ) (bound : ℕ) → (n : ℕ) × IsNext drawn bound n
 next_from drawn bound = search_from drawn (top drawn + 1) bound (above_all drawn (bound + (top drawn + 1)) (omega arith))
 
-drawn_one : (drawn : List ℕ) (n : ℕ) → is_among drawn n ≡ true → not_drawn drawn (n ∷ []) ≡ []
+pub drawn_one : (drawn : List ℕ) (n : ℕ) → is_among drawn n ≡ true → not_drawn drawn (n ∷ []) ≡ []
 drawn_one drawn n e = rw e refl
 
 pub free_one : (drawn : List ℕ) (n : ℕ) → is_among drawn n ≡ false → not_drawn drawn (n ∷ []) ≡ n ∷ []
@@ -101,3 +101,10 @@ among_join (k ∷ ns) ms n = by (nat_eq k n) (among_join ns ms n) where
 
 pub among_self : (n : ℕ) → is_among (n ∷ []) n ≡ true
 among_self n = ap (λ b. b || false) ((Decides-eqb n n).1 refl)
+
+pub or_left : (a b : Bool) → a ≡ true → (a || b) ≡ true
+or_left a b e = rw e refl
+
+pub or_right : (a b : Bool) → b ≡ true → (a || b) ≡ true
+or_right true b e = refl
+or_right false b e = e

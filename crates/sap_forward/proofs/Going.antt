@@ -1,5 +1,5 @@
 -- How a conversion begins, goes on and ends.
-use Rattle.std.proofs.Common.{◌≡◌, ℕ, ◌+◌, ◌<◌, ◌^◌, ◌++◌, List, [], ◌∷◌, Some, refl, sym, ap, ◌∙◌, subst, length, arith}
+use Rattle.std.proofs.Common.{◌≡◌, ◌<◌, ◌^◌, ◌++◌, List, [], ◌∷◌, Some, refl, sym, ap, ◌∙◌, subst, length}
 use Rattle.sap_terms.specs.Signature.{Sig, HoldsBuiltins}
 use Rattle.sap_terms.specs.Trace.{shown}
 use Rattle.sap_terms.specs.Tree.{Tree}
@@ -12,7 +12,6 @@ use Rattle.sap_locks.specs.Annotation.{IsAnnotation}
 use Rattle.sap_runs.specs.Limits.{IsSmall}
 use Rattle.sap_runs.specs.Marks.{marks_of}
 use Rattle.sap_runs.specs.declared.process_step.PStep.{PStep}
-use Rattle.sap_runs.specs.declared.rule_step.RStep.{RStep}
 use Rattle.sap_lines.specs.Answers.{ProcessLinesHaveOneAnswer}
 use Rattle.sap_lines.specs.Lines.{IsProcessLine}
 use Rattle.sap_lines.specs.Runs.{IsLegalProcessRun}
@@ -22,17 +21,14 @@ use Rattle.sap_translate.specs.relation.Agents.{running}
 use Rattle.sap_translate.specs.relation.Envs.{no_env}
 use Rattle.sap_forward.specs.Answered.{Draws}
 use Rattle.sap_forward.specs.Converted.{IsConverted}
-use Rattle.sap_forward.specs.Counted.{lines_for, lines_for_all, copying_behind, all_copying}
 use Rattle.sap_forward.specs.Least.{is_among, names_drawn}
 use Rattle.sap_forward.specs.Opposite.{IsOpposite, init_line}
-use Rattle.sap_forward.specs.code.Begun.{AreCopying, Begins, GoesOn, EndsConverted}
+use Rattle.sap_forward.specs.code.Begun.{Begins, GoesOn, EndsConverted}
 use Rattle.sap_forward.specs.code.Desk.{Keeps}
 use Rattle.sap_forward.proofs.Bound.{binds_found}
-use Rattle.sap_forward.proofs.Convert.{Starts, first_converted, answered, grows, none_opposite, all_opposite, draws_last, or_left, or_right}
-use Rattle.sap_forward.proofs.Counting.{counts, counted_join, copying_join, back_join, first_copying}
-use Rattle.sap_forward.proofs.Given.{drawn_join, among_join}
+use Rattle.sap_forward.proofs.Convert.{Starts, first_converted, answered, grows, none_opposite, all_opposite, all_counted, all_back, draws_last}
+use Rattle.sap_forward.proofs.Given.{drawn_join, among_join, or_left, or_right}
 use Rattle.sap_forward.proofs.Premises.{RunLaws}
-use Rattle.sap_forward.proofs.Tabled.{length_join}
 
 -- a line of a run draws what the run draws
 pub draws_among : (before after : List PStep) (step : PStep) → Draws (names_drawn (before ++ step ∷ after)) step
@@ -53,25 +49,7 @@ begins laws g p q ready small annotated drawn r d sig known conf keeps =
       so_far = s.so_far;
       stand = ap (λ x. init_line ∷ x) (sym s.rest);
       keeps = subst (λ x. Keeps q drawn x s.so_far.tables d) (sym s.agents) (subst (λ x. Keeps q drawn (Some (running [] no_env q) ∷ []) x d) (sym s.tables) keeps);
-      copying = subst (AreCopying []) (sym s.agents) (first_copying q);
-      counted = ap length s.rest;
-      back = ap back_count s.rest;
     }
-
--- as many lines as are counted, one by one
-grown : (drawn : List ℕ) (lines : List PStep) (step : PStep) (rest more after : List RStep) → after ≡ rest ++ more → length rest ≡ lines_for_all lines + length (all_copying [] lines)
-    → length more + length (all_copying [] lines) ≡ lines_for step + length (copying_behind (all_copying [] lines) step) → length after ≡ lines_for_all (lines ++ step ∷ []) + length (all_copying [] (lines ++ step ∷ []))
-grown drawn lines step rest more after is h k =
-    let one = ap length is ∙ length_join rest more in
-    let two = counted_join lines step in
-    let three = ap length (copying_join [] lines step) in
-    omega arith
-
-back_grown : (lines : List PStep) (step : PStep) (rest more after : List RStep) → after ≡ rest ++ more → back_count rest ≡ length lines → back_count more ≡ 1 → back_count after ≡ length (lines ++ step ∷ [])
-back_grown lines step rest more after is h k =
-    let one = ap back_count is ∙ back_join rest more in
-    let two = length_join lines (step ∷ []) in
-    omega arith
 
 module _ (laws : RunLaws) (one_form : FormIsOne) (refusal : ProcessLinesHaveOneAnswer) (g : Sig) (p q : Proc) (hold : HoldsBuiltins g) (ready : IsReady g p) (small : node_count p < 2 ^ 64) (annotated : IsAnnotation p q) where
   pub goes_on : GoesOn g q
@@ -84,8 +62,6 @@ module _ (laws : RunLaws) (one_form : FormIsOne) (refusal : ProcessLinesHaveOneA
       let n = grows w a in
       let exact = laws.exactly g q lines c es b.trace b.marks hold (laws.ready g p q ready annotated) (laws.excludes g q lines c es b.trace b.marks b.legal) in
       let binds = binds_found one_form refusal g q drawn w.agents b.trace w.state w.full r w.tables b.sig exact w.linked.rest step t.done.inner t.label (configuration z) (terms_of z.known) a.lines t.found a.later a.behind is t.finds a.written in
-      let ts = all_copying [] lines in
-      let count = counts ts b.copying a.written in
       let put = t.writes g q drawn w.agents a.later c w.tables a.behind a.lines b.keeps a.written binds in
       record {
         trace = b.trace ++ shown t.label;
@@ -95,9 +71,6 @@ module _ (laws : RunLaws) (one_form : FormIsOne) (refusal : ProcessLinesHaveOneA
         so_far = n.after;
         stand = put.0 ∙ ap (λ x. x ++ a.lines) b.stand ∙ ap (λ x. init_line ∷ x) (sym n.rest);
         keeps = subst (λ x. Keeps q drawn x n.after.tables e) (sym n.agents) (subst (λ x. Keeps q drawn a.later x e) (sym n.tables) put.1);
-        copying = subst (λ x. AreCopying x n.after.agents) (sym (copying_join [] lines step)) (subst (AreCopying (copying_behind ts step)) (sym n.agents) count.copying);
-        counted = grown drawn lines step w.rest a.lines n.after.rest n.rest b.counted count.counted;
-        back = back_grown lines step w.rest a.lines n.after.rest n.rest b.back count.back;
       }
 
 -- all is converted
@@ -112,8 +85,8 @@ ends laws g p q hold ready small annotated step lines r d written b =
       marks = b.marks;
       legal = b.legal;
       opposite = subst (λ x. IsOpposite g q all es b.trace b.marks x) (sym b.stand) (all_opposite laws g p q hold ready small annotated step lines (configuration r) es b.trace b.marks b.so_far);
-      counted = ap length b.stand ∙ (let h = b.counted in let k : length (init_line ∷ b.so_far.rest) ≡ length b.so_far.rest + 1 = omega arith in k ∙ ap (λ n. n + 1) h);
-      back = ap back_count b.stand ∙ (let k : back_count (init_line ∷ b.so_far.rest) ≡ back_count b.so_far.rest = omega arith in k ∙ b.back);
+      counted = ap length b.stand ∙ all_counted b.so_far;
+      back = ap back_count b.stand ∙ all_back b.so_far;
     }
 
 -- no lines are converted to none

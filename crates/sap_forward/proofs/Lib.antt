@@ -17,8 +17,11 @@ pub mod Meets
 pub mod Known
 pub mod Embedded
 pub mod Answer
-pub mod Convert
 pub mod Counting
+pub mod EachLine
+pub mod NamesMade
+pub mod LinesTried
+pub mod Convert
 pub mod Bound
 pub mod Going
 pub mod Looped

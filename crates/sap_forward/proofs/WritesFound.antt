@@ -18,7 +18,8 @@ use Rattle.sap_lines.specs.declared.form.Form.{Form}
 use Rattle.sap_lines.specs.declared.form.Form.TheVariants.{Nil, Par, Rep, New, Out, Send, In, Recv, If, Event, Insert, Delete, Lookup, Lock, Unlock, Embedded}
 use Rattle.sap_translate.specs.relation.Answers.{goes_on, widened}
 use Rattle.sap_translate.specs.relation.Envs.{just, join}
-use Rattle.sap_forward.specs.Written.{IsWritten, uses, moved, with_pile}
+use Rattle.sap_forward.specs.LinesFor.{uses}
+use Rattle.sap_forward.specs.Written.{IsWritten, moved, with_pile}
 use Rattle.sap_forward.specs.code.Desk.{Keeps, Writes}
 use Rattle.sap_forward.specs.code.Steps.{Finds, Embeds, WritesAny, goes, piles, bound_var, right_count}
 use Rattle.sap_forward.specs.declared.desk.Desk.{Desk}

@@ -11,7 +11,8 @@ use Rattle.sap_runs.specs.declared.rule_step.RStep.TheVariants.{Fresh}
 use Rattle.sap_translate.specs.relation.Agents.{Agent, running}
 use Rattle.sap_translate.specs.relation.Answers.{goes_on, widened}
 use Rattle.sap_translate.specs.relation.Envs.{Env}
-use Rattle.sap_forward.specs.Written.{IsWritten, uses, gives, moved}
+use Rattle.sap_forward.specs.LinesFor.{uses}
+use Rattle.sap_forward.specs.Written.{IsWritten, gives, moved}
 use Rattle.sap_forward.specs.code.Desk.{Keeps}
 use Rattle.sap_forward.specs.code.Steps.{IsAt, Gives, Meets, WritesAny, goes, meeting_lines}
 use Rattle.sap_lines.specs.declared.place.Place.{Place}

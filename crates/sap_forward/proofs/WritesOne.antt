@@ -4,7 +4,8 @@ use Rattle.sap_process.specs.Action.{event, insert, delete, unlock}
 use Rattle.sap_process.specs.Proc.{act, test, lookup}
 use Rattle.sap_runs.specs.declared.process_step.PStep.TheVariants as line
 use Rattle.sap_runs.specs.declared.rule_step.RStep.{RStep}
-use Rattle.sap_forward.specs.Written.{IsWritten, uses}
+use Rattle.sap_forward.specs.LinesFor.{uses}
+use Rattle.sap_forward.specs.Written.{IsWritten}
 use Rattle.sap_forward.specs.code.Steps.{Goes, WritesAny}
 use Rattle.sap_forward.specs.declared.desk.Desk.{Desk}
 use Rattle.sap_forward.proofs.Keeping.{moves_on, moves_aside}

@@ -9,7 +9,8 @@ use Rattle.sap_lines.specs.declared.place.Place.{Place}
 use Rattle.sap_translate.specs.Templates.{first_of, second_of}
 use Rattle.sap_translate.specs.relation.Agents.{running, copying}
 use Rattle.sap_translate.specs.relation.Answers.{goes_on}
-use Rattle.sap_forward.specs.Written.{IsWritten, uses, moved, with_thread}
+use Rattle.sap_forward.specs.LinesFor.{uses}
+use Rattle.sap_forward.specs.Written.{IsWritten, moved, with_thread}
 use Rattle.sap_forward.specs.code.Desk.{Keeps}
 use Rattle.sap_forward.specs.code.Steps.{IsAt, HasNone, Ends, Splits, Copies, StartsCopying, WritesAny, goes, joins, starts}
 use Rattle.sap_forward.specs.declared.desk.Desk.{Desk}

@@ -16,7 +16,8 @@ use Rattle.sap_lines.specs.declared.form.Form.TheVariants.{Nil, Par, Rep, New, O
 use Rattle.sap_lines.specs.declared.place.Place.{Place}
 use Rattle.sap_translate.specs.relation.Answers.{widened}
 use Rattle.sap_translate.specs.relation.Envs.{just, join}
-use Rattle.sap_forward.specs.Written.{IsWritten, uses, gives}
+use Rattle.sap_forward.specs.LinesFor.{uses}
+use Rattle.sap_forward.specs.Written.{IsWritten, gives}
 use Rattle.sap_forward.specs.code.Desk.{Keeps}
 use Rattle.sap_forward.specs.code.Steps.{IsAt, HasNone, Goes, Gives, WritesAny, has_channel}
 use Rattle.sap_forward.specs.declared.desk.Desk.{Desk}

@@ -1,8 +1,10 @@
 pub mod Least
 pub mod Tables
 pub mod Linked
+pub mod LinesFor
 pub mod Written
 pub mod Opposite
+pub mod LineExamples
 pub mod Counted
 pub mod Converted
 pub mod Answers

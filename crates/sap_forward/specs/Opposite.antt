@@ -1,5 +1,5 @@
 -- What a run of rules opposite to a written run of a process is.
-use Rattle.std.specs.Prelude.{◌≡◌, ◌≤◌, ◌+◌, ◌*◌, List, [], ◌∷◌, length, codes}
+use Rattle.std.specs.Prelude.{ℕ, ◌≡◌, ◌≤◌, ◌+◌, ◌*◌, List, [], ◌∷◌, length, codes}
 use Rattle.sap_terms.specs.Signature.{Sig}
 use Rattle.sap_terms.specs.Trace.{Trace}
 use Rattle.sap_terms.specs.Tree.{Tree}
@@ -16,17 +16,29 @@ use Rattle.sap_runs.specs.declared.rule_step.RStep.TheVariants.{Rule as RuleLine
 use Rattle.sap_lines.specs.Runs.{IsLegalProcessRun}
 use Rattle.sap_steps.specs.Marks.{marks}
 use Rattle.sap_steps.specs.Runs.{IsLegalRun}
+use Rattle.sap_translate.specs.LineCounts.{back_count}
 use Rattle.sap_translate.specs.Templates.{rules_of}
-use Rattle.sap_forward.specs.Least.{names_drawn, names_made, not_drawn, AreLeast}
+use Rattle.sap_forward.specs.Counted.{rule_count}
+use Rattle.sap_forward.specs.Least.{names_drawn, AreLeast}
+use Rattle.sap_forward.specs.LinesFor.{AreLinesForAll}
 
 -- the line that starts the rules
 abbrev pub init_line : RStep
 init_line = RuleLine (codes "Init") [] []
 
--- there are no lines where the process has none, and elsewhere the first starts the rules
-abbrev pub StartsOpposite : List PStep → List RStep → Type 0
-StartsOpposite [] rule_lines = rule_lines ≡ []
-StartsOpposite (line ∷ lines) rule_lines = (rest : List RStep) × (rule_lines ≡ init_line ∷ rest)
+-- the first line starts the rules, and behind it stand those for each line of the process in turn
+pub record StandInTurn (lines : List PStep) (rule_lines : List RStep) : Type 0 where
+  pub rest : List RStep
+  pub given : List ℕ
+  pub starts : rule_lines ≡ init_line ∷ rest
+  pub each : AreLinesForAll lines rest given
+  -- the names that locks and tags get in turn are the least that no line of the process draws, in ascending order
+  pub least : AreLeast (names_drawn lines) given
+
+-- there are no lines where the process has none, and elsewhere they stand in turn
+abbrev pub StandOpposite : List PStep → List RStep → Type 0
+StandOpposite [] rule_lines = rule_lines ≡ []
+StandOpposite (line ∷ lines) rule_lines = StandInTurn (line ∷ lines) rule_lines
 
 -- These lines of rules are opposite to the lines of the process, which leave the adversary with these entries and have this trace
 -- and these marks.
@@ -40,14 +52,12 @@ pub record IsOpposite (g : Sig) (start : Proc) (lines : List PStep) (es : List T
   pub shows : hide full ≡ tr
   pub marked : marks full ≡ ms
   pub entries : state.known ≡ es
-  -- they start the rules first, and are at most four for each and that one
-  pub starts : StartsOpposite lines rule_lines
+  -- they stand in turn, and are at most four for each and one that starts the rules
+  pub turns : StandOpposite lines rule_lines
   pub short : length rule_lines ≤ 4 * length lines + 1
-  -- locks and tags have the least names that no line of the process draws, in ascending order
-  pub least : AreLeast (names_drawn lines) (not_drawn (names_drawn lines) (names_made rule_lines))
 
--- each legal run of the process has lines opposite
+-- each legal run of the process has lines opposite, exactly so many, and as many lines as there are stand opposite to these
 abbrev pub HasOpposites : Sig → Proc → Type 0
 HasOpposites g start =
     (lines : List PStep) (c : Config) (es : List Tree) (tr : Trace) (ms : List Mark) → IsLegalProcessRun g IsSmall start lines c es tr ms
-    → (rule_lines : List RStep) × IsOpposite g start lines es tr ms rule_lines
+    → (rule_lines : List RStep) × IsOpposite g start lines es tr ms rule_lines × (length rule_lines ≡ rule_count lines) × (back_count rule_lines ≡ length lines)

@@ -1,5 +1,5 @@
 -- Which lines of rules a conversion writes for a line of the process.
-use Rattle.std.specs.Prelude.{◌≡◌, ℕ, ◌+◌, zero, suc, List, [], ◌∷◌, ◌++◌, Option, Some, None, map, length, codes, slice_get, slice_set}
+use Rattle.std.specs.Prelude.{◌≡◌, ℕ, ◌+◌, List, [], ◌∷◌, ◌++◌, Option, Some, None, map, length, codes, slice_get, slice_set}
 use Rattle.sap_terms.specs.Choice.{Choice}
 use Rattle.sap_terms.specs.Equations.{equations}
 use Rattle.sap_terms.specs.Normal.{IsNormalForm}
@@ -15,21 +15,18 @@ use Rattle.sap_process.specs.Configuration.{Config}
 use Rattle.sap_process.specs.Proc.{Proc, nil, parallel, replicated, act, test, lookup}
 use Rattle.sap_process.specs.Sites.{fresh_var, message_var}
 use Rattle.sap_process.specs.Scopes.{lock_var}
-use Rattle.sap_place.specs.StateFacts.{digits}
 use Rattle.sap_runs.specs.declared.process_step.PStep.{PStep}
 use Rattle.sap_runs.specs.declared.process_step.PStep.TheVariants as line
 use Rattle.sap_runs.specs.declared.rule_step.RStep.{RStep}
-use Rattle.sap_runs.specs.declared.rule_step.RStep.TheVariants.{Fresh, Learn, Own, Public, Apply, Know, Rule as RuleLine}
+use Rattle.sap_runs.specs.declared.rule_step.RStep.TheVariants.{Fresh, Learn, Own, Public, Apply, Know}
+pub use Rattle.sap_translate.specs.RuleLines.{numbers_from}
 use Rattle.sap_translate.specs.Templates.{first_of, second_of}
 use Rattle.sap_translate.specs.relation.Agents.{Agent, running, copying}
 use Rattle.sap_translate.specs.relation.Answers.{term_under, widened, goes_on, goes_aside}
 use Rattle.sap_translate.specs.relation.Envs.{Env, just, join}
 use Rattle.sap_forward.specs.Least.{IsNext}
+use Rattle.sap_forward.specs.LinesFor.{uses}
 use Rattle.sap_forward.specs.Tables.{Tables}
-
--- the rule of this word at the place with this path is used on these facts
-abbrev pub uses : List ℕ → List ℕ → List ℕ → List Binding → RStep
-uses word path ks b = RuleLine (word ++ digits path) ks b
 
 -- thread t stands at the place with this path, before this, under number k
 pub record Seated (agents : List (Option Agent)) (tables : Tables) (t k : ℕ) (path : List ℕ) (env : Env) (body : Proc) : Type 0 where
@@ -56,11 +53,6 @@ with_facts tables come = record tables { count = tables.count + come }
 -- a name is given to a lock or a tag
 abbrev pub gives : Tables → ℕ → Tables
 gives tables n = record tables { next = n + 1 }
-
--- this many numbers, from this one on
-abbrev pub numbers_from : ℕ → ℕ → List ℕ
-numbers_from n zero = []
-numbers_from n (suc k) = n ∷ numbers_from (n + 1) k
 
 -- this many facts of the process come
 abbrev pub with_pile : Tables → ℕ → Tables

@@ -1,3 +1,4 @@
+//! Why a run of a process is not converted.
 ghost use Rattle.std.specs.Prelude.{◌≡◌};
 ghost use Rattle.sap_forward.specs.declared.at.At.TheVariants.{Mem as OutOfMemory};
 

@@ -117,8 +117,9 @@ fn first_desk(alloc: Global, f: &File, run: &PSteps) -> Result<Box<Desk>, Mem>
 
 /// The run of the file's rules opposite to this run of its process: legal, within the limit on terms, admitted by the
 /// restrictions that are generated, with the same visible trace, the same marks and the same entries of knowledge. Its first
-/// line is `rule Init`, and it has at most four lines for each line more; no lines stand opposite to none. Locks and tags
-/// have the least names that no line of the run draws, in ascending order. `Step` names the first illegal line; the file's own
+/// line is `rule Init`, and behind it stand those for each line in turn, one to four; no lines stand opposite to none. `Fr` is
+/// made of what a `new` or a `name` draws, in its own lines, and in those of a `lock` or a `sync` of the name that the lock or
+/// tag gets: in turn the least names that no line of the run draws. `Step` names the first illegal line; the file's own
 /// restrictions refuse none. It takes time in proportion to the lines and to the terms that they make.
 pub fn to_rules(alloc: Global, f: &File, run: &PSteps) -> Result<RSteps, At>
     requires { IsRunnable (told_by f.now) }

@@ -1,11 +1,15 @@
 //! Laws of runs of processes and of their rules, as contracts of functions that only call the laws below.
-ghost use Rattle.std.specs.Prelude.{◌<◌, ◌^◌};
+ghost use Rattle.std.specs.Prelude.{◌≡◌, ◌<◌, ◌^◌, ℕ, List};
 ghost use Rattle.sap_forward.specs.Answered.{LinesAreAnswered, StartsLinked};
 ghost use Rattle.sap_forward.specs.Answers.{HasOneFirst, HasOneTrace, HasSomeAnswer, LegalIsNotRefused};
-ghost use Rattle.sap_forward.specs.Opposite.{HasOpposites};
+ghost use Rattle.sap_forward.specs.Least.{names_drawn, names_made, not_drawn, AreLeast};
+ghost use Rattle.sap_forward.specs.LineExamples.{lock_and_new, lock_then_new, made_early, new_then_lock, test_then_lock, with_names};
+ghost use Rattle.sap_forward.specs.Opposite.{HasOpposites, StandInTurn};
 ghost use Rattle.sap_locks.specs.Annotation.{IsAnnotation};
 ghost use Rattle.sap_process.specs.Proc.{Proc, node_count};
 ghost use Rattle.sap_process.specs.Ready.{IsReady};
+ghost use Rattle.sap_runs.specs.declared.process_step.PStep.{PStep};
+ghost use Rattle.sap_runs.specs.declared.rule_step.RStep.{RStep};
 ghost use Rattle.sap_terms.specs.Signature.{HoldsBuiltins, Sig};
 
 use sap_lines::{
@@ -51,8 +55,8 @@ pub fn lines_are_answered()
 /// A law: each written run of a process that is legal within the limit on terms has lines of its rules opposite, where the process is
 /// the annotation of one that is ready. They are legal within the limit, and their full trace counts; they show the same, have the
 /// same marks, and leave the adversary with the same entries. None stand opposite to none; elsewhere the first is `Init`, and
-/// there are at most four for each line more. Locks and tags have the least names that no line of the process draws, in ascending
-/// order.
+/// behind it stand those for each line in turn, exactly as many as are counted. Locks and tags get the least names that no line
+/// of the process draws, in ascending order, and what a line draws stays its own.
 pub fn legal_runs_have_lines_opposite()
     ensures { (g : Sig) (p q : Proc) → HoldsBuiltins g → IsReady g p → node_count p < 2 ^ 64 → IsAnnotation p q
         → HasOpposites g q }
@@ -82,3 +86,20 @@ pub fn process_runs_have_one_answer()
     lines_have_some_answer();
     runs_match_exactly();
 }
+
+/// A law: where lines of rules stand in turn, the names of which they have Fr made, without those that a line of the process
+/// draws, are the least that none draws, in ascending order.
+pub fn names_are_least()
+    ensures { (lines : List PStep) (rule_lines : List RStep) → StandInTurn lines rule_lines
+        → AreLeast (names_drawn lines) (not_drawn (names_drawn lines) (names_made rule_lines)) }
+{}
+
+/// A law: small runs tried by hand. Where a lock is taken before the name 0 is made, the lock has the name 1 and the new name is 0,
+/// and it can't be otherwise; the lines of two threads don't change places; and Fr isn't made for a lock ahead of the lines of the
+/// line before it.
+pub fn turns_by_hand()
+    ensures right { StandInTurn lock_and_new (with_names 1 0) }
+    ensures no_other { (n m : ℕ) → StandInTurn lock_and_new (with_names n m) → (n ≡ 1) × (m ≡ 0) }
+    ensures in_order { (n m : ℕ) → ¬ StandInTurn lock_then_new (new_then_lock n m) }
+    ensures in_time { (n : ℕ) → ¬ StandInTurn test_then_lock (made_early n) }
+{}

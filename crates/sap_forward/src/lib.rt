@@ -21,5 +21,8 @@ mod trace;
 
 pub use at::At;
 pub use conversion::to_rules;
-pub use laws::{legal_runs_have_lines_opposite, lines_are_answered, process_runs_have_one_answer};
+pub use laws::{
+    legal_runs_have_lines_opposite, lines_are_answered, names_are_least,
+    process_runs_have_one_answer, turns_by_hand,
+};
 pub use trace::process_trace;

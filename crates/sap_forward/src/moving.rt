@@ -1,7 +1,7 @@
 // How threads go on at the desk.
 ghost use Rattle.std.specs.Prelude.{◌≡◌, ◌+◌, [], ◌∷◌, ◌++◌, Some, OnOk, MatchOption, slice_get};
 ghost use Rattle.sap_terms.specs.Path.{IsDigit};
-ghost use Rattle.sap_forward.specs.Written.{uses};
+ghost use Rattle.sap_forward.specs.LinesFor.{uses};
 ghost use Rattle.sap_forward.specs.code.Steps.{IsAt, HasNone, Goes, goes, joins, starts};
 ghost use Rattle.sap_forward.specs.declared.seats.Seat.{Seat as SeatType};
 

@@ -1,6 +1,6 @@
 // Lines of rules, as a conversion makes them.
 ghost use Rattle.std.specs.Prelude.{◌≡◌, ◌+◌, [], ◌∷◌, IfOk};
-ghost use Rattle.sap_forward.specs.Written.{uses};
+ghost use Rattle.sap_forward.specs.LinesFor.{uses};
 
 use sap_place::with_digits;
 use sap_runs::RStep;

@@ -1,5 +1,6 @@
 pub mod ChannelFacts
 pub mod Templates
+pub mod RuleLines
 pub mod LineCounts
 pub mod Members
 pub mod Places

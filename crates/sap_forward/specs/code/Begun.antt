@@ -23,13 +23,23 @@ use Rattle.sap_translate.specs.relation.Envs.{no_env}
 use Rattle.sap_forward.specs.Answered.{Draws, first_tables}
 use Rattle.sap_forward.specs.Converted.{IsConverted, IsFirstRefused}
 use Rattle.sap_forward.specs.Counted.{lines_for_all, all_copying}
-use Rattle.sap_forward.specs.Least.{is_among, names_drawn, names_made, not_drawn, numbers_below}
+use Rattle.sap_forward.specs.Least.{is_among, names_drawn, not_drawn, numbers_below}
+use Rattle.sap_forward.specs.LinesFor.{AreLinesForAll}
 use Rattle.sap_forward.specs.Linked.{Linked}
 use Rattle.sap_forward.specs.Opposite.{init_line}
 use Rattle.sap_forward.specs.Tables.{Tables}
 use Rattle.sap_forward.specs.code.Desk.{Keeps}
 use Rattle.sap_forward.specs.code.Taken.{IsTaken}
 use Rattle.sap_forward.specs.declared.desk.Desk.{Desk}
+
+-- the thread is a replication that has started
+abbrev pub has_started : Option (Option Agent) → Bool
+has_started (Some (Some (copying path env body))) = true
+has_started o = false
+
+-- these threads, and no others, are replications that have started
+abbrev pub AreCopying : List ℕ → List (Option Agent) → Type 0
+AreCopying ts agents = (t : ℕ) → is_among ts t ≡ has_started (slice_get agents t)
 
 -- the lines of rules so far, behind the first
 pub record Converted (g : Sig) (W : Tree → Type 0) (q : Proc) (drawn : List ℕ) (lines : List PStep) (c : Config) (es : List Tree) (tr : Trace) (ms : List Mark) : Type 0 where
@@ -42,16 +52,14 @@ pub record Converted (g : Sig) (W : Tree → Type 0) (q : Proc) (drawn : List �
   pub linked : Linked g W q drawn tables agents c es tr state full
   pub marked : marks full ≡ ms
   pub short : length rest ≤ 4 * length lines
-  pub names : not_drawn drawn (names_made (init_line ∷ rest)) ≡ not_drawn drawn (numbers_below tables.next)
-
--- the thread is a replication that has started
-abbrev pub has_started : Option (Option Agent) → Bool
-has_started (Some (Some (copying path env body))) = true
-has_started o = false
-
--- these threads, and no others, are replications that have started
-abbrev pub AreCopying : List ℕ → List (Option Agent) → Type 0
-AreCopying ts agents = (t : ℕ) → is_among ts t ≡ has_started (slice_get agents t)
+  -- which lines stand opposite to which, and the names that locks and tags got
+  pub given : List ℕ
+  pub each : AreLinesForAll lines rest given
+  pub names : given ≡ not_drawn drawn (numbers_below tables.next)
+  -- how many there are, and how many stand opposite to them in turn
+  pub copying : AreCopying (all_copying [] lines) agents
+  pub counted : length rest ≡ lines_for_all lines + length (all_copying [] lines)
+  pub back : back_count rest ≡ length lines
 
 -- the lines so far are legal and lead here, the lines of rules that stand there are opposite to them, and the desk keeps what they
 -- lead to
@@ -63,10 +71,6 @@ pub record IsBegun (g : Sig) (q : Proc) (drawn : List ℕ) (lines : List PStep) 
   pub so_far : Converted g IsSmall q drawn lines (configuration r) (terms_of r.known) trace marks
   pub stand : written ≡ init_line ∷ so_far.rest
   pub keeps : Keeps q drawn so_far.agents so_far.tables d
-  -- how many lines there are, and how many stand opposite to them in turn
-  pub copying : AreCopying (all_copying [] lines) so_far.agents
-  pub counted : length so_far.rest ≡ lines_for_all lines + length (all_copying [] lines)
-  pub back : back_count so_far.rest ≡ length lines
 
 -- nothing is done yet, and the rules have started
 abbrev pub Begins : Sig → Proc → Type 0

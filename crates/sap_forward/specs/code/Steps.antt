@@ -12,7 +12,8 @@ use Rattle.sap_lines.specs.declared.form.Form.{Form}
 use Rattle.sap_lines.specs.declared.form.Form.TheVariants.{Recv, Lookup, Embedded}
 use Rattle.sap_lines.specs.declared.place.Place.{Place}
 use Rattle.sap_forward.specs.Least.{IsNext}
-use Rattle.sap_forward.specs.Written.{uses, numbers_from}
+use Rattle.sap_forward.specs.LinesFor.{uses}
+use Rattle.sap_forward.specs.Written.{numbers_from}
 use Rattle.sap_forward.specs.code.Desk.{Writes}
 use Rattle.sap_forward.specs.declared.desk.Desk.{Desk}
 use Rattle.sap_forward.specs.declared.seats.Seat.{Seat}

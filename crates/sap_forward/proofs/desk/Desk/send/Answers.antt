@@ -2,7 +2,7 @@ use Rattle.std.proofs.lemmas.Result.{on_ok_weaker}
 use Rattle.std.proofs.Common.{◌+◌, [], ◌∷◌, ◌++◌, ap, ◌∙◌}
 use Rattle.std.specs.Prelude.{codes}
 use Rattle.sap_runs.specs.declared.rule_step.RStep.TheVariants.{Learn, Know}
-use Rattle.sap_forward.specs.Written.{uses}
+use Rattle.sap_forward.specs.LinesFor.{uses}
 use Rattle.sap_forward.proofs.Keeping.{goes_then}
 use Rattle.sap_forward.proofs.WritesTalk.{writes_send}
 use Rattle.sap_forward.proofs.desk.Desk.send.Goals as goal
