@@ -28,8 +28,10 @@ use Rattle.sap_calc.specs.Running.{configuration, IsDone, IsDenied}
 use Rattle.sap_lines.specs.Places.{proc_at, procs_of}
 use Rattle.sap_calc.specs.code.Parts.{Parts, AreTied, seen}
 use Rattle.sap_calc.specs.code.Sound.{IsSoundFrom}
-use Rattle.sap_calc.specs.code.Threads.{live, IsThread, IsSmallNumber}
-use Rattle.sap_calc.specs.code.Values.{CanEvaluate, AreValues, IsValueFault, IsEntryNumber, IsEntryFault, IsShown}
+use Rattle.sap_calc.specs.code.Threads.{live, IsThread}
+use Rattle.sap_heads.specs.Values.{IsSmallNumber}
+use Rattle.sap_heads.specs.Values.{CanEvaluate, AreValues, IsValueFault, IsShown}
+use Rattle.sap_calc.specs.code.Given.{IsEntryNumber, IsEntryFault}
 use Rattle.sap_lines.specs.declared.fault.PFault.{PFault}
 use Rattle.sap_lines.specs.declared.fault.PFault.TheVariants as fault
 use Rattle.sap_lines.specs.declared.form.Form.TheVariants.{Nil, Send, Event}
@@ -133,9 +135,9 @@ module _ (P : Parts) (t : ℕ) (th : Thread) (x : Place) (tied : AreTied P) (is 
 
     pub event_line : (label : List Fact) → IsShown P.table th.env f label → IsDone (seen P) (seen (gone P u t th x.first)) (line.Event t) label
     event_line label h =
-        let small : EvaluateSmall P.known.sig (instance_fact (given P.table.trees th.env) f).args = rw tied.sig at h.formed.small in
+        let small : EvaluateSmall P.known.sig (instance_fact (given P.table.trees th.env) f).args = rw tied.sig at h.small in
         rw h.alone (record {
           inner = [];
-          line = rw (gone_is P u t th x.first keeps tied is) (shows t event_runs (rw tied.sig at h.formed.form) small);
+          line = rw (gone_is P u t th x.first keeps tied is) (shows t event_runs (rw tied.sig at h.form) small);
           sig = refl;
         })

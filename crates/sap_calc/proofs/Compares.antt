@@ -23,7 +23,7 @@ use Rattle.sap_lines.specs.Places.{proc_at, procs_of}
 use Rattle.sap_calc.specs.code.Parts.{Parts, AreTied, seen}
 use Rattle.sap_calc.specs.code.Sound.{IsSoundFrom}
 use Rattle.sap_calc.specs.code.Threads.{live}
-use Rattle.sap_calc.specs.code.Values.{CanEvaluate, AreValues, IsValueFault}
+use Rattle.sap_heads.specs.Values.{CanEvaluate, AreValues, IsValueFault}
 use Rattle.sap_lines.specs.declared.fault.PFault.{PFault}
 use Rattle.sap_lines.specs.declared.fault.PFault.TheVariants as fault
 use Rattle.sap_lines.specs.declared.form.Form.TheVariants.{Nil, If}

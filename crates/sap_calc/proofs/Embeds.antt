@@ -1,61 +1,60 @@
 -- Threads that use their embedded rules on facts.
-use Rattle.std.proofs.Common.{◌≡◌, ◌<◌, ◌+◌, ℕ, zero, suc, Bool, true, false, List, [], ◌∷◌, ◌++◌, length, Option, Some, None, if◌then◌else◌, refl, sym, ap, subst, ◌∙◌, ◌⊎◌, inl, inr}
+use Rattle.std.proofs.Common.{◌≡◌, ◌<◌, ℕ, zero, suc, Bool, true, false, List, [], ◌∷◌, ◌++◌, length, Option, Some, None, if◌then◌else◌, refl, sym, ap, subst, ◌∙◌, ◌⊎◌, inl, inr}
 use Rattle.std.specs.Prelude.{All, Contains, slice_get, slice_set}
 use Rattle.std.proofs.lemmas.List.{map-append}
-use Rattle.std.proofs.lemmas.List.Elements.{All-nil, All-cons, Contains-get_or}
-use Rattle.sap_terms.specs.Choice.{Choice, instance}
+use Rattle.std.proofs.lemmas.List.Elements.{All-nil, All-cons, All-contains, Contains-get_or}
+use Rattle.sap_terms.specs.Choice.{Choice}
 use Rattle.sap_terms.specs.Destructors.{HasDestructor}
-use Rattle.sap_terms.specs.Ground.{IsGround}
-use Rattle.sap_terms.specs.Message.{IsOver}
 use Rattle.sap_terms.specs.Equations.{equations}
+use Rattle.sap_terms.specs.Message.{IsOver}
 use Rattle.sap_terms.specs.Modulo.{instance_fact, instance_facts, AreFormsOfFacts}
 use Rattle.sap_terms.specs.Piles.{Pile, Takes, nothing, one, used, adds}
 use Rattle.sap_terms.specs.Signature.{Sig}
-use Rattle.sap_terms.specs.Tree.{Tree, variable}
-use Rattle.sap_terms.specs.Variables.{facts_vars, new_vars}
+use Rattle.sap_terms.specs.Tree.{Tree}
+use Rattle.sap_terms.specs.Variables.{facts_vars}
 use Rattle.sap_terms.specs.declared.binding.Binding.{Binding}
 use Rattle.sap_terms.specs.declared.fact.Fact.{Fact}
-use Rattle.sap_terms.specs.declared.var.Var.{Var}
-use Rattle.sap_rewrite.specs.Bound.{NamedOnceStay, BindingsGiveChoices}
-use Rattle.sap_rewrite.specs.Laws.{FormIsOne, PatternsStay}
+use Rattle.sap_terms.proofs.PlainLaws.Items.{contains_got}
 use Rattle.sap_rewrite.specs.Match.{HaveOneSort}
-use Rattle.sap_rewrite.specs.Pattern.{MatchingIsModulo}
 use Rattle.sap_facts.specs.Cited.{left_of}
+use Rattle.sap_facts.specs.Facts.{standing}
 use Rattle.sap_process.specs.Action as action
-use Rattle.sap_process.specs.Configuration.{Runs, becomes, leaves}
-use Rattle.sap_process.specs.Heads.{facts_terms, locks_set}
+use Rattle.sap_process.specs.Configuration.{Runs, leaves}
+use Rattle.sap_process.specs.Heads.{facts_terms}
 use Rattle.sap_process.specs.Instance.{process_instance}
 use Rattle.sap_process.specs.Places.{place}
-use Rattle.sap_process.specs.Proc.{Proc, act}
-use Rattle.sap_process.specs.ProcessSteps.{with_choice}
-use Rattle.sap_process.specs.Sites.{above_of, var_names, bound_by}
+use Rattle.sap_process.specs.Proc.{act}
+use Rattle.sap_process.specs.Sites.{bound_by}
 use Rattle.sap_process.specs.Sorted.{with_sorts, by_binder}
 use Rattle.sap_runs.specs.declared.process_step.PStep.TheVariants as line
 use Rattle.sap_share.specs.Env.{given}
-use Rattle.sap_share.specs.Shared.{tree_at}
 use Rattle.sap_share.specs.declared.env.Bound.{Bound}
-use Rattle.sap_lines.specs.Faults.{AreRight, FitsFacts, EvaluateLarge, EvaluateSmall, no_memory, fact_count, fact_missing, bad_binding, unfitting_facts, large_rule}
+use Rattle.sap_sides.specs.Messages.{IsSmallMessageFact, HoldsSmallMessages}
+use Rattle.sap_lines.specs.Faults.{AreRight, FitsFacts, EvaluateSmall, no_memory, fact_count, fact_missing, bad_binding, unfitting_facts, large_rule}
 use Rattle.sap_lines.specs.Lines.{left_open, embeds}
+use Rattle.sap_lines.specs.Places.{proc_at, procs_of}
 use Rattle.sap_lines.specs.Sorts.{RulesHaveOneSort}
 use Rattle.sap_lines.specs.declared.fault.PFault.{PFault}
 use Rattle.sap_lines.specs.declared.fault.PFault.TheVariants as fault
-use Rattle.sap_lines.specs.Places.{proc_at, procs_of}
 use Rattle.sap_lines.specs.declared.form.Form.TheVariants.{Nil, Embedded}
 use Rattle.sap_lines.specs.declared.place.Place.{Place}
+use Rattle.sap_heads.specs.Used as rule
+use Rattle.sap_heads.specs.Used.{IsUsed, IsUnused, facts_given, rule_given}
 use Rattle.sap_calc.specs.Running.{configuration, IsDone, IsDenied}
-use Rattle.sap_calc.specs.code.Held.{IsFineFact, HoldsFine}
+use Rattle.sap_calc.specs.code.Cited.{AreCited, AreUncited}
 use Rattle.sap_calc.specs.code.Parts.{Parts, AreTied, seen}
 use Rattle.sap_calc.specs.code.Sound.{IsSoundFrom}
-use Rattle.sap_calc.specs.code.Threads.{running, live, IsThread}
-use Rattle.sap_calc.specs.code.Used.{open_vars, AreCited, AreUncited, IsFound, IsUsed, IsUnused, unbound, not_formed, no_room, not_open, not_found, not_bound}
+use Rattle.sap_calc.specs.code.Threads.{live}
 use Rattle.sap_calc.specs.declared.thread.Thread.{Thread}
-use Rattle.sap_calc.proofs.Counted.{all_got}
 use Rattle.sap_calc.proofs.Evaluable.{over_at}
-use Rattle.sap_calc.proofs.Inputs.{given_fine}
+use Rattle.sap_calc.proofs.Further.{further_is, further_tied}
 use Rattle.sap_calc.proofs.Lines.{thread_tied, children_below, runs_form, sound_form}
-use Rattle.sap_calc.proofs.Moves.{sets_tied, sets_is}
-use Rattle.sap_calc.proofs.Ruled.{stay_facts, open_is, nothing_fits, rule_choice, rule_fits, binding_large, rule_names, rule_small_env, acts_are, right_are, rule_goes, sides_large, rule_small}
-use Rattle.sap_calc.proofs.Sounds.{sound_head, sound_behind}
+use Rattle.sap_calc.proofs.Sounds.{sound_head}
+
+-- a fact that stands at a number is there
+stands_at : (o : Option (Option Fact)) (f : Fact) → standing o ≡ Some f → o ≡ Some (Some f)
+stands_at None f h = cc
+stands_at (Some o) f h = ap Some h
 
 -- what is left when facts are taken was there
 set_kept : {X : Type 0} (xs : List (Option X)) (k j : ℕ) (x : X) → slice_get (slice_set xs k None) j ≡ Some (Some x) → slice_get xs j ≡ Some (Some x)
@@ -75,9 +74,9 @@ left_kept : {facts rest : Pile} {ks : List ℕ} {fs : List Fact} → Takes facts
 left_kept nothing j x e = e
 left_kept {facts = facts} (one {k = k} {f = f} a t) j x e = used_kept facts k f x j (left_kept t j x e)
 
-taken_fine : (g : Sig) {facts rest : Pile} {ks : List ℕ} {fs : List Fact} → HoldsFine g facts → Takes facts ks fs rest → All (IsFineFact g) fs
-taken_fine g h nothing = All-nil (IsFineFact g)
-taken_fine g {facts = facts} h (one {k = k} {f = f} {fs = fs} a t) = All-cons (IsFineFact g) f fs (h k f a) (taken_fine g (λ j x e. h j x (used_kept facts k f x j e)) t)
+taken_fine : (g : Sig) {facts rest : Pile} {ks : List ℕ} {fs : List Fact} → HoldsSmallMessages g facts → Takes facts ks fs rest → All (IsSmallMessageFact g) fs
+taken_fine g h nothing = All-nil (IsSmallMessageFact g)
+taken_fine g {facts = facts} h (one {k = k} {f = f} {fs = fs} a t) = All-cons (IsSmallMessageFact g) f fs (h k f (ap standing a)) (taken_fine g (λ j x e. h j x (ap standing (used_kept facts k f x j (stands_at _ x e)))) t)
 
 got_adds : (xs : Pile) (ys : List Fact) (k : ℕ) (x : Fact) → slice_get (adds xs ys) k ≡ Some (Some x) → (slice_get xs k ≡ Some (Some x)) ⊎ ((j : ℕ) × (slice_get ys j ≡ Some x))
 got_adds [] [] k x e = cc
@@ -86,10 +85,10 @@ got_adds [] (y ∷ ys) (suc k) x e = elim (got_adds [] ys k x e) [ inl never ↦
 got_adds (z ∷ zs) ys zero x e = inl e
 got_adds (z ∷ zs) ys (suc k) x e = got_adds zs ys k x e
 
-adds_fine : (g : Sig) (facts : Pile) (ks : List ℕ) (cited right : List Fact) → HoldsFine g facts → Takes facts ks cited (left_of facts ks) → All (IsFineFact g) right → HoldsFine g (adds (left_of facts ks) right)
-adds_fine g facts ks cited right h taken fine k f here = elim (got_adds (left_of facts ks) right k f here) [
-  | inl old ↦ h k f (left_kept taken k f old)
-  | inr new ↦ all_got (IsFineFact g) right new.0 f fine new.1
+adds_fine : (g : Sig) (facts : Pile) (ks : List ℕ) (cited right : List Fact) → HoldsSmallMessages g facts → Takes facts ks cited (left_of facts ks) → All (IsSmallMessageFact g) right → HoldsSmallMessages g (adds (left_of facts ks) right)
+adds_fine g facts ks cited right h taken fine k f here = elim (got_adds (left_of facts ks) right k f (stands_at _ f here)) [
+  | inl old ↦ h k f (ap standing (left_kept taken k f old))
+  | inr new ↦ All-contains (IsSmallMessageFact g) right f fine (contains_got right f new.0 new.1)
 ]
 
 count_is : (σ : Choice) (fs : List Fact) → length (instance_facts σ fs) ≡ length fs
@@ -123,7 +122,7 @@ module _ (P : Parts) (t : ℕ) (th : Thread) (x : Place) (tied : AreTied P) (is 
       let here = sound_head P.table.sig _ _ rule_sound in
       over_at P.table.sig (place rule_sound.path (thread_tied P t th tied is).above (act (action.embedded l e r) (proc_at (procs_of P.places) x.first))) _ here.over (Contains-get_or (facts_terms (l ++ (e ++ r))) k d lt)
 
-  rule_clean : (m : Tree) → Contains (facts_terms l) m → HasDestructor P.table.sig m → ⊥
+  pub rule_clean : (m : Tree) → Contains (facts_terms l) m → HasDestructor P.table.sig m → ⊥
   rule_clean m stands d = (sound_head P.table.sig _ _ rule_sound).plain (record { term = m; stands = stands; destructor = d })
 
   module _ (ks : List ℕ) (b : List Binding) where
@@ -138,90 +137,36 @@ module _ (P : Parts) (t : ℕ) (th : Thread) (x : Place) (tied : AreTied P) (is 
       takes : Takes P.facts ks cited (left_of P.facts ks)
       takes = subst (λ fs. Takes P.facts ks fs (left_of P.facts ks)) (sym here.are) here.taken
 
-      pub cited_fine : All (IsFineFact P.table.sig) cited
+      pub cited_fine : All (IsSmallMessageFact P.table.sig) cited
       cited_fine = taken_fine P.table.sig tied.facts takes
 
-      module _ (once : NamedOnceStay) (give : BindingsGiveChoices) (sorts : RulesHaveOneSort) (grounds : (k : ℕ) → k < length P.table.trees → IsGround (tree_at P.table.trees k)) where
-        right_bindings : AreRight P.table.sig (open_vars th.env l e r) b → AreRight P.known.sig (left_open (instance_facts (given P.table.trees th.env) l) (instance_facts (given P.table.trees th.env) e) (instance_facts (given P.table.trees th.env) r)) b
-        right_bindings h =
-            let vars = open_is P.table.sig P.table.trees grounds th.env (thread_tied P t th tied is).small l e r (rule_one sorts) in
-            subst (λ g. AreRight g (left_open (instance_facts (given P.table.trees th.env) l) (instance_facts (given P.table.trees th.env) e) (instance_facts (given P.table.trees th.env) r)) b) tied.sig (record { vars = h.vars ∙ sym vars; terms = h.terms })
+      pub embed_unused : length ks ≡ length l → (f : PFault) → IsUnused P.table th.env cited l e r b f → IsDenied (seen P) (line.Embedded t ks b) f
+      embed_unused count f rule.no_memory = no_memory (line.Embedded t ks b)
+      embed_unused count f (rule.not_opened bad) = bad_binding t ks b rule_runs (count ∙ sym (count_is (given P.table.trees th.env) l)) takes (rw tied.sig at bad)
+      embed_unused count f (rule.not_fitting opened none_fits) = unfitting_facts t ks b rule_runs (count ∙ sym (count_is (given P.table.trees th.env) l)) takes (rw tied.sig at opened) (rw tied.sig at none_fits)
+      embed_unused count f (rule.too_large σ opened fits large) = large_rule t ks b σ rule_runs takes (rw tied.sig at opened) (rw tied.sig at fits) (rw tied.sig at large)
 
-        too_large : (found : List Bound) (opened : AreRight P.table.sig (open_vars th.env l e r) b) (f : IsFound P.table.trees th.env l cited found)
-            → EvaluateLarge P.table.sig (facts_terms (instance_facts (rule_choice P.table.sig P.table.trees grounds th.env (thread_tied P t th tied is).small l e r (rule_one sorts) cited cited_fine found f once give b opened) (instance_facts (given P.table.trees th.env) l ++ (instance_facts (given P.table.trees th.env) e ++ instance_facts (given P.table.trees th.env) r))))
-            → IsDenied (seen P) (line.Embedded t ks b) fault.TermLarge
-        too_large found opened f large =
-            let σ = rule_choice P.table.sig P.table.trees grounds th.env (thread_tied P t th tied is).small l e r (rule_one sorts) cited cited_fine found f once give b opened in
-            let fits = subst (λ g. FitsFacts g (instance_facts (given P.table.trees th.env) l) b cited σ) tied.sig (rule_fits P.table.sig P.table.trees grounds th.env (thread_tied P t th tied is).small l e r (rule_one sorts) cited cited_fine found f once give b opened) in
-            large_rule t ks b σ rule_runs takes (right_bindings opened) fits (subst (λ g. EvaluateLarge g (facts_terms (instance_facts σ (instance_facts (given P.table.trees th.env) l ++ (instance_facts (given P.table.trees th.env) e ++ instance_facts (given P.table.trees th.env) r))))) tied.sig large)
+      module _ (env : List Bound) (shown added : List Fact) (h : IsUsed P.table th.env cited l e r b env shown added) where
+        pub embed_tied : AreTied (record P { threads = slice_set P.threads t (Some (record { place = x.first; env = env })); facts = adds (left_of P.facts ks) added })
+        embed_tied =
+            let set = further_tied P t th tied is h.choice (facts_vars (l ++ (e ++ r))) (facts_vars (rule_given P.table th.env l e r)) x.first env h.bound (action.embedded l e r) (λ scope. refl) rule_below.0 rule_sound in
+            record {
+              sig = set.sig;
+              places = set.places;
+              threads = set.threads;
+              keys = set.keys;
+              values = set.values;
+              held = set.held;
+              own = set.own;
+              facts = adds_fine P.table.sig P.facts ks cited added tied.facts takes h.messages;
+            }
 
-        pub embed_unused : MatchingIsModulo → PatternsStay → length ks ≡ length l → (f : PFault) → IsUnused P.table th.env cited l e r b f → IsDenied (seen P) (line.Embedded t ks b) f
-        embed_unused modulo stay count f (unbound no_room) = no_memory (line.Embedded t ks b)
-        embed_unused modulo stay count f (unbound (not_open (inl none))) = rw none (no_memory (line.Embedded t ks b))
-        embed_unused modulo stay count f (unbound (not_open (inr bad))) =
-            let vars = open_is P.table.sig P.table.trees grounds th.env (thread_tied P t th tied is).small l e r (rule_one sorts) in
-            let never : AreRight P.known.sig (left_open (instance_facts (given P.table.trees th.env) l) (instance_facts (given P.table.trees th.env) e) (instance_facts (given P.table.trees th.env) r)) b → ⊥ =
-            λ h. let there = subst (λ g. AreRight g (left_open (instance_facts (given P.table.trees th.env) l) (instance_facts (given P.table.trees th.env) e) (instance_facts (given P.table.trees th.env) r)) b) (sym tied.sig) h in bad.1 (record { vars = there.vars ∙ vars; terms = there.terms }) in
-            rw bad.0 (bad_binding t ks b rule_runs (count ∙ sym (count_is (given P.table.trees th.env) l)) takes never)
-        embed_unused modulo stay count f (unbound (not_found opened (inl none))) = rw none (no_memory (line.Embedded t ks b))
-        embed_unused modulo stay count f (unbound (not_found opened (inr miss))) =
-            let small = (thread_tied P t th tied is).small in
-            let patterns = stay_facts stay P.table.sig (given P.table.trees th.env) l rule_clean (given_fine P.table.sig P.table.trees grounds th.env small) in
-            rw miss.0 (unfitting_facts t ks b rule_runs (count ∙ sym (count_is (given P.table.trees th.env) l)) takes (right_bindings opened)
-            (λ σ fits. nothing_fits P.table.sig P.table.trees grounds th.env small l e r (rule_one sorts) cited cited_fine modulo patterns miss.1 b σ (subst (λ g. FitsFacts g (instance_facts (given P.table.trees th.env) l) b cited σ) (sym tied.sig) fits)))
-        embed_unused modulo stay count f (unbound (not_bound found opened match (inl none))) = rw none (no_memory (line.Embedded t ks b))
-        embed_unused modulo stay count f (unbound (not_bound found opened match (inr big))) =
-            rw big.0 (too_large found opened match (binding_large P.table.sig P.table.trees grounds th.env (thread_tied P t th tied is).small l e r (rule_one sorts) cited cited_fine found match once give b opened big.1))
-        embed_unused modulo stay count f (not_formed new env (inl none)) = rw none (no_memory (line.Embedded t ks b))
-        embed_unused modulo stay count f (not_formed new env (inr big)) =
-            rw big.0 (too_large env.found env.opened env.matched (sides_large P.table.sig P.table.trees grounds th.env (thread_tied P t th tied is).small l e r (rule_one sorts) cited cited_fine env.found env.matched once give b env.opened new env.bound big.1))
-
-        module _ (thread : Thread) (shown added : List Fact) (h : IsUsed P.table th.env x.first cited l e r b thread shown added) where
-          thread_new : IsThread P.table P.places thread
-          thread_new =
-              let o = thread_tied P t th tied is in
-              let a = action.embedded l e r in
-              let names = rule_names P.table.sig P.table.trees grounds th.env o.small l e r (rule_one sorts) cited cited_fine h.rule.found h.rule.matched once give b h.rule.opened thread.env h.rule.bound in
-              let there : IsSoundFrom P.table.sig (above_of (o.above.scope ++ bound_by o.above.scope a) (o.above.locks + locks_set a)) (proc_at (procs_of P.places) x.first) = sound_behind P.table.sig _ _ _ rule_sound in
-              record {
-                below = rw h.place rule_below.0;
-                above = above_of (o.above.scope ++ bound_by o.above.scope a) (o.above.locks + locks_set a);
-                sound = rw h.place there;
-                names = names ∙ (λ i. o.names i ++ var_names (new_vars (o.names i) (facts_vars (l ++ (e ++ r))))) ∙ sym (map-append (λ (v : Var). v.name) o.above.scope (bound_by o.above.scope a));
-                small = rule_small_env P.table.sig P.table.trees grounds th.env o.small l e r (rule_one sorts) cited cited_fine h.rule.found h.rule.matched once give b h.rule.opened thread.env h.rule.bound;
-              }
-
-          abbrev pub embedded_parts : Parts
-          embedded_parts = record P { threads = slice_set P.threads t (Some thread); facts = adds (left_of P.facts ks) added }
-
-          pub embed_tied : AreTied (record P { threads = slice_set P.threads t (Some thread); facts = adds (left_of P.facts ks) added })
-          embed_tied =
-              let set = sets_tied P t thread tied thread_new in
-              record {
-                sig = set.sig;
-                places = set.places;
-                threads = set.threads;
-                keys = set.keys;
-                values = set.values;
-                held = set.held;
-                own = set.own;
-                facts = adds_fine P.table.sig P.facts ks cited added tied.facts takes h.right.fine;
-              }
-
-          pub embed_line : FormIsOne → ((p : Proc) (s t : Choice) → ((v : Var) → IsGround (s v) ⊎ (s v ≡ variable v)) → process_instance t (process_instance s p) ≡ process_instance (λ v. instance t (s v)) p)
-              → IsDone (seen P) (seen (record P { threads = slice_set P.threads t (Some thread); facts = adds (left_of P.facts ks) added })) (line.Embedded t ks b) shown
-          embed_line one_form twice =
-              let small = (thread_tied P t th tied is).small in
-              let γ = given P.table.trees th.env in
-              let σ = rule_choice P.table.sig P.table.trees grounds th.env small l e r (rule_one sorts) cited cited_fine h.rule.found h.rule.matched once give b h.rule.opened in
-              let fits = subst (λ g. FitsFacts g (instance_facts γ l) b cited σ) tied.sig (rule_fits P.table.sig P.table.trees grounds th.env small l e r (rule_one sorts) cited cited_fine h.rule.found h.rule.matched once give b h.rule.opened) in
-              let right = right_bindings h.rule.opened in
-              let acts = subst (λ g. AreFormsOfFacts (equations g) (instance_facts σ (instance_facts γ e)) shown) tied.sig (subst (λ fs. AreFormsOfFacts (equations P.table.sig) fs shown) (acts_are P.table.sig P.table.trees grounds th.env small l e r (rule_one sorts) cited cited_fine h.rule.found h.rule.matched once give b h.rule.opened thread.env h.rule.bound) h.acts.forms) in
-              let right_forms = subst (λ g. AreFormsOfFacts (equations g) (instance_facts σ (instance_facts γ r)) added) tied.sig (subst (λ fs. AreFormsOfFacts (equations P.table.sig) fs added) (right_are P.table.sig P.table.trees grounds th.env small l e r (rule_one sorts) cited cited_fine h.rule.found h.rule.matched once give b h.rule.opened thread.env h.rule.bound) h.right.forms) in
-              let whole = subst (λ g. EvaluateSmall g (facts_terms (instance_facts σ (instance_facts γ l ++ (instance_facts γ e ++ instance_facts γ r))))) tied.sig (rule_small P.table.sig P.table.trees grounds th.env small l e r (rule_one sorts) cited cited_fine h.rule.found h.rule.matched once give b h.rule.opened thread.env h.rule.bound one_form h.acts.small h.right.small) in
-              let goes : running P.table.trees (procs_of P.places) thread ≡ with_choice σ (facts_vars (instance_facts γ l ++ (instance_facts γ e ++ instance_facts γ r))) (process_instance γ (proc_at (procs_of P.places) x.first)) =
-              ap (λ j. process_instance (given P.table.trees thread.env) (proc_at (procs_of P.places) j)) h.place
-              ∙ rule_goes P.table.sig P.table.trees grounds th.env small l e r (rule_one sorts) cited cited_fine h.rule.found h.rule.matched once give b h.rule.opened thread.env h.rule.bound twice (proc_at (procs_of P.places) x.first) in
-              let after : configuration (seen (record P { threads = slice_set P.threads t (Some thread); facts = adds (left_of P.facts ks) added })) ≡ leaves (becomes (configuration (seen P)) t (Some (with_choice σ (facts_vars (instance_facts γ l ++ (instance_facts γ e ++ instance_facts γ r))) (process_instance γ (proc_at (procs_of P.places) x.first))))) (adds (left_of P.facts ks) added) =
-              ap (λ c. leaves c (adds (left_of P.facts ks) added)) (sets_is P t thread ∙ ap (λ p. becomes (configuration (seen P)) t (Some p)) goes) in
-              record { inner = []; line = rw after (embeds t ks b σ cited shown added rule_runs fits.messages right.vars fits.agrees fits.equal takes acts right_forms whole); sig = refl }
+        pub embed_line : IsDone (seen P) (seen (record P { threads = slice_set P.threads t (Some (record { place = x.first; env = env })); facts = adds (left_of P.facts ks) added })) (line.Embedded t ks b) shown
+        embed_line =
+            let fits : FitsFacts P.known.sig (facts_given P.table th.env l) b cited h.choice = rw tied.sig at h.fits in
+            let right : AreRight P.known.sig (left_open (facts_given P.table th.env l) (facts_given P.table th.env e) (facts_given P.table th.env r)) b = rw tied.sig at h.opened in
+            let acts : AreFormsOfFacts (equations P.known.sig) (instance_facts h.choice (facts_given P.table th.env e)) shown = rw tied.sig at h.acts in
+            let right_forms : AreFormsOfFacts (equations P.known.sig) (instance_facts h.choice (facts_given P.table th.env r)) added = rw tied.sig at h.right in
+            let whole : EvaluateSmall P.known.sig (facts_terms (instance_facts h.choice (rule_given P.table th.env l e r))) = rw tied.sig at h.small in
+            let after = ap (λ c. leaves c (adds (left_of P.facts ks) added)) (further_is P t th tied is h.choice (facts_vars (l ++ (e ++ r))) (facts_vars (rule_given P.table th.env l e r)) x.first env h.bound) in
+            record { inner = []; line = rw after (embeds t ks b h.choice cited shown added rule_runs fits.messages right.vars fits.agrees fits.equal takes acts right_forms whole); sig = refl }

@@ -17,7 +17,7 @@ use Rattle.sap_process.specs.Sites.{Site, var_names}
 use Rattle.sap_share.specs.Env.{given}
 use Rattle.sap_share.specs.Shared.{tree_at}
 use Rattle.sap_share.specs.declared.env.Bound.{Bound}
-use Rattle.sap_calc.specs.code.Threads.{names_of}
+use Rattle.sap_heads.specs.Bound.{names_of}
 
 -- the variables are among these names
 abbrev pub Knows : List (List ℕ) → List Var → Type 0

@@ -18,7 +18,8 @@ use Rattle.sap_share.specs.declared.env.Bound.{Bound}
 use Rattle.sap_calc.specs.Running.{configuration}
 use Rattle.sap_lines.specs.Places.{IsRooted, proc_at, procs_of}
 use Rattle.sap_calc.specs.code.Parts.{Parts, AreTied, seen, IsSmallValue}
-use Rattle.sap_calc.specs.code.Threads.{IsThread, IsSmallNumber}
+use Rattle.sap_calc.specs.code.Threads.{IsThread}
+use Rattle.sap_heads.specs.Values.{IsSmallNumber}
 use Rattle.sap_lines.specs.declared.place.Place.{Place}
 use Rattle.sap_calc.specs.declared.thread.Thread.{Thread}
 use Rattle.sap_calc.proofs.Sounds.{sound_root}

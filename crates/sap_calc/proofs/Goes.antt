@@ -23,8 +23,9 @@ use Rattle.sap_calc.specs.Running.{Running, configuration, IsDone, IsDenied}
 use Rattle.sap_lines.specs.Places.{proc_at, procs_of}
 use Rattle.sap_calc.specs.code.Parts.{Parts, AreTied, seen}
 use Rattle.sap_calc.specs.code.Sound.{IsSound}
-use Rattle.sap_calc.specs.code.Threads.{live, IsThread, IsSmallNumber}
-use Rattle.sap_calc.specs.code.Values.{CanEvaluate, IsValueFault}
+use Rattle.sap_calc.specs.code.Threads.{live, IsThread}
+use Rattle.sap_heads.specs.Values.{IsSmallNumber}
+use Rattle.sap_heads.specs.Values.{CanEvaluate, IsValueFault}
 use Rattle.sap_lines.specs.declared.fault.PFault.{PFault}
 use Rattle.sap_calc.specs.declared.thread.Thread.{Thread}
 use Rattle.sap_calc.proofs.Lines.{thread_tied}

@@ -1,23 +1,18 @@
 -- Threads that make names.
 use Rattle.std.proofs.Common.{◌≡◌, ◌<◌, ℕ, List, [], ◌∷◌, ◌++◌, length, Some, Bool, true, false, refl, sym, ap, ◌∙◌, ◌⊎◌, inl, inr}
 use Rattle.std.specs.Prelude.{slice_get, slice_set, Contains}
-use Rattle.std.proofs.lemmas.List.Elements.{All-push}
-use Rattle.sap_terms.specs.Choice.{Choice, instance}
-use Rattle.sap_terms.specs.Equations.{equations}
-use Rattle.sap_terms.specs.Ground.{IsGround}
-use Rattle.sap_terms.specs.Tree.{variable, fresh}
+use Rattle.sap_terms.specs.Tree.{fresh}
 use Rattle.sap_terms.specs.Variables.{is_known}
 use Rattle.sap_terms.specs.declared.fact.Fact.{Fact}
-use Rattle.sap_terms.specs.declared.limits.TheConstants.{MOST_TERM_NODES}
 use Rattle.sap_terms.specs.declared.var.Var.{Var}
 use Rattle.sap_process.specs.Action as action
 use Rattle.sap_process.specs.Configuration.{Runs, becomes, makes}
 use Rattle.sap_process.specs.Instance.{process_instance, without}
-use Rattle.sap_process.specs.Proc.{Proc, act}
+use Rattle.sap_process.specs.Proc.{act}
 use Rattle.sap_process.specs.ProcessSteps.{with_term}
 use Rattle.sap_process.specs.Sites.{scope_below, var_names, fresh_var}
 use Rattle.sap_runs.specs.declared.process_step.PStep.TheVariants as line
-use Rattle.sap_share.specs.Env.{given, IsSmallForm}
+use Rattle.sap_share.specs.Env.{given}
 use Rattle.sap_share.specs.Shared.{Shared, tree_at, Keeps}
 use Rattle.sap_share.specs.declared.env.Bound.{Bound}
 use Rattle.sap_lines.specs.Faults.{used_name}
@@ -26,14 +21,14 @@ use Rattle.sap_calc.specs.Running.{configuration, IsDone, IsDenied}
 use Rattle.sap_lines.specs.Places.{proc_at, procs_of}
 use Rattle.sap_calc.specs.code.Parts.{Parts, AreTied, seen}
 use Rattle.sap_calc.specs.code.Sound.{IsSoundFrom}
-use Rattle.sap_calc.specs.code.Threads.{running, names_of, live, IsThread, IsSmallNumber}
+use Rattle.sap_calc.specs.code.Threads.{running, live, IsThread}
+use Rattle.sap_heads.specs.Bound.{names_of, IsBoundTo}
 use Rattle.sap_lines.specs.declared.fault.PFault.TheVariants as fault
 use Rattle.sap_lines.specs.declared.form.Form.TheVariants.{Nil, New}
 use Rattle.sap_lines.specs.declared.place.Place.{Place}
 use Rattle.sap_calc.specs.declared.thread.Thread.{Thread}
-use Rattle.sap_calc.proofs.Binds.{bound_is}
 use Rattle.sap_calc.proofs.Lines.{thread_tied, children_below, runs_form, sound_form}
-use Rattle.sap_calc.proofs.Moves.{keeps_tied, keeps_seen, sets_tied, sets_is, given_stays, env_stays}
+use Rattle.sap_calc.proofs.Moves.{keeps_tied, keeps_seen, sets_tied, sets_is, given_stays}
 use Rattle.sap_calc.proofs.Numbered.{map_last}
 use Rattle.sap_calc.proofs.Sounds.{sound_head, sound_behind}
 
@@ -64,7 +59,7 @@ module _ (P : Parts) (t : ℕ) (th : Thread) (x : Place) (tied : AreTied P) (is 
   new_used n (inl h) = used_name t n new_runs refl (inl h)
   new_used n (inr h) = used_name t n new_runs refl (inr (rw tied.own at h))
 
-  new_name : is_known (names_of th.env) y.name ≡ false
+  pub new_name : is_known (names_of th.env) y.name ≡ false
   new_name =
       let o = thread_tied P t th tied is in
       let here = sound_head P.table.sig _ _ new_sound in
@@ -73,33 +68,30 @@ module _ (P : Parts) (t : ℕ) (th : Thread) (x : Place) (tied : AreTied P) (is 
         by true e no_more = absurd (no_more e)
         by false e no_more = rw (thread_tied P t th tied is).names e
 
-  module _ (u : Shared) (keeps : Keeps P.table u) (k n : ℕ) (number : IsSmallNumber u k) (is_name : tree_at u.trees k ≡ fresh n) where
-    new_thread : IsThread u P.places (record { place = x.first; env = th.env ++ record { var = y; id = k } ∷ [] })
+  module _ (u : Shared) (keeps : Keeps P.table u) (k n : ℕ) (is_name : tree_at u.trees k ≡ fresh n) (env : List Bound) (b : IsBoundTo u th.env y k env) where
+    new_thread : IsThread u P.places (record { place = x.first; env = env })
     new_thread =
         let o = thread_tied P t th tied is in
-        let b : Bound = record { var = y; id = k } in
         record {
           below = new_below.0;
           above = scope_below o.above (act (action.new y) (proc_at (procs_of P.places) x.first)) 1;
           sound = rw keeps.sig (sound_behind P.table.sig _ _ _ new_sound);
-          names = map_last (λ (b : Bound). b.var.name) th.env b ∙ ap (λ ns. ns ++ y.name ∷ []) o.names ∙ sym (map_last (λ (v : Var). v.name) o.above.scope (fresh_var y));
-          small = All-push (λ (b : Bound). IsSmallForm (equations u.sig) MOST_TERM_NODES u.trees b.id) th.env b (env_stays P.table u keeps th.env o.small) number;
+          names = b.names ∙ ap (λ ns. ns ++ y.name ∷ []) o.names ∙ sym (map_last (λ (v : Var). v.name) o.above.scope (fresh_var y));
+          small = b.small;
         }
 
-    pub new_tied : AreTied (record P { table = u; threads = slice_set P.threads t (Some (record { place = x.first; env = th.env ++ record { var = y; id = k } ∷ [] })); made = P.made ++ n ∷ [] })
+    pub new_tied : AreTied (record P { table = u; threads = slice_set P.threads t (Some (record { place = x.first; env = env })); made = P.made ++ n ∷ [] })
     new_tied =
-        made_tied (record P { table = u; threads = slice_set P.threads t (Some (record { place = x.first; env = th.env ++ record { var = y; id = k } ∷ [] })) }) (P.made ++ n ∷ [])
-        (sets_tied (record P { table = u }) t (record { place = x.first; env = th.env ++ record { var = y; id = k } ∷ [] }) (keeps_tied P u keeps tied) new_thread)
+        made_tied (record P { table = u; threads = slice_set P.threads t (Some (record { place = x.first; env = env })) }) (P.made ++ n ∷ [])
+        (sets_tied (record P { table = u }) t (record { place = x.first; env = env }) (keeps_tied P u keeps tied) new_thread)
 
-    pub new_line : ((k : ℕ) → k < length u.trees → IsGround (tree_at u.trees k)) → ((p : Proc) (s r : Choice) → ((v : Var) → IsGround (s v) ⊎ (s v ≡ variable v)) → process_instance r (process_instance s p) ≡ process_instance (λ v. instance r (s v)) p)
-        → (label : List Fact) → label ≡ [] → (¬ Contains P.made n) → (¬ Contains P.own n)
-        → IsDone (seen P) (seen (record P { table = u; threads = slice_set P.threads t (Some (record { place = x.first; env = th.env ++ record { var = y; id = k } ∷ [] })); made = P.made ++ n ∷ [] })) (line.New t n) label
-    new_line grounds twice label silent free foreign =
+    pub new_line : (label : List Fact) → label ≡ [] → (¬ Contains P.made n) → (¬ Contains P.own n)
+        → IsDone (seen P) (seen (record P { table = u; threads = slice_set P.threads t (Some (record { place = x.first; env = env })); made = P.made ++ n ∷ [] })) (line.New t n) label
+    new_line label silent free foreign =
         let o = thread_tied P t th tied is in
-        let new : Thread = record { place = x.first; env = th.env ++ record { var = y; id = k } ∷ [] } in
+        let new : Thread = record { place = x.first; env = env } in
         let same : given u.trees th.env ≡ given P.table.trees th.env = given_stays P.table u keeps th.env o.small in
-        let bound = bound_is u.trees grounds th.env (λ k d lt. (env_stays P.table u keeps th.env o.small k d lt).below) (record { var = y; id = k }) new_name twice (proc_at (procs_of P.places) x.first) in
-        let runs : running u.trees (procs_of P.places) new ≡ with_term y (fresh n) (process_instance (without (given P.table.trees th.env) y) (proc_at (procs_of P.places) x.first)) = bound ∙ (λ i. with_term y (is_name i) (process_instance (without (same i) y) (proc_at (procs_of P.places) x.first))) in
+        let runs : running u.trees (procs_of P.places) new ≡ with_term y (fresh n) (process_instance (without (given P.table.trees th.env) y) (proc_at (procs_of P.places) x.first)) = b.goes (proc_at (procs_of P.places) x.first) ∙ (λ i. with_term y (is_name i) (process_instance (without (same i) y) (proc_at (procs_of P.places) x.first))) in
         let after : configuration (seen (record P { table = u; threads = slice_set P.threads t (Some new) })) ≡ becomes (configuration (seen P)) t (Some (with_term y (fresh n) (process_instance (without (given P.table.trees th.env) y) (proc_at (procs_of P.places) x.first)))) =
         sets_is (record P { table = u }) t new ∙ ap (λ r. becomes (configuration r) t (Some (running u.trees (procs_of P.places) new))) (keeps_seen P u keeps tied) ∙ ap (λ p. becomes (configuration (seen P)) t (Some p)) runs in
         let named : configuration (seen (record P { table = u; threads = slice_set P.threads t (Some new); made = P.made ++ n ∷ [] })) ≡ makes (becomes (configuration (seen P)) t (Some (with_term y (fresh n) (process_instance (without (given P.table.trees th.env) y) (proc_at (procs_of P.places) x.first))))) n =

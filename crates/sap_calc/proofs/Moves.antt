@@ -1,5 +1,5 @@
 -- What changes of parts change in what they stand for.
-use Rattle.std.proofs.Common.{◌≡◌, ◌<◌, ℕ, zero, suc, List, [], ◌∷◌, ◌++◌, length, map, Option, Some, None, option_map, unwrap_or, refl, sym, ap, subst, ◌∙◌, arith, Bool, inl, inr, if◌then◌else◌}
+use Rattle.std.proofs.Common.{◌≡◌, ◌<◌, ℕ, zero, suc, List, [], ◌∷◌, ◌++◌, length, map, Option, Some, None, option_map, unwrap_or, refl, sym, ap, subst, ◌∙◌, arith, Bool, inl, inr, if◌then◌else◌, append_assoc}
 use Rattle.std.specs.Prelude.{slice_get, slice_set, All}
 use Rattle.std.specs.Str.{bytes_eq}
 use Rattle.std.proofs.lemmas.List.Elements.{All-head, All-tail}
@@ -16,7 +16,8 @@ use Rattle.sap_share.specs.declared.env.Bound.{Bound}
 use Rattle.sap_calc.specs.Running.{configuration}
 use Rattle.sap_lines.specs.Places.{proc_at, place_proc, procs_of}
 use Rattle.sap_calc.specs.code.Parts.{Parts, AreTied, seen, entry_at, mark_at, IsSmallValue}
-use Rattle.sap_calc.specs.code.Threads.{running, all_running, live, IsThread, IsSmallNumber}
+use Rattle.sap_calc.specs.code.Threads.{running, all_running, live, IsThread}
+use Rattle.sap_heads.specs.Values.{IsSmallNumber}
 use Rattle.sap_lines.specs.declared.place.Place.{Place}
 use Rattle.sap_calc.specs.declared.thread.Thread.{Thread}
 use Rattle.sap_calc.proofs.Numbered.{live_got, got_set, got_last, map_write, map_last, got_map, some_same}
@@ -93,6 +94,9 @@ module _ (s u : Shared) (h : Keeps s u) where
       let key = tree_stays e.0 (All-head P e es i).below in
       let tail = marks_stay es (All-tail P e es i) in
       λ j. (key j, e.1) ∷ tail j
+
+pub keeps_twice : (s u v : Shared) → Keeps s u → Keeps u v → Keeps s v
+keeps_twice s u v h i = record { sig = i.sig ∙ h.sig; added = h.added ++ i.added; trees = i.trees ∙ ap (λ ts. ts ++ i.added) h.trees ∙ append_assoc s.trees h.added i.added }
 
 pub keeps_tied : (P : Parts) (u : Shared) → Keeps P.table u → AreTied P → AreTied (record P { table = u })
 keeps_tied P u h tied = record {

@@ -29,7 +29,7 @@ use Rattle.sap_lines.specs.Places.{proc_at, procs_of}
 use Rattle.sap_calc.specs.code.Parts.{Parts, AreTied, seen}
 use Rattle.sap_calc.specs.code.Sound.{IsSoundFrom}
 use Rattle.sap_calc.specs.code.Threads.{live, IsThread}
-use Rattle.sap_calc.specs.code.Values.{CanEvaluate, IsValue, IsValueFault}
+use Rattle.sap_heads.specs.Values.{CanEvaluate, IsValue, IsValueFault}
 use Rattle.sap_lines.specs.declared.fault.PFault.{PFault}
 use Rattle.sap_lines.specs.declared.form.Form.TheVariants.{Nil, Out}
 use Rattle.sap_lines.specs.declared.place.Place.{Place}

@@ -13,7 +13,7 @@ use Rattle.sap_process.specs.Configuration.{stores, holds}
 use Rattle.sap_share.specs.Shared.{Shared, tree_at, HaveOneNumber}
 use Rattle.sap_calc.specs.Running.{value_at, configuration}
 use Rattle.sap_calc.specs.code.Parts.{Parts, AreTied, seen, IsSmallValue}
-use Rattle.sap_calc.specs.code.Threads.{IsSmallNumber}
+use Rattle.sap_heads.specs.Values.{IsSmallNumber}
 
 -- what stands at a key after a value was put there, and at another key
 two_keys : {V : Type 0} (a b : Bool) (v w rest : V) → (a ≡ true → b ≡ true → ⊥) → (if a then w else (if b then v else rest)) ≡ (if b then v else (if a then w else rest))

@@ -1,10 +1,10 @@
 -- Threads that write to the store, look into it, lock and unlock.
-use Rattle.std.proofs.Common.{◌≡◌, ◌<◌, ℕ, List, [], ◌∷◌, ◌++◌, length, Some, None, option_map, unwrap_or, Bool, true, false, nat_eq, refl, sym, ap, subst, ◌∙◌, ◌⊎◌, inr}
+use Rattle.std.proofs.Common.{◌≡◌, ◌<◌, ℕ, List, [], ◌∷◌, ◌++◌, length, Some, None, option_map, unwrap_or, Bool, true, false, nat_eq, refl, sym, ap, subst, ◌∙◌, inr}
 use Rattle.std.specs.Prelude.{slice_get, slice_set}
 use Rattle.std.specs.Map.{lookup as looked}
 use Rattle.std.proofs.lemmas.List.{append-nil}
 use Rattle.indexmap.specs.IndexMap.{insert_entry}
-use Rattle.sap_terms.specs.Choice.{Choice, instance}
+use Rattle.sap_terms.specs.Choice.{instance}
 use Rattle.sap_terms.specs.Equations.{equations}
 use Rattle.sap_terms.specs.Ground.{IsGround}
 use Rattle.sap_terms.specs.Normal.{IsNormalForm}
@@ -15,7 +15,7 @@ use Rattle.sap_terms.specs.declared.var.Var.{Var}
 use Rattle.sap_process.specs.Action as action
 use Rattle.sap_process.specs.Configuration.{Runs, becomes, stores, holds}
 use Rattle.sap_process.specs.Instance.{process_instance, without}
-use Rattle.sap_process.specs.Proc.{Proc, act, lookup}
+use Rattle.sap_process.specs.Proc.{act, lookup}
 use Rattle.sap_process.specs.Sites.{above_of, scope_below, var_names, message_var}
 use Rattle.sap_runs.specs.Inner.{found, inserted, deleted, missing, locked, unlocked}
 use Rattle.sap_runs.specs.declared.process_step.PStep.TheVariants as line
@@ -27,8 +27,8 @@ use Rattle.sap_calc.specs.Running.{configuration, IsDone, IsDenied, WouldFind, F
 use Rattle.sap_lines.specs.Places.{proc_at, procs_of}
 use Rattle.sap_calc.specs.code.Parts.{Parts, AreTied, seen, IsSmallValue}
 use Rattle.sap_calc.specs.code.Sound.{IsSoundFrom}
-use Rattle.sap_calc.specs.code.Threads.{live, IsThread, IsSmallNumber}
-use Rattle.sap_calc.specs.code.Values.{CanEvaluate, IsValue, AreValues, IsValueFault}
+use Rattle.sap_calc.specs.code.Threads.{live, IsThread}
+use Rattle.sap_heads.specs.Values.{IsSmallNumber, CanEvaluate, IsValue, AreValues, IsValueFault}
 use Rattle.sap_lines.specs.declared.fault.PFault.{PFault}
 use Rattle.sap_lines.specs.declared.fault.PFault.TheVariants as fault
 use Rattle.sap_lines.specs.declared.form.Form.TheVariants.{Nil, Insert, Delete, Lookup, Lock, Unlock}
@@ -36,17 +36,13 @@ use Rattle.sap_lines.specs.declared.place.Place.{Place}
 use Rattle.sap_calc.specs.declared.thread.Thread.{Thread}
 use Rattle.sap_calc.proofs.Goes.{gone, gone_tied, gone_is, can_one, can_first, can_second, denied_value}
 use Rattle.sap_calc.proofs.Lines.{thread_tied, children_below, moved, runs_form, sound_form}
-use Rattle.sap_calc.proofs.Moves.{keeps_tied, keeps_seen, sets_tied, sets_is, thread_stays, given_stays, env_stays}
+use Rattle.sap_calc.proofs.Moves.{keeps_tied, keeps_seen, sets_tied, sets_is, given_stays, small_stays}
 use Rattle.sap_calc.proofs.Numbered.{map_last}
-use Rattle.sap_calc.proofs.Binds.{bound_is}
-use Rattle.std.proofs.lemmas.List.Elements.{All-push}
-use Rattle.sap_terms.specs.Tree.{variable}
 use Rattle.sap_terms.specs.Variables.{is_known}
-use Rattle.sap_terms.specs.declared.limits.TheConstants.{MOST_TERM_NODES}
 use Rattle.sap_process.specs.ProcessSteps.{with_term}
-use Rattle.sap_share.specs.Env.{IsSmallForm}
 use Rattle.sap_share.specs.declared.env.Bound.{Bound}
-use Rattle.sap_calc.specs.code.Threads.{running, names_of}
+use Rattle.sap_calc.specs.code.Threads.{running}
+use Rattle.sap_heads.specs.Bound.{names_of, IsBoundTo}
 use Rattle.sap_calc.proofs.Evaluable.{first_of, second_of}
 use Rattle.sap_calc.proofs.Sounds.{sound_head, sound_behind, sound_missing, sound_found}
 use Rattle.sap_calc.proofs.Stores.{stores_is, stores_tied, stored_is, holds_is, holds_tied, held_is, looked_small}
@@ -291,22 +287,10 @@ module _ (P : Parts) (t : ℕ) (th : Thread) (x : Place) (tied : AreTied P) (is 
       pub found_small : IsSmallNumber P.table i
       found_small = looked_small P.table k P.store i has tied.values
 
-      found_thread : IsThread P.table P.places (record { place = x.first; env = th.env ++ record { var = y; id = i } ∷ [] })
-      found_thread =
-          let o = thread_tied P t th tied is in
-          let b : Bound = record { var = y; id = i } in
-          record {
-            below = lookup_below.0;
-            above = scope_below o.above (lookup (tree m) y (proc_at (procs_of P.places) x.first) (proc_at (procs_of P.places) x.second)) 1;
-            sound = sound_found P.table.sig _ _ _ _ _ lookup_sound;
-            names = map_last (λ (b : Bound). b.var.name) th.env b ∙ ap (λ ns. ns ++ y.name ∷ []) o.names ∙ sym (map_last (λ (v : Var). v.name) o.above.scope (message_var y));
-            small = All-push (λ (b : Bound). IsSmallForm (equations P.table.sig) MOST_TERM_NODES P.table.trees b.id) th.env b o.small found_small;
-          }
+      pub found_there : IsSmallNumber u i
+      found_there = small_stays P.table u keeps i found_small
 
-      pub found_tied : AreTied (record P { table = u; threads = slice_set P.threads t (Some (record { place = x.first; env = th.env ++ record { var = y; id = i } ∷ [] })) })
-      found_tied = sets_tied (record P { table = u }) t (record { place = x.first; env = th.env ++ record { var = y; id = i } ∷ [] }) (keeps_tied P u keeps tied) (thread_stays P.table u keeps P.places (record { place = x.first; env = th.env ++ record { var = y; id = i } ∷ [] }) found_thread)
-
-      found_new : is_known (names_of th.env) y.name ≡ false
+      pub found_new : is_known (names_of th.env) y.name ≡ false
       found_new =
           let o = thread_tied P t th tied is in
           let here = sound_head P.table.sig _ _ lookup_sound in
@@ -315,18 +299,31 @@ module _ (P : Parts) (t : ℕ) (th : Thread) (x : Place) (tied : AreTied P) (is 
             by true e no_more = absurd (no_more e)
             by false e no_more = rw (thread_tied P t th tied is).names e
 
-      pub found_line : ((k : ℕ) → k < length u.trees → IsGround (tree_at u.trees k)) → ((p : Proc) (s r : Choice) → ((v : Var) → IsGround (s v) ⊎ (s v ≡ variable v)) → process_instance r (process_instance s p) ≡ process_instance (λ v. instance r (s v)) p)
-          → (label : List Fact) → label ≡ [] → IsDone (seen P) (seen (record P { table = u; threads = slice_set P.threads t (Some (record { place = x.first; env = th.env ++ record { var = y; id = i } ∷ [] })) })) (line.Found t) label
-      found_line grounds twice label silent =
-          let o = thread_tied P t th tied is in
-          let new : Thread = record { place = x.first; env = th.env ++ record { var = y; id = i } ∷ [] } in
-          let same : given u.trees th.env ≡ given P.table.trees th.env = given_stays P.table u keeps th.env o.small in
-          let bound = bound_is u.trees grounds th.env (λ k d lt. (env_stays P.table u keeps th.env o.small k d lt).below) (record { var = y; id = i }) found_new twice (proc_at (procs_of P.places) x.first) in
-          let runs : running u.trees (procs_of P.places) new ≡ with_term y (tree_at u.trees i) (process_instance (without (given P.table.trees th.env) y) (proc_at (procs_of P.places) x.first)) = bound ∙ ap (λ σ. with_term y (tree_at u.trees i) (process_instance (without σ y) (proc_at (procs_of P.places) x.first))) same in
-          let after : configuration (seen (record P { table = u; threads = slice_set P.threads t (Some new) })) ≡ becomes (configuration (seen P)) t (Some (with_term y (tree_at u.trees i) (process_instance (without (given P.table.trees th.env) y) (proc_at (procs_of P.places) x.first)))) =
-          sets_is (record P { table = u }) t new ∙ ap (λ r. becomes (configuration r) t (Some (running u.trees (procs_of P.places) new))) (keeps_seen P u keeps tied) ∙ ap (λ p. becomes (configuration (seen P)) t (Some p)) runs in
-          rw silent (record {
-            inner = found (tree_at u.trees k) (tree_at u.trees i) ∷ [];
-            line = rw after (finds t lookup_runs lookup_key (lookup_stored ∙ ap (option_map (tree_at u.trees)) has) lookup_small);
-            sig = refl;
-          })
+      module _ (env : List Bound) (b : IsBoundTo u th.env y i env) where
+        found_thread : IsThread u P.places (record { place = x.first; env = env })
+        found_thread =
+            let o = thread_tied P t th tied is in
+            record {
+              below = lookup_below.0;
+              above = scope_below o.above (lookup (tree m) y (proc_at (procs_of P.places) x.first) (proc_at (procs_of P.places) x.second)) 1;
+              sound = rw keeps.sig (sound_found P.table.sig _ _ _ _ _ lookup_sound);
+              names = b.names ∙ ap (λ ns. ns ++ y.name ∷ []) o.names ∙ sym (map_last (λ (v : Var). v.name) o.above.scope (message_var y));
+              small = b.small;
+            }
+
+        pub found_tied : AreTied (record P { table = u; threads = slice_set P.threads t (Some (record { place = x.first; env = env })) })
+        found_tied = sets_tied (record P { table = u }) t (record { place = x.first; env = env }) (keeps_tied P u keeps tied) found_thread
+
+        pub found_line : (label : List Fact) → label ≡ [] → IsDone (seen P) (seen (record P { table = u; threads = slice_set P.threads t (Some (record { place = x.first; env = env })) })) (line.Found t) label
+        found_line label silent =
+            let o = thread_tied P t th tied is in
+            let new : Thread = record { place = x.first; env = env } in
+            let same : given u.trees th.env ≡ given P.table.trees th.env = given_stays P.table u keeps th.env o.small in
+            let runs : running u.trees (procs_of P.places) new ≡ with_term y (tree_at u.trees i) (process_instance (without (given P.table.trees th.env) y) (proc_at (procs_of P.places) x.first)) = b.goes (proc_at (procs_of P.places) x.first) ∙ ap (λ σ. with_term y (tree_at u.trees i) (process_instance (without σ y) (proc_at (procs_of P.places) x.first))) same in
+            let after : configuration (seen (record P { table = u; threads = slice_set P.threads t (Some new) })) ≡ becomes (configuration (seen P)) t (Some (with_term y (tree_at u.trees i) (process_instance (without (given P.table.trees th.env) y) (proc_at (procs_of P.places) x.first)))) =
+            sets_is (record P { table = u }) t new ∙ ap (λ r. becomes (configuration r) t (Some (running u.trees (procs_of P.places) new))) (keeps_seen P u keeps tied) ∙ ap (λ p. becomes (configuration (seen P)) t (Some p)) runs in
+            rw silent (record {
+              inner = found (tree_at u.trees k) (tree_at u.trees i) ∷ [];
+              line = rw after (finds t lookup_runs lookup_key (lookup_stored ∙ ap (option_map (tree_at u.trees)) has) lookup_small);
+              sig = refl;
+            })

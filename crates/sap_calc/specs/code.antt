@@ -1,10 +1,8 @@
 -- What the code of this crate speaks of: threads at places, and what the parts of a configuration have to do with each other.
 -- No theorem speaks of it.
-pub mod Held
 pub mod Sound
 pub mod Threads
 pub mod Parts
-pub mod Values
-pub mod Used
-pub mod Taken
+pub mod Cited
+pub mod Given
 pub mod Denied

@@ -1,7 +1,7 @@
 // The facts that a line cites.
 ghost use Rattle.std.specs.Prelude.{◌≡◌, ◌++◌, ◌∷◌, [], IfOk, IfErr, OnOk};
 ghost use Rattle.sap_facts.specs.Cited.{cited_at};
-ghost use Rattle.sap_calc.specs.code.Used.{AreCited, AreUncited};
+ghost use Rattle.sap_calc.specs.code.Cited.{AreCited, AreUncited};
 
 use sap_facts::Pile;
 use sap_lines::PFault;

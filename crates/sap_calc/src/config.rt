@@ -1,3 +1,4 @@
+//! Where a run of a process stands, and each line done on it.
 ghost use Rattle.std.specs.Prelude.{◌≡◌, [], IfOk, IfErr, OnErr};
 ghost use Rattle.sap_process.specs.Configuration.{initial};
 ghost use Rattle.sap_process.specs.Proc.{proc};
@@ -7,10 +8,10 @@ ghost use Rattle.sap_calc.specs.Running.{configuration, IsDone, IsDenied};
 
 use crate::entry::send;
 use crate::thread::{Threads, add, copy_at, end, first_thread, go_on, thread_at};
-use crate::value::{value, values};
 use indexmap::{IndexMap, IndexSet};
 use sap_deduce::Knowledge;
 use sap_facts::Pile;
+use sap_heads::{value, values};
 use sap_lines::{PFault, Places, places_of};
 use sap_process::{Process, instances_of_processes};
 use sap_rewrite::normal_forms_decide;

@@ -5,14 +5,9 @@ ghost use Rattle.sap_calc.specs.Running.{IsDone, IsDenied};
 
 use crate::Config;
 use crate::citing::cited;
-use crate::thread::{set, thread_at};
-use crate::using::used;
+use crate::thread::{Thread, set, thread_at};
+use sap_heads::used;
 use sap_lines::{PFault, sorts_are_one};
-use sap_process::instances_of_processes;
-use sap_rewrite::{
-    bindings_give_choices, matching_is_modulo, normal_forms_are_unique, patterns_stay,
-    variables_named_once_stay_so,
-};
 use sap_terms::{Bindings, FactList, Numbers};
 use std::alloc::Global;
 
@@ -30,13 +25,7 @@ impl Config {
         ensures refused { IfErr result (IsDenied self.old (EmbeddedLine t numbers.now b.now)) }
         ensures err { OnErr result (self.new ≡ self.old) }
     {
-        instances_of_processes();
-        variables_named_once_stay_so();
-        bindings_give_choices();
         sorts_are_one();
-        matching_is_modulo();
-        patterns_stay();
-        normal_forms_are_unique();
         let Some(th) = thread_at(&self.threads, t) else {
             return Err(PFault::NoThread { t });
         };
@@ -50,21 +39,15 @@ impl Config {
         let next = place.first;
         match cited(alloc, &self.facts, numbers) {
             Err(fault) => Err(fault),
-            Ok(facts) => match used(alloc, &mut self.table, &th.env, next, &facts, l, e, r, b) {
-                Err(fault) => {
-                    self.table.each_is_ground();
-                    Err(fault)
-                }
-                Ok((thread, acts, right)) => {
-                    self.table.each_is_ground();
-                    match self.facts.exchange(numbers, right) {
-                        Err(_) => Err(PFault::Mem),
-                        Ok(()) => {
-                            set(&mut self.threads, t, thread);
-                            Ok(acts)
-                        }
+            Ok(facts) => match used(alloc, &mut self.table, &th.env, &facts, l, e, r, b) {
+                Err(fault) => Err(fault),
+                Ok((env, acts, right)) => match self.facts.exchange(numbers, right) {
+                    Err(_) => Err(PFault::Mem),
+                    Ok(()) => {
+                        set(&mut self.threads, t, Thread { place: next, env });
+                        Ok(acts)
                     }
-                }
+                },
             },
         }
     }

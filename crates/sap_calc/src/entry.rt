@@ -4,8 +4,8 @@ ghost use Rattle.sap_terms.specs.AdversaryFacts.{k_fact};
 ghost use Rattle.sap_deduce.specs.Entries.{Gains};
 ghost use Rattle.sap_deduce.specs.declared.origin.Origin.TheVariants.{Output as OutputOrigin};
 ghost use Rattle.sap_share.specs.Shared.{tree_at, Keeps};
-ghost use Rattle.sap_calc.specs.code.Threads.{IsSmallNumber};
-ghost use Rattle.sap_calc.specs.code.Values.{IsEntryNumber, IsEntryFault};
+ghost use Rattle.sap_heads.specs.Values.{IsSmallNumber};
+ghost use Rattle.sap_calc.specs.code.Given.{IsEntryNumber, IsEntryFault};
 
 use crate::adversary::known_fact;
 use sap_deduce::Knowledge;

@@ -2,13 +2,10 @@
 #![tactic(auto)]
 
 mod adversary;
-mod bindings;
 mod citing;
 mod config;
 mod embedding;
 mod entry;
-mod fitting;
-mod forms;
 mod laws;
 mod making;
 mod meeting;
@@ -17,8 +14,6 @@ mod step;
 mod stored;
 mod taking;
 mod thread;
-mod using;
-mod value;
 mod writing;
 
 pub use config::Config;

@@ -4,10 +4,9 @@ ghost use Rattle.sap_runs.specs.declared.process_step.PStep.TheVariants.{New as 
 ghost use Rattle.sap_calc.specs.Running.{IsDone, IsDenied};
 
 use crate::Config;
-use crate::thread::{set, thread_at, with_bound};
-use crate::value::name_value;
+use crate::thread::{Thread, set, thread_at};
+use sap_heads::{name_value, with_bound};
 use sap_lines::PFault;
-use sap_process::instances_of_processes;
 use sap_sides::{find_room, is_among, put_last};
 use sap_terms::FactList;
 use std::alloc::Global;
@@ -19,7 +18,6 @@ impl Config {
         ensures refused { IfErr result (IsDenied self.old (NewLine t n)) }
         ensures err { OnErr result (self.new ≡ self.old) }
     {
-        instances_of_processes();
         let Some(th) = thread_at(&self.threads, t) else {
             return Err(PFault::NoThread { t });
         };
@@ -38,17 +36,14 @@ impl Config {
             Err(_) => Err(PFault::Mem),
             Ok(()) => match name_value(alloc, &mut self.table, n) {
                 Err(_) => Err(PFault::Mem),
-                Ok(k) => {
-                    self.table.each_is_ground();
-                    match with_bound(alloc, th, next, x, k) {
-                        Err(_) => Err(PFault::Mem),
-                        Ok(new) => {
-                            set(&mut self.threads, t, new);
-                            put_last(&mut self.made, n);
-                            Ok(FactList::new(alloc))
-                        }
+                Ok(k) => match with_bound(alloc, &self.table, &th.env, x, k) {
+                    Err(_) => Err(PFault::Mem),
+                    Ok(env) => {
+                        set(&mut self.threads, t, Thread { place: next, env });
+                        put_last(&mut self.made, n);
+                        Ok(FactList::new(alloc))
                     }
-                }
+                },
             },
         }
     }

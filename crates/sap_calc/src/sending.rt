@@ -5,9 +5,8 @@ ghost use Rattle.sap_calc.specs.Running.{IsDone, IsDenied};
 
 use crate::Config;
 use crate::entry::{entry_number, send, shown_number};
-use crate::forms::shown_form;
 use crate::thread::{go_on, thread_at};
-use crate::value::values;
+use sap_heads::{shown_form, values};
 use sap_lines::PFault;
 use sap_rewrite::normal_forms_are_unique;
 use sap_terms::FactList;

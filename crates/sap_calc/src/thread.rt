@@ -4,8 +4,8 @@ ghost use Rattle.std.specs.Option.{option_copied};
 ghost use Rattle.sap_calc.specs.code.Threads.{live};
 ghost use Rattle.sap_calc.specs.declared.thread.Thread.{Thread as ThreadType};
 
-use sap_share::{Bound, Env};
-use sap_terms::{Copied, Mem, Var};
+use sap_share::Env;
+use sap_terms::{Copied, Mem};
 use std::alloc::Global;
 
 /// Where a running process is: at a place of the process at the start, with what the variables in scope there stand for.
@@ -78,22 +78,6 @@ pub(crate) fn add(threads: &mut Threads, th: Thread) -> Result<(), Mem>
 {
     threads.push(Some(th))?;
     Ok(())
-}
-
-// The thread at this place, with one more variable bound.
-pub(crate) fn with_bound(
-    alloc: Global,
-    th: &Thread,
-    place: u64,
-    var: &Var,
-    id: u64,
-) -> Result<Thread, Mem>
-    ensures { IfOk result (λ r. r ≡ record { place = place; env = th.now.env ++ record { var = var.now; id = id } ∷ [] }) }
-{
-    let var = var.copy(alloc)?;
-    let mut env = th.env.copy(alloc)?;
-    env.push(Bound { var, id })?;
-    Ok(Thread { place, env })
 }
 
 // The thread of this number is this from now on.

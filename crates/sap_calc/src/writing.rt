@@ -6,10 +6,9 @@ ghost use Rattle.sap_calc.specs.Running.{IsDone, IsDenied, WouldFind, FindsNothi
 
 use crate::Config;
 use crate::stored::{is_marked, put_mark, put_value, value_at};
-use crate::thread::{go_on, set, thread_at, with_bound};
-use crate::value::{value, value_unless_large, values};
+use crate::thread::{Thread, go_on, set, thread_at};
+use sap_heads::{value, value_unless_large, values, with_bound};
 use sap_lines::PFault;
-use sap_process::instances_of_processes;
 use sap_terms::{FactList, Mem, Term};
 use std::alloc::Global;
 
@@ -173,7 +172,6 @@ impl Config {
         ensures refused { IfErr result (IsDenied self.old (FoundLine t)) }
         ensures err { OnErr result (self.new ≡ self.old) }
     {
-        instances_of_processes();
         self.table.each_is_ground();
         let Some(th) = thread_at(&self.threads, t) else {
             return Err(PFault::NoThread { t });
@@ -187,13 +185,12 @@ impl Config {
             Err(fault) => Err(fault),
             Ok(k) => {
                 self.table.each_has_one_number();
-                self.table.each_is_ground();
                 match value_at(&self.store, k) {
                     None => Err(PFault::Unset),
-                    Some(v) => match with_bound(alloc, th, next, x, v) {
+                    Some(v) => match with_bound(alloc, &self.table, &th.env, x, v) {
                         Err(_) => Err(PFault::Mem),
-                        Ok(new) => {
-                            set(&mut self.threads, t, new);
+                        Ok(env) => {
+                            set(&mut self.threads, t, Thread { place: next, env });
                             Ok(FactList::new(alloc))
                         }
                     },

@@ -6,8 +6,9 @@ use Rattle.sap_deduce.specs.Entries.{Entries, names_given}
 use Rattle.sap_share.specs.Shared.{Shared, tree_at}
 use Rattle.sap_calc.specs.Running.{Running}
 use Rattle.sap_lines.specs.Places.{ArePlaced, procs_of}
-use Rattle.sap_calc.specs.code.Held.{HoldsFine}
-use Rattle.sap_calc.specs.code.Threads.{all_running, IsThread, IsSmallNumber}
+use Rattle.sap_sides.specs.Messages.{HoldsSmallMessages}
+use Rattle.sap_heads.specs.Values.{IsSmallNumber}
+use Rattle.sap_calc.specs.code.Threads.{all_running, IsThread}
 use Rattle.sap_lines.specs.declared.place.Place.{Place}
 use Rattle.sap_calc.specs.declared.thread.Thread.{Thread}
 
@@ -57,4 +58,4 @@ pub record AreTied (p : Parts) : Type 0 where
   pub values : All (λ (e : ℕ × Option ℕ). IsSmallValue p.table e.1) p.store
   pub held : All (λ (e : ℕ × Bool). IsSmallNumber p.table e.0) p.held
   pub own : p.own ≡ names_given p.known.entries
-  pub facts : HoldsFine p.table.sig p.facts
+  pub facts : HoldsSmallMessages p.table.sig p.facts

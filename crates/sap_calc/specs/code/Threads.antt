@@ -6,17 +6,13 @@ use Rattle.sap_terms.specs.declared.limits.TheConstants.{MOST_TERM_NODES}
 use Rattle.sap_process.specs.Instance.{process_instance}
 use Rattle.sap_process.specs.Proc.{Proc}
 use Rattle.sap_process.specs.Sites.{Above, var_names}
-use Rattle.sap_share.specs.Env.{given, AreSmallForms, IsSmallForm}
+use Rattle.sap_share.specs.Env.{given, AreSmallForms}
 use Rattle.sap_share.specs.Shared.{Shared}
-use Rattle.sap_share.specs.declared.env.Bound.{Bound}
 use Rattle.sap_lines.specs.Places.{proc_at, procs_of}
+use Rattle.sap_heads.specs.Bound.{names_of}
 use Rattle.sap_calc.specs.code.Sound.{IsSoundFrom}
 use Rattle.sap_lines.specs.declared.place.Place.{Place}
 use Rattle.sap_calc.specs.declared.thread.Thread.{Thread}
-
--- the names that are bound
-abbrev pub names_of : List Bound → List (List ℕ)
-names_of env = map (λ (b : Bound). b.var.name) env
 
 -- the process that a thread runs
 abbrev pub running : List Tree → List Proc → Thread → Proc
@@ -29,10 +25,6 @@ all_running ts procs threads = map (λ (o : Option Thread). option_map (running 
 -- the thread of this number, where it runs
 abbrev pub live : List (Option Thread) → ℕ → Option Thread
 live os t = unwrap_or (slice_get os t) None
-
--- the number is that of a normal form of at most 256 nodes
-abbrev pub IsSmallNumber : Shared → ℕ → Type 0
-IsSmallNumber s k = IsSmallForm (equations s.sig) MOST_TERM_NODES s.trees k
 
 -- a thread is at a sound place, and what is in scope there is bound to small normal forms
 pub record IsThread (s : Shared) (places : List Place) (th : Thread) : Type 0 where

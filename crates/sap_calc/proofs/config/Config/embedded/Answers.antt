@@ -3,7 +3,7 @@ use Rattle.std.specs.Option.{option_copied}
 use Rattle.sap_runs.specs.declared.process_step.PStep.TheVariants as line
 use Rattle.sap_lines.specs.Faults.{no_memory}
 use Rattle.sap_calc.specs.code.Parts.{Parts}
-use Rattle.sap_calc.proofs.Embeds.{embed_count, embed_uncited, cited_fine, rule_one, rule_over, embed_unused, embed_tied, embed_line}
+use Rattle.sap_calc.proofs.Embeds.{embed_count, embed_uncited, cited_fine, rule_one, rule_over, rule_clean, embed_unused, embed_tied, embed_line}
 use Rattle.sap_calc.proofs.Goes.{denied_back, done_back}
 use Rattle.sap_calc.proofs.Lines.{no_thread, wrong_form, place_below, number_below, thread_tied}
 use Rattle.sap_calc.proofs.Moves.{keeps_tied, keeps_seen}
@@ -34,8 +34,8 @@ used-requires-clause-env c =
     let P : Parts = record { table = c.self.inside.table; places = c.self.inside.places; threads = c.self.inside.threads.items; store = c.self.inside.store.entries; held = c.self.inside.held.entries; facts = c.self.inside.facts.slots; made = c.self.inside.made.keys; own = c.self.inside.own.keys; known = c.self.inside.knowledge } in
     (thread_tied P c.args.t c.in-Some.th.now c.self.invariant c.in-Some.ensures).small
 
-pub used-requires-clause-fine : goal.used-requires-clause-fine
-used-requires-clause-fine c =
+pub used-requires-clause-messages : goal.used-requires-clause-messages
+used-requires-clause-messages c =
     let P : Parts = record { table = c.self.inside.table; places = c.self.inside.places; threads = c.self.inside.threads.items; store = c.self.inside.store.entries; held = c.self.inside.held.entries; facts = c.self.inside.facts.slots; made = c.self.inside.made.keys; own = c.self.inside.own.keys; known = c.self.inside.knowledge } in
     cited_fine P c.args.t c.in-Some.th.now c.at-place.result.now c.self.invariant c.in-Some.ensures c.at-place.ensures c.in-Some-rule.l.now c.in-Some-rule.e.now c.in-Some-rule.r.now c.in-Some-rule.ensures c.args.numbers.now c.args.b.now c.in-Ok.facts c.in-Ok.ensures.ok
 
@@ -64,7 +64,7 @@ returns-in-Err-used-clause-refused c =
     let P : Parts = record { table = c.self.inside.table; places = c.self.inside.places; threads = c.self.inside.threads.items; store = c.self.inside.store.entries; held = c.self.inside.held.entries; facts = c.self.inside.facts.slots; made = c.self.inside.made.keys; own = c.self.inside.own.keys; known = c.self.inside.knowledge } in
     let Q : Parts = record P { table = c.used.new.table } in
     let there = keeps_tied P c.used.new.table c.used.ensures.keeps c.self.invariant in
-    rw (← c.self.view_is) (denied_back P c.used.new.table c.used.ensures.keeps c.self.invariant (line.Embedded c.args.t c.args.numbers.now c.args.b.now) c.in-Err-used.fault (embed_unused Q c.args.t c.in-Some.th.now c.at-place.result.now there c.in-Some.ensures c.at-place.ensures c.in-Some-rule.l.now c.in-Some-rule.e.now c.in-Some-rule.r.now c.in-Some-rule.ensures c.args.numbers.now c.args.b.now c.in-Ok.facts c.in-Ok.ensures.ok c.variables_named_once_stay_so.ensures c.bindings_give_choices.ensures c.sorts_are_one.ensures.rule c.each_is_ground.ensures c.matching_is_modulo.ensures c.patterns_stay.ensures (omega (arith, c.len.ensures, c.len-2.ensures, c.if-len.false)) c.in-Err-used.fault c.in-Err-used.ensures.refused))
+    rw (← c.self.view_is) (denied_back P c.used.new.table c.used.ensures.keeps c.self.invariant (line.Embedded c.args.t c.args.numbers.now c.args.b.now) c.in-Err-used.fault (embed_unused Q c.args.t c.in-Some.th.now c.at-place.result.now there c.in-Some.ensures c.at-place.ensures c.in-Some-rule.l.now c.in-Some-rule.e.now c.in-Some-rule.r.now c.in-Some-rule.ensures c.args.numbers.now c.args.b.now c.in-Ok.facts c.in-Ok.ensures.ok (omega (arith, c.len.ensures, c.len-2.ensures, c.if-len.false)) c.in-Err-used.fault c.in-Err-used.ensures.refused))
 
 pub returns-in-Err-used-clause-err : goal.returns-in-Err-used-clause-err
 returns-in-Err-used-clause-err c =
@@ -94,11 +94,16 @@ invariant_of-self-in-Ok-exchange c =
     let P : Parts = record { table = c.self.inside.table; places = c.self.inside.places; threads = c.self.inside.threads.items; store = c.self.inside.store.entries; held = c.self.inside.held.entries; facts = c.self.inside.facts.slots; made = c.self.inside.made.keys; own = c.self.inside.own.keys; known = c.self.inside.knowledge } in
     let Q : Parts = record P { table = c.used.new.table } in
     let there = keeps_tied P c.used.new.table c.used.ensures.keeps c.self.invariant in
-    rw (c.set.ensures, c.in-Ok-exchange.ensures.ok) (embed_tied Q c.args.t c.in-Some.th.now c.at-place.result.now there c.in-Some.ensures c.at-place.ensures c.in-Some-rule.l.now c.in-Some-rule.e.now c.in-Some-rule.r.now c.in-Some-rule.ensures c.args.numbers.now c.args.b.now c.in-Ok.facts c.in-Ok.ensures.ok c.variables_named_once_stay_so.ensures c.bindings_give_choices.ensures c.sorts_are_one.ensures.rule c.each_is_ground-in-Ok-used.ensures c.in-Ok-used.thread c.in-Ok-used.acts c.in-Ok-used.right c.in-Ok-used.ensures.ok)
+    rw (c.set.ensures, c.in-Ok-exchange.ensures.ok) (embed_tied Q c.args.t c.in-Some.th.now c.at-place.result.now there c.in-Some.ensures c.at-place.ensures c.in-Some-rule.l.now c.in-Some-rule.e.now c.in-Some-rule.r.now c.in-Some-rule.ensures c.args.numbers.now c.args.b.now c.in-Ok.facts c.in-Ok.ensures.ok c.in-Ok-used.env c.in-Ok-used.acts c.in-Ok-used.right c.in-Ok-used.ensures.ok)
 
 pub returns-clause-ok : goal.returns-clause-ok
 returns-clause-ok c =
     let P : Parts = record { table = c.self.inside.table; places = c.self.inside.places; threads = c.self.inside.threads.items; store = c.self.inside.store.entries; held = c.self.inside.held.entries; facts = c.self.inside.facts.slots; made = c.self.inside.made.keys; own = c.self.inside.own.keys; known = c.self.inside.knowledge } in
     let Q : Parts = record P { table = c.used.new.table } in
     let there = keeps_tied P c.used.new.table c.used.ensures.keeps c.self.invariant in
-    rw (← c.self.view_is, c.set.ensures, c.in-Ok-exchange.ensures.ok) (done_back P c.used.new.table c.used.ensures.keeps c.self.invariant _ (line.Embedded c.args.t c.args.numbers.now c.args.b.now) c.in-Ok-used.acts (embed_line Q c.args.t c.in-Some.th.now c.at-place.result.now there c.in-Some.ensures c.at-place.ensures c.in-Some-rule.l.now c.in-Some-rule.e.now c.in-Some-rule.r.now c.in-Some-rule.ensures c.args.numbers.now c.args.b.now c.in-Ok.facts c.in-Ok.ensures.ok c.variables_named_once_stay_so.ensures c.bindings_give_choices.ensures c.sorts_are_one.ensures.rule c.each_is_ground-in-Ok-used.ensures c.in-Ok-used.thread c.in-Ok-used.acts c.in-Ok-used.right c.in-Ok-used.ensures.ok c.normal_forms_are_unique.ensures c.instances_of_processes.ensures.twice))
+    rw (← c.self.view_is, c.set.ensures, c.in-Ok-exchange.ensures.ok) (done_back P c.used.new.table c.used.ensures.keeps c.self.invariant _ (line.Embedded c.args.t c.args.numbers.now c.args.b.now) c.in-Ok-used.acts (embed_line Q c.args.t c.in-Some.th.now c.at-place.result.now there c.in-Some.ensures c.at-place.ensures c.in-Some-rule.l.now c.in-Some-rule.e.now c.in-Some-rule.r.now c.in-Some-rule.ensures c.args.numbers.now c.args.b.now c.in-Ok.facts c.in-Ok.ensures.ok c.in-Ok-used.env c.in-Ok-used.acts c.in-Ok-used.right c.in-Ok-used.ensures.ok))
+
+pub used-requires-clause-plain : goal.used-requires-clause-plain
+used-requires-clause-plain c =
+    let P : Parts = record { table = c.self.inside.table; places = c.self.inside.places; threads = c.self.inside.threads.items; store = c.self.inside.store.entries; held = c.self.inside.held.entries; facts = c.self.inside.facts.slots; made = c.self.inside.made.keys; own = c.self.inside.own.keys; known = c.self.inside.knowledge } in
+    rule_clean P c.args.t c.in-Some.th.now c.at-place.result.now c.self.invariant c.in-Some.ensures c.at-place.ensures c.in-Some-rule.l.now c.in-Some-rule.e.now c.in-Some-rule.r.now c.in-Some-rule.ensures

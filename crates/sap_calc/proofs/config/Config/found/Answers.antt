@@ -3,9 +3,9 @@ use Rattle.std.specs.Option.{option_copied}
 use Rattle.sap_runs.specs.declared.process_step.PStep.TheVariants as line
 use Rattle.sap_calc.specs.code.Parts.{Parts}
 use Rattle.sap_calc.proofs.Lines.{no_thread, wrong_form, place_below, number_below, thread_tied}
-use Rattle.sap_calc.proofs.Moves.{keeps_tied, keeps_seen}
+use Rattle.sap_calc.proofs.Moves.{keeps_tied, keeps_seen, env_stays}
 use Rattle.sap_lines.specs.Faults.{no_memory}
-use Rattle.sap_calc.proofs.Writes.{lookup_can, found_large, found_tied, found_line, found_denied}
+use Rattle.sap_calc.proofs.Writes.{lookup_can, found_large, found_there, found_new, found_tied, found_line, found_denied}
 use Rattle.sap_calc.proofs.config.Config.found.Goals as goal
 
 pub returns-in_default-clause-refused : goal.returns-in_default-clause-refused
@@ -86,9 +86,24 @@ set-requires c =
 pub invariant_of-self-in-Ok-with_bound : goal.invariant_of-self-in-Ok-with_bound
 invariant_of-self-in-Ok-with_bound c =
     let P : Parts = record { table = c.self.inside.table; places = c.self.inside.places; threads = c.self.inside.threads.items; store = c.self.inside.store.entries; held = c.self.inside.held.entries; facts = c.self.inside.facts.slots; made = c.self.inside.made.keys; own = c.self.inside.own.keys; known = c.self.inside.knowledge } in
-    rw (c.set.ensures, c.in-Ok-with_bound.ensures) (found_tied P c.args.t c.in-Some.th.now c.at-place.result.now c.self.invariant c.in-Some.ensures c.at-place.ensures c.in-Some-lookup.m.now c.in-Some-lookup.x.now c.in-Some-lookup.ensures c.value.new.table c.value.ensures.keeps c.in-Ok.k c.in-Ok.ensures.ok c.each_has_one_number.ensures c.in-Some-value_at.v (sym c.value_at.ensures ∙ c.in-Some-value_at.is))
+    rw c.set.ensures (found_tied P c.args.t c.in-Some.th.now c.at-place.result.now c.self.invariant c.in-Some.ensures c.at-place.ensures c.in-Some-lookup.m.now c.in-Some-lookup.x.now c.in-Some-lookup.ensures c.value.new.table c.value.ensures.keeps c.in-Ok.k c.in-Ok.ensures.ok c.each_has_one_number.ensures c.in-Some-value_at.v (sym c.value_at.ensures ∙ c.in-Some-value_at.is) c.in-Ok-with_bound.env c.in-Ok-with_bound.ensures)
 
 pub returns-in-Ok-with_bound-clause-ok : goal.returns-in-Ok-with_bound-clause-ok
 returns-in-Ok-with_bound-clause-ok c =
     let P : Parts = record { table = c.self.inside.table; places = c.self.inside.places; threads = c.self.inside.threads.items; store = c.self.inside.store.entries; held = c.self.inside.held.entries; facts = c.self.inside.facts.slots; made = c.self.inside.made.keys; own = c.self.inside.own.keys; known = c.self.inside.knowledge } in
-    rw (← c.self.view_is, c.set.ensures, c.in-Ok-with_bound.ensures) (found_line P c.args.t c.in-Some.th.now c.at-place.result.now c.self.invariant c.in-Some.ensures c.at-place.ensures c.in-Some-lookup.m.now c.in-Some-lookup.x.now c.in-Some-lookup.ensures c.value.new.table c.value.ensures.keeps c.in-Ok.k c.in-Ok.ensures.ok c.each_has_one_number.ensures c.in-Some-value_at.v (sym c.value_at.ensures ∙ c.in-Some-value_at.is) c.each_is_ground-in-Ok.ensures c.instances_of_processes.ensures.twice c.new.result c.new.ensures)
+    rw (← c.self.view_is, c.set.ensures) (found_line P c.args.t c.in-Some.th.now c.at-place.result.now c.self.invariant c.in-Some.ensures c.at-place.ensures c.in-Some-lookup.m.now c.in-Some-lookup.x.now c.in-Some-lookup.ensures c.value.new.table c.value.ensures.keeps c.in-Ok.k c.in-Ok.ensures.ok c.each_has_one_number.ensures c.in-Some-value_at.v (sym c.value_at.ensures ∙ c.in-Some-value_at.is) c.in-Ok-with_bound.env c.in-Ok-with_bound.ensures c.new.result c.new.ensures)
+
+pub with_bound-requires-clause-env : goal.with_bound-requires-clause-env
+with_bound-requires-clause-env c =
+    let P : Parts = record { table = c.self.inside.table; places = c.self.inside.places; threads = c.self.inside.threads.items; store = c.self.inside.store.entries; held = c.self.inside.held.entries; facts = c.self.inside.facts.slots; made = c.self.inside.made.keys; own = c.self.inside.own.keys; known = c.self.inside.knowledge } in
+    env_stays P.table c.value.new.table c.value.ensures.keeps c.in-Some.th.now.env (thread_tied P c.args.t c.in-Some.th.now c.self.invariant c.in-Some.ensures).small
+
+pub with_bound-requires-clause-number : goal.with_bound-requires-clause-number
+with_bound-requires-clause-number c =
+    let P : Parts = record { table = c.self.inside.table; places = c.self.inside.places; threads = c.self.inside.threads.items; store = c.self.inside.store.entries; held = c.self.inside.held.entries; facts = c.self.inside.facts.slots; made = c.self.inside.made.keys; own = c.self.inside.own.keys; known = c.self.inside.knowledge } in
+    found_there P c.args.t c.in-Some.th.now c.at-place.result.now c.self.invariant c.in-Some.ensures c.at-place.ensures c.in-Some-lookup.m.now c.in-Some-lookup.x.now c.in-Some-lookup.ensures c.value.new.table c.value.ensures.keeps c.in-Ok.k c.in-Ok.ensures.ok c.each_has_one_number.ensures c.in-Some-value_at.v (sym c.value_at.ensures ∙ c.in-Some-value_at.is)
+
+pub with_bound-requires-clause-new : goal.with_bound-requires-clause-new
+with_bound-requires-clause-new c =
+    let P : Parts = record { table = c.self.inside.table; places = c.self.inside.places; threads = c.self.inside.threads.items; store = c.self.inside.store.entries; held = c.self.inside.held.entries; facts = c.self.inside.facts.slots; made = c.self.inside.made.keys; own = c.self.inside.own.keys; known = c.self.inside.knowledge } in
+    found_new P c.args.t c.in-Some.th.now c.at-place.result.now c.self.invariant c.in-Some.ensures c.at-place.ensures c.in-Some-lookup.m.now c.in-Some-lookup.x.now c.in-Some-lookup.ensures c.value.new.table c.value.ensures.keeps c.in-Ok.k c.in-Ok.ensures.ok c.each_has_one_number.ensures c.in-Some-value_at.v (sym c.value_at.ensures ∙ c.in-Some-value_at.is)

@@ -6,10 +6,9 @@ use Rattle.std.proofs.Common.{Bor}
 use Rattle.sap_terms.specs.declared.term.Term.{Term}
 use Rattle.sap_lines.specs.Faults.{no_memory}
 use Rattle.sap_calc.proofs.Lines.{no_thread, wrong_form, place_below, number_below, thread_tied}
-use Rattle.sap_calc.proofs.Moves.{keeps_tied, keeps_seen}
-use Rattle.sap_calc.proofs.Values.{keeps_twice}
+use Rattle.sap_calc.proofs.Moves.{keeps_tied, keeps_seen, keeps_twice}
 use Rattle.sap_calc.proofs.Goes.{denied_back, done_back}
-use Rattle.sap_calc.proofs.Inputs.{entry_there, input_unknown, input_can, input_denied, input_tied, input_line}
+use Rattle.sap_calc.proofs.Inputs.{entry_there, input_unknown, input_can, input_sorts, input_plain, input_denied, input_tied, input_line}
 use Rattle.sap_calc.proofs.config.Config.input.Goals as goal
 
 pub returns-in_default-clause-refused : goal.returns-in_default-clause-refused
@@ -60,7 +59,7 @@ set-requires c =
 pub invariant_of-self-in-Ok-shown_number : goal.invariant_of-self-in-Ok-shown_number
 invariant_of-self-in-Ok-shown_number c =
     let P : Parts = record { table = c.self.inside.table; places = c.self.inside.places; threads = c.self.inside.threads.items; store = c.self.inside.store.entries; held = c.self.inside.held.entries; facts = c.self.inside.facts.slots; made = c.self.inside.made.keys; own = c.self.inside.own.keys; known = c.self.inside.knowledge } in
-    rw c.set.ensures (input_tied c.variables_named_once_stay_so.ensures c.bindings_give_choices.ensures c.sorts_are_one.ensures.pattern c.instances_of_processes.ensures.twice c.matching_is_modulo.ensures c.patterns_stay.ensures c.equality_is_kept.ensures (record P { table = c.taken.new.table }) c.args.t c.in-Some.th.now c.at-place.result.now (keeps_tied P c.taken.new.table (keeps_twice P.table c.entry_number.new.table c.taken.new.table c.entry_number.ensures.keeps c.taken.ensures.keeps) c.self.invariant) c.in-Some.ensures c.at-place.ensures c.each_is_ground-in-Ok-shown_number.ensures c.each_is_over-in-Ok-shown_number.ensures c.args.k c.in-Ok.e (entry_there c.entry_number.new.table c.taken.new.table P.known c.args.k c.in-Ok.e c.taken.ensures.keeps c.in-Ok.ensures.ok) (λ (m : Bor Term). m.now) c.in-Some-taking.n.now c.in-Some-taking.channel c.in-Some-taking.ensures c.in-Ok-taken.new c.in-Ok-taken.ensures.ok)
+    rw c.set.ensures (input_tied (record P { table = c.taken.new.table }) c.args.t c.in-Some.th.now c.at-place.result.now (keeps_tied P c.taken.new.table (keeps_twice P.table c.entry_number.new.table c.taken.new.table c.entry_number.ensures.keeps c.taken.ensures.keeps) c.self.invariant) c.in-Some.ensures c.at-place.ensures c.args.k c.in-Ok.e (entry_there c.entry_number.new.table c.taken.new.table P.known c.args.k c.in-Ok.e c.taken.ensures.keeps c.in-Ok.ensures.ok) (λ (m : Bor Term). m.now) c.in-Some-taking.n.now c.in-Some-taking.channel c.in-Some-taking.ensures c.in-Ok-taken.env c.in-Ok-taken.ensures.ok)
 
 pub returns-in-Err-clause-refused : goal.returns-in-Err-clause-refused
 returns-in-Err-clause-refused c =
@@ -75,7 +74,7 @@ returns-in-Err-clause-err c =
 pub returns-in-Err-taken-clause-refused : goal.returns-in-Err-taken-clause-refused
 returns-in-Err-taken-clause-refused c =
     let P : Parts = record { table = c.self.inside.table; places = c.self.inside.places; threads = c.self.inside.threads.items; store = c.self.inside.store.entries; held = c.self.inside.held.entries; facts = c.self.inside.facts.slots; made = c.self.inside.made.keys; own = c.self.inside.own.keys; known = c.self.inside.knowledge } in
-    rw (← c.self.view_is) (denied_back P c.taken.new.table (keeps_twice P.table c.entry_number.new.table c.taken.new.table c.entry_number.ensures.keeps c.taken.ensures.keeps) c.self.invariant (line.In c.args.t c.args.k) c.in-Err-taken.fault (input_denied c.variables_named_once_stay_so.ensures c.bindings_give_choices.ensures c.sorts_are_one.ensures.pattern c.instances_of_processes.ensures.twice c.matching_is_modulo.ensures c.patterns_stay.ensures c.equality_is_kept.ensures (record P { table = c.taken.new.table }) c.args.t c.in-Some.th.now c.at-place.result.now (keeps_tied P c.taken.new.table (keeps_twice P.table c.entry_number.new.table c.taken.new.table c.entry_number.ensures.keeps c.taken.ensures.keeps) c.self.invariant) c.in-Some.ensures c.at-place.ensures c.each_is_ground-in-Err-taken.ensures c.each_is_over.ensures c.args.k c.in-Ok.e (entry_there c.entry_number.new.table c.taken.new.table P.known c.args.k c.in-Ok.e c.taken.ensures.keeps c.in-Ok.ensures.ok) (λ (m : Bor Term). m.now) c.in-Some-taking.n.now c.in-Some-taking.channel c.in-Some-taking.ensures c.in-Err-taken.fault c.in-Err-taken.ensures.refused))
+    rw (← c.self.view_is) (denied_back P c.taken.new.table (keeps_twice P.table c.entry_number.new.table c.taken.new.table c.entry_number.ensures.keeps c.taken.ensures.keeps) c.self.invariant (line.In c.args.t c.args.k) c.in-Err-taken.fault (input_denied (record P { table = c.taken.new.table }) c.args.t c.in-Some.th.now c.at-place.result.now (keeps_tied P c.taken.new.table (keeps_twice P.table c.entry_number.new.table c.taken.new.table c.entry_number.ensures.keeps c.taken.ensures.keeps) c.self.invariant) c.in-Some.ensures c.at-place.ensures c.args.k c.in-Ok.e (entry_there c.entry_number.new.table c.taken.new.table P.known c.args.k c.in-Ok.e c.taken.ensures.keeps c.in-Ok.ensures.ok) (λ (m : Bor Term). m.now) c.in-Some-taking.n.now c.in-Some-taking.channel c.in-Some-taking.ensures c.in-Err-taken.fault c.in-Err-taken.ensures.refused))
 
 pub returns-in-Err-taken-clause-err : goal.returns-in-Err-taken-clause-err
 returns-in-Err-taken-clause-err c =
@@ -93,4 +92,14 @@ returns-in-Err-shown_number-clause-err c =
 pub returns-in-Ok-shown_number-clause-ok : goal.returns-in-Ok-shown_number-clause-ok
 returns-in-Ok-shown_number-clause-ok c =
     let P : Parts = record { table = c.self.inside.table; places = c.self.inside.places; threads = c.self.inside.threads.items; store = c.self.inside.store.entries; held = c.self.inside.held.entries; facts = c.self.inside.facts.slots; made = c.self.inside.made.keys; own = c.self.inside.own.keys; known = c.self.inside.knowledge } in
-    rw (← c.self.view_is, c.set.ensures) (done_back P c.taken.new.table (keeps_twice P.table c.entry_number.new.table c.taken.new.table c.entry_number.ensures.keeps c.taken.ensures.keeps) c.self.invariant _ (line.In c.args.t c.args.k) c.in-Ok-shown_number.label (input_line c.variables_named_once_stay_so.ensures c.bindings_give_choices.ensures c.sorts_are_one.ensures.pattern c.instances_of_processes.ensures.twice c.matching_is_modulo.ensures c.patterns_stay.ensures c.equality_is_kept.ensures (record P { table = c.taken.new.table }) c.args.t c.in-Some.th.now c.at-place.result.now (keeps_tied P c.taken.new.table (keeps_twice P.table c.entry_number.new.table c.taken.new.table c.entry_number.ensures.keeps c.taken.ensures.keeps) c.self.invariant) c.in-Some.ensures c.at-place.ensures c.each_is_ground-in-Ok-shown_number.ensures c.each_is_over-in-Ok-shown_number.ensures c.args.k c.in-Ok.e (entry_there c.entry_number.new.table c.taken.new.table P.known c.args.k c.in-Ok.e c.taken.ensures.keeps c.in-Ok.ensures.ok) (λ (m : Bor Term). m.now) c.in-Some-taking.n.now c.in-Some-taking.channel c.in-Some-taking.ensures c.in-Ok-taken.new c.in-Ok-taken.ensures.ok c.in-Ok-shown_number.label c.in-Ok-shown_number.ensures))
+    rw (← c.self.view_is, c.set.ensures) (done_back P c.taken.new.table (keeps_twice P.table c.entry_number.new.table c.taken.new.table c.entry_number.ensures.keeps c.taken.ensures.keeps) c.self.invariant _ (line.In c.args.t c.args.k) c.in-Ok-shown_number.label (input_line (record P { table = c.taken.new.table }) c.args.t c.in-Some.th.now c.at-place.result.now (keeps_tied P c.taken.new.table (keeps_twice P.table c.entry_number.new.table c.taken.new.table c.entry_number.ensures.keeps c.taken.ensures.keeps) c.self.invariant) c.in-Some.ensures c.at-place.ensures c.args.k c.in-Ok.e (entry_there c.entry_number.new.table c.taken.new.table P.known c.args.k c.in-Ok.e c.taken.ensures.keeps c.in-Ok.ensures.ok) (λ (m : Bor Term). m.now) c.in-Some-taking.n.now c.in-Some-taking.channel c.in-Some-taking.ensures c.in-Ok-taken.env c.in-Ok-taken.ensures.ok c.in-Ok-shown_number.label c.in-Ok-shown_number.ensures))
+
+pub taken-requires-clause-sorts : goal.taken-requires-clause-sorts
+taken-requires-clause-sorts c =
+    let P : Parts = record { table = c.self.inside.table; places = c.self.inside.places; threads = c.self.inside.threads.items; store = c.self.inside.store.entries; held = c.self.inside.held.entries; facts = c.self.inside.facts.slots; made = c.self.inside.made.keys; own = c.self.inside.own.keys; known = c.self.inside.knowledge } in
+    input_sorts (record P { table = c.entry_number.new.table }) c.args.t c.in-Some.th.now c.at-place.result.now (keeps_tied P c.entry_number.new.table c.entry_number.ensures.keeps c.self.invariant) c.in-Some.ensures c.at-place.ensures (λ (m : Bor Term). m.now) c.in-Some-taking.n.now c.in-Some-taking.channel c.in-Some-taking.ensures c.sorts_are_one.ensures.pattern
+
+pub taken-requires-clause-plain : goal.taken-requires-clause-plain
+taken-requires-clause-plain c =
+    let P : Parts = record { table = c.self.inside.table; places = c.self.inside.places; threads = c.self.inside.threads.items; store = c.self.inside.store.entries; held = c.self.inside.held.entries; facts = c.self.inside.facts.slots; made = c.self.inside.made.keys; own = c.self.inside.own.keys; known = c.self.inside.knowledge } in
+    input_plain (record P { table = c.entry_number.new.table }) c.args.t c.in-Some.th.now c.at-place.result.now (keeps_tied P c.entry_number.new.table c.entry_number.ensures.keeps c.self.invariant) c.in-Some.ensures c.at-place.ensures (λ (m : Bor Term). m.now) c.in-Some-taking.n.now c.in-Some-taking.channel c.in-Some-taking.ensures

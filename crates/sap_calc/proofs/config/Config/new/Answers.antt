@@ -4,9 +4,9 @@ use Rattle.sap_runs.specs.declared.process_step.PStep.TheVariants as line
 use Rattle.sap_calc.specs.code.Parts.{Parts}
 use Rattle.std.proofs.lemmas.Bool.{false≢true}
 use Rattle.sap_lines.specs.Faults.{no_memory}
-use Rattle.sap_calc.proofs.Lines.{no_thread, wrong_form, place_below, number_below}
-use Rattle.sap_calc.proofs.Moves.{keeps_tied, keeps_seen}
-use Rattle.sap_calc.proofs.Makes.{new_used, new_tied, new_line}
+use Rattle.sap_calc.proofs.Lines.{no_thread, wrong_form, place_below, number_below, thread_tied}
+use Rattle.sap_calc.proofs.Moves.{keeps_tied, keeps_seen, env_stays}
+use Rattle.sap_calc.proofs.Makes.{new_used, new_name, new_tied, new_line}
 use Rattle.sap_calc.proofs.config.Config.new.Goals as goal
 
 pub returns-in_default-clause-refused : goal.returns-in_default-clause-refused
@@ -52,7 +52,7 @@ set-requires c =
 pub invariant_of-self-in-Ok-with_bound : goal.invariant_of-self-in-Ok-with_bound
 invariant_of-self-in-Ok-with_bound c =
     let P : Parts = record { table = c.self.inside.table; places = c.self.inside.places; threads = c.self.inside.threads.items; store = c.self.inside.store.entries; held = c.self.inside.held.entries; facts = c.self.inside.facts.slots; made = c.self.inside.made.keys; own = c.self.inside.own.keys; known = c.self.inside.knowledge } in
-    rw (c.put_last.ensures, c.find_room.ensures.keys, c.set.ensures, c.in-Ok-with_bound.ensures) (new_tied P c.args.t c.in-Some.th.now c.at-place.result.now c.self.invariant c.in-Some.ensures c.at-place.ensures c.in-Some-creation.x.now c.in-Some-creation.ensures c.name_value.new.table c.name_value.ensures.keeps c.in-Ok-name_value.k c.args.n c.in-Ok-name_value.ensures.number c.in-Ok-name_value.ensures.tree)
+    rw (c.put_last.ensures, c.find_room.ensures.keys, c.set.ensures) (new_tied P c.args.t c.in-Some.th.now c.at-place.result.now c.self.invariant c.in-Some.ensures c.at-place.ensures c.in-Some-creation.x.now c.in-Some-creation.ensures c.name_value.new.table c.name_value.ensures.keeps c.in-Ok-name_value.k c.args.n c.in-Ok-name_value.ensures.tree c.in-Ok-with_bound.env c.in-Ok-with_bound.ensures)
 
 pub returns-in-Err-clause-refused : goal.returns-in-Err-clause-refused
 returns-in-Err-clause-refused c = no_memory (line.New c.args.t c.args.n)
@@ -76,4 +76,14 @@ returns-in-Err-with_bound-clause-err c =
 pub returns-in-Ok-with_bound-clause-ok : goal.returns-in-Ok-with_bound-clause-ok
 returns-in-Ok-with_bound-clause-ok c =
     let P : Parts = record { table = c.self.inside.table; places = c.self.inside.places; threads = c.self.inside.threads.items; store = c.self.inside.store.entries; held = c.self.inside.held.entries; facts = c.self.inside.facts.slots; made = c.self.inside.made.keys; own = c.self.inside.own.keys; known = c.self.inside.knowledge } in
-    rw (← c.self.view_is, c.put_last.ensures, c.find_room.ensures.keys, c.set.ensures, c.in-Ok-with_bound.ensures) (new_line P c.args.t c.in-Some.th.now c.at-place.result.now c.self.invariant c.in-Some.ensures c.at-place.ensures c.in-Some-creation.x.now c.in-Some-creation.ensures c.name_value.new.table c.name_value.ensures.keeps c.in-Ok-name_value.k c.args.n c.in-Ok-name_value.ensures.number c.in-Ok-name_value.ensures.tree c.each_is_ground.ensures c.instances_of_processes.ensures.twice c.new.result c.new.ensures (λ h. false≢true (sym c.if-is_among.false ∙ c.is_among.ensures.1 h)) (λ h. false≢true (sym c.if-is_among-2.false ∙ c.is_among-2.ensures.1 h)))
+    rw (← c.self.view_is, c.put_last.ensures, c.find_room.ensures.keys, c.set.ensures) (new_line P c.args.t c.in-Some.th.now c.at-place.result.now c.self.invariant c.in-Some.ensures c.at-place.ensures c.in-Some-creation.x.now c.in-Some-creation.ensures c.name_value.new.table c.name_value.ensures.keeps c.in-Ok-name_value.k c.args.n c.in-Ok-name_value.ensures.tree c.in-Ok-with_bound.env c.in-Ok-with_bound.ensures c.new.result c.new.ensures (λ h. false≢true (sym c.if-is_among.false ∙ c.is_among.ensures.1 h)) (λ h. false≢true (sym c.if-is_among-2.false ∙ c.is_among-2.ensures.1 h)))
+
+pub with_bound-requires-clause-env : goal.with_bound-requires-clause-env
+with_bound-requires-clause-env c =
+    let P : Parts = record { table = c.self.inside.table; places = c.self.inside.places; threads = c.self.inside.threads.items; store = c.self.inside.store.entries; held = c.self.inside.held.entries; facts = c.self.inside.facts.slots; made = c.self.inside.made.keys; own = c.self.inside.own.keys; known = c.self.inside.knowledge } in
+    env_stays P.table c.name_value.new.table c.name_value.ensures.keeps c.in-Some.th.now.env (thread_tied P c.args.t c.in-Some.th.now c.self.invariant c.in-Some.ensures).small
+
+pub with_bound-requires-clause-new : goal.with_bound-requires-clause-new
+with_bound-requires-clause-new c =
+    let P : Parts = record { table = c.self.inside.table; places = c.self.inside.places; threads = c.self.inside.threads.items; store = c.self.inside.store.entries; held = c.self.inside.held.entries; facts = c.self.inside.facts.slots; made = c.self.inside.made.keys; own = c.self.inside.own.keys; known = c.self.inside.knowledge } in
+    new_name P c.args.t c.in-Some.th.now c.at-place.result.now c.self.invariant c.in-Some.ensures c.at-place.ensures c.in-Some-creation.x.now c.in-Some-creation.ensures

@@ -5,8 +5,7 @@ use Rattle.sap_calc.specs.code.Parts.{Parts}
 use Rattle.sap_lines.specs.Faults.{no_memory}
 use Rattle.sap_calc.proofs.Numbered.{live_got}
 use Rattle.sap_calc.proofs.Lines.{no_thread, wrong_form, place_below, number_below, thread_tied}
-use Rattle.sap_calc.proofs.Moves.{keeps_tied, keeps_seen}
-use Rattle.sap_calc.proofs.Values.{keeps_twice}
+use Rattle.sap_calc.proofs.Moves.{keeps_tied, keeps_seen, keeps_twice}
 use Rattle.sap_calc.proofs.Goes.{denied_back, done_back}
 use Rattle.sap_calc.proofs.Channels.{send_can_left, send_can_right, send_unknown, send_large, send_denied, send_tied, send_line, entry_below}
 use Rattle.sap_calc.proofs.config.Config.send.Goals as goal

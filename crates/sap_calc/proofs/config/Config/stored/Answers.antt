@@ -6,7 +6,7 @@ use Rattle.sap_terms.specs.Choice.{instance}
 use Rattle.sap_terms.specs.View.{tree}
 use Rattle.sap_share.specs.Env.{given}
 use Rattle.sap_lines.specs.Faults.{EvaluateLarge}
-use Rattle.sap_calc.specs.code.Values.{IsValue}
+use Rattle.sap_heads.specs.Values.{IsValue}
 use Rattle.sap_lines.specs.declared.fault.PFault.TheVariants as fault
 use Rattle.sap_calc.proofs.Lines.{no_thread, wrong_form, place_below, thread_tied}
 use Rattle.sap_calc.proofs.Moves.{keeps_tied, keeps_seen, small_stays}

@@ -7,7 +7,7 @@ use Rattle.sap_calc.proofs.Lines.{place_below, number_below, thread_tied}
 use Rattle.sap_calc.proofs.Moves.{keeps_tied, keeps_seen}
 use Rattle.sap_calc.proofs.Goes.{denied_back, done_back}
 use Rattle.sap_calc.proofs.Channels.{send_can_left, send_can_right}
-use Rattle.sap_calc.proofs.Meets.{set_below, sync_no_sender, sync_no_send, sync_no_receiver, sync_no_receive, sync_can, sync_denied, sync_tied, sync_line}
+use Rattle.sap_calc.proofs.Meets.{set_below, sync_no_sender, sync_no_send, sync_no_receiver, sync_no_receive, sync_can, sync_sorts, sync_plain, sync_denied, sync_tied, sync_line}
 use Rattle.sap_calc.proofs.config.Config.sync.Goals as goal
 
 pub returns-in_default-clause-refused : goal.returns-in_default-clause-refused
@@ -83,12 +83,12 @@ set-requires c =
 pub invariant_of-self-in-Ok : goal.invariant_of-self-in-Ok
 invariant_of-self-in-Ok c =
     let P : Parts = record { table = c.self.inside.table; places = c.self.inside.places; threads = c.self.inside.threads.items; store = c.self.inside.store.entries; held = c.self.inside.held.entries; facts = c.self.inside.facts.slots; made = c.self.inside.made.keys; own = c.self.inside.own.keys; known = c.self.inside.knowledge } in
-    rw (c.set.ensures, (c.go_on.ensures c.in-Some.sender.now (live_got P.threads c.args.s c.in-Some.sender.now c.in-Some.ensures))) (sync_tied (record P { table = c.met.new.table }) (keeps_tied P c.met.new.table c.met.ensures.keeps c.self.invariant) c.args.s c.in-Some.sender.now c.at-from.result.now c.in-Some.ensures c.at-from.ensures c.in-Some-sending.m.now c.in-Some-sending.n.now c.in-Some-sending.ensures c.args.t c.in-Some-thread_at.th.now c.at-place.result.now c.in-Some-thread_at.ensures c.at-place.ensures c.in-Some-receiving.l.now c.in-Some-receiving.p.now c.in-Some-receiving.ensures c.each_is_ground-in-Ok.ensures c.variables_named_once_stay_so.ensures c.bindings_give_choices.ensures c.sorts_are_one.ensures.pattern c.instances_of_processes.ensures.twice c.matching_is_modulo.ensures c.patterns_stay.ensures c.equality_is_kept.ensures c.each_is_over-in-Ok.ensures c.in-Ok.new c.in-Ok.ensures.ok)
+    rw (c.set.ensures, (c.go_on.ensures c.in-Some.sender.now (live_got P.threads c.args.s c.in-Some.sender.now c.in-Some.ensures))) (sync_tied (record P { table = c.met.new.table }) (keeps_tied P c.met.new.table c.met.ensures.keeps c.self.invariant) c.args.s c.in-Some.sender.now c.at-from.result.now c.in-Some.ensures c.at-from.ensures c.in-Some-sending.m.now c.in-Some-sending.n.now c.in-Some-sending.ensures c.args.t c.in-Some-thread_at.th.now c.at-place.result.now c.in-Some-thread_at.ensures c.at-place.ensures c.in-Some-receiving.l.now c.in-Some-receiving.p.now c.in-Some-receiving.ensures c.in-Ok.env c.in-Ok.ensures.ok)
 
 pub returns-in-Err-clause-refused : goal.returns-in-Err-clause-refused
 returns-in-Err-clause-refused c =
     let P : Parts = record { table = c.self.inside.table; places = c.self.inside.places; threads = c.self.inside.threads.items; store = c.self.inside.store.entries; held = c.self.inside.held.entries; facts = c.self.inside.facts.slots; made = c.self.inside.made.keys; own = c.self.inside.own.keys; known = c.self.inside.knowledge } in
-    rw (← c.self.view_is) (denied_back P c.met.new.table c.met.ensures.keeps c.self.invariant (line.Sync c.args.s c.args.t) c.in-Err.fault (sync_denied (record P { table = c.met.new.table }) (keeps_tied P c.met.new.table c.met.ensures.keeps c.self.invariant) c.args.s c.in-Some.sender.now c.at-from.result.now c.in-Some.ensures c.at-from.ensures c.in-Some-sending.m.now c.in-Some-sending.n.now c.in-Some-sending.ensures c.args.t c.in-Some-thread_at.th.now c.at-place.result.now c.in-Some-thread_at.ensures c.at-place.ensures c.in-Some-receiving.l.now c.in-Some-receiving.p.now c.in-Some-receiving.ensures c.each_is_ground-in-Err.ensures c.variables_named_once_stay_so.ensures c.bindings_give_choices.ensures c.sorts_are_one.ensures.pattern c.instances_of_processes.ensures.twice c.matching_is_modulo.ensures c.patterns_stay.ensures c.equality_is_kept.ensures c.each_is_over.ensures c.in-Err.fault c.in-Err.ensures.refused))
+    rw (← c.self.view_is) (denied_back P c.met.new.table c.met.ensures.keeps c.self.invariant (line.Sync c.args.s c.args.t) c.in-Err.fault (sync_denied (record P { table = c.met.new.table }) (keeps_tied P c.met.new.table c.met.ensures.keeps c.self.invariant) c.args.s c.in-Some.sender.now c.at-from.result.now c.in-Some.ensures c.at-from.ensures c.in-Some-sending.m.now c.in-Some-sending.n.now c.in-Some-sending.ensures c.args.t c.in-Some-thread_at.th.now c.at-place.result.now c.in-Some-thread_at.ensures c.at-place.ensures c.in-Some-receiving.l.now c.in-Some-receiving.p.now c.in-Some-receiving.ensures c.in-Err.fault c.in-Err.ensures.refused))
 
 pub returns-in-Err-clause-err : goal.returns-in-Err-clause-err
 returns-in-Err-clause-err c =
@@ -98,4 +98,14 @@ returns-in-Err-clause-err c =
 pub returns-in-Ok-clause-ok : goal.returns-in-Ok-clause-ok
 returns-in-Ok-clause-ok c =
     let P : Parts = record { table = c.self.inside.table; places = c.self.inside.places; threads = c.self.inside.threads.items; store = c.self.inside.store.entries; held = c.self.inside.held.entries; facts = c.self.inside.facts.slots; made = c.self.inside.made.keys; own = c.self.inside.own.keys; known = c.self.inside.knowledge } in
-    rw (← c.self.view_is, c.set.ensures, (c.go_on.ensures c.in-Some.sender.now (live_got P.threads c.args.s c.in-Some.sender.now c.in-Some.ensures))) (done_back P c.met.new.table c.met.ensures.keeps c.self.invariant _ (line.Sync c.args.s c.args.t) c.new.result (sync_line (record P { table = c.met.new.table }) (keeps_tied P c.met.new.table c.met.ensures.keeps c.self.invariant) c.args.s c.in-Some.sender.now c.at-from.result.now c.in-Some.ensures c.at-from.ensures c.in-Some-sending.m.now c.in-Some-sending.n.now c.in-Some-sending.ensures c.args.t c.in-Some-thread_at.th.now c.at-place.result.now c.in-Some-thread_at.ensures c.at-place.ensures c.in-Some-receiving.l.now c.in-Some-receiving.p.now c.in-Some-receiving.ensures c.each_is_ground-in-Ok.ensures c.variables_named_once_stay_so.ensures c.bindings_give_choices.ensures c.sorts_are_one.ensures.pattern c.instances_of_processes.ensures.twice c.matching_is_modulo.ensures c.patterns_stay.ensures c.equality_is_kept.ensures c.each_is_over-in-Ok.ensures c.in-Ok.new c.in-Ok.ensures.ok c.new.result c.new.ensures))
+    rw (← c.self.view_is, c.set.ensures, (c.go_on.ensures c.in-Some.sender.now (live_got P.threads c.args.s c.in-Some.sender.now c.in-Some.ensures))) (done_back P c.met.new.table c.met.ensures.keeps c.self.invariant _ (line.Sync c.args.s c.args.t) c.new.result (sync_line (record P { table = c.met.new.table }) (keeps_tied P c.met.new.table c.met.ensures.keeps c.self.invariant) c.args.s c.in-Some.sender.now c.at-from.result.now c.in-Some.ensures c.at-from.ensures c.in-Some-sending.m.now c.in-Some-sending.n.now c.in-Some-sending.ensures c.args.t c.in-Some-thread_at.th.now c.at-place.result.now c.in-Some-thread_at.ensures c.at-place.ensures c.in-Some-receiving.l.now c.in-Some-receiving.p.now c.in-Some-receiving.ensures c.in-Ok.env c.in-Ok.ensures.ok c.new.result c.new.ensures))
+
+pub met-requires-clause-sorts : goal.met-requires-clause-sorts
+met-requires-clause-sorts c =
+    let P : Parts = record { table = c.self.inside.table; places = c.self.inside.places; threads = c.self.inside.threads.items; store = c.self.inside.store.entries; held = c.self.inside.held.entries; facts = c.self.inside.facts.slots; made = c.self.inside.made.keys; own = c.self.inside.own.keys; known = c.self.inside.knowledge } in
+    sync_sorts P c.self.invariant c.args.s c.in-Some.sender.now c.at-from.result.now c.in-Some.ensures c.at-from.ensures c.in-Some-sending.m.now c.in-Some-sending.n.now c.in-Some-sending.ensures c.args.t c.in-Some-thread_at.th.now c.at-place.result.now c.in-Some-thread_at.ensures c.at-place.ensures c.in-Some-receiving.l.now c.in-Some-receiving.p.now c.in-Some-receiving.ensures c.sorts_are_one.ensures.pattern
+
+pub met-requires-clause-plain : goal.met-requires-clause-plain
+met-requires-clause-plain c =
+    let P : Parts = record { table = c.self.inside.table; places = c.self.inside.places; threads = c.self.inside.threads.items; store = c.self.inside.store.entries; held = c.self.inside.held.entries; facts = c.self.inside.facts.slots; made = c.self.inside.made.keys; own = c.self.inside.own.keys; known = c.self.inside.knowledge } in
+    sync_plain P c.self.invariant c.args.s c.in-Some.sender.now c.at-from.result.now c.in-Some.ensures c.at-from.ensures c.in-Some-sending.m.now c.in-Some-sending.n.now c.in-Some-sending.ensures c.args.t c.in-Some-thread_at.th.now c.at-place.result.now c.in-Some-thread_at.ensures c.at-place.ensures c.in-Some-receiving.l.now c.in-Some-receiving.p.now c.in-Some-receiving.ensures

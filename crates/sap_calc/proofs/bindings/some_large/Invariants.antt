@@ -1,6 +1,0 @@
-use Rattle.std.proofs.Common.{take}
-use Rattle.sap_calc.specs.code.Used.{NoneLarge}
-use Rattle.sap_calc.proofs.bindings.some_large.Given as goal
-
-abbrev pub invariant-loop-k : goal.invariant-loop-k
-invariant-loop-k l = NoneLarge (take l.k l.b)

@@ -1,6 +1,0 @@
-use Rattle.std.proofs.Common.{◌≡◌, take}
-use Rattle.sap_calc.specs.code.Used.{shapes_of}
-use Rattle.sap_calc.proofs.fitting.are_alike.Given as goal
-
-abbrev pub invariant-loop-k : goal.invariant-loop-k
-invariant-loop-k l = take l.k (shapes_of l.fs) ≡ take l.k (shapes_of l.hs)

@@ -1,0 +1,18 @@
+mod Kept
+mod Numbers
+mod Binds
+mod Formed
+pub mod Chosen
+mod Counted
+mod Extended
+mod Sided
+mod FormedFacts
+mod Stays
+pub mod Named
+pub mod Matched
+mod Patterns
+mod Ruled
+mod Uses
+mod Rules
+mod Pairs
+pub mod MetValues
