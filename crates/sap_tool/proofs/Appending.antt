@@ -1,14 +1,14 @@
 -- What was put, in parts.
 use Rattle.std.proofs.Common.{◌≡◌, ◌≢◌, ◌≤◌, ℕ, List, [], take, Option, inl, inr, ◌⊎◌, refl}
+use Rattle.std.proofs.KnownBytes.{Appends-nil}
 use Rattle.std.specs.Io.KnownBytes.{Appends}
-use Rattle.sap_tool.specs.Outside.{Rose, RoseTwice, AppendsSome, more}
-use Rattle.sap_tool.proofs.Appends.{appends_nothing}
+use Rattle.sap_outside.specs.Outside.{Rose, RoseTwice, AppendsSome, more}
 use Rattle.sap_tool.proofs.Rises.{rose_later, rose_twice, rose_before}
 use Rattle.sap_tool.specs.Answers.{IsLast, complete, cut, usage_text, read_fault_text, write_fault_text, memory_text}
 
 -- nothing was put
 pub nothing_put : (told : Option (List ℕ)) (asked : Option ℕ) → Appends told told [] × (asked ≡ more 0 asked)
-nothing_put told asked = (appends_nothing told, refl)
+nothing_put told asked = (Appends-nil told, refl)
 
 -- a word that was put is there: whole, or a first part, where its put was cut short
 pub word_whole : (o n : Option (List ℕ)) (word : List ℕ) (Cut : Type 0) → Appends o n word → ((last : List ℕ) × Appends o n last × IsLast Cut word last)

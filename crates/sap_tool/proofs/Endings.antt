@@ -8,17 +8,18 @@ use Rattle.sap_run_texts.specs.declared.run.Run.{Run}
 use Rattle.sap_tool.specs.AcceptedFile.{IsAcceptedFile}
 use Rattle.sap_tool.specs.AcceptedTheory.{IsAcceptedTheory}
 use Rattle.sap_tool.specs.Replays.{IsCheckedText}
-use Rattle.sap_tool.specs.Outside.{Files, Rose, IsFetched, more, one_more}
-use Rattle.sap_tool.specs.RunPieces.{IsJoined, IsRunAnswer}
+use Rattle.sap_outside.specs.Outside.{Files, Rose, IsFetched, more, one_more}
+use Rattle.sap_outside.specs.RunPieces.{IsJoined, IsRunAnswer}
 use Rattle.sap_tool.specs.Call.{Call}
 use Rattle.sap_tool.specs.Commands.{Command, replay, check, alone, and_run, file_of, run_of, limit_of, kinds_of, Refuses, RefusesRun, Writes}
 use Rattle.sap_tool.specs.Answers.{tells, IsAnswerTo, allowed, refused, run_refused, Asks, AskedOnce, AskedForRun, Fetched, IsAnswer, to_input, usage, unread, unread_run}
-use Rattle.sap_tool.specs.Refusals.{refused_line}
-use Rattle.sap_tool.specs.RunRefusals.{IsIllegal, IsIllegalOfTheory, run_refused_line}
+use Rattle.sap_refusals.specs.Refusals.{refused_line}
+use Rattle.sap_refusals.specs.RunFaultTexts.{run_refused_line}
+use Rattle.sap_tool.specs.RunRefusals.{IsIllegal, IsIllegalOfTheory}
 use Rattle.sap_tool.specs.code.Endings.{Ends, EndsFile, EndsBoth, HasRead, Reading, ending_of, refused_ending}
 use Rattle.sap_tool.specs.code.Refused.{IsRunRefusal}
-use Rattle.sap_tool.specs.declared.refusal.Refusal.{Refusal}
-use Rattle.sap_tool.specs.declared.refusal.Refusal.TheVariants as refusal
+use Rattle.sap_refusals.specs.declared.refusal.Refusal.{Refusal}
+use Rattle.sap_refusals.specs.declared.refusal.Refusal.TheVariants as refusal
 use Rattle.sap_tool.specs.declared.task.Task.{Task}
 use Rattle.sap_tool.specs.declared.ending.Ending.{Ending}
 use Rattle.sap_tool.specs.declared.ending.Ending.TheVariants as ending

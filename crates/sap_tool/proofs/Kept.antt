@@ -3,31 +3,35 @@ use Rattle.std.proofs.Common.{◌≡◌, ◌+◌, ◌<◌, ℕ, List, [], ◌∷
 use Rattle.std.specs.Prelude.{Contains, Ok, All}
 use Rattle.std.specs.FinMap as files
 use Rattle.sap_terms.specs.Signature.{HoldsBuiltins}
-use Rattle.sap_read.specs.Files.{FileContent}
+use Rattle.sap_read.specs.Files.{FileContent, IsRunnable}
 use Rattle.sap_rule.specs.WellMade.{IsWellMade}
 use Rattle.sap_rule.specs.declared.theory.Theory.{Theory}
 use Rattle.sap_run_texts.specs.declared.run.Kinds.TheVariants.{Rules}
 use Rattle.sap_run_texts.specs.declared.run.Run.{Run}
 use Rattle.sap_theory.specs.ReadTheory.{IsTheoryRead}
-use Rattle.sap_tool.specs.Outside.{Files, IsFetched, IsFirstPart}
-use Rattle.sap_tool.specs.Refusals.{refused_line}
-use Rattle.sap_tool.specs.Pieces.{pieces}
-use Rattle.sap_tool.specs.Call.{Call, Gained, Failed, CutShort, FailedOn, Holds}
+use Rattle.sap_outside.specs.Outside.{Files, IsFetched, IsFirstPart}
+use Rattle.sap_refusals.specs.Refusals.{refused_line}
+use Rattle.sap_outside.specs.Pieces.{pieces}
+use Rattle.sap_outside.specs.Stream.{Gained, Failed, CutShort}
+use Rattle.sap_tool.specs.Call.{Call, FailedOn, Holds}
 use Rattle.sap_tool.specs.declared.task.Task.{Task}
 use Rattle.sap_tool.specs.declared.task.Task.TheVariants.{ToRules, ToProcess, Judge}
 use Rattle.sap_tool.specs.declared.way.Way.{Way}
 use Rattle.sap_tool.specs.declared.way.Way.TheVariants.{Plain, Inlined}
-use Rattle.sap_tool.specs.Commands.{Command, compile, replay, check, Input, alone, and_run, word_of_way, word_of_task, spelled, file_of, run_of, limit_of, kinds_of, IsUnknown, Accepts, Refuses, RefusesRun, Writes, Allows, Means}
+use Rattle.sap_tool.specs.Commands.{Command, compile, replay, check, Input, alone, and_run, word_of_way, word_of_task, spelled, file_of, run_of, limit_of, kinds_of, IsUnknown, Accepts, Refuses, RefusesRun, TakesRun, Allows, Means}
 use Rattle.sap_tool.specs.AcceptedFile.{compiled_theory}
 use Rattle.sap_tool.specs.Answers.{Answer, gives, tells, status_of, allowed, refused, run_refused, Asks, Fetched, IsAnswer, to_input, sampled, usage, unread, unread_run, IsPut, whole, broken, wanting, IsLast, complete, cut, write_fault_text, memory_text, Ended, answered, unanswered}
 use Rattle.sap_tool.specs.Promises as promised
-use Rattle.sap_tool.specs.RunPieces.{IsJoined, IsReadUp}
+use Rattle.sap_outside.specs.RunPieces.{IsJoined, IsReadUp}
 use Rattle.sap_tool.specs.RunRefusals.{IsIllegal, IsIllegalOfTheory, IsRunRefusedWith, no_run, illegal}
+use Rattle.sap_refusals.specs.RunFaultTexts.{run_refused_line}
 use Rattle.sap_tool.proofs.Legal as legal
-use Rattle.sap_tool.proofs.Legal.{IsLegal, converted_is_legal, judged_is_legal, never_illegal, never_illegal_of_theory}
+use Rattle.sap_tool.proofs.Legal.{seen_is_legal, never_illegal, never_illegal_of_theory}
+use Rattle.sap_tool.proofs.Takes.{allowed_takes, taken_accepts}
 use Rattle.sap_tool.proofs.Meant.{written_says}
-use Rattle.sap_tool.specs.Sample.{IsSample, sample_text}
+use Rattle.sap_sample.specs.Sample.{IsSample, sample_text}
 use Rattle.sap_tool.proofs.SampleWords.{no_command_is_sample, one_sample}
+use Rattle.sap_tool.proofs.OneRefusal.{one_run_cause}
 use Rattle.sap_tool.proofs.Parts.{OneRun, not_both, same_run, read_up_refused, refused_by_read_up, joined_part}
 use Rattle.sap_tool.proofs.Refused.{OneReading, Runnable, Keeping, Writing, file_kept, file_written, one_cause, one_theory, same_file, not_refused, part_refused, part_accepted, refused_by_part, accepted_by_part}
 use Rattle.sap_tool.proofs.TheoryRefused.{OneTheory, same_theory, one_theory_cause, theory_not_refused, theory_part_refused, theory_refused_by_part, theory_part_accepted, theory_accepted_by_part}
@@ -47,6 +51,9 @@ pub record Laws : Type 0 where
   pub one_run : OneRun
   pub theories : (z : List ℕ) (t : Theory) → IsTheoryRead z (Ok t) → IsRunnableTheory t
   pub legal : legal.Laws
+  pub one_illegal : (f : FileContent) (r : Run) (why other : List ℕ) → IsRunnable f → IsIllegal f r why → IsIllegal f r other → why ≡ other
+  pub one_illegal_of_theory : (t : Theory) (r : Run) (why other : List ℕ) → HoldsBuiltins t.signature → All (IsWellMade t.signature) t.rules → IsIllegalOfTheory t r why → IsIllegalOfTheory t r other
+      → why ≡ other
 
 -- what an allowed text means
 means : Laws → (k : Command) (input : Input) (text : List ℕ) → Allows k input text → Means k input text
@@ -97,25 +104,19 @@ run_accepts (check theory run) bytes z why r = (r.0, r.1)
 never : Laws → (k : Command) (input : Input) (text why : List ℕ) → Allows k input text → Refuses k (first_of input) why → ⊥
 never laws k input text why t r = accepted_never laws k (first_of input) why (allowed_accepts k input text t) r
 
--- a run of which something is written is legal
-written_is_legal : (task : Task) (f : FileContent) (r : Run) (text : List ℕ) → Writes task f r text → IsLegal f r
-written_is_legal ToRules f r text w = converted_is_legal f r text w
-written_is_legal ToProcess f r text w = converted_is_legal f r text w
-written_is_legal Judge f r text w = judged_is_legal f r text w
-
--- no run is both allowed and refused
-never_run : Laws → (k : Command) (bytes z text why : List ℕ) → Allows k (and_run bytes z) text → RefusesRun k bytes z why → ⊥
-never_run laws (compile way file) bytes z text why t r = absurd r
-never_run laws (replay task file run) bytes z text why t r =
+-- no run is both taken and refused
+never_taken : Laws → (k : Command) (bytes z why : List ℕ) → TakesRun k bytes z → RefusesRun k bytes z why → ⊥
+never_taken laws (compile way file) bytes z why t r = absurd r
+never_taken laws (replay task file run) bytes z why t r =
     at r.0 why (same_file laws.one bytes t.told r.0 t.file.read r.1.read) r.2
   where
     at : (f : FileContent) (w : List ℕ) → t.told ≡ f → IsRunRefusedWith (kinds_of task) (IsIllegal f) z w → ⊥
     at f _ same (no_run {e = e} a) = not_both laws.one_run (kinds_of task) z t.lines e t.read a
     at f w same (illegal {r = s} a bad) =
         let lines : t.lines ≡ s = same_run laws.one_run (kinds_of task) z t.lines s t.read a in
-        never_illegal laws.legal t.told (laws.runnable bytes t.told t.file.read) t.lines w (written_is_legal task t.told t.lines text t.written)
+        never_illegal laws.legal t.told (laws.runnable bytes t.told t.file.read) t.lines w (seen_is_legal t.told t.lines t.trace t.seen)
         (subst (λ (x : FileContent). IsIllegal x t.lines w) (sym same) (subst (λ (x : Run). IsIllegal f x w) (sym lines) bad))
-never_run laws (check theory run) bytes z text why t r =
+never_taken laws (check theory run) bytes z why t r =
     at r.0 why (same_theory laws.one_theory bytes t.theory r.0 t.file r.1) r.2
   where
     at : (u : Theory) (w : List ℕ) → t.theory ≡ u → IsRunRefusedWith Rules (IsIllegalOfTheory u) z w → ⊥
@@ -123,14 +124,31 @@ never_run laws (check theory run) bytes z text why t r =
     at u w same (illegal {r = s} a bad) =
         let lines : t.lines ≡ s = same_run laws.one_run Rules z t.lines s t.read a in
         let can = laws.theories bytes t.theory t.file.read in
-        never_illegal_of_theory laws.legal.rules t.theory can.builtins can.made t.lines text w t.written
+        never_illegal_of_theory laws.legal.rules t.theory can.builtins can.made t.lines t.full w t.shown
         (subst (λ (x : Theory). IsIllegalOfTheory x t.lines w) (sym same) (subst (λ (x : Run). IsIllegalOfTheory u x w) (sym lines) bad))
+
+-- so none is both allowed a text and refused
+never_run : Laws → (k : Command) (bytes z text why : List ℕ) → Allows k (and_run bytes z) text → RefusesRun k bytes z why → ⊥
+never_run laws k bytes z text why t r = never_taken laws k bytes z why (allowed_takes k bytes z text t) r
 
 -- and they are refused for one cause
 one_why : Laws → (k : Command) (bytes why other : List ℕ) → Refuses k bytes why → Refuses k bytes other → why ≡ other
 one_why laws (compile way file) bytes why other r s = one_cause laws.one bytes why other r s
 one_why laws (replay task file run) bytes why other r s = one_cause laws.one bytes why other r s
 one_why laws (check theory run) bytes why other r s = one_theory_cause laws.one_theory bytes why other r s
+
+-- so is a run
+one_run_why : Laws → (k : Command) (bytes z why other : List ℕ) → RefusesRun k bytes z why → RefusesRun k bytes z other → why ≡ other
+one_run_why laws (compile way file) bytes z why other r s = absurd r
+one_run_why laws (replay task file run) bytes z why other r s =
+    let same : s.0 ≡ r.0 = same_file laws.one bytes s.0 r.0 s.1.read r.1.read in
+    one_run_cause laws.one_run (kinds_of task) z (IsIllegal r.0) (λ x w v. laws.one_illegal r.0 x w v (laws.runnable bytes r.0 r.1.read)) why other r.2
+    (subst (λ (f : FileContent). IsRunRefusedWith (kinds_of task) (IsIllegal f) z other) same s.2)
+one_run_why laws (check theory run) bytes z why other r s =
+    let same : s.0 ≡ r.0 = same_theory laws.one_theory bytes s.0 r.0 s.1 r.1 in
+    let can = laws.theories bytes r.0 r.1.read in
+    one_run_cause laws.one_run Rules z (IsIllegalOfTheory r.0) (λ x w v. laws.one_illegal_of_theory r.0 x w v can.builtins can.made) why other r.2
+    (subst (λ (t : Theory). IsRunRefusedWith Rules (IsIllegalOfTheory t) z other) same s.2)
 
 -- a file has one theory in a way
 one_allowed : Laws → (way : Way) (file bytes text other : List ℕ) → Allows (compile way file) (alone bytes) text → Allows (compile way file) (alone bytes) other → text ≡ other
@@ -224,13 +242,10 @@ part_allows : (way : Way) (file bytes text : List ℕ) → Allows (compile way f
 part_allows way file bytes text t = record { told = t.told; file = part_accepted bytes t.told t.file; layout = t.layout }
 
 -- a run that is refused is refused by what was read of it, and of its file
-run_part_refused : (k : Command) (bytes z y why : List ℕ) → IsReadUp z y → RefusesRun k bytes z why
-    → ((other : List ℕ) × RefusesRun k (take (limit_of k + 1) bytes) y other)
+run_part_refused : (k : Command) (bytes z y why : List ℕ) → IsReadUp z y → RefusesRun k bytes z why → RefusesRun k (take (limit_of k + 1) bytes) y why
 run_part_refused (compile way file) bytes z y why up r = absurd r
-run_part_refused (replay task file run) bytes z y why up r =
-    let read = read_up_refused (kinds_of task) (IsIllegal r.0) z y why up r.2 in (read.0, (r.0, part_accepted bytes r.0 r.1, read.1))
-run_part_refused (check theory run) bytes z y why up r =
-    let read = read_up_refused Rules (IsIllegalOfTheory r.0) z y why up r.2 in (read.0, (r.0, theory_part_accepted bytes r.0 r.1, read.1))
+run_part_refused (replay task file run) bytes z y why up r = (r.0, part_accepted bytes r.0 r.1, read_up_refused (kinds_of task) (IsIllegal r.0) z y why up r.2)
+run_part_refused (check theory run) bytes z y why up r = (r.0, theory_part_accepted bytes r.0 r.1, read_up_refused Rules (IsIllegalOfTheory r.0) z y why up r.2)
 
 -- and the other way about
 run_refused_by_part : (k : Command) (bytes z y why : List ℕ) → IsReadUp z y → RefusesRun k (take (limit_of k + 1) bytes) y why
@@ -420,7 +435,7 @@ module _ (laws : Laws) (c : Call) where
           (subst (λ (name : List ℕ). IsJoined c.holds name y) (one_name (run_of k) joined.0 run same is_run) joined.2)
 
       must_refuse_run : (s : ℕ) → Ended (IsAnswer c) c.out c.err s → (why : List ℕ) → RefusesRun k bytes z why
-          → (s ≡ 2) ⊎ ((s ≡ 4) × promised.FailedOnNamed c k) ⊎ ((s ≡ 5) × Failed c.err) ⊎ (s ≡ 6)
+          → ((s ≡ 2) × Gained c.err 1 (run_refused_line why)) ⊎ ((s ≡ 4) × promised.FailedOnNamed c k) ⊎ ((s ≡ 5) × Failed c.err) ⊎ (s ≡ 6)
       must_refuse_run s (answered _ (to_input l (alone x) asks fetched (allowed {text = text} t)) put) why r =
           absurd (no_text_alone k part z text why (allows_of l x text asks fetched.0 t) (run_part_alone why r))
         where
@@ -431,12 +446,16 @@ module _ (laws : Laws) (c : Call) where
             part_of (replay task file name) o = (o.0, part_accepted bytes o.0 o.1, o.2)
             part_of (check theory name) o = (o.0, theory_part_accepted bytes o.0 o.1, o.2)
       must_refuse_run s (answered _ (to_input l (and_run x y) asks fetched (allowed {text = text} t)) put) why r =
-          let other = run_part_refused k bytes z y why (read_up_of l y asks fetched.1) r in
-          absurd (never_run laws k part y text other.0 (allows_run_of l x y text asks fetched.0 t) other.1)
+          absurd (never_run laws k part y text why (allows_run_of l x y text asks fetched.0 t) (run_part_refused k bytes z y why (read_up_of l y asks fetched.1) r))
       must_refuse_run s (answered _ (to_input l (alone x) asks fetched (refused other o)) put) why r =
           absurd (accepted_never laws k part other (part_is_accepted k bytes (run_accepts k bytes z why r)) (refuses_of l x other asks fetched.0 o))
       must_refuse_run s (answered _ (to_input l (and_run x y) asks fetched (run_refused other o)) put) why r =
-          elim (told_ends s 2 _ put) [ inl h ↦ inl h.0 | inr h ↦ inr (inr h) ]
+          let here = run_part_refused k bytes z y why (read_up_of l y asks fetched.1) r in
+          let same : other ≡ why = one_run_why laws k part y other why (refuses_run_of l x y other asks fetched.0 o) here in
+          elim (told_ends s 2 (run_refused_line other) put) [
+            | inl h ↦ inl (h.0, subst (λ (w : List ℕ). Gained c.err 1 (run_refused_line w)) same h.1)
+            | inr h ↦ inr (inr h)
+          ]
       must_refuse_run s (answered _ (sampled n asks none) put) why r = absurd (no_command_is_sample c.words k n asked asks)
       must_refuse_run s (answered _ (usage u n) put) why r = absurd (u.no_command k asked)
       must_refuse_run s (answered _ (unread l asks f n) put) why r =
@@ -477,6 +496,14 @@ module _ (laws : Laws) (c : Call) where
       let back = run_refused_by_part k bytes z y why up (refuses_run_of k bytes asked held.0 l x y why asks fetched.0 r) in
       unrefused back.0 (inr back.1))
       sound open_out s o
+
+  -- what is taken, no cause refuses
+  must_take : (s : ℕ) → Ended (IsAnswer c) c.out c.err s → (k : Command) (bytes z : List ℕ) → Asks c k → promised.HoldsInput c k (and_run bytes z) → TakesRun k bytes z
+      → (promised.FailedOnNamed c k → ⊥) → (Failed c.out → ⊥) → (s ≡ 0) ⊎ (s ≡ 6)
+  must_take s o k bytes z asked held takes sound open_out = must_answer_all s o k (and_run bytes z) asked held unrefused sound open_out where
+    unrefused : (why : List ℕ) → promised.RefusesInput k (and_run bytes z) why → ⊥
+    unrefused why (inl r) = accepted_never laws k bytes why (taken_accepts k bytes z takes) r
+    unrefused why (inr r) = never_taken laws k bytes z why takes r
 
   given_text : (s : ℕ) (text other : List ℕ) → other ≡ text → (Failed c.out → ⊥) → IsPut (gives other) c.out c.err s → ((s ≡ 0) × Gained c.out (pieces text) text) ⊎ (s ≡ 6)
   given_text s text other same open_out (whole e w) = inl (e, subst (λ (y : List ℕ). Gained c.out (pieces y) y) same w.0)
@@ -530,6 +557,7 @@ kept laws c s o = record {
   must_refuse = λ k bytes why asked held r. must_refuse laws c k bytes asked held s o why r;
   must_refuse_run = λ k bytes z why asked held r. must_refuse_run laws c k bytes asked held.0 held.1.0 z held.1.1 held.1.2 s o why r;
   must_answer = λ k input asked held unrefused sound open_out. must_answer_all laws c s o k input asked held unrefused sound open_out;
+  must_take = λ k bytes z asked held takes sound open_out. must_take laws c s o k bytes z asked held takes sound open_out;
   must_give = λ way file bytes text asked held t sound open_out. must_give laws c way file bytes asked held s o text t sound open_out;
   must_tell_sample = λ n asked open_out. must_tell_sample laws c n asked s o open_out;
 }

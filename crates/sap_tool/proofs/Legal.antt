@@ -1,4 +1,4 @@
--- A run of which something is written has no line that is illegal.
+-- A run that is legal has no line that is illegal.
 use Rattle.std.proofs.Common.{◌≡◌, ◌<◌, ◌^◌, ℕ, List, Some, arith}
 use Rattle.std.specs.Prelude.{All}
 use Rattle.sap_terms.specs.Equations.{pair_name}
@@ -22,7 +22,7 @@ use Rattle.sap_runs.specs.declared.rule_step.RStep.{RStep}
 use Rattle.sap_lines.specs.Runs.{IsLegalProcessRun}
 use Rattle.sap_translate.specs.Templates.{rules_of}
 use Rattle.sap_back.specs.Converted as back
-use Rattle.sap_tool.specs.Replays.{IsConvertedText, to_rules, to_process, IsSeen, of_process, of_rules, IsJudgedText, IsFullOf, of_theory, IsCheckedText}
+use Rattle.sap_tool.specs.Replays.{IsSeen, of_process, of_rules, IsFullOf, of_theory}
 use Rattle.sap_tool.specs.RunRefusals as refused
 use Rattle.sap_tool.specs.RunRefusals.{IsIllegal, IsIllegalOfTheory}
 use Rattle.sap_tool.proofs.ProcessRuns as process
@@ -34,16 +34,9 @@ pub data IsLegal (f : FileContent) : Run → Type 0 where
       → IsLegal f (run.Process lines)
   some_rules : {lines : List RStep} {s : RuleState} {full : Trace} → back.IsCounted f.signature f.process lines s full → IsLegal f (run.Rules lines)
 
-pub converted_is_legal : (f : FileContent) (r : Run) (text : List ℕ) → IsConvertedText f r text → IsLegal f r
-converted_is_legal f _ _ (to_rules rule_lines c) = a_process c.legal
-converted_is_legal f _ _ (to_process lines c) = some_rules c.counted
-
-seen_is_legal : (f : FileContent) (r : Run) (tr : Trace) → IsSeen f r tr → IsLegal f r
+pub seen_is_legal : (f : FileContent) (r : Run) (tr : Trace) → IsSeen f r tr → IsLegal f r
 seen_is_legal f _ tr (of_process shown) = a_process shown.legal
 seen_is_legal f _ _ (of_rules s full counted) = some_rules counted
-
-pub judged_is_legal : (f : FileContent) (r : Run) (text : List ℕ) → IsJudgedText f r text → IsLegal f r
-judged_is_legal f r text j = seen_is_legal f r j.trace j.seen
 
 -- the laws of lines and of rules of files
 pub record Laws : Type 0 where
@@ -73,9 +66,7 @@ module _ (laws : Laws) (f : FileContent) (runnable : IsRunnable f) where
       counted.legal (counted.admitted which) first.cut first.counted.legal first.possible first.broken.this
 
 -- so it is with runs of a theory's rules
-pub never_illegal_of_theory : rules.Laws → (t : Theory) → HoldsBuiltins t.signature → All (IsWellMade t.signature) t.rules → (r : Run) (text why : List ℕ) → IsCheckedText t r text
+pub never_illegal_of_theory : rules.Laws → (t : Theory) → HoldsBuiltins t.signature → All (IsWellMade t.signature) t.rules → (r : Run) (full : Trace) (why : List ℕ) → IsFullOf t r full
     → IsIllegalOfTheory t r why → ⊥
-never_illegal_of_theory laws t hold made r text why j illegal = at r j.full why j.shown illegal where
-  at : (r : Run) (full : Trace) (why : List ℕ) → IsFullOf t r full → IsIllegalOfTheory t r why → ⊥
-  at _ full _ (of_theory s legal) (refused.of_theory number e first) =
-      rules.never_refused laws t.signature t.rules hold made first.before first.after first.line first.state first.full e legal first.cut first.legal first.refused first.cause
+never_illegal_of_theory laws t hold made _ full _ (of_theory s legal) (refused.of_theory number e first) =
+    rules.never_refused laws t.signature t.rules hold made first.before first.after first.line first.state first.full e legal first.cut first.legal first.refused first.cause

@@ -1,5 +1,5 @@
 -- Bytes of a run that were read up, and the whole run.
-use Rattle.std.proofs.Common.{◌≡◌, ◌≤◌, ◌<◌, ℕ, zero, suc, List, ◌++◌, length, Option, Some, None, Result, Ok, Err, inl, inr, ◌⊎◌, sym, ap, subst, ◌∙◌, arith}
+use Rattle.std.proofs.Common.{◌≡◌, ◌≤◌, ◌<◌, ℕ, zero, suc, List, ◌++◌, length, Option, Some, None, Result, Ok, Err, inl, inr, ◌⊎◌, refl, sym, ap, subst, ◌∙◌, arith}
 use Rattle.std.specs.Prelude.{IsSomeAnd}
 use Rattle.std.specs.FinMap as files
 use Rattle.std.proofs.lemmas.Grind.{common_steps}
@@ -9,10 +9,12 @@ use Rattle.sap_run_texts.specs.declared.run.Kinds.{Kinds}
 use Rattle.sap_run_texts.specs.declared.run.Run.{Run}
 use Rattle.sap_run_texts.specs.declared.run_fault.RunFault.{RunFault}
 use Rattle.sap_tool.specs.Call.{Holds}
-use Rattle.sap_tool.specs.Outside.{Files}
-use Rattle.sap_tool.specs.RunPieces.{most_run_bytes, IsReadUp, IsJoined, IsRunAnswer, is_run, too_long, bad_head, bad_line, too_many_of_process, too_many_of_rules}
-use Rattle.sap_tool.specs.RunRefusals.{IsRunRefusedWith, no_run}
-use Rattle.sap_tool.specs.declared.run_refusal.RunRefusal.{RunRefusal}
+use Rattle.sap_outside.specs.Outside.{Files}
+use Rattle.sap_outside.specs.RunPieces.{most_run_bytes, IsReadUp, IsJoined, IsRunAnswer, is_run, too_long, bad_head, bad_line, too_many_of_process, too_many_of_rules}
+use Rattle.sap_refusals.specs.RunFaultTexts.{run_refusal_text}
+use Rattle.sap_tool.specs.RunRefusals.{IsRunRefusedWith, no_run, illegal}
+use Rattle.sap_outside.specs.declared.run_refusal.RunRefusal.{RunRefusal}
+use Rattle.sap_outside.specs.declared.run_refusal.RunRefusal.TheVariants as refusal
 
 -- bytes are read as one run, or refused for one cause
 abbrev pub OneRun : Type 0
@@ -46,12 +48,22 @@ all_read z y up short = up.part ∙ ap (λ (x : List ℕ). y ++ x) (up.whole sho
 longer : (y left : List ℕ) (most : ℕ) → most < length y → most < length (y ++ left)
 longer y left most h = grind (arith, common_steps)
 
+-- that they are too many is why too many bytes are refused
+refused_as_long : (k : Kinds) (Is : Run → List ℕ → Type 0) (z why : List ℕ) → most_run_bytes < length z → IsRunRefusedWith k Is z why → why ≡ run_refusal_text refusal.TooLong
+refused_as_long k Is z _ long (no_run (too_long l)) = refl
+refused_as_long k Is z _ long (no_run (bad_head l r)) = absurd (omega (arith, long, l))
+refused_as_long k Is z _ long (no_run (bad_line l r)) = absurd (omega (arith, long, l))
+refused_as_long k Is z _ long (no_run (too_many_of_process l h r)) = absurd (omega (arith, long, l))
+refused_as_long k Is z _ long (no_run (too_many_of_rules l h r)) = absurd (omega (arith, long, l))
+refused_as_long k Is z _ long (illegal (is_run l r) bad) = absurd (omega (arith, long, l))
+
 -- what refuses a run refuses the bytes of it that were read up
-pub read_up_refused : (k : Kinds) (Is : Run → List ℕ → Type 0) (z y why : List ℕ) → IsReadUp z y → IsRunRefusedWith k Is z why
-    → ((other : List ℕ) × IsRunRefusedWith k Is y other)
+pub read_up_refused : (k : Kinds) (Is : Run → List ℕ → Type 0) (z y why : List ℕ) → IsReadUp z y → IsRunRefusedWith k Is z why → IsRunRefusedWith k Is y why
 read_up_refused k Is z y why up r = elim (short_or_long (length y) most_run_bytes) [
-  | inl short ↦ (why, subst (λ (x : List ℕ). IsRunRefusedWith k Is x why) (all_read z y up short) r)
-  | inr long ↦ (_, no_run (too_long long))
+  | inl short ↦ subst (λ (x : List ℕ). IsRunRefusedWith k Is x why) (all_read z y up short) r
+  | inr long ↦
+      let more = subst (λ (x : List ℕ). most_run_bytes < length x) (sym up.part) (longer y up.left most_run_bytes long) in
+      subst (λ (w : List ℕ). IsRunRefusedWith k Is y w) (sym (refused_as_long k Is z why more r)) (no_run (too_long long))
 ]
 
 -- and the other way about

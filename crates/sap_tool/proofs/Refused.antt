@@ -6,9 +6,9 @@ use Rattle.sap_read.specs.Files.{FileContent, IsRead, IsRunnable}
 use Rattle.sap_read.specs.declared.fault.ReadFault.{ReadFault}
 use Rattle.sap_tool.specs.declared.way.Way.{Way}
 use Rattle.sap_tool.specs.declared.way.Way.TheVariants.{Plain, Inlined}
-use Rattle.sap_tool.specs.AcceptedFile.{most_bytes, IsAcceptedFile, compiled_text, compiled_theory, IsTheoryOf}
+use Rattle.sap_tool.specs.AcceptedFile.{most_bytes, IsAcceptedFile, IsRefusedWith, too_long, unread, compiled_text, compiled_theory, IsTheoryOf}
 use Rattle.sap_tool.specs.Meaning.{Keeps, IsWritten}
-use Rattle.sap_tool.specs.Refusals.{IsRefusedWith, too_long, unread, fault_text}
+use Rattle.sap_refusals.specs.Refusals.{fault_text}
 
 -- bytes are read as one file, or refused for one cause
 abbrev pub OneReading : Type 0

@@ -1,11 +1,9 @@
 -- The words that ask for a sample.
-use Rattle.std.proofs.Common.{◌≡◌, ◌≢◌, ◌≤◌, ◌<◌, ◌^◌, ℕ, List, Option, Some, None, Result, Ok, Err, sym, ap, subst, ◌∙◌, arith, decimal}
-use Rattle.std.specs.Prelude.{IfOk, MatchOption}
-use Rattle.std.specs.Str.Parse.{ParsesUnsigned}
-use Rattle.std.proofs.lemmas.Fmt.{parse-decimal, decimal_injective}
+use Rattle.std.proofs.Common.{◌≡◌, ◌≢◌, ℕ, List, sym, subst, ◌∙◌, arith, decimal}
+use Rattle.std.proofs.lemmas.Fmt.{decimal_injective}
 use Rattle.sap_tool.specs.Call.{Call}
 use Rattle.sap_tool.specs.Commands.{Command, compile, replay, check, spelled}
-use Rattle.sap_tool.specs.Sample.{IsSample, most_sessions, sample_words}
+use Rattle.sap_sample.specs.Sample.{IsSample, sample_words}
 use Rattle.sap_tool.specs.Answers.{gives, IsAnswer, sampled, usage}
 use Rattle.sap_tool.specs.code.Endings.{Ends}
 use Rattle.sap_tool.specs.code.Sampled.{EndsSample}
@@ -14,19 +12,6 @@ use Rattle.sap_tool.specs.declared.ending.Ending.TheVariants as ending
 use Rattle.sap_tool.specs.declared.task.Task.{Task}
 use Rattle.sap_tool.specs.declared.way.Way.{Way}
 use Rattle.sap_tool.specs.declared.way.Way.TheVariants.{Plain, Inlined}
-
--- a word that asks for so many sessions is read as that number
-pub read_sessions : {E : Type 0} (word : List ℕ) (r : Result ℕ E) (m : ℕ) → ParsesUnsigned 64 10 word r → m ≤ most_sessions → word ≡ decimal m → r ≡ Ok m
-read_sessions word r m parses most is =
-    let small : m < 2 ^ 64 = omega (arith, most) in parse-decimal 64 m word r small small is parses
-
--- it asks for no other number, so the one that it is read as is right where the word is that in decimal
-pub sessions_spelled : {E : Type 0} (r : Result (Option ℕ) E) (word : List ℕ) (n : ℕ) → 1 ≤ n → n ≤ most_sessions → ((m : ℕ) → m ≤ most_sessions → word ≡ decimal m → n ≡ m)
-    → IfOk r (λ found. MatchOption found (word ≢ decimal n) (λ m. (m ≡ n) × (word ≡ decimal n)))
-    → IfOk r (λ found. MatchOption found ((m : ℕ) → 1 ≤ m → m ≤ most_sessions → word ≢ decimal m) (λ m. (1 ≤ m) × (m ≤ most_sessions) × (word ≡ decimal m)))
-sessions_spelled (Err e) word n some most only h = h
-sessions_spelled (Ok None) word n some most only h = λ m more less is. h (is ∙ ap decimal (sym (only m less is)))
-sessions_spelled (Ok (Some m)) word n some most only h = (omega (arith, h.0, some), omega (arith, h.0, most), h.1 ∙ ap decimal (sym h.0))
 
 -- words that ask for a sample ask for one of so many sessions
 pub one_sample : (words : List (List ℕ)) (m n : ℕ) → IsSample words m → IsSample words n → m ≡ n

@@ -16,15 +16,15 @@ use Rattle.sap_run_texts.specs.declared.run.Kinds.TheVariants as kinds
 use Rattle.sap_run_texts.specs.declared.run.Run.{Run}
 use Rattle.sap_run_texts.specs.declared.run.Run.TheVariants as run
 use Rattle.sap_run_texts.specs.declared.run_fault.RunFault.{RunFault}
-use Rattle.sap_tool.specs.RunPieces.{IsRunAnswer, is_run}
+use Rattle.sap_outside.specs.RunPieces.{IsRunAnswer, is_run}
 use Rattle.sap_tool.specs.declared.checking.Stop.{Stop}
 use Rattle.sap_tool.specs.declared.checking.Stop.TheVariants as stop
-use Rattle.sap_tool.specs.declared.run_refusal.RunRefusal.{RunRefusal}
+use Rattle.sap_outside.specs.declared.run_refusal.RunRefusal.{RunRefusal}
 use Rattle.sap_runs.specs.declared.process_step.PStep.{PStep}
 use Rattle.sap_runs.specs.declared.rule_step.RStep.{RStep}
 use Rattle.sap_steps.specs.declared.fault.RFault.{RFault}
-use Rattle.sap_tool.specs.RunFaultTexts.{at_step, process_fault_text, rule_fault_text, broken_text}
-use Rattle.sap_tool.specs.RunRefusals.{IsIllegal, IsIllegalOfTheory, of_process, of_rules, breaks, of_theory, no_run, illegal, run_refusal_text, run_refused_line}
+use Rattle.sap_refusals.specs.RunFaultTexts.{at_step, process_fault_text, rule_fault_text, broken_text, run_refusal_text, run_refused_line}
+use Rattle.sap_tool.specs.RunRefusals.{IsIllegal, IsIllegalOfTheory, of_process, of_rules, breaks, of_theory, no_run, illegal}
 use Rattle.sap_tool.specs.code.Checked.{IsStopped}
 use Rattle.sap_tool.specs.code.Refused.{IsAtLine, IsBackAtLine, IsCheckLine, IsLineOf, IsRunRefusal}
 

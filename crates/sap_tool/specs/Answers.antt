@@ -1,13 +1,14 @@
 -- What there is to say of a call, and how that is put.
 use Rattle.std.specs.Prelude.{◌≡◌, ◌+◌, ℕ, codes, List, [], ◌++◌, take, Some}
-use Rattle.sap_tool.specs.Outside.{IsFetched, more, one_more}
-use Rattle.sap_tool.specs.Call.{Call, Stream, Gained, Failed, Wanted, CutShort, CutTwice, FailedOn}
+use Rattle.sap_outside.specs.Outside.{IsFetched, more, one_more}
+use Rattle.sap_outside.specs.Stream.{Stream, Gained, Failed, Wanted, CutShort, CutTwice}
+use Rattle.sap_tool.specs.Call.{Call, FailedOn}
 use Rattle.sap_tool.specs.Commands.{Command, Input, alone, and_run, spelled, file_of, run_of, limit_of, IsUnknown, Accepts, Refuses, RefusesRun, Allows}
-use Rattle.sap_tool.specs.Pieces.{pieces, GainedPart}
-use Rattle.sap_tool.specs.Refusals.{refused_line}
-use Rattle.sap_tool.specs.RunPieces.{IsJoined}
-use Rattle.sap_tool.specs.RunRefusals.{run_refused_line}
-use Rattle.sap_tool.specs.Sample.{IsSample, sample_text}
+use Rattle.sap_outside.specs.Pieces.{pieces, GainedPart}
+use Rattle.sap_refusals.specs.Refusals.{refused_line}
+use Rattle.sap_outside.specs.RunPieces.{IsJoined}
+use Rattle.sap_refusals.specs.RunFaultTexts.{run_refused_line}
+use Rattle.sap_sample.specs.Sample.{IsSample, sample_text}
 
 -- a text for out, which is status 0, or a status and a text for err
 pub data Answer : Type 0 where

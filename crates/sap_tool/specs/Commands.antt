@@ -9,14 +9,12 @@ use Rattle.sap_tool.specs.declared.task.Task.{Task}
 use Rattle.sap_tool.specs.declared.task.Task.TheVariants.{ToRules, ToProcess, Judge}
 use Rattle.sap_tool.specs.declared.way.Way.{Way}
 use Rattle.sap_tool.specs.declared.way.Way.TheVariants.{Plain, Inlined}
-use Rattle.sap_tool.specs.AcceptedFile.{most_bytes, IsAcceptedFile, IsTheoryOf}
-use Rattle.sap_tool.specs.AcceptedTheory.{most_theory_bytes, IsAcceptedTheory}
+use Rattle.sap_tool.specs.AcceptedFile.{most_bytes, IsAcceptedFile, IsRefusedWith, IsTheoryOf}
+use Rattle.sap_tool.specs.AcceptedTheory.{most_theory_bytes, IsAcceptedTheory, IsTheoryRefusedWith}
 use Rattle.sap_tool.specs.Meaning.{IsFaithfulText}
-use Rattle.sap_tool.specs.Refusals.{IsRefusedWith}
-use Rattle.sap_tool.specs.Replays.{IsReplayed, IsChecked, IsConvertedText, IsJudgedText, IsOppositeText}
+use Rattle.sap_tool.specs.Replays.{IsReplayed, IsChecked, IsConvertedText, IsJudgedText, IsOppositeText, IsTaken, IsTakenOfTheory}
 use Rattle.sap_tool.specs.RunRefusals.{IsIllegal, IsIllegalOfTheory, IsRunRefusedWith}
-use Rattle.sap_tool.specs.Sample.{IsSample}
-use Rattle.sap_tool.specs.TheoryRefusals.{IsTheoryRefusedWith}
+use Rattle.sap_sample.specs.Sample.{IsSample}
 
 -- what words may ask for, aside from a sample, which reads nothing
 pub data Command : Type 0 where
@@ -96,6 +94,12 @@ RefusesRun (compile way file) bytes z why = ⊥
 RefusesRun (replay task file run) bytes z why =
     (told : FileContent) × IsAcceptedFile bytes told × IsRunRefusedWith (kinds_of task) (IsIllegal told) z why
 RefusesRun (check theory run) bytes z why = (t : Theory) × IsAcceptedTheory bytes t × IsRunRefusedWith Rules (IsIllegalOfTheory t) z why
+
+-- it takes the run of those bytes: it accepts the file or theory of these, and the run is legal
+abbrev pub TakesRun : Command → List ℕ → List ℕ → Type 0
+TakesRun (compile way file) bytes z = ⊥
+TakesRun (replay task file run) bytes z = IsTaken (kinds_of task) bytes z
+TakesRun (check theory run) bytes z = IsTakenOfTheory bytes z
 
 -- the text that a task writes of a run of the file
 abbrev pub Writes : Task → FileContent → Run → List ℕ → Type 0

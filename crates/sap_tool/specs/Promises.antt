@@ -1,11 +1,13 @@
 -- What the program promises of each call.
 use Rattle.std.specs.Prelude.{◌≡◌, ◌⊎◌, ℕ, List, [], ◌∷◌, Contains, Some, None}
-use Rattle.sap_tool.specs.Call.{Call, Gained, Failed, FailedOn, CutShort, Holds}
-use Rattle.sap_tool.specs.Commands.{Command, Input, alone, and_run, compile, file_of, run_of, IsUnknown, Refuses, RefusesRun, Allows, Means}
+use Rattle.sap_outside.specs.Stream.{Gained, Failed, CutShort}
+use Rattle.sap_tool.specs.Call.{Call, FailedOn, Holds}
+use Rattle.sap_tool.specs.Commands.{Command, Input, alone, and_run, compile, file_of, run_of, IsUnknown, Refuses, RefusesRun, TakesRun, Allows, Means}
 use Rattle.sap_tool.specs.Answers.{Answer, tells, IsAnswer, Asks, Fetched, Part, Broken, Starved, CutLast, IsLast, write_fault_text, memory_text}
-use Rattle.sap_tool.specs.Pieces.{pieces}
-use Rattle.sap_tool.specs.Refusals.{refused_line}
-use Rattle.sap_tool.specs.Sample.{IsSample, sample_text}
+use Rattle.sap_outside.specs.Pieces.{pieces}
+use Rattle.sap_refusals.specs.Refusals.{refused_line}
+use Rattle.sap_refusals.specs.RunFaultTexts.{run_refused_line}
+use Rattle.sap_sample.specs.Sample.{IsSample, sample_text}
 use Rattle.sap_tool.specs.declared.way.Way.{Way}
 
 -- the shelf tells that it holds what the command reads
@@ -87,9 +89,12 @@ pub record Promises (c : Call) (status : ℕ) : Type 0 where
       → ((status ≡ 1) × Gained c.err 1 (refused_line why)) ⊎ ((status ≡ 4) × FailedOn c (file_of k)) ⊎ ((status ≡ 5) × Failed c.err) ⊎ (status ≡ 6)
   -- for a run that a cause refuses, of a file that is accepted
   pub must_refuse_run : (k : Command) (bytes z why : List ℕ) → Asks c k → HoldsInput c k (and_run bytes z) → RefusesRun k bytes z why
-      → (status ≡ 2) ⊎ ((status ≡ 4) × FailedOnNamed c k) ⊎ ((status ≡ 5) × Failed c.err) ⊎ (status ≡ 6)
+      → ((status ≡ 2) × Gained c.err 1 (run_refused_line why)) ⊎ ((status ≡ 4) × FailedOnNamed c k) ⊎ ((status ≡ 5) × Failed c.err) ⊎ (status ≡ 6)
   -- for a file, and a run, that no cause refuses
   pub must_answer : (k : Command) (input : Input) → Asks c k → HoldsInput c k input → ((why : List ℕ) → RefusesInput k input why → ⊥)
+      → (FailedOnNamed c k → ⊥) → (Failed c.out → ⊥) → (status ≡ 0) ⊎ (status ≡ 6)
+  -- for a run that is legal, of a file that is accepted
+  pub must_take : (k : Command) (bytes z : List ℕ) → Asks c k → HoldsInput c k (and_run bytes z) → TakesRun k bytes z
       → (FailedOnNamed c k → ⊥) → (Failed c.out → ⊥) → (status ≡ 0) ⊎ (status ≡ 6)
   -- for a file with a theory: it is its text
   pub must_give : (way : Way) (file bytes text : List ℕ) → Asks c (compile way file) → Holds c.holds file bytes → Allows (compile way file) (alone bytes) text

@@ -24,7 +24,7 @@ use Rattle.sap_terms.specs.Trace.{Trace}
 use Rattle.sap_terms.specs.Tree.{Tree}
 use Rattle.sap_tool.specs.AcceptedFile.{IsAcceptedFile, compiled_theory}
 use Rattle.sap_tool.specs.AcceptedTheory.{IsAcceptedTheory}
-use Rattle.sap_tool.specs.RunPieces.{IsRunAnswer}
+use Rattle.sap_outside.specs.RunPieces.{IsRunAnswer}
 use Rattle.sap_tool.specs.Verdicts.{all_judged, AreVerdicts}
 use Rattle.sap_tool.specs.declared.way.Way.TheVariants.{Plain}
 
@@ -72,6 +72,25 @@ pub record IsChecked (bytes z text : List ℕ) : Type 0 where
   pub lines : Run
   pub read : IsRunAnswer Rules z (Ok lines)
   pub written : IsCheckedText theory lines text
+
+-- the bytes are an accepted file, and those of the run a run of a kind that is asked for, which is legal within the limit; of rules, its
+-- full trace counts
+pub record IsTaken (kinds : Kinds) (bytes z : List ℕ) : Type 0 where
+  pub told : FileContent
+  pub file : IsAcceptedFile bytes told
+  pub lines : Run
+  pub read : IsRunAnswer kinds z (Ok lines)
+  pub trace : Trace
+  pub seen : IsSeen told lines trace
+
+-- the bytes are an accepted theory, and those of the run a run of its rules, which is legal within the limit
+pub record IsTakenOfTheory (bytes z : List ℕ) : Type 0 where
+  pub theory : Theory
+  pub file : IsAcceptedTheory bytes theory
+  pub lines : Run
+  pub read : IsRunAnswer Rules z (Ok lines)
+  pub full : Trace
+  pub shown : IsFullOf theory lines full
 
 -- A run of the file's process and one of the rules of its theory are both legal within the limit on terms, and the full trace of the
 -- second counts. What the first shows is what is seen of the second, they have the same marks, which are the same inner actions and

@@ -1,5 +1,5 @@
--- Why a run is refused, in words.
-use Rattle.std.specs.Prelude.{◌≡◌, ◌+◌, ℕ, codes, decimal, List, ◌∷◌, ◌++◌, length, Ok, Err}
+-- Why a run is refused.
+use Rattle.std.specs.Prelude.{◌≡◌, ◌+◌, ℕ, List, ◌∷◌, ◌++◌, length, Ok, Err}
 use Rattle.sap_back.specs.Converted as back
 use Rattle.sap_forward.specs.Converted as forward
 use Rattle.sap_lines.specs.declared.fault.PFault.{PFault}
@@ -18,18 +18,9 @@ use Rattle.sap_steps.specs.Runs.{IsLegalRun}
 use Rattle.sap_steps.specs.declared.fault.RFault.{RFault}
 use Rattle.sap_steps.specs.declared.fault.RFault.TheVariants.{Mem}
 use Rattle.sap_terms.specs.Trace.{Trace}
-use Rattle.sap_tool.specs.declared.run_refusal.RunRefusal.{RunRefusal}
-use Rattle.sap_tool.specs.declared.run_refusal.RunRefusal.TheVariants as refusal
-use Rattle.sap_tool.specs.Refusals.{between}
-use Rattle.sap_tool.specs.RunFaultTexts.{at_step, process_fault_text, rule_fault_text, broken_text}
-use Rattle.sap_tool.specs.RunPieces.{IsRunAnswer}
-
--- why bytes are no run, in words
-abbrev pub run_refusal_text : RunRefusal → List ℕ
-run_refusal_text refusal.TooLong = codes "longer than 16777216 bytes"
-run_refusal_text refusal.BadHead = codes "wrong head"
-run_refusal_text (refusal.BadLine line) = between (codes "line ") (decimal line) (codes " is not a step")
-run_refusal_text (refusal.TooManySteps most) = between (codes "more than ") (decimal most) (codes " steps")
+use Rattle.sap_outside.specs.declared.run_refusal.RunRefusal.{RunRefusal}
+use Rattle.sap_refusals.specs.RunFaultTexts.{at_step, process_fault_text, rule_fault_text, broken_text, run_refusal_text}
+use Rattle.sap_outside.specs.RunPieces.{IsRunAnswer}
 
 -- Of the lines of a run of the file this is the first that is illegal, for this cause: of a run of its process, one that is refused; of
 -- one of its rules, one that is refused, or behind which one of the seven restrictions is false.
@@ -64,7 +55,3 @@ pub data IsIllegalOfTheory (t : Theory) : Run → List ℕ → Type 0 where
 pub data IsRunRefusedWith (kinds : Kinds) (Is : Run → List ℕ → Type 0) (bytes : List ℕ) : List ℕ → Type 0 where
   no_run : {e : RunRefusal} → IsRunAnswer kinds bytes (Err e) → IsRunRefusedWith kinds Is bytes (run_refusal_text e)
   illegal : {r : Run} {why : List ℕ} → IsRunAnswer kinds bytes (Ok r) → Is r why → IsRunRefusedWith kinds Is bytes why
-
--- the line that says why
-abbrev pub run_refused_line : List ℕ → List ℕ
-run_refused_line why = codes "run refused: " ++ (why ++ codes "\n")

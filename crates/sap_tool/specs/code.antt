@@ -3,6 +3,4 @@ pub mod Endings
 pub mod Checked
 pub mod Refused
 pub mod Verdicts
-pub mod PutUpTo
-pub mod RunFed
 pub mod Sampled

@@ -4,17 +4,16 @@ ghost use Rattle.std.specs.Prelude.{◌≡◌, ℕ, List, Ok, IfOk, IfErr, IsErr
 ghost use Rattle.sap_run_texts.specs.declared.run.Kinds.TheVariants as kinds;
 ghost use Rattle.sap_run_texts.specs.declared.run.Run.{Run as AnyRun};
 ghost use Rattle.sap_run_texts.specs.declared.run.Run.TheVariants as runs;
-ghost use Rattle.sap_tool.specs.declared.refusal.Refusal.TheVariants as refusals;
+ghost use Rattle.sap_refusals.specs.declared.refusal.Refusal.TheVariants as refusals;
 ghost use Rattle.sap_tool.specs.Replays.{IsCheckedText};
-ghost use Rattle.sap_tool.specs.RunPieces.{IsRunAnswer};
+ghost use Rattle.sap_outside.specs.RunPieces.{IsRunAnswer};
 ghost use Rattle.sap_tool.specs.RunRefusals.{IsIllegalOfTheory};
 ghost use Rattle.sap_tool.specs.code.Checked.{Advances, IsCheckable, IsLegalTrace, IsRefusedAt, IsStopFor, IsStopped};
 ghost use Rattle.sap_tool.specs.code.Refused.{IsCheckLine, IsLineOf, IsRunRefusal};
 
-use crate::refusal::{Refusal, told};
-use crate::run_fault_text::{no_run_line, rule_line};
-use crate::run_refusal::RunRefusal;
 use crate::verdicts::verdicts;
+use sap_outside::RunRefusal;
+use sap_refusals::{Refusal, no_run_line, rule_line, told};
 use sap_rule::Theory;
 use sap_run_texts::Run;
 use sap_runs::{RStep, RSteps};

@@ -2,15 +2,14 @@
 
 ghost use Rattle.std.specs.Prelude.{◌≡◌, ℕ, List, IfOk, IsErrOf};
 ghost use Rattle.sap_read.specs.Files.{told_by};
-ghost use Rattle.sap_tool.specs.declared.refusal.Refusal.TheVariants as refusals;
-ghost use Rattle.sap_tool.specs.AcceptedFile.{compiled_theory, compiled_text, IsTheoryOf};
-ghost use Rattle.sap_tool.specs.Refusals.{IsRefusal};
+ghost use Rattle.sap_refusals.specs.declared.refusal.Refusal.TheVariants as refusals;
+ghost use Rattle.sap_tool.specs.AcceptedFile.{IsRefusal, compiled_theory, compiled_text, IsTheoryOf};
 
 use crate::reading::accepted_file;
-use crate::refusal::Refusal;
 use crate::way::Way;
 use sap_gen::theory_of;
 use sap_read::File;
+use sap_refusals::Refusal;
 use sap_rule::Theory;
 use sap_terms::Mem;
 use sap_text::Text;

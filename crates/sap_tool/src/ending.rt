@@ -1,3 +1,4 @@
+//! What a call ends with.
 use sap_text::Text;
 
 /// What is said at the end of a call.

@@ -1,11 +1,12 @@
 //! Laws of theories that keep their files, and of what is judged.
-ghost use Rattle.std.specs.Prelude.{◌≡◌, ◌↔◌, ℕ, List, [], Ok};
+ghost use Rattle.std.specs.Prelude.{◌≡◌, ◌↔◌, ℕ, List, [], All, Ok};
 ghost use Rattle.sap_lines.specs.Answers.{ProcessLinesHaveOneAnswer, ProcessLinesHaveOneOutcome, RunsMatchExactly};
 ghost use Rattle.sap_lines.specs.Runs.{ProcessLinesAreRuns, SmallProcessLinesAreLines, SmallProcessRunsAreLegal};
 ghost use Rattle.sap_restrict.specs.Laws.{PrefixLaw};
 ghost use Rattle.sap_rule.specs.Messages.{RunsReachMessages};
+ghost use Rattle.sap_rule.specs.WellMade.{IsWellMade};
 ghost use Rattle.sap_runs.specs.Limits.{IsSmall};
-ghost use Rattle.sap_steps.specs.Answers.{ReachedHaveOneAnswer, ReachedHaveOneOutcome};
+ghost use Rattle.sap_steps.specs.Answers.{ReachedHaveOneAnswer, ReachedHaveOneOutcome, RefusalsAreOne};
 ghost use Rattle.sap_steps.specs.Runs.{LinesAreRuns};
 ghost use Rattle.sap_terms.specs.Signature.{HoldsBuiltins};
 ghost use Rattle.sap_theory.specs.ReadTheory.{IsTheoryRead};
@@ -23,10 +24,13 @@ ghost use Rattle.sap_run_texts.specs.declared.run.Run.TheVariants as runs;
 ghost use Rattle.sap_runs.specs.declared.process_step.PStep.{PStep};
 ghost use Rattle.sap_runs.specs.declared.rule_step.RStep.{RStep};
 ghost use Rattle.sap_tool.specs.Replays.{AreOpposite, IsJudgedText, IsSeen};
+ghost use Rattle.sap_tool.specs.RunRefusals.{IsIllegal, IsIllegalOfTheory};
 ghost use Rattle.sap_translate.specs.Faithful.{IsShownBy};
 ghost use Rattle.sap_gen.specs.Kept.{KeepsFile};
 
+use sap_back::rule_runs_have_one_answer;
 use sap_formula::faultless_formulas_are_checked;
+use sap_forward::process_runs_have_one_answer;
 use sap_locks::annotations_are_ready;
 use sap_restrict::restrictions_say_sentences;
 use sap_rule::runs_reach_messages;
@@ -90,10 +94,12 @@ pub(crate) fn process_lines()
 }
 
 /// Laws: wherever a run of well-made rules leads to, a line that is possible within the limit is possible in one way, and isn't
-/// refused. Legal lines are a run, such a run shows messages, and on its prefixes each of the seven formulas is true that is true on it.
+/// refused; one that is refused is so for one cause. Legal lines are a run, such a run shows messages, and on its prefixes each of
+/// the seven formulas is true that is true on it.
 pub(crate) fn rule_lines()
     ensures outcome { ReachedHaveOneOutcome IsSmall }
     ensures answer { ReachedHaveOneAnswer }
+    ensures causes { RefusalsAreOne }
     ensures runs { LinesAreRuns IsSmall }
     ensures messages { RunsReachMessages }
     ensures prefix { PrefixLaw }
@@ -103,6 +109,19 @@ pub(crate) fn rule_lines()
     sap_steps::lines_are_steps();
     runs_reach_messages();
     restrictions_say_sentences();
+}
+
+/// A law: a run is illegal for one cause at most, of a file that can run, and of a theory whose rules can.
+pub(crate) fn illegal_runs_have_one_cause()
+    ensures file { (f : FileContent) (r : Run) (why other : List ℕ) → IsRunnable f → IsIllegal f r why
+        → IsIllegal f r other → why ≡ other }
+    ensures theory { (t : Theory) (r : Run) (why other : List ℕ) → HoldsBuiltins t.signature
+        → All (IsWellMade t.signature) t.rules → IsIllegalOfTheory t r why → IsIllegalOfTheory t r other
+        → why ≡ other }
+{
+    process_runs_have_one_answer();
+    rule_runs_have_one_answer();
+    rule_lines();
 }
 
 /// A law: a theory that is read can be run, and its formulas are closed.

@@ -1,20 +1,20 @@
 //! The top call.
 
 ghost use Rattle.std.specs.Prelude.{◌≡◌, ◌≢◌, ◌≤◌, ◌⊎◌, ℕ, List, []};
-ghost use Rattle.sap_tool.specs.Outside.{Rose, one_more};
+ghost use Rattle.sap_outside.specs.Outside.{Rose, one_more};
 ghost use Rattle.std.specs.Io.KnownBytes.{Appends};
-ghost use Rattle.sap_tool.specs.Call.{Call, Stream, call, stream, Gained};
+ghost use Rattle.sap_outside.specs.Stream.{Stream, stream, Gained};
+ghost use Rattle.sap_tool.specs.Call.{Call, call};
 ghost use Rattle.sap_tool.specs.Answers.{gives, tells, IsAnswer, IsPut, IsLast, Ended};
 ghost use Rattle.sap_tool.specs.Promises.{Promises};
 ghost use Rattle.sap_tool.specs.code.Endings.{Ends};
 
 use crate::asking::ending;
 use crate::ending::Ending;
-use crate::laws::{process_lines, read_theories_can_run, rule_lines};
-use crate::pieces::put_pieces;
-use crate::{Shelf, Sink, SinkFault};
+use crate::laws::{illegal_runs_have_one_cause, process_lines, read_theories_can_run, rule_lines};
 use sap_gen::{theories_are_printable, theories_keep_files};
 use sap_locks::annotations_are_ready;
+use sap_outside::{Shelf, Sink, SinkFault, put_pieces};
 use sap_read::{files_are_printable, files_are_runnable, one_file};
 use sap_run_texts::one_run;
 use sap_theory::{one_answer_of_theories, printed_theories};
@@ -60,6 +60,7 @@ pub fn sapic<S: Shelf, O: Sink, E: Sink>(
     read_theories_can_run();
     process_lines();
     rule_lines();
+    illegal_runs_have_one_cause();
     annotations_are_ready();
     rules_are_well_made();
     run(alloc, words, shelf, out, err)

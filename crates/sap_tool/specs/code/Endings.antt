@@ -1,12 +1,12 @@
 -- What a call ends with, step by step.
 use Rattle.std.specs.Prelude.{◌≡◌, ◌+◌, ℕ, List, Option, Result, Ok, Err}
-use Rattle.sap_tool.specs.Outside.{Files, Rose, more}
-use Rattle.sap_tool.specs.RunPieces.{IsJoined}
+use Rattle.sap_outside.specs.Outside.{Files, Rose, more}
+use Rattle.sap_outside.specs.RunPieces.{IsJoined}
 use Rattle.sap_tool.specs.Call.{Call}
 use Rattle.sap_tool.specs.Commands.{Command, alone, and_run, Accepts, Allows}
 use Rattle.sap_tool.specs.Answers.{gives, tells, IsAnswer, IsAnswerTo, usage_text, read_fault_text}
-use Rattle.sap_tool.specs.declared.refusal.Refusal.{Refusal}
-use Rattle.sap_tool.specs.declared.refusal.Refusal.TheVariants as refusal
+use Rattle.sap_refusals.specs.declared.refusal.Refusal.{Refusal}
+use Rattle.sap_refusals.specs.declared.refusal.Refusal.TheVariants as refusal
 use Rattle.sap_tool.specs.declared.ending.Ending.{Ending}
 use Rattle.sap_tool.specs.declared.ending.Ending.TheVariants as ending
 

@@ -8,10 +8,10 @@ use Rattle.sap_tool.specs.declared.checking.Stop.{Stop}
 use Rattle.sap_tool.specs.declared.checking.Stop.TheVariants as stop
 use Rattle.sap_run_texts.specs.declared.run.Kinds.{Kinds}
 use Rattle.sap_run_texts.specs.declared.run.Run.{Run}
-use Rattle.sap_tool.specs.Refusals.{refused_line}
-use Rattle.sap_tool.specs.TheoryRefusals.{IsTheoryRefusedWith}
-use Rattle.sap_tool.specs.RunFaultTexts.{at_step, broken_text, process_fault_text, rule_fault_text}
-use Rattle.sap_tool.specs.RunRefusals.{IsRunRefusedWith, run_refused_line}
+use Rattle.sap_refusals.specs.Refusals.{refused_line}
+use Rattle.sap_tool.specs.AcceptedTheory.{IsTheoryRefusedWith}
+use Rattle.sap_refusals.specs.RunFaultTexts.{at_step, broken_text, process_fault_text, rule_fault_text, run_refused_line}
+use Rattle.sap_tool.specs.RunRefusals.{IsRunRefusedWith}
 
 -- the line says that the run is refused, for such a cause
 pub record IsLineOf (Is : List ℕ → Type 0) (line : List ℕ) : Type 0 where

@@ -1,6 +1,6 @@
 use Rattle.std.proofs.Common.{subst}
 use Rattle.sap_read.specs.Files.{told_by}
-use Rattle.sap_tool.specs.RunPieces.{IsRunAnswer}
+use Rattle.sap_outside.specs.RunPieces.{IsRunAnswer}
 use Rattle.sap_tool.proofs.Endings.{replay_ends}
 use Rattle.sap_tool.proofs.asking.replay_run.Goals as goal
 

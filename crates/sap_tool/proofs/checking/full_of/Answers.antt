@@ -1,5 +1,5 @@
 use Rattle.std.proofs.Common.{rules, ◌≡◌, Ok}
-use Rattle.sap_tool.specs.declared.refusal.Refusal.TheVariants as refusals
+use Rattle.sap_refusals.specs.declared.refusal.Refusal.TheVariants as refusals
 use Rattle.sap_tool.proofs.Stopped.{theory_stops}
 use Rattle.sap_tool.proofs.checking.full_of.Goals as goal
 

@@ -1,7 +1,7 @@
 use Rattle.std.proofs.Common.{Ok, subst}
 use Rattle.sap_run_texts.specs.declared.run.Kinds.TheVariants as kinds
 use Rattle.sap_run_texts.specs.declared.run.Run.{Run}
-use Rattle.sap_tool.specs.RunPieces.{IsRunAnswer}
+use Rattle.sap_outside.specs.RunPieces.{IsRunAnswer}
 use Rattle.sap_tool.proofs.Stopped.{never_process}
 use Rattle.sap_tool.proofs.checking.text_of_any.Goals as goal
 

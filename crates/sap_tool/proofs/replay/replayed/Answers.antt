@@ -1,9 +1,9 @@
 use Rattle.std.proofs.Common.{rules, ◌≡◌, Ok, subst}
 use Rattle.sap_read.specs.Files.{told_by}
 use Rattle.sap_tool.specs.Commands.{kinds_of}
-use Rattle.sap_tool.specs.RunPieces.{IsRunAnswer}
+use Rattle.sap_outside.specs.RunPieces.{IsRunAnswer}
 use Rattle.sap_tool.specs.RunRefusals.{IsIllegal}
-use Rattle.sap_tool.specs.declared.refusal.Refusal.TheVariants as refusals
+use Rattle.sap_refusals.specs.declared.refusal.Refusal.TheVariants as refusals
 use Rattle.sap_tool.proofs.Stopped.{no_run_stops, run_stops}
 use Rattle.sap_tool.proofs.replay.replayed.Goals as goal
 

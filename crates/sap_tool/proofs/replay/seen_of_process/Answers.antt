@@ -1,6 +1,6 @@
 use Rattle.std.proofs.Common.{rules, ◌≡◌, Ok, Err, ap}
 use Rattle.sap_tool.specs.Replays.{of_process}
-use Rattle.sap_tool.specs.declared.refusal.Refusal.TheVariants as refusals
+use Rattle.sap_refusals.specs.declared.refusal.Refusal.TheVariants as refusals
 use Rattle.sap_tool.proofs.Stopped.{process_stops}
 use Rattle.sap_tool.proofs.replay.seen_of_process.Goals as goal
 

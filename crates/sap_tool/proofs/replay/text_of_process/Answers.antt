@@ -1,6 +1,6 @@
 use Rattle.std.proofs.Common.{rules, ◌≡◌, Ok, Err, ap}
 use Rattle.sap_tool.specs.Replays.{to_process}
-use Rattle.sap_tool.specs.declared.refusal.Refusal.TheVariants as refusals
+use Rattle.sap_refusals.specs.declared.refusal.Refusal.TheVariants as refusals
 use Rattle.sap_tool.proofs.Stopped.{rules_stop}
 use Rattle.sap_tool.proofs.replay.text_of_process.Goals as goal
 

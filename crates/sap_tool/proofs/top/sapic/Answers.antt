@@ -35,5 +35,7 @@ returns g c =
         ready = c.annotations_are_ready.ensures.ready;
         made = c.rules_are_well_made.ensures.made;
       };
+      one_illegal = c.illegal_runs_have_one_cause.ensures.file;
+      one_illegal_of_theory = c.illegal_runs_have_one_cause.ensures.theory;
     })
     _ _ c.run.ensures

@@ -1,7 +1,7 @@
 use Rattle.std.proofs.Common.{rules, ap, ◌∙◌}
+use Rattle.std.proofs.KnownBytes.{Appends-trans}
 use Rattle.sap_tool.specs.Answers.{broken, wanting}
-use Rattle.sap_tool.specs.Outside.{one_more}
-use Rattle.sap_tool.proofs.Appends.{appends_both}
+use Rattle.sap_outside.specs.Outside.{one_more}
 use Rattle.sap_tool.proofs.Rises.{rose_later}
 use Rattle.sap_tool.proofs.Appending.{last_of, cut_after_fault, cut_after_want, write_fault_is, memory_is}
 use Rattle.sap_tool.proofs.top.tell.Goals as goal
@@ -12,7 +12,7 @@ returns-in-Err-Failed g c = λ out none some.
     let failed = c.put.ensures.cause (search rules) in
     let word = c.last_word.ensures in
     broken part.0 word.ends.0 word.status (rose_later _ _ _ failed word.faults)
-    (none, (appends_both _ _ _ _ _ part.1 word.ends.1, word.asked write_fault_is ∙ ap one_more (c.put.ensures.asked some)))
+    (none, (Appends-trans _ _ _ _ _ part.1 word.ends.1, word.asked write_fault_is ∙ ap one_more (c.put.ensures.asked some)))
     (last_of _ _ (cut_after_fault _ _ _ _ _ _ failed word.faults c.put.ensures.later_wants) word.ends.2)
 
 pub returns-in-Err-Mem : goal.returns-in-Err-Mem
@@ -21,5 +21,5 @@ returns-in-Err-Mem g c = λ out none some.
     let wanted = c.put.ensures.want (search rules) in
     let word = c.last_word-in-Err-Mem.ensures in
     wanting part.0 word.ends.0 word.status (rose_later _ _ _ wanted word.wants)
-    (none, (appends_both _ _ _ _ _ part.1 word.ends.1, word.asked memory_is ∙ ap one_more (c.put.ensures.asked some)))
+    (none, (Appends-trans _ _ _ _ _ part.1 word.ends.1, word.asked memory_is ∙ ap one_more (c.put.ensures.asked some)))
     (last_of _ _ (cut_after_want _ _ _ _ _ _ wanted word.wants c.put.ensures.later) word.ends.2)

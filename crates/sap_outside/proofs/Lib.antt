@@ -1,0 +1,4 @@
+pub mod Held
+pub mod PutPieces
+pub mod RunFed
+pub mod RunAnswered

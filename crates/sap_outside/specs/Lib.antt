@@ -1,0 +1,6 @@
+pub use Rattle.sap_run_texts.specs.RunTexts
+pub mod Outside
+pub mod Stream
+pub mod Pieces
+pub mod RunPieces
+pub mod code

@@ -1,0 +1,39 @@
+-- The bytes of a run, which are read in pieces, and what is answered of them.
+use Rattle.std.specs.Prelude.{◌≡◌, ◌≤◌, ◌<◌, ◌+◌, ℕ, List, [], ◌++◌, length, Option, None, Some, IsSomeAnd, Result, Ok, Err}
+use Rattle.std.specs.FinMap as map
+use Rattle.sap_run_texts.specs.declared.run.Kinds.{Kinds}
+use Rattle.sap_run_texts.specs.declared.run.Run.{Run}
+use Rattle.sap_run_texts.specs.declared.run_fault.RunFault.TheVariants as fault
+use Rattle.sap_run_texts.specs.declared.limits.TheConstants.{MOST_PROCESS_STEPS, MOST_RULE_STEPS}
+use Rattle.sap_run_texts.specs.RunTexts.{IsHeaded, process_head, rule_head, IsRunRead}
+use Rattle.sap_outside.specs.declared.run_refusal.RunRefusal.{RunRefusal}
+use Rattle.sap_outside.specs.declared.run_refusal.RunRefusal.TheVariants as refusal
+use Rattle.sap_outside.specs.Outside.{Files, piece_bytes}
+
+-- how many bytes a run may have
+abbrev pub most_run_bytes : ℕ
+most_run_bytes = 16777216
+
+-- first bytes of a file: all of them, unless they are more than a run may have
+pub record IsReadUp (file z : List ℕ) : Type 0 where
+  pub left : List ℕ
+  pub part : file ≡ z ++ left
+  pub whole : length z ≤ most_run_bytes → left ≡ []
+
+-- the joined pieces that reading a run of this name may give, by what the shelf tells
+abbrev pub IsJoined : Option Files → List ℕ → List ℕ → Type 0
+IsJoined None name z = length z ≤ most_run_bytes + piece_bytes
+IsJoined (Some files) name z = IsSomeAnd (map.get files name) (λ file. IsReadUp file z)
+
+-- what is answered of these bytes, where runs of this kind are asked for: the run; or why they are none, which is that they are
+-- too many, whatever else is wrong, or what their reader says, and for too many steps how many a run of its kind may have
+pub data IsRunAnswer (kinds : Kinds) (z : List ℕ) : Result Run RunRefusal → Type 0 where
+  is_run : {run : Run} → length z ≤ most_run_bytes → IsRunRead kinds z (Ok run) → IsRunAnswer kinds z (Ok run)
+  too_long : most_run_bytes < length z → IsRunAnswer kinds z (Err refusal.TooLong)
+  bad_head : length z ≤ most_run_bytes → IsRunRead kinds z (Err fault.BadHead) → IsRunAnswer kinds z (Err refusal.BadHead)
+  bad_line : {line : ℕ} → length z ≤ most_run_bytes → IsRunRead kinds z (Err (fault.BadLine line))
+      → IsRunAnswer kinds z (Err (refusal.BadLine line))
+  too_many_of_process : {body : List ℕ} → length z ≤ most_run_bytes → IsHeaded process_head body z
+      → IsRunRead kinds z (Err fault.TooManySteps) → IsRunAnswer kinds z (Err (refusal.TooManySteps MOST_PROCESS_STEPS))
+  too_many_of_rules : {body : List ℕ} → length z ≤ most_run_bytes → IsHeaded rule_head body z
+      → IsRunRead kinds z (Err fault.TooManySteps) → IsRunAnswer kinds z (Err (refusal.TooManySteps MOST_RULE_STEPS))

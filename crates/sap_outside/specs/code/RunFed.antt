@@ -1,0 +1,44 @@
+-- How far a run was read in pieces.
+use Rattle.std.specs.Prelude.{◌≡◌, ◌≤◌, ◌+◌, ℕ, List, ◌++◌, length, slice_get, Option, None, Some}
+use Rattle.std.specs.Io.KnownBytes.{Consumes}
+use Rattle.sap_run_texts.specs.RunReading.{Reading, StandsFor}
+use Rattle.sap_outside.specs.Outside.{piece_bytes, IsNextPart}
+use Rattle.sap_outside.specs.RunPieces.{most_run_bytes, IsReadUp}
+
+-- how many bytes these are, and the first of them
+abbrev pub IsTallyOf : List ℕ → ℕ → Option ℕ → Type 0
+IsTallyOf z given first = (given ≡ length z) × (first ≡ slice_get z 0)
+
+-- a reader of runs was fed these bytes
+pub record IsFed (old new : Reading) (z : List ℕ) : Type 0 where
+  pub kinds : new.kinds ≡ old.kinds
+  pub stands : (before : List ℕ) → StandsFor old before → StandsFor new (before ++ z)
+
+-- a reader was fed a piece of the rest of a file, and the tally of what was read went on by it
+pub record IsPieceFed (rest left : Option (List ℕ)) (old new : Reading) (given : ℕ) (first : Option ℕ) (given_after : ℕ) (first_after : Option ℕ) : Type 0 where
+  pub piece : List ℕ
+  pub small : length piece ≤ piece_bytes
+  pub part : IsNextPart rest left piece
+  pub fed : IsFed old new piece
+  pub tally : (z : List ℕ) → IsTallyOf z given first → IsTallyOf (z ++ piece) given_after first_after
+
+-- a reader was fed what a file has lost since, and this is its tally
+pub record ArePiecesFed (file left : Option (List ℕ)) (old new : Reading) (given : ℕ) (first : Option ℕ) : Type 0 where
+  pub z : List ℕ
+  pub small : given ≤ most_run_bytes + piece_bytes
+  pub part : Consumes file left z
+  pub fed : IsFed old new z
+  pub tally : IsTallyOf z given first
+
+-- first bytes of a file, where it is told, as many as are read of a run
+abbrev pub IsReadUpWhereTold : Option (List ℕ) → List ℕ → Type 0
+IsReadUpWhereTold None z = Unit {0}
+IsReadUpWhereTold (Some file) z = IsReadUp file z
+
+-- a reader was fed as much of a file as is read of a run, and this is its tally
+pub record IsRunFed (file : Option (List ℕ)) (old new : Reading) (given : ℕ) (first : Option ℕ) : Type 0 where
+  pub z : List ℕ
+  pub small : given ≤ most_run_bytes + piece_bytes
+  pub part : IsReadUpWhereTold file z
+  pub fed : IsFed old new z
+  pub tally : IsTallyOf z given first

@@ -1,0 +1,23 @@
+//! Where the program reads from and writes to: shelves, from which a run is read in pieces, and sinks, on which a text is put in pieces.
+#![tactic(auto)]
+
+mod file_shelf;
+mod mem_shelf;
+mod mem_sink;
+mod pieces;
+mod run_reading;
+mod run_refusal;
+mod shelf;
+mod sink;
+mod stream_sink;
+mod tally;
+
+pub use file_shelf::FileShelf;
+pub use mem_shelf::MemShelf;
+pub use mem_sink::MemSink;
+pub use pieces::put_pieces;
+pub use run_reading::read_run;
+pub use run_refusal::RunRefusal;
+pub use shelf::{Shelf, ShelfFault};
+pub use sink::{Sink, SinkFault};
+pub use stream_sink::StreamSink;

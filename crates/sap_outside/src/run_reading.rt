@@ -1,0 +1,139 @@
+//! Runs read from a shelf, in pieces.
+ghost use Rattle.std.specs.Prelude.{◌≡◌, ◌≤◌, ◌+◌, ◌↔◌, ℕ, List, Err, length, slice_get, OnOk, IfOk, IsErrOf, IsTrue, IsSomeAnd, Some};
+ghost use Rattle.sap_run_texts.specs.RunReading.{StandsFor};
+ghost use Rattle.sap_run_texts.specs.RunTexts.{IsRunRead};
+ghost use Rattle.sap_run_texts.specs.declared.run_fault.RunFault.TheVariants as fault;
+ghost use Rattle.sap_outside.specs.declared.run_refusal.RunRefusal.TheVariants as refusal;
+ghost use Rattle.sap_outside.specs.Outside.{Rose, one_more, more};
+ghost use Rattle.sap_outside.specs.RunPieces.{most_run_bytes, IsJoined, IsRunAnswer};
+ghost use Rattle.sap_outside.specs.code.RunFed.{IsTallyOf, IsPieceFed, IsRunFed};
+
+use crate::run_refusal::RunRefusal;
+use crate::tally::Tally;
+use crate::{Shelf, ShelfFault};
+use sap_run_texts::{Kinds, MOST_PROCESS_STEPS, MOST_RULE_STEPS, Run, RunFault, RunReader};
+use std::alloc::Global;
+
+/// How many bytes a run may have.
+pub const MOST_RUN_BYTES: u64 = 16_777_216;
+
+/// How many bytes are asked for at once.
+const PIECE_BYTES: u64 = 4_096;
+
+/// The run of this name, of the kind that is asked for, or why its bytes are none. It is read in pieces, so that its bytes are
+/// never held whole. Bytes that are too many are refused as such, whatever else is wrong with them.
+pub fn read_run<S: Shelf>(
+    alloc: Global,
+    shelf: &mut S,
+    name: &str,
+    kinds: Kinds,
+) -> Result<Result<Run, RunRefusal>, ShelfFault>
+    ensures told { IfOk result (λ answer. (z : List ℕ) × IsJoined (S.holds shelf.old) name.now z
+        × IsRunAnswer kinds z answer) }
+    ensures same { S.holds shelf.new ≡ S.holds shelf.old }
+    ensures asked { (nexts : ℕ) × (S.asked shelf.new ≡ more (nexts + 1) (S.asked shelf.old)) }
+    ensures later { (n : List ℕ) → S.faults shelf.old n ≤ S.faults shelf.new n }
+    ensures cause { IsErrOf result ShelfFault.Failed
+        → Rose (S.faults shelf.old name.now) (S.faults shelf.new name.now) }
+{
+    shelf.begin(alloc, name)?;
+    let mut reader = RunReader::new(alloc, kinds);
+    let tally = feed_pieces(alloc, shelf, &mut reader)?;
+    answer(reader, kinds, tally)
+}
+
+// Feeds the open file to the reader, up to its end or until it is known to be too long.
+fn feed_pieces<S: Shelf>(
+    alloc: Global,
+    shelf: &mut S,
+    reader: &mut RunReader,
+) -> Result<Tally, ShelfFault>
+    ensures fed { IfOk result (λ t. IsRunFed (S.rest shelf.old) reader.old reader.new t.given t.first) }
+    ensures same { S.holds shelf.new ≡ S.holds shelf.old }
+    ensures asked { (nexts : ℕ) × (S.asked shelf.new ≡ more nexts (S.asked shelf.old)) }
+    ensures later { (n : List ℕ) → S.faults shelf.old n ≤ S.faults shelf.new n }
+    ensures cause { IsErrOf result ShelfFault.Failed
+        → IsSomeAnd (S.opened shelf.old) (λ name. Rose (S.faults shelf.old name) (S.faults shelf.new name)) }
+{
+    let mut tally = Tally::new();
+    while tally.given <= MOST_RUN_BYTES {
+        let next = feed_piece(alloc, shelf, reader, tally)?;
+        if next.given == tally.given {
+            return Ok(next);
+        }
+        tally = next;
+    }
+    Ok(tally)
+}
+
+// Feeds the next piece of the open file to the reader.
+fn feed_piece<S: Shelf>(
+    alloc: Global,
+    shelf: &mut S,
+    reader: &mut RunReader,
+    tally: Tally,
+) -> Result<Tally, ShelfFault>
+    requires { tally.given ≤ most_run_bytes }
+    ensures fed { IfOk result (λ next. IsPieceFed (S.rest shelf.old) (S.rest shelf.new) reader.old reader.new
+        tally.given tally.first next.given next.first) }
+    ensures opened { OnOk result (S.opened shelf.new ≡ S.opened shelf.old) }
+    ensures same { S.holds shelf.new ≡ S.holds shelf.old }
+    ensures asked { S.asked shelf.new ≡ one_more (S.asked shelf.old) }
+    ensures later { (n : List ℕ) → S.faults shelf.old n ≤ S.faults shelf.new n }
+    ensures cause { IsErrOf result ShelfFault.Failed
+        → IsSomeAnd (S.opened shelf.old) (λ name. Rose (S.faults shelf.old name) (S.faults shelf.new name)) }
+{
+    let piece = shelf.next(alloc, PIECE_BYTES)?;
+    reader.feed(piece.as_slice())?;
+    Ok(tally.behind(piece.as_slice()))
+}
+
+// What is answered of the bytes that the reader was fed.
+fn answer(
+    reader: RunReader,
+    kinds: Kinds,
+    tally: Tally,
+) -> Result<Result<Run, RunRefusal>, ShelfFault>
+    requires { reader.kinds ≡ kinds }
+    ensures told { (z : List ℕ) → StandsFor reader z → IsTallyOf z tally.given tally.first
+        → IfOk result (IsRunAnswer kinds z) }
+    ensures sound { IsErrOf result ShelfFault.Failed → ⊥ }
+{
+    if tally.given > MOST_RUN_BYTES {
+        return Ok(Err(RunRefusal::TooLong));
+    }
+    match reader.finish() {
+        Ok(run) => Ok(Ok(run)),
+        Err(RunFault::Mem) => Err(ShelfFault::Mem),
+        Err(RunFault::BadHead) => Ok(Err(RunRefusal::BadHead)),
+        Err(RunFault::BadLine { line }) => Ok(Err(RunRefusal::BadLine { line })),
+        Err(RunFault::TooManySteps) => Ok(Err(RunRefusal::TooManySteps {
+            most: most_steps(kinds, tally.first),
+        })),
+    }
+}
+
+// How many steps a run may have that begins with this byte, where it has too many.
+fn most_steps(kinds: Kinds, first: Option<u8>) -> u64
+    ensures { (z : List ℕ) → length z ≤ most_run_bytes → first ≡ slice_get z 0 → IsRunRead kinds z (Err fault.TooManySteps)
+        → IsRunAnswer kinds z (Err (refusal.TooManySteps result)) }
+{
+    match kinds {
+        Kinds::Process => MOST_PROCESS_STEPS,
+        Kinds::Rules => MOST_RULE_STEPS,
+        Kinds::Either => {
+            if is_of_process(first) {
+                MOST_PROCESS_STEPS
+            } else {
+                MOST_RULE_STEPS
+            }
+        }
+    }
+}
+
+// Whether this is the first byte of the head of a run of a process.
+fn is_of_process(first: Option<u8>) -> bool
+    ensures { IsTrue result ↔ (first ≡ Some 112) }
+{
+    first == Some(b'p')
+}

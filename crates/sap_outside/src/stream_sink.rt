@@ -1,0 +1,42 @@
+//! The streams of the system, as sinks.
+ghost use Rattle.std.specs.Prelude.{None};
+
+use crate::{Sink, SinkFault};
+use std::io::Write;
+
+/// A stream of the system, as standard output or standard error, which tells nothing.
+#[derive(Drop)]
+pub struct StreamSink<W: Write> {
+    /// The stream.
+    pub to: W,
+    /// How many calls failed; it stops at the greatest u64.
+    pub count: u64,
+}
+
+impl<W: Write> Sink for StreamSink<W> {
+    ghost written = { λ _. None };
+
+    ghost faults = { λ s. s.count };
+
+    ghost wants = { λ _. 0 };
+
+    ghost asked = { λ _. None };
+
+    // It wants no memory. A write that takes nothing is a fault. Each turn writes at least one byte.
+    fn put(&mut self, bytes: &[u8]) -> Result<(), SinkFault> {
+        let mut rest = bytes;
+        for _ in 0..bytes.len() {
+            if rest.is_empty() {
+                return Ok(());
+            }
+            match self.to.write(rest) {
+                Ok(n) if n > 0 => rest = &rest[n..],
+                _ => {
+                    self.count = self.count.saturating_add(1);
+                    return Err(SinkFault::Failed);
+                }
+            }
+        }
+        Ok(())
+    }
+}

@@ -1,0 +1,4 @@
+pub mod SampleCounts
+pub mod SampleShown
+pub mod SampleTold
+pub mod SessionWords

@@ -1,0 +1,3 @@
+pub use Rattle.sap_process.specs.Proc
+pub use Rattle.sap_read.specs.Files
+pub mod Sample
