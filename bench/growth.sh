@@ -26,11 +26,24 @@ row() {
     told "$size" "$what" "$(milliseconds "$@")" '%9s ms'
 }
 
+# kilobytes STATUS COMMAND..: the most that the command holds, which is to end with this status
+kilobytes() {
+    wanted=$1
+    shift
+    answer=$(/usr/bin/time -q -f '%x %M' sh -c 'exec "$@" > /dev/null 2>&1' - "$@" 2>&1) || true
+    [ "${answer% *}" = "$wanted" ] || {
+        echo "status ${answer% *}: $*" >&2
+        exit 1
+    }
+    echo "${answer#* }"
+}
+
 # held SIZE WHAT COMMAND..: tells the most kilobytes that the command holds
 held() {
     size=$1 what=$2
     shift 2
-    told "$size" "$what" "$(/usr/bin/time -f %M "$@" 2>&1 > /dev/null)" '%9d kB'
+    now=$(kilobytes 0 "$@")
+    told "$size" "$what" "$now" '%9d kB'
 }
 
 # answered KIND WORD..: the script ends where the program counts nothing of this kind
