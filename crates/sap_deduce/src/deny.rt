@@ -1,3 +1,4 @@
+//! Why a symbol on entries is refused.
 ghost use Rattle.std.specs.Prelude.{◌≡◌};
 ghost use Rattle.sap_deduce.specs.declared.deny.Deny.TheVariants.{Mem as OutOfMemory};
 

@@ -1,3 +1,4 @@
+//! An entry of what the adversary knows.
 use crate::way::Way;
 use sap_terms::Term;
 

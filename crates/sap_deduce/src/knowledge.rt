@@ -1,3 +1,4 @@
+//! What the adversary knows, entry by entry.
 ghost use Rattle.std.specs.Prelude.{ℕ, List, ◌≡◌, ◌+◌, ◌<◌, ◌≤◌, [], length, IfOk, OnOk, OnErr, IfErr, IfSome, IfNone, option_map, slice_get, find, nat_le, All, Some};
 ghost use Rattle.std.specs.Option.{option_copied};
 ghost use Rattle.sap_terms.specs.View.{tree};

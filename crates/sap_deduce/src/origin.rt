@@ -1,3 +1,4 @@
+//! How an entry came to be known.
 use sap_terms::{Name, Numbers};
 
 /// How an entry came to be known, as contracts say it.

@@ -1,3 +1,4 @@
+//! Piles: facts with numbers, that come and go.
 ghost use Rattle.std.specs.Prelude.{◌≡◌, ◌+◌, ◌<◌, ◌≤◌, [], ◌∷◌, ◌++◌, length, IsOk, IfOk, OnOk, OnErr, Some};
 ghost use Rattle.std.specs.Option.{option_copied};
 ghost use Rattle.sap_facts.specs.Facts.{fact_at, if_linear, slots_without};

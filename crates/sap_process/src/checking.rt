@@ -1,3 +1,4 @@
+//! Whether a process is well formed, and with which sorts.
 ghost use Rattle.std.specs.Prelude.{◌≡◌, ℕ, List, [], IfOk, IsErrOf};
 ghost use Rattle.sap_process.specs.Proc.{proc};
 ghost use Rattle.sap_process.specs.Flaws.{IsWellFormed, IsFirstFlaw};

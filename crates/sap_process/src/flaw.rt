@@ -1,3 +1,4 @@
+//! What can be wrong with a process.
 ghost use Rattle.std.specs.Prelude.{◌≡◌};
 ghost use Rattle.sap_process.specs.declared.flaw.Ill.TheVariants.{Mem as OutOfMemory};
 

@@ -1,3 +1,4 @@
+//! Flaws that a walk through a process looks for, and the first of each that it found.
 ghost use Rattle.std.specs.Prelude.{◌≡◌, length, take, IfOk, OnOk};
 ghost use Rattle.sap_process.specs.code.Walks.{settled, unmet, answer};
 

@@ -1,3 +1,4 @@
+//! Processes.
 ghost use Rattle.std.specs.Prelude.{◌≡◌, min};
 ghost use Rattle.sap_process.specs.Proc.{proc, node_count, level_count};
 

@@ -1,3 +1,4 @@
+//! Variables in scope at a place, found by name.
 ghost use Rattle.std.specs.Prelude.{◌≡◌, ◌↔◌, IsTrue, Some, [], ◌∷◌, ◌++◌, ◌-◌, length, take, drop, OnOk, option_map, not, slice_get};
 ghost use Rattle.std.specs.List.{list_any};
 ghost use Rattle.std.specs.Option.{option_copied};

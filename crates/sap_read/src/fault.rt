@@ -1,3 +1,4 @@
+//! Why a file is refused.
 use sap_formula::FormulaFault;
 use sap_locks::LockFault;
 use sap_process::{Flaw, Ill};

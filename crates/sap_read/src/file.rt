@@ -1,3 +1,4 @@
+//! Files, and the one that some bytes tell.
 ghost use Rattle.std.specs.Prelude.{◌≡◌, ◌≤◌, ◌<◌, ◌^◌, ℕ, List, [], Ok, Err, map, IfOk, IsErrOf};
 ghost use Rattle.sap_text.specs.Tokens.{IsLexed};
 ghost use Rattle.sap_text.specs.declared.fault.Lex.{Lex};

@@ -1,3 +1,4 @@
+//! Why a normal form within a limit is not given.
 ghost use Rattle.std.specs.Prelude.{◌≡◌};
 ghost use Rattle.sap_rewrite.specs.declared.cut.Cut.TheVariants.{Mem as OutOfMemory};
 

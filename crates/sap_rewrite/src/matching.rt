@@ -1,3 +1,4 @@
+//! Matching: what a pattern is a term by.
 ghost use Rattle.std.specs.Prelude.{◌≡◌, IfOk, MatchOption, Some, None, if◌then◌else◌, option_map};
 ghost use Rattle.std.specs.Option.{option_copied};
 ghost use Rattle.sap_terms.specs.View.{tree};

@@ -1,3 +1,4 @@
+//! Normal forms of terms, and equality under equations.
 ghost use Rattle.std.specs.Prelude.{◌≡◌, ◌↔◌, IsTrue, IfOk, map};
 ghost use Rattle.sap_terms.specs.View.{tree};
 ghost use Rattle.sap_terms.specs.Equations.{equations};

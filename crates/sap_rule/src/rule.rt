@@ -1,3 +1,4 @@
+//! Multiset rewrite rules.
 use sap_terms::{Copied, FactList, Items, Mem, Name};
 use std::alloc::Global;
 

@@ -1,3 +1,4 @@
+//! Theories: rules with restrictions and lemmas.
 ghost use Rattle.std.specs.Prelude.{◌≡◌, ◌↔◌, All, IfOk, IsTrue};
 ghost use Rattle.std.specs.Option.{option_copied};
 ghost use Rattle.sap_rule.specs.Named.{rule_named};

@@ -1,3 +1,4 @@
+//! The variables that a rule leaves open.
 ghost use Rattle.std.specs.Prelude.{◌≡◌, ℕ, ◌++◌, ◌∷◌, [], IfOk, OnOk, List, not, map, if◌then◌else◌};
 ghost use Rattle.sap_terms.specs.Tree.{trees_of};
 ghost use Rattle.sap_terms.specs.Variables.{facts_vars, tree_vars, trees_vars, is_known, new_vars};

@@ -1,3 +1,4 @@
+//! Lines of process runs, read.
 ghost use Rattle.std.specs.Prelude.{◌≡◌, IfOk};
 ghost use Rattle.sap_run_lines.specs.StepLines.{IsProcessStepLine, IsLineRead};
 ghost use Rattle.sap_run_lines.specs.code.StepTaking.{process_line_of};

@@ -1,3 +1,4 @@
+//! Lines of rule runs, read.
 ghost use Rattle.std.specs.Prelude.{◌≡◌, IfOk};
 ghost use Rattle.sap_run_lines.specs.StepLines.{IsRuleStepLine, IsLineRead};
 ghost use Rattle.sap_run_lines.specs.code.StepTaking.{rule_line_of};

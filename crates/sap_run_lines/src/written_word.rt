@@ -1,3 +1,4 @@
+//! Words of a line.
 use sap_terms::{Binding, Items, Name};
 
 /// A word of a line.

@@ -1,3 +1,4 @@
+//! How far a reader has come in a text.
 use crate::RunFault;
 
 /// How far a reader has come.

@@ -1,3 +1,4 @@
+//! Runs of either kind, and which are asked for.
 use sap_runs::{PSteps, RSteps};
 
 /// Which runs are asked for.

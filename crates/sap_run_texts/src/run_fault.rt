@@ -1,3 +1,4 @@
+//! Why a text is no run.
 ghost use Rattle.std.specs.Prelude.{◌≡◌};
 
 use sap_terms::Mem;

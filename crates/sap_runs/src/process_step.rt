@@ -1,3 +1,4 @@
+//! Written steps of processes.
 ghost use Rattle.std.specs.Prelude.{◌≡◌, IfOk};
 
 use sap_terms::{Bindings, Copied, Items, Mem, Name, Numbers};

@@ -1,3 +1,4 @@
+//! Written steps of rules.
 use sap_terms::{Bindings, Copied, Items, Mem, Name, Numbers};
 use std::alloc::Global;
 

@@ -1,3 +1,4 @@
+//! Nodes: terms one level deep, over numbers.
 use sap_terms::{Name, Numbers};
 
 /// A node of a term over the numbers of other nodes. Nodes are keys: two are the same where their names and numbers are.

@@ -88,7 +88,7 @@ abbrev pub first_clash : List Symbol → List Symbol → Option (List ℕ)
 first_clash ss [] = None
 first_clash ss (x ∷ xs) = if is_held_otherwise ss x then Some x.name else first_clash ss xs
 
--- at place k stands the first of these symbols that is held otherwise
+-- at index k stands the first of these symbols that is held otherwise
 pub record IsFirstClash (ss added : List Symbol) (k : ℕ) : Type 0 where
   pub here : k < length added
   pub name : first_clash ss added ≡ option_map (λ (s : Symbol). s.name) (slice_get added k)

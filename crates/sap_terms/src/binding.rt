@@ -1,3 +1,4 @@
+//! Bindings of variables to terms.
 use crate::{Copied, Items, Mem, Term, Var};
 use std::alloc::Global;
 

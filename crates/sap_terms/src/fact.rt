@@ -1,3 +1,4 @@
+//! Facts, and what a run shows.
 use crate::{Copied, Items, Mem, Name, TermList};
 use std::alloc::Global;
 
@@ -22,5 +23,5 @@ impl Copied for Fact {
 /// Facts, in order.
 pub type FactList = Items<Fact>;
 
-/// What a run shows: a list of facts for each place.
+/// What a run shows: a list of facts for each time.
 pub type Trace = Items<FactList>;

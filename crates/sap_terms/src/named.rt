@@ -58,14 +58,14 @@ impl<T: HasName> Named<T> {
         self.items.len()
     }
 
-    /// The item at place k, from 0.
+    /// The item at index k, from 0.
     pub fn get(&self, k: u64) -> Option<&T>
         ensures { option_copied result ≡ slice_get self.now k }
     {
         self.items.get(k)
     }
 
-    // The item at a place that the list has, from 0.
+    // The item at an index that the list has, from 0.
     pub(crate) fn at(&self, k: u64) -> &T
         requires { k < length self.now }
         ensures { slice_get self.now k ≡ Some result.now }
@@ -117,7 +117,7 @@ fn note_place(places: &mut IndexMap<Name, u64>, name: Name, place: u64)
 }
 
 impl<T: HasName + Drop> Named<T> {
-    // Takes the item at a place that the list has, from 0, out of it; the other items are dropped.
+    // Takes the item at an index that the list has, from 0, out of it; the other items are dropped.
     pub(crate) fn into_item(self, k: u64) -> T
         requires { k < length self }
         ensures { slice_get self k ≡ Some result }

@@ -1,3 +1,4 @@
+//! Occurrences of variables in terms and facts.
 ghost use Rattle.std.specs.Prelude.{◌≡◌, ◌++◌, length, take, OnOk, OnErr};
 ghost use Rattle.sap_terms.specs.Tree.{trees_of};
 ghost use Rattle.sap_terms.specs.Variables.{tree_vars, trees_vars, facts_vars};

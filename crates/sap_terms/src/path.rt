@@ -1,3 +1,4 @@
+//! Paths of places.
 ghost use Rattle.std.specs.Prelude.{◌≡◌, ◌<◌, [], ◌∷◌, ◌++◌, length, OnOk, OnErr, slice_get};
 ghost use Rattle.std.specs.Option.{option_copied};
 
@@ -52,7 +53,7 @@ impl Path {
         self.digits.len() as u64
     }
 
-    /// The digit at place k, from 0.
+    /// The digit at index k, from 0.
     pub fn get(&self, k: u64) -> Option<&u8>
         ensures { option_copied result ≡ slice_get self.now k }
     {

@@ -1,3 +1,4 @@
+//! Signatures: which symbols are held, and the equations between them.
 ghost use Rattle.std.specs.Prelude.{◌≡◌, ℕ, ◌↔◌, List, [], ◌∷◌, ◌++◌, IsTrue, IsErrOf, OnOk, OnErr, IfOk, MatchOption, option_map, slice_get, map, None, Some, false};
 ghost use Rattle.std.specs.Option.{option_copied};
 ghost use Rattle.sap_terms.specs.Signature.{Sig, find_symbol, arity_of, IsPublic, Clashes, declared, has_builtin, is_destructor_of, builtin_symbols, public_symbol, declared_all, is_held_otherwise, first_clash, added, pairs_alone, IsMap, IsFirstClash, HoldsBuiltins};
@@ -243,7 +244,7 @@ fn is_held_otherwise(symbols: &Named<Symbol>, symbol: &Symbol) -> bool
     }
 }
 
-// The place of the first of these symbols that is held otherwise.
+// The index of the first of these symbols that is held otherwise.
 fn first_clash(symbols: &Named<Symbol>, added: &Named<Symbol>) -> Option<u64>
     ensures { MatchOption result (first_clash symbols.now added.now ≡ None)
         (λ k. IsFirstClash symbols.now added.now k) }

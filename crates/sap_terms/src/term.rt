@@ -1,3 +1,4 @@
+//! Terms.
 ghost use Rattle.std.specs.Prelude.{◌≡◌, ◌<◌, ◌↔◌, [], ◌∷◌, ◌++◌, length, IsTrue, IfOk, OnOk, OnErr, slice_get, option_map, min, map, Some, slice_index_or, ◌≤◌};
 ghost use Rattle.std.specs.Option.{option_copied};
 ghost use Rattle.sap_terms.specs.Same.{same_tree};
@@ -80,7 +81,7 @@ impl TermList {
         Ok(())
     }
 
-    /// Takes the term at a place that the list has, from 0, out of it; the other terms are dropped.
+    /// Takes the term at an index that the list has, from 0, out of it; the other terms are dropped.
     pub fn into_item(self, k: u64) -> Term
         requires { k < length self }
         ensures { slice_get self k ≡ Some (tree result) }
@@ -96,14 +97,14 @@ impl TermList {
         self.items.len() as u64
     }
 
-    /// The term at place k, from 0.
+    /// The term at index k, from 0.
     pub fn get(&self, k: u64) -> Option<&Term>
         ensures { option_map tree (option_copied result) ≡ slice_get self.now k }
     {
         self.items.get(k as usize)
     }
 
-    /// The term at a place that the list has, which is smaller than the list.
+    /// The term at an index that the list has, which is smaller than the list.
     #[tactic(auto, using(crate::proofs::PlainLaws::Trees::list_laws))]
     pub fn at(&self, k: u64) -> &Term
         requires { k < length self.now }

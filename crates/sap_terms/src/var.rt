@@ -1,3 +1,4 @@
+//! Variables and their sorts.
 ghost use Rattle.std.specs.Prelude.{◌≡◌, ◌↔◌, IsTrue};
 
 use crate::{Copied, Items, Mem, Name};

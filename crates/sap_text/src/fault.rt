@@ -1,3 +1,4 @@
+//! Why bytes have no tokens.
 ghost use Rattle.std.specs.Prelude.{◌≡◌};
 
 use std::alloc::AllocFailed;

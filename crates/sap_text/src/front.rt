@@ -1,3 +1,4 @@
+//! What stands first among some bytes.
 ghost use Rattle.std.specs.Prelude.{◌≡◌, ◌<◌, ◌+◌, ◌^◌, ◌∷◌, length};
 ghost use Rattle.sap_text.specs.code.Front.{quote_front, front_at, Within, Stands};
 

@@ -1,3 +1,4 @@
+//! The tokens of some bytes.
 ghost use Rattle.std.specs.Prelude.{◌≡◌, ◌≤◌, ◌<◌, length, slice_get, Some, IfOk};
 ghost use Rattle.std.specs.List.{All};
 ghost use Rattle.sap_text.specs.Tokens.{counted};

@@ -1,3 +1,4 @@
+//! Symbols of one, two and three bytes.
 ghost use Rattle.std.specs.Prelude.{◌≡◌, ◌∷◌, []};
 ghost use Rattle.sap_text.specs.Tokens.{is_symbol};
 ghost use Rattle.sap_text.specs.code.Front.{symbol_len};

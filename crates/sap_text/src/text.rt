@@ -1,3 +1,4 @@
+//! Texts that grow at their end.
 ghost use Rattle.std.specs.Prelude.{◌≡◌, ◌≤◌, ◌++◌, [], decimal, drop, OnOk, OnErr};
 
 use sap_terms::{Copied, Mem};

@@ -1,3 +1,4 @@
+//! Why a theory is refused.
 use sap_formula::FormulaFault;
 use sap_terms::{Mem, Name};
 use sap_text::Lex;

@@ -1,3 +1,4 @@
+//! Formulas as text, with brackets where they are needed.
 ghost use Rattle.std.specs.Prelude.{◌≡◌, ◌++◌, map, IfOk, OnOk, codes};
 ghost use Rattle.sap_terms.specs.View.{tree};
 ghost use Rattle.sap_formula.specs.View.{form};

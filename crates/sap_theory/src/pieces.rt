@@ -1,3 +1,4 @@
+//! Headings and commas before the pieces of a line.
 ghost use Rattle.std.specs.Prelude.{◌≡◌, ◌++◌, OnOk};
 ghost use Rattle.sap_theory.specs.Pieces.{lead};
 

@@ -1,3 +1,4 @@
+//! Rules as text.
 ghost use Rattle.std.specs.Prelude.{◌≡◌, ◌++◌, OnOk};
 ghost use Rattle.sap_theory.specs.RuleText.{rule_text, rules_text};
 

@@ -1,3 +1,4 @@
+//! Builtins and symbols as text.
 ghost use Rattle.std.specs.Prelude.{◌≡◌, ◌++◌, IfOk, OnOk, ◌&&◌, if◌then◌else◌, not, codes, []};
 ghost use Rattle.sap_terms.specs.Signature.{has_builtin, builtin_symbols, pairs_alone};
 ghost use Rattle.sap_theory.specs.Pieces.{lead};

@@ -1,3 +1,4 @@
+//! Restrictions and lemmas as text.
 ghost use Rattle.std.specs.Prelude.{◌≡◌, ◌++◌, OnOk, codes};
 ghost use Rattle.sap_formula.specs.View.{form};
 ghost use Rattle.sap_grammar.specs.Pieces.{joined};

@@ -1,3 +1,4 @@
+//! A whole theory as text.
 ghost use Rattle.std.specs.Prelude.{◌≡◌, ◌++◌, IfOk, OnOk};
 ghost use Rattle.sap_theory.specs.TheoryText.{items_text, theory_text};
 
