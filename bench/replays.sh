@@ -113,6 +113,7 @@ texts() {
     awk -v more="$((now - less))" 'BEGIN { printf "%8s for each KiB more: %.2f kB\n", "", more / 8000 }'
 }
 
+before=
 places 3900
 echo process-run > "$work/none.prun"
 echo rule-run > "$work/none.rrun"
