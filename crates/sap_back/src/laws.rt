@@ -1,4 +1,4 @@
-//! The law of runs of rules and of the process, as the contract of a function that only calls the laws below.
+//! Laws of runs of rules and of the process, as contracts of functions that only call the laws below.
 ghost use Rattle.std.specs.Prelude.{All, List, Some, ◌<◌, ◌^◌, ◌≡◌};
 ghost use Rattle.sap_back.specs.Along.{BeginsAlong};
 ghost use Rattle.sap_back.specs.Followed.{BeginsTabled, EndsTabled, LinesAreFollowed};
@@ -29,10 +29,11 @@ use sap_translate::{
 };
 
 /// A law: before the first line of rules no line of the process goes along, and from there on each line of the rules that is
-/// possible within the limit on terms, and behind which the full trace counts, is followed, where the process is the annotation of
-/// one that is ready: by the lines of the process that `IsWritten` tells from it and from tables, which say what the facts and the
-/// entries of the rules are in the process. There are tables before the first line, and `IsWritten` tells those behind each. A K
-/// event is left pending until an input takes it, or another, an event or the end has it written; at the end it is.
+/// possible within the limit on terms, and behind which the full trace counts, is followed, where the process is the annotation
+/// of one that is ready and has fewer than 2^64 places: by the lines of the process that `IsWritten` tells from it and from
+/// tables, which say what the facts and the entries of the rules are in the process. There are tables before the first line, and
+/// `IsWritten` tells those behind each. A K event is left pending until an input takes it, or another, an event or the end has it
+/// written; at the end it is.
 pub fn lines_are_followed()
     ensures begins { (g : Sig) (p q : Proc) → HoldsBuiltins g → IsReady g p → node_count p < 2 ^ 64 → IsAnnotation p q
         → BeginsAlong g q }
@@ -69,8 +70,9 @@ pub(crate) fn files_are_replayed()
 }
 
 /// A law: each run of the rules of a process that is legal within the limit on terms, and whose full trace counts, has lines of the
-/// process opposite, where the process is the annotation of one that is ready. They are legal within the limit, show what is seen
-/// of the full trace, have its marks, and leave the adversary with all that it knows there; there are no more of them.
+/// process opposite, where the process is the annotation of one that is ready and has fewer than 2^64 places. They are legal within
+/// the limit, show what is seen of the full trace, have its marks, and leave the adversary with all that it knows there; there are
+/// no more of them.
 pub fn legal_runs_have_runs_opposite()
     ensures { (g : Sig) (p q : Proc) → HoldsBuiltins g → IsReady g p → node_count p < 2 ^ 64 → IsAnnotation p q
         → HasOpposites g q }
@@ -91,9 +93,9 @@ pub fn legal_runs_have_runs_opposite()
 }
 
 /// A law: of the lines of a run of the rules of a process one answer is right, where the process is the annotation of one that is
-/// ready, over a signature that holds pairs: they count, with one state and one full trace; or one of them is the first that is
-/// refused, for one cause that isn't want of memory; or one of them is the first behind which a restriction is false, and that is one
-/// restriction.
+/// ready and has fewer than 2^64 places, over a signature that holds pairs: they count, with one state and one full trace; or one
+/// of them is the first that is refused, for one cause that isn't want of memory; or one of them is the first behind which a
+/// restriction is false, and that is one restriction.
 pub fn rule_runs_have_one_answer()
     ensures { (g : Sig) (p q : Proc) (rule_lines : List RStep) → arity_of g pair_name ≡ Some 2 → HoldsBuiltins g → IsReady g p
         → node_count p < 2 ^ 64 → IsAnnotation p q → HaveOneAnswer g q rule_lines }

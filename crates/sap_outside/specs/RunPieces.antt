@@ -1,5 +1,5 @@
 -- The bytes of a run, which are read in pieces, and what is answered of them.
-use Rattle.std.specs.Prelude.{◌≡◌, ◌≤◌, ◌<◌, ◌+◌, ℕ, List, [], ◌++◌, length, Option, None, Some, IsSomeAnd, Result, Ok, Err}
+use Rattle.std.specs.Prelude.{◌≡◌, ◌≤◌, ◌<◌, ◌+◌, ℕ, min, List, [], ◌++◌, length, Option, None, Some, IsSomeAnd, Result, Ok, Err}
 use Rattle.std.specs.FinMap as map
 use Rattle.sap_run_texts.specs.declared.run.Kinds.{Kinds}
 use Rattle.sap_run_texts.specs.declared.run.Run.{Run}
@@ -8,22 +8,46 @@ use Rattle.sap_run_texts.specs.declared.limits.TheConstants.{MOST_PROCESS_STEPS,
 use Rattle.sap_run_texts.specs.RunTexts.{IsHeaded, process_head, rule_head, IsRunRead}
 use Rattle.sap_outside.specs.declared.run_refusal.RunRefusal.{RunRefusal}
 use Rattle.sap_outside.specs.declared.run_refusal.RunRefusal.TheVariants as refusal
-use Rattle.sap_outside.specs.Outside.{Files, piece_bytes}
+use Rattle.sap_outside.specs.Outside.{Files, piece_bytes, more}
 
 -- how many bytes a run may have
 abbrev pub most_run_bytes : ℕ
 most_run_bytes = 16777216
 
--- first bytes of a file: all of them, unless they are more than a run may have
+-- first bytes of a file: all of them, unless they are more than a run may have, and then by one piece at most
 pub record IsReadUp (file z : List ℕ) : Type 0 where
   pub left : List ℕ
   pub part : file ≡ z ++ left
   pub whole : length z ≤ most_run_bytes → left ≡ []
+  pub short : length z ≤ most_run_bytes + piece_bytes
 
 -- the joined pieces that reading a run of this name may give, by what the shelf tells
 abbrev pub IsJoined : Option Files → List ℕ → List ℕ → Type 0
 IsJoined None name z = length z ≤ most_run_bytes + piece_bytes
 IsJoined (Some files) name z = IsSomeAnd (map.get files name) (λ file. IsReadUp file z)
+
+-- how many bytes these are, where there are some
+abbrev pub held_length : Option (List ℕ) → ℕ
+held_length None = 0
+held_length (Some z) = length z
+
+-- how many bytes of a run of this name may have come before reading it failed, by what the shelf tells
+abbrev pub may_come : Option Files → List ℕ → ℕ
+may_come None name = most_run_bytes
+may_come (Some files) name = min most_run_bytes (held_length (map.get files name))
+
+-- the run of this name was opened and read to these bytes: each piece but the last has a byte at least
+pub record WasRead (holds : Option Files) (name : List ℕ) (asked_before asked_after : Option ℕ) (z : List ℕ) : Type 0 where
+  pub joined : IsJoined holds name z
+  pub nexts : ℕ
+  pub few : nexts ≤ length z + 1
+  pub asked : asked_after ≡ more (nexts + 1) asked_before
+
+-- reading the run of this name was given up: each piece that came had a byte at least
+pub record WasGivenUp (holds : Option Files) (name : List ℕ) (asked_before asked_after : Option ℕ) : Type 0 where
+  pub nexts : ℕ
+  pub few : nexts ≤ may_come holds name + 1
+  pub asked : asked_after ≡ more (nexts + 1) asked_before
 
 -- what is answered of these bytes, where runs of this kind are asked for: the run; or why they are none, which is that they are
 -- too many, whatever else is wrong, or what their reader says, and for too many steps how many a run of its kind may have

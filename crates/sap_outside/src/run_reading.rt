@@ -1,12 +1,12 @@
 //! Runs read from a shelf, in pieces.
-ghost use Rattle.std.specs.Prelude.{◌≡◌, ◌≤◌, ◌+◌, ◌↔◌, ℕ, List, Err, length, slice_get, OnOk, IfOk, IsErrOf, IsTrue, IsSomeAnd, Some};
+ghost use Rattle.std.specs.Prelude.{◌≡◌, ◌≤◌, ◌+◌, ◌↔◌, ℕ, List, Err, length, slice_get, Option, OnOk, OnErr, IfOk, IsErrOf, IsTrue, IsSomeAnd, Some};
 ghost use Rattle.sap_run_texts.specs.RunReading.{StandsFor};
 ghost use Rattle.sap_run_texts.specs.RunTexts.{IsRunRead};
 ghost use Rattle.sap_run_texts.specs.declared.run_fault.RunFault.TheVariants as fault;
 ghost use Rattle.sap_outside.specs.declared.run_refusal.RunRefusal.TheVariants as refusal;
-ghost use Rattle.sap_outside.specs.Outside.{Rose, one_more, more};
-ghost use Rattle.sap_outside.specs.RunPieces.{most_run_bytes, IsJoined, IsRunAnswer};
-ghost use Rattle.sap_outside.specs.code.RunFed.{IsTallyOf, IsPieceFed, IsRunFed};
+ghost use Rattle.sap_outside.specs.Outside.{Files, Rose, IsWholeFile, one_more};
+ghost use Rattle.sap_outside.specs.RunPieces.{most_run_bytes, IsRunAnswer, WasRead, WasGivenUp};
+ghost use Rattle.sap_outside.specs.code.RunFed.{IsTallyOf, IsPieceFed, IsRunFed, WasAsked, may_come_of};
 
 use crate::run_refusal::RunRefusal;
 use crate::tally::Tally;
@@ -28,29 +28,58 @@ pub fn read_run<S: Shelf>(
     name: &str,
     kinds: Kinds,
 ) -> Result<Result<Run, RunRefusal>, ShelfFault>
-    ensures told { IfOk result (λ answer. (z : List ℕ) × IsJoined (S.holds shelf.old) name.now z
+    ensures told { IfOk result (λ answer. (z : List ℕ)
+        × WasRead (S.holds shelf.old) name.now (S.asked shelf.old) (S.asked shelf.new) z
         × IsRunAnswer kinds z answer) }
+    ensures given_up { OnErr result
+        (WasGivenUp (S.holds shelf.old) name.now (S.asked shelf.old) (S.asked shelf.new)) }
+    ensures opened { OnOk result (S.opened shelf.new ≡ Some name.now) }
     ensures same { S.holds shelf.new ≡ S.holds shelf.old }
-    ensures asked { (nexts : ℕ) × (S.asked shelf.new ≡ more (nexts + 1) (S.asked shelf.old)) }
     ensures later { (n : List ℕ) → S.faults shelf.old n ≤ S.faults shelf.new n }
     ensures cause { IsErrOf result ShelfFault.Failed
         → Rose (S.faults shelf.old name.now) (S.faults shelf.new name.now) }
 {
     shelf.begin(alloc, name)?;
+    read_open(alloc, shelf, kinds)
+}
+
+// The run that the open file is, or why its bytes are none, where the last call opened it.
+fn read_open<S: Shelf>(
+    alloc: Global,
+    shelf: &mut S,
+    kinds: Kinds,
+) -> Result<Result<Run, RunRefusal>, ShelfFault>
+    ensures told { (holds : Option Files) → (name : List ℕ) → (before : Option ℕ)
+        → IsWholeFile holds name (S.rest shelf.old) → S.asked shelf.old ≡ one_more before
+        → IfOk result (λ answer. (z : List ℕ)
+        × WasRead holds name before (S.asked shelf.new) z × IsRunAnswer kinds z answer) }
+    ensures given_up { (holds : Option Files) → (name : List ℕ) → (before : Option ℕ)
+        → IsWholeFile holds name (S.rest shelf.old) → S.asked shelf.old ≡ one_more before
+        → OnErr result (WasGivenUp holds name before (S.asked shelf.new)) }
+    ensures opened { OnOk result (S.opened shelf.new ≡ S.opened shelf.old) }
+    ensures same { S.holds shelf.new ≡ S.holds shelf.old }
+    ensures later { (n : List ℕ) → S.faults shelf.old n ≤ S.faults shelf.new n }
+    ensures cause { IsErrOf result ShelfFault.Failed
+        → IsSomeAnd (S.opened shelf.old) (λ name. Rose (S.faults shelf.old name) (S.faults shelf.new name)) }
+{
     let mut reader = RunReader::new(alloc, kinds);
     let tally = feed_pieces(alloc, shelf, &mut reader)?;
     answer(reader, kinds, tally)
 }
 
-// Feeds the open file to the reader, up to its end or until it is known to be too long.
+// Feeds the open file to the reader, up to its end or until it is known to be too long. Each piece that doesn't end it has a
+// byte at least.
 fn feed_pieces<S: Shelf>(
     alloc: Global,
     shelf: &mut S,
     reader: &mut RunReader,
 ) -> Result<Tally, ShelfFault>
     ensures fed { IfOk result (λ t. IsRunFed (S.rest shelf.old) reader.old reader.new t.given t.first) }
+    ensures asked { IfOk result (λ t. WasAsked (t.given + 1) (S.asked shelf.old) (S.asked shelf.new)) }
+    ensures given_up { OnErr result
+        (WasAsked (may_come_of (S.rest shelf.old) + 1) (S.asked shelf.old) (S.asked shelf.new)) }
+    ensures opened { OnOk result (S.opened shelf.new ≡ S.opened shelf.old) }
     ensures same { S.holds shelf.new ≡ S.holds shelf.old }
-    ensures asked { (nexts : ℕ) × (S.asked shelf.new ≡ more nexts (S.asked shelf.old)) }
     ensures later { (n : List ℕ) → S.faults shelf.old n ≤ S.faults shelf.new n }
     ensures cause { IsErrOf result ShelfFault.Failed
         → IsSomeAnd (S.opened shelf.old) (λ name. Rose (S.faults shelf.old name) (S.faults shelf.new name)) }
@@ -97,6 +126,7 @@ fn answer(
     requires { reader.kinds ≡ kinds }
     ensures told { (z : List ℕ) → StandsFor reader z → IsTallyOf z tally.given tally.first
         → IfOk result (IsRunAnswer kinds z) }
+    ensures short { OnErr result (tally.given ≤ most_run_bytes) }
     ensures sound { IsErrOf result ShelfFault.Failed → ⊥ }
 {
     if tally.given > MOST_RUN_BYTES {

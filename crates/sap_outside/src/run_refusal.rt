@@ -1,3 +1,5 @@
+//! Why the bytes of a run are none.
+
 /// Why the bytes of a run are none. Want of memory is no such cause.
 #[derive(Clone, Copy, Debug, PartialEq, Eq)]
 pub enum RunRefusal {

@@ -58,11 +58,12 @@ pub trait Shelf {
 
     /// The first `limit + 1` bytes of the file, or all of it where it has fewer: a file longer than the
     /// limit shows itself by one byte too many. A shelf that tells answers no bytes for a name that it
-    /// doesn't hold.
+    /// doesn't hold. An open file stays as it is, whatever is answered.
     fn fetch(&mut self, alloc: Global, name: &str, limit: u64) -> Result<Vec<u8>, ShelfFault>
         requires { limit ≤ 16777216 }
         ensures most { IfOk result (λ v. length v.items ≤ limit + 1) }
         ensures told { IfOk result (λ v. IsFetched (holds self.old) name.now limit v.items) }
+        ensures kept { (opened self.new ≡ opened self.old) × (rest self.new ≡ rest self.old) }
         ensures same { holds self.new ≡ holds self.old }
         ensures asked { asked self.new ≡ one_more (asked self.old) }
         ensures later { (n : List ℕ) → faults self.old n ≤ faults self.new n }

@@ -5,3 +5,6 @@ pub mod SomeText
 pub mod OneRun
 pub mod StepTexts
 pub mod PrintedRuns
+pub mod NamedSteps
+pub mod ReadRuns
+pub mod Numbered

@@ -2,6 +2,7 @@
 ghost use Rattle.std.specs.Prelude.{◌≡◌, ◌≤◌, ℕ, List, Result, Ok, length};
 ghost use Rattle.sap_runs.specs.declared.process_step.PStep.{PStep};
 ghost use Rattle.sap_runs.specs.declared.rule_step.RStep.{RStep};
+ghost use Rattle.sap_run_lines.specs.StepLines.{process_words};
 ghost use Rattle.sap_run_lines.specs.Spellable.{IsWritableProcess, IsWritableRule};
 ghost use Rattle.sap_run_texts.specs.declared.run_fault.RunFault.{RunFault};
 ghost use Rattle.sap_run_texts.specs.declared.run.Kinds.{Kinds};
@@ -9,6 +10,7 @@ ghost use Rattle.sap_run_texts.specs.declared.run.Run.{Run};
 ghost use Rattle.sap_run_texts.specs.declared.limits.TheConstants.{MOST_PROCESS_STEPS, MOST_RULE_STEPS};
 ghost use Rattle.sap_run_texts.specs.RunTexts.{IsProcessRunText, IsRuleRunText, IsRunRead};
 ghost use Rattle.sap_run_texts.specs.RunPrinted.{Each, process_run_text, rule_run_text};
+ghost use Rattle.sap_run_texts.specs.Writable.{AreNumbered, CanBeNamed};
 
 use sap_run_lines::{lines_are_one, step_lines_are_lines, written_lines_are_read};
 
@@ -44,3 +46,16 @@ pub fn printed_runs_are_read()
 {
     written_lines_are_read();
 }
+
+/// A law: a step whose names may stand so, and whose numbers are of 64 bits, can be written.
+pub fn named_steps_can_be_written()
+    ensures { (s : PStep) → CanBeNamed s → AreNumbered (process_words s) → IsWritableProcess s }
+{}
+
+/// A law: each step of a run that was read can be written.
+pub fn read_runs_can_be_written()
+    ensures process { (z : List ℕ) (ss : List PStep) → IsProcessRunText z (Ok ss)
+        → Each IsWritableProcess ss }
+    ensures rule { (z : List ℕ) (ss : List RStep) → IsRuleRunText z (Ok ss)
+        → Each IsWritableRule ss }
+{}

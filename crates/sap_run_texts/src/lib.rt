@@ -1,6 +1,7 @@
 //! The texts of runs, read whole and in pieces, and printed.
 #![tactic(auto)]
 
+mod fitting;
 mod laws;
 mod limits;
 mod phase;
@@ -11,7 +12,9 @@ mod run;
 mod run_fault;
 mod step_text;
 
-pub use laws::{one_run, printed_runs_are_read, some_run};
+pub use laws::{
+    named_steps_can_be_written, one_run, printed_runs_are_read, read_runs_can_be_written, some_run,
+};
 pub use limits::{MOST_PROCESS_STEPS, MOST_RULE_STEPS};
 pub use print::{print_prun, print_rrun};
 pub use read::{read_prun, read_rrun};

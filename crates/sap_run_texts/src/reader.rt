@@ -219,8 +219,8 @@ impl RunReader {
         }
     }
 
-    /// Takes the piece up. A fault of the text is kept for the end, and bytes behind it aren't looked at. Where memory is
-    /// wanting the reader has failed for good.
+    /// Reads these bytes behind those before them. What is wrong with the text `finish` tells, and no byte behind it is looked
+    /// at. Where memory is wanting the reader has failed for good.
     pub fn feed(&mut self, piece: &[u8]) -> Result<(), Mem>
         ensures kinds { self.new.kinds ≡ self.old.kinds }
         ensures stands { OnOk result ((z : List ℕ) → StandsFor self.old z

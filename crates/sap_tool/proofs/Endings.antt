@@ -8,15 +8,15 @@ use Rattle.sap_run_texts.specs.declared.run.Run.{Run}
 use Rattle.sap_tool.specs.AcceptedFile.{IsAcceptedFile}
 use Rattle.sap_tool.specs.AcceptedTheory.{IsAcceptedTheory}
 use Rattle.sap_tool.specs.Replays.{IsCheckedText}
-use Rattle.sap_outside.specs.Outside.{Files, Rose, IsFetched, more, one_more}
-use Rattle.sap_outside.specs.RunPieces.{IsJoined, IsRunAnswer}
+use Rattle.sap_outside.specs.Outside.{Files, Rose, IsFetched, one_more}
+use Rattle.sap_outside.specs.RunPieces.{WasRead, WasGivenUp, IsRunAnswer}
 use Rattle.sap_tool.specs.Call.{Call}
 use Rattle.sap_tool.specs.Commands.{Command, replay, check, alone, and_run, file_of, run_of, limit_of, kinds_of, Refuses, RefusesRun, Writes}
-use Rattle.sap_tool.specs.Answers.{tells, IsAnswerTo, allowed, refused, run_refused, Asks, AskedOnce, AskedForRun, Fetched, IsAnswer, to_input, usage, unread, unread_run}
+use Rattle.sap_tool.specs.Answers.{tells, IsAnswerTo, allowed, refused, run_refused, Asks, AskedOnce, Fetched, IsAnswer, to_input, usage, unread, unread_run}
 use Rattle.sap_refusals.specs.Refusals.{refused_line}
 use Rattle.sap_refusals.specs.RunFaultTexts.{run_refused_line}
 use Rattle.sap_tool.specs.RunRefusals.{IsIllegal, IsIllegalOfTheory}
-use Rattle.sap_tool.specs.code.Endings.{Ends, EndsFile, EndsBoth, HasRead, Reading, ending_of, refused_ending}
+use Rattle.sap_tool.specs.code.Endings.{Ends, EndsFile, EndsBoth, HasRead, HasGivenUp, Reading, ending_of, refused_ending}
 use Rattle.sap_tool.specs.code.Refused.{IsRunRefusal}
 use Rattle.sap_refusals.specs.declared.refusal.Refusal.{Refusal}
 use Rattle.sap_refusals.specs.declared.refusal.Refusal.TheVariants as refusal
@@ -47,21 +47,22 @@ of_file c k bytes ending.Mem asks fetched once t = tt
 module _ (c : Call) (k : Command) (bytes : List ℕ) (r : Reading) (asks : Asks c k) (fetched : IsFetched c.holds (file_of k) (limit_of k) bytes) (named : run_of k ≡ Some r.run)
     (holds : r.holds ≡ c.holds) (before : c.faults_before r.run ≤ r.faults_before) (after : r.faults_after ≡ c.faults_after r.run) (asked_before : r.asked_before ≡ one_more c.asked_before)
     (asked_after : r.asked_after ≡ c.asked_after) where
-  joined_of : (z : List ℕ) → IsJoined r.holds r.run z → IsJoined c.holds r.run z
-  joined_of z j = subst (λ (h : Option Files). IsJoined h r.run z) holds j
-
-  asked_of : (n : ℕ) → r.asked_after ≡ more (n + 1) r.asked_before → AskedForRun c n
-  asked_of n a = sym asked_after ∙ a ∙ ap (more (n + 1)) asked_before
-
   read_of : (z : List ℕ) → HasRead r z → Fetched c k (and_run bytes z)
-  read_of z h = (fetched, (r.run, named, joined_of z h.0), (h.1.0, asked_of h.1.0 h.1.1))
+  read_of z was = (fetched, (r.run, named,
+      subst (λ (x : Option ℕ). WasRead c.holds r.run (one_more c.asked_before) x z) asked_after
+      (subst (λ (x : Option ℕ). WasRead c.holds r.run x r.asked_after z) asked_before (subst (λ (h : Option Files). WasRead h r.run r.asked_before r.asked_after z) holds was))))
+
+  given_up_of : HasGivenUp r → WasGivenUp c.holds r.run (one_more c.asked_before) c.asked_after
+  given_up_of was =
+      subst (λ (x : Option ℕ). WasGivenUp c.holds r.run (one_more c.asked_before) x) asked_after
+      (subst (λ (x : Option ℕ). WasGivenUp c.holds r.run x r.asked_after) asked_before (subst (λ (h : Option Files). WasGivenUp h r.run r.asked_before r.asked_after) holds was))
 
   pub of_both : (e : Ending) → EndsBoth k bytes r e → Ends c e
   of_both (ending.Given text) t = to_input k (and_run bytes t.0) asks (read_of t.0 t.1) (allowed t.2)
   of_both ending.Usage t = absurd t
   of_both ending.Unread t =
       let rose : Rose (c.faults_before r.run) r.faults_after = rose_before (c.faults_before r.run) r.faults_before r.faults_after before t.1 in
-      unread_run k bytes r.run t.2.0 asks (fetched, t.0) named (subst (λ (n : ℕ). Rose (c.faults_before r.run) n) after rose) (asked_of t.2.0 t.2.1)
+      unread_run k bytes r.run asks (fetched, t.0) named (subst (λ (n : ℕ). Rose (c.faults_before r.run) n) after rose) (given_up_of t.2)
   of_both (ending.File line) t = to_input k (alone bytes) asks (fetched, sym asked_after ∙ t.1 ∙ asked_before) t.0
   of_both (ending.Run line) t = to_input k (and_run bytes t.0) asks (read_of t.0 t.1) t.2
   of_both ending.Mem t = tt
@@ -72,7 +73,7 @@ told_is c n _ (to_input k input asks fetched (refused why r)) e = cc
 told_is c n _ (to_input k input asks fetched (run_refused why r)) e = cc
 told_is c n _ (usage u a) e = usage_is e
 told_is c n _ (unread k asks f a) e = read_fault_is e
-told_is c n _ (unread_run k bytes run nexts asks fetched named f a) e = read_fault_is e
+told_is c n _ (unread_run k bytes run asks fetched named f a) e = read_fault_is e
 
 -- what a task writes of a run that was read, or the line that refuses it, ends both
 pub replay_ends : (task : Task) (file run bytes z : List ℕ) (f : FileContent) (r : Reading) (text : Result (List ℕ) Refusal) → IsAcceptedFile bytes f → HasRead r z

@@ -9,7 +9,7 @@ use Rattle.sap_rule.specs.declared.theory.Theory.{Theory}
 use Rattle.sap_run_texts.specs.declared.run.Kinds.TheVariants.{Rules}
 use Rattle.sap_run_texts.specs.declared.run.Run.{Run}
 use Rattle.sap_theory.specs.ReadTheory.{IsTheoryRead}
-use Rattle.sap_outside.specs.Outside.{Files, IsFetched, IsFirstPart}
+use Rattle.sap_outside.specs.Outside.{Files, IsFetched, IsFirstPart, one_more}
 use Rattle.sap_refusals.specs.Refusals.{refused_line}
 use Rattle.sap_outside.specs.Pieces.{pieces}
 use Rattle.sap_outside.specs.Stream.{Gained, Failed, CutShort}
@@ -22,12 +22,13 @@ use Rattle.sap_tool.specs.Commands.{Command, compile, replay, check, Input, alon
 use Rattle.sap_tool.specs.AcceptedFile.{compiled_theory}
 use Rattle.sap_tool.specs.Answers.{Answer, gives, tells, status_of, allowed, refused, run_refused, Asks, Fetched, IsAnswer, to_input, sampled, usage, unread, unread_run, IsPut, whole, broken, wanting, IsLast, complete, cut, write_fault_text, memory_text, Ended, answered, unanswered}
 use Rattle.sap_tool.specs.Promises as promised
-use Rattle.sap_outside.specs.RunPieces.{IsJoined, IsReadUp}
+use Rattle.sap_outside.specs.RunPieces.{IsJoined, IsReadUp, WasRead}
 use Rattle.sap_tool.specs.RunRefusals.{IsIllegal, IsIllegalOfTheory, IsRunRefusedWith, no_run, illegal}
 use Rattle.sap_refusals.specs.RunFaultTexts.{run_refused_line}
 use Rattle.sap_tool.proofs.Legal as legal
 use Rattle.sap_tool.proofs.Legal.{seen_is_legal, never_illegal, never_illegal_of_theory}
 use Rattle.sap_tool.proofs.Takes.{allowed_takes, taken_accepts}
+use Rattle.sap_tool.proofs.Meant as meant
 use Rattle.sap_tool.proofs.Meant.{written_says}
 use Rattle.sap_sample.specs.Sample.{IsSample, sample_text}
 use Rattle.sap_tool.proofs.SampleWords.{no_command_is_sample, one_sample}
@@ -51,6 +52,7 @@ pub record Laws : Type 0 where
   pub one_run : OneRun
   pub theories : (z : List ℕ) (t : Theory) → IsTheoryRead z (Ok t) → IsRunnableTheory t
   pub legal : legal.Laws
+  pub meant : meant.Laws
   pub one_illegal : (f : FileContent) (r : Run) (why other : List ℕ) → IsRunnable f → IsIllegal f r why → IsIllegal f r other → why ≡ other
   pub one_illegal_of_theory : (t : Theory) (r : Run) (why other : List ℕ) → HoldsBuiltins t.signature → All (IsWellMade t.signature) t.rules → IsIllegalOfTheory t r why → IsIllegalOfTheory t r other
       → why ≡ other
@@ -70,7 +72,13 @@ means laws (compile way file) (alone bytes) text t =
 means laws (compile way file) (and_run bytes z) text t = absurd t
 means laws (replay task file run) (alone bytes) text t = absurd t
 means laws (replay task file run) (and_run bytes z) text t =
-    record { told = t.told; file = t.file; lines = t.lines; read = t.read; written = written_says task t.told t.lines text t.written }
+    record {
+      told = t.told;
+      file = t.file;
+      lines = t.lines;
+      read = t.read;
+      written = written_says laws.meant (kinds_of task) z t.told (laws.runnable bytes t.told t.file.read) task t.lines text t.read t.written;
+    }
 means laws (check theory run) (alone bytes) text t = absurd t
 means laws (check theory run) (and_run bytes z) text t = t
 
@@ -281,7 +289,7 @@ module _ (laws : Laws) (c : Call) where
     at (sampled n asks none) e = (0, lit< tt, sym e)
     at (usage u n) e = (3, lit< tt, sym e)
     at (unread k asks f n) e = (4, lit< tt, sym e)
-    at (unread_run k bytes run nexts asks fetched is_run f n) e = (4, lit< tt, sym e)
+    at (unread_run k bytes run asks fetched is_run f n) e = (4, lit< tt, sym e)
   statuses s (answered a is (broken taken last e b p l)) = (5, lit< tt, sym e)
   statuses s (answered a is (wanting taken last e b p l)) = (6, lit< tt, sym e)
   statuses s (unanswered last e none word l) = (6, lit< tt, sym e)
@@ -293,7 +301,7 @@ module _ (laws : Laws) (c : Call) where
     at (to_input k input asks fetched (run_refused why r)) e = omega (arith, e)
     at (usage u n) e = omega (arith, e)
     at (unread k asks f n) e = omega (arith, e)
-    at (unread_run k bytes run nexts asks fetched is_run f n) e = omega (arith, e)
+    at (unread_run k bytes run asks fetched is_run f n) e = omega (arith, e)
   given s (answered (gives text) (to_input k input asks fetched (allowed t)) (whole e w)) z = inl (record {
     command = k;
     input = input;
@@ -326,7 +334,7 @@ module _ (laws : Laws) (c : Call) where
   below_five (sampled n asks none) = lit< tt
   below_five (usage u n) = lit< tt
   below_five (unread k asks f n) = lit< tt
-  below_five (unread_run k bytes run nexts asks fetched is_run f n) = lit< tt
+  below_five (unread_run k bytes run asks fetched is_run f n) = lit< tt
 
   unwritten : (s : ℕ) → Ended (IsAnswer c) c.out c.err s → s ≡ 5 → promised.Unwritten c
   unwritten s (answered a is (whole e w)) z = let l = below_five is in absurd (omega (arith, l, e, z))
@@ -365,7 +373,7 @@ module _ (laws : Laws) (c : Call) where
   must_tell_usage s (answered _ (sampled n asks none) put) unknown = absurd (unknown.no_sample n asks)
   must_tell_usage s (answered _ (usage u n) put) unknown = elim (told_ends s 3 _ put) [ inl h ↦ inl h.0 | inr h ↦ inr h ]
   must_tell_usage s (answered _ (unread k asks f n) put) unknown = absurd (unknown.no_command k asks)
-  must_tell_usage s (answered _ (unread_run k bytes run nexts asks fetched is_run f n) put) unknown = absurd (unknown.no_command k asks)
+  must_tell_usage s (answered _ (unread_run k bytes run asks fetched is_run f n) put) unknown = absurd (unknown.no_command k asks)
   must_tell_usage s (unanswered last e none word l) unknown = inr (inr e)
 
   module _ (k : Command) (bytes : List ℕ) (asked : Asks c k) (held : Holds c.holds (file_of k) bytes) where
@@ -422,17 +430,17 @@ module _ (laws : Laws) (c : Call) where
     must_refuse s (answered _ (usage u n) put) why r = absurd (u.no_command k asked)
     must_refuse s (answered _ (unread l asks f n) put) why r =
         elim (told_ends s 4 _ put) [ inl h ↦ inr (inl (h.0, failed_of l asks f)) | inr h ↦ inr (inr h) ]
-    must_refuse s (answered _ (unread_run l z run nexts asks fetched is_run f n) put) why r =
+    must_refuse s (answered _ (unread_run l z run asks fetched is_run f n) put) why r =
         absurd (accepted_never laws k part why (accepts_of l z asks fetched.0 fetched.1) (part_is_refused k bytes why r))
     must_refuse s (unanswered last e none word l) why r = inr (inr (inr e))
 
     -- the run of whatever command the words ask for is this one's
     module _ (run z : List ℕ) (is_run : run_of k ≡ Some run) (held_run : Holds c.holds run z) where
-      read_up_of : (l : Command) (y : List ℕ) → Asks c l → ((other : List ℕ) × (run_of l ≡ Some other) × IsJoined c.holds other y) → IsReadUp z y
-      read_up_of l y asks joined =
-          let same : run_of k ≡ Some joined.0 = subst (λ (m : Command). run_of m ≡ Some joined.0) (one_command c.words l k asks asked) joined.1 in
+      read_up_of : (l : Command) (y : List ℕ) → Asks c l → ((other : List ℕ) × (run_of l ≡ Some other) × WasRead c.holds other (one_more c.asked_before) c.asked_after y) → IsReadUp z y
+      read_up_of l y asks was =
+          let same : run_of k ≡ Some was.0 = subst (λ (m : Command). run_of m ≡ Some was.0) (one_command c.words l k asks asked) was.1 in
           joined_part c.holds run z y held_run
-          (subst (λ (name : List ℕ). IsJoined c.holds name y) (one_name (run_of k) joined.0 run same is_run) joined.2)
+          (subst (λ (name : List ℕ). IsJoined c.holds name y) (one_name (run_of k) was.0 run same is_run) was.2.joined)
 
       must_refuse_run : (s : ℕ) → Ended (IsAnswer c) c.out c.err s → (why : List ℕ) → RefusesRun k bytes z why
           → ((s ≡ 2) × Gained c.err 1 (run_refused_line why)) ⊎ ((s ≡ 4) × promised.FailedOnNamed c k) ⊎ ((s ≡ 5) × Failed c.err) ⊎ (s ≡ 6)
@@ -460,7 +468,7 @@ module _ (laws : Laws) (c : Call) where
       must_refuse_run s (answered _ (usage u n) put) why r = absurd (u.no_command k asked)
       must_refuse_run s (answered _ (unread l asks f n) put) why r =
           elim (told_ends s 4 _ put) [ inl h ↦ inr (inl (h.0, inl (failed_of l asks f))) | inr h ↦ inr (inr h) ]
-      must_refuse_run s (answered _ (unread_run l x name nexts asks fetched named f n) put) why r =
+      must_refuse_run s (answered _ (unread_run l x name asks fetched named f n) put) why r =
           let same : run_of k ≡ Some name = subst (λ (m : Command). run_of m ≡ Some name) (one_command c.words l k asks asked) named in
           elim (told_ends s 4 _ put) [ inl h ↦ inr (inl (h.0, inr (name, same, f))) | inr h ↦ inr (inr h) ]
       must_refuse_run s (unanswered last e none word l) why r = inr (inr (inr e))
@@ -478,7 +486,7 @@ module _ (laws : Laws) (c : Call) where
       must_answer s (answered _ (sampled n asks none) put) = absurd (no_command_is_sample c.words k n asked asks)
       must_answer s (answered _ (usage u n) put) = absurd (u.no_command k asked)
       must_answer s (answered _ (unread l asks f n) put) = absurd (sound (inl (failed_of l asks f)))
-      must_answer s (answered _ (unread_run l x name nexts asks fetched named f n) put) =
+      must_answer s (answered _ (unread_run l x name asks fetched named f n) put) =
           let same : run_of k ≡ Some name = subst (λ (m : Command). run_of m ≡ Some name) (one_command c.words l k asks asked) named in
           absurd (sound (inr (name, same, f)))
       must_answer s (unanswered last e none word l) = inr e
@@ -517,7 +525,7 @@ module _ (laws : Laws) (c : Call) where
         given_text s (sample_text n) (sample_text m) (ap sample_text (one_sample c.words m n asks asked)) open_out put
     must_tell_sample s (answered _ (usage u none) put) open_out = absurd (u.no_sample n asked)
     must_tell_sample s (answered _ (unread k asks f none) put) open_out = absurd (no_command_is_sample c.words k n asks asked)
-    must_tell_sample s (answered _ (unread_run k bytes run nexts asks fetched is_run f none) put) open_out = absurd (no_command_is_sample c.words k n asks asked)
+    must_tell_sample s (answered _ (unread_run k bytes run asks fetched is_run f none) put) open_out = absurd (no_command_is_sample c.words k n asks asked)
     must_tell_sample s (unanswered last e none word l) open_out = inr e
 
   module _ (way : Way) (file bytes : List ℕ) (asked : Asks c (compile way file)) (held : Holds c.holds file bytes) where
@@ -538,7 +546,7 @@ module _ (laws : Laws) (c : Call) where
     must_give s (answered _ (sampled n asks none) put) text t sound open_out = absurd (no_command_is_sample c.words k n asked asks)
     must_give s (answered _ (usage u n) put) text t sound open_out = absurd (u.no_command k asked)
     must_give s (answered _ (unread l asks f n) put) text t sound open_out = absurd (sound (failed_of k bytes asked held l asks f))
-    must_give s (answered _ (unread_run l x name nexts asks fetched named f n) put) text t sound open_out =
+    must_give s (answered _ (unread_run l x name asks fetched named f n) put) text t sound open_out =
         let none : run_of k ≡ Some name = subst (λ (m : Command). run_of m ≡ Some name) (one_command c.words l k asks asked) named in cc
     must_give s (unanswered last e none word l) text t sound open_out = inr e
 

@@ -1,20 +1,36 @@
 -- What is written of a run means what it says.
-use Rattle.std.proofs.Common.{ℕ, List, refl, subst}
-use Rattle.std.specs.Prelude.{Contains}
+use Rattle.std.proofs.Common.{ℕ, List, Ok, refl, subst}
+use Rattle.std.specs.Prelude.{◌↔◌, Contains}
 use Rattle.sap_terms.specs.Tree.{Tree}
 use Rattle.sap_formula.specs.Hide.{hide}
-use Rattle.sap_read.specs.Files.{FileContent}
+use Rattle.sap_read.specs.Files.{FileContent, IsRunnable}
+use Rattle.sap_run_texts.specs.declared.run.Kinds.{Kinds}
 use Rattle.sap_run_texts.specs.declared.run.Run.{Run}
+use Rattle.sap_run_texts.specs.declared.run.Run.TheVariants as run
+use Rattle.sap_runs.specs.declared.process_step.PStep.{PStep}
+use Rattle.sap_runs.specs.declared.rule_step.RStep.{RStep}
 use Rattle.sap_steps.specs.Marks.{marks}
+use Rattle.sap_outside.specs.RunPieces.{IsRunAnswer}
+use Rattle.sap_forward.specs.Converted as forward
+use Rattle.sap_back.specs.Converted as back
 use Rattle.sap_tool.specs.AcceptedFile.{compiled_theory}
 use Rattle.sap_tool.specs.Commands.{Writes, Says}
-use Rattle.sap_tool.specs.Replays.{IsConvertedText, to_rules, to_process, IsOppositeText, rules_of_process, process_of_rules}
+use Rattle.sap_tool.specs.Replays.{IsConvertedText, to_rules, to_process, AreOpposite, IsJudgedText, IsOppositeText, rules_of_process, process_of_rules}
 use Rattle.sap_tool.specs.declared.task.Task.{Task}
 use Rattle.sap_tool.specs.declared.task.Task.TheVariants.{ToRules, ToProcess, Judge}
 use Rattle.sap_tool.specs.declared.way.Way.TheVariants.{Plain}
+use Rattle.sap_tool.proofs.Written as written
+use Rattle.sap_tool.proofs.Written.{opposite_is_read}
 
-converted_is_opposite : (f : FileContent) (r : Run) (text : List ℕ) → IsConvertedText f r text → IsOppositeText f r text
-converted_is_opposite f _ _ (to_rules rule_lines c) = rules_of_process rule_lines (record {
+-- what is so of texts of runs, and of what is said on runs that are opposite
+pub record Laws : Type 0 where
+  pub texts : written.Laws
+  pub alike : (f : FileContent) (lines : List PStep) (rule_lines : List RStep) (text : List ℕ) → IsRunnable f → AreOpposite f lines rule_lines
+      → IsJudgedText f (run.Process lines) text ↔ IsJudgedText f (run.Rules rule_lines) text
+
+-- a run of the process and the one of rules that it is converted to are opposite, and the other way about
+forward_is_opposite : (f : FileContent) (lines : List PStep) (rule_lines : List RStep) → forward.IsConverted f.signature f.process lines rule_lines → AreOpposite f lines rule_lines
+forward_is_opposite f lines rule_lines c = record {
   theory = compiled_theory Plain f;
   compiled = refl;
   config = c.config;
@@ -29,8 +45,10 @@ converted_is_opposite f _ _ (to_rules rule_lines c) = rules_of_process rule_line
   shows = c.opposite.shows;
   marked = c.opposite.marked;
   known = λ t k. subst (λ (ts : List Tree). Contains ts t) c.opposite.entries k;
-})
-converted_is_opposite f _ _ (to_process lines c) = process_of_rules lines (record {
+}
+
+back_is_opposite : (f : FileContent) (rule_lines : List RStep) (lines : List PStep) → back.IsConverted f.signature f.process rule_lines lines → AreOpposite f lines rule_lines
+back_is_opposite f rule_lines lines c = record {
   theory = compiled_theory Plain f;
   compiled = refl;
   config = c.opposite.config;
@@ -45,10 +63,20 @@ converted_is_opposite f _ _ (to_process lines c) = process_of_rules lines (recor
   shows = refl;
   marked = refl;
   known = c.opposite.known;
-})
+}
 
--- what a task writes says what it should
-pub written_says : (task : Task) (f : FileContent) (r : Run) (text : List ℕ) → Writes task f r text → Says task f r text
-written_says ToRules f r text w = converted_is_opposite f r text w
-written_says ToProcess f r text w = converted_is_opposite f r text w
-written_says Judge f r text w = w
+module _ (laws : Laws) (k : Kinds) (z : List ℕ) (f : FileContent) (runnable : IsRunnable f) where
+  converted_is_opposite : (r : Run) (text : List ℕ) → IsRunAnswer k z (Ok r) → IsConvertedText f r text → IsOppositeText f r text
+  converted_is_opposite _ _ answer (to_rules {lines = lines} rule_lines c) =
+      let opposite = forward_is_opposite f lines rule_lines c in
+      rules_of_process rule_lines opposite (λ text. laws.alike f lines rule_lines text runnable opposite)
+  converted_is_opposite _ _ answer (to_process {rule_lines = rule_lines} lines c numbered) =
+      let opposite = back_is_opposite f rule_lines lines c in
+      process_of_rules lines opposite (λ text. let both = laws.alike f lines rule_lines text runnable opposite in (both.1, both.0))
+      (λ short. opposite_is_read laws.texts k z rule_lines lines answer c.named numbered short)
+
+  -- what a task writes of a run that was read says what it should
+  pub written_says : (task : Task) (r : Run) (text : List ℕ) → IsRunAnswer k z (Ok r) → Writes task f r text → Says task f r text
+  written_says ToRules r text answer w = converted_is_opposite r text answer w
+  written_says ToProcess r text answer w = converted_is_opposite r text answer w
+  written_says Judge r text answer w = w

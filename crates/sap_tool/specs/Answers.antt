@@ -1,12 +1,12 @@
 -- What there is to say of a call, and how that is put.
 use Rattle.std.specs.Prelude.{◌≡◌, ◌+◌, ℕ, codes, List, [], ◌++◌, take, Some}
-use Rattle.sap_outside.specs.Outside.{IsFetched, more, one_more}
+use Rattle.sap_outside.specs.Outside.{IsFetched, one_more}
 use Rattle.sap_outside.specs.Stream.{Stream, Gained, Failed, Wanted, CutShort, CutTwice}
 use Rattle.sap_tool.specs.Call.{Call, FailedOn}
 use Rattle.sap_tool.specs.Commands.{Command, Input, alone, and_run, spelled, file_of, run_of, limit_of, IsUnknown, Accepts, Refuses, RefusesRun, Allows}
 use Rattle.sap_outside.specs.Pieces.{pieces, GainedPart}
 use Rattle.sap_refusals.specs.Refusals.{refused_line}
-use Rattle.sap_outside.specs.RunPieces.{IsJoined}
+use Rattle.sap_outside.specs.RunPieces.{WasRead, WasGivenUp}
 use Rattle.sap_refusals.specs.RunFaultTexts.{run_refused_line}
 use Rattle.sap_sample.specs.Sample.{IsSample, sample_text}
 
@@ -34,16 +34,12 @@ Asks c k = c.words ≡ spelled k
 abbrev pub AskedOnce : Call → Type 0
 AskedOnce c = c.asked_after ≡ one_more c.asked_before
 
--- the shelf was asked for a file, and then for a run and for so many pieces of it, where it tells that
-abbrev pub AskedForRun : Call → ℕ → Type 0
-AskedForRun c nexts = c.asked_after ≡ more (nexts + 1) (one_more c.asked_before)
-
--- these are bytes that a fetch of the command's file may answer, and pieces of its run, by what the shelf tells, and nothing else
--- was fetched
+-- these are bytes that a fetch of the command's file may answer, and then those to which its run was read, by what the shelf tells,
+-- and nothing else was fetched
 abbrev pub Fetched : Call → Command → Input → Type 0
 Fetched c k (alone bytes) = IsFetched c.holds (file_of k) (limit_of k) bytes × AskedOnce c
 Fetched c k (and_run bytes z) =
-    IsFetched c.holds (file_of k) (limit_of k) bytes × ((run : List ℕ) × (run_of k ≡ Some run) × IsJoined c.holds run z) × ((nexts : ℕ) × AskedForRun c nexts)
+    IsFetched c.holds (file_of k) (limit_of k) bytes × ((run : List ℕ) × (run_of k ≡ Some run) × WasRead c.holds run (one_more c.asked_before) c.asked_after z)
 
 -- these are bytes that a fetch of the command's file may answer, and it accepts them
 abbrev pub FetchedAccepted : Call → Command → List ℕ → Type 0
@@ -71,8 +67,8 @@ pub data IsAnswer (c : Call) : Answer → Type 0 where
   sampled : (n : ℕ) → IsSample c.words n → c.asked_after ≡ c.asked_before → IsAnswer c (gives (sample_text n))
   usage : IsUnknown c.words → c.asked_after ≡ c.asked_before → IsAnswer c (tells 3 usage_text)
   unread : (k : Command) → Asks c k → FailedOn c (file_of k) → AskedOnce c → IsAnswer c (tells 4 read_fault_text)
-  unread_run : (k : Command) (bytes run : List ℕ) (nexts : ℕ) → Asks c k → FetchedAccepted c k bytes → run_of k ≡ Some run → FailedOn c run
-      → AskedForRun c nexts → IsAnswer c (tells 4 read_fault_text)
+  unread_run : (k : Command) (bytes run : List ℕ) → Asks c k → FetchedAccepted c k bytes → run_of k ≡ Some run → FailedOn c run
+      → WasGivenUp c.holds run (one_more c.asked_before) c.asked_after → IsAnswer c (tells 4 read_fault_text)
 
 -- the answer's text is whole where it belongs, put in pieces on out and at once on err, and nothing was put elsewhere
 abbrev pub Whole : Answer → Stream → Stream → Type 0

@@ -12,7 +12,7 @@ use Rattle.sap_tool.specs.declared.way.Way.TheVariants.{Plain, Inlined}
 use Rattle.sap_tool.specs.AcceptedFile.{most_bytes, IsAcceptedFile, IsRefusedWith, IsTheoryOf}
 use Rattle.sap_tool.specs.AcceptedTheory.{most_theory_bytes, IsAcceptedTheory, IsTheoryRefusedWith}
 use Rattle.sap_tool.specs.Meaning.{IsFaithfulText}
-use Rattle.sap_tool.specs.Replays.{IsReplayed, IsChecked, IsConvertedText, IsJudgedText, IsOppositeText, IsTaken, IsTakenOfTheory}
+use Rattle.sap_tool.specs.Replays.{IsReplayed, IsChecked, IsConvertedText, IsJudgedText, IsOppositeText, IsLegalOfFile, IsLegalOfTheory}
 use Rattle.sap_tool.specs.RunRefusals.{IsIllegal, IsIllegalOfTheory, IsRunRefusedWith}
 use Rattle.sap_sample.specs.Sample.{IsSample}
 
@@ -98,8 +98,8 @@ RefusesRun (check theory run) bytes z why = (t : Theory) × IsAcceptedTheory byt
 -- it takes the run of those bytes: it accepts the file or theory of these, and the run is legal
 abbrev pub TakesRun : Command → List ℕ → List ℕ → Type 0
 TakesRun (compile way file) bytes z = ⊥
-TakesRun (replay task file run) bytes z = IsTaken (kinds_of task) bytes z
-TakesRun (check theory run) bytes z = IsTakenOfTheory bytes z
+TakesRun (replay task file run) bytes z = IsLegalOfFile (kinds_of task) bytes z
+TakesRun (check theory run) bytes z = IsLegalOfTheory bytes z
 
 -- the text that a task writes of a run of the file
 abbrev pub Writes : Task → FileContent → Run → List ℕ → Type 0

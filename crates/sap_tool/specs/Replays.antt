@@ -1,5 +1,5 @@
 -- What is written of a run, and what that means.
-use Rattle.std.specs.Prelude.{◌≡◌, ℕ, List, Ok, Contains}
+use Rattle.std.specs.Prelude.{◌≡◌, ◌≤◌, ◌↔◌, ℕ, List, length, Ok, Contains}
 use Rattle.sap_back.specs.Converted as back
 use Rattle.sap_forward.specs.Converted as forward
 use Rattle.sap_formula.specs.Hide.{hide}
@@ -9,7 +9,11 @@ use Rattle.sap_read.specs.Files.{FileContent}
 use Rattle.sap_restrict.specs.Standard.{IsAdmitted}
 use Rattle.sap_rule.specs.RuleSteps.{RuleState}
 use Rattle.sap_rule.specs.declared.theory.Theory.{Theory}
-use Rattle.sap_run_texts.specs.RunPrinted.{process_run_text, rule_run_text}
+use Rattle.sap_run_lines.specs.StepLines.{process_words}
+use Rattle.sap_run_texts.specs.RunPrinted.{Each, process_run_text, rule_run_text}
+use Rattle.sap_run_texts.specs.RunTexts.{IsProcessRunText}
+use Rattle.sap_run_texts.specs.Writable.{AreNumbered}
+use Rattle.sap_run_texts.specs.declared.limits.TheConstants.{MOST_PROCESS_STEPS}
 use Rattle.sap_run_texts.specs.declared.run.Kinds.{Kinds}
 use Rattle.sap_run_texts.specs.declared.run.Kinds.TheVariants.{Rules}
 use Rattle.sap_run_texts.specs.declared.run.Run.{Run}
@@ -32,8 +36,9 @@ use Rattle.sap_tool.specs.declared.way.Way.TheVariants.{Plain}
 pub data IsConvertedText (f : FileContent) : Run → List ℕ → Type 0 where
   to_rules : {lines : List PStep} (rule_lines : List RStep) → forward.IsConverted f.signature f.process lines rule_lines
       → IsConvertedText f (run.Process lines) (rule_run_text rule_lines)
+  -- whose numbers are of 64 bits
   to_process : {rule_lines : List RStep} (lines : List PStep) → back.IsConverted f.signature f.process rule_lines lines
-      → IsConvertedText f (run.Rules rule_lines) (process_run_text lines)
+      → Each (λ line. AreNumbered (process_words line)) lines → IsConvertedText f (run.Rules rule_lines) (process_run_text lines)
 
 -- the run is legal within the limit, and this is its visible trace
 pub data IsSeen (f : FileContent) : Run → Trace → Type 0 where
@@ -75,7 +80,7 @@ pub record IsChecked (bytes z text : List ℕ) : Type 0 where
 
 -- the bytes are an accepted file, and those of the run a run of a kind that is asked for, which is legal within the limit; of rules, its
 -- full trace counts
-pub record IsTaken (kinds : Kinds) (bytes z : List ℕ) : Type 0 where
+pub record IsLegalOfFile (kinds : Kinds) (bytes z : List ℕ) : Type 0 where
   pub told : FileContent
   pub file : IsAcceptedFile bytes told
   pub lines : Run
@@ -84,7 +89,7 @@ pub record IsTaken (kinds : Kinds) (bytes z : List ℕ) : Type 0 where
   pub seen : IsSeen told lines trace
 
 -- the bytes are an accepted theory, and those of the run a run of its rules, which is legal within the limit
-pub record IsTakenOfTheory (bytes z : List ℕ) : Type 0 where
+pub record IsLegalOfTheory (bytes z : List ℕ) : Type 0 where
   pub theory : Theory
   pub file : IsAcceptedTheory bytes theory
   pub lines : Run
@@ -111,9 +116,16 @@ pub record AreOpposite (f : FileContent) (lines : List PStep) (rule_lines : List
   pub marked : marks full ≡ marks_of_both
   pub known : (t : Tree) → Contains state.known t → Contains entries t
 
--- the text is that of a run that is opposite to the one that was read
+-- of both runs the same text says whether each restriction and lemma of the file is true
+abbrev pub AreJudgedAlike : FileContent → Run → Run → Type 0
+AreJudgedAlike f r other = (text : List ℕ) → IsJudgedText f r text ↔ IsJudgedText f other text
+
+-- The text is that of a run that is opposite to the one that was read, and of both the same is said. A run of the process is what
+-- its text is read as, unless it has more steps than a run that is read may have.
 pub data IsOppositeText (f : FileContent) : Run → List ℕ → Type 0 where
   rules_of_process : {lines : List PStep} (rule_lines : List RStep) → AreOpposite f lines rule_lines
-      → IsOppositeText f (run.Process lines) (rule_run_text rule_lines)
+      → AreJudgedAlike f (run.Process lines) (run.Rules rule_lines) → IsOppositeText f (run.Process lines) (rule_run_text rule_lines)
   process_of_rules : {rule_lines : List RStep} (lines : List PStep) → AreOpposite f lines rule_lines
+      → AreJudgedAlike f (run.Rules rule_lines) (run.Process lines)
+      → (length lines ≤ MOST_PROCESS_STEPS → IsProcessRunText (process_run_text lines) (Ok lines))
       → IsOppositeText f (run.Rules rule_lines) (process_run_text lines)

@@ -5,6 +5,7 @@ ghost use Rattle.sap_run_texts.specs.declared.run.Kinds.TheVariants as kinds;
 ghost use Rattle.sap_run_texts.specs.declared.run.Run.{Run as AnyRun};
 ghost use Rattle.sap_run_texts.specs.declared.run.Run.TheVariants as runs;
 ghost use Rattle.sap_refusals.specs.declared.refusal.Refusal.TheVariants as refusals;
+ghost use Rattle.sap_rule.specs.RuleSteps.{empty_state};
 ghost use Rattle.sap_tool.specs.Replays.{IsCheckedText};
 ghost use Rattle.sap_outside.specs.RunPieces.{IsRunAnswer};
 ghost use Rattle.sap_tool.specs.RunRefusals.{IsIllegalOfTheory};
@@ -115,7 +116,7 @@ fn replayed(alloc: Global, theory: &Theory, steps: &RSteps) -> Result<Trace, Sto
     ensures full { IfOk result (IsLegalTrace theory.now steps.now) }
     ensures stopped { IfErr result (IsStopped theory.now steps.now) }
 {
-    let mut state = RuleState::start(alloc, theory)?;
+    let mut state = begun(alloc, theory)?;
     let mut full = Trace::new(alloc);
     for k in 0..steps.len() {
         match advance(alloc, &mut state, &mut full, k, steps.at(k)) {
@@ -124,6 +125,16 @@ fn replayed(alloc: Global, theory: &Theory, steps: &RSteps) -> Result<Trace, Sto
         }
     }
     Ok(full)
+}
+
+/// Where each run of the theory's rules starts.
+fn begun(alloc: Global, theory: &Theory) -> Result<Box<RuleState>, Mem>
+    requires { IsCheckable theory.now }
+    ensures sig { IfOk result (λ s. s.value.sig ≡ theory.now.signature) }
+    ensures rules { IfOk result (λ s. s.value.rules ≡ theory.now.rules) }
+    ensures at { IfOk result (λ s. s.value.at ≡ empty_state) }
+{
+    Ok(Box::new(alloc, RuleState::start(alloc, theory)?)?)
 }
 
 /// Takes the step with this index, from 0, and puts last what it shows.

@@ -11,12 +11,16 @@ ghost use Rattle.sap_tool.specs.code.Endings.{Ends};
 
 use crate::asking::ending;
 use crate::ending::Ending;
-use crate::laws::{illegal_runs_have_one_cause, process_lines, read_theories_can_run, rule_lines};
+use crate::laws::{
+    illegal_runs_have_one_cause, process_lines, read_theories_can_run, rule_lines, verdicts_are_kept,
+};
 use sap_gen::{theories_are_printable, theories_keep_files};
 use sap_locks::annotations_are_ready;
 use sap_outside::{Shelf, Sink, SinkFault, put_pieces};
 use sap_read::{files_are_printable, files_are_runnable, one_file};
-use sap_run_texts::one_run;
+use sap_run_texts::{
+    named_steps_can_be_written, one_run, printed_runs_are_read, read_runs_can_be_written,
+};
 use sap_theory::{one_answer_of_theories, printed_theories};
 use sap_translate::rules_are_well_made;
 use std::alloc::Global;
@@ -57,10 +61,14 @@ pub fn sapic<S: Shelf, O: Sink, E: Sink>(
     one_file();
     one_answer_of_theories();
     one_run();
+    read_runs_can_be_written();
+    named_steps_can_be_written();
+    printed_runs_are_read();
     read_theories_can_run();
     process_lines();
     rule_lines();
     illegal_runs_have_one_cause();
+    verdicts_are_kept();
     annotations_are_ready();
     rules_are_well_made();
     run(alloc, words, shelf, out, err)

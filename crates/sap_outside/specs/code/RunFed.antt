@@ -1,8 +1,8 @@
 -- How far a run was read in pieces.
-use Rattle.std.specs.Prelude.{◌≡◌, ◌≤◌, ◌+◌, ℕ, List, ◌++◌, length, slice_get, Option, None, Some}
+use Rattle.std.specs.Prelude.{◌≡◌, ◌≤◌, ◌+◌, ℕ, min, List, ◌++◌, length, slice_get, Option, None, Some}
 use Rattle.std.specs.Io.KnownBytes.{Consumes}
 use Rattle.sap_run_texts.specs.RunReading.{Reading, StandsFor}
-use Rattle.sap_outside.specs.Outside.{piece_bytes, IsNextPart}
+use Rattle.sap_outside.specs.Outside.{piece_bytes, IsNextPart, more}
 use Rattle.sap_outside.specs.RunPieces.{most_run_bytes, IsReadUp}
 
 -- how many bytes these are, and the first of them
@@ -42,3 +42,14 @@ pub record IsRunFed (file : Option (List ℕ)) (old new : Reading) (given : ℕ)
   pub part : IsReadUpWhereTold file z
   pub fed : IsFed old new z
   pub tally : IsTallyOf z given first
+
+-- how many bytes of the rest of a file may come before reading it as a run fails, where it is told
+abbrev pub may_come_of : Option (List ℕ) → ℕ
+may_come_of None = most_run_bytes
+may_come_of (Some rest) = min most_run_bytes (length rest)
+
+-- a shelf was asked, so many times at most, where it tells
+pub record WasAsked (most : ℕ) (asked_before asked_after : Option ℕ) : Type 0 where
+  pub times : ℕ
+  pub few : times ≤ most
+  pub asked : asked_after ≡ more times asked_before

@@ -1,7 +1,7 @@
 -- What a call ends with, step by step.
 use Rattle.std.specs.Prelude.{◌≡◌, ◌+◌, ℕ, List, Option, Result, Ok, Err}
-use Rattle.sap_outside.specs.Outside.{Files, Rose, more}
-use Rattle.sap_outside.specs.RunPieces.{IsJoined}
+use Rattle.sap_outside.specs.Outside.{Files, Rose}
+use Rattle.sap_outside.specs.RunPieces.{WasRead, WasGivenUp}
 use Rattle.sap_tool.specs.Call.{Call}
 use Rattle.sap_tool.specs.Commands.{Command, alone, and_run, Accepts, Allows}
 use Rattle.sap_tool.specs.Answers.{gives, tells, IsAnswer, IsAnswerTo, usage_text, read_fault_text}
@@ -68,20 +68,20 @@ reading holds run faults_before faults_after asked_before asked_after = record {
   asked_after = asked_after;
 }
 
--- the run was opened, and so many pieces of it were asked for
-abbrev pub HasAsked : Reading → Type 0
-HasAsked r = (nexts : ℕ) × (r.asked_after ≡ more (nexts + 1) r.asked_before)
-
--- these bytes were read
+-- the run was read to these bytes
 abbrev pub HasRead : Reading → List ℕ → Type 0
-HasRead r z = IsJoined r.holds r.run z × HasAsked r
+HasRead r z = WasRead r.holds r.run r.asked_before r.asked_after z
+
+-- reading it was given up
+abbrev pub HasGivenUp : Reading → Type 0
+HasGivenUp r = WasGivenUp r.holds r.run r.asked_before r.asked_after
 
 -- What the bytes of a file or theory end with, where a run is read behind them, unless they are refused: with what they and the run end
 -- with, or with a fault of the run.
 abbrev pub EndsBoth : Command → List ℕ → Reading → Ending → Type 0
 EndsBoth k bytes r (ending.Given text) = (z : List ℕ) × HasRead r z × Allows k (and_run bytes z) text
 EndsBoth k bytes r ending.Usage = ⊥
-EndsBoth k bytes r ending.Unread = Accepts k bytes × Rose r.faults_before r.faults_after × HasAsked r
+EndsBoth k bytes r ending.Unread = Accepts k bytes × Rose r.faults_before r.faults_after × HasGivenUp r
 EndsBoth k bytes r (ending.File line) = IsAnswerTo k (alone bytes) (tells 1 line) × (r.asked_after ≡ r.asked_before)
 EndsBoth k bytes r (ending.Run line) = (z : List ℕ) × HasRead r z × IsAnswerTo k (and_run bytes z) (tells 2 line)
 EndsBoth k bytes r ending.Mem = Unit {0}

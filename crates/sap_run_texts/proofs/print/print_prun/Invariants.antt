@@ -2,9 +2,13 @@ use Rattle.std.proofs.Common.{◌≡◌, ◌++◌, map, drop}
 use Rattle.sap_run_lines.specs.StepLines.{process_words}
 use Rattle.sap_run_texts.specs.RunTexts.{lines_text}
 use Rattle.sap_run_lines.specs.LineText.{words_text}
+use Rattle.sap_run_texts.specs.RunPrinted.{Each}
+use Rattle.sap_run_texts.specs.Writable.{AreNumbered}
 use Rattle.sap_run_texts.proofs.print.print_prun.Given as goal
 
 abbrev pub invariant-loop-step : goal.invariant-loop-step
-invariant-loop-step l =
-    l.text ++ lines_text (map (λ s. words_text (process_words s)) (drop l.step-index l.step-items))
-    ≡ l.initial.text ++ lines_text (map (λ s. words_text (process_words s)) l.step-items)
+invariant-loop-step l = record {
+  text : l.text ++ lines_text (map (λ s. words_text (process_words s)) (drop l.step-index l.step-items))
+      ≡ l.initial.text ++ lines_text (map (λ s. words_text (process_words s)) l.step-items);
+  numbers : Each (λ s. AreNumbered (process_words s)) (drop l.step-index l.step-items) → Each (λ s. AreNumbered (process_words s)) l.step-items;
+}

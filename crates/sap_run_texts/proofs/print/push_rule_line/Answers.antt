@@ -3,8 +3,8 @@ use Rattle.sap_run_texts.specs.code.StepText.{rule_step_text}
 use Rattle.sap_run_texts.proofs.StepTexts.{rule_text}
 use Rattle.sap_run_texts.proofs.print.push_rule_line.Goals as goal
 
-pub returns : goal.returns
-returns c =
+pub returns-clause-text : goal.returns-clause-text
+returns-clause-text c =
     let text = c.args.text.now in
     let s = c.args.step.now in
     let line = ap (λ y. y ++ 10 ∷ []) c.in_ok-push_rule_step.ensures ∙ (append_assoc text (rule_step_text s) (10 ∷ []) ∙ ap (λ y. text ++ (y ++ 10 ∷ [])) (rule_text s)) in

@@ -9,5 +9,5 @@ returns-in-Ok-clause-ends g c = λ file bytes accepted.
     let told = c.in-Ok.ensures.told in
     let read = subst (λ k. IsRunAnswer k told.0 c.in-Ok.answer) c.kinds_of.ensures told.2 in
     rw c.of_run.ensures
-    (replay_ends c.args.task file c.args.run.now bytes told.0 (told_by c.args.told.now) _ _ accepted (told.1, c.read_run.ensures.asked) (c.replayed.ensures.given told.0 read)
+    (replay_ends c.args.task file c.args.run.now bytes told.0 (told_by c.args.told.now) _ _ accepted told.1 (c.replayed.ensures.given told.0 read)
     (λ line h. c.replayed.ensures.refused told.0 line read h))

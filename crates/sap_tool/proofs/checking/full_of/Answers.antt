@@ -6,5 +6,5 @@ use Rattle.sap_tool.proofs.checking.full_of.Goals as goal
 pub returns-in-Err-clause-refused : goal.returns-in-Err-clause-refused
 returns-in-Err-clause-refused c = λ line h.
     let same : c.told.result ≡ refusals.Told line = search (rules, h) in
-    let written : c.line_of.result ≡ Ok line = c.told.ensures line same in
+    let written : c.line_of.result ≡ Ok line = c.told.ensures.only line same in
     theory_stops _ _ c.in-Err.stop line (rw written at c.line_of.ensures) c.in-Err.ensures.stopped

@@ -7,7 +7,7 @@ use Rattle.sap_tool.proofs.reading.accepted_file.Goals as goal
 pub returns-then-bytes-gt-MOST_BYTES-clause-refused : goal.returns-then-bytes-gt-MOST_BYTES-clause-refused
 returns-then-bytes-gt-MOST_BYTES-clause-refused c = λ line h.
     let same : c.told.result ≡ refusals.Told line = search (rules, h) in
-    let written : c.long_file_line.result ≡ Ok line = c.told.ensures line same in
+    let written : c.long_file_line.result ≡ Ok line = c.told.ensures.only line same in
     record {
       why = codes "longer than 1048576 bytes";
       refused = too_long (omega (arith, c.if-bytes-gt-MOST_BYTES.true));

@@ -7,7 +7,7 @@ use Rattle.sap_tool.proofs.reading.read.Goals as goal
 pub returns-in-Err-clause-refused : goal.returns-in-Err-clause-refused
 returns-in-Err-clause-refused c = λ line h.
     let same : c.told.result ≡ refusals.Told line = search (rules, h) in
-    let written : c.file_line.result ≡ Ok line = c.told.ensures line same in
+    let written : c.file_line.result ≡ Ok line = c.told.ensures.only line same in
     let told = rw written at c.file_line.ensures in
     record {
       why = fault_text c.in-Err.fault;

@@ -15,6 +15,6 @@ returns-in-Ok-clause-refused c = λ z line a h.
 pub returns-in-Err-clause-refused : goal.returns-in-Err-clause-refused
 returns-in-Err-clause-refused c = λ z line a h.
     let same : c.told.result ≡ refusals.Told line = search (rules, h) in
-    let written : c.no_run_line.result ≡ Ok line = c.told.ensures line same in
+    let written : c.no_run_line.result ≡ Ok line = c.told.ensures.only line same in
     no_run_stops (kinds_of c.args.task) (IsIllegal (told_by c.args.file.now)) z c.in-Err.refusal line (subst (λ o. IsRunAnswer (kinds_of c.args.task) z o) c.in-Err.is a)
     (rw written at c.no_run_line.ensures)

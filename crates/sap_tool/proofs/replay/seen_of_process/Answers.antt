@@ -10,6 +10,6 @@ returns-in-Ok-clause-seen c = of_process c.in-Ok.ensures.ok
 pub returns-in-Err-clause-refused : goal.returns-in-Err-clause-refused
 returns-in-Err-clause-refused c = λ line h.
     let same : c.told.result ≡ refusals.Told line = search (rules, h) in
-    let written : c.line_at.result ≡ Ok line = c.told.ensures line same in
+    let written : c.line_at.result ≡ Ok line = c.told.ensures.only line same in
     let is = rw written at c.line_at.ensures in
     process_stops _ _ c.in-Err.at line is (λ step fault e. c.in-Err.ensures.refused step fault (ap Err e))

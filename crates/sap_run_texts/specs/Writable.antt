@@ -1,0 +1,29 @@
+-- What a step needs so that it can be written: numbers of 64 bits, and names that may stand so.
+use Rattle.std.specs.Prelude.{List, [], ◌∷◌}
+use Rattle.sap_runs.specs.declared.process_step.PStep.{PStep}
+use Rattle.sap_runs.specs.declared.process_step.PStep.TheVariants as step
+use Rattle.sap_run_lines.specs.RunTerms.{IsNumber, IsRunName, IsRunContent}
+use Rattle.sap_run_lines.specs.LineWords.{LineWord, identifier, number, fresh_name, public_name, bound}
+use Rattle.sap_run_lines.specs.StepLines.{with_words}
+use Rattle.sap_run_lines.specs.Spellable.{AreWritableWords}
+
+-- a number that a word writes by itself is one of 64 bits; the term of a binding isn't looked at
+abbrev pub IsNumbered : LineWord → Type 0
+IsNumbered (number n) = IsNumber n
+IsNumbered (fresh_name n) = IsNumber n
+IsNumbered (identifier x) = Unit {0}
+IsNumbered (public_name s) = Unit {0}
+IsNumbered (bound v t) = Unit {0}
+
+-- each of these words
+abbrev pub AreNumbered : List LineWord → Type 0
+AreNumbered [] = Unit {0}
+AreNumbered (w ∷ ws) = IsNumbered w × AreNumbered ws
+
+-- what the step names may stand so: the public name that is written down, the symbol that is applied, the bindings of an embedded
+-- rule; other steps name numbers alone
+abbrev pub CanBeNamed : PStep → Type 0
+CanBeNamed (step.Public a) = IsRunContent a
+CanBeNamed (step.Apply f entries) = IsRunName f
+CanBeNamed (step.Embedded t facts bindings) = AreWritableWords (with_words bindings)
+CanBeNamed _ = Unit {0}
