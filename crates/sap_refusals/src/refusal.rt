@@ -27,7 +27,8 @@ impl From<Mem> for Refusal {
 
 /// Refuses by this line, or for want of memory where there is none.
 pub fn told(line: Result<Text, Mem>) -> Refusal
-    ensures { (text : List ℕ) → result ≡ refusals.Told text → line ≡ Ok text }
+    ensures only { (text : List ℕ) → result ≡ refusals.Told text → line ≡ Ok text }
+    ensures line { (text : List ℕ) → line ≡ Ok text → result ≡ refusals.Told text }
 {
     match line {
         Ok(text) => Refusal::Told(text),

@@ -1,7 +1,9 @@
 //! Why a run is refused, in words.
 
-ghost use Rattle.std.specs.Prelude.{◌≡◌, ◌++◌, codes, decimal, IfOk, OnOk};
+ghost use Rattle.std.specs.Prelude.{◌≡◌, ◌++◌, ◌↔◌, IsTrue, codes, decimal, IfOk, OnOk};
+ghost use Rattle.sap_lines.specs.declared.fault.PFault.TheVariants as process_faults;
 ghost use Rattle.sap_restrict.specs.Restrictions.{restriction_name};
+ghost use Rattle.sap_steps.specs.declared.fault.RFault.TheVariants as rule_faults;
 ghost use Rattle.sap_refusals.specs.RunFaultTexts.{at_step, broken_text, process_fault_text, rule_fault_text, run_refusal_text, run_refused_line};
 
 use crate::fault_text::{push_named, push_numbered};
@@ -24,20 +26,28 @@ pub fn no_run_line(alloc: Global, refusal: RunRefusal) -> Result<Text, Mem>
     Ok(line)
 }
 
-/// The line that refuses a run of a process at this step.
+/// The line that refuses a run of a process at this step for this fault. Want of memory refuses none, and so has no line.
 pub fn process_line(alloc: Global, step: u64, fault: &PFault) -> Result<Text, Mem>
-    ensures { IfOk result (λ line. line ≡ run_refused_line (at_step step (process_fault_text fault.now))) }
+    ensures { IfOk result (λ line. (fault.now ≡ process_faults.Mem → ⊥)
+        × (line ≡ run_refused_line (at_step step (process_fault_text fault.now)))) }
 {
+    if is_process_memory(fault) {
+        return Err(Mem);
+    }
     let mut line = step_line(alloc, step)?;
     push_process_fault(&mut line, fault)?;
     line.push_bytes(b"\n")?;
     Ok(line)
 }
 
-/// The line that refuses a run of rules at this step.
+/// The line that refuses a run of rules at this step for this fault. Want of memory refuses none, and so has no line.
 pub fn rule_line(alloc: Global, step: u64, fault: &RFault) -> Result<Text, Mem>
-    ensures { IfOk result (λ line. line ≡ run_refused_line (at_step step (rule_fault_text fault.now))) }
+    ensures { IfOk result (λ line. (fault.now ≡ rule_faults.Mem → ⊥)
+        × (line ≡ run_refused_line (at_step step (rule_fault_text fault.now)))) }
 {
+    if is_rule_memory(fault) {
+        return Err(Mem);
+    }
     let mut line = step_line(alloc, step)?;
     push_rule_fault(&mut line, fault)?;
     line.push_bytes(b"\n")?;
@@ -53,6 +63,26 @@ pub fn broken_line(alloc: Global, step: u64, which: Which) -> Result<Text, Mem>
     line.push_bytes(name_of(which))?;
     line.push_bytes(b"\n")?;
     Ok(line)
+}
+
+/// Whether the fault is want of memory.
+fn is_process_memory(fault: &PFault) -> bool
+    ensures { IsTrue result ↔ (fault.now ≡ process_faults.Mem) }
+{
+    match fault {
+        PFault::Mem => true,
+        _ => false,
+    }
+}
+
+/// Whether the fault is want of memory.
+fn is_rule_memory(fault: &RFault) -> bool
+    ensures { IsTrue result ↔ (fault.now ≡ rule_faults.Mem) }
+{
+    match fault {
+        RFault::Mem => true,
+        _ => false,
+    }
 }
 
 /// The line that refuses a run at this step, as far as the cause.
