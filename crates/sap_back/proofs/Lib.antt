@@ -24,6 +24,7 @@ pub mod Cuts
 pub mod OneReserved
 pub mod Replaying
 pub mod Counting
+pub mod NamedIn
 pub mod Converting
 pub mod SomeRun
 pub mod OneRun
