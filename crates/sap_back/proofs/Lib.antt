@@ -25,6 +25,7 @@ pub mod OneReserved
 pub mod Replaying
 pub mod Counting
 pub mod NamedIn
+pub mod NamesTried
 pub mod Converting
 pub mod SomeRun
 pub mod OneRun

@@ -1,14 +1,17 @@
 //! Laws of runs of rules and of the process, as contracts of functions that only call the laws below.
-ghost use Rattle.std.specs.Prelude.{All, List, Some, ◌<◌, ◌^◌, ◌≡◌};
+ghost use Rattle.std.specs.Prelude.{All, ℕ, List, [], ◌∷◌, Some, codes, ◌<◌, ◌^◌, ◌≡◌};
 ghost use Rattle.sap_back.specs.Along.{BeginsAlong};
 ghost use Rattle.sap_back.specs.Followed.{BeginsTabled, EndsTabled, LinesAreFollowed};
+ghost use Rattle.sap_back.specs.NamedIn.{IsNamedIn};
 ghost use Rattle.sap_back.specs.Opposite.{HasOpposites};
 ghost use Rattle.sap_locks.specs.Annotation.{IsAnnotation};
 ghost use Rattle.sap_process.specs.Proc.{Proc, node_count};
 ghost use Rattle.sap_process.specs.Ready.{IsReady};
 ghost use Rattle.sap_read.specs.Files.{FileContent, IsRunnable};
 ghost use Rattle.sap_rule.specs.WellMade.{IsWellMade};
+ghost use Rattle.sap_runs.specs.declared.process_step.PStep.TheVariants as line;
 ghost use Rattle.sap_runs.specs.declared.rule_step.RStep.{RStep};
+ghost use Rattle.sap_runs.specs.declared.rule_step.RStep.TheVariants.{Public as PublicLine, Apply as ApplyLine};
 ghost use Rattle.sap_terms.specs.Equations.{pair_name};
 ghost use Rattle.sap_terms.specs.Signature.{HoldsBuiltins, Sig, arity_of};
 ghost use Rattle.sap_back.specs.Answers.{HaveOneAnswer};
@@ -111,3 +114,13 @@ pub fn rule_runs_have_one_answer()
     rules_show_the_process();
     rules_are_found_by_name();
 }
+
+/// A law: names tried by hand. Beside `pub 'a'` alone a line may write down `a`, and nothing else, so no name with a quote and a line
+/// feed in it; beside `app f 0` alone it may apply `f`, to other entries too, and no other symbol.
+pub fn names_by_hand()
+    ensures own { IsNamedIn (PublicLine (codes "a") ∷ []) (line.Public (codes "a")) }
+    ensures no_other { (a : List ℕ) → IsNamedIn (PublicLine (codes "a") ∷ []) (line.Public a) → a ≡ codes "a" }
+    ensures symbol { (ks : List ℕ) → IsNamedIn (ApplyLine (codes "f") (0 ∷ []) ∷ []) (line.Apply (codes "f") ks) }
+    ensures no_other_symbol { (f ks : List ℕ) → IsNamedIn (ApplyLine (codes "f") (0 ∷ []) ∷ []) (line.Apply f ks)
+        → f ≡ codes "f" }
+{}
