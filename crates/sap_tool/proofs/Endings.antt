@@ -1,5 +1,5 @@
 -- From what was read to how the call ends.
-use Rattle.std.proofs.Common.{◌≡◌, ◌≢◌, ◌≤◌, ◌+◌, ℕ, List, [], Option, Some, Result, Ok, Err, sym, subst, ap, ◌∙◌, refl}
+use Rattle.std.proofs.Common.{◌≡◌, ◌≢◌, ◌≤◌, ℕ, List, [], Option, Some, Result, Ok, Err, sym, subst, ◌∙◌, refl}
 use Rattle.std.specs.Prelude.{IfOk, IsErrOf}
 use Rattle.sap_read.specs.Files.{FileContent}
 use Rattle.sap_rule.specs.declared.theory.Theory.{Theory}
@@ -48,9 +48,10 @@ module _ (c : Call) (k : Command) (bytes : List ℕ) (r : Reading) (asks : Asks 
     (holds : r.holds ≡ c.holds) (before : c.faults_before r.run ≤ r.faults_before) (after : r.faults_after ≡ c.faults_after r.run) (asked_before : r.asked_before ≡ one_more c.asked_before)
     (asked_after : r.asked_after ≡ c.asked_after) where
   read_of : (z : List ℕ) → HasRead r z → Fetched c k (and_run bytes z)
-  read_of z was = (fetched, (r.run, named,
-      subst (λ (x : Option ℕ). WasRead c.holds r.run (one_more c.asked_before) x z) asked_after
-      (subst (λ (x : Option ℕ). WasRead c.holds r.run x r.asked_after z) asked_before (subst (λ (h : Option Files). WasRead h r.run r.asked_before r.asked_after z) holds was))))
+  read_of z was =
+      let read = subst (λ (x : Option ℕ). WasRead c.holds r.run (one_more c.asked_before) x z) asked_after
+      (subst (λ (x : Option ℕ). WasRead c.holds r.run x r.asked_after z) asked_before (subst (λ (h : Option Files). WasRead h r.run r.asked_before r.asked_after z) holds was)) in
+      (fetched, (r.run, named, read))
 
   given_up_of : HasGivenUp r → WasGivenUp c.holds r.run (one_more c.asked_before) c.asked_after
   given_up_of was =

@@ -1,6 +1,6 @@
 -- The text of a run of the process that was made of lines of rules is read as that run.
 use Rattle.std.proofs.Common.{◌≡◌, ◌≤◌, ℕ, List, [], ◌∷◌, length, Result, Ok, Err, refl, subst}
-use Rattle.std.specs.Prelude.{All, Contains}
+use Rattle.std.specs.Prelude.{All}
 use Rattle.std.proofs.lemmas.List.Elements.{All-nil, All-cons, All-head, All-tail, All-contains}
 use Rattle.sap_terms.specs.declared.binding.Binding.{Binding}
 use Rattle.sap_runs.specs.declared.process_step.PStep.{PStep}

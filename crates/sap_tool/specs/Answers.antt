@@ -1,5 +1,5 @@
 -- What there is to say of a call, and how that is put.
-use Rattle.std.specs.Prelude.{◌≡◌, ◌+◌, ℕ, codes, List, [], ◌++◌, take, Some}
+use Rattle.std.specs.Prelude.{◌≡◌, ℕ, codes, List, [], ◌++◌, take, Some}
 use Rattle.sap_outside.specs.Outside.{IsFetched, one_more}
 use Rattle.sap_outside.specs.Stream.{Stream, Gained, Failed, Wanted, CutShort, CutTwice}
 use Rattle.sap_tool.specs.Call.{Call, FailedOn}

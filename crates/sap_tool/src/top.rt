@@ -12,7 +12,8 @@ ghost use Rattle.sap_tool.specs.code.Endings.{Ends};
 use crate::asking::ending;
 use crate::ending::Ending;
 use crate::laws::{
-    illegal_runs_have_one_cause, process_lines, read_theories_can_run, rule_lines, verdicts_are_kept,
+    illegal_runs_have_one_cause, process_lines, read_theories_can_run, rule_lines,
+    verdicts_are_kept,
 };
 use sap_gen::{theories_are_printable, theories_keep_files};
 use sap_locks::annotations_are_ready;

@@ -1,5 +1,5 @@
 -- What a call ends with, step by step.
-use Rattle.std.specs.Prelude.{◌≡◌, ◌+◌, ℕ, List, Option, Result, Ok, Err}
+use Rattle.std.specs.Prelude.{◌≡◌, ℕ, List, Option, Result, Ok, Err}
 use Rattle.sap_outside.specs.Outside.{Files, Rose}
 use Rattle.sap_outside.specs.RunPieces.{WasRead, WasGivenUp}
 use Rattle.sap_tool.specs.Call.{Call}
