@@ -1,7 +1,5 @@
 -- A run of rules as it is converted: lines of the process go along with it, and the tables are theirs.
 use Rattle.std.proofs.Common.{◌≡◌, ◌+◌, ℕ, List, [], ◌∷◌, ◌++◌, Option, Some, None, refl, sym, subst, ap, ◌∙◌, arith, length, length-append, slice_get, take}
-use Rattle.std.specs.Prelude.{All}
-use Rattle.std.proofs.lemmas.List.Elements.{All-nil, Contains-push}
 use Rattle.sap_terms.specs.Signature.{Sig}
 use Rattle.sap_terms.specs.Trace.{Trace}
 use Rattle.sap_terms.specs.Tree.{Tree}
@@ -24,12 +22,12 @@ use Rattle.sap_translate.specs.relation.Agents.{Agent, unborn}
 use Rattle.sap_back.specs.Along.{BeginsAlong, IsAlong, count_pending}
 use Rattle.sap_back.specs.Converted.{IsConverted}
 use Rattle.sap_back.specs.Followed.{BeginsTabled, LinesAreFollowed, EndsTabled, pending_lines}
-use Rattle.sap_back.specs.NamedIn.{IsNamedIn}
+use Rattle.sap_back.specs.LinesFor.{AreLinesForAll, no_lines}
 use Rattle.sap_back.specs.Tables.{AreTables, Tables, first_tables}
 use Rattle.sap_back.specs.code.Replayed.{IsReplayed}
 use Rattle.sap_back.specs.code.Taken.{IsConvertedLine}
 use Rattle.sap_back.proofs.Counting.{back_count_next, pending_count, written_count}
-use Rattle.sap_back.proofs.NamedIn.{named_next, named_behind, pending_named, written_named}
+use Rattle.sap_back.proofs.Turns.{one_more_is, written_lines}
 use Rattle.sap_back.proofs.Replaying.{replayed_next, taken_line}
 
 -- these lines of rules are replayed, lines of the process go along with them, and the tables are theirs
@@ -45,8 +43,8 @@ pub record IsConverting (g : Sig) (q : Proc) (s : State) (m : Machine) (tables :
   pub tabled : AreTables agents pending config entries s.at tables
   -- they are as many as are counted, without the one for what is pending
   pub count : length lines + count_pending pending ≡ back_count before
-  -- what they name stands in these lines of rules
-  pub named : All (IsNamedIn before) lines
+  -- they stand in turn, without what is pending
+  pub turns : AreLinesForAll before lines
 
 module _ (g : Sig) (q : Proc) where
   -- before the first line
@@ -62,7 +60,7 @@ module _ (g : Sig) (q : Proc) where
     along = subst (λ z. IsAlong g IsSmall q (Some (unborn q) ∷ []) None [] (initial q) [] [] z []) (sym at) begins;
     tabled = subst (λ z. AreTables (Some (unborn q) ∷ []) None (initial q) [] z tables) (sym at) (subst (AreTables (Some (unborn q) ∷ []) None (initial q) [] empty_state) (sym first) begins_tabled);
     count = refl;
-    named = All-nil (IsNamedIn []);
+    turns = no_lines;
   }
 
   -- behind one more line
@@ -88,7 +86,7 @@ module _ (g : Sig) (q : Proc) where
         along = subst (λ z. IsAlong g IsSmall q f.next f.later z f.config f.entries f.trace t.at (w.full ++ k.acts ∷ [])) (sym written.0) f.is;
         tabled = subst (AreTables f.next f.later f.config f.entries t.at) (sym written.1) f.tabled;
         count = omega arith;
-        named = named_next before step lines f.more longer written.0 w.named (written_named (before ++ step ∷ []) (Contains-push before step) f.written);
+        turns = one_more_is before step lines f.more longer written.0 w.turns (written_lines f.written);
       }
 
   -- each line shows one time
@@ -122,7 +120,7 @@ module _ (g : Sig) (q : Proc) where
           short = omega arith;
         };
         count = omega arith;
-        named = named_behind rule_lines lines (pending_lines tables.pending) all written w.named (pending_named rule_lines tables.pending);
+        turns = record { own = lines; last = tables.pending; each = w.turns; is = written };
       }
 
 -- one more line, where a loop over the lines has reached the one with number k

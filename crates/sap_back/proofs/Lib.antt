@@ -24,8 +24,9 @@ pub mod Cuts
 pub mod OneReserved
 pub mod Replaying
 pub mod Counting
+pub mod Turns
 pub mod NamedIn
-pub mod NamesTried
+pub mod LinesTried
 pub mod Converting
 pub mod SomeRun
 pub mod OneRun

@@ -1,20 +1,14 @@
--- What lines of the process name stands in the lines of rules that they are written for.
-use Rattle.std.proofs.Common.{◌≡◌, ℕ, List, [], ◌∷◌, ◌++◌, Option, Some, None, slice_index_or, sym, subst}
+-- What lines of the process name that stand in turn stands in the lines of rules.
+use Rattle.std.proofs.Common.{ℕ, suc, List, [], ◌∷◌, ◌++◌, Option, Some, None, slice_index_or, sym, subst, refl, arith}
 use Rattle.std.specs.Prelude.{All, Contains, codes}
-use Rattle.std.proofs.lemmas.List.Elements.{All-nil, All-cons, All-append, Contains-append_left}
-use Rattle.sap_terms.specs.Signature.{Sig}
-use Rattle.sap_terms.specs.Tree.{Tree}
-use Rattle.sap_terms.specs.declared.fact.Fact.{Fact}
+use Rattle.std.proofs.lemmas.List.Elements.{All-nil, All-cons, All-append}
 use Rattle.sap_place.specs.StateFacts.{digits}
-use Rattle.sap_rule.specs.RuleSteps.{RuleState}
 use Rattle.sap_runs.specs.declared.process_step.PStep.{PStep}
 use Rattle.sap_runs.specs.declared.process_step.PStep.TheVariants as line
 use Rattle.sap_runs.specs.declared.rule_step.RStep.{RStep}
 use Rattle.sap_runs.specs.declared.rule_step.RStep.TheVariants as rule_line
-use Rattle.sap_translate.specs.relation.Agents.{Agent}
-use Rattle.sap_back.specs.Followed.{IsWritten, lines_before, pending_lines}
+use Rattle.sap_back.specs.LinesFor.{pending_lines, AreLinesFor, AreLinesForAll, no_lines, more, StandInTurn}
 use Rattle.sap_back.specs.NamedIn.{IsNamedIn}
-use Rattle.sap_back.specs.Tables.{Tables}
 
 module _ (xs ys : List RStep) (within : (s : RStep) → Contains xs s → Contains ys s) where
   -- what is named in lines is named in any that contain these
@@ -32,12 +26,8 @@ module _ (xs : List RStep) where
   one_named : (l : PStep) → IsNamedIn xs l → All (IsNamedIn xs) (l ∷ [])
   one_named l h = All-cons (IsNamedIn xs) l [] h (All-nil (IsNamedIn xs))
 
-  -- what lines name and what those behind them name is what all of them name
-  pub named_behind : (lines more all : List PStep) → all ≡ lines ++ more → All (IsNamedIn xs) lines → All (IsNamedIn xs) more → All (IsNamedIn xs) all
-  named_behind lines more all e h k = subst (All (IsNamedIn xs)) (sym e) (All-append (IsNamedIn xs) lines more h k)
-
   -- what is pending is written by its number
-  pub pending_named : (k : Option ℕ) → All (IsNamedIn xs) (pending_lines k)
+  pending_named : (k : Option ℕ) → All (IsNamedIn xs) (pending_lines k)
   pending_named None = All-nil (IsNamedIn xs)
   pending_named (Some e) = one_named (line.Know e) tt
 
@@ -45,45 +35,50 @@ module _ (xs : List RStep) where
   behind_named : (k : Option ℕ) (l : PStep) → IsNamedIn xs l → All (IsNamedIn xs) (pending_lines k ++ l ∷ [])
   behind_named k l h = All-append (IsNamedIn xs) (pending_lines k) (l ∷ []) (pending_named k) (one_named l h)
 
-  -- an embedded rule with these acts has the bindings of the rule that is used
-  embedded_named : (acts : List Fact) (k : Option ℕ) (l : PStep) → IsNamedIn xs l → All (IsNamedIn xs) (lines_before acts k ++ l ∷ [])
-  embedded_named [] k l h = one_named l h
-  embedded_named (f ∷ fs) k l h = behind_named k l h
+  -- what is named in the lines for a line of rules stands in that line
+  lines_named : {step : RStep} {own : List PStep} → Contains xs step → AreLinesFor step own → All (IsNamedIn xs) own
+  lines_named m (AreLinesFor.starts b) = All-nil (IsNamedIn xs)
+  lines_named m (AreLinesFor.starts_copies path ks b) = All-nil (IsNamedIn xs)
+  lines_named m (AreLinesFor.sends path ks b) = All-nil (IsNamedIn xs)
+  lines_named m (AreLinesFor.goes_on path ks b) = All-nil (IsNamedIn xs)
+  lines_named m (AreLinesFor.ends t path ks b) = one_named (line.Nil t) tt
+  lines_named m (AreLinesFor.splits t path ks b) = one_named (line.Par t) tt
+  lines_named m (AreLinesFor.copies t path ks b) = one_named (line.Rep t) tt
+  lines_named m (AreLinesFor.makes_name t n path ks b) = one_named (line.New t n) tt
+  lines_named m (AreLinesFor.outputs t path ks b) = one_named (line.Out t) tt
+  lines_named m (AreLinesFor.outputs_on t e path ks b) = one_named (line.Send t e) tt
+  lines_named m (AreLinesFor.inputs t e path ks b) = one_named (line.In t e) tt
+  lines_named m (AreLinesFor.inputs_on t e path ks b) = one_named (line.In t e) tt
+  lines_named m (AreLinesFor.meets a t path ks b) = one_named (line.Sync a t) tt
+  lines_named m (AreLinesFor.shows t path ks b before) = behind_named before (line.Event t) tt
+  lines_named m (AreLinesFor.inserts t path ks b) = one_named (line.Insert t) tt
+  lines_named m (AreLinesFor.deletes t path ks b) = one_named (line.Delete t) tt
+  lines_named m (AreLinesFor.locks t path ks b) = one_named (line.Lock t) tt
+  lines_named m (AreLinesFor.unlocks t path ks b) = one_named (line.Unlock t) tt
+  lines_named m (AreLinesFor.agrees t path ks b) = one_named (line.Then t) tt
+  lines_named m (AreLinesFor.differs t path ks b) = one_named (line.Else t) tt
+  lines_named m (AreLinesFor.finds t path ks b) = one_named (line.Found t) tt
+  lines_named m (AreLinesFor.misses t path ks b) = one_named (line.Missing t) tt
+  lines_named m (AreLinesFor.embeds t taken path ks b before) = behind_named before (line.Embedded t taken b) (codes "Rule_" ++ digits path, ks, m)
+  lines_named m (AreLinesFor.makes n) = All-nil (IsNamedIn xs)
+  lines_named m (AreLinesFor.learns k) = All-nil (IsNamedIn xs)
+  lines_named m (AreLinesFor.owns k n) = one_named (line.Name n) tt
+  lines_named m (AreLinesFor.writes a) = one_named (line.Public a) m
+  lines_named m (AreLinesFor.applies f ks js) = one_named (line.Apply f js) (ks, m)
+  lines_named m (AreLinesFor.knows k before) = pending_named before
 
-  -- what is named in the lines that are written for a line of rules stands in that line
-  pub written_named : {g : Sig} {agents : List (Option Agent)} {pending : Option Tree} {s : RuleState} {tables : Tables} {step : RStep} {acts : List Fact} {more : List PStep} {next : List (Option Agent)} {later : Option Tree} {behind : Tables}
-      → Contains xs step → IsWritten g agents pending s tables step acts more next later behind → All (IsNamedIn xs) more
-  written_named m (IsWritten.starts t body b a e) = All-nil (IsNamedIn xs)
-  written_named m (IsWritten.ends t k path env b a) = one_named (line.Nil t) tt
-  written_named m (IsWritten.splits t k path env b p q a) = one_named (line.Par t) tt
-  written_named m (IsWritten.starts_copies t k path env b p a) = All-nil (IsNamedIn xs)
-  written_named m (IsWritten.copies t k path env b p a e) = one_named (line.Rep t) tt
-  written_named m (IsWritten.makes_name t k j n path env b x p a e i) = one_named (line.New t n) tt
-  written_named m (IsWritten.outputs t k path env b u p a) = one_named (line.Out t) tt
-  written_named m (IsWritten.outputs_on t k j e path env b u n p a i) = one_named (line.Send t e) tt
-  written_named m (IsWritten.sends t k j i path env b u n x v p a e f) = All-nil (IsNamedIn xs)
-  written_named m (IsWritten.goes_on t k j n path env b v u p a e i) = All-nil (IsNamedIn xs)
-  written_named m (IsWritten.inputs t k j e path env b u σ p a i) = one_named (line.In t e) tt
-  written_named m (IsWritten.inputs_on t k j e path env b u n σ p a i) = one_named (line.In t e) tt
-  written_named m (IsWritten.meets a t k j n at path other env b w u x v l r σ p q d e f i) = one_named (line.Sync a t) tt
-  written_named {tables = tables} m (IsWritten.shows t k path env b f p a) = behind_named tables.pending (line.Event t) tt
-  written_named m (IsWritten.inserts t k path env b u n p a) = one_named (line.Insert t) tt
-  written_named m (IsWritten.deletes t k path env b u p a) = one_named (line.Delete t) tt
-  written_named m (IsWritten.locks t k j n path env b u l p a) = one_named (line.Lock t) tt
-  written_named m (IsWritten.unlocks t k path env b u l p a) = one_named (line.Unlock t) tt
-  written_named m (IsWritten.agrees t k path env b u n p q a) = one_named (line.Then t) tt
-  written_named m (IsWritten.differs t k path env b u n p q a) = one_named (line.Else t) tt
-  written_named m (IsWritten.finds t k path env b u v y p q a) = one_named (line.Found t) tt
-  written_named m (IsWritten.misses t k path env b u y p q a) = one_named (line.Missing t) tt
-  written_named {tables = tables} {acts = acts} m (IsWritten.embeds t k js ks path env b l a o σ p i e) =
-      embedded_named acts tables.pending (line.Embedded t ks b) (codes "Rule_" ++ digits path, k ∷ js, m)
-  written_named m (IsWritten.makes n) = All-nil (IsNamedIn xs)
-  written_named m (IsWritten.learns k e a) = All-nil (IsNamedIn xs)
-  written_named m (IsWritten.owns k n a e) = one_named (line.Name n) tt
-  written_named m (IsWritten.writes a) = one_named (line.Public a) m
-  written_named m (IsWritten.applies f ks js e) = one_named (line.Apply f js) (ks, m)
-  written_named {tables = tables} m (IsWritten.knows k e x a i) = pending_named tables.pending
+-- what stands in a list stands behind one more
+behind_one : (x : RStep) (xs : List RStep) (s : RStep) → Contains xs s → Contains (x ∷ xs) s
+behind_one x xs s (k, within, is) = (suc k, omega (arith, within), is)
 
--- behind one more line of rules, lines that name what stands in it
-pub named_next : (before : List RStep) (step : RStep) (lines more all : List PStep) → all ≡ lines ++ more → All (IsNamedIn before) lines → All (IsNamedIn (before ++ step ∷ [])) more → All (IsNamedIn (before ++ step ∷ [])) all
-named_next before step lines more all e h = named_behind (before ++ step ∷ []) lines more all e (all_named_more before (before ++ step ∷ []) (Contains-append_left before (step ∷ [])) lines h)
+-- so it is with all lines that stand in turn
+all_named : (rule_lines : List RStep) (lines : List PStep) → AreLinesForAll rule_lines lines → All (IsNamedIn rule_lines) lines
+all_named _ _ no_lines = All-nil (IsNamedIn [])
+all_named _ _ (more {step = step} {own = own} {rule_lines = rules} {rest = rest} here all) =
+    All-append (IsNamedIn (step ∷ rules)) own rest (lines_named (step ∷ rules) (0, omega arith, refl) here)
+    (all_named_more rules (step ∷ rules) (behind_one step rules) rest (all_named rules rest all))
+
+pub turns_named : (rule_lines : List RStep) (lines : List PStep) → StandInTurn rule_lines lines → All (IsNamedIn rule_lines) lines
+turns_named rule_lines lines h =
+    subst (All (IsNamedIn rule_lines)) (sym h.is)
+    (All-append (IsNamedIn rule_lines) h.own (pending_lines h.last) (all_named rule_lines h.own h.each) (pending_named rule_lines h.last))

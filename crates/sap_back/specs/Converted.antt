@@ -1,5 +1,5 @@
 -- What the conversion of a written run of rules answers.
-use Rattle.std.specs.Prelude.{◌≡◌, ◌+◌, ℕ, List, [], ◌∷◌, ◌++◌, length, All}
+use Rattle.std.specs.Prelude.{◌≡◌, ◌+◌, ℕ, List, [], ◌∷◌, ◌++◌, length}
 use Rattle.sap_terms.specs.Signature.{Sig}
 use Rattle.sap_terms.specs.Trace.{Trace}
 use Rattle.sap_terms.specs.declared.fact.Fact.{Fact}
@@ -18,7 +18,7 @@ use Rattle.sap_steps.specs.declared.fault.RFault.{RFault}
 use Rattle.sap_steps.specs.declared.fault.RFault.TheVariants.{Mem}
 use Rattle.sap_translate.specs.Templates.{rules_of}
 use Rattle.sap_translate.specs.LineCounts.{back_count}
-use Rattle.sap_back.specs.NamedIn.{IsNamedIn}
+use Rattle.sap_back.specs.LinesFor.{StandInTurn}
 use Rattle.sap_back.specs.Opposite.{IsOpposite}
 
 -- the lines are a legal run of the rules of the process within the limit, which leads to the state, and its full trace counts
@@ -34,8 +34,8 @@ pub record IsConverted (g : Sig) (start : Proc) (rule_lines : List RStep) (lines
   pub opposite : IsOpposite g start rule_lines state full lines
   -- there are exactly so many
   pub count : length lines ≡ back_count rule_lines
-  -- what they name stands in lines of the rules
-  pub named : All (IsNamedIn rule_lines) lines
+  -- they stand in turn
+  pub turns : StandInTurn rule_lines lines
 
 -- the lines before the one with this number, from 1, are such a run, and that one is refused for this cause
 pub record IsFirstRefused (g : Sig) (start : Proc) (rule_lines : List RStep) (number : ℕ) (fault : RFault) : Type 0 where

@@ -30,17 +30,13 @@ use Rattle.sap_steps.specs.Lines.{IsLine}
 use Rattle.sap_steps.specs.Marks.{marks}
 use Rattle.sap_translate.specs.ChannelFacts.{msg_fact}
 pub use Rattle.sap_translate.specs.RuleLines.{uses, numbers_from}
+pub use Rattle.sap_back.specs.LinesFor.{pending_lines}
 use Rattle.sap_translate.specs.Templates.{rules_of, first_of, second_of}
 use Rattle.sap_translate.specs.relation.Agents.{Agent, unborn, running, copying, awaiting, received}
 use Rattle.sap_translate.specs.relation.Answers.{Stands, Copies, goes_on as onwards, goes_aside as aside, term_under, widened}
 use Rattle.sap_translate.specs.relation.Envs.{Env, no_env, just, join, values}
 use Rattle.sap_back.specs.Along.{IsAlong}
 use Rattle.sap_back.specs.Tables.{Tables, AreTables, IsPending, come, with_thread, with_known, enters, waiting, first_tables}
-
--- the lines that write what is pending
-abbrev pub pending_lines : Option ℕ → List PStep
-pending_lines None = []
-pending_lines (Some e) = line.Know e ∷ []
 
 -- those that a line which shows this has written first: none where it shows nothing
 abbrev pub lines_before : List Fact → Option ℕ → List PStep

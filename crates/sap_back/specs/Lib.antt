@@ -1,4 +1,5 @@
 pub mod Opposite
+pub mod LinesFor
 pub mod NamedIn
 pub mod Converted
 pub mod Tables

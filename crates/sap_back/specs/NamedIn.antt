@@ -1,4 +1,4 @@
--- What lines of the process name stands in lines of the rules.
+-- The names, symbols and bindings in lines of the process are those of lines of the rules.
 use Rattle.std.specs.Prelude.{ℕ, List, Contains}
 use Rattle.sap_runs.specs.declared.process_step.PStep.{PStep}
 use Rattle.sap_runs.specs.declared.process_step.PStep.TheVariants as line

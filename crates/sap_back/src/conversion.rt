@@ -21,12 +21,13 @@ use sap_runs::{PSteps, RStep, RSteps};
 use sap_terms::{Mem, Trace};
 use std::alloc::Global;
 
-/// The run of the file's process opposite to this run of its rules (`IsConverted`): legal, within the limit on terms, with the
-/// same visible trace, the same marks and at most as many lines; each term that the adversary knows at the end is among its
-/// entries; public names, symbols and bindings that the lines write stand in lines of the rules. What leaves no line: a
-/// message that nobody has received, a sender that wasn't acknowledged, an input that wasn't taken, a name that nothing uses.
-/// `Step` names the first line that is refused, `Broken` the first that makes one of the seven restrictions false; the earlier
-/// is answered, and of one line the refusal. `bench/back.sh` measures that its time grows with the lines.
+/// The run of the file's process opposite to this run of its rules (`IsConverted`): legal, within the limit on terms, with
+/// the same visible trace, the same marks and at most as many lines; each term that the adversary knows at the end is among
+/// its entries. The lines stand in turn, those for each line of the rules, and name what it names. None stands for `rule
+/// Init`, `RepStart_`, `OutMsg_`, `OutAck_`, `fresh` and `learn`, and one for a `know` and the rule that takes it; a `know`
+/// that no rule takes stays a `know`. `Step` names the first line that is refused, `Broken` the first that makes one of the
+/// seven restrictions false; the earlier is answered, and of one line the refusal. `bench/back.sh` counts that twice the
+/// lines take about twice the instructions.
 pub fn to_process(alloc: Global, f: &File, run: &RSteps) -> Result<PSteps, BackAt>
     requires { IsRunnable (told_by f.now) }
     ensures ok { IfOk result (IsConverted f.now.signature (proc f.now.process) run.now) }

@@ -2,6 +2,7 @@
 ghost use Rattle.std.specs.Prelude.{All, ℕ, List, [], ◌∷◌, Some, codes, ◌<◌, ◌^◌, ◌≡◌};
 ghost use Rattle.sap_back.specs.Along.{BeginsAlong};
 ghost use Rattle.sap_back.specs.Followed.{BeginsTabled, EndsTabled, LinesAreFollowed};
+ghost use Rattle.sap_back.specs.LinesFor.{AreLinesFor, AreLinesForAll, StandInTurn};
 ghost use Rattle.sap_back.specs.NamedIn.{IsNamedIn};
 ghost use Rattle.sap_back.specs.Opposite.{HasOpposites};
 ghost use Rattle.sap_locks.specs.Annotation.{IsAnnotation};
@@ -9,6 +10,7 @@ ghost use Rattle.sap_process.specs.Proc.{Proc, node_count};
 ghost use Rattle.sap_process.specs.Ready.{IsReady};
 ghost use Rattle.sap_read.specs.Files.{FileContent, IsRunnable};
 ghost use Rattle.sap_rule.specs.WellMade.{IsWellMade};
+ghost use Rattle.sap_runs.specs.declared.process_step.PStep.{PStep};
 ghost use Rattle.sap_runs.specs.declared.process_step.PStep.TheVariants as line;
 ghost use Rattle.sap_runs.specs.declared.rule_step.RStep.{RStep};
 ghost use Rattle.sap_runs.specs.declared.rule_step.RStep.TheVariants.{Public as PublicLine, Apply as ApplyLine};
@@ -33,10 +35,10 @@ use sap_translate::{
 
 /// A law: before the first line of rules no line of the process goes along, and from there on each line of the rules that is
 /// possible within the limit on terms, and behind which the full trace counts, is followed, where the process is the annotation
-/// of one that is ready and has fewer than 2^64 places: by the lines of the process that `IsWritten` tells from it and from
-/// tables, which say what the facts and the entries of the rules are in the process. There are tables before the first line, and
-/// `IsWritten` tells those behind each. A K event is left pending until an input takes it, or another, an event or the end has it
-/// written; at the end it is.
+/// of one that is ready and has fewer than 2^64 places, over a signature that holds what its builtins declare: by the lines of
+/// the process that `IsWritten` tells from it and from tables, which say what the facts and the entries of the rules are in the
+/// process. There are tables before the first line, and `IsWritten` tells those behind each. A K event is left pending until an
+/// input takes it, or another, an event or the end has it written; at the end it is.
 pub fn lines_are_followed()
     ensures begins { (g : Sig) (p q : Proc) → HoldsBuiltins g → IsReady g p → node_count p < 2 ^ 64 → IsAnnotation p q
         → BeginsAlong g q }
@@ -72,10 +74,10 @@ pub(crate) fn files_are_replayed()
     rules_are_found_by_name();
 }
 
-/// A law: each run of the rules of a process that is legal within the limit on terms, and whose full trace counts, has lines of the
-/// process opposite, where the process is the annotation of one that is ready and has fewer than 2^64 places. They are legal within
-/// the limit, show what is seen of the full trace, have its marks, and leave the adversary with all that it knows there; there are
-/// no more of them.
+/// A law: each run of the rules of a process that is legal within the limit on terms, and whose full trace counts, has lines of
+/// the process opposite, where the process is the annotation of one that is ready and has fewer than 2^64 places, over a
+/// signature that holds what its builtins declare. They are legal within the limit, show what is seen of the full trace, have its
+/// marks, and leave the adversary with all that it knows there; there are no more of them.
 pub fn legal_runs_have_runs_opposite()
     ensures { (g : Sig) (p q : Proc) → HoldsBuiltins g → IsReady g p → node_count p < 2 ^ 64 → IsAnnotation p q
         → HasOpposites g q }
@@ -96,9 +98,9 @@ pub fn legal_runs_have_runs_opposite()
 }
 
 /// A law: of the lines of a run of the rules of a process one answer is right, where the process is the annotation of one that is
-/// ready and has fewer than 2^64 places, over a signature that holds pairs: they count, with one state and one full trace; or one
-/// of them is the first that is refused, for one cause that isn't want of memory; or one of them is the first behind which a
-/// restriction is false, and that is one restriction.
+/// ready and has fewer than 2^64 places, over a signature that holds pairs and what its builtins declare: they count, with one
+/// state and one full trace; or one of them is the first that is refused, for one cause that isn't want of memory; or one of them
+/// is the first behind which a restriction is false, and that is one restriction.
 pub fn rule_runs_have_one_answer()
     ensures { (g : Sig) (p q : Proc) (rule_lines : List RStep) → arity_of g pair_name ≡ Some 2 → HoldsBuiltins g → IsReady g p
         → node_count p < 2 ^ 64 → IsAnnotation p q → HaveOneAnswer g q rule_lines }
@@ -115,12 +117,20 @@ pub fn rule_runs_have_one_answer()
     rules_are_found_by_name();
 }
 
-/// A law: names tried by hand. Beside `pub 'a'` alone a line may write down `a`, and nothing else, so no name with a quote and a line
-/// feed in it; beside `app f 0` alone it may apply `f`, to other entries too, and no other symbol.
-pub fn names_by_hand()
-    ensures own { IsNamedIn (PublicLine (codes "a") ∷ []) (line.Public (codes "a")) }
-    ensures no_other { (a : List ℕ) → IsNamedIn (PublicLine (codes "a") ∷ []) (line.Public a) → a ≡ codes "a" }
-    ensures symbol { (ks : List ℕ) → IsNamedIn (ApplyLine (codes "f") (0 ∷ []) ∷ []) (line.Apply (codes "f") ks) }
-    ensures no_other_symbol { (f ks : List ℕ) → IsNamedIn (ApplyLine (codes "f") (0 ∷ []) ∷ []) (line.Apply f ks)
-        → f ≡ codes "f" }
+/// A law: what lines name that stand in turn stands in the lines of rules: the public name that a line writes down, the symbol that
+/// one applies, the bindings of an embedded rule.
+pub fn names_stand_in_lines()
+    ensures { (rule_lines : List RStep) (lines : List PStep) → StandInTurn rule_lines lines
+        → All (IsNamedIn rule_lines) lines }
+{}
+
+/// A law: lines tried by hand. For `pub 'a'` alone stands the line that writes down `a`, and no other, so no name with a quote and a
+/// line feed in it; for `pub 'a'` and `pub 'b'` stand the two in this order; for `app f 0` one that applies `f`, to whatever entry.
+pub fn turns_by_hand()
+    ensures alone { (lines : List PStep) → AreLinesForAll (PublicLine (codes "a") ∷ []) lines
+        → lines ≡ line.Public (codes "a") ∷ [] }
+    ensures in_order { (lines : List PStep) → AreLinesForAll (PublicLine (codes "a") ∷ PublicLine (codes "b") ∷ []) lines
+        → lines ≡ line.Public (codes "a") ∷ line.Public (codes "b") ∷ [] }
+    ensures symbol { (lines : List PStep) → AreLinesFor (ApplyLine (codes "f") (0 ∷ [])) lines
+        → (entries : List ℕ) × (lines ≡ line.Apply (codes "f") entries ∷ []) }
 {}

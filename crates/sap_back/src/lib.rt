@@ -14,5 +14,6 @@ mod rules;
 pub use back_at::BackAt;
 pub use conversion::{rule_trace, to_process};
 pub use laws::{
-    legal_runs_have_runs_opposite, lines_are_followed, names_by_hand, rule_runs_have_one_answer,
+    legal_runs_have_runs_opposite, lines_are_followed, names_stand_in_lines,
+    rule_runs_have_one_answer, turns_by_hand,
 };

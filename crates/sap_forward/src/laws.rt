@@ -28,9 +28,10 @@ use sap_translate::{
     rules_show_the_process, terms_stand_under_choices,
 };
 
-/// A law: the rules start by `Init`, and from there on each line of a process that is possible within the limit on terms is answered,
-/// where the process is the annotation of one that is ready and has fewer than 2^64 places: by lines of rules that are possible
-/// within the limit, whose names and numbers tables tell. Behind them both sides are linked again.
+/// A law: the rules start by `Init`, and from there on each line of a process that is possible within the limit on terms is
+/// answered, where the process is the annotation of one that is ready and has fewer than 2^64 places, over a signature that holds
+/// what its builtins declare: by lines of rules that are possible within the limit, whose names and numbers tables tell. Behind
+/// them both sides are linked again.
 pub fn lines_are_answered()
     ensures starts { (g : Sig) (p q : Proc) → IsReady g p → node_count p < 2 ^ 64 → IsAnnotation p q
         → StartsLinked g q }
@@ -52,11 +53,12 @@ pub fn lines_are_answered()
     leaves_are_normal();
 }
 
-/// A law: each written run of a process that is legal within the limit on terms has lines of its rules opposite, where the process is
-/// the annotation of one that is ready and has fewer than 2^64 places. They are legal within the limit, and their full trace counts;
-/// they show the same, have the same marks, and leave the adversary with the same entries. None stand opposite to none; elsewhere
-/// the first is `Init`, and behind it stand those for each line in turn, exactly as many as are counted. Locks and tags get the
-/// least names that no line of the process draws, in ascending order, and what a line draws stays its own.
+/// A law: each written run of a process that is legal within the limit on terms has lines of its rules opposite, where the
+/// process is the annotation of one that is ready and has fewer than 2^64 places, over a signature that holds what its builtins
+/// declare. They are legal within the limit, and their full trace counts; they show the same, have the same marks, and leave the
+/// adversary with the same entries. None stand opposite to none; elsewhere the first is `Init`, and behind it stand those for
+/// each line in turn, exactly as many as are counted. Locks and tags get the least names that no line of the process draws, in
+/// ascending order, and what a line draws stays its own.
 pub fn legal_runs_have_lines_opposite()
     ensures { (g : Sig) (p q : Proc) → HoldsBuiltins g → IsReady g p → node_count p < 2 ^ 64 → IsAnnotation p q
         → HasOpposites g q }

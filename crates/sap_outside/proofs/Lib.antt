@@ -1,3 +1,4 @@
+pub mod CallsTried
 pub mod Held
 pub mod PutPieces
 pub mod RunFed

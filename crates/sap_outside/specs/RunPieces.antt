@@ -31,19 +31,22 @@ abbrev pub held_length : Option (List ℕ) → ℕ
 held_length None = 0
 held_length (Some z) = length z
 
--- how many bytes of a run of this name may have come before reading it failed, by what the shelf tells
+-- how many bytes of a run of this name may have come before its last piece was asked for, by what the shelf tells; none where
+-- it isn't held
 abbrev pub may_come : Option Files → List ℕ → ℕ
 may_come None name = most_run_bytes
 may_come (Some files) name = min most_run_bytes (held_length (map.get files name))
 
--- the run of this name was opened and read to these bytes: each piece but the last has a byte at least
+-- reading the run of this name may give these bytes, and the shelf was asked as often as opening it and its pieces allow, where
+-- each piece but the last has a byte: once at least, and at most as often as there are bytes and twice more
 pub record WasRead (holds : Option Files) (name : List ℕ) (asked_before asked_after : Option ℕ) (z : List ℕ) : Type 0 where
   pub joined : IsJoined holds name z
   pub nexts : ℕ
   pub few : nexts ≤ length z + 1
   pub asked : asked_after ≡ more (nexts + 1) asked_before
 
--- reading the run of this name was given up: each piece that came had a byte at least
+-- reading the run of this name was given up, and the shelf was asked as often as opening it and its pieces allow, where each
+-- piece but the last has a byte
 pub record WasGivenUp (holds : Option Files) (name : List ℕ) (asked_before asked_after : Option ℕ) : Type 0 where
   pub nexts : ℕ
   pub few : nexts ≤ may_come holds name + 1

@@ -2,6 +2,7 @@
 #![tactic(auto)]
 
 mod file_shelf;
+mod laws;
 mod mem_shelf;
 mod mem_sink;
 mod pieces;
@@ -13,6 +14,7 @@ mod stream_sink;
 mod tally;
 
 pub use file_shelf::FileShelf;
+pub use laws::calls_by_hand;
 pub use mem_shelf::MemShelf;
 pub use mem_sink::MemSink;
 pub use pieces::put_pieces;

@@ -1,4 +1,4 @@
--- What a step needs so that it can be written: numbers of 64 bits, and names that may stand so.
+-- What a step needs so that it can be written: numbers of 64 bits, and names and bindings that can be written.
 use Rattle.std.specs.Prelude.{List, [], ◌∷◌}
 use Rattle.sap_runs.specs.declared.process_step.PStep.{PStep}
 use Rattle.sap_runs.specs.declared.process_step.PStep.TheVariants as step
@@ -20,8 +20,8 @@ abbrev pub AreNumbered : List LineWord → Type 0
 AreNumbered [] = Unit {0}
 AreNumbered (w ∷ ws) = IsNumbered w × AreNumbered ws
 
--- what the step names may stand so: the public name that is written down, the symbol that is applied, the bindings of an embedded
--- rule; other steps name numbers alone
+-- what a step of a process takes from elsewhere can be written: the public name that is written down, the symbol that is
+-- applied, the bindings of an embedded rule with their terms; other steps have numbers alone
 abbrev pub CanBeNamed : PStep → Type 0
 CanBeNamed (step.Public a) = IsRunContent a
 CanBeNamed (step.Apply f entries) = IsRunName f

@@ -1,6 +1,7 @@
 //! What is so of the texts of runs.
-ghost use Rattle.std.specs.Prelude.{◌≡◌, ◌≤◌, ℕ, List, Result, Ok, length};
+ghost use Rattle.std.specs.Prelude.{◌≡◌, ◌≤◌, ◌^◌, ℕ, codes, List, [], Result, Ok, length};
 ghost use Rattle.sap_runs.specs.declared.process_step.PStep.{PStep};
+ghost use Rattle.sap_runs.specs.declared.process_step.PStep.TheVariants as step;
 ghost use Rattle.sap_runs.specs.declared.rule_step.RStep.{RStep};
 ghost use Rattle.sap_run_lines.specs.StepLines.{process_words};
 ghost use Rattle.sap_run_lines.specs.Spellable.{IsWritableProcess, IsWritableRule};
@@ -47,9 +48,19 @@ pub fn printed_runs_are_read()
     written_lines_are_read();
 }
 
-/// A law: a step whose names may stand so, and whose numbers are of 64 bits, can be written.
+/// A law: a step of a process can be written where its numbers are of 64 bits and the names and bindings in it can be written.
 pub fn named_steps_can_be_written()
     ensures { (s : PStep) → CanBeNamed s → AreNumbered (process_words s) → IsWritableProcess s }
+{}
+
+/// A law: steps tried by hand. The greatest number of 64 bits can be written, and the number after it can't; a public name of
+/// one letter can be written, and so can one of no bytes; one that closes its quotes and goes on with lines can't.
+pub fn writable_by_hand()
+    ensures number { AreNumbered (process_words (step.Nil 18446744073709551615)) }
+    ensures no_number { AreNumbered (process_words (step.Nil (2 ^ 64))) → ⊥ }
+    ensures name { CanBeNamed (step.Public (codes "a")) }
+    ensures no_name { CanBeNamed (step.Public (codes "b'\nknow 0\npub 'c")) → ⊥ }
+    ensures empty { CanBeNamed (step.Public []) }
 {}
 
 /// A law: each step of a run that was read can be written.

@@ -73,7 +73,7 @@ module _ (laws : Laws) (k : Kinds) (z : List ℕ) (f : FileContent) (runnable : 
   converted_is_opposite _ _ answer (to_process {rule_lines = rule_lines} lines c numbered) =
       let opposite = back_is_opposite f rule_lines lines c in
       process_of_rules lines opposite (λ text. let both = laws.alike f lines rule_lines text runnable opposite in (both.1, both.0))
-      (λ short. opposite_is_read laws.texts k z rule_lines lines answer c.named numbered short)
+      (λ short. opposite_is_read laws.texts k z rule_lines lines answer c.turns numbered short)
 
   -- what a task writes of a run that was read says what it should
   pub written_says : (task : Task) (r : Run) (text : List ℕ) → IsRunAnswer k z (Ok r) → Writes task f r text → Says task f r text

@@ -18,11 +18,13 @@ use Rattle.sap_run_texts.specs.RunPrinted.{Each, process_run_text}
 use Rattle.sap_run_texts.specs.RunTexts.{IsProcessRunText, IsRuleRunText, IsRunRead, as_process, as_rules, told_process, told_rules, told_neither, process_answer, rule_answer}
 use Rattle.sap_run_texts.specs.Writable.{AreNumbered, CanBeNamed}
 use Rattle.sap_outside.specs.RunPieces.{IsRunAnswer, is_run}
+use Rattle.sap_back.specs.LinesFor.{StandInTurn}
 use Rattle.sap_back.specs.NamedIn.{IsNamedIn}
 
 -- what is so of texts of runs
 pub record Laws : Type 0 where
   pub named : (s : PStep) → CanBeNamed s → AreNumbered (process_words s) → IsWritableProcess s
+  pub names : (ls : List RStep) (ss : List PStep) → StandInTurn ls ss → All (IsNamedIn ls) ss
   pub read : (z : List ℕ) (ss : List RStep) → IsRuleRunText z (Ok ss) → Each IsWritableRule ss
   pub printed : (ss : List PStep) → Each IsWritableProcess ss → length ss ≤ MOST_PROCESS_STEPS → IsProcessRunText (process_run_text ss) (Ok ss)
 
@@ -87,9 +89,10 @@ module _ (ls : List RStep) (writable : All IsWritableRule ls) where
   can_be_written laws (s ∷ ss) has numbered =
       (laws.named s (can_be_named s (All-head (IsNamedIn ls) s ss has)) numbered.0, can_be_written laws ss (All-tail (IsNamedIn ls) s ss has) numbered.1)
 
--- the text of lines whose names stand in lines of rules that were read, and whose numbers are of 64 bits, is read as these lines
-pub opposite_is_read : Laws → (k : Kinds) (z : List ℕ) (ls : List RStep) (ss : List PStep) → IsRunAnswer k z (Ok (run.Rules ls)) → All (IsNamedIn ls) ss
+-- the text of lines that stand in turn, those for each line of rules that were read, and whose numbers are of 64 bits, is read as these
+-- lines
+pub opposite_is_read : Laws → (k : Kinds) (z : List ℕ) (ls : List RStep) (ss : List PStep) → IsRunAnswer k z (Ok (run.Rules ls)) → StandInTurn ls ss
     → Each (λ s. AreNumbered (process_words s)) ss → length ss ≤ MOST_PROCESS_STEPS → IsProcessRunText (process_run_text ss) (Ok ss)
-opposite_is_read laws k z ls ss answer named numbered short =
+opposite_is_read laws k z ls ss answer turns numbered short =
     let writable = all_of IsWritableRule ls (laws.read z ls (text_of_answer k z ls answer)) in
-    laws.printed ss (can_be_written ls writable laws ss named numbered) short
+    laws.printed ss (can_be_written ls writable laws ss (laws.names ls ss turns) numbered) short

@@ -34,8 +34,8 @@ Asks c k = c.words ≡ spelled k
 abbrev pub AskedOnce : Call → Type 0
 AskedOnce c = c.asked_after ≡ one_more c.asked_before
 
--- these are bytes that a fetch of the command's file may answer, and then those to which its run was read, by what the shelf tells,
--- and nothing else was fetched
+-- these are bytes that a fetch of the command's file may answer, and then ones that reading its run may give, by what the shelf tells;
+-- of its calls only the number is told
 abbrev pub Fetched : Call → Command → Input → Type 0
 Fetched c k (alone bytes) = IsFetched c.holds (file_of k) (limit_of k) bytes × AskedOnce c
 Fetched c k (and_run bytes z) =

@@ -36,7 +36,7 @@ use Rattle.sap_tool.specs.declared.way.Way.TheVariants.{Plain}
 pub data IsConvertedText (f : FileContent) : Run → List ℕ → Type 0 where
   to_rules : {lines : List PStep} (rule_lines : List RStep) → forward.IsConverted f.signature f.process lines rule_lines
       → IsConvertedText f (run.Process lines) (rule_run_text rule_lines)
-  -- whose numbers are of 64 bits
+  -- of the lines of the process, the numbers that their words write are of 64 bits, those in the terms of bindings apart
   to_process : {rule_lines : List RStep} (lines : List PStep) → back.IsConverted f.signature f.process rule_lines lines
       → Each (λ line. AreNumbered (process_words line)) lines → IsConvertedText f (run.Rules rule_lines) (process_run_text lines)
 

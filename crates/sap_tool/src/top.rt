@@ -15,6 +15,7 @@ use crate::laws::{
     illegal_runs_have_one_cause, process_lines, read_theories_can_run, rule_lines,
     verdicts_are_kept,
 };
+use sap_back::names_stand_in_lines;
 use sap_gen::{theories_are_printable, theories_keep_files};
 use sap_locks::annotations_are_ready;
 use sap_outside::{Shelf, Sink, SinkFault, put_pieces};
@@ -65,6 +66,7 @@ pub fn sapic<S: Shelf, O: Sink, E: Sink>(
     read_runs_can_be_written();
     named_steps_can_be_written();
     printed_runs_are_read();
+    names_stand_in_lines();
     read_theories_can_run();
     process_lines();
     rule_lines();

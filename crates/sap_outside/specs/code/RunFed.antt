@@ -43,7 +43,7 @@ pub record IsRunFed (file : Option (List ℕ)) (old new : Reading) (given : ℕ)
   pub fed : IsFed old new z
   pub tally : IsTallyOf z given first
 
--- how many bytes of the rest of a file may come before reading it as a run fails, where it is told
+-- how many bytes of the rest of a file may have come before the last piece of it was asked for, by what is told of it
 abbrev pub may_come_of : Option (List ℕ) → ℕ
 may_come_of None = most_run_bytes
 may_come_of (Some rest) = min most_run_bytes (length rest)

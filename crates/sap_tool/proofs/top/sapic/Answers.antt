@@ -36,7 +36,12 @@ returns g c =
         made = c.rules_are_well_made.ensures.made;
       };
       meant = record {
-        texts = record { named = c.named_steps_can_be_written.ensures; read = c.read_runs_can_be_written.ensures.rule; printed = c.printed_runs_are_read.ensures.process };
+        texts = record {
+          named = c.named_steps_can_be_written.ensures;
+          names = c.names_stand_in_lines.ensures;
+          read = c.read_runs_can_be_written.ensures.rule;
+          printed = c.printed_runs_are_read.ensures.process;
+        };
         alike = c.verdicts_are_kept.ensures;
       };
       one_illegal = c.illegal_runs_have_one_cause.ensures.file;
