@@ -35,7 +35,7 @@ done
 
 cd "$copy"
 rt must-fail "$@" > tried 2>&1 || true
-grep '^rt: ' tried || cat tried
+grep '^rt: must-fail' tried || cat tried
 refused=$(grep -c ': refused, as it must be' tried || true)
 echo "$wanted wrong bodies, $refused refused, $((wanted - refused)) let through or not tried"
 [ "$wanted" -eq "$refused" ]

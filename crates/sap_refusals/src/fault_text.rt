@@ -2,6 +2,7 @@
 
 ghost use Rattle.std.specs.Prelude.{◌≡◌, ◌++◌, codes, decimal, OnOk};
 ghost use Rattle.std.specs.List.{flat_map};
+ghost use Rattle.sap_read.specs.declared.fault.ReadFault.TheVariants as faults;
 ghost use Rattle.sap_refusals.specs.Refusals.{at_place, between, fault_text, flaw_text, formula_text, lex_text, lock_text, place_text};
 
 use sap_formula::FormulaFault;
@@ -11,12 +12,13 @@ use sap_read::ReadFault;
 use sap_terms::{Mem, Name, Path};
 use sap_text::{Lex, Text};
 
-/// Puts last why bytes are read as no file.
+/// Puts last why bytes are read as no file. Want of memory is no such cause.
 pub fn push_fault(text: &mut Text, fault: &ReadFault) -> Result<(), Mem>
-    ensures { OnOk result (text.new ≡ text.old ++ fault_text fault.now) }
+    ensures cause { OnOk result (fault.now ≡ faults.Mem → ⊥) }
+    ensures text { OnOk result (text.new ≡ text.old ++ fault_text fault.now) }
 {
     match fault {
-        ReadFault::Mem => text.push_bytes(b"out of memory"),
+        ReadFault::Mem => Err(Mem),
         ReadFault::Lex(fault) => push_lex(text, *fault, b" is longer than 64 bytes"),
         ReadFault::Header => text.push_bytes(b"no theory header"),
         ReadFault::Syntax { line } => push_numbered(text, b"line ", *line, b": not in the grammar"),

@@ -1,6 +1,6 @@
 //! The lines that refuse files.
 
-ghost use Rattle.std.specs.Prelude.{◌≡◌, ◌↔◌, IsTrue, codes, IfOk};
+ghost use Rattle.std.specs.Prelude.{◌≡◌, codes, IfOk};
 ghost use Rattle.sap_read.specs.declared.fault.ReadFault.TheVariants as faults;
 ghost use Rattle.sap_refusals.specs.Refusals.{refused_line, fault_text};
 
@@ -23,22 +23,9 @@ pub fn long_file_line(alloc: Global) -> Result<Text, Mem>
 pub fn file_line(alloc: Global, fault: &ReadFault) -> Result<Text, Mem>
     ensures { IfOk result (λ line. (fault.now ≡ faults.Mem → ⊥) × (line ≡ refused_line (fault_text fault.now))) }
 {
-    if is_memory(fault) {
-        return Err(Mem);
-    }
     let mut line = Text::new(alloc);
     line.push_bytes(b"file refused: ")?;
     push_fault(&mut line, fault)?;
     line.push_bytes(b"\n")?;
     Ok(line)
-}
-
-/// Whether the fault is want of memory.
-fn is_memory(fault: &ReadFault) -> bool
-    ensures { IsTrue result ↔ (fault.now ≡ faults.Mem) }
-{
-    match fault {
-        ReadFault::Mem => true,
-        _ => false,
-    }
 }

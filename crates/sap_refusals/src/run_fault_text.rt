@@ -1,6 +1,6 @@
 //! Why a run is refused, in words.
 
-ghost use Rattle.std.specs.Prelude.{◌≡◌, ◌++◌, ◌↔◌, IsTrue, codes, decimal, IfOk, OnOk};
+ghost use Rattle.std.specs.Prelude.{◌≡◌, ◌++◌, codes, decimal, IfOk, OnOk};
 ghost use Rattle.sap_lines.specs.declared.fault.PFault.TheVariants as process_faults;
 ghost use Rattle.sap_restrict.specs.Restrictions.{restriction_name};
 ghost use Rattle.sap_steps.specs.declared.fault.RFault.TheVariants as rule_faults;
@@ -31,9 +31,6 @@ pub fn process_line(alloc: Global, step: u64, fault: &PFault) -> Result<Text, Me
     ensures { IfOk result (λ line. (fault.now ≡ process_faults.Mem → ⊥)
         × (line ≡ run_refused_line (at_step step (process_fault_text fault.now)))) }
 {
-    if is_process_memory(fault) {
-        return Err(Mem);
-    }
     let mut line = step_line(alloc, step)?;
     push_process_fault(&mut line, fault)?;
     line.push_bytes(b"\n")?;
@@ -45,9 +42,6 @@ pub fn rule_line(alloc: Global, step: u64, fault: &RFault) -> Result<Text, Mem>
     ensures { IfOk result (λ line. (fault.now ≡ rule_faults.Mem → ⊥)
         × (line ≡ run_refused_line (at_step step (rule_fault_text fault.now)))) }
 {
-    if is_rule_memory(fault) {
-        return Err(Mem);
-    }
     let mut line = step_line(alloc, step)?;
     push_rule_fault(&mut line, fault)?;
     line.push_bytes(b"\n")?;
@@ -63,26 +57,6 @@ pub fn broken_line(alloc: Global, step: u64, which: Which) -> Result<Text, Mem>
     line.push_bytes(name_of(which))?;
     line.push_bytes(b"\n")?;
     Ok(line)
-}
-
-/// Whether the fault is want of memory.
-fn is_process_memory(fault: &PFault) -> bool
-    ensures { IsTrue result ↔ (fault.now ≡ process_faults.Mem) }
-{
-    match fault {
-        PFault::Mem => true,
-        _ => false,
-    }
-}
-
-/// Whether the fault is want of memory.
-fn is_rule_memory(fault: &RFault) -> bool
-    ensures { IsTrue result ↔ (fault.now ≡ rule_faults.Mem) }
-{
-    match fault {
-        RFault::Mem => true,
-        _ => false,
-    }
 }
 
 /// The line that refuses a run at this step, as far as the cause.
@@ -122,12 +96,13 @@ fn push_refusal(text: &mut Text, refusal: RunRefusal) -> Result<(), Mem>
     }
 }
 
-/// Puts last why a line of a process is refused.
+// Puts last why a line of a process is refused. Want of memory is no such cause.
 fn push_process_fault(text: &mut Text, fault: &PFault) -> Result<(), Mem>
-    ensures { OnOk result (text.new ≡ text.old ++ process_fault_text fault.now) }
+    ensures cause { OnOk result (fault.now ≡ process_faults.Mem → ⊥) }
+    ensures text { OnOk result (text.new ≡ text.old ++ process_fault_text fault.now) }
 {
     match fault {
-        PFault::Mem => text.push_bytes(b"out of memory"),
+        PFault::Mem => Err(Mem),
         PFault::NoThread { t } => push_number_behind(text, b"no thread ", *t),
         PFault::WrongForm { t } => push_numbered(text, b"thread ", *t, b" has another form"),
         PFault::NoEntry { k } => push_number_behind(text, b"no entry ", *k),
@@ -147,12 +122,13 @@ fn push_process_fault(text: &mut Text, fault: &PFault) -> Result<(), Mem>
     }
 }
 
-/// Puts last why a line of rules is refused.
+// Puts last why a line of rules is refused. Want of memory is no such cause.
 fn push_rule_fault(text: &mut Text, fault: &RFault) -> Result<(), Mem>
-    ensures { OnOk result (text.new ≡ text.old ++ rule_fault_text fault.now) }
+    ensures cause { OnOk result (fault.now ≡ rule_faults.Mem → ⊥) }
+    ensures text { OnOk result (text.new ≡ text.old ++ rule_fault_text fault.now) }
 {
     match fault {
-        RFault::Mem => text.push_bytes(b"out of memory"),
+        RFault::Mem => Err(Mem),
         RFault::NoRule => text.push_bytes(b"no such rule"),
         RFault::FactCount => text.push_bytes(b"wrong number of facts"),
         RFault::FactMissing { place } => push_number_behind(text, b"no fact at place ", *place),

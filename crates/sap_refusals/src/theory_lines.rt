@@ -1,6 +1,6 @@
 //! The lines that refuse theories.
 
-ghost use Rattle.std.specs.Prelude.{◌≡◌, ◌++◌, ◌↔◌, IsTrue, codes, IfOk, OnOk};
+ghost use Rattle.std.specs.Prelude.{◌≡◌, ◌++◌, codes, IfOk, OnOk};
 ghost use Rattle.sap_theory.specs.declared.fault.TheoryFault.TheVariants as faults;
 ghost use Rattle.sap_refusals.specs.Refusals.{refused_line};
 ghost use Rattle.sap_refusals.specs.TheoryRefusals.{theory_fault_text};
@@ -24,9 +24,6 @@ pub fn long_theory_line(alloc: Global) -> Result<Text, Mem>
 pub fn theory_line(alloc: Global, fault: &TheoryFault) -> Result<Text, Mem>
     ensures { IfOk result (λ line. (fault.now ≡ faults.Mem → ⊥) × (line ≡ refused_line (theory_fault_text fault.now))) }
 {
-    if is_memory(fault) {
-        return Err(Mem);
-    }
     let mut line = Text::new(alloc);
     line.push_bytes(b"file refused: ")?;
     push_theory_fault(&mut line, fault)?;
@@ -34,22 +31,13 @@ pub fn theory_line(alloc: Global, fault: &TheoryFault) -> Result<Text, Mem>
     Ok(line)
 }
 
-/// Whether the fault is want of memory.
-fn is_memory(fault: &TheoryFault) -> bool
-    ensures { IsTrue result ↔ (fault.now ≡ faults.Mem) }
-{
-    match fault {
-        TheoryFault::Mem => true,
-        _ => false,
-    }
-}
-
-/// Puts last why bytes are read as no theory.
+// Puts last why bytes are read as no theory. Want of memory is no such cause.
 fn push_theory_fault(text: &mut Text, fault: &TheoryFault) -> Result<(), Mem>
-    ensures { OnOk result (text.new ≡ text.old ++ theory_fault_text fault.now) }
+    ensures cause { OnOk result (fault.now ≡ faults.Mem → ⊥) }
+    ensures text { OnOk result (text.new ≡ text.old ++ theory_fault_text fault.now) }
 {
     match fault {
-        TheoryFault::Mem => text.push_bytes(b"out of memory"),
+        TheoryFault::Mem => Err(Mem),
         TheoryFault::Lex(fault) => push_lex(text, *fault, b" is longer than 400 bytes"),
         TheoryFault::Header => text.push_bytes(b"no theory header"),
         TheoryFault::Syntax { line } => push_numbered(
