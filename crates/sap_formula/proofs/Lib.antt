@@ -21,3 +21,4 @@ pub mod Walks
 pub mod HiddenBinders
 pub mod Verdicts
 mod SmallFormulas
+pub mod Remakes

@@ -10,3 +10,4 @@ pub mod Picked
 pub mod Quantified
 pub mod Weight
 pub mod Answer
+pub mod Remade

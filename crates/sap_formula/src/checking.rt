@@ -11,9 +11,9 @@ ghost use Rattle.sap_formula.specs.Checked.{IsChecked};
 
 use crate::Formula;
 use crate::fault::{FormulaFault, FormulaFlaw};
+use crate::remaking::{How, remade_box};
 use crate::scope::Scope;
 use crate::search::{Aim, in_form};
-use crate::sorting::sorted;
 use sap_terms::{Copied, Mem, Name, Signature};
 use std::alloc::Global;
 
@@ -33,11 +33,17 @@ pub fn check(
 {
     match fault_that_counts(alloc, sig, reserved, f)? {
         Some((which, name)) => Err(fault(which, name)),
-        None => {
-            let outside = Scope::Outside;
-            Ok(sorted(alloc, &outside, f)?)
-        }
+        None => Ok(sorted(alloc, f)?),
     }
+}
+
+// The formula with the sorts of binders.
+#[tactic(auto, using(crate::proofs::Remakes::remade_laws))]
+fn sorted(alloc: Global, f: &Formula) -> Result<Formula, Mem>
+    ensures { IfOk result (λ r. form r ≡ with_sorts [] (form f.now)) }
+{
+    let outside = Scope::Outside;
+    Ok(Box::into_inner(remade_box(alloc, How::Sorted, &outside, f)?))
 }
 
 // The first of all five, in the order in which they count.

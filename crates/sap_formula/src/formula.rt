@@ -1,10 +1,11 @@
 //! Formulas over traces.
-ghost use Rattle.std.specs.Prelude.{◌≡◌, IfOk, Ok};
-ghost use Rattle.sap_formula.specs.Form.{every, exists};
+ghost use Rattle.std.specs.Prelude.{◌≡◌, IfOk};
 ghost use Rattle.sap_formula.specs.View.{form};
 
 use crate::Binders;
-use sap_terms::{Copied, Fact, Mem, Name, Term};
+use crate::remaking::{How, remade_box};
+use crate::scope::Scope;
+use sap_terms::{Fact, Mem, Name, Term};
 use std::alloc::Global;
 
 /// A formula over a trace, in first-order logic with message variables and time variables. Contracts see it as a plain
@@ -56,98 +57,11 @@ impl Drop for Formula {
 
 impl Formula {
     /// An equal formula. Want of memory is the only error. It recurses as deep as the formula.
-    #[cycle(copy)]
+    #[tactic(auto, using(crate::proofs::Remakes::remade_laws))]
     pub fn copy(&self, alloc: Global) -> Result<Formula, Mem>
         ensures { IfOk result (λ f. form f ≡ form self.now) }
     {
-        match self {
-            Formula::True => Ok(Formula::True),
-            Formula::False => Ok(Formula::False),
-            Formula::Action(fact, i) => copy_action(alloc, fact, i),
-            Formula::Equal(s, t) => copy_equal(alloc, s, t),
-            Formula::Same(i, j) => copy_same(alloc, i, j),
-            Formula::Less(i, j) => copy_less(alloc, i, j),
-            Formula::Not(f) => Ok(Formula::Not(f.boxed_copy(alloc)?)),
-            Formula::And(f, g) => {
-                let (f, g) = both(f.boxed_copy(alloc), g.boxed_copy(alloc))?;
-                Ok(Formula::And(f, g))
-            }
-            Formula::Or(f, g) => {
-                let (f, g) = both(f.boxed_copy(alloc), g.boxed_copy(alloc))?;
-                Ok(Formula::Or(f, g))
-            }
-            Formula::Imp(f, g) => {
-                let (f, g) = both(f.boxed_copy(alloc), g.boxed_copy(alloc))?;
-                Ok(Formula::Imp(f, g))
-            }
-            Formula::Iff(f, g) => {
-                let (f, g) = both(f.boxed_copy(alloc), g.boxed_copy(alloc))?;
-                Ok(Formula::Iff(f, g))
-            }
-            Formula::All(binders, f) => copy_all(alloc, binders, f.boxed_copy(alloc)?),
-            Formula::Ex(binders, f) => copy_exists(alloc, binders, f.boxed_copy(alloc)?),
-        }
+        let outside = Scope::Outside;
+        Ok(Box::into_inner(remade_box(alloc, How::Same, &outside, self)?))
     }
-
-    #[cycle(copy)]
-    fn boxed_copy(&self, alloc: Global) -> Result<Box<Formula>, Mem>
-        ensures { IfOk result (λ f. form f.value ≡ form self.now) }
-    {
-        Ok(Box::new(alloc, self.copy(alloc)?)?)
-    }
-}
-
-// Both, where there is memory for both.
-fn both(
-    left: Result<Box<Formula>, Mem>,
-    right: Result<Box<Formula>, Mem>,
-) -> Result<(Box<Formula>, Box<Formula>), Mem>
-    ensures { IfOk result (λ two. (left ≡ Ok two.0) × (right ≡ Ok two.1)) }
-{
-    let left = left?;
-    Ok((left, right?))
-}
-
-fn copy_action(alloc: Global, fact: &Fact, i: &Name) -> Result<Formula, Mem>
-    ensures { IfOk result (λ f. f ≡ Formula.Action fact.now i.now) }
-{
-    let fact = fact.copy(alloc)?;
-    Ok(Formula::Action(fact, i.copy(alloc)?))
-}
-
-pub(crate) fn copy_same(alloc: Global, i: &Name, j: &Name) -> Result<Formula, Mem>
-    ensures { IfOk result (λ f. f ≡ Formula.Same i.now j.now) }
-{
-    let i = i.copy(alloc)?;
-    Ok(Formula::Same(i, j.copy(alloc)?))
-}
-
-pub(crate) fn copy_less(alloc: Global, i: &Name, j: &Name) -> Result<Formula, Mem>
-    ensures { IfOk result (λ f. f ≡ Formula.Less i.now j.now) }
-{
-    let i = i.copy(alloc)?;
-    Ok(Formula::Less(i, j.copy(alloc)?))
-}
-
-pub(crate) fn copy_all(alloc: Global, binders: &Binders, body: Box<Formula>) -> Result<Formula, Mem>
-    ensures { IfOk result (λ f. form f ≡ every binders.now (form body.value)) }
-{
-    Ok(Formula::All(binders.copy(alloc)?, body))
-}
-
-pub(crate) fn copy_exists(
-    alloc: Global,
-    binders: &Binders,
-    body: Box<Formula>,
-) -> Result<Formula, Mem>
-    ensures { IfOk result (λ f. form f ≡ exists binders.now (form body.value)) }
-{
-    Ok(Formula::Ex(binders.copy(alloc)?, body))
-}
-
-fn copy_equal(alloc: Global, s: &Term, t: &Term) -> Result<Formula, Mem>
-    ensures { IfOk result (λ f. f ≡ Formula.Equal s.now t.now) }
-{
-    let s = s.copy(alloc)?;
-    Ok(Formula::Equal(s, t.copy(alloc)?))
 }

@@ -13,6 +13,7 @@ mod laws;
 mod lemma;
 mod picks;
 mod projecting;
+mod remaking;
 mod restriction;
 mod scope;
 mod search;

@@ -1,7 +1,7 @@
-//! Copies with the sorts of binders.
-ghost use Rattle.std.specs.Prelude.{◌≡◌, IfOk, Ok, map};
+//! Terms and atoms with the sorts of binders.
+ghost use Rattle.std.specs.Prelude.{◌≡◌, IfOk, map};
 ghost use Rattle.sap_formula.specs.code.Scoped.{binders};
-ghost use Rattle.sap_formula.specs.Sorted.{by_binder, sorted_as, with_sorts};
+ghost use Rattle.sap_formula.specs.Sorted.{by_binder, sorted_as};
 ghost use Rattle.sap_formula.specs.Form.{action, equal};
 ghost use Rattle.sap_formula.specs.View.{form};
 ghost use Rattle.sap_terms.specs.Choice.{instance};
@@ -9,7 +9,6 @@ ghost use Rattle.sap_terms.specs.Modulo.{instance_fact};
 ghost use Rattle.sap_terms.specs.View.{tree};
 ghost use Rattle.sap_formula.specs.Checked.{find_binder};
 
-use crate::formula::{copy_all, copy_exists, copy_less, copy_same};
 use crate::scope::{Scope, find_binder};
 use crate::{Binder, Formula};
 use sap_terms::{Copied, Fact, Mem, Name, Sort, Term, TermList, Var};
@@ -59,7 +58,7 @@ fn sorted_terms(alloc: Global, scope: &Scope<'_>, ts: &TermList) -> Result<TermL
     Ok(out)
 }
 
-fn sorted_action(alloc: Global, scope: &Scope<'_>, f: &Fact, i: &Name) -> Result<Formula, Mem>
+pub(crate) fn sorted_action(alloc: Global, scope: &Scope<'_>, f: &Fact, i: &Name) -> Result<Formula, Mem>
     ensures { IfOk result (λ r. form r ≡ action (instance_fact (by_binder (binders scope.now)) f.now) i.now) }
 {
     let fact = Fact {
@@ -70,67 +69,9 @@ fn sorted_action(alloc: Global, scope: &Scope<'_>, f: &Fact, i: &Name) -> Result
     Ok(Formula::Action(fact, i.copy(alloc)?))
 }
 
-fn sorted_equal(alloc: Global, scope: &Scope<'_>, s: &Term, t: &Term) -> Result<Formula, Mem>
+pub(crate) fn sorted_equal(alloc: Global, scope: &Scope<'_>, s: &Term, t: &Term) -> Result<Formula, Mem>
     ensures { IfOk result (λ r. form r ≡ equal (instance (by_binder (binders scope.now)) (tree s.now)) (instance (by_binder (binders scope.now)) (tree t.now))) }
 {
     let s = sorted_term(alloc, scope, s)?;
     Ok(Formula::Equal(s, sorted_term(alloc, scope, t)?))
-}
-
-// Both, where both are there.
-pub(crate) fn both(
-    left: Result<Box<Formula>, Mem>,
-    right: Result<Box<Formula>, Mem>,
-) -> Result<(Box<Formula>, Box<Formula>), Mem>
-    ensures { IfOk result (λ two. (left ≡ Ok two.0) × (right ≡ Ok two.1)) }
-{
-    let left = left?;
-    Ok((left, right?))
-}
-
-// The formula with the sorts of binders, inside these.
-#[cycle(sorted)]
-pub(crate) fn sorted(alloc: Global, scope: &Scope<'_>, f: &Formula) -> Result<Formula, Mem>
-    ensures { IfOk result (λ r. form r ≡ with_sorts (binders scope.now) (form f.now)) }
-{
-    match f {
-        Formula::True => Ok(Formula::True),
-        Formula::False => Ok(Formula::False),
-        Formula::Action(h, i) => sorted_action(alloc, scope, h, i),
-        Formula::Equal(s, t) => sorted_equal(alloc, scope, s, t),
-        Formula::Same(i, j) => copy_same(alloc, i, j),
-        Formula::Less(i, j) => copy_less(alloc, i, j),
-        Formula::Not(g) => Ok(Formula::Not(sorted_box(alloc, scope, g)?)),
-        Formula::And(g, h) => {
-            let (left, right) = both(sorted_box(alloc, scope, g), sorted_box(alloc, scope, h))?;
-            Ok(Formula::And(left, right))
-        }
-        Formula::Or(g, h) => {
-            let (left, right) = both(sorted_box(alloc, scope, g), sorted_box(alloc, scope, h))?;
-            Ok(Formula::Or(left, right))
-        }
-        Formula::Imp(g, h) => {
-            let (left, right) = both(sorted_box(alloc, scope, g), sorted_box(alloc, scope, h))?;
-            Ok(Formula::Imp(left, right))
-        }
-        Formula::Iff(g, h) => {
-            let (left, right) = both(sorted_box(alloc, scope, g), sorted_box(alloc, scope, h))?;
-            Ok(Formula::Iff(left, right))
-        }
-        Formula::All(bs, g) => {
-            let inner = Scope::Inside(&*bs, &*scope);
-            copy_all(alloc, bs, sorted_box(alloc, &inner, g)?)
-        }
-        Formula::Ex(bs, g) => {
-            let inner = Scope::Inside(&*bs, &*scope);
-            copy_exists(alloc, bs, sorted_box(alloc, &inner, g)?)
-        }
-    }
-}
-
-#[cycle(sorted)]
-fn sorted_box(alloc: Global, scope: &Scope<'_>, f: &Formula) -> Result<Box<Formula>, Mem>
-    ensures { IfOk result (λ r. form r.value ≡ with_sorts (binders scope.now) (form f.now)) }
-{
-    Ok(Box::new(alloc, sorted(alloc, scope, f)?)?)
 }

@@ -9,8 +9,9 @@ ghost use Rattle.sap_terms.specs.Message.{IsMessageTrace};
 ghost use Rattle.sap_terms.specs.Signature.{Sig};
 
 use crate::environment::Env;
+use crate::remaking::{How, remade_box};
+use crate::scope::Scope;
 use crate::sightings::table_of;
-use crate::slimming::slim_box;
 use crate::truths::{Scene, holds};
 use crate::{Formula, cost};
 use sap_rewrite::normal_terms_decide;
@@ -30,11 +31,13 @@ pub enum Verdict {
 }
 
 // Whether the formula is true on the trace.
+#[tactic(auto, using(crate::proofs::Remakes::remade_laws))]
 fn is_true(alloc: Global, f: &Formula, trace: &Trace) -> Result<bool, Mem>
     ensures { IfOk result (λ v. v ≡ judged (form f.now) trace.now) }
 {
+    let nowhere = Scope::Outside;
+    let slim = remade_box(alloc, How::Slim, &nowhere, f)?;
     let table = table_of(alloc, trace)?;
-    let slim = slim_box(alloc, f)?;
     let scene = Scene {
         trace,
         table: &table,

@@ -4,8 +4,8 @@ ghost use Rattle.sap_terms.specs.Choice.{Choice, instance};
 ghost use Rattle.sap_terms.specs.Modulo.{instance_fact, instance_facts};
 ghost use Rattle.sap_terms.specs.View.{tree};
 ghost use Rattle.sap_terms.specs.declared.var.Var.{Var};
-ghost use Rattle.sap_process.specs.Action.{new, out, send, input, receive, event, insert, delete, lock, unlock, embedded};
-ghost use Rattle.sap_process.specs.code.Headed.{headed, forked};
+ghost use Rattle.sap_process.specs.Action.{new, event, embedded};
+ghost use Rattle.sap_process.specs.code.Headed.{headed, forked, with_term, with_terms};
 ghost use Rattle.sap_process.specs.Proc.{proc, nil, parallel, replicated, act, test, lookup};
 
 use crate::Process;
@@ -41,15 +41,15 @@ pub(crate) fn over<R: Replacing>(
             Ok(below),
         Process::Rep(_) => repeated(alloc, below),
         Process::New(x, _) => naming(alloc, r, x, below),
-        Process::Out(t, _) => outputting(alloc, r, t, below),
-        Process::Send(t, u, _) => sending(alloc, r, t, u, below),
-        Process::In(t, _) => inputting(alloc, r, t, below),
-        Process::Recv(t, u, _) => receiving(alloc, r, t, u, below),
+        Process::Out(t, _)
+        | Process::In(t, _)
+        | Process::Delete(t, _)
+        | Process::Lock(t, _, _)
+        | Process::Unlock(t, _, _) => over_term(alloc, r, p, t, below),
+        Process::Send(t, u, _) | Process::Recv(t, u, _) | Process::Insert(t, u, _) => {
+            over_terms(alloc, r, p, t, u, below)
+        }
         Process::Event(f, _) => showing(alloc, r, f, below),
-        Process::Insert(t, u, _) => inserting(alloc, r, t, u, below),
-        Process::Delete(t, _) => deleting(alloc, r, t, below),
-        Process::Lock(t, n, _) => locking(alloc, r, t, *n, below),
-        Process::Unlock(t, n, _) => unlocking(alloc, r, t, *n, below),
         Process::Embedded(l, e, s, _) => embedding(alloc, r, l, e, s, below),
     }
 }
@@ -150,60 +150,60 @@ fn repeated(alloc: Global, p: Box<Process>) -> Result<Box<Process>, Mem>
     boxed(alloc, Process::Rep(p))
 }
 
-fn outputting<R: Replacing>(
+// A head that has one term, with its variables replaced, over this process.
+fn over_term<R: Replacing>(
     alloc: Global,
     r: &R,
+    like: &Process,
     t: &Term,
-    p: Box<Process>,
+    below: Box<Process>,
 ) -> Result<Box<Process>, Mem>
-    ensures { IfOk result (λ q. proc q.value ≡ act
-        (out (instance (R.choice r.now) (tree t.now))) (proc p.value)) }
+    ensures { IfOk result (λ q. proc q.value
+        ≡ with_term (proc like.now) (instance (R.choice r.now) (tree t.now)) (proc below.value)) }
 {
     let t = r.replaced(alloc, t)?;
-    boxed(alloc, Process::Out(t, p))
+    boxed(alloc, with_term(like, t, below))
 }
 
-fn sending<R: Replacing>(
+// The same of one that has two.
+fn over_terms<R: Replacing>(
     alloc: Global,
     r: &R,
+    like: &Process,
     t: &Term,
     u: &Term,
-    p: Box<Process>,
+    below: Box<Process>,
 ) -> Result<Box<Process>, Mem>
-    ensures { IfOk result (λ q. proc q.value ≡ act
-        (send (instance (R.choice r.now) (tree t.now)) (instance (R.choice r.now) (tree u.now)))
-        (proc p.value)) }
+    ensures { IfOk result (λ q. proc q.value
+        ≡ with_terms (proc like.now) (instance (R.choice r.now) (tree t.now))
+        (instance (R.choice r.now) (tree u.now)) (proc below.value)) }
 {
     let (t, u) = both_replaced(alloc, r, t, u)?;
-    boxed(alloc, Process::Send(t, u, p))
+    boxed(alloc, with_terms(like, t, u, below))
 }
 
-fn inputting<R: Replacing>(
-    alloc: Global,
-    r: &R,
-    t: &Term,
-    p: Box<Process>,
-) -> Result<Box<Process>, Mem>
-    ensures { IfOk result (λ q. proc q.value ≡ act
-        (input (instance (R.choice r.now) (tree t.now))) (proc p.value)) }
+// The head of this form with this term.
+fn with_term(like: &Process, t: Term, below: Box<Process>) -> Process
+    ensures { proc result ≡ with_term (proc like.now) (tree t) (proc below.value) }
 {
-    let t = r.replaced(alloc, t)?;
-    boxed(alloc, Process::In(t, p))
+    match like {
+        Process::Out(_, _) => Process::Out(t, below),
+        Process::In(_, _) => Process::In(t, below),
+        Process::Lock(_, n, _) => Process::Lock(t, *n, below),
+        Process::Unlock(_, n, _) => Process::Unlock(t, *n, below),
+        _ => Process::Delete(t, below),
+    }
 }
 
-fn receiving<R: Replacing>(
-    alloc: Global,
-    r: &R,
-    t: &Term,
-    u: &Term,
-    p: Box<Process>,
-) -> Result<Box<Process>, Mem>
-    ensures { IfOk result (λ q. proc q.value ≡ act
-        (receive (instance (R.choice r.now) (tree t.now)) (instance (R.choice r.now) (tree u.now)))
-        (proc p.value)) }
+// The head of this form with these two.
+fn with_terms(like: &Process, t: Term, u: Term, below: Box<Process>) -> Process
+    ensures { proc result ≡ with_terms (proc like.now) (tree t) (tree u) (proc below.value) }
 {
-    let (t, u) = both_replaced(alloc, r, t, u)?;
-    boxed(alloc, Process::Recv(t, u, p))
+    match like {
+        Process::Send(_, _, _) => Process::Send(t, u, below),
+        Process::Recv(_, _, _) => Process::Recv(t, u, below),
+        _ => Process::Insert(t, u, below),
+    }
 }
 
 fn showing<R: Replacing>(
@@ -217,62 +217,6 @@ fn showing<R: Replacing>(
 {
     let f = replaced_fact(alloc, r, f)?;
     boxed(alloc, Process::Event(f, p))
-}
-
-fn inserting<R: Replacing>(
-    alloc: Global,
-    r: &R,
-    t: &Term,
-    u: &Term,
-    p: Box<Process>,
-) -> Result<Box<Process>, Mem>
-    ensures { IfOk result (λ q. proc q.value ≡ act
-        (insert (instance (R.choice r.now) (tree t.now)) (instance (R.choice r.now) (tree u.now)))
-        (proc p.value)) }
-{
-    let (t, u) = both_replaced(alloc, r, t, u)?;
-    boxed(alloc, Process::Insert(t, u, p))
-}
-
-fn deleting<R: Replacing>(
-    alloc: Global,
-    r: &R,
-    t: &Term,
-    p: Box<Process>,
-) -> Result<Box<Process>, Mem>
-    ensures { IfOk result (λ q. proc q.value ≡ act
-        (delete (instance (R.choice r.now) (tree t.now))) (proc p.value)) }
-{
-    let t = r.replaced(alloc, t)?;
-    boxed(alloc, Process::Delete(t, p))
-}
-
-fn locking<R: Replacing>(
-    alloc: Global,
-    r: &R,
-    t: &Term,
-    n: u32,
-    p: Box<Process>,
-) -> Result<Box<Process>, Mem>
-    ensures { IfOk result (λ q. proc q.value ≡ act
-        (lock (instance (R.choice r.now) (tree t.now)) n) (proc p.value)) }
-{
-    let t = r.replaced(alloc, t)?;
-    boxed(alloc, Process::Lock(t, n, p))
-}
-
-fn unlocking<R: Replacing>(
-    alloc: Global,
-    r: &R,
-    t: &Term,
-    n: u32,
-    p: Box<Process>,
-) -> Result<Box<Process>, Mem>
-    ensures { IfOk result (λ q. proc q.value ≡ act
-        (unlock (instance (R.choice r.now) (tree t.now)) n) (proc p.value)) }
-{
-    let t = r.replaced(alloc, t)?;
-    boxed(alloc, Process::Unlock(t, n, p))
 }
 
 fn embedding<R: Replacing>(

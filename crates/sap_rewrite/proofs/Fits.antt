@@ -1,13 +1,17 @@
 -- Normal forms under a limit.
-use Rattle.std.proofs.Common.{◌≡◌, ℕ, zero, suc, ◌+◌, ◌<◌, ◌≤◌, List, [], ◌∷◌, ◌++◌, Bool, true, false, ◌&&◌, nat_le, Some, drop, add-one, refl, ap, subst, arith}
-use Rattle.std.specs.Prelude.{slice_get, min, Result, Ok, Err, OnOk, OnErr, IsErrOf}
+use Rattle.std.proofs.Common.{◌≡◌, ℕ, zero, suc, ◌+◌, ◌<◌, ◌≤◌, List, [], ◌∷◌, ◌++◌, Bool, true, false, ◌&&◌, nat_le, Some, drop, add-one, refl, ap, subst, ◌∙◌, arith}
+use Rattle.std.specs.Prelude.{slice_get, min, Result, Ok, Err, IfOk, OnOk, OnErr, IsErrOf}
 use Rattle.std.specs.Bool.{OnFalse}
 use Rattle.std.proofs.lemmas.Bool.Decides.{nat_tests}
 use Rattle.sap_terms.specs.Tree.{Tree, variable, public, fresh, apply, Trees, none, more, node_count, trees_count, trees_of}
+use Rattle.sap_terms.specs.View.{tree}
+use Rattle.sap_terms.specs.declared.term.Term.{Term}
+use Rattle.sap_terms.specs.declared.term.Term.TheVariants.{Var, Public, Fresh, App}
 use Rattle.sap_terms.specs.Equations.{Equations}
 use Rattle.sap_terms.proofs.PlainLaws.Tests.{and_left, and_right, and_true}
 use Rattle.sap_terms.proofs.PlainLaws.Trees.{item_le-trees_count}
 use Rattle.sap_rewrite.specs.code.Reduce.{nf}
+use Rattle.sap_rewrite.specs.declared.within.Counted.{Counted}
 use Rattle.sap_rewrite.specs.code.Fit.{form_fits, each_fits, all_fit}
 use Rattle.sap_rewrite.specs.Large.{SomeSubterm, itself, below, SomeSubtermWithin, here, later, HasLargeForm}
 use Rattle.sap_rewrite.proofs.NormalForms.{has_normal_form, one_normal_form}
@@ -98,6 +102,31 @@ pub whole_large : (e : Equations) (most most_u64 n : ℕ) (t : Tree) (f : List �
 whole_large e most m n t f ts is count h =
     rw is (and_false_right (all_fit e most ts) _ (lt_fits _ _ (omega arith)))
 
+-- a term without a symbol is its own form, has one node, and fits where its form does
+pub leaf_form : (e : Equations) (t : Term) → ((f : List ℕ) (us : List Tree) → t ≡ App f us → ⊥) → nf e (tree t) ≡ tree t
+leaf_form e (Var v) n = nf-variable e v
+leaf_form e (Public m) n = nf-public e m
+leaf_form e (Fresh k) n = nf-fresh e k
+leaf_form e (App f us) n = absurd (n f us refl)
+
+pub leaf_count : (e : Equations) (t : Term) → ((f : List ℕ) (us : List Tree) → t ≡ App f us → ⊥) → node_count (nf e (tree t)) ≡ 1
+leaf_count e (Var v) n = ap node_count (nf-variable e v)
+leaf_count e (Public m) n = ap node_count (nf-public e m)
+leaf_count e (Fresh k) n = ap node_count (nf-fresh e k)
+leaf_count e (App f us) n = absurd (n f us refl)
+
+leaf_test : (e : Equations) (most : ℕ) (t : Term) → ((f : List ℕ) (us : List Tree) → t ≡ App f us → ⊥) → each_fits e most (tree t) ≡ nat_le (node_count (nf e (tree t))) most
+leaf_test e most (Var v) n = refl
+leaf_test e most (Public m) n = refl
+leaf_test e most (Fresh k) n = refl
+leaf_test e most (App f us) n = absurd (n f us refl)
+
+pub leaf_fits : (e : Equations) (most : ℕ) (t : Term) → ((f : List ℕ) (us : List Tree) → t ≡ App f us → ⊥) → 1 ≤ most → each_fits e most (tree t) ≡ true
+leaf_fits e most t n h = leaf_test e most t n ∙ le_fits _ _ (omega (arith, leaf_count e t n))
+
+pub leaf_large : (e : Equations) (most : ℕ) (t : Term) → ((f : List ℕ) (us : List Tree) → t ≡ App f us → ⊥) → most < 1 → each_fits e most (tree t) ≡ false
+leaf_large e most t n h = leaf_test e most t n ∙ lt_fits _ _ (omega (arith, leaf_count e t n))
+
 -- what a call's answer says where it is Ok, and where it is one error
 pub on_ok : {T E P Q : Type 0} (r : Result T E) → (P → Q) → OnOk r P → OnOk r Q
 on_ok (Ok x) f h = f h
@@ -112,4 +141,11 @@ pub where_false : {P : Type 0} (b : Bool) → OnFalse b P → b ≡ false → P
 where_false true h e = cc
 where_false false h e = h
 
-pub ruleset fit_laws = (nf-variable, nf-public, nf-fresh, nf-apply, item_le-trees_count, trees_count-push, all_fit-got)
+-- what holds of the term that is counted, holds of a call's answer where that is this term
+pub as_term : {E : Type 0} (r : Result Counted E) (x : Counted) (u : Tree) → IfOk r (λ y. y ≡ x) → tree x.term ≡ u → IfOk r (λ y. tree y.term ≡ u)
+as_term (Ok y) x u h e = ap (λ (z : Counted). tree z.term) h ∙ e
+as_term (Err b) x u h e = tt
+
+pub as_count : {E : Type 0} (r : Result Counted E) (x : Counted) (n : ℕ) → IfOk r (λ y. y ≡ x) → x.nodes ≡ n → IfOk r (λ y. y.nodes ≡ n)
+as_count (Ok y) x n h e = ap (λ (z : Counted). z.nodes) h ∙ e
+as_count (Err b) x n h e = tt

@@ -5,7 +5,7 @@ use Rattle.std.proofs.lemmas.Slice.Eq.{bytes_eq-Decides}
 use Rattle.std.specs.Str.{bytes_eq}
 use Rattle.sap_terms.specs.Tree.{Tree, variable, public, fresh, apply, Trees, none, more}
 use Rattle.sap_terms.specs.Equations.{Equations, IsInstance, first, second, symmetric, asymmetric, signing, revealing, revealed, pair_name, fst_name, snd_name, senc_name, sdec_name, aenc_name, adec_name, pk_name, sign_name, verify_name, reveal_sign_name, reveal_verify_name, get_message_name, true_name, app0, app1, app2}
-use Rattle.sap_rewrite.specs.code.Reduce.{guard, or_else, args1, args2, args3, under, first_part, second_part, opened, opened_by_key, verified, by_first, by_second, by_symmetric, by_asymmetric, by_signing, by_revealing, by_revealed, by_check, contracted}
+use Rattle.sap_rewrite.specs.code.Reduce.{guard, or_else, args1, args2, args3, under, parts_under, owner_of, first_part, second_part, opened, opened_by_key, verified, by_first, by_second, by_symmetric, by_asymmetric, by_signing, by_revealing, by_revealed, by_check, contracted}
 use Rattle.sap_terms.specs.Same.{same_tree}
 use Rattle.sap_terms.proofs.PlainLaws.Tests.{same_tree-sound, same_tree-refl, and_left, and_right}
 
@@ -43,70 +43,70 @@ under-shape f (variable v) us h = cc
 under-shape f (public n) us h = cc
 under-shape f (fresh k) us h = cc
 
+parts_under-shape : (f : List ℕ) (t : Tree) (p : Tree × Tree) → parts_under f t ≡ Some p → t ≡ app2 f p.0 p.1
+parts_under-shape f t p h =
+    option_and_then_some _ (under f t) p h (λ us b h.
+    let t_is = under-shape f t us b in
+    let us_is = args2-shape us p h in
+    cc)
+
+owner_of-shape : (t k : Tree) → owner_of t ≡ Some k → t ≡ app1 pk_name k
+owner_of-shape t k h =
+    option_and_then_some _ (under pk_name t) k h (λ us b h.
+    let t_is = under-shape pk_name t us b in
+    let us_is = args1-shape us k h in
+    cc)
+
 pub first_part-shape : (f : List ℕ) (ts : Trees) (r : Tree) → first_part f ts ≡ Some r → (y : Tree) × (ts ≡ more (app2 f r y) none)
 first_part-shape f ts r h =
     option_and_then_some _ (args1 ts) r h (λ t a h.
-    option_and_then_some _ (under f t) r h (λ us b h.
-    option_and_then_some _ (args2 us) r h (λ p c h.
+    option_and_then_some _ (parts_under f t) r h (λ p b h.
     let ts_is = args1-shape ts t a in
-    let t_is = under-shape f t us b in
-    let us_is = args2-shape us p c in
-    (p.1, cc))))
+    let t_is = parts_under-shape f t p b in
+    (p.1, cc)))
 
 pub second_part-shape : (ts : Trees) (r : Tree) → second_part ts ≡ Some r → (x : Tree) × (ts ≡ more (app2 pair_name x r) none)
 second_part-shape ts r h =
     option_and_then_some _ (args1 ts) r h (λ t a h.
-    option_and_then_some _ (under pair_name t) r h (λ us b h.
-    option_and_then_some _ (args2 us) r h (λ p c h.
+    option_and_then_some _ (parts_under pair_name t) r h (λ p b h.
     let ts_is = args1-shape ts t a in
-    let t_is = under-shape pair_name t us b in
-    let us_is = args2-shape us p c in
-    (p.0, cc))))
+    let t_is = parts_under-shape pair_name t p b in
+    (p.0, cc)))
 
 pub opened-shape : (ts : Trees) (r : Tree) → opened ts ≡ Some r → (k : Tree) × (ts ≡ more (app2 senc_name r k) (more k none))
 opened-shape ts r h =
     option_and_then_some _ (args2 ts) r h (λ p a h.
-    option_and_then_some _ (under senc_name p.0) r h (λ us b h.
-    option_and_then_some _ (args2 us) r h (λ q c h.
+    option_and_then_some _ (parts_under senc_name p.0) r h (λ q b h.
     guard_some (same_tree q.1 p.1) (Some q.0) r h (λ s h.
     let ts_is = args2-shape ts p a in
-    let t_is = under-shape senc_name p.0 us b in
-    let us_is = args2-shape us q c in
+    let t_is = parts_under-shape senc_name p.0 q b in
     let k_is = same_tree-sound q.1 p.1 s in
-    (p.1, cc)))))
+    (p.1, cc))))
 
 pub opened_by_key-shape : (ts : Trees) (r : Tree) → opened_by_key ts ≡ Some r → (k : Tree) × (ts ≡ more (app2 aenc_name r (app1 pk_name k)) (more k none))
 opened_by_key-shape ts r h =
     option_and_then_some _ (args2 ts) r h (λ p a h.
-    option_and_then_some _ (under aenc_name p.0) r h (λ us b h.
-    option_and_then_some _ (args2 us) r h (λ q c h.
-    option_and_then_some _ (under pk_name q.1) r h (λ vs d h.
-    option_and_then_some _ (args1 vs) r h (λ k i h.
+    option_and_then_some _ (parts_under aenc_name p.0) r h (λ q b h.
+    option_and_then_some _ (owner_of q.1) r h (λ k d h.
     guard_some (same_tree k p.1) (Some q.0) r h (λ s h.
     let ts_is = args2-shape ts p a in
-    let t_is = under-shape aenc_name p.0 us b in
-    let us_is = args2-shape us q c in
-    let k_is = under-shape pk_name q.1 vs d in
-    let vs_is = args1-shape vs k i in
+    let t_is = parts_under-shape aenc_name p.0 q b in
+    let k_is = owner_of-shape q.1 k d in
     let k_same = same_tree-sound k p.1 s in
-    (p.1, cc)))))))
+    (p.1, cc)))))
 
 verified-shape : (f : List ℕ) (ts : Trees) (r : Tree) → verified f ts ≡ Some r → (m k : Tree) × (ts ≡ more (app2 f m k) (more m (more (app1 pk_name k) none))) × (r ≡ app0 true_name)
 verified-shape f ts r h =
     option_and_then_some _ (args3 ts) r h (λ p a h.
-    option_and_then_some _ (under f p.0) r h (λ us b h.
-    option_and_then_some _ (args2 us) r h (λ q c h.
-    option_and_then_some _ (under pk_name p.2) r h (λ vs d h.
-    option_and_then_some _ (args1 vs) r h (λ k i h.
+    option_and_then_some _ (parts_under f p.0) r h (λ q b h.
+    option_and_then_some _ (owner_of p.2) r h (λ k d h.
     guard_some (same_tree q.0 p.1 && same_tree q.1 k) (Some (app0 true_name)) r h (λ s h.
     let ts_is = args3-shape ts p a in
-    let t_is = under-shape f p.0 us b in
-    let us_is = args2-shape us q c in
-    let k_is = under-shape pk_name p.2 vs d in
-    let vs_is = args1-shape vs k i in
+    let t_is = parts_under-shape f p.0 q b in
+    let k_is = owner_of-shape p.2 k d in
     let m_same = same_tree-sound q.0 p.1 (and_left _ _ s) in
     let k_same = same_tree-sound q.1 k (and_right _ _ s) in
-    (q.0, q.1, cc, cc)))))))
+    (q.0, q.1, cc, cc)))))
 
 module _ (e : Equations) (f : List ℕ) (ts : Trees) (r : Tree) where
   abbrev Instance : Type 0

@@ -4,7 +4,7 @@ ghost use Rattle.std.specs.Option.{option_copied};
 ghost use Rattle.sap_terms.specs.View.{tree};
 ghost use Rattle.sap_terms.specs.Tree.{trees_of};
 ghost use Rattle.sap_terms.specs.Equations.{app0, true_name};
-ghost use Rattle.sap_rewrite.specs.code.Reduce.{args1, args2, args3, under, first_part, second_part, opened, opened_by_key, verified};
+ghost use Rattle.sap_rewrite.specs.code.Reduce.{args1, args2, args3, under, parts_under, owner_of, first_part, second_part, opened, opened_by_key, verified};
 
 use crate::lends::Lends;
 use sap_terms::{Term, TermList};
@@ -52,11 +52,25 @@ fn under<'a>(name: &[u8], t: &'a Term) -> Option<&'a TermList>
     }
 }
 
+// The two terms under a symbol of this name.
+fn parts<'a>(name: &[u8], t: &'a Term) -> Option<(&'a Term, &'a Term)>
+    ensures { option_map (λ p. (tree p.0.now, tree p.1.now)) result ≡ parts_under name.now (tree t.now) }
+{
+    two(under(name, t)?)
+}
+
+// The key whose public key it is.
+fn owner(t: &Term) -> Option<&Term>
+    ensures { option_map tree (option_copied result) ≡ owner_of (tree t.now) }
+{
+    one(under(b"pk", t)?)
+}
+
 // The first of the two terms under a symbol of this name.
 pub(crate) fn first_part<'a, L: Lends>(name: &[u8], ts: &'a L) -> Option<&'a Term>
     ensures { option_map tree (option_copied result) ≡ first_part name.now (trees_of (L.lent ts.now)) }
 {
-    let (a, _) = two(under(name, one(ts)?)?)?;
+    let (a, _) = parts(name, one(ts)?)?;
     Some(a)
 }
 
@@ -64,7 +78,7 @@ pub(crate) fn first_part<'a, L: Lends>(name: &[u8], ts: &'a L) -> Option<&'a Ter
 pub(crate) fn second_part<L: Lends>(ts: &L) -> Option<&Term>
     ensures { option_map tree (option_copied result) ≡ second_part (trees_of (L.lent ts.now)) }
 {
-    let (_, b) = two(under(b"pair", one(ts)?)?)?;
+    let (_, b) = parts(b"pair", one(ts)?)?;
     Some(b)
 }
 
@@ -73,7 +87,7 @@ pub(crate) fn opened<L: Lends>(ts: &L) -> Option<&Term>
     ensures { option_map tree (option_copied result) ≡ opened (trees_of (L.lent ts.now)) }
 {
     let (sealed, key) = two(ts)?;
-    let (message, own) = two(under(b"senc", sealed)?)?;
+    let (message, own) = parts(b"senc", sealed)?;
     if own.same(key) { Some(message) } else { None }
 }
 
@@ -82,8 +96,8 @@ pub(crate) fn opened_by_key<L: Lends>(ts: &L) -> Option<&Term>
     ensures { option_map tree (option_copied result) ≡ opened_by_key (trees_of (L.lent ts.now)) }
 {
     let (sealed, key) = two(ts)?;
-    let (message, public) = two(under(b"aenc", sealed)?)?;
-    let own = one(under(b"pk", public)?)?;
+    let (message, public) = parts(b"aenc", sealed)?;
+    let own = owner(public)?;
     if own.same(key) { Some(message) } else { None }
 }
 
@@ -92,8 +106,8 @@ pub(crate) fn verifies<L: Lends>(name: &[u8], ts: &L) -> Option<()>
     ensures { option_map (λ _. app0 true_name) result ≡ verified name.now (trees_of (L.lent ts.now)) }
 {
     let (signed, claimed, public) = three(ts)?;
-    let (message, own) = two(under(name, signed)?)?;
-    let key = one(under(b"pk", public)?)?;
+    let (message, own) = parts(name, signed)?;
+    let key = owner(public)?;
     if message.same(claimed) && own.same(key) {
         Some(())
     } else {

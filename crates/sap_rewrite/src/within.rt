@@ -105,7 +105,7 @@ fn reduce_counted(
 }
 
 #[cycle(within)]
-#[tactic(auto, using(crate::proofs::Fits::fit_laws))]
+#[tactic(auto)]
 fn within_term(alloc: Global, sig: &Signature, t: &Term, most: u64) -> Result<Counted, Cut>
     requires { most < u64.MAX }
     ensures form { IfOk result (λ r. tree r.term ≡ nf (equations sig.now) (tree t.now)) }
@@ -126,7 +126,7 @@ fn within_term(alloc: Global, sig: &Signature, t: &Term, most: u64) -> Result<Co
 }
 
 #[cycle(within)]
-#[tactic(auto, using(crate::proofs::Fits::fit_laws))]
+#[tactic(auto)]
 fn within_all(alloc: Global, sig: &Signature, ts: &TermList, most: u64) -> Result<CountedList, Cut>
     requires { most < u64.MAX }
     ensures forms { IfOk result (λ r. r.terms ≡ map (nf (equations sig.now)) ts.now) }

@@ -38,48 +38,53 @@ abbrev pub under : List ℕ → Tree → Option Trees
 under f (apply g ts) = guard (bytes_eq g f) (Some ts)
 under f _ = None
 
+-- the two trees under a symbol of this name
+abbrev pub parts_under : List ℕ → Tree → Option (Tree × Tree)
+parts_under f t = do
+  us ← under f t
+  args2 us
+
+-- the key whose public key it is
+abbrev pub owner_of : Tree → Option Tree
+owner_of t = do
+  us ← under pk_name t
+  args1 us
+
 -- the first of the two trees under a symbol of this name
 abbrev pub first_part : List ℕ → Trees → Option Tree
 first_part name ts = do
   t ← args1 ts
-  us ← under name t
-  p ← args2 us
+  p ← parts_under name t
   Some p.0
 
 -- the second part of a pair
 abbrev pub second_part : Trees → Option Tree
 second_part ts = do
   t ← args1 ts
-  us ← under pair_name t
-  p ← args2 us
+  p ← parts_under pair_name t
   Some p.1
 
 -- the message that was sealed with this key
 abbrev pub opened : Trees → Option Tree
 opened ts = do
   p ← args2 ts
-  us ← under senc_name p.0
-  q ← args2 us
+  q ← parts_under senc_name p.0
   guard (same_tree q.1 p.1) (Some q.0)
 
 -- the message that was sealed for this key
 abbrev pub opened_by_key : Trees → Option Tree
 opened_by_key ts = do
   p ← args2 ts
-  us ← under aenc_name p.0
-  q ← args2 us
-  vs ← under pk_name q.1
-  k ← args1 vs
+  q ← parts_under aenc_name p.0
+  k ← owner_of q.1
   guard (same_tree k p.1) (Some q.0)
 
 -- true, where the signature, which a symbol of this name makes, is of this message by this key
 abbrev pub verified : List ℕ → Trees → Option Tree
 verified name ts = do
   p ← args3 ts
-  us ← under name p.0
-  q ← args2 us
-  vs ← under pk_name p.2
-  k ← args1 vs
+  q ← parts_under name p.0
+  k ← owner_of p.2
   guard (same_tree q.0 p.1 && same_tree q.1 k) (Some (app0 true_name))
 
 -- what each equation makes of a symbol on trees

@@ -1,0 +1,140 @@
+//! Formulas made anew: copied, with the sorts of binders, or without hidden binders.
+ghost use Rattle.std.specs.Prelude.{◌≡◌, IfOk, Ok};
+ghost use Rattle.sap_formula.specs.View.{form};
+ghost use Rattle.sap_formula.specs.code.Remade.{entered, joined, kept, quantified, remade, timed};
+ghost use Rattle.sap_formula.specs.code.Scoped.{binders};
+
+use crate::scope::Scope;
+use crate::slimming::lasts;
+use crate::sorting::{sorted_action, sorted_equal};
+use crate::{Binders, Formula};
+use sap_terms::{Copied, Mem, Name};
+use std::alloc::Global;
+
+// How a formula is made anew.
+#[derive(Clone, Copy)]
+pub(crate) enum How {
+    // As it is.
+    Same,
+    // With the sorts of its binders.
+    Sorted,
+    // Without binders that a later one of their quantifier hides.
+    Slim,
+}
+
+// The formula made anew inside these binders.
+#[cycle(remade)]
+pub(crate) fn remade_box(
+    alloc: Global,
+    how: How,
+    scope: &Scope<'_>,
+    f: &Formula,
+) -> Result<Box<Formula>, Mem>
+    ensures { IfOk result (λ r. form r.value ≡ remade how (binders scope.now) (form f.now)) }
+{
+    Ok(Box::new(alloc, remade(alloc, how, scope, f)?)?)
+}
+
+#[cycle(remade)]
+fn remade(alloc: Global, how: How, scope: &Scope<'_>, f: &Formula) -> Result<Formula, Mem>
+    ensures { IfOk result (λ r. form r ≡ remade how (binders scope.now) (form f.now)) }
+{
+    match f {
+        Formula::True => Ok(Formula::True),
+        Formula::False => Ok(Formula::False),
+        Formula::Action(h, i) => sorted_action(alloc, scope, h, i),
+        Formula::Equal(s, t) => sorted_equal(alloc, scope, s, t),
+        Formula::Same(i, j) | Formula::Less(i, j) => timed(alloc, f, i, j),
+        Formula::Not(g) => Ok(Formula::Not(remade_box(alloc, how, scope, g)?)),
+        Formula::And(g, h) | Formula::Or(g, h) | Formula::Imp(g, h) | Formula::Iff(g, h) => {
+            let two = both(
+                remade_box(alloc, how, scope, g),
+                remade_box(alloc, how, scope, h),
+            )?;
+            Ok(joined(f, two))
+        }
+        Formula::All(bs, g) | Formula::Ex(bs, g) => {
+            quantified(alloc, how, f, bs, below(alloc, how, scope, bs, g)?)
+        }
+    }
+}
+
+// What stands below a quantifier, made anew.
+#[cycle(remade)]
+fn below(
+    alloc: Global,
+    how: How,
+    scope: &Scope<'_>,
+    bs: &Binders,
+    f: &Formula,
+) -> Result<Box<Formula>, Mem>
+    ensures { IfOk result (λ r. form r.value ≡ remade how (entered how bs.now (binders scope.now)) (form f.now)) }
+{
+    let inner = Scope::Inside(&*bs, &*scope);
+    match how {
+        How::Sorted => remade_box(alloc, how, &inner, f),
+        _ => remade_box(alloc, how, scope, f),
+    }
+}
+
+// Both, where both are there.
+fn both(
+    left: Result<Box<Formula>, Mem>,
+    right: Result<Box<Formula>, Mem>,
+) -> Result<(Box<Formula>, Box<Formula>), Mem>
+    ensures { IfOk result (λ two. (left ≡ Ok two.0) × (right ≡ Ok two.1)) }
+{
+    let left = left?;
+    Ok((left, right?))
+}
+
+// The connective of this formula between the two.
+fn joined(like: &Formula, two: (Box<Formula>, Box<Formula>)) -> Formula
+    ensures { form result ≡ joined (form like.now) (form two.0.value) (form two.1.value) }
+{
+    match like {
+        Formula::And(_, _) => Formula::And(two.0, two.1),
+        Formula::Or(_, _) => Formula::Or(two.0, two.1),
+        Formula::Imp(_, _) => Formula::Imp(two.0, two.1),
+        _ => Formula::Iff(two.0, two.1),
+    }
+}
+
+// Its quantifier over this body.
+fn quantified(
+    alloc: Global,
+    how: How,
+    like: &Formula,
+    bs: &Binders,
+    body: Box<Formula>,
+) -> Result<Formula, Mem>
+    ensures { IfOk result (λ r. form r ≡ quantified (form like.now) (kept how bs.now) (form body.value)) }
+{
+    let bs = kept(alloc, how, bs)?;
+    match like {
+        Formula::All(_, _) => Ok(Formula::All(bs, body)),
+        _ => Ok(Formula::Ex(bs, body)),
+    }
+}
+
+// Its relation between these times.
+fn timed(alloc: Global, like: &Formula, i: &Name, j: &Name) -> Result<Formula, Mem>
+    ensures { IfOk result (λ r. form r ≡ timed (form like.now) i.now j.now) }
+{
+    let i = i.copy(alloc)?;
+    let j = j.copy(alloc)?;
+    match like {
+        Formula::Same(_, _) => Ok(Formula::Same(i, j)),
+        _ => Ok(Formula::Less(i, j)),
+    }
+}
+
+// The binders that stay.
+fn kept(alloc: Global, how: How, bs: &Binders) -> Result<Binders, Mem>
+    ensures { IfOk result (λ r. r ≡ kept how bs.now) }
+{
+    match how {
+        How::Slim => lasts(alloc, bs),
+        _ => bs.copy(alloc),
+    }
+}
