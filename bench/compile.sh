@@ -1,6 +1,7 @@
 #!/bin/sh
-# Times `sapic compile` on the largest files of each kind, with sizes that double, and prints for each the growth of the
-# time and of the bytes that are read and written.
+# Counts what `sapic compile` and `compile-inline` cost on the largest files of each kind, with sizes that double, and prints for each
+# the instructions, by valgrind, the bytes that are read and written, and the growth of both: that of the instructions is to be about
+# that of the bytes.
 #   nodes   balanced parallels of events, up to 4,000 nodes
 #   events  a name that stands 1,000 times for an event with so many arguments
 #   scopes  64 names in scope, and outputs of them, up to 4,000 nodes
@@ -13,8 +14,11 @@
 #   names   so many doubling `let` items, of which the process uses the last; counted, and refused
 #   items   so many functions that are declared, up to a file of 1 MiB
 #   lemmas  so many lemmas, up to 12,000 in 0.9 MB
-# usage: bench/compile.sh [TURNS]
-. "$(dirname "$0")/turns.sh"
+#   inline  one lemma and so many restrictions, which it carries, up to 40,000 in 0.9 MB, on a stack of 8 MiB
+# usage: bench/compile.sh [KIND..]
+set -eu
+. "$(dirname "$0")/growth.sh"
+ulimit -s 8192
 
 # A balanced parallel of so many copies of a process, and what stands before it.
 parallel() {
@@ -103,6 +107,36 @@ lemmas() {
     }'
 }
 
+inline() {
+    awk -v n="$1" 'BEGIN {
+        printf "theory Bench begin process: event Sent(\047a\047) "
+        for (k = 1; k <= n; k++) printf "restriction r%d:\"T\" ", k
+        print "lemma l: \"Ex #i. Sent(\047a\047)@i\" end"
+    }'
+}
+
+wished=" $* "
+printf '%-7s %7s %11s %14s %12s %6s\n' kind size bytes instructions instructions bytes
+
+# kind KIND SIZES..: a line for the file of each size, which the function of that name makes, where this kind is asked for
+kind() {
+    what=$1 old_count=0 old_bytes=0
+    shift
+    case $wished in *" $what "* | "  ") ;; *) return 0 ;; esac
+    for size in "$@"; do
+        "$what" "$size" > "$work/file.spthy"
+        count=$(instructions "$command" "$work/file.spthy")
+        "$program" "$command" "$work/file.spthy" > "$work/theory" 2> "$work/said" || true
+        bytes=$(cat "$work/file.spthy" "$work/theory" | wc -c)
+        awk -v kind="$what" -v size="$size" -v bytes="$bytes" -v count="$count" -v old_count="$old_count" -v old_bytes="$old_bytes" 'BEGIN {
+            printf "%-7s %7d %11d %14.0f", kind, size, bytes, count
+            if (old_count > 0) printf " %12.2f %6.2f\n", count / old_count, bytes / old_bytes; else printf "            -      -\n"
+        }'
+        old_count=$count old_bytes=$bytes
+    done
+}
+
+command=compile
 kind nodes 80 160 320 640 1333
 kind events 8 16 32 64 128 256 512
 kind scopes 400 800 1600 3200
@@ -112,6 +146,10 @@ kind terms 80 160 320 640 1333
 kind rules 250 500 1000 2000
 kind facts 250 500 1000 2000
 kind vars 65000 130000 260000 520000
+ends 1 'file refused: more than 4000 nodes'
 kind names 500 1000 2000 4000 8000 16000
+ends 0 ''
 kind items 4000 8000 16000 32000
 kind lemmas 1500 3000 6000 12000
+command=compile-inline
+kind inline 2500 5000 10000 20000 40000

@@ -1,52 +1,55 @@
 #!/bin/sh
-# Counts what the commands on runs cost, by the program itself, with sizes that double up to what a run or a theory may have.
+# Counts what the commands on runs cost, by the program itself. Each family doubles a size, up to what a run, a file or a theory
+# may have, and makes one thing dear. In instructions, by valgrind, without those of the same command on the empty run, which
+# reads the file or the theory alone:
 #
-# In instructions, by valgrind, without those of the empty run, which reads the file or the theory alone:
-#   to-rules     sessions of nine lines of a process of some 3,900 places, up to 5,000 lines
-#   to-process   sessions of twelve lines of its rules, up to 20,001 lines
-#   judge        a lemma with three guards on a run that shows events, up to a cost of 10,000,000
-#   check-rules  runs of up to 20,001 lines of a theory of 12,001 rules; then one of 12,001 lines of theories of up to 12,001 rules
+#   forward      to-rules: sessions of nine lines, up to 5,000, of a process of some 3,900 places: lines of processes that are
+#                replayed, and lines of rules that are written for them
+#   back         to-process: sessions of twelve lines, up to 20,001, of its rules: lines of rules that are replayed, restrictions
+#                that are looked at, and lines of the process that are written for them
+#   keys, key    to-process: keys, each set, found, locked and unlocked in nine lines; then one key, again and again: what the
+#                restrictions remember of a run
+#   judge        judge: a lemma with three guards on a run that shows events, up to a cost of 10,000,000, which doubles
+#   steps        check-rules: lines, up to 20,001, of a theory of 12,001 rules, each used in turn: rules that are found and used
+#   facts        check-rules: lines that put 32 facts each, as many that take them, up to 20,000 lines: facts by their numbers
+#   knowledge    check-rules: what the adversary draws, is sent, writes down, puts together and takes apart, up to 20,000 lines
+#   nodes        check-rules: 20,000 lines whose entries have nodes that double, up to 255: each entry holds its term
+#   redexes      check-rules: fifty lines of a rule whose right side is a term of up to 98,302 nodes with 32,767 redexes:
+#                normal forms, whose terms have numbers
+#   around       the same of a rule in whose left side a destructor stands: normal forms of trees
+#
 # and whole:
-#   check-rules  theories of up to 12,001 rules, on the empty run
-#   sample       up to 500 sessions
-# The ratio is to be about 2, at most 2.2. Where the rules double and the lines stay, it is to be about 1, at most 1.2.
+#   rules        check-rules: theories of up to 12,001 rules, on the empty run
+#   sample       sample: up to 500 sessions
+#
+# In these the ratio is to be about 2, at most 2.2. In the next it is to be about 1, at most 1.2: what doubles is to cost nothing.
+#   forward_places, back_places   the runs of forward and back of most lines, where the process doubles
+#   steps_rules                   a run of 12,001 lines, where the theory doubles
+#   passed                        check-rules: 20,000 lines that pass a term on and leave it behind, whose nodes double
 #
 # In kilobytes, the most that a command holds:
-#   lines        runs that double, as above: it grows with the lines, and not with the file or the theory
-#   text         texts that double up to 16,000 KiB, of numbers of nineteen digits, which take less as numbers than in the text. For each
-#                KiB more of these a command is to hold less than one more: so it doesn't hold the text
+#   held_lines   runs that double, as above: it grows with the lines, and not with the file or the theory
+#   heap         the runs of passed: it grows with the lines, and not with the nodes of a term that stands in many facts
 #
-# SAPIC names a program to count; without it the one of crates/sap_main is built.
+# What no command reaches: a fact, a key or an entry beyond those of a run's lines; a term of more than 256 nodes in a fact, so also
+# the table of shared terms beyond these; a run of a process of more than 5,000 lines; a judgement beyond its cost.
+#
+# usage: bench/replays.sh [FAMILY..]
 set -eu
 . "$(dirname "$0")/growth.sh"
-. "$(dirname "$0")/sessions.sh"
-main=$(cd "$(dirname "$0")/../crates/sap_main" && pwd)
-program=${SAPIC:-$main/out/sap_main}
-[ -x "$program" ] || (cd "$main" && rt run -- sample 1) > /dev/null 2>&1
 
-# instructions WORD..: those of one call, whose status is to be 0
-instructions() {
-    valgrind --tool=callgrind --callgrind-out-file=/dev/null "$program" "$@" 2> "$work/said" > /dev/null || {
-        cat "$work/said" >&2
-        exit 1
-    }
-    awk '/Collected/ { print $4 }' "$work/said"
-}
-
-# over SIZE WHAT NONE COMMAND..: tells the instructions of a call without those of one on the run NONE
-over() {
-    size=$1 what=$2 none=$3
-    shift 3
-    all=$(instructions "$@")
-    told "$size" "$what" $((all - none)) '%12d instructions'
-}
-
-# whole SIZE WHAT COMMAND..: tells the instructions of a call
-whole() {
-    size=$1 what=$2
-    shift 2
-    all=$(instructions "$@")
-    told "$size" "$what" "$all" '%12d instructions'
+# places COUNT: a file whose process has about so many places: sessions of nine lines, beside a balanced parallel
+places() {
+    awk -v leaves="$(($1 / 3))" '
+        function tree(n,    half) {
+            if (n <= 1) { printf "event Shown(\047value\047)"; return }
+            half = int(n / 2)
+            printf "("; tree(half); printf ") | ("; tree(n - half); printf ")"
+        }
+        BEGIN {
+            printf "theory Bench begin builtins: hashing process: ! (new ~k; lock \047r\047; insert ~k, h(~k); "
+            printf "lookup ~k as x in unlock \047r\047; out(x); event Got(x)) | ("; tree(leaves); print ") end"
+        }' > "$work/file.spthy"
 }
 
 # session COUNT: so many sessions of nine lines, behind the first
@@ -56,7 +59,7 @@ session() {
         for (i = 2; i < n + 2; i++) {
             print "rep 0"; printf "new %d ~%d\nlock %d\ninsert %d\nfound %d\nunlock %d\nout %d\nevent %d\nnil %d\n", i, i, i, i, i, i, i, i, i
         }
-    }'
+    }' > "$work/run"
 }
 
 # rule_session LINES: so many lines of rules: three, sessions of twelve, and public names for what is left
@@ -71,16 +74,16 @@ rule_session() {
             printf "rule Event_11111111 %d\nrule Nil_111111111 %d\n", n + 9, n + 10
         }
         for (; at < lines; at++) print "pub \047a\047"
-    }'
+    }' > "$work/run"
 }
 
-# rules COUNT: a theory of so many rules, and one more, each of which takes what the one before adds
-rules() {
+# rule_chain COUNT: a theory of so many rules, and one more, each of which takes what the one before adds
+rule_chain() {
     awk -v n="$1" 'BEGIN {
         print "theory R\nbegin\nrule Init: [ ] --[ Init() ]-> [ S0() ]"
         for (k = 0; k < n; k++) printf "rule R%d: [ S%d() ] --[ A(\047a\047) ]-> [ S%d() ]\n", k, k, k + 1
         print "restriction one: \"All #i #j. Init()@i & Init()@j ==> #i = #j\"\nend"
-    }'
+    }' > "$work/theory.spthy"
 }
 
 # uses COUNT LINES: so many lines, and one more, of which the first use so many rules, each once, and the rest are public names
@@ -89,91 +92,263 @@ uses() {
         print "rule-run\nrule Init"
         for (k = 0; k < n && k < rules; k++) printf "rule R%d %d\n", k, k
         for (; k < n; k++) print "pub \047a\047"
-    }'
+    }' > "$work/run"
 }
 
-# numbers HEAD LINE KIB: a run of that size, of such lines with two hundred numbers behind each; none of them is possible
-numbers() {
-    awk -v head="$1" -v line="$2" -v size="$(($3 * 1024))" 'BEGIN {
-        for (k = 0; k < 200; k++) line = line " 1844674407370955161"
-        print head
-        for (at = length(head) + 1; at + length(line) < size; at += length(line) + 1) print line
-    }'
-}
-
-# texts COMMAND FILE HEAD LINE: tells what the command holds on texts that double, and how much more for each KiB more
-texts() {
-    before=
-    for kib in 8000 16000; do
-        numbers "$3" "$4" "$kib" > "$work/numbers"
-        less=$before
-        now=$(kilobytes 2 "$program" "$1" "$2" "$work/numbers")
-        told "$kib" "KiB of text, $1" "$now" '%9d kB'
-    done
-    awk -v more="$((now - less))" 'BEGIN { printf "%8s for each KiB more: %.2f kB\n", "", more / 8000 }'
-}
-
-before=
-places 3900
 echo process-run > "$work/none.prun"
 echo rule-run > "$work/none.rrun"
 
-none=$(instructions to-rules "$work/file.spthy" "$work/none.prun")
-for count in 69 138 277 555; do
-    session "$count" > "$work/$count.prun"
-    over $((count * 9 + 1)) "lines, to-rules" "$none" to-rules "$work/file.spthy" "$work/$count.prun"
-done
-before=
-none=$(instructions to-process "$work/file.spthy" "$work/none.rrun")
-for lines in 2501 5001 10001 20001; do
-    rule_session "$lines" > "$work/$lines.rrun"
-    over "$lines" "lines, to-process" "$none" to-process "$work/file.spthy" "$work/$lines.rrun"
-done
-before=
-echo "theory J begin process: ! event A() lemma c: \"All #i #j #k. A()@i & A()@j & A()@k ==> T\" end" > "$work/judge.spthy"
-none=$(instructions judge "$work/judge.spthy" "$work/none.prun")
-for events in 31 39 49 62 79 99 125; do
-    awk -v n="$events" 'BEGIN { print "process-run"; for (i = 1; i <= n; i++) printf "rep 0\nevent %d\n", i }' > "$work/judge.prun"
-    over "$events" "events, judge" "$none" judge "$work/judge.spthy" "$work/judge.prun"
-done
-before=
-rules 12000 > "$work/12000.spthy"
-none=$(instructions check-rules "$work/12000.spthy" "$work/none.rrun")
-for lines in 2500 5000 10000 20000; do
-    uses 12000 "$lines" > "$work/rules.$lines.rrun"
-    over $((lines + 1)) "lines, check-rules" "$none" check-rules "$work/12000.spthy" "$work/rules.$lines.rrun"
-done
-before=
-for count in 1500 3000 6000 12000; do
-    rules "$count" > "$work/$count.spthy"
-    whole $((count + 1)) "rules, check-rules" check-rules "$work/$count.spthy" "$work/none.rrun"
-done
-before=
-uses 1500 12000 > "$work/rules.rrun"
-for count in 1500 3000 6000 12000; do
-    none=$(instructions check-rules "$work/$count.spthy" "$work/none.rrun")
-    over $((count + 1)) "rules, 12001 lines" "$none" check-rules "$work/$count.spthy" "$work/rules.rrun"
-done
-before=
-for sessions in 62 125 250 500; do
-    whole "$sessions" "sessions, sample" sample "$sessions"
-done
-
-before=
-for count in 138 277 555; do
-    held $((count * 9 + 1)) "lines, to-rules" "$program" to-rules "$work/file.spthy" "$work/$count.prun"
-done
-for command in to-process judge; do
-    before=
-    for lines in 10001 20001; do
-        held "$lines" "lines, $command" "$program" "$command" "$work/file.spthy" "$work/$lines.rrun"
+forward() {
+    family 'to-rules, lines' 2
+    places 3900
+    none=$(instructions to-rules "$work/file.spthy" "$work/none.prun")
+    for count in 69 138 277 555; do
+        session "$count"
+        over $((count * 9 + 1)) lines "$none" to-rules "$work/file.spthy" "$work/run"
     done
+}
+
+forward_places() {
+    family 'to-rules, places' 1
+    session 555
+    for count in 480 960 1920 3840; do
+        places "$count"
+        none=$(instructions to-rules "$work/file.spthy" "$work/none.prun")
+        over "$count" places "$none" to-rules "$work/file.spthy" "$work/run"
+    done
+}
+
+back() {
+    family 'to-process, lines' 2
+    places 3900
+    none=$(instructions to-process "$work/file.spthy" "$work/none.rrun")
+    for lines in 2501 5001 10001 20001; do
+        rule_session "$lines"
+        over "$lines" lines "$none" to-process "$work/file.spthy" "$work/run"
+    done
+}
+
+back_places() {
+    family 'to-process, places' 1
+    rule_session 20001
+    for count in 480 960 1920 3840; do
+        places "$count"
+        none=$(instructions to-process "$work/file.spthy" "$work/none.rrun")
+        over "$count" places "$none" to-process "$work/file.spthy" "$work/run"
+    done
+}
+
+# turns_on KEY: so many turns on the key, each of a fresh name ~k of its own, which is set at the key
+turns_on() {
+    echo "theory Bench begin process: ! (new ~k; insert $1, ~k; lookup $1 as x in (lock $1; unlock $1)) end" > "$work/file.spthy"
+    none=$(instructions to-process "$work/file.spthy" "$work/none.rrun")
+    for count in 277 555 1111 2222; do
+        awk -v turns="$count" 'BEGIN {
+            print "rule-run\nrule Init\nrule RepStart_ 0"
+            for (t = 0; t < turns; t++) {
+                n = 2 + 8 * t; key = 2 * t
+                printf "rule RepCopy_ 1\nfresh ~%d\nrule New_1 %d %d\nrule Insert_11 %d\n", key, n, n + 1, n + 2
+                printf "rule Found_111 %d with x=~%d\nfresh ~%d\nrule Lock_1111 %d %d\n", n + 3, key, key + 1, n + 4, n + 5
+                printf "rule Unlock_11111 %d\nrule Nil_111111 %d\n", n + 6, n + 7
+            }
+        }' > "$work/run"
+        over $((count * 9 + 2)) lines "$none" to-process "$work/file.spthy" "$work/run"
+    done
+}
+
+keys() {
+    family 'to-process, keys of their own' 2
+    turns_on '~k'
+}
+
+key() {
+    family 'to-process, one key' 2
+    turns_on "'r'"
+}
+
+judge() {
+    family 'judge, cost' 2
+    echo "theory J begin process: ! event A() lemma c: \"All #i #j #k. A()@i & A()@j & A()@k ==> T\" end" > "$work/file.spthy"
+    none=$(instructions judge "$work/file.spthy" "$work/none.prun")
+    for events in 31 39 49 62 79 99 125; do
+        awk -v n="$events" 'BEGIN { print "process-run"; for (i = 1; i <= n; i++) printf "rep 0\nevent %d\n", i }' > "$work/run"
+        over "$events" events "$none" judge "$work/file.spthy" "$work/run"
+    done
+}
+
+steps() {
+    family 'check-rules, lines' 2
+    rule_chain 12000
+    none=$(instructions check-rules "$work/theory.spthy" "$work/none.rrun")
+    for lines in 2500 5000 10000 20000; do
+        uses 12000 "$lines"
+        over $((lines + 1)) lines "$none" check-rules "$work/theory.spthy" "$work/run"
+    done
+}
+
+steps_rules() {
+    family 'check-rules, rules beside 12,001 lines' 1
+    uses 1500 12000
+    for count in 1500 3000 6000 12000; do
+        rule_chain "$count"
+        none=$(instructions check-rules "$work/theory.spthy" "$work/none.rrun")
+        over $((count + 1)) rules "$none" check-rules "$work/theory.spthy" "$work/run"
+    done
+}
+
+rules() {
+    family 'check-rules, rules' 2
+    for count in 1500 3000 6000 12000; do
+        rule_chain "$count"
+        whole $((count + 1)) rules check-rules "$work/theory.spthy" "$work/none.rrun"
+    done
+}
+
+# A quarter of the facts is persistent, and stays.
+facts() {
+    family 'check-rules, facts' 2
+    awk 'BEGIN {
+        for (k = 0; k < 32; k++) list = list (k ? ", " : "") (k % 4 ? "F(x)" : "!P(x)")
+        printf "theory F begin rule Put: [ ] --> [ %s ] rule Take: [ %s ] --> [ ] end\n", list, list
+    }' > "$work/theory.spthy"
+    none=$(instructions check-rules "$work/theory.spthy" "$work/none.rrun")
+    for count in 1250 2500 5000 10000; do
+        awk -v n="$count" 'BEGIN {
+            print "rule-run"
+            for (k = 0; k < n; k++) printf "rule Put with x=\047%d\047\n", k
+            for (k = 0; k < n; k++) { printf "rule Take"; for (f = 0; f < 32; f++) printf " %d", 32 * k + f; print "" }
+        }' > "$work/run"
+        over $((count * 32)) facts "$none" check-rules "$work/theory.spthy" "$work/run"
+    done
+}
+
+# Five entries in eight lines: a name that the adversary draws, one that it is sent, 'a', the pair of the two names, its first part.
+knowledge() {
+    family 'check-rules, entries' 2
+    echo "theory K begin rule Send: [ Fr(~n) ] --> [ Out(~n) ] end" > "$work/theory.spthy"
+    none=$(instructions check-rules "$work/theory.spthy" "$work/none.rrun")
+    for count in 312 625 1250 2500; do
+        awk -v n="$count" 'BEGIN {
+            print "rule-run"
+            for (k = 0; k < n; k++) {
+                f = 3 * k; e = 5 * k
+                printf "fresh ~%d\nown %d\nfresh ~%d\nrule Send %d\nlearn %d\npub \047a\047\n", 2 * k, f, 2 * k + 1, f + 1, f + 2
+                printf "app pair %d %d\napp fst %d\n", e, e + 1, e + 3
+            }
+        }' > "$work/run"
+        over $((count * 5)) entries "$none" check-rules "$work/theory.spthy" "$work/run"
+    done
+}
+
+nodes() {
+    family 'check-rules, nodes of entries' '2 at most'
+    echo "theory K begin rule Init: [ ] --> [ ] end" > "$work/theory.spthy"
+    none=$(instructions check-rules "$work/theory.spthy" "$work/none.rrun")
+    for levels in 4 5 6 7; do
+        awk -v levels="$levels" 'BEGIN {
+            print "rule-run\npub \047a\047"
+            for (k = 0; k < levels; k++) printf "app pair %d %d\n", k, k
+            for (k = levels + 1; k < 20000; k++) printf "app fst %d\n", levels
+        }' > "$work/run"
+        over $(((2 << levels) - 1)) nodes "$none" check-rules "$work/theory.spthy" "$work/run"
+    done
+}
+
+# redexes_of LEFT REST: terms of redexes on the right side of a rule with this left side, used fifty times, each line ending so
+redexes_of() {
+    for levels in 12 13 14 15; do
+        awk -v levels="$levels" -v left="$1" '
+            function term(k) { if (k == 0) { printf "\047a\047"; return } printf "fst(<"; term(k - 1); printf ","; term(k - 1); printf ">)" }
+            BEGIN {
+                printf "theory N begin rule Init: [ ] --> [ S(\047a\047) ] rule R: [ S(%s) ] --> [ S(", left
+                term(levels)
+                print ") ] end"
+            }' > "$work/theory.spthy"
+        awk -v rest="$2" 'BEGIN {
+            print "rule-run\nrule Init"
+            for (k = 0; k < 50; k++) printf "rule R %d%s\n", k, rest
+        }' > "$work/run"
+        none=$(instructions check-rules "$work/theory.spthy" "$work/none.rrun")
+        over $(((3 << levels) - 2)) nodes "$none" check-rules "$work/theory.spthy" "$work/run"
+    done
+}
+
+redexes() {
+    family 'check-rules, nodes with redexes' 2
+    redexes_of x ''
+}
+
+around() {
+    family 'check-rules, nodes with redexes, of rules with destructors on their left' 2
+    redexes_of 'fst(x)' " with x=<'a','b'>"
+}
+
+# passing LEVELS LINES: a theory whose first rule makes a term of so many levels, of pairs, which the second passes on and leaves
+# behind; and so many lines of it
+passing() {
+    awk -v levels="$1" '
+        function term(k) { if (k == 0) { printf "\047a\047"; return } printf "<"; term(k - 1); printf ","; term(k - 1); printf ">" }
+        BEGIN {
+            printf "theory P begin rule Init: [ ] --> [ S("
+            term(levels)
+            print ") ] rule R: [ S(x) ] --> [ L(x), S(x) ] end"
+        }' > "$work/theory.spthy"
+    awk -v n="$2" 'BEGIN { print "rule-run\nrule Init"; for (k = 0; k < n; k++) printf "rule R %d\n", 2 * k }' > "$work/run"
+}
+
+passed() {
+    family 'check-rules, nodes that are passed on' 1
+    for levels in 4 5 6 7; do
+        passing "$levels" 20000
+        none=$(instructions check-rules "$work/theory.spthy" "$work/none.rrun")
+        over $(((2 << levels) - 1)) nodes "$none" check-rules "$work/theory.spthy" "$work/run"
+    done
+}
+
+sample() {
+    family sample 2
+    for sessions in 62 125 250 500; do
+        whole "$sessions" sessions sample "$sessions"
+    done
+}
+
+held_lines() {
+    places 3900
+    family 'to-rules, kilobytes' '2 for what comes beyond the file'
+    for count in 138 277 555; do
+        session "$count"
+        held $((count * 9 + 1)) lines to-rules "$work/file.spthy" "$work/run"
+    done
+    for command in to-process judge; do
+        family "$command, kilobytes" '2 for what comes beyond the file'
+        for lines in 5001 10001 20001; do
+            rule_session "$lines"
+            held "$lines" lines "$command" "$work/file.spthy" "$work/run"
+        done
+    done
+    rule_chain 12000
+    family 'check-rules, kilobytes' '2 for what comes beyond the theory'
+    for lines in 5000 10000 20000; do
+        uses 12000 "$lines"
+        held $((lines + 1)) lines check-rules "$work/theory.spthy" "$work/run"
+    done
+}
+
+heap() {
+    family 'check-rules, kilobytes, lines that leave 255 nodes behind' '2 for what comes beyond the program'
+    for lines in 5000 10000 20000; do
+        passing 7 "$lines"
+        held $((lines + 1)) lines check-rules "$work/theory.spthy" "$work/run"
+    done
+    family 'check-rules, kilobytes, nodes that 20,001 lines leave behind' 1
+    for levels in 4 5 6 7; do
+        passing "$levels" 20000
+        held $(((2 << levels) - 1)) nodes check-rules "$work/theory.spthy" "$work/run"
+    done
+}
+
+all='forward back keys key judge steps facts knowledge nodes redexes around rules sample
+    forward_places back_places steps_rules passed held_lines heap'
+for name in ${*:-$all}; do
+    "$name"
 done
-before=
-for lines in 10000 20000; do
-    held $((lines + 1)) "lines, check-rules" "$program" check-rules "$work/12000.spthy" "$work/rules.$lines.rrun"
-done
-texts to-rules "$work/judge.spthy" process-run "rule 0"
-texts to-process "$work/judge.spthy" rule-run "rule Init"
-texts judge "$work/judge.spthy" process-run "rule 0"
-texts check-rules "$work/1500.spthy" rule-run "rule Init"

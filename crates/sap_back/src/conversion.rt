@@ -26,7 +26,7 @@ use std::alloc::Global;
 /// its entries. The lines stand in turn, those for each line of the rules, and name what it names. None stands for `rule
 /// Init`, `RepStart_`, `OutMsg_`, `OutAck_`, `fresh` and `learn`, and one for a `know` and the rule that takes it; a `know`
 /// that no rule takes stays a `know`. `Step` names the first line that is refused, `Broken` the first that makes one of the
-/// seven restrictions false; the earlier is answered, and of one line the refusal. `bench/back.sh` counts that twice the
+/// seven restrictions false; the earlier is answered, and of one line the refusal. `bench/replays.sh` counts that twice the
 /// lines take about twice the instructions.
 pub fn to_process(alloc: Global, f: &File, run: &RSteps) -> Result<PSteps, BackAt>
     requires { IsRunnable (told_by f.now) }

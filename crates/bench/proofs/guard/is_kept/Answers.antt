@@ -1,4 +1,0 @@
-use Rattle.bench.proofs.guard.is_kept.Goals as goal
-
-pub admit-requires : goal.admit-requires
-admit-requires c = c.has_one_reserved.ensures.0 c.if-has_one_reserved.true
