@@ -126,7 +126,9 @@ kind() {
     for size in "$@"; do
         "$what" "$size" > "$work/file.spthy"
         count=$(instructions "$command" "$work/file.spthy")
-        "$program" "$command" "$work/file.spthy" > "$work/theory" 2> "$work/said" || true
+        status=0
+        "$program" "$command" "$work/file.spthy" > "$work/theory" 2> "$work/said" || status=$?
+        ended "$status" "$command" "$work/file.spthy"
         bytes=$(cat "$work/file.spthy" "$work/theory" | wc -c)
         awk -v kind="$what" -v size="$size" -v bytes="$bytes" -v count="$count" -v old_count="$old_count" -v old_bytes="$old_bytes" 'BEGIN {
             printf "%-7s %7d %11d %14.0f", kind, size, bytes, count

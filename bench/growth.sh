@@ -84,14 +84,6 @@ whole() {
     told "$size" "$unit" "$all" '%12d instructions'
 }
 
-# over SIZE UNIT NONE WORD..: tells the instructions of a call without this count of them
-over() {
-    size=$1 unit=$2 none=$3
-    shift 3
-    all=$(instructions "$@")
-    told "$size" "$unit" $((all - none)) '%12d instructions'
-}
-
 # held SIZE UNIT WORD..: tells the most kilobytes that a call holds
 held() {
     size=$1 unit=$2

@@ -1,17 +1,19 @@
 #!/bin/sh
 # Counts what the commands on runs cost, by the program itself. Each family doubles a size, up to what a run, a file or a theory
-# may have, and makes one thing dear. In instructions, by valgrind, without those of the same command on the empty run, which
-# reads the file or the theory alone:
+# may have, and makes one thing dear. In instructions, by valgrind, without those of the same command on a run of as many lines of
+# which the first is illegal, so without what it takes to read the file or the theory and the run, and to begin:
 #
 #   forward      to-rules: sessions of nine lines, up to 5,000, of a process of some 3,900 places: lines of processes that are
 #                replayed, and lines of rules that are written for them
 #   back         to-process: sessions of twelve lines, up to 20,001, of its rules: lines of rules that are replayed, restrictions
 #                that are looked at, and lines of the process that are written for them
-#   keys, key    to-process: keys, each set, found, locked and unlocked in nine lines; then one key, again and again: what the
-#                restrictions remember of a run
+#   keys, key    judge, without what check-rules takes for the same lines, of keys, each set, found, locked and unlocked in nine
+#                lines; then of one key, again and again: what the restrictions remember of a run
 #   judge        judge: a lemma with three guards on a run that shows events, up to a cost of 10,000,000, which doubles
 #   steps        check-rules: lines, up to 20,001, of a theory of 12,001 rules, each used in turn: rules that are found and used
-#   facts        check-rules: lines that put 32 facts each, as many that take them, up to 20,000 lines: facts by their numbers
+#   facts        check-rules: lines that put 32 facts each, as many that take them, up to 20,000 lines: facts of rules
+#   embedded     judge: lines of embedded rules that put 128 facts each, as many that take them, up to 5,000 lines with those of the
+#                threads: facts of processes
 #   knowledge    check-rules: what the adversary draws, is sent, writes down, puts together and takes apart, up to 20,000 lines
 #   nodes        check-rules: 20,000 lines whose entries have nodes that double, up to 255: each entry holds its term
 #   redexes      check-rules: fifty lines of a rule whose right side is a term of up to 98,302 nodes with 32,767 redexes:
@@ -19,7 +21,7 @@
 #   around       the same of a rule in whose left side a destructor stands: normal forms of trees
 #
 # and whole:
-#   rules        check-rules: theories of up to 12,001 rules, on the empty run
+#   rules        check-rules: theories of up to 12,001 rules, on the run without lines
 #   sample       sample: up to 500 sessions
 #
 # In these the ratio is to be about 2, at most 2.2. In the next it is to be about 1, at most 1.2: what doubles is to cost nothing.
@@ -77,34 +79,48 @@ rule_session() {
     }' > "$work/run"
 }
 
-# rule_chain COUNT: a theory of so many rules, and one more, each of which takes what the one before adds
+# rule_chain COUNT: a theory of so many rules, each of which takes what the one before adds, and of one more
 rule_chain() {
     awk -v n="$1" 'BEGIN {
         print "theory R\nbegin\nrule Init: [ ] --[ Init() ]-> [ S0() ]"
-        for (k = 0; k < n; k++) printf "rule R%d: [ S%d() ] --[ A(\047a\047) ]-> [ S%d() ]\n", k, k, k + 1
+        for (k = 0; k < n; k++) printf "rule R%d: [ S%d() ] --[ A(\047a\047) ]-> [ S%d() ]\n", k, k, (k + 1) % n
         print "restriction one: \"All #i #j. Init()@i & Init()@j ==> #i = #j\"\nend"
     }' > "$work/theory.spthy"
 }
 
-# uses COUNT LINES: so many lines, and one more, of which the first use so many rules, each once, and the rest are public names
+# uses COUNT LINES: so many lines of so many rules, one after another, and one more
 uses() {
     awk -v rules="$1" -v n="$2" 'BEGIN {
         print "rule-run\nrule Init"
-        for (k = 0; k < n && k < rules; k++) printf "rule R%d %d\n", k, k
-        for (; k < n; k++) print "pub \047a\047"
+        for (k = 0; k < n; k++) printf "rule R%d %d\n", k % rules, k
     }' > "$work/run"
 }
 
-echo process-run > "$work/none.prun"
-echo rule-run > "$work/none.rrun"
+# net COMMAND FILE: the instructions of the command on the run, without those on the same run with an illegal line in place of the
+# first. In these all is read, and each state begins.
+net() {
+    sed '2s/.*/know 7/' "$work/run" > "$work/illegal"
+    ends 2 'run refused: step 1: no entry 7'
+    none=$(instructions "$1" "$2" "$work/illegal") || exit 1
+    ends 0 ''
+    all=$(instructions "$1" "$2" "$work/run") || exit 1
+    echo $((all - none))
+}
+
+# replayed SIZE UNIT COMMAND FILE: tells them
+replayed() {
+    count=$(net "$3" "$4")
+    told "$1" "$2" "$count" '%12d instructions'
+}
+
+echo rule-run > "$work/none"
 
 forward() {
     family 'to-rules, lines' 2
     places 3900
-    none=$(instructions to-rules "$work/file.spthy" "$work/none.prun")
     for count in 69 138 277 555; do
         session "$count"
-        over $((count * 9 + 1)) lines "$none" to-rules "$work/file.spthy" "$work/run"
+        replayed $((count * 9 + 1)) lines to-rules "$work/file.spthy"
     done
 }
 
@@ -113,18 +129,16 @@ forward_places() {
     session 555
     for count in 480 960 1920 3840; do
         places "$count"
-        none=$(instructions to-rules "$work/file.spthy" "$work/none.prun")
-        over "$count" places "$none" to-rules "$work/file.spthy" "$work/run"
+        replayed "$count" places to-rules "$work/file.spthy"
     done
 }
 
 back() {
     family 'to-process, lines' 2
     places 3900
-    none=$(instructions to-process "$work/file.spthy" "$work/none.rrun")
     for lines in 2501 5001 10001 20001; do
         rule_session "$lines"
-        over "$lines" lines "$none" to-process "$work/file.spthy" "$work/run"
+        replayed "$lines" lines to-process "$work/file.spthy"
     done
 }
 
@@ -133,15 +147,15 @@ back_places() {
     rule_session 20001
     for count in 480 960 1920 3840; do
         places "$count"
-        none=$(instructions to-process "$work/file.spthy" "$work/none.rrun")
-        over "$count" places "$none" to-process "$work/file.spthy" "$work/run"
+        replayed "$count" places to-process "$work/file.spthy"
     done
 }
 
-# turns_on KEY: so many turns on the key, each of a fresh name ~k of its own, which is set at the key
+# turns_on KEY: so many turns on the key, each of a fresh name ~k of its own, which is set at the key. Counted is what judge takes more
+# than check-rules with the same rules and no restrictions
 turns_on() {
     echo "theory Bench begin process: ! (new ~k; insert $1, ~k; lookup $1 as x in (lock $1; unlock $1)) end" > "$work/file.spthy"
-    none=$(instructions to-process "$work/file.spthy" "$work/none.rrun")
+    "$program" compile "$work/file.spthy" | awk '/^restriction/ { exit } { print } END { print "end" }' > "$work/theory.spthy"
     for count in 277 555 1111 2222; do
         awk -v turns="$count" 'BEGIN {
             print "rule-run\nrule Init\nrule RepStart_ 0"
@@ -152,47 +166,46 @@ turns_on() {
                 printf "rule Unlock_11111 %d\nrule Nil_111111 %d\n", n + 6, n + 7
             }
         }' > "$work/run"
-        over $((count * 9 + 2)) lines "$none" to-process "$work/file.spthy" "$work/run"
+        without=$(net check-rules "$work/theory.spthy")
+        with=$(net judge "$work/file.spthy")
+        told $((count * 9 + 2)) lines $((with - without)) '%12d instructions'
     done
 }
 
 keys() {
-    family 'to-process, keys of their own' 2
+    family 'judge over check-rules, keys of their own' 2
     turns_on '~k'
 }
 
 key() {
-    family 'to-process, one key' 2
+    family 'judge over check-rules, one key' 2
     turns_on "'r'"
 }
 
 judge() {
     family 'judge, cost' 2
     echo "theory J begin process: ! event A() lemma c: \"All #i #j #k. A()@i & A()@j & A()@k ==> T\" end" > "$work/file.spthy"
-    none=$(instructions judge "$work/file.spthy" "$work/none.prun")
     for events in 31 39 49 62 79 99 125; do
         awk -v n="$events" 'BEGIN { print "process-run"; for (i = 1; i <= n; i++) printf "rep 0\nevent %d\n", i }' > "$work/run"
-        over "$events" events "$none" judge "$work/file.spthy" "$work/run"
+        replayed "$events" events judge "$work/file.spthy"
     done
 }
 
 steps() {
     family 'check-rules, lines' 2
     rule_chain 12000
-    none=$(instructions check-rules "$work/theory.spthy" "$work/none.rrun")
     for lines in 2500 5000 10000 20000; do
         uses 12000 "$lines"
-        over $((lines + 1)) lines "$none" check-rules "$work/theory.spthy" "$work/run"
+        replayed $((lines + 1)) lines check-rules "$work/theory.spthy"
     done
 }
 
 steps_rules() {
     family 'check-rules, rules beside 12,001 lines' 1
-    uses 1500 12000
     for count in 1500 3000 6000 12000; do
         rule_chain "$count"
-        none=$(instructions check-rules "$work/theory.spthy" "$work/none.rrun")
-        over $((count + 1)) rules "$none" check-rules "$work/theory.spthy" "$work/run"
+        uses "$count" 12000
+        replayed $((count + 1)) rules check-rules "$work/theory.spthy"
     done
 }
 
@@ -200,7 +213,7 @@ rules() {
     family 'check-rules, rules' 2
     for count in 1500 3000 6000 12000; do
         rule_chain "$count"
-        whole $((count + 1)) rules check-rules "$work/theory.spthy" "$work/none.rrun"
+        whole $((count + 1)) rules check-rules "$work/theory.spthy" "$work/none"
     done
 }
 
@@ -211,14 +224,29 @@ facts() {
         for (k = 0; k < 32; k++) list = list (k ? ", " : "") (k % 4 ? "F(x)" : "!P(x)")
         printf "theory F begin rule Put: [ ] --> [ %s ] rule Take: [ %s ] --> [ ] end\n", list, list
     }' > "$work/theory.spthy"
-    none=$(instructions check-rules "$work/theory.spthy" "$work/none.rrun")
     for count in 1250 2500 5000 10000; do
         awk -v n="$count" 'BEGIN {
             print "rule-run"
             for (k = 0; k < n; k++) printf "rule Put with x=\047%d\047\n", k
             for (k = 0; k < n; k++) { printf "rule Take"; for (f = 0; f < 32; f++) printf " %d", 32 * k + f; print "" }
         }' > "$work/run"
-        over $((count * 32)) facts "$none" check-rules "$work/theory.spthy" "$work/run"
+        replayed $((count * 32)) facts check-rules "$work/theory.spthy"
+    done
+}
+
+embedded() {
+    family 'judge, facts of embedded rules' 2
+    awk 'BEGIN {
+        for (k = 0; k < 128; k++) list = list (k ? ", " : "") (k % 4 ? "F(\047a\047)" : "!P(\047a\047)")
+        printf "theory E begin process: (! [ ] --> [ %s ]) | (! [ %s ] --> [ ]) end\n", list, list
+    }' > "$work/file.spthy"
+    for count in 156 312 624 1248; do
+        awk -v n="$count" 'BEGIN {
+            print "process-run\npar 0"
+            for (k = 0; k < n; k++) printf "rep 0\nrule %d\n", k + 2
+            for (k = 0; k < n; k++) { printf "rep 1\nrule %d", k + n + 2; for (f = 0; f < 128; f++) printf " %d", 128 * k + f; print "" }
+        }' > "$work/run"
+        replayed $((count * 128)) facts judge "$work/file.spthy"
     done
 }
 
@@ -226,7 +254,6 @@ facts() {
 knowledge() {
     family 'check-rules, entries' 2
     echo "theory K begin rule Send: [ Fr(~n) ] --> [ Out(~n) ] end" > "$work/theory.spthy"
-    none=$(instructions check-rules "$work/theory.spthy" "$work/none.rrun")
     for count in 312 625 1250 2500; do
         awk -v n="$count" 'BEGIN {
             print "rule-run"
@@ -236,21 +263,20 @@ knowledge() {
                 printf "app pair %d %d\napp fst %d\n", e, e + 1, e + 3
             }
         }' > "$work/run"
-        over $((count * 5)) entries "$none" check-rules "$work/theory.spthy" "$work/run"
+        replayed $((count * 5)) entries check-rules "$work/theory.spthy"
     done
 }
 
 nodes() {
     family 'check-rules, nodes of entries' '2 at most'
     echo "theory K begin rule Init: [ ] --> [ ] end" > "$work/theory.spthy"
-    none=$(instructions check-rules "$work/theory.spthy" "$work/none.rrun")
     for levels in 4 5 6 7; do
         awk -v levels="$levels" 'BEGIN {
             print "rule-run\npub \047a\047"
             for (k = 0; k < levels; k++) printf "app pair %d %d\n", k, k
             for (k = levels + 1; k < 20000; k++) printf "app fst %d\n", levels
         }' > "$work/run"
-        over $(((2 << levels) - 1)) nodes "$none" check-rules "$work/theory.spthy" "$work/run"
+        replayed $(((2 << levels) - 1)) nodes check-rules "$work/theory.spthy"
     done
 }
 
@@ -268,8 +294,7 @@ redexes_of() {
             print "rule-run\nrule Init"
             for (k = 0; k < 50; k++) printf "rule R %d%s\n", k, rest
         }' > "$work/run"
-        none=$(instructions check-rules "$work/theory.spthy" "$work/none.rrun")
-        over $(((3 << levels) - 2)) nodes "$none" check-rules "$work/theory.spthy" "$work/run"
+        replayed $(((3 << levels) - 2)) nodes check-rules "$work/theory.spthy"
     done
 }
 
@@ -300,8 +325,7 @@ passed() {
     family 'check-rules, nodes that are passed on' 1
     for levels in 4 5 6 7; do
         passing "$levels" 20000
-        none=$(instructions check-rules "$work/theory.spthy" "$work/none.rrun")
-        over $(((2 << levels) - 1)) nodes "$none" check-rules "$work/theory.spthy" "$work/run"
+        replayed $(((2 << levels) - 1)) nodes check-rules "$work/theory.spthy"
     done
 }
 
@@ -347,7 +371,7 @@ heap() {
     done
 }
 
-all='forward back keys key judge steps facts knowledge nodes redexes around rules sample
+all='forward back keys key judge steps facts embedded knowledge nodes redexes around rules sample
     forward_places back_places steps_rules passed held_lines heap'
 for name in ${*:-$all}; do
     "$name"

@@ -1,6 +1,6 @@
 #!/bin/sh
 # Times how texts are read, that double up to some 16 MiB, by the program itself: the shortest of three runs of a command, of which
-# the reading takes nearly all. The ratio is to be about 2.
+# the reading takes nearly all. The ratio is to be about 2, on a machine that does nothing else.
 #   identifiers, comments, symbols   check-rules: a text that has no header, which is told once it was cut into tokens
 #   theory       check-rules: a theory of rules of four facts, and of restrictions, on the empty run
 #   numbers      check-rules: a run of lines with many facts, of which the first line is illegal, which is told once all were read
