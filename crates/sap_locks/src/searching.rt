@@ -48,18 +48,15 @@ pub(crate) fn search(
             found: None,
         }),
         Process::Par(q, r) => {
-            let a = search_child(q, alloc, trail, 1, before)?;
-            let b = search_child(r, alloc, trail, 2, a.after)?;
-            forked(alloc, trail, before, joined(a, b))
+            let a = search_both(q, r, alloc, trail, before)?;
+            forked(alloc, trail, before, a)
         }
         Process::Rep(q) => {
             let a = search_child(q, alloc, trail, 1, before)?;
             forked(alloc, trail, before, a)
         }
         Process::If(_, _, q, r) | Process::Lookup(_, _, q, r) => {
-            let a = search_child(q, alloc, trail, 1, before)?;
-            let b = search_child(r, alloc, trail, 2, a.after)?;
-            Ok(joined(a, b))
+            search_both(q, r, alloc, trail, before)
         }
         Process::Lock(_, _, q) => search_child(q, alloc, trail, 1, before + 1),
         Process::Unlock(_, n, q) => {
@@ -76,6 +73,27 @@ pub(crate) fn search(
         | Process::Delete(_, q)
         | Process::Embedded(_, _, _, q) => search_child(q, alloc, trail, 1, before),
     }
+}
+
+#[cycle(search)]
+fn search_both(
+    q: &Process,
+    r: &Process,
+    alloc: Global,
+    trail: &mut Trail,
+    before: u32,
+) -> Result<Seen, Mem>
+    requires { before + (lock_count (proc q.now) + lock_count (proc r.now)) < 2 ^ 32 }
+    ensures lowest { IfOk result (λ s. s.lowest ≡ lesser (lowest (proc q.now)) (lowest (proc r.now))) }
+    ensures after { IfOk result (λ s. s.after ≡ before + (lock_count (proc q.now) + lock_count (proc r.now))) }
+    ensures found { IfOk result (λ s. flaw_seen s.found
+        ≡ or_else (first_flaw_from (trail.old ++ 1 ∷ []) before (proc q.now))
+        (first_flaw_from (trail.old ++ 2 ∷ []) (before + lock_count (proc q.now)) (proc r.now))) }
+    ensures same { OnOk result (trail.new ≡ trail.old) }
+{
+    let a = search_child(q, alloc, trail, 1, before)?;
+    let b = search_child(r, alloc, trail, 2, a.after)?;
+    Ok(joined(a, b))
 }
 
 #[cycle(search)]

@@ -1,3 +1,4 @@
 -- Mirrors of code.
 pub mod Deeds
 pub mod Machines
+pub mod Shapes

@@ -1,10 +1,10 @@
 //! Formulas under restrictions that they carry themselves.
 ghost use Rattle.std.specs.Prelude.{◌≡◌, IfOk};
-ghost use Rattle.sap_formula.specs.Form.{both, implies};
+ghost use Rattle.sap_formula.specs.Form.{both};
 ghost use Rattle.sap_formula.specs.View.{form};
 ghost use Rattle.sap_restrict.specs.Inline.{conjunction, formulas, inlined};
 
-use crate::parts::and;
+use crate::shape::{and, implied};
 use sap_formula::{Formula, Mode, RestrictionList};
 use sap_terms::Mem;
 use std::alloc::Global;
@@ -35,8 +35,8 @@ fn boxed_inline(
     let all = conjunction(alloc, restrictions)?;
     let f = copied(alloc, f)?;
     match mode {
-        Mode::AllTraces => implied(alloc, all, f),
-        Mode::ExistsTrace => and(alloc, all, f),
+        Mode::AllTraces => implied(alloc, (all, f)),
+        Mode::ExistsTrace => and(alloc, (all, f)),
     }
 }
 
@@ -64,12 +64,5 @@ fn copied(alloc: Global, f: &Formula) -> Result<Box<Formula>, Mem>
 fn with_copy(alloc: Global, f: Box<Formula>, g: &Formula) -> Result<Box<Formula>, Mem>
     ensures { IfOk result (λ r. form r.value ≡ both (form f.value) (form g.now)) }
 {
-    and(alloc, f, copied(alloc, g)?)
-}
-
-/// `f ==> g`
-fn implied(alloc: Global, f: Box<Formula>, g: Box<Formula>) -> Result<Box<Formula>, Mem>
-    ensures { IfOk result (λ r. form r.value ≡ implies (form f.value) (form g.value)) }
-{
-    Ok(Box::new(alloc, Formula::Imp(f, g))?)
+    and(alloc, (f, copied(alloc, g)?))
 }

@@ -1,29 +1,86 @@
-//! The parts of which the formulas of restrictions are made.
-ghost use Rattle.std.specs.Prelude.{◌≡◌, ◌++◌, [], ◌∷◌, map, IfOk, OnOk};
-ghost use Rattle.sap_formula.specs.Form.{action, equal, same_time, earlier, both, either, implies, every, exists};
+//! Formulas made after shapes.
+ghost use Rattle.std.specs.Prelude.{◌≡◌, [], ◌∷◌, map, IfOk};
+ghost use Rattle.sap_formula.specs.Form.{action, equal, same_time, earlier, both, either, implies, negation, every, exists};
 ghost use Rattle.sap_formula.specs.View.{form};
 ghost use Rattle.sap_terms.specs.AdversaryFacts.{linear};
 ghost use Rattle.sap_terms.specs.Tree.{variable};
 ghost use Rattle.sap_terms.specs.View.{tree};
 ghost use Rattle.sap_restrict.specs.Standard.{any_message};
+ghost use Rattle.sap_restrict.specs.code.Shapes.{binder, says};
 
 use sap_formula::{Binder, Binders, Formula};
 use sap_terms::{Fact, Items, Mem, Name, Sort, Term, TermList, Var};
 use std::alloc::Global;
 
-/// `NAME(v, .., w)@t`, for message variables, whose names are single letters.
-pub(crate) fn shows(alloc: Global, name: &[u8], vars: &[u8], t: &[u8]) -> Result<Box<Formula>, Mem>
-    ensures { IfOk result (λ f. form f.value
-        ≡ action (linear name.now (map (λ v. variable (any_message (v ∷ []))) vars.now)) t.now) }
+/// What a formula says, where each name of a variable is a letter: of a message variable a capital, of a time variable a small
+/// one. It takes no memory.
+#[derive(Clone, Copy)]
+pub(crate) enum Shape<'a> {
+    /// `NAME(v, .., w)@t`
+    Shows(&'a [u8], &'a [u8], &'a [u8]),
+    /// `v = w`
+    Equal(u8, u8),
+    /// `#a = #b`
+    Same(&'a [u8], &'a [u8]),
+    /// `#a < #b`
+    Less(&'a [u8], &'a [u8]),
+    /// `not f`
+    Not(&'a Shape<'a>),
+    /// `f & g`
+    And(&'a Shape<'a>, &'a Shape<'a>),
+    /// `f | g`
+    Or(&'a Shape<'a>, &'a Shape<'a>),
+    /// `f ==> g`
+    Imp(&'a Shape<'a>, &'a Shape<'a>),
+    /// `All X .. #i ... f`
+    All(&'a [u8], &'a Shape<'a>),
+    /// `Ex X .. #i ... f`
+    Ex(&'a [u8], &'a Shape<'a>),
+}
+
+/// The formula of the shape. Want of memory is the only error. It recurses as deep as the shape.
+#[cycle(built)]
+pub(crate) fn built(alloc: Global, shape: &Shape<'_>) -> Result<Box<Formula>, Mem>
+    ensures { IfOk result (λ f. form f.value ≡ says shape.now) }
 {
-    let fact = fact_on(alloc, name, vars)?;
+    match shape {
+        Shape::Shows(name, vars, t) => shown(alloc, name, vars, t),
+        Shape::Equal(v, w) => equal(alloc, *v, *w),
+        Shape::Same(a, b) => same(alloc, a, b),
+        Shape::Less(a, b) => less(alloc, a, b),
+        Shape::Not(f) => negated(alloc, built(alloc, f)?),
+        Shape::And(f, g) => and(alloc, built_both(alloc, f, g)?),
+        Shape::Or(f, g) => or(alloc, built_both(alloc, f, g)?),
+        Shape::Imp(f, g) => implied(alloc, built_both(alloc, f, g)?),
+        Shape::All(letters, f) => all(alloc, letters, built(alloc, f)?),
+        Shape::Ex(letters, f) => some(alloc, letters, built(alloc, f)?),
+    }
+}
+
+#[cycle(built)]
+fn built_both(
+    alloc: Global,
+    f: &Shape<'_>,
+    g: &Shape<'_>,
+) -> Result<(Box<Formula>, Box<Formula>), Mem>
+    ensures { IfOk result (λ two. (form two.0.value ≡ says f.now) × (form two.1.value ≡ says g.now)) }
+{
+    let first = built(alloc, f)?;
+    Ok((first, built(alloc, g)?))
+}
+
+fn shown(alloc: Global, name: &[u8], letters: &[u8], t: &[u8]) -> Result<Box<Formula>, Mem>
+    ensures { IfOk result (λ f. form f.value
+        ≡ action (linear name.now (map (λ v. variable (any_message (v ∷ []))) letters.now)) t.now) }
+{
+    let fact = fact_on(alloc, name, letters)?;
     Ok(Box::new(alloc, Formula::Action(fact, Name::from_bytes(alloc, t)?))?)
 }
 
-fn fact_on(alloc: Global, name: &[u8], vars: &[u8]) -> Result<Fact, Mem>
-    ensures { IfOk result (λ f. f ≡ linear name.now (map (λ v. variable (any_message (v ∷ []))) vars.now)) }
+fn fact_on(alloc: Global, name: &[u8], letters: &[u8]) -> Result<Fact, Mem>
+    ensures { IfOk result (λ f. f ≡ linear name.now (map (λ v. variable (any_message (v ∷ []))) letters.now)) }
 {
-    let args = terms(alloc, vars)?;
+    let args = terms(alloc, letters)?;
     Ok(Fact {
         name: Name::from_bytes(alloc, name)?,
         persistent: false,
@@ -31,12 +88,12 @@ fn fact_on(alloc: Global, name: &[u8], vars: &[u8]) -> Result<Fact, Mem>
     })
 }
 
-fn terms(alloc: Global, vars: &[u8]) -> Result<TermList, Mem>
-    ensures { IfOk result (λ ts. ts ≡ map (λ v. variable (any_message (v ∷ []))) vars.now) }
+fn terms(alloc: Global, letters: &[u8]) -> Result<TermList, Mem>
+    ensures { IfOk result (λ ts. ts ≡ map (λ v. variable (any_message (v ∷ []))) letters.now) }
 {
     let mut terms = TermList::new(alloc);
-    for k in 0..vars.len() {
-        terms.push(term(alloc, vars[k])?)?;
+    for k in 0..letters.len() {
+        terms.push(term(alloc, letters[k])?)?;
     }
     Ok(terms)
 }
@@ -56,8 +113,7 @@ fn message(alloc: Global, letter: u8) -> Result<Var, Mem>
     })
 }
 
-/// `v = w`
-pub(crate) fn equals(alloc: Global, v: u8, w: u8) -> Result<Box<Formula>, Mem>
+fn equal(alloc: Global, v: u8, w: u8) -> Result<Box<Formula>, Mem>
     ensures { IfOk result (λ f. form f.value
         ≡ equal (variable (any_message (v ∷ []))) (variable (any_message (w ∷ [])))) }
 {
@@ -65,85 +121,73 @@ pub(crate) fn equals(alloc: Global, v: u8, w: u8) -> Result<Box<Formula>, Mem>
     Ok(Box::new(alloc, Formula::Equal(first, term(alloc, w)?))?)
 }
 
-/// `#a = #b`
-pub(crate) fn same(alloc: Global, a: &[u8], b: &[u8]) -> Result<Box<Formula>, Mem>
+fn same(alloc: Global, a: &[u8], b: &[u8]) -> Result<Box<Formula>, Mem>
     ensures { IfOk result (λ f. form f.value ≡ same_time a.now b.now) }
 {
     let first = Name::from_bytes(alloc, a)?;
     Ok(Box::new(alloc, Formula::Same(first, Name::from_bytes(alloc, b)?))?)
 }
 
-/// `#a < #b`
-pub(crate) fn less(alloc: Global, a: &[u8], b: &[u8]) -> Result<Box<Formula>, Mem>
+fn less(alloc: Global, a: &[u8], b: &[u8]) -> Result<Box<Formula>, Mem>
     ensures { IfOk result (λ f. form f.value ≡ earlier a.now b.now) }
 {
     let first = Name::from_bytes(alloc, a)?;
     Ok(Box::new(alloc, Formula::Less(first, Name::from_bytes(alloc, b)?))?)
 }
 
+fn negated(alloc: Global, f: Box<Formula>) -> Result<Box<Formula>, Mem>
+    ensures { IfOk result (λ r. form r.value ≡ negation (form f.value)) }
+{
+    Ok(Box::new(alloc, Formula::Not(f))?)
+}
+
 /// `f & g`
-pub(crate) fn and(alloc: Global, f: Box<Formula>, g: Box<Formula>) -> Result<Box<Formula>, Mem>
-    ensures { IfOk result (λ r. form r.value ≡ both (form f.value) (form g.value)) }
+pub(crate) fn and(alloc: Global, two: (Box<Formula>, Box<Formula>)) -> Result<Box<Formula>, Mem>
+    ensures { IfOk result (λ r. form r.value ≡ both (form two.0.value) (form two.1.value)) }
 {
-    Ok(Box::new(alloc, Formula::And(f, g))?)
+    Ok(Box::new(alloc, Formula::And(two.0, two.1))?)
 }
 
-/// `f | g`
-pub(crate) fn or(alloc: Global, f: Box<Formula>, g: Box<Formula>) -> Result<Box<Formula>, Mem>
-    ensures { IfOk result (λ r. form r.value ≡ either (form f.value) (form g.value)) }
+fn or(alloc: Global, two: (Box<Formula>, Box<Formula>)) -> Result<Box<Formula>, Mem>
+    ensures { IfOk result (λ r. form r.value ≡ either (form two.0.value) (form two.1.value)) }
 {
-    Ok(Box::new(alloc, Formula::Or(f, g))?)
+    Ok(Box::new(alloc, Formula::Or(two.0, two.1))?)
 }
 
-/// `All X .. #i ... f ==> g`, for the message variables and then the time variables, whose names are single letters.
-pub(crate) fn all_where(
-    alloc: Global,
-    messages: &[u8],
-    times: &[u8],
-    f: Box<Formula>,
-    g: Box<Formula>,
-) -> Result<Box<Formula>, Mem>
-    ensures { IfOk result (λ r. form r.value
-        ≡ every (map (λ n. Binder.Message (any_message (n ∷ []))) messages.now ++ map (λ n. Binder.Time (n ∷ [])) times.now)
-        (implies (form f.value) (form g.value))) }
+/// `f ==> g`
+pub(crate) fn implied(alloc: Global, two: (Box<Formula>, Box<Formula>)) -> Result<Box<Formula>, Mem>
+    ensures { IfOk result (λ r. form r.value ≡ implies (form two.0.value) (form two.1.value)) }
 {
-    let body = Box::new(alloc, Formula::Imp(f, g))?;
-    Ok(Box::new(alloc, Formula::All(binders(alloc, messages, times)?, body))?)
+    Ok(Box::new(alloc, Formula::Imp(two.0, two.1))?)
 }
 
-/// `Ex #i ... f`, for time variables whose names are single letters.
-pub(crate) fn some_time(alloc: Global, times: &[u8], f: Box<Formula>) -> Result<Box<Formula>, Mem>
-    ensures { IfOk result (λ r. form r.value ≡ exists (map (λ n. Binder.Time (n ∷ [])) times.now) (form f.value)) }
+fn all(alloc: Global, letters: &[u8], f: Box<Formula>) -> Result<Box<Formula>, Mem>
+    ensures { IfOk result (λ r. form r.value ≡ every (map binder letters.now) (form f.value)) }
 {
-    let binders = binders(alloc, b"", times)?;
-    Ok(Box::new(alloc, Formula::Ex(binders, f))?)
+    Ok(Box::new(alloc, Formula::All(binders(alloc, letters)?, f))?)
 }
 
-fn binders(alloc: Global, messages: &[u8], times: &[u8]) -> Result<Binders, Mem>
-    ensures { IfOk result (λ b. b
-        ≡ map (λ n. Binder.Message (any_message (n ∷ []))) messages.now ++ map (λ n. Binder.Time (n ∷ [])) times.now) }
+fn some(alloc: Global, letters: &[u8], f: Box<Formula>) -> Result<Box<Formula>, Mem>
+    ensures { IfOk result (λ r. form r.value ≡ exists (map binder letters.now) (form f.value)) }
+{
+    Ok(Box::new(alloc, Formula::Ex(binders(alloc, letters)?, f))?)
+}
+
+fn binders(alloc: Global, letters: &[u8]) -> Result<Binders, Mem>
+    ensures { IfOk result (λ bs. bs ≡ map binder letters.now) }
 {
     let mut binders = Items::new(alloc);
-    push_messages(alloc, &mut binders, messages)?;
-    push_times(alloc, &mut binders, times)?;
+    for k in 0..letters.len() {
+        binders.push(binder(alloc, letters[k])?)?;
+    }
     Ok(binders)
 }
 
-fn push_messages(alloc: Global, binders: &mut Binders, names: &[u8]) -> Result<(), Mem>
-    ensures { OnOk result (binders.new
-        ≡ binders.old ++ map (λ n. Binder.Message (any_message (n ∷ []))) names.now) }
+fn binder(alloc: Global, letter: u8) -> Result<Binder, Mem>
+    ensures { IfOk result (λ b. b ≡ binder letter) }
 {
-    for k in 0..names.len() {
-        binders.push(Binder::Message(message(alloc, names[k])?))?;
+    if letter < b'a' {
+        return Ok(Binder::Message(message(alloc, letter)?));
     }
-    Ok(())
-}
-
-fn push_times(alloc: Global, binders: &mut Binders, names: &[u8]) -> Result<(), Mem>
-    ensures { OnOk result (binders.new ≡ binders.old ++ map (λ n. Binder.Time (n ∷ [])) names.now) }
-{
-    for k in 0..names.len() {
-        binders.push(Binder::Time(Name::from_bytes(alloc, &[names[k]])?))?;
-    }
-    Ok(())
+    Ok(Binder::Time(Name::from_bytes(alloc, &[letter])?))
 }

@@ -6,7 +6,7 @@ ghost use Rattle.sap_restrict.specs.Needed.{has, is_test, is_lookup, is_lock, is
 use sap_process::Process;
 
 /// The forms of which restrictions speak, each with whether it occurs.
-#[derive(Clone, Copy, Debug, PartialEq, Eq)]
+#[derive(Clone, Copy)]
 pub(crate) struct Uses {
     pub(crate) test: bool,
     pub(crate) lookup: bool,
