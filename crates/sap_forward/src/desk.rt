@@ -12,7 +12,7 @@ use crate::names::{Names, names_of};
 use crate::seats::Seats;
 use sap_lines::{Places, places_of};
 use sap_process::Process;
-use sap_runs::{PStep, PSteps, RSteps};
+use sap_runs::{PStep, PSteps, RStep, RSteps};
 use sap_terms::{Mem, Numbers, Term};
 use std::alloc::Global;
 
@@ -59,7 +59,7 @@ impl Desk {
         ensures { OnOk result (Writes self.old self.new step.now found lines.old lines.new) }
     {
         match step {
-            PStep::Found(t) => self.found(alloc, *t, found, lines),
+            PStep::Found(t) => self.bind(alloc, *t, found, lines),
             _ => self.write_plain(alloc, step, lines),
         }
     }
@@ -69,24 +69,24 @@ impl Desk {
         ensures { OnOk result (WritesPlain self.old self.new step.now lines.old lines.new) }
     {
         match step {
-            PStep::Nil(t) => self.nil(alloc, *t, lines),
-            PStep::Par(t) => self.par(alloc, *t, lines),
+            PStep::Nil(t) => self.end(alloc, *t, lines),
+            PStep::Par(t) => self.split(alloc, *t, lines),
             PStep::Rep(t) => self.rep(alloc, *t, lines),
-            PStep::New(t, n) => self.new(alloc, *t, *n, lines),
+            PStep::New(t, n) => self.go_with(alloc, *t, RStep::Fresh(*n), b"New_", 1, lines),
             PStep::Out(t) => self.output(alloc, *t, lines),
             PStep::Send(t, k) => self.send(alloc, *t, *k, lines),
             PStep::In(t, k) => self.input(alloc, *t, *k, lines),
             PStep::Sync(from, to) => self.sync(alloc, *from, *to, lines),
-            PStep::Then(t) => self.then(alloc, *t, lines),
-            PStep::Else(t) => self.otherwise(alloc, *t, lines),
-            PStep::Event(t) => self.event(alloc, *t, lines),
-            PStep::Insert(t) => self.insert(alloc, *t, lines),
-            PStep::Delete(t) => self.delete(alloc, *t, lines),
+            PStep::Then(t) => self.go_on(alloc, *t, b"Then_", 0, lines),
+            PStep::Else(t) => self.go_aside(alloc, *t, b"Else_", lines),
+            PStep::Event(t) => self.go_on(alloc, *t, b"Event_", 0, lines),
+            PStep::Insert(t) => self.go_on(alloc, *t, b"Insert_", 0, lines),
+            PStep::Delete(t) => self.go_on(alloc, *t, b"Delete_", 0, lines),
             PStep::Found(_) => Ok(()),
-            PStep::Missing(t) => self.missing(alloc, *t, lines),
+            PStep::Missing(t) => self.go_aside(alloc, *t, b"Missing_", lines),
             PStep::Lock(t) => self.lock(alloc, *t, lines),
-            PStep::Unlock(t) => self.unlock(alloc, *t, lines),
-            PStep::Embedded(t, facts, b) => self.embedded(alloc, *t, facts, b, lines),
+            PStep::Unlock(t) => self.go_on(alloc, *t, b"Unlock_", 0, lines),
+            PStep::Embedded(t, facts, b) => self.embed(alloc, *t, facts, b, lines),
             PStep::Name(n) => self.name(*n, lines),
             PStep::Public(a) => self.public(alloc, a, lines),
             PStep::Apply(f, entries) => self.apply(alloc, f, entries, lines),

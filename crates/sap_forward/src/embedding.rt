@@ -1,11 +1,10 @@
 // The line of a process by which an embedded rule is used.
 ghost use Rattle.std.specs.Prelude.{◌≡◌, ◌∷◌, IfOk, OnOk, filter_map, slice_get};
-ghost use Rattle.sap_runs.specs.declared.process_step.PStep.TheVariants.{Embedded as EmbeddedLine};
 ghost use Rattle.sap_forward.specs.code.Steps as spec;
-ghost use Rattle.sap_forward.specs.code.Steps.{Embeds, WritesAny, piles};
+ghost use Rattle.sap_forward.specs.code.Steps.{Embeds, piles};
 
 use crate::desk::Desk;
-use crate::rule_line::{later, rule_on};
+use crate::rule_line::{later, push_rule};
 use sap_lines::Form;
 use sap_runs::RSteps;
 use sap_terms::{Bindings, Copied, Mem, Numbers};
@@ -48,8 +47,8 @@ impl Desk {
         Ok(())
     }
 
-    // The rule of a thread is used on the facts with these numbers, and those of its right side come.
-    fn embed(
+    /// The rule of a thread is used on the facts with these numbers, and those of its right side come.
+    pub(crate) fn embed(
         &mut self,
         alloc: Global,
         t: u64,
@@ -66,22 +65,8 @@ impl Desk {
         let come = right_count(&place.form);
         let numbers = looked_up(alloc, seat.number, &self.facts, facts)?;
         let bindings = b.copy(alloc)?;
-        lines.push(rule_on(alloc, b"Rule_", &seat.path, numbers, bindings)?)?;
+        push_rule(alloc, b"Rule_", &seat.path, numbers, bindings, lines)?;
         self.go(t, 1, next, 0)?;
         self.pile(come)
-    }
-
-    /// What is written where a thread's rule is used on the facts with these numbers.
-    pub(crate) fn embedded(
-        &mut self,
-        alloc: Global,
-        t: u64,
-        facts: &Numbers,
-        b: &Bindings,
-        lines: &mut RSteps,
-    ) -> Result<(), Mem>
-        ensures { OnOk result (WritesAny self.old self.new (EmbeddedLine t facts.now b.now) lines.old lines.new) }
-    {
-        self.embed(alloc, t, facts, b, lines)
     }
 }

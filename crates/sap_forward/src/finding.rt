@@ -2,13 +2,11 @@
 ghost use Rattle.std.specs.Prelude.{◌≡◌, [], ◌∷◌, IfOk, OnOk};
 ghost use Rattle.std.specs.Option.{option_copied};
 ghost use Rattle.sap_process.specs.Sites.{message_var};
-ghost use Rattle.sap_runs.specs.declared.process_step.PStep.TheVariants.{Found as FoundLine};
-ghost use Rattle.sap_forward.specs.code.Desk.{Writes};
 ghost use Rattle.sap_forward.specs.code.Steps as spec;
 ghost use Rattle.sap_forward.specs.code.Steps.{Finds};
 
 use crate::desk::Desk;
-use crate::rule_line::rule_on;
+use crate::rule_line::push_rule;
 use sap_lines::Form;
 use sap_runs::RSteps;
 use sap_terms::{Binding, Bindings, Copied, Mem, Numbers, Sort, Term, Var};
@@ -41,8 +39,8 @@ fn bound(alloc: Global, var: &Var, term: Term) -> Result<Bindings, Mem>
 }
 
 impl Desk {
-    // What is bound where a key is set: the variable of the place stands for the term that was found.
-    fn bind(
+    /// What is bound where a key is set: the variable of the place stands for the term that was found.
+    pub(crate) fn bind(
         &mut self,
         alloc: Global,
         t: u64,
@@ -64,20 +62,7 @@ impl Desk {
         let bindings = bound(alloc, var, term)?;
         let mut facts = Numbers::new(alloc);
         facts.push(seat.number)?;
-        lines.push(rule_on(alloc, b"Found_", &seat.path, facts, bindings)?)?;
+        push_rule(alloc, b"Found_", &seat.path, facts, bindings, lines)?;
         self.go(t, 1, next, 0)
-    }
-
-    /// What is written where a thread's key is set to the term that was found.
-    pub(crate) fn found(
-        &mut self,
-        alloc: Global,
-        t: u64,
-        found: Option<Term>,
-        lines: &mut RSteps,
-    ) -> Result<(), Mem>
-        ensures { OnOk result (Writes self.old self.new (FoundLine t) found lines.old lines.new) }
-    {
-        self.bind(alloc, t, found, lines)
     }
 }

@@ -13,7 +13,6 @@ mod meeting;
 mod moving;
 mod names;
 mod naming;
-mod one_rule;
 mod rule_line;
 mod seats;
 mod splitting;

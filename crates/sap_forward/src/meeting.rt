@@ -5,7 +5,7 @@ ghost use Rattle.sap_forward.specs.code.Steps as spec;
 ghost use Rattle.sap_forward.specs.code.Steps.{Meets, WritesAny};
 
 use crate::desk::Desk;
-use crate::rule_line::{later, rule_on_two};
+use crate::rule_line::{later, push_rule_on_two};
 use crate::seats::Seat;
 use sap_runs::{RStep, RSteps};
 use sap_terms::Mem;
@@ -24,9 +24,9 @@ fn meeting_lines(
     ensures { OnOk result (lines.new ≡ lines.old ++ spec.meeting_lines tag from.now to.now count) }
 {
     lines.push(RStep::Fresh(tag))?;
-    lines.push(rule_on_two(alloc, b"OutMsg_", &from.path, from.number, count)?)?;
-    lines.push(rule_on_two(alloc, b"InMsg_", &to.path, to.number, count + 1)?)?;
-    lines.push(rule_on_two(alloc, b"OutAck_", &from.path, count + 2, count + 3)?)
+    push_rule_on_two(alloc, b"OutMsg_", &from.path, from.number, count, lines)?;
+    push_rule_on_two(alloc, b"InMsg_", &to.path, to.number, count + 1, lines)?;
+    push_rule_on_two(alloc, b"OutAck_", &from.path, count + 2, count + 3, lines)
 }
 
 impl Desk {

@@ -6,7 +6,7 @@ ghost use Rattle.sap_forward.specs.code.Steps.{IsAt, HasNone, Goes, goes, joins,
 ghost use Rattle.sap_forward.specs.declared.seats.Seat.{Seat as SeatType};
 
 use crate::desk::Desk;
-use crate::rule_line::{rule_on_one, rule_on_two};
+use crate::rule_line::{push_rule_on_one, push_rule_on_two};
 use crate::seats::Seat;
 use sap_lines::Place;
 use sap_runs::{RStep, RSteps};
@@ -74,7 +74,7 @@ impl Desk {
             return Ok(());
         };
         let next = place.first;
-        lines.push(rule_on_one(alloc, word, &seat.path, seat.number)?)?;
+        push_rule_on_one(alloc, word, &seat.path, seat.number, lines)?;
         self.go(t, 1, next, come)
     }
 
@@ -92,7 +92,7 @@ impl Desk {
             return Ok(());
         };
         let next = place.second;
-        lines.push(rule_on_one(alloc, word, &seat.path, seat.number)?)?;
+        push_rule_on_one(alloc, word, &seat.path, seat.number, lines)?;
         self.go(t, 2, next, 0)
     }
 
@@ -113,7 +113,7 @@ impl Desk {
             return Ok(());
         };
         let next = place.first;
-        lines.push(rule_on_two(alloc, word, &seat.path, seat.number, self.count)?)?;
+        push_rule_on_two(alloc, word, &seat.path, seat.number, self.count, lines)?;
         self.go(t, 1, next, come)
     }
 }

@@ -1,6 +1,6 @@
-// Lines of a process by which a thread makes a name or takes a lock.
+// Names that are given, and the line of a process by which a thread takes a lock.
 ghost use Rattle.std.specs.Prelude.{OnOk, IfOk};
-ghost use Rattle.sap_runs.specs.declared.process_step.PStep.TheVariants.{New as NewLine, Lock as LockLine};
+ghost use Rattle.sap_runs.specs.declared.process_step.PStep.TheVariants.{Lock as LockLine};
 ghost use Rattle.sap_forward.specs.code.Steps.{Gives, WritesAny};
 
 use crate::desk::Desk;
@@ -16,19 +16,6 @@ impl Desk {
         let name = self.names.free_from(self.next)?;
         self.next = name.checked_add(1).ok_or(Mem)?;
         Ok(name)
-    }
-
-    /// What is written where a thread makes this name.
-    pub(crate) fn new(
-        &mut self,
-        alloc: Global,
-        t: u64,
-        n: u64,
-        lines: &mut RSteps,
-    ) -> Result<(), Mem>
-        ensures { OnOk result (WritesAny self.old self.new (NewLine t n) lines.old lines.new) }
-    {
-        self.go_with(alloc, t, RStep::Fresh(n), b"New_", 1, lines)
     }
 
     /// What is written where a thread takes a lock.

@@ -1,9 +1,9 @@
 // Lines of rules, as a conversion makes them.
-ghost use Rattle.std.specs.Prelude.{◌≡◌, ◌+◌, [], ◌∷◌, IfOk};
+ghost use Rattle.std.specs.Prelude.{◌≡◌, ◌+◌, [], ◌∷◌, ◌++◌, IfOk, OnOk};
 ghost use Rattle.sap_forward.specs.LinesFor.{uses};
 
 use sap_place::with_digits;
-use sap_runs::RStep;
+use sap_runs::{RStep, RSteps};
 use sap_terms::{Bindings, Mem, Numbers, Path};
 use std::alloc::Global;
 
@@ -14,41 +14,50 @@ pub(crate) fn later(number: u64, by: u64) -> Result<u64, Mem>
     number.checked_add(by).ok_or(Mem)
 }
 
-// The rule of this word at the place with this path, on these facts.
-pub(crate) fn rule_on(
+// Puts the rule of this word last, at the place with this path, on these facts.
+pub(crate) fn push_rule(
     alloc: Global,
     word: &[u8],
     path: &Path,
     facts: Numbers,
     bindings: Bindings,
-) -> Result<RStep, Mem>
-    ensures { IfOk result (λ line. line ≡ uses word.now path.now facts bindings) }
+    lines: &mut RSteps,
+) -> Result<(), Mem>
+    ensures { OnOk result (lines.new ≡ lines.old ++ uses word.now path.now facts bindings ∷ []) }
 {
     let name = with_digits(alloc, word, path)?;
-    Ok(RStep::Rule(name, facts, bindings))
+    lines.push(RStep::Rule(name, facts, bindings))
 }
 
 // That rule on one fact.
-pub(crate) fn rule_on_one(alloc: Global, word: &[u8], path: &Path, fact: u64) -> Result<RStep, Mem>
-    ensures { IfOk result (λ line. line ≡ uses word.now path.now (fact ∷ []) []) }
+pub(crate) fn push_rule_on_one(
+    alloc: Global,
+    word: &[u8],
+    path: &Path,
+    fact: u64,
+    lines: &mut RSteps,
+) -> Result<(), Mem>
+    ensures { OnOk result (lines.new ≡ lines.old ++ uses word.now path.now (fact ∷ []) [] ∷ []) }
 {
     let mut facts = Numbers::new(alloc);
     facts.push(fact)?;
-    rule_on(alloc, word, path, facts, Bindings::new(alloc))
+    push_rule(alloc, word, path, facts, Bindings::new(alloc), lines)
 }
 
 // That rule on two facts.
-pub(crate) fn rule_on_two(
+pub(crate) fn push_rule_on_two(
     alloc: Global,
     word: &[u8],
     path: &Path,
     first: u64,
     second: u64,
-) -> Result<RStep, Mem>
-    ensures { IfOk result (λ line. line ≡ uses word.now path.now (first ∷ second ∷ []) []) }
+    lines: &mut RSteps,
+) -> Result<(), Mem>
+    ensures { OnOk result (lines.new
+        ≡ lines.old ++ uses word.now path.now (first ∷ second ∷ []) [] ∷ []) }
 {
     let mut facts = Numbers::new(alloc);
     facts.push(first)?;
     facts.push(second)?;
-    rule_on(alloc, word, path, facts, Bindings::new(alloc))
+    push_rule(alloc, word, path, facts, Bindings::new(alloc), lines)
 }

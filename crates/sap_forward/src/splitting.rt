@@ -1,30 +1,30 @@
 // Lines of a process by which threads end and come.
 ghost use Rattle.std.specs.Prelude.{OnOk};
-ghost use Rattle.sap_runs.specs.declared.process_step.PStep.TheVariants.{Nil as NilLine, Par as ParLine, Rep as RepLine};
+ghost use Rattle.sap_runs.specs.declared.process_step.PStep.TheVariants.{Rep as RepLine};
 ghost use Rattle.sap_forward.specs.code.Steps.{Ends, Splits, Copies, StartsCopying, WritesAny};
 
 use crate::desk::Desk;
-use crate::rule_line::rule_on_one;
+use crate::rule_line::push_rule_on_one;
 use sap_place::path_below;
 use sap_runs::RSteps;
 use sap_terms::Mem;
 use std::alloc::Global;
 
 impl Desk {
-    // The thread ends.
-    fn end(&mut self, alloc: Global, t: u64, lines: &mut RSteps) -> Result<(), Mem>
+    /// The thread ends.
+    pub(crate) fn end(&mut self, alloc: Global, t: u64, lines: &mut RSteps) -> Result<(), Mem>
         ensures { OnOk result (Ends self.old self.new t lines.old lines.new) }
     {
         let Some((seat, _)) = self.at(t) else {
             return Ok(());
         };
-        lines.push(rule_on_one(alloc, b"Nil_", &seat.path, seat.number)?)?;
+        push_rule_on_one(alloc, b"Nil_", &seat.path, seat.number, lines)?;
         self.seats.leave(t);
         Ok(())
     }
 
-    // It becomes two.
-    fn split(&mut self, alloc: Global, t: u64, lines: &mut RSteps) -> Result<(), Mem>
+    /// It becomes two.
+    pub(crate) fn split(&mut self, alloc: Global, t: u64, lines: &mut RSteps) -> Result<(), Mem>
         ensures { OnOk result (Splits self.old self.new t lines.old lines.new) }
     {
         let Some((seat, place)) = self.at(t) else {
@@ -32,7 +32,7 @@ impl Desk {
         };
         let next = place.first;
         let other = place.second;
-        lines.push(rule_on_one(alloc, b"Par_", &seat.path, seat.number)?)?;
+        push_rule_on_one(alloc, b"Par_", &seat.path, seat.number, lines)?;
         let path = path_below(alloc, &seat.path, 2)?;
         self.go(t, 1, next, 0)?;
         self.join(path, other)
@@ -46,7 +46,7 @@ impl Desk {
             return Ok(());
         };
         let next = place.first;
-        lines.push(rule_on_one(alloc, b"RepCopy_", &seat.path, seat.number)?)?;
+        push_rule_on_one(alloc, b"RepCopy_", &seat.path, seat.number, lines)?;
         let path = path_below(alloc, &seat.path, 1)?;
         self.join(path, next)
     }
@@ -58,23 +58,9 @@ impl Desk {
         let Some((seat, _)) = self.at(t) else {
             return Ok(());
         };
-        lines.push(rule_on_one(alloc, b"RepStart_", &seat.path, seat.number)?)?;
+        push_rule_on_one(alloc, b"RepStart_", &seat.path, seat.number, lines)?;
         self.start_copying(t)?;
         self.copy(alloc, t, lines)
-    }
-
-    /// What is written where a thread that is nothing ends.
-    pub(crate) fn nil(&mut self, alloc: Global, t: u64, lines: &mut RSteps) -> Result<(), Mem>
-        ensures { OnOk result (WritesAny self.old self.new (NilLine t) lines.old lines.new) }
-    {
-        self.end(alloc, t, lines)
-    }
-
-    /// What is written where a thread becomes two.
-    pub(crate) fn par(&mut self, alloc: Global, t: u64, lines: &mut RSteps) -> Result<(), Mem>
-        ensures { OnOk result (WritesAny self.old self.new (ParLine t) lines.old lines.new) }
-    {
-        self.split(alloc, t, lines)
     }
 
     /// What is written where a replication gives one more thread.

@@ -6,7 +6,7 @@ ghost use Rattle.sap_translate.specs.Places.{scope_handed_down};
 ghost use Rattle.sap_translate.specs.Templates.{place_rules, rules_of};
 ghost use Rattle.sap_translate.specs.code.Inside.{rules_below};
 
-use crate::rules::{add_own, init_rule};
+use crate::rules::{add_own, push_init};
 use sap_place::{path_below, with_lock, with_pattern, with_rule, with_var};
 use sap_process::Process;
 use sap_rule::RuleList;
@@ -20,7 +20,7 @@ pub fn generate(alloc: Global, _sig: &Signature, p: &Process) -> Result<RuleList
     ensures { IfOk result (λ rules. rules ≡ rules_of (proc p.now)) }
 {
     let mut rules = RuleList::new(alloc);
-    rules.push(init_rule(alloc)?)?;
+    push_init(alloc, &mut rules)?;
     add_all(alloc, p, &mut rules)?;
     Ok(rules)
 }

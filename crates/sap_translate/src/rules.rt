@@ -15,7 +15,7 @@ mod store;
 mod tests;
 
 use channels::{add_input, add_out, add_receive, add_send};
-pub use control::init_rule;
+pub use control::push_init;
 use control::{add_nil, add_parallel, add_replicated};
 use events::{add_embedded, add_event};
 use locks::{add_lock, add_unlock};

@@ -1,12 +1,11 @@
 //! Events, and rules that stand in a process.
-ghost use Rattle.std.specs.Prelude.{◌≡◌, [], ◌∷◌, ◌++◌, IfOk, OnOk};
+ghost use Rattle.std.specs.Prelude.{◌≡◌, ◌++◌, IfOk, OnOk};
 ghost use Rattle.sap_terms.specs.Variables.{facts_vars};
 ghost use Rattle.sap_process.specs.Scopes.{with_new};
-ghost use Rattle.sap_restrict.specs.ReservedFacts.{event_fact};
 ghost use Rattle.sap_translate.specs.Templates as templates;
 
 use super::making::{push_rule, push_step};
-use crate::facts::{fact0, one, with_first};
+use crate::facts::{fact0, two, with_first};
 use sap_place::{state_at, state_below};
 use sap_rule::RuleList;
 use sap_terms::{Copied, Fact, FactList, Mem, Path, Vars};
@@ -23,17 +22,8 @@ pub fn add_event(
     ensures { OnOk result (rules.new
         ≡ rules.old ++ templates.event_rules path.now scope.now f.now) }
 {
-    let acts = shown(alloc, f)?;
+    let acts = two(alloc, fact0(alloc, b"Event"), f.copy(alloc));
     push_step(alloc, b"Event_", path, scope, acts, 1, scope, rules)
-}
-
-// What an event shows.
-fn shown(alloc: Global, f: &Fact) -> Result<FactList, Mem>
-    ensures { IfOk result (λ acts. acts ≡ event_fact ∷ f.now ∷ []) }
-{
-    let mut acts = one(alloc, fact0(alloc, b"Event")?)?;
-    acts.push(f.copy(alloc)?)?;
-    Ok(acts)
 }
 
 /// The rule itself, from the place to its child.
@@ -51,9 +41,9 @@ pub fn add_embedded(
     ensures { OnOk result (rules.new
         ≡ rules.old ++ templates.embedded_rules path.now scope.now l.now a.now r.now) }
 {
-    let left = with_first(alloc, state_at(alloc, path, scope)?, l)?;
-    let acts = embedded_acts(alloc, a)?;
-    let right = with_first(alloc, state_below(alloc, path, 1, inner)?, r)?;
+    let left = with_first(alloc, state_at(alloc, path, scope), l);
+    let acts = embedded_acts(alloc, a);
+    let right = with_first(alloc, state_below(alloc, path, 1, inner), r);
     push_rule(alloc, b"Rule_", path, left, acts, right, rules)
 }
 
@@ -63,6 +53,6 @@ fn embedded_acts(alloc: Global, a: &FactList) -> Result<FactList, Mem>
 {
     match a.as_slice() {
         [] => Ok(FactList::new(alloc)),
-        _ => with_first(alloc, fact0(alloc, b"Event")?, a),
+        _ => with_first(alloc, fact0(alloc, b"Event"), a),
     }
 }

@@ -4,14 +4,13 @@ ghost use Rattle.sap_terms.specs.AdversaryFacts.{linear};
 ghost use Rattle.sap_terms.specs.Tree.{variable};
 ghost use Rattle.sap_terms.specs.View.{tree};
 ghost use Rattle.sap_process.specs.Scopes.{lock_var};
-ghost use Rattle.sap_translate.specs.ChannelFacts.{fresh_fact};
 ghost use Rattle.sap_translate.specs.Templates as templates;
 
 use super::making::{push_step, push_taking};
-use crate::facts::{fact_of_var, fact_over, one, only_var};
+use crate::facts::{fact_of_var, fact_over, one, only_var, with_term};
 use sap_place::lock_var;
 use sap_rule::RuleList;
-use sap_terms::{Copied, Fact, FactList, Mem, Path, Term, Vars};
+use sap_terms::{Copied, Fact, Mem, Path, Term, Vars};
 use std::alloc::Global;
 
 /// The term is locked under a fresh name.
@@ -28,8 +27,8 @@ pub fn add_lock(
     ensures { OnOk result (rules.new
         ≡ rules.old ++ templates.lock_rules path.now scope.now (tree t.now) label) }
 {
-    let acts = held_as(alloc, b"Lock", t, label)?;
-    let taken = made(alloc, label)?;
+    let acts = one(alloc, held_as(alloc, b"Lock", t, label));
+    let taken = fact_of_var(alloc, b"Fr", lock_var(alloc, label));
     push_taking(alloc, b"Lock_", path, scope, taken, acts, inner, rules)
 }
 
@@ -45,23 +44,15 @@ pub fn add_unlock(
     ensures { OnOk result (rules.new
         ≡ rules.old ++ templates.unlock_rules path.now scope.now (tree t.now) label) }
 {
-    let acts = held_as(alloc, b"Unlock", t, label)?;
+    let acts = one(alloc, held_as(alloc, b"Unlock", t, label));
     push_step(alloc, b"Unlock_", path, scope, acts, 1, scope, rules)
 }
 
-// The fact of this name over the variable of the lock and the term, alone.
-fn held_as(alloc: Global, word: &[u8], t: &Term, label: u32) -> Result<FactList, Mem>
-    ensures { IfOk result (λ acts. acts
-        ≡ linear word.now (variable (lock_var label) ∷ tree t.now ∷ []) ∷ []) }
+// The fact of this name over the variable of the lock and the term.
+fn held_as(alloc: Global, word: &[u8], t: &Term, label: u32) -> Result<Fact, Mem>
+    ensures { IfOk result (λ f. f
+        ≡ linear word.now (variable (lock_var label) ∷ tree t.now ∷ [])) }
 {
-    let mut args = only_var(alloc, lock_var(alloc, label)?)?;
-    args.push(t.copy(alloc)?)?;
-    one(alloc, fact_over(alloc, word, args)?)
-}
-
-// `Fr` of the variable of the lock.
-fn made(alloc: Global, label: u32) -> Result<Fact, Mem>
-    ensures { IfOk result (λ f. f ≡ fresh_fact (variable (lock_var label))) }
-{
-    fact_of_var(alloc, b"Fr", lock_var(alloc, label)?)
+    let args = with_term(only_var(alloc, lock_var(alloc, label)), t.copy(alloc));
+    fact_over(alloc, word, args)
 }

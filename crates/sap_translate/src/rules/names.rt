@@ -1,14 +1,12 @@
 //! Fresh names.
-ghost use Rattle.std.specs.Prelude.{◌≡◌, [], ◌∷◌, ◌++◌, IfOk, OnOk};
-ghost use Rattle.sap_terms.specs.Tree.{variable};
+ghost use Rattle.std.specs.Prelude.{◌≡◌, [], ◌∷◌, ◌++◌, OnOk};
 ghost use Rattle.sap_process.specs.Sites.{fresh_var};
-ghost use Rattle.sap_translate.specs.ChannelFacts.{fresh_fact};
 ghost use Rattle.sap_translate.specs.Templates as templates;
 
 use super::making::push_taking;
 use crate::facts::{fact_of_var, sorted};
 use sap_rule::RuleList;
-use sap_terms::{Fact, FactList, Mem, Path, Sort, Var, Vars};
+use sap_terms::{FactList, Mem, Path, Sort, Var, Vars};
 use std::alloc::Global;
 
 /// The rule takes the fresh name that the process makes.
@@ -23,22 +21,7 @@ pub fn add_new(
     requires { inner.now ≡ scope.now ++ fresh_var x.now ∷ [] }
     ensures { OnOk result (rules.new ≡ rules.old ++ templates.new_rules path.now scope.now x.now) }
 {
-    let taken = made(alloc, x)?;
-    push_taking(
-        alloc,
-        b"New_",
-        path,
-        scope,
-        taken,
-        FactList::new(alloc),
-        inner,
-        rules,
-    )
-}
-
-// `Fr` of the variable, as one of a fresh name.
-fn made(alloc: Global, x: &Var) -> Result<Fact, Mem>
-    ensures { IfOk result (λ f. f ≡ fresh_fact (variable (fresh_var x.now))) }
-{
-    fact_of_var(alloc, b"Fr", sorted(alloc, x, Sort::Fresh)?)
+    let taken = fact_of_var(alloc, b"Fr", sorted(alloc, x, Sort::Fresh));
+    let acts = Ok(FactList::new(alloc));
+    push_taking(alloc, b"New_", path, scope, taken, acts, inner, rules)
 }

@@ -1,16 +1,15 @@
 //! The store.
-ghost use Rattle.std.specs.Prelude.{◌≡◌, [], ◌∷◌, ◌++◌, codes, IfOk, OnOk};
+ghost use Rattle.std.specs.Prelude.{◌≡◌, [], ◌∷◌, ◌++◌, IfOk, OnOk};
 ghost use Rattle.sap_terms.specs.Tree.{variable};
 ghost use Rattle.sap_terms.specs.View.{tree};
 ghost use Rattle.sap_process.specs.Sites.{message_var};
-ghost use Rattle.sap_restrict.specs.ReservedFacts.{is_in_fact, is_not_set_fact};
+ghost use Rattle.sap_restrict.specs.ReservedFacts.{is_in_fact};
 ghost use Rattle.sap_translate.specs.Templates as templates;
-ghost use Rattle.sap_translate.specs.Templates.{first_of, second_of, state};
 
 use super::making::push_step;
 use crate::facts::{fact_over, fact1, fact2, one, sorted};
 use sap_rule::RuleList;
-use sap_terms::{Copied, FactList, Mem, Path, Sort, Term, TermList, Var, Vars};
+use sap_terms::{Copied, Fact, Mem, Path, Sort, Term, TermList, Var, Vars};
 use std::alloc::Global;
 
 /// What is stored is shown.
@@ -25,7 +24,7 @@ pub fn add_insert(
     ensures { OnOk result (rules.new
         ≡ rules.old ++ templates.insert_rules path.now scope.now (tree t.now) (tree u.now)) }
 {
-    let acts = one(alloc, fact2(alloc, b"Insert", t, u)?)?;
+    let acts = one(alloc, fact2(alloc, b"Insert", t, u));
     push_step(alloc, b"Insert_", path, scope, acts, 1, scope, rules)
 }
 
@@ -40,7 +39,7 @@ pub fn add_delete(
     ensures { OnOk result (rules.new
         ≡ rules.old ++ templates.delete_rules path.now scope.now (tree t.now)) }
 {
-    let acts = one(alloc, fact1(alloc, b"Delete", t)?)?;
+    let acts = one(alloc, fact1(alloc, b"Delete", t));
     push_step(alloc, b"Delete_", path, scope, acts, 1, scope, rules)
 }
 
@@ -58,52 +57,18 @@ pub fn add_lookup(
     ensures { OnOk result (rules.new
         ≡ rules.old ++ templates.lookup_rules path.now scope.now (tree t.now) x.now) }
 {
-    add_found(alloc, path, scope, inner, t, x, rules)?;
-    add_missing(alloc, path, scope, t, rules)
-}
-
-// A value is shown at the key.
-fn add_found(
-    alloc: Global,
-    path: &Path,
-    scope: &Vars,
-    inner: &Vars,
-    t: &Term,
-    x: &Var,
-    rules: &mut RuleList,
-) -> Result<(), Mem>
-    ensures { OnOk result (rules.new ≡ rules.old ++ templates.rule (codes "Found_") path.now
-        (state path.now scope.now ∷ [])
-        (is_in_fact (tree t.now) (variable (message_var x.now)) ∷ [])
-        (state (first_of path.now) inner.now ∷ []) ∷ []) }
-{
-    let acts = found(alloc, t, x)?;
-    push_step(alloc, b"Found_", path, scope, acts, 1, inner, rules)
+    let found = one(alloc, stored(alloc, t, x));
+    push_step(alloc, b"Found_", path, scope, found, 1, inner, rules)?;
+    let missing = one(alloc, fact1(alloc, b"IsNotSet", t));
+    push_step(alloc, b"Missing_", path, scope, missing, 2, scope, rules)
 }
 
 // That the store has the variable at the key.
-fn found(alloc: Global, t: &Term, x: &Var) -> Result<FactList, Mem>
-    ensures { IfOk result (λ acts. acts
-        ≡ is_in_fact (tree t.now) (variable (message_var x.now)) ∷ []) }
+fn stored(alloc: Global, t: &Term, x: &Var) -> Result<Fact, Mem>
+    ensures { IfOk result (λ f. f ≡ is_in_fact (tree t.now) (variable (message_var x.now))) }
 {
     let mut args = TermList::new(alloc);
     args.push(t.copy(alloc)?)?;
     args.push(Term::Var(sorted(alloc, x, Sort::Msg)?))?;
-    one(alloc, fact_over(alloc, b"IsIn", args)?)
-}
-
-// No value is shown.
-fn add_missing(
-    alloc: Global,
-    path: &Path,
-    scope: &Vars,
-    t: &Term,
-    rules: &mut RuleList,
-) -> Result<(), Mem>
-    ensures { OnOk result (rules.new ≡ rules.old ++ templates.rule (codes "Missing_") path.now
-        (state path.now scope.now ∷ []) (is_not_set_fact (tree t.now) ∷ [])
-        (state (second_of path.now) scope.now ∷ []) ∷ []) }
-{
-    let acts = one(alloc, fact1(alloc, b"IsNotSet", t)?)?;
-    push_step(alloc, b"Missing_", path, scope, acts, 2, scope, rules)
+    fact_over(alloc, b"IsIn", Ok(args))
 }
