@@ -10,6 +10,7 @@ mod Further
 mod Compares
 mod Sends
 mod Writes
+mod HeadLines
 mod Learns
 mod Makes
 mod Channels

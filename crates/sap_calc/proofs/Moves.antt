@@ -2,6 +2,7 @@
 use Rattle.std.proofs.Common.{◌≡◌, ◌<◌, ℕ, zero, suc, List, [], ◌∷◌, ◌++◌, length, map, Option, Some, None, option_map, unwrap_or, refl, sym, ap, subst, ◌∙◌, arith, Bool, inl, inr, if◌then◌else◌, append_assoc}
 use Rattle.std.specs.Prelude.{slice_get, slice_set, All}
 use Rattle.std.specs.Str.{bytes_eq}
+use Rattle.std.proofs.lemmas.List.{append-nil}
 use Rattle.std.proofs.lemmas.List.Elements.{All-head, All-tail}
 use Rattle.sap_terms.specs.Equations.{equations}
 use Rattle.sap_terms.specs.Tree.{Tree}
@@ -94,6 +95,9 @@ module _ (s u : Shared) (h : Keeps s u) where
       let key = tree_stays e.0 (All-head P e es i).below in
       let tail = marks_stay es (All-tail P e es i) in
       λ j. (key j, e.1) ∷ tail j
+
+pub keeps_same : (s : Shared) → Keeps s s
+keeps_same s = record { sig = refl; added = []; trees = sym (append-nil s.trees) }
 
 pub keeps_twice : (s u v : Shared) → Keeps s u → Keeps u v → Keeps s v
 keeps_twice s u v h i = record { sig = i.sig ∙ h.sig; added = h.added ++ i.added; trees = i.trees ∙ ap (λ ts. ts ++ i.added) h.trees ∙ append_assoc s.trees h.added i.added }

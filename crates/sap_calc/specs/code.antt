@@ -6,3 +6,4 @@ pub mod Parts
 pub mod Cited
 pub mod Given
 pub mod Denied
+pub mod HeadLines

@@ -3,7 +3,7 @@ ghost use Rattle.std.specs.Prelude.{◌≡◌, [], IfOk, IfErr, OnErr};
 ghost use Rattle.sap_process.specs.Configuration.{initial};
 ghost use Rattle.sap_process.specs.Proc.{proc};
 ghost use Rattle.sap_process.specs.Ready.{IsReady};
-ghost use Rattle.sap_runs.specs.declared.process_step.PStep.TheVariants.{Nil as NilLine, Par as ParLine, Rep as RepLine, Out as OutLine, Then as ThenLine, Else as ElseLine};
+ghost use Rattle.sap_runs.specs.declared.process_step.PStep.TheVariants.{Nil as NilLine, Par as ParLine, Rep as RepLine, Out as OutLine};
 ghost use Rattle.sap_calc.specs.Running.{configuration, IsDone, IsDenied};
 
 use crate::entry::send;
@@ -11,10 +11,9 @@ use crate::thread::{Threads, add, copy_at, end, first_thread, go_on, thread_at};
 use indexmap::{IndexMap, IndexSet};
 use sap_deduce::Knowledge;
 use sap_facts::Pile;
-use sap_heads::{value, values};
+use sap_heads::value;
 use sap_lines::{PFault, Places, places_of};
 use sap_process::{Process, instances_of_processes};
-use sap_rewrite::normal_forms_decide;
 use sap_share::Table;
 use sap_terms::{FactList, Mem, Signature};
 use std::alloc::Global;
@@ -98,6 +97,7 @@ impl Config {
             knowledge,
         })
     }
+
     /// Lets a thread end that is nothing. Refused, nothing changes.
     pub(crate) fn nil(&mut self, alloc: Global, t: u64) -> Result<FactList, PFault>
         ensures ok { IfOk result (IsDone self.old self.new (NilLine t)) }
@@ -176,64 +176,6 @@ impl Config {
                     Ok(FactList::new(alloc))
                 }
             },
-        }
-    }
-
-    /// Lets a thread go on where its terms are equal. Refused, nothing changes.
-    pub(crate) fn then(&mut self, alloc: Global, t: u64) -> Result<FactList, PFault>
-        ensures ok { IfOk result (IsDone self.old self.new (ThenLine t)) }
-        ensures refused { IfErr result (IsDenied self.old (ThenLine t)) }
-        ensures err { OnErr result (self.new ≡ self.old) }
-    {
-        self.table.each_is_ground();
-        normal_forms_decide();
-        let Some(th) = thread_at(&self.threads, t) else {
-            return Err(PFault::NoThread { t });
-        };
-        let place = self.places.at(th.place);
-        let Some((m, n)) = place.form.test() else {
-            return Err(PFault::WrongForm { t });
-        };
-        let next = place.first;
-        match values(alloc, &mut self.table, &th.env, m, n) {
-            Err(fault) => Err(fault),
-            Ok((j, k)) => {
-                self.table.each_has_one_number();
-                if j != k {
-                    return Err(PFault::Unequal);
-                }
-                go_on(&mut self.threads, t, next);
-                Ok(FactList::new(alloc))
-            }
-        }
-    }
-
-    /// Lets a thread go on where its terms differ. Refused, nothing changes.
-    pub(crate) fn otherwise(&mut self, alloc: Global, t: u64) -> Result<FactList, PFault>
-        ensures ok { IfOk result (IsDone self.old self.new (ElseLine t)) }
-        ensures refused { IfErr result (IsDenied self.old (ElseLine t)) }
-        ensures err { OnErr result (self.new ≡ self.old) }
-    {
-        self.table.each_is_ground();
-        normal_forms_decide();
-        let Some(th) = thread_at(&self.threads, t) else {
-            return Err(PFault::NoThread { t });
-        };
-        let place = self.places.at(th.place);
-        let Some((m, n)) = place.form.test() else {
-            return Err(PFault::WrongForm { t });
-        };
-        let next = place.second;
-        match values(alloc, &mut self.table, &th.env, m, n) {
-            Err(fault) => Err(fault),
-            Ok((j, k)) => {
-                self.table.each_has_one_number();
-                if j == k {
-                    return Err(PFault::Equal);
-                }
-                go_on(&mut self.threads, t, next);
-                Ok(FactList::new(alloc))
-            }
         }
     }
 }

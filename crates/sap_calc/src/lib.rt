@@ -6,7 +6,9 @@ mod citing;
 mod config;
 mod embedding;
 mod entry;
+mod head_line;
 mod laws;
+mod looking;
 mod making;
 mod meeting;
 mod sending;
@@ -14,7 +16,6 @@ mod step;
 mod stored;
 mod taking;
 mod thread;
-mod writing;
 
 pub use config::Config;
 pub use laws::replays_are_legal;

@@ -3,6 +3,7 @@ ghost use Rattle.std.specs.Prelude.{◌≡◌, IfOk, IfErr, OnErr};
 ghost use Rattle.sap_calc.specs.Running.{IsDone, IsDenied};
 
 use crate::Config;
+use crate::head_line::HeadLine;
 use sap_lines::PFault;
 use sap_runs::PStep;
 use sap_terms::FactList;
@@ -37,15 +38,15 @@ impl Config {
             PStep::Send(t, k) => self.send(alloc, *t, *k),
             PStep::In(t, k) => self.input(alloc, *t, *k),
             PStep::Sync(from, to) => self.sync(alloc, *from, *to),
-            PStep::Then(t) => self.then(alloc, *t),
-            PStep::Else(t) => self.otherwise(alloc, *t),
+            PStep::Then(t) => self.head_line(alloc, *t, HeadLine::Agree),
+            PStep::Else(t) => self.head_line(alloc, *t, HeadLine::Differ),
             PStep::Event(t) => self.event(alloc, *t),
-            PStep::Insert(t) => self.insert(alloc, *t),
-            PStep::Delete(t) => self.delete(alloc, *t),
+            PStep::Insert(t) => self.head_line(alloc, *t, HeadLine::Store),
+            PStep::Delete(t) => self.head_line(alloc, *t, HeadLine::Clear),
             PStep::Found(t) => self.found(alloc, *t),
-            PStep::Missing(t) => self.missing(alloc, *t),
-            PStep::Lock(t) => self.lock(alloc, *t),
-            PStep::Unlock(t) => self.unlock(alloc, *t),
+            PStep::Missing(t) => self.head_line(alloc, *t, HeadLine::Miss),
+            PStep::Lock(t) => self.head_line(alloc, *t, HeadLine::Hold),
+            PStep::Unlock(t) => self.head_line(alloc, *t, HeadLine::Release),
             PStep::Embedded(t, facts, b) => self.embedded(alloc, *t, facts, b),
             PStep::Name(n) => self.name(alloc, *n),
             PStep::Public(a) => self.public(alloc, a),

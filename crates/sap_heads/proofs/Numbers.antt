@@ -1,6 +1,7 @@
 -- Terms that are evaluated one after another.
 use Rattle.std.proofs.Common.{◌≡◌, ◌<◌, ◌≤◌, ℕ, List, [], ◌∷◌, ◌++◌, refl, sym, ap, subst, ◌∙◌, length, inl, inr, append_assoc}
 use Rattle.std.proofs.lemmas.Bool.{cases_lt}
+use Rattle.std.proofs.lemmas.List.{append-nil}
 use Rattle.sap_terms.specs.Choice.{instance}
 use Rattle.sap_terms.specs.Equations.{equations}
 use Rattle.sap_terms.specs.Normal.{IsNormal, IsNormalForm}
@@ -78,6 +79,9 @@ value_is s u env t k below_it keeps form small =
       form = form;
       small = small_one s.sig (instance (given s.trees env) t) small;
     }
+
+pub keeps_self : (s : Shared) → Keeps s s
+keeps_self s = record { sig = refl; added = []; trees = sym (append-nil s.trees) }
 
 pub keeps_twice : (s u v : Shared) → Keeps s u → Keeps u v → Keeps s v
 keeps_twice s u v h i = record { sig = i.sig ∙ h.sig; added = h.added ++ i.added; trees = i.trees ∙ ap (λ ts. ts ++ i.added) h.trees ∙ append_assoc s.trees h.added i.added }

@@ -1,5 +1,5 @@
 -- Numbers keep their meaning, one call after another.
-use Rattle.std.proofs.Common.{◌≡◌, ◌<◌, ◌+◌, ℕ, zero, suc, List, [], ◌∷◌, ◌++◌, length, take, Some, refl, sym, ap, subst, ◌∙◌, arith, append_assoc, length-append}
+use Rattle.std.proofs.Common.{◌≡◌, ◌<◌, ◌+◌, ℕ, zero, suc, List, [], ◌∷◌, ◌++◌, length, take, Some, Result, Ok, Err, IfOk, OnErr, refl, sym, ap, subst, ◌∙◌, arith, append_assoc, length-append}
 use Rattle.std.specs.Prelude.{slice_get}
 use Rattle.std.proofs.lemmas.List.{append-nil}
 use Rattle.sap_terms.proofs.PlainLaws.Lists.{take_got}
@@ -58,6 +58,19 @@ over_at g (u ∷ us) (suc i) t h at = over_at g us i t h.1 at
 pub held_over : (s t : Shared) (f name : List ℕ) (ts : List Tree) (ks : List ℕ) → IsOver s.sig (apply f (trees_of ts)) → Keeps s t → name ≡ f → trees_at t.trees ks ≡ ts → arity_of t.sig name ≡ Some (length ks)
 held_over s t f name ts ks over keeps is trees =
     rw (keeps.sig, is, as_many t.trees ts ks trees) (over.0 ∙ ap (λ us. Some (length us)) (list_of-trees_of ts))
+
+-- a node that got a number, or was refused, leaves the others as they were
+pub numbered_keeps : {E : Type 0} (s u : Shared) (x : Tree) (r : Result ℕ E) → IfOk r (λ k. Gives s u k x) → OnErr r (u ≡ s) → Keeps s u
+numbered_keeps s u x (Ok k) gives same = gives.keeps
+numbered_keeps s u x (Err e) gives same = subst (Keeps s) (sym same) (keeps-self s)
+
+-- a symbol on the numbers of terms has the number of the symbol on the terms
+pub applied_given : {E : Type 0} (s u w : Shared) (f name : List ℕ) (ts : List Tree) (ks : List ℕ) → Keeps s u → name ≡ f → trees_at u.trees ks ≡ ts → (r : Result ℕ E)
+    → IfOk r (λ k. Gives u w k (apply name (trees_of (trees_at u.trees ks)))) → IfOk r (λ k. Gives s w k (apply f (trees_of ts)))
+applied_given s u w f name ts ks keeps is trees (Ok k) gives =
+    let same : apply name (trees_of (trees_at u.trees ks)) ≡ apply f (trees_of ts) = rw (is, trees) refl in
+    record { keeps = keeps-both s u w keeps gives.keeps; below = gives.below; tree = gives.tree ∙ same }
+applied_given s u w f name ts ks keeps is trees (Err e) gives = tt
 
 pub ruleset put_laws = (keeps-self, keeps-both)
 

@@ -63,11 +63,11 @@ impl Table {
             Node::Public(n) => Ok(Term::Public(n.copy(alloc)?)),
             Node::Fresh(k) => Ok(Term::Fresh(*k)),
             Node::App(f, ks) => {
-                let name = f.copy(alloc)?;
                 let mut args = TermList::with_room(alloc, ks.len())?;
                 for k in ks.as_slice() {
                     args.push(self.tree(alloc, *k)?)?;
                 }
+                let name = f.copy(alloc)?;
                 Ok(Term::App(name, args))
             }
         }

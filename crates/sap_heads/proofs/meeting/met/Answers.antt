@@ -1,6 +1,7 @@
 use Rattle.sap_terms.specs.View.{tree}
 use Rattle.sap_heads.proofs.MetValues.{takes_there, met_plain, met_first_fault, met_last_fault, met_number, met_misfit, met_apart, met_is}
-use Rattle.sap_heads.proofs.Numbers.{can_stays}
+use Rattle.sap_heads.proofs.Kept.{env_stays}
+use Rattle.sap_heads.proofs.Numbers.{can_stays, keeps_twice}
 use Rattle.sap_heads.proofs.meeting.met.Goals as goal
 
 pub value-requires-clause-can : goal.value-requires-clause-can
@@ -29,3 +30,21 @@ fitted-requires-clause-env c = takes_there c.args.table.now c.values.new.table c
 
 pub fitted-requires-clause-plain : goal.fitted-requires-clause-plain
 fitted-requires-clause-plain c = met_plain c.args.table.now c.values.new.table c.values.ensures.keeps c.args.sends.now c.args.takes.now c.requires.sends c.requires.takes (tree c.args.m.now) (tree c.args.n.now) (tree c.args.l.now) (tree c.args.p.now) c.value.new.table c.value.ensures.keeps c.requires.plain
+
+pub value-requires-clause-env : goal.value-requires-clause-env
+value-requires-clause-env c = env_stays c.args.table.now c.values.new.table c.values.ensures.keeps c.args.takes.now c.requires.takes
+
+pub returns-in-Err-clause-keeps : goal.returns-in-Err-clause-keeps
+returns-in-Err-clause-keeps c = c.values.ensures.keeps
+
+pub returns-in-Err-value-clause-keeps : goal.returns-in-Err-value-clause-keeps
+returns-in-Err-value-clause-keeps c = keeps_twice c.args.table.now c.values.new.table c.value.new.table c.values.ensures.keeps c.value.ensures.keeps
+
+pub returns-in-Err-fitted-clause-keeps : goal.returns-in-Err-fitted-clause-keeps
+returns-in-Err-fitted-clause-keeps c = keeps_twice c.args.table.now c.values.new.table c.value.new.table c.values.ensures.keeps c.value.ensures.keeps
+
+pub returns-then-i-h-clause-keeps : goal.returns-then-i-h-clause-keeps
+returns-then-i-h-clause-keeps c = keeps_twice c.args.table.now c.values.new.table c.value.new.table c.values.ensures.keeps c.value.ensures.keeps
+
+pub returns-else-i-h-clause-keeps : goal.returns-else-i-h-clause-keeps
+returns-else-i-h-clause-keeps c = keeps_twice c.args.table.now c.values.new.table c.value.new.table c.values.ensures.keeps c.value.ensures.keeps

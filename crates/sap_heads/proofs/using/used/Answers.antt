@@ -48,3 +48,12 @@ returns-in-Ok-sides-clause-ok c =
     (rule_env_stays u v c.sides.ensures.keeps c.args.env.now c.args.cited.now c.args.l.now c.args.e.now c.args.r.now c.args.b.now new (bound_stays s u c.environment.ensures.keeps c.args.env.now (small_bound s c.args.env.now c.requires.env)) c.in-Ok.ensures.ok)
     c.instances_of_processes.ensures.twice c.normal_forms_are_unique.ensures c.in-Ok-sides.acts c.in-Ok-sides.right
     (formed_stays u v c.sides.ensures.keeps new c.args.e.now c.in-Ok-sides.acts small c.in-Ok-sides.ensures.acts) (formed_stays u v c.sides.ensures.keeps new c.args.r.now c.in-Ok-sides.right small c.in-Ok-sides.ensures.right)
+
+pub returns-in-Err-clause-keeps : goal.returns-in-Err-clause-keeps
+returns-in-Err-clause-keeps c = c.environment.ensures.keeps
+
+pub returns-in-Err-sides-clause-keeps : goal.returns-in-Err-sides-clause-keeps
+returns-in-Err-sides-clause-keeps c = keeps_twice c.args.table.now c.environment.new.table c.sides.new.table c.environment.ensures.keeps c.sides.ensures.keeps
+
+pub returns-in-Ok-sides-clause-keeps : goal.returns-in-Ok-sides-clause-keeps
+returns-in-Ok-sides-clause-keeps c = keeps_twice c.args.table.now c.environment.new.table c.sides.new.table c.environment.ensures.keeps c.sides.ensures.keeps

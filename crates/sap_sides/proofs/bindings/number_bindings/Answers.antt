@@ -1,9 +1,9 @@
-use Rattle.std.proofs.Common.{sym, subst}
+use Rattle.std.proofs.Common.{◌≡◌, length, sym, subst, ◌∙◌, arith}
 use Rattle.sap_terms.specs.Message.{IsMessage, IsOver}
 use Rattle.sap_terms.specs.Signature.{Sig}
 use Rattle.sap_terms.specs.View.{tree}
 use Rattle.sap_terms.specs.declared.binding.Binding.{Binding}
-use Rattle.sap_sides.proofs.Lists.{all_at}
+use Rattle.sap_sides.proofs.Lists.{all_at, take_all}
 use Rattle.sap_sides.proofs.Kept.{bind_more, keeps-both}
 use Rattle.sap_sides.proofs.bindings.number_bindings.Goals as goal
 
@@ -21,3 +21,17 @@ loop-i-preserved c =
     let h = c.loop-i.invariant in
     let m = bind_more c.loop-i.table c.put.new.self c.args.b.now c.loop-i.i c.at-e.result.now c.loop-i.env c.push.new.self (record { var = c.in_ok-var.var; id = c.in_ok-id.id }) h.are h.bound c.in_ok-id.ensures.gives c.in_ok-var.ensures c.at-e.ensures c.in_ok-push.ensures.ok in
     record { are = m.0; bound = m.1; keeps = keeps-both c.args.table.now c.loop-i.table c.put.new.self h.keeps c.in_ok-id.ensures.keeps }
+
+pub returns-in_err-id-clause-keeps : goal.returns-in_err-id-clause-keeps
+returns-in_err-id-clause-keeps c = keeps-both c.args.table.now c.loop-i.table c.put.new.self c.loop-i.invariant.keeps c.in_err-id.ensures.keeps
+
+pub returns-in_err-var-clause-keeps : goal.returns-in_err-var-clause-keeps
+returns-in_err-var-clause-keeps c = keeps-both c.args.table.now c.loop-i.table c.put.new.self c.loop-i.invariant.keeps c.in_ok-id.ensures.keeps
+
+pub returns-in_err-push-clause-keeps : goal.returns-in_err-push-clause-keeps
+returns-in_err-push-clause-keeps c = keeps-both c.args.table.now c.loop-i.table c.put.new.self c.loop-i.invariant.keeps c.in_ok-id.ensures.keeps
+
+pub returns-clause-are : goal.returns-clause-are
+returns-clause-are c =
+    let at_end : c.loop-i.i ≡ length c.args.b.now = omega (arith, c.len-i-end.ensures) in
+    c.loop-i.invariant.are ∙ take_all c.args.b.now c.loop-i.i at_end

@@ -22,3 +22,9 @@ loop-i-preserved c =
     let x = c.in_ok-k.ensures in
     let q = form_more c.args.table.now c.loop-i.table c.args.env.now h.keeps c.requires.env c.evaluate.new.self c.args.ts.now c.loop-i.i (tree c.at.result.now) c.loop-i.ks c.push.new.self c.in_ok-k.k h.formed h.below x.keeps x.below x.form x.within c.at.ensures.got c.in_ok-push.ensures.ok in
     record { formed = q.0; below = q.1; keeps = keeps-both c.args.table.now c.loop-i.table c.evaluate.new.self h.keeps x.keeps }
+
+pub returns-in_err-k-clause-keeps : goal.returns-in_err-k-clause-keeps
+returns-in_err-k-clause-keeps c = keeps-both c.args.table.now c.loop-i.table c.evaluate.new.self c.loop-i.invariant.keeps c.in_err-k.ensures.keeps
+
+pub returns-in_err-push-clause-keeps : goal.returns-in_err-push-clause-keeps
+returns-in_err-push-clause-keeps c = keeps-both c.args.table.now c.loop-i.table c.evaluate.new.self c.loop-i.invariant.keeps c.in_ok-k.ensures.keeps

@@ -1,7 +1,12 @@
-use Rattle.std.proofs.Common.{rules}
+use Rattle.std.proofs.Common.{◌≡◌, List, length, map, rules, subst, arith}
+use Rattle.sap_terms.specs.declared.fact.Fact.{Fact}
 use Rattle.sap_terms.specs.declared.limits.TheConstants.{MOST_TERM_NODES}
+use Rattle.sap_share.specs.Env.{given}
+use Rattle.sap_sides.specs.SharedFacts.{fact_seen}
 use Rattle.sap_sides.proofs.ByNumbers.{forms_kept, fact_ground_then, fact_over_then, fact_large_before, facts_more}
+use Rattle.sap_sides.proofs.Formed.{AreFactsFormed}
 use Rattle.sap_sides.proofs.Kept.{keeps-both}
+use Rattle.sap_sides.proofs.Lists.{take_all}
 use Rattle.sap_sides.proofs.forms.form_facts.Goals as goal
 
 pub form_fact-requires-clause-ground : goal.form_fact-requires-clause-ground
@@ -26,3 +31,21 @@ loop-k-preserved c =
 pub form_fact-requires-clause-env : goal.form_fact-requires-clause-env
 form_fact-requires-clause-env c =
     forms_kept MOST_TERM_NODES c.args.table.now c.loop-k.table c.args.env.now c.loop-k.invariant.keeps c.requires.env
+
+pub returns-in_err-f-clause-keeps : goal.returns-in_err-f-clause-keeps
+returns-in_err-f-clause-keeps c = keeps-both c.args.table.now c.loop-k.table c.form_fact.new.table c.loop-k.invariant.keeps c.in_err-f.ensures.keeps
+
+pub returns-in_err-push_fact-clause-keeps : goal.returns-in_err-push_fact-clause-keeps
+returns-in_err-push_fact-clause-keeps c = keeps-both c.args.table.now c.loop-k.table c.form_fact.new.table c.loop-k.invariant.keeps c.in_ok-f.ensures.keeps
+
+pub returns-clause-forms : goal.returns-clause-forms
+returns-clause-forms c =
+    let at_end : c.loop-k.k ≡ length c.args.fs.now = omega (arith, c.len-k-end.ensures) in
+    let seen : List Fact = map (fact_seen c.loop-k.table.trees) c.loop-k.shared.items in
+    (subst (λ (fs : List Fact). AreFactsFormed c.args.table.now.sig (given c.args.table.now.trees c.args.env.now) fs seen) (take_all c.args.fs.now c.loop-k.k at_end) c.loop-k.invariant.formed).forms
+
+pub returns-clause-within : goal.returns-clause-within
+returns-clause-within c =
+    let at_end : c.loop-k.k ≡ length c.args.fs.now = omega (arith, c.len-k-end.ensures) in
+    let seen : List Fact = map (fact_seen c.loop-k.table.trees) c.loop-k.shared.items in
+    (subst (λ (fs : List Fact). AreFactsFormed c.args.table.now.sig (given c.args.table.now.trees c.args.env.now) fs seen) (take_all c.args.fs.now c.loop-k.k at_end) c.loop-k.invariant.formed).within

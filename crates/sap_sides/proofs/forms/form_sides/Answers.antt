@@ -1,6 +1,11 @@
-use Rattle.std.proofs.Common.{map, rules, inr}
+use Rattle.std.proofs.Common.{map, rules, sym, subst, inr}
+use Rattle.std.specs.Prelude.{All}
+use Rattle.sap_terms.specs.Signature.{Sig}
+use Rattle.sap_terms.specs.declared.limits.TheConstants.{MOST_TERM_NODES}
+use Rattle.sap_sides.specs.Messages.{IsFactOver}
 use Rattle.sap_sides.specs.SharedFacts.{fact_seen}
-use Rattle.sap_sides.proofs.ByNumbers.{ground_facts_then, facts_large_before, forms_before, none_large_before}
+use Rattle.sap_sides.proofs.ByNumbers.{forms_kept, ground_facts_then, facts_large_before, forms_before, none_large_before}
+use Rattle.sap_sides.proofs.Kept.{keeps-both}
 use Rattle.sap_sides.proofs.forms.form_sides.Goals as goal
 
 pub form_facts-requires-clause-ground : goal.form_facts-requires-clause-ground
@@ -23,3 +28,15 @@ returns-clause-sides c =
       within_acts = c.in_ok-acts.ensures.within;
       within_right = none_large_before old between c.args.env.now keeps c.requires.env c.args.right.now c.in_ok-right.ensures.within;
     }
+
+pub form_facts-requires-clause-env : goal.form_facts-requires-clause-env
+form_facts-requires-clause-env c = forms_kept MOST_TERM_NODES c.args.table.now c.form_acts.new.table c.args.env.now c.in_ok-acts.ensures.keeps c.requires.env
+
+pub form_facts-requires-clause-over : goal.form_facts-requires-clause-over
+form_facts-requires-clause-over c = subst (λ (g : Sig). All (IsFactOver g) c.args.right.now) (sym c.in_ok-acts.ensures.keeps.sig) c.requires.over_right
+
+pub returns-in_err-right-clause-keeps : goal.returns-in_err-right-clause-keeps
+returns-in_err-right-clause-keeps c = keeps-both c.args.table.now c.form_acts.new.table c.form_facts.new.table c.in_ok-acts.ensures.keeps c.in_err-right.ensures.keeps
+
+pub returns-clause-keeps : goal.returns-clause-keeps
+returns-clause-keeps c = keeps-both c.args.table.now c.form_acts.new.table c.form_facts.new.table c.in_ok-acts.ensures.keeps c.in_ok-right.ensures.keeps

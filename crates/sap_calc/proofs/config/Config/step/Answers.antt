@@ -25,31 +25,31 @@ pub returns-in-Sync-clause-refused : goal.returns-in-Sync-clause-refused
 returns-in-Sync-clause-refused c = rw c.in-Sync.is c.sync.ensures.refused
 
 pub returns-in-Then-clause-refused : goal.returns-in-Then-clause-refused
-returns-in-Then-clause-refused c = rw c.in-Then.is c.then.ensures.refused
+returns-in-Then-clause-refused c = rw c.in-Then.is c.head_line.ensures.refused
 
 pub returns-in-Else-clause-refused : goal.returns-in-Else-clause-refused
-returns-in-Else-clause-refused c = rw c.in-Else.is c.otherwise.ensures.refused
+returns-in-Else-clause-refused c = rw c.in-Else.is c.head_line-in-Else.ensures.refused
 
 pub returns-in-Event-clause-refused : goal.returns-in-Event-clause-refused
 returns-in-Event-clause-refused c = rw c.in-Event.is c.event.ensures.refused
 
 pub returns-in-Insert-clause-refused : goal.returns-in-Insert-clause-refused
-returns-in-Insert-clause-refused c = rw c.in-Insert.is c.insert.ensures.refused
+returns-in-Insert-clause-refused c = rw c.in-Insert.is c.head_line-in-Insert.ensures.refused
 
 pub returns-in-Delete-clause-refused : goal.returns-in-Delete-clause-refused
-returns-in-Delete-clause-refused c = rw c.in-Delete.is c.delete.ensures.refused
+returns-in-Delete-clause-refused c = rw c.in-Delete.is c.head_line-in-Delete.ensures.refused
 
 pub returns-in-Found-clause-refused : goal.returns-in-Found-clause-refused
 returns-in-Found-clause-refused c = rw c.in-Found.is c.found.ensures.refused
 
 pub returns-in-Missing-clause-refused : goal.returns-in-Missing-clause-refused
-returns-in-Missing-clause-refused c = rw c.in-Missing.is c.missing.ensures.refused
+returns-in-Missing-clause-refused c = rw c.in-Missing.is c.head_line-in-Missing.ensures.refused
 
 pub returns-in-Lock-clause-refused : goal.returns-in-Lock-clause-refused
-returns-in-Lock-clause-refused c = rw c.in-Lock.is c.lock.ensures.refused
+returns-in-Lock-clause-refused c = rw c.in-Lock.is c.head_line-in-Lock.ensures.refused
 
 pub returns-in-Unlock-clause-refused : goal.returns-in-Unlock-clause-refused
-returns-in-Unlock-clause-refused c = rw c.in-Unlock.is c.unlock.ensures.refused
+returns-in-Unlock-clause-refused c = rw c.in-Unlock.is c.head_line-in-Unlock.ensures.refused
 
 pub returns-in-Embedded-clause-refused : goal.returns-in-Embedded-clause-refused
 returns-in-Embedded-clause-refused c = rw c.in-Embedded.is c.embedded.ensures.refused

@@ -1,4 +1,4 @@
-use Rattle.std.proofs.Common.{sym, ap, subst, ◌∙◌, arith}
+use Rattle.std.proofs.Common.{rules, sym, ap, subst, ◌∙◌, arith}
 use Rattle.sap_terms.specs.Choice.{instance, instances}
 use Rattle.sap_terms.specs.Equations.{equations}
 use Rattle.sap_terms.specs.Ground.{IsGround, AreGround}
@@ -9,7 +9,7 @@ use Rattle.sap_terms.specs.View.{tree}
 use Rattle.sap_terms.specs.declared.term.Term.{Term}
 use Rattle.sap_share.specs.Env.{given}
 use Rattle.sap_share.specs.Shared.{tree_at}
-use Rattle.sap_share.proofs.Kept.{keeps-both, over_at}
+use Rattle.sap_share.proofs.Kept.{keeps-self, keeps-both, over_at}
 use Rattle.sap_share.proofs.Evaluated.{variable_fits, no_variable, symbol_held, symbol_form, symbol_large, symbol_fits, leaf_fits, within_instances, instances_within, instances-trees_of, step_env, step_ground, step_forms, step_rest, step_large, none_within}
 use Rattle.sap_share.proofs.Grown.{if_ok, both_ok}
 use Rattle.sap_share.proofs.table.Table.+evaluate.Goals as goal
@@ -130,3 +130,36 @@ evaluate_all-returns-clause-within t c = λ w.
     let l = c.len-i-end.ensures in
     let end = c.loop-i-test.false in
     none_within c.args.ts.now (given c.args.self.now.trees c.args.env.now) c.loop-i.i (omega (arith, l, end)) (c.loop-i.invariant.rest w)
+
+pub evaluate-returns-in_err-name-in-Public-clause-keeps : goal.evaluate-returns-in_err-name-in-Public-clause-keeps
+evaluate-returns-in_err-name-in-Public-clause-keeps t c = keeps-self c.args.self.now
+
+pub evaluate-returns-in_err-name-in-App-clause-keeps : goal.evaluate-returns-in_err-name-in-App-clause-keeps
+evaluate-returns-in_err-name-in-App-clause-keeps t c = keeps-self c.args.self.now
+
+pub evaluate-returns-in-Some-clause-keeps : goal.evaluate-returns-in-Some-clause-keeps
+evaluate-returns-in-Some-clause-keeps t c = keeps-self c.args.self.now
+
+pub evaluate-returns-in_ok-name-in-Public-clause-form : goal.evaluate-returns-in_ok-name-in-Public-clause-form
+evaluate-returns-in_ok-name-in-Public-clause-form t c = rw (ap tree c.in-Public.is ∙ ap public (sym c.in_ok-name-in-Public.ensures)) c.form_within.ensures.form
+
+pub evaluate-returns-in-Fresh-clause-form : goal.evaluate-returns-in-Fresh-clause-form
+evaluate-returns-in-Fresh-clause-form t c = rw (ap tree c.in-Fresh.is) c.form_within-in-Fresh.ensures.form
+
+pub evaluate-returns-in-Ok-clause-keeps : goal.evaluate-returns-in-Ok-clause-keeps
+evaluate-returns-in-Ok-clause-keeps t c = keeps-both c.args.self.now c.evaluate_all.new.self c.form_within-in-Ok.new.self c.in-Ok.ensures.keeps c.form_within-in-Ok.ensures.keeps
+
+pub evaluate-returns-in-Err-clause-keeps : goal.evaluate-returns-in-Err-clause-keeps
+evaluate-returns-in-Err-clause-keeps t c = c.in-Err.ensures.keeps
+
+pub evaluate_all-returns-in_err-ks-clause-keeps : goal.evaluate_all-returns-in_err-ks-clause-keeps
+evaluate_all-returns-in_err-ks-clause-keeps t c = keeps-self c.args.self.now
+
+pub evaluate_all-loop-i-init : goal.evaluate_all-loop-i-init
+evaluate_all-loop-i-init t c = record { forms = search rules; below = search rules; keeps = keeps-self c.args.self.now; rest = λ w. w }
+
+pub evaluate_all-returns-in_err-push-in-Ok-clause-keeps : goal.evaluate_all-returns-in_err-push-in-Ok-clause-keeps
+evaluate_all-returns-in_err-push-in-Ok-clause-keeps t c = keeps-both c.args.self.now c.loop-i.self c.evaluate.new.self c.loop-i.invariant.keeps c.in-Ok.ensures.keeps
+
+pub evaluate_all-returns-in-Err-clause-keeps : goal.evaluate_all-returns-in-Err-clause-keeps
+evaluate_all-returns-in-Err-clause-keeps t c = keeps-both c.args.self.now c.loop-i.self c.evaluate.new.self c.loop-i.invariant.keeps c.in-Err.ensures.keeps

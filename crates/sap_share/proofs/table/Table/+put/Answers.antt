@@ -1,8 +1,9 @@
-use Rattle.std.proofs.Common.{arith, sym, subst}
+use Rattle.std.proofs.Common.{arith, rules, sym, ap, subst, ◌∙◌}
 use Rattle.sap_terms.specs.Message.{IsOver}
+use Rattle.sap_terms.specs.Tree.{public}
 use Rattle.sap_terms.specs.View.{tree}
 use Rattle.sap_terms.specs.declared.term.Term.{Term}
-use Rattle.sap_share.proofs.Kept.{ground_at, over_at, held_over, put_more, keeps-both}
+use Rattle.sap_share.proofs.Kept.{ground_at, over_at, held_over, put_more, keeps-self, keeps-both, numbered_keeps, applied_given}
 use Rattle.sap_share.proofs.table.Table.+put.Goals as goal
 
 pub put-intern-requires-in-App-clause-held : goal.put-intern-requires-in-App-clause-held
@@ -22,3 +23,47 @@ put_all-loop-i-preserved t c =
     let h = c.loop-i.invariant in
     let m = put_more c.loop-i.self c.put.new.self c.args.ts.now c.loop-i.i (tree c.at.result.now) c.loop-i.ks c.push.new.self c.in_ok-k.k h.trees h.below c.in_ok-k.ensures.gives c.at.ensures.got c.in_ok-push.ensures.ok in
     record { trees = m.0; below = m.1; keeps = keeps-both c.args.self.now c.loop-i.self c.put.new.self h.keeps c.in_ok-k.ensures.keeps }
+
+pub put-returns-in_err-name-in-Public-clause-keeps : goal.put-returns-in_err-name-in-Public-clause-keeps
+put-returns-in_err-name-in-Public-clause-keeps t c = keeps-self c.args.self.now
+
+pub put-returns-in_err-name-in-App-clause-keeps : goal.put-returns-in_err-name-in-App-clause-keeps
+put-returns-in_err-name-in-App-clause-keeps t c = keeps-self c.args.self.now
+
+pub put-returns-in_err-ks-in-App-clause-keeps : goal.put-returns-in_err-ks-in-App-clause-keeps
+put-returns-in_err-ks-in-App-clause-keeps t c = c.in_err-ks-in-App.ensures.keeps
+
+pub put-intern-requires-in-App-clause-below : goal.put-intern-requires-in-App-clause-below
+put-intern-requires-in-App-clause-below t c = c.in_ok-ks-in-App.ensures.below
+
+pub put-returns-in_ok-name-in-Public-clause-gives : goal.put-returns-in_ok-name-in-Public-clause-gives
+put-returns-in_ok-name-in-Public-clause-gives t c = rw (ap tree c.in-Public.is ∙ ap public (sym c.in_ok-name-in-Public.ensures)) c.intern.ensures.ok
+
+pub put-returns-in_ok-name-in-Public-clause-keeps : goal.put-returns-in_ok-name-in-Public-clause-keeps
+put-returns-in_ok-name-in-Public-clause-keeps t c = numbered_keeps c.args.self.now c.intern.new.self _ c.intern.result c.intern.ensures.ok c.intern.ensures.err
+
+pub put-returns-in-Fresh-clause-gives : goal.put-returns-in-Fresh-clause-gives
+put-returns-in-Fresh-clause-gives t c = rw (ap tree c.in-Fresh.is) c.intern-in-Fresh.ensures.ok
+
+pub put-returns-in-Fresh-clause-keeps : goal.put-returns-in-Fresh-clause-keeps
+put-returns-in-Fresh-clause-keeps t c = numbered_keeps c.args.self.now c.intern-in-Fresh.new.self _ c.intern-in-Fresh.result c.intern-in-Fresh.ensures.ok c.intern-in-Fresh.ensures.err
+
+pub put-returns-in_ok-ks-in-App-clause-gives : goal.put-returns-in_ok-ks-in-App-clause-gives
+put-returns-in_ok-ks-in-App-clause-gives t c =
+    rw (ap tree c.in-App.is) (applied_given c.args.self.now c.put_all.new.self c.intern-in-App.new.self c.in-App.f c.in_ok-name-in-App.name c.in-App.ts c.in_ok-ks-in-App.ks c.in_ok-ks-in-App.ensures.keeps c.in_ok-name-in-App.ensures c.in_ok-ks-in-App.ensures.trees c.intern-in-App.result c.intern-in-App.ensures.ok)
+
+pub put-returns-in_ok-ks-in-App-clause-keeps : goal.put-returns-in_ok-ks-in-App-clause-keeps
+put-returns-in_ok-ks-in-App-clause-keeps t c =
+    keeps-both c.args.self.now c.put_all.new.self c.intern-in-App.new.self c.in_ok-ks-in-App.ensures.keeps (numbered_keeps c.put_all.new.self c.intern-in-App.new.self _ c.intern-in-App.result c.intern-in-App.ensures.ok c.intern-in-App.ensures.err)
+
+pub put_all-returns-in_err-ks-clause-keeps : goal.put_all-returns-in_err-ks-clause-keeps
+put_all-returns-in_err-ks-clause-keeps t c = keeps-self c.args.self.now
+
+pub put_all-loop-i-init : goal.put_all-loop-i-init
+put_all-loop-i-init t c = record { trees = search rules; below = search rules; keeps = keeps-self c.args.self.now }
+
+pub put_all-returns-in_err-k-clause-keeps : goal.put_all-returns-in_err-k-clause-keeps
+put_all-returns-in_err-k-clause-keeps t c = keeps-both c.args.self.now c.loop-i.self c.put.new.self c.loop-i.invariant.keeps c.in_err-k.ensures.keeps
+
+pub put_all-returns-in_err-push-clause-keeps : goal.put_all-returns-in_err-push-clause-keeps
+put_all-returns-in_err-push-clause-keeps t c = keeps-both c.args.self.now c.loop-i.self c.put.new.self c.loop-i.invariant.keeps c.in_ok-k.ensures.keeps
