@@ -9,12 +9,13 @@ ghost use Rattle.sap_theory.specs.code.Judged.{AreGood, IsRefusedCut};
 ghost use Rattle.sap_theory.specs.declared.fault.TheoryFault.{TheoryFault};
 ghost use Rattle.sap_theory.specs.declared.fault.TheoryFault.TheVariants.{Mem as OutOfMemory, Lex as LexFault};
 
-use crate::checking::{Checked, check};
+use crate::checking::check;
 use crate::fault::TheoryFault;
 use crate::reading::items::{Contents, read_items};
 use crate::reading::laws::item_laws;
 use sap_grammar::{Declared, beyond, header_name, headers_are_read, last_line, read_declarations};
 use sap_rule::{RuleList, Theory};
+use sap_statements::Checked;
 use sap_terms::{MOST_THEORY_NAME_BYTES, Mem, Name};
 use sap_text::{Lex, Token, tokens};
 use std::alloc::Global;
