@@ -2,6 +2,7 @@
 //! the header, where they are cut into items, and what these declare.
 #![tactic(auto)]
 
+mod boxes;
 mod declaration;
 mod declared;
 mod fact;
@@ -14,6 +15,7 @@ mod pieces;
 mod term;
 mod term_text;
 
+pub use boxes::boxed;
 pub use declared::{Declared, is_declaration, read_declarations};
 pub use fact::{read_fact, read_facts, read_short_fact};
 pub use fact_text::{push_arrow, push_fact, push_facts};

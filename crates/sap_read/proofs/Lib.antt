@@ -5,7 +5,7 @@ pub mod Expanded
 pub mod Kept
 pub mod Labelled
 pub mod Caused
-pub mod Unchecked
+pub mod Checked
 pub mod ItemsRead
 pub mod ItemTurns
 pub mod OneFile

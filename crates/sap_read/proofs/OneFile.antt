@@ -1,5 +1,5 @@
 -- Bytes are read in one way.
-use Rattle.std.proofs.Common.{◌≡◌, ℕ, List, [], Some, None, Ok, Err, refl, sym, ap, subst, ◌∙◌}
+use Rattle.std.proofs.Common.{◌≡◌, ℕ, Bool, true, List, [], Some, None, Ok, Err, refl, sym, ap, subst, ◌∙◌}
 use Rattle.std.specs.Prelude.{Result}
 use Rattle.sap_text.specs.declared.fault.Lex.{Lex}
 use Rattle.sap_text.specs.declared.token.Token.{Token}
@@ -11,11 +11,11 @@ use Rattle.sap_process.specs.Flaws.{IsFirstFlaw, IsWellFormed}
 use Rattle.sap_process.specs.Sorted.{with_sorts}
 use Rattle.sap_process.specs.declared.flaw.Flaw.{Flaw}
 use Rattle.sap_read.specs.declared.fault.ReadFault.{ReadFault}
-use Rattle.sap_read.specs.declared.fault.ReadFault.TheVariants.{Lex as LexFault, Header, Syntax, Ill}
-use Rattle.sap_formula.specs.Laws.{OneFaultLaw, NoFaultLaw}
+use Rattle.sap_read.specs.declared.fault.ReadFault.TheVariants.{Lex as LexFault, Header, Syntax, Ill, Formula}
+use Rattle.sap_formula.specs.declared.fault.FormulaFault.{FormulaFault}
 use Rattle.sap_statements.specs.declared.statement.Statement.{Statement}
 use Rattle.sap_read.specs.Item.{Standing, bodies, statements}
-use Rattle.sap_read.specs.Stated.{AreFaultless, IsFirstUnchecked, restrictions_of, lemmas_of}
+use Rattle.sap_statements.specs.Stated.{AreFaultless, IsFirstFaulty, restrictions_of, lemmas_of}
 use Rattle.sap_grammar.specs.Cut.{Placed, placed, IsCut, IsHeader, last_line}
 use Rattle.sap_read.specs.ItemGrammar.{AreItems, IsFaulty}
 use Rattle.sap_read.specs.Replaced.{process_of, no_meaning}
@@ -24,7 +24,6 @@ use Rattle.sap_read.specs.Item.{signature_of}
 use Rattle.sap_read.specs.Causes.{cause_of, lock_fault}
 use Rattle.sap_read.specs.Files.{FileContent, AreTokens, IsParted, IsRead, no_tokens, no_header, no_item, refused, ill, locked, unchecked, accepted}
 use Rattle.sap_read.proofs.ItemsRead.{same_declarations, good_or_faulty, one_fault, one_items}
-use Rattle.sap_read.proofs.Unchecked.{one_unchecked, never_both}
 use Rattle.sap_read.specs.code.ItemLaws.{ItemLaws}
 use Rattle.sap_read.specs.code.StatementLaws.{StatementLaws}
 use Rattle.sap_read.specs.code.ProcessLaws.{ProcessLaws}
@@ -32,8 +31,8 @@ use Rattle.sap_terms.specs.declared.limits.TheConstants.{MOST_FILE_NAME_BYTES}
 
 -- what its formulas make of it, where q is its process
 data AfterFormulas (x : List ℕ) (g : Sig) (ss : List Statement) (q : Proc) : Result FileContent ReadFault → Type 0 where
-  is_unchecked : (e : ReadFault) → IsFirstUnchecked g ss e → AfterFormulas x g ss q (Err e)
-  is_checked : AreFaultless g ss
+  is_unchecked : (y : List ℕ) (f : FormulaFault) → IsFirstFaulty g true ss y f → AfterFormulas x g ss q (Err (Formula y f))
+  is_checked : AreFaultless g true ss
       → AfterFormulas x g ss q (Ok (record { name = x; signature = g; process = q; restrictions = restrictions_of ss; lemmas = lemmas_of ss }))
 
 -- what the whole process of a file makes of it
@@ -73,8 +72,8 @@ in_steps (ill {ts = ts} {x = x} {cut = cut} {is = is} {p = q} {w = w} {path = pa
     has_tokens ts p.tokens (has_parts x cut p (has_items is i (is_whole q c w' (is_ill w path f))))
 in_steps (locked {ts = ts} {x = x} {cut = cut} {is = is} {p = q} {w = w} {path = path} p i c w' good f) =
     has_tokens ts p.tokens (has_parts x cut p (has_items is i (is_whole q c w' (is_locked w path good f))))
-in_steps (unchecked {ts = ts} {x = x} {cut = cut} {is = is} {p = q} {q = r} {e = e} p i c w f a u) =
-    has_tokens ts p.tokens (has_parts x cut p (has_items is i (is_whole q c w (is_well r f a (is_unchecked e u)))))
+in_steps (unchecked {ts = ts} {x = x} {cut = cut} {is = is} {p = q} {q = r} {y = y} {f = b} p i c w f a u) =
+    has_tokens ts p.tokens (has_parts x cut p (has_items is i (is_whole q c w (is_well r f a (is_unchecked y b u)))))
 in_steps (accepted {ts = ts} {x = x} {cut = cut} {is = is} {p = q} {q = r} p i c w f a h) =
     has_tokens ts p.tokens (has_parts x cut p (has_items is i (is_whole q c w (is_well r f a (is_checked h)))))
 
@@ -84,7 +83,8 @@ same_items laws stated written cut is js r s =
     let same : signature_of is ≡ signature_of js = ap (signature_from pairs_alone) (same_declarations laws (signature_of is) (signature_of js) cut is js r s) in
     one_items laws stated written (signature_of js) cut is js (subst (λ (g : Sig). AreItems g cut is) same r) s
 
-module _ (laws : ItemLaws) (stated : StatementLaws) (written : ProcessLaws) (one_fault_law : OneFaultLaw) (no_fault_law : NoFaultLaw) (one_flaw : (g : Sig) (p : Proc) (w v : Flaw) (path other : List ℕ) → IsFirstFlaw g p w path → IsFirstFlaw g p v other → (w ≡ v) × (path ≡ other))
+module _ (laws : ItemLaws) (stated : StatementLaws) (written : ProcessLaws) (one_faulty : (g : Sig) (r : Bool) (ss : List Statement) (x y : List ℕ) (f h : FormulaFault) → IsFirstFaulty g r ss x f → IsFirstFaulty g r ss y h → (x ≡ y) × (f ≡ h))
+    (no_faulty : (g : Sig) (r : Bool) (ss : List Statement) (x : List ℕ) (f : FormulaFault) → IsFirstFaulty g r ss x f → AreFaultless g r ss → ⊥) (one_flaw : (g : Sig) (p : Proc) (w v : Flaw) (path other : List ℕ) → IsFirstFlaw g p w path → IsFirstFlaw g p v other → (w ≡ v) × (path ≡ other))
     (no_flaw : (g : Sig) (p : Proc) (w : Flaw) (path : List ℕ) → IsFirstFlaw g p w path → IsWellFormed g p → ⊥)
     (one_annotation : (p q r : Proc) → IsAnnotation p q → IsAnnotation p r → q ≡ r)
     (one_lock_path : (p : Proc) (u w : LockFlaw) (a b : List ℕ) → IsFirstLockFlaw p u a → IsFirstLockFlaw p w b → a ≡ b)
@@ -92,9 +92,11 @@ module _ (laws : ItemLaws) (stated : StatementLaws) (written : ProcessLaws) (one
     (no_lock_flaw : (p q : Proc) (w : LockFlaw) (path : List ℕ) → IsAnnotation p q → ¬ IsFirstLockFlaw p w path)
     (one_answer : (most : ℕ) (z : List ℕ) (o u : Lexed) → IsLexed most 0 1 z o → IsLexed most 0 1 z u → o ≡ u) where
   after_formulas : (x : List ℕ) (g : Sig) (ss : List Statement) (q : Proc) (o u : Result FileContent ReadFault) → AfterFormulas x g ss q o → AfterFormulas x g ss q u → o ≡ u
-  after_formulas x g ss q _ _ (is_unchecked e f) (is_unchecked d h) = ap (λ (b : ReadFault). Err b) (one_unchecked one_fault_law no_fault_law g ss e d f h)
-  after_formulas x g ss q _ _ (is_unchecked e f) (is_checked h) = absurd (never_both one_fault_law no_fault_law g ss e f h)
-  after_formulas x g ss q _ _ (is_checked f) (is_unchecked e h) = absurd (never_both one_fault_law no_fault_law g ss e h f)
+  after_formulas x g ss q _ _ (is_unchecked y b f) (is_unchecked w d h) =
+      let same = one_faulty g true ss y w b d f h in
+      λ i. Err (Formula (same.0 i) (same.1 i))
+  after_formulas x g ss q _ _ (is_unchecked y b f) (is_checked h) = absurd (no_faulty g true ss y b f h)
+  after_formulas x g ss q _ _ (is_checked f) (is_unchecked y b h) = absurd (no_faulty g true ss y b h f)
   after_formulas x g ss q _ _ (is_checked f) (is_checked h) = refl
 
   after_process : (x : List ℕ) (g : Sig) (ss : List Statement) (p : Proc) (o u : Result FileContent ReadFault) → AfterProcess x g ss p o → AfterProcess x g ss p u → o ≡ u

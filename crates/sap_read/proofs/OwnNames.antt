@@ -10,7 +10,7 @@ use Rattle.sap_statements.specs.declared.statement.Statement.TheVariants.{Restri
 use Rattle.sap_statements.specs.Statements.{name_of}
 use Rattle.sap_read.specs.Causes.{first_taken, is_among}
 use Rattle.sap_read.specs.OwnNames.{statement_names, HaveOwnNames}
-use Rattle.sap_read.specs.Stated.{restrictions_of, lemmas_of}
+use Rattle.sap_statements.specs.Stated.{restrictions_of, lemmas_of}
 use Rattle.sap_read.proofs.EachOf.{both, left, right}
 
 -- neither name is the other

@@ -50,9 +50,9 @@ own_refused {z = z} is e p i (inl (inr r)) = by r.unsound
     by : IsFlawed (signature_of is) r.process e ⊎ IsMislocked (signature_of is) r.process e → IsRead z (Err e)
     by (inl f) = subst (λ (q : ReadFault). IsRead z (Err q)) (sym f.is) (ill p i r.whole.nothing r.whole.whole f.flaw)
     by (inr f) = subst (λ (q : ReadFault). IsRead z (Err q)) (sym f.is) (locked p i r.whole.nothing r.whole.whole f.well_formed f.flaw)
-own_refused is e p i (inr u) =
+own_refused {z = z} is e p i (inr u) =
     let a = u.annotated in
-    unchecked p i a.whole.nothing a.whole.whole a.sound.well_formed a.sound.annotation u.first
+    subst (λ (q : ReadFault). IsRead z (Err q)) (sym u.first.is) (unchecked p i a.whole.nothing a.whole.whole a.sound.well_formed a.sound.annotation u.first.faulty)
 
 pub is_refused : ItemLaws → (z : List ℕ) (ts : List Token) (x : List ℕ) (g : Sig) (clash : Option (List ℕ)) (e : ReadFault) → AreTokens z ts
     → header_of (words_of z ts) ≡ Some x → IsDeclared z ts g clash → IsRefusedCut g clash (last_line (placed z ts)) (items_of z ts) e → IsRead z (Err e)

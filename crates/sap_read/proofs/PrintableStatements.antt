@@ -2,6 +2,7 @@
 use Rattle.std.proofs.Common.{◌≡◌, ℕ, Bool, true, List, [], ◌∷◌, sym, subst}
 use Rattle.std.specs.Prelude.{All}
 use Rattle.std.specs.List.{AllByRecursion}
+use Rattle.std.proofs.lemmas.List.Elements.{All-head, All-tail}
 use Rattle.sap_terms.specs.Signature.{Sig}
 use Rattle.sap_formula.specs.Form.{Form}
 use Rattle.sap_formula.specs.Faults.{HasNoFault}
@@ -13,7 +14,7 @@ use Rattle.sap_statements.specs.Statements.{name_of, formula_of, IsAttribute}
 use Rattle.sap_statements.specs.Sorted.{plainly_sorted}
 use Rattle.sap_statements.specs.Printable.{IsTidyForm, IsFormOver, FormHasNames, IsPrintableForm}
 use Rattle.sap_read.specs.Printable.{IsPrintableRestriction, IsPrintableLemma}
-use Rattle.sap_read.specs.Stated.{AreFaultless, restrictions_of, lemmas_of}
+use Rattle.sap_statements.specs.Stated.{AreFaultless, restrictions_of, lemmas_of}
 
 -- what the laws of formulas say of the sorts of binders, and of formulas without a fault
 pub record SortLaws : Type 0 where
@@ -35,6 +36,9 @@ pub record IsSpelledStatement (most : ℕ) (g : Sig) (s : Statement) : Type 0 wh
   pub names : FormHasNames most (formula_of s)
 
 module _ (sorts : SortLaws) (most : ℕ) (g : Sig) where
+  abbrev IsFree : Statement → Type 0
+  IsFree s = HasNoFault g true (formula_of s)
+
   form_printable : (s : Statement) → IsSpelledStatement most g s → HasNoFault g true (formula_of s) → IsPrintableForm most g (with_sorts [] (formula_of s))
   form_printable s h free =
       let f = formula_of s in
@@ -45,14 +49,14 @@ module _ (sorts : SortLaws) (most : ℕ) (g : Sig) where
         sorted = sym (sorts.twice f);
       })
 
-  pub restrictions_printable : (ss : List Statement) → AllByRecursion (IsSpelledStatement most g) ss → AreFaultless g ss → AllByRecursion (IsPrintableRestriction most g) (restrictions_of ss)
+  pub restrictions_printable : (ss : List Statement) → AllByRecursion (IsSpelledStatement most g) ss → AreFaultless g true ss → AllByRecursion (IsPrintableRestriction most g) (restrictions_of ss)
   restrictions_printable [] h free = tt
   restrictions_printable (Restriction r ∷ ss) h free =
-      (record { name = h.0.name; formula = form_printable (Restriction r) h.0 free.0 }, restrictions_printable ss h.1 free.1)
-  restrictions_printable (Lemma l ∷ ss) h free = restrictions_printable ss h.1 free.1
+      (record { name = h.0.name; formula = form_printable (Restriction r) h.0 (All-head IsFree (Restriction r) ss free) }, restrictions_printable ss h.1 (All-tail IsFree (Restriction r) ss free))
+  restrictions_printable (Lemma l ∷ ss) h free = restrictions_printable ss h.1 (All-tail IsFree (Lemma l) ss free)
 
-  pub lemmas_printable : (ss : List Statement) → AllByRecursion (IsSpelledStatement most g) ss → AreFaultless g ss → AllByRecursion (IsPrintableLemma most g) (lemmas_of ss)
+  pub lemmas_printable : (ss : List Statement) → AllByRecursion (IsSpelledStatement most g) ss → AreFaultless g true ss → AllByRecursion (IsPrintableLemma most g) (lemmas_of ss)
   lemmas_printable [] h free = tt
-  lemmas_printable (Restriction r ∷ ss) h free = lemmas_printable ss h.1 free.1
+  lemmas_printable (Restriction r ∷ ss) h free = lemmas_printable ss h.1 (All-tail IsFree (Restriction r) ss free)
   lemmas_printable (Lemma l ∷ ss) h free =
-      (record { name = h.0.name; attributes = h.0.attributes; formula = form_printable (Lemma l) h.0 free.0 }, lemmas_printable ss h.1 free.1)
+      (record { name = h.0.name; attributes = h.0.attributes; formula = form_printable (Lemma l) h.0 (All-head IsFree (Lemma l) ss free) }, lemmas_printable ss h.1 (All-tail IsFree (Lemma l) ss free))

@@ -10,7 +10,7 @@ use Rattle.sap_process.specs.Flaws.{IsFirstFlaw, IsWellFormed}
 use Rattle.sap_process.specs.Sorted.{with_sorts}
 use Rattle.sap_process.specs.declared.flaw.Flaw.{Flaw}
 use Rattle.sap_read.specs.declared.fault.ReadFault.{ReadFault}
-use Rattle.sap_read.specs.declared.fault.ReadFault.TheVariants.{Lex as LexFault, Header, Syntax, Ill}
+use Rattle.sap_read.specs.declared.fault.ReadFault.TheVariants.{Lex as LexFault, Header, Syntax, Ill, Formula}
 use Rattle.sap_terms.specs.declared.limits.TheConstants.{MOST_FILE_NAME_BYTES}
 use Rattle.sap_draft.specs.declared.limits.TheConstants.{FILE_LIMITS}
 use Rattle.sap_grammar.specs.Words.{Word, mark, starts, words_of}
@@ -29,11 +29,10 @@ use Rattle.sap_read.specs.Causes.{cause, cause_of, lock_fault, unlabelled}
 use Rattle.sap_read.specs.Files.{FileContent, AreTokens, IsParted, IsRead, no_tokens, no_header, no_item, refused, ill, locked, unchecked, accepted}
 use Rattle.sap_grammar.specs.ItemReading.{declared_in, declared_in_all}
 use Rattle.sap_grammar.specs.ItemReading.{header_of}
-use Rattle.sap_formula.specs.Laws.{SomeFaultLaw}
+use Rattle.sap_formula.specs.declared.fault.FormulaFault.{FormulaFault}
 use Rattle.sap_statements.specs.declared.statement.Statement.{Statement}
 use Rattle.sap_statements.specs.Statements.{IsStatement}
-use Rattle.sap_read.specs.Stated.{AreFaultless, IsFirstUnchecked, restrictions_of, lemmas_of}
-use Rattle.sap_read.proofs.Unchecked.{checked_or_not}
+use Rattle.sap_statements.specs.Stated.{AreFaultless, IsFirstFaulty, restrictions_of, lemmas_of}
 use Rattle.sap_read.specs.code.StatementLaws.{StatementLaws}
 use Rattle.sap_read.specs.code.ItemLaws.{ItemLaws}
 use Rattle.sap_read.specs.code.ProcessLaws.{ProcessLaws}
@@ -170,20 +169,20 @@ IsLocked p = ((q : Proc) × IsAnnotation p q) ⊎ ((w : LockFlaw) × (path : Lis
 abbrev IsReadSo : List ℕ → Type 0
 IsReadSo z = (o : Result FileContent ReadFault) × IsRead z o
 
-module _ (laws : ItemLaws) (stated : StatementLaws) (written : ProcessLaws) (faults : SomeFaultLaw) (judged : (g : Sig) (p : Proc) → IsJudged g p) (labelled : (p : Proc) → IsLocked p) (z : List ℕ) where
+module _ (laws : ItemLaws) (stated : StatementLaws) (written : ProcessLaws) (faults : (g : Sig) (r : Bool) (ss : List Statement) → AreFaultless g r ss ⊎ ((x : List ℕ) × (f : FormulaFault) × IsFirstFaulty g r ss x f)) (judged : (g : Sig) (p : Proc) → IsJudged g p) (labelled : (p : Proc) → IsLocked p) (z : List ℕ) where
   from_items : {ts : List Token} {x : List ℕ} {cut : List (List Placed)} (is : List Standing) → IsParted z ts x cut → AreItems (signature_of is) cut is → IsReadSo z
   from_items {x = x} is p i = by_cause (cause_of is) refl
     where
       by_formulas : (q r : Proc) → cause_of is ≡ None → process_of no_meaning (bodies is) ≡ Some q → IsWellFormed (signature_of is) q → IsAnnotation (with_sorts [] q) r
-          → AreFaultless (signature_of is) (statements is) ⊎ ((e : ReadFault) × IsFirstUnchecked (signature_of is) (statements is) e) → IsReadSo z
+          → AreFaultless (signature_of is) true (statements is) ⊎ ((y : List ℕ) × (f : FormulaFault) × IsFirstFaulty (signature_of is) true (statements is) y f) → IsReadSo z
       by_formulas q r c w good a (inl all) = (
         Ok (record { name = x; signature = signature_of is; process = r; restrictions = restrictions_of (statements is); lemmas = lemmas_of (statements is) }),
         accepted p i c w good a all,
       )
-      by_formulas q r c w good a (inr f) = (Err f.0, unchecked p i c w good a f.1)
+      by_formulas q r c w good a (inr f) = (Err (Formula f.0 f.1), unchecked p i c w good a f.2)
 
       by_lock : (q : Proc) → cause_of is ≡ None → process_of no_meaning (bodies is) ≡ Some q → IsWellFormed (signature_of is) q → IsLocked (with_sorts [] q) → IsReadSo z
-      by_lock q c w good (inl a) = by_formulas q a.0 c w good a.1 (checked_or_not faults (signature_of is) (statements is))
+      by_lock q c w good (inl a) = by_formulas q a.0 c w good a.1 (faults (signature_of is) true (statements is))
       by_lock q c w good (inr f) = (Err (lock_fault f.0 f.1), locked p i c w good f.2)
 
       by_flaw : (q : Proc) → cause_of is ≡ None → process_of no_meaning (bodies is) ≡ Some q → IsJudged (signature_of is) q → IsReadSo z

@@ -8,12 +8,14 @@ use Rattle.sap_locks.specs.Annotation.{LockFlaw, without, over}
 use Rattle.sap_locks.specs.declared.fault.LockFault.{LockFault}
 use Rattle.sap_locks.specs.declared.fault.LockFault.TheVariants as lock
 use Rattle.sap_restrict.specs.Restrictions.{is_generated}
+use Rattle.sap_statements.specs.declared.checking.Unchecked.{Unchecked}
+use Rattle.sap_statements.specs.declared.checking.Unchecked.TheVariants as unchecked
 use Rattle.sap_statements.specs.declared.statement.Statement.{Statement}
 use Rattle.sap_statements.specs.Statements.{name_of}
 use Rattle.sap_process.specs.declared.flaw.Ill as declared_ill
 use Rattle.sap_process.specs.declared.flaw.Ill.TheVariants as ill
 use Rattle.sap_read.specs.declared.fault.ReadFault.{ReadFault}
-use Rattle.sap_read.specs.declared.fault.ReadFault.TheVariants.{Mem, Ill, Lock, NoProcess, TwoProcesses, UnknownProcess, DuplicateName, FunctionClash, TooMany, TooDeep}
+use Rattle.sap_read.specs.declared.fault.ReadFault.TheVariants.{Mem, Ill, Lock, NoProcess, TwoProcesses, UnknownProcess, DuplicateName, FunctionClash, TooMany, TooDeep, Formula}
 use Rattle.sap_read.specs.Item.{Standing, declarations, Body, bodies, statements}
 use Rattle.sap_read.specs.Replaced.{calls, process_of, no_meaning}
 use Rattle.sap_grammar.specs.Signatures.{clash_from}
@@ -96,3 +98,8 @@ fault_of_lock (lock.LockOverParallel path) = Lock (lock.LockOverParallel path)
 abbrev pub lock_fault : LockFlaw → List ℕ → ReadFault
 lock_fault without path = Lock (lock.UnlockWithoutLock path)
 lock_fault over path = Lock (lock.LockOverParallel path)
+
+-- the fault of a file with restrictions and lemmas that are refused
+abbrev pub fault_of_statements : Unchecked → ReadFault
+fault_of_statements unchecked.Mem = Mem
+fault_of_statements (unchecked.Formula x f) = Formula x f

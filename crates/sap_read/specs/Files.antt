@@ -1,5 +1,5 @@
 -- What the bytes of a file are read as.
-use Rattle.std.specs.Prelude.{◌≤◌, ◌≡◌, ℕ, List, [], Some, None, Result, Ok, Err}
+use Rattle.std.specs.Prelude.{◌≤◌, ◌≡◌, ℕ, true, List, [], Some, None, Result, Ok, Err}
 use Rattle.sap_text.specs.declared.fault.Lex.{Lex}
 use Rattle.sap_text.specs.declared.token.Token.{Token}
 use Rattle.sap_text.specs.Tokens.{IsLexed}
@@ -8,6 +8,7 @@ use Rattle.sap_terms.specs.Signature.{Sig, HoldsBuiltins, arity_of}
 use Rattle.sap_formula.specs.Form.{RestrictionForm, LemmaForm}
 use Rattle.sap_formula.specs.Laws.{IsCheckedVisible}
 use Rattle.sap_formula.specs.Truth.{EachIn}
+use Rattle.sap_formula.specs.declared.fault.FormulaFault.{FormulaFault}
 use Rattle.sap_locks.specs.Annotation.{LockFlaw, IsAnnotation, IsFirstLockFlaw}
 use Rattle.sap_process.specs.Proc.{Proc, node_count, proc}
 use Rattle.sap_process.specs.Flaws.{IsFirstFlaw, IsWellFormed}
@@ -16,14 +17,14 @@ use Rattle.sap_process.specs.Sorted.{with_sorts}
 use Rattle.sap_process.specs.declared.flaw.Flaw.{Flaw}
 use Rattle.sap_read.specs.declared.file.File.{File}
 use Rattle.sap_read.specs.declared.fault.ReadFault.{ReadFault}
-use Rattle.sap_read.specs.declared.fault.ReadFault.TheVariants.{Lex as LexFault, Header, Syntax, Ill}
+use Rattle.sap_read.specs.declared.fault.ReadFault.TheVariants.{Lex as LexFault, Header, Syntax, Ill, Formula}
 use Rattle.sap_read.specs.Item.{Standing, bodies, statements}
 use Rattle.sap_grammar.specs.Cut.{Placed, placed, IsCut, IsHeader, last_line}
 use Rattle.sap_read.specs.ItemGrammar.{AreItems, IsFaulty}
 use Rattle.sap_read.specs.Replaced.{process_of, no_meaning}
 use Rattle.sap_read.specs.Item.{signature_of}
 use Rattle.sap_read.specs.Causes.{cause_of, lock_fault}
-use Rattle.sap_read.specs.Stated.{AreFaultless, IsFirstUnchecked, restrictions_of, lemmas_of}
+use Rattle.sap_statements.specs.Stated.{AreFaultless, IsFirstFaulty, restrictions_of, lemmas_of}
 use Rattle.sap_terms.specs.declared.limits.TheConstants.{MOST_FILE_NAME_BYTES, MOST_PROCESS_PLACES}
 
 -- what a file tells
@@ -63,12 +64,12 @@ pub data IsRead (z : List ℕ) : Result FileContent ReadFault → Type 0 where
   locked : {ts : List Token} {x : List ℕ} {cut : List (List Placed)} {is : List Standing} {p : Proc} {w : LockFlaw} {path : List ℕ} → IsParted z ts x cut
       → AreItems (signature_of is) cut is → cause_of is ≡ None → process_of no_meaning (bodies is) ≡ Some p → IsWellFormed (signature_of is) p
       → IsFirstLockFlaw (with_sorts [] p) w path → IsRead z (Err (lock_fault w path))
-  unchecked : {ts : List Token} {x : List ℕ} {cut : List (List Placed)} {is : List Standing} {p q : Proc} {e : ReadFault} → IsParted z ts x cut
+  unchecked : {ts : List Token} {x : List ℕ} {cut : List (List Placed)} {is : List Standing} {p q : Proc} {y : List ℕ} {f : FormulaFault} → IsParted z ts x cut
       → AreItems (signature_of is) cut is → cause_of is ≡ None → process_of no_meaning (bodies is) ≡ Some p → IsWellFormed (signature_of is) p
-      → IsAnnotation (with_sorts [] p) q → IsFirstUnchecked (signature_of is) (statements is) e → IsRead z (Err e)
+      → IsAnnotation (with_sorts [] p) q → IsFirstFaulty (signature_of is) true (statements is) y f → IsRead z (Err (Formula y f))
   accepted : {ts : List Token} {x : List ℕ} {cut : List (List Placed)} {is : List Standing} {p q : Proc} → IsParted z ts x cut
       → AreItems (signature_of is) cut is → cause_of is ≡ None → process_of no_meaning (bodies is) ≡ Some p → IsWellFormed (signature_of is) p
-      → IsAnnotation (with_sorts [] p) q → AreFaultless (signature_of is) (statements is)
+      → IsAnnotation (with_sorts [] p) q → AreFaultless (signature_of is) true (statements is)
       → IsRead z (Ok (record { name = x; signature = signature_of is; process = q; restrictions = restrictions_of (statements is); lemmas = lemmas_of (statements is) }))
 
 -- the file's signature holds the symbol of pairs and those of its builtins; its process is what annotation makes of a process that is ready to run

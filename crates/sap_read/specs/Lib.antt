@@ -15,11 +15,11 @@ pub use Rattle.sap_draft.specs.ProcessGrammar
 pub use Rattle.sap_draft.specs.ProcessExamples
 pub use Rattle.sap_statements.specs.FormulaGrammar
 pub use Rattle.sap_statements.specs.Statements
+pub use Rattle.sap_statements.specs.Stated
 pub mod Item
 pub mod ItemGrammar
 pub mod Replaced
 pub mod Causes
-pub mod Stated
 pub mod Files
 pub mod Printable
 pub mod OwnNames

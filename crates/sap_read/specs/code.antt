@@ -3,6 +3,7 @@ pub mod ItemView
 pub mod ItemLaws
 pub mod Bodies
 pub mod DraftView
+pub mod Deeds
 pub mod Meaning
 pub mod Judged
 pub mod Label

@@ -7,20 +7,15 @@ ghost use Rattle.sap_read.specs.Replaced.{replaced};
 ghost use Rattle.sap_draft.specs.Drafts.{doing, written};
 ghost use Rattle.sap_read.specs.code.Meaning.{meaning_of, AreExpanded, IsFormed, with_one, with_two};
 ghost use Rattle.sap_read.specs.code.DraftView.{IsBelow};
+ghost use Rattle.sap_read.specs.code.Deeds.{on_term, on_terms};
 
 use crate::definition::Definition;
 use crate::names::Names;
 use sap_draft::{Doing, Draft};
+use sap_grammar::boxed;
 use sap_process::Process;
 use sap_terms::{Copied, Fact, FactList, Items, Mem, Term, Var};
 use std::alloc::Global;
-
-/// A large value stands in a box as soon as it is made.
-pub(crate) fn boxed(alloc: Global, process: Process) -> Result<Box<Process>, Mem>
-    ensures { IfOk result (λ p. p.value ≡ process) }
-{
-    Ok(Box::new(alloc, process)?)
-}
 
 fn two_copied(alloc: Global, t: &Term, u: &Term) -> Result<(Term, Term), Mem>
     ensures { IfOk result (λ p. (tree p.0 ≡ tree t.now) × (tree p.1 ≡ tree u.now)) }
@@ -36,34 +31,53 @@ fn naming(alloc: Global, x: &Var, next: Box<Process>) -> Result<Box<Process>, Me
     boxed(alloc, Process::New(x, next))
 }
 
-fn putting_out(alloc: Global, t: &Term, next: Box<Process>) -> Result<Box<Process>, Mem>
-    ensures { IfOk result (λ p. proc p.value ≡ act (action.out (tree t.now)) (proc next.value)) }
-{
-    let t = t.copy(alloc)?;
-    boxed(alloc, Process::Out(t, next))
+// What is done with one term.
+#[derive(Clone, Copy)]
+enum Deed {
+    Out,
+    In,
+    Delete,
+    Lock,
+    Unlock,
 }
 
-fn sending(alloc: Global, t: &Term, u: &Term, next: Box<Process>) -> Result<Box<Process>, Mem>
-    ensures { IfOk result (λ p. proc p.value ≡ act (action.send (tree t.now) (tree u.now))
+// What is done with two terms.
+#[derive(Clone, Copy)]
+enum Transfer {
+    Send,
+    Recv,
+    Insert,
+}
+
+fn with_term(alloc: Global, deed: Deed, t: &Term, next: Box<Process>) -> Result<Box<Process>, Mem>
+    ensures { IfOk result (λ p. proc p.value ≡ act (on_term deed (tree t.now)) (proc next.value)) }
+{
+    let t = t.copy(alloc)?;
+    match deed {
+        Deed::Out => boxed(alloc, Process::Out(t, next)),
+        Deed::In => boxed(alloc, Process::In(t, next)),
+        Deed::Delete => boxed(alloc, Process::Delete(t, next)),
+        Deed::Lock => boxed(alloc, Process::Lock(t, 0, next)),
+        Deed::Unlock => boxed(alloc, Process::Unlock(t, 0, next)),
+    }
+}
+
+fn with_terms(
+    alloc: Global,
+    transfer: Transfer,
+    t: &Term,
+    u: &Term,
+    next: Box<Process>,
+) -> Result<Box<Process>, Mem>
+    ensures { IfOk result (λ p. proc p.value ≡ act (on_terms transfer (tree t.now) (tree u.now))
         (proc next.value)) }
 {
     let (t, u) = two_copied(alloc, t, u)?;
-    boxed(alloc, Process::Send(t, u, next))
-}
-
-fn taking_in(alloc: Global, t: &Term, next: Box<Process>) -> Result<Box<Process>, Mem>
-    ensures { IfOk result (λ p. proc p.value ≡ act (action.input (tree t.now)) (proc next.value)) }
-{
-    let t = t.copy(alloc)?;
-    boxed(alloc, Process::In(t, next))
-}
-
-fn receiving(alloc: Global, t: &Term, u: &Term, next: Box<Process>) -> Result<Box<Process>, Mem>
-    ensures { IfOk result (λ p. proc p.value ≡ act (action.receive (tree t.now) (tree u.now))
-        (proc next.value)) }
-{
-    let (t, u) = two_copied(alloc, t, u)?;
-    boxed(alloc, Process::Recv(t, u, next))
+    match transfer {
+        Transfer::Send => boxed(alloc, Process::Send(t, u, next)),
+        Transfer::Recv => boxed(alloc, Process::Recv(t, u, next)),
+        Transfer::Insert => boxed(alloc, Process::Insert(t, u, next)),
+    }
 }
 
 fn showing(alloc: Global, f: &Fact, next: Box<Process>) -> Result<Box<Process>, Mem>
@@ -71,36 +85,6 @@ fn showing(alloc: Global, f: &Fact, next: Box<Process>) -> Result<Box<Process>, 
 {
     let f = f.copy(alloc)?;
     boxed(alloc, Process::Event(f, next))
-}
-
-fn inserting(alloc: Global, t: &Term, u: &Term, next: Box<Process>) -> Result<Box<Process>, Mem>
-    ensures { IfOk result (λ p. proc p.value ≡ act (action.insert (tree t.now) (tree u.now))
-        (proc next.value)) }
-{
-    let (t, u) = two_copied(alloc, t, u)?;
-    boxed(alloc, Process::Insert(t, u, next))
-}
-
-fn deleting(alloc: Global, t: &Term, next: Box<Process>) -> Result<Box<Process>, Mem>
-    ensures { IfOk result (λ p. proc p.value ≡ act (action.delete (tree t.now)) (proc next.value)) }
-{
-    let t = t.copy(alloc)?;
-    boxed(alloc, Process::Delete(t, next))
-}
-
-fn locking(alloc: Global, t: &Term, next: Box<Process>) -> Result<Box<Process>, Mem>
-    ensures { IfOk result (λ p. proc p.value ≡ act (action.lock (tree t.now) 0) (proc next.value)) }
-{
-    let t = t.copy(alloc)?;
-    boxed(alloc, Process::Lock(t, 0, next))
-}
-
-fn unlocking(alloc: Global, t: &Term, next: Box<Process>) -> Result<Box<Process>, Mem>
-    ensures { IfOk result (λ p. proc p.value ≡ act (action.unlock (tree t.now) 0)
-        (proc next.value)) }
-{
-    let t = t.copy(alloc)?;
-    boxed(alloc, Process::Unlock(t, 0, next))
 }
 
 fn embedding(
@@ -166,15 +150,15 @@ fn acting(alloc: Global, first: &Doing, next: Box<Process>) -> Result<Box<Proces
 {
     match first {
         Doing::New(x) => naming(alloc, x, next),
-        Doing::Out(t) => putting_out(alloc, t, next),
-        Doing::Send(t, u) => sending(alloc, t, u, next),
-        Doing::In(t) => taking_in(alloc, t, next),
-        Doing::Recv(t, u) => receiving(alloc, t, u, next),
+        Doing::Out(t) => with_term(alloc, Deed::Out, t, next),
+        Doing::Send(t, u) => with_terms(alloc, Transfer::Send, t, u, next),
+        Doing::In(t) => with_term(alloc, Deed::In, t, next),
+        Doing::Recv(t, u) => with_terms(alloc, Transfer::Recv, t, u, next),
         Doing::Event(f) => showing(alloc, f, next),
-        Doing::Insert(t, u) => inserting(alloc, t, u, next),
-        Doing::Delete(t) => deleting(alloc, t, next),
-        Doing::Lock(t) => locking(alloc, t, next),
-        Doing::Unlock(t) => unlocking(alloc, t, next),
+        Doing::Insert(t, u) => with_terms(alloc, Transfer::Insert, t, u, next),
+        Doing::Delete(t) => with_term(alloc, Deed::Delete, t, next),
+        Doing::Lock(t) => with_term(alloc, Deed::Lock, t, next),
+        Doing::Unlock(t) => with_term(alloc, Deed::Unlock, t, next),
         Doing::Embedded(l, e, r) => embedding(alloc, l, e, r, next),
     }
 }

@@ -2,6 +2,7 @@
 use sap_formula::FormulaFault;
 use sap_locks::LockFault;
 use sap_process::{Flaw, Ill};
+use sap_statements::Unchecked;
 use sap_terms::{Mem, Name, Path};
 use sap_text::Lex;
 
@@ -82,6 +83,20 @@ impl From<LockFault> for ReadFault {
             LockFault::LockOverParallel { path } => ReadFault::Lock(LockFault::LockOverParallel {
                 path,
             }),
+        }
+    }
+}
+
+impl From<Unchecked> for ReadFault {
+    ghost use Rattle.std.specs.Prelude.{◌≡◌};
+    ghost use Rattle.sap_read.specs.Causes.{fault_of_statements};
+
+    ghost from_gives = { λ u e. e ≡ fault_of_statements u };
+
+    fn from(u: Unchecked) -> ReadFault {
+        match u {
+            Unchecked::Mem => ReadFault::Mem,
+            Unchecked::Formula { name, fault } => ReadFault::Formula { name, fault },
         }
     }
 }

@@ -3,7 +3,7 @@ ghost use Rattle.std.specs.Prelude.{◌≡◌, ◌≤◌, ◌<◌, ◌^◌, ℕ,
 ghost use Rattle.sap_text.specs.Tokens.{IsLexed};
 ghost use Rattle.sap_text.specs.declared.fault.Lex.{Lex};
 ghost use Rattle.sap_grammar.specs.Cut.{Placed, placed, IsCut};
-ghost use Rattle.sap_read.specs.code.Judged.{AreAccepted, IsAccepted, IsAnnotated, IsFlawed, IsRefused, IsRefusedAs, IsRefusedCut, IsSound, IsUnsound};
+ghost use Rattle.sap_read.specs.code.Judged.{AreAccepted, AreChecked, IsAccepted, IsAnnotated, IsFirstUnchecked, IsFlawed, IsRefused, IsRefusedAs, IsRefusedCut, IsSound, IsUnsound};
 ghost use Rattle.sap_read.specs.code.Bodies.{body};
 ghost use Rattle.sap_read.specs.Files.{AreTokens};
 ghost use Rattle.sap_process.specs.Proc.{node_count, proc};
@@ -15,17 +15,16 @@ ghost use Rattle.sap_read.specs.Files.{IsRead, told_by};
 ghost use Rattle.sap_read.specs.declared.fault.ReadFault.{ReadFault};
 ghost use Rattle.sap_read.specs.declared.fault.ReadFault.TheVariants.{Mem as OutOfMemory, Lex as LexFault};
 
-use crate::expansion::boxed;
 use crate::fault::ReadFault;
-use crate::formulas::{Checked, check_statements};
 use crate::items::{Contents, read_items};
 use crate::laws::item_laws;
 use crate::whole::whole_process;
 use sap_formula::{LemmaList, RestrictionList};
-use sap_grammar::{Declared, beyond, header_name, last_line, read_declarations};
+use sap_grammar::{Declared, beyond, boxed, header_name, last_line, read_declarations};
 use sap_locks::annotate_boxed;
 use sap_process::{Process, well_formed_boxed};
-use sap_terms::{Copied, MOST_FILE_NAME_BYTES, MOST_PROCESS_PLACES, Mem, Name, Signature};
+use sap_statements::{Checked, Statement, check_statements};
+use sap_terms::{Copied, Items, MOST_FILE_NAME_BYTES, MOST_PROCESS_PLACES, Mem, Name, Signature};
 use sap_text::{Lex, Token, tokens};
 use std::alloc::Global;
 
@@ -212,8 +211,22 @@ fn judge_contents(
         contents.now.statements e }
 {
     let process = process_of(alloc, declared, contents)?;
-    let checked = check_statements(alloc, &declared.signature, &contents.statements)?;
+    let checked = check_formulas(alloc, &declared.signature, &contents.statements)?;
     Ok(Content { process, checked })
+}
+
+/// The restrictions and lemmas with the sorts of binders, where no formula has a fault; a reserved name of a fact is one.
+fn check_formulas(
+    alloc: Global,
+    sig: &Signature,
+    statements: &Items<Statement>,
+) -> Result<Checked, ReadFault>
+    ensures accepted { IfOk result (λ c. AreChecked sig.now statements.now c.restrictions
+        c.lemmas) }
+    ensures refused { (e : ReadFault) → IsErrOf result e → (e ≡ OutOfMemory → ⊥)
+        → IsFirstUnchecked sig.now statements.now e }
+{
+    Ok(check_statements(alloc, sig, statements, true)?)
 }
 
 /// The process of what the items say, with its sorts and labels; or why it is refused.

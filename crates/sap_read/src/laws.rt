@@ -29,15 +29,15 @@ ghost use Rattle.sap_statements.specs.Statements.{IsStatement};
 ghost use Rattle.sap_grammar.specs.declared.limits.Limits.{Limits};
 
 use sap_draft::{one_process, processes_are_printable, same_processes, some_process};
-use sap_formula::{faultless_formulas_are_checked, one_fault, some_fault};
+use sap_formula::faultless_formulas_are_checked;
 use sap_grammar::{
     declarations_are_read, headers_are_read, same_grammar, words_are_cut, words_of_bytes,
 };
 use sap_locks::{annotations_are_ready, annotations_of_processes};
 use sap_process::{one_flaw, some_flaw, sorting_keeps};
 use sap_statements::{
-    faultless_formulas_keep_signs, formulas_are_printable, one_statement, same_statements,
-    some_statement, sorts_are_kept,
+    faultless_formulas_keep_signs, formulas_are_printable, one_faulty_statement, one_statement,
+    same_statements, some_statement, sorts_are_kept,
 };
 use sap_terms::builtins_stay_held;
 use sap_text::{one_answer, some_answer};
@@ -96,7 +96,7 @@ pub fn one_file()
     statement_laws();
     one_answer();
     one_flaw();
-    one_fault();
+    one_faulty_statement();
     annotations_of_processes();
 }
 
@@ -109,7 +109,7 @@ pub fn some_file()
     statement_laws();
     some_answer();
     some_flaw();
-    some_fault();
+    one_faulty_statement();
     annotations_of_processes();
 }
 

@@ -5,7 +5,6 @@ mod definition;
 mod expansion;
 mod fault;
 mod file;
-mod formulas;
 mod items;
 mod labels;
 mod laws;

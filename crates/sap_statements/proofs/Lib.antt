@@ -12,3 +12,4 @@ pub mod ByHand
 pub mod Printable
 pub mod Sorting
 pub mod OwnSorts
+pub mod Faults

@@ -4,6 +4,7 @@ pub use Rattle.sap_grammar.specs.TermGrammar
 pub use Rattle.sap_grammar.specs.FactGrammar
 pub mod FormulaGrammar
 pub mod Statements
+pub mod Stated
 pub mod FormulaExamples
 pub mod Sorted
 pub mod Printable

@@ -3,3 +3,4 @@ pub mod TermLaws
 pub mod FormulaReading
 pub mod FormulaView
 pub mod StatementReading
+pub mod Judged

@@ -3,6 +3,7 @@ ghost use Rattle.std.specs.Prelude.{◌≡◌, ◌≤◌, ◌⊎◌, ℕ, Bool, 
 ghost use Rattle.sap_terms.specs.Signature.{Sig, pairs_alone};
 ghost use Rattle.sap_formula.specs.Faults.{HasNoFault};
 ghost use Rattle.sap_formula.specs.Form.{Form};
+ghost use Rattle.sap_formula.specs.declared.fault.FormulaFault.{FormulaFault};
 ghost use Rattle.sap_formula.specs.Sorted.{with_sorts};
 ghost use Rattle.sap_grammar.specs.declared.limits.Limits.{Limits};
 ghost use Rattle.sap_grammar.specs.Words.{Word};
@@ -11,11 +12,12 @@ ghost use Rattle.sap_grammar.specs.ByteWords.{AreTokenWords};
 ghost use Rattle.sap_statements.specs.FormulaExamples.{closing, precedence_words, precedence_formula, left_words, left_formula, right_words, right_formula, body_words, body_formula, chain_words, enclosed_words, enclosed_formula, name_words, name_formula, truth_words, lemma_words, lemma_statement};
 ghost use Rattle.sap_statements.specs.FormulaGrammar.{IsIff, IsShortFormula, Reach, closed, reaching, EndsFormula, IsFormulaAt};
 ghost use Rattle.sap_statements.specs.Statements.{Statement, IsStatement};
+ghost use Rattle.sap_statements.specs.Stated.{AreFaultless, IsFirstFaulty};
 ghost use Rattle.sap_statements.specs.Sorted.{plainly_sorted};
 ghost use Rattle.sap_statements.specs.Printable.{IsTidyForm, IsFormOver, FormHasNames};
 ghost use Rattle.sap_statements.specs.code.TermLaws.{AreRead, AreSpelled};
 
-use sap_formula::faultless_formulas_are_checked;
+use sap_formula::{faultless_formulas_are_checked, one_fault, some_fault};
 use sap_grammar::{facts_are_read, printed_words, same_grammar, terms_are_read};
 
 /// What the laws of terms and facts say, as the proofs on formulas need it.
@@ -119,4 +121,18 @@ pub fn faultless_formulas_keep_signs()
         → IsFormOver g (with_sorts [] f) }
 {
     faultless_formulas_are_checked();
+}
+
+/// A law: of restrictions and lemmas none has a formula with a fault, or there is a first that has, refused for one fault, and
+/// never both.
+pub fn one_faulty_statement()
+    ensures one { (g : Sig) (r : Bool) (ss : List Statement) (x y : List ℕ) (f h : FormulaFault)
+        → IsFirstFaulty g r ss x f → IsFirstFaulty g r ss y h → (x ≡ y) × (f ≡ h) }
+    ensures never { (g : Sig) (r : Bool) (ss : List Statement) (x : List ℕ) (f : FormulaFault)
+        → IsFirstFaulty g r ss x f → AreFaultless g r ss → ⊥ }
+    ensures some { (g : Sig) (r : Bool) (ss : List Statement) → AreFaultless g r ss
+        ⊎ ((x : List ℕ) × (f : FormulaFault) × IsFirstFaulty g r ss x f) }
+{
+    one_fault();
+    some_fault();
 }

@@ -5,24 +5,16 @@ ghost use Rattle.sap_formula.specs.View.{form};
 ghost use Rattle.sap_grammar.specs.Words.{words_of};
 ghost use Rattle.sap_grammar.specs.Reading.{Gives, list_of};
 ghost use Rattle.sap_statements.specs.Statements.{Statement, restriction, lemma, IsStatement};
-ghost use Rattle.sap_statements.specs.code.StatementReading.{starts_attribute, attribute, attributes, dashed, mode, quotation, restricted, said, claimed, attributed, a_restriction, a_lemma, statement};
+ghost use Rattle.sap_statements.specs.code.StatementReading.{attribute, attributes, dashed, mode, quotation, claimed, a_restriction, a_lemma, statement};
 
 use crate::formula::{read_bare, read_iff};
 use crate::laws::term_laws;
 use crate::statement::Statement;
 use sap_formula::{Formula, Lemma, Mode, Restriction};
-use sap_grammar::{Limits, beyond, names, starts};
+use sap_grammar::{Limits, beyond, boxed, name_at, names, starts};
 use sap_terms::{Mem, Name, NameList, Signature};
 use sap_text::Token;
 use std::alloc::Global;
-
-fn starts_attribute(bytes: &[u8], tokens: &[Token]) -> bool
-    ensures { result ≡ starts_attribute (words_of bytes.now tokens.now) }
-{
-    names(bytes, tokens, "reuse")
-        || names(bytes, tokens, "use_induction")
-        || names(bytes, tokens, "sources")
-}
 
 fn read_attribute<'a>(
     alloc: Global,
@@ -31,7 +23,10 @@ fn read_attribute<'a>(
 ) -> Result<Option<(Name, &'a [Token])>, Mem>
     ensures { Gives bytes.now (λ x. x) result (attribute (words_of bytes.now tokens.now)) }
 {
-    if starts_attribute(bytes, tokens) {
+    if names(bytes, tokens, "reuse")
+        || names(bytes, tokens, "use_induction")
+        || names(bytes, tokens, "sources")
+    {
         read_bare(alloc, bytes, tokens)
     } else {
         Ok(None)
@@ -133,16 +128,10 @@ fn read_quotation<'a>(
     }
 }
 
-// A large value stands in a box as soon as it is made.
-fn boxed(alloc: Global, statement: Statement) -> Result<Box<Statement>, Mem>
-    ensures { IfOk result (λ s. s.value ≡ statement) }
+fn restriction(alloc: Global, name: &[u8], formula: Box<Formula>) -> Result<Box<Statement>, Mem>
+    ensures { IfOk result (λ s. s.value ≡ restriction (record { name = name.now; formula = form formula.value })) }
 {
-    Ok(Box::new(alloc, statement)?)
-}
-
-fn restriction(alloc: Global, name: Name, formula: Box<Formula>) -> Result<Box<Statement>, Mem>
-    ensures { IfOk result (λ s. s.value ≡ restriction (record { name = name; formula = form formula.value })) }
-{
+    let name = Name::from_bytes(alloc, name)?;
     boxed(
         alloc,
         Statement::Restriction(Restriction {
@@ -154,13 +143,14 @@ fn restriction(alloc: Global, name: Name, formula: Box<Formula>) -> Result<Box<S
 
 fn lemma(
     alloc: Global,
-    name: Name,
+    name: &[u8],
     attributes: NameList,
     mode: Mode,
     formula: Box<Formula>,
 ) -> Result<Box<Statement>, Mem>
-    ensures { IfOk result (λ s. s.value ≡ lemma (record { name = name; attributes = attributes; mode = mode; formula = form formula.value })) }
+    ensures { IfOk result (λ s. s.value ≡ lemma (record { name = name.now; attributes = attributes; mode = mode; formula = form formula.value })) }
 {
+    let name = Name::from_bytes(alloc, name)?;
     boxed(
         alloc,
         Statement::Lemma(Lemma {
@@ -172,94 +162,7 @@ fn lemma(
     )
 }
 
-#[tactic(auto, using(crate::proofs::Steps::steps), unfolding(sap_grammar::specs::Reading::after, crate::specs::code::FormulaReading::past))]
-fn read_restricted<'a>(
-    alloc: Global,
-    sig: &Signature,
-    limits: Limits,
-    bytes: &[u8],
-    name: Name,
-    tokens: &'a [Token],
-) -> Result<Option<(Box<Statement>, &'a [Token])>, Mem>
-    ensures { Gives bytes.now (λ s. s.value) result (restricted sig.now limits name
-        (words_of bytes.now tokens.now)) }
-{
-    if !starts(bytes, tokens, ":") {
-        return Ok(None);
-    }
-    match read_quotation(alloc, sig, limits, bytes, beyond(1, tokens))? {
-        None => Ok(None),
-        Some((formula, rest)) => {
-            let statement = restriction(alloc, name, formula)?;
-            Ok(Some((statement, rest)))
-        }
-    }
-}
-
-#[tactic(auto, using(crate::proofs::Steps::steps), unfolding(sap_grammar::specs::Reading::after))]
-fn read_said<'a>(
-    alloc: Global,
-    sig: &Signature,
-    limits: Limits,
-    bytes: &[u8],
-    name: Name,
-    attributes: NameList,
-    mode: Mode,
-    tokens: &'a [Token],
-) -> Result<Option<(Box<Statement>, &'a [Token])>, Mem>
-    ensures { Gives bytes.now (λ s. s.value) result (said sig.now limits name attributes mode
-        (words_of bytes.now tokens.now)) }
-{
-    match read_quotation(alloc, sig, limits, bytes, tokens)? {
-        None => Ok(None),
-        Some((formula, rest)) => {
-            let statement = lemma(alloc, name, attributes, mode, formula)?;
-            Ok(Some((statement, rest)))
-        }
-    }
-}
-
-#[tactic(auto, using(crate::proofs::Steps::steps), unfolding(crate::specs::code::FormulaReading::past))]
-fn read_claimed<'a>(
-    alloc: Global,
-    sig: &Signature,
-    limits: Limits,
-    bytes: &[u8],
-    name: Name,
-    attributes: NameList,
-    tokens: &'a [Token],
-) -> Result<Option<(Box<Statement>, &'a [Token])>, Mem>
-    ensures { Gives bytes.now (λ s. s.value) result (claimed sig.now limits name attributes
-        (words_of bytes.now tokens.now)) }
-{
-    if !starts(bytes, tokens, ":") {
-        return Ok(None);
-    }
-    let (mode, rest) = read_mode(bytes, beyond(1, tokens));
-    read_said(alloc, sig, limits, bytes, name, attributes, mode, rest)
-}
-
-#[tactic(auto, using(crate::proofs::Steps::steps), unfolding(sap_grammar::specs::Reading::after))]
-fn read_attributed<'a>(
-    alloc: Global,
-    sig: &Signature,
-    limits: Limits,
-    bytes: &[u8],
-    name: Name,
-    tokens: &'a [Token],
-) -> Result<Option<(Box<Statement>, &'a [Token])>, Mem>
-    ensures { Gives bytes.now (λ s. s.value) result (attributed sig.now limits name
-        (words_of bytes.now tokens.now)) }
-{
-    match read_attributes(alloc, bytes, tokens)? {
-        None => Ok(None),
-        Some((attributes, rest)) => {
-            read_claimed(alloc, sig, limits, bytes, name, attributes, rest)
-        }
-    }
-}
-
-#[tactic(auto, using(crate::proofs::Steps::steps), unfolding(sap_grammar::specs::Reading::after))]
+#[tactic(auto, using(crate::proofs::Steps::steps), unfolding(sap_grammar::specs::Reading::after, sap_grammar::specs::Reading::given, crate::specs::code::FormulaReading::past))]
 fn read_restriction<'a>(
     alloc: Global,
     sig: &Signature,
@@ -270,13 +173,49 @@ fn read_restriction<'a>(
     ensures { Gives bytes.now (λ s. s.value) result (a_restriction sig.now limits
         (words_of bytes.now tokens.now)) }
 {
-    match read_bare(alloc, bytes, tokens)? {
+    let Some(name) = name_at(bytes, tokens) else {
+        return Ok(None);
+    };
+    let rest = beyond(1, tokens);
+    if !starts(bytes, rest, ":") {
+        return Ok(None);
+    }
+    match read_quotation(alloc, sig, limits, bytes, beyond(1, rest))? {
         None => Ok(None),
-        Some((name, rest)) => read_restricted(alloc, sig, limits, bytes, name, rest),
+        Some((formula, rest)) => {
+            let statement = restriction(alloc, name, formula)?;
+            Ok(Some((statement, rest)))
+        }
     }
 }
 
-#[tactic(auto, using(crate::proofs::Steps::steps), unfolding(sap_grammar::specs::Reading::after))]
+#[tactic(auto, using(crate::proofs::Steps::steps), unfolding(sap_grammar::specs::Reading::after, crate::specs::code::FormulaReading::past))]
+fn read_claimed<'a>(
+    alloc: Global,
+    sig: &Signature,
+    limits: Limits,
+    bytes: &[u8],
+    name: &[u8],
+    attributes: NameList,
+    tokens: &'a [Token],
+) -> Result<Option<(Box<Statement>, &'a [Token])>, Mem>
+    ensures { Gives bytes.now (λ s. s.value) result (claimed sig.now limits name.now attributes
+        (words_of bytes.now tokens.now)) }
+{
+    if !starts(bytes, tokens, ":") {
+        return Ok(None);
+    }
+    let (mode, rest) = read_mode(bytes, beyond(1, tokens));
+    match read_quotation(alloc, sig, limits, bytes, rest)? {
+        None => Ok(None),
+        Some((formula, rest)) => {
+            let statement = lemma(alloc, name, attributes, mode, formula)?;
+            Ok(Some((statement, rest)))
+        }
+    }
+}
+
+#[tactic(auto, using(crate::proofs::Steps::steps), unfolding(sap_grammar::specs::Reading::after, sap_grammar::specs::Reading::given))]
 fn read_lemma<'a>(
     alloc: Global,
     sig: &Signature,
@@ -287,9 +226,14 @@ fn read_lemma<'a>(
     ensures { Gives bytes.now (λ s. s.value) result (a_lemma sig.now limits
         (words_of bytes.now tokens.now)) }
 {
-    match read_bare(alloc, bytes, tokens)? {
+    let Some(name) = name_at(bytes, tokens) else {
+        return Ok(None);
+    };
+    match read_attributes(alloc, bytes, beyond(1, tokens))? {
         None => Ok(None),
-        Some((name, rest)) => read_attributed(alloc, sig, limits, bytes, name, rest),
+        Some((attributes, rest)) => {
+            read_claimed(alloc, sig, limits, bytes, name, attributes, rest)
+        }
     }
 }
 

@@ -1,5 +1,5 @@
 -- Bytes are read as one theory, or refused for one cause.
-use Rattle.std.proofs.Common.{◌≡◌, ℕ, true, false, List, Option, Some, None, Ok, Err, refl, sym, ap, subst, ◌∙◌}
+use Rattle.std.proofs.Common.{◌≡◌, ℕ, Bool, true, false, List, Option, Some, None, Ok, Err, refl, sym, ap, subst, ◌∙◌}
 use Rattle.std.specs.Prelude.{codes, Result, All}
 use Rattle.std.proofs.lemmas.List.Elements.{All-head, All-tail}
 use Rattle.sap_text.specs.declared.fault.Lex.{Lex}
@@ -7,9 +7,7 @@ use Rattle.sap_text.specs.declared.token.Token.{Token}
 use Rattle.sap_text.specs.Tokens.{Lexed, IsLexed}
 use Rattle.sap_terms.specs.Signature.{Sig, pairs_alone}
 use Rattle.sap_terms.specs.declared.limits.TheConstants.{MOST_THEORY_NAME_BYTES}
-use Rattle.sap_formula.specs.Faults.{HasNoFault}
-use Rattle.sap_formula.specs.Faults.{told}
-use Rattle.sap_formula.specs.Laws.{OneFaultLaw, NoFaultLaw}
+use Rattle.sap_formula.specs.declared.fault.FormulaFault.{FormulaFault}
 use Rattle.sap_rule.specs.declared.rule.Rule.{Rule}
 use Rattle.sap_rule.specs.declared.theory.Theory.{Theory}
 use Rattle.sap_rule.specs.WellMade.{IsRuleOver}
@@ -18,13 +16,14 @@ use Rattle.sap_grammar.specs.Cut.{Placed, placed, words, IsCut, IsHeader, last_l
 use Rattle.sap_grammar.specs.Items.{Standing, IsEnd, items_end, items_more, no_end, bad_item, later_item}
 use Rattle.sap_grammar.specs.Signatures.{clash_from}
 use Rattle.sap_statements.specs.declared.statement.Statement.{Statement}
-use Rattle.sap_statements.specs.Statements.{formula_of, name_of, is_restriction, is_lemma}
+use Rattle.sap_statements.specs.Statements.{is_restriction, is_lemma}
 use Rattle.sap_theory.specs.declared.fault.TheoryFault.{TheoryFault}
 use Rattle.sap_theory.specs.declared.fault.TheoryFault.TheVariants.{Lex as LexFault, Header, Syntax, BadFunction, BadRule, Formula}
 use Rattle.sap_theory.specs.TheoryGrammar.{TheoryItem, IsWrittenItem, item_builtins, item_functions, item_rule, item_statement, declarations, signature_of, items_of, rules_in, statements_in}
 use Rattle.sap_theory.specs.declared.limits.TheConstants.{THEORY_LIMITS}
 use Rattle.sap_theory.specs.WrittenItems.{AreWrittenItems, IsFaulty}
-use Rattle.sap_theory.specs.TheoryCauses.{IsPlainRule, IsFirstWrong, this_rule, later_rule, AreFaultless, IsFirstFaulty, this_one, later_one, IsRefused, of_names, of_clash, of_symbols, of_shapes, of_formulas, AreAccepted}
+use Rattle.sap_statements.specs.Stated.{AreFaultless, IsFirstFaulty}
+use Rattle.sap_theory.specs.TheoryCauses.{IsPlainRule, IsFirstWrong, this_rule, later_rule, IsRefused, of_names, of_clash, of_symbols, of_shapes, of_formulas, AreAccepted}
 use Rattle.sap_theory.specs.ReadTheory.{AreTokens, IsParted, theory_of, IsTheoryRead, no_tokens, no_header, no_item, refused, accepted}
 use Rattle.sap_theory.proofs.DeclaredItems.{item_declares}
 use Rattle.sap_theory.proofs.OneTheory.{one_item_by, one_own_list}
@@ -41,20 +40,15 @@ pub never_wrong : (Is : Rule → Type 0) (fault : List ℕ → TheoryFault) (rs 
 never_wrong Is fault _ _ (this_rule {r = r} {rs = rs} w) a = w (All-head Is r rs a)
 never_wrong Is fault _ e (later_rule {r = r} {rs = rs} i p) a = never_wrong Is fault rs e p (All-tail Is r rs a)
 
--- The first formula with a fault.
-module _ (one : OneFaultLaw) (none : NoFaultLaw) where
-  one_faulty : (g : Sig) (ss : List Statement) (e d : TheoryFault) → IsFirstFaulty g ss e → IsFirstFaulty g ss d → e ≡ d
-  one_faulty g _ _ _ (this_one {s = s} {w = w} {n = n} f) (this_one {w = v} {n = m} h) =
-      let same = one g false (formula_of s) w v n m f h in
-      λ i. Formula (name_of s) (told (same.0 i) (same.1 i))
-  one_faulty g _ _ d (this_one {s = s} {w = w} {n = n} f) (later_one h r) = absurd (none g false (formula_of s) w n f h)
-  one_faulty g _ e _ (later_one {s = s} h r) (this_one {w = w} {n = n} f) = absurd (none g false (formula_of s) w n f h)
-  one_faulty g _ e d (later_one {ss = ss} h r) (later_one k q) = one_faulty g ss e d r q
+-- restrictions and lemmas have one first fault
+abbrev pub OneFaultyLaw : Type 0
+OneFaultyLaw = (g : Sig) (r : Bool) (ss : List Statement) (x y : List ℕ) (f h : FormulaFault) → IsFirstFaulty g r ss x f → IsFirstFaulty g r ss y h → (x ≡ y) × (f ≡ h)
 
-  never_faulty : (g : Sig) (ss : List Statement) (e : TheoryFault) → IsFirstFaulty g ss e → AreFaultless g ss → ⊥
-  never_faulty g _ _ (this_one {s = s} {ss = ss} {w = w} {n = n} f) a = none g false (formula_of s) w n f (All-head (λ (t : Statement). HasNoFault g false (formula_of t)) s ss a)
-  never_faulty g _ e (later_one {s = s} {ss = ss} h r) a = never_faulty g ss e r (All-tail (λ (t : Statement). HasNoFault g false (formula_of t)) s ss a)
+-- and then they aren't without fault
+abbrev pub NoFaultyLaw : Type 0
+NoFaultyLaw = (g : Sig) (r : Bool) (ss : List Statement) (x : List ℕ) (f : FormulaFault) → IsFirstFaulty g r ss x f → AreFaultless g r ss → ⊥
 
+module _ (one : OneFaultyLaw) (none : NoFaultyLaw) where
   -- The cause that counts.
   module _ (g : Sig) (clash : Option (List ℕ)) (rs : List Rule) (ss : List Statement) where
     one_cause : (e d : TheoryFault) → IsRefused g clash rs ss e → IsRefused g clash rs ss d → e ≡ d
@@ -62,34 +56,36 @@ module _ (one : OneFaultLaw) (none : NoFaultLaw) where
     one_cause _ _ (of_names {x = x} p) (of_clash q c) = let no : Some x ≡ None = sym p ∙ q in absurd (cc)
     one_cause _ d (of_names {x = x} p) (of_symbols q c w) = let no : Some x ≡ None = sym p ∙ q in absurd (cc)
     one_cause _ d (of_names {x = x} p) (of_shapes q c o w) = let no : Some x ≡ None = sym p ∙ q in absurd (cc)
-    one_cause _ d (of_names {x = x} p) (of_formulas q c o i w) = let no : Some x ≡ None = sym p ∙ q in absurd (cc)
+    one_cause _ _ (of_names {x = x} p) (of_formulas q c o i w) = let no : Some x ≡ None = sym p ∙ q in absurd (cc)
     one_cause _ _ (of_clash p b) (of_names {x = y} q) = let no : Some y ≡ None = sym q ∙ p in absurd (cc)
     one_cause _ _ (of_clash {x = x} p b) (of_clash {x = y} q c) = let same : Some x ≡ Some y = sym b ∙ c in cc
     one_cause _ d (of_clash {x = x} p b) (of_symbols q c w) = let no : Some x ≡ None = sym b ∙ c in absurd (cc)
     one_cause _ d (of_clash {x = x} p b) (of_shapes q c o w) = let no : Some x ≡ None = sym b ∙ c in absurd (cc)
-    one_cause _ d (of_clash {x = x} p b) (of_formulas q c o i w) = let no : Some x ≡ None = sym b ∙ c in absurd (cc)
+    one_cause _ _ (of_clash {x = x} p b) (of_formulas q c o i w) = let no : Some x ≡ None = sym b ∙ c in absurd (cc)
     one_cause e _ (of_symbols p b v) (of_names {x = y} q) = let no : Some y ≡ None = sym q ∙ p in absurd (cc)
     one_cause e _ (of_symbols p b v) (of_clash {x = y} q c) = let no : Some y ≡ None = sym c ∙ b in absurd (cc)
     one_cause e d (of_symbols p b v) (of_symbols q c w) = one_wrong (IsRuleOver g) BadFunction rs e d v w
     one_cause e d (of_symbols p b v) (of_shapes q c o w) = absurd (never_wrong (IsRuleOver g) BadFunction rs e v o)
-    one_cause e d (of_symbols p b v) (of_formulas q c o i w) = absurd (never_wrong (IsRuleOver g) BadFunction rs e v o)
+    one_cause e _ (of_symbols p b v) (of_formulas q c o i w) = absurd (never_wrong (IsRuleOver g) BadFunction rs e v o)
     one_cause e _ (of_shapes p b o v) (of_names {x = y} q) = let no : Some y ≡ None = sym q ∙ p in absurd (cc)
     one_cause e _ (of_shapes p b o v) (of_clash {x = y} q c) = let no : Some y ≡ None = sym c ∙ b in absurd (cc)
     one_cause e d (of_shapes p b o v) (of_symbols q c w) = absurd (never_wrong (IsRuleOver g) BadFunction rs d w o)
     one_cause e d (of_shapes p b o v) (of_shapes q c u w) = one_wrong IsPlainRule BadRule rs e d v w
-    one_cause e d (of_shapes p b o v) (of_formulas q c u i w) = absurd (never_wrong IsPlainRule BadRule rs e v i)
-    one_cause e _ (of_formulas p b o i v) (of_names {x = y} q) = let no : Some y ≡ None = sym q ∙ p in absurd (cc)
-    one_cause e _ (of_formulas p b o i v) (of_clash {x = y} q c) = let no : Some y ≡ None = sym c ∙ b in absurd (cc)
-    one_cause e d (of_formulas p b o i v) (of_symbols q c w) = absurd (never_wrong (IsRuleOver g) BadFunction rs d w o)
-    one_cause e d (of_formulas p b o i v) (of_shapes q c u w) = absurd (never_wrong IsPlainRule BadRule rs d w i)
-    one_cause e d (of_formulas p b o i v) (of_formulas q c u j w) = one_faulty g ss e d v w
+    one_cause e _ (of_shapes p b o v) (of_formulas q c u i w) = absurd (never_wrong IsPlainRule BadRule rs e v i)
+    one_cause _ _ (of_formulas p b o i v) (of_names {x = y} q) = let no : Some y ≡ None = sym q ∙ p in absurd (cc)
+    one_cause _ _ (of_formulas p b o i v) (of_clash {x = y} q c) = let no : Some y ≡ None = sym c ∙ b in absurd (cc)
+    one_cause _ d (of_formulas p b o i v) (of_symbols q c w) = absurd (never_wrong (IsRuleOver g) BadFunction rs d w o)
+    one_cause _ d (of_formulas p b o i v) (of_shapes q c u w) = absurd (never_wrong IsPlainRule BadRule rs d w i)
+    one_cause _ _ (of_formulas {x = x} {f = f} p b o i v) (of_formulas {x = y} {f = h} q c u j w) =
+        let same = one g false ss x y f h v w in
+        λ k. Formula (same.0 k) (same.1 k)
 
     never_both : (e : TheoryFault) → IsRefused g clash rs ss e → AreAccepted g clash rs ss → ⊥
     never_both _ (of_names {x = x} p) a = let no : Some x ≡ None = sym p ∙ a.names in cc
     never_both _ (of_clash {x = x} p c) a = let no : Some x ≡ None = sym c ∙ a.no_clash in cc
     never_both e (of_symbols p c w) a = never_wrong (IsRuleOver g) BadFunction rs e w a.over
     never_both e (of_shapes p c o w) a = never_wrong IsPlainRule BadRule rs e w a.plain
-    never_both e (of_formulas p c o i w) a = never_faulty g ss e w a.faultless
+    never_both _ (of_formulas {x = x} {f = f} p c o i w) a = none g false ss x f w a.faultless
 
 -- Items and their faults.
 not_end : {g : Sig} {v : TheoryItem} {a : List Word} → IsWrittenItem g THEORY_LIMITS v a → starts (codes "end") a ≡ false
@@ -147,7 +143,7 @@ in_steps (no_item {ts = ts} {x = x} {cut = cut} {line = line} p f) = has_tokens 
 in_steps (refused {ts = ts} {x = x} {cut = cut} {is = is} {e = e} p i c) = has_tokens ts p.tokens (has_parts x cut p (has_items is i (is_bad e c)))
 in_steps (accepted {ts = ts} {x = x} {cut = cut} {is = is} p i a) = has_tokens ts p.tokens (has_parts x cut p (has_items is i (is_good a)))
 
-module _ (laws : ReadLaws) (one_fault_law : OneFaultLaw) (no_fault_law : NoFaultLaw) where
+module _ (laws : ReadLaws) (one_fault_law : OneFaultyLaw) (no_fault_law : NoFaultyLaw) where
   same_items : (cut : List (List Placed)) (is js : List (Standing TheoryItem)) → AreWrittenItems (signature_of is) cut is → AreWrittenItems (signature_of js) cut js → is ≡ js
   same_items = one_own_list {Spells = λ g. IsWrittenItem g THEORY_LIMITS} (λ g v u a p q. one_item_by laws g (λ s. s) p q) (λ g v a p. item_declares laws.declared p)
 

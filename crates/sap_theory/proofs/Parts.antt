@@ -12,7 +12,8 @@ use Rattle.sap_grammar.specs.ItemReading.{cut, header_of, declared_in_all}
 use Rattle.sap_theory.specs.declared.fault.TheoryFault.{TheoryFault}
 use Rattle.sap_theory.specs.TheoryGrammar.{TheoryItem, declarations, signature_of, items_of, rules_in, statements_in}
 use Rattle.sap_theory.specs.WrittenItems.{AreWrittenItems}
-use Rattle.sap_theory.specs.TheoryCauses.{IsRefused, AreAccepted, restrictions_of, lemmas_of}
+use Rattle.sap_statements.specs.Stated.{restrictions_of, lemmas_of}
+use Rattle.sap_theory.specs.TheoryCauses.{IsRefused, AreAccepted}
 use Rattle.sap_theory.specs.ReadTheory.{AreTokens, IsParted, IsTheoryRead, theory_of, no_item, refused, accepted}
 use Rattle.sap_theory.specs.code.ItemLaws.{ItemLaws}
 use Rattle.sap_theory.specs.code.Judged.{AreGood, IsRefusedCut}

@@ -18,7 +18,8 @@ use Rattle.sap_theory.specs.declared.fault.TheoryFault.{TheoryFault}
 use Rattle.sap_theory.specs.TheoryGrammar.{TheoryItem, builtins, functions, rule, statement, signature_of, items_of, rules_in, statements_in, restrictions_in, lemmas_in}
 use Rattle.sap_theory.specs.TheoryOver.{IsTheoryOver}
 use Rattle.sap_theory.specs.PrintableTheory.{IsPrintable}
-use Rattle.sap_theory.specs.TheoryCauses.{first_repeated, rule_names, statement_names, AreFaultless, AreAccepted, restrictions_of, lemmas_of}
+use Rattle.sap_statements.specs.Stated.{AreFaultless, restrictions_of, lemmas_of}
+use Rattle.sap_theory.specs.TheoryCauses.{first_repeated, rule_names, statement_names, AreAccepted}
 use Rattle.sap_theory.specs.ReadTheory.{theory_of, IsTheoryRead, no_tokens, no_header, no_item, refused, accepted}
 use Rattle.sap_theory.specs.ReadAgain.{SpellsWithin, PassesChecks, names_of}
 use Rattle.sap_theory.proofs.DistinctNames.{names_sorted}
@@ -41,7 +42,7 @@ module _ (g : Sig) where
   abbrev LemmaFree : LemmaForm → Type 0
   LemmaFree l = HasNoFault g false l.formula
 
-  restrictions_free : (vs : List TheoryItem) → AreFaultless g (statements_in vs) → All RestrictionFree (restrictions_in (map sorted_item vs))
+  restrictions_free : (vs : List TheoryItem) → AreFaultless g false (statements_in vs) → All RestrictionFree (restrictions_in (map sorted_item vs))
   restrictions_free [] a = All-nil RestrictionFree
   restrictions_free (builtins bs ∷ vs) a = restrictions_free vs a
   restrictions_free (functions ss ∷ vs) a = restrictions_free vs a
@@ -51,7 +52,7 @@ module _ (g : Sig) where
       (restrictions_free vs (All-tail IsFree (restriction r) (statements_in vs) a))
   restrictions_free (statement (lemma l) ∷ vs) a = restrictions_free vs (All-tail IsFree (lemma l) (statements_in vs) a)
 
-  lemmas_free : (vs : List TheoryItem) → AreFaultless g (statements_in vs) → All LemmaFree (lemmas_in (map sorted_item vs))
+  lemmas_free : (vs : List TheoryItem) → AreFaultless g false (statements_in vs) → All LemmaFree (lemmas_in (map sorted_item vs))
   lemmas_free [] a = All-nil LemmaFree
   lemmas_free (builtins bs ∷ vs) a = lemmas_free vs a
   lemmas_free (functions ss ∷ vs) a = lemmas_free vs a

@@ -24,7 +24,8 @@ use Rattle.sap_theory.specs.declared.limits.TheConstants.{THEORY_LIMITS}
 use Rattle.sap_theory.specs.TheoryGrammar.{TheoryItem, builtins, functions, rule, statement, IsWrittenItem, IsTheoryItem, IsAnyTheoryItem, item_builtins, item_functions, item_rule, item_statement, declared_by, declarations, items_of, rules_in, statements_in, restrictions_in, lemmas_in, signature_of, AreSameSignatures}
 use Rattle.sap_theory.specs.TheoryOver.{IsTheoryOver}
 use Rattle.sap_theory.specs.WrittenItems.{AreWrittenItems}
-use Rattle.sap_theory.specs.TheoryCauses.{AreFaultless, AreAccepted, restrictions_of, lemmas_of}
+use Rattle.sap_statements.specs.Stated.{AreFaultless, restrictions_of, lemmas_of}
+use Rattle.sap_theory.specs.TheoryCauses.{AreAccepted}
 use Rattle.sap_theory.specs.ReadTheory.{IsParted, IsTheoryRead, theory_of, no_tokens, no_header, no_item, refused, accepted}
 use Rattle.sap_theory.specs.ReadAgain.{SpellsWithin}
 use Rattle.sap_theory.proofs.Held.{map_held, builtins_held}
@@ -87,7 +88,7 @@ module _ (g : Sig) where
   abbrev IsFaultless : Statement → Type 0
   IsFaultless s = HasNoFault g false (formula_of s)
 
-  pub same_restrictions : SortsAgree → (vs : List TheoryItem) → AreFaultless g (statements_in vs) → restrictions_of (statements_in vs) ≡ restrictions_in (map sorted_item vs)
+  pub same_restrictions : SortsAgree → (vs : List TheoryItem) → AreFaultless g false (statements_in vs) → restrictions_of (statements_in vs) ≡ restrictions_in (map sorted_item vs)
   same_restrictions agree [] a = refl
   same_restrictions agree (builtins bs ∷ vs) a = same_restrictions agree vs a
   same_restrictions agree (functions ss ∷ vs) a = same_restrictions agree vs a
@@ -98,7 +99,7 @@ module _ (g : Sig) where
       λ i. record { name = r.name; formula = here i } ∷ behind i
   same_restrictions agree (statement (lemma l) ∷ vs) a = same_restrictions agree vs (All-tail IsFaultless (lemma l) (statements_in vs) a)
 
-  pub same_lemmas : SortsAgree → (vs : List TheoryItem) → AreFaultless g (statements_in vs) → lemmas_of (statements_in vs) ≡ lemmas_in (map sorted_item vs)
+  pub same_lemmas : SortsAgree → (vs : List TheoryItem) → AreFaultless g false (statements_in vs) → lemmas_of (statements_in vs) ≡ lemmas_in (map sorted_item vs)
   same_lemmas agree [] a = refl
   same_lemmas agree (builtins bs ∷ vs) a = same_lemmas agree vs a
   same_lemmas agree (functions ss ∷ vs) a = same_lemmas agree vs a
@@ -116,14 +117,14 @@ module _ (g : Sig) where
     abbrev LemmaOver : LemmaForm → Type 0
     LemmaOver l = IsFormOver g l.formula
 
-    restrictions_over : (ss : List Statement) → AreFaultless g ss → All RestrictionOver (restrictions_of ss)
+    restrictions_over : (ss : List Statement) → AreFaultless g false ss → All RestrictionOver (restrictions_of ss)
     restrictions_over [] a = All-nil RestrictionOver
     restrictions_over (restriction r ∷ ss) a =
         All-cons RestrictionOver _ (restrictions_of ss) (over g false r.formula (All-head IsFaultless (restriction r) ss a))
         (restrictions_over ss (All-tail IsFaultless (restriction r) ss a))
     restrictions_over (lemma l ∷ ss) a = restrictions_over ss (All-tail IsFaultless (lemma l) ss a)
 
-    lemmas_over : (ss : List Statement) → AreFaultless g ss → All LemmaOver (lemmas_of ss)
+    lemmas_over : (ss : List Statement) → AreFaultless g false ss → All LemmaOver (lemmas_of ss)
     lemmas_over [] a = All-nil LemmaOver
     lemmas_over (restriction r ∷ ss) a = lemmas_over ss (All-tail IsFaultless (restriction r) ss a)
     lemmas_over (lemma l ∷ ss) a =

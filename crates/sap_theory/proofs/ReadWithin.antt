@@ -28,7 +28,8 @@ use Rattle.sap_statements.specs.Statements.{formula_of}
 use Rattle.sap_theory.specs.declared.limits.TheConstants.{THEORY_LIMITS}
 use Rattle.sap_theory.specs.TheoryGrammar.{TheoryItem, builtins, functions, rule, statement, IsTheoryItem, IsWrittenItem, item_builtins, item_functions, item_rule, item_statement, declarations, items_of, rules_in, statements_in, restrictions_in, lemmas_in, signature_of, AreSameSignatures, SpellsTheory, AreSameTheories}
 use Rattle.sap_theory.specs.WrittenItems.{AreWrittenItems}
-use Rattle.sap_theory.specs.TheoryCauses.{first_repeated, rule_names, shared, IsPlainRule, AreFaultless, AreAccepted}
+use Rattle.sap_statements.specs.Stated.{AreFaultless}
+use Rattle.sap_theory.specs.TheoryCauses.{first_repeated, rule_names, shared, IsPlainRule, AreAccepted}
 use Rattle.sap_theory.specs.ReadAgain.{SpellsWithin, PassesChecks, names_of}
 use Rattle.sap_theory.specs.ReadTheory.{IsParted, IsTheoryRead, theory_of, accepted}
 use Rattle.sap_theory.proofs.DistinctNames.{names_mixed}
@@ -120,7 +121,7 @@ module _ (g : Sig) where
   abbrev StatementFree : Statement → Type 0
   StatementFree s = HasNoFault g false (formula_of s)
 
-  written_free : (vs : List TheoryItem) → All RestrictionFree (restrictions_in (map sorted_item vs)) → All LemmaFree (lemmas_in (map sorted_item vs)) → AreFaultless g (statements_in vs)
+  written_free : (vs : List TheoryItem) → All RestrictionFree (restrictions_in (map sorted_item vs)) → All LemmaFree (lemmas_in (map sorted_item vs)) → AreFaultless g false (statements_in vs)
   written_free [] a b = All-nil StatementFree
   written_free (builtins bs ∷ vs) a b = written_free vs a b
   written_free (functions ss ∷ vs) a b = written_free vs a b
@@ -166,7 +167,7 @@ module _ (agree : SortsAgree) (z : List ℕ) (t : Theory) (w : SpellsWithin z t)
   holds_same : AreSameSignatures t.signature (signature_of is)
   holds_same = subst (λ (g : Sig). AreSameSignatures t.signature g) signatures s.signature
 
-  free : AreFaultless (signature_of is) (statements_in vs)
+  free : AreFaultless (signature_of is) false (statements_in vs)
   free =
       written_free (signature_of is) vs
       (subst (All (RestrictionFree (signature_of is))) restrictions

@@ -1,14 +1,12 @@
 -- Bytes are read as a theory, or refused for a cause.
-use Rattle.std.proofs.Common.{◌≡◌, ℕ, false, List, [], ◌∷◌, Option, Some, None, Ok, Err, inl, inr, refl, sym, ap, subst}
+use Rattle.std.proofs.Common.{◌≡◌, ℕ, Bool, false, List, [], ◌∷◌, Option, Some, None, Ok, Err, inl, inr, refl, sym, ap, subst}
 use Rattle.std.specs.Prelude.{◌⊎◌, Result, All}
 use Rattle.std.proofs.lemmas.List.Elements.{All-nil, All-cons}
 use Rattle.sap_text.specs.declared.token.Token.{Token}
 use Rattle.sap_text.specs.Tokens.{Lexed, IsLexed}
 use Rattle.sap_terms.specs.Signature.{Sig, pairs_alone}
 use Rattle.sap_terms.specs.declared.limits.TheConstants.{MOST_THEORY_NAME_BYTES}
-use Rattle.sap_formula.specs.Faults.{HasNoFault, IsFirstFault, told}
-use Rattle.sap_formula.specs.Laws.{SomeFaultLaw}
-use Rattle.sap_formula.specs.declared.fault.FormulaFlaw.{FormulaFlaw}
+use Rattle.sap_formula.specs.declared.fault.FormulaFault.{FormulaFault}
 use Rattle.sap_rule.specs.declared.rule.Rule.{Rule}
 use Rattle.sap_rule.specs.declared.theory.Theory.{Theory}
 use Rattle.sap_rule.specs.WellMade.{IsRuleOver}
@@ -18,12 +16,12 @@ use Rattle.sap_grammar.specs.Items.{Standing}
 use Rattle.sap_grammar.specs.Signatures.{signature_from, clash_from}
 use Rattle.sap_grammar.specs.ItemReading.{header_of, declared_in_all}
 use Rattle.sap_statements.specs.declared.statement.Statement.{Statement}
-use Rattle.sap_statements.specs.Statements.{formula_of, name_of}
 use Rattle.sap_theory.specs.declared.fault.TheoryFault.{TheoryFault}
 use Rattle.sap_theory.specs.declared.fault.TheoryFault.TheVariants.{Lex as LexFault, Header, Syntax, DuplicateName, FunctionClash, BadFunction, BadRule, Formula}
 use Rattle.sap_theory.specs.TheoryGrammar.{TheoryItem, declarations, signature_of, items_of, rules_in, statements_in}
 use Rattle.sap_theory.specs.WrittenItems.{AreWrittenItems}
-use Rattle.sap_theory.specs.TheoryCauses.{shared, IsPlainRule, IsFirstWrong, this_rule, later_rule, AreFaultless, IsFirstFaulty, this_one, later_one, IsRefused, of_names, of_clash, of_symbols, of_shapes, of_formulas, AreAccepted}
+use Rattle.sap_statements.specs.Stated.{AreFaultless, IsFirstFaulty}
+use Rattle.sap_theory.specs.TheoryCauses.{shared, IsPlainRule, IsFirstWrong, this_rule, later_rule, IsRefused, of_names, of_clash, of_symbols, of_shapes, of_formulas, AreAccepted}
 use Rattle.sap_theory.specs.ReadTheory.{AreTokens, IsParted, theory_of, IsTheoryRead, no_tokens, no_header, no_item, refused, accepted}
 use Rattle.sap_theory.specs.code.FactLaws.{FactLaws}
 use Rattle.sap_theory.specs.code.ItemLaws.{ItemLaws}
@@ -43,30 +41,23 @@ wrong_or_not Is fault one (r ∷ rs) = by (one r) (wrong_or_not Is fault one rs)
     by (inl i) (inl all) = inl (All-cons Is r rs i all)
     by (inl i) (inr f) = inr (f.0, later_rule i f.1)
 
--- no formula has a fault, or a first one
-faulty_or_not : SomeFaultLaw → (g : Sig) (ss : List Statement) → AreFaultless g ss ⊎ ((e : TheoryFault) × IsFirstFaulty g ss e)
-faulty_or_not some g [] = inl (All-nil (λ (s : Statement). HasNoFault g false (formula_of s)))
-faulty_or_not some g (s ∷ ss) = by (some g false (formula_of s)) (faulty_or_not some g ss)
-  where
-    by : HasNoFault g false (formula_of s) ⊎ ((w : FormulaFlaw) × (n : List ℕ) × IsFirstFault g false (formula_of s) w n) → AreFaultless g ss ⊎ ((e : TheoryFault) × IsFirstFaulty g ss e)
-        → AreFaultless g (s ∷ ss) ⊎ ((e : TheoryFault) × IsFirstFaulty g (s ∷ ss) e)
-    by (inr f) o = inr (Formula (name_of s) (told f.0 f.1), this_one f.2)
-    by (inl h) (inl all) = inl (All-cons (λ (t : Statement). HasNoFault g false (formula_of t)) s ss h all)
-    by (inl h) (inr f) = inr (f.0, later_one h f.1)
-
 -- no cause holds, or a first one
 abbrev IsJudged : Sig → Option (List ℕ) → List Rule → List Statement → Type 0
 IsJudged g clash rs ss = AreAccepted g clash rs ss ⊎ ((e : TheoryFault) × IsRefused g clash rs ss e)
 
-judged : SomeFaultLaw → (g : Sig) (clash : Option (List ℕ)) (rs : List Rule) (ss : List Statement) → IsJudged g clash rs ss
+-- restrictions and lemmas have no fault, or a first one
+abbrev pub SomeFaultyLaw : Type 0
+SomeFaultyLaw = (g : Sig) (r : Bool) (ss : List Statement) → AreFaultless g r ss ⊎ ((x : List ℕ) × (f : FormulaFault) × IsFirstFaulty g r ss x f)
+
+judged : SomeFaultyLaw → (g : Sig) (clash : Option (List ℕ)) (rs : List Rule) (ss : List Statement) → IsJudged g clash rs ss
 judged some g clash rs ss = by_names (shared rs ss) refl
   where
-    by_formulas : shared rs ss ≡ None → clash ≡ None → All (IsRuleOver g) rs → All IsPlainRule rs → AreFaultless g ss ⊎ ((e : TheoryFault) × IsFirstFaulty g ss e) → IsJudged g clash rs ss
+    by_formulas : shared rs ss ≡ None → clash ≡ None → All (IsRuleOver g) rs → All IsPlainRule rs → AreFaultless g false ss ⊎ ((x : List ℕ) × (f : FormulaFault) × IsFirstFaulty g false ss x f) → IsJudged g clash rs ss
     by_formulas n c o p (inl all) = inl (record { names = n; no_clash = c; over = o; plain = p; faultless = all })
-    by_formulas n c o p (inr f) = inr (f.0, of_formulas n c o p f.1)
+    by_formulas n c o p (inr f) = inr (Formula f.0 f.1, of_formulas n c o p f.2)
 
     by_shapes : shared rs ss ≡ None → clash ≡ None → All (IsRuleOver g) rs → All IsPlainRule rs ⊎ ((e : TheoryFault) × IsFirstWrong IsPlainRule BadRule rs e) → IsJudged g clash rs ss
-    by_shapes n c o (inl p) = by_formulas n c o p (faulty_or_not some g ss)
+    by_shapes n c o (inl p) = by_formulas n c o p (some g false ss)
     by_shapes n c o (inr f) = inr (f.0, of_shapes n c o f.1)
 
     by_symbols : shared rs ss ≡ None → clash ≡ None → All (IsRuleOver g) rs ⊎ ((e : TheoryFault) × IsFirstWrong (IsRuleOver g) BadFunction rs e) → IsJudged g clash rs ss
@@ -84,7 +75,7 @@ judged some g clash rs ss = by_names (shared rs ss) refl
 abbrev IsReadSo : List ℕ → Type 0
 IsReadSo z = (o : Result Theory TheoryFault) × IsTheoryRead z o
 
-module _ (facts : FactLaws) (laws : ItemLaws) (stated : StatementLaws) (faults : SomeFaultLaw) (found : HeaderFound)
+module _ (facts : FactLaws) (laws : ItemLaws) (stated : StatementLaws) (faults : SomeFaultyLaw) (found : HeaderFound)
     (not_found : (z : List ℕ) (ts : List Token) → header_of (words_of z ts) ≡ None → (x : List ℕ) (rest : List Placed) → IsHeader x (placed z ts) rest → ⊥) (z : List ℕ) where
   from_items : {ts : List Token} {x : List ℕ} {cut : List (List Placed)} (is : List (Standing TheoryItem)) → IsParted z ts x cut → AreWrittenItems (signature_of is) cut is → IsReadSo z
   from_items {x = x} is p i = by (judged faults (signature_of is) (clash_from pairs_alone (declarations is)) (rules_in (items_of is)) (statements_in (items_of is)))

@@ -2,6 +2,7 @@ pub use Rattle.sap_text.specs.Tokens
 pub use Rattle.sap_grammar.specs.Words
 pub use Rattle.sap_grammar.specs.Items
 pub use Rattle.sap_statements.specs.Statements
+pub use Rattle.sap_statements.specs.Stated
 pub use Rattle.sap_grammar.specs.TermText
 pub use Rattle.sap_grammar.specs.FactText
 pub mod Pieces

@@ -13,7 +13,8 @@ use Rattle.sap_theory.specs.declared.fault.TheoryFault.{TheoryFault}
 use Rattle.sap_theory.specs.declared.fault.TheoryFault.TheVariants.{Lex as LexFault, Header, Syntax}
 use Rattle.sap_theory.specs.TheoryGrammar.{TheoryItem, declarations, signature_of, items_of, rules_in, statements_in}
 use Rattle.sap_theory.specs.WrittenItems.{AreWrittenItems, IsFaulty}
-use Rattle.sap_theory.specs.TheoryCauses.{IsRefused, AreAccepted, restrictions_of, lemmas_of}
+use Rattle.sap_statements.specs.Stated.{restrictions_of, lemmas_of}
+use Rattle.sap_theory.specs.TheoryCauses.{IsRefused, AreAccepted}
 
 -- the bytes are a theory's tokens, the longest of MOST_THEORY_NAME_BYTES
 abbrev pub AreTokens : List ℕ → List Token → Type 0

@@ -5,17 +5,16 @@ use Rattle.std.specs.Option.{option_or}
 use Rattle.std.specs.Str.{bytes_eq}
 use Rattle.sap_terms.specs.declared.fact.Fact.{Fact}
 use Rattle.sap_terms.specs.Signature.{Sig}
-use Rattle.sap_formula.specs.Form.{RestrictionForm, LemmaForm}
-use Rattle.sap_formula.specs.Faults.{HasNoFault, IsFirstFault, told}
-use Rattle.sap_formula.specs.Sorted.{with_sorts}
-use Rattle.sap_formula.specs.declared.fault.FormulaFlaw.{FormulaFlaw}
+use Rattle.sap_formula.specs.declared.fault.FormulaFault.{FormulaFault}
 use Rattle.sap_rule.specs.declared.rule.Rule.{Rule}
 use Rattle.sap_rule.specs.WellMade.{IsRuleOver, IsWellShaped}
 use Rattle.sap_statements.specs.declared.statement.Statement.{Statement}
-use Rattle.sap_statements.specs.declared.statement.Statement.TheVariants.{Restriction as restriction, Lemma as lemma}
-use Rattle.sap_statements.specs.Statements.{formula_of, name_of}
+use Rattle.sap_statements.specs.declared.checking.Unchecked.{Unchecked}
+use Rattle.sap_statements.specs.declared.checking.Unchecked.TheVariants as unchecked
+use Rattle.sap_statements.specs.Stated.{AreFaultless, IsFirstFaulty}
+use Rattle.sap_statements.specs.Statements.{name_of}
 use Rattle.sap_theory.specs.declared.fault.TheoryFault.{TheoryFault}
-use Rattle.sap_theory.specs.declared.fault.TheoryFault.TheVariants.{DuplicateName, FunctionClash, BadFunction, BadRule, Formula}
+use Rattle.sap_theory.specs.declared.fault.TheoryFault.TheVariants.{Mem, DuplicateName, FunctionClash, BadFunction, BadRule, Formula}
 
 -- the first name that stands again behind it
 abbrev pub first_repeated : List (List ℕ) → Option (List ℕ)
@@ -46,17 +45,6 @@ pub data IsFirstWrong (Is : Rule → Type 0) (fault : List ℕ → TheoryFault) 
   this_rule : {r : Rule} {rs : List Rule} → (Is r → ⊥) → IsFirstWrong Is fault (r ∷ rs) (fault r.name)
   later_rule : {r : Rule} {rs : List Rule} {e : TheoryFault} → Is r → IsFirstWrong Is fault rs e → IsFirstWrong Is fault (r ∷ rs) e
 
--- no formula has a fault; names of facts are free
-abbrev pub AreFaultless : Sig → List Statement → Type 0
-AreFaultless g ss = All (λ s. HasNoFault g false (formula_of s)) ss
-
--- the first restriction or lemma whose formula has a fault is refused by its name, for the fault that counts
-pub data IsFirstFaulty (g : Sig) : List Statement → TheoryFault → Type 0 where
-  this_one : {s : Statement} {ss : List Statement} {w : FormulaFlaw} {n : List ℕ} → IsFirstFault g false (formula_of s) w n
-      → IsFirstFaulty g (s ∷ ss) (Formula (name_of s) (told w n))
-  later_one : {s : Statement} {ss : List Statement} {e : TheoryFault} → HasNoFault g false (formula_of s) → IsFirstFaulty g ss e
-      → IsFirstFaulty g (s ∷ ss) e
-
 -- what rules, restrictions and lemmas are refused for, where their declarations make this signature and clash so; each cause where none
 -- before it holds
 pub data IsRefused (g : Sig) (clash : Option (List ℕ)) (rs : List Rule) (ss : List Statement) : TheoryFault → Type 0 where
@@ -65,25 +53,18 @@ pub data IsRefused (g : Sig) (clash : Option (List ℕ)) (rs : List Rule) (ss : 
   of_symbols : {e : TheoryFault} → shared rs ss ≡ None → clash ≡ None → IsFirstWrong (IsRuleOver g) BadFunction rs e → IsRefused g clash rs ss e
   of_shapes : {e : TheoryFault} → shared rs ss ≡ None → clash ≡ None → All (IsRuleOver g) rs → IsFirstWrong IsPlainRule BadRule rs e
       → IsRefused g clash rs ss e
-  of_formulas : {e : TheoryFault} → shared rs ss ≡ None → clash ≡ None → All (IsRuleOver g) rs → All IsPlainRule rs → IsFirstFaulty g ss e
-      → IsRefused g clash rs ss e
+  of_formulas : {x : List ℕ} {f : FormulaFault} → shared rs ss ≡ None → clash ≡ None → All (IsRuleOver g) rs → All IsPlainRule rs
+      → IsFirstFaulty g false ss x f → IsRefused g clash rs ss (Formula x f)
 
--- none of these causes holds
+-- none of these causes holds; names of facts are free
 pub record AreAccepted (g : Sig) (clash : Option (List ℕ)) (rs : List Rule) (ss : List Statement) : Type 0 where
   pub names : shared rs ss ≡ None
   pub no_clash : clash ≡ None
   pub over : All (IsRuleOver g) rs
   pub plain : All IsPlainRule rs
-  pub faultless : AreFaultless g ss
+  pub faultless : AreFaultless g false ss
 
--- the restrictions among them, in order, each variable with the sort of its binder
-abbrev pub restrictions_of : List Statement → List RestrictionForm
-restrictions_of [] = []
-restrictions_of (restriction r ∷ ss) = record { name = r.name; formula = with_sorts [] r.formula } ∷ restrictions_of ss
-restrictions_of (lemma l ∷ ss) = restrictions_of ss
-
--- the lemmas among them, in the same way
-abbrev pub lemmas_of : List Statement → List LemmaForm
-lemmas_of [] = []
-lemmas_of (restriction r ∷ ss) = lemmas_of ss
-lemmas_of (lemma l ∷ ss) = record { name = l.name; attributes = l.attributes; mode = l.mode; formula = with_sorts [] l.formula } ∷ lemmas_of ss
+-- the fault of a theory with restrictions and lemmas that are refused
+abbrev pub fault_of_statements : Unchecked → TheoryFault
+fault_of_statements unchecked.Mem = Mem
+fault_of_statements (unchecked.Formula x f) = Formula x f

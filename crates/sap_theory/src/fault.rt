@@ -1,5 +1,6 @@
 //! Why a theory is refused.
 use sap_formula::FormulaFault;
+use sap_statements::Unchecked;
 use sap_terms::{Mem, Name};
 use sap_text::Lex;
 
@@ -38,5 +39,19 @@ impl From<Mem> for TheoryFault {
 
     fn from(_e: Mem) -> TheoryFault {
         TheoryFault::Mem
+    }
+}
+
+impl From<Unchecked> for TheoryFault {
+    ghost use Rattle.std.specs.Prelude.{◌≡◌};
+    ghost use Rattle.sap_theory.specs.TheoryCauses.{fault_of_statements};
+
+    ghost from_gives = { λ u e. e ≡ fault_of_statements u };
+
+    fn from(u: Unchecked) -> TheoryFault {
+        match u {
+            Unchecked::Mem => TheoryFault::Mem,
+            Unchecked::Formula { name, fault } => TheoryFault::Formula { name, fault },
+        }
     }
 }

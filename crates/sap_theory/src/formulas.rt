@@ -101,17 +101,9 @@ pub(crate) fn push_formula(
 ) -> Result<(), Mem>
     ensures { OnOk result (text.new ≡ text.old ++ formula_text asked (form f.now)) }
 {
-    if strength(f) < asked {
-        push_enclosed(text, alloc, f)
-    } else {
-        push_open(text, alloc, f)
+    if strength(f) >= asked {
+        return push_open(text, alloc, f);
     }
-}
-
-#[cycle(push_formula)]
-fn push_enclosed(text: &mut Text, alloc: Global, f: &Formula) -> Result<(), Mem>
-    ensures { OnOk result (text.new ≡ text.old ++ (codes "(" ++ (formula_text 0 (form f.now) ++ codes ")"))) }
-{
     text.push_bytes(b"(")?;
     push_open(text, alloc, f)?;
     text.push_bytes(b")")

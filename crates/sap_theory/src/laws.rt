@@ -12,13 +12,13 @@ ghost use Rattle.sap_theory.specs.ReadTheory.{IsTheoryRead};
 ghost use Rattle.sap_theory.specs.declared.fault.TheoryFault.{TheoryFault};
 
 use crate::reading::laws::{fact_laws, item_laws, statement_laws};
-use sap_formula::{one_fault, some_fault};
 use sap_grammar::{
     declarations_are_read, facts_are_read, headers_are_read, printed_words, words_are_cut,
     words_are_written, words_of_bytes,
 };
 use sap_statements::{
-    faultless_formulas_keep_signs, formulas_are_printable, one_statement, sorts_are_kept,
+    faultless_formulas_keep_signs, formulas_are_printable, one_faulty_statement, one_statement,
+    sorts_are_kept,
 };
 use sap_terms::builtins_stay_held;
 use sap_text::{one_answer, some_answer};
@@ -65,7 +65,7 @@ pub fn one_answer_of_theories()
     declarations_are_read();
     facts_are_read();
     one_statement();
-    one_fault();
+    one_faulty_statement();
 }
 
 /// A law: each list of bytes is read as something, as a theory or as refused for a cause.
@@ -77,7 +77,7 @@ pub fn some_theory()
     statement_laws();
     headers_are_read();
     some_answer();
-    some_fault();
+    one_faulty_statement();
 }
 
 /// A law: bytes that are read as a theory spell it, within the limits of reading, and its signature holds its symbols. So its

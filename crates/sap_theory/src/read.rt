@@ -9,13 +9,14 @@ ghost use Rattle.sap_theory.specs.code.Judged.{AreGood, IsRefusedCut};
 ghost use Rattle.sap_theory.specs.declared.fault.TheoryFault.{TheoryFault};
 ghost use Rattle.sap_theory.specs.declared.fault.TheoryFault.TheVariants.{Mem as OutOfMemory, Lex as LexFault};
 
-use crate::checking::{Checked, check};
+use crate::checking::check;
 use crate::fault::TheoryFault;
 use crate::reading::items::{Contents, read_items};
 use crate::reading::laws::item_laws;
 use sap_grammar::{Declared, beyond, header_name, headers_are_read, last_line, read_declarations};
 use sap_rule::{RuleList, Theory};
-use sap_terms::{MOST_THEORY_NAME_BYTES, Mem, Name};
+use sap_statements::Checked;
+use sap_terms::{MOST_THEORY_NAME_BYTES, Name};
 use sap_text::{Lex, Token, tokens};
 use std::alloc::Global;
 
@@ -60,37 +61,32 @@ fn read_parts(alloc: Global, bytes: &[u8], tokens: &[Token]) -> Result<Theory, T
     let Some(name) = header_name(bytes, tokens) else {
         return Err(TheoryFault::Header);
     };
+    let title = Name::from_bytes(alloc, name)?;
     let rest = beyond(3, tokens);
     let declared = read_declarations(alloc, bytes, rest)?;
     let content = read_content(alloc, &declared, bytes, rest, last_line(tokens))?;
-    Ok(theory_of(alloc, name, declared, content)?)
+    Ok(theory_of(title, declared, content))
 }
 
 // The theory of this name with what was declared and these parts.
-fn theory_of(
-    alloc: Global,
-    name: &[u8],
-    declared: Declared,
-    content: Content,
-) -> Result<Theory, Mem>
-    ensures head { IfOk result (λ t. (t.name ≡ name.now) × (t.signature ≡ declared.signature)) }
-    ensures lists { IfOk result (λ t. (t.rules ≡ content.rules)
-        × (t.restrictions ≡ content.checked.restrictions) × (t.lemmas ≡ content.checked.lemmas)) }
+fn theory_of(name: Name, declared: Declared, content: Content) -> Theory
+    ensures head { (result.name ≡ name) × (result.signature ≡ declared.signature) }
+    ensures lists { (result.rules ≡ content.rules)
+        × (result.restrictions ≡ content.checked.restrictions) × (result.lemmas ≡ content.checked.lemmas) }
 {
-    let name = Name::from_bytes(alloc, name)?;
     let Declared { signature, .. } = declared;
     let Content { rules, checked } = content;
     let Checked {
         restrictions,
         lemmas,
     } = checked;
-    Ok(Theory {
+    Theory {
         name,
         signature,
         rules,
         restrictions,
         lemmas,
-    })
+    }
 }
 
 // What a theory is made of behind its header, but for what it declares.

@@ -15,7 +15,8 @@ use Rattle.sap_statements.specs.declared.statement.Statement.{Statement}
 use Rattle.sap_statements.specs.declared.statement.Statement.TheVariants.{Restriction as restriction, Lemma as lemma}
 use Rattle.sap_statements.specs.Statements.{formula_of}
 use Rattle.sap_theory.specs.ReadTheory.{IsTheoryRead, accepted}
-use Rattle.sap_theory.specs.TheoryCauses.{IsPlainRule, AreFaultless, restrictions_of, lemmas_of}
+use Rattle.sap_statements.specs.Stated.{AreFaultless, restrictions_of, lemmas_of}
+use Rattle.sap_theory.specs.TheoryCauses.{IsPlainRule}
 use Rattle.sap_theory.specs.TheoryGrammar.{signature_of, items_of, rules_in, statements_in}
 use Rattle.sap_tool.specs.code.Checked.{IsCheckable}
 
@@ -26,7 +27,7 @@ well_made g (r ∷ rs) a b =
     (well_made g rs (All-tail (IsRuleOver g) r rs a) (All-tail IsPlainRule r rs b))
 
 module _ (checked : CheckLaw) (closed : ClosedLaw) (g : Sig) where
-  closed_restrictions : (ss : List Statement) → AreFaultless g ss → EachIn (λ (r : RestrictionForm). IsClosed g r.formula) (restrictions_of ss)
+  closed_restrictions : (ss : List Statement) → AreFaultless g false ss → EachIn (λ (r : RestrictionForm). IsClosed g r.formula) (restrictions_of ss)
   closed_restrictions [] a = tt
   closed_restrictions (restriction r ∷ ss) a = (
     closed g false (with_sorts [] r.formula) (checked g false r.formula (All-head (λ s. HasNoFault g false (formula_of s)) (restriction r) ss a)),
@@ -34,7 +35,7 @@ module _ (checked : CheckLaw) (closed : ClosedLaw) (g : Sig) where
   )
   closed_restrictions (lemma l ∷ ss) a = closed_restrictions ss (All-tail (λ s. HasNoFault g false (formula_of s)) (lemma l) ss a)
 
-  closed_lemmas : (ss : List Statement) → AreFaultless g ss → EachIn (λ (l : LemmaForm). IsClosed g l.formula) (lemmas_of ss)
+  closed_lemmas : (ss : List Statement) → AreFaultless g false ss → EachIn (λ (l : LemmaForm). IsClosed g l.formula) (lemmas_of ss)
   closed_lemmas [] a = tt
   closed_lemmas (restriction r ∷ ss) a = closed_lemmas ss (All-tail (λ s. HasNoFault g false (formula_of s)) (restriction r) ss a)
   closed_lemmas (lemma l ∷ ss) a = (

@@ -1,9 +1,8 @@
 -- What is said of the items behind a header: of the processes bs and the restrictions and lemmas ss in them.
 use Rattle.std.specs.Prelude.{◌≡◌, ◌⊎◌, ℕ, List, [], Option, Some, None, true}
 use Rattle.sap_terms.specs.Signature.{Sig}
-use Rattle.sap_formula.specs.Faults.{IsFirstFault, told}
-use Rattle.sap_formula.specs.Form.{Form, RestrictionForm, LemmaForm}
-use Rattle.sap_formula.specs.declared.fault.FormulaFlaw.{FormulaFlaw}
+use Rattle.sap_formula.specs.Form.{RestrictionForm, LemmaForm}
+use Rattle.sap_formula.specs.declared.fault.FormulaFault.{FormulaFault}
 use Rattle.sap_locks.specs.Annotation.{LockFlaw, IsAnnotation, IsFirstLockFlaw}
 use Rattle.sap_process.specs.Proc.{Proc}
 use Rattle.sap_process.specs.Flaws.{IsFirstFlaw, IsWellFormed}
@@ -17,7 +16,7 @@ use Rattle.sap_grammar.specs.Cut.{Placed}
 use Rattle.sap_read.specs.ItemGrammar.{AreItems, IsFaulty}
 use Rattle.sap_read.specs.Replaced.{process_of, no_meaning}
 use Rattle.sap_read.specs.Causes.{cause, lock_fault}
-use Rattle.sap_read.specs.Stated.{AreFaultless, IsFirstUnchecked, restrictions_of, lemmas_of}
+use Rattle.sap_statements.specs.Stated.{AreFaultless, IsFirstFaulty, restrictions_of, lemmas_of}
 
 -- the process has no flaw, and this is it with sorts and labels
 pub record IsSound (g : Sig) (p q : Proc) : Type 0 where
@@ -59,6 +58,13 @@ pub record IsIll (g : Sig) (clash : Option (List ℕ)) (bs : List Body) (ss : Li
   pub whole : IsWhole clash bs ss process
   pub unsound : IsUnsound g process e
 
+-- the first restriction or lemma whose formula has a fault is refused for this
+pub record IsFirstUnchecked (g : Sig) (ss : List Statement) (e : ReadFault) : Type 0 where
+  pub name : List ℕ
+  pub fault : FormulaFault
+  pub is : e ≡ Formula name fault
+  pub faulty : IsFirstFaulty g true ss name fault
+
 -- their process is accepted, and one of their formulas is refused for this
 pub record IsUnchecked (g : Sig) (clash : Option (List ℕ)) (bs : List Body) (ss : List Statement) (e : ReadFault) : Type 0 where
   pub process : Proc
@@ -71,16 +77,9 @@ IsRefusedAs g clash bs ss e = (cause bs ss clash ≡ Some e) ⊎ IsIll g clash b
 
 -- these are the restrictions and lemmas among them, with sorts, and none has a fault
 pub record AreChecked (g : Sig) (ss : List Statement) (rs : List RestrictionForm) (ls : List LemmaForm) : Type 0 where
-  pub faultless : AreFaultless g ss
+  pub faultless : AreFaultless g true ss
   pub restrictions : rs ≡ restrictions_of ss
   pub lemmas : ls ≡ lemmas_of ss
-
--- a formula of a restriction or lemma of this name is refused for this
-pub record IsFaultOf (g : Sig) (name : List ℕ) (f : Form) (e : ReadFault) : Type 0 where
-  pub which : FormulaFlaw
-  pub part : List ℕ
-  pub is : e ≡ Formula name (told which part)
-  pub fault : IsFirstFault g true f which part
 
 -- they are accepted, and these are their parts
 pub record IsAccepted (g : Sig) (clash : Option (List ℕ)) (bs : List Body) (ss : List Statement) (q : Proc) (rs : List RestrictionForm) (ls : List LemmaForm) : Type 0 where

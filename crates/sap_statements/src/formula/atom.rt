@@ -1,16 +1,15 @@
 //! Formulas without parts.
-ghost use Rattle.sap_terms.specs.View.{tree};
 ghost use Rattle.sap_formula.specs.View.{form};
 ghost use Rattle.sap_grammar.specs.Words.{words_of};
 ghost use Rattle.sap_grammar.specs.Reading.{Gives, name_at};
-ghost use Rattle.sap_statements.specs.code.FormulaReading.{bare, time, at_time, placed, equated, equation, later, same, compared, timed, plainly, named, atom};
+ghost use Rattle.sap_statements.specs.code.FormulaReading.{bare, time, placed, equation, later, same, timed, plainly, named, atom};
 
-use crate::formula::build::{action, earlier, equal, falsity, same, truth};
+use crate::formula::build::same;
 use sap_formula::Formula;
 use sap_grammar::{
-    Limits, beyond, is_upper, name_at, names, read_short_fact, read_short_term, starts,
+    Limits, beyond, boxed, is_upper, name_at, names, read_short_fact, read_short_term, starts,
 };
-use sap_terms::{Fact, Mem, Name, Signature, Term};
+use sap_terms::{Mem, Name, Signature};
 use sap_text::Token;
 use std::alloc::Global;
 
@@ -45,28 +44,6 @@ fn read_time<'a>(
 }
 
 #[tactic(auto, using(crate::proofs::Steps::steps), unfolding(sap_grammar::specs::Reading::after, crate::specs::code::FormulaReading::past))]
-fn read_at_time<'a>(
-    alloc: Global,
-    bytes: &[u8],
-    fact: Fact,
-    tokens: &'a [Token],
-) -> Result<Option<(Box<Formula>, &'a [Token])>, Mem>
-    ensures { Gives bytes.now (λ f. form f.value) result (at_time fact
-        (words_of bytes.now tokens.now)) }
-{
-    if !starts(bytes, tokens, "@") {
-        return Ok(None);
-    }
-    match read_time(alloc, bytes, beyond(1, tokens))? {
-        None => Ok(None),
-        Some((time, rest)) => {
-            let formula = action(alloc, fact, time)?;
-            Ok(Some((formula, rest)))
-        }
-    }
-}
-
-#[tactic(auto, using(crate::proofs::Steps::steps), unfolding(sap_grammar::specs::Reading::after))]
 fn read_placed<'a>(
     alloc: Global,
     sig: &Signature,
@@ -79,35 +56,22 @@ fn read_placed<'a>(
 {
     match read_short_fact(alloc, sig, limits, bytes, false, tokens)? {
         None => Ok(None),
-        Some((fact, rest)) => read_at_time(alloc, bytes, fact, rest),
-    }
-}
-
-#[tactic(auto, using(crate::proofs::Steps::steps), unfolding(sap_grammar::specs::Reading::after, crate::specs::code::FormulaReading::past))]
-fn read_equated<'a>(
-    alloc: Global,
-    sig: &Signature,
-    limits: Limits,
-    bytes: &[u8],
-    left: Term,
-    tokens: &'a [Token],
-) -> Result<Option<(Box<Formula>, &'a [Token])>, Mem>
-    ensures { Gives bytes.now (λ f. form f.value) result (equated sig.now limits (tree left)
-        (words_of bytes.now tokens.now)) }
-{
-    if !starts(bytes, tokens, "=") {
-        return Ok(None);
-    }
-    match read_short_term(alloc, sig, limits, bytes, beyond(1, tokens))? {
-        None => Ok(None),
-        Some((right, rest)) => {
-            let formula = equal(alloc, left, right)?;
-            Ok(Some((formula, rest)))
+        Some((fact, rest)) => {
+            if !starts(bytes, rest, "@") {
+                return Ok(None);
+            }
+            match read_time(alloc, bytes, beyond(1, rest))? {
+                None => Ok(None),
+                Some((time, rest)) => {
+                    let formula = boxed(alloc, Formula::Action(fact, time))?;
+                    Ok(Some((formula, rest)))
+                }
+            }
         }
     }
 }
 
-#[tactic(auto, using(crate::proofs::Steps::steps), unfolding(sap_grammar::specs::Reading::after))]
+#[tactic(auto, using(crate::proofs::Steps::steps), unfolding(sap_grammar::specs::Reading::after, crate::specs::code::FormulaReading::past))]
 fn read_equation<'a>(
     alloc: Global,
     sig: &Signature,
@@ -120,7 +84,18 @@ fn read_equation<'a>(
 {
     match read_short_term(alloc, sig, limits, bytes, tokens)? {
         None => Ok(None),
-        Some((left, rest)) => read_equated(alloc, sig, limits, bytes, left, rest),
+        Some((left, rest)) => {
+            if !starts(bytes, rest, "=") {
+                return Ok(None);
+            }
+            match read_short_term(alloc, sig, limits, bytes, beyond(1, rest))? {
+                None => Ok(None),
+                Some((right, rest)) => {
+                    let formula = boxed(alloc, Formula::Equal(left, right))?;
+                    Ok(Some((formula, rest)))
+                }
+            }
+        }
     }
 }
 
@@ -128,63 +103,46 @@ fn read_equation<'a>(
 fn read_later<'a>(
     alloc: Global,
     bytes: &[u8],
-    first: Name,
+    first: &[u8],
     tokens: &'a [Token],
 ) -> Result<Option<(Box<Formula>, &'a [Token])>, Mem>
-    ensures { Gives bytes.now (λ f. form f.value) result (later first
+    ensures { Gives bytes.now (λ f. form f.value) result (later first.now
         (words_of bytes.now tokens.now)) }
 {
     match read_time(alloc, bytes, tokens)? {
         None => Ok(None),
         Some((second, rest)) => {
-            let formula = earlier(alloc, first, second)?;
+            let first = Name::from_bytes(alloc, first)?;
+            let formula = boxed(alloc, Formula::Less(first, second))?;
             Ok(Some((formula, rest)))
         }
     }
 }
 
-#[tactic(auto, using(crate::proofs::Steps::steps), unfolding(sap_grammar::specs::Reading::after, crate::specs::code::FormulaReading::past))]
+#[tactic(auto, using(crate::proofs::Steps::steps), unfolding(sap_grammar::specs::Reading::after, sap_grammar::specs::Reading::given, crate::specs::code::FormulaReading::past))]
 fn read_same<'a>(
     alloc: Global,
     bytes: &[u8],
-    left: Name,
+    left: &[u8],
     tokens: &'a [Token],
 ) -> Result<Option<(Box<Formula>, &'a [Token])>, Mem>
-    ensures { Gives bytes.now (λ f. form f.value) result (same left
+    ensures { Gives bytes.now (λ f. form f.value) result (same left.now
         (words_of bytes.now tokens.now)) }
 {
+    let rest = beyond(1, tokens);
     if !starts(bytes, tokens, "#") {
         return Ok(None);
     }
-    match read_bare(alloc, bytes, beyond(1, tokens))? {
+    match name_at(bytes, rest) {
         None => Ok(None),
-        Some((right, rest)) => {
+        Some(right) => {
             let formula = same(alloc, left, right)?;
-            Ok(Some((formula, rest)))
+            Ok(Some((formula, beyond(1, rest))))
         }
     }
 }
 
-#[tactic(auto, using(crate::proofs::Steps::steps))]
-fn read_compared<'a>(
-    alloc: Global,
-    bytes: &[u8],
-    first: Name,
-    tokens: &'a [Token],
-) -> Result<Option<(Box<Formula>, &'a [Token])>, Mem>
-    ensures { Gives bytes.now (λ f. form f.value) result (compared first
-        (words_of bytes.now tokens.now)) }
-{
-    if starts(bytes, tokens, "=") {
-        read_same(alloc, bytes, first, beyond(1, tokens))
-    } else if starts(bytes, tokens, "<") {
-        read_later(alloc, bytes, first, beyond(1, tokens))
-    } else {
-        Ok(None)
-    }
-}
-
-#[tactic(auto, using(crate::proofs::Steps::steps), unfolding(sap_grammar::specs::Reading::after))]
+#[tactic(auto, using(crate::proofs::Steps::steps), unfolding(sap_grammar::specs::Reading::after, sap_grammar::specs::Reading::given))]
 fn read_timed<'a>(
     alloc: Global,
     bytes: &[u8],
@@ -193,9 +151,16 @@ fn read_timed<'a>(
     ensures { Gives bytes.now (λ f. form f.value) result (timed
         (words_of bytes.now tokens.now)) }
 {
-    match read_bare(alloc, bytes, tokens)? {
-        None => Ok(None),
-        Some((first, rest)) => read_compared(alloc, bytes, first, rest),
+    let Some(first) = name_at(bytes, tokens) else {
+        return Ok(None);
+    };
+    let rest = beyond(1, tokens);
+    if starts(bytes, rest, "=") {
+        read_same(alloc, bytes, first, beyond(1, rest))
+    } else if starts(bytes, rest, "<") {
+        read_later(alloc, bytes, first, beyond(1, rest))
+    } else {
+        Ok(None)
     }
 }
 
@@ -212,14 +177,13 @@ fn read_plainly<'a>(
         (words_of bytes.now tokens.now)) }
 {
     if names(bytes, tokens, "T") {
-        let formula = truth(alloc)?;
+        let formula = boxed(alloc, Formula::True)?;
         Ok(Some((formula, beyond(1, tokens))))
     } else if names(bytes, tokens, "F") {
-        let formula = falsity(alloc)?;
+        let formula = boxed(alloc, Formula::False)?;
         Ok(Some((formula, beyond(1, tokens))))
     } else if starts(bytes, beyond(1, tokens), "<") {
-        let first = Name::from_bytes(alloc, name)?;
-        read_later(alloc, bytes, first, beyond(2, tokens))
+        read_later(alloc, bytes, name, beyond(2, tokens))
     } else {
         read_equation(alloc, sig, limits, bytes, tokens)
     }

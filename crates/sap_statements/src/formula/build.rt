@@ -1,12 +1,12 @@
 //! Formulas made of their parts.
 ghost use Rattle.std.specs.Prelude.{◌≡◌, ◌≤◌, ◌<◌, ◌+◌, ◌^◌, max, IfOk};
-ghost use Rattle.sap_terms.specs.View.{tree};
-ghost use Rattle.sap_formula.specs.Form.{truth, falsity, action, equal, same_time, earlier, negation};
+ghost use Rattle.sap_formula.specs.Form.{same_time};
 ghost use Rattle.sap_formula.specs.View.{form};
 ghost use Rattle.sap_statements.specs.code.FormulaView.{made, bound, levelled};
 
 use sap_formula::{Binders, Formula};
-use sap_terms::{Fact, Mem, Name, Term};
+use sap_grammar::boxed;
+use sap_terms::{Mem, Name};
 use std::alloc::Global;
 
 /// What joins two formulas.
@@ -32,53 +32,12 @@ pub struct Measured {
     pub levels: u64,
 }
 
-// A large value stands in a box as soon as it is made.
-fn boxed(alloc: Global, formula: Formula) -> Result<Box<Formula>, Mem>
-    ensures { IfOk result (λ f. f.value ≡ formula) }
+pub fn same(alloc: Global, left: &[u8], right: &[u8]) -> Result<Box<Formula>, Mem>
+    ensures { IfOk result (λ f. form f.value ≡ same_time left.now right.now) }
 {
-    Ok(Box::new(alloc, formula)?)
-}
-
-pub fn truth(alloc: Global) -> Result<Box<Formula>, Mem>
-    ensures { IfOk result (λ f. form f.value ≡ truth) }
-{
-    boxed(alloc, Formula::True)
-}
-
-pub fn falsity(alloc: Global) -> Result<Box<Formula>, Mem>
-    ensures { IfOk result (λ f. form f.value ≡ falsity) }
-{
-    boxed(alloc, Formula::False)
-}
-
-pub fn action(alloc: Global, fact: Fact, time: Name) -> Result<Box<Formula>, Mem>
-    ensures { IfOk result (λ f. form f.value ≡ action fact time) }
-{
-    boxed(alloc, Formula::Action(fact, time))
-}
-
-pub fn equal(alloc: Global, left: Term, right: Term) -> Result<Box<Formula>, Mem>
-    ensures { IfOk result (λ f. form f.value ≡ equal (tree left) (tree right)) }
-{
-    boxed(alloc, Formula::Equal(left, right))
-}
-
-pub fn same(alloc: Global, left: Name, right: Name) -> Result<Box<Formula>, Mem>
-    ensures { IfOk result (λ f. form f.value ≡ same_time left right) }
-{
+    let left = Name::from_bytes(alloc, left)?;
+    let right = Name::from_bytes(alloc, right)?;
     boxed(alloc, Formula::Same(left, right))
-}
-
-pub fn earlier(alloc: Global, first: Name, second: Name) -> Result<Box<Formula>, Mem>
-    ensures { IfOk result (λ f. form f.value ≡ earlier first second) }
-{
-    boxed(alloc, Formula::Less(first, second))
-}
-
-pub fn negated(alloc: Global, formula: Box<Formula>) -> Result<Box<Formula>, Mem>
-    ensures { IfOk result (λ f. form f.value ≡ negation (form formula.value)) }
-{
-    boxed(alloc, Formula::Not(formula))
 }
 
 pub fn quantified(

@@ -8,9 +8,9 @@ ghost use Rattle.sap_statements.specs.code.FormulaView.{bound, levelled, made, o
 
 use crate::formula::atom::read_atom;
 use crate::formula::binders::read_binders;
-use crate::formula::build::{Connective, Measured, Quantifier, join, negated, quantified};
-use sap_formula::Binders;
-use sap_grammar::{Limits, beyond, starts};
+use crate::formula::build::{Connective, Measured, Quantifier, join, quantified};
+use sap_formula::Formula;
+use sap_grammar::{Limits, beyond, boxed, starts};
 use sap_terms::{Mem, Signature};
 use sap_text::Token;
 use std::alloc::Global;
@@ -64,40 +64,7 @@ fn read_negation<'a>(
     match read_un(alloc, sig, limits, bytes, depth, tokens)? {
         None => Ok(None),
         Some((Measured { formula, levels }, rest)) => {
-            let formula = negated(alloc, formula)?;
-            Ok(Some((
-                Measured {
-                    formula,
-                    levels: levels + 1,
-                },
-                rest,
-            )))
-        }
-    }
-}
-
-#[cycle(read)]
-#[tactic(auto, using(crate::proofs::Steps::steps), unfolding(sap_grammar::specs::Reading::after))]
-fn read_body<'a>(
-    alloc: Global,
-    sig: &Signature,
-    limits: Limits,
-    bytes: &[u8],
-    depth: u64,
-    quantifier: Quantifier,
-    binders: Binders,
-    body: &'a [Token],
-) -> Result<Option<(Measured, &'a [Token])>, Mem>
-    requires { depth < 2 ^ 40 }
-    ensures gives { Gives bytes.now levelled result (bodied (formula sig.now limits depth)
-        (bound quantifier binders) (words_of bytes.now body.now)) }
-    ensures within { IfOk result (λ o. IfSome o (λ r. (1 ≤ r.0.levels)
-        × (r.0.levels ≤ depth + 1))) }
-{
-    match read_iff(alloc, sig, limits, bytes, depth, body)? {
-        None => Ok(None),
-        Some((Measured { formula, levels }, rest)) => {
-            let formula = quantified(alloc, quantifier, binders, formula)?;
+            let formula = boxed(alloc, Formula::Not(formula))?;
             Ok(Some((
                 Measured {
                     formula,
@@ -128,8 +95,13 @@ fn read_quantified<'a>(
 {
     match read_binders(alloc, bytes, tokens)? {
         None => Ok(None),
-        Some((binders, rest)) => {
-            read_body(alloc, sig, limits, bytes, depth, quantifier, binders, rest)
+        Some((binders, body)) => {
+            let Some((body, rest)) = read_iff(alloc, sig, limits, bytes, depth, body)? else {
+                return Ok(None);
+            };
+            let formula = quantified(alloc, quantifier, binders, body.formula)?;
+            let levels = body.levels + 1;
+            Ok(Some((Measured { formula, levels }, rest)))
         }
     }
 }

@@ -1,9 +1,7 @@
--- What is said of one rule, restriction or lemma, and of all items behind a header.
+-- What is said of one rule, and of all items behind a header.
 use Rattle.std.specs.Prelude.{◌≡◌, ◌⊎◌, ℕ, false, List, Option}
 use Rattle.sap_terms.specs.Signature.{Sig}
-use Rattle.sap_formula.specs.Form.{Form, RestrictionForm, LemmaForm}
-use Rattle.sap_formula.specs.Faults.{IsFirstFault, told}
-use Rattle.sap_formula.specs.declared.fault.FormulaFlaw.{FormulaFlaw}
+use Rattle.sap_formula.specs.Form.{RestrictionForm, LemmaForm}
 use Rattle.sap_rule.specs.declared.rule.Rule.{Rule}
 use Rattle.sap_theory.specs.declared.fault.TheoryFault.{TheoryFault}
 use Rattle.sap_theory.specs.declared.fault.TheoryFault.TheVariants.{Formula, Syntax}
@@ -11,19 +9,22 @@ use Rattle.sap_grammar.specs.Cut.{Placed}
 use Rattle.sap_grammar.specs.Items.{Standing}
 use Rattle.sap_theory.specs.TheoryGrammar.{TheoryItem, items_of, rules_in, statements_in}
 use Rattle.sap_theory.specs.WrittenItems.{AreWrittenItems, IsFaulty}
-use Rattle.sap_theory.specs.TheoryCauses.{IsRefused, AreAccepted, restrictions_of, lemmas_of}
+use Rattle.sap_formula.specs.declared.fault.FormulaFault.{FormulaFault}
+use Rattle.sap_statements.specs.declared.statement.Statement.{Statement}
+use Rattle.sap_statements.specs.Stated.{IsFirstFaulty, restrictions_of, lemmas_of}
+use Rattle.sap_theory.specs.TheoryCauses.{IsRefused, AreAccepted}
 
 -- the rule isn't so, and is refused by its name
 pub record IsWrong (Is : Rule → Type 0) (fault : List ℕ → TheoryFault) (r : Rule) (e : TheoryFault) : Type 0 where
   pub wrong : Is r → ⊥
   pub is : e ≡ fault r.name
 
--- a formula of a restriction or lemma of this name is refused for this
-pub record IsFaultOf (g : Sig) (name : List ℕ) (f : Form) (e : TheoryFault) : Type 0 where
-  pub which : FormulaFlaw
-  pub part : List ℕ
-  pub is : e ≡ Formula name (told which part)
-  pub fault : IsFirstFault g false f which part
+-- the first restriction or lemma whose formula has a fault is refused for this
+pub record IsFirstUnchecked (g : Sig) (ss : List Statement) (e : TheoryFault) : Type 0 where
+  pub name : List ℕ
+  pub fault : FormulaFault
+  pub is : e ≡ Formula name fault
+  pub faulty : IsFirstFaulty g false ss name fault
 
 -- these are items under the signature that are accepted, and these are their parts
 pub record AreGood (g : Sig) (clash : Option (List ℕ)) (cut : List (List Placed)) (rules : List Rule) (rs : List RestrictionForm) (ls : List LemmaForm) : Type 0 where

@@ -69,19 +69,18 @@ fn read_item(
     sig: &Signature,
     bytes: &[u8],
     item: &[Token],
-    rules: &mut RuleList,
-    statements: &mut Items<Statement>,
+    contents: &mut Contents,
 ) -> Result<bool, Mem>
-    ensures { IfOk result (λ b. IsAdded sig.now bytes.now item.now rules.old rules.new
-        statements.old statements.new b) }
+    ensures { IfOk result (λ b. IsAdded sig.now bytes.now item.now contents.old.rules
+        contents.new.rules contents.old.statements contents.new.statements b) }
 {
     item_laws();
     if starts(bytes, item, "rule") {
-        read_ruled(alloc, sig, bytes, item, rules)
+        read_ruled(alloc, sig, bytes, item, &mut contents.rules)
     } else if is_declaration(alloc, bytes, item)? {
         Ok(true)
     } else {
-        read_stated(alloc, sig, bytes, item, statements)
+        read_stated(alloc, sig, bytes, item, &mut contents.statements)
     }
 }
 
@@ -110,15 +109,17 @@ pub(crate) fn read_items(
         × (e ≡ Syntax line) }
 {
     item_laws();
-    let mut rules = RuleList::new(alloc);
-    let mut statements = Items::new(alloc);
+    let mut contents = Contents {
+        rules: RuleList::new(alloc),
+        statements: Items::new(alloc),
+    };
     let mut rest = tokens;
     while !rest.is_empty() {
         let (item, behind) = split_item(bytes, rest);
         if is_last(bytes, item, behind) {
-            return Ok(Contents { rules, statements });
+            return Ok(contents);
         }
-        if !read_item(alloc, sig, bytes, item, &mut rules, &mut statements)? {
+        if !read_item(alloc, sig, bytes, item, &mut contents)? {
             return Err(TheoryFault::Syntax {
                 line: line_of(item),
             });

@@ -5,16 +5,16 @@ ghost use Rattle.sap_rule.specs.declared.rule.Rule.{Rule};
 ghost use Rattle.sap_grammar.specs.Words.{words_of};
 ghost use Rattle.sap_grammar.specs.Reading.{Gives};
 ghost use Rattle.sap_theory.specs.TheoryGrammar.{rule, IsWrittenItem};
-ghost use Rattle.sap_theory.specs.code.RuleReading.{right_side, shown_facts, arrow, left_side, named, a_rule};
+ghost use Rattle.sap_theory.specs.code.RuleReading.{right_side, shown_facts, left_side, a_rule};
 
 use crate::reading::laws::fact_laws;
-use sap_grammar::{Limits, beyond, name_at, read_facts, starts};
+use sap_grammar::{Limits, beyond, boxed, name_at, read_facts, starts};
 use sap_rule::Rule;
 use sap_terms::{FactList, Mem, Name, Signature};
 use sap_text::Token;
 use std::alloc::Global;
 
-fn boxed(
+fn made(
     alloc: Global,
     name: &[u8],
     left: FactList,
@@ -24,7 +24,7 @@ fn boxed(
     ensures { IfOk result (λ r. r.value ≡ record { name = name.now; left = left; acts = acts; right = right }) }
 {
     let name = Name::from_bytes(alloc, name)?;
-    Ok(Box::new(
+    boxed(
         alloc,
         Rule {
             name,
@@ -32,7 +32,7 @@ fn boxed(
             acts,
             right,
         },
-    )?)
+    )
 }
 
 #[tactic(auto, using(crate::proofs::Steps::steps), unfolding(sap_grammar::specs::Reading::after, crate::specs::code::RuleReading::past))]
@@ -55,7 +55,7 @@ fn read_right_side<'a>(
     match read_facts(alloc, sig, limits, bytes, true, "]", beyond(1, tokens))? {
         None => Ok(None),
         Some((right, rest)) => {
-            let rule = boxed(alloc, name, left, acts, right)?;
+            let rule = made(alloc, name, left, acts, right)?;
             Ok(Some((rule, rest)))
         }
     }
@@ -83,36 +83,6 @@ fn read_shown<'a>(
     }
 }
 
-#[tactic(auto, using(crate::proofs::Steps::steps))]
-fn read_arrow<'a>(
-    alloc: Global,
-    sig: &Signature,
-    limits: Limits,
-    bytes: &[u8],
-    name: &[u8],
-    left: FactList,
-    tokens: &'a [Token],
-) -> Result<Option<(Box<Rule>, &'a [Token])>, Mem>
-    ensures { Gives bytes.now (λ r. r.value) result (arrow sig.now limits name.now left
-        (words_of bytes.now tokens.now)) }
-{
-    if starts(bytes, tokens, "-->") {
-        let none = FactList::new(alloc);
-        read_right_side(
-            alloc,
-            sig,
-            limits,
-            bytes,
-            name,
-            left,
-            none,
-            beyond(1, tokens),
-        )
-    } else {
-        read_shown(alloc, sig, limits, bytes, name, left, tokens)
-    }
-}
-
 #[tactic(auto, using(crate::proofs::Steps::steps), unfolding(sap_grammar::specs::Reading::after))]
 fn read_left_side<'a>(
     alloc: Global,
@@ -127,27 +97,15 @@ fn read_left_side<'a>(
 {
     match read_facts(alloc, sig, limits, bytes, true, "]", tokens)? {
         None => Ok(None),
-        Some((left, rest)) => read_arrow(alloc, sig, limits, bytes, name, left, rest),
-    }
-}
-
-#[tactic(auto, using(crate::proofs::Steps::steps), unfolding(crate::specs::code::RuleReading::past))]
-fn read_named<'a>(
-    alloc: Global,
-    sig: &Signature,
-    limits: Limits,
-    bytes: &[u8],
-    name: &[u8],
-    tokens: &'a [Token],
-) -> Result<Option<(Box<Rule>, &'a [Token])>, Mem>
-    ensures { Gives bytes.now (λ r. r.value) result (named sig.now limits name.now
-        (words_of bytes.now tokens.now)) }
-{
-    let rest = beyond(1, tokens);
-    if starts(bytes, tokens, ":") && starts(bytes, rest, "[") {
-        read_left_side(alloc, sig, limits, bytes, name, beyond(1, rest))
-    } else {
-        Ok(None)
+        Some((left, rest)) => {
+            if starts(bytes, rest, "-->") {
+                let acts = FactList::new(alloc);
+                let next = beyond(1, rest);
+                read_right_side(alloc, sig, limits, bytes, name, left, acts, next)
+            } else {
+                read_shown(alloc, sig, limits, bytes, name, left, rest)
+            }
+        }
     }
 }
 
@@ -167,9 +125,17 @@ fn read_any<'a>(
         return Ok(None);
     }
     let rest = beyond(1, tokens);
+    let colon = beyond(1, rest);
+    let bracket = beyond(1, colon);
     match name_at(bytes, rest) {
         None => Ok(None),
-        Some(name) => read_named(alloc, sig, limits, bytes, name, beyond(1, rest)),
+        Some(name) => {
+            if starts(bytes, colon, ":") && starts(bytes, bracket, "[") {
+                read_left_side(alloc, sig, limits, bytes, name, beyond(1, bracket))
+            } else {
+                Ok(None)
+            }
+        }
     }
 }
 

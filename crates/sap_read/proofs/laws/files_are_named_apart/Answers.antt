@@ -8,7 +8,7 @@ use Rattle.sap_read.specs.Item.{bodies, declarations, statements}
 use Rattle.sap_read.specs.declared.fault.ReadFault.{ReadFault}
 use Rattle.sap_read.specs.Files.{FileContent, IsRead, no_tokens, no_header, no_item, refused, ill, locked, unchecked, accepted}
 use Rattle.sap_read.specs.OwnNames.{statement_names, IsNamedApart}
-use Rattle.sap_read.specs.Stated.{restrictions_of, lemmas_of}
+use Rattle.sap_statements.specs.Stated.{restrictions_of, lemmas_of}
 use Rattle.sap_read.proofs.OwnNames.{own_names, unreserved_names}
 use Rattle.sap_read.proofs.Unrefused.{no_cause}
 use Rattle.sap_read.proofs.laws.files_are_named_apart.Goals as goal

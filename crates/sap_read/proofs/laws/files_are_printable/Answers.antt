@@ -17,7 +17,7 @@ use Rattle.sap_read.specs.declared.fault.ReadFault.{ReadFault}
 use Rattle.sap_read.specs.declared.fault.ReadFault.TheVariants.{TooDeep}
 use Rattle.sap_read.specs.Files.{FileContent, IsRead, no_tokens, no_header, no_item, refused, ill, locked, unchecked, accepted}
 use Rattle.sap_read.specs.Printable.{IsDeclarable, IsPrintableRestriction, IsPrintableLemma, IsPrintableFile}
-use Rattle.sap_read.specs.Stated.{restrictions_of, lemmas_of}
+use Rattle.sap_statements.specs.Stated.{restrictions_of, lemmas_of}
 use Rattle.sap_read.proofs.DeclaredSymbols.{declared_map, declared_can, pairs_map}
 use Rattle.sap_read.proofs.PrintableItems.{SpelledLaws, placed_held, header_held, cut_held, all_bodies, all_declares, all_states}
 use Rattle.sap_read.proofs.PrintableLabels.{annotated_printable, annotated_levels}

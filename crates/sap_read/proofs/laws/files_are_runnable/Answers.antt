@@ -16,7 +16,7 @@ use Rattle.sap_read.specs.declared.fault.ReadFault.TheVariants.{TooMany}
 use Rattle.sap_read.specs.Files.{FileContent, IsRead, IsRunnable, no_tokens, no_header, no_item, refused, ill, locked, unchecked, accepted}
 use Rattle.sap_read.proofs.Sizes.{sorts_keep_size}
 use Rattle.sap_read.proofs.Unrefused.{builtins_held, no_cause, not_above, pairs_held}
-use Rattle.sap_read.proofs.Unchecked.{restrictions_checked, lemmas_checked}
+use Rattle.sap_read.proofs.Checked.{restrictions_checked, lemmas_checked}
 use Rattle.sap_read.proofs.laws.files_are_runnable.Goals as goal
 
 module _ (held : BuiltinsStayHeld) (checks : CheckLaw) (well : (g : Sig) (p : Proc) → IsWellFormed g p → IsReady g (with_sorts [] p)) where

@@ -30,5 +30,6 @@ returns-in_err-check_shapes-clause-refused c = λ e h n.
 
 pub returns-clause-refused : goal.returns-clause-refused
 returns-clause-refused c = λ e h n.
-    of_formulas c.in_ok-check_names.ensures.none c.in_ok-check_clash.ensures.none c.in_ok-check_symbols.ensures.sound c.in_ok-check_shapes.ensures.sound
-    (c.check_statements.ensures.refused e h n)
+    let r = c.check_formulas.ensures.refused e h n in
+    subst (λ (q : TheoryFault). IsRefused c.args.sig.now c.args.clash.now c.args.rules.now c.args.statements.now q) (sym r.is)
+    (of_formulas c.in_ok-check_names.ensures.none c.in_ok-check_clash.ensures.none c.in_ok-check_symbols.ensures.sound c.in_ok-check_shapes.ensures.sound r.faulty)

@@ -8,9 +8,6 @@ use Rattle.sap_theory.proofs.formulas.+push_formula.Given as goal
 abbrev pub decreases-push_formula : goal.decreases-push_formula
 decreases-push_formula l = 5 * form_size (form l.f.now) + 2
 
-abbrev pub decreases-push_enclosed : goal.decreases-push_enclosed
-decreases-push_enclosed l = 5 * form_size (form l.f.now) + 1
-
 abbrev pub decreases-push_open : goal.decreases-push_open
 decreases-push_open l = 5 * form_size (form l.f.now)
 

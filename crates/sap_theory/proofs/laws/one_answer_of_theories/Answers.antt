@@ -11,4 +11,4 @@ returns c = one_answer_of_theories (record {
   declared = c.declarations_are_read.ensures.complete;
   one_builtins = c.declarations_are_read.ensures.builtins;
   one_symbols = c.declarations_are_read.ensures.symbols;
-}) c.one_fault.ensures.fault c.one_fault.ensures.none
+}) c.one_faulty_statement.ensures.one c.one_faulty_statement.ensures.never

@@ -48,10 +48,10 @@ returns-clause-accepted c =
     let g = c.in_ok-declared.declared.signature in
     let clash = c.in_ok-declared.declared.clash in
     let found = sym c.header_name.ensures ∙ ap option_copied c.in-Some.is in
-    let head = c.in_ok-theory_of.ensures.head in
-    let lists = c.in_ok-theory_of.ensures.lists in
+    let head = c.theory_of.ensures.head in
+    let lists = c.theory_of.ensures.lists in
     let content = c.in_ok-content.content in
-    rw (head.0, head.1, lists.0, lists.1, lists.2) (is_accepted c.item_laws.ensures c.headers_are_read.ensures.found z ts c.in-Some.name.now g clash c.requires found
+    rw (head.0, c.in_ok-title.ensures, head.1, lists.0, lists.1, lists.2) (is_accepted c.item_laws.ensures c.headers_are_read.ensures.found z ts c.in-Some.name.now g clash c.requires found
     (told c.item_laws.ensures z ts rest g clash c.beyond-rest.ensures c.in_ok-declared.ensures.signature c.in_ok-declared.ensures.clash)
     content.rules content.checked.restrictions content.checked.lemmas
     (c.in_ok-content.ensures.accepted (pieces_of z ts) (cut_behind c.item_laws.ensures z ts rest c.beyond-rest.ensures)))

@@ -40,9 +40,6 @@ decreases-read_last l = 32 * l.depth + 18
 abbrev pub decreases-read_iff : goal.decreases-read_iff
 decreases-read_iff l = 32 * l.depth + 19
 
-abbrev pub decreases-read_body : goal.decreases-read_body
-decreases-read_body l = 32 * l.depth + 20
-
 abbrev pub decreases-read_enclosed : goal.decreases-read_enclosed
 decreases-read_enclosed l = 32 * l.depth + 20
 

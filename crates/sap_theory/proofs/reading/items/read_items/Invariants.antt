@@ -7,7 +7,7 @@ use Rattle.sap_theory.proofs.reading.items.read_items.Given as goal
 
 abbrev pub invariant-loop-rest : goal.invariant-loop-rest
 invariant-loop-rest l = record {
-  good : IsGoodBehind l.fn.sig l.fn.bytes l.fn.tokens l.rest l.rules l.statements;
+  good : IsGoodBehind l.fn.sig l.fn.bytes l.fn.tokens l.rest l.contents.rules l.contents.statements;
   faulty : (n : ℕ) → IsFaulty l.fn.last (cut (placed l.fn.bytes l.rest)) n → IsFaulty l.fn.last (cut (placed l.fn.bytes l.fn.tokens)) n;
 }
 
