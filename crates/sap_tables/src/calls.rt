@@ -1,74 +1,80 @@
 //! Calls of the program over files and streams in memory, which may fail.
 ghost use Rattle.std.specs.Prelude.{◌<◌};
 
-use crate::files::file_bytes;
-use crate::notation::{FromWord, between, list, number, part, parted, push_written, written};
+use crate::desk::Desk;
+use crate::notation::{between, enclosed, file_bytes, number, part, parted};
 use crate::page::Page;
-use crate::reading::{show_read_back, theory_row};
+use crate::theories::show_read;
 use sap_tool::{MemShelf, MemSink, sapic};
-use std::alloc::Global;
 use std::collections::BTreeMap;
+use std::str;
 
-// The call of this number fails after this many bytes: `1 5`.
-impl FromWord for (u64, u64) {
-    fn from_word(page: &mut Page, word: &str) -> Option<(u64, u64)> {
-        let (call, taken) = parted(word);
-        Some((number(page, call), number(page, taken)))
+// The words, with a blank between each two.
+fn words_of(page: &mut Page, text: &str) -> Vec<String> {
+    let mut words = Vec::new(page.alloc);
+    for word in text.split_whitespace() {
+        match String::from_str(page.alloc, word) {
+            Ok(word) => {
+                if words.push(word).is_err() {
+                    page.fail();
+                }
+            }
+            Err(_) => page.fail(),
+        }
     }
+    words
 }
 
-impl FromWord for String {
-    fn from_word(page: &mut Page, word: &str) -> Option<String> {
-        String::from_str(page.alloc, word).ok()
+// A sink with these failures, parted by commas: `1 5` where the first call fails after five bytes.
+fn sink(page: &mut Page, failures: &str) -> MemSink {
+    let mut fail_on = Vec::new(page.alloc);
+    for failure in failures.split(',') {
+        if !failure.is_empty() {
+            let (call, taken) = parted(failure.trim());
+            if fail_on
+                .push((number(page, call), number(page, taken)))
+                .is_err()
+            {
+                page.fail();
+            }
+        }
     }
-}
-
-/// A sink with these failures, parted by commas.
-pub fn sink(page: &mut Page, failures: &str) -> MemSink {
     MemSink {
         bytes: Vec::new(page.alloc),
-        fail_on: list(page, ',', failures).into_vec(),
+        fail_on,
         calls: 0,
         count: 0,
         wants: 0,
     }
 }
 
-fn add_file(
-    files: &mut BTreeMap<String, Vec<u8>>,
-    name: Option<String>,
-    bytes: Option<Vec<u8>>,
-) -> Option<()> {
-    let (name, bytes) = name.zip(bytes)?;
-    files.insert(name, bytes).ok()?;
-    Some(())
-}
-
-// Puts a file of this name to the others.
-fn put_file(page: &mut Page, files: &mut BTreeMap<String, Vec<u8>>, name: &str, bytes: &[u8]) {
+/// Puts a file of this name to the others.
+pub fn put_file(page: &mut Page, files: &mut BTreeMap<String, Vec<u8>>, name: &str, bytes: &[u8]) {
     let name = String::from_str(page.alloc, name).ok();
-    if add_file(files, name, bytes.to_vec(page.alloc).ok()).is_none() {
-        page.fail();
+    match name.zip(bytes.to_vec(page.alloc).ok()) {
+        Some((name, bytes)) => {
+            if files.insert(name, bytes).is_err() {
+                page.fail();
+            }
+        }
+        None => page.fail(),
     }
 }
 
-// The files a.spthy and b.run.
-fn files_with(page: &mut Page, file: &[u8], run: &[u8]) -> BTreeMap<String, Vec<u8>> {
+/// A shelf with the files a.spthy and b.run, whose call of this number fails, none where that is 0, and which gives so many bytes of a
+/// run at once.
+pub fn shelf_of(page: &mut Page, file: &[u8], run: &[u8], failing: u64, piece: u64) -> MemShelf
+    requires { 0 < piece }
+{
     let mut files = BTreeMap::new(page.alloc);
     put_file(page, &mut files, "a.spthy", file);
     put_file(page, &mut files, "b.run", run);
-    files
-}
-
-// A shelf with these two files, whose call of this number fails, none where that is 0, and which gives so many bytes of a run at
-// once.
-fn shelf(page: &mut Page, file: &[u8], run: &[u8], failing: u64, piece: u64) -> MemShelf
-    requires { 0 < piece }
-{
     let mut fail_on = Vec::new(page.alloc);
-    page.push(&mut fail_on, Some(failing));
+    if fail_on.push(failing).is_err() {
+        page.fail();
+    }
     MemShelf {
-        files: files_with(page, file, run),
+        files,
         fail_on,
         calls: 0,
         count: 0,
@@ -78,211 +84,187 @@ fn shelf(page: &mut Page, file: &[u8], run: &[u8], failing: u64, piece: u64) -> 
     }
 }
 
-/// The status, and what out and err took.
-pub fn show_end(page: &mut Page, status: u8, out: &MemSink, err: &MemSink) {
+// The status, and what out and err took.
+fn show_end(page: &mut Page, status: u8, out: &MemSink, err: &MemSink) {
     page.numbered("", status as u64);
-    if !out.bytes.is_empty() {
-        page.word(" out ");
-        page.bytes(out.bytes.as_slice());
-    }
-    if !err.bytes.is_empty() {
-        page.word(" err ");
-        page.bytes(err.bytes.as_slice());
-    }
-}
-
-// How often the shelf is asked and out and err are written to.
-fn show_counts(page: &mut Page, asked: u64, out: &MemSink, err: &MemSink) {
-    page.numbered("", asked);
-    page.numbered(" ", out.calls);
-    page.numbered(" ", err.calls);
-    page.word(", ");
-}
-
-// The cause of a refusal, `compiled`, or all that is left.
-fn show_refusal(page: &mut Page, status: u8, out: &MemSink, err: &MemSink) {
-    let cause = between(err.bytes.as_slice(), "file refused: ", "\n");
-    match (status, cause) {
-        (0, _) if err.bytes.is_empty() => page.word("compiled"),
-        (1, Some(cause)) if out.bytes.is_empty() => page.bytes(cause),
-        _ => show_end(page, status, out, err),
-    }
-}
-
-// What stands behind the first rule of the theory T: its other rules, and its restrictions from the name of the first on.
-fn rules_and_restrictions(text: &str) -> Option<(&str, &str)> {
-    text.strip_prefix("theory T\nbegin\n\nrule Init:\n  [ ] --[ Init() ]-> [ State_() ]\n")?
-        .strip_suffix("\nend\n")?
-        .split_once("\nrestriction ")
-}
-
-// The names of restrictions, from that of the first on.
-fn show_names(page: &mut Page, restrictions: &str) {
-    let mut first = true;
-    for restriction in restrictions.split("\nrestriction ") {
-        if !first {
-            page.word(" ");
+    for (word, sink) in [(" out ", out), (" err ", err)] {
+        if !sink.bytes.is_empty() {
+            page.word(word);
+            page.bytes(sink.bytes.as_slice());
         }
-        page.word(restriction.split(':').next().unwrap_or(""));
-        first = false;
     }
 }
 
-// Of a theory what the kind asks for.
-fn show_part(page: &mut Page, kind: &str, text: &str) {
-    match (kind, rules_and_restrictions(text)) {
-        ("rules", Some((rules, _))) => page.word(rules),
-        ("needed", Some((_, restrictions))) => show_names(page, restrictions),
-        ("restrictions", Some((_, restrictions))) => {
-            page.word("\nrestriction ");
-            page.word(restrictions);
-        }
-        _ => page.word(text),
-    }
-}
-
-// Of the theory that out took what the kind asks for, or all that is left.
-fn show_theory(page: &mut Page, kind: &str, status: u8, out: &MemSink, err: &MemSink) {
-    match str::from_utf8(out.bytes.as_slice()) {
-        Ok(text) if status == 0 && err.bytes.is_empty() => show_part(page, kind, text),
-        _ => show_end(page, status, out, err),
-    }
-}
-
-// Of a theory of the process `0` what the file says of traces: its formula, as `formula`, where that is the lemma l alone; as
-// `inlined`, what stands behind the rules; as `items`, what stands behind the restriction that the process needs.
-fn stated<'a>(kind: &str, text: &'a str) -> Option<&'a str> {
+// Of the text of a theory what the kind asks for. Of one without formulas, as `rules` its rules behind the first, as `restrictions`
+// its restrictions; of one of the process `0`, as `formula` that of the lemma l alone, as `inlined` what stands behind its rules, as
+// `items` what stands behind the restriction that the process needs.
+fn cut<'a>(kind: &str, text: &'a str) -> Option<&'a str> {
     let (before, behind) = match kind {
         "formula" => ("\nlemma l:\n  all-traces\n  \"", "\"\n\nend\n"),
         "inlined" => ("\n  [ State_() ] --> [ ]\n", "\nend\n"),
-        _ => ("#i = #j\"\n", "\nend\n"),
+        "items" => ("#i = #j\"\n", "\nend\n"),
+        _ => (
+            "theory T\nbegin\n\nrule Init:\n  [ ] --[ Init() ]-> [ State_() ]\n",
+            "\nend\n",
+        ),
     };
     let (_, rest) = text.split_once(before)?;
-    rest.strip_suffix(behind)
-}
-
-// What the file says of traces, as the theory that out took has it; else why it is refused, or all that is left.
-fn show_stated(page: &mut Page, kind: &str, status: u8, out: &MemSink, err: &MemSink) {
-    let text = str::from_utf8(out.bytes.as_slice()).unwrap_or("");
-    match stated(kind, text) {
-        Some(stated) if status == 0 && err.bytes.is_empty() => page.word(stated),
-        _ => show_refusal(page, status, out, err),
+    let inside = rest.strip_suffix(behind)?;
+    match kind {
+        "rules" => Some(inside.split_once("\nrestriction ")?.0),
+        "restrictions" => Some(inside.split_once("\nrestriction ")?.1),
+        _ => Some(inside),
     }
 }
 
-// Calls the program, and shows of it what the kind asks for.
-fn call(
-    page: &mut Page,
-    kind: &str,
-    words: &Vec<String>,
-    shelf: &mut MemShelf,
-    out: &mut MemSink,
-    err: &mut MemSink,
-) {
-    let status = sapic(page.alloc, words, shelf, out, err);
+// What out took, without faults: of it what the kind asks for.
+fn show_out(page: &mut Page, kind: &str, out: &MemSink) {
+    let bytes = out.bytes.as_slice();
     match kind {
-        "counts" => {
-            show_counts(page, shelf.calls, out, err);
+        "refusal" => page.word("compiled"),
+        "back" => show_read(page, bytes, true),
+        "text" => page.bytes(bytes),
+        _ => match cut(kind, str::from_utf8(bytes).unwrap_or("")) {
+            Some(inside) => page.word(inside),
+            None => page.bytes(bytes),
+        },
+    }
+}
+
+// What the kind asks for: as `counts` how often the shelf is asked and out and err are written to, the status and the texts; as
+// `theory` the status and the texts; else what out took, the cause that refuses the file, or the status and the texts.
+fn show_call(page: &mut Page, kind: &str, status: u8, asked: u64, out: &MemSink, err: &MemSink) {
+    let cause = between(err.bytes.as_slice(), "file refused: ", "\n");
+    match (kind, cause) {
+        ("counts", _) => {
+            page.numbered("", asked);
+            page.numbered(" ", out.calls);
+            page.numbered(" ", err.calls);
+            page.word(", ");
             show_end(page, status, out, err);
         }
-        "refusal" => show_refusal(page, status, out, err),
-        "back" if status == 0 => show_read_back(page, out.bytes.as_slice()),
-        "theory" => show_end(page, status, out, err),
-        "formula" | "items" | "inlined" => show_stated(page, kind, status, out, err),
-        _ => show_theory(page, kind, status, out, err),
+        ("theory", _) => show_end(page, status, out, err),
+        (_, Some(cause)) if status == 1 && out.bytes.is_empty() => page.bytes(cause),
+        _ if status == 0 && err.bytes.is_empty() => show_out(page, kind, out),
+        _ => show_end(page, status, out, err),
     }
 }
 
-/// The words; the bytes of a.spthy; the number of the call at which the shelf fails, or 0; the failures of out and those of err;
-/// how often the shelf is asked and out and err are written to, the status, and what out and err took.
-pub fn calls_row(page: &mut Page, row: &str) {
-    let words = list(page, ' ', part(row, 0)).into_vec();
-    let failing = number(page, part(row, 2));
-    let file = written(page.alloc, part(row, 1));
-    let mut shelf = shelf(page, file.as_bytes(), b"", failing, 1);
-    let mut out = sink(page, part(row, 3));
-    let mut err = sink(page, part(row, 4));
-    call(page, "counts", &words, &mut shelf, &mut out, &mut err);
+/// Calls the program with these words over the shelf and over sinks with these failures, and shows of it what the kind asks for.
+fn call(page: &mut Page, kind: &str, words: &str, shelf: &mut MemShelf, out: &str, err: &str) {
+    let words = words_of(page, words);
+    let mut out = sink(page, out);
+    let mut err = sink(page, err);
+    let status = sapic(page.alloc, &words, shelf, &mut out, &mut err);
+    show_call(page, kind, status, shelf.calls, &out, &err);
+}
+
+// The same over a shelf of these files that doesn't fail.
+fn call_on(page: &mut Page, kind: &str, words: &str, file: &[u8], run: &[u8]) {
+    let mut shelf = shelf_of(page, file, run, 0, 4096);
+    call(page, kind, words, &mut shelf, "", "");
 }
 
 /// The words; the bytes of a.spthy and of b.run; the number of the call at which the shelf fails, or 0; how many bytes of a run it
-/// gives at once; the failures of out and those of err; and what `calls_row` shows.
-pub fn run_calls_row(page: &mut Page, row: &str) {
-    let words = list(page, ' ', part(row, 0)).into_vec();
-    let file = written(page.alloc, part(row, 1));
-    let run = written(page.alloc, part(row, 2));
+/// gives at once; the failures of out and those of err; and how often the shelf is asked and out and err are written to, the status,
+/// and what out and err took.
+pub fn calls_row(page: &mut Page, row: &str) {
+    let file = enclosed(page.alloc, "", part(row, 1), "");
+    let run = enclosed(page.alloc, "", part(row, 2), "");
     let failing = number(page, part(row, 3));
     let piece = number(page, part(row, 4));
     if piece == 0 {
         page.fail();
         return;
     }
-    let mut shelf = shelf(page, file.as_bytes(), run.as_bytes(), failing, piece);
-    let mut out = sink(page, part(row, 5));
-    let mut err = sink(page, part(row, 6));
-    call(page, "counts", &words, &mut shelf, &mut out, &mut err);
+    let mut shelf = shelf_of(page, file.as_bytes(), run.as_bytes(), failing, piece);
+    call(
+        page,
+        "counts",
+        part(row, 0),
+        &mut shelf,
+        part(row, 5),
+        part(row, 6),
+    );
 }
 
-// Calls the program on the file a.spthy of these bytes alone, and shows of it what the kind asks for.
-fn call_on(page: &mut Page, kind: &str, words: &str, bytes: &[u8]) {
-    let words = list(page, ' ', words).into_vec();
-    let mut shelf = shelf(page, bytes, b"", 0, 1);
-    let mut out = sink(page, "");
-    let mut err = sink(page, "");
-    call(page, kind, &words, &mut shelf, &mut out, &mut err);
-}
-
-/// Compiles a file, and shows: as `refusal` the cause that refuses it, or `compiled`; as `theory` the status, and the text of its
-/// theory; of the theory T, as `rules` its rules behind the first, as `restrictions` its restrictions, as `needed` their names.
-pub fn compile(page: &mut Page, kind: &str, file: &str) {
+/// Calls a command on the file, and shows of it what the kind asks for.
+pub fn command(page: &mut Page, kind: &str, words: &str, file: &str) {
     let bytes = file_bytes(page.alloc, file);
-    call_on(page, kind, "compile a.spthy", bytes.as_bytes());
+    call_on(page, kind, words, bytes.as_bytes(), b"");
 }
 
-// A file of the process `0` with the symbols c and f: as `formula`, with the text as that of its one lemma l; else with the text
-// as its other items.
-fn small_file(alloc: Global, kind: &str, text: &str) -> Page {
-    let mut bytes = Page::new(alloc);
-    bytes.word("theory T begin functions: c/0, f/1 process: 0 ");
-    if kind == "formula" {
-        bytes.word("lemma l: \"");
-    }
-    push_written(&mut bytes, text);
-    bytes.word(if kind == "formula" { "\" end" } else { " end" });
-    bytes
-}
-
-/// What a file says of traces, a formula or items, and how the theory has it, or why the file is refused: as `inlined` the theory
-/// of `compile-inline`. As `inlined-theory` a file, and the status and text of that command.
+/// What a file of the process `0` with the symbols c and f says of traces, a `formula` or `items`, and how the theory has it, or why
+/// the file is refused: as `inlined` the theory of `compile-inline`. As `inlined-theory` a file, and the status and text of that
+/// command.
 pub fn statements_row(page: &mut Page, row: &str) {
-    let kind = part(row, 0);
-    let file = part(row, 1);
-    match kind {
-        "inlined-theory" => {
-            let bytes = file_bytes(page.alloc, file);
-            call_on(page, "theory", "compile-inline a.spthy", bytes.as_bytes());
-        }
-        "inlined" => {
-            let bytes = small_file(page.alloc, kind, file);
-            call_on(page, kind, "compile-inline a.spthy", bytes.as_bytes());
-        }
-        _ => {
-            let bytes = small_file(page.alloc, kind, file);
-            call_on(page, kind, "compile a.spthy", bytes.as_bytes());
+    let symbols = "theory T begin functions: c/0, f/1 process: 0 ";
+    let lemma = "theory T begin functions: c/0, f/1 process: 0 lemma l: \"";
+    let (before, behind, words) = match part(row, 0) {
+        "inlined-theory" => return command(page, "theory", "compile-inline a.spthy", part(row, 1)),
+        "inlined" => (symbols, " end", "compile-inline a.spthy"),
+        "formula" => (lemma, "\" end", "compile a.spthy"),
+        _ => (symbols, " end", "compile a.spthy"),
+    };
+    let bytes = enclosed(page.alloc, before, part(row, 1), behind);
+    call_on(page, part(row, 0), words, bytes.as_bytes(), b"");
+}
+
+// The lines of a run without its head, or why it is refused.
+fn show_lines(page: &mut Page, text: &[u8]) {
+    let text = str::from_utf8(text).unwrap_or("");
+    match text.split_once(" err run refused: ") {
+        Some((_, cause)) => page.word(cause.trim()),
+        None => {
+            let (_, lines) = text.split_once('\n').unwrap_or(("", text));
+            page.word(lines.trim());
         }
     }
 }
 
-/// As `read` a theory; else a command and a file: whether the theory that is written is read back as the same text.
-pub fn theories_row(page: &mut Page, row: &str) {
-    if part(row, 0) == "read" {
-        theory_row(page, row);
-        return;
+// A run converted by this command, or why it is refused.
+fn converted(page: &mut Page, words: &str, file: &[u8], run: &[u8]) -> Page {
+    let mut text = Page::new(page.alloc);
+    call_on(&mut text, "text", words, file, run);
+    if !text.is_whole {
+        page.fail();
     }
-    let mut words = Page::new(page.alloc);
-    words.word(part(row, 1));
-    words.word(" a.spthy");
-    let bytes = file_bytes(page.alloc, part(row, 2));
-    let words = str::from_utf8(words.as_bytes()).unwrap_or("");
-    call_on(page, "back", words, bytes.as_bytes());
+    text
+}
+
+/// `process`, a file, the lines of a run of its process, and those of the run of its rules opposite, or the first illegal line with its
+/// fault; and where these don't convert back to the first, what they convert back to, behind a bar. `rules`, a file, the lines of a run of
+/// its rules, and those of the run of its process opposite, or the first line that is refused or breaks a restriction.
+pub fn conversions_row(page: &mut Page, row: &str) {
+    let (head, words) = match part(row, 0) {
+        "process" => ("process-run\n", "to-rules a.spthy b.run"),
+        _ => ("rule-run\n", "to-process a.spthy b.run"),
+    };
+    let behind = if part(row, 2).is_empty() { "" } else { "\n" };
+    let file = file_bytes(page.alloc, part(row, 1));
+    let run = enclosed(page.alloc, head, part(row, 2), behind);
+    let there = converted(page, words, file.as_bytes(), run.as_bytes());
+    show_lines(page, there.as_bytes());
+    if there.as_bytes().starts_with(b"rule-run\n") {
+        let words = "to-process a.spthy b.run";
+        let back = converted(page, words, file.as_bytes(), there.as_bytes());
+        if back.as_bytes() != run.as_bytes() {
+            page.word(" | ");
+            show_lines(page, back.as_bytes());
+        }
+    }
+}
+
+/// The words of a command on example files, and the text that out takes, or `= NAME` where that is the text of the file of this name.
+pub fn examples_row(page: &mut Page, desk: &mut Desk, row: &str) {
+    let mut text = Page::new(page.alloc);
+    call(&mut text, "text", part(row, 0), &mut desk.shelf, "", "");
+    if !text.is_whole {
+        page.fail();
+    }
+    let want = part(row, 1);
+    match desk.shelf.files.get(want.strip_prefix("= ").unwrap_or("")) {
+        Some(file) if file.as_slice() == text.as_bytes() => page.word(want),
+        _ => page.bytes(text.as_bytes()),
+    }
 }

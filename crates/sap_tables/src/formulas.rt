@@ -1,131 +1,118 @@
-//! Formulas as words, each behind those that it is made of.
-//!
-//! T, F, A(x)@i, x='a', #i=#j and #i<#j, and not, and, or, imp, iff, All:x,#i and Ex:x,#i on those before them.
-use crate::notation::{FromWord, between, fact, list, name, part, term, variable};
+//! Formulas: printed, checked, judged, and with restrictions that they carry.
+use crate::notation::{enclosed, facts, first, name, part, tokens_of, trace};
 use crate::page::Page;
-use crate::theories::{begin, push_theory, put_lemma};
-use sap_formula::{Binder, Formula};
+use crate::theories::{add_lemma, add_restriction, begin, mode_of};
+use sap_formula::{Formula, FormulaFault, Verdict, check, judge};
+use sap_read::read_formula;
+use sap_refusals::theory_line;
+use sap_restrict::inline;
 use sap_rule::Theory;
-use sap_terms::{Name, Signature};
-use std::alloc::Global;
+use sap_terms::Signature;
+use sap_theory::{TheoryFault, print};
 
-fn time(alloc: Global, word: &str) -> Option<Name> {
-    name(alloc, word.strip_prefix('#')?)
+// A fact that may be persistent and have fresh names, at a time: `!F(~n1)@i`.
+fn action(page: &mut Page, sig: &Signature, fact: &str, time: &str) -> Option<Formula> {
+    let fact = facts(page, sig, fact).into_vec().pop();
+    let (fact, time) = fact.zip(name(page.alloc, time))?;
+    Some(Formula::Action(fact, time))
 }
 
-fn action(page: &mut Page, sig: &Signature, shown: &str, i: &str) -> Option<Formula> {
-    let (i, shown) = name(page.alloc, i).zip(fact(page, sig, shown))?;
-    Some(Formula::Action(shown, i))
-}
-
-fn equation(page: &mut Page, sig: &Signature, s: &str, t: &str) -> Option<Formula> {
-    let (s, t) = term(page, sig, s).zip(term(page, sig, t))?;
-    Some(Formula::Equal(s, t))
-}
-
-fn order(alloc: Global, word: &str) -> Option<Formula> {
-    if let Some((i, j)) = word.split_once('<') {
-        let (i, j) = time(alloc, i).zip(time(alloc, j))?;
-        return Some(Formula::Less(i, j));
-    }
-    let (i, j) = word.split_once('=')?;
-    let (i, j) = time(alloc, i).zip(time(alloc, j))?;
-    Some(Formula::Same(i, j))
-}
-
-fn atom(page: &mut Page, sig: &Signature, word: &str) -> Option<Formula> {
-    if word.starts_with('#') {
-        return order(page.alloc, word);
-    }
-    match (word.split_once('@'), word.split_once('=')) {
-        (Some((shown, i)), _) => action(page, sig, shown, i),
-        (None, Some((s, t))) => equation(page, sig, s, t),
-        _ => None,
-    }
-}
-
-impl FromWord for Binder {
-    fn from_word(page: &mut Page, word: &str) -> Option<Binder> {
-        match word.strip_prefix('#') {
-            Some(i) => Some(Binder::Time(name(page.alloc, i)?)),
-            None => Some(Binder::Message(variable(page.alloc, word)?)),
+/// The formula that the text spells as in a file, before it is checked; or behind `+` a fact at a time, which may be persistent and have
+/// fresh names.
+pub fn formula(page: &mut Page, sig: &Signature, text: &str) -> Option<Box<Formula>> {
+    let made = match text.strip_prefix('+') {
+        Some(text) => {
+            let (fact, time) = text.split_once('@')?;
+            action(page, sig, fact, time)
         }
-    }
+        None => {
+            let bytes = enclosed(page.alloc, "", text, "\"");
+            let found = tokens_of(page.alloc, bytes.as_bytes());
+            first(read_formula(page.alloc, sig, bytes.as_bytes(), &found, 0))
+        }
+    };
+    page.boxed(made)
 }
 
-fn bind(
-    page: &mut Page,
-    quantifier: &str,
-    words: &str,
-    stack: &mut Vec<Box<Formula>>,
-) -> Option<Formula> {
-    let body = stack.pop()?;
-    let binders = list(page, ',', words);
-    if quantifier == "All" {
-        Some(Formula::All(binders, body))
-    } else {
-        Some(Formula::Ex(binders, body))
-    }
+// Puts last the formula as it is printed: as the lemma l of the theory, in which nothing else stands but symbols that are built in.
+fn show_formula(page: &mut Page, t: &mut Theory, formula: Option<Box<Formula>>) {
+    begin(page, t, "");
+    add_lemma(page, t, "lemma % l % % all", formula);
+    let before = "theory T\nbegin\n\nlemma l:\n  all-traces\n  \"";
+    page.text(print(page.alloc, t), before, "\"\n\nend\n");
 }
 
-fn join(word: &str, stack: &mut Vec<Box<Formula>>) -> Option<Formula> {
-    let (right, left) = stack.pop().zip(stack.pop())?;
-    match word {
-        "and" => Some(Formula::And(left, right)),
-        "or" => Some(Formula::Or(left, right)),
-        "imp" => Some(Formula::Imp(left, right)),
-        _ => Some(Formula::Iff(left, right)),
-    }
+/// A formula, and its text in a lemma.
+pub fn formulas_row(page: &mut Page, t: &mut Theory, row: &str) {
+    let formula = formula(page, &t.signature, part(row, 0));
+    show_formula(page, t, formula);
 }
 
-fn made(
+// The formula as it is checked, or its fault.
+fn checked(
     page: &mut Page,
     sig: &Signature,
-    word: &str,
-    stack: &mut Vec<Box<Formula>>,
-) -> Option<Formula> {
-    match word {
-        "T" => Some(Formula::True),
-        "F" => Some(Formula::False),
-        "not" => Some(Formula::Not(stack.pop()?)),
-        "and" | "or" | "imp" | "iff" => join(word, stack),
-        _ => match word.split_once(':') {
-            Some((quantifier, words)) => bind(page, quantifier, words, stack),
-            None => atom(page, sig, word),
-        },
-    }
+    f: &Formula,
+    reserved: bool,
+) -> Result<Option<Box<Formula>>, FormulaFault> {
+    let checked = check(page.alloc, sig, f, reserved)?;
+    Ok(page.boxed(Some(checked)))
 }
 
-fn push_words(page: &mut Page, sig: &Signature, words: &str, stack: &mut Vec<Box<Formula>>) {
-    for word in words.split(' ') {
-        let made = made(page, sig, word, stack);
-        let boxed = page.boxed(made);
-        page.push(stack, boxed);
-    }
-}
-
-/// The formula that the words leave last on an empty stack.
-pub fn formula(page: &mut Page, sig: &Signature, words: &str) -> Option<Box<Formula>> {
-    let mut stack: Vec<Box<Formula>> = Vec::new(page.alloc);
-    push_words(page, sig, words, &mut stack);
-    stack.pop()
-}
-
-/// Puts last the formula as it is printed: as the lemma l of the theory, in which nothing else stands but symbols that are built in.
-pub fn push_formula(page: &mut Page, t: &mut Theory, formula: Option<Box<Formula>>) {
-    begin(page, t, "");
-    let mut whole = Page::new(page.alloc);
-    put_lemma(&mut whole, t, "l", "", "all", formula);
-    push_theory(&mut whole, t);
-    let before = "theory T\nbegin\n\nlemma l:\n  all-traces\n  \"";
-    match between(whole.as_bytes(), before, "\"\n\nend\n") {
-        Some(text) => page.bytes(text),
+// Why the formula of the lemma l is refused.
+fn show_fault(page: &mut Page, fault: FormulaFault) {
+    match name(page.alloc, "l") {
+        Some(name) => {
+            let line = theory_line(page.alloc, &TheoryFault::Formula { name, fault });
+            page.text(line, "file refused: l: ", "\n");
+        }
         None => page.fail(),
     }
 }
 
-/// The words of a formula, and its text in a lemma.
-pub fn formulas_row(page: &mut Page, t: &mut Theory, row: &str) {
-    let formula = formula(page, &t.signature, part(row, 0));
-    push_formula(page, t, formula);
+fn show_checked(page: &mut Page, t: &mut Theory, f: &Formula, reserved: bool) {
+    match checked(page, &t.signature, f, reserved) {
+        Ok(f) => show_formula(page, t, f),
+        Err(fault) => show_fault(page, fault),
+    }
+}
+
+/// Symbols, `reserved` or `any`, a formula, and why it is refused or its text once it is checked.
+pub fn checks_row(page: &mut Page, t: &mut Theory, row: &str) {
+    begin(page, t, part(row, 0));
+    match formula(page, &t.signature, part(row, 2)) {
+        Some(f) => show_checked(page, t, &f, part(row, 1) == "reserved"),
+        None => page.fail(),
+    }
+}
+
+/// The facts of times with bars between them, a formula, and what the judge says.
+pub fn judgements_row(page: &mut Page, t: &mut Theory, row: &str) {
+    begin(page, t, "");
+    let trace = trace(page, &t.signature, part(row, 0));
+    match formula(page, &t.signature, part(row, 1)) {
+        Some(f) => match judge(page.alloc, &f, &trace) {
+            Ok(Verdict::Holds) => page.word("holds"),
+            Ok(Verdict::Fails) => page.word("fails"),
+            Ok(Verdict::TooCostly { cost }) => page.numbered("costs ", cost),
+            Err(_) => page.fail(),
+        },
+        None => page.fail(),
+    }
+}
+
+/// `all` or `some`, restrictions with semicolons between them, a formula, and the formula that carries them.
+pub fn inlines_row(page: &mut Page, t: &mut Theory, row: &str) {
+    begin(page, t, "");
+    for text in part(row, 1).split(';') {
+        add_restriction(page, t, "r", text.trim());
+    }
+    match formula(page, &t.signature, part(row, 2)) {
+        Some(f) => {
+            let mode = mode_of(part(row, 0));
+            let carrying = page.boxed(inline(page.alloc, &t.restrictions, mode, &f).ok());
+            show_formula(page, t, carrying);
+        }
+        None => page.fail(),
+    }
 }

@@ -1,43 +1,23 @@
 //! Traces through a guard, one time after another.
-use crate::judgements::trace;
-use crate::notation::part;
-use crate::page::{Page, Show};
+use crate::notation::{part, trace};
+use crate::page::Page;
 use crate::theories::begin;
-use sap_restrict::{Admit, Guard, Which, has_one_reserved};
+use sap_refusals::broken_line;
+use sap_restrict::{Admit, Guard, has_one_reserved};
 use sap_rule::Theory;
 use sap_terms::FactList;
-
-fn name_of(which: Which) -> &'static str {
-    match which {
-        Which::Init => "Init",
-        Which::Eq => "Eq",
-        Which::NotEq => "NotEq",
-        Which::In => "In",
-        Which::NotIn => "NotIn",
-        Which::Lock => "Lock",
-        Which::InEv => "InEv",
-    }
-}
-
-impl Show for Which {
-    fn show_on(&self, page: &mut Page) {
-        page.word(name_of(*self));
-    }
-}
-
-impl Show for Admit {
-    fn show_on(&self, page: &mut Page) {
-        match self {
-            Admit::Kept => page.word("+"),
-            Admit::Broken { which } => which.show_on(page),
-        }
-    }
-}
 
 // What the guard says of the time; not written as a row is where two of its facts have reserved names.
 fn show_time(page: &mut Page, guard: &mut Guard, time: &FactList) {
     if has_one_reserved(time) {
-        page.show(guard.admit(time).ok());
+        match guard.admit(time) {
+            Ok(Admit::Kept) => page.word("+"),
+            Ok(Admit::Broken { which }) => {
+                let line = broken_line(page.alloc, 0, which);
+                page.text(line, "run refused: step 0: breaks sapic_", "\n");
+            }
+            Err(_) => page.fail(),
+        }
     } else {
         page.fail();
     }
@@ -48,12 +28,10 @@ fn show_time(page: &mut Page, guard: &mut Guard, time: &FactList) {
 pub fn guards_row(page: &mut Page, t: &mut Theory, row: &str) {
     begin(page, t, part(row, 0));
     let mut guard = Guard::new(page.alloc);
-    let mut first = true;
+    let mut before = "";
     for time in trace(page, &t.signature, part(row, 1)).as_slice() {
-        if !first {
-            page.word(" ");
-        }
+        page.word(before);
         show_time(page, &mut guard, time);
-        first = false;
+        before = " ";
     }
 }

@@ -2,60 +2,58 @@
 ghost use Rattle.std.specs.Prelude.{◌≡◌};
 
 use crate::desk::Desk;
-use crate::notation::{list, name, number_or_zero, part, parted};
-use crate::page::{Page, Show};
+use crate::notation::{list, name, number, part, parted};
+use crate::page::Page;
 use sap_deduce::{Deny, Knowledge};
 use sap_rewrite::{is_message, normal};
-use sap_terms::{MOST_TERM_NODES, Mem, Name, Numbers, Signature, Sort, Term};
+use sap_terms::{MOST_TERM_NODES, Mem, Numbers, Signature, Sort, Term};
 use std::alloc::Global;
 
-impl Show for Deny {
-    fn show_on(&self, page: &mut Page) {
-        match self {
-            Deny::Mem => page.word("memory"),
-            Deny::NotPublic { f } => page.named("not public ", f),
-            Deny::Arity { f } => page.named("arity ", f),
-            Deny::NoEntry { k } => page.numbered("no entry ", *k),
-            Deny::TermLarge => page.word("large"),
-        }
+fn show_deny(page: &mut Page, deny: &Deny) {
+    match deny {
+        Deny::Mem => page.fail(),
+        Deny::NotPublic { f } => page.named("not public ", f),
+        Deny::Arity { f } => page.named("arity ", f),
+        Deny::NoEntry { k } => page.numbered("no entry ", *k),
+        Deny::TermLarge => page.word("large"),
     }
 }
 
-fn apply(page: &mut Page, k: &mut Knowledge, f: &Option<Name>, entries: &Numbers) {
-    match f {
-        Some(f) => page.show(k.apply(f, entries)),
+fn apply(page: &mut Page, k: &mut Knowledge, f: &str, entries: &Numbers) {
+    match &name(page.alloc, f) {
+        Some(f) => match k.apply(f, entries) {
+            Ok(number) => page.numbered("", number),
+            Err(deny) => show_deny(page, &deny),
+        },
         None => page.fail(),
     }
 }
 
-fn public(page: &mut Page, k: &mut Knowledge, a: Option<Name>) {
-    match a {
-        Some(a) => page.show(k.public(a)),
-        None => page.fail(),
-    }
-}
-
-fn show_nodes(page: &mut Page, entry: Option<&Term>) {
-    match entry {
-        Some(t) => page.number(t.nodes()),
-        None => page.number(0),
-    }
-}
-
-fn show_entry(page: &mut Page, k: &mut Knowledge, kind: &str, what: &str) {
-    let n = number_or_zero(what);
-    let (first, rest) = parted(what);
-    match kind {
-        "public" => public(page, k, name(page.alloc, what)),
-        "name" => page.show(k.name(n)),
-        "apply" => {
-            let entries = list(page, ' ', rest);
-            apply(page, k, &name(page.alloc, first), &entries);
-        }
-        "nodes" => show_nodes(page, k.at(n)),
-        "at" => page.show(k.at(n)),
-        "number" => page.show(k.number(n)),
+fn show_numbered(page: &mut Page, k: &mut Knowledge, kind: &str, n: u64) {
+    match (kind, k.at(n)) {
+        ("name", _) => page.show(k.name(n)),
+        ("nodes", Some(t)) => page.numbered("", t.nodes()),
+        ("at" | "nodes", entry) => page.show(entry),
+        ("number", _) => page.show(k.number(n)),
         _ => page.fail(),
+    }
+}
+
+fn show_entry(page: &mut Page, sig: &Signature, k: &mut Knowledge, kind: &str, what: &str) {
+    match kind {
+        "public" => match name(page.alloc, what) {
+            Some(a) => page.show(k.public(a)),
+            None => page.fail(),
+        },
+        "apply" => {
+            let (f, entries) = parted(what);
+            let entries = list(page, sig, ' ', entries);
+            apply(page, k, f, &entries);
+        }
+        _ => {
+            let n = number(page, what);
+            show_numbered(page, k, kind, n);
+        }
     }
 }
 
@@ -80,34 +78,23 @@ fn of_sent(alloc: Global, sig: &Signature, t: &Term) -> Result<Box<Knowledge>, M
     Ok(k)
 }
 
-fn of_terms(alloc: Global, sig: &Signature, terms: &[Term]) -> Option<Box<Knowledge>> {
-    match terms {
-        [t] => of_sent(alloc, sig, t).ok(),
-        _ => None,
-    }
-}
-
-fn sent(page: &mut Page, desk: &mut Desk, row: &str) {
-    desk.begin(page, part(row, 1), part(row, 2), "");
-    desk.knowledge = of_terms(page.alloc, &desk.signature, desk.terms.as_slice());
-    match &desk.knowledge {
-        Some(k) => page.number(k.len()),
-        None => page.fail(),
-    }
-}
-
 /// `sent`, a signature and a term that is sent, begins anew: the number of entries. Then `apply`, `name` and `public`, and the
 /// number that is entered or why none is; `at` and a place, and its term; `nodes` and a place, and those of its term; `number` and a
-/// place, and its term's number in the table; each with
-/// the number of entries behind it.
+/// place, and its term's number in the table, or `none`; each with the number of entries behind it.
 pub fn knowledge_row(page: &mut Page, desk: &mut Desk, row: &str) {
     if part(row, 0) == "sent" {
-        return sent(page, desk, row);
+        desk.begin(page, part(row, 1), part(row, 2));
+        if let [t] = desk.terms.as_slice() {
+            desk.knowledge = of_sent(page.alloc, &desk.signature, t).ok();
+        }
     }
     match &mut desk.knowledge {
         Some(k) => {
-            show_entry(page, k, part(row, 0), part(row, 1));
-            page.numbered(", ", k.len());
+            if part(row, 0) != "sent" {
+                show_entry(page, &desk.signature, k, part(row, 0), part(row, 1));
+                page.word(", ");
+            }
+            page.numbered("", k.len());
         }
         None => page.fail(),
     }

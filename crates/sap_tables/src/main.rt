@@ -3,22 +3,16 @@
 #![tactic(auto)]
 
 mod calls;
-mod conversions;
 mod copies;
 mod desk;
-mod examples;
 mod files;
 mod formulas;
 mod guards;
-mod judgements;
 mod knowledge;
 mod notation;
 mod page;
 mod piles;
 mod processes;
-mod reading;
-mod rewriting;
-mod rules;
 mod run_texts;
 mod runs;
 mod sharing;
@@ -28,24 +22,31 @@ mod terms;
 mod theories;
 mod tokens;
 
+use calls::{put_file, shelf_of};
 use page::Page;
 use std::io::Write;
 use std::{env, fs, io};
 
-// Tells each table that is named.
-fn tell_tables(rt: &HostRuntime, out: &mut Page) -> io::Result<()> {
-    for table in env::args(rt)?.skip(1) {
-        let rows = fs::read_to_string(rt, table.as_str())?;
-        let files = examples::read_files(rt, rows.as_str())?;
-        tables::report(out, table.as_str(), rows.as_str(), files);
+// Tells the table of this name, with each file that a line `-- file NAME` names.
+fn tell_table(rt: &HostRuntime, out: &mut Page, table: &str) -> io::Result<()> {
+    let rows = fs::read_to_string(rt, table)?;
+    let mut shelf = shelf_of(out, b"", b"", 0, 4096);
+    for line in rows.as_str().split('\n') {
+        if let Some(name) = line.strip_prefix("-- file ") {
+            let text = fs::read_to_string(rt, name)?;
+            put_file(out, &mut shelf.files, name, text.as_bytes());
+        }
     }
+    tables::report(out, table, rows.as_str(), shelf);
     Ok(())
 }
 
 fn main(rt: HostRuntime) -> io::Result<()> {
     let mut out = Page::new(rt.alloc());
-    tell_tables(&rt, &mut out)?;
-    if !out.is_whole() {
+    for table in env::args(&rt)?.skip(1) {
+        tell_table(&rt, &mut out, table.as_str())?;
+    }
+    if !out.is_whole {
         println!(rt; "want of memory")?;
     }
     rt.stdout().write_all(out.as_bytes())

@@ -1,5 +1,7 @@
-//! The page that a row's answer is written on, and what can be shown there.
-use sap_terms::{Copied, Items, Mem, Name};
+//! The page that a row's answer is written on.
+use crate::notation::between;
+use crate::show::Show;
+use sap_terms::{Items, Mem, Name};
 use sap_text::Text;
 use std::alloc::Global;
 
@@ -8,14 +10,8 @@ use std::alloc::Global;
 #[derive(Drop)]
 pub struct Page {
     pub alloc: Global,
+    pub is_whole: bool,
     text: Text,
-    is_whole: bool,
-}
-
-/// What has a text of its own.
-pub trait Show {
-    /// Puts the text last.
-    fn show_on(&self, page: &mut Page);
 }
 
 impl Page {
@@ -23,18 +19,14 @@ impl Page {
     pub fn new(alloc: Global) -> Page {
         Page {
             alloc,
-            text: Text::new(alloc),
             is_whole: true,
+            text: Text::new(alloc),
         }
     }
 
     /// The page isn't whole from here on.
     pub fn fail(&mut self) {
         self.is_whole = false;
-    }
-
-    pub fn is_whole(&self) -> bool {
-        self.is_whole
     }
 
     /// What was put on the page.
@@ -59,17 +51,12 @@ impl Page {
         self.bytes(word.as_bytes());
     }
 
-    /// Puts the number last, in decimal.
-    pub fn number(&mut self, number: u64) {
+    /// Puts the word last, and a number behind it, in decimal.
+    pub fn numbered(&mut self, word: &str, number: u64) {
+        self.word(word);
         if self.text.push_number(number).is_err() {
             self.fail();
         }
-    }
-
-    /// Puts the word last, and a number behind it.
-    pub fn numbered(&mut self, word: &str, number: u64) {
-        self.word(word);
-        self.number(number);
     }
 
     /// Puts the word last, and a name behind it.
@@ -78,19 +65,20 @@ impl Page {
         self.bytes(name.as_bytes());
     }
 
+    /// Puts last what stands between these two in the text.
+    pub fn text(&mut self, text: Result<Text, Mem>, before: &str, behind: &str) {
+        match &text {
+            Ok(text) => match between(text.as_bytes(), before, behind) {
+                Some(inside) => self.bytes(inside),
+                None => self.fail(),
+            },
+            Err(_) => self.fail(),
+        }
+    }
+
     /// Shows the value, and lets it go.
     pub fn show<T: Show + Drop>(&mut self, value: T) {
         value.show_on(self);
-    }
-
-    /// Shows the values, with the word between them.
-    pub fn list<T: Show>(&mut self, values: &[T], between: &str) {
-        let mut before = "";
-        for value in values {
-            self.word(before);
-            value.show_on(self);
-            before = between;
-        }
     }
 
     /// The value in a box, if there is one and memory for it.
@@ -113,93 +101,11 @@ impl Page {
         }
     }
 
-    /// Puts the value last in the vector; without one the page isn't whole.
-    pub fn push<T: Drop>(&mut self, list: &mut Vec<T>, value: Option<T>) {
-        match value {
-            Some(value) => {
-                if list.push(value).is_err() {
-                    self.fail();
-                }
-            }
-            None => self.fail(),
-        }
-    }
-
     /// Puts the value in the place of another; without one the page isn't whole.
     pub fn set<T: Drop>(&mut self, place: &mut T, value: Option<T>) {
         match value {
             Some(value) => *place = value,
             None => self.fail(),
         }
-    }
-}
-
-/// Shows a copy of the value on the page; without one the page isn't whole.
-pub fn show_copy<T: Copied + Show + Drop>(value: Option<T>, page: &mut Page) {
-    match value {
-        Some(value) => page.show(value.copy(page.alloc)),
-        None => page.fail(),
-    }
-}
-
-impl Show for u64 {
-    fn show_on(&self, page: &mut Page) {
-        page.number(*self);
-    }
-}
-
-impl Show for bool {
-    fn show_on(&self, page: &mut Page) {
-        page.word(if *self { "yes" } else { "no" });
-    }
-}
-
-impl Show for () {
-    fn show_on(&self, page: &mut Page) {
-        page.word("ok");
-    }
-}
-
-impl Show for Mem {
-    fn show_on(&self, page: &mut Page) {
-        page.fail();
-    }
-}
-
-impl<T: Show> Show for &T {
-    fn show_on(&self, page: &mut Page) {
-        (**self).show_on(page);
-    }
-}
-
-impl<T: Show> Show for Box<T> {
-    fn show_on(&self, page: &mut Page) {
-        (**self).show_on(page);
-    }
-}
-
-impl<T: Show> Show for Option<T> {
-    fn show_on(&self, page: &mut Page) {
-        match self {
-            Some(value) => value.show_on(page),
-            None => page.word("none"),
-        }
-    }
-}
-
-impl<T: Show, E: Show> Show for Result<T, E> {
-    fn show_on(&self, page: &mut Page) {
-        match self {
-            Ok(value) => value.show_on(page),
-            Err(cause) => cause.show_on(page),
-        }
-    }
-}
-
-// What is read, and the number of the token behind it.
-impl<T: Show> Show for (T, u64) {
-    fn show_on(&self, page: &mut Page) {
-        self.0.show_on(page);
-        page.numbered(" ", self.1);
     }
 }

@@ -1,130 +1,91 @@
 //! Run texts as they are read, whole and in pieces, and printed again.
 ghost use Rattle.std.specs.Prelude.{◌<◌};
 
-use crate::notation::{part, push_written};
-use crate::page::{Page, Show};
+use crate::notation::{between, enclosed, part};
+use crate::page::Page;
 use sap_run_texts::{
     Kinds, Run, RunFault, RunReader, print_prun, print_rrun, read_prun, read_rrun,
 };
-use sap_runs::{PSteps, RSteps};
-use sap_terms::Mem;
+use sap_terms::{Copied, Mem};
+use sap_text::Text;
 use std::alloc::Global;
 
-impl Show for RunFault {
-    fn show_on(&self, page: &mut Page) {
-        match self {
-            RunFault::Mem => page.word("memory"),
-            RunFault::BadHead => page.word("bad head"),
-            RunFault::BadLine { line } => page.numbered("bad line ", *line),
-            RunFault::TooManySteps => page.word("too many steps"),
-        }
-    }
-}
-
-impl Show for PSteps {
-    fn show_on(&self, page: &mut Page) {
-        page.show(print_prun(page.alloc, self));
-    }
-}
-
-impl Show for RSteps {
-    fn show_on(&self, page: &mut Page) {
-        page.show(print_rrun(page.alloc, self));
-    }
-}
-
-impl Show for Run {
-    fn show_on(&self, page: &mut Page) {
-        match self {
-            Run::Process(steps) => steps.show_on(page),
-            Run::Rules(steps) => steps.show_on(page),
-        }
-    }
-}
-
-fn fed(reader: &mut RunReader, bytes: &[u8], most: usize) -> Result<(), Mem>
+// What the bytes are as a run, fed in pieces of so many bytes.
+fn in_pieces(alloc: Global, kinds: Kinds, bytes: &[u8], most: usize) -> Result<Run, RunFault>
     requires { 0 < most }
 {
+    let mut reader = RunReader::new(alloc, kinds);
     for piece in bytes.chunks(most) {
         reader.feed(piece)?;
     }
-    Ok(())
-}
-
-// What the bytes are as a run, fed in pieces of so many bytes.
-fn in_pieces(page: &mut Page, kinds: Kinds, bytes: &[u8], most: usize)
-    requires { 0 < most }
-{
-    let mut reader = RunReader::new(page.alloc, kinds);
-    match fed(&mut reader, bytes, most) {
-        Ok(()) => page.show(reader.finish()),
-        Err(mem) => page.show(mem),
-    }
+    reader.finish()
 }
 
 // What they are as a whole.
-fn whole(page: &mut Page, kinds: Kinds, bytes: &[u8]) {
+fn whole(alloc: Global, kinds: Kinds, bytes: &[u8]) -> Result<Run, RunFault> {
     match kinds {
-        Kinds::Process => page.show(read_prun(page.alloc, bytes)),
-        Kinds::Rules => page.show(read_rrun(page.alloc, bytes)),
-        Kinds::Either => in_pieces(page, kinds, bytes, 4096),
+        Kinds::Process => Ok(Run::Process(read_prun(alloc, bytes)?)),
+        Kinds::Rules => Ok(Run::Rules(read_rrun(alloc, bytes)?)),
+        Kinds::Either => in_pieces(alloc, kinds, bytes, 4096),
     }
 }
 
-// Whether so small pieces give the same.
-fn is_same_in_pieces(alloc: Global, kinds: Kinds, bytes: &[u8], most: usize, all: &[u8]) -> bool
-    requires { 0 < most }
-{
+// The text of a copy of the run.
+fn printed(alloc: Global, run: &Run) -> Result<Text, Mem> {
+    match run {
+        Run::Process(steps) => print_prun(alloc, &steps.copy(alloc)?),
+        Run::Rules(steps) => print_rrun(alloc, &steps.copy(alloc)?),
+    }
+}
+
+// The text of a run that is read, or why there is none.
+fn shown(alloc: Global, read: &Result<Run, RunFault>) -> Page {
     let mut page = Page::new(alloc);
-    in_pieces(&mut page, kinds, bytes, most);
-    page.is_whole() && page.as_bytes() == all
+    match read {
+        Ok(run) => page.text(printed(alloc, run), "", ""),
+        Err(RunFault::Mem) => page.fail(),
+        Err(RunFault::BadHead) => page.word("bad head"),
+        Err(RunFault::BadLine { line }) => page.numbered("bad line ", *line),
+        Err(RunFault::TooManySteps) => page.word("too many steps"),
+    }
+    page
 }
 
 // The bytes of a long text, which is read in pieces of 7 bytes alone.
 const LONG: usize = 4_096;
 
+// Whether small pieces give the same.
 fn are_same_in_pieces(alloc: Global, kinds: Kinds, bytes: &[u8], all: &[u8]) -> bool {
-    is_same_in_pieces(alloc, kinds, bytes, 7, all)
-        && (bytes.len() >= LONG
-            || is_same_in_pieces(alloc, kinds, bytes, 1, all)
-                && is_same_in_pieces(alloc, kinds, bytes, 2, all)
-                && is_same_in_pieces(alloc, kinds, bytes, 3, all))
-}
-
-// Which runs are asked for, and the text before and behind what the row has.
-fn asked(word: &str) -> (Kinds, &'static str, &'static str) {
-    match word {
-        "process" => (Kinds::Process, "", ""),
-        "rules" => (Kinds::Rules, "", ""),
-        "step" => (Kinds::Process, "process-run^", "^"),
-        "rule-step" => (Kinds::Rules, "rule-run^", "^"),
-        _ => (Kinds::Either, "", ""),
+    for most in 1..8 {
+        if most == 7 || most < 4 && bytes.len() < LONG {
+            let page = shown(alloc, &in_pieces(alloc, kinds, bytes, most));
+            if !page.is_whole || page.as_bytes() != all {
+                return false;
+            }
+        }
     }
-}
-
-// The bytes without those of the text before and behind, which stand there where no fault is told.
-fn between(bytes: &[u8], before: usize, behind: usize) -> &[u8] {
-    if bytes.starts_with(b"bad ") {
-        return bytes;
-    }
-    bytes
-        .get(before..bytes.len().saturating_sub(behind))
-        .unwrap_or(bytes)
+    true
 }
 
 /// Which runs are asked for, the text, or a line alone behind `step` or `rule-step`, and what it is read as: the text that is
-/// printed for it, or the fault. The text is read whole and in pieces of 1, 2, 3 and 7 bytes, a long one of 7 alone; where these
-/// don't give the same, there is no answer.
+/// printed for a copy of it, or the fault. The text is read whole and in pieces of 1, 2, 3 and 7 bytes, a long one of 7 alone; where
+/// these don't give the same, there is no answer.
 pub fn run_texts_row(page: &mut Page, row: &str) {
-    let (kinds, before, behind) = asked(part(row, 0));
-    let mut text = Page::new(page.alloc);
-    push_written(&mut text, before);
-    push_written(&mut text, part(row, 1));
-    push_written(&mut text, behind);
-    let mut all = Page::new(page.alloc);
-    whole(&mut all, kinds, text.as_bytes());
-    if !all.is_whole() || !are_same_in_pieces(page.alloc, kinds, text.as_bytes(), all.as_bytes()) {
+    let (kinds, before, behind) = match part(row, 0) {
+        "process" => (Kinds::Process, "", ""),
+        "rules" => (Kinds::Rules, "", ""),
+        "step" => (Kinds::Process, "process-run\n", "\n"),
+        "rule-step" => (Kinds::Rules, "rule-run\n", "\n"),
+        _ => (Kinds::Either, "", ""),
+    };
+    let text = enclosed(page.alloc, before, part(row, 1), behind);
+    let read = whole(page.alloc, kinds, text.as_bytes());
+    let all = shown(page.alloc, &read);
+    if !all.is_whole || !are_same_in_pieces(page.alloc, kinds, text.as_bytes(), all.as_bytes()) {
         page.fail();
     }
-    page.bytes(between(all.as_bytes(), before.len(), behind.len()));
+    match between(all.as_bytes(), before, behind) {
+        Some(lines) if read.is_ok() => page.bytes(lines),
+        _ => page.bytes(all.as_bytes()),
+    }
 }

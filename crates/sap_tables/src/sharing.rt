@@ -5,7 +5,7 @@ use crate::desk::Desk;
 use crate::notation::part;
 use crate::page::Page;
 use sap_share::Table;
-use sap_terms::{Signature, Term};
+use sap_terms::Term;
 use std::alloc::Global;
 
 // The number of a term, if the table can have it.
@@ -18,30 +18,6 @@ fn put(alloc: Global, table: &mut Table, t: &Term) -> Option<u64>
     table.put(alloc, t).ok()
 }
 
-fn show_number(page: &mut Page, table: &mut Table, t: &Term) {
-    match put(page.alloc, table, t) {
-        Some(k) => {
-            page.number(k);
-            page.word(" ");
-        }
-        None => page.fail(),
-    }
-}
-
-fn show_numbers(page: &mut Page, table: &mut Table, terms: &[Term]) {
-    for t in terms {
-        show_number(page, table, t);
-    }
-    page.numbered("of ", table.count());
-}
-
-fn show_backwards(page: &mut Page, table: &mut Table, terms: &[Term]) {
-    for t in terms.iter().rev() {
-        show_number(page, table, t);
-    }
-    page.numbered("of ", table.count());
-}
-
 fn show_form(page: &mut Page, table: &mut Table, t: &Term) {
     match put(page.alloc, table, t) {
         Some(k) => {
@@ -49,32 +25,32 @@ fn show_form(page: &mut Page, table: &mut Table, t: &Term) {
             page.show(table.tree(page.alloc, form));
             page.numbered(", ", table.size(k));
             page.numbered(" to ", table.size(form));
-            page.numbered(" of ", table.count());
+            page.word(" ");
         }
         None => page.fail(),
     }
 }
 
-fn table_over(alloc: Global, sig: &Signature) -> Option<Box<Table>> {
-    let table = Table::new(alloc, sig).ok()?;
-    Box::new(alloc, table).ok()
-}
-
 fn show_in(page: &mut Page, table: &mut Table, kind: &str, terms: &[Term]) {
     match (kind, terms) {
-        ("numbers", _) => show_numbers(page, table, terms),
-        ("backwards", _) => show_backwards(page, table, terms),
+        ("numbers", _) => {
+            for t in terms {
+                page.show(put(page.alloc, table, t));
+                page.word(" ");
+            }
+        }
         ("form", [t]) => show_form(page, table, t),
         _ => page.fail(),
     }
+    page.numbered("of ", table.count());
 }
 
-/// `numbers` or `backwards`, a signature, terms, and their numbers in a new table, put there in their order or from the last to
-/// the first, and how many numbers were given; `form`, a term, and its normal form, with how many nodes the two have, and how many
-/// numbers were given.
+/// `numbers`, a signature, terms, and their numbers in a new table, put there in their order, and how many numbers were given;
+/// `form`, a term, and its normal form, with how many nodes the two have, and how many numbers were given.
 pub fn sharing_row(page: &mut Page, desk: &mut Desk, row: &str) {
-    desk.begin(page, part(row, 1), part(row, 2), "");
-    match &mut table_over(page.alloc, &desk.signature) {
+    desk.begin(page, part(row, 1), part(row, 2));
+    let table = Table::new(page.alloc, &desk.signature).ok();
+    match &mut page.boxed(table) {
         Some(table) => show_in(page, table, part(row, 0), desk.terms.as_slice()),
         None => page.fail(),
     }

@@ -1,23 +1,104 @@
 //! Values as texts. A term is its tree: each symbol stands before its parentheses, and a fresh name is `~` and its number.
-use crate::page::{Page, Show};
+use crate::page::Page;
 use sap_process::Process;
 use sap_rule::Rule;
-use sap_terms::{
-    Binding, Bindings, Fact, FactList, Name, NameList, Numbers, Path, SigFault, Sort, Symbol, Term,
-    TermList, Trace, Var, Vars,
-};
+use sap_terms::{Binding, Fact, Items, Name, Sort, Term, TermList, Var};
 
-fn sign(sort: Sort) -> &'static str {
-    match sort {
-        Sort::Msg => "",
-        Sort::Fresh => "~",
-        Sort::Pub => "$",
+/// What has a text of its own.
+pub trait Show {
+    /// Puts the text last.
+    fn show_on(&self, page: &mut Page);
+}
+
+impl Show for u64 {
+    fn show_on(&self, page: &mut Page) {
+        page.numbered("", *self);
+    }
+}
+
+impl Show for bool {
+    fn show_on(&self, page: &mut Page) {
+        page.word(if *self { "yes" } else { "no" });
+    }
+}
+
+impl<T: Show> Show for &T {
+    fn show_on(&self, page: &mut Page) {
+        (**self).show_on(page);
+    }
+}
+
+impl<T: Show> Show for Option<T> {
+    fn show_on(&self, page: &mut Page) {
+        match self {
+            Some(value) => value.show_on(page),
+            None => page.word("none"),
+        }
+    }
+}
+
+// Without a value the page isn't whole.
+impl<T: Show, E> Show for Result<T, E> {
+    fn show_on(&self, page: &mut Page) {
+        match self {
+            Ok(value) => value.show_on(page),
+            Err(_) => page.fail(),
+        }
+    }
+}
+
+// In brackets, with blanks between them.
+impl<T: Show> Show for Items<T> {
+    fn show_on(&self, page: &mut Page) {
+        let mut before = "[";
+        for value in self.as_slice() {
+            page.word(before);
+            value.show_on(page);
+            before = " ";
+        }
+        page.word(if self.len() == 0 { "[]" } else { "]" });
+    }
+}
+
+// A value behind a word.
+fn show_one<T: Show>(page: &mut Page, word: &str, t: &T) {
+    page.word(word);
+    t.show_on(page);
+}
+
+// Two values, each behind a word.
+fn show_two<T: Show, U: Show>(page: &mut Page, word: &str, t: &T, between: &str, u: &U) {
+    show_one(page, word, t);
+    show_one(page, between, u);
+}
+
+// What is read, and the number of the token behind it.
+impl<T: Show> Show for (T, u64) {
+    fn show_on(&self, page: &mut Page) {
+        show_two(page, "", &self.0, " ", &self.1);
+    }
+}
+
+impl Show for Name {
+    fn show_on(&self, page: &mut Page) {
+        page.named("", self);
     }
 }
 
 impl Show for Var {
     fn show_on(&self, page: &mut Page) {
-        page.named(sign(self.sort), &self.name);
+        let sign = match self.sort {
+            Sort::Msg => "",
+            Sort::Fresh => "~",
+            Sort::Pub => "$",
+        };
+        page.named(sign, &self.name);
+    }
+}
+
+impl Show for Binding {
+    fn show_on(&self, page: &mut Page) {
+        show_two(page, "", &self.var, " = ", &self.term);
     }
 }
 
@@ -35,26 +116,20 @@ fn show_terms(page: &mut Page, depth: u32, terms: &TermList) {
 }
 
 #[cycle(show)]
-fn show_application(page: &mut Page, depth: u32, f: &Name, args: &TermList) {
-    page.named("", f);
-    if depth == 0 {
-        return;
-    }
-    show_terms(page, depth - 1, args)
-}
-
-fn show_public(page: &mut Page, n: &Name) {
-    page.named("'", n);
-    page.word("'");
-}
-
-#[cycle(show)]
 fn show_deep(page: &mut Page, depth: u32, term: &Term) {
     match term {
         Term::Var(v) => v.show_on(page),
-        Term::Public(n) => show_public(page, n),
+        Term::Public(n) => {
+            page.named("'", n);
+            page.word("'");
+        }
         Term::Fresh(k) => page.numbered("~", *k),
-        Term::App(f, args) => show_application(page, depth, f, args),
+        Term::App(f, args) => {
+            page.named("", f);
+            if depth > 0 {
+                show_terms(page, depth - 1, args);
+            }
+        }
     }
 }
 
@@ -72,133 +147,11 @@ impl Show for Fact {
     }
 }
 
-impl Show for FactList {
-    fn show_on(&self, page: &mut Page) {
-        page.word("[");
-        page.list(self.as_slice(), " ");
-        page.word("]");
-    }
-}
-
-impl Show for Trace {
-    fn show_on(&self, page: &mut Page) {
-        page.list(self.as_slice(), "");
-    }
-}
-
 impl Show for Rule {
     fn show_on(&self, page: &mut Page) {
-        page.named("", &self.name);
-        self.left.show_on(page);
-        self.acts.show_on(page);
-        self.right.show_on(page);
+        show_two(page, "", &self.name, "", &self.left);
+        show_two(page, "", &self.acts, "", &self.right);
     }
-}
-
-impl Show for Binding {
-    fn show_on(&self, page: &mut Page) {
-        self.var.show_on(page);
-        page.word(" = ");
-        self.term.show_on(page);
-    }
-}
-
-impl Show for Bindings {
-    fn show_on(&self, page: &mut Page) {
-        page.list(self.as_slice(), "; ");
-    }
-}
-
-impl Show for Name {
-    fn show_on(&self, page: &mut Page) {
-        page.bytes(self.as_bytes());
-    }
-}
-
-impl Show for NameList {
-    fn show_on(&self, page: &mut Page) {
-        page.list(self.as_slice(), " ");
-    }
-}
-
-impl Show for Vars {
-    fn show_on(&self, page: &mut Page) {
-        page.list(self.as_slice(), " ");
-    }
-}
-
-// A blank stands before each.
-impl Show for Numbers {
-    fn show_on(&self, page: &mut Page) {
-        for number in self.as_slice() {
-            page.numbered(" ", *number);
-        }
-    }
-}
-
-// The digits, or `root`.
-impl Show for Path {
-    fn show_on(&self, page: &mut Page) {
-        if self.len() == 0 {
-            page.word("root");
-        }
-        for digit in self.as_slice() {
-            page.number(*digit as u64);
-        }
-    }
-}
-
-impl Show for SigFault {
-    fn show_on(&self, page: &mut Page) {
-        match self {
-            SigFault::Clash { name } => page.named("clash ", name),
-            SigFault::Mem => page.word("memory"),
-        }
-    }
-}
-
-/// The symbol with its arity, and a word where it is private.
-pub fn show_symbol(page: &mut Page, symbol: &Symbol, private: &str, public: &str) {
-    page.named("", &symbol.name);
-    page.numbered("/", symbol.arity);
-    page.word(if symbol.private { private } else { public });
-}
-
-fn show_one(page: &mut Page, word: &str, t: &Term) {
-    page.word(word);
-    t.show_on(page);
-}
-
-fn show_two(page: &mut Page, word: &str, t: &Term, u: &Term) {
-    show_one(page, word, t);
-    show_one(page, ",", u);
-}
-
-fn show_new(page: &mut Page, x: &Var) {
-    page.word("new ");
-    x.show_on(page);
-}
-
-fn show_event(page: &mut Page, f: &Fact) {
-    page.word("event ");
-    f.show_on(page);
-}
-
-fn show_lookup(page: &mut Page, t: &Term, x: &Var) {
-    show_one(page, "lookup ", t);
-    page.word(" as ");
-    x.show_on(page);
-}
-
-fn show_lock(page: &mut Page, word: &str, t: &Term, label: u32) {
-    show_one(page, word, t);
-    page.numbered(" ", label as u64);
-}
-
-fn show_rule(page: &mut Page, l: &FactList, e: &FactList, r: &FactList) {
-    l.show_on(page);
-    e.show_on(page);
-    r.show_on(page);
 }
 
 // What stands at the head of a process.
@@ -207,24 +160,27 @@ fn show_head(page: &mut Page, p: &Process) {
         Process::Nil => page.word("0"),
         Process::Par(_, _) => page.word("par"),
         Process::Rep(_) => page.word("!"),
-        Process::New(x, _) => show_new(page, x),
+        Process::New(x, _) => show_one(page, "new ", x),
         Process::Out(t, _) => show_one(page, "out ", t),
-        Process::Send(t, u, _) => show_two(page, "out ", t, u),
+        Process::Send(t, u, _) => show_two(page, "out ", t, ",", u),
         Process::In(t, _) => show_one(page, "in ", t),
-        Process::Recv(t, u, _) => show_two(page, "in ", t, u),
-        Process::If(t, u, _, _) => show_two(page, "if ", t, u),
-        Process::Event(f, _) => show_event(page, f),
-        Process::Insert(t, u, _) => show_two(page, "insert ", t, u),
+        Process::Recv(t, u, _) => show_two(page, "in ", t, ",", u),
+        Process::If(t, u, _, _) => show_two(page, "if ", t, ",", u),
+        Process::Event(f, _) => show_one(page, "event ", f),
+        Process::Insert(t, u, _) => show_two(page, "insert ", t, ",", u),
         Process::Delete(t, _) => show_one(page, "delete ", t),
-        Process::Lookup(t, x, _, _) => show_lookup(page, t, x),
-        Process::Lock(t, label, _) => show_lock(page, "lock ", t, *label),
-        Process::Unlock(t, label, _) => show_lock(page, "unlock ", t, *label),
-        Process::Embedded(l, e, r, _) => show_rule(page, l, e, r),
+        Process::Lookup(t, x, _, _) => show_two(page, "lookup ", t, " as ", x),
+        Process::Lock(t, label, _) => show_two(page, "lock ", t, " ", &(*label as u64)),
+        Process::Unlock(t, label, _) => show_two(page, "unlock ", t, " ", &(*label as u64)),
+        Process::Embedded(l, e, r, _) => {
+            show_two(page, "", l, "", e);
+            r.show_on(page);
+        }
     }
 }
 
-// The head, and behind it what follows: in parentheses where there are two branches.
-fn show_process(page: &mut Page, p: &Process) {
+/// The head, and behind it what follows: in parentheses where there are two branches.
+pub fn show_process(page: &mut Page, p: &Process) {
     show_head(page, p);
     match p {
         Process::Nil => {}
@@ -250,11 +206,5 @@ fn show_process(page: &mut Page, p: &Process) {
             page.word(";");
             show_process(page, q);
         }
-    }
-}
-
-impl Show for Process {
-    fn show_on(&self, page: &mut Page) {
-        show_process(page, self);
     }
 }

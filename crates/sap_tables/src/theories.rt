@@ -1,41 +1,36 @@
-//! Theories that rows make, and how they are printed.
+//! Theories that rows make or spell, and how they are printed; rules.
 use crate::desk::empty_theory;
 use crate::formulas::formula;
-use crate::notation::{list, name, part, rule};
-use crate::page::{Page, Show};
+use crate::notation::{file_bytes, list, name, part, rule};
+use crate::page::Page;
+use crate::show::Show;
 use sap_formula::{Formula, Lemma, Mode, Restriction};
-use sap_rule::Theory;
-use sap_terms::{Copied, Name};
+use sap_refusals::theory_line;
+use sap_rule::{Rule, Theory, is_well_made, open_vars};
+use sap_terms::{Copied, Signature};
 use sap_text::Text;
-use sap_theory::print;
+use sap_theory::{TheoryFault, print, read_theory};
+use std::alloc::Global;
 
 /// Begins a theory of these symbols anew, in which nothing stands yet.
-pub fn begin(page: &mut Page, t: &mut Theory, symbols: &str) -> u64 {
+pub fn begin(page: &mut Page, t: &mut Theory, symbols: &str) {
     let theory = empty_theory(page, symbols);
     page.set(t, theory);
-    0
 }
 
-fn add_rule(page: &mut Page, t: &mut Theory, line: &str) -> u64 {
-    let rule = rule(page, &t.signature, line);
-    page.put(&mut t.rules, rule);
-    t.rules.len()
-}
-
-fn restriction(name: Option<Name>, formula: Option<Box<Formula>>) -> Option<Restriction> {
-    let (name, formula) = name.zip(formula)?;
-    Some(Restriction {
-        name,
-        formula: Box::into_inner(formula),
-    })
-}
-
-/// Adds to the theory a restriction of a name and the words of a formula.
-pub fn add_restriction(page: &mut Page, t: &mut Theory, title: &str, words: &str) -> u64 {
-    let formula = formula(page, &t.signature, words);
-    let restriction = restriction(name(page.alloc, title), formula);
-    page.put(&mut t.restrictions, restriction);
-    t.restrictions.len()
+/// Adds to the theory a restriction of a name and the text of a formula.
+pub fn add_restriction(page: &mut Page, t: &mut Theory, title: &str, text: &str) {
+    let formula = formula(page, &t.signature, text);
+    match name(page.alloc, title).zip(formula) {
+        Some((name, formula)) => page.put(
+            &mut t.restrictions,
+            Some(Restriction {
+                name,
+                formula: Box::into_inner(formula),
+            }),
+        ),
+        None => page.fail(),
+    }
 }
 
 /// The mode of lemmas, `all` or `some`.
@@ -46,88 +41,110 @@ pub fn mode_of(word: &str) -> Mode {
     }
 }
 
-fn lemma(
-    page: &mut Page,
-    name: Option<Name>,
-    attributes: &str,
-    mode: &str,
-    formula: Option<Box<Formula>>,
-) -> Option<Lemma> {
-    let (name, formula) = name.zip(formula)?;
-    Some(Lemma {
-        name,
-        attributes: list(page, ' ', attributes),
-        mode: mode_of(mode),
-        formula: Box::into_inner(formula),
-    })
-}
-
-/// Adds to the theory a lemma of a name, attributes, a mode, which is `all` or `some`, and the words of a formula.
-pub fn add_lemma(
-    page: &mut Page,
-    t: &mut Theory,
-    title: &str,
-    attributes: &str,
-    mode: &str,
-    words: &str,
-) -> u64 {
-    let formula = formula(page, &t.signature, words);
-    put_lemma(page, t, title, attributes, mode, formula)
-}
-
-/// The same of a formula.
-pub fn put_lemma(
-    page: &mut Page,
-    t: &mut Theory,
-    title: &str,
-    attributes: &str,
-    mode: &str,
-    formula: Option<Box<Formula>>,
-) -> u64 {
-    let lemma = lemma(page, name(page.alloc, title), attributes, mode, formula);
-    page.put(&mut t.lemmas, lemma);
-    t.lemmas.len()
-}
-
-/// `theory` and symbols begins anew; `rule`, `restriction` and `lemma` add one; and how many there are of the kind.
-pub fn made_row(page: &mut Page, t: &mut Theory, row: &str) {
-    let first = part(row, 1);
-    let count = match part(row, 0) {
-        "theory" => begin(page, t, first),
-        "rule" => add_rule(page, t, first),
-        "restriction" => add_restriction(page, t, first, part(row, 2)),
-        "lemma" => add_lemma(page, t, first, part(row, 2), part(row, 3), part(row, 4)),
-        _ => {
-            page.fail();
-            0
-        }
-    };
-    page.number(count);
-}
-
-impl Show for Text {
-    fn show_on(&self, page: &mut Page) {
-        page.bytes(self.as_bytes());
+/// Adds to the theory a lemma of a row: its name, its attributes, its mode, which is `all` or `some`, and its formula.
+pub fn add_lemma(page: &mut Page, t: &mut Theory, row: &str, formula: Option<Box<Formula>>) {
+    let attributes = list(page, &t.signature, ' ', part(row, 2));
+    match name(page.alloc, part(row, 1)).zip(formula) {
+        Some((name, formula)) => page.put(
+            &mut t.lemmas,
+            Some(Lemma {
+                name,
+                attributes,
+                mode: mode_of(part(row, 3)),
+                formula: Box::into_inner(formula),
+            }),
+        ),
+        None => page.fail(),
     }
 }
 
-/// Puts last the theory as it is printed, with copies in place of its restrictions and lemmas.
-pub fn push_theory(page: &mut Page, t: &mut Theory) {
+// `theory` and symbols begins anew; `rule`, `restriction` and `lemma` add one; and how many there are of the kind.
+fn made_row(page: &mut Page, t: &mut Theory, row: &str) {
+    match part(row, 0) {
+        "theory" => {
+            begin(page, t, part(row, 1));
+            page.numbered("", t.rules.len());
+        }
+        "rule" => {
+            let rule = rule(page, &t.signature, part(row, 1));
+            page.put(&mut t.rules, rule);
+            page.numbered("", t.rules.len());
+        }
+        "restriction" => {
+            add_restriction(page, t, part(row, 1), part(row, 2));
+            page.numbered("", t.restrictions.len());
+        }
+        "lemma" => {
+            let formula = formula(page, &t.signature, part(row, 4));
+            add_lemma(page, t, row, formula);
+            page.numbered("", t.lemmas.len());
+        }
+        _ => page.fail(),
+    }
+}
+
+fn show_rule(page: &mut Page, sig: &Signature, kind: &str, r: &Rule) {
+    match kind {
+        "runs" => page.show(is_well_made(page.alloc, sig, r)),
+        "open" => page.show(open_vars(page.alloc, sig, r)),
+        _ => page.show(r.copy(page.alloc)),
+    }
+}
+
+/// `runs`, a rule, and whether it can be run; `open`, a rule, and the variables that a line has to bind; `copied`, a rule, and its
+/// copy; `first`, a name, and the first rule of the theory that has it, or `none`; and rows that make the theory.
+pub fn rules_row(page: &mut Page, t: &mut Theory, row: &str) {
+    match part(row, 0) {
+        "runs" | "open" | "copied" => match &rule(page, &t.signature, part(row, 1)) {
+            Some(rule) => show_rule(page, &t.signature, part(row, 0), rule),
+            None => page.fail(),
+        },
+        "first" => match &name(page.alloc, part(row, 1)) {
+            Some(name) => page.show(t.rule_named(name)),
+            None => page.fail(),
+        },
+        _ => made_row(page, t, row),
+    }
+}
+
+// Puts last the theory as it is printed, with copies in place of its restrictions and lemmas.
+fn show_theory(page: &mut Page, t: &mut Theory) {
     let restrictions = t.restrictions.copy(page.alloc).ok();
     page.set(&mut t.restrictions, restrictions);
     let lemmas = t.lemmas.copy(page.alloc).ok();
     page.set(&mut t.lemmas, lemmas);
-    page.show(print(page.alloc, t));
+    page.text(print(page.alloc, t), "", "");
 }
 
 /// Rows that make a theory, and `print`, its text; `symbols`, and the text of the theory that has these alone.
 pub fn theories_row(page: &mut Page, t: &mut Theory, row: &str) {
     match part(row, 0) {
-        "print" => push_theory(page, t),
+        "print" => show_theory(page, t),
         "symbols" => {
             begin(page, t, part(row, 1));
-            push_theory(page, t);
+            show_theory(page, t);
         }
         _ => made_row(page, t, row),
     }
+}
+
+// The text of the theory that these bytes are.
+fn printed_again(alloc: Global, bytes: &[u8]) -> Result<Text, TheoryFault> {
+    let theory = read_theory(alloc, bytes)?;
+    Ok(print(alloc, &theory)?)
+}
+
+/// The theory that these bytes are, as it is printed, or why they are none; `same` where that is asked and the bytes are the text.
+pub fn show_read(page: &mut Page, bytes: &[u8], asked: bool) {
+    match printed_again(page.alloc, bytes) {
+        Ok(text) if asked && text.as_bytes() == bytes => page.word("same"),
+        Ok(text) => page.bytes(text.as_bytes()),
+        Err(fault) => page.text(theory_line(page.alloc, &fault), "file refused: ", "\n"),
+    }
+}
+
+/// A theory, and its text as it is printed, or why it is refused.
+pub fn read_row(page: &mut Page, row: &str) {
+    let bytes = file_bytes(page.alloc, part(row, 0));
+    show_read(page, bytes.as_bytes(), false);
 }

@@ -1,49 +1,41 @@
-//! Tokens of bytes, and texts that are built piece by piece.
+//! Tokens of bytes.
 use crate::notation::{number, part, written};
-use crate::page::{Page, Show};
-use sap_text::{Kind, Lex, Token, token_bytes, tokens};
+use crate::page::Page;
+use sap_read::ReadFault;
+use sap_refusals::file_line;
+use sap_text::{Kind, Token, token_bytes, tokens};
 
-fn letter(kind: Kind) -> &'static str {
-    match kind {
+// The letter of its kind, its span and its line, behind a word.
+fn show_token(page: &mut Page, word: &str, token: &Token) {
+    page.word(word);
+    let letter = match token.kind {
         Kind::Ident => "i",
         Kind::Number => "n",
         Kind::Quoted => "q",
         Kind::Symbol => "s",
-    }
+    };
+    page.numbered(letter, token.from);
+    page.numbered("-", token.to);
+    page.numbered("@", token.line);
 }
 
-// The letter of its kind, its span and its line.
-impl Show for Token {
-    fn show_on(&self, page: &mut Page) {
-        page.numbered(letter(self.kind), self.from);
-        page.numbered("-", self.to);
-        page.numbered("@", self.line);
-    }
-}
-
-impl Show for Vec<Token> {
-    fn show_on(&self, page: &mut Page) {
-        page.list(self.as_slice(), " ");
-    }
-}
-
-impl Show for Lex {
-    fn show_on(&self, page: &mut Page) {
-        match self {
-            Lex::Mem => page.word("memory"),
-            Lex::BadByte { at } => page.numbered("bad byte ", *at),
-            Lex::OpenComment { at } => page.numbered("open comment ", *at),
-            Lex::OpenQuote { at } => page.numbered("open quote ", *at),
-            Lex::NameLong { at } => page.numbered("name long ", *at),
-        }
-    }
-}
-
-/// The bytes, the longest name, and the tokens or the fault: of each token the letter of its kind, its span and its line.
+/// The bytes, the longest name, and the tokens or why there are none: of each token the letter of its kind, its span and its line.
 pub fn tokens_row(page: &mut Page, row: &str) {
     let longest = number(page, part(row, 1));
     let bytes = written(page.alloc, part(row, 0));
-    page.show(tokens(page.alloc, bytes.as_bytes(), longest));
+    match tokens(page.alloc, bytes.as_bytes(), longest) {
+        Ok(found) => {
+            let mut before = "";
+            for token in found.as_slice() {
+                show_token(page, before, token);
+                before = " ";
+            }
+        }
+        Err(fault) => {
+            let line = file_line(page.alloc, &ReadFault::Lex(fault));
+            page.text(line, "file refused: ", "\n");
+        }
+    }
 }
 
 /// A text, and the bytes of each token, with a bar behind each.
@@ -56,10 +48,4 @@ pub fn pieces_row(page: &mut Page, row: &str) {
         page.bytes(token_bytes(bytes, found.as_slice(), k));
         page.word("|");
     }
-}
-
-/// A number, and how it is written in decimal.
-pub fn numbers_row(page: &mut Page, row: &str) {
-    let number = number(page, part(row, 0));
-    page.number(number);
 }
