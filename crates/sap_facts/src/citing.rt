@@ -1,7 +1,7 @@
 // Facts that are cited by their numbers, each taken before the next is looked for.
-ghost use Rattle.std.specs.Prelude.{◌≡◌, ◌<◌, ◌≤◌, ◌+◌, ◌∷◌, ◌++◌, [], ℕ, true, false, nat_eq, Some, None, length, IfOk, OnOk, OnErr, MatchOption};
+ghost use Rattle.std.specs.Prelude.{◌≡◌, ◌<◌, ◌≤◌, ◌+◌, ◌∷◌, ◌++◌, [], ℕ, true, false, nat_eq, Some, None, length, IfOk, OnOk, OnErr, MatchOption, option_map};
 ghost use Rattle.indexmap.specs.IndexSet.{contains};
-ghost use Rattle.sap_terms.specs.Piles.{adds};
+ghost use Rattle.sap_terms.specs.Piles.{adds, Pile as Slots};
 ghost use Rattle.sap_facts.specs.Cited.{left_of, AreTaken};
 ghost use Rattle.sap_facts.specs.Facts.{fact_at};
 ghost use Rattle.sap_facts.specs.Missing.{IsFirstMissing};
@@ -12,31 +12,40 @@ use indexmap::IndexSet;
 use sap_terms::{Fact, FactList, Mem, Numbers};
 use std::alloc::Global;
 
+/// What has facts by their numbers.
+pub trait HasFacts: Sized {
+    ghost facts_of: { Self → Slots };
+
+    /// Whether the fact of this number is persistent; None where no fact has the number, or it was taken.
+    fn persistence(&self, k: u64) -> Option<bool>
+        ensures { result ≡ option_map (λ f. f.persistent) (fact_at (facts_of self.now) k) };
+}
+
 // Whether the fact of this number is left, where those in the set were used up. It is used up now, if it is linear.
-fn cite(facts: &Pile, gone: &mut IndexSet<u64>, k: u64) -> Result<bool, Mem>
-    ensures cited { IfOk result (λ b. b ≡ true → IsCited facts.now.slots (contains nat_eq gone.old) (contains nat_eq gone.new) k) }
-    ensures gone { IfOk result (λ b. b ≡ false → unless (contains nat_eq gone.old k) (fact_at facts.now.slots k) ≡ None) }
+fn cite<F: HasFacts>(facts: &F, gone: &mut IndexSet<u64>, k: u64) -> Result<bool, Mem>
+    ensures cited { IfOk result (λ b. b ≡ true → IsCited (F.facts_of facts.now) (contains nat_eq gone.old) (contains nat_eq gone.new) k) }
+    ensures gone { IfOk result (λ b. b ≡ false → unless (contains nat_eq gone.old k) (fact_at (F.facts_of facts.now) k) ≡ None) }
 {
     if gone.contains(&k) {
         return Ok(false);
     }
-    let Some(f) = facts.get(k) else {
+    let Some(persistent) = facts.persistence(k) else {
         return Ok(false);
     };
-    if !f.persistent {
+    if !persistent {
         gone.insert(k)?;
     }
     Ok(true)
 }
 
 // The first that is missing, where those in the set, which holds none at first, were used up.
-fn first_missing_of(
-    facts: &Pile,
+fn first_missing_of<F: HasFacts>(
+    facts: &F,
     numbers: &Numbers,
     gone: &mut IndexSet<u64>,
 ) -> Result<Option<u64>, Mem>
     requires { (j : ℕ) → contains nat_eq gone.old j ≡ false }
-    ensures { IfOk result (λ r. MatchOption r (AreTaken facts.now.slots numbers.now) (IsFirstMissing facts.now.slots numbers.now)) }
+    ensures { IfOk result (λ r. MatchOption r (AreTaken (F.facts_of facts.now) numbers.now) (IsFirstMissing (F.facts_of facts.now) numbers.now)) }
 {
     for (at, k) in numbers.as_slice().iter().enumerate() {
         if !cite(facts, gone, *k)? {
@@ -44,6 +53,19 @@ fn first_missing_of(
         }
     }
     Ok(None)
+}
+
+/// The index, from 1, of the first number of which no fact is left once those before it were taken; None where all can be
+/// taken in this order.
+pub fn first_missing<F: HasFacts>(
+    alloc: Global,
+    facts: &F,
+    numbers: &Numbers,
+) -> Result<Option<u64>, Mem>
+    ensures { IfOk result (λ r. MatchOption r (AreTaken (F.facts_of facts.now) numbers.now) (IsFirstMissing (F.facts_of facts.now) numbers.now)) }
+{
+    let mut gone = IndexSet::new(alloc);
+    first_missing_of(facts, numbers, &mut gone)
 }
 
 // Takes the facts with these numbers, one after another.
@@ -78,14 +100,24 @@ fn add_each(facts: &mut Pile, added: FactList)
     }
 }
 
+impl HasFacts for Pile {
+    ghost facts_of = { λ p. p.slots };
+
+    fn persistence(&self, k: u64) -> Option<bool> {
+        match self.get(k) {
+            Some(f) => Some(f.persistent),
+            None => None,
+        }
+    }
+}
+
 impl Pile {
     /// The index, from 1, of the first number of which no fact is left once those before it were taken; None where all can be
     /// taken in this order.
     pub fn first_missing(&self, alloc: Global, numbers: &Numbers) -> Result<Option<u64>, Mem>
         ensures { IfOk result (λ r. MatchOption r (AreTaken self.now.slots numbers.now) (IsFirstMissing self.now.slots numbers.now)) }
     {
-        let mut gone = IndexSet::new(alloc);
-        first_missing_of(self, numbers, &mut gone)
+        first_missing(alloc, self, numbers)
     }
 
     /// Takes the facts with these numbers, one after another, and then adds others. Refused, nothing changes.

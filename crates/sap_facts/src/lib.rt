@@ -4,4 +4,5 @@
 mod citing;
 mod pile;
 
+pub use citing::{HasFacts, first_missing};
 pub use pile::Pile;

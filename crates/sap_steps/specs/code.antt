@@ -1,7 +1,6 @@
 -- What the code of this crate keeps and makes on its way, for its own contracts: no definition that a theorem speaks of.
 pub mod Firing
 pub mod Ready
-pub mod Left
 pub mod Tied
 pub mod Denied
 pub mod Piled

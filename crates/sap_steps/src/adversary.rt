@@ -1,7 +1,7 @@
 //! Facts that the adversary puts out, takes and shows.
 ghost use Rattle.std.specs.Prelude.{codes, ◌≡◌, ◌⊎◌, ℕ, ◌<◌, [], ◌∷◌, Some, false, IfOk, IfErr, MatchOption};
 ghost use Rattle.sap_terms.specs.AdversaryFacts.{linear, out_fact, fr_fact};
-ghost use Rattle.sap_terms.specs.Tree.{Tree};
+ghost use Rattle.sap_terms.specs.Tree.{Tree, fresh};
 ghost use Rattle.sap_terms.specs.View.{tree};
 ghost use Rattle.sap_facts.specs.Facts.{fact_at};
 
@@ -82,15 +82,22 @@ pub(crate) fn put_out(alloc: Global, facts: &SharedPile, k: u64) -> Result<Term,
     }
 }
 
+// The number of a fresh name; None of another term.
+fn number_of_fresh(t: &Term) -> Option<u64>
+    ensures { MatchOption result ((n : ℕ) → ¬ (tree t.now ≡ fresh n)) (λ n. tree t.now ≡ fresh n) }
+{
+    match t {
+        Term::Fresh(n) => Some(*n),
+        Term::Var(_) | Term::Public(_) | Term::App(_, _) => None,
+    }
+}
+
 // The name that the fact of this number was made of; None where it is no such fact.
 pub(crate) fn name_made(alloc: Global, facts: &SharedPile, k: u64) -> Result<Option<u64>, Mem>
     ensures { IfOk result (λ o. MatchOption o ((n : ℕ) → ¬ (fact_at facts.now.slots k ≡ Some (fr_fact n))) (λ n. fact_at facts.now.slots k ≡ Some (fr_fact n))) }
 {
     match argument_at(alloc, facts, k, b"Fr")? {
-        Some(Term::Fresh(n)) => Ok(Some(n)),
-        Some(Term::Var(_)) => Ok(None),
-        Some(Term::Public(_)) => Ok(None),
-        Some(Term::App(_, _)) => Ok(None),
+        Some(t) => Ok(number_of_fresh(&t)),
         None => Ok(None),
     }
 }

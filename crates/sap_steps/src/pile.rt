@@ -1,5 +1,5 @@
 // Facts by their numbers, whose arguments are numbers of shared terms.
-ghost use Rattle.std.specs.Prelude.{◌≡◌, ◌+◌, ◌<◌, ◌≤◌, [], ◌∷◌, ◌++◌, length, true, false, All, IsSome, MatchOption, IfOk, IsErrOf, OnOk, None, Some, option_map, slice_set, vec_capacity};
+ghost use Rattle.std.specs.Prelude.{◌≡◌, ◌+◌, ◌<◌, ◌≤◌, [], ◌∷◌, ◌++◌, length, true, false, All, IsSome, MatchOption, IfOk, IsErrOf, OnOk, None, Some, slice_set, vec_capacity};
 ghost use Rattle.sap_facts.specs.Cited.{cited_at};
 ghost use Rattle.sap_facts.specs.Facts.{fact_at, slots_without};
 ghost use Rattle.sap_rewrite.specs.Around.{all_outer_vars};
@@ -19,6 +19,7 @@ ghost use Rattle.sap_terms.specs.Tree.{trees_of};
 ghost use Rattle.sap_terms.specs.View.{tree};
 ghost use Rattle.sap_terms.specs.declared.fact.Fact.{Fact as Held};
 
+use sap_facts::HasFacts;
 use sap_rewrite::Cut;
 use sap_rule::Rule;
 use sap_share::{Env, Table};
@@ -67,6 +68,17 @@ fn clear(slots: &mut Vec<Option<SharedFact>>, k: u64)
     ensures capacity { vec_capacity slots.new ≡ vec_capacity slots.old }
 {
     slots[k as usize] = None;
+}
+
+impl HasFacts for SharedPile {
+    ghost facts_of = { λ p. p.slots };
+
+    fn persistence(&self, k: u64) -> Option<bool> {
+        match self.standing(k) {
+            Some(h) => Some(h.persistent),
+            None => None,
+        }
+    }
 }
 
 impl SharedPile {
@@ -164,24 +176,12 @@ impl SharedPile {
         }
     }
 
-    // Whether the fact of this number is persistent; None where no fact has the number, or it was taken.
-    pub(crate) fn persistence(&self, k: u64) -> Option<bool>
-        ensures { result ≡ option_map (λ f. f.persistent) (fact_at self.now.slots k) }
-    {
-        match self.slots.get(k as usize) {
-            Some(Some(f)) => Some(f.persistent),
-            Some(None) => None,
-            None => None,
-        }
-    }
-
     // The fact of this number, built anew; None where no fact has the number, or it was taken.
     pub(crate) fn fact(&self, alloc: Global, k: u64) -> Result<Option<Fact>, Mem>
         ensures { IfOk result (λ o. o ≡ fact_at self.now.slots k) }
     {
-        match self.slots.get(k as usize) {
-            Some(Some(f)) => Ok(Some(built_fact(&self.table, alloc, f)?)),
-            Some(None) => Ok(None),
+        match self.standing(k) {
+            Some(h) => Ok(Some(built_fact(&self.table, alloc, h)?)),
             None => Ok(None),
         }
     }

@@ -1,64 +1,12 @@
-//! Whether cited facts can be taken, and facts exchanged for others.
-ghost use Rattle.std.specs.Prelude.{◌≡◌, ℕ, ◌≤◌, true, false, nat_eq, None, length, map, IfOk, OnOk, OnErr, MatchOption};
-ghost use Rattle.indexmap.specs.IndexSet.{contains};
+//! Facts exchanged for others.
+ghost use Rattle.std.specs.Prelude.{◌≡◌, ◌≤◌, length, map, IfOk, OnOk, OnErr};
 ghost use Rattle.sap_terms.specs.Piles.{adds};
-ghost use Rattle.sap_facts.specs.Facts.{fact_at};
-ghost use Rattle.sap_steps.specs.Faults.{IsFirstMissing};
-ghost use Rattle.sap_facts.specs.Cited.{left_of, AreTaken};
+ghost use Rattle.sap_facts.specs.Cited.{left_of};
 ghost use Rattle.sap_sides.specs.SharedFacts.{fact_seen, AreFactsBelow};
-ghost use Rattle.sap_steps.specs.code.Left.{unless, IsCited};
 
 use crate::pile::SharedPile;
-use indexmap::IndexSet;
 use sap_sides::{SharedFact, Sides};
 use sap_terms::{FactList, Mem, Numbers};
-use std::alloc::Global;
-
-// Whether the fact of this number is left, where those in the set were used up. It is used up now, if it is linear.
-fn cite(facts: &SharedPile, gone: &mut IndexSet<u64>, k: u64) -> Result<bool, Mem>
-    ensures cited { IfOk result (λ b. b ≡ true → IsCited facts.now.slots (contains nat_eq gone.old) (contains nat_eq gone.new) k) }
-    ensures gone { IfOk result (λ b. b ≡ false → unless (contains nat_eq gone.old k) (fact_at facts.now.slots k) ≡ None) }
-{
-    if gone.contains(&k) {
-        return Ok(false);
-    }
-    let Some(persistent) = facts.persistence(k) else {
-        return Ok(false);
-    };
-    if !persistent {
-        gone.insert(k)?;
-    }
-    Ok(true)
-}
-
-// The index, from 1, of the first number of which no fact is left once those before it were taken; None where all can be taken.
-pub(crate) fn first_missing(
-    alloc: Global,
-    facts: &SharedPile,
-    numbers: &Numbers,
-) -> Result<Option<u64>, Mem>
-    ensures { IfOk result (λ r. MatchOption r (AreTaken facts.now.slots numbers.now) (IsFirstMissing facts.now.slots numbers.now)) }
-{
-    let mut gone = IndexSet::new(alloc);
-    first_missing_of(facts, numbers, &mut gone)
-}
-
-// The same, where those in the set, which holds none at first, were used up.
-fn first_missing_of(
-    facts: &SharedPile,
-    numbers: &Numbers,
-    gone: &mut IndexSet<u64>,
-) -> Result<Option<u64>, Mem>
-    requires { (j : ℕ) → contains nat_eq gone.old j ≡ false }
-    ensures { IfOk result (λ r. MatchOption r (AreTaken facts.now.slots numbers.now) (IsFirstMissing facts.now.slots numbers.now)) }
-{
-    for (at, k) in numbers.as_slice().iter().enumerate() {
-        if !cite(facts, gone, *k)? {
-            return Ok(Some(at as u64 + 1));
-        }
-    }
-    Ok(None)
-}
 
 // Takes the facts with these numbers, adds what a rule adds, and gives what it shows, if memory is found.
 pub(crate) fn carry_out(

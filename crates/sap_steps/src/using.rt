@@ -11,7 +11,7 @@ use crate::RFault;
 use crate::firing::fire;
 use crate::pile::SharedPile;
 use crate::prepared::Prepared;
-use crate::taking::first_missing;
+use sap_facts::first_missing;
 use sap_sides::Sides;
 use sap_terms::{Bindings, Numbers, Signature};
 use std::alloc::Global;
