@@ -10,7 +10,6 @@ mod actions;
 mod build;
 mod choice;
 mod grammar;
-mod parts;
 
 use crate::draft::Draft;
 use crate::laws::term_laws;

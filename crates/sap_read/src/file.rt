@@ -117,20 +117,21 @@ fn read_parts(alloc: Global, bytes: &[u8], tokens: &[Token]) -> Result<Box<File>
     let Some(name) = header_name(bytes, tokens) else {
         return Err(ReadFault::Header);
     };
+    let title = Name::from_bytes(alloc, name)?;
     let rest = beyond(3, tokens);
     let declared = read_declarations(alloc, bytes, rest)?;
     let content = read_content(alloc, &declared, bytes, rest, last_line(tokens))?;
-    Ok(file_of(alloc, name, declared, content)?)
+    Ok(file_of(alloc, title, declared, content)?)
 }
 
 /// The file of this name with what was declared and these parts.
 fn file_of(
     alloc: Global,
-    name: &[u8],
+    name: Name,
     declared: Declared,
     content: Content,
 ) -> Result<Box<File>, Mem>
-    ensures parts { IfOk result (λ f. (f.value.name ≡ name.now)
+    ensures parts { IfOk result (λ f. (f.value.name ≡ name)
         × (f.value.signature ≡ declared.signature) × (f.value.process ≡ content.process.value)) }
     ensures lists { IfOk result (λ f. (f.value.restrictions ≡ content.checked.restrictions)
         × (f.value.lemmas ≡ content.checked.lemmas)) }
@@ -141,7 +142,6 @@ fn file_of(
         restrictions,
         lemmas,
     } = checked;
-    let name = Name::from_bytes(alloc, name)?;
     boxed_file(alloc, name, signature, process, restrictions, lemmas)
 }
 

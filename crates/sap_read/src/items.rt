@@ -80,11 +80,11 @@ fn push(entries: &mut Items<Definition>, entry: Option<Definition>) -> Result<bo
     }
 }
 
-// Puts a restriction or a lemma last.
-fn put(statements: &mut Items<Statement>, statement: Box<Statement>) -> Result<(), Mem>
-    ensures { OnOk result (statements.new ≡ statements.old ++ statement.value ∷ []) }
+// Puts what is boxed last.
+fn put<T: Drop>(list: &mut Items<T>, one: Box<T>) -> Result<(), Mem>
+    ensures { OnOk result (list.new ≡ list.old ++ one.value ∷ []) }
 {
-    statements.push(Box::into_inner(statement))
+    list.push(Box::into_inner(one))
 }
 
 // Reads a restriction or a lemma, and puts it last; false where the tokens are none.

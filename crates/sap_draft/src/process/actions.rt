@@ -3,38 +3,31 @@ ghost use Rattle.std.specs.Prelude.{◌≡◌, codes, IfOk};
 ghost use Rattle.sap_terms.specs.View.{tree};
 ghost use Rattle.sap_grammar.specs.Words.{words_of};
 ghost use Rattle.sap_grammar.specs.Reading.{Gives};
-ghost use Rattle.sap_draft.specs.code.ProcessReading.{channel, shown_facts, shown_event, up_to, second_term, bound_as, bound, right_side, embedded_rule, inserted_at, inserted, on_term, state_action, action_of};
+ghost use Rattle.sap_draft.specs.code.ProcessReading.{channel, shown_facts, shown_event, second_term, bound_as, bound, right_side, embedded_rule, inserted, on_term, state_action, action_of};
 ghost use Rattle.sap_draft.specs.code.ProcessView.{to_adversary, on_channel, on_one};
 ghost use Rattle.sap_draft.specs.Drafts.{doing};
 ghost use Rattle.sap_draft.specs.declared.limits.TheConstants.{FILE_LIMITS};
 
 use crate::draft::Doing;
-use crate::process::parts::{read_facts, read_short_fact, read_short_term};
-use sap_grammar::{beyond, name_at, starts};
+use crate::limits::FILE_LIMITS;
+use sap_grammar::{beyond, boxed, name_at, read_facts, read_short_fact, read_short_term, starts};
 use sap_terms::{FactList, Mem, Name, Signature, Sort, Term, Var};
 use sap_text::Token;
 use std::alloc::Global;
 
 /// Which way a message goes.
-#[derive(Clone, Copy, Debug, PartialEq, Eq)]
+#[derive(Clone, Copy)]
 enum Way {
     Out,
     In,
 }
 
 /// What is done with one term.
-#[derive(Clone, Copy, Debug, PartialEq, Eq)]
+#[derive(Clone, Copy)]
 enum Deed {
     Delete,
     Lock,
     Unlock,
-}
-
-// A large value stands in a box as soon as it is made.
-fn boxed(alloc: Global, doing: Doing) -> Result<Box<Doing>, Mem>
-    ensures { IfOk result (λ d. d.value ≡ doing) }
-{
-    Ok(Box::new(alloc, doing)?)
 }
 
 fn alone(alloc: Global, way: Way, message: Term) -> Result<Box<Doing>, Mem>
@@ -65,23 +58,6 @@ fn on_one(alloc: Global, deed: Deed, term: Term) -> Result<Box<Doing>, Mem>
     }
 }
 
-// What is done, where a closing parenthesis stands first.
-#[tactic(auto, using(crate::proofs::Steps::steps), unfolding(crate::specs::code::ProcessReading::past))]
-fn read_close<'a>(
-    bytes: &[u8],
-    first: Box<Doing>,
-    tokens: &'a [Token],
-) -> Result<Option<(Box<Doing>, &'a [Token])>, Mem>
-    ensures { Gives bytes.now (λ d. doing d.value) result (up_to (codes ")") (doing first.value)
-        (words_of bytes.now tokens.now)) }
-{
-    if starts(bytes, tokens, ")") {
-        Ok(Some((first, beyond(1, tokens))))
-    } else {
-        Ok(None)
-    }
-}
-
 #[tactic(auto, using(crate::proofs::Steps::steps), unfolding(sap_grammar::specs::Reading::after, crate::specs::code::ProcessReading::past))]
 fn read_message<'a>(
     alloc: Global,
@@ -97,11 +73,14 @@ fn read_message<'a>(
     if !starts(bytes, tokens, ",") {
         return Ok(None);
     }
-    match read_short_term(alloc, sig, bytes, beyond(1, tokens))? {
+    match read_short_term(alloc, sig, FILE_LIMITS, bytes, beyond(1, tokens))? {
         None => Ok(None),
         Some((message, rest)) => {
-            let first = on_channel(alloc, way, channel, message)?;
-            read_close(bytes, first, rest)
+            if !starts(bytes, rest, ")") {
+                return Ok(None);
+            }
+            let doing = on_channel(alloc, way, channel, message)?;
+            Ok(Some((doing, beyond(1, rest))))
         }
     }
 }
@@ -120,7 +99,7 @@ fn read_channel<'a>(
     if !starts(bytes, tokens, "(") {
         return Ok(None);
     }
-    match read_short_term(alloc, sig, bytes, beyond(1, tokens))? {
+    match read_short_term(alloc, sig, FILE_LIMITS, bytes, beyond(1, tokens))? {
         None => Ok(None),
         Some((term, rest)) => {
             if starts(bytes, rest, ")") {
@@ -182,7 +161,7 @@ fn read_right_side<'a>(
     if !starts(bytes, tokens, "[") {
         return Ok(None);
     }
-    match read_facts(alloc, sig, bytes, true, "]", beyond(1, tokens))? {
+    match read_facts(alloc, sig, FILE_LIMITS, bytes, true, "]", beyond(1, tokens))? {
         None => Ok(None),
         Some((added, rest)) => {
             let doing = boxed(alloc, Doing::Embedded(taken, shown, added))?;
@@ -205,7 +184,15 @@ fn read_shown<'a>(
     if !starts(bytes, tokens, "--[") {
         return Ok(None);
     }
-    match read_facts(alloc, sig, bytes, false, "]->", beyond(1, tokens))? {
+    match read_facts(
+        alloc,
+        sig,
+        FILE_LIMITS,
+        bytes,
+        false,
+        "]->",
+        beyond(1, tokens),
+    )? {
         None => Ok(None),
         Some((shown, rest)) => read_right_side(alloc, sig, bytes, taken, shown, rest),
     }
@@ -221,7 +208,7 @@ fn read_rule<'a>(
     ensures { Gives bytes.now (λ d. doing d.value) result (embedded_rule sig.now FILE_LIMITS
         (words_of bytes.now tokens.now)) }
 {
-    let Some((taken, rest)) = read_facts(alloc, sig, bytes, true, "]", tokens)? else {
+    let Some((taken, rest)) = read_facts(alloc, sig, FILE_LIMITS, bytes, true, "]", tokens)? else {
         return Ok(None);
     };
     if starts(bytes, rest, "-->") {
@@ -248,7 +235,7 @@ fn read_event<'a>(
     ensures { Gives bytes.now (λ d. doing d.value) result (shown_event sig.now FILE_LIMITS
         (words_of bytes.now tokens.now)) }
 {
-    match read_short_fact(alloc, sig, bytes, false, tokens)? {
+    match read_short_fact(alloc, sig, FILE_LIMITS, bytes, false, tokens)? {
         None => Ok(None),
         Some((fact, rest)) => {
             let doing = boxed(alloc, Doing::Event(fact))?;
@@ -258,29 +245,6 @@ fn read_event<'a>(
 }
 
 #[tactic(auto, using(crate::proofs::Steps::steps), unfolding(sap_grammar::specs::Reading::after, crate::specs::code::ProcessReading::past))]
-fn read_value<'a>(
-    alloc: Global,
-    sig: &Signature,
-    bytes: &[u8],
-    key: Term,
-    tokens: &'a [Token],
-) -> Result<Option<(Box<Doing>, &'a [Token])>, Mem>
-    ensures { Gives bytes.now (λ d. doing d.value) result (inserted_at sig.now FILE_LIMITS (tree key)
-        (words_of bytes.now tokens.now)) }
-{
-    if !starts(bytes, tokens, ",") {
-        return Ok(None);
-    }
-    match read_short_term(alloc, sig, bytes, beyond(1, tokens))? {
-        None => Ok(None),
-        Some((value, rest)) => {
-            let doing = boxed(alloc, Doing::Insert(key, value))?;
-            Ok(Some((doing, rest)))
-        }
-    }
-}
-
-#[tactic(auto, using(crate::proofs::Steps::steps), unfolding(sap_grammar::specs::Reading::after))]
 fn read_insert<'a>(
     alloc: Global,
     sig: &Signature,
@@ -290,9 +254,20 @@ fn read_insert<'a>(
     ensures { Gives bytes.now (λ d. doing d.value) result (inserted sig.now FILE_LIMITS
         (words_of bytes.now tokens.now)) }
 {
-    match read_short_term(alloc, sig, bytes, tokens)? {
+    match read_short_term(alloc, sig, FILE_LIMITS, bytes, tokens)? {
         None => Ok(None),
-        Some((key, rest)) => read_value(alloc, sig, bytes, key, rest),
+        Some((key, rest)) => {
+            if !starts(bytes, rest, ",") {
+                return Ok(None);
+            }
+            match read_short_term(alloc, sig, FILE_LIMITS, bytes, beyond(1, rest))? {
+                None => Ok(None),
+                Some((value, rest)) => {
+                    let doing = boxed(alloc, Doing::Insert(key, value))?;
+                    Ok(Some((doing, rest)))
+                }
+            }
+        }
     }
 }
 
@@ -307,7 +282,7 @@ fn read_deed<'a>(
     ensures { Gives bytes.now (λ d. doing d.value) result (on_term sig.now FILE_LIMITS (on_one deed)
         (words_of bytes.now tokens.now)) }
 {
-    match read_short_term(alloc, sig, bytes, tokens)? {
+    match read_short_term(alloc, sig, FILE_LIMITS, bytes, tokens)? {
         None => Ok(None),
         Some((term, rest)) => {
             let doing = on_one(alloc, deed, term)?;

@@ -1,6 +1,6 @@
 //! Processes made of their parts.
 ghost use Rattle.std.specs.Prelude.{◌≡◌, IfOk};
-ghost use Rattle.sap_draft.specs.Written.{nil, call, parallel, replicated, act, test, lookup};
+ghost use Rattle.sap_draft.specs.Written.{nil, call, act, test, lookup};
 ghost use Rattle.sap_terms.specs.View.{tree};
 ghost use Rattle.sap_terms.specs.declared.var.Sort.TheVariants.{Msg};
 ghost use Rattle.sap_draft.specs.ProcessGrammar.{var};
@@ -8,6 +8,7 @@ ghost use Rattle.sap_draft.specs.code.ProcessView.{chosen};
 ghost use Rattle.sap_draft.specs.Drafts.{doing, written};
 
 use crate::draft::{Doing, Draft};
+use sap_grammar::boxed;
 use sap_terms::{Mem, Name, Sort, Term, Var};
 use std::alloc::Global;
 
@@ -27,25 +28,11 @@ pub struct Measured {
     pub levels: u32,
 }
 
-// A large value stands in a box as soon as it is made.
-fn boxed(alloc: Global, draft: Draft) -> Result<Box<Draft>, Mem>
-    ensures { IfOk result (λ p. p.value ≡ draft) }
-{
-    Ok(Box::new(alloc, draft)?)
-}
-
-// The same of what chooses.
-fn boxed_choice(alloc: Global, choice: Branching) -> Result<Box<Branching>, Mem>
-    ensures { IfOk result (λ p. p.value ≡ choice) }
-{
-    Ok(Box::new(alloc, choice)?)
-}
-
 /// The comparison of these terms.
 pub fn comparing(alloc: Global, left: Term, right: Term) -> Result<Box<Branching>, Mem>
     ensures { IfOk result (λ p. chosen p.value ≡ test (tree left) (tree right)) }
 {
-    boxed_choice(alloc, Branching::Equality(left, right))
+    boxed(alloc, Branching::Equality(left, right))
 }
 
 /// The lookup of this key, where what is found gets this name.
@@ -54,13 +41,7 @@ pub fn looking_up(alloc: Global, key: Term, name: &[u8]) -> Result<Box<Branching
 {
     let name = Name::from_bytes(alloc, name)?;
     let sort = Sort::Msg;
-    boxed_choice(alloc, Branching::Lookup(key, Var { name, sort }))
-}
-
-pub fn nil(alloc: Global) -> Result<Box<Draft>, Mem>
-    ensures { IfOk result (λ p. written p.value ≡ nil) }
-{
-    boxed(alloc, Draft::Nil)
+    boxed(alloc, Branching::Lookup(key, Var { name, sort }))
 }
 
 pub fn call(alloc: Global, name: &[u8]) -> Result<Box<Draft>, Mem>
@@ -70,31 +51,12 @@ pub fn call(alloc: Global, name: &[u8]) -> Result<Box<Draft>, Mem>
     boxed(alloc, Draft::Call(name))
 }
 
-pub fn acting(alloc: Global, first: Box<Doing>, then: Box<Draft>) -> Result<Box<Draft>, Mem>
-    ensures { IfOk result (λ p. written p.value ≡ act (doing first.value) (written then.value)) }
-{
-    boxed(alloc, Draft::Act(first, then))
-}
-
 /// What does this and nothing behind it.
 pub fn acting_last(alloc: Global, first: Box<Doing>) -> Result<Box<Draft>, Mem>
     ensures { IfOk result (λ p. written p.value ≡ act (doing first.value) nil) }
 {
-    let then = nil(alloc)?;
+    let then = boxed(alloc, Draft::Nil)?;
     boxed(alloc, Draft::Act(first, then))
-}
-
-pub fn replicated(alloc: Global, copy: Box<Draft>) -> Result<Box<Draft>, Mem>
-    ensures { IfOk result (λ p. written p.value ≡ replicated (written copy.value)) }
-{
-    boxed(alloc, Draft::Rep(copy))
-}
-
-pub fn parallel(alloc: Global, left: Box<Draft>, right: Box<Draft>) -> Result<Box<Draft>, Mem>
-    ensures { IfOk result (λ p. written p.value ≡ parallel (written left.value)
-        (written right.value)) }
-{
-    boxed(alloc, Draft::Par(left, right))
 }
 
 pub fn choosing(
@@ -120,6 +82,6 @@ pub fn choosing_one(
 ) -> Result<Box<Draft>, Mem>
     ensures { IfOk result (λ p. written p.value ≡ chosen choice.value (written yes.value) nil) }
 {
-    let no = nil(alloc)?;
+    let no = boxed(alloc, Draft::Nil)?;
     choosing(alloc, choice, yes, no)
 }

@@ -6,9 +6,9 @@ ghost use Rattle.sap_draft.specs.code.ProcessReading.{up_to, equality, compared,
 ghost use Rattle.sap_draft.specs.code.ProcessView.{chosen};
 ghost use Rattle.sap_draft.specs.declared.limits.TheConstants.{FILE_LIMITS};
 
+use crate::limits::FILE_LIMITS;
 use crate::process::build::{Branching, comparing, looking_up};
-use crate::process::parts::read_short_term;
-use sap_grammar::{beyond, name_at, starts};
+use sap_grammar::{beyond, name_at, read_short_term, starts};
 use sap_terms::{Mem, Signature, Term};
 use sap_text::Token;
 use std::alloc::Global;
@@ -45,7 +45,7 @@ fn read_equality<'a>(
     if !starts(bytes, tokens, "=") {
         return Ok(None);
     }
-    match read_short_term(alloc, sig, bytes, beyond(1, tokens))? {
+    match read_short_term(alloc, sig, FILE_LIMITS, bytes, beyond(1, tokens))? {
         None => Ok(None),
         Some((right, rest)) => {
             let choice = comparing(alloc, left, right)?;
@@ -65,7 +65,7 @@ pub fn read_compared<'a>(
     ensures { Gives bytes.now (λ p. chosen p.value) result (compared sig.now FILE_LIMITS
         (words_of bytes.now tokens.now)) }
 {
-    match read_short_term(alloc, sig, bytes, tokens)? {
+    match read_short_term(alloc, sig, FILE_LIMITS, bytes, tokens)? {
         None => Ok(None),
         Some((left, rest)) => read_equality(alloc, sig, bytes, left, rest),
     }
@@ -115,7 +115,7 @@ pub fn read_looked_up<'a>(
     ensures { Gives bytes.now (λ p. chosen p.value) result (looked_up sig.now FILE_LIMITS
         (words_of bytes.now tokens.now)) }
 {
-    match read_short_term(alloc, sig, bytes, tokens)? {
+    match read_short_term(alloc, sig, FILE_LIMITS, bytes, tokens)? {
         None => Ok(None),
         Some((key, rest)) => read_entry(alloc, bytes, key, rest),
     }

@@ -9,12 +9,9 @@ ghost use Rattle.sap_draft.specs.declared.limits.TheConstants.{FILE_LIMITS};
 
 use crate::draft::{Doing, Draft};
 use crate::process::actions::read_action;
-use crate::process::build::{
-    Branching, Measured, acting, acting_last, call, choosing, choosing_one, nil, parallel,
-    replicated,
-};
+use crate::process::build::{Branching, Measured, acting_last, call, choosing, choosing_one};
 use crate::process::choice::{read_compared, read_looked_up};
-use sap_grammar::{beyond, name_at, starts, starts_zero};
+use sap_grammar::{beyond, boxed, name_at, starts, starts_zero};
 use sap_terms::{Mem, Signature};
 use sap_text::Token;
 use std::alloc::Global;
@@ -174,7 +171,7 @@ fn read_on<'a>(
                     rest,
                 ),
             ) => {
-                let process = acting(alloc, first, then)?;
+                let process = boxed(alloc, Draft::Act(first, then))?;
                 Ok(Some((
                     Measured {
                         draft: process,
@@ -297,7 +294,7 @@ fn read_replicated<'a>(
                 rest,
             ),
         ) => {
-            let process = replicated(alloc, copy)?;
+            let process = boxed(alloc, Draft::Rep(copy))?;
             Ok(Some((
                 Measured {
                     draft: process,
@@ -336,7 +333,7 @@ fn read_seq<'a>(
     } else if starts(bytes, tokens, "lookup") {
         read_lookup(alloc, sig, bytes, depth - 1, next)
     } else if starts_zero(bytes, tokens) {
-        let process = nil(alloc)?;
+        let process = boxed(alloc, Draft::Nil)?;
         Ok(Some((
             Measured {
                 draft: process,
@@ -378,7 +375,7 @@ fn read_beside<'a>(
                 rest,
             ),
         ) => {
-            let both = parallel(alloc, left, right)?;
+            let both = boxed(alloc, Draft::Par(left, right))?;
             Ok(Some((
                 Measured {
                     draft: both,

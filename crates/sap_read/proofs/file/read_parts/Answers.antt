@@ -53,6 +53,6 @@ returns-clause-accepted c =
     let parts = c.in_ok-file_of.ensures.parts in
     let lists = c.in_ok-file_of.ensures.lists in
     let content = c.in_ok-content.content in
-    rw (parts.0, parts.1, parts.2, lists.0, lists.1) (is_accepted c.item_laws.ensures z ts c.in-Some.name.now g clash (proc content.process.value) content.checked.restrictions content.checked.lemmas c.requires found
+    rw (parts.0, c.in_ok-title.ensures, parts.1, parts.2, lists.0, lists.1) (is_accepted c.item_laws.ensures z ts c.in-Some.name.now g clash (proc content.process.value) content.checked.restrictions content.checked.lemmas c.requires found
     (told c.item_laws.ensures z ts rest g clash c.beyond-rest.ensures c.in_ok-declared.ensures.signature c.in_ok-declared.ensures.clash)
     (c.in_ok-content.ensures.accepted (items_of z ts) (cut_behind c.item_laws.ensures z ts rest c.beyond-rest.ensures)))
