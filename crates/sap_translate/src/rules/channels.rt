@@ -1,5 +1,6 @@
 //! Messages to and from the adversary, and on channels.
 ghost use Rattle.std.specs.Prelude.{◌≡◌, [], ◌∷◌, ◌++◌, IfOk, OnOk};
+ghost use Rattle.sap_terms.specs.AdversaryFacts.{linear};
 ghost use Rattle.sap_terms.specs.Equations.{app2, pair_name};
 ghost use Rattle.sap_terms.specs.Tree.{variable};
 ghost use Rattle.sap_terms.specs.Variables.{tree_vars};
@@ -55,8 +56,7 @@ pub fn add_send(
         ≡ rules.old ++ templates.send_rules path.now scope.now (tree t.now) (tree u.now)) }
 {
     add_send_to_adversary(alloc, path, scope, t, u, rules)?;
-    let fresh = fact_of_var(alloc, b"Fr", tag(alloc));
-    let left = two(alloc, state_at(alloc, path, scope), fresh);
+    let left = two(alloc, state_at(alloc, path, scope), tagged(alloc, b"Fr"));
     let right = two(alloc, message(alloc, t, u), waits_at(alloc, path, scope));
     push_rule(
         alloc,
@@ -67,8 +67,20 @@ pub fn add_send(
         right,
         rules,
     )?;
-    let acknowledged = fact_of_var(alloc, b"Ack", tag(alloc));
-    let left = two(alloc, waits_at(alloc, path, scope), acknowledged);
+    add_acknowledged(alloc, path, scope, rules)
+}
+
+// The tag is acknowledged.
+fn add_acknowledged(
+    alloc: Global,
+    path: &Path,
+    scope: &Vars,
+    rules: &mut RuleList,
+) -> Result<(), Mem>
+    ensures { OnOk result (rules.new
+        ≡ rules.old ++ templates.out_ack_rule path.now scope.now ∷ []) }
+{
+    let left = two(alloc, waits_at(alloc, path, scope), tagged(alloc, b"Ack"));
     let right = one(alloc, state_below(alloc, path, 1, scope));
     push_rule(
         alloc,
@@ -138,7 +150,7 @@ pub fn add_receive(
     let acts = one(alloc, fact1(alloc, b"InEvent", &pair));
     push_taking(alloc, b"InAdv_", path, scope, taken, acts, inner, rules)?;
     let left = two(alloc, state_at(alloc, path, scope), message(alloc, t, u));
-    let acknowledged = fact_of_var(alloc, b"Ack", tag(alloc));
+    let acknowledged = tagged(alloc, b"Ack");
     let right = two(alloc, acknowledged, state_below(alloc, path, 1, inner));
     push_rule(
         alloc,
@@ -159,6 +171,13 @@ fn pair(alloc: Global, t: &Term, u: &Term) -> Result<Term, Mem>
     args.push(t.copy(alloc)?)?;
     args.push(u.copy(alloc)?)?;
     Ok(Term::App(Name::from_bytes(alloc, b"pair")?, args))
+}
+
+// The linear fact of this name over the tag.
+fn tagged(alloc: Global, word: &[u8]) -> Result<Fact, Mem>
+    ensures { IfOk result (λ f. f ≡ linear word.now (variable tag ∷ [])) }
+{
+    fact_of_var(alloc, word, tag(alloc))
 }
 
 // The second is under way on the first, under the tag.

@@ -1,10 +1,11 @@
 //! The store.
-ghost use Rattle.std.specs.Prelude.{◌≡◌, [], ◌∷◌, ◌++◌, IfOk, OnOk};
+ghost use Rattle.std.specs.Prelude.{◌≡◌, [], ◌∷◌, ◌++◌, codes, IfOk, OnOk};
 ghost use Rattle.sap_terms.specs.Tree.{variable};
 ghost use Rattle.sap_terms.specs.View.{tree};
 ghost use Rattle.sap_process.specs.Sites.{message_var};
 ghost use Rattle.sap_restrict.specs.ReservedFacts.{is_in_fact};
 ghost use Rattle.sap_translate.specs.Templates as templates;
+ghost use Rattle.sap_translate.specs.Templates.{first_of, state};
 
 use super::making::push_step;
 use crate::facts::{fact_over, fact1, fact2, one, sorted};
@@ -57,10 +58,42 @@ pub fn add_lookup(
     ensures { OnOk result (rules.new
         ≡ rules.old ++ templates.lookup_rules path.now scope.now (tree t.now) x.now) }
 {
-    let found = one(alloc, stored(alloc, t, x));
-    push_step(alloc, b"Found_", path, scope, found, 1, inner, rules)?;
-    let missing = one(alloc, fact1(alloc, b"IsNotSet", t));
-    push_step(alloc, b"Missing_", path, scope, missing, 2, scope, rules)
+    add_found(alloc, path, scope, inner, t, x, rules)?;
+    add_missing(alloc, path, scope, t, rules)
+}
+
+// A value is shown at the key.
+fn add_found(
+    alloc: Global,
+    path: &Path,
+    scope: &Vars,
+    inner: &Vars,
+    t: &Term,
+    x: &Var,
+    rules: &mut RuleList,
+) -> Result<(), Mem>
+    ensures { OnOk result (rules.new ≡ rules.old ++ templates.rule (codes "Found_") path.now
+        (state path.now scope.now ∷ [])
+        (is_in_fact (tree t.now) (variable (message_var x.now)) ∷ [])
+        (state (first_of path.now) inner.now ∷ []) ∷ []) }
+{
+    let acts = one(alloc, stored(alloc, t, x));
+    push_step(alloc, b"Found_", path, scope, acts, 1, inner, rules)
+}
+
+// No value is shown.
+fn add_missing(
+    alloc: Global,
+    path: &Path,
+    scope: &Vars,
+    t: &Term,
+    rules: &mut RuleList,
+) -> Result<(), Mem>
+    ensures { OnOk result (rules.new
+        ≡ rules.old ++ templates.missing_rule path.now scope.now (tree t.now) ∷ []) }
+{
+    let acts = one(alloc, fact1(alloc, b"IsNotSet", t));
+    push_step(alloc, b"Missing_", path, scope, acts, 2, scope, rules)
 }
 
 // That the store has the variable at the key.
