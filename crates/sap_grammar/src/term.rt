@@ -85,7 +85,7 @@ fn read_signed<'a>(
 }
 
 #[cycle(read)]
-#[tactic(auto, using(crate::proofs::Steps::steps), unfolding(crate::specs::Reading::after))]
+#[tactic(auto, unfolding(crate::specs::Reading::after))]
 fn read_list<'a>(
     alloc: Global,
     sig: &Signature,
@@ -116,7 +116,7 @@ fn read_list<'a>(
 
 /// Terms, none or more, up to the closing parenthesis, each read so deep at most, and the tokens behind it.
 #[cycle(read)]
-#[tactic(auto, using(crate::proofs::Steps::steps), unfolding(crate::specs::Reading::after))]
+#[tactic(auto, unfolding(crate::specs::Reading::after))]
 pub fn read_args<'a>(
     alloc: Global,
     sig: &Signature,
@@ -135,7 +135,7 @@ pub fn read_args<'a>(
 }
 
 #[cycle(read)]
-#[tactic(auto, using(crate::proofs::Steps::steps), unfolding(crate::specs::Reading::after))]
+#[tactic(auto, unfolding(crate::specs::Reading::after))]
 fn read_symbol<'a>(
     alloc: Global,
     sig: &Signature,
@@ -160,7 +160,7 @@ fn read_symbol<'a>(
 }
 
 #[cycle(read)]
-#[tactic(auto, using(crate::proofs::Steps::steps), unfolding(crate::specs::Reading::after))]
+#[tactic(auto, unfolding(crate::specs::Reading::after))]
 fn read_named<'a>(
     alloc: Global,
     sig: &Signature,
@@ -180,7 +180,7 @@ fn read_named<'a>(
 }
 
 #[cycle(read)]
-#[tactic(auto, using(crate::proofs::Steps::steps), unfolding(crate::specs::Reading::after))]
+#[tactic(auto, unfolding(crate::specs::Reading::after))]
 fn read_second<'a>(
     alloc: Global,
     sig: &Signature,
@@ -205,7 +205,7 @@ fn read_second<'a>(
 }
 
 #[cycle(read)]
-#[tactic(auto, using(crate::proofs::Steps::steps), unfolding(crate::specs::Reading::after))]
+#[tactic(auto, unfolding(crate::specs::Reading::after))]
 fn read_tuple<'a>(
     alloc: Global,
     sig: &Signature,
@@ -223,7 +223,7 @@ fn read_tuple<'a>(
 }
 
 #[cycle(read)]
-#[tactic(auto, using(crate::proofs::Steps::steps), unfolding(crate::specs::Reading::after))]
+#[tactic(auto, unfolding(crate::specs::Reading::after))]
 fn read_rest<'a>(
     alloc: Global,
     sig: &Signature,
@@ -250,7 +250,7 @@ fn read_rest<'a>(
 
 /// A term, read so deep at most, and the tokens behind it. It can have more levels, but each term that has no more is read.
 #[cycle(read)]
-#[tactic(auto, using(crate::proofs::Steps::steps), unfolding(crate::specs::Reading::after))]
+#[tactic(auto, unfolding(crate::specs::Reading::after))]
 pub fn read_deep<'a>(
     alloc: Global,
     sig: &Signature,
@@ -275,7 +275,7 @@ pub fn read_deep<'a>(
 }
 
 #[cycle(read)]
-#[tactic(auto, using(crate::proofs::Steps::steps), unfolding(crate::specs::Reading::given))]
+#[tactic(auto, unfolding(crate::specs::Reading::given))]
 fn read_leaf<'a>(
     alloc: Global,
     sig: &Signature,
