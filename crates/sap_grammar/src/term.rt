@@ -1,5 +1,5 @@
 //! Terms, read from their tokens.
-ghost use Rattle.std.specs.Prelude.{◌≡◌, ℕ, codes, [], ◌∷◌, length, IfOk, IfSome, IfNone};
+ghost use Rattle.std.specs.Prelude.{◌≡◌, ℕ, List, codes, [], ◌∷◌, length, Some, IfOk, IfSome, IfNone};
 ghost use Rattle.sap_terms.specs.Tree.{Tree, public, node_count};
 ghost use Rattle.sap_terms.specs.View.{tree};
 ghost use Rattle.sap_terms.specs.Signature.{arity_of};
@@ -7,7 +7,7 @@ ghost use Rattle.sap_grammar.specs.Words.{starts, words_of};
 ghost use Rattle.sap_grammar.specs.TermGrammar.{pair, sorted};
 ghost use Rattle.sap_grammar.specs.Places.{IsTermAt};
 ghost use Rattle.sap_grammar.specs.Sizes.{at_most, is_small};
-ghost use Rattle.sap_grammar.specs.Reading.{Gives, list_of, quoted_at};
+ghost use Rattle.sap_grammar.specs.Reading.{Gives, Read, after, list_of, quoted_at};
 ghost use Rattle.sap_grammar.specs.TermReading.{is_no_arity, plain, signed, symbol, named, leaf, args, paired, tuple, term, rest, short_term};
 
 use crate::limits::Limits;
@@ -61,6 +61,23 @@ fn pair(alloc: Global, left: Term, right: Term) -> Result<Term, Mem>
     let name = Name::from_bytes(alloc, b"pair")?;
     let parts = two(alloc, left, right)?;
     Ok(Term::App(name, parts))
+}
+
+// The pair of a term and what was read behind it.
+#[tactic(auto, unfolding(crate::specs::Reading::after))]
+fn paired<'a>(
+    alloc: Global,
+    left: Term,
+    right: Result<Option<(Term, &'a [Token])>, Mem>,
+) -> Result<Option<(Term, &'a [Token])>, Mem>
+    ensures { (bytes : List ℕ) (read : Read Tree) → Gives bytes tree right.entry read
+        → Gives bytes tree result (after read (λ u z. Some (pair (tree left) u, z))) }
+{
+    match right {
+        Err(mem) => Err(mem),
+        Ok(None) => Ok(None),
+        Ok(Some((right, end))) => Ok(Some((pair(alloc, left, right)?, end))),
+    }
 }
 
 fn quoted(alloc: Global, content: &[u8]) -> Result<Term, Mem>
@@ -195,13 +212,11 @@ fn read_second<'a>(
     if !starts(bytes, tokens, ",") {
         return Ok(None);
     }
-    match read_rest(alloc, sig, bytes, depth, beyond(1, tokens))? {
-        None => Ok(None),
-        Some((right, end)) => {
-            let both = pair(alloc, left, right)?;
-            Ok(Some((both, end)))
-        }
-    }
+    paired(
+        alloc,
+        left,
+        read_rest(alloc, sig, bytes, depth, beyond(1, tokens)),
+    )
 }
 
 #[cycle(read)]
