@@ -115,7 +115,6 @@ fn read_privacy<'a>(
     }
 }
 
-#[tactic(auto, using(crate::proofs::Steps::word_steps), unfolding(crate::specs::Reading::given))]
 fn read_symbol<'a>(
     alloc: Global,
     bytes: &[u8],

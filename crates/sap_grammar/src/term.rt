@@ -1,5 +1,5 @@
 //! Terms, read from their tokens.
-ghost use Rattle.std.specs.Prelude.{◌≡◌, ℕ, codes, [], ◌∷◌, length, IfOk, IfSome, IfNone};
+ghost use Rattle.std.specs.Prelude.{◌≡◌, ℕ, List, codes, [], ◌∷◌, length, Some, IfOk, IfSome, IfNone};
 ghost use Rattle.sap_terms.specs.Tree.{Tree, public, node_count};
 ghost use Rattle.sap_terms.specs.View.{tree};
 ghost use Rattle.sap_terms.specs.Signature.{arity_of};
@@ -7,7 +7,7 @@ ghost use Rattle.sap_grammar.specs.Words.{starts, words_of};
 ghost use Rattle.sap_grammar.specs.TermGrammar.{pair, sorted};
 ghost use Rattle.sap_grammar.specs.Places.{IsTermAt};
 ghost use Rattle.sap_grammar.specs.Sizes.{at_most, is_small};
-ghost use Rattle.sap_grammar.specs.Reading.{Gives, list_of, quoted_at};
+ghost use Rattle.sap_grammar.specs.Reading.{Gives, Read, after, list_of, quoted_at};
 ghost use Rattle.sap_grammar.specs.TermReading.{is_no_arity, plain, signed, symbol, named, leaf, args, paired, tuple, term, rest, short_term};
 
 use crate::limits::Limits;
@@ -63,6 +63,23 @@ fn pair(alloc: Global, left: Term, right: Term) -> Result<Term, Mem>
     Ok(Term::App(name, parts))
 }
 
+// The pair of a term and what was read behind it.
+#[tactic(auto, unfolding(crate::specs::Reading::after))]
+fn paired<'a>(
+    alloc: Global,
+    left: Term,
+    right: Result<Option<(Term, &'a [Token])>, Mem>,
+) -> Result<Option<(Term, &'a [Token])>, Mem>
+    ensures { (bytes : List ℕ) (read : Read Tree) → Gives bytes tree right.entry read
+        → Gives bytes tree result (after read (λ u z. Some (pair (tree left) u, z))) }
+{
+    match right {
+        Err(mem) => Err(mem),
+        Ok(None) => Ok(None),
+        Ok(Some((right, end))) => Ok(Some((pair(alloc, left, right)?, end))),
+    }
+}
+
 fn quoted(alloc: Global, content: &[u8]) -> Result<Term, Mem>
     ensures { IfOk result (λ t. tree t ≡ public content.now) }
 {
@@ -85,7 +102,7 @@ fn read_signed<'a>(
 }
 
 #[cycle(read)]
-#[tactic(auto, using(crate::proofs::Steps::steps), unfolding(crate::specs::Reading::after))]
+#[tactic(auto, unfolding(crate::specs::Reading::after))]
 fn read_list<'a>(
     alloc: Global,
     sig: &Signature,
@@ -116,7 +133,7 @@ fn read_list<'a>(
 
 /// Terms, none or more, up to the closing parenthesis, each read so deep at most, and the tokens behind it.
 #[cycle(read)]
-#[tactic(auto, using(crate::proofs::Steps::steps), unfolding(crate::specs::Reading::after))]
+#[tactic(auto, unfolding(crate::specs::Reading::after))]
 pub fn read_args<'a>(
     alloc: Global,
     sig: &Signature,
@@ -135,7 +152,7 @@ pub fn read_args<'a>(
 }
 
 #[cycle(read)]
-#[tactic(auto, using(crate::proofs::Steps::steps), unfolding(crate::specs::Reading::after))]
+#[tactic(auto, unfolding(crate::specs::Reading::after))]
 fn read_symbol<'a>(
     alloc: Global,
     sig: &Signature,
@@ -160,7 +177,7 @@ fn read_symbol<'a>(
 }
 
 #[cycle(read)]
-#[tactic(auto, using(crate::proofs::Steps::steps), unfolding(crate::specs::Reading::after))]
+#[tactic(auto, unfolding(crate::specs::Reading::after))]
 fn read_named<'a>(
     alloc: Global,
     sig: &Signature,
@@ -180,7 +197,7 @@ fn read_named<'a>(
 }
 
 #[cycle(read)]
-#[tactic(auto, using(crate::proofs::Steps::steps), unfolding(crate::specs::Reading::after))]
+#[tactic(auto, unfolding(crate::specs::Reading::after))]
 fn read_second<'a>(
     alloc: Global,
     sig: &Signature,
@@ -195,17 +212,15 @@ fn read_second<'a>(
     if !starts(bytes, tokens, ",") {
         return Ok(None);
     }
-    match read_rest(alloc, sig, bytes, depth, beyond(1, tokens))? {
-        None => Ok(None),
-        Some((right, end)) => {
-            let both = pair(alloc, left, right)?;
-            Ok(Some((both, end)))
-        }
-    }
+    paired(
+        alloc,
+        left,
+        read_rest(alloc, sig, bytes, depth, beyond(1, tokens)),
+    )
 }
 
 #[cycle(read)]
-#[tactic(auto, using(crate::proofs::Steps::steps), unfolding(crate::specs::Reading::after))]
+#[tactic(auto, unfolding(crate::specs::Reading::after))]
 fn read_tuple<'a>(
     alloc: Global,
     sig: &Signature,
@@ -223,7 +238,7 @@ fn read_tuple<'a>(
 }
 
 #[cycle(read)]
-#[tactic(auto, using(crate::proofs::Steps::steps), unfolding(crate::specs::Reading::after))]
+#[tactic(auto, unfolding(crate::specs::Reading::after))]
 fn read_rest<'a>(
     alloc: Global,
     sig: &Signature,
@@ -250,7 +265,7 @@ fn read_rest<'a>(
 
 /// A term, read so deep at most, and the tokens behind it. It can have more levels, but each term that has no more is read.
 #[cycle(read)]
-#[tactic(auto, using(crate::proofs::Steps::steps), unfolding(crate::specs::Reading::after))]
+#[tactic(auto, unfolding(crate::specs::Reading::after))]
 pub fn read_deep<'a>(
     alloc: Global,
     sig: &Signature,
@@ -275,7 +290,7 @@ pub fn read_deep<'a>(
 }
 
 #[cycle(read)]
-#[tactic(auto, using(crate::proofs::Steps::steps), unfolding(crate::specs::Reading::given))]
+#[tactic(auto, unfolding(crate::specs::Reading::given))]
 fn read_leaf<'a>(
     alloc: Global,
     sig: &Signature,

@@ -139,10 +139,13 @@ impl<'a, R: Files> Shelf for FileShelf<'a, R> {
         let Some(file) = &mut self.file else {
             return Ok(Vec::new(alloc));
         };
-        let read = read_piece(alloc, file, most);
-        if let Err(ShelfFault::Failed) = read {
-            self.fail();
+        match read_piece(alloc, file, most) {
+            Ok(bytes) => Ok(bytes),
+            Err(ShelfFault::Mem) => Err(ShelfFault::Mem),
+            Err(ShelfFault::Failed) => {
+                self.fail();
+                Err(ShelfFault::Failed)
+            }
         }
-        read
     }
 }

@@ -1,5 +1,5 @@
 //! Files in memory, as a shelf that fails when it is told to.
-ghost use Rattle.std.specs.Prelude.{◌≡◌, ◌≤◌, ◌+◌, ◌-◌, ◌^◌, ◌++◌, ◌↔◌, ◌⊎◌, [], length, take, min, Contains, IsNone, IsSome, IsSomeAnd, IfOk, IsErrOf, MatchOption, OnOk, OnErr, None, Some, option_map, string_bytes};
+ghost use Rattle.std.specs.Prelude.{◌≡◌, ◌≤◌, ◌+◌, ◌-◌, ◌^◌, ◌++◌, ◌↔◌, ◌⊎◌, [], length, take, min, Contains, IsNone, IsSome, IsSomeAnd, IfOk, IfErr, IsErrOf, MatchOption, OnOk, OnErr, None, Some, option_map, string_bytes};
 ghost use Rattle.std.specs.FinMap as map;
 ghost use Rattle.std.specs.Option.{ForNone};
 ghost use Rattle.sap_outside.specs.Outside.{Rose, IsFetched, IsWholeFile, IsNextPart, files_of, one_more};
@@ -59,10 +59,11 @@ impl MemShelf {
     }
 
     // The next bytes of the open file, which loses them.
-    fn cut(&mut self, most: u64) -> Result<Vec<u8>, AllocError>
+    fn cut(&mut self, most: u64) -> Result<Vec<u8>, ShelfFault>
         ensures length { IfOk result (λ v. length v.items ≡ min most (min self.old.piece (length self.old.rest.items))) }
         ensures parts { IfOk result (λ v. self.old.rest.items ≡ v.items ++ self.new.rest.items) }
         ensures mem { OnErr result (self.new.rest.items ≡ self.old.rest.items) }
+        ensures only { IfErr result (λ e. e ≡ ShelfFault.Mem) }
         ensures files { self.new.files ≡ self.old.files }
         ensures list { self.new.fail_on.items ≡ self.old.fail_on.items }
         ensures name { self.new.name ≡ self.old.name }
@@ -84,16 +85,13 @@ fn copies(alloc: Global, name: &str, bytes: &[u8]) -> Result<(String, Vec<u8>), 
 }
 
 // The first bytes of a file, one more than the limit at most.
-fn first_bytes(alloc: Global, bytes: &[u8], limit: u64) -> Result<Vec<u8>, AllocError>
+fn first_bytes(alloc: Global, bytes: &[u8], limit: u64) -> Result<Vec<u8>, ShelfFault>
     requires { limit ≤ 16777216 }
-    ensures { IfOk result (λ v. v.items ≡ take (limit + 1) bytes.now) }
+    ensures bytes { IfOk result (λ v. v.items ≡ take (limit + 1) bytes.now) }
+    ensures only { IfErr result (λ e. e ≡ ShelfFault.Mem) }
 {
-    let most = (limit + 1) as usize;
-    if bytes.len() <= most {
-        bytes.to_vec(alloc)
-    } else {
-        bytes[..most].to_vec(alloc)
-    }
+    let most = ((limit + 1) as usize).min(bytes.len());
+    Ok(bytes[..most].to_vec(alloc)?)
 }
 
 // The file of this name; none where the call is one that fails, or the name isn't held.
@@ -153,7 +151,7 @@ impl Shelf for MemShelf {
                 self.count = self.count.saturating_add(1);
                 Err(ShelfFault::Failed)
             }
-            Some(bytes) => Ok(first_bytes(alloc, bytes, limit)?),
+            Some(bytes) => first_bytes(alloc, bytes, limit),
         }
     }
 
@@ -223,6 +221,6 @@ impl Shelf for MemShelf {
             self.fail();
             return Err(ShelfFault::Failed);
         }
-        Ok(self.cut(most)?)
+        self.cut(most)
     }
 }

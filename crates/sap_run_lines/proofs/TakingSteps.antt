@@ -29,5 +29,3 @@ pub terms_step : (d : ℕ) (ts : List Tree) (z : List ℕ) → 0 < d → terms d
 unfolding term rest terms
 terms_step zero ts z lt = absurd (omega (arith, lt))
 terms_step (suc d) ts z lt = let e : suc d - 1 ≡ d = omega arith in rw e refl
-
-pub ruleset steps = (term_zero, rest_zero, terms_zero, term_step, rest_step, terms_step)

@@ -51,7 +51,7 @@ fn take_fresh<'a>(bytes: &'a [u8]) -> Result<Option<(Term, &'a [u8])>, Mem>
 }
 
 #[cycle(take)]
-#[tactic(auto, using(crate::proofs::TakingSteps::steps), unfolding(crate::specs::code::Taking::after))]
+#[tactic(auto, unfolding(crate::specs::code::Taking::after))]
 fn take_paired<'a>(
     alloc: Global,
     calls: u64,
@@ -73,7 +73,7 @@ fn take_paired<'a>(
 }
 
 #[cycle(take)]
-#[tactic(auto, using(crate::proofs::TakingSteps::steps), unfolding(crate::specs::code::Taking::after))]
+#[tactic(auto, unfolding(crate::specs::code::Taking::after))]
 fn take_rest<'a>(
     alloc: Global,
     calls: u64,
@@ -97,7 +97,7 @@ fn take_rest<'a>(
 }
 
 #[cycle(take)]
-#[tactic(auto, using(crate::proofs::TakingSteps::steps), unfolding(crate::specs::code::Taking::after))]
+#[tactic(auto, unfolding(crate::specs::code::Taking::after))]
 fn take_tuple<'a>(
     alloc: Global,
     calls: u64,
@@ -112,7 +112,7 @@ fn take_tuple<'a>(
 }
 
 #[cycle(take)]
-#[tactic(auto, using(crate::proofs::TakingSteps::steps), unfolding(crate::specs::code::Taking::after))]
+#[tactic(auto, unfolding(crate::specs::code::Taking::after))]
 fn take_listed<'a>(
     alloc: Global,
     calls: u64,
@@ -131,7 +131,7 @@ fn take_listed<'a>(
 }
 
 #[cycle(take)]
-#[tactic(auto, using(crate::proofs::TakingSteps::steps), unfolding(crate::specs::code::Taking::after))]
+#[tactic(auto, unfolding(crate::specs::code::Taking::after))]
 fn take_terms<'a>(
     alloc: Global,
     calls: u64,
@@ -154,7 +154,7 @@ fn take_terms<'a>(
 }
 
 #[cycle(take)]
-#[tactic(auto, using(crate::proofs::TakingSteps::steps), unfolding(crate::specs::code::Taking::after))]
+#[tactic(auto, unfolding(crate::specs::code::Taking::after))]
 fn take_applied<'a>(
     alloc: Global,
     calls: u64,
@@ -177,7 +177,7 @@ fn take_applied<'a>(
 }
 
 #[cycle(take)]
-#[tactic(auto, using(crate::proofs::TakingSteps::steps), unfolding(crate::specs::code::Taking::after))]
+#[tactic(auto, unfolding(crate::specs::code::Taking::after))]
 fn take_symbol<'a>(
     alloc: Global,
     calls: u64,
@@ -192,7 +192,7 @@ fn take_symbol<'a>(
 }
 
 #[cycle(take)]
-#[tactic(auto, using(crate::proofs::TakingSteps::steps), unfolding(crate::specs::code::Taking::after))]
+#[tactic(auto, unfolding(crate::specs::code::Taking::after))]
 fn take_term<'a>(
     alloc: Global,
     calls: u64,
