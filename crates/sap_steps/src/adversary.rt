@@ -1,9 +1,10 @@
 //! Facts that the adversary puts out, takes and shows.
-ghost use Rattle.std.specs.Prelude.{codes, ◌≡◌, ◌⊎◌, ℕ, ◌<◌, [], ◌∷◌, Some, false, IfOk, IfErr, MatchOption};
+ghost use Rattle.std.specs.Prelude.{codes, ◌≡◌, ◌⊎◌, ℕ, ◌<◌, [], ◌∷◌, Some, false, IfOk, IfErr, OnOk, OnErr, MatchOption, ◌++◌};
 ghost use Rattle.sap_terms.specs.AdversaryFacts.{linear, out_fact, fr_fact};
 ghost use Rattle.sap_terms.specs.Tree.{Tree, fresh};
 ghost use Rattle.sap_terms.specs.View.{tree};
 ghost use Rattle.sap_facts.specs.Facts.{fact_at};
+ghost use Rattle.sap_sides.specs.Messages.{IsSmallMessage};
 
 use crate::RFault;
 use crate::pile::SharedPile;
@@ -11,7 +12,7 @@ use sap_terms::{Copied, Fact, FactList, Mem, Name, Term, TermList};
 use std::alloc::Global;
 
 // The linear fact of this name with one argument.
-pub(crate) fn single(alloc: Global, name: &[u8], t: Term) -> Result<Fact, Mem>
+fn single(alloc: Global, name: &[u8], t: Term) -> Result<Fact, Mem>
     ensures { IfOk result (λ f. f ≡ linear name.now (tree t ∷ [])) }
 {
     let name = Name::from_bytes(alloc, name)?;
@@ -24,14 +25,33 @@ pub(crate) fn single(alloc: Global, name: &[u8], t: Term) -> Result<Fact, Mem>
     })
 }
 
-// What the adversary gives when it shows that it knows a term, and what it shows.
-pub(crate) fn given_and_shown(alloc: Global, t: &Term) -> Result<(Fact, FactList), Mem>
-    ensures given { IfOk result (λ p. p.0 ≡ linear (codes "In") (tree t.now ∷ [])) }
-    ensures shown { IfOk result (λ p. p.1 ≡ linear (codes "K") (tree t.now ∷ []) ∷ []) }
+// Puts the linear fact of this name with one argument on.
+pub(crate) fn put_single(
+    facts: &mut SharedPile,
+    alloc: Global,
+    name: &[u8],
+    t: Term,
+) -> Result<(), Mem>
+    requires { IsSmallMessage facts.old.sig (tree t) }
+    ensures ok { OnOk result (facts.new.slots ≡ facts.old.slots ++ Some (linear name.now (tree t ∷ [])) ∷ []) }
+    ensures err { OnErr result (facts.new.slots ≡ facts.old.slots) }
+    ensures sig { facts.new.sig ≡ facts.old.sig }
 {
-    let given = single(alloc, b"In", t.copy(alloc)?)?;
+    let f = single(alloc, name, t)?;
+    facts.put(alloc, &f)
+}
+
+// Puts on what the adversary gives when it shows that it knows a term, and gives what it shows.
+pub(crate) fn give(facts: &mut SharedPile, alloc: Global, t: &Term) -> Result<FactList, Mem>
+    requires { IsSmallMessage facts.old.sig (tree t.now) }
+    ensures ok { OnOk result (facts.new.slots ≡ facts.old.slots ++ Some (linear (codes "In") (tree t.now ∷ [])) ∷ []) }
+    ensures shown { IfOk result (λ fs. fs ≡ linear (codes "K") (tree t.now ∷ []) ∷ []) }
+    ensures err { OnErr result (facts.new.slots ≡ facts.old.slots) }
+    ensures sig { facts.new.sig ≡ facts.old.sig }
+{
     let shown = shown_alone(alloc, t)?;
-    Ok((given, shown))
+    put_single(facts, alloc, b"In", t.copy(alloc)?)?;
+    Ok(shown)
 }
 
 // The fact `K` of the term, alone.
@@ -97,7 +117,21 @@ pub(crate) fn name_made(alloc: Global, facts: &SharedPile, k: u64) -> Result<Opt
     ensures { IfOk result (λ o. MatchOption o ((n : ℕ) → ¬ (fact_at facts.now.slots k ≡ Some (fr_fact n))) (λ n. fact_at facts.now.slots k ≡ Some (fr_fact n))) }
 {
     match argument_at(alloc, facts, k, b"Fr")? {
+<<<<<<< HEAD
         Some(t) => Ok(number_of_fresh(&t)),
+=======
+        Some(t) => Ok(fresh_number(&t)),
+>>>>>>> 80c18d27186d55e937dec764e1568c2ea4ee9848
         None => Ok(None),
+    }
+}
+
+// The number of a fresh name; None for another term.
+fn fresh_number(t: &Term) -> Option<u64>
+    ensures { MatchOption result ((n : ℕ) → ¬ (tree t.now ≡ fresh n)) (λ n. tree t.now ≡ fresh n) }
+{
+    match t {
+        Term::Fresh(n) => Some(*n),
+        _ => None,
     }
 }

@@ -1,5 +1,5 @@
 // Facts by their numbers, whose arguments are numbers of shared terms.
-ghost use Rattle.std.specs.Prelude.{◌≡◌, ◌+◌, ◌<◌, ◌≤◌, [], ◌∷◌, ◌++◌, length, true, false, All, IsSome, MatchOption, IfOk, IsErrOf, OnOk, None, Some, slice_set, vec_capacity};
+ghost use Rattle.std.specs.Prelude.{◌≡◌, ◌+◌, ◌<◌, ◌≤◌, [], ◌∷◌, ◌++◌, length, true, false, All, IsSome, MatchOption, IfOk, IsErrOf, OnErr, OnOk, None, Some, slice_set, vec_capacity};
 ghost use Rattle.sap_facts.specs.Cited.{cited_at};
 ghost use Rattle.sap_facts.specs.Facts.{fact_at, slots_without};
 ghost use Rattle.sap_rewrite.specs.Around.{all_outer_vars};
@@ -117,6 +117,7 @@ impl SharedPile {
         ensures shared { IfOk result (IsShared self.new.trees f.now) }
         ensures sig { self.new.sig ≡ self.old.sig }
         ensures slots { self.new.slots ≡ self.old.slots }
+        ensures spare { self.new.spare ≡ self.old.spare }
     {
         shared_facts_stay();
         share_fact(&mut self.table, alloc, f)
@@ -176,6 +177,19 @@ impl SharedPile {
         }
     }
 
+    // Puts a fact on. Refused, there may be more numbers than before.
+    pub(crate) fn put(&mut self, alloc: Global, f: &Fact) -> Result<(), Mem>
+        requires { IsSmallMessageFact self.old.sig f.now }
+        ensures ok { OnOk result (self.new.slots ≡ self.old.slots ++ Some f.now ∷ []) }
+        ensures err { OnErr result (self.new.slots ≡ self.old.slots) }
+        ensures sig { self.new.sig ≡ self.old.sig }
+    {
+        self.reserve(1)?;
+        let shared = self.share(alloc, f)?;
+        self.add(shared);
+        Ok(())
+    }
+
     // The fact of this number, built anew; None where no fact has the number, or it was taken.
     pub(crate) fn fact(&self, alloc: Global, k: u64) -> Result<Option<Fact>, Mem>
         ensures { IfOk result (λ o. o ≡ fact_at self.now.slots k) }
@@ -230,19 +244,6 @@ impl SharedPile {
             clear(&mut self.slots, k);
         }
     }
-}
-
-// The fact with numbers for its arguments, and memory to put it on. Refused, there may be more numbers than before.
-pub(crate) fn find_place(facts: &mut SharedPile, alloc: Global, f: &Fact) -> Result<SharedFact, Mem>
-    requires { IsSmallMessageFact facts.old.sig f.now }
-    ensures shared { IfOk result (IsShared facts.new.trees f.now) }
-    ensures room { OnOk result (0 < facts.new.spare) }
-    ensures sig { facts.new.sig ≡ facts.old.sig }
-    ensures slots { facts.new.slots ≡ facts.old.slots }
-{
-    let shared = facts.share(alloc, f)?;
-    facts.reserve(1)?;
-    Ok(shared)
 }
 
 // Whether facts without destructors fit those that are cited, under what is bound and what is bound then.

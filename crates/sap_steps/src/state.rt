@@ -9,9 +9,9 @@ ghost use Rattle.sap_steps.specs.Lines.{IsLine, IsSmall};
 ghost use Rattle.sap_steps.specs.code.Ready.{IsReady, rules_of};
 
 use crate::RFault;
-use crate::adversary::{given_and_shown, name_made, put_out, single};
+use crate::adversary::{give, name_made, put_out, put_single};
 use crate::laws::lines_are_steps;
-use crate::pile::{SharedPile, find_place};
+use crate::pile::SharedPile;
 use crate::prepared::{Prepared, ready_rule};
 use crate::taking::carry_out;
 use crate::using::use_rule;
@@ -145,11 +145,9 @@ impl RuleState {
         if is_among(&self.made, n) {
             return Err(RFault::UsedName { n });
         }
-        let fr = single(alloc, b"Fr", Term::Fresh(n))?;
-        let shared = find_place(&mut self.facts, alloc, &fr)?;
         find_room(&mut self.made)?;
+        put_single(&mut self.facts, alloc, b"Fr", Term::Fresh(n))?;
         put_last(&mut self.made, n);
-        self.facts.add(shared);
         Ok(FactList::new(alloc))
     }
 
@@ -220,9 +218,7 @@ impl RuleState {
         let Some(t) = self.knowledge.at(k) else {
             return Err(RFault::NoEntry { k });
         };
-        let (given, acts) = given_and_shown(alloc, t)?;
-        let shared = find_place(&mut self.facts, alloc, &given)?;
-        self.facts.add(shared);
+        let acts = give(&mut self.facts, alloc, t)?;
         Ok(acts)
     }
 

@@ -11,8 +11,8 @@ use Rattle.sap_steps.proofs.Lists.{all_at}
 use Rattle.sap_steps.proofs.Tied.{tied_push, held_single}
 use Rattle.sap_steps.proofs.state.RuleState.know.Goals as goal
 
-pub find_place-requires : goal.find_place-requires
-find_place-requires c =
+pub give-requires : goal.give-requires
+give-requires c =
     let g = c.self.inside.knowledge.sig in
     let t : Tree = tree c.in-Some.t.now in
     let known = terms_of c.self.inside.knowledge.entries in
@@ -20,7 +20,7 @@ find_place-requires c =
       message = all_at (IsMessage g Msg) known c.args.k t c.each_is_deducible.ensures.messages (sym c.in-Some.ensures);
       small = all_at (λ (u : Tree). node_count u ≤ MOST_TERM_NODES) known c.args.k t c.each_is_deducible.ensures.within (sym c.in-Some.ensures);
     } in
-    rw (c.self.invariant.sig, c.in_ok-given.ensures.given) (held_single g (codes "In") t held)
+    rw (c.self.invariant.sig) held
 
 pub invariant_of-self-2 : goal.invariant_of-self-2
 invariant_of-self-2 c =
@@ -31,5 +31,5 @@ invariant_of-self-2 c =
       message = all_at (IsMessage g Msg) known c.args.k t c.each_is_deducible.ensures.messages (sym c.in-Some.ensures);
       small = all_at (λ (u : Tree). node_count u ≤ MOST_TERM_NODES) known c.args.k t c.each_is_deducible.ensures.within (sym c.in-Some.ensures);
     } in
-    rw (c.add.ensures.sig, c.in_ok-shared.ensures.sig, c.add.ensures.slots, c.in_ok-shared.ensures.slots, c.in_ok-shared.ensures.shared.is, c.in_ok-given.ensures.given)
+    rw (c.give.ensures.sig, c.in_ok-acts.ensures.ok)
     (tied_push _ _ _ _ _ c.self.invariant (held_single g (codes "In") t held))
