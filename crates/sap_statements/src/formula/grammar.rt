@@ -142,7 +142,6 @@ fn read_enclosed<'a>(
 
 // A formula that no connective joins, of at most so many levels.
 #[cycle(read)]
-#[tactic(auto, using(crate::proofs::FormulaSteps::un_steps))]
 fn read_un<'a>(
     alloc: Global,
     sig: &Signature,
@@ -251,7 +250,6 @@ fn read_second<'a>(
 
 // Goes on while the sign stands; most bounds the turns.
 #[cycle(read)]
-#[tactic(auto, using(crate::proofs::FormulaSteps::turn_steps), unfolding(sap_grammar::specs::Reading::after))]
 fn read_turns<'a>(
     alloc: Global,
     sig: &Signature,
@@ -332,7 +330,6 @@ fn read_chain<'a>(
 
 // A formula without `<=>` outside its parts, of at most so many levels.
 #[cycle(read)]
-#[tactic(auto, using(crate::proofs::FormulaSteps::imp_steps), unfolding(sap_grammar::specs::Reading::after))]
 fn read_imp<'a>(
     alloc: Global,
     sig: &Signature,
