@@ -117,21 +117,7 @@ pub(crate) fn name_made(alloc: Global, facts: &SharedPile, k: u64) -> Result<Opt
     ensures { IfOk result (λ o. MatchOption o ((n : ℕ) → ¬ (fact_at facts.now.slots k ≡ Some (fr_fact n))) (λ n. fact_at facts.now.slots k ≡ Some (fr_fact n))) }
 {
     match argument_at(alloc, facts, k, b"Fr")? {
-<<<<<<< HEAD
         Some(t) => Ok(number_of_fresh(&t)),
-=======
-        Some(t) => Ok(fresh_number(&t)),
->>>>>>> 80c18d27186d55e937dec764e1568c2ea4ee9848
         None => Ok(None),
-    }
-}
-
-// The number of a fresh name; None for another term.
-fn fresh_number(t: &Term) -> Option<u64>
-    ensures { MatchOption result ((n : ℕ) → ¬ (tree t.now ≡ fresh n)) (λ n. tree t.now ≡ fresh n) }
-{
-    match t {
-        Term::Fresh(n) => Some(*n),
-        _ => None,
     }
 }
