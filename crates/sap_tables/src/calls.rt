@@ -69,6 +69,18 @@ pub fn shelf_of(page: &mut Page, file: &[u8], run: &[u8], failing: u64, piece: u
     let mut files = BTreeMap::new(page.alloc);
     put_file(page, &mut files, "a.spthy", file);
     put_file(page, &mut files, "b.run", run);
+    shelf_with(page, files, failing, piece)
+}
+
+/// A shelf with these files, in the same way.
+pub fn shelf_with(
+    page: &mut Page,
+    files: BTreeMap<String, Vec<u8>>,
+    failing: u64,
+    piece: u64,
+) -> MemShelf
+    requires { 0 < piece }
+{
     let mut fail_on = Vec::new(page.alloc);
     if fail_on.push(failing).is_err() {
         page.fail();

@@ -22,22 +22,23 @@ mod terms;
 mod theories;
 mod tokens;
 
-use calls::{put_file, shelf_of};
+use calls::put_file;
 use page::Page;
+use std::collections::BTreeMap;
 use std::io::Write;
 use std::{env, fs, io};
 
 // Tells the table of this name, with each file that a line `-- file NAME` names.
 fn tell_table(rt: &HostRuntime, out: &mut Page, table: &str) -> io::Result<()> {
     let rows = fs::read_to_string(rt, table)?;
-    let mut shelf = shelf_of(out, b"", b"", 0, 4096);
+    let mut files = BTreeMap::new(out.alloc);
     for line in rows.as_str().split('\n') {
         if let Some(name) = line.strip_prefix("-- file ") {
             let text = fs::read_to_string(rt, name)?;
-            put_file(out, &mut shelf.files, name, text.as_bytes());
+            put_file(out, &mut files, name, text.as_bytes());
         }
     }
-    tables::report(out, table, rows.as_str(), shelf);
+    tables::report(out, table, rows.as_str(), files);
     Ok(())
 }
 

@@ -1,4 +1,5 @@
 //! The tables by their names, and what is told of each.
+use crate::calls::shelf_with;
 use crate::desk::{Desk, empty_desk};
 use crate::notation::{number, part, written};
 use crate::page::Page;
@@ -6,7 +7,7 @@ use crate::{
     calls, copies, files, formulas, guards, knowledge, piles, processes, run_texts, runs, sharing,
     terms, theories, tokens,
 };
-use sap_tool::MemShelf;
+use std::collections::BTreeMap;
 
 // The symbols of messages.
 const BUILTINS: &str = "hashing symmetric asymmetric signing";
@@ -106,7 +107,8 @@ fn tell_rows(out: &mut Page, desk: &mut Desk, table: &str, lines: &str) {
 
 /// Puts last each row of a table that differs, with what is found, and how many rows there are and how many differ. The page
 /// isn't whole where memory is wanting.
-pub fn report(out: &mut Page, table: &str, lines: &str, shelf: MemShelf) {
+pub fn report(out: &mut Page, table: &str, lines: &str, files: BTreeMap<String, Vec<u8>>) {
+    let shelf = shelf_with(out, files, 0, 4096);
     match &mut empty_desk(out, shelf) {
         Some(desk) => tell_rows(out, desk, table, lines),
         None => out.fail(),
