@@ -30,7 +30,7 @@ pub fn theory_text_of(alloc: Global, way: Way, bytes: &[u8]) -> Result<Text, Ref
 fn text_of(alloc: Global, way: Way, file: &File) -> Result<Text, Mem>
     ensures { IfOk result (λ text. text ≡ compiled_text way (told_by file.now)) }
 {
-    let theory = theory_written(alloc, way, file)?;
+    let theory = Box::new(alloc, theory_written(alloc, way, file)?)?;
     print(alloc, &theory)
 }
 

@@ -1,15 +1,14 @@
 //! Theories that are read, or refused with the line that says why.
 
-ghost use Rattle.std.specs.Prelude.{◌≡◌, ◌≤◌, ℕ, List, length, Ok, Err, IfOk, IsErrOf};
-ghost use Rattle.sap_theory.specs.ReadTheory.{IsTheoryRead};
-ghost use Rattle.sap_theory.specs.declared.fault.TheoryFault.TheVariants as faults;
+ghost use Rattle.std.specs.Prelude.{◌≤◌, ℕ, List, length, IfOk, IsErrOf};
 ghost use Rattle.sap_refusals.specs.declared.refusal.Refusal.TheVariants as refusals;
 ghost use Rattle.sap_tool.specs.AcceptedTheory.{most_theory_bytes, IsAcceptedTheory};
 ghost use Rattle.sap_tool.specs.code.Refused.{IsTheoryRefusal};
 
+use sap_grammar::boxed;
 use sap_refusals::{Refusal, long_theory_line, theory_line, told};
 use sap_rule::Theory;
-use sap_theory::{TheoryFault, read_theory};
+use sap_theory::read_theory;
 use std::alloc::Global;
 
 /// How many bytes a theory may have.
@@ -33,20 +32,8 @@ fn read(alloc: Global, bytes: &[u8]) -> Result<Box<Theory>, Refusal>
     ensures found { IfOk result (λ t. IsAcceptedTheory bytes.now t.value) }
     ensures refused { (line : List ℕ) → IsErrOf result (refusals.Told line) → IsTheoryRefusal bytes.now line }
 {
-    match read_boxed(alloc, bytes) {
-        Ok(theory) => Ok(theory),
+    match read_theory(alloc, bytes) {
+        Ok(theory) => Ok(boxed(alloc, theory)?),
         Err(fault) => Err(told(theory_line(alloc, &fault))),
-    }
-}
-
-/// The same in a box.
-fn read_boxed(alloc: Global, bytes: &[u8]) -> Result<Box<Theory>, TheoryFault>
-    ensures accepted { IfOk result (λ t. IsTheoryRead bytes.now (Ok t.value)) }
-    ensures refused { (e : TheoryFault) → IsErrOf result e → (e ≡ faults.Mem → ⊥) → IsTheoryRead bytes.now (Err e) }
-{
-    let theory = read_theory(alloc, bytes)?;
-    match Box::new(alloc, theory) {
-        Ok(theory) => Ok(theory),
-        Err(_) => Err(TheoryFault::Mem),
     }
 }

@@ -151,7 +151,6 @@ fn tell<E: Sink>(err: &mut E, status: u8, text: &[u8]) -> u8
 }
 
 // Puts the last word on err, where err still takes it.
-#[tactic(auto, using(crate::proofs::Appending::word_whole, crate::proofs::Appending::word_cut))]
 fn last_word<E: Sink>(err: &mut E, status: u8, word: &[u8]) -> u8
     ensures status { result ≡ status }
     ensures faults { E.faults err.old ≤ E.faults err.new }
