@@ -98,6 +98,4 @@ pub ruleset sighted_laws = (sighted_both)
 
 pub ruleset walk_laws = (walk_both, walk_alone, unsighted)
 
-pub ruleset leaf_laws = (term_turn, term_misfit, term_none, time_turn, time_none, no_binder)
-
 pub ruleset facts_laws = (leads_on, leads_off, leads_end)

@@ -58,7 +58,12 @@ fn sorted_terms(alloc: Global, scope: &Scope<'_>, ts: &TermList) -> Result<TermL
     Ok(out)
 }
 
-pub(crate) fn sorted_action(alloc: Global, scope: &Scope<'_>, f: &Fact, i: &Name) -> Result<Formula, Mem>
+pub(crate) fn sorted_action(
+    alloc: Global,
+    scope: &Scope<'_>,
+    f: &Fact,
+    i: &Name,
+) -> Result<Formula, Mem>
     ensures { IfOk result (λ r. form r ≡ action (instance_fact (by_binder (binders scope.now)) f.now) i.now) }
 {
     let fact = Fact {
@@ -69,7 +74,12 @@ pub(crate) fn sorted_action(alloc: Global, scope: &Scope<'_>, f: &Fact, i: &Name
     Ok(Formula::Action(fact, i.copy(alloc)?))
 }
 
-pub(crate) fn sorted_equal(alloc: Global, scope: &Scope<'_>, s: &Term, t: &Term) -> Result<Formula, Mem>
+pub(crate) fn sorted_equal(
+    alloc: Global,
+    scope: &Scope<'_>,
+    s: &Term,
+    t: &Term,
+) -> Result<Formula, Mem>
     ensures { IfOk result (λ r. form r ≡ equal (instance (by_binder (binders scope.now)) (tree s.now)) (instance (by_binder (binders scope.now)) (tree t.now))) }
 {
     let s = sorted_term(alloc, scope, s)?;

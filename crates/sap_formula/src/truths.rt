@@ -191,7 +191,6 @@ fn walk_facts(
 
 // The body, where the binders from `at` on have the values that the picks give them.
 #[cycle(walk)]
-#[tactic(auto, using(crate::proofs::Walks::leaf_laws))]
 fn leaf(scene: &Scene<'_>, q: &Quantifier<'_>, at: u64, picks: &Picks<'_>, env: &Env<'_>) -> bool
     requires table { IsTable scene.now.trace.now scene.now.table.now }
     requires binders { at ≤ length q.now.binders.now }

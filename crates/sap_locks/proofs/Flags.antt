@@ -122,5 +122,3 @@ opens_pushed hs l t = opens_push hs (record { label = l; term = t; is_open = tru
 pub says_last : (t : Tree) (hs : List Held) (o : Option ℕ) → o ≡ last_open t hs → IsLastOpen t hs o
 says_last t hs None e = (found_none t hs [] (sym e), dropped_none t hs [] (sym e))
 says_last t hs (Some k) e = (last_below t hs k (sym e), found_last t hs [] k (sym e), dropped_last t hs [] k (sym e), open_again t hs k (sym e))
-
-pub ruleset pushed_laws = (opens_pushed)

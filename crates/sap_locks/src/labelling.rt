@@ -85,7 +85,6 @@ fn label_both(
 
 // Sets the labels below a lock of the term.
 #[cycle(label)]
-#[tactic(auto, using(crate::proofs::Flags::pushed_laws))]
 fn label_locked(q: &mut Box<Process>, alloc: Global, locks: &mut Locks, t: &Term) -> Result<(), Mem>
     requires { locks.now.count + 1 + lock_count (proc q.now.value) < 2 ^ 32 }
     ensures made { OnOk result (proc q.new.value ≡ labelled_from ((locks.old.count + 1, tree t.now) ∷ opens locks.old.held.items) (locks.old.count + 1) (proc q.old.value)) }

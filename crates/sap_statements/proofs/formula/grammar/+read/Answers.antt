@@ -50,7 +50,7 @@ pub read_turns-returns-then-goes_on-2-clause-gives : goal.read_turns-returns-the
 read_turns-returns-then-goes_on-2-clause-gives t c =
     let l = c.loop-turns in
     elim c.loop-turns-test.branch [
-      read_turns-then-loop-turns-test+else-goes_on w ↦ absurd (cc (w.goes_on.ensures, w.if-goes_on.false, c.goes_on-2.ensures, c.if-goes_on-2.true))
+      | read_turns-then-loop-turns-test+else-goes_on w ↦ absurd (cc (w.goes_on.ensures, w.if-goes_on.false, c.goes_on-2.ensures, c.if-goes_on-2.true))
       | read_turns-else-loop-turns-test w ↦ l.invariant.0 ∙ turn_none (operand c.args.sig.now c.args.limits c.args.depth c.args.connective) c.args.depth (made c.args.connective) (sign_of c.args.connective) l.turns (levelled l.left) (words_of c.args.bytes.now l.rest.now) w.loop-turns-test.false (sym c.goes_on-2.ensures ∙ c.if-goes_on-2.true)
     ]
 
