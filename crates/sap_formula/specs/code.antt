@@ -4,6 +4,7 @@ pub mod Codes
 pub mod Tests
 pub mod Scoped
 pub mod Walk
+pub mod Ready
 pub mod Sighted
 pub mod Environments
 pub mod Picked

@@ -5,6 +5,7 @@
 mod binder;
 mod checking;
 mod environment;
+mod extent;
 mod fault;
 mod formula;
 mod guards;
