@@ -5,6 +5,7 @@ pub mod Tests
 pub mod Scoped
 pub mod Walk
 pub mod Ready
+pub mod PlanView
 pub mod Sighted
 pub mod Environments
 pub mod Picked
