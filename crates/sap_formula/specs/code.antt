@@ -6,6 +6,7 @@ pub mod Scoped
 pub mod Walk
 pub mod Ready
 pub mod PlanView
+pub mod Reached
 pub mod Sighted
 pub mod Environments
 pub mod Picked

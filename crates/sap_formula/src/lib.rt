@@ -12,6 +12,7 @@ mod guards;
 mod instances;
 mod laws;
 mod lemma;
+mod matching;
 mod picks;
 mod plan;
 mod projecting;

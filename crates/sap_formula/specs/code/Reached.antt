@@ -1,0 +1,17 @@
+-- What the code answers of a match: the place in the marks up to which they were read, and what the slots hold.
+use Rattle.std.specs.Prelude.{◌≡◌, ℕ, Bool, true, false, drop, List, ◌++◌, Option, Some, None}
+use Rattle.sap_formula.specs.code.Ready.{Held, State}
+
+-- what was there stands in front
+abbrev pub StaysInFront : {X : Type 0} → List X → List X → Type 0
+StaysInFront {X} old new = (more : List X) × (new ≡ old ++ more)
+
+-- none, or what is left of the marks from this place on and what is held
+abbrev pub IsReached : List (Option ℕ) → List Held → Option ℕ → Option State → Type 0
+IsReached marks held None r = r ≡ None
+IsReached marks held (Some at) r = r ≡ Some (record { marks = drop at marks; held = held })
+
+-- none, or what is held
+abbrev pub IsMet : List Held → Bool → Option (List Held) → Type 0
+IsMet held false r = r ≡ None
+IsMet held true r = r ≡ Some held
