@@ -24,7 +24,7 @@ front_more xs x = (x ∷ [], refl)
 pub front_on : {X : Type 0} (xs ys zs : List X) → StaysInFront xs ys → StaysInFront ys zs → StaysInFront xs zs
 front_on xs ys zs (a, e) (b, d) = (a ++ b, d ∙ ap (λ l. l ++ b) e ∙ append_assoc xs a b)
 
-past : {X : Type 0} (xs : List X) (k : ℕ) → length xs ≤ k → drop k xs ≡ []
+pub past : {X : Type 0} (xs : List X) (k : ℕ) → length xs ≤ k → drop k xs ≡ []
 past [] zero h = refl
 past [] (suc k) h = refl
 past (x ∷ xs) zero h = absurd (omega arith)

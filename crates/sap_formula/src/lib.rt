@@ -2,6 +2,7 @@
 //! truth on a trace.
 #![tactic(auto)]
 
+mod agreeing;
 mod binder;
 mod checking;
 mod environment;

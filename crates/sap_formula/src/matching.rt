@@ -123,7 +123,7 @@ fn take<'a>(
 // Where the pattern fits the term, the place of the next mark; variables that come first fill slots.
 #[cycle(fits)]
 #[tactic(auto, using(crate::proofs::Slots::fit_laws))]
-fn fits<'a>(
+pub(crate) fn fits<'a>(
     values: &mut Vec<Value<'a>>,
     marks: &Marks,
     at: u64,

@@ -286,13 +286,25 @@ abbrev pub behind : {X : Type 0} → List X → List X
 behind [] = []
 behind (x ∷ xs) = xs
 
+-- where the left term is a variable
+abbrev pub agreed_left : Tree → Two → List Held → Option Two
+agreed_left t w held = onward (next_term w.left held) (λ u. onward (matched t u (record { marks = w.right; held = held })) (λ s. Some (record { left = behind w.left; right = s.marks })))
+
+-- where the right one is
+abbrev pub agreed_right : Tree → Two → List Held → Option Two
+agreed_right s w held = onward (next_term w.right held) (λ u. onward (matched s u (record { marks = w.left; held = held })) (λ r. Some (record { left = r.marks; right = behind w.right })))
+
+-- where the left term is a leaf without a variable
+abbrev pub agreed_leaf : Tree → Tree → Two → List Held → Option Two
+agreed_leaf s t w held = onward (matched t s (record { marks = w.right; held = held })) (λ r. Some (record { left = w.left; right = r.marks }))
+
 abbrev mutual
   -- the two terms are one where variables are what their slots hold
   pub agreed : Tree → Tree → Two → List Held → Option Two
-  agreed (variable v) t w held = onward (next_term w.left held) (λ u. onward (matched t u (record { marks = w.right; held = held })) (λ s. Some (record { left = behind w.left; right = s.marks })))
-  agreed (public n) t w held = onward (matched t (public n) (record { marks = w.right; held = held })) (λ s. Some (record { left = w.left; right = s.marks }))
-  agreed (fresh k) t w held = onward (matched t (fresh k) (record { marks = w.right; held = held })) (λ s. Some (record { left = w.left; right = s.marks }))
-  agreed (apply f ss) (variable v) w held = onward (next_term w.right held) (λ u. onward (matched (apply f ss) u (record { marks = w.left; held = held })) (λ s. Some (record { left = s.marks; right = behind w.right })))
+  agreed (variable v) t w held = agreed_left t w held
+  agreed (public n) t w held = agreed_leaf (public n) t w held
+  agreed (fresh k) t w held = agreed_leaf (fresh k) t w held
+  agreed (apply f ss) (variable v) w held = agreed_right (apply f ss) w held
   agreed (apply f ss) (apply g ts) w held = if bytes_eq f g then agreed_all ss ts w held else None
   agreed (apply f ss) _ w held = None
 
