@@ -19,6 +19,7 @@ pub mod Projections
 pub mod Sights
 pub mod Slots
 pub mod Agreements
+pub mod SearchSteps
 pub mod Walks
 pub mod HiddenBinders
 pub mod Verdicts

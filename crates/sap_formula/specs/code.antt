@@ -7,6 +7,7 @@ pub mod Walk
 pub mod Ready
 pub mod PlanView
 pub mod Reached
+pub mod PlanSize
 pub mod Sighted
 pub mod Environments
 pub mod Picked

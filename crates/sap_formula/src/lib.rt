@@ -25,6 +25,7 @@ mod sightings;
 mod sighted;
 mod slimming;
 mod sorting;
+mod testing;
 mod truths;
 mod tuples;
 mod verdict;
