@@ -22,3 +22,4 @@ pub mod HiddenBinders
 pub mod Verdicts
 mod SmallFormulas
 pub mod Remakes
+pub mod Marks

@@ -6,6 +6,8 @@ pub mod Scoped
 pub mod Walk
 pub mod Ready
 pub mod PlanView
+pub mod Laid
+pub mod Quantifying
 pub mod Sighted
 pub mod Environments
 pub mod Picked
