@@ -7,6 +7,7 @@ pub mod Walk
 pub mod Ready
 pub mod PlanView
 pub mod Sighted
+pub mod Rows
 pub mod Environments
 pub mod Picked
 pub mod Quantified
