@@ -1,13 +1,14 @@
 -- The map of a trace's facts.
-use Rattle.std.proofs.Common.{◌≡◌, ℕ, ◌+◌, List, [], ◌∷◌, ◌++◌, Bool, true, false, Option, Some, None, cond, drop, length, map, append_assoc, append-nil, refl, sym, ap, subst, ◌∙◌, if◌then◌else◌, arith}
+use Rattle.std.proofs.Common.{◌≡◌, ℕ, suc, ◌+◌, List, [], ◌∷◌, ◌++◌, Bool, true, false, Some, cond, drop, length, map, append_assoc, append-nil, refl, sym, ap, subst, ◌∙◌, if◌then◌else◌, arith}
 use Rattle.std.specs.Prelude.{slice_get}
 use Rattle.std.specs.Str.{bytes_eq}
-use Rattle.std.proofs.lemmas.List.{map_push}
+use Rattle.std.proofs.lemmas.List.{length-append, length-map, map_push}
 use Rattle.std.proofs.lemmas.Slice.Eq.{bytes_eq-Decides}
 use Rattle.indexmap.specs.IndexMap.{IndexMap, get}
+use Rattle.sap_formula.specs.Cost.{time_facts, trace_facts}
 use Rattle.sap_formula.specs.code.PlanView.{sight}
-use Rattle.sap_formula.specs.code.Ready.{Sight, sights, sights_at, sights_from}
-use Rattle.sap_formula.specs.code.Rows.{Adds, IsOf, if_named, in_row, row_of}
+use Rattle.sap_formula.specs.code.Ready.{sights, sights_at, sights_from}
+use Rattle.sap_formula.specs.code.Rows.{Adds, if_named, in_row, row_of}
 use Rattle.sap_formula.specs.declared.sighted.Sighted.{Sighted}
 use Rattle.sap_terms.proofs.PlainLaws.Lists.{drop_got}
 use Rattle.sap_terms.specs.Trace.{Trace}
@@ -48,3 +49,25 @@ pub times_more : {S : Type 0} (tr : Trace) (rows more : IndexMap (List ℕ) (Lis
 times_more tr rows more k p i h a n =
     let rest = sights_from n (k + 1) (drop (k + 1) tr) in
     i n ∙ ap (λ z. row_of rows n ++ sights_from n k z) (drop_got tr k p h) ∙ sym (append_assoc (row_of rows n) (sights_at n k p) rest) ∙ ap (λ z. z ++ rest) (sym (a n))
+
+none_more : (k l m : ℕ) → k ≡ 0 → l ≡ m → l ≡ k + m
+none_more k l m e h = omega arith
+
+one_more : (k l m : ℕ) → k ≡ 1 → l ≡ m → suc l ≡ k + m
+one_more k l m e h = omega arith
+
+-- how many facts of the name a time has
+counted_at : (n : List ℕ) (k : ℕ) (xs : List Fact) → length (sights_at n k xs) ≡ time_facts n xs
+counted_at n k [] = refl
+counted_at n k (x ∷ xs) = by (bytes_eq n x.name) refl (counted_at n k xs) where
+  by : (b : Bool) → bytes_eq n x.name ≡ b → length (sights_at n k xs) ≡ time_facts n xs → length (if b then record { time = k; fact = x } ∷ sights_at n k xs else sights_at n k xs) ≡ (if bytes_eq x.name n then 1 else 0) + time_facts n xs
+  by true e i = one_more (if bytes_eq x.name n then 1 else 0) (length (sights_at n k xs)) (time_facts n xs) (ap (λ (b : Bool). if b then 1 else 0) (test_turned x.name n ∙ e)) i
+  by false e i = none_more (if bytes_eq x.name n then 1 else 0) (length (sights_at n k xs)) (time_facts n xs) (ap (λ (b : Bool). if b then 1 else 0) (test_turned x.name n ∙ e)) i
+
+counted_from : (n : List ℕ) (k : ℕ) (tr : Trace) → length (sights_from n k tr) ≡ trace_facts n tr
+counted_from n k [] = refl
+counted_from n k (p ∷ tr) = length-append (sights_at n k p) (sights_from n (k + 1) tr) ∙ λ i. counted_at n k p i + counted_from n (k + 1) tr i
+
+-- how many the trace has
+pub counted : (n : List ℕ) (tr : Trace) (row : List Sighted) → map sight row ≡ sights n tr → length row ≡ trace_facts n tr
+counted n tr row e = sym (length-map row sight) ∙ ap length e ∙ counted_from n 0 tr

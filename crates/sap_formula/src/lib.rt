@@ -15,6 +15,7 @@ mod lemma;
 mod picks;
 mod plan;
 mod projecting;
+mod ready;
 mod remaking;
 mod restriction;
 mod scope;
@@ -37,6 +38,7 @@ pub use laws::{
     truth_by_hand, variables_range_over_subterms,
 };
 pub use lemma::{Lemma, LemmaList, Mode};
+pub use ready::ReadyTrace;
 pub use restriction::{Restriction, RestrictionList};
 pub use tuples::cost;
 pub use verdict::{MOST_COST, Verdict, judge};

@@ -67,13 +67,6 @@ pub(crate) fn rows_of<'t>(alloc: Global, trace: &'t Trace) -> Result<Rows<'t>, M
     Ok(rows)
 }
 
-// No facts.
-fn nothing<'a>() -> &'a [Sighted<'a>]
-    ensures { result.now ≡ [] }
-{
-    &[]
-}
-
 /// The facts of this name, none where it has no row.
 pub(crate) fn facts_in<'a, 't: 'a>(rows: &'a Rows<'t>, name: &Name) -> &'a [Sighted<'a>]
     ensures { map sight result.now ≡ row_of rows.now name.now }
@@ -81,5 +74,5 @@ pub(crate) fn facts_in<'a, 't: 'a>(rows: &'a Rows<'t>, name: &Name) -> &'a [Sigh
     if let Some(row) = rows.get(name) {
         return row.as_slice();
     }
-    nothing()
+    &[]
 }
