@@ -17,6 +17,7 @@ pub mod OneFault
 pub mod InstanceLists
 pub mod Projections
 pub mod Sights
+pub mod Rows
 pub mod Walks
 pub mod HiddenBinders
 pub mod Verdicts

@@ -9,6 +9,7 @@ pub mod PlanView
 pub mod Laid
 pub mod Quantifying
 pub mod Sighted
+pub mod Rows
 pub mod Environments
 pub mod Picked
 pub mod Quantified

@@ -11,8 +11,7 @@ ghost use Rattle.sap_terms.specs.Tree.{trees_of};
 ghost use Rattle.sap_terms.specs.View.{tree};
 
 use crate::plan::{AtomPlan, GuardPlan, Marks};
-use crate::sighted::Table;
-use crate::{Binder, Binders, Formula};
+use crate::{Binder, Binders, Formula, ReadyTrace};
 use indexmap::IndexSet;
 use sap_terms::{Copied, Fact, Items, Mem, Name, Named, Term, TermList};
 use std::alloc::Global;
@@ -220,34 +219,34 @@ pub(crate) fn lay_atom<'a>(
 // Puts a guard with its slots and facts behind the others.
 fn lay_guard<'a>(
     alloc: Global,
-    table: &'a Table<'a>,
+    trace: &'a ReadyTrace<'_>,
     spot: &Spot<'_>,
     seen: &mut IndexSet<Name>,
     a: &ActionAtom<'a>,
     out: &mut Items<GuardPlan<'a>>,
 ) -> Result<(), Mem>
-    ensures guards { OnOk result (map guard out.new ≡ map guard out.old ++ guards_of table.now (place spot.now) seen.old.keys (action a.now ∷ [])) }
+    ensures guards { OnOk result (map guard out.new ≡ map guard out.old ++ guards_of trace.now (place spot.now) seen.old.keys (action a.now ∷ [])) }
     ensures seen { OnOk result (seen.new.keys ≡ seen_behind (place spot.now) seen.old.keys (action a.now)) }
 {
     let atom = lay_atom(alloc, spot, seen, a)?;
-    let facts = table.named(&a.fact.name);
+    let facts = trace.named(&a.fact.name);
     out.push(GuardPlan { atom, facts })
 }
 
 // The guards with their slots and facts, one after another.
 pub(crate) fn lay_guards<'a>(
     alloc: Global,
-    table: &'a Table<'a>,
+    trace: &'a ReadyTrace<'_>,
     spot: &Spot<'_>,
     seen: &mut IndexSet<Name>,
     actions: &Items<ActionAtom<'a>>,
 ) -> Result<Items<GuardPlan<'a>>, Mem>
-    ensures guards { IfOk result (λ gs. map guard gs ≡ guards_of table.now (place spot.now) seen.old.keys (map action actions.now)) }
+    ensures guards { IfOk result (λ gs. map guard gs ≡ guards_of trace.now (place spot.now) seen.old.keys (map action actions.now)) }
     ensures seen { OnOk result (seen.new.keys ≡ seen_by (place spot.now) seen.old.keys (map action actions.now)) }
 {
     let mut out = Items::new(alloc);
     for k in 0..actions.len() {
-        lay_guard(alloc, table, spot, seen, actions.at(k), &mut out)?;
+        lay_guard(alloc, trace, spot, seen, actions.at(k), &mut out)?;
     }
     Ok(out)
 }

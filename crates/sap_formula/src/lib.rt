@@ -16,6 +16,7 @@ mod lemma;
 mod picks;
 mod plan;
 mod projecting;
+mod ready;
 mod readying;
 mod remaking;
 mod restriction;
@@ -39,6 +40,7 @@ pub use laws::{
     truth_by_hand, variables_range_over_subterms,
 };
 pub use lemma::{Lemma, LemmaList, Mode};
+pub use ready::ReadyTrace;
 pub use restriction::{Restriction, RestrictionList};
 pub use tuples::cost;
 pub use verdict::{MOST_COST, Verdict, judge};

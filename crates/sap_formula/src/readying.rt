@@ -14,36 +14,35 @@ use crate::laying::{
     ActionAtom, Levels, Spot, collect, lay, lay_atom, lay_guards, named_binders, slot_in,
 };
 use crate::plan::{GuardPlan, Marks, Plan};
-use crate::sighted::Table;
-use crate::{Binders, Formula};
+use crate::{Binders, Formula, ReadyTrace};
 use indexmap::IndexSet;
 use sap_terms::{Fact, Items, Mem, Name, Term};
 use std::alloc::Global;
 
-/// What of the formula is left to test, made ready for the trace of this table, inside these levels. It takes time in
+/// What of the formula is left to test, made ready for the trace, inside these levels. It takes time in
 /// proportion to the formula, times how deep its quantifiers are nested, and recurses as deep as the formula.
 #[cycle(ready)]
 pub(crate) fn ready_box<'a>(
     alloc: Global,
-    table: &'a Table<'a>,
+    trace: &'a ReadyTrace<'_>,
     extent: Extent,
     levels: &Levels<'_>,
     f: &'a Formula,
 ) -> Result<Box<Plan<'a>>, Mem>
-    ensures { IfOk result (λ r. plan r.value ≡ ready table.now extent (layers levels.now) (form f.now)) }
+    ensures { IfOk result (λ r. plan r.value ≡ ready trace.now extent (layers levels.now) (form f.now)) }
 {
-    Ok(Box::new(alloc, ready(alloc, table, extent, levels, f)?)?)
+    Ok(Box::new(alloc, ready(alloc, trace, extent, levels, f)?)?)
 }
 
 #[cycle(ready)]
 fn ready<'a>(
     alloc: Global,
-    table: &'a Table<'a>,
+    trace: &'a ReadyTrace<'_>,
     extent: Extent,
     levels: &Levels<'_>,
     f: &'a Formula,
 ) -> Result<Plan<'a>, Mem>
-    ensures { IfOk result (λ r. plan r ≡ ready table.now extent (layers levels.now) (form f.now)) }
+    ensures { IfOk result (λ r. plan r ≡ ready trace.now extent (layers levels.now) (form f.now)) }
 {
     match f {
         Formula::True => Ok(Plan::Always(true)),
@@ -51,16 +50,16 @@ fn ready<'a>(
         Formula::Action(fact, time) => ready_action(alloc, extent, levels, fact, time),
         Formula::Equal(s, t) => ready_equal(alloc, levels, s, t),
         Formula::Same(i, j) | Formula::Less(i, j) => related(levels, f, i, j),
-        Formula::Not(g) => Ok(Plan::Not(ready_box(alloc, table, Extent::Whole, levels, g)?)),
+        Formula::Not(g) => Ok(Plan::Not(ready_box(alloc, trace, Extent::Whole, levels, g)?)),
         Formula::And(g, h) | Formula::Or(g, h) | Formula::Imp(g, h) | Formula::Iff(g, h) => {
             let two = both(
-                ready_box(alloc, table, left_part(f, extent), levels, g),
-                ready_box(alloc, table, right_part(f, extent), levels, h),
+                ready_box(alloc, trace, left_part(f, extent), levels, g),
+                ready_box(alloc, trace, right_part(f, extent), levels, h),
             )?;
             Ok(connected(f, two))
         }
-        Formula::All(bs, g) => quantified(alloc, table, true, levels, bs, g),
-        Formula::Ex(bs, g) => quantified(alloc, table, false, levels, bs, g),
+        Formula::All(bs, g) => quantified(alloc, trace, true, levels, bs, g),
+        Formula::Ex(bs, g) => quantified(alloc, trace, false, levels, bs, g),
     }
 }
 
@@ -68,38 +67,38 @@ fn ready<'a>(
 #[cycle(ready)]
 fn quantified<'a>(
     alloc: Global,
-    table: &'a Table<'a>,
+    trace: &'a ReadyTrace<'_>,
     every: bool,
     levels: &Levels<'_>,
     bs: &Binders,
     f: &'a Formula,
 ) -> Result<Plan<'a>, Mem>
-    ensures { IfOk result (λ r. plan r ≡ quantified table.now every (layers levels.now) bs.now (form f.now)) }
+    ensures { IfOk result (λ r. plan r ≡ quantified trace.now every (layers levels.now) bs.now (form f.now)) }
 {
     let mut names = IndexSet::new(alloc);
-    let guards = ready_guards(alloc, table, every, levels, bs, f, &mut names)?;
+    let guards = ready_guards(alloc, trace, every, levels, bs, f, &mut names)?;
     let inner = Levels::Inside(&names, &*levels);
-    let body = ready_box(alloc, table, beside(every), &inner, f)?;
+    let body = ready_box(alloc, trace, beside(every), &inner, f)?;
     Ok(Plan::Search(every, guards, body))
 }
 
 // Its guards, and in order the names that they give slots.
 fn ready_guards<'a>(
     alloc: Global,
-    table: &'a Table<'a>,
+    trace: &'a ReadyTrace<'_>,
     every: bool,
     levels: &Levels<'_>,
     bs: &Binders,
     f: &'a Formula,
     names: &mut IndexSet<Name>,
 ) -> Result<Items<GuardPlan<'a>>, Mem>
-    ensures guards { IfOk result (λ gs. map guard gs ≡ guards_of table.now (place_of bs.now (layers levels.now)) names.old.keys (guards_over every (form f.now))) }
+    ensures guards { IfOk result (λ gs. map guard gs ≡ guards_of trace.now (place_of bs.now (layers levels.now)) names.old.keys (guards_over every (form f.now))) }
     ensures names { OnOk result (names.new.keys ≡ seen_by (place_of bs.now (layers levels.now)) names.old.keys (guards_over every (form f.now))) }
 {
     let bound = named_binders(alloc, bs)?;
     let actions = guards_over(alloc, every, f)?;
     let spot = Spot::Guards(&bound, &*levels);
-    lay_guards(alloc, table, &spot, names, &actions)
+    lay_guards(alloc, trace, &spot, names, &actions)
 }
 
 // The action atoms that guard its variables.

@@ -1,10 +1,14 @@
 //! The facts of a trace by their names.
-ghost use Rattle.std.specs.Prelude.{◌≡◌, map};
+ghost use Rattle.std.specs.Prelude.{◌≡◌, Some, [], ◌∷◌, IfOk, OnOk, map};
+ghost use Rattle.std.specs.Str.{bytes_eq};
+ghost use Rattle.indexmap.specs.IndexMap.{Updates};
 ghost use Rattle.sap_formula.specs.code.PlanView.{sight};
-ghost use Rattle.sap_formula.specs.code.Ready.{sights};
+ghost use Rattle.sap_formula.specs.code.Ready.{sights, sights_at};
+ghost use Rattle.sap_formula.specs.code.Rows.{Adds, IsOf, if_named, row_of};
 
-use sap_terms::{Fact, Name, Trace};
-use std::marker::Model;
+use indexmap::IndexMap;
+use sap_terms::{Copied, Fact, FactList, Items, Mem, Name, Trace};
+use std::alloc::Global;
 
 /// A fact of a trace and its time.
 #[derive(Clone, Copy)]
@@ -13,31 +17,62 @@ pub(crate) struct Sighted<'t> {
     pub(crate) fact: &'t Fact,
 }
 
-/// A stand-in, which nobody can make: contracts see the table as the trace.
-pub(crate) struct Table<'t> {
-    trace: &'t Trace,
+/// The facts of a trace by their names.
+pub(crate) type Rows<'t> = IndexMap<Name, Items<Sighted<'t>>>;
+
+// Gives a name without a row one with its first fact.
+fn start_row<'t>(alloc: Global, s: Sighted<'t>, rows: &mut Rows<'t>) -> Result<(), Mem>
+    ensures { OnOk result (Updates bytes_eq rows.old rows.new s.entry.fact.now.name (Some (s.entry ∷ []))) }
+{
+    let mut row = Items::new(alloc);
+    row.push(s)?;
+    let name = s.fact.name.copy(alloc)?;
+    rows.insert(name, row)?;
+    Ok(())
 }
 
-impl<'t> Model for Table<'t> {
-    ghost use Rattle.std.specs.Coded.{codes};
-    ghost use Rattle.sap_terms.specs.Codes.{tree_code};
-    ghost use Rattle.sap_terms.specs.Trace.{Trace};
-
-    ghost Value = { Trace };
-
-    ghost coded = { Prim.hlevel (codes, tree_code) };
-
-    ghost view = { λ a. a.trace.now };
-
-    ghost invariant = { λ a. ⊥ };
-}
-
-impl<'t> Table<'t> {
-    /// The facts of this name.
-    pub(crate) fn named(&self, _name: &Name) -> &[Sighted<'t>]
-        ensures { map sight result.now ≡ sights _name.now self.now }
-    {
-        let _trace = self.trace;
-        unreachable!()
+// Puts a fact last in the row of its name.
+fn note<'t>(alloc: Global, s: Sighted<'t>, rows: &mut Rows<'t>) -> Result<(), Mem>
+    ensures { OnOk result (Adds rows.old rows.new (λ n. if_named n s.entry)) }
+{
+    match rows.get_mut(&s.fact.name) {
+        Some(row) => row.push(s),
+        None => start_row(alloc, s, rows),
     }
+}
+
+// Puts the facts of a time last in their rows.
+fn note_facts<'t>(
+    alloc: Global,
+    time: u64,
+    facts: &'t FactList,
+    rows: &mut Rows<'t>,
+) -> Result<(), Mem>
+    ensures { OnOk result (Adds rows.old rows.new (λ n. sights_at n time facts.now)) }
+{
+    for fact in facts.as_slice() {
+        note(alloc, Sighted { time, fact }, rows)?;
+    }
+    Ok(())
+}
+
+/// Those of the trace, in one pass over it.
+pub(crate) fn rows_of<'t>(alloc: Global, trace: &'t Trace) -> Result<Rows<'t>, Mem>
+    ensures { IfOk result (λ r. IsOf trace.now r) }
+{
+    let mut rows = IndexMap::new(alloc);
+    for k in 0..trace.len() {
+        note_facts(alloc, k, trace.at(k), &mut rows)?;
+    }
+    Ok(rows)
+}
+
+/// The facts of this name, none where it has no row.
+pub(crate) fn facts_in<'a, 't: 'a>(rows: &'a Rows<'t>, name: &Name) -> &'a [Sighted<'a>]
+    ensures { map sight result.now ≡ row_of rows.now name.now }
+{
+    if let Some(row) = rows.get(name) {
+        return row.as_slice();
+    }
+    &[]
 }
