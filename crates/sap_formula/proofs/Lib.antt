@@ -20,8 +20,10 @@ pub mod Sights
 pub mod Slots
 pub mod Agreements
 pub mod SearchSteps
+pub mod Rows
 pub mod Walks
 pub mod HiddenBinders
 pub mod Verdicts
 mod SmallFormulas
 pub mod Remakes
+pub mod Marks
