@@ -1,5 +1,5 @@
 -- Faults that have nothing to do with the binders round a part.
-use Rattle.std.proofs.Common.{◌≡◌, ℕ, List, [], ◌∷◌, ◌++◌, Bool, true, false, map, length, Some, refl, sym, ap, ap₂, ◌∙◌}
+use Rattle.std.proofs.Common.{◌≡◌, ℕ, List, [], ◌∷◌, ◌++◌, Bool, false, map, length, Some, refl, sym, ap, ap₂, ◌∙◌}
 use Rattle.std.specs.Prelude.{if◌then◌else◌}
 use Rattle.sap_formula.proofs.Firsts.{first-append, or_name}
 use Rattle.sap_formula.specs.Checked.{enter, premise}
@@ -45,7 +45,7 @@ module _ (g : Sig) (r : Bool) (w : FormulaFlaw) (h : IsElsewhere g r w) where
   form_elsewhere s z falsity = refl
   form_elsewhere s z (action f i) =
       behind (fact_name f.name) (terms_parts s (trees_of f.args) ++ time s i ∷ []) (terms_parts z (trees_of f.args) ++ time z i ∷ [])
-          (appended (terms_parts s (trees_of f.args)) (time s i ∷ []) (terms_parts z (trees_of f.args)) (time z i ∷ []) (terms_elsewhere s z (trees_of f.args)) (time_elsewhere s z i [] [] refl))
+      (appended (terms_parts s (trees_of f.args)) (time s i ∷ []) (terms_parts z (trees_of f.args)) (time z i ∷ []) (terms_elsewhere s z (trees_of f.args)) (time_elsewhere s z i [] [] refl))
   form_elsewhere s z (equal a b) = appended (term_parts s a) (term_parts s b) (term_parts z a) (term_parts z b) (term_elsewhere s z a) (term_elsewhere s z b)
   form_elsewhere s z (same_time i j) = time_elsewhere s z i (time s j ∷ []) (time z j ∷ []) (time_elsewhere s z j [] [] refl)
   form_elsewhere s z (earlier i j) = time_elsewhere s z i (time s j ∷ []) (time z j ∷ []) (time_elsewhere s z j [] [] refl)

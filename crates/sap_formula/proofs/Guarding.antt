@@ -1,12 +1,12 @@
 -- The names of the variables that a formula guards.
-use Rattle.std.proofs.Common.{◌≡◌, ℕ, ◌+◌, List, [], ◌∷◌, Bool, true, false, ◌||◌, not, Option, Some, None, drop, map, refl, sym, ap, ◌∙◌}
-use Rattle.std.specs.Prelude.{if◌then◌else◌, slice_get}
+use Rattle.std.proofs.Common.{◌≡◌, ℕ, List, [], ◌∷◌, Bool, true, false, not, Some, None, map, refl, ap, ◌∙◌}
+use Rattle.std.specs.Prelude.{if◌then◌else◌}
 use Rattle.std.specs.List.{list_any}
 use Rattle.std.specs.Str.{bytes_eq}
 use Rattle.sap_formula.specs.Checked.{binder_name}
 use Rattle.sap_formula.specs.Form.{Form}
 use Rattle.sap_formula.specs.Parts.{bound}
-use Rattle.sap_formula.specs.code.Tests.{Adds, first_name, first_outside, stands, stands_in, stands_in_any}
+use Rattle.sap_formula.specs.code.Tests.{first_name, first_outside, stands}
 use Rattle.sap_formula.specs.declared.binder.Binder.{Binder}
 use Rattle.sap_formula.specs.declared.fault.FormulaFlaw.{FormulaFlaw}
 use Rattle.sap_formula.specs.declared.fault.FormulaFlaw.TheVariants.{BadFunction, Destructor, Reserved, UnboundVar, Unguarded}

@@ -1,6 +1,3 @@
-use Rattle.std.specs.Option.{option_copied}
-use Rattle.std.proofs.Common.{subst}
-use Rattle.std.specs.Prelude.{IfOk}
 use Rattle.sap_formula.specs.Checked.{enter}
 use Rattle.sap_formula.specs.View.{form}
 use Rattle.sap_formula.specs.code.Scoped.{binders}
