@@ -135,7 +135,7 @@ fn in_times<'a>(aim: &Aim<'_>, scope: &Scope<'_>, i: &'a Name, j: &'a Name) -> O
     in_time(aim, scope, j)
 }
 
-// The first name of a binder that isn't among these.
+// The name of the first binder that isn't among these.
 fn first_outside<'a>(names: &IndexSet<Name>, bs: &'a Binders) -> Option<&'a Name>
     ensures { option_copied result ≡ first_outside names.now.keys bs.now }
 {
@@ -148,6 +148,7 @@ fn first_outside<'a>(names: &IndexSet<Name>, bs: &'a Binders) -> Option<&'a Name
     None
 }
 
+// The name of the first binder that has the fault, where its guards are looked for in f.
 fn in_binders<'a>(
     alloc: Global,
     aim: &Aim<'_>,
@@ -165,7 +166,7 @@ fn in_binders<'a>(
     }
 }
 
-// Where the guards of an `All` are looked for; in this truth, where it has none.
+// Where the guards of an `All` over f are looked for; without `==>` in this truth, which has none.
 fn premise<'a>(f: &'a Formula, truth: &'a Formula) -> &'a Formula
     requires { form truth.now ≡ truth_form }
     ensures { form result.now ≡ premise (form f.now) }
@@ -176,6 +177,7 @@ fn premise<'a>(f: &'a Formula, truth: &'a Formula) -> &'a Formula
     }
 }
 
+// The same below an `All` over f.
 fn in_binders_of_all<'a>(
     alloc: Global,
     aim: &Aim<'_>,

@@ -64,7 +64,7 @@ stands n (exists bs f) = false
 abbrev pub Adds : (List ℕ → Bool) → List (List ℕ) → List (List ℕ) → Type 0
 Adds p old new = (n : List ℕ) → list_any (bytes_eq n) new ≡ (p n || list_any (bytes_eq n) old)
 
--- the first name of a binder that isn't among these
+-- the name of the first binder that isn't among these
 abbrev pub first_outside : List (List ℕ) → List Binder → Option (List ℕ)
 first_outside ns [] = None
 first_outside ns (b ∷ bs) = if list_any (bytes_eq (binder_name b)) ns then first_outside ns bs else Some (binder_name b)
