@@ -11,6 +11,8 @@ pub mod Hiding
 pub mod Walking
 pub mod PartTests
 pub mod Firsts
+pub mod Elsewhere
+pub mod Guarding
 pub mod Checks
 pub mod Counting
 pub mod OneFault
