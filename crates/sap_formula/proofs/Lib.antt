@@ -9,6 +9,7 @@ pub mod Subterms
 pub mod Slimmer
 pub mod Hiding
 pub mod Walking
+pub mod Slots
 pub mod PartTests
 pub mod Firsts
 pub mod Checks
