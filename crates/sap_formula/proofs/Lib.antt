@@ -10,6 +10,7 @@ pub mod Slimmer
 pub mod Hiding
 pub mod Walking
 pub mod Slots
+pub mod Reading
 pub mod PartTests
 pub mod Firsts
 pub mod Checks
