@@ -11,6 +11,10 @@ pub mod Hiding
 pub mod Walking
 pub mod Slots
 pub mod Reading
+pub mod Members
+pub mod FactsOf
+pub mod Matching
+pub mod Leading
 pub mod PartTests
 pub mod Firsts
 pub mod Checks

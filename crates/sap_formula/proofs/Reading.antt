@@ -32,7 +32,7 @@ get_end : {X : Type 0} (xs : List X) (x : X) → slice_get (xs ++ x ∷ []) (len
 get_end [] x = refl
 get_end (y ∷ xs) x = get_end xs x
 
-append_none : {X : Type 0} (xs : List X) → xs ≡ xs ++ []
+pub append_none : {X : Type 0} (xs : List X) → xs ≡ xs ++ []
 append_none [] = refl
 append_none (x ∷ xs) = ap (λ ys. x ∷ ys) (append_none xs)
 
@@ -103,7 +103,7 @@ module _ (g : Sig) (tr : Trace) (scope : List Binder) (p : Place) where
   Gives seen later held C (Some out) = Ends seen later held C out
 
   -- a value that was there
-  ends_same : (seen : List (List ℕ)) (held : List Held) (C : Choice → Times → Type 0) → Start seen held → ((σ : Choice) (τ : Times) → Agrees scope (slot_at p seen) held σ τ → C σ τ) → Ends seen seen held C held
+  pub ends_same : (seen : List (List ℕ)) (held : List Held) (C : Choice → Times → Type 0) → Start seen held → ((σ : Choice) (τ : Times) → Agrees scope (slot_at p seen) held σ τ → C σ τ) → Ends seen seen held C held
   ends_same seen held C s f = record { new = []; is = append_none held; start = s; back = λ σ τ a. (a, f σ τ a); forth = λ σ τ a c. a }
 
   -- a value more
