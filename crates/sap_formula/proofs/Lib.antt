@@ -15,6 +15,7 @@ pub mod Members
 pub mod FactsOf
 pub mod Matching
 pub mod Leading
+pub mod Filling
 pub mod PartTests
 pub mod Firsts
 pub mod Checks
