@@ -16,6 +16,7 @@ pub mod FactsOf
 pub mod Matching
 pub mod Leading
 pub mod Filling
+pub mod Entering
 pub mod PartTests
 pub mod Firsts
 pub mod Checks
