@@ -17,6 +17,7 @@ pub mod Matching
 pub mod Leading
 pub mod Filling
 pub mod Entering
+pub mod Atoms
 pub mod PartTests
 pub mod Firsts
 pub mod Checks
