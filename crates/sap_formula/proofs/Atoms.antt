@@ -13,7 +13,7 @@ use Rattle.sap_formula.proofs.Matching.{matched_all_reads, matched_reads}
 use Rattle.sap_formula.proofs.Plain.{NormalLaws, IsNormalEnv, args-same, fresh-normal, public-normal}
 use Rattle.sap_formula.proofs.Reading.{Agrees, Ends, Reads, Start, Suits, append_none, get_kept, value}
 use Rattle.sap_formula.proofs.Tests.{decides_and, decides_each_any}
-use Rattle.sap_formula.specs.Checked.{AreCheckedTerms, IsCheckedTerm, find_binder}
+use Rattle.sap_formula.specs.Checked.{AreCheckedTerms, IsCheckedTerm, binder_name, find_binder}
 use Rattle.sap_formula.specs.Truth.{AnyIn, EachIn, Shows, Times, facts_at}
 use Rattle.sap_formula.specs.code.Ready.{Atom, Held, Layers, Place, State, Two, agreed, agreed_all, atom_of, behind, fits_atom, held_term, held_time, inside, is_there, marked, marked_all, matched, matched_all, next_term, noted, onward, slot_at, slot_count, slot_in, term_in, time_at, time_held}
 use Rattle.sap_formula.specs.declared.binder.Binder.{Binder}
@@ -89,10 +89,7 @@ module _ (laws : NormalLaws) (g : Sig) (tr : Trace) (m : IsMessageTrace g tr) (s
   reads_tell : (later : List (List ℕ)) (rest : List (Option ℕ)) (C : Choice → Times → Type 0) (o : Option State) → later ≡ [] → Reads g tr scope (inside layers) [] later held rest C o → Tells rest (C σ τ) o
   reads_tell later rest C None e r = λ c. r σ τ here.fitting here.agrees c
   reads_tell later rest C (Some s) e r =
-      (r.0, (r.1.back σ τ (λ b k i l. subst (λ z. slice_get z k ≡ Some (value σ τ b)) (sym r.1.is) (get_kept held r.1.new k (value σ τ b) (here.agrees b k i (ap (λ z. slot_at (inside layers) z (name b)) (sym e) ∙ l))))).1) where
-        name : Binder → List ℕ
-        name (Message v) = v.name
-        name (Time n) = n
+      (r.0, (r.1.back σ τ (λ b k i l. subst (λ z. slice_get z k ≡ Some (value σ τ b)) (sym r.1.is) (get_kept held r.1.new k (value σ τ b) (here.agrees b k i (ap (λ z. slot_at (inside layers) z (binder_name b)) (sym e) ∙ l))))).1)
 
   term_tells : (t : Tree) → IsCheckedTerm g scope t → (u : Tree) → IsGood g u → (marks rest : List (Option ℕ)) → marks ≡ (marked (inside layers) [] t).marks ++ rest → Tells rest (instance σ t ≡ u) (matched t u (record { marks = marks; held = held }))
   term_tells t c u d marks rest e =

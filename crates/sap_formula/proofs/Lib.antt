@@ -18,6 +18,8 @@ pub mod Leading
 pub mod Filling
 pub mod Entering
 pub mod Atoms
+pub mod SlimPlans
+pub mod Planning
 pub mod PartTests
 pub mod Firsts
 pub mod Checks

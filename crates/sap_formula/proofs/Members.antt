@@ -35,3 +35,11 @@ pub any_here : {X : Type 0} (Q : X → Type 0) (xs : List X) (x : X) → IsIn xs
 any_here Q [] x i h = absurd i
 any_here Q (y ∷ xs) x (inl e) h = inl (subst Q (sym e) h)
 any_here Q (y ∷ xs) x (inr i) h = inr (any_here Q xs x i h)
+
+pub each_left : {X : Type 0} (Q : X → Type 0) (xs ys : List X) → EachIn Q (xs ++ ys) → EachIn Q xs
+each_left Q [] ys h = tt
+each_left Q (x ∷ xs) ys h = (h.0, each_left Q xs ys h.1)
+
+pub each_right : {X : Type 0} (Q : X → Type 0) (xs ys : List X) → EachIn Q (xs ++ ys) → EachIn Q ys
+each_right Q [] ys h = h
+each_right Q (x ∷ xs) ys h = each_right Q xs ys h.1
