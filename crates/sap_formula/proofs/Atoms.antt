@@ -9,7 +9,7 @@ use Rattle.sap_formula.proofs.Decided.{along, args-equal, decides_tree, equal_de
 use Rattle.sap_formula.proofs.Entering.{Here}
 use Rattle.sap_formula.proofs.Goods.{AreGood, IsGood, IsGoodFact, goods_at, message_good}
 use Rattle.sap_formula.proofs.Law.{each_map}
-use Rattle.sap_formula.proofs.Matching.{matched_all_reads, matched_reads}
+use Rattle.sap_formula.proofs.Patterns.{matched_all_reads, matched_reads}
 use Rattle.sap_formula.proofs.Plain.{NormalLaws, IsNormalEnv, args-same, fresh-normal, public-normal}
 use Rattle.sap_formula.proofs.Reading.{Agrees, Ends, Reads, Start, Suits, append_none, get_kept, value}
 use Rattle.sap_formula.proofs.Tests.{decides_and, decides_each_any}

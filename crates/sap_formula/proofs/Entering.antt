@@ -8,10 +8,10 @@ use Rattle.std.proofs.lemmas.Slice.Eq.{bytes_eq-Decides}
 use Rattle.sap_formula.proofs.Filling.{Fill, HasOne, every_at, every_filled, exists_filled, fill_fitting, fill_kept, fill_normal, filled_exists, made}
 use Rattle.sap_formula.proofs.Law.{IsApart, Kept, each_both, entered, found_apart}
 use Rattle.sap_formula.proofs.Leading.{IsGuardTrue, Leads, Reached, leads_found, leads_reached, search_all, search_any}
-use Rattle.sap_formula.proofs.Matching.{IsCheckedAction}
+use Rattle.sap_formula.proofs.Patterns.{IsCheckedAction}
 use Rattle.sap_formula.proofs.Plain.{NormalLaws, IsNormalEnv}
 use Rattle.sap_formula.proofs.Reading.{Agrees, AreFilled, IsFitting, Start, Suits, get_kept, value}
-use Rattle.sap_formula.proofs.Slots.{bound_apart, bound_stands, by_slotted, by_stay, same_slots}
+use Rattle.sap_formula.proofs.Layers.{bound_apart, bound_stands, by_slotted, by_stay, same_slots}
 use Rattle.sap_formula.specs.Checked.{AreGuarded, NoTwice, Stands, binder_name, enter, find_binder}
 use Rattle.sap_formula.specs.Form.{Form}
 use Rattle.sap_formula.specs.Truth.{EachIn, Every, Exists, Times}

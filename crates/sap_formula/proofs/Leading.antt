@@ -6,7 +6,7 @@ use Rattle.std.proofs.lemmas.Slice.Eq.{bytes_eq-Decides}
 use Rattle.sap_formula.proofs.Decided.{args-equal}
 use Rattle.sap_formula.proofs.FactsOf.{facts_below, in_sights, of_sights}
 use Rattle.sap_formula.proofs.Goods.{IsGoodFact, goods_at}
-use Rattle.sap_formula.proofs.Matching.{Fits, IsCheckedAction, guarded_gives}
+use Rattle.sap_formula.proofs.Patterns.{Fits, IsCheckedAction, guarded_gives}
 use Rattle.sap_formula.proofs.Members.{any_found, any_here, each_in}
 use Rattle.sap_formula.proofs.Plain.{NormalLaws, IsNormalEnv, args-same}
 use Rattle.sap_formula.proofs.Reading.{Agrees, Ends, Gives, IsFitting, Start, append_none, ends_same}

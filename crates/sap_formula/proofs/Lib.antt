@@ -9,11 +9,11 @@ pub mod Subterms
 pub mod Slimmer
 pub mod Hiding
 pub mod Walking
-pub mod Slots
+pub mod Layers
 pub mod Reading
 pub mod Members
 pub mod FactsOf
-pub mod Matching
+pub mod Patterns
 pub mod Leading
 pub mod Filling
 pub mod Entering

@@ -6,7 +6,7 @@ use Rattle.std.specs.Prelude.{nat_eq, nat_lt}
 use Rattle.sap_formula.proofs.Atoms.{action_decided, equal_decided, time_is}
 use Rattle.sap_formula.proofs.Entering.{Here, every_decided, exists_decided}
 use Rattle.sap_formula.proofs.Leading.{IsGuardTrue}
-use Rattle.sap_formula.proofs.Matching.{IsCheckedAction}
+use Rattle.sap_formula.proofs.Patterns.{IsCheckedAction}
 use Rattle.sap_formula.proofs.Members.{each_append, each_left, each_right}
 use Rattle.sap_formula.proofs.Plain.{NormalLaws, leaf-normal}
 use Rattle.sap_formula.proofs.SlimPlans.{ready_slim}

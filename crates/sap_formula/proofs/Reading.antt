@@ -7,7 +7,7 @@ use Rattle.std.proofs.lemmas.Bool.Decides.{Decides-eqb}
 use Rattle.std.proofs.lemmas.Slice.Eq.{bytes_eq-Decides}
 use Rattle.sap_formula.proofs.Decided.{decides_tree}
 use Rattle.sap_formula.proofs.Goods.{AreGood, IsGood, good_message}
-use Rattle.sap_formula.proofs.Slots.{slot_cases, slot_kept, slot_next}
+use Rattle.sap_formula.proofs.Layers.{slot_cases, slot_kept, slot_next}
 use Rattle.sap_formula.specs.Checked.{AreCheckedTerms, IsCheckedTerm, binder_name, find_binder}
 use Rattle.sap_formula.specs.Truth.{Times}
 use Rattle.sap_formula.specs.code.Ready.{Held, Layers, Place, State, held_term, held_time, is_held, marked, marked_all, matched, matched_all, noted, onward, slot_at, slot_count, taken_by}
