@@ -28,6 +28,8 @@ pub mod OneFault
 pub mod InstanceLists
 pub mod Projections
 pub mod Sights
+pub mod Slots
+pub mod Agreements
 pub mod Walks
 pub mod HiddenBinders
 pub mod Verdicts

@@ -5,6 +5,8 @@ pub mod Tests
 pub mod Scoped
 pub mod Walk
 pub mod Ready
+pub mod PlanView
+pub mod Reached
 pub mod Sighted
 pub mod Environments
 pub mod Picked

@@ -2,6 +2,7 @@
 //! truth on a trace.
 #![tactic(auto)]
 
+mod agreeing;
 mod binder;
 mod checking;
 mod environment;
@@ -12,13 +13,16 @@ mod guards;
 mod instances;
 mod laws;
 mod lemma;
+mod matching;
 mod picks;
+mod plan;
 mod projecting;
 mod remaking;
 mod restriction;
 mod scope;
 mod search;
 mod sightings;
+mod sighted;
 mod slimming;
 mod sorting;
 mod truths;

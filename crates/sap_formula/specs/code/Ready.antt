@@ -211,19 +211,23 @@ is_held (Some (held_term t)) (held_term u) = same_tree t u
 is_held (Some (held_time j)) (held_time k) = nat_eq j k
 is_held (Some _) _ = false
 
--- the value of an occurrence: what its slot holds, or put into the next one where its sort allows it
-abbrev pub taken_by : List (Option ℕ) → List Held → Held → Bool → Option State
-taken_by [] held h fits = None
-taken_by (None ∷ ms) held h fits = if fits then Some (record { marks = ms; held = held ++ h ∷ [] }) else None
-taken_by (Some k ∷ ms) held h fits = if is_held (slice_get held k) h then Some (record { marks = ms; held = held }) else None
-
-abbrev pub taken : Held → Bool → State → Option State
-taken h fits s = taken_by s.marks s.held h fits
-
 -- f of the value, where there is one
 abbrev pub onward : {X Y : Type 0} → Option X → (X → Option Y) → Option Y
 onward None f = None
 onward (Some x) f = f x
+
+-- a value that an occurrence meets: what its slot holds, or, where it has none, what the next one is filled with, if it may be
+abbrev pub filled : Option ℕ → Held → Bool → List Held → Option (List Held)
+filled None h fits held = if fits then Some (held ++ h ∷ []) else None
+filled (Some k) h fits held = if is_held (slice_get held k) h then Some held else None
+
+-- the next occurrence
+abbrev pub taken_by : List (Option ℕ) → List Held → Held → Bool → Option State
+taken_by [] held h fits = None
+taken_by (m ∷ ms) held h fits = onward (filled m h fits held) (λ hs. Some (record { marks = ms; held = hs }))
+
+abbrev pub taken : Held → Bool → State → Option State
+taken h fits s = taken_by s.marks s.held h fits
 
 abbrev mutual
   -- the pattern fits the tree
@@ -239,14 +243,9 @@ abbrev mutual
   matched_all (more p ps) (more t ts) s = onward (matched p t s) (matched_all ps ts)
   matched_all _ _ s = None
 
--- the time of an atom
-abbrev pub timed : Option ℕ → ℕ → List Held → Option (List Held)
-timed None k held = Some (held ++ held_time k ∷ [])
-timed (Some j) k held = if is_held (slice_get held j) (held_time k) then Some held else None
-
 -- the guard fits the fact of this time: what the slots hold then
 abbrev pub guarded : Atom → Fact → ℕ → List Held → Option (List Held)
-guarded a x k held = onward (matched_all a.args (trees_of x.args) (record { marks = a.marks; held = held })) (λ s. timed a.time k s.held)
+guarded a x k held = onward (matched_all a.args (trees_of x.args) (record { marks = a.marks; held = held })) (λ s. filled a.time (held_time k) true s.held)
 
 -- the time that a slot holds
 abbrev pub time_held : Option Held → ℕ
@@ -287,13 +286,25 @@ abbrev pub behind : {X : Type 0} → List X → List X
 behind [] = []
 behind (x ∷ xs) = xs
 
+-- where the left term is a variable
+abbrev pub agreed_left : Tree → Two → List Held → Option Two
+agreed_left t w held = onward (next_term w.left held) (λ u. onward (matched t u (record { marks = w.right; held = held })) (λ s. Some (record { left = behind w.left; right = s.marks })))
+
+-- where the right one is
+abbrev pub agreed_right : Tree → Two → List Held → Option Two
+agreed_right s w held = onward (next_term w.right held) (λ u. onward (matched s u (record { marks = w.left; held = held })) (λ r. Some (record { left = r.marks; right = behind w.right })))
+
+-- where the left term is a leaf without a variable
+abbrev pub agreed_leaf : Tree → Tree → Two → List Held → Option Two
+agreed_leaf s t w held = onward (matched t s (record { marks = w.right; held = held })) (λ r. Some (record { left = w.left; right = r.marks }))
+
 abbrev mutual
   -- the two terms are one where variables are what their slots hold
   pub agreed : Tree → Tree → Two → List Held → Option Two
-  agreed (variable v) t w held = onward (next_term w.left held) (λ u. onward (matched t u (record { marks = w.right; held = held })) (λ s. Some (record { left = behind w.left; right = s.marks })))
-  agreed (public n) t w held = onward (matched t (public n) (record { marks = w.right; held = held })) (λ s. Some (record { left = w.left; right = s.marks }))
-  agreed (fresh k) t w held = onward (matched t (fresh k) (record { marks = w.right; held = held })) (λ s. Some (record { left = w.left; right = s.marks }))
-  agreed (apply f ss) (variable v) w held = onward (next_term w.right held) (λ u. onward (matched (apply f ss) u (record { marks = w.left; held = held })) (λ s. Some (record { left = s.marks; right = behind w.right })))
+  agreed (variable v) t w held = agreed_left t w held
+  agreed (public n) t w held = agreed_leaf (public n) t w held
+  agreed (fresh k) t w held = agreed_leaf (fresh k) t w held
+  agreed (apply f ss) (variable v) w held = agreed_right (apply f ss) w held
   agreed (apply f ss) (apply g ts) w held = if bytes_eq f g then agreed_all ss ts w held else None
   agreed (apply f ss) _ w held = None
 

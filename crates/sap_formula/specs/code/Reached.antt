@@ -1,0 +1,26 @@
+-- What the code answers of a match: the place in the marks up to which they were read, and what the slots hold.
+use Rattle.std.specs.Prelude.{◌≡◌, ℕ, Bool, true, false, drop, List, ◌++◌, Option, Some, None, option_map}
+use Rattle.sap_formula.specs.declared.agreeing.Places.{Places}
+use Rattle.sap_formula.specs.code.Ready.{Held, State, Two}
+
+-- what was there stands in front
+abbrev pub StaysInFront : {X : Type 0} → List X → List X → Type 0
+StaysInFront {X} old new = (more : List X) × (new ≡ old ++ more)
+
+-- none, or what is left of the marks from this place on and what is held
+abbrev pub IsReached : List (Option ℕ) → List Held → Option ℕ → Option State → Type 0
+IsReached marks held None r = r ≡ None
+IsReached marks held (Some at) r = r ≡ Some (record { marks = drop at marks; held = held })
+
+-- none, or what is held
+abbrev pub IsMet : List Held → Bool → Option (List Held) → Type 0
+IsMet held false r = r ≡ None
+IsMet held true r = r ≡ Some held
+
+-- what is left of the marks
+abbrev pub left_marks : Option State → Option (List (Option ℕ))
+left_marks o = option_map (λ s. s.marks) o
+
+-- what is left of the marks of two terms, from these places on
+abbrev pub two_at : List (Option ℕ) → List (Option ℕ) → Places → Two
+two_at left right p = record { left = drop p.left left; right = drop p.right right }

@@ -1,0 +1,49 @@
+//! Formulas made ready for a trace: variables are slots, and guards have the facts of their names.
+use crate::sighted::Sighted;
+use sap_terms::{Items, Name, Term, TermList};
+
+/// For each occurrence of a variable, from the left, its slot; none where the occurrence fills the next slot.
+pub(crate) type Marks = Items<Option<u64>>;
+
+/// An action atom: the arguments of its fact, and the slot of its time, none where it fills the next one.
+#[derive(Drop)]
+pub(crate) struct AtomPlan<'a> {
+    pub(crate) args: &'a TermList,
+    pub(crate) marks: Marks,
+    pub(crate) time: Option<u64>,
+}
+
+/// An action atom that is a guard, and the facts of its name.
+#[derive(Drop)]
+pub(crate) struct GuardPlan<'a> {
+    pub(crate) atom: AtomPlan<'a>,
+    pub(crate) facts: &'a [Sighted<'a>],
+}
+
+/// A formula made ready.
+#[derive(Drop)]
+pub(crate) enum Plan<'a> {
+    Always(bool),
+    /// An action atom that is no guard, with the name of its fact.
+    Shows(&'a Name, AtomPlan<'a>),
+    /// The terms are the same; with the marks of each.
+    Equals(&'a Term, &'a Term, Marks, Marks),
+    /// Two times are the same.
+    AtOnce(Option<u64>, Option<u64>),
+    /// The first time is before the second.
+    Before(Option<u64>, Option<u64>),
+    Not(Box<Plan<'a>>),
+    And(Box<Plan<'a>>, Box<Plan<'a>>),
+    Or(Box<Plan<'a>>, Box<Plan<'a>>),
+    Imp(Box<Plan<'a>>, Box<Plan<'a>>),
+    Iff(Box<Plan<'a>>, Box<Plan<'a>>),
+    /// A quantifier: its answer is the truth value unless some choice of facts for its guards leads to the other.
+    Search(bool, Items<GuardPlan<'a>>, Box<Plan<'a>>),
+}
+
+/// What a slot holds.
+#[derive(Clone, Copy)]
+pub(crate) enum Value<'a> {
+    Term(&'a Term),
+    Time(u64),
+}
