@@ -22,7 +22,7 @@ use Rattle.sap_formula.proofs.Tests.{decides_and, decides_each_any}
 use Rattle.sap_formula.specs.Checked.{AreCheckedTerms, IsCheckedTerm}
 use Rattle.sap_formula.specs.code.Walk.{fits_fact}
 
-args-equal : (e : Equations) (σ : Choice) (ss ts : List Tree) → instances σ (trees_of ss) ≡ trees_of ts → AllZip (λ s t. IsTheoryEqual e (instance σ s) t) ss ts
+pub args-equal : (e : Equations) (σ : Choice) (ss ts : List Tree) → instances σ (trees_of ss) ≡ trees_of ts → AllZip (λ s t. IsTheoryEqual e (instance σ s) t) ss ts
 args-equal e σ [] [] h = tt
 args-equal e σ [] (t ∷ ts) h = absurd (cc)
 args-equal e σ (s ∷ ss) [] h = absurd (cc)
@@ -34,7 +34,7 @@ args-equal e σ (s ∷ ss) (t ∷ ts) h =
 decides_trees : (t u : Trees) → Decides (same_trees t u) (t ≡ u)
 decides_trees t u = (λ h. same_trees-sound t u h, λ e. subst (λ v. same_trees t v ≡ true) e (same_trees-refl t))
 
-decides_tree : (t u : Tree) → Decides (same_tree t u) (t ≡ u)
+pub decides_tree : (t u : Tree) → Decides (same_tree t u) (t ≡ u)
 decides_tree t u = (λ h. same_tree-sound t u h, λ e. subst (λ v. same_tree t v ≡ true) e (same_tree-refl t))
 
 pub along : (b : Bool) (A B : Type 0) → (A → B) → (B → A) → Decides b A → Decides b B

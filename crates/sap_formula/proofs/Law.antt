@@ -77,7 +77,7 @@ kept_time m j bs σ τ σ' τ' k = record {
   times = λ n a. k.times n a.1 ∙ time_there m n j τ a.0;
 }
 
-found_apart : (bs scope : List Binder) (n : List ℕ) → IsApart bs n → find_binder (enter bs scope) n ≡ find_binder scope n
+pub found_apart : (bs scope : List Binder) (n : List ℕ) → IsApart bs n → find_binder (enter bs scope) n ≡ find_binder scope n
 found_apart [] scope n a = refl
 found_apart (b ∷ bs) scope n a = found_apart bs (b ∷ scope) n a.1 ∙ rw (other (binder_name b) n a.0) refl
 

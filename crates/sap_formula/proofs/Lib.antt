@@ -9,6 +9,17 @@ pub mod Subterms
 pub mod Slimmer
 pub mod Hiding
 pub mod Walking
+pub mod Layers
+pub mod Reading
+pub mod Members
+pub mod FactsOf
+pub mod Patterns
+pub mod Leading
+pub mod Filling
+pub mod Entering
+pub mod Atoms
+pub mod SlimPlans
+pub mod Planning
 pub mod PartTests
 pub mod Firsts
 pub mod Elsewhere
