@@ -14,6 +14,8 @@
 #   names   so many doubling `let` items, of which the process uses the last; counted, and refused
 #   items   so many functions that are declared, up to a file of 1 MiB
 #   lemmas  so many lemmas, up to 12,000 in 0.9 MB
+#   binders a lemma with so many variables of one quantifier, all in one guard
+#   guards  a lemma with so many variables of one quantifier, and a guard for each
 #   inline  one lemma and so many restrictions, which it carries, up to 40,000 in 0.9 MB, on a stack of 8 MiB
 # usage: bench/compile.sh [KIND..]
 set -eu
@@ -107,6 +109,30 @@ lemmas() {
     }'
 }
 
+binders() {
+    awk -v n="$1" 'BEGIN {
+        printf "theory Bench begin process: 0 lemma l: \"Ex"
+        for (k = 1; k <= n; k++) printf " x%d", k
+        printf " #i. Seen("
+        for (k = 1; k < n; k++) printf "x%d, ", k
+        printf "x%d)@i\" end", n
+    }'
+}
+
+guards() {
+    awk -v n="$1" '
+        function tree(first, last,    half) {
+            if (first == last) { printf "Seen(x%d)@i", first; return }
+            half = int((first + last) / 2)
+            printf "("; tree(first, half); printf ") & ("; tree(half + 1, last); printf ")"
+        }
+        BEGIN {
+            printf "theory Bench begin process: 0 lemma l: \"Ex"
+            for (k = 1; k <= n; k++) printf " x%d", k
+            printf " #i. "; tree(1, n); printf "\" end"
+        }'
+}
+
 inline() {
     awk -v n="$1" 'BEGIN {
         printf "theory Bench begin process: event Sent(\047a\047) "
@@ -153,5 +179,7 @@ kind names 500 1000 2000 4000 8000 16000
 ends 0 ''
 kind items 4000 8000 16000 32000
 kind lemmas 1500 3000 6000 12000
+kind binders 4000 8000 16000 32000
+kind guards 2000 4000 8000 16000
 command=compile-inline
 kind inline 2500 5000 10000 20000 40000
