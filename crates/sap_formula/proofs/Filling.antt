@@ -81,6 +81,7 @@ abbrev pub HasOne : Sig → Trace → (Binder → Held → Type 0) → Binder �
 HasOne g tr R b = (h : Held) × Suits g tr b h × R b h
 
 module _ (g : Sig) (tr : Trace) (R : Binder → Held → Type 0) where
+  -- values of all of them, one after another
   abbrev pub IsMade : List Binder → Choice → Times → Type 0
   IsMade bs σ τ = (σ' : Choice) × (τ' : Times) × Fill (IsMessage g) (λ k. k < length tr) bs σ τ σ' τ' × EachIn (λ b. R b (value σ' τ' b)) bs
 

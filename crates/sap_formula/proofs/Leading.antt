@@ -27,6 +27,7 @@ abbrev pub Leads : List Guard → List Held → List Held → Type 0
 Leads [] held out = held ≡ out
 Leads (d ∷ ds) held out = (s : Sight) × IsIn d.facts s × (mid : List Held) × (guarded d.atom s.fact s.time held ≡ Some mid) × Leads ds mid out
 
+-- a choice is reached that passes, and each that is reached passes
 abbrev IsReached : List Guard → (List Held → Bool) → List Held → Type 0
 IsReached ds leaf held = (out : List Held) × Leads ds held out × (leaf out ≡ true)
 
@@ -74,7 +75,7 @@ abbrev pub IsGuardTrue : Sig → Trace → Choice → Times → Action → Type 
 IsGuardTrue g tr σ τ a = AnyIn (Shows (equations g) σ a.pattern) (facts_at tr (τ a.time))
 
 -- what is known of the slots that a search reaches
-pub record Reached (g : Sig) (tr : Trace) (scope : List Binder) (p : Place) (seen later : List (List ℕ)) (held : List Held) (C : Choice → Times → Type 0) (out : List Held) : Type 0 where
+pub record Reached (g : Sig) (tr : Trace) (scope : List Binder) (p : Place) (later : List (List ℕ)) (held : List Held) (C : Choice → Times → Type 0) (out : List Held) : Type 0 where
   pub new : List Held
   pub is : out ≡ held ++ new
   pub start : Start g tr scope p later out
@@ -90,6 +91,7 @@ module _ (w : NormalLaws) (g : Sig) (tr : Trace) (m : IsMessageTrace g tr) (scop
       let there = any_here (Shows (equations g) σ a.pattern) (facts_at tr s.time) s.fact r.1 (r.2, args-equal (equations g) σ a.pattern.args s.fact.args f.0) in
       subst (λ k. AnyIn (Shows (equations g) σ a.pattern) (facts_at tr k)) (sym f.1) there
 
+  -- values that agree with what is reached agree with what was there
   agrees_mid : (xs : List Action) → EachIn (IsCheckedAction g scope) xs → (seen : List (List ℕ)) (held out : List Held) → Start g tr scope p seen held → Leads (guards_of tr p seen xs) held out → (σ : Choice) (τ : Times) → Agrees scope (slot_at p (seen_by p seen xs)) out σ τ → Agrees scope (slot_at p seen) held σ τ
   agrees_mid [] c seen held out start e σ τ b = subst (λ z. Agrees scope (slot_at p seen) z σ τ) (sym e) b
   agrees_mid (a ∷ xs) c seen held out start (s, i, mid, e, l) σ τ b =
@@ -99,7 +101,7 @@ module _ (w : NormalLaws) (g : Sig) (tr : Trace) (m : IsMessageTrace g tr) (scop
       (first.back σ τ (agrees_mid xs c.1 (seen_behind p seen a) mid out first.start l σ τ b)).0
 
   -- under values that agree with what is reached the guards hold
-  pub leads_reached : (xs : List Action) → EachIn (IsCheckedAction g scope) xs → (seen : List (List ℕ)) (held out : List Held) → Start g tr scope p seen held → Leads (guards_of tr p seen xs) held out → Reached g tr scope p seen (seen_by p seen xs) held (λ σ τ. EachIn (IsGuardTrue g tr σ τ) xs) out
+  pub leads_reached : (xs : List Action) → EachIn (IsCheckedAction g scope) xs → (seen : List (List ℕ)) (held out : List Held) → Start g tr scope p seen held → Leads (guards_of tr p seen xs) held out → Reached g tr scope p (seen_by p seen xs) held (λ σ τ. EachIn (IsGuardTrue g tr σ τ) xs) out
   leads_reached [] c seen held out start e = record {
     new = [];
     is = sym e ∙ append_none held;
@@ -120,6 +122,7 @@ module _ (w : NormalLaws) (g : Sig) (tr : Trace) (m : IsMessageTrace g tr) (scop
 
   -- under values that make the guards true something is reached that agrees with them
   module _ (σ : Choice) (τ : Times) (n : IsNormalEnv (equations g) σ) (fit : IsFitting scope σ) where
+    -- some choice is reached that agrees with these values
     abbrev IsFound : List Action → List (List ℕ) → List Held → Type 0
     IsFound xs seen held = (out : List Held) × Leads (guards_of tr p seen xs) held out × Agrees scope (slot_at p (seen_by p seen xs)) out σ τ
 
