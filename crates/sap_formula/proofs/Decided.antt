@@ -1,25 +1,18 @@
 -- The tests of atoms decide their truth.
 use Rattle.std.proofs.Common.{◌≡◌, List, [], ◌∷◌, Bool, true, subst}
 use Rattle.std.specs.Bool.{Decides}
-use Rattle.std.specs.List.{AllZip, list_any}
-use Rattle.std.specs.Str.{bytes_eq}
-use Rattle.std.proofs.lemmas.Slice.Eq.{bytes_eq-Decides}
+use Rattle.std.specs.List.{AllZip}
 use Rattle.sap_terms.specs.Equal.{same as no_step}
-use Rattle.sap_formula.specs.Truth.{AnyIn, EachIn, Shows}
 use Rattle.sap_formula.specs.declared.binder.Binder.{Binder}
-use Rattle.sap_terms.proofs.PlainLaws.Tests.{same_tree-refl, same_tree-sound, same_trees-refl, same_trees-sound}
+use Rattle.sap_terms.proofs.PlainLaws.Tests.{same_tree-refl, same_tree-sound}
 use Rattle.sap_terms.specs.Choice.{Choice, instance, instances}
 use Rattle.sap_terms.specs.Equal.{IsTheoryEqual}
-use Rattle.sap_terms.specs.Same.{same_tree, same_trees}
+use Rattle.sap_terms.specs.Same.{same_tree}
 use Rattle.sap_terms.specs.Signature.{Sig}
 use Rattle.sap_terms.specs.Equations.{Equations, equations}
-use Rattle.sap_terms.specs.Tree.{Tree, Trees, trees_of}
-use Rattle.sap_terms.specs.declared.fact.Fact.{Fact}
-use Rattle.sap_formula.proofs.Goods.{IsGoodFact}
-use Rattle.sap_formula.proofs.Law.{each_map}
-use Rattle.sap_formula.proofs.Plain.{NormalLaws, IsNormalEnv, args-same, plain-normal, same_from_equal}
-use Rattle.sap_formula.proofs.Tests.{decides_and, decides_each_any}
-use Rattle.sap_formula.specs.Checked.{AreCheckedTerms, IsCheckedTerm}
+use Rattle.sap_terms.specs.Tree.{Tree, trees_of}
+use Rattle.sap_formula.proofs.Plain.{NormalLaws, IsNormalEnv, plain-normal, same_from_equal}
+use Rattle.sap_formula.specs.Checked.{IsCheckedTerm}
 
 pub args-equal : (e : Equations) (σ : Choice) (ss ts : List Tree) → instances σ (trees_of ss) ≡ trees_of ts → AllZip (λ s t. IsTheoryEqual e (instance σ s) t) ss ts
 args-equal e σ [] [] h = tt

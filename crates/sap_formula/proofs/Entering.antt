@@ -1,8 +1,8 @@
 -- A quantifier's search decides its truth where the test of its body decides the body's.
-use Rattle.std.proofs.Common.{◌≡◌, ℕ, ◌+◌, ◌<◌, List, [], ◌∷◌, ◌++◌, Bool, true, false, ◌||◌, length, Option, Some, None, refl, sym, ap, subst, ◌∙◌, if◌then◌else◌, arith}
+use Rattle.std.proofs.Common.{◌≡◌, ℕ, ◌<◌, List, [], ◌∷◌, Bool, true, false, ◌||◌, length, Option, Some, None, refl, sym, ap, subst, ◌∙◌, if◌then◌else◌, arith}
 use Rattle.std.specs.Prelude.{slice_get, map}
 use Rattle.std.specs.Bool.{Decides}
-use Rattle.std.specs.List.{list_any, position}
+use Rattle.std.specs.List.{list_any}
 use Rattle.std.specs.Str.{bytes_eq}
 use Rattle.std.proofs.lemmas.Slice.Eq.{bytes_eq-Decides}
 use Rattle.sap_formula.proofs.Filling.{Fill, HasOne, every_at, every_filled, exists_filled, fill_fitting, fill_kept, fill_normal, filled_exists, made}
@@ -10,7 +10,7 @@ use Rattle.sap_formula.proofs.Law.{IsApart, Kept, each_both, entered, found_apar
 use Rattle.sap_formula.proofs.Leading.{IsGuardTrue, Leads, Reached, leads_found, leads_reached, search_all, search_any}
 use Rattle.sap_formula.proofs.Patterns.{IsCheckedAction}
 use Rattle.sap_formula.proofs.Plain.{NormalLaws, IsNormalEnv}
-use Rattle.sap_formula.proofs.Reading.{Agrees, AreFilled, IsFitting, Start, Suits, get_kept, value}
+use Rattle.sap_formula.proofs.Reading.{Agrees, AreFilled, IsFitting, Start, get_kept, value}
 use Rattle.sap_formula.proofs.Layers.{bound_apart, bound_stands, by_slotted, by_stay, same_slots}
 use Rattle.sap_formula.specs.Checked.{AreGuarded, NoTwice, Stands, binder_name, enter, find_binder}
 use Rattle.sap_formula.specs.Form.{Form}
@@ -123,9 +123,9 @@ module _ (w : NormalLaws) (g : Sig) (tr : Trace) (m : IsMessageTrace g tr) (scop
       each_held : EachIn (HasOne g tr Holds) bs
       each_held =
           each_both (λ b. find_binder (enter bs scope) (binder_name b) ≡ Some b) (λ b. Stands (binder_name b) q) (HasOne g tr Holds) bs (λ b i s.
-              let t = by_slotted (place_of bs layers) q [] (binder_name b) s in
-              let r = reached.start.filled b t.0 i t.1 in
-              (r.0, r.2, λ k e. let t1 = t.1 in let same : t.0 ≡ k = cc in subst (λ j. slice_get out j ≡ Some r.0) same r.1)) (entered bs scope once) guarded
+          let t = by_slotted (place_of bs layers) q [] (binder_name b) s in
+          let r = reached.start.filled b t.0 i t.1 in
+          (r.0, r.2, λ k e. let t1 = t.1 in let same : t.0 ≡ k = cc in subst (λ j. slice_get out j ≡ Some r.0) same r.1)) (entered bs scope once) guarded
 
       -- and values that are those agree with all slots
       held_agree : (σ' : Choice) (τ' : Times) → Kept bs σ τ σ' τ' → EachIn (λ b. Holds b (value σ' τ' b)) bs → Agrees (enter bs scope) (slot_at (place_of bs layers) later) out σ' τ'

@@ -1,11 +1,10 @@
 -- Values of a quantifier's binders, chosen one after another.
-use Rattle.std.proofs.Common.{◌≡◌, ℕ, ◌<◌, List, [], ◌∷◌, Bool, true, false, length, Option, Some, refl, sym, ap, subst, ◌∙◌, if◌then◌else◌}
+use Rattle.std.proofs.Common.{◌≡◌, ℕ, ◌<◌, List, [], ◌∷◌, true, false, length, Some, refl, sym, ap, subst, ◌∙◌, if◌then◌else◌}
 use Rattle.std.specs.Str.{bytes_eq}
-use Rattle.std.proofs.lemmas.Slice.Eq.{bytes_eq-Decides}
 use Rattle.sap_formula.proofs.Law.{Kept, bound_here, kept_message, kept_time, normal_bind, time_here}
 use Rattle.sap_formula.proofs.Plain.{IsNormalEnv}
 use Rattle.sap_formula.proofs.Reading.{IsFitting, Suits, value}
-use Rattle.sap_formula.specs.Checked.{NoTwice, binder_name, enter, find_binder}
+use Rattle.sap_formula.specs.Checked.{NoTwice, enter, find_binder}
 use Rattle.sap_formula.specs.Truth.{EachIn, Every, Exists, Times, bind, stamp}
 use Rattle.sap_formula.specs.code.Ready.{Held, held_term, held_time}
 use Rattle.sap_formula.specs.declared.binder.Binder.{Binder}

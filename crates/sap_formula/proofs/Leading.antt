@@ -1,7 +1,6 @@
 -- What a search through the facts that fit guards reaches.
-use Rattle.std.proofs.Common.{◌≡◌, ℕ, ◌+◌, ◌<◌, List, [], ◌∷◌, ◌++◌, Bool, true, false, length, Option, Some, None, refl, sym, ap, subst, ◌∙◌, inl, inr, append_assoc}
+use Rattle.std.proofs.Common.{◌≡◌, ℕ, List, [], ◌∷◌, ◌++◌, Bool, true, false, Option, Some, None, refl, sym, ap, subst, ◌∙◌, append_assoc}
 use Rattle.std.specs.Bool.{Decides}
-use Rattle.std.specs.Str.{bytes_eq}
 use Rattle.std.proofs.lemmas.Slice.Eq.{bytes_eq-Decides}
 use Rattle.sap_formula.proofs.Decided.{args-equal}
 use Rattle.sap_formula.proofs.FactsOf.{facts_below, in_sights, of_sights}
@@ -9,17 +8,16 @@ use Rattle.sap_formula.proofs.Goods.{IsGoodFact, goods_at}
 use Rattle.sap_formula.proofs.Patterns.{Fits, IsCheckedAction, guarded_gives}
 use Rattle.sap_formula.proofs.Members.{any_found, any_here, each_in}
 use Rattle.sap_formula.proofs.Plain.{NormalLaws, IsNormalEnv, args-same}
-use Rattle.sap_formula.proofs.Reading.{Agrees, Ends, Gives, IsFitting, Start, append_none, ends_same}
+use Rattle.sap_formula.proofs.Reading.{Agrees, Ends, Gives, IsFitting, Start, append_none}
 use Rattle.sap_formula.proofs.Tests.{IsIn, decides_all, decides_any}
 use Rattle.sap_formula.specs.Truth.{AnyIn, EachIn, Shows, Times, facts_at}
 use Rattle.sap_formula.specs.code.Ready.{Action, Guard, Held, Place, Sight, atom_of, guarded, guards_of, searched, seen_behind, seen_by, sights, slot_at, with_some}
 use Rattle.sap_formula.specs.declared.binder.Binder.{Binder}
-use Rattle.sap_terms.specs.Choice.{Choice, instances}
+use Rattle.sap_terms.specs.Choice.{Choice}
 use Rattle.sap_terms.specs.Equations.{equations}
 use Rattle.sap_terms.specs.Message.{IsMessageTrace}
 use Rattle.sap_terms.specs.Signature.{Sig}
 use Rattle.sap_terms.specs.Trace.{Trace}
-use Rattle.sap_terms.specs.Tree.{trees_of}
 use Rattle.sap_terms.specs.declared.fact.Fact.{Fact}
 
 -- some choice of a fact for each guard fits, and then the slots hold this

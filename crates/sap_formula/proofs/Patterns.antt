@@ -1,15 +1,14 @@
 -- A pattern matched against a good term, and a guard against a fact.
-use Rattle.std.proofs.Common.{◌≡◌, ℕ, ◌+◌, ◌<◌, List, [], ◌∷◌, ◌++◌, Bool, true, false, length, Option, Some, None, refl, sym, ap, subst, ◌∙◌, if◌then◌else◌, append_assoc}
-use Rattle.std.specs.Prelude.{slice_get}
+use Rattle.std.proofs.Common.{◌≡◌, ℕ, ◌<◌, List, [], ◌∷◌, ◌++◌, Bool, true, false, length, Option, Some, None, refl, sym, ap, subst, ◌∙◌, if◌then◌else◌, append_assoc}
 use Rattle.std.specs.Bool.{Decides}
 use Rattle.std.specs.Str.{bytes_eq}
 use Rattle.std.proofs.lemmas.Slice.Eq.{bytes_eq-Decides}
 use Rattle.sap_formula.proofs.Decided.{decides_tree}
 use Rattle.sap_formula.proofs.Goods.{AreGood, IsGood, IsGoodFact, good_message}
-use Rattle.sap_formula.proofs.Reading.{Agrees, Ends, Gives, IsFitting, Never, Reads, Start, Suits, append_none, ends_same, filled_gives, given_reads, value}
+use Rattle.sap_formula.proofs.Reading.{Ends, Gives, Reads, Start, append_none, ends_same, filled_gives, given_reads}
 use Rattle.sap_formula.specs.Checked.{AreCheckedTerms, IsCheckedTerm, find_binder}
 use Rattle.sap_formula.specs.Truth.{Times}
-use Rattle.sap_formula.specs.code.Ready.{Action, Held, Place, State, atom_of, filled, guarded, held_term, held_time, is_held, marked, marked_all, matched, matched_all, noted, onward, seen_behind, slot_at, taken_by}
+use Rattle.sap_formula.specs.code.Ready.{Action, Held, Place, State, atom_of, filled, guarded, held_term, held_time, marked, marked_all, matched, matched_all, noted, onward, seen_behind, slot_at, taken_by}
 use Rattle.sap_formula.specs.declared.binder.Binder.{Binder}
 use Rattle.sap_formula.specs.declared.binder.Binder.TheVariants.{Message, Time}
 use Rattle.sap_terms.specs.Choice.{Choice, fits_sort, instance, instances}

@@ -1,24 +1,18 @@
 -- What the slots hold once a pattern has been matched.
-use Rattle.std.proofs.Common.{◌≡◌, ℕ, zero, suc, ◌+◌, ◌<◌, List, [], ◌∷◌, ◌++◌, Bool, true, false, length, Option, Some, None, refl, sym, ap, subst, ◌∙◌, ◌⊎◌, inl, inr, if◌then◌else◌, append_assoc, length-append, arith}
-use Rattle.std.specs.Prelude.{slice_get, nat_eq}
-use Rattle.std.specs.Bool.{Decides}
-use Rattle.std.specs.Str.{bytes_eq}
+use Rattle.std.proofs.Common.{◌≡◌, ℕ, zero, suc, ◌+◌, ◌<◌, List, [], ◌∷◌, ◌++◌, Bool, true, false, length, Option, Some, None, refl, sym, ap, subst, ◌∙◌, inl, inr, if◌then◌else◌, length-append, arith}
+use Rattle.std.specs.Prelude.{slice_get}
 use Rattle.std.proofs.lemmas.Bool.Decides.{Decides-eqb}
-use Rattle.std.proofs.lemmas.Slice.Eq.{bytes_eq-Decides}
 use Rattle.sap_formula.proofs.Decided.{decides_tree}
-use Rattle.sap_formula.proofs.Goods.{AreGood, IsGood, good_message}
 use Rattle.sap_formula.proofs.Layers.{slot_cases, slot_kept, slot_next}
-use Rattle.sap_formula.specs.Checked.{AreCheckedTerms, IsCheckedTerm, binder_name, find_binder}
+use Rattle.sap_formula.specs.Checked.{binder_name, find_binder}
 use Rattle.sap_formula.specs.Truth.{Times}
-use Rattle.sap_formula.specs.code.Ready.{Held, Layers, Place, State, filled, held_term, held_time, is_held, marked, marked_all, matched, matched_all, noted, onward, slot_at, slot_count}
+use Rattle.sap_formula.specs.code.Ready.{Held, Place, State, filled, held_term, held_time, is_held, noted, onward, slot_at, slot_count}
 use Rattle.sap_formula.specs.declared.binder.Binder.{Binder}
 use Rattle.sap_formula.specs.declared.binder.Binder.TheVariants.{Message, Time}
-use Rattle.sap_terms.specs.Choice.{Choice, fits_sort, instance, instances}
+use Rattle.sap_terms.specs.Choice.{Choice, fits_sort}
 use Rattle.sap_terms.specs.Message.{IsMessage}
-use Rattle.sap_terms.specs.Same.{same_tree}
 use Rattle.sap_terms.specs.Signature.{Sig}
 use Rattle.sap_terms.specs.Trace.{Trace}
-use Rattle.sap_terms.specs.Tree.{Tree, Trees, apply, fresh, more, none, public, variable}
 use Rattle.sap_terms.specs.declared.var.Var.{Var}
 
 -- lists
@@ -135,8 +129,8 @@ module _ (g : Sig) (tr : Trace) (scope : List Binder) (p : Place) where
             let q : r.0 ≡ value σ τ c = cc in
             r.1 ∙ ap (λ z. Some z) q,
         let x = new_here (slot_count p.outer + length seen) refl in
-        let y = a b (slot_count p.outer + length seen) found (slot_next p seen (binder_name b) free) in
-        cc,
+            let y = a b (slot_count p.outer + length seen) found (slot_next p seen (binder_name b) free) in
+            cc,
       )
 
       new_forth : (σ : Choice) (τ : Times) → Agrees scope (slot_at p seen) held σ τ → h ≡ value σ τ b → Agrees scope (slot_at p (seen ++ binder_name b ∷ [])) (held ++ h ∷ []) σ τ
