@@ -1,14 +1,18 @@
 -- The first part that has a fault.
-use Rattle.std.proofs.Common.{◌≡◌, ℕ, zero, suc, ◌+◌, List, [], ◌∷◌, ◌++◌, Bool, true, false, Option, Some, None, length, drop, map, refl, ap, ◌∙◌, arith}
+use Rattle.std.proofs.Common.{◌≡◌, ℕ, zero, suc, ◌+◌, List, [], ◌∷◌, ◌++◌, Bool, true, false, Option, Some, None, length, drop, take, map, refl, sym, ap, ◌∙◌, append_assoc, arith}
 use Rattle.std.specs.Prelude.{if◌then◌else◌, slice_get}
+use Rattle.std.specs.Option.{option_or}
+use Rattle.std.specs.Str.{bytes_eq}
+use Rattle.sap_terms.specs.Named.{first_named}
+use Rattle.sap_terms.proofs.PlainLaws.Lists.{take_got}
 use Rattle.sap_terms.proofs.PlainLaws.Trees.{item_le-trees_count}
 use Rattle.sap_terms.specs.Signature.{Sig}
 use Rattle.sap_terms.specs.Tree.{Tree, apply, more, trees_of, list_of-trees_of}
 use Rattle.sap_terms.specs.Choice.{Choice, instance, instances}
-use Rattle.sap_formula.specs.Checked.{enter, find_binder}
+use Rattle.sap_formula.specs.Checked.{binder_name, enter, find_binder}
 use Rattle.sap_formula.specs.declared.binder.Binder.{Binder}
 use Rattle.sap_formula.specs.Parts.{Part, symbol, part_name, term_parts, terms_parts}
-use Rattle.sap_formula.specs.code.Tests.{first_name, has_fault, pick}
+use Rattle.sap_formula.specs.code.Tests.{first_name, has_fault}
 use Rattle.sap_formula.specs.declared.fault.FormulaFlaw.{FormulaFlaw}
 
 -- the first of the two
@@ -23,11 +27,26 @@ first-append g r w (p ∷ ps) qs = at (has_fault g r w p) (first-append g r w ps
   at true e = refl
   at false e = e
 
-pub find-picks : (bs scope : List Binder) (n : List ℕ) → find_binder (enter bs scope) n ≡ pick (find_binder scope n) bs n
-find-picks [] scope n = refl
-find-picks (b ∷ bs) scope n = find-picks bs (b ∷ scope) n
+-- the binder of a name among the innermost, else one outside
+pub find-append : (turned scope : List Binder) (n : List ℕ) → find_binder (turned ++ scope) n ≡ option_or (first_named binder_name turned n) (find_binder scope n)
+find-append [] scope n = refl
+find-append (b ∷ bs) scope n = at (bytes_eq (binder_name b) n) (find-append bs scope n) where
+  at : (t : Bool) → find_binder (bs ++ scope) n ≡ option_or (first_named binder_name bs n) (find_binder scope n) → (if t then Some b else find_binder (bs ++ scope) n) ≡ option_or (if t then Some b else first_named binder_name bs n) (find_binder scope n)
+  at true e = refl
+  at false e = e
 
-pub ruleset pick_laws = (find-picks)
+pub ruleset scope_laws = (find-append)
+
+-- the last binder of a quantifier is entered last
+pub enter-push : (bs : List Binder) (b : Binder) (scope : List Binder) → enter (bs ++ b ∷ []) scope ≡ b ∷ enter bs scope
+enter-push [] b scope = refl
+enter-push (c ∷ bs) b scope = enter-push bs b (c ∷ scope)
+
+-- one binder more
+pub entered_more : (bs turned longer : List Binder) (k : ℕ) (b : Binder) → slice_get bs k ≡ Some b → longer ≡ turned ++ b ∷ [] → ((scope : List Binder) → enter bs scope ≡ turned ++ enter (take (k + 1) bs) scope)
+    → (scope : List Binder) → enter bs scope ≡ longer ++ enter (take k bs) scope
+entered_more bs turned longer k b got e i scope =
+    i scope ∙ ap (λ cs. turned ++ enter cs scope) (take_got bs k b got) ∙ ap (λ cs. turned ++ cs) (enter-push (take k bs) b scope) ∙ sym (append_assoc turned (b ∷ []) (enter (take k bs) scope)) ∙ ap (λ cs. cs ++ enter (take k bs) scope) (sym e)
 
 pub or-none : (o : Option (List ℕ)) → or_name o None ≡ o
 or-none None = refl

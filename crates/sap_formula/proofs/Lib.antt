@@ -22,6 +22,8 @@ pub mod SlimPlans
 pub mod Planning
 pub mod PartTests
 pub mod Firsts
+pub mod Elsewhere
+pub mod Guarding
 pub mod Checks
 pub mod Counting
 pub mod OneFault
@@ -30,8 +32,11 @@ pub mod Projections
 pub mod Sights
 pub mod Slots
 pub mod Agreements
+pub mod SearchSteps
+pub mod Rows
 pub mod Walks
 pub mod HiddenBinders
 pub mod Verdicts
 mod SmallFormulas
 pub mod Remakes
+pub mod Marks

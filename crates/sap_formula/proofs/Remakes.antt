@@ -1,5 +1,5 @@
 -- What is made of a formula anew, as the definitions say it.
-use Rattle.std.proofs.Common.{◌≡◌, List, [], ◌∷◌, refl, ap, ap₂, ◌∙◌, map}
+use Rattle.std.proofs.Common.{◌≡◌, List, [], ◌∷◌, refl, ap, ap₂, map}
 use Rattle.sap_formula.specs.Checked.{enter}
 use Rattle.sap_formula.specs.Form.{Form, action, both, earlier, either, equal, equivalent, every, exists, falsity, implies, negation, same_time, truth}
 use Rattle.sap_formula.specs.Slim.{lasts, slim}

@@ -7,7 +7,11 @@ pub mod Walk
 pub mod Ready
 pub mod PlanView
 pub mod Reached
+pub mod PlanSize
+pub mod Laid
+pub mod Quantifying
 pub mod Sighted
+pub mod Rows
 pub mod Environments
 pub mod Picked
 pub mod Quantified

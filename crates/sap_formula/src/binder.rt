@@ -1,5 +1,5 @@
 //! What a quantifier binds.
-use sap_terms::{Copied, Items, Mem, Name, Var};
+use sap_terms::{Copied, HasName, Items, Mem, Name, Var};
 use std::alloc::Global;
 
 /// A variable that a quantifier binds.
@@ -13,6 +13,19 @@ pub enum Binder {
 
 /// The variables of a quantifier, in order.
 pub type Binders = Items<Binder>;
+
+impl HasName for Binder {
+    ghost use Rattle.sap_formula.specs.Checked.{binder_name};
+
+    ghost name_of = { binder_name };
+
+    fn name(&self) -> &Name {
+        match self {
+            Binder::Message(v) => &v.name,
+            Binder::Time(n) => n,
+        }
+    }
+}
 
 impl Copied for Binder {
     fn copy(&self, alloc: Global) -> Result<Binder, Mem> {

@@ -99,7 +99,7 @@ fn first_name(
         which,
     };
     let outside = Scope::Outside;
-    match in_form(&aim, &outside, f) {
+    match in_form(alloc, &aim, &outside, f)? {
         Some(n) => Ok(Some(n.copy(alloc)?)),
         None => Ok(None),
     }

@@ -4,7 +4,7 @@ ghost use Rattle.sap_formula.specs.View.{form};
 ghost use Rattle.sap_formula.specs.code.Remade.{entered, joined, kept, quantified, remade, timed};
 ghost use Rattle.sap_formula.specs.code.Scoped.{binders};
 
-use crate::scope::Scope;
+use crate::scope::{Scope, entered};
 use crate::slimming::lasts;
 use crate::sorting::{sorted_action, sorted_equal};
 use crate::{Binders, Formula};
@@ -70,9 +70,12 @@ fn below(
 ) -> Result<Box<Formula>, Mem>
     ensures { IfOk result (λ r. form r.value ≡ remade how (entered how bs.now (binders scope.now)) (form f.now)) }
 {
-    let inner = Scope::Inside(&*bs, &*scope);
     match how {
-        How::Sorted => remade_box(alloc, how, &inner, f),
+        How::Sorted => {
+            let inside = entered(alloc, bs)?;
+            let inner = Scope::Inside(&inside, &*scope);
+            remade_box(alloc, how, &inner, f)
+        }
         _ => remade_box(alloc, how, scope, f),
     }
 }

@@ -1,51 +1,53 @@
 //! The binders round a part of a formula.
-ghost use Rattle.std.specs.Prelude.{◌≡◌};
+ghost use Rattle.std.specs.Prelude.{◌≡◌, ◌++◌, List, IfOk};
 ghost use Rattle.std.specs.Option.{option_copied};
 ghost use Rattle.sap_formula.specs.code.Scoped.{binders};
-ghost use Rattle.sap_formula.specs.code.Tests.{binds_message, binds_time, pick};
-ghost use Rattle.sap_formula.specs.Checked.{binder_name, find_binder};
+ghost use Rattle.sap_formula.specs.code.Tests.{binds_message, binds_time};
+ghost use Rattle.sap_formula.specs.declared.binder.Binder.{Binder};
+ghost use Rattle.sap_formula.specs.Checked.{binder_name, enter, find_binder};
 
 use crate::{Binder, Binders};
-use sap_terms::{Name, Sort, Var};
+use sap_terms::{Copied, HasName, Mem, Name, Named, Sort, Var};
+use std::alloc::Global;
 
-// The quantifiers round a part of a formula, the innermost first.
+// The quantifiers round a part of a formula, the innermost first. Each has its binders last to first.
 #[derive(Clone, Copy)]
 pub(crate) enum Scope<'a> {
     Outside,
-    Inside(&'a Binders, &'a Scope<'a>),
+    Inside(&'a Named<Binder>, &'a Scope<'a>),
 }
 
 // The name that a binder binds.
 pub(crate) fn binder_name(b: &Binder) -> &Name
     ensures { result.now ≡ binder_name b.now }
 {
-    match b {
-        Binder::Message(v) => &v.name,
-        Binder::Time(n) => n,
-    }
+    b.name()
 }
 
-// The last binder of the name among these, else the one found outside.
-fn pick<'a>(outer: Option<&'a Binder>, bs: &'a Binders, name: &Name) -> Option<&'a Binder>
-    ensures { option_copied result ≡ pick (option_copied outer.entry) bs.now name.now }
+// The binders of a quantifier, last to first, so that the first of a name is its last binder there.
+pub(crate) fn entered(alloc: Global, bs: &Binders) -> Result<Named<Binder>, Mem>
+    ensures { IfOk result (λ turned. (scope : List Binder) → enter bs.now scope ≡ turned ++ scope) }
 {
-    let mut found = outer;
-    for b in bs.as_slice() {
-        if binder_name(b).same(name) {
-            found = Some(b);
-        }
+    let mut turned = Named::new(alloc);
+    let mut k = bs.len();
+    while k > 0 {
+        k -= 1;
+        turned.push(bs.at(k).copy(alloc)?)?;
     }
-    found
+    Ok(turned)
 }
 
 // The innermost binder of the name.
-#[tactic(auto, using(crate::proofs::Firsts::pick_laws))]
+#[tactic(auto, using(crate::proofs::Firsts::scope_laws))]
 pub(crate) fn find_binder<'a>(scope: &'a Scope<'a>, name: &Name) -> Option<&'a Binder>
     ensures { option_copied result ≡ find_binder (binders scope.now) name.now }
 {
     match scope {
         Scope::Outside => None,
-        Scope::Inside(bs, outer) => pick(find_binder(outer, name), bs, name),
+        Scope::Inside(inner, outer) => match inner.named(name) {
+            Some(b) => Some(b),
+            None => find_binder(outer, name),
+        },
     }
 }
 

@@ -1,20 +1,22 @@
 //! The search for the first part that has a fault.
-ghost use Rattle.std.specs.Prelude.{◌≡◌, ◌++◌, [], ◌∷◌, map};
+ghost use Rattle.std.specs.Prelude.{◌≡◌, ◌++◌, [], ◌∷◌, map, IfOk};
 ghost use Rattle.std.specs.Option.{option_copied};
 ghost use Rattle.sap_formula.specs.Parts.{symbol, fact_name, message, time, bound, term_parts, terms_parts, form_parts};
 ghost use Rattle.sap_formula.specs.code.Scoped.{binders};
-ghost use Rattle.sap_formula.specs.code.Tests.{has_fault, first_name};
-ghost use Rattle.sap_formula.specs.Form.{action};
+ghost use Rattle.sap_formula.specs.code.Tests.{has_fault, first_name, first_outside};
+ghost use Rattle.sap_formula.specs.Form.{action, truth as truth_form};
 ghost use Rattle.sap_formula.specs.View.{form};
 ghost use Rattle.sap_terms.specs.Tree.{trees_of};
 ghost use Rattle.sap_terms.specs.View.{tree};
-ghost use Rattle.sap_formula.specs.Checked.{premise};
+ghost use Rattle.sap_formula.specs.Checked.{enter, premise};
 
-use crate::guards::stands;
-use crate::scope::{Scope, binder_name, binds_message, binds_time};
+use crate::guards::guard_names;
+use crate::scope::{Scope, binder_name, binds_message, binds_time, entered};
 use crate::visible::is_hidden;
-use crate::{Binder, Binders, Formula, FormulaFlaw};
-use sap_terms::{Fact, Name, Signature, Term, TermList, Var};
+use crate::{Binders, Formula, FormulaFlaw};
+use indexmap::IndexSet;
+use sap_terms::{Fact, Mem, Name, Signature, Term, TermList, Var};
+use std::alloc::Global;
 
 // What is looked for: a fault under a signature.
 #[derive(Clone, Copy)]
@@ -60,15 +62,6 @@ fn time_has(aim: &Aim<'_>, scope: &Scope<'_>, n: &Name) -> bool
 {
     match aim.which {
         FormulaFlaw::UnboundVar => !binds_time(scope, n),
-        _ => false,
-    }
-}
-
-fn binder_has(aim: &Aim<'_>, f: &Formula, b: &Binder) -> bool
-    ensures { result ≡ has_fault aim.now.sig.now aim.now.reserved aim.now.which (bound (form f.now) b.now) }
-{
-    match aim.which {
-        FormulaFlaw::Unguarded => !stands(binder_name(b), f),
         _ => false,
     }
 }
@@ -142,65 +135,122 @@ fn in_times<'a>(aim: &Aim<'_>, scope: &Scope<'_>, i: &'a Name, j: &'a Name) -> O
     in_time(aim, scope, j)
 }
 
-fn in_binders<'a>(aim: &Aim<'_>, f: &Formula, bs: &'a Binders) -> Option<&'a Name>
-    ensures { option_copied result ≡ first_name aim.now.sig.now aim.now.reserved aim.now.which (map (bound (form f.now)) bs.now) }
+// The name of the first binder that isn't among these.
+fn first_outside<'a>(names: &IndexSet<Name>, bs: &'a Binders) -> Option<&'a Name>
+    ensures { option_copied result ≡ first_outside names.now.keys bs.now }
 {
     for b in bs.as_slice() {
-        if binder_has(aim, f, b) {
-            return Some(binder_name(b));
+        let name = binder_name(b);
+        if !names.contains(name) {
+            return Some(name);
         }
     }
     None
 }
 
-fn in_binders_of_all<'a>(aim: &Aim<'_>, f: &Formula, bs: &'a Binders) -> Option<&'a Name>
-    ensures { option_copied result ≡ first_name aim.now.sig.now aim.now.reserved aim.now.which (map (bound (premise (form f.now))) bs.now) }
+// The name of the first binder that has the fault, where its guards are looked for in f.
+fn in_binders<'a>(
+    alloc: Global,
+    aim: &Aim<'_>,
+    f: &Formula,
+    bs: &'a Binders,
+) -> Result<Option<&'a Name>, Mem>
+    ensures { IfOk result (λ o. option_copied o ≡ first_name aim.now.sig.now aim.now.reserved aim.now.which (map (bound (form f.now)) bs.now)) }
 {
-    match f {
-        Formula::Imp(g, _) => in_binders(aim, g, bs),
-        _ => in_binders(aim, &Formula::True, bs),
+    match aim.which {
+        FormulaFlaw::Unguarded => {
+            let names = guard_names(alloc, f)?;
+            Ok(first_outside(&names, bs))
+        }
+        _ => Ok(None),
     }
 }
 
-// The name of the first part of the formula that has the fault.
-#[tactic(auto, using(crate::proofs::Firsts::first_laws))]
-pub(crate) fn in_form<'a>(aim: &Aim<'_>, scope: &Scope<'_>, f: &'a Formula) -> Option<&'a Name>
-    ensures { option_copied result ≡ first_name aim.now.sig.now aim.now.reserved aim.now.which (form_parts (binders scope.now) (form f.now)) }
+// Where the guards of an `All` over f are looked for; without `==>` in this truth, which has none.
+fn premise<'a>(f: &'a Formula, truth: &'a Formula) -> &'a Formula
+    requires { form truth.now ≡ truth_form }
+    ensures { form result.now ≡ premise (form f.now) }
 {
     match f {
-        Formula::True | Formula::False => None,
-        Formula::Action(h, i) => in_action(aim, scope, h, i),
-        Formula::Equal(s, t) => {
-            match in_term(aim, scope, s) {
-                Some(n) => return Some(n),
-                None => {}
-            }
-            in_term(aim, scope, t)
-        }
-        Formula::Same(i, j) | Formula::Less(i, j) => in_times(aim, scope, i, j),
-        Formula::Not(g) => in_form(aim, scope, g),
+        Formula::Imp(g, _) => g,
+        _ => truth,
+    }
+}
+
+// The same below an `All` over f.
+fn in_binders_of_all<'a>(
+    alloc: Global,
+    aim: &Aim<'_>,
+    f: &Formula,
+    bs: &'a Binders,
+) -> Result<Option<&'a Name>, Mem>
+    ensures { IfOk result (λ o. option_copied o ≡ first_name aim.now.sig.now aim.now.reserved aim.now.which (map (bound (premise (form f.now))) bs.now)) }
+{
+    in_binders(alloc, aim, premise(f, &Formula::True), bs)
+}
+
+#[tactic(auto, using(crate::proofs::Firsts::first_laws))]
+fn in_equal<'a>(aim: &Aim<'_>, scope: &Scope<'_>, s: &'a Term, t: &'a Term) -> Option<&'a Name>
+    ensures { option_copied result ≡ first_name aim.now.sig.now aim.now.reserved aim.now.which (term_parts (binders scope.now) (tree s.now) ++ term_parts (binders scope.now) (tree t.now)) }
+{
+    match in_term(aim, scope, s) {
+        Some(n) => Some(n),
+        None => in_term(aim, scope, t),
+    }
+}
+
+// The name of the first part of the formula that has the fault. It takes time in proportion to the formula, times the
+// quantifiers round its parts where these count.
+#[cycle(in_form)]
+#[tactic(auto, using(crate::proofs::Firsts::first_laws))]
+pub(crate) fn in_form<'a>(
+    alloc: Global,
+    aim: &Aim<'_>,
+    scope: &Scope<'_>,
+    f: &'a Formula,
+) -> Result<Option<&'a Name>, Mem>
+    ensures { IfOk result (λ o. option_copied o ≡ first_name aim.now.sig.now aim.now.reserved aim.now.which (form_parts (binders scope.now) (form f.now))) }
+{
+    match f {
+        Formula::True | Formula::False => Ok(None),
+        Formula::Action(h, i) => Ok(in_action(aim, scope, h, i)),
+        Formula::Equal(s, t) => Ok(in_equal(aim, scope, s, t)),
+        Formula::Same(i, j) | Formula::Less(i, j) => Ok(in_times(aim, scope, i, j)),
+        Formula::Not(g) => in_form(alloc, aim, scope, g),
         Formula::And(g, h) | Formula::Or(g, h) | Formula::Imp(g, h) | Formula::Iff(g, h) => {
-            match in_form(aim, scope, g) {
-                Some(n) => return Some(n),
-                None => {}
+            match in_form(alloc, aim, scope, g)? {
+                Some(n) => Ok(Some(n)),
+                None => in_form(alloc, aim, scope, h),
             }
-            in_form(aim, scope, h)
         }
-        Formula::All(bs, g) => {
-            match in_binders_of_all(aim, g, bs) {
-                Some(n) => return Some(n),
-                None => {}
-            }
-            let inner = Scope::Inside(&*bs, &*scope);
-            in_form(aim, &inner, g)
+        Formula::All(bs, g) => match in_binders_of_all(alloc, aim, g, bs)? {
+            Some(n) => Ok(Some(n)),
+            None => in_body(alloc, aim, scope, bs, g),
+        },
+        Formula::Ex(bs, g) => match in_binders(alloc, aim, g, bs)? {
+            Some(n) => Ok(Some(n)),
+            None => in_body(alloc, aim, scope, bs, g),
+        },
+    }
+}
+
+// What stands below these binders. They count only where an occurrence of a variable can have the fault.
+#[cycle(in_form)]
+fn in_body<'a>(
+    alloc: Global,
+    aim: &Aim<'_>,
+    scope: &Scope<'_>,
+    bs: &Binders,
+    f: &'a Formula,
+) -> Result<Option<&'a Name>, Mem>
+    ensures { IfOk result (λ o. option_copied o ≡ first_name aim.now.sig.now aim.now.reserved aim.now.which (form_parts (enter bs.now (binders scope.now)) (form f.now))) }
+{
+    match aim.which {
+        FormulaFlaw::UnboundVar => {
+            let inside = entered(alloc, bs)?;
+            let inner = Scope::Inside(&inside, &*scope);
+            in_form(alloc, aim, &inner, f)
         }
-        Formula::Ex(bs, g) => {
-            match in_binders(aim, g, bs) {
-                Some(n) => return Some(n),
-                None => {}
-            }
-            let inner = Scope::Inside(&*bs, &*scope);
-            in_form(aim, &inner, g)
-        }
+        _ => in_form(alloc, aim, scope, f),
     }
 }

@@ -1,9 +1,78 @@
 //! The facts of a trace by their names.
-use sap_terms::Fact;
+ghost use Rattle.std.specs.Prelude.{◌≡◌, Some, [], ◌∷◌, IfOk, OnOk, map};
+ghost use Rattle.std.specs.Str.{bytes_eq};
+ghost use Rattle.indexmap.specs.IndexMap.{Updates};
+ghost use Rattle.sap_formula.specs.code.PlanView.{sight};
+ghost use Rattle.sap_formula.specs.code.Ready.{sights, sights_at};
+ghost use Rattle.sap_formula.specs.code.Rows.{Adds, IsOf, if_named, row_of};
+
+use indexmap::IndexMap;
+use sap_terms::{Copied, Fact, FactList, Items, Mem, Name, Trace};
+use std::alloc::Global;
 
 /// A fact of a trace and its time.
 #[derive(Clone, Copy)]
 pub(crate) struct Sighted<'t> {
     pub(crate) time: u64,
     pub(crate) fact: &'t Fact,
+}
+
+/// The facts of a trace by their names.
+pub(crate) type Rows<'t> = IndexMap<Name, Items<Sighted<'t>>>;
+
+// Gives a name without a row one with its first fact.
+fn start_row<'t>(alloc: Global, s: Sighted<'t>, rows: &mut Rows<'t>) -> Result<(), Mem>
+    ensures { OnOk result (Updates bytes_eq rows.old rows.new s.entry.fact.now.name (Some (s.entry ∷ []))) }
+{
+    let mut row = Items::new(alloc);
+    row.push(s)?;
+    let name = s.fact.name.copy(alloc)?;
+    rows.insert(name, row)?;
+    Ok(())
+}
+
+// Puts a fact last in the row of its name.
+fn note<'t>(alloc: Global, s: Sighted<'t>, rows: &mut Rows<'t>) -> Result<(), Mem>
+    ensures { OnOk result (Adds rows.old rows.new (λ n. if_named n s.entry)) }
+{
+    match rows.get_mut(&s.fact.name) {
+        Some(row) => row.push(s),
+        None => start_row(alloc, s, rows),
+    }
+}
+
+// Puts the facts of a time last in their rows.
+fn note_facts<'t>(
+    alloc: Global,
+    time: u64,
+    facts: &'t FactList,
+    rows: &mut Rows<'t>,
+) -> Result<(), Mem>
+    ensures { OnOk result (Adds rows.old rows.new (λ n. sights_at n time facts.now)) }
+{
+    for fact in facts.as_slice() {
+        note(alloc, Sighted { time, fact }, rows)?;
+    }
+    Ok(())
+}
+
+/// Those of the trace, in one pass over it.
+pub(crate) fn rows_of<'t>(alloc: Global, trace: &'t Trace) -> Result<Rows<'t>, Mem>
+    ensures { IfOk result (λ r. IsOf trace.now r) }
+{
+    let mut rows = IndexMap::new(alloc);
+    for k in 0..trace.len() {
+        note_facts(alloc, k, trace.at(k), &mut rows)?;
+    }
+    Ok(rows)
+}
+
+/// The facts of this name, none where it has no row.
+pub(crate) fn facts_in<'a, 't: 'a>(rows: &'a Rows<'t>, name: &Name) -> &'a [Sighted<'a>]
+    ensures { map sight result.now ≡ row_of rows.now name.now }
+{
+    if let Some(row) = rows.get(name) {
+        return row.as_slice();
+    }
+    &[]
 }

@@ -2,12 +2,12 @@
 use crate::notation::{enclosed, facts, first, name, part, tokens_of, trace};
 use crate::page::Page;
 use crate::theories::{add_lemma, add_restriction, begin, mode_of};
-use sap_formula::{Formula, FormulaFault, Verdict, check, judge};
+use sap_formula::{Formula, FormulaFault, ReadyTrace, Verdict, check, cost, judge};
 use sap_read::read_formula;
 use sap_refusals::theory_line;
 use sap_restrict::inline;
 use sap_rule::Theory;
-use sap_terms::Signature;
+use sap_terms::{Mem, Signature, Trace};
 use sap_theory::{TheoryFault, print};
 
 // A fact that may be persistent and have fresh names, at a time: `!F(~n1)@i`.
@@ -86,18 +86,52 @@ pub fn checks_row(page: &mut Page, t: &mut Theory, row: &str) {
     }
 }
 
+// What the judge says.
+fn show_verdict(page: &mut Page, verdict: Result<Verdict, Mem>) {
+    match verdict {
+        Ok(Verdict::Holds) => page.word("holds"),
+        Ok(Verdict::Fails) => page.word("fails"),
+        Ok(Verdict::TooCostly { cost }) => page.numbered("costs ", cost),
+        Err(_) => page.fail(),
+    }
+}
+
 /// The facts of times with bars between them, a formula, and what the judge says.
 pub fn judgements_row(page: &mut Page, t: &mut Theory, row: &str) {
     begin(page, t, "");
     let trace = trace(page, &t.signature, part(row, 0));
     match formula(page, &t.signature, part(row, 1)) {
-        Some(f) => match judge(page.alloc, &f, &trace) {
-            Ok(Verdict::Holds) => page.word("holds"),
-            Ok(Verdict::Fails) => page.word("fails"),
-            Ok(Verdict::TooCostly { cost }) => page.numbered("costs ", cost),
-            Err(_) => page.fail(),
-        },
+        Some(f) => show_verdict(page, judge(page.alloc, &f, &trace)),
         None => page.fail(),
+    }
+}
+
+// What the formula costs on the trace made ready, and on the trace alone; and what the judge says.
+fn show_costs(page: &mut Page, sig: &Signature, trace: &Trace, ready: &ReadyTrace<'_>, text: &str) {
+    match formula(page, sig, text.trim()) {
+        Some(f) => {
+            page.numbered("[", ready.cost(&f));
+            page.numbered(" ", cost(&f, trace));
+            page.word(" ");
+            show_verdict(page, ready.judge(page.alloc, &f));
+            page.word("]");
+        }
+        None => page.fail(),
+    }
+}
+
+/// The facts of times with bars between them, formulas with semicolons between them, and what each costs and the judge says
+/// of it, on the trace made ready once.
+pub fn costs_row(page: &mut Page, t: &mut Theory, row: &str) {
+    begin(page, t, "");
+    let trace = trace(page, &t.signature, part(row, 0));
+    match ReadyTrace::of(page.alloc, &trace) {
+        Ok(ready) => {
+            for text in part(row, 1).split(';') {
+                show_costs(page, &t.signature, &trace, &ready, text);
+            }
+        }
+        Err(_) => page.fail(),
     }
 }
 

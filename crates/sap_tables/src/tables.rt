@@ -47,6 +47,7 @@ fn show_found_above(page: &mut Page, desk: &mut Desk, table: &str, row: &str) {
         "formulas" => formulas::formulas_row(page, &mut desk.theory, row),
         "checks" => formulas::checks_row(page, &mut desk.theory, row),
         "judgements" => formulas::judgements_row(page, &mut desk.theory, row),
+        "costs" => formulas::costs_row(page, &mut desk.theory, row),
         "inlines" => formulas::inlines_row(page, &mut desk.theory, row),
         "guards" => guards::guards_row(page, &mut desk.theory, row),
         "theories" => theories::theories_row(page, &mut desk.theory, row),

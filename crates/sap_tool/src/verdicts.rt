@@ -10,17 +10,34 @@ ghost use Rattle.sap_terms.specs.Signature.{Sig};
 ghost use Rattle.sap_tool.specs.Verdicts.{AreVerdicts, all_judged, judged_lemmas, judged_restrictions, verdict_text, verdict_line};
 ghost use Rattle.sap_tool.specs.code.Verdicts.{Adds, IsLineFor};
 
-use sap_formula::{Formula, Lemma, LemmaList, Restriction, RestrictionList, Verdict, judge};
+use sap_formula::{Formula, Lemma, LemmaList, ReadyTrace, Restriction, RestrictionList, Verdict};
 use sap_terms::{Mem, Name, Trace};
 use sap_text::Text;
 use std::alloc::Global;
 
 /// A line for each restriction, and then for each lemma: whether it is true on the trace, unless that costs too much to say.
+/// The trace is made ready once for all of them.
 pub fn verdicts(
     alloc: Global,
     restrictions: &RestrictionList,
     lemmas: &LemmaList,
     trace: &Trace,
+) -> Result<Text, Mem>
+    ensures { (g : Sig) → IsMessageTrace g trace.now
+        → EachIn (λ (r : RestrictionForm). IsClosed g r.formula) restrictions.now
+        → EachIn (λ (l : LemmaForm). IsClosed g l.formula) lemmas.now
+        → IfOk result (λ text. AreVerdicts g trace.now (all_judged restrictions.now lemmas.now) text) }
+{
+    let ready = ReadyTrace::of(alloc, trace)?;
+    verdicts_on(alloc, restrictions, lemmas, &ready)
+}
+
+/// The same on a trace made ready.
+fn verdicts_on(
+    alloc: Global,
+    restrictions: &RestrictionList,
+    lemmas: &LemmaList,
+    trace: &ReadyTrace<'_>,
 ) -> Result<Text, Mem>
     ensures { (g : Sig) → IsMessageTrace g trace.now
         → EachIn (λ (r : RestrictionForm). IsClosed g r.formula) restrictions.now
@@ -38,7 +55,7 @@ fn push_restrictions(
     text: &mut Text,
     alloc: Global,
     restrictions: &RestrictionList,
-    trace: &Trace,
+    trace: &ReadyTrace<'_>,
 ) -> Result<(), Mem>
     ensures { (g : Sig) → IsMessageTrace g trace.now
         → EachIn (λ (r : RestrictionForm). IsClosed g r.formula) restrictions.now
@@ -55,7 +72,7 @@ fn push_restriction(
     text: &mut Text,
     alloc: Global,
     r: &Restriction,
-    trace: &Trace,
+    trace: &ReadyTrace<'_>,
 ) -> Result<(), Mem>
     ensures { (g : Sig) → IsMessageTrace g trace.now → IsClosed g r.now.formula
         → OnOk result (Adds (IsLineFor g trace.now r.now.name r.now.formula) text.old text.new) }
@@ -64,7 +81,12 @@ fn push_restriction(
 }
 
 /// Puts last the lines of lemmas.
-fn push_lemmas(text: &mut Text, alloc: Global, lemmas: &LemmaList, trace: &Trace) -> Result<(), Mem>
+fn push_lemmas(
+    text: &mut Text,
+    alloc: Global,
+    lemmas: &LemmaList,
+    trace: &ReadyTrace<'_>,
+) -> Result<(), Mem>
     ensures { (g : Sig) → IsMessageTrace g trace.now
         → EachIn (λ (l : LemmaForm). IsClosed g l.formula) lemmas.now
         → OnOk result (Adds (AreVerdicts g trace.now (judged_lemmas lemmas.now)) text.old text.new) }
@@ -76,7 +98,7 @@ fn push_lemmas(text: &mut Text, alloc: Global, lemmas: &LemmaList, trace: &Trace
 }
 
 /// Puts last the line of a lemma.
-fn push_lemma(text: &mut Text, alloc: Global, l: &Lemma, trace: &Trace) -> Result<(), Mem>
+fn push_lemma(text: &mut Text, alloc: Global, l: &Lemma, trace: &ReadyTrace<'_>) -> Result<(), Mem>
     ensures { (g : Sig) → IsMessageTrace g trace.now → IsClosed g l.now.formula
         → OnOk result (Adds (IsLineFor g trace.now l.now.name l.now.formula) text.old text.new) }
 {
@@ -89,12 +111,12 @@ fn push_line(
     alloc: Global,
     name: &Name,
     formula: &Formula,
-    trace: &Trace,
+    trace: &ReadyTrace<'_>,
 ) -> Result<(), Mem>
     ensures { (g : Sig) → IsMessageTrace g trace.now → IsClosed g (form formula.now)
         → OnOk result (Adds (IsLineFor g trace.now name.now (form formula.now)) text.old text.new) }
 {
-    let verdict = judge(alloc, formula, trace)?;
+    let verdict = trace.judge(alloc, formula)?;
     push_verdict(text, name, verdict)
 }
 

@@ -1,5 +1,6 @@
 -- The tests of a part, as the code makes them.
-use Rattle.std.specs.Prelude.{ℕ, Bool, true, false, not, ◌&&◌, ◌||◌, nat_eq, List, [], ◌∷◌, Option, Some, None, if◌then◌else◌}
+use Rattle.std.specs.Prelude.{◌≡◌, ℕ, Bool, true, false, not, ◌&&◌, ◌||◌, nat_eq, List, [], ◌∷◌, Option, Some, None, if◌then◌else◌}
+use Rattle.std.specs.List.{list_any}
 use Rattle.std.specs.Str.{bytes_eq}
 use Rattle.sap_formula.specs.Form.{Form, action, both, earlier, either, equal, equivalent, every, exists, falsity, implies, negation, same_time, truth}
 use Rattle.sap_formula.specs.declared.binder.Binder.{Binder}
@@ -31,11 +32,6 @@ binds_time None = false
 binds_time (Some (Message v)) = false
 binds_time (Some (Time n)) = true
 
--- the last binder of the name among these, else the one found outside
-abbrev pub pick : Option Binder → List Binder → List ℕ → Option Binder
-pick o [] n = o
-pick o (b ∷ bs) n = pick (if bytes_eq (binder_name b) n then Some b else o) bs n
-
 abbrev mutual
   -- a variable of this name stands in the term
   pub stands_in : List ℕ → Tree → Bool
@@ -63,6 +59,15 @@ stands n (implies f g) = false
 stands n (equivalent f g) = false
 stands n (every bs f) = false
 stands n (exists bs f) = false
+
+-- the names are those there were, and those that pass the test
+abbrev pub Adds : (List ℕ → Bool) → List (List ℕ) → List (List ℕ) → Type 0
+Adds p old new = (n : List ℕ) → list_any (bytes_eq n) new ≡ (p n || list_any (bytes_eq n) old)
+
+-- the name of the first binder that isn't among these
+abbrev pub first_outside : List (List ℕ) → List Binder → Option (List ℕ)
+first_outside ns [] = None
+first_outside ns (b ∷ bs) = if list_any (bytes_eq (binder_name b)) ns then first_outside ns bs else Some (binder_name b)
 
 -- the part has the fault
 abbrev pub has_fault : Sig → Bool → FormulaFlaw → Part → Bool

@@ -1,0 +1,91 @@
+-- Slots and marks, as they are laid out one after another.
+use Rattle.std.proofs.Common.{◌≡◌, ℕ, suc, ◌+◌, List, [], ◌∷◌, ◌++◌, Bool, true, false, cond, not, nat_lt, Option, Some, None, ◌||◌, drop, length, map, position, is_some, refl, sym, ap, ◌∙◌, append_assoc, arith, Bor}
+use Rattle.std.specs.Prelude.{if◌then◌else◌, slice_get}
+use Rattle.std.specs.List.{list_any, position_or_len}
+use Rattle.std.specs.Option.{option_copied}
+use Rattle.std.specs.Str.{bytes_eq}
+use Prim.Native.Nat.compare
+use Rattle.std.proofs.lemmas.Bool.{lt-ltb}
+use Rattle.std.proofs.lemmas.Slice.Eq.{bytes_eq-Decides}
+use Rattle.sap_formula.specs.Checked.{binder_name}
+use Rattle.sap_formula.specs.declared.binder.Binder.{Binder}
+use Rattle.sap_formula.specs.code.Ready.{Action, Guard, Place, guards_of, marked, marked_all, seen_behind, seen_by, slot_at, slot_or}
+use Rattle.sap_terms.proofs.PlainLaws.Lists.{drop_got}
+use Rattle.sap_terms.proofs.PlainLaws.Trees.{item_le-trees_count}
+use Rattle.sap_terms.specs.Named.{first_named}
+use Rattle.sap_terms.specs.Trace.{Trace}
+use Rattle.sap_terms.specs.Tree.{Tree, more, trees_of}
+
+-- names are the same both ways round
+same_both : (m n : List ℕ) → bytes_eq m n ≡ bytes_eq n m
+same_both m n = at (bytes_eq m n) (bytes_eq n m) refl refl where
+  at : (a b : Bool) → bytes_eq m n ≡ a → bytes_eq n m ≡ b → a ≡ b
+  at true true e f = refl
+  at false false e f = refl
+  at true false e f = sym ((bytes_eq-Decides n m).1 (sym ((bytes_eq-Decides m n).0 e))) ∙ f
+  at false true e f = sym e ∙ (bytes_eq-Decides m n).1 (sym ((bytes_eq-Decides n m).0 f))
+
+-- a binder of the name is found exactly where the name is bound
+pub found-bound : (bs : List Binder) (n : List ℕ) → is_some (first_named binder_name bs n) ≡ list_any (bytes_eq n) (map binder_name bs)
+found-bound [] n = refl
+found-bound (b ∷ bs) n = rw (same_both n (binder_name b)) (at (bytes_eq (binder_name b) n) (found-bound bs n)) where
+  at : (t : Bool) → is_some (first_named binder_name bs n) ≡ list_any (bytes_eq n) (map binder_name bs) → is_some (if t then Some b else first_named binder_name bs n) ≡ (t || list_any (bytes_eq n) (map binder_name bs))
+  at true e = refl
+  at false e = e
+
+pub copied-is : {T : Type 0} (o : Option (Bor T)) → is_some o ≡ is_some (option_copied o)
+copied-is None = refl
+copied-is (Some x) = refl
+
+-- there is a place exactly where there is such an element
+is_placed : {X : Type 0} (p : X → Bool) (xs : List X) → nat_lt (position_or_len p xs) (length xs) ≡ list_any p xs
+is_placed p [] = refl
+is_placed p (x ∷ xs) = at (p x) (is_placed p xs) where
+  at : (t : Bool) → nat_lt (position_or_len p xs) (length xs) ≡ list_any p xs → nat_lt (cond (not t) (1 + position_or_len p xs) 0) (suc (length xs)) ≡ (t || list_any p xs)
+  at true e = lt-ltb 0 (suc (length xs)) (omega arith)
+  at false e = let one : 1 + position_or_len p xs ≡ suc (position_or_len p xs) = omega arith in rw (one, compare.suc-suc) e
+
+unplaced : {X : Type 0} (p : X → Bool) (xs : List X) → position p xs ≡ None → list_any p xs ≡ false
+unplaced p xs h = at (list_any p xs) (sym (ap (λ t. cond t (Some (position_or_len p xs)) None) (is_placed p xs)) ∙ h) where
+  at : (t : Bool) → cond t (Some (position_or_len p xs)) None ≡ None → t ≡ false
+  at true e = absurd (cc)
+  at false e = refl
+
+-- nor what has no slot among these
+no_slot : (o : Option ℕ) (count : ℕ) (other : Option ℕ) → slot_or o count other ≡ None → o ≡ None
+no_slot None count other h = refl
+no_slot (Some k) count other h = absurd (cc)
+
+pub unseen : (p : Place) (seen : List (List ℕ)) (n : List ℕ) → slot_at p seen n ≡ None → list_any (bytes_eq n) seen ≡ false
+unseen p seen n h = unplaced (bytes_eq n) seen (no_slot (position (bytes_eq n) seen) _ _ h)
+
+-- the terms from index k on
+trees_got : (ts : List Tree) (k : ℕ) (t : Tree) → slice_get ts k ≡ Some t → trees_of (drop k ts) ≡ more t (trees_of (drop (k + 1) ts))
+trees_got ts k t h = ap trees_of (drop_got ts k t h)
+
+pub more_marks : (p : Place) (seen behind : List (List ℕ)) (marks new : List (Option ℕ)) (ts : List Tree) (k : ℕ) (t : Tree) → slice_get ts k ≡ Some t → new ≡ marks ++ (marked p seen t).marks → behind ≡ (marked p seen t).seen
+    → new ++ (marked_all p behind (trees_of (drop (k + 1) ts))).marks ≡ marks ++ (marked_all p seen (trees_of (drop k ts))).marks
+more_marks p seen behind marks new ts k t got e s =
+    let rest = trees_of (drop (k + 1) ts) in
+    ap (λ (m : List (Option ℕ)). m ++ (marked_all p behind rest).marks) e ∙ append_assoc marks (marked p seen t).marks (marked_all p behind rest).marks
+    ∙ ap (λ (b : List (List ℕ)). marks ++ ((marked p seen t).marks ++ (marked_all p b rest).marks)) s ∙ sym (ap (λ us. marks ++ (marked_all p seen us).marks) (trees_got ts k t got))
+
+pub more_seen : (p : Place) (seen behind : List (List ℕ)) (ts : List Tree) (k : ℕ) (t : Tree) → slice_get ts k ≡ Some t → behind ≡ (marked p seen t).seen
+    → (marked_all p behind (trees_of (drop (k + 1) ts))).seen ≡ (marked_all p seen (trees_of (drop k ts))).seen
+more_seen p seen behind ts k t got s =
+    ap (λ (b : List (List ℕ)). (marked_all p b (trees_of (drop (k + 1) ts))).seen) s ∙ sym (ap (λ us. (marked_all p seen us).seen) (trees_got ts k t got))
+
+pub ruleset lay_laws = (item_le-trees_count)
+
+-- the guards from index k on
+pub more_guards : {X : Type 0} (f : X → Action) (tr : Trace) (p : Place) (seen behind : List (List ℕ)) (gs new : List Guard) (xs : List X) (k : ℕ) (x : X) → slice_get xs k ≡ Some x → new ≡ gs ++ guards_of tr p seen (f x ∷ []) → behind ≡ seen_behind p seen (f x)
+    → new ++ guards_of tr p behind (map f (drop (k + 1) xs)) ≡ gs ++ guards_of tr p seen (map f (drop k xs))
+more_guards f tr p seen behind gs new xs k x got e s =
+    let rest = map f (drop (k + 1) xs) in
+    ap (λ (m : List Guard). m ++ guards_of tr p behind rest) e ∙ append_assoc gs (guards_of tr p seen (f x ∷ [])) (guards_of tr p behind rest)
+    ∙ ap (λ (b : List (List ℕ)). gs ++ (guards_of tr p seen (f x ∷ []) ++ guards_of tr p b rest)) s ∙ sym (ap (λ us. gs ++ guards_of tr p seen (map f us)) (drop_got xs k x got))
+
+pub more_seen_by : {X : Type 0} (f : X → Action) (p : Place) (seen behind : List (List ℕ)) (xs : List X) (k : ℕ) (x : X) → slice_get xs k ≡ Some x → behind ≡ seen_behind p seen (f x)
+    → seen_by p behind (map f (drop (k + 1) xs)) ≡ seen_by p seen (map f (drop k xs))
+more_seen_by f p seen behind xs k x got s =
+    ap (λ (b : List (List ℕ)). seen_by p b (map f (drop (k + 1) xs))) s ∙ sym (ap (λ us. seen_by p seen (map f us)) (drop_got xs k x got))

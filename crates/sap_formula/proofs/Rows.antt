@@ -1,0 +1,73 @@
+-- The map of a trace's facts.
+use Rattle.std.proofs.Common.{◌≡◌, ℕ, suc, ◌+◌, List, [], ◌∷◌, ◌++◌, Bool, true, false, Some, cond, drop, length, map, append_assoc, append-nil, refl, sym, ap, subst, ◌∙◌, if◌then◌else◌, arith}
+use Rattle.std.specs.Prelude.{slice_get}
+use Rattle.std.specs.Str.{bytes_eq}
+use Rattle.std.proofs.lemmas.List.{length-append, length-map, map_push}
+use Rattle.std.proofs.lemmas.Slice.Eq.{bytes_eq-Decides}
+use Rattle.indexmap.specs.IndexMap.{IndexMap, get}
+use Rattle.sap_formula.specs.Cost.{time_facts, trace_facts}
+use Rattle.sap_formula.specs.code.PlanView.{sight}
+use Rattle.sap_formula.specs.code.Ready.{sights, sights_at, sights_from}
+use Rattle.sap_formula.specs.code.Rows.{Adds, if_named, in_row, row_of}
+use Rattle.sap_formula.specs.declared.sighted.Sighted.{Sighted}
+use Rattle.sap_terms.proofs.PlainLaws.Lists.{drop_got}
+use Rattle.sap_terms.specs.Trace.{Trace}
+use Rattle.sap_terms.specs.declared.fact.Fact.{Fact}
+
+-- the test of two names doesn't depend on which comes first
+pub test_turned : (m n : List ℕ) → bytes_eq m n ≡ bytes_eq n m
+test_turned m n = by (bytes_eq m n) refl (bytes_eq n m) refl where
+  by : (b : Bool) → bytes_eq m n ≡ b → (d : Bool) → bytes_eq n m ≡ d → bytes_eq m n ≡ bytes_eq n m
+  by true e d h = e ∙ sym ((bytes_eq-Decides n m).1 (sym ((bytes_eq-Decides m n).0 e)))
+  by false e true h = let k = (bytes_eq-Decides m n).1 (sym ((bytes_eq-Decides n m).0 h)) in absurd (cc)
+  by false e false h = e ∙ sym h
+
+-- a fact more in the row of its name
+pub behind_row : {S : Type 0} (old new : IndexMap (List ℕ) (List Sighted) S) (s : Sighted) (row : List Sighted) → get bytes_eq old s.fact.now.name ≡ Some row
+    → ((n : List ℕ) → get bytes_eq new n ≡ cond (bytes_eq s.fact.now.name n) (Some (row ++ s ∷ [])) (get bytes_eq old n)) → Adds old new (λ n. if_named n s)
+behind_row old new s row at after n = by (bytes_eq s.fact.now.name n) refl where
+  name : List ℕ
+  name = s.fact.now.name
+
+  by : (b : Bool) → bytes_eq s.fact.now.name n ≡ b → row_of new n ≡ row_of old n ++ if_named n s
+  by true e =
+      let same : name ≡ n = (bytes_eq-Decides name n).0 e in
+      let here : get bytes_eq new n ≡ Some (row ++ s ∷ []) = after n ∙ ap (λ b. cond b (Some (row ++ s ∷ [])) (get bytes_eq old n)) e in
+      let there : get bytes_eq old n ≡ Some row = subst (λ (m : List ℕ). get bytes_eq old m ≡ Some row) same at in
+      let new_row : row_of new n ≡ map sight row ++ sight s ∷ [] = ap in_row here ∙ map_push sight row s in
+      let old_row : row_of old n ≡ map sight row = ap in_row there in
+      let one : if_named n s ≡ sight s ∷ [] = ap (λ (b : Bool). if b then sight s ∷ [] else []) (test_turned n name ∙ e) in
+      cc
+  by false e =
+      let here : get bytes_eq new n ≡ get bytes_eq old n = after n ∙ ap (λ b. cond b (Some (row ++ s ∷ [])) (get bytes_eq old n)) e in
+      let none : if_named n s ≡ [] = ap (λ (b : Bool). if b then sight s ∷ [] else []) (test_turned n name ∙ e) in
+      ap in_row here ∙ sym (append-nil (row_of old n)) ∙ ap (λ z. row_of old n ++ z) (sym none)
+
+-- one time more
+pub times_more : {S : Type 0} (tr : Trace) (rows more : IndexMap (List ℕ) (List Sighted) S) (k : ℕ) (p : List Fact) → ((n : List ℕ) → sights n tr ≡ row_of rows n ++ sights_from n k (drop k tr))
+    → slice_get tr k ≡ Some p → Adds rows more (λ n. sights_at n k p) → (n : List ℕ) → sights n tr ≡ row_of more n ++ sights_from n (k + 1) (drop (k + 1) tr)
+times_more tr rows more k p i h a n =
+    let rest = sights_from n (k + 1) (drop (k + 1) tr) in
+    i n ∙ ap (λ z. row_of rows n ++ sights_from n k z) (drop_got tr k p h) ∙ sym (append_assoc (row_of rows n) (sights_at n k p) rest) ∙ ap (λ z. z ++ rest) (sym (a n))
+
+none_more : (k l m : ℕ) → k ≡ 0 → l ≡ m → l ≡ k + m
+none_more k l m e h = omega arith
+
+one_more : (k l m : ℕ) → k ≡ 1 → l ≡ m → suc l ≡ k + m
+one_more k l m e h = omega arith
+
+-- how many facts of the name a time has
+counted_at : (n : List ℕ) (k : ℕ) (xs : List Fact) → length (sights_at n k xs) ≡ time_facts n xs
+counted_at n k [] = refl
+counted_at n k (x ∷ xs) = by (bytes_eq n x.name) refl (counted_at n k xs) where
+  by : (b : Bool) → bytes_eq n x.name ≡ b → length (sights_at n k xs) ≡ time_facts n xs → length (if b then record { time = k; fact = x } ∷ sights_at n k xs else sights_at n k xs) ≡ (if bytes_eq x.name n then 1 else 0) + time_facts n xs
+  by true e i = one_more (if bytes_eq x.name n then 1 else 0) (length (sights_at n k xs)) (time_facts n xs) (ap (λ (b : Bool). if b then 1 else 0) (test_turned x.name n ∙ e)) i
+  by false e i = none_more (if bytes_eq x.name n then 1 else 0) (length (sights_at n k xs)) (time_facts n xs) (ap (λ (b : Bool). if b then 1 else 0) (test_turned x.name n ∙ e)) i
+
+counted_from : (n : List ℕ) (k : ℕ) (tr : Trace) → length (sights_from n k tr) ≡ trace_facts n tr
+counted_from n k [] = refl
+counted_from n k (p ∷ tr) = length-append (sights_at n k p) (sights_from n (k + 1) tr) ∙ λ i. counted_at n k p i + counted_from n (k + 1) tr i
+
+-- how many the trace has
+pub counted : (n : List ℕ) (tr : Trace) (row : List Sighted) → map sight row ≡ sights n tr → length row ≡ trace_facts n tr
+counted n tr row e = sym (length-map row sight) ∙ ap length e ∙ counted_from n 0 tr

@@ -1,0 +1,120 @@
+//! Traces made ready for judging.
+ghost use Rattle.std.specs.Prelude.{◌≡◌, ◌^◌, ◌-◌, IfOk, map, min};
+ghost use Rattle.sap_formula.specs.Cost.{form_cost};
+ghost use Rattle.sap_formula.specs.Laws.{IsClosed};
+ghost use Rattle.sap_formula.specs.Verdict.{IsVerdict};
+ghost use Rattle.sap_formula.specs.View.{form};
+ghost use Rattle.sap_formula.specs.code.Answer.{IsAnswer};
+ghost use Rattle.sap_formula.specs.code.PlanView.{sight};
+ghost use Rattle.sap_formula.specs.code.Ready.{sights};
+ghost use Rattle.sap_formula.specs.code.Walk.{judged};
+ghost use Rattle.sap_terms.specs.Message.{IsMessageTrace};
+ghost use Rattle.sap_terms.specs.Signature.{Sig};
+
+use crate::environment::Env;
+use crate::remaking::{How, remade_box};
+use crate::scope::Scope;
+use crate::sighted::{Rows, Sighted, facts_in, rows_of};
+use crate::sightings::table_of;
+use crate::truths::{Scene, holds};
+use crate::tuples::cost_on;
+use crate::{Formula, MOST_COST, Verdict};
+use sap_rewrite::normal_terms_decide;
+use sap_terms::{Mem, Name, Trace, destructors_head_left_sides, leaves_are_normal};
+use std::alloc::Global;
+use std::marker::Model;
+
+/// A trace made ready for judging formulas on it, which contracts see as the trace. It lends the trace, and holds where
+/// the facts of each name stand.
+#[derive(Drop)]
+pub struct ReadyTrace<'t> {
+    trace: &'t Trace,
+    rows: Rows<'t>,
+}
+
+impl<'t> Model for ReadyTrace<'t> {
+    ghost use Rattle.std.specs.Coded.{codes};
+    ghost use Rattle.sap_formula.specs.code.Rows.{IsOf};
+    ghost use Rattle.sap_terms.specs.Codes.{tree_code};
+    ghost use Rattle.sap_terms.specs.Trace.{Trace};
+
+    ghost Value = { Trace };
+
+    ghost coded = { Prim.hlevel (codes, tree_code) };
+
+    ghost view = { λ a. a.trace.now };
+
+    ghost invariant = { λ a. IsOf a.trace.now a.rows };
+}
+
+impl<'t> ReadyTrace<'t> {
+    /// The trace made ready. It takes time in proportion to the number of its times and facts and to the lengths of the
+    /// facts' names; no term is looked at, and no fact copied.
+    pub fn of(alloc: Global, trace: &'t Trace) -> Result<ReadyTrace<'t>, Mem>
+        ensures { IfOk result (λ r. r ≡ trace.now) }
+    {
+        let rows = rows_of(alloc, trace)?;
+        Ok(ReadyTrace { trace, rows })
+    }
+
+    // The trace.
+    pub(crate) fn trace(&self) -> &'t Trace
+        ensures { result.now ≡ self.now }
+    {
+        self.trace
+    }
+
+    // Its facts of this name, in order.
+    pub(crate) fn named<'a>(&'a self, name: &Name) -> &'a [Sighted<'a>]
+        ensures { map sight result.now ≡ sights name.now self.now }
+    {
+        facts_in(&self.rows, name)
+    }
+
+    /// What judging the formula on the trace costs, as `cost` says it. It takes no memory, and time in proportion to the
+    /// formula: how many facts have a name is known, and isn't counted.
+    pub fn cost(&self, f: &Formula) -> u64
+        ensures { result ≡ min (form_cost self.now (form f.now)) (2 ^ 64 - 1) }
+    {
+        cost_on(f, self)
+    }
+
+    /// What the function `judge` says of the formula on the trace.
+    pub fn judge(&self, alloc: Global, f: &Formula) -> Result<Verdict, Mem>
+        ensures { (g : Sig) → IsMessageTrace g self.now → IsClosed g (form f.now) → IfOk result (λ v. IsVerdict g (form f.now) self.now v) }
+    {
+        normal_terms_decide();
+        leaves_are_normal();
+        destructors_head_left_sides();
+        answer(alloc, f, self)
+    }
+}
+
+// Whether the formula is true on the trace.
+#[tactic(auto, using(crate::proofs::Remakes::remade_laws))]
+fn is_true(alloc: Global, f: &Formula, trace: &ReadyTrace<'_>) -> Result<bool, Mem>
+    ensures { IfOk result (λ v. v ≡ judged (form f.now) trace.now) }
+{
+    let nowhere = Scope::Outside;
+    let slim = remade_box(alloc, How::Slim, &nowhere, f)?;
+    let table = table_of(alloc, trace.trace())?;
+    let scene = Scene {
+        trace: trace.trace(),
+        table: &table,
+    };
+    let outside = Env::Outside;
+    Ok(holds(&scene, &slim, &outside))
+}
+
+fn answer(alloc: Global, f: &Formula, trace: &ReadyTrace<'_>) -> Result<Verdict, Mem>
+    ensures { IfOk result (λ v. IsAnswer (form f.now) trace.now v) }
+{
+    let spent = trace.cost(f);
+    if spent > MOST_COST {
+        return Ok(Verdict::TooCostly { cost: spent });
+    }
+    if is_true(alloc, f, trace)? {
+        return Ok(Verdict::Holds);
+    }
+    Ok(Verdict::Fails)
+}

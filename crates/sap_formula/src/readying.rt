@@ -1,0 +1,252 @@
+//! Formulas made ready for a trace.
+ghost use Rattle.std.specs.Prelude.{◌≡◌, [], IfOk, OnOk, Ok, map};
+ghost use Rattle.sap_formula.specs.Form.{action, equal};
+ghost use Rattle.sap_formula.specs.View.{form};
+ghost use Rattle.sap_formula.specs.code.Laid.{action as action_of, layers};
+ghost use Rattle.sap_formula.specs.code.PlanView.{guard, plan};
+ghost use Rattle.sap_formula.specs.code.Quantifying.{beside, connected, guards_over, left_part, quantified, related, right_part};
+ghost use Rattle.sap_formula.specs.code.Ready.{guards_of, inside, left_of_imp, marked, place_of, ready, seen_by, under_and};
+ghost use Rattle.sap_formula.specs.declared.extent.Extent.TheVariants.{Whole};
+ghost use Rattle.sap_terms.specs.View.{tree};
+
+use crate::extent::Extent;
+use crate::laying::{
+    ActionAtom, Levels, Spot, collect, lay, lay_atom, lay_guards, named_binders, slot_in,
+};
+use crate::plan::{GuardPlan, Marks, Plan};
+use crate::{Binders, Formula, ReadyTrace};
+use indexmap::IndexSet;
+use sap_terms::{Fact, Items, Mem, Name, Term};
+use std::alloc::Global;
+
+/// What of the formula is left to test, made ready for the trace, inside these levels. It takes time in
+/// proportion to the formula, times how deep its quantifiers are nested, and recurses as deep as the formula.
+#[cycle(ready)]
+pub(crate) fn ready_box<'a>(
+    alloc: Global,
+    trace: &'a ReadyTrace<'_>,
+    extent: Extent,
+    levels: &Levels<'_>,
+    f: &'a Formula,
+) -> Result<Box<Plan<'a>>, Mem>
+    ensures { IfOk result (λ r. plan r.value ≡ ready trace.now extent (layers levels.now) (form f.now)) }
+{
+    Ok(Box::new(alloc, ready(alloc, trace, extent, levels, f)?)?)
+}
+
+#[cycle(ready)]
+fn ready<'a>(
+    alloc: Global,
+    trace: &'a ReadyTrace<'_>,
+    extent: Extent,
+    levels: &Levels<'_>,
+    f: &'a Formula,
+) -> Result<Plan<'a>, Mem>
+    ensures { IfOk result (λ r. plan r ≡ ready trace.now extent (layers levels.now) (form f.now)) }
+{
+    match f {
+        Formula::True => Ok(Plan::Always(true)),
+        Formula::False => Ok(Plan::Always(false)),
+        Formula::Action(fact, time) => ready_action(alloc, extent, levels, fact, time),
+        Formula::Equal(s, t) => ready_equal(alloc, levels, s, t),
+        Formula::Same(i, j) | Formula::Less(i, j) => related(levels, f, i, j),
+        Formula::Not(g) => Ok(Plan::Not(ready_box(alloc, trace, Extent::Whole, levels, g)?)),
+        Formula::And(g, h) | Formula::Or(g, h) | Formula::Imp(g, h) | Formula::Iff(g, h) => {
+            let two = both(
+                ready_box(alloc, trace, left_part(f, extent), levels, g),
+                ready_box(alloc, trace, right_part(f, extent), levels, h),
+            )?;
+            Ok(connected(f, two))
+        }
+        Formula::All(bs, g) => quantified(alloc, trace, true, levels, bs, g),
+        Formula::Ex(bs, g) => quantified(alloc, trace, false, levels, bs, g),
+    }
+}
+
+// A quantifier over this body, made ready; `every` where it speaks of each value.
+#[cycle(ready)]
+fn quantified<'a>(
+    alloc: Global,
+    trace: &'a ReadyTrace<'_>,
+    every: bool,
+    levels: &Levels<'_>,
+    bs: &Binders,
+    f: &'a Formula,
+) -> Result<Plan<'a>, Mem>
+    ensures { IfOk result (λ r. plan r ≡ quantified trace.now every (layers levels.now) bs.now (form f.now)) }
+{
+    let mut names = IndexSet::new(alloc);
+    let guards = ready_guards(alloc, trace, every, levels, bs, f, &mut names)?;
+    let inner = Levels::Inside(&names, &*levels);
+    let body = ready_box(alloc, trace, beside(every), &inner, f)?;
+    Ok(Plan::Search(every, guards, body))
+}
+
+// Its guards, and in order the names that they give slots.
+fn ready_guards<'a>(
+    alloc: Global,
+    trace: &'a ReadyTrace<'_>,
+    every: bool,
+    levels: &Levels<'_>,
+    bs: &Binders,
+    f: &'a Formula,
+    names: &mut IndexSet<Name>,
+) -> Result<Items<GuardPlan<'a>>, Mem>
+    ensures guards { IfOk result (λ gs. map guard gs ≡ guards_of trace.now (place_of bs.now (layers levels.now)) names.old.keys (guards_over every (form f.now))) }
+    ensures names { OnOk result (names.new.keys ≡ seen_by (place_of bs.now (layers levels.now)) names.old.keys (guards_over every (form f.now))) }
+{
+    let bound = named_binders(alloc, bs)?;
+    let actions = guards_over(alloc, every, f)?;
+    let spot = Spot::Guards(&bound, &*levels);
+    lay_guards(alloc, trace, &spot, names, &actions)
+}
+
+// The action atoms that guard its variables.
+fn guards_over<'a>(alloc: Global, every: bool, f: &'a Formula) -> Result<Items<ActionAtom<'a>>, Mem>
+    ensures { IfOk result (λ xs. map action_of xs ≡ guards_over every (form f.now)) }
+{
+    let mut out = Items::new(alloc);
+    match f {
+        Formula::Imp(g, _) => {
+            if every {
+                collect(g, &mut out)?;
+            }
+        }
+        _ => {
+            if !every {
+                collect(f, &mut out)?;
+            }
+        }
+    }
+    Ok(out)
+}
+
+// How much of the body is left beside them.
+fn beside(every: bool) -> Extent
+    ensures { result ≡ beside every }
+{
+    if every {
+        return Extent::Body;
+    }
+    Extent::Rest
+}
+
+// An action atom, unless it is a guard.
+fn ready_action<'a>(
+    alloc: Global,
+    extent: Extent,
+    levels: &Levels<'_>,
+    fact: &'a Fact,
+    time: &'a Name,
+) -> Result<Plan<'a>, Mem>
+    ensures { IfOk result (λ r. plan r ≡ ready [] extent (layers levels.now) (action fact.now time.now)) }
+{
+    match extent {
+        Extent::Rest => Ok(Plan::Always(true)),
+        _ => {
+            let spot = Spot::Anywhere(&*levels);
+            let mut names = IndexSet::new(alloc);
+            let atom = ActionAtom { fact, time };
+            let laid = lay_atom(alloc, &spot, &mut names, &atom)?;
+            Ok(Plan::Shows(&fact.name, laid))
+        }
+    }
+}
+
+// The occurrences in a term, of variables that have slots.
+fn marks_of(alloc: Global, levels: &Levels<'_>, t: &Term) -> Result<Marks, Mem>
+    ensures { IfOk result (λ ms. ms ≡ (marked (inside (layers levels.now)) [] (tree t.now)).marks) }
+{
+    let spot = Spot::Anywhere(&*levels);
+    let mut names = IndexSet::new(alloc);
+    let mut marks = Marks::new(alloc);
+    lay(alloc, &spot, &mut names, &mut marks, t)?;
+    Ok(marks)
+}
+
+fn ready_equal<'a>(
+    alloc: Global,
+    levels: &Levels<'_>,
+    s: &'a Term,
+    t: &'a Term,
+) -> Result<Plan<'a>, Mem>
+    ensures { IfOk result (λ r. plan r ≡ ready [] Whole (layers levels.now) (equal (tree s.now) (tree t.now))) }
+{
+    let left = marks_of(alloc, levels, s)?;
+    let right = marks_of(alloc, levels, t)?;
+    Ok(Plan::Equals(s, t, left, right))
+}
+
+// The formula's relation between these times.
+fn related<'a>(levels: &Levels<'_>, like: &Formula, i: &Name, j: &Name) -> Result<Plan<'a>, Mem>
+    ensures { IfOk result (λ r. plan r ≡ related (layers levels.now) (form like.now) i.now j.now) }
+{
+    let i = slot_in(levels, i)?;
+    let j = slot_in(levels, j)?;
+    match like {
+        Formula::Same(_, _) => Ok(Plan::AtOnce(i, j)),
+        _ => Ok(Plan::Before(i, j)),
+    }
+}
+
+// Both, where both are there.
+fn both<'a>(
+    left: Result<Box<Plan<'a>>, Mem>,
+    right: Result<Box<Plan<'a>>, Mem>,
+) -> Result<(Box<Plan<'a>>, Box<Plan<'a>>), Mem>
+    ensures { IfOk result (λ two. (left.entry ≡ Ok two.0) × (right.entry ≡ Ok two.1)) }
+{
+    let left = left?;
+    Ok((left, right?))
+}
+
+// The connective of this formula between the two.
+fn connected<'a>(like: &Formula, two: (Box<Plan<'a>>, Box<Plan<'a>>)) -> Plan<'a>
+    ensures { plan result ≡ connected (form like.now) (plan two.entry.0.value) (plan two.entry.1.value) }
+{
+    match like {
+        Formula::And(_, _) => Plan::And(two.0, two.1),
+        Formula::Or(_, _) => Plan::Or(two.0, two.1),
+        Formula::Imp(_, _) => Plan::Imp(two.0, two.1),
+        _ => Plan::Iff(two.0, two.1),
+    }
+}
+
+// How much of its first part is left.
+fn left_part(like: &Formula, extent: Extent) -> Extent
+    ensures { result ≡ left_part (form like.now) extent }
+{
+    match like {
+        Formula::And(_, _) => under_and(extent),
+        Formula::Imp(_, _) => left_of_imp(extent),
+        _ => Extent::Whole,
+    }
+}
+
+// And of its second.
+fn right_part(like: &Formula, extent: Extent) -> Extent
+    ensures { result ≡ right_part (form like.now) extent }
+{
+    match like {
+        Formula::And(_, _) => under_and(extent),
+        _ => Extent::Whole,
+    }
+}
+
+fn under_and(extent: Extent) -> Extent
+    ensures { result ≡ under_and extent }
+{
+    match extent {
+        Extent::Rest => Extent::Rest,
+        _ => Extent::Whole,
+    }
+}
+
+fn left_of_imp(extent: Extent) -> Extent
+    ensures { result ≡ left_of_imp extent }
+{
+    match extent {
+        Extent::Body => Extent::Rest,
+        _ => Extent::Whole,
+    }
+}
