@@ -1,6 +1,6 @@
 -- The tests of atoms made ready decide their truth.
-use Rattle.std.proofs.Common.{◌≡◌, ℕ, ◌+◌, ◌<◌, List, [], ◌∷◌, ◌++◌, Bool, true, false, length, Option, Some, None, refl, sym, ap, subst, ◌∙◌, if◌then◌else◌, append_assoc, arith}
-use Rattle.std.specs.Prelude.{slice_get, ◌&&◌}
+use Rattle.std.proofs.Common.{◌≡◌, ℕ, List, [], ◌∷◌, ◌++◌, Bool, true, false, Option, Some, None, refl, sym, ap, subst, ◌∙◌, if◌then◌else◌, append_assoc, arith}
+use Rattle.std.specs.Prelude.{slice_get}
 use Rattle.std.specs.Bool.{Decides}
 use Rattle.std.specs.List.{AllZip, list_any}
 use Rattle.std.specs.Str.{bytes_eq}
@@ -10,18 +10,18 @@ use Rattle.sap_formula.proofs.Entering.{Here}
 use Rattle.sap_formula.proofs.Goods.{AreGood, IsGood, IsGoodFact, goods_at, message_good}
 use Rattle.sap_formula.proofs.Law.{each_map}
 use Rattle.sap_formula.proofs.Patterns.{matched_all_reads, matched_reads}
-use Rattle.sap_formula.proofs.Plain.{NormalLaws, IsNormalEnv, args-same, fresh-normal, public-normal}
-use Rattle.sap_formula.proofs.Reading.{Agrees, Ends, Reads, Start, Suits, append_none, get_kept, value}
+use Rattle.sap_formula.proofs.Plain.{NormalLaws, args-same, fresh-normal, public-normal}
+use Rattle.sap_formula.proofs.Reading.{Reads, Start, Suits, append_none, get_kept, value}
 use Rattle.sap_formula.proofs.Tests.{decides_and, decides_each_any}
 use Rattle.sap_formula.specs.Checked.{AreCheckedTerms, IsCheckedTerm, binder_name, find_binder}
-use Rattle.sap_formula.specs.Truth.{AnyIn, EachIn, Shows, Times, facts_at}
-use Rattle.sap_formula.specs.code.Ready.{Atom, Held, Layers, Place, State, Two, agreed, agreed_all, atom_of, behind, fits_atom, held_term, held_time, inside, is_there, marked, marked_all, matched, matched_all, next_term, noted, onward, slot_at, slot_count, slot_in, term_in, time_at, time_held}
+use Rattle.sap_formula.specs.Truth.{AnyIn, Shows, Times, facts_at}
+use Rattle.sap_formula.specs.code.Ready.{Held, Layers, State, Two, agreed, agreed_all, atom_of, behind, fits_atom, held_term, inside, is_there, marked, marked_all, matched, matched_all, next_term, noted, onward, slot_at, slot_in, term_in, time_at, time_held}
 use Rattle.sap_formula.specs.declared.binder.Binder.{Binder}
 use Rattle.sap_formula.specs.declared.binder.Binder.TheVariants.{Message, Time}
 use Rattle.sap_terms.specs.Choice.{Choice, instance, instances}
 use Rattle.sap_terms.specs.Equal.{IsTheoryEqual}
 use Rattle.sap_terms.specs.Equations.{equations}
-use Rattle.sap_terms.specs.Message.{IsMessage, IsMessageTrace}
+use Rattle.sap_terms.specs.Message.{IsMessageTrace}
 use Rattle.sap_terms.specs.Signature.{Sig}
 use Rattle.sap_terms.specs.Trace.{Trace}
 use Rattle.sap_terms.specs.Tree.{Tree, Trees, apply, fresh, more, none, public, trees_of, variable}

@@ -1,26 +1,18 @@
 -- The tests of atoms decide their truth.
 use Rattle.std.proofs.Common.{◌≡◌, List, [], ◌∷◌, Bool, true, subst}
 use Rattle.std.specs.Bool.{Decides}
-use Rattle.std.specs.List.{AllZip, list_any}
-use Rattle.std.specs.Str.{bytes_eq}
-use Rattle.std.proofs.lemmas.Slice.Eq.{bytes_eq-Decides}
+use Rattle.std.specs.List.{AllZip}
 use Rattle.sap_terms.specs.Equal.{same as no_step}
-use Rattle.sap_formula.specs.Truth.{AnyIn, EachIn, Shows}
 use Rattle.sap_formula.specs.declared.binder.Binder.{Binder}
-use Rattle.sap_terms.proofs.PlainLaws.Tests.{same_tree-refl, same_tree-sound, same_trees-refl, same_trees-sound}
+use Rattle.sap_terms.proofs.PlainLaws.Tests.{same_tree-refl, same_tree-sound}
 use Rattle.sap_terms.specs.Choice.{Choice, instance, instances}
 use Rattle.sap_terms.specs.Equal.{IsTheoryEqual}
-use Rattle.sap_terms.specs.Same.{same_tree, same_trees}
+use Rattle.sap_terms.specs.Same.{same_tree}
 use Rattle.sap_terms.specs.Signature.{Sig}
 use Rattle.sap_terms.specs.Equations.{Equations, equations}
-use Rattle.sap_terms.specs.Tree.{Tree, Trees, trees_of}
-use Rattle.sap_terms.specs.declared.fact.Fact.{Fact}
-use Rattle.sap_formula.proofs.Goods.{IsGoodFact}
-use Rattle.sap_formula.proofs.Law.{each_map}
-use Rattle.sap_formula.proofs.Plain.{NormalLaws, IsNormalEnv, args-same, plain-normal, same_from_equal}
-use Rattle.sap_formula.proofs.Tests.{decides_and, decides_each_any}
-use Rattle.sap_formula.specs.Checked.{AreCheckedTerms, IsCheckedTerm}
-use Rattle.sap_formula.specs.code.Walk.{fits_fact}
+use Rattle.sap_terms.specs.Tree.{Tree, trees_of}
+use Rattle.sap_formula.proofs.Plain.{NormalLaws, IsNormalEnv, plain-normal, same_from_equal}
+use Rattle.sap_formula.specs.Checked.{IsCheckedTerm}
 
 pub args-equal : (e : Equations) (σ : Choice) (ss ts : List Tree) → instances σ (trees_of ss) ≡ trees_of ts → AllZip (λ s t. IsTheoryEqual e (instance σ s) t) ss ts
 args-equal e σ [] [] h = tt
@@ -31,26 +23,11 @@ args-equal e σ (s ∷ ss) (t ∷ ts) h =
     let q : instances σ (trees_of ss) ≡ trees_of ts = cc in
     (subst (λ u. IsTheoryEqual e (instance σ s) u) p no_step, args-equal e σ ss ts q)
 
-decides_trees : (t u : Trees) → Decides (same_trees t u) (t ≡ u)
-decides_trees t u = (λ h. same_trees-sound t u h, λ e. subst (λ v. same_trees t v ≡ true) e (same_trees-refl t))
-
 pub decides_tree : (t u : Tree) → Decides (same_tree t u) (t ≡ u)
 decides_tree t u = (λ h. same_tree-sound t u h, λ e. subst (λ v. same_tree t v ≡ true) e (same_tree-refl t))
 
 pub along : (b : Bool) (A B : Type 0) → (A → B) → (B → A) → Decides b A → Decides b B
 along b A B f g d = (λ h. f (d.0 h), λ x. d.1 (g x))
-
--- the test of a pattern decides whether the trace's fact is shown by it
-decides_fact : NormalLaws → (g : Sig) (scope : List Binder) (σ : Choice) (f x : Fact) → AreCheckedTerms g scope (trees_of f.args) → IsNormalEnv (equations g) σ → IsGoodFact g x → Decides (fits_fact σ f x) (Shows (equations g) σ f x)
-decides_fact w g scope σ f x c n m =
-    let ts = instances σ (trees_of f.args) in
-    let us = trees_of x.args in
-    decides_and (bytes_eq f.name x.name) (same_trees ts us) (f.name ≡ x.name) (AllZip (λ s t. IsTheoryEqual (equations g) (instance σ s) t) f.args x.args) (bytes_eq-Decides f.name x.name)
-    (along (same_trees ts us) (ts ≡ us) (AllZip (λ s t. IsTheoryEqual (equations g) (instance σ s) t) f.args x.args) (args-equal (equations g) σ f.args x.args) (args-same w g scope σ f.args x.args c n m.2) (decides_trees ts us))
-
-pub action_decides : NormalLaws → (g : Sig) (scope : List Binder) (σ : Choice) (f : Fact) (p : List Fact) → AreCheckedTerms g scope (trees_of f.args) → IsNormalEnv (equations g) σ → EachIn (IsGoodFact g) p → Decides (list_any (fits_fact σ f) p) (AnyIn (Shows (equations g) σ f) p)
-action_decides w g scope σ f p c n m =
-    decides_each_any (fits_fact σ f) (Shows (equations g) σ f) p (each_map (IsGoodFact g) (λ x. Decides (fits_fact σ f x) (Shows (equations g) σ f x)) p (λ x m. decides_fact w g scope σ f x c n m) m)
 
 pub equal_decides : NormalLaws → (g : Sig) (scope : List Binder) (σ : Choice) (s t : Tree) → IsCheckedTerm g scope s → IsCheckedTerm g scope t → IsNormalEnv (equations g) σ → Decides (same_tree (instance σ s) (instance σ t)) (IsTheoryEqual (equations g) (instance σ s) (instance σ t))
 equal_decides w g scope σ s t c d n =

@@ -1,8 +1,8 @@
 -- A quantifier's search decides its truth where the test of its body decides the body's.
-use Rattle.std.proofs.Common.{◌≡◌, ℕ, ◌+◌, ◌<◌, List, [], ◌∷◌, ◌++◌, Bool, true, false, ◌||◌, length, Option, Some, None, refl, sym, ap, subst, ◌∙◌, if◌then◌else◌, arith}
+use Rattle.std.proofs.Common.{◌≡◌, ℕ, ◌<◌, List, [], ◌∷◌, Bool, true, false, ◌||◌, length, Option, Some, None, refl, sym, ap, subst, ◌∙◌, if◌then◌else◌, arith}
 use Rattle.std.specs.Prelude.{slice_get, map}
 use Rattle.std.specs.Bool.{Decides}
-use Rattle.std.specs.List.{list_any, position}
+use Rattle.std.specs.List.{list_any}
 use Rattle.std.specs.Str.{bytes_eq}
 use Rattle.std.proofs.lemmas.Slice.Eq.{bytes_eq-Decides}
 use Rattle.sap_formula.proofs.Filling.{Fill, HasOne, every_at, every_filled, exists_filled, fill_fitting, fill_kept, fill_normal, filled_exists, made}
@@ -10,7 +10,7 @@ use Rattle.sap_formula.proofs.Law.{IsApart, Kept, each_both, entered, found_apar
 use Rattle.sap_formula.proofs.Leading.{IsGuardTrue, Leads, Reached, leads_found, leads_reached, search_all, search_any}
 use Rattle.sap_formula.proofs.Patterns.{IsCheckedAction}
 use Rattle.sap_formula.proofs.Plain.{NormalLaws, IsNormalEnv}
-use Rattle.sap_formula.proofs.Reading.{Agrees, AreFilled, IsFitting, Start, Suits, get_kept, value}
+use Rattle.sap_formula.proofs.Reading.{Agrees, AreFilled, IsFitting, Start, get_kept, value}
 use Rattle.sap_formula.proofs.Layers.{bound_apart, bound_stands, by_slotted, by_stay, same_slots}
 use Rattle.sap_formula.specs.Checked.{AreGuarded, NoTwice, Stands, binder_name, enter, find_binder}
 use Rattle.sap_formula.specs.Form.{Form}
@@ -50,6 +50,7 @@ each_named Q look (b ∷ bs) c i q h e = at (bytes_eq (binder_name c) (binder_na
       subst Q is q.0
   at false d h f = f h
 
+-- before the guards only names that the quantifier doesn't bind have slots, those from outside
 module _ (bs : List Binder) (layers : Layers) (n : List ℕ) (k : ℕ) where
   outside : slot_at (place_of bs layers) [] n ≡ Some k → IsApart bs n × (slot_in layers n ≡ Some k)
   outside h = at (list_any (bytes_eq n) (map binder_name bs)) refl h where
@@ -80,10 +81,12 @@ module _ (w : NormalLaws) (g : Sig) (tr : Trace) (m : IsMessageTrace g tr) (scop
     abbrev later : List (List ℕ)
     later = seen_by (place_of bs layers) [] (guards q)
 
+    -- the look-up behind the guards is that of the body
     look_same : (n : List ℕ) → slot_at (place_of bs layers) later n ≡ slot_in (later ∷ layers) n
     look_same n = same_slots bs layers later n (λ e. by_slotted (place_of bs layers) q [] n (bound_stands bs q n guarded e))
 
-    module _ (out : List Held) (C : Choice → Times → Type 0) (reached : Reached g tr (enter bs scope) (place_of bs layers) [] later held C out) where
+    module _ (out : List Held) (C : Choice → Times → Type 0) (reached : Reached g tr (enter bs scope) (place_of bs layers) later held C out) where
+      -- a binder from outside keeps its slot and its value
       old_slot : (c : Binder) → list_any (bytes_eq (binder_name c)) (map binder_name bs) ≡ false → find_binder (enter bs scope) (binder_name c) ≡ Some c → (k : ℕ) × (slot_at (place_of bs layers) later (binder_name c) ≡ Some k) × (slice_get out k ≡ Some (value σ τ c))
       old_slot c e i =
           let found : find_binder scope (binder_name c) ≡ Some c = sym (found_apart bs scope (binder_name c) (bound_apart bs (binder_name c) e)) ∙ i in
@@ -92,6 +95,7 @@ module _ (w : NormalLaws) (g : Sig) (tr : Trace) (m : IsMessageTrace g tr) (scop
           let x = get_kept held reached.new s.0 (value σ τ c) (here.agrees c s.0 found s.1) in
           (s.0, at, subst (λ z. slice_get z s.0 ≡ Some (value σ τ c)) (sym reached.is) x)
 
+      -- each binder has a slot in the body
       body_slotted : (b : Binder) → find_binder (enter bs scope) (binder_name b) ≡ Some b → (k : ℕ) × (slot_in (later ∷ layers) (binder_name b) ≡ Some k)
       body_slotted b i = in_case (list_any (bytes_eq (binder_name b)) (map binder_name bs)) refl where
         in_case : (r : Bool) → list_any (bytes_eq (binder_name b)) (map binder_name bs) ≡ r → (k : ℕ) × (slot_in (later ∷ layers) (binder_name b) ≡ Some k)
@@ -115,13 +119,15 @@ module _ (w : NormalLaws) (g : Sig) (tr : Trace) (m : IsMessageTrace g tr) (scop
       abbrev Holds : Binder → Held → Type 0
       Holds b h = (k : ℕ) → slot_at (place_of bs layers) later (binder_name b) ≡ Some k → slice_get out k ≡ Some h
 
+      -- each binder of the quantifier has a slot that holds what suits it
       each_held : EachIn (HasOne g tr Holds) bs
       each_held =
           each_both (λ b. find_binder (enter bs scope) (binder_name b) ≡ Some b) (λ b. Stands (binder_name b) q) (HasOne g tr Holds) bs (λ b i s.
-              let t = by_slotted (place_of bs layers) q [] (binder_name b) s in
-              let r = reached.start.filled b t.0 i t.1 in
-              (r.0, r.2, λ k e. let t1 = t.1 in let same : t.0 ≡ k = cc in subst (λ j. slice_get out j ≡ Some r.0) same r.1)) (entered bs scope once) guarded
+          let t = by_slotted (place_of bs layers) q [] (binder_name b) s in
+          let r = reached.start.filled b t.0 i t.1 in
+          (r.0, r.2, λ k e. let t1 = t.1 in let same : t.0 ≡ k = cc in subst (λ j. slice_get out j ≡ Some r.0) same r.1)) (entered bs scope once) guarded
 
+      -- and values that are those agree with all slots
       held_agree : (σ' : Choice) (τ' : Times) → Kept bs σ τ σ' τ' → EachIn (λ b. Holds b (value σ' τ' b)) bs → Agrees (enter bs scope) (slot_at (place_of bs layers) later) out σ' τ'
       held_agree σ' τ' kept h c k i e = in_case (list_any (bytes_eq (binder_name c)) (map binder_name bs)) refl where
         in_case : (r : Bool) → list_any (bytes_eq (binder_name c)) (map binder_name bs) ≡ r → slice_get out k ≡ Some (value σ' τ' c)
@@ -133,7 +139,8 @@ module _ (w : NormalLaws) (g : Sig) (tr : Trace) (m : IsMessageTrace g tr) (scop
             subst (λ j. slice_get out j ≡ Some (value σ τ c)) same s.2 ∙ ap (λ z. Some z) (same_value bs σ τ σ' τ' kept c (bound_apart bs (binder_name c) d))
 
     module _ (checked : EachIn (IsCheckedAction g (enter bs scope)) (guards q)) (leaf : List Held → Bool) (B : Choice → Times → Type 0) (decides : (out : List Held) (σ' : Choice) (τ' : Times) → Here g tr (enter bs scope) (later ∷ layers) out σ' τ' → EachIn (IsGuardTrue g tr σ' τ') (guards q) → Decides (leaf out) (B σ' τ')) where
-      reach : (out : List Held) → Leads (guards_of tr (place_of bs layers) [] (guards q)) held out → Reached g tr (enter bs scope) (place_of bs layers) [] later held (λ σ τ. EachIn (IsGuardTrue g tr σ τ) (guards q)) out
+      -- what is known where something is reached
+      reach : (out : List Held) → Leads (guards_of tr (place_of bs layers) [] (guards q)) held out → Reached g tr (enter bs scope) (place_of bs layers) later held (λ σ τ. EachIn (IsGuardTrue g tr σ τ) (guards q)) out
       reach out l = leads_reached w g tr m (enter bs scope) (place_of bs layers) (guards q) checked [] held out enter_start l
 
       -- where something is reached the body is decided for some values

@@ -1,5 +1,5 @@
 -- The facts of a name are those of the trace.
-use Rattle.std.proofs.Common.{◌≡◌, ℕ, zero, suc, ◌+◌, ◌<◌, List, [], ◌∷◌, ◌++◌, Bool, true, false, length, refl, sym, ap, subst, ◌∙◌, inl, inr, if◌then◌else◌, arith}
+use Rattle.std.proofs.Common.{◌≡◌, ℕ, zero, suc, ◌+◌, ◌<◌, List, [], ◌∷◌, true, false, length, refl, sym, ap, subst, ◌∙◌, inl, inr, if◌then◌else◌, arith}
 use Rattle.std.specs.Str.{bytes_eq}
 use Rattle.std.proofs.lemmas.Slice.Eq.{bytes_eq-Decides}
 use Rattle.sap_formula.proofs.Members.{any_cases, any_left, any_right}
@@ -66,4 +66,3 @@ of_sights n tr s i =
     let q = from_of n 0 tr s i in
     let e : q.index ≡ s.time = omega (arith, q.time_is) in
     (subst (λ k. k < length tr) e q.below, subst (λ k. IsIn (facts_at tr k) s.fact) e q.there, q.named)
-

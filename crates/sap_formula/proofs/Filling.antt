@@ -1,11 +1,10 @@
 -- Values of a quantifier's binders, chosen one after another.
-use Rattle.std.proofs.Common.{◌≡◌, ℕ, ◌<◌, List, [], ◌∷◌, Bool, true, false, length, Option, Some, refl, sym, ap, subst, ◌∙◌, if◌then◌else◌}
+use Rattle.std.proofs.Common.{◌≡◌, ℕ, ◌<◌, List, [], ◌∷◌, true, false, length, Some, refl, sym, ap, subst, ◌∙◌, if◌then◌else◌}
 use Rattle.std.specs.Str.{bytes_eq}
-use Rattle.std.proofs.lemmas.Slice.Eq.{bytes_eq-Decides}
 use Rattle.sap_formula.proofs.Law.{Kept, bound_here, kept_message, kept_time, normal_bind, time_here}
 use Rattle.sap_formula.proofs.Plain.{IsNormalEnv}
 use Rattle.sap_formula.proofs.Reading.{IsFitting, Suits, value}
-use Rattle.sap_formula.specs.Checked.{NoTwice, binder_name, enter, find_binder}
+use Rattle.sap_formula.specs.Checked.{NoTwice, enter, find_binder}
 use Rattle.sap_formula.specs.Truth.{EachIn, Every, Exists, Times, bind, stamp}
 use Rattle.sap_formula.specs.code.Ready.{Held, held_term, held_time}
 use Rattle.sap_formula.specs.declared.binder.Binder.{Binder}
@@ -81,6 +80,7 @@ abbrev pub HasOne : Sig → Trace → (Binder → Held → Type 0) → Binder �
 HasOne g tr R b = (h : Held) × Suits g tr b h × R b h
 
 module _ (g : Sig) (tr : Trace) (R : Binder → Held → Type 0) where
+  -- values of all of them, one after another
   abbrev pub IsMade : List Binder → Choice → Times → Type 0
   IsMade bs σ τ = (σ' : Choice) × (τ' : Times) × Fill (IsMessage g) (λ k. k < length tr) bs σ τ σ' τ' × EachIn (λ b. R b (value σ' τ' b)) bs
 

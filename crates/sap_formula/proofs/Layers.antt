@@ -1,14 +1,14 @@
 -- Which names have slots where a quantifier's guards stand, and which ones.
-use Rattle.std.proofs.Common.{◌≡◌, ℕ, ◌+◌, List, [], ◌∷◌, ◌++◌, Bool, true, false, ◌||◌, length, Option, Some, None, refl, sym, ap, subst, ◌∙◌, ◌⊎◌, inl, inr, if◌then◌else◌, append_assoc, arith}
+use Rattle.std.proofs.Common.{◌≡◌, ℕ, ◌+◌, List, [], ◌∷◌, ◌++◌, Bool, true, false, ◌||◌, length, Option, Some, None, refl, sym, ap, subst, ◌∙◌, ◌⊎◌, inl, inr, if◌then◌else◌, arith}
 use Rattle.std.specs.Prelude.{cond, map}
 use Rattle.std.specs.List.{list_any, position, position_from}
 use Rattle.std.specs.Str.{bytes_eq}
 use Rattle.std.proofs.lemmas.Iterator.Adapters.{position_from-zero}
 use Rattle.std.proofs.lemmas.Slice.Eq.{bytes_eq-Decides}
-use Rattle.sap_formula.proofs.Law.{IsApart, other}
+use Rattle.sap_formula.proofs.Law.{IsApart}
 use Rattle.sap_formula.specs.Checked.{AreGuarded, Stands, StandsIn, StandsInAny, binder_name}
 use Rattle.sap_formula.specs.Form.{Form, action, both, earlier, either, equal, equivalent, every, exists, falsity, implies, negation, same_time, truth}
-use Rattle.sap_formula.specs.code.Ready.{Action, Layers, Place, guards, inside, marked, marked_all, noted, place_of, seen_behind, seen_by, slot_at, slot_count, slot_in, slot_or}
+use Rattle.sap_formula.specs.code.Ready.{Action, Layers, Place, guards, marked, marked_all, noted, place_of, seen_behind, seen_by, slot_at, slot_count, slot_in, slot_or}
 use Rattle.sap_formula.specs.declared.binder.Binder.{Binder}
 use Rattle.sap_terms.specs.Tree.{Tree, Trees, apply, fresh, more, none, public, trees_of, variable}
 

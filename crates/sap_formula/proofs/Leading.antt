@@ -1,7 +1,6 @@
 -- What a search through the facts that fit guards reaches.
-use Rattle.std.proofs.Common.{◌≡◌, ℕ, ◌+◌, ◌<◌, List, [], ◌∷◌, ◌++◌, Bool, true, false, length, Option, Some, None, refl, sym, ap, subst, ◌∙◌, inl, inr, append_assoc}
+use Rattle.std.proofs.Common.{◌≡◌, ℕ, List, [], ◌∷◌, ◌++◌, Bool, true, false, Option, Some, None, refl, sym, ap, subst, ◌∙◌, append_assoc}
 use Rattle.std.specs.Bool.{Decides}
-use Rattle.std.specs.Str.{bytes_eq}
 use Rattle.std.proofs.lemmas.Slice.Eq.{bytes_eq-Decides}
 use Rattle.sap_formula.proofs.Decided.{args-equal}
 use Rattle.sap_formula.proofs.FactsOf.{facts_below, in_sights, of_sights}
@@ -9,17 +8,16 @@ use Rattle.sap_formula.proofs.Goods.{IsGoodFact, goods_at}
 use Rattle.sap_formula.proofs.Patterns.{Fits, IsCheckedAction, guarded_gives}
 use Rattle.sap_formula.proofs.Members.{any_found, any_here, each_in}
 use Rattle.sap_formula.proofs.Plain.{NormalLaws, IsNormalEnv, args-same}
-use Rattle.sap_formula.proofs.Reading.{Agrees, Ends, Gives, IsFitting, Start, append_none, ends_same}
+use Rattle.sap_formula.proofs.Reading.{Agrees, Ends, Gives, IsFitting, Start, append_none}
 use Rattle.sap_formula.proofs.Tests.{IsIn, decides_all, decides_any}
 use Rattle.sap_formula.specs.Truth.{AnyIn, EachIn, Shows, Times, facts_at}
 use Rattle.sap_formula.specs.code.Ready.{Action, Guard, Held, Place, Sight, atom_of, guarded, guards_of, searched, seen_behind, seen_by, sights, slot_at, with_some}
 use Rattle.sap_formula.specs.declared.binder.Binder.{Binder}
-use Rattle.sap_terms.specs.Choice.{Choice, instances}
+use Rattle.sap_terms.specs.Choice.{Choice}
 use Rattle.sap_terms.specs.Equations.{equations}
 use Rattle.sap_terms.specs.Message.{IsMessageTrace}
 use Rattle.sap_terms.specs.Signature.{Sig}
 use Rattle.sap_terms.specs.Trace.{Trace}
-use Rattle.sap_terms.specs.Tree.{trees_of}
 use Rattle.sap_terms.specs.declared.fact.Fact.{Fact}
 
 -- some choice of a fact for each guard fits, and then the slots hold this
@@ -27,6 +25,7 @@ abbrev pub Leads : List Guard → List Held → List Held → Type 0
 Leads [] held out = held ≡ out
 Leads (d ∷ ds) held out = (s : Sight) × IsIn d.facts s × (mid : List Held) × (guarded d.atom s.fact s.time held ≡ Some mid) × Leads ds mid out
 
+-- a choice is reached that passes, and each that is reached passes
 abbrev IsReached : List Guard → (List Held → Bool) → List Held → Type 0
 IsReached ds leaf held = (out : List Held) × Leads ds held out × (leaf out ≡ true)
 
@@ -74,7 +73,7 @@ abbrev pub IsGuardTrue : Sig → Trace → Choice → Times → Action → Type 
 IsGuardTrue g tr σ τ a = AnyIn (Shows (equations g) σ a.pattern) (facts_at tr (τ a.time))
 
 -- what is known of the slots that a search reaches
-pub record Reached (g : Sig) (tr : Trace) (scope : List Binder) (p : Place) (seen later : List (List ℕ)) (held : List Held) (C : Choice → Times → Type 0) (out : List Held) : Type 0 where
+pub record Reached (g : Sig) (tr : Trace) (scope : List Binder) (p : Place) (later : List (List ℕ)) (held : List Held) (C : Choice → Times → Type 0) (out : List Held) : Type 0 where
   pub new : List Held
   pub is : out ≡ held ++ new
   pub start : Start g tr scope p later out
@@ -90,6 +89,7 @@ module _ (w : NormalLaws) (g : Sig) (tr : Trace) (m : IsMessageTrace g tr) (scop
       let there = any_here (Shows (equations g) σ a.pattern) (facts_at tr s.time) s.fact r.1 (r.2, args-equal (equations g) σ a.pattern.args s.fact.args f.0) in
       subst (λ k. AnyIn (Shows (equations g) σ a.pattern) (facts_at tr k)) (sym f.1) there
 
+  -- values that agree with what is reached agree with what was there
   agrees_mid : (xs : List Action) → EachIn (IsCheckedAction g scope) xs → (seen : List (List ℕ)) (held out : List Held) → Start g tr scope p seen held → Leads (guards_of tr p seen xs) held out → (σ : Choice) (τ : Times) → Agrees scope (slot_at p (seen_by p seen xs)) out σ τ → Agrees scope (slot_at p seen) held σ τ
   agrees_mid [] c seen held out start e σ τ b = subst (λ z. Agrees scope (slot_at p seen) z σ τ) (sym e) b
   agrees_mid (a ∷ xs) c seen held out start (s, i, mid, e, l) σ τ b =
@@ -99,7 +99,7 @@ module _ (w : NormalLaws) (g : Sig) (tr : Trace) (m : IsMessageTrace g tr) (scop
       (first.back σ τ (agrees_mid xs c.1 (seen_behind p seen a) mid out first.start l σ τ b)).0
 
   -- under values that agree with what is reached the guards hold
-  pub leads_reached : (xs : List Action) → EachIn (IsCheckedAction g scope) xs → (seen : List (List ℕ)) (held out : List Held) → Start g tr scope p seen held → Leads (guards_of tr p seen xs) held out → Reached g tr scope p seen (seen_by p seen xs) held (λ σ τ. EachIn (IsGuardTrue g tr σ τ) xs) out
+  pub leads_reached : (xs : List Action) → EachIn (IsCheckedAction g scope) xs → (seen : List (List ℕ)) (held out : List Held) → Start g tr scope p seen held → Leads (guards_of tr p seen xs) held out → Reached g tr scope p (seen_by p seen xs) held (λ σ τ. EachIn (IsGuardTrue g tr σ τ) xs) out
   leads_reached [] c seen held out start e = record {
     new = [];
     is = sym e ∙ append_none held;
@@ -120,6 +120,7 @@ module _ (w : NormalLaws) (g : Sig) (tr : Trace) (m : IsMessageTrace g tr) (scop
 
   -- under values that make the guards true something is reached that agrees with them
   module _ (σ : Choice) (τ : Times) (n : IsNormalEnv (equations g) σ) (fit : IsFitting scope σ) where
+    -- some choice is reached that agrees with these values
     abbrev IsFound : List Action → List (List ℕ) → List Held → Type 0
     IsFound xs seen held = (out : List Held) × Leads (guards_of tr p seen xs) held out × Agrees scope (slot_at p (seen_by p seen xs)) out σ τ
 

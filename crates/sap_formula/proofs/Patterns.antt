@@ -1,15 +1,14 @@
 -- A pattern matched against a good term, and a guard against a fact.
-use Rattle.std.proofs.Common.{◌≡◌, ℕ, ◌+◌, ◌<◌, List, [], ◌∷◌, ◌++◌, Bool, true, false, length, Option, Some, None, refl, sym, ap, subst, ◌∙◌, if◌then◌else◌, append_assoc}
-use Rattle.std.specs.Prelude.{slice_get}
+use Rattle.std.proofs.Common.{◌≡◌, ℕ, ◌<◌, List, [], ◌∷◌, ◌++◌, Bool, true, false, length, Option, Some, None, refl, sym, ap, subst, ◌∙◌, if◌then◌else◌, append_assoc}
 use Rattle.std.specs.Bool.{Decides}
 use Rattle.std.specs.Str.{bytes_eq}
 use Rattle.std.proofs.lemmas.Slice.Eq.{bytes_eq-Decides}
 use Rattle.sap_formula.proofs.Decided.{decides_tree}
 use Rattle.sap_formula.proofs.Goods.{AreGood, IsGood, IsGoodFact, good_message}
-use Rattle.sap_formula.proofs.Reading.{Agrees, Ends, Gives, IsFitting, Never, Reads, Start, Suits, append_none, ends_same, taken_reads, value}
+use Rattle.sap_formula.proofs.Reading.{Ends, Gives, Reads, Start, append_none, ends_same, filled_gives, given_reads}
 use Rattle.sap_formula.specs.Checked.{AreCheckedTerms, IsCheckedTerm, find_binder}
 use Rattle.sap_formula.specs.Truth.{Times}
-use Rattle.sap_formula.specs.code.Ready.{Action, Held, Place, State, atom_of, guarded, held_term, held_time, is_held, marked, marked_all, matched, matched_all, noted, onward, seen_behind, slot_at, taken_by, timed}
+use Rattle.sap_formula.specs.code.Ready.{Action, Held, Place, State, atom_of, filled, guarded, held_term, held_time, marked, marked_all, matched, matched_all, noted, onward, seen_behind, slot_at, taken_by}
 use Rattle.sap_formula.specs.declared.binder.Binder.{Binder}
 use Rattle.sap_formula.specs.declared.binder.Binder.TheVariants.{Message, Time}
 use Rattle.sap_terms.specs.Choice.{Choice, fits_sort, instance, instances}
@@ -71,10 +70,11 @@ module _ (g : Sig) (tr : Trace) (scope : List Binder) (p : Place) where
   mutual
     pub matched_reads : (q : Tree) → IsCheckedTerm g scope q → (t : Tree) → IsGood g t → (seen : List (List ℕ)) (s : State) (rest : List (Option ℕ)) → s.marks ≡ (marked p seen q).marks ++ rest → Start g tr scope p seen s.held → Reads g tr scope p seen (marked p seen q).seen s.held rest (λ σ τ. instance σ q ≡ t) (matched q t s)
     matched_reads (variable v) c t d seen s rest e start =
-        let r = taken_reads g tr scope p (Message v) c seen s.held start (held_term t) (fits_sort v.sort t) (λ x. good_message g v.sort t d x) (λ σ τ fit x. let y : σ v ≡ t = cc in subst (λ z. fits_sort v.sort z ≡ true) y (fit v c)) rest in
-        let o = taken_by (slot_at p seen v.name ∷ rest) s.held (held_term t) (fits_sort v.sort t) in
+        let o = filled (slot_at p seen v.name) (held_term t) (fits_sort v.sort t) s.held in
+        let r = filled_gives g tr scope p (Message v) c seen s.held start (held_term t) (fits_sort v.sort t) (λ x. good_message g v.sort t d x) (λ σ τ fit x. let y : σ v ≡ t = cc in subst (λ z. fits_sort v.sort z ≡ true) y (fit v c)) in
         subst (λ z. Reads g tr scope p seen (marked p seen (variable v)).seen s.held rest (λ σ τ. σ v ≡ t) (taken_by z s.held (held_term t) (fits_sort v.sort t))) (sym e)
-        (reads_map seen (marked p seen (variable v)).seen s.held rest (λ σ τ. held_term t ≡ held_term (σ v)) (λ σ τ. σ v ≡ t) (taken_by (slot_at p seen v.name ∷ rest) s.held (held_term t) (fits_sort v.sort t)) (λ σ τ x. cc) (λ σ τ x. ap (λ z. held_term z) (sym x)) r)
+        (reads_map seen (marked p seen (variable v)).seen s.held rest (λ σ τ. held_term t ≡ held_term (σ v)) (λ σ τ. σ v ≡ t) (taken_by (slot_at p seen v.name ∷ rest) s.held (held_term t) (fits_sort v.sort t)) (λ σ τ x. cc) (λ σ τ x. ap (λ z. held_term z) (sym x))
+        (given_reads g tr scope p seen (marked p seen (variable v)).seen s.held rest (λ σ τ. held_term t ≡ held_term (σ v)) o r))
     matched_reads (public n) c t d seen s rest e start = reads_leaf seen s rest (public n) t e start
     matched_reads (fresh k) c t d seen s rest e start = reads_leaf seen s rest (fresh k) t e start
     matched_reads (apply f qs) c (apply h ts) d seen s rest e start =
@@ -97,21 +97,14 @@ module _ (g : Sig) (tr : Trace) (scope : List Binder) (p : Place) where
         reads_map seen later s.held rest (λ σ τ. (instance σ q ≡ t) × (instances σ qs ≡ ts)) (λ σ τ. more (instance σ q) (instances σ qs) ≡ more t ts) (onward (matched q t s) (matched_all qs ts)) (λ σ τ x. λ i. more (x.0 i) (x.1 i)) (λ σ τ x. (cc, cc))
         (reads_then seen mid later s.held (marks ++ rest) rest (λ σ τ. instance σ q ≡ t) (λ σ τ. instances σ qs ≡ ts) (matched q t s) (matched_all qs ts) first (λ u m k. matched_all_reads qs c.1 ts (d.0.1, d.1.1, d.2.1) mid u rest m k))
 
+  gives_map : (seen later : List (List ℕ)) (held : List Held) (B C : Choice → Times → Type 0) (o : Option (List Held)) → ((σ : Choice) (τ : Times) → B σ τ → C σ τ) → ((σ : Choice) (τ : Times) → C σ τ → B σ τ) → Gives g tr scope p seen later held B o → Gives g tr scope p seen later held C o
+  gives_map seen later held B C None f h r = λ σ τ fit a c. r σ τ fit a (h σ τ c)
+  gives_map seen later held B C (Some out) f h r = ends_map seen later held B C out f h r
+
   -- the time of a guard
-  timed_gives : (m : List ℕ) → find_binder scope m ≡ Some (Time m) → (k : ℕ) → k < length tr → (seen : List (List ℕ)) (held : List Held) → Start g tr scope p seen held → Gives g tr scope p seen (noted (slot_at p seen m) seen m) held (λ σ τ. τ m ≡ k) (timed (slot_at p seen m) k held)
-  timed_gives m found k below seen held start = at (slot_at p seen m) (taken_reads g tr scope p (Time m) found seen held start (held_time k) true (λ x. below) (λ σ τ fit x. refl) []) where
-    C : Choice → Times → Type 0
-    C = λ σ τ. held_time k ≡ held_time (τ m)
-
-    D : Choice → Times → Type 0
-    D = λ σ τ. τ m ≡ k
-
-    at : (o : Option ℕ) → Reads g tr scope p seen (noted o seen m) held [] (λ σ τ. held_time k ≡ held_time (τ m)) (taken_by (o ∷ []) held (held_time k) true) → Gives g tr scope p seen (noted o seen m) held (λ σ τ. τ m ≡ k) (timed o k held)
-    at None r = ends_map seen (noted None seen m) held (λ σ τ. held_time k ≡ held_time (τ m)) (λ σ τ. τ m ≡ k) (held ++ held_time k ∷ []) (λ σ τ x. cc) (λ σ τ x. ap (λ z. held_time z) (sym x)) r.1
-    at (Some j) r = in_case (is_held (slice_get held j) (held_time k)) r where
-      in_case : (b : Bool) → Reads g tr scope p seen seen held [] (λ σ τ. held_time k ≡ held_time (τ m)) (if b then Some (record { marks = []; held = held }) else None) → Gives g tr scope p seen seen held (λ σ τ. τ m ≡ k) (if b then Some held else None)
-      in_case true r = ends_map seen seen held (λ σ τ. held_time k ≡ held_time (τ m)) (λ σ τ. τ m ≡ k) held (λ σ τ x. cc) (λ σ τ x. ap (λ z. held_time z) (sym x)) r.1
-      in_case false r = λ σ τ fit a x. r σ τ fit a (ap (λ z. held_time z) (sym x))
+  time_gives : (m : List ℕ) → find_binder scope m ≡ Some (Time m) → (k : ℕ) → k < length tr → (seen : List (List ℕ)) (held : List Held) → Start g tr scope p seen held → Gives g tr scope p seen (noted (slot_at p seen m) seen m) held (λ σ τ. τ m ≡ k) (filled (slot_at p seen m) (held_time k) true held)
+  time_gives m found k below seen held start =
+      gives_map seen (noted (slot_at p seen m) seen m) held (λ σ τ. held_time k ≡ held_time (τ m)) (λ σ τ. τ m ≡ k) (filled (slot_at p seen m) (held_time k) true held) (λ σ τ x. cc) (λ σ τ x. ap (λ z. held_time z) (sym x)) (filled_gives g tr scope p (Time m) found seen held start (held_time k) true (λ x. below) (λ σ τ fit x. refl))
 
   -- a guard
   pub guarded_gives : (a : Action) → IsCheckedAction g scope a → (x : Fact) → IsGoodFact g x → (k : ℕ) → k < length tr → (seen : List (List ℕ)) (held : List Held) → Start g tr scope p seen held → Gives g tr scope p seen (seen_behind p seen a) held (Fits a x k) (guarded (atom_of p seen a) x k held)
@@ -119,12 +112,9 @@ module _ (g : Sig) (tr : Trace) (scope : List Binder) (p : Place) where
       let args = trees_of a.pattern.args in
       let marks = (marked_all p seen (trees_of a.pattern.args)).marks in
       at (matched_all args (trees_of x.args) (record { marks = marks; held = held })) (matched_all_reads args c.terms (trees_of x.args) good seen (record { marks = marks; held = held }) [] (append_none marks) start) where
-        mid : List (List ℕ)
-        mid = (marked_all p seen (trees_of a.pattern.args)).seen
-
-        at : (o : Option State) → Reads g tr scope p seen (marked_all p seen (trees_of a.pattern.args)).seen held [] (λ σ τ. instances σ (trees_of a.pattern.args) ≡ trees_of x.args) o → Gives g tr scope p seen (seen_behind p seen a) held (Fits a x k) (onward o (λ s. timed (slot_at p (marked_all p seen (trees_of a.pattern.args)).seen a.time) k s.held))
+        at : (o : Option State) → Reads g tr scope p seen (marked_all p seen (trees_of a.pattern.args)).seen held [] (λ σ τ. instances σ (trees_of a.pattern.args) ≡ trees_of x.args) o → Gives g tr scope p seen (seen_behind p seen a) held (Fits a x k) (onward o (λ s. filled (slot_at p (marked_all p seen (trees_of a.pattern.args)).seen a.time) (held_time k) true s.held))
         at None r = λ σ τ fit b f. r σ τ fit b f.0
-        at (Some s) r = in_case (timed (slot_at p (marked_all p seen (trees_of a.pattern.args)).seen a.time) k s.held) (timed_gives a.time c.timed k below (marked_all p seen (trees_of a.pattern.args)).seen s.held r.1.start) where
+        at (Some s) r = in_case (filled (slot_at p (marked_all p seen (trees_of a.pattern.args)).seen a.time) (held_time k) true s.held) (time_gives a.time c.timed k below (marked_all p seen (trees_of a.pattern.args)).seen s.held r.1.start) where
           in_case : (o : Option (List Held)) → Gives g tr scope p (marked_all p seen (trees_of a.pattern.args)).seen (seen_behind p seen a) s.held (λ σ τ. τ a.time ≡ k) o → Gives g tr scope p seen (seen_behind p seen a) held (Fits a x k) o
           in_case None q = λ σ τ fit b f. q σ τ fit (r.1.forth σ τ b f.0) f.1
           in_case (Some out) q = ends_then seen (marked_all p seen (trees_of a.pattern.args)).seen (seen_behind p seen a) held (λ σ τ. instances σ (trees_of a.pattern.args) ≡ trees_of x.args) (λ σ τ. τ a.time ≡ k) s.held out r.1 q

@@ -1,24 +1,18 @@
 -- What the slots hold once a pattern has been matched.
-use Rattle.std.proofs.Common.{◌≡◌, ℕ, zero, suc, ◌+◌, ◌<◌, List, [], ◌∷◌, ◌++◌, Bool, true, false, length, Option, Some, None, refl, sym, ap, subst, ◌∙◌, ◌⊎◌, inl, inr, if◌then◌else◌, append_assoc, length-append, arith}
-use Rattle.std.specs.Prelude.{slice_get, nat_eq}
-use Rattle.std.specs.Bool.{Decides}
-use Rattle.std.specs.Str.{bytes_eq}
+use Rattle.std.proofs.Common.{◌≡◌, ℕ, zero, suc, ◌+◌, ◌<◌, List, [], ◌∷◌, ◌++◌, Bool, true, false, length, Option, Some, None, refl, sym, ap, subst, ◌∙◌, inl, inr, if◌then◌else◌, length-append, arith}
+use Rattle.std.specs.Prelude.{slice_get}
 use Rattle.std.proofs.lemmas.Bool.Decides.{Decides-eqb}
-use Rattle.std.proofs.lemmas.Slice.Eq.{bytes_eq-Decides}
 use Rattle.sap_formula.proofs.Decided.{decides_tree}
-use Rattle.sap_formula.proofs.Goods.{AreGood, IsGood, good_message}
 use Rattle.sap_formula.proofs.Layers.{slot_cases, slot_kept, slot_next}
-use Rattle.sap_formula.specs.Checked.{AreCheckedTerms, IsCheckedTerm, binder_name, find_binder}
+use Rattle.sap_formula.specs.Checked.{binder_name, find_binder}
 use Rattle.sap_formula.specs.Truth.{Times}
-use Rattle.sap_formula.specs.code.Ready.{Held, Layers, Place, State, held_term, held_time, is_held, marked, marked_all, matched, matched_all, noted, onward, slot_at, slot_count, taken_by}
+use Rattle.sap_formula.specs.code.Ready.{Held, Place, State, filled, held_term, held_time, is_held, noted, onward, slot_at, slot_count}
 use Rattle.sap_formula.specs.declared.binder.Binder.{Binder}
 use Rattle.sap_formula.specs.declared.binder.Binder.TheVariants.{Message, Time}
-use Rattle.sap_terms.specs.Choice.{Choice, fits_sort, instance, instances}
+use Rattle.sap_terms.specs.Choice.{Choice, fits_sort}
 use Rattle.sap_terms.specs.Message.{IsMessage}
-use Rattle.sap_terms.specs.Same.{same_tree}
 use Rattle.sap_terms.specs.Signature.{Sig}
 use Rattle.sap_terms.specs.Trace.{Trace}
-use Rattle.sap_terms.specs.Tree.{Tree, Trees, apply, fresh, more, none, public, variable}
 use Rattle.sap_terms.specs.declared.var.Var.{Var}
 
 -- lists
@@ -90,14 +84,16 @@ module _ (g : Sig) (tr : Trace) (scope : List Binder) (p : Place) where
     pub back : (σ : Choice) (τ : Times) → Agrees scope (slot_at p later) out σ τ → Agrees scope (slot_at p seen) held σ τ × C σ τ
     pub forth : (σ : Choice) (τ : Times) → Agrees scope (slot_at p seen) held σ τ → C σ τ → Agrees scope (slot_at p later) out σ τ
 
-  -- no values that agree have C
+  -- no values that agree with the slots have C
   abbrev pub Never : List (List ℕ) → List Held → (Choice → Times → Type 0) → Type 0
   Never seen held C = (σ : Choice) (τ : Times) → IsFitting scope σ → Agrees scope (slot_at p seen) held σ τ → C σ τ → ⊥
 
+  -- what the slots hold tells which values have C, and these marks are left
   abbrev pub Reads : List (List ℕ) → List (List ℕ) → List Held → List (Option ℕ) → (Choice → Times → Type 0) → Option State → Type 0
   Reads seen later held rest C None = Never seen held C
   Reads seen later held rest C (Some s) = (s.marks ≡ rest) × Ends seen later held C s.held
 
+  -- the same, without marks
   abbrev pub Gives : List (List ℕ) → List (List ℕ) → List Held → (Choice → Times → Type 0) → Option (List Held) → Type 0
   Gives seen later held C None = Never seen held C
   Gives seen later held C (Some out) = Ends seen later held C out
@@ -133,8 +129,8 @@ module _ (g : Sig) (tr : Trace) (scope : List Binder) (p : Place) where
             let q : r.0 ≡ value σ τ c = cc in
             r.1 ∙ ap (λ z. Some z) q,
         let x = new_here (slot_count p.outer + length seen) refl in
-        let y = a b (slot_count p.outer + length seen) found (slot_next p seen (binder_name b) free) in
-        cc,
+            let y = a b (slot_count p.outer + length seen) found (slot_next p seen (binder_name b) free) in
+            cc,
       )
 
       new_forth : (σ : Choice) (τ : Times) → Agrees scope (slot_at p seen) held σ τ → h ≡ value σ τ b → Agrees scope (slot_at p (seen ++ binder_name b ∷ [])) (held ++ h ∷ []) σ τ
@@ -147,17 +143,22 @@ module _ (g : Sig) (tr : Trace) (scope : List Binder) (p : Place) where
       ends_new suits = record { new = h ∷ []; is = refl; start = record { counted = new_counted; filled = new_filled suits }; back = new_back; forth = new_forth }
 
     -- an occurrence of the binder's name
-    pub taken_reads : (fits : Bool) → (fits ≡ true → Suits g tr b h) → ((σ : Choice) (τ : Times) → IsFitting scope σ → h ≡ value σ τ b → fits ≡ true) → (rest : List (Option ℕ)) → Reads seen (noted (slot_at p seen (binder_name b)) seen (binder_name b)) held rest (λ σ τ. h ≡ value σ τ b) (taken_by (slot_at p seen (binder_name b) ∷ rest) held h fits)
-    taken_reads fits suits fitting rest = at (slot_at p seen (binder_name b)) refl where
-      at : (o : Option ℕ) → slot_at p seen (binder_name b) ≡ o → Reads seen (noted o seen (binder_name b)) held rest (λ σ τ. h ≡ value σ τ b) (taken_by (o ∷ rest) held h fits)
-      at None e = elim fits as (λ f. (f ≡ true → Suits g tr b h) → ((σ : Choice) (τ : Times) → IsFitting scope σ → h ≡ value σ τ b → f ≡ true) → Reads seen (noted None seen (binder_name b)) held rest (λ σ τ. h ≡ value σ τ b) (taken_by (None ∷ rest) held h f)) [
-        | true ↦ λ x y. (refl, ends_new e (x refl))
+    pub filled_gives : (fits : Bool) → (fits ≡ true → Suits g tr b h) → ((σ : Choice) (τ : Times) → IsFitting scope σ → h ≡ value σ τ b → fits ≡ true) → Gives seen (noted (slot_at p seen (binder_name b)) seen (binder_name b)) held (λ σ τ. h ≡ value σ τ b) (filled (slot_at p seen (binder_name b)) h fits held)
+    filled_gives fits suits fitting = at (slot_at p seen (binder_name b)) refl where
+      at : (o : Option ℕ) → slot_at p seen (binder_name b) ≡ o → Gives seen (noted o seen (binder_name b)) held (λ σ τ. h ≡ value σ τ b) (filled o h fits held)
+      at None e = elim fits as (λ f. (f ≡ true → Suits g tr b h) → ((σ : Choice) (τ : Times) → IsFitting scope σ → h ≡ value σ τ b → f ≡ true) → Gives seen (noted None seen (binder_name b)) held (λ σ τ. h ≡ value σ τ b) (filled None h f held)) [
+        | true ↦ λ x y. ends_new e (x refl)
         | false ↦ λ x y σ τ fit a q. let r = y σ τ fit q in absurd (cc)
       ] suits fitting
-      at (Some k) e = elim (is_held (slice_get held k) h) as (λ r. is_held (slice_get held k) h ≡ r → Reads seen seen held rest (λ σ τ. h ≡ value σ τ b) (if r then Some (record { marks = rest; held = held }) else None)) [
-        | true ↦ λ r. (refl, ends_same seen held (λ σ τ. h ≡ value σ τ b) s (λ σ τ a. let x = get_held (slice_get held k) h r in let y = a b k found e in cc))
+      at (Some k) e = elim (is_held (slice_get held k) h) as (λ r. is_held (slice_get held k) h ≡ r → Gives seen seen held (λ σ τ. h ≡ value σ τ b) (if r then Some held else None)) [
+        | true ↦ λ r. ends_same seen held (λ σ τ. h ≡ value σ τ b) s (λ σ τ a. let x = get_held (slice_get held k) h r in let y = a b k found e in cc)
         | false ↦ λ r σ τ fit a q.
             let y : slice_get held k ≡ Some h = a b k found e ∙ ap (λ z. Some z) (sym q) in
             let x : is_held (slice_get held k) h ≡ true = ap (λ z. is_held z h) y ∙ is_held_here h in
             absurd (cc)
       ] refl
+
+  -- read from marks
+  pub given_reads : (seen later : List (List ℕ)) (held : List Held) (rest : List (Option ℕ)) (C : Choice → Times → Type 0) (o : Option (List Held)) → Gives seen later held C o → Reads seen later held rest C (onward o (λ hs. Some (record { marks = rest; held = hs })))
+  given_reads seen later held rest C None r = r
+  given_reads seen later held rest C (Some out) r = (refl, r)

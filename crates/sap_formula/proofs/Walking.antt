@@ -19,7 +19,14 @@ use Rattle.sap_terms.specs.Tree.{Tree, Trees, apply, fresh, more, none, public, 
 use Rattle.sap_terms.specs.declared.fact.Fact.{Fact}
 use Rattle.sap_terms.specs.declared.var.Sort.{Sort}
 use Rattle.sap_terms.specs.declared.var.Var.{Var}
-use Rattle.sap_formula.proofs.Decided.{action_decides, equal_decides}
+use Rattle.std.specs.List.{AllZip, list_any}
+use Rattle.sap_formula.proofs.Decided.{along, args-equal, equal_decides}
+use Rattle.sap_formula.proofs.Law.{each_map}
+use Rattle.sap_formula.proofs.Tests.{decides_each_any}
+use Rattle.sap_formula.specs.code.Walk.{fits_fact}
+use Rattle.sap_terms.proofs.PlainLaws.Tests.{same_trees-refl, same_trees-sound}
+use Rattle.sap_terms.specs.Equal.{IsTheoryEqual}
+use Rattle.sap_terms.specs.Same.{same_trees}
 use Rattle.sap_formula.proofs.Goods.{AreGood, IsGood, IsGoodFact, good_message, goods_at}
 use Rattle.sap_formula.proofs.Law.{Kept, bound_here, entered, kept_message, kept_time, normal_bind, time_here}
 use Rattle.sap_formula.proofs.Plain.{NormalLaws, IsNormalEnv, args-same, leaf-normal}
@@ -30,6 +37,21 @@ use Rattle.sap_formula.specs.Laws.{IsClosed}
 use Rattle.sap_terms.specs.Message.{IsMessageTrace}
 use Rattle.sap_formula.specs.Slim.{slim}
 use Rattle.sap_formula.specs.code.Walk.{Guard, Pick, sightings, sightings_at, sightings_from, at_picks, guards, pick, picked_time, picked_term, project, projects, walk, walked, with_some, judged}
+
+decides_trees : (t u : Trees) → Decides (same_trees t u) (t ≡ u)
+decides_trees t u = (λ h. same_trees-sound t u h, λ e. subst (λ v. same_trees t v ≡ true) e (same_trees-refl t))
+
+-- the test of a pattern decides whether the trace's fact is shown by it
+decides_fact : NormalLaws → (g : Sig) (scope : List Binder) (σ : Choice) (f x : Fact) → AreCheckedTerms g scope (trees_of f.args) → IsNormalEnv (equations g) σ → IsGoodFact g x → Decides (fits_fact σ f x) (Shows (equations g) σ f x)
+decides_fact w g scope σ f x c n m =
+    let ts = instances σ (trees_of f.args) in
+    let us = trees_of x.args in
+    decides_and (bytes_eq f.name x.name) (same_trees ts us) (f.name ≡ x.name) (AllZip (λ s t. IsTheoryEqual (equations g) (instance σ s) t) f.args x.args) (bytes_eq-Decides f.name x.name)
+    (along (same_trees ts us) (ts ≡ us) (AllZip (λ s t. IsTheoryEqual (equations g) (instance σ s) t) f.args x.args) (args-equal (equations g) σ f.args x.args) (args-same w g scope σ f.args x.args c n m.2) (decides_trees ts us))
+
+action_decides : NormalLaws → (g : Sig) (scope : List Binder) (σ : Choice) (f : Fact) (p : List Fact) → AreCheckedTerms g scope (trees_of f.args) → IsNormalEnv (equations g) σ → EachIn (IsGoodFact g) p → Decides (list_any (fits_fact σ f) p) (AnyIn (Shows (equations g) σ f) p)
+action_decides w g scope σ f p c n m =
+    decides_each_any (fits_fact σ f) (Shows (equations g) σ f) p (each_map (IsGoodFact g) (λ x. Decides (fits_fact σ f x) (Shows (equations g) σ f x)) p (λ x m. decides_fact w g scope σ f x c n m) m)
 
 -- values of the binders, one after another
 abbrev Fill : (Sort → Tree → Type 0) → (ℕ → Type 0) → List Binder → Choice → Times → Choice → Times → Type 0
