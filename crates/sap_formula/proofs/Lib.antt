@@ -8,7 +8,6 @@ pub mod Alike
 pub mod Subterms
 pub mod Slimmer
 pub mod Hiding
-pub mod Walking
 pub mod Layers
 pub mod Reading
 pub mod Members
@@ -27,15 +26,10 @@ pub mod Guarding
 pub mod Checks
 pub mod Counting
 pub mod OneFault
-pub mod InstanceLists
-pub mod Projections
-pub mod Sights
 pub mod Slots
 pub mod Agreements
 pub mod SearchSteps
 pub mod Rows
-pub mod Walks
-pub mod HiddenBinders
 pub mod Verdicts
 mod SmallFormulas
 pub mod Remakes

@@ -2,11 +2,10 @@
 use Rattle.std.proofs.Common.{◌≡◌, List, [], ◌∷◌, refl, ap, ap₂, map}
 use Rattle.sap_formula.specs.Checked.{enter}
 use Rattle.sap_formula.specs.Form.{Form, action, both, earlier, either, equal, equivalent, every, exists, falsity, implies, negation, same_time, truth}
-use Rattle.sap_formula.specs.Slim.{lasts, slim}
 use Rattle.sap_formula.specs.Sorted.{by_binder, with_sorts}
 use Rattle.sap_formula.specs.code.Remade.{remade}
 use Rattle.sap_formula.specs.declared.binder.Binder.{Binder}
-use Rattle.sap_formula.specs.declared.remaking.How.TheVariants.{Same, Sorted, Slim}
+use Rattle.sap_formula.specs.declared.remaking.How.TheVariants.{Same, Sorted}
 use Rattle.sap_terms.specs.Choice.{instance, instances}
 use Rattle.sap_terms.specs.Modulo.{instance_fact}
 use Rattle.sap_terms.specs.Tree.{Tree, Trees, apply, fresh, more, none, public, variable}
@@ -45,21 +44,6 @@ remade-same (equivalent f g) = ap₂ equivalent (remade-same f) (remade-same g)
 remade-same (every bs f) = ap (every bs) (remade-same f)
 remade-same (exists bs f) = ap (exists bs) (remade-same f)
 
-pub remade-slim : (f : Form) → remade Slim [] f ≡ slim f
-remade-slim truth = refl
-remade-slim falsity = refl
-remade-slim (action f i) = ap (λ h. action h i) (same_fact f)
-remade-slim (equal s t) = ap₂ equal (same_term s) (same_term t)
-remade-slim (same_time i j) = refl
-remade-slim (earlier i j) = refl
-remade-slim (negation f) = ap negation (remade-slim f)
-remade-slim (both f g) = ap₂ both (remade-slim f) (remade-slim g)
-remade-slim (either f g) = ap₂ either (remade-slim f) (remade-slim g)
-remade-slim (implies f g) = ap₂ implies (remade-slim f) (remade-slim g)
-remade-slim (equivalent f g) = ap₂ equivalent (remade-slim f) (remade-slim g)
-remade-slim (every bs f) = ap (every (lasts bs)) (remade-slim f)
-remade-slim (exists bs f) = ap (exists (lasts bs)) (remade-slim f)
-
 pub remade-sorted : (scope : List Binder) (f : Form) → remade Sorted scope f ≡ with_sorts scope f
 remade-sorted scope truth = refl
 remade-sorted scope falsity = refl
@@ -75,4 +59,4 @@ remade-sorted scope (equivalent f g) = ap₂ equivalent (remade-sorted scope f) 
 remade-sorted scope (every bs f) = ap (every bs) (remade-sorted (enter bs scope) f)
 remade-sorted scope (exists bs f) = ap (exists bs) (remade-sorted (enter bs scope) f)
 
-pub ruleset remade_laws = (remade-same, remade-slim, remade-sorted)
+pub ruleset remade_laws = (remade-same, remade-sorted)

@@ -3,7 +3,8 @@ use Rattle.std.proofs.Common.{◌≡◌, ℕ, zero, suc, ◌+◌, ◌<◌, ◌�
 use Rattle.std.specs.Prelude.{option_map}
 use Rattle.std.specs.List.{list_any, list_all}
 use Rattle.sap_terms.proofs.PlainLaws.Lists.{drop_got}
-use Rattle.sap_terms.specs.Tree.{Tree}
+use Rattle.sap_terms.specs.Trace.{Trace}
+use Rattle.sap_formula.specs.Truth.{facts_at}
 use Rattle.sap_terms.specs.declared.fact.Fact.{Fact}
 use Rattle.sap_formula.specs.code.Ready.{Guard, Held, Sight, State, Two, agreed, any_or_all, guarded, is_there, onward, searched, with_some}
 use Rattle.sap_formula.specs.code.Reached.{IsMet, IsOnlyMet, IsReached, StaysInFront, chosen, two_at}
@@ -125,3 +126,15 @@ pub chosen_missed : (d : Bool) (gs : List GuardPlan) (k : ℕ) (g : GuardPlan) (
 chosen_missed d gs k g s hs leaf h e = ap (λ z. chosen d z (sight s) hs leaf) (guards_got gs k g h) ∙ ap (λ o. with_some o d (λ h. searched d (map guard (drop (k + 1) gs)) h leaf)) e
 
 pub ruleset choose_laws = (cut, chosen_met, chosen_missed)
+
+pub time_got : (tr : Trace) (k : ℕ) (p : List Fact) → slice_get tr k ≡ Some p → facts_at tr k ≡ p
+time_got [] k p h = absurd (cc)
+time_got (q ∷ tr) zero p h = cc
+time_got (q ∷ tr) (suc k) p h = time_got tr k p h
+
+pub time_past : (tr : Trace) (k : ℕ) → slice_get tr k ≡ None → facts_at tr k ≡ []
+time_past [] k h = refl
+time_past (q ∷ tr) zero h = absurd (cc)
+time_past (q ∷ tr) (suc k) h = time_past tr k h
+
+pub ruleset time_laws = (time_got, time_past)

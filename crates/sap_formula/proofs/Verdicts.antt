@@ -2,7 +2,7 @@
 use Rattle.std.proofs.Common.{Ok, Err, IfOk}
 use Rattle.std.specs.Prelude.{Result}
 use Rattle.sap_formula.proofs.Plain.{NormalLaws}
-use Rattle.sap_formula.proofs.Walking.{walk_law}
+use Rattle.sap_formula.proofs.Planning.{plan_law}
 use Rattle.sap_formula.specs.Form.{Form}
 use Rattle.sap_formula.specs.Laws.{IsClosed}
 use Rattle.sap_formula.specs.Verdict.{IsVerdict}
@@ -15,8 +15,8 @@ use Rattle.sap_terms.specs.Trace.{Trace}
 use Rattle.sap_terms.specs.declared.mem.Mem.{Mem}
 
 is_right : NormalLaws → (g : Sig) (f : Form) (tr : Trace) → IsMessageTrace g tr → IsClosed g f → (v : Verdict) → IsAnswer f tr v → IsVerdict g f tr v
-is_right w g f tr m c Holds a = (a.0, (walk_law w g f tr m c).0 a.1)
-is_right w g f tr m c Fails a = (a.0, λ h. let yes = (walk_law w g f tr m c).1 h in let no = a.1 in absurd (cc))
+is_right w g f tr m c Holds a = (a.0, (plan_law w g f tr m c).0 a.1)
+is_right w g f tr m c Fails a = (a.0, λ h. let yes = (plan_law w g f tr m c).1 h in let no = a.1 in absurd (cc))
 is_right w g f tr m c (TooCostly n) a = a
 
 pub are_right : NormalLaws → (g : Sig) (f : Form) (tr : Trace) (r : Result Verdict Mem) → IfOk r (λ v. IsAnswer f tr v) → IsMessageTrace g tr → IsClosed g f → IfOk r (λ v. IsVerdict g f tr v)

@@ -6,17 +6,15 @@ ghost use Rattle.sap_formula.specs.Verdict.{IsVerdict};
 ghost use Rattle.sap_formula.specs.View.{form};
 ghost use Rattle.sap_formula.specs.code.Answer.{IsAnswer};
 ghost use Rattle.sap_formula.specs.code.PlanView.{sight};
-ghost use Rattle.sap_formula.specs.code.Ready.{sights};
-ghost use Rattle.sap_formula.specs.code.Walk.{judged};
+ghost use Rattle.sap_formula.specs.code.Ready.{judged, sights};
 ghost use Rattle.sap_terms.specs.Message.{IsMessageTrace};
 ghost use Rattle.sap_terms.specs.Signature.{Sig};
 
-use crate::environment::Env;
-use crate::remaking::{How, remade_box};
-use crate::scope::Scope;
+use crate::extent::Extent;
+use crate::laying::Levels;
+use crate::readying::ready_box;
 use crate::sighted::{Rows, Sighted, facts_in, rows_of};
-use crate::sightings::table_of;
-use crate::truths::{Scene, holds};
+use crate::testing::test;
 use crate::tuples::cost_on;
 use crate::{Formula, MOST_COST, Verdict};
 use sap_rewrite::normal_terms_decide;
@@ -91,19 +89,13 @@ impl<'t> ReadyTrace<'t> {
 }
 
 // Whether the formula is true on the trace.
-#[tactic(auto, using(crate::proofs::Remakes::remade_laws))]
 fn is_true(alloc: Global, f: &Formula, trace: &ReadyTrace<'_>) -> Result<bool, Mem>
     ensures { IfOk result (λ v. v ≡ judged (form f.now) trace.now) }
 {
-    let nowhere = Scope::Outside;
-    let slim = remade_box(alloc, How::Slim, &nowhere, f)?;
-    let table = table_of(alloc, trace.trace())?;
-    let scene = Scene {
-        trace: trace.trace(),
-        table: &table,
-    };
-    let outside = Env::Outside;
-    Ok(holds(&scene, &slim, &outside))
+    let outside = Levels::Outside;
+    let plan = ready_box(alloc, trace, Extent::Whole, &outside, f)?;
+    let mut values = Vec::new(alloc);
+    test(trace.trace(), &plan, &mut values)
 }
 
 fn answer(alloc: Global, f: &Formula, trace: &ReadyTrace<'_>) -> Result<Verdict, Mem>

@@ -1,11 +1,10 @@
-//! Formulas made anew: copied, with the sorts of binders, or without hidden binders.
+//! Formulas made anew: copied, or with the sorts of binders.
 ghost use Rattle.std.specs.Prelude.{◌≡◌, IfOk, Ok};
 ghost use Rattle.sap_formula.specs.View.{form};
-ghost use Rattle.sap_formula.specs.code.Remade.{entered, joined, kept, quantified, remade, timed};
+ghost use Rattle.sap_formula.specs.code.Remade.{entered, joined, quantified, remade, timed};
 ghost use Rattle.sap_formula.specs.code.Scoped.{binders};
 
 use crate::scope::{Scope, entered};
-use crate::slimming::lasts;
 use crate::sorting::{sorted_action, sorted_equal};
 use crate::{Binders, Formula};
 use sap_terms::{Copied, Mem, Name};
@@ -18,8 +17,6 @@ pub(crate) enum How {
     Same,
     // With the sorts of its binders.
     Sorted,
-    // Without binders that a later one of their quantifier hides.
-    Slim,
 }
 
 // The formula made anew inside these binders.
@@ -54,7 +51,7 @@ fn remade(alloc: Global, how: How, scope: &Scope<'_>, f: &Formula) -> Result<For
             Ok(joined(f, two))
         }
         Formula::All(bs, g) | Formula::Ex(bs, g) => {
-            quantified(alloc, how, f, bs, below(alloc, how, scope, bs, g)?)
+            quantified(alloc, f, bs, below(alloc, how, scope, bs, g)?)
         }
     }
 }
@@ -76,7 +73,7 @@ fn below(
             let inner = Scope::Inside(&inside, &*scope);
             remade_box(alloc, how, &inner, f)
         }
-        _ => remade_box(alloc, how, scope, f),
+        How::Same => remade_box(alloc, how, scope, f),
     }
 }
 
@@ -106,14 +103,13 @@ fn joined(like: &Formula, two: (Box<Formula>, Box<Formula>)) -> Formula
 // Its quantifier over this body.
 fn quantified(
     alloc: Global,
-    how: How,
     like: &Formula,
     bs: &Binders,
     body: Box<Formula>,
 ) -> Result<Formula, Mem>
-    ensures { IfOk result (λ r. form r ≡ quantified (form like.now) (kept how bs.now) (form body.value)) }
+    ensures { IfOk result (λ r. form r ≡ quantified (form like.now) bs.now (form body.value)) }
 {
-    let bs = kept(alloc, how, bs)?;
+    let bs = bs.copy(alloc)?;
     match like {
         Formula::All(_, _) => Ok(Formula::All(bs, body)),
         _ => Ok(Formula::Ex(bs, body)),
@@ -129,15 +125,5 @@ fn timed(alloc: Global, like: &Formula, i: &Name, j: &Name) -> Result<Formula, M
     match like {
         Formula::Same(_, _) => Ok(Formula::Same(i, j)),
         _ => Ok(Formula::Less(i, j)),
-    }
-}
-
-// The binders that stay.
-fn kept(alloc: Global, how: How, bs: &Binders) -> Result<Binders, Mem>
-    ensures { IfOk result (λ r. r ≡ kept how bs.now) }
-{
-    match how {
-        How::Slim => lasts(alloc, bs),
-        _ => bs.copy(alloc),
     }
 }

@@ -79,7 +79,7 @@ fn is_shown_among<'a>(
 }
 
 // Whether the trace shows the fact at the atom's time.
-#[tactic(auto, using(crate::proofs::InstanceLists::time_laws))]
+#[tactic(auto, using(crate::proofs::SearchSteps::time_laws))]
 fn is_shown<'a>(
     trace: &'a Trace,
     values: &mut Vec<Value<'a>>,

@@ -2,11 +2,10 @@
 use Rattle.std.specs.Prelude.{ℕ, List}
 use Rattle.sap_formula.specs.Checked.{enter}
 use Rattle.sap_formula.specs.Form.{Form, action, both, earlier, either, equal, equivalent, every, exists, falsity, implies, negation, same_time, truth}
-use Rattle.sap_formula.specs.Slim.{lasts}
 use Rattle.sap_formula.specs.Sorted.{by_binder}
 use Rattle.sap_formula.specs.declared.binder.Binder.{Binder}
 use Rattle.sap_formula.specs.declared.remaking.How.{How}
-use Rattle.sap_formula.specs.declared.remaking.How.TheVariants.{Same, Sorted, Slim}
+use Rattle.sap_formula.specs.declared.remaking.How.TheVariants.{Same, Sorted}
 use Rattle.sap_terms.specs.Choice.{instance}
 use Rattle.sap_terms.specs.Modulo.{instance_fact}
 
@@ -27,17 +26,10 @@ abbrev pub timed : Form → List ℕ → List ℕ → Form
 timed (same_time a b) i j = same_time i j
 timed _ i j = earlier i j
 
--- the binders that stay
-abbrev pub kept : How → List Binder → List Binder
-kept Slim bs = lasts bs
-kept Same bs = bs
-kept Sorted bs = bs
-
 -- the binders whose sorts count below a quantifier
 abbrev pub entered : How → List Binder → List Binder → List Binder
 entered Sorted bs scope = enter bs scope
 entered Same bs scope = scope
-entered Slim bs scope = scope
 
 -- the formula made anew, inside these binders
 abbrev pub remade : How → List Binder → Form → Form
@@ -52,5 +44,5 @@ remade w scope (both f g) = both (remade w scope f) (remade w scope g)
 remade w scope (either f g) = either (remade w scope f) (remade w scope g)
 remade w scope (implies f g) = implies (remade w scope f) (remade w scope g)
 remade w scope (equivalent f g) = equivalent (remade w scope f) (remade w scope g)
-remade w scope (every bs f) = every (kept w bs) (remade w (entered w bs scope) f)
-remade w scope (exists bs f) = exists (kept w bs) (remade w (entered w bs scope) f)
+remade w scope (every bs f) = every bs (remade w (entered w bs scope) f)
+remade w scope (exists bs f) = exists bs (remade w (entered w bs scope) f)
