@@ -8,7 +8,6 @@ use sap_terms::{Fact, FactList, Term, Var};
 /// Kremer and Künnemann). Contracts see it as a plain tree, by `proc` of the specs' `Proc`.
 ///
 /// Before sorts are set, a variable has the sort of its sign as it is written, and `Msg` where it has none.
-#[derive(Drop)]
 pub enum Process {
     /// `0`: nothing more.
     Nil,
@@ -42,6 +41,33 @@ pub enum Process {
     Unlock(Term, u32, Box<Process>),
     /// `[ L ] --[ A ]-> [ R ]; P`: the facts that are taken, shown and added.
     Embedded(FactList, FactList, FactList, Box<Process>),
+}
+
+impl Drop for Process {
+    // Along first continuations it goes in a loop, so that only a second one takes more of the stack.
+    fn drop(mut self) {
+        loop {
+            match self {
+                Process::Par(first, _second) => self = Box::into_inner(first),
+                Process::If(_left, _right, first, _second) => self = Box::into_inner(first),
+                Process::Lookup(_key, _var, first, _second) => self = Box::into_inner(first),
+                Process::Rep(next) => self = Box::into_inner(next),
+                Process::New(_var, next) => self = Box::into_inner(next),
+                Process::Event(_fact, next) => self = Box::into_inner(next),
+                Process::Out(_term, next)
+                | Process::In(_term, next)
+                | Process::Delete(_term, next) => { self = Box::into_inner(next) }
+                Process::Lock(_term, _label, next) | Process::Unlock(_term, _label, next) => {
+                    self = Box::into_inner(next)
+                }
+                Process::Send(_left, _right, next)
+                | Process::Recv(_left, _right, next)
+                | Process::Insert(_left, _right, next) => self = Box::into_inner(next),
+                Process::Embedded(_taken, _shown, _added, next) => self = Box::into_inner(next),
+                Process::Nil => return,
+            }
+        }
+    }
 }
 
 impl Process {
