@@ -1,5 +1,6 @@
 -- The tests of atoms made ready decide their truth.
 use Rattle.std.proofs.Common.{◌≡◌, ℕ, List, [], ◌∷◌, ◌++◌, Bool, true, false, Option, Some, None, refl, sym, ap, subst, ◌∙◌, if◌then◌else◌, append_assoc, arith}
+use Rattle.std.proofs.lemmas.List.{append-nil}
 use Rattle.std.specs.Prelude.{slice_get}
 use Rattle.std.specs.Bool.{Decides}
 use Rattle.std.specs.List.{AllZip, list_any}
@@ -11,7 +12,7 @@ use Rattle.sap_formula.proofs.Goods.{AreGood, IsGood, IsGoodFact, goods_at, mess
 use Rattle.sap_formula.proofs.Law.{each_map}
 use Rattle.sap_formula.proofs.Patterns.{matched_all_reads, matched_reads}
 use Rattle.sap_formula.proofs.Plain.{NormalLaws, args-same, fresh-normal, public-normal}
-use Rattle.sap_formula.proofs.Reading.{Reads, Start, Suits, append_none, get_kept, value}
+use Rattle.sap_formula.proofs.Reading.{Reads, Start, Suits, get_kept, value}
 use Rattle.sap_formula.proofs.Tests.{decides_and, decides_each_any}
 use Rattle.sap_formula.specs.Checked.{AreCheckedTerms, IsCheckedTerm, binder_name, find_binder}
 use Rattle.sap_formula.specs.Truth.{AnyIn, Shows, Times, facts_at}
@@ -111,7 +112,7 @@ module _ (laws : NormalLaws) (g : Sig) (tr : Trace) (m : IsMessageTrace g tr) (s
       let same = instances σ (trees_of f.args) ≡ trees_of x.args in
       let args = AllZip (λ s t. IsTheoryEqual (equations g) (instance σ s) t) f.args x.args in
       decides_and (bytes_eq f.name x.name) (is_there o) (f.name ≡ x.name) args (bytes_eq-Decides f.name x.name)
-      (along (is_there o) same args (args-equal (equations g) σ f.args x.args) (args-same laws g scope σ f.args x.args c here.normal d.2) (tells_decides [] same o (terms_tell (trees_of f.args) c (trees_of x.args) d marks [] (append_none marks))))
+      (along (is_there o) same args (args-equal (equations g) σ f.args x.args) (args-same laws g scope σ f.args x.args c here.normal d.2) (tells_decides [] same o (terms_tell (trees_of f.args) c (trees_of x.args) d marks [] (sym (append-nil marks)))))
 
   pub action_decided : (f : Fact) (i : List ℕ) → AreCheckedTerms g scope (trees_of f.args) → find_binder scope i ≡ Some (Time i) → Decides (list_any (fits_atom f.name (atom_of (inside layers) [] (record { pattern = f; time = i })) held) (facts_at tr (time_at (atom_of (inside layers) [] (record { pattern = f; time = i })).time held))) (AnyIn (Shows (equations g) σ f) (facts_at tr (τ i)))
   action_decided f i c t =
@@ -173,4 +174,4 @@ module _ (laws : NormalLaws) (g : Sig) (tr : Trace) (m : IsMessageTrace g tr) (s
       let same = instance σ s ≡ instance σ t in
       let e = equal_decides laws g scope σ s t c d here.normal in
       let q = decides_tree (instance σ s) (instance σ t) in
-      along (is_there o) same (IsTheoryEqual (equations g) (instance σ s) (instance σ t)) (λ x. e.0 (q.1 x)) (λ x. q.0 (e.1 x)) (compares_decides [] [] same o (agreed_compares s c t d (record { left = l; right = r }) [] [] (append_none l) (append_none r)))
+      along (is_there o) same (IsTheoryEqual (equations g) (instance σ s) (instance σ t)) (λ x. e.0 (q.1 x)) (λ x. q.0 (e.1 x)) (compares_decides [] [] same o (agreed_compares s c t d (record { left = l; right = r }) [] [] (sym (append-nil l)) (sym (append-nil r))))

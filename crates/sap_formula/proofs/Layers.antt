@@ -10,6 +10,7 @@ use Rattle.sap_formula.specs.Checked.{AreGuarded, Stands, StandsIn, StandsInAny,
 use Rattle.sap_formula.specs.Form.{Form, action, both, earlier, either, equal, equivalent, every, exists, falsity, implies, negation, same_time, truth}
 use Rattle.sap_formula.specs.code.Ready.{Action, Layers, Place, guards, marked, marked_all, noted, place_of, seen_behind, seen_by, slot_at, slot_count, slot_in, slot_or}
 use Rattle.sap_formula.specs.declared.binder.Binder.{Binder}
+use Rattle.sap_terms.proofs.PlainLaws.Tests.{same_name}
 use Rattle.sap_terms.specs.Tree.{Tree, Trees, apply, fresh, more, none, public, trees_of, variable}
 
 -- one name more at the end
@@ -36,9 +37,6 @@ position_more q xs y h =
     let e : 0 + length xs ≡ length xs = omega arith in
     position_from-zero q (xs ++ y ∷ []) ∙ from_more q 0 xs y (sym (position_from-zero q xs) ∙ h) ∙ ap (λ j. cond (q y) (Some j) None) e
 
-same : (n : List ℕ) → bytes_eq n n ≡ true
-same n = (bytes_eq-Decides n n).1 refl
-
 -- the slot of a name whose place in the quantifier is known
 or_kept : (o : Option ℕ) (c : ℕ) (x : Option ℕ) (k : ℕ) (new : Option ℕ) → ((j : ℕ) → o ≡ Some j → new ≡ Some j) → (o ≡ None → new ≡ None) → slot_or o c x ≡ Some k → slot_or new c x ≡ Some k
 or_kept None c x k new f g h = ap (λ z. slot_or z c x) (g refl) ∙ h
@@ -58,7 +56,7 @@ module _ (p : Place) where
   slot_next seen n h = at (position (bytes_eq n) seen) refl h where
     at : (o : Option ℕ) → position (bytes_eq n) seen ≡ o → slot_or o (slot_count p.outer) (slot_outside n) ≡ None → slot_at p (seen ++ n ∷ []) n ≡ Some (slot_count p.outer + length seen)
     at (Some j) e h = absurd (cc)
-    at None e h = ap (λ z. slot_or z (slot_count p.outer) (slot_outside n)) (position_more (bytes_eq n) seen n e ∙ ap (λ b. cond b (Some (length seen)) None) (same n))
+    at None e h = ap (λ z. slot_or z (slot_count p.outer) (slot_outside n)) (position_more (bytes_eq n) seen n e ∙ ap (λ b. cond b (Some (length seen)) None) (same_name n))
 
   -- and other names keep theirs
   pub slot_kept : (seen : List (List ℕ)) (m n : List ℕ) (k : ℕ) → slot_at p seen m ≡ None → slot_at p seen n ≡ Some k → slot_at p (seen ++ m ∷ []) n ≡ Some k

@@ -1,5 +1,6 @@
 -- What a search through the facts that fit guards reaches.
 use Rattle.std.proofs.Common.{◌≡◌, ℕ, List, [], ◌∷◌, ◌++◌, Bool, true, false, Option, Some, None, refl, sym, ap, subst, ◌∙◌, append_assoc}
+use Rattle.std.proofs.lemmas.List.{append-nil}
 use Rattle.std.specs.Bool.{Decides}
 use Rattle.std.proofs.lemmas.Slice.Eq.{bytes_eq-Decides}
 use Rattle.sap_formula.proofs.Decided.{args-equal}
@@ -8,7 +9,7 @@ use Rattle.sap_formula.proofs.Goods.{IsGoodFact, goods_at}
 use Rattle.sap_formula.proofs.Patterns.{Fits, IsCheckedAction, guarded_gives}
 use Rattle.sap_formula.proofs.Members.{any_found, any_here, each_in}
 use Rattle.sap_formula.proofs.Plain.{NormalLaws, IsNormalEnv, args-same}
-use Rattle.sap_formula.proofs.Reading.{Agrees, Ends, Gives, IsFitting, Start, append_none}
+use Rattle.sap_formula.proofs.Reading.{Agrees, Ends, Gives, IsFitting, Start}
 use Rattle.sap_formula.proofs.Tests.{IsIn, decides_all, decides_any}
 use Rattle.sap_formula.specs.Truth.{AnyIn, EachIn, Shows, Times, facts_at}
 use Rattle.sap_formula.specs.code.Ready.{Action, Guard, Held, Place, Sight, atom_of, guarded, guards_of, searched, seen_behind, seen_by, sights, slot_at, with_some}
@@ -102,7 +103,7 @@ module _ (w : NormalLaws) (g : Sig) (tr : Trace) (m : IsMessageTrace g tr) (scop
   pub leads_reached : (xs : List Action) → EachIn (IsCheckedAction g scope) xs → (seen : List (List ℕ)) (held out : List Held) → Start g tr scope p seen held → Leads (guards_of tr p seen xs) held out → Reached g tr scope p (seen_by p seen xs) held (λ σ τ. EachIn (IsGuardTrue g tr σ τ) xs) out
   leads_reached [] c seen held out start e = record {
     new = [];
-    is = sym e ∙ append_none held;
+    is = sym e ∙ sym (append-nil held);
     start = subst (Start g tr scope p seen) e start;
     back = λ σ τ a. tt;
   }

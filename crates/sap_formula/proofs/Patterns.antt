@@ -1,11 +1,12 @@
 -- A pattern matched against a good term, and a guard against a fact.
 use Rattle.std.proofs.Common.{◌≡◌, ℕ, ◌<◌, List, [], ◌∷◌, ◌++◌, Bool, true, false, length, Option, Some, None, refl, sym, ap, subst, ◌∙◌, if◌then◌else◌, append_assoc}
+use Rattle.std.proofs.lemmas.List.{append-nil}
 use Rattle.std.specs.Bool.{Decides}
 use Rattle.std.specs.Str.{bytes_eq}
 use Rattle.std.proofs.lemmas.Slice.Eq.{bytes_eq-Decides}
 use Rattle.sap_formula.proofs.Decided.{decides_tree}
 use Rattle.sap_formula.proofs.Goods.{AreGood, IsGood, IsGoodFact, good_message}
-use Rattle.sap_formula.proofs.Reading.{Ends, Gives, Reads, Start, append_none, ends_same, filled_gives, given_reads}
+use Rattle.sap_formula.proofs.Reading.{Ends, Gives, Reads, Start, ends_same, filled_gives, given_reads}
 use Rattle.sap_formula.specs.Checked.{AreCheckedTerms, IsCheckedTerm, find_binder}
 use Rattle.sap_formula.specs.Truth.{Times}
 use Rattle.sap_formula.specs.code.Ready.{Action, Held, Place, State, atom_of, filled, guarded, held_term, held_time, marked, marked_all, matched, matched_all, noted, onward, seen_behind, slot_at, taken_by}
@@ -111,7 +112,7 @@ module _ (g : Sig) (tr : Trace) (scope : List Binder) (p : Place) where
   guarded_gives a c x good k below seen held start =
       let args = trees_of a.pattern.args in
       let marks = (marked_all p seen (trees_of a.pattern.args)).marks in
-      at (matched_all args (trees_of x.args) (record { marks = marks; held = held })) (matched_all_reads args c.terms (trees_of x.args) good seen (record { marks = marks; held = held }) [] (append_none marks) start) where
+      at (matched_all args (trees_of x.args) (record { marks = marks; held = held })) (matched_all_reads args c.terms (trees_of x.args) good seen (record { marks = marks; held = held }) [] (sym (append-nil marks)) start) where
         at : (o : Option State) → Reads g tr scope p seen (marked_all p seen (trees_of a.pattern.args)).seen held [] (λ σ τ. instances σ (trees_of a.pattern.args) ≡ trees_of x.args) o → Gives g tr scope p seen (seen_behind p seen a) held (Fits a x k) (onward o (λ s. filled (slot_at p (marked_all p seen (trees_of a.pattern.args)).seen a.time) (held_time k) true s.held))
         at None r = λ σ τ fit b f. r σ τ fit b f.0
         at (Some s) r = in_case (filled (slot_at p (marked_all p seen (trees_of a.pattern.args)).seen a.time) (held_time k) true s.held) (time_gives a.time c.timed k below (marked_all p seen (trees_of a.pattern.args)).seen s.held r.1.start) where

@@ -1,5 +1,6 @@
 -- What the slots hold once a pattern has been matched.
 use Rattle.std.proofs.Common.{◌≡◌, ℕ, zero, suc, ◌+◌, ◌<◌, List, [], ◌∷◌, ◌++◌, Bool, true, false, length, Option, Some, None, refl, sym, ap, subst, ◌∙◌, inl, inr, if◌then◌else◌, length-append, arith}
+use Rattle.std.proofs.lemmas.List.{append-nil}
 use Rattle.std.specs.Prelude.{slice_get}
 use Rattle.std.proofs.lemmas.Bool.Decides.{Decides-eqb}
 use Rattle.sap_formula.proofs.Decided.{decides_tree}
@@ -25,10 +26,6 @@ get_kept (y ∷ xs) ys (suc k) x h = get_kept xs ys k x h
 get_end : {X : Type 0} (xs : List X) (x : X) → slice_get (xs ++ x ∷ []) (length xs) ≡ Some x
 get_end [] x = refl
 get_end (y ∷ xs) x = get_end xs x
-
-pub append_none : {X : Type 0} (xs : List X) → xs ≡ xs ++ []
-append_none [] = refl
-append_none (x ∷ xs) = ap (λ ys. x ∷ ys) (append_none xs)
 
 -- values
 
@@ -100,7 +97,7 @@ module _ (g : Sig) (tr : Trace) (scope : List Binder) (p : Place) where
 
   -- a value that was there
   pub ends_same : (seen : List (List ℕ)) (held : List Held) (C : Choice → Times → Type 0) → Start seen held → ((σ : Choice) (τ : Times) → Agrees scope (slot_at p seen) held σ τ → C σ τ) → Ends seen seen held C held
-  ends_same seen held C s f = record { new = []; is = append_none held; start = s; back = λ σ τ a. (a, f σ τ a); forth = λ σ τ a c. a }
+  ends_same seen held C s f = record { new = []; is = sym (append-nil held); start = s; back = λ σ τ a. (a, f σ τ a); forth = λ σ τ a c. a }
 
   -- a value more
   module _ (b : Binder) (found : find_binder scope (binder_name b) ≡ Some b) (seen : List (List ℕ)) (held : List Held) (s : Start seen held) (h : Held) where
