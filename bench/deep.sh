@@ -19,6 +19,7 @@ set -eu
 . "$(dirname "$0")/growth.sh"
 small=1024 large=65536
 calls=0 different=0
+(ulimit -s $large) || exit 2
 
 # call LIMIT WORD..: the status of the call with these words on such a stack, and a sum of what it writes
 call() {
@@ -234,9 +235,9 @@ term() {
     name=$1 before=$2 inside=$3 behind=$4
     declared='builtins: hashing, symmetric-encryption functions: g/1, f/2'
     in_process() {
-        t=$(nested "$1" "$before" "$inside" "$behind")
+        t=$(nested "$1" "$before" "$inside" "$behind") pattern=$(nested "$1" "$before" x "$behind")
         echo "theory D begin $declared process: out($t); event A($t); insert $t, $t; lookup $t as v in lock $t; unlock $t;"
-        echo "if $t = v then [ ] --[ A($t) ]-> [ F($t) ]; [ F(u) ] --[ A($t) ]-> [ ]; in($t); delete $t; out($t, u) end"
+        echo "if $t = v then [ ] --[ A($t) ]-> [ F($t) ]; [ F(u) ] --[ A($t) ]-> [ ]; in($t); delete $t; in($pattern); out($t, x) end"
     }
     in_rule() {
         t=$(nested "$1" "$before" "$inside" "$behind") pattern=$(nested "$1" "$before" x "$behind")
@@ -244,7 +245,7 @@ term() {
         echo "rule T: [ F(x) ] --[ A($pattern) ]-> [ F($pattern), Out($pattern) ] end"
     }
     printf '%s\n' process-run 'out 0' 'event 0' 'insert 0' 'found 0' 'lock 0' 'unlock 0' 'then 0' 'rule 0' 'rule 0 0' 'know 0' 'in 0 0' \
-        'delete 0' 'send 0 0' > "$work/run.prun"
+        'delete 0' 'in 0 0' 'send 0 0' > "$work/run.prun"
     most=$(deepest in_process compile)
     for size in $(printf '%s\n' $most $((most + 1)) 100 | sort -nu); do
         in_process $size > "$work/file.spthy"
