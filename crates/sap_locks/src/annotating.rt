@@ -19,7 +19,8 @@ use std::alloc::Global;
 /// place in preorder that can't be annotated: an unlock that ends nothing, or a parallel or a replication below which an unlock
 /// would end a lock that stands above it. A refusal doesn't give the process back.
 ///
-/// It takes time in proportion to the process, but that each unlock is compared with the locks above it.
+/// It takes time in proportion to the process, but that each unlock is compared with the locks above it, and recurses as deep as
+/// the process and its terms.
 pub fn annotate(alloc: Global, p: Process) -> Result<Process, LockFault>
     requires { node_count (proc p) < 2 ^ 32 }
     ensures annotated { IfOk result (λ q. IsAnnotation (proc p) (proc q)) }

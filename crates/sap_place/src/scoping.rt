@@ -20,7 +20,7 @@ pub fn with_var(alloc: Global, scope: &Vars, x: &Var, sort: Sort) -> Result<Vars
     Ok(out)
 }
 
-/// The scope with the new variables of a pattern.
+/// The scope with the new variables of a pattern. It recurses as deep as the pattern.
 pub fn with_pattern(alloc: Global, scope: &Vars, t: &Term) -> Result<Vars, Mem>
     ensures { IfOk result (λ v. v ≡ with_new scope.now (tree_vars (tree t.now))) }
 {
@@ -29,7 +29,7 @@ pub fn with_pattern(alloc: Global, scope: &Vars, t: &Term) -> Result<Vars, Mem>
     with_new_of(alloc, scope, &vars)
 }
 
-/// The scope with the new variables of an embedded rule, the left side's first.
+/// The scope with the new variables of an embedded rule, the left side's first. It recurses as deep as the terms.
 pub fn with_rule(
     alloc: Global,
     scope: &Vars,

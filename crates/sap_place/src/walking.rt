@@ -15,7 +15,8 @@ use sap_process::{Process, Trail};
 use sap_terms::{Copied, FactList, Mem, Numbers, Sort, Term, Var, Vars};
 use std::alloc::Global;
 
-/// The places of an annotated process in preorder. Each holds a copy of its scope.
+/// The places of an annotated process in preorder. Each holds a copy of its scope. It recurses as deep as the process and its
+/// terms.
 pub fn places(alloc: Global, p: &Process) -> Result<PlaceList, Mem>
     ensures { IfOk result (λ ps. ps ≡ places_of (proc p.now)) }
 {

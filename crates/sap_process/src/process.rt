@@ -7,7 +7,8 @@ use sap_terms::{Fact, FactList, Term, Var};
 /// A process of the applied pi calculus with a global store, locks, and embedded multiset rewrite rules (the calculus of
 /// Kremer and Künnemann). Contracts see it as a plain tree, by `proc` of the specs' `Proc`.
 ///
-/// Before sorts are set, a variable has the sort of its sign as it is written, and `Msg` where it has none.
+/// Before sorts are set, a variable has the sort of its sign as it is written, and `Msg` where it has none. Letting a process go
+/// recurses as deep as second parts and terms nest.
 pub enum Process {
     /// `0`: nothing more.
     Nil,
