@@ -83,6 +83,7 @@ fn quantified<'a>(
 }
 
 // Its guards, and in order the names that they give slots.
+#[inline(never)]
 fn ready_guards<'a>(
     alloc: Global,
     trace: &'a ReadyTrace<'_>,
@@ -132,6 +133,7 @@ fn beside(every: bool) -> Extent
 }
 
 // An action atom, unless it is a guard.
+#[inline(never)]
 fn ready_action<'a>(
     alloc: Global,
     extent: Extent,
@@ -164,6 +166,8 @@ fn marks_of(alloc: Global, levels: &Levels<'_>, t: &Term) -> Result<Marks, Mem>
     Ok(marks)
 }
 
+// An equation.
+#[inline(never)]
 fn ready_equal<'a>(
     alloc: Global,
     levels: &Levels<'_>,
@@ -178,6 +182,7 @@ fn ready_equal<'a>(
 }
 
 // The formula's relation between these times.
+#[inline(never)]
 fn related<'a>(levels: &Levels<'_>, like: &Formula, i: &Name, j: &Name) -> Result<Plan<'a>, Mem>
     ensures { IfOk result (λ r. plan r ≡ related (layers levels.now) (form like.now) i.now j.now) }
 {
