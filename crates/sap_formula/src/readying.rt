@@ -14,6 +14,7 @@ use crate::laying::{
     ActionAtom, Levels, Spot, collect, lay, lay_atom, lay_guards, named_binders, slot_in,
 };
 use crate::plan::{GuardPlan, Marks, Plan};
+use crate::remaking::both;
 use crate::{Binders, Formula, ReadyTrace};
 use indexmap::IndexSet;
 use sap_terms::{Fact, Items, Mem, Name, Term};
@@ -192,17 +193,6 @@ fn related<'a>(levels: &Levels<'_>, like: &Formula, i: &Name, j: &Name) -> Resul
         Formula::Same(_, _) => Ok(Plan::AtOnce(i, j)),
         _ => Ok(Plan::Before(i, j)),
     }
-}
-
-// Both, where both are there.
-fn both<'a>(
-    left: Result<Box<Plan<'a>>, Mem>,
-    right: Result<Box<Plan<'a>>, Mem>,
-) -> Result<(Box<Plan<'a>>, Box<Plan<'a>>), Mem>
-    ensures { IfOk result (λ two. (left.entry ≡ Ok two.0) × (right.entry ≡ Ok two.1)) }
-{
-    let left = left?;
-    Ok((left, right?))
 }
 
 // The connective of this formula between the two.

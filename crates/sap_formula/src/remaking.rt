@@ -78,10 +78,7 @@ fn below(
 }
 
 // Both, where both are there.
-fn both(
-    left: Result<Box<Formula>, Mem>,
-    right: Result<Box<Formula>, Mem>,
-) -> Result<(Box<Formula>, Box<Formula>), Mem>
+pub(crate) fn both<T: Drop>(left: Result<T, Mem>, right: Result<T, Mem>) -> Result<(T, T), Mem>
     ensures { IfOk result (λ two. (left ≡ Ok two.0) × (right ≡ Ok two.1)) }
 {
     let left = left?;
