@@ -1,12 +1,12 @@
 -- Terms with slots compared step by step.
 use Rattle.std.proofs.Common.{◌≡◌, ℕ, zero, suc, ◌+◌, ◌<◌, ◌≤◌, List, [], ◌∷◌, Option, Some, None, length, drop, take, slice_get, refl, sym, ap, ◌∙◌, arith}
 use Rattle.std.specs.Prelude.{option_map}
+use Rattle.std.proofs.Math.ListN.{drop_of_length-le}
 use Rattle.std.proofs.Math.Seq.{take-append_seam}
 use Rattle.sap_terms.proofs.PlainLaws.Lists.{drop_got}
 use Rattle.sap_formula.specs.code.Ready.{Held, State, Two, agreed, agreed_all, agreed_left, agreed_leaf, agreed_right, behind, matched, next_term, onward, term_in}
 use Rattle.sap_formula.specs.code.Reached.{IsReached, StaysInFront, left_marks, two_at}
 use Rattle.sap_formula.specs.declared.agreeing.Places.{Places}
-use Rattle.sap_formula.proofs.Slots.{past}
 use Rattle.sap_terms.specs.Tree.{Tree, none, trees_of}
 
 -- what was put behind, cut off
@@ -26,7 +26,7 @@ pub next_free : (marks : List (Option ℕ)) (at : ℕ) (held : List Held) → sl
 next_free marks at held h = ap (λ l. next_term l held) (drop_got marks at None h)
 
 pub next_end : (marks : List (Option ℕ)) (at : ℕ) (held : List Held) → length marks ≤ at → next_term (drop at marks) held ≡ None
-next_end marks at held h = ap (λ l. next_term l held) (past marks at h)
+next_end marks at held h = ap (λ l. next_term l held) (drop_of_length-le marks h)
 
 pub ruleset next_laws = (next_got, next_free, next_end)
 
@@ -90,7 +90,7 @@ each_more ss ts k a b w held h g =
     λ i. agreed_all (trees_of (e i)) (trees_of (d i)) w held
 
 pub each_end : (ss ts : List Tree) (k : ℕ) (w : Two) (held : List Held) → length ss ≤ k → length ts ≤ k → agreed_all (trees_of (drop k ss)) (trees_of (drop k ts)) w held ≡ Some w
-each_end ss ts k w held h l = ap (λ xs. agreed_all (trees_of xs) (trees_of (drop k ts)) w held) (past ss k h) ∙ ap (λ ys. agreed_all none (trees_of ys) w held) (past ts k l)
+each_end ss ts k w held h l = ap (λ xs. agreed_all (trees_of xs) (trees_of (drop k ts)) w held) (drop_of_length-le ss h) ∙ ap (λ ys. agreed_all none (trees_of ys) w held) (drop_of_length-le ts l)
 
 lost : (o : Option Two) (f : Two → Option Two) → ((s : Two) → f s ≡ None) → onward o f ≡ None
 lost None f h = refl

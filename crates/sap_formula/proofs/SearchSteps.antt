@@ -1,6 +1,7 @@
 -- The search through guards and their facts, step by step.
 use Rattle.std.proofs.Common.{◌≡◌, ℕ, zero, suc, ◌+◌, ◌≤◌, List, [], ◌∷◌, Bool, true, false, not, ◌&&◌, ◌||◌, Option, Some, None, length, drop, map, slice_get, refl, sym, ap, ◌∙◌, if◌then◌else◌, arith}
 use Rattle.std.specs.Prelude.{option_map}
+use Rattle.std.proofs.Math.ListN.{drop_of_length-le}
 use Rattle.std.specs.List.{list_any, list_all}
 use Rattle.sap_terms.proofs.PlainLaws.Lists.{drop_got}
 use Rattle.sap_terms.specs.Trace.{Trace}
@@ -11,7 +12,7 @@ use Rattle.sap_formula.specs.code.Reached.{IsMet, IsOnlyMet, IsReached, chosen}
 use Rattle.sap_formula.specs.code.PlanView.{atom, guard, sight}
 use Rattle.sap_formula.specs.declared.plan.GuardPlan.{GuardPlan}
 use Rattle.sap_formula.specs.declared.sighted.Sighted.{Sighted}
-use Rattle.sap_formula.proofs.Slots.{front_same, front_on, past}
+use Rattle.sap_formula.proofs.Slots.{front_same, front_on}
 use Rattle.sap_formula.proofs.Agreements.{cut}
 
 pub there_reached : (marks : List (Option ℕ)) (hs : List Held) (o : Option ℕ) (r : Option State) → IsReached marks hs o r → is_there o ≡ is_there r
@@ -30,7 +31,7 @@ pub any_more : (p : Fact → Bool) (xs : List Fact) (k : ℕ) (x : Fact) → sli
 any_more p xs k x h = ap (list_any p) (drop_got xs k x h)
 
 pub any_end : (p : Fact → Bool) (xs : List Fact) (k : ℕ) → length xs ≤ k → list_any p (drop k xs) ≡ false
-any_end p xs k h = ap (list_any p) (past xs k h)
+any_end p xs k h = ap (list_any p) (drop_of_length-le xs h)
 
 pub ruleset any_laws = (any_more, any_end)
 
@@ -90,7 +91,7 @@ one_missed d gs k g hs ks leaf h m = ap (λ z. searched d z hs leaf) (guards_got
 
 -- no guard is left
 pub no_guard : (d : Bool) (gs : List GuardPlan) (k : ℕ) (hs : List Held) (leaf : List Held → Bool) → length gs ≤ k → searched d (map guard (drop k gs)) hs leaf ≡ leaf hs
-no_guard d gs k hs leaf h = ap (λ l. searched d (map guard l) hs leaf) (past gs k h)
+no_guard d gs k hs leaf h = ap (λ l. searched d (map guard l) hs leaf) (drop_of_length-le gs h)
 
 -- the facts of a guard, one after another
 pub by_facts : (d : Bool) (gs : List GuardPlan) (k : ℕ) (g : GuardPlan) (hs : List Held) (leaf : List Held → Bool) → slice_get gs k ≡ Some g → searched d (map guard (drop k gs)) hs leaf ≡ any_or_all d (λ s. chosen d (map guard (drop k gs)) s hs leaf) (map sight g.facts.now)
@@ -114,7 +115,7 @@ leads_off true p xs k x h e = ap (λ l. list_all p (map sight l)) (drop_got xs k
 leads_off false p xs k x h e = ap (λ l. list_any p (map sight l)) (drop_got xs k x h) ∙ ap (λ b. b || list_any p (map sight (drop (k + 1) xs))) (differs (p (sight x)) false e)
 
 pub leads_end : (d : Bool) (p : Sight → Bool) (xs : List Sighted) (k : ℕ) → length xs ≤ k → any_or_all d p (map sight (drop k xs)) ≡ d
-leads_end d p xs k h = ap (λ l. any_or_all d p (map sight l)) (past xs k h) ∙ none_leads d p
+leads_end d p xs k h = ap (λ l. any_or_all d p (map sight l)) (drop_of_length-le xs h) ∙ none_leads d p
 
 pub ruleset branch_laws = (leads_on, leads_off, leads_end)
 

@@ -1,5 +1,7 @@
 -- What slots hold, and matches step by step.
 use Rattle.std.proofs.Common.{◌≡◌, ℕ, zero, suc, ◌+◌, ◌≤◌, List, [], ◌∷◌, ◌++◌, Bool, Option, Some, None, length, drop, slice_get, map, append_assoc, refl, sym, ap, ◌∙◌, arith}
+use Rattle.std.proofs.lemmas.List.{append-nil}
+use Rattle.std.proofs.Math.ListN.{drop_of_length-le}
 use Rattle.std.proofs.lemmas.Option.{slice_get-map}
 use Rattle.sap_terms.proofs.PlainLaws.Lists.{drop_got}
 use Rattle.sap_formula.specs.code.Ready.{Held, State, filled, matched, matched_all, onward, taken, taken_by}
@@ -10,24 +12,14 @@ use Rattle.sap_formula.specs.declared.plan.Value.{Value}
 
 pub ruleset slot_laws = (slice_get-map)
 
-append_none : {X : Type 0} (xs : List X) → xs ++ [] ≡ xs
-append_none [] = refl
-append_none (x ∷ xs) = ap (λ ys. x ∷ ys) (append_none xs)
-
 pub front_same : {X : Type 0} (xs : List X) → StaysInFront xs xs
-front_same xs = ([], sym (append_none xs))
+front_same xs = ([], sym (append-nil xs))
 
 pub front_more : {X : Type 0} (xs : List X) (x : X) → StaysInFront xs (xs ++ x ∷ [])
 front_more xs x = (x ∷ [], refl)
 
 pub front_on : {X : Type 0} (xs ys zs : List X) → StaysInFront xs ys → StaysInFront ys zs → StaysInFront xs zs
 front_on xs ys zs (a, e) (b, d) = (a ++ b, d ∙ ap (λ l. l ++ b) e ∙ append_assoc xs a b)
-
-pub past : {X : Type 0} (xs : List X) (k : ℕ) → length xs ≤ k → drop k xs ≡ []
-past [] zero h = refl
-past [] (suc k) h = refl
-past (x ∷ xs) zero h = absurd (omega arith)
-past (x ∷ xs) (suc k) h = past xs k (omega arith)
 
 pub held_more : (vs : List Value) (v : Value) → map held (vs ++ v ∷ []) ≡ map held vs ++ held v ∷ []
 held_more [] v = refl
@@ -43,7 +35,7 @@ pub mark_missed : (ms : List (Option ℕ)) (at : ℕ) (m : Option ℕ) (h : Held
 mark_missed ms at m h f hs g e = ap (λ l. taken_by l hs h f) (drop_got ms at m g) ∙ ap (λ o. onward o (λ ks. Some (record { marks = drop (at + 1) ms; held = ks }))) e
 
 pub mark_end : (ms : List (Option ℕ)) (at : ℕ) (h : Held) (f : Bool) (hs : List Held) → length ms ≤ at → taken h f (record { marks = drop at ms; held = hs }) ≡ None
-mark_end ms at h f hs l = ap (λ l. taken_by l hs h f) (past ms at l)
+mark_end ms at h f hs l = ap (λ l. taken_by l hs h f) (drop_of_length-le ms l)
 
 pub ruleset mark_laws = (front_same, mark_met, mark_missed, mark_end)
 
@@ -55,7 +47,7 @@ all_more ps ts k a b s h g =
     λ i. matched_all (trees_of (e i)) (trees_of (d i)) s
 
 pub all_end : (ps ts : List Tree) (k : ℕ) (s : State) → length ps ≤ k → length ts ≤ k → matched_all (trees_of (drop k ps)) (trees_of (drop k ts)) s ≡ Some s
-all_end ps ts k s h l = ap (λ xs. matched_all (trees_of xs) (trees_of (drop k ts)) s) (past ps k h) ∙ ap (λ ys. matched_all none (trees_of ys) s) (past ts k l)
+all_end ps ts k s h l = ap (λ xs. matched_all (trees_of xs) (trees_of (drop k ts)) s) (drop_of_length-le ps h) ∙ ap (λ ys. matched_all none (trees_of ys) s) (drop_of_length-le ts l)
 
 lost : (o : Option State) (f : State → Option State) → ((s : State) → f s ≡ None) → onward o f ≡ None
 lost None f h = refl
