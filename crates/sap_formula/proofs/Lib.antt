@@ -29,6 +29,7 @@ pub mod OneFault
 pub mod Slots
 pub mod Agreements
 pub mod SearchSteps
+pub mod FoldLaws
 pub mod Rows
 pub mod Verdicts
 mod SmallFormulas

@@ -5,6 +5,7 @@ use Rattle.std.proofs.lemmas.Bool.Decides.{Decides-eqb, Decides-ltb}
 use Rattle.std.specs.Prelude.{nat_eq, nat_lt}
 use Rattle.sap_formula.proofs.Atoms.{action_decided, equal_decided, time_is}
 use Rattle.sap_formula.proofs.Entering.{Here, every_decided, exists_decided}
+use Rattle.sap_formula.proofs.FoldLaws.{folded_is}
 use Rattle.sap_formula.proofs.Leading.{IsGuardTrue}
 use Rattle.sap_formula.proofs.Patterns.{IsCheckedAction}
 use Rattle.sap_formula.proofs.Members.{each_append, each_left, each_right}
@@ -17,7 +18,8 @@ use Rattle.sap_formula.specs.Form.{Form, action, both, earlier, either, equal, e
 use Rattle.sap_formula.specs.Laws.{IsClosed}
 use Rattle.sap_formula.specs.Slim.{slim}
 use Rattle.sap_formula.specs.Truth.{EachIn, IsTrueOn, IsTrueUnder, Times}
-use Rattle.sap_formula.specs.code.Ready.{Held, Layers, guards, judged, left_of_imp, place_of, planned, ready, seen_by, slot_in, time_at, under_and}
+use Rattle.sap_formula.specs.code.Folded.{judged}
+use Rattle.sap_formula.specs.code.Ready.{Held, Layers, guards, left_of_imp, place_of, planned, ready, seen_by, slot_in, time_at, under_and}
 use Rattle.sap_formula.specs.declared.binder.Binder.{Binder}
 use Rattle.sap_formula.specs.declared.binder.Binder.TheVariants.{Time}
 use Rattle.sap_formula.specs.declared.extent.Extent.{Extent}
@@ -170,6 +172,6 @@ here_first w g tr = record {
 pub plan_law : NormalLaws → (g : Sig) (f : Form) (tr : Trace) → IsMessageTrace g tr → IsClosed g f → (judged f tr ≡ true) ↔ IsTrueOn g f tr
 plan_law w g f tr m c =
     let p = hidden_binder_law w g f tr c in
-    let s = ap (λ z. planned tr z []) (ready_slim tr f Whole []) in
+    let s = folded_is tr (ready tr Whole [] f) [] ∙ ap (λ z. planned tr z []) (ready_slim tr f Whole []) in
     let q = planned_decides w g (λ n. Unit {0}) tr m (slim f) Whole [] [] [] (λ v. variable v) (λ n. 0) (slim_checked g (λ n. Unit {0}) f [] [] (λ n a. refl) c) (slim_once f) (here_first w g tr) tt in
     (λ h. p.1 (q.0 (sym s ∙ h)), λ h. s ∙ q.1 (p.0 h))

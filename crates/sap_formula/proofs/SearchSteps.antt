@@ -2,12 +2,14 @@
 use Rattle.std.proofs.Common.{◌≡◌, ℕ, zero, suc, ◌+◌, ◌≤◌, List, [], ◌∷◌, Bool, true, false, not, ◌&&◌, ◌||◌, Option, Some, None, length, drop, map, slice_get, refl, sym, ap, ◌∙◌, if◌then◌else◌, arith}
 use Rattle.std.specs.Prelude.{option_map}
 use Rattle.std.proofs.Math.ListN.{drop_of_length-le}
+use Rattle.std.proofs.lemmas.List.{nil_from_length}
 use Rattle.std.specs.List.{list_any, list_all}
 use Rattle.sap_terms.proofs.PlainLaws.Lists.{drop_got}
 use Rattle.sap_terms.specs.Trace.{Trace}
 use Rattle.sap_formula.specs.Truth.{facts_at}
 use Rattle.sap_terms.specs.declared.fact.Fact.{Fact}
 use Rattle.sap_formula.specs.code.Ready.{Held, Sight, State, any_or_all, guarded, is_there, searched, with_some}
+use Rattle.sap_formula.specs.code.Folded.{are_idle, is_bare}
 use Rattle.sap_formula.specs.code.Reached.{IsMet, IsOnlyMet, IsReached, chosen}
 use Rattle.sap_formula.specs.code.PlanView.{atom, guard, sight}
 use Rattle.sap_formula.specs.declared.plan.GuardPlan.{GuardPlan}
@@ -51,7 +53,7 @@ pub ruleset test_laws = (all_left, map_length)
 
 pub ruleset search_laws = (cut)
 
-none_leads : {X : Type 0} (d : Bool) (p : X → Bool) → any_or_all d p [] ≡ d
+pub none_leads : {X : Type 0} (d : Bool) (p : X → Bool) → any_or_all d p [] ≡ d
 none_leads true p = refl
 none_leads false p = refl
 
@@ -138,3 +140,22 @@ time_past (q ∷ tr) zero h = absurd (cc)
 time_past (q ∷ tr) (suc k) h = time_past tr k h
 
 pub ruleset time_laws = (time_got, time_past)
+
+-- some guard has no fact
+pub idle_start : (gs : List GuardPlan) → are_idle (map guard (drop 0 gs)) ≡ are_idle (map guard gs)
+idle_start gs = ap (λ l. are_idle (map guard l)) (drop_none gs)
+
+pub idle_here : (gs : List GuardPlan) (k : ℕ) (g : GuardPlan) → slice_get gs k ≡ Some g → length g.facts.now ≡ 0 → are_idle (map guard (drop k gs)) ≡ true
+idle_here gs k g h l = ap are_idle (guards_got gs k g h) ∙ ap (λ ss. is_bare (map sight ss) || are_idle (map guard (drop (k + 1) gs))) (nil_from_length g.facts.now l)
+
+busy_here : (ss : List Sighted) → (length ss ≡ 0 → ⊥) → is_bare (map sight ss) ≡ false
+busy_here [] h = absurd (h refl)
+busy_here (s ∷ ss) h = refl
+
+pub idle_more : (gs : List GuardPlan) (k : ℕ) (g : GuardPlan) → slice_get gs k ≡ Some g → (length g.facts.now ≡ 0 → ⊥) → are_idle (map guard (drop k gs)) ≡ are_idle (map guard (drop (k + 1) gs))
+idle_more gs k g h l = ap are_idle (guards_got gs k g h) ∙ ap (λ b. b || are_idle (map guard (drop (k + 1) gs))) (busy_here g.facts.now l)
+
+pub idle_end : (gs : List GuardPlan) (k : ℕ) → length gs ≤ k → are_idle (map guard (drop k gs)) ≡ false
+idle_end gs k h = ap (λ l. are_idle (map guard l)) (drop_of_length-le gs h)
+
+pub ruleset idle_laws = (idle_start, idle_here, idle_more, idle_end)

@@ -11,7 +11,7 @@ use Rattle.sap_formula.specs.Sorted.{with_sorts}
 use Rattle.sap_formula.specs.code.Tests.{first_fault}
 use Rattle.sap_formula.specs.Cost.{form_cost}
 use Rattle.sap_formula.specs.Hide.{hide}
-use Rattle.sap_formula.specs.code.Ready.{judged}
+use Rattle.sap_formula.specs.code.Folded.{judged}
 use Rattle.sap_formula.specs.declared.fault.FormulaFlaw.{FormulaFlaw}
 use Rattle.sap_formula.specs.declared.fault.FormulaFlaw.TheVariants.{BadFunction, Destructor, Reserved, UnboundVar, Unguarded}
 

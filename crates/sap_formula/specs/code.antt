@@ -5,6 +5,7 @@ pub mod Tests
 pub mod Scoped
 pub mod Ready
 pub mod PlanView
+pub mod Folded
 pub mod Reached
 pub mod PlanSize
 pub mod Laid

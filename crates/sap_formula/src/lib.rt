@@ -7,6 +7,7 @@ mod binder;
 mod checking;
 mod extent;
 mod fault;
+mod folding;
 mod formula;
 mod guards;
 mod laws;

@@ -5,8 +5,9 @@ ghost use Rattle.sap_formula.specs.Laws.{IsClosed};
 ghost use Rattle.sap_formula.specs.Verdict.{IsVerdict};
 ghost use Rattle.sap_formula.specs.View.{form};
 ghost use Rattle.sap_formula.specs.code.Answer.{IsAnswer};
+ghost use Rattle.sap_formula.specs.code.Folded.{judged};
 ghost use Rattle.sap_formula.specs.code.PlanView.{sight};
-ghost use Rattle.sap_formula.specs.code.Ready.{judged, sights};
+ghost use Rattle.sap_formula.specs.code.Ready.{sights};
 ghost use Rattle.sap_terms.specs.Message.{IsMessageTrace};
 ghost use Rattle.sap_terms.specs.Signature.{Sig};
 

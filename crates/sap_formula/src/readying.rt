@@ -2,14 +2,16 @@
 ghost use Rattle.std.specs.Prelude.{◌≡◌, [], IfOk, OnOk, Ok, map};
 ghost use Rattle.sap_formula.specs.Form.{action, equal};
 ghost use Rattle.sap_formula.specs.View.{form};
+ghost use Rattle.sap_formula.specs.code.Folded.{folded};
 ghost use Rattle.sap_formula.specs.code.Laid.{action as action_of, layers};
 ghost use Rattle.sap_formula.specs.code.PlanView.{guard, plan};
-ghost use Rattle.sap_formula.specs.code.Quantifying.{beside, connected, guards_over, left_part, quantified, related, right_part};
+ghost use Rattle.sap_formula.specs.code.Quantifying.{beside, guards_over, left_part, quantified, related, right_part};
 ghost use Rattle.sap_formula.specs.code.Ready.{guards_of, inside, left_of_imp, marked, place_of, ready, seen_by, under_and};
 ghost use Rattle.sap_formula.specs.declared.extent.Extent.TheVariants.{Whole};
 ghost use Rattle.sap_terms.specs.View.{tree};
 
 use crate::extent::Extent;
+use crate::folding::{always, are_idle, connected, not_of, search_of};
 use crate::laying::{
     ActionAtom, Levels, Spot, collect, lay, lay_atom, lay_guards, named_binders, slot_in,
 };
@@ -30,34 +32,24 @@ pub(crate) fn ready_box<'a>(
     levels: &Levels<'_>,
     f: &'a Formula,
 ) -> Result<Box<Plan<'a>>, Mem>
-    ensures { IfOk result (λ r. plan r.value ≡ ready trace.now extent (layers levels.now) (form f.now)) }
-{
-    Ok(Box::new(alloc, ready(alloc, trace, extent, levels, f)?)?)
-}
-
-#[cycle(ready)]
-fn ready<'a>(
-    alloc: Global,
-    trace: &'a ReadyTrace<'_>,
-    extent: Extent,
-    levels: &Levels<'_>,
-    f: &'a Formula,
-) -> Result<Plan<'a>, Mem>
-    ensures { IfOk result (λ r. plan r ≡ ready trace.now extent (layers levels.now) (form f.now)) }
+    ensures { IfOk result (λ r. plan r.value ≡ folded (ready trace.now extent (layers levels.now) (form f.now))) }
 {
     match f {
-        Formula::True => Ok(Plan::Always(true)),
-        Formula::False => Ok(Plan::Always(false)),
+        Formula::True => always(alloc, true),
+        Formula::False => always(alloc, false),
         Formula::Action(fact, time) => ready_action(alloc, extent, levels, fact, time),
         Formula::Equal(s, t) => ready_equal(alloc, levels, s, t),
-        Formula::Same(i, j) | Formula::Less(i, j) => related(levels, f, i, j),
-        Formula::Not(g) => Ok(Plan::Not(ready_box(alloc, trace, Extent::Whole, levels, g)?)),
+        Formula::Same(i, j) | Formula::Less(i, j) => related(alloc, levels, f, i, j),
+        Formula::Not(g) => not_of(
+            alloc,
+            ready_box(alloc, trace, Extent::Whole, levels, g)?,
+        ),
         Formula::And(g, h) | Formula::Or(g, h) | Formula::Imp(g, h) | Formula::Iff(g, h) => {
             let two = both(
                 ready_box(alloc, trace, left_part(f, extent), levels, g),
                 ready_box(alloc, trace, right_part(f, extent), levels, h),
             )?;
-            Ok(connected(f, two))
+            connected(alloc, f, two)
         }
         Formula::All(bs, g) => quantified(alloc, trace, true, levels, bs, g),
         Formula::Ex(bs, g) => quantified(alloc, trace, false, levels, bs, g),
@@ -73,14 +65,17 @@ fn quantified<'a>(
     levels: &Levels<'_>,
     bs: &Binders,
     f: &'a Formula,
-) -> Result<Plan<'a>, Mem>
-    ensures { IfOk result (λ r. plan r ≡ quantified trace.now every (layers levels.now) bs.now (form f.now)) }
+) -> Result<Box<Plan<'a>>, Mem>
+    ensures { IfOk result (λ r. plan r.value ≡ folded (quantified trace.now every (layers levels.now) bs.now (form f.now))) }
 {
     let mut names = IndexSet::new(alloc);
     let guards = ready_guards(alloc, trace, every, levels, bs, f, &mut names)?;
+    if are_idle(&guards) {
+        return always(alloc, every);
+    }
     let inner = Levels::Inside(&names, &*levels);
     let body = ready_box(alloc, trace, beside(every), &inner, f)?;
-    Ok(Plan::Search(every, guards, body))
+    search_of(alloc, every, guards, body)
 }
 
 // Its guards, and in order the names that they give slots.
@@ -141,17 +136,17 @@ fn ready_action<'a>(
     levels: &Levels<'_>,
     fact: &'a Fact,
     time: &'a Name,
-) -> Result<Plan<'a>, Mem>
-    ensures { IfOk result (λ r. plan r ≡ ready [] extent (layers levels.now) (action fact.now time.now)) }
+) -> Result<Box<Plan<'a>>, Mem>
+    ensures { IfOk result (λ r. plan r.value ≡ folded (ready [] extent (layers levels.now) (action fact.now time.now))) }
 {
     match extent {
-        Extent::Rest => Ok(Plan::Always(true)),
+        Extent::Rest => always(alloc, true),
         _ => {
             let spot = Spot::Anywhere(&*levels);
             let mut names = IndexSet::new(alloc);
             let atom = ActionAtom { fact, time };
             let laid = lay_atom(alloc, &spot, &mut names, &atom)?;
-            Ok(Plan::Shows(&fact.name, laid))
+            Ok(Box::new(alloc, Plan::Shows(&fact.name, laid))?)
         }
     }
 }
@@ -174,36 +169,30 @@ fn ready_equal<'a>(
     levels: &Levels<'_>,
     s: &'a Term,
     t: &'a Term,
-) -> Result<Plan<'a>, Mem>
-    ensures { IfOk result (λ r. plan r ≡ ready [] Whole (layers levels.now) (equal (tree s.now) (tree t.now))) }
+) -> Result<Box<Plan<'a>>, Mem>
+    ensures { IfOk result (λ r. plan r.value ≡ ready [] Whole (layers levels.now) (equal (tree s.now) (tree t.now))) }
 {
     let left = marks_of(alloc, levels, s)?;
     let right = marks_of(alloc, levels, t)?;
-    Ok(Plan::Equals(s, t, left, right))
+    Ok(Box::new(alloc, Plan::Equals(s, t, left, right))?)
 }
 
 // The formula's relation between these times.
 #[inline(never)]
-fn related<'a>(levels: &Levels<'_>, like: &Formula, i: &Name, j: &Name) -> Result<Plan<'a>, Mem>
-    ensures { IfOk result (λ r. plan r ≡ related (layers levels.now) (form like.now) i.now j.now) }
+fn related<'a>(
+    alloc: Global,
+    levels: &Levels<'_>,
+    like: &Formula,
+    i: &Name,
+    j: &Name,
+) -> Result<Box<Plan<'a>>, Mem>
+    ensures { IfOk result (λ r. plan r.value ≡ related (layers levels.now) (form like.now) i.now j.now) }
 {
     let i = slot_in(levels, i)?;
     let j = slot_in(levels, j)?;
     match like {
-        Formula::Same(_, _) => Ok(Plan::AtOnce(i, j)),
-        _ => Ok(Plan::Before(i, j)),
-    }
-}
-
-// The connective of this formula between the two.
-fn connected<'a>(like: &Formula, two: (Box<Plan<'a>>, Box<Plan<'a>>)) -> Plan<'a>
-    ensures { plan result ≡ connected (form like.now) (plan two.entry.0.value) (plan two.entry.1.value) }
-{
-    match like {
-        Formula::And(_, _) => Plan::And(two.0, two.1),
-        Formula::Or(_, _) => Plan::Or(two.0, two.1),
-        Formula::Imp(_, _) => Plan::Imp(two.0, two.1),
-        _ => Plan::Iff(two.0, two.1),
+        Formula::Same(_, _) => Ok(Box::new(alloc, Plan::AtOnce(i, j))?),
+        _ => Ok(Box::new(alloc, Plan::Before(i, j))?),
     }
 }
 

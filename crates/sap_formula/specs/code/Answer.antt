@@ -2,7 +2,7 @@
 use Rattle.std.specs.Prelude.{◌≡◌, true, false, ◌<◌, ◌≤◌, ◌-◌, ◌^◌, min}
 use Rattle.sap_formula.specs.Cost.{form_cost}
 use Rattle.sap_formula.specs.Form.{Form}
-use Rattle.sap_formula.specs.code.Ready.{judged}
+use Rattle.sap_formula.specs.code.Folded.{judged}
 use Rattle.sap_formula.specs.declared.verdict.TheConstants.{MOST_COST}
 use Rattle.sap_formula.specs.declared.verdict.Verdict.{Verdict}
 use Rattle.sap_formula.specs.declared.verdict.Verdict.TheVariants.{Holds, Fails, TooCostly}

@@ -2,7 +2,8 @@
 use Rattle.std.specs.Prelude.{ℕ, Bool, true, false, List, [], ◌∷◌}
 use Rattle.sap_formula.specs.Checked.{premise}
 use Rattle.sap_formula.specs.Form.{Form, both, either, implies, same_time}
-use Rattle.sap_formula.specs.code.Ready.{Action, Layers, Plan, alike, and_then, at_once, before, guards, guards_of, if_then, left_of_imp, or_else, place_of, ready, search, seen_by, slot_in, under_and}
+use Rattle.sap_formula.specs.code.Folded.{and_by, constant, iff_by, imp_by, or_by}
+use Rattle.sap_formula.specs.code.Ready.{Action, Layers, Plan, at_once, before, guards, guards_of, left_of_imp, place_of, ready, search, seen_by, slot_in, under_and}
 use Rattle.sap_formula.specs.declared.binder.Binder.{Binder}
 use Rattle.sap_formula.specs.declared.extent.Extent.{Extent}
 use Rattle.sap_formula.specs.declared.extent.Extent.TheVariants.{Whole, Body, Rest}
@@ -20,10 +21,10 @@ right_part _ e = Whole
 
 -- the connective of a formula between two that are ready
 abbrev pub connected : Form → Plan → Plan → Plan
-connected (both f g) p q = and_then p q
-connected (either f g) p q = or_else p q
-connected (implies f g) p q = if_then p q
-connected _ p q = alike p q
+connected (both f g) p q = and_by (constant p) (constant q) p q
+connected (either f g) p q = or_by (constant p) (constant q) p q
+connected (implies f g) p q = imp_by (constant p) (constant q) p q
+connected _ p q = iff_by (constant p) (constant q) p q
 
 -- its relation between two times
 abbrev pub related : Layers → Form → List ℕ → List ℕ → Plan

@@ -341,7 +341,3 @@ planned tr (or_else p q) held = planned tr p held || planned tr q held
 planned tr (if_then p q) held = not (planned tr p held) || planned tr q held
 planned tr (alike p q) held = same_bool (planned tr p held) (planned tr q held)
 planned tr (search d gs p) held = searched d gs held (planned tr p)
-
--- the judge
-abbrev pub judged : Form → Trace → Bool
-judged f tr = planned tr (ready tr Whole [] f) []
