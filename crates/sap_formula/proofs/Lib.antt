@@ -30,6 +30,7 @@ pub mod Slots
 pub mod Agreements
 pub mod SearchSteps
 pub mod Rows
+pub mod Digests
 pub mod Verdicts
 mod SmallFormulas
 pub mod Remakes

@@ -1,15 +1,14 @@
 -- The search through guards and their facts, step by step.
-use Rattle.std.proofs.Common.{◌≡◌, ℕ, zero, suc, ◌+◌, ◌<◌, ◌≤◌, List, [], ◌∷◌, ◌++◌, Bool, true, false, not, ◌&&◌, ◌||◌, Option, Some, None, length, drop, map, slice_get, refl, sym, ap, subst, ◌∙◌, if◌then◌else◌, arith}
+use Rattle.std.proofs.Common.{◌≡◌, ℕ, zero, suc, ◌+◌, ◌≤◌, List, [], ◌∷◌, Bool, true, false, not, ◌&&◌, ◌||◌, Option, Some, None, length, drop, map, slice_get, refl, sym, ap, ◌∙◌, if◌then◌else◌, arith}
 use Rattle.std.specs.Prelude.{option_map}
 use Rattle.std.specs.List.{list_any, list_all}
 use Rattle.sap_terms.proofs.PlainLaws.Lists.{drop_got}
 use Rattle.sap_terms.specs.Trace.{Trace}
 use Rattle.sap_formula.specs.Truth.{facts_at}
 use Rattle.sap_terms.specs.declared.fact.Fact.{Fact}
-use Rattle.sap_formula.specs.code.Ready.{Guard, Held, Sight, State, Two, agreed, any_or_all, guarded, is_there, onward, searched, with_some}
-use Rattle.sap_formula.specs.code.Reached.{IsMet, IsOnlyMet, IsReached, StaysInFront, chosen, two_at}
-use Rattle.sap_formula.specs.code.PlanView.{atom, guard, held, sight}
-use Rattle.sap_formula.specs.declared.agreeing.Places.{Places}
+use Rattle.sap_formula.specs.code.Ready.{Held, Sight, State, any_or_all, guarded, is_there, searched, with_some}
+use Rattle.sap_formula.specs.code.Reached.{IsMet, IsOnlyMet, IsReached, chosen}
+use Rattle.sap_formula.specs.code.PlanView.{atom, guard, sight}
 use Rattle.sap_formula.specs.declared.plan.GuardPlan.{GuardPlan}
 use Rattle.sap_formula.specs.declared.sighted.Sighted.{Sighted}
 use Rattle.sap_formula.proofs.Slots.{front_same, front_on, past}

@@ -1,12 +1,11 @@
 -- What slots hold, and matches step by step.
-use Rattle.std.proofs.Common.{◌≡◌, ℕ, zero, suc, ◌+◌, ◌≤◌, List, [], ◌∷◌, ◌++◌, Bool, true, false, Option, Some, None, length, drop, take, slice_get, map, append_assoc, refl, sym, ap, subst, ◌∙◌, if◌then◌else◌, arith}
-use Rattle.std.specs.Prelude.{option_map}
+use Rattle.std.proofs.Common.{◌≡◌, ℕ, zero, suc, ◌+◌, ◌≤◌, List, [], ◌∷◌, ◌++◌, Bool, Option, Some, None, length, drop, slice_get, map, append_assoc, refl, sym, ap, ◌∙◌, arith}
 use Rattle.std.proofs.lemmas.Option.{slice_get-map}
 use Rattle.sap_terms.proofs.PlainLaws.Lists.{drop_got}
 use Rattle.sap_formula.specs.code.Ready.{Held, State, filled, matched, matched_all, onward, taken, taken_by}
-use Rattle.sap_formula.specs.code.Reached.{IsReached, StaysInFront}
+use Rattle.sap_formula.specs.code.Reached.{StaysInFront}
 use Rattle.sap_formula.specs.code.PlanView.{held}
-use Rattle.sap_terms.specs.Tree.{Tree, Trees, none, trees_of}
+use Rattle.sap_terms.specs.Tree.{Tree, none, trees_of}
 use Rattle.sap_formula.specs.declared.plan.Value.{Value}
 
 pub ruleset slot_laws = (slice_get-map)

@@ -5,6 +5,7 @@
 mod agreeing;
 mod binder;
 mod checking;
+mod digest;
 mod extent;
 mod fault;
 mod formula;
@@ -13,6 +14,7 @@ mod laws;
 mod laying;
 mod lemma;
 mod matching;
+mod moment;
 mod plan;
 mod ready;
 mod readying;

@@ -1,6 +1,5 @@
-use Rattle.std.proofs.Common.{◌≡◌, ap, map, sym, ◌∙◌, if◌then◌else◌, arith}
-use Rattle.sap_formula.specs.code.PlanView.{guard, held, plan}
-use Rattle.sap_formula.specs.code.Reached.{IsOnlyMet}
+use Rattle.std.proofs.Common.{ap, map, sym, ◌∙◌, if◌then◌else◌, arith}
+use Rattle.sap_formula.specs.code.PlanView.{held, plan}
 use Rattle.sap_formula.specs.code.Ready.{planned, searched}
 use Rattle.sap_formula.proofs.Slots.{front_on}
 use Rattle.sap_formula.proofs.SearchSteps.{by_facts, one_met, one_missed}
