@@ -31,6 +31,7 @@ pub mod Agreements
 pub mod SearchSteps
 pub mod FoldLaws
 pub mod Rows
+pub mod Digests
 pub mod Verdicts
 mod SmallFormulas
 pub mod Remakes

@@ -11,5 +11,6 @@ pub mod PlanSize
 pub mod Laid
 pub mod Quantifying
 pub mod Rows
+pub mod Digests
 pub mod Answer
 pub mod Remade

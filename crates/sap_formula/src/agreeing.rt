@@ -38,7 +38,7 @@ fn fits_still<'a>(
 
 // The term of the next occurrence.
 #[tactic(auto, using(crate::proofs::Agreements::next_laws))]
-fn next_term<'a>(values: &Vec<Value<'a>>, marks: &Marks, at: u64) -> Option<&'a Term>
+pub(crate) fn next_term<'a>(values: &Vec<Value<'a>>, marks: &Marks, at: u64) -> Option<&'a Term>
     ensures term { option_map tree (option_copied result) ≡ next_term (drop at marks.now) (map held values.now.items) }
     ensures within { IfSome result (λ _. at < length marks.now) }
     ensures fits { IfSome result (λ _. at < u64.MAX) }

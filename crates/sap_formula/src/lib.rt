@@ -5,6 +5,7 @@
 mod agreeing;
 mod binder;
 mod checking;
+mod digest;
 mod extent;
 mod fault;
 mod folding;
@@ -14,6 +15,7 @@ mod laws;
 mod laying;
 mod lemma;
 mod matching;
+mod moment;
 mod plan;
 mod ready;
 mod readying;

@@ -1,5 +1,6 @@
 //! Traces made ready for judging.
-ghost use Rattle.std.specs.Prelude.{◌≡◌, ◌^◌, ◌-◌, IfOk, map, min};
+ghost use Rattle.std.specs.Prelude.{◌≡◌, ◌^◌, ◌-◌, IfOk, map, min, slice_get};
+ghost use Rattle.std.specs.Option.{option_copied};
 ghost use Rattle.sap_formula.specs.Cost.{form_cost};
 ghost use Rattle.sap_formula.specs.Laws.{IsClosed};
 ghost use Rattle.sap_formula.specs.Verdict.{IsVerdict};
@@ -13,21 +14,22 @@ ghost use Rattle.sap_terms.specs.Signature.{Sig};
 
 use crate::extent::Extent;
 use crate::laying::Levels;
+use crate::moment::{Moment, moments_of};
 use crate::readying::ready_box;
 use crate::sighted::{Rows, Sighted, facts_in, rows_of};
 use crate::testing::test;
 use crate::tuples::cost_on;
 use crate::{Formula, MOST_COST, Verdict};
 use sap_rewrite::normal_terms_decide;
-use sap_terms::{Mem, Name, Trace, destructors_head_left_sides, leaves_are_normal};
+use sap_terms::{Items, Mem, Name, Trace, destructors_head_left_sides, leaves_are_normal};
 use std::alloc::Global;
 use std::marker::Model;
 
 /// A trace made ready for judging formulas on it, which contracts see as the trace. It lends the trace, and holds where
-/// the facts of each name stand.
+/// the facts of each name stand, and where those of each digest do at a time that has many.
 #[derive(Drop)]
 pub struct ReadyTrace<'t> {
-    trace: &'t Trace,
+    moments: Items<Moment<'t>>,
     rows: Rows<'t>,
 }
 
@@ -41,26 +43,27 @@ impl<'t> Model for ReadyTrace<'t> {
 
     ghost coded = { Prim.hlevel (codes, tree_code) };
 
-    ghost view = { λ a. a.trace.now };
+    ghost view = { λ a. a.moments };
 
-    ghost invariant = { λ a. IsOf a.trace.now a.rows };
+    ghost invariant = { λ a. IsOf a.moments a.rows };
 }
 
 impl<'t> ReadyTrace<'t> {
     /// The trace made ready. It takes time in proportion to the number of its times and facts and to the lengths of the
-    /// facts' names; no term is looked at, and no fact copied.
+    /// facts' names; terms are looked at where a time has more than eight facts alone, and no fact is copied.
     pub fn of(alloc: Global, trace: &'t Trace) -> Result<ReadyTrace<'t>, Mem>
         ensures { IfOk result (λ r. r ≡ trace.now) }
     {
+        let moments = moments_of(alloc, trace)?;
         let rows = rows_of(alloc, trace)?;
-        Ok(ReadyTrace { trace, rows })
+        Ok(ReadyTrace { moments, rows })
     }
 
-    // The trace.
-    pub(crate) fn trace(&self) -> &'t Trace
-        ensures { result.now ≡ self.now }
+    // The facts of a time, none where the trace hasn't got it.
+    pub(crate) fn moment(&self, time: u64) -> Option<&Moment<'t>>
+        ensures { option_copied result ≡ slice_get self.now time }
     {
-        self.trace
+        self.moments.get(time)
     }
 
     // Its facts of this name, in order.
@@ -96,7 +99,7 @@ fn is_true(alloc: Global, f: &Formula, trace: &ReadyTrace<'_>) -> Result<bool, M
     let outside = Levels::Outside;
     let plan = ready_box(alloc, trace, Extent::Whole, &outside, f)?;
     let mut values = Vec::new(alloc);
-    test(trace.trace(), &plan, &mut values)
+    test(trace, &plan, &mut values)
 }
 
 fn answer(alloc: Global, f: &Formula, trace: &ReadyTrace<'_>) -> Result<Verdict, Mem>

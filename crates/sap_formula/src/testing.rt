@@ -2,16 +2,20 @@
 ghost use Rattle.std.specs.Prelude.{◌≡◌, ◌<◌, IfOk, OnOk, drop, length, map};
 ghost use Rattle.std.specs.List.{list_any};
 ghost use Rattle.sap_formula.specs.Truth.{facts_at};
+ghost use Rattle.sap_formula.specs.code.Digests.{fact_in};
 ghost use Rattle.sap_formula.specs.code.PlanView.{atom, guard, held, plan, sight};
 ghost use Rattle.sap_formula.specs.code.Ready.{agreed, any_or_all, fits_atom, is_there, planned, searched, time_at};
 ghost use Rattle.sap_formula.specs.code.Reached.{IsOnlyMet, StaysInFront, chosen};
 ghost use Rattle.sap_terms.specs.View.{tree};
 
 use crate::agreeing::{Places, agree};
+use crate::digest::digest_of;
 use crate::matching::{fits_each, meets, time_in};
+use crate::moment::{Moment, bucket_in};
 use crate::plan::{AtomPlan, GuardPlan, Marks, Plan, Value};
+use crate::ready::ReadyTrace;
 use crate::sighted::Sighted;
-use sap_terms::{Fact, FactList, Items, Mem, Name, Term, Trace};
+use sap_terms::{Fact, FactList, Items, Mem, Name, Term};
 
 // The time of a time variable, 0 where it has no slot.
 fn time_at(values: &Vec<Value<'_>>, time: Option<u64>) -> u64
@@ -78,10 +82,48 @@ fn is_shown_among<'a>(
     Ok(false)
 }
 
+// Whether one of the facts of this digest is.
+#[tactic(auto, using(crate::proofs::SearchSteps::any_laws))]
+fn is_shown_in<'a>(
+    values: &mut Vec<Value<'a>>,
+    n: &Name,
+    a: &AtomPlan<'a>,
+    facts: &'a [&'a Fact],
+) -> Result<bool, Mem>
+    ensures answer { IfOk result (λ b. b ≡ list_any (fits_atom n.now (atom a.now) (map held values.old.items)) (map fact_in facts.now)) }
+    ensures same { OnOk result (values.new.items ≡ values.old.items) }
+{
+    for x in facts {
+        if is_shown_by(values, n, a, *x)? {
+            return Ok(true);
+        }
+    }
+    Ok(false)
+}
+
+// Whether one of the facts of a time is. Where there are many, those of the atom's digest alone are tried.
+fn is_shown_at<'a>(
+    values: &mut Vec<Value<'a>>,
+    n: &Name,
+    a: &AtomPlan<'a>,
+    moment: &'a Moment<'_>,
+) -> Result<bool, Mem>
+    ensures answer { IfOk result (λ b. b ≡ list_any (fits_atom n.now (atom a.now) (map held values.old.items)) moment.now) }
+    ensures same { OnOk result (values.new.items ≡ values.old.items) }
+{
+    match moment.buckets() {
+        Some(buckets) => match digest_of(values, n, a) {
+            Some(digest) => is_shown_in(values, n, a, bucket_in(buckets, digest)),
+            None => is_shown_among(values, n, a, moment.facts()),
+        },
+        None => is_shown_among(values, n, a, moment.facts()),
+    }
+}
+
 // Whether the trace shows the fact at the atom's time.
 #[tactic(auto, using(crate::proofs::SearchSteps::time_laws))]
 fn is_shown<'a>(
-    trace: &'a Trace,
+    trace: &'a ReadyTrace<'_>,
     values: &mut Vec<Value<'a>>,
     n: &Name,
     a: &AtomPlan<'a>,
@@ -89,8 +131,8 @@ fn is_shown<'a>(
     ensures answer { IfOk result (λ b. b ≡ list_any (fits_atom n.now (atom a.now) (map held values.old.items)) (facts_at trace.now (time_at a.now.time (map held values.old.items)))) }
     ensures same { OnOk result (values.new.items ≡ values.old.items) }
 {
-    match trace.get(time_at(values, a.time)) {
-        Some(facts) => is_shown_among(values, n, a, facts),
+    match trace.moment(time_at(values, a.time)) {
+        Some(moment) => is_shown_at(values, n, a, moment),
         None => Ok(false),
     }
 }
@@ -99,7 +141,7 @@ fn is_shown<'a>(
 #[cycle(test)]
 #[tactic(auto, using(crate::proofs::SearchSteps::test_laws))]
 pub(crate) fn test<'a>(
-    trace: &'a Trace,
+    trace: &'a ReadyTrace<'_>,
     p: &Plan<'a>,
     values: &mut Vec<Value<'a>>,
 ) -> Result<bool, Mem>
@@ -125,7 +167,7 @@ pub(crate) fn test<'a>(
 #[cycle(test)]
 #[tactic(auto, using(crate::proofs::SearchSteps::search_laws))]
 fn search<'a>(
-    trace: &'a Trace,
+    trace: &'a ReadyTrace<'_>,
     d: bool,
     guards: &Items<GuardPlan<'a>>,
     from: u64,
@@ -155,7 +197,7 @@ fn meets_only<'a>(values: &mut Vec<Value<'a>>, g: &GuardPlan<'a>) -> Result<bool
 #[cycle(test)]
 #[tactic(auto, using(crate::proofs::SearchSteps::pass_laws))]
 fn pass<'a>(
-    trace: &'a Trace,
+    trace: &'a ReadyTrace<'_>,
     d: bool,
     guards: &Items<GuardPlan<'a>>,
     from: u64,
@@ -181,7 +223,7 @@ fn pass<'a>(
 #[cycle(test)]
 #[tactic(auto, using(crate::proofs::SearchSteps::branch_laws))]
 fn branch<'a>(
-    trace: &'a Trace,
+    trace: &'a ReadyTrace<'_>,
     d: bool,
     guards: &Items<GuardPlan<'a>>,
     at: u64,
@@ -205,7 +247,7 @@ fn branch<'a>(
 #[cycle(test)]
 #[tactic(auto, using(crate::proofs::SearchSteps::choose_laws))]
 fn choose<'a>(
-    trace: &'a Trace,
+    trace: &'a ReadyTrace<'_>,
     d: bool,
     guards: &Items<GuardPlan<'a>>,
     at: u64,
