@@ -11,7 +11,7 @@ use Rattle.std.proofs.lemmas.List.Sums.{fold-append}
 use Rattle.std.proofs.lemmas.Map.Views.{any-filter_same}
 use Rattle.std.proofs.lemmas.Slice.Eq.{bytes_eq-Decides}
 use Rattle.sap_formula.proofs.Agreements.{behind_drop}
-use Rattle.sap_formula.proofs.Slots.{past}
+use Rattle.std.proofs.Math.ListN.{drop_of_length-le}
 use Rattle.indexmap.specs.IndexMap.{IndexMap, get}
 use Rattle.sap_formula.specs.code.Digests.{AreBuckets, Fed, IsDigestOf, PutsFact, bucket, fact_digest, fact_in, fed_by, fed_by_all, fed_name, in_bucket, of_digest}
 use Rattle.sap_formula.specs.code.Ready.{Atom, Held, State, behind, fits_atom, held_term, held_time, is_held, is_there, matched, matched_all, next_term, onward, term_in}
@@ -117,7 +117,7 @@ each_more ps k p ms next held h g e d =
     ap (λ z. fed_by_all (trees_of z) ms held h) (drop_got ps k p e) ∙ ap (λ o. onward o (λ r. fed_by_all (trees_of (drop (k + 1) ps)) r.marks held r.hasher)) d
 
 pub each_end : (ps : List Tree) (k : ℕ) (ms : List (Option ℕ)) (held : List Held) (h : FoldHasher) → length ps ≤ k → fed_by_all (trees_of (drop k ps)) ms held h ≡ Some (record { hasher = h; marks = ms })
-each_end ps k ms held h l = ap (λ z. fed_by_all (trees_of z) ms held h) (past ps k l)
+each_end ps k ms held h l = ap (λ z. fed_by_all (trees_of z) ms held h) (drop_of_length-le ps l)
 
 pub ruleset feed_laws = (each_more, each_end)
 
@@ -180,7 +180,7 @@ fact_put xs k x old new h i p d =
 
 -- all of it
 pub facts_put : {S : Type 0} (xs : List Fact) (k : ℕ) (buckets : IndexMap ℕ (List (Bor Fact)) S) → length xs ≤ k → ((d : ℕ) → of_digest d xs ≡ bucket buckets d ++ of_digest d (drop k xs)) → AreBuckets xs buckets
-facts_put xs k buckets h i d = sym (i d ∙ ap (λ z. bucket buckets d ++ of_digest d z) (past xs k h) ∙ append-nil (bucket buckets d))
+facts_put xs k buckets h i d = sym (i d ∙ ap (λ z. bucket buckets d ++ of_digest d z) (drop_of_length-le xs h) ∙ append-nil (bucket buckets d))
 
 -- one time more
 pub taken_more : {X : Type 0} (xs front : List X) (k : ℕ) (x : X) → slice_get xs k ≡ Some x → front ≡ take k xs → front ++ x ∷ [] ≡ take (k + 1) xs
