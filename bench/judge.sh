@@ -11,7 +11,8 @@
 #   spread       the same on 20,000 lines, of two names each
 #   crowd        a guard with up to 20,000 facts of its name at one time
 #   aside        the same, and an action atom that is no guard
-#   absent       up to 16,000 guards whose fact is nowhere, on 20,000 lines
+#   absent       up to 16,000 guards whose fact is nowhere, behind one whose fact each of 20,000 lines shows
+#   idle         up to 8,000 quantifiers of no cost, behind a guard with 2,500 facts
 #   guards       up to 30,000 guards, each with one fact
 #   nested       thirty quantifiers, of up to 1,000 variables each, one in another
 #   wide         a quantifier of up to 16,000 variables
@@ -103,7 +104,10 @@ make_aside() {
         'print "lemma l: \"All x #i. A(x)@i ==> not B(x)@i\""'
 }
 make_absent() {
-    theory 'print "rule R: [ ] --[ A() ]-> [ ]"' "printf \"lemma l: \\\"Ex #i. \"; halves(\"N()@i\", \" & \", 1, $1); print \"\\\"\""
+    theory 'print "rule R: [ ] --[ A() ]-> [ ]"' "printf \"lemma l: \\\"Ex #i. A()@i & \"; halves(\"N()@i\", \" & \", 1, $1); print \"\\\"\""
+}
+make_idle() {
+    theory 'print "rule R: [ ] --[ A() ]-> [ ]"' "printf \"lemma l: \\\"All #i. A()@i ==> \"; halves(\"(Ex #j. N()@j)\", \" | \", 1, $1); print \"\\\"\""
 }
 make_guards() {
     theory 'print "rule R: [ ] --[ A() ]-> [ ]"' "printf \"lemma l: \\\"Ex #i. \"; halves(\"A()@i\", \" & \", 1, $1); print \"\\\"\""
@@ -161,6 +165,7 @@ spread() { judged spread 95 1 5000 10000 20000; }
 crowd() { judged crowd 71 1 5000 10000 20000; }
 aside() { judged aside - 1 5000 10000 20000; }
 absent() { judged absent 83 20000 4000 8000 16000; }
+idle() { judged idle - 2500 2000 4000 8000; }
 guards() { judged guards - 1 7500 15000 30000; }
 nested() { judged nested 300 1 250 500 1000; }
 wide() { judged wide 1500 1 4000 8000 16000; }
@@ -169,7 +174,7 @@ body() { judged body 80 1 500 1000 2000; }
 checked() { compiled checked 500 4000 8000 16000; }
 occurring() { compiled occurring 400 2000 4000 8000; }
 
-[ $# -gt 0 ] || set -- lemmas terms names spread crowd aside absent guards nested wide arguments body checked occurring
+[ $# -gt 0 ] || set -- lemmas terms names spread crowd aside absent idle guards nested wide arguments body checked occurring
 for family in "$@"; do
     "$family"
 done

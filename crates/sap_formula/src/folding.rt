@@ -38,11 +38,7 @@ pub(crate) fn not_of<'a>(alloc: Global, p: Box<Plan<'a>>) -> Result<Box<Plan<'a>
     }
 }
 
-fn and_of<'a>(
-    alloc: Global,
-    p: Box<Plan<'a>>,
-    q: Box<Plan<'a>>,
-) -> Result<Box<Plan<'a>>, Mem>
+fn and_of<'a>(alloc: Global, p: Box<Plan<'a>>, q: Box<Plan<'a>>) -> Result<Box<Plan<'a>>, Mem>
     ensures { IfOk result (λ r. plan r.value ≡ and_by (constant (plan p.entry.value)) (constant (plan q.entry.value)) (plan p.entry.value) (plan q.entry.value)) }
 {
     match (constant(&p), constant(&q)) {
@@ -54,11 +50,7 @@ fn and_of<'a>(
     }
 }
 
-fn or_of<'a>(
-    alloc: Global,
-    p: Box<Plan<'a>>,
-    q: Box<Plan<'a>>,
-) -> Result<Box<Plan<'a>>, Mem>
+fn or_of<'a>(alloc: Global, p: Box<Plan<'a>>, q: Box<Plan<'a>>) -> Result<Box<Plan<'a>>, Mem>
     ensures { IfOk result (λ r. plan r.value ≡ or_by (constant (plan p.entry.value)) (constant (plan q.entry.value)) (plan p.entry.value) (plan q.entry.value)) }
 {
     match (constant(&p), constant(&q)) {
@@ -70,11 +62,7 @@ fn or_of<'a>(
     }
 }
 
-fn imp_of<'a>(
-    alloc: Global,
-    p: Box<Plan<'a>>,
-    q: Box<Plan<'a>>,
-) -> Result<Box<Plan<'a>>, Mem>
+fn imp_of<'a>(alloc: Global, p: Box<Plan<'a>>, q: Box<Plan<'a>>) -> Result<Box<Plan<'a>>, Mem>
     ensures { IfOk result (λ r. plan r.value ≡ imp_by (constant (plan p.entry.value)) (constant (plan q.entry.value)) (plan p.entry.value) (plan q.entry.value)) }
 {
     match (constant(&p), constant(&q)) {
@@ -86,11 +74,7 @@ fn imp_of<'a>(
     }
 }
 
-fn iff_of<'a>(
-    alloc: Global,
-    p: Box<Plan<'a>>,
-    q: Box<Plan<'a>>,
-) -> Result<Box<Plan<'a>>, Mem>
+fn iff_of<'a>(alloc: Global, p: Box<Plan<'a>>, q: Box<Plan<'a>>) -> Result<Box<Plan<'a>>, Mem>
     ensures { IfOk result (λ r. plan r.value ≡ iff_by (constant (plan p.entry.value)) (constant (plan q.entry.value)) (plan p.entry.value) (plan q.entry.value)) }
 {
     match (constant(&p), constant(&q)) {

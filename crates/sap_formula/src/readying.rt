@@ -40,10 +40,7 @@ pub(crate) fn ready_box<'a>(
         Formula::Action(fact, time) => ready_action(alloc, extent, levels, fact, time),
         Formula::Equal(s, t) => ready_equal(alloc, levels, s, t),
         Formula::Same(i, j) | Formula::Less(i, j) => related(alloc, levels, f, i, j),
-        Formula::Not(g) => not_of(
-            alloc,
-            ready_box(alloc, trace, Extent::Whole, levels, g)?,
-        ),
+        Formula::Not(g) => not_of(alloc, ready_box(alloc, trace, Extent::Whole, levels, g)?),
         Formula::And(g, h) | Formula::Or(g, h) | Formula::Imp(g, h) | Formula::Iff(g, h) => {
             let two = both(
                 ready_box(alloc, trace, left_part(f, extent), levels, g),
