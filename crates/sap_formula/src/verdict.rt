@@ -23,8 +23,10 @@ pub enum Verdict {
 }
 
 /// Whether a checked closed formula is true on a trace of messages, where that doesn't cost more than `MOST_COST` by
-/// `cost`. It recurses as deep as the formula, its conjuncts and its binders. It makes the trace ready: where several
-/// formulas are judged on one trace, `ReadyTrace` does that once.
+/// `cost`. It takes time in proportion to the trace, the formula and the cost. It recurses as deep as the formula is
+/// nested, conjunctions and terms included, and with each guard whose name has two facts or more, of which the cost lets
+/// 23 stand inside one another. It makes the trace ready: where several formulas are judged on one trace, `ReadyTrace` does
+/// that once.
 pub fn judge(alloc: Global, f: &Formula, trace: &Trace) -> Result<Verdict, Mem>
     ensures { (g : Sig) → IsMessageTrace g trace.now → IsClosed g (form f.now) → IfOk result (λ v. IsVerdict g (form f.now) trace.now v) }
 {
