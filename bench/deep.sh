@@ -328,16 +328,19 @@ quantifiers() {
     }'
 }
 
-# list NAME FORMULA: a file and a theory with this formula as a lemma
+# list NAME: a file and a theory with the formula that stands there as a lemma
 list() {
-    name=$1
-    formula=$(cat)
-    echo "theory D begin process: event B() lemma l: \"$formula\" end" > "$work/file.spthy"
-    begin "$name, $(wc -c < "$work/file.spthy") bytes"
-    on_file "$work/file.spthy" "$work/shown.prun"
-    echo
-    echo "theory D begin rule R: [ ] --[ B() ]-> [ ] lemma l: \"$formula\" end" > "$work/file.spthy"
-    on_theory "$name, theory" "$work/file.spthy" "$work/shown.rrun"
+    for front in 'process: event B()' 'rule R: [ ] --[ B() ]-> [ ]'; do
+        (
+            printf 'theory D begin %s lemma l: "' "$front"
+            cat "$work/formula"
+            echo '" end'
+        ) > "$work/file.spthy"
+        case $front in
+            process*) file "$1" "$work/shown.prun" ;;
+            *) on_theory "$1, theory" "$work/file.spthy" "$work/shown.rrun" ;;
+        esac
+    done
 }
 
 # file NAME [RUN]: a file that stands there, with a run
@@ -361,15 +364,21 @@ many() {
 
 lists() {
     for count in 30000 95000; do
-        (printf 'Ex #i. '; halves $count 'B()@i') | list "$count atoms in halves"
-        (printf 'not (Ex #i. '; halves $count 'B()@i'; printf ')') | list "not $count atoms in halves"
+        (printf 'Ex #i. ' && halves $count 'B()@i') > "$work/formula"
+        list "$count atoms in halves"
+        (printf 'not (Ex #i. ' && halves $count 'B()@i' && printf ')') > "$work/formula"
+        list "not $count atoms in halves"
     done
     for count in 2000 2400; do
-        quantifiers 30 $count | list "30 quantifiers of $count variables"
+        quantifiers 30 $count > "$work/formula"
+        list "30 quantifiers of $count variables"
     done
-    quantifiers 1 65000 | list 'one quantifier of 65000 variables'
-    many 60000 'All #i. ' '#kN' ' ' '. B()@i ==> T' | sed 's/\. #k/ #k/' | list '60000 times that nothing guards'
-    many 190000 'Ex #i. B()@i & ' 'T' ' & ' '' | list '190000 parts without parentheses'
+    quantifiers 1 65000 > "$work/formula"
+    list 'one quantifier of 65000 variables'
+    many 60000 'All #i ' '#kN' ' ' '. B()@i ==> T' > "$work/formula"
+    list '60000 times that nothing guards'
+    many 190000 'Ex #i. B()@i & ' 'T' ' & ' '' > "$work/formula"
+    list '190000 parts without parentheses'
     many 40000 'theory D begin process: event B() ' 'restriction rN:"T"' ' ' ' lemma l: "Ex #i. B()@i" end' > "$work/file.spthy"
     file '40000 restrictions' "$work/shown.prun"
     many 20000 'theory D begin process: event B() ' 'lemma lN:"Ex #i. B()@i"' ' ' ' end' > "$work/file.spthy"
@@ -384,7 +393,7 @@ lists() {
     file 'a tuple of 250000 parts' "$work/shown.prun"
     many 80000 'theory D begin functions: ' 'fN/1' ', ' ' process: 0 end' > "$work/file.spthy"
     file '80000 functions' "$work/shown.prun"
-    many 60000 'theory D begin ' 'let N_N = 0' ' ' ' process: 0 end' | sed 's/[0-9]*_/N_/g' > "$work/file.spthy"
+    many 60000 'theory D begin ' 'let XN = 0' ' ' ' process: 0 end' > "$work/file.spthy"
     file '60000 names' "$work/shown.prun"
     many 1999 'theory D begin process: ' "event B()" ' | ' ' end' > "$work/file.spthy"
     file '1999 parallels without parentheses' "$work/shown.prun"
