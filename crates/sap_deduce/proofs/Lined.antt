@@ -1,11 +1,15 @@
 -- Lines as they are stored, and what more of their parts keeps.
-use Rattle.std.proofs.Common.{◌≡◌, ◌<◌, ◌≤◌, ◌+◌, ℕ, List, [], ◌∷◌, ◌++◌, length, map, take, drop, option_map, slice_get, slice_index_or, refl, ap, sym, ◌∙◌, arith, length-append}
+use Rattle.std.proofs.Common.{◌≡◌, ◌<◌, ◌≤◌, ◌+◌, ℕ, List, [], ◌∷◌, ◌++◌, length, map, take, drop, option_map, slice_get, slice_index_or, refl, ap, subst, sym, ◌∙◌, arith, length-append, Bool, true, false, Some, if◌then◌else◌}
 use Rattle.std.specs.Prelude.{Result, Ok, Err, OnErr}
 use Rattle.std.proofs.lemmas.List.{map-append, length-map, get_or_append_left, take-append-le, drop-append-le, append-nil, length-drop}
 use Rattle.std.proofs.Math.Seq.{take-length, drop-append_seam}
 use Rattle.std.proofs.lemmas.Simd.{map-map}
 use Rattle.std.proofs.lemmas.List.Elements.{All-nil, All-head, All-tail, All-push}
-use Rattle.std.proofs.lemmas.Option.{slice_get-map}
+use Rattle.std.proofs.lemmas.Option.{get_or_from_slice_get, slice_get-map}
+use Rattle.std.proofs.lemmas.Slice.Eq.{bytes_eq-Decides}
+use Rattle.std.specs.List.{list_any}
+use Rattle.std.specs.Str.{bytes_eq}
+use Rattle.indexmap.specs.IndexSet.{insert_key}
 use Rattle.sap_terms.specs.View.{tree}
 use Rattle.sap_deduce.specs.declared.entry.Entry.{Entry}
 use Rattle.sap_deduce.specs.declared.origin.Origin.TheVariants.{Apply}
@@ -92,3 +96,19 @@ pub ruleset line_laws = (length-lines_of, slice_get-terms, slice_get-numbers, li
 pub on_err : {T E P : Type 0} (r : Result T E) → P → OnErr r P
 on_err (Ok x) p = tt
 on_err (Err e) p = p
+
+-- a name put among others, unless it is there
+pub more_inserted : (names : List (List ℕ)) (f : List ℕ) → IsMore names (insert_key bytes_eq names f)
+more_inserted names f = at (list_any (bytes_eq f) names) where
+  at : (b : Bool) → IsMore names (if b then names else names ++ f ∷ [])
+  at true = more-none names
+  at false = record { added = f ∷ []; is = refl }
+
+pub more_kept : (names new : List (List ℕ)) (f : List ℕ) → new ≡ insert_key bytes_eq names f → IsMore names new
+more_kept names new f e = subst (λ z. IsMore names z) (sym e) (more_inserted names f)
+
+-- the name at its place
+pub name_stored : (names : List (List ℕ)) (k : ℕ) (f g : List ℕ) → slice_get names k ≡ Some g → bytes_eq f g ≡ true → slice_index_or names k [] ≡ f
+name_stored names k f g h e = get_or_from_slice_get names k g [] h ∙ sym ((bytes_eq-Decides f g).0 e)
+
+pub ruleset place_laws = (more_kept, more-none, name_stored)

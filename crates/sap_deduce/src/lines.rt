@@ -7,14 +7,15 @@ ghost use Rattle.sap_deduce.specs.declared.origin.Origin.TheVariants.{Apply as A
 
 use crate::entry::Entry;
 use crate::way::{Given, Way};
-use sap_terms::{Copied, Items, Mem, Name, NameList, Numbers, Term};
+use indexmap::IndexSet;
+use sap_terms::{Copied, Items, Mem, Name, Numbers, Term};
 use std::alloc::Global;
 use std::marker::Model;
 
 #[derive(Drop)]
 pub(crate) struct Lines {
     entries: Items<Entry>,
-    symbols: NameList,
+    symbols: IndexSet<Name>,
     used: Numbers,
 }
 
@@ -28,36 +29,21 @@ impl Model for Lines {
 
     ghost coded = { Prim.hlevel (codes, tree_code) };
 
-    ghost view = { λ a. lines_of a.symbols a.used a.entries };
+    ghost view = { λ a. lines_of a.symbols.keys a.used a.entries };
 
-    ghost invariant = { λ a. AreWithin (length a.symbols) (length a.used) a.entries };
-}
-
-// The place of a name among these.
-fn place_of(names: &NameList, f: &Name) -> Option<u64>
-    ensures { IfSome result (λ s. (s < length names.now) × (slice_index_or names.now s [] ≡ f.now)) }
-{
-    for k in 0..names.len() {
-        if names.at(k).same(f) {
-            return Some(k);
-        }
-    }
-    None
+    ghost invariant = { λ a. AreWithin (length a.symbols.keys) (length a.used) a.entries };
 }
 
 // The place of a name among these, where it comes last if it isn't there.
-fn place_in(alloc: Global, names: &mut NameList, f: &Name) -> Result<u64, Mem>
-    ensures below { IfOk result (λ s. s < length names.new) }
-    ensures name { IfOk result (λ s. slice_index_or names.new s [] ≡ f.now) }
-    ensures more { IsMore names.old names.new }
+#[tactic(auto, using(crate::proofs::Lined::place_laws))]
+fn place_in(alloc: Global, names: &mut IndexSet<Name>, f: &Name) -> Result<u64, Mem>
+    ensures below { IfOk result (λ s. s < length names.new.keys) }
+    ensures name { IfOk result (λ s. slice_index_or names.new.keys s [] ≡ f.now) }
+    ensures more { IsMore names.old.keys names.new.keys }
 {
-    if let Some(k) = place_of(names, f) {
-        return Ok(k);
-    }
-    let last = names.len();
     let name = f.copy(alloc)?;
-    names.push(name)?;
-    Ok(last)
+    let (place, _) = names.insert_full(name)?;
+    Ok(place as u64)
 }
 
 // Puts numbers behind these, and gives the place of the first.
@@ -80,7 +66,7 @@ impl Lines {
     {
         Lines {
             entries: Items::new(alloc),
-            symbols: NameList::new(alloc),
+            symbols: IndexSet::new(alloc),
             used: Numbers::new(alloc),
         }
     }
