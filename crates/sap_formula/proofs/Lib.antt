@@ -1,4 +1,6 @@
 mod ByHand
+mod ChecksByHand
+mod JudgingByHand
 pub mod Plain
 pub mod Goods
 pub mod Tests
@@ -31,6 +33,7 @@ pub mod Agreements
 pub mod SearchSteps
 pub mod Rows
 pub mod Verdicts
+pub mod OneVerdict
 mod SmallFormulas
 pub mod Remakes
 pub mod Marks
