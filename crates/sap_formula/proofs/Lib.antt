@@ -1,4 +1,6 @@
 mod ByHand
+mod ChecksByHand
+mod JudgingByHand
 pub mod Plain
 pub mod Goods
 pub mod Tests
@@ -33,6 +35,7 @@ pub mod FoldLaws
 pub mod Rows
 pub mod Digests
 pub mod Verdicts
+pub mod OneVerdict
 mod SmallFormulas
 pub mod Remakes
 pub mod Marks

@@ -9,7 +9,9 @@ use Rattle.sap_formula.specs.Sorted.{with_sorts}
 use Rattle.sap_formula.specs.Subterms.{IsSeenMessage}
 use Rattle.sap_formula.specs.Times.{IsTime}
 use Rattle.sap_formula.specs.Truth.{IsTrueOn, IsTrueUnder}
+use Rattle.sap_formula.specs.Verdict.{IsVerdict}
 use Rattle.sap_formula.specs.declared.fault.FormulaFlaw.{FormulaFlaw}
+use Rattle.sap_formula.specs.declared.verdict.Verdict.{Verdict}
 use Rattle.sap_terms.specs.Equations.{equations}
 use Rattle.sap_terms.specs.Message.{IsMessageTrace}
 use Rattle.sap_terms.specs.Signature.{Sig}
@@ -62,3 +64,11 @@ NoFaultLaw = (g : Sig) (r : Bool) (f : Form) (w : FormulaFlaw) (name : List ℕ)
 -- a formula has no fault, or one that counts
 abbrev pub SomeFaultLaw : Type 0
 SomeFaultLaw = (g : Sig) (r : Bool) (f : Form) → HasNoFault g r f ⊎ ((w : FormulaFlaw) × (name : List ℕ) × IsFirstFault g r f w name)
+
+-- of a formula on a trace there is at most one verdict
+abbrev pub OneVerdictLaw : Type 0
+OneVerdictLaw = (g : Sig) (f : Form) (tr : Trace) (v w : Verdict) → IsVerdict g f tr v → IsVerdict g f tr w → v ≡ w
+
+-- of a checked closed one on a trace of messages there is some
+abbrev pub SomeVerdictLaw : Type 0
+SomeVerdictLaw = (g : Sig) (f : Form) (tr : Trace) → IsMessageTrace g tr → IsClosed g f → (v : Verdict) × IsVerdict g f tr v

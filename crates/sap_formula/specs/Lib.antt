@@ -22,3 +22,5 @@ pub mod Verdict
 pub mod Laws
 pub mod HoldsOf
 pub mod Examples
+pub mod CheckExamples
+pub mod JudgeExamples

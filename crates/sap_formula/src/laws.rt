@@ -1,12 +1,21 @@
 // Laws of checked formulas and worked examples of truth, as contracts of functions that do nothing.
-ghost use Rattle.std.specs.Prelude.{[], ◌∷◌, true, false};
-ghost use Rattle.sap_terms.specs.Signature.{Sig};
-ghost use Rattle.sap_formula.specs.Form.{negation};
+ghost use Rattle.std.specs.Prelude.{[], ◌∷◌, ◌≡◌, ◌^◌, ◌-◌, true, false, codes};
+ghost use Rattle.sap_terms.specs.Signature.{Sig, pairs_alone};
 ghost use Rattle.sap_terms.specs.Trace.{Trace};
 ghost use Rattle.sap_formula.specs.Truth.{EachIn, IsTrueOn};
 ghost use Rattle.sap_formula.specs.HoldsOf.{HoldsOf};
 ghost use Rattle.sap_formula.specs.Examples.{a, b, x, fresh_x, public_x, fact, other_fact, trace_a, trace_aa, trace_ab, IsEither, only_a, some_time, two_times, some_b, two_binders, first_of_pair, first_is, one_time_alone, true_ones, false_ones};
-ghost use Rattle.sap_formula.specs.Laws.{SubtermLaw, HiddenBinderLaw, HideLaw, CheckLaw, ClosedLaw, OneFaultLaw, NoFaultLaw, SomeFaultLaw};
+ghost use Rattle.sap_formula.specs.CheckExamples.{IsTold, bad_functions, destructors, reserved_names, unbound, unguarded, two_functions, two_unbound, two_unguarded, function_before, destructor_before, reserved_before, unbound_before, faultless, sdec_declared, with_symmetric, decrypted, sorted_ones};
+ghost use Rattle.sap_formula.specs.Cost.{form_cost};
+ghost use Rattle.sap_formula.specs.Faults.{HasNoFault, IsFirstFault};
+ghost use Rattle.sap_formula.specs.Form.{both, truth, negation};
+ghost use Rattle.sap_formula.specs.Hide.{hide};
+ghost use Rattle.sap_formula.specs.JudgeExamples.{two_and_three, costs, many_times, at_limit, far_beyond, hidden_ones};
+ghost use Rattle.sap_formula.specs.Sorted.{with_sorts};
+ghost use Rattle.sap_formula.specs.Verdict.{IsVerdict};
+ghost use Rattle.sap_formula.specs.declared.fault.FormulaFlaw.TheVariants.{BadFunction, Destructor, Reserved, UnboundVar, Unguarded};
+ghost use Rattle.sap_formula.specs.declared.verdict.Verdict.TheVariants.{Holds, Fails, TooCostly};
+ghost use Rattle.sap_formula.specs.Laws.{OneVerdictLaw, SomeVerdictLaw, SubtermLaw, HiddenBinderLaw, HideLaw, CheckLaw, ClosedLaw, OneFaultLaw, NoFaultLaw, SomeFaultLaw};
 
 use crate::Mode;
 use sap_rewrite::normal_terms_decide;
@@ -47,6 +56,49 @@ pub fn lemmas_by_hand()
     ensures some_restricted { (g : Sig) → ¬ HoldsOf g IsEither (two_times ∷ []) Mode.ExistsTrace only_a }
 {
     truth_by_hand();
+}
+
+/// Faults of small formulas, and the sorts of their binders: each fault where it stands, with the name that is told, and
+/// formulas near it that have none; which of two of a kind counts, and which of two kinds.
+pub fn checks_by_hand()
+    ensures bad_function { EachIn (IsTold BadFunction) bad_functions }
+    ensures destructor { EachIn (IsTold Destructor) destructors }
+    ensures reserved { EachIn (IsTold Reserved) reserved_names }
+    ensures unbound { EachIn (IsTold UnboundVar) unbound }
+    ensures unguarded { EachIn (IsTold Unguarded) unguarded }
+    ensures first_function { EachIn (IsTold BadFunction) two_functions }
+    ensures first_unbound { EachIn (IsTold UnboundVar) two_unbound }
+    ensures first_unguarded { EachIn (IsTold Unguarded) two_unguarded }
+    ensures function_before { IsTold BadFunction (function_before, codes "f") }
+    ensures destructor_before { IsTold Destructor (destructor_before, codes "fst") }
+    ensures reserved_before { IsTold Reserved (reserved_before, codes "Init") }
+    ensures unbound_before { IsTold UnboundVar (unbound_before, codes "y") }
+    ensures none { EachIn (HasNoFault pairs_alone true) faultless }
+    ensures reserved_allowed { EachIn (λ e. HasNoFault pairs_alone false e.0) reserved_names }
+    ensures declared_alone { HasNoFault sdec_declared true decrypted }
+    ensures with_its_equation { IsFirstFault with_symmetric true decrypted Destructor (codes "sdec") }
+    ensures sorts { EachIn (λ e. with_sorts [] e.0 ≡ e.1) sorted_ones }
+{}
+
+/// What judging small formulas costs, verdicts at the limit and beyond it, and what hiding leaves of small traces.
+pub fn judging_by_hand()
+    ensures costs { EachIn (λ e. form_cost two_and_three e.0 ≡ e.1) costs }
+    ensures nothing_shown { form_cost [] at_limit ≡ 0 }
+    ensures at_limit { (g : Sig) → IsVerdict g at_limit (many_times 10) Holds }
+    ensures not_at_limit { (g : Sig) → IsVerdict g (negation at_limit) (many_times 10) Fails }
+    ensures above_limit { (g : Sig) → IsVerdict g (both at_limit truth) (many_times 10) (TooCostly 10000001) }
+    ensures far_above { (g : Sig) → IsVerdict g far_beyond (many_times 10) (TooCostly (2 ^ 64 - 1)) }
+    ensures hidden { EachIn (λ e. hide e.0 ≡ e.1) hidden_ones }
+{}
+
+/// Of a formula on a trace there is at most one verdict, and of a checked closed one on a trace of messages some.
+pub fn one_verdict()
+    ensures one { OneVerdictLaw }
+    ensures some { SomeVerdictLaw }
+{
+    normal_terms_decide();
+    leaves_are_normal();
+    destructors_head_left_sides();
 }
 
 /// The truth of a checked formula on a trace of messages stays the same where message variables range over the subterms

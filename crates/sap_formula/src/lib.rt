@@ -35,8 +35,9 @@ pub use checking::check;
 pub use fault::{FormulaFault, FormulaFlaw};
 pub use formula::Formula;
 pub use laws::{
-    faultless_formulas_are_checked, hiding_keeps_truth, lemmas_by_hand, one_fault, some_fault,
-    truth_by_hand, variables_range_over_subterms,
+    checks_by_hand, faultless_formulas_are_checked, hiding_keeps_truth, judging_by_hand,
+    lemmas_by_hand, one_fault, one_verdict, some_fault, truth_by_hand,
+    variables_range_over_subterms,
 };
 pub use lemma::{Lemma, LemmaList, Mode};
 pub use ready::ReadyTrace;
