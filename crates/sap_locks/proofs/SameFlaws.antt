@@ -6,6 +6,7 @@ use Rattle.std.proofs.lemmas.List.{map-append, take-map}
 use Rattle.sap_terms.specs.Signature.{Sig}
 use Rattle.sap_terms.specs.Tree.{Tree}
 use Rattle.sap_terms.specs.Variables.{is_known}
+use Rattle.sap_terms.specs.declared.limits.TheConstants.{MOST_SCOPE_NAMES}
 use Rattle.sap_terms.specs.declared.fact.Fact.{Fact}
 use Rattle.sap_terms.specs.declared.var.Var.{Var}
 use Rattle.sap_process.specs.Action.{Action, lock, unlock}
@@ -123,7 +124,7 @@ alike_flaw g bs cs s z a SortClash h = record {
   binder = sym (λ i. binder_of ((a.heads i).scope (a.above i).scope) h.var.name) ∙ h.binder;
   other = h.other;
 }
-alike_flaw g bs cs s z a ScopeFull h = subst (λ (u : Above). 64 < length u.scope + u.locks) a.above h
+alike_flaw g bs cs s z a ScopeFull h = subst (λ (u : Above). MOST_SCOPE_NAMES < length u.scope + u.locks) a.above h
 
 -- a process that is another but for labels has its flaws
 same_flaws : (g : Sig) (v : List Var) (p q : Proc) (w : Flaw) (k : ℕ) → unlabelled p ≡ unlabelled q → IsFlawedIn g v p w k → IsFlawedIn g v q w k

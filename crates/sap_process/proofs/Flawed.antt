@@ -11,6 +11,7 @@ use Rattle.sap_terms.specs.Same.{same_sort}
 use Rattle.sap_terms.specs.Signature.{Sig, arity_of, is_destructor_of}
 use Rattle.sap_terms.specs.Tree.{Tree, variable, public, fresh, apply, Trees, none, more, trees_of, list_of}
 use Rattle.sap_terms.specs.Variables.{is_known}
+use Rattle.sap_terms.specs.declared.limits.TheConstants.{MOST_SCOPE_NAMES}
 use Rattle.sap_terms.specs.declared.var.Sort.{Sort}
 use Rattle.sap_terms.specs.declared.var.Sort.TheVariants.{Msg, Fresh, Pub}
 use Rattle.sap_terms.specs.declared.var.Var.{Var}
@@ -261,8 +262,8 @@ sort-clash-tells s = (sound, complete) where
       let any = any-holds (has_other_sort (scope_at s.above.scope s.body)) (terms_vars (head_terms s.body)) c.var c.stands (and_true _ _ (apart-tested c.var.sort Msg c.signed) apart) in
       cc
 
-full-tells : (n : ℕ) → Tells (nat_lt 64 n) (64 < n)
-full-tells n = (ltb-true 64 n, λ h l. let t : nat_lt 64 n ≡ true = lt-ltb 64 n l in cc)
+full-tells : (n : ℕ) → Tells (nat_lt MOST_SCOPE_NAMES n) (MOST_SCOPE_NAMES < n)
+full-tells n = (ltb-true MOST_SCOPE_NAMES n, λ h l. let t : nat_lt MOST_SCOPE_NAMES n ≡ true = lt-ltb MOST_SCOPE_NAMES n l in cc)
 
 -- the shapes that are noted are those of the facts at the places before
 pub record AreSeen (m : Seen) (before : List Site) : Type 0 where

@@ -28,3 +28,5 @@ pub mod NoSteps
 pub mod NewVars
 pub mod NoTraces
 pub mod ExactSteps
+pub mod FlawsByHand
+pub mod PlacesOrdered

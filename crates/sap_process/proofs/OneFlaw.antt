@@ -12,7 +12,7 @@ use Rattle.sap_process.specs.Sites.{Site, sites_in}
 use Rattle.sap_process.specs.Flaws.{IsFirstFlawIn, IsWellFormedIn, rank}
 
 -- of two numbers that are not one before the other they are the same
-same_number : (a b : ℕ) → ¬ (a < b) → ¬ (b < a) → a ≡ b
+pub same_number : (a b : ℕ) → ¬ (a < b) → ¬ (b < a) → a ≡ b
 same_number a b h k = go (ltb a b) (ltb b a) refl refl
   where
     go : (s t : Bool) → ltb a b ≡ s → ltb b a ≡ t → a ≡ b

@@ -10,6 +10,7 @@ use Rattle.sap_terms.specs.Signature.{Sig, arity_of}
 use Rattle.sap_terms.specs.Tree.{Tree}
 use Rattle.sap_terms.specs.Variables.{facts_vars, is_known, new_vars}
 use Rattle.sap_terms.specs.declared.fact.Fact.{Fact}
+use Rattle.sap_terms.specs.declared.limits.TheConstants.{MOST_SCOPE_NAMES}
 use Rattle.sap_terms.specs.declared.var.Sort.TheVariants.{Msg, Pub}
 use Rattle.sap_terms.specs.declared.var.Var.{Var}
 use Rattle.sap_process.specs.declared.flaw.Flaw.{Flaw}
@@ -124,7 +125,7 @@ HasFlaw g before s PatternDestructor = HasPatternDestructor g s
 HasFlaw g before s Unbound = ¬ (unbound s.above.scope s.body ≡ [])
 HasFlaw g before s Rebound = Rebinds s
 HasFlaw g before s SortClash = HasSortClash s
-HasFlaw g before s ScopeFull = 64 < length s.above.scope + s.above.locks
+HasFlaw g before s ScopeFull = MOST_SCOPE_NAMES < length s.above.scope + s.above.locks
 
 -- place k, counted from 0 in preorder, has the flaw, where these variables are in scope at the root
 pub record IsFlawedIn (g : Sig) (scope : List Var) (p : Proc) (w : Flaw) (k : ℕ) : Type 0 where

@@ -13,6 +13,8 @@ pub mod Sorted
 pub mod Configuration
 pub mod ProcessSteps
 pub mod StepExamples
+pub mod FlawExamples
+pub mod ScopeExamples
 pub mod Ready
 pub mod GroundProcess
 pub mod code

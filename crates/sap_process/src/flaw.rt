@@ -26,7 +26,7 @@ pub enum Flaw {
     Rebound,
     /// A variable is signed otherwise than where it was bound.
     SortClash,
-    /// More than 64 variables are in scope, one more for each lock above.
+    /// More than `MOST_SCOPE_NAMES` names are in scope, one more for each lock that is set above, whether it was unlocked or not.
     ScopeFull,
 }
 

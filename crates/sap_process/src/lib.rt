@@ -2,6 +2,7 @@
 #![tactic(auto)]
 
 mod binding;
+mod by_hand;
 mod checking;
 mod copying;
 mod flaw;
@@ -20,6 +21,7 @@ mod substituting;
 mod trail;
 mod walk;
 
+pub use by_hand::{flaws_by_hand, instances_by_hand, scopes_by_hand};
 pub use checking::{well_formed, well_formed_boxed};
 pub use flaw::{Flaw, Ill};
 pub use laws::{
@@ -27,7 +29,7 @@ pub use laws::{
     no_traces_by_hand, one_flaw, runs_stay_ground, sites_are_the_places, some_flaw, sorting_keeps,
     steps_by_hand, traces_by_hand,
 };
-pub use places::{HandsDown, ScopeBelow, places_are_by_path};
+pub use places::{HandsDown, ScopeBelow, places_are_by_path, places_are_ordered};
 pub use process::Process;
 pub use substituting::substitute;
 pub use trail::Trail;

@@ -16,7 +16,7 @@ use std::alloc::Global;
 /// applied pi calculus of Abadi, Blanchet and Fournet). Names in the terms that are put in are not guarded against capture.
 ///
 /// Want of memory is the only error. It recurses as deep as the process and its terms. Each variable costs a scan of the
-/// bindings, of which a scope has at most 64; they are copied only where a name that they bind is bound again.
+/// bindings, of which a scope has at most `MOST_SCOPE_NAMES`; they are copied only where a name that they bind is bound again.
 pub fn substitute(alloc: Global, p: &Process, b: &Bindings) -> Result<Process, Mem>
     ensures { IfOk result (λ q. proc q ≡ process_instance (bound_to b.now) (proc p.now)) }
 {

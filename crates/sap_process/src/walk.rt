@@ -15,7 +15,7 @@ use crate::naming::{bind, has_sort_clash, has_unbound, is_rebound, with_sort};
 use crate::scope::Scope;
 use crate::trail::Trail;
 use crate::{Flaw, Process};
-use sap_terms::{Mem, Path, Signature, Sort, Var};
+use sap_terms::{MOST_SCOPE_NAMES, Mem, Path, Signature, Sort, Var};
 use std::alloc::Global;
 
 // Where a walk in preorder stands: the path of the place, what is in scope there, and what was found before.
@@ -262,7 +262,7 @@ fn is_flawed(
         Flaw::Unbound => has_unbound(alloc, scope, p),
         Flaw::Rebound => Ok(is_rebound(scope, p)),
         Flaw::SortClash => has_sort_clash(alloc, scope, p),
-        Flaw::ScopeFull => Ok(scope.len().saturating_add(locks) > 64),
+        Flaw::ScopeFull => Ok(scope.len().saturating_add(locks) > MOST_SCOPE_NAMES),
     }
 }
 

@@ -6,7 +6,8 @@ pub const MOST_TERM_NODES: u64 = 256;
 /// The most levels of a term that a file, a theory or a run writes, in levels; a leaf has 1.
 pub const MOST_TERM_LEVELS: u64 = 100;
 
-/// The most names in scope at a place of a process, one more for each lock that is held there, in names.
+/// The most names in scope at a place of a process, one more for each lock that is set above it, whether it was unlocked or
+/// not, in names.
 pub const MOST_SCOPE_NAMES: u64 = 64;
 
 /// The longest name of a file, quotes not counted, in bytes.

@@ -12,6 +12,7 @@ use Rattle.sap_terms.specs.Tree.{trees_of}
 use Rattle.sap_terms.specs.TermTests.{has_arity, are_over, any_has_destructor}
 use Rattle.sap_terms.specs.Variables.{is_known}
 use Rattle.sap_terms.specs.declared.fact.Fact.{Fact}
+use Rattle.sap_terms.specs.declared.limits.TheConstants.{MOST_SCOPE_NAMES}
 use Rattle.sap_terms.specs.declared.var.Sort.{Sort}
 use Rattle.sap_terms.specs.declared.var.Sort.TheVariants.{Msg}
 use Rattle.sap_terms.specs.declared.var.Var.{Var}
@@ -102,7 +103,7 @@ has_flaw g PatternDestructor clash scope locks p = any_has_destructor g (trees_o
 has_flaw g Unbound clash scope locks p = has_items (unbound scope p)
 has_flaw g Rebound clash scope locks p = rebinds scope p
 has_flaw g SortClash clash scope locks p = list_any (has_other_sort (scope_at scope p)) (terms_vars (head_terms p))
-has_flaw g ScopeFull clash scope locks p = nat_lt 64 (length scope + locks)
+has_flaw g ScopeFull clash scope locks p = nat_lt MOST_SCOPE_NAMES (length scope + locks)
 
 -- how many of these flaws stand before the first that the place has
 abbrev pub lacking : Sig → Bool → List Var → ℕ → Proc → List Flaw → ℕ
