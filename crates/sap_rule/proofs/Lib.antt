@@ -3,3 +3,4 @@ pub mod Sorts
 pub mod Elements
 pub mod Takings
 pub mod Reached
+pub mod StepForms
