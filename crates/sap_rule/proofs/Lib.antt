@@ -4,3 +4,6 @@ pub mod Elements
 pub mod Takings
 pub mod Reached
 pub mod StepForms
+pub mod ExactSteps
+pub mod ExactUses
+pub mod SmallRuns

@@ -1,18 +1,17 @@
 -- Names, pairs and first parts up to the theory, and the choice of a name for each variable.
-use Rattle.std.proofs.Common.{◌≡◌, ◌<◌, ℕ, zero, suc, List, [], ◌∷◌, Bool, true, false, ◌||◌, refl, sym, ap, subst, ◌∙◌, lit<, arith}
+use Rattle.std.proofs.Common.{◌≡◌, ◌<◌, ℕ, zero, suc, List, [], ◌∷◌, Bool, true, false, refl, arith}
 use Rattle.std.specs.Prelude.{Contains, slice_index_or}
-use Rattle.std.specs.Str.{bytes_eq}
 use Rattle.sap_terms.specs.Choice.{Choice}
 use Rattle.sap_terms.specs.Equal.{same, next, forward}
-use Rattle.sap_terms.specs.Equations.{Equations, equations, IsInstance, first, second, symmetric, asymmetric, signing, revealing, revealed, app2, pair_name}
+use Rattle.sap_terms.specs.Equations.{Equations, IsInstance, first, second, symmetric, asymmetric, signing, revealing, revealed}
 use Rattle.sap_terms.specs.Laws.{NamesAreMessages}
 use Rattle.sap_terms.specs.Message.{IsMessage, IsMessageChoice}
 use Rattle.sap_terms.specs.Normal.{IsNoLeftSide, IsNormal, IsNormalForm}
 use Rattle.sap_terms.specs.Signature.{Sig}
-use Rattle.sap_terms.specs.Tree.{Tree, variable, public, fresh, apply, Trees, none, more, trees_of}
+use Rattle.sap_terms.specs.Tree.{Tree, public, fresh, apply, more}
 use Rattle.sap_terms.specs.declared.var.Sort.{Sort}
 use Rattle.sap_terms.specs.declared.var.Sort.TheVariants.{Msg, Fresh, Pub}
-use Rattle.sap_rule.specs.StepExamples.{a, b, pair, first_of}
+use Rattle.sap_rule.specs.StepExamples.{a, pair, first_of}
 
 -- the first argument at the root is a symbol on trees: so it is in each left side
 abbrev pub leads : Tree → Bool

@@ -1,12 +1,12 @@
 -- Small rules and states, to try the steps of rules and the names of rules by hand.
-use Rattle.std.specs.Prelude.{ℕ, Bool, true, false, codes, List, [], ◌∷◌}
-use Rattle.sap_terms.specs.AdversaryFacts.{linear, fr_fact, out_fact}
+use Rattle.std.specs.Prelude.{ℕ, true, codes, List, [], ◌∷◌}
+use Rattle.sap_terms.specs.AdversaryFacts.{linear}
 use Rattle.sap_terms.specs.Equations.{app1, app2, fst_name, pair_name}
 use Rattle.sap_terms.specs.Piles.{Pile}
 use Rattle.sap_terms.specs.Tree.{Tree, variable, public}
 use Rattle.sap_terms.specs.declared.fact.Fact.{Fact}
 use Rattle.sap_terms.specs.declared.var.Sort.{Sort}
-use Rattle.sap_terms.specs.declared.var.Sort.TheVariants.{Msg, Fresh}
+use Rattle.sap_terms.specs.declared.var.Sort.TheVariants.{Fresh}
 use Rattle.sap_terms.specs.declared.var.Var.{Var}
 use Rattle.sap_rule.specs.RuleSteps.{RuleState}
 use Rattle.sap_rule.specs.declared.rule.Rule.{Rule}

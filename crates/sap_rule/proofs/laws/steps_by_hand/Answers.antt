@@ -1,8 +1,8 @@
 use Rattle.std.proofs.Common.{codes, [], ◌∷◌, refl, lit<, arith}
 use Rattle.std.specs.Prelude.{Contains}
 use Rattle.std.proofs.lemmas.List.Elements.{All-nil, All-cons}
-use Rattle.sap_terms.specs.Equal.{same, next, forward}
-use Rattle.sap_terms.specs.Equations.{equations, first, pair_name, fst_name}
+use Rattle.sap_terms.specs.Equal.{same}
+use Rattle.sap_terms.specs.Equations.{equations, pair_name, fst_name}
 use Rattle.sap_terms.specs.Piles.{one, nothing}
 use Rattle.sap_terms.specs.Signature.{pairs_alone}
 use Rattle.sap_rule.specs.RuleSteps.{makes_name, learns, owns, knows_public, applies, gives, uses}
