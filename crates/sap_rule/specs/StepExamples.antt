@@ -6,7 +6,7 @@ use Rattle.sap_terms.specs.Piles.{Pile}
 use Rattle.sap_terms.specs.Tree.{Tree, variable, public}
 use Rattle.sap_terms.specs.declared.fact.Fact.{Fact}
 use Rattle.sap_terms.specs.declared.var.Sort.{Sort}
-use Rattle.sap_terms.specs.declared.var.Sort.TheVariants.{Fresh}
+use Rattle.sap_terms.specs.declared.var.Sort.TheVariants.{Msg, Fresh}
 use Rattle.sap_terms.specs.declared.var.Var.{Var}
 use Rattle.sap_rule.specs.RuleSteps.{RuleState}
 use Rattle.sap_rule.specs.declared.rule.Rule.{Rule}
@@ -56,6 +56,10 @@ rule name left acts right = record { name = name; left = left; acts = acts; righ
 abbrev pub moving : Sort → Rule
 moving s =
     rule (codes "Moving") (left_fact (var_of s) ∷ []) (shown_fact (first_of (pair (var_of s) b)) ∷ []) (right_fact (first_of (pair (var_of s) b)) ∷ [])
+
+-- L(fst(<x,'b'>)) --[ A(x) ]->
+abbrev pub opening : Rule
+opening = rule (codes "Opening") (left_fact (first_of (pair (var_of Msg) b)) ∷ []) (shown_fact (var_of Msg) ∷ []) []
 
 -- L('a'), L('a') --[ A('a') ]->
 abbrev pub taking_twice : Rule

@@ -15,7 +15,7 @@ ghost use Rattle.sap_terms.specs.declared.var.Sort.TheVariants.{Msg};
 ghost use Rattle.sap_rule.specs.Messages.{TakenAreMessages, StepsKeepMessages, RunsReachMessages};
 ghost use Rattle.sap_rule.specs.Named.{rule_named, HaveNamesOfTheirOwn};
 ghost use Rattle.sap_rule.specs.RuleSteps.{IsFullTrace, RuleState, RuleStep, empty_state};
-ghost use Rattle.sap_rule.specs.StepExamples.{a, b, first_of, lasting_fact, left_fact, moving, named, pair, right_fact, shown_fact, state, taking_lasting, taking_twice, telling};
+ghost use Rattle.sap_rule.specs.StepExamples.{a, b, first_of, lasting_fact, left_fact, moving, named, opening, pair, right_fact, shown_fact, state, taking_lasting, taking_twice, telling};
 ghost use Rattle.sap_rule.specs.declared.rule.Rule.{Rule};
 
 use sap_rewrite::{forms_are_messages, normal_forms_are_unique};
@@ -55,8 +55,8 @@ pub fn names_by_hand()
 
 /// A step of each kind, from one state to the next: a name comes last and is nobody's yet; what was put out and what is owned
 /// is taken and comes last among what is known; what the adversary applies a symbol to stays known, and it gets the normal
-/// form; a term that it gives stays known. A rule puts what it takes for its variables, and shows and adds normal forms; what
-/// it takes is gone, but a persistent fact, which it takes as often as it likes.
+/// form; a term that it gives stays known. A rule takes facts that its left side is equal to under the theory, and shows
+/// and adds normal forms; what it takes is gone, but a persistent fact, which it takes as often as it likes.
 pub fn steps_by_hand()
     ensures makes_name { (g : Sig) (rules : List Rule) → RuleStep g rules (state (Some (left_fact a) ∷ []) (a ∷ []) (4 ∷ [])) []
         (state (Some (left_fact a) ∷ Some (fr_fact 5) ∷ []) (a ∷ []) (4 ∷ 5 ∷ [])) }
@@ -75,6 +75,8 @@ pub fn steps_by_hand()
     ensures uses { (g : Sig) → RuleStep g (telling ∷ moving Msg ∷ [])
         (state (Some (left_fact b) ∷ Some (left_fact a) ∷ []) (a ∷ []) (4 ∷ [])) (shown_fact a ∷ [])
         (state (Some (left_fact b) ∷ None ∷ Some (right_fact a) ∷ []) (a ∷ []) (4 ∷ [])) }
+    ensures uses_equal { (g : Sig) → RuleStep g (opening ∷ []) (state (Some (left_fact a) ∷ []) [] []) (shown_fact a ∷ [])
+        (state (None ∷ []) [] []) }
     ensures uses_lasting { (g : Sig) → RuleStep g (taking_lasting ∷ []) (state (Some (lasting_fact a) ∷ []) [] []) (shown_fact a ∷ [])
         (state (Some (lasting_fact a) ∷ []) [] []) }
 {

@@ -1,12 +1,12 @@
 use Rattle.std.proofs.Common.{codes, [], ◌∷◌, refl, lit<, arith}
 use Rattle.std.specs.Prelude.{Contains}
 use Rattle.std.proofs.lemmas.List.Elements.{All-nil, All-cons}
-use Rattle.sap_terms.specs.Equal.{same}
-use Rattle.sap_terms.specs.Equations.{equations, pair_name, fst_name}
+use Rattle.sap_terms.specs.Equal.{same, next, forward}
+use Rattle.sap_terms.specs.Equations.{equations, first, pair_name, fst_name}
 use Rattle.sap_terms.specs.Piles.{one, nothing}
 use Rattle.sap_terms.specs.Signature.{pairs_alone}
 use Rattle.sap_rule.specs.RuleSteps.{makes_name, learns, owns, knows_public, applies, gives, uses}
-use Rattle.sap_rule.specs.StepExamples.{a, b, lasting_fact, left_fact, moving, pair, right_fact, shown_fact, taking_lasting}
+use Rattle.sap_rule.specs.StepExamples.{a, b, lasting_fact, left_fact, moving, opening, pair, right_fact, shown_fact, taking_lasting}
 use Rattle.sap_rule.proofs.StepForms.{own_form, pair_form, first_form, names, names_messages, no_other}
 use Rattle.sap_rule.proofs.laws.steps_by_hand.Goals as goal
 
@@ -43,6 +43,16 @@ returns-clause-uses c = λ g. uses (moving _) (1 ∷ []) names (left_fact a ∷ 
       takes = (record { name = refl; persistent = refl; args = (same, tt) }, tt);
       shows = (record { name = refl; persistent = refl; args = (first_form (equations g) (codes "a") b, tt) }, tt);
       adds = (record { name = refl; persistent = refl; args = (first_form (equations g) (codes "a") b, tt) }, tt);
+    })
+
+pub returns-clause-uses_equal : goal.returns-clause-uses_equal
+returns-clause-uses_equal c = λ g. uses opening (0 ∷ []) names (left_fact a ∷ []) (shown_fact a ∷ []) [] (0, lit< tt, refl)
+    (one refl nothing)
+    (record {
+      messages = names_messages c.names_are_messages.ensures g;
+      takes = (record { name = refl; persistent = refl; args = (next (forward first) same, tt) }, tt);
+      shows = (record { name = refl; persistent = refl; args = (own_form (equations g) (codes "a"), tt) }, tt);
+      adds = tt;
     })
 
 pub returns-clause-uses_lasting : goal.returns-clause-uses_lasting
