@@ -3,3 +3,7 @@ pub mod Sorts
 pub mod Elements
 pub mod Takings
 pub mod Reached
+pub mod StepForms
+pub mod ExactSteps
+pub mod ExactUses
+pub mod SmallRuns

@@ -11,7 +11,6 @@ use Rattle.sap_terms.specs.Equations.{equations}
 use Rattle.sap_terms.specs.Trace.{Trace}
 use Rattle.sap_terms.specs.Tree.{Tree, public, fresh, apply, trees_of}
 use Rattle.sap_terms.specs.declared.fact.Fact.{Fact}
-use Rattle.sap_formula.specs.Hide.{hide}
 use Rattle.sap_rule.specs.declared.rule.Rule.{Rule}
 
 -- where a run of rules stands
@@ -72,7 +71,3 @@ pub data RuleRun (g : Sig) (rules : List Rule) : RuleState → Trace → Type 0 
 -- this is the full trace of some run of the rules
 abbrev pub IsFullTrace : Sig → List Rule → Trace → Type 0
 IsFullTrace g rules full = (s : RuleState) × RuleRun g rules s full
-
--- this is the visible trace of some run of theirs: its full trace without what is hidden
-abbrev pub IsVisibleTraceOf : Sig → List Rule → Trace → Type 0
-IsVisibleTraceOf g rules tr = (full : Trace) × IsFullTrace g rules full × (hide full ≡ tr)
