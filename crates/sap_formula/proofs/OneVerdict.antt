@@ -7,7 +7,7 @@ use Rattle.sap_formula.proofs.Planning.{plan_law}
 use Rattle.sap_formula.specs.Cost.{form_cost}
 use Rattle.sap_formula.specs.Laws.{OneVerdictLaw, SomeVerdictLaw}
 use Rattle.sap_formula.specs.Verdict.{IsVerdict}
-use Rattle.sap_formula.specs.code.Ready.{judged}
+use Rattle.sap_formula.specs.code.Folded.{judged}
 use Rattle.sap_formula.specs.declared.verdict.TheConstants.{MOST_COST}
 use Rattle.sap_formula.specs.declared.verdict.Verdict.{Verdict}
 use Rattle.sap_formula.specs.declared.verdict.Verdict.TheVariants.{Holds, Fails, TooCostly}
