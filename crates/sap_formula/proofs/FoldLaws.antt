@@ -1,5 +1,5 @@
 -- A formula made ready says the same without what is true or false for sure.
-use Rattle.std.proofs.Common.{◌≡◌, ℕ, List, [], ◌∷◌, Bool, true, false, not, ◌&&◌, ◌||◌, Option, Some, None, refl, sym, ap, subst, ◌∙◌, if◌then◌else◌}
+use Rattle.std.proofs.Common.{◌≡◌, List, [], ◌∷◌, Bool, true, false, not, ◌&&◌, ◌||◌, Option, Some, None, refl, sym, ap, ◌∙◌, if◌then◌else◌}
 use Rattle.std.specs.List.{list_any, list_all}
 use Rattle.sap_formula.specs.code.Folded.{and_by, are_idle, constant, folded, iff_by, imp_by, is_bare, not_by, not_of, or_by, search_by, search_of}
 use Rattle.sap_formula.specs.code.Ready.{Guard, Held, Plan, Sight, alike, always, and_then, any_or_all, at_once, before, equals, guarded, if_then, inverse, or_else, planned, search, searched, shows, with_some}
