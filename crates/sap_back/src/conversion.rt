@@ -27,7 +27,7 @@ use std::alloc::Global;
 /// Init`, `RepStart_`, `OutMsg_`, `OutAck_`, `fresh` and `learn`, and one for a `know` and the rule that takes it; a `know`
 /// that no rule takes stays a `know`. `Step` names the first line that is refused, `Broken` the first that makes one of the
 /// seven restrictions false; the earlier is answered, and of one line the refusal. `bench/replays.sh` counts that twice the
-/// lines take about twice the instructions.
+/// lines take about twice the instructions. It recurses as deep as the file's process and the terms of file and run.
 pub fn to_process(alloc: Global, f: &File, run: &RSteps) -> Result<PSteps, BackAt>
     requires { IsRunnable (told_by f.now) }
     ensures ok { IfOk result (IsConverted f.now.signature (proc f.now.process) run.now) }
@@ -56,6 +56,7 @@ pub fn to_process(alloc: Global, f: &File, run: &RSteps) -> Result<PSteps, BackA
 }
 
 /// The full trace of a run of the file's rules, one time a line. `Step` and `Broken` are those of `to_process`.
+/// It recurses as deep as the file's process and the terms of file and run.
 pub fn rule_trace(alloc: Global, f: &File, run: &RSteps) -> Result<Trace, BackAt>
     requires { IsRunnable (told_by f.now) }
     ensures ok { IfOk result (λ full. (s : State) × IsCounted f.now.signature (proc f.now.process) run.now s full) }

@@ -73,7 +73,7 @@ impl Model for Config {
 
 impl Config {
     /// A configuration in which the process runs as thread 0, and nothing else is there. The process is read once; it is not
-    /// kept.
+    /// kept. It recurses as deep as the process and its terms.
     pub fn start(alloc: Global, sig: &Signature, p: &Process) -> Result<Config, Mem>
         requires { IsReady sig.now (proc p.now) }
         ensures sig { IfOk result (λ c. c.sig ≡ sig.now) }

@@ -24,6 +24,8 @@ impl Config {
     /// - `Embedded`: `FactCount`, `FactMissing`, `BadBinding`, `NoMatch`, `TermLarge`.
     ///
     /// Numbers count from 0. The notion is the step of the calculus SAPIC, cut so that each choice is written.
+    ///
+    /// It recurses as deep as the terms of the process, the line and the entries.
     pub fn step(&mut self, alloc: Global, s: &PStep) -> Result<FactList, PFault>
         ensures ok { IfOk result (IsDone self.old self.new s.now) }
         ensures refused { IfErr result (IsDenied self.old s.now) }

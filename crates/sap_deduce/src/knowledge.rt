@@ -244,7 +244,7 @@ impl Knowledge {
         )
     }
 
-    /// Adds a term that was sent, and gives the entry's number.
+    /// Adds a term that was sent, and gives the entry's number. It recurses as deep as the terms that it is given.
     pub fn output(&mut self, t: Term) -> Result<u64, Mem>
         requires message { IsMessage self.old.sig Msg (tree t) }
         requires within { node_count (tree t) ≤ MOST_TERM_NODES }

@@ -74,7 +74,7 @@ impl<'t> ReadyTrace<'t> {
     }
 
     /// What judging the formula on the trace costs, as `cost` says it. It takes no memory, and time in proportion to the
-    /// formula: how many facts have a name is known, and isn't counted.
+    /// formula: how many facts have a name is known, and isn't counted. It recurses as deep as the formula.
     pub fn cost(&self, f: &Formula) -> u64
         ensures { result ≡ min (form_cost self.now (form f.now)) (2 ^ 64 - 1) }
     {

@@ -98,6 +98,7 @@ pub(crate) fn cost_on<T: CountsFacts>(f: &Formula, trace: &T) -> u64
 
 /// What judging the formula on the trace costs; sums and products stop at the type's last value. It takes no memory. It
 /// goes over the trace once for each action that guards a quantifier, which `ReadyTrace::cost` doesn't.
+/// It recurses as deep as the formula.
 pub fn cost(f: &Formula, trace: &Trace) -> u64
     ensures { result ≡ min (form_cost trace.now (form f.now)) (2 ^ 64 - 1) }
 {

@@ -121,7 +121,7 @@ fn first_desk(alloc: Global, f: &File, run: &PSteps) -> Result<Box<Desk>, Mem>
 /// made of what a `new` or a `name` draws, in its own lines, and in those of a `lock` or a `sync` of the name that the lock or
 /// tag gets: in turn the least names that no line of the run draws. `Step` names the first illegal line; the file's own
 /// restrictions refuse none. `bench/replays.sh` counts that twice the lines take about twice the
-/// instructions.
+/// instructions. It recurses as deep as the file's process and the terms of file and run.
 pub fn to_rules(alloc: Global, f: &File, run: &PSteps) -> Result<RSteps, At>
     requires { IsRunnable (told_by f.now) }
     ensures ok { IfOk result (IsConverted f.now.signature (proc f.now.process) run.now) }

@@ -102,6 +102,7 @@ pub(crate) fn started(alloc: Global, f: &File) -> Result<Box<Config>, Mem>
 }
 
 /// What a run of the file's process shows: its labels that aren't empty, in order. `Step` names the first illegal line.
+/// It recurses as deep as the file's process and the terms of file and run.
 pub fn process_trace(alloc: Global, f: &File, run: &PSteps) -> Result<Trace, At>
     requires { IsRunnable (told_by f.now) }
     ensures ok { IfOk result (λ tr. IsShownBy f.now.signature (proc f.now.process) run.now tr) }

@@ -20,6 +20,7 @@ use std::alloc::Global;
 /// The theory of a file whose process is annotated: the file's name and signature, the rules of the process, the
 /// restrictions that it needs and then the file's own, and the file's lemmas. Where these are to be inlined the theory has no
 /// restrictions, and each lemma carries a copy of all of them in its formula. Want of memory is the only error.
+/// It recurses as deep as the file's process, formulas and terms.
 pub fn theory_of(alloc: Global, f: &File, inlined: bool) -> Result<Theory, Mem>
     ensures plain { inlined ≡ false → IfOk result (λ t. t ≡ file_theory (told_by f.now)) }
     ensures inlined { inlined ≡ true → IfOk result (λ t. t ≡ inlined_file_theory (told_by f.now)) }

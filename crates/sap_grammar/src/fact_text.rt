@@ -7,7 +7,7 @@ use crate::term_text::push_terms;
 use sap_terms::{Fact, FactList, Mem};
 use sap_text::Text;
 
-/// Its name and its arguments, behind `!` where it is persistent.
+/// Its name and its arguments, behind `!` where it is persistent. It recurses as deep as the terms that it is given.
 pub fn push_fact(text: &mut Text, fact: &Fact) -> Result<(), Mem>
     ensures { OnOk result (text.new ≡ text.old ++ fact_text fact.now) }
 {
@@ -31,7 +31,7 @@ fn push_each_fact(text: &mut Text, facts: &FactList) -> Result<(), Mem>
     Ok(())
 }
 
-/// One side of a rule.
+/// One side of a rule. It recurses as deep as the terms that it is given.
 pub fn push_facts(text: &mut Text, facts: &FactList) -> Result<(), Mem>
     ensures { OnOk result (text.new ≡ text.old ++ facts_text facts.now) }
 {

@@ -47,7 +47,7 @@ fn is_pair(f: &Name, args: &TermList) -> bool
     }
 }
 
-/// A term on its own.
+/// A term on its own. It recurses as deep as the terms that it is given.
 pub fn push_whole_term(text: &mut Text, t: &Term) -> Result<(), Mem>
     ensures { OnOk result (text.new ≡ text.old ++ tree_text (tree t.now)) }
 {
@@ -103,7 +103,7 @@ fn push_applied(text: &mut Text, f: &Name, args: &TermList) -> Result<(), Mem>
     Ok(())
 }
 
-/// Terms with commas between them.
+/// Terms with commas between them. It recurses as deep as the terms that it is given.
 #[cycle(push_term)]
 pub fn push_terms(text: &mut Text, terms: &TermList) -> Result<(), Mem>
     ensures { OnOk result (text.new ≡ text.old ++ joined (codes ",") (map tree_text terms.now)) }

@@ -17,6 +17,7 @@ use sap_terms::{MOST_TERM_NODES, Mem, Term, leaves_are_normal};
 use std::alloc::Global;
 
 /// The number of the normal form of a term under what is bound; None where that of a subterm has more than 256 nodes.
+/// It recurses as deep as the terms that it is given.
 pub fn value_unless_large(
     alloc: Global,
     table: &mut Table,
@@ -35,7 +36,7 @@ pub fn value_unless_large(
     }
 }
 
-/// The number of the normal form of a term under what is bound.
+/// The number of the normal form of a term under what is bound. It recurses as deep as the terms that it is given.
 pub fn value(alloc: Global, table: &mut Table, env: &Env, t: &Term) -> Result<u64, PFault>
     requires env { AreSmallForms (equations table.old.sig) MOST_TERM_NODES table.old.trees env.now }
     requires can { CanEvaluate table.old env.now (tree t.now) }
@@ -51,6 +52,7 @@ pub fn value(alloc: Global, table: &mut Table, env: &Env, t: &Term) -> Result<u6
 }
 
 /// The numbers of the normal forms of two terms under what is bound.
+/// It recurses as deep as the terms that it is given.
 pub fn values(
     alloc: Global,
     table: &mut Table,

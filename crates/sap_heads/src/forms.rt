@@ -76,7 +76,7 @@ fn form_of_fact(alloc: Global, table: &mut Table, env: &Env, f: &Fact) -> Result
     }
 }
 
-/// The normal form of a fact under what is bound, alone.
+/// The normal form of a fact under what is bound, alone. It recurses as deep as the terms that it is given.
 pub fn shown_form(alloc: Global, table: &mut Table, env: &Env, f: &Fact) -> Result<FactList, PFault>
     requires env { AreSmallForms (equations table.old.sig) MOST_TERM_NODES table.old.trees env.now }
     requires can { All (CanEvaluate table.old env.now) f.now.args }

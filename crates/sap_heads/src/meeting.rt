@@ -20,6 +20,7 @@ use std::alloc::Global;
 
 /// What is bound for the one that takes, where it takes on l what fits p, and the other sends n on m. The three terms are
 /// evaluated first, then the pattern is tried, and the channels are compared last.
+/// It recurses as deep as the terms that it is given.
 pub fn met(
     alloc: Global,
     table: &mut Table,

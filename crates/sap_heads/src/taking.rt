@@ -45,6 +45,7 @@ fn match_of(
 }
 
 /// What is bound where the pattern fits the term of the number: behind what was bound, the pattern's new variables.
+/// It recurses as deep as the terms that it is given.
 pub fn fitted(
     alloc: Global,
     table: &Table,
@@ -93,7 +94,7 @@ fn parts(table: &Table, e: u64) -> Option<(u64, u64)>
 }
 
 /// What is bound where the term of the number is a pair of the channel m and of what the pattern n fits. The channel is
-/// evaluated first, and compared last.
+/// evaluated first, and compared last. It recurses as deep as the terms that it is given.
 pub fn received(
     alloc: Global,
     table: &mut Table,

@@ -87,7 +87,7 @@ fn sides(
 }
 
 /// What is bound where the rule with these three lists is used on the cited facts, and what it shows and adds. What its left
-/// side leaves open stands for the terms of the bindings.
+/// side leaves open stands for the terms of the bindings. It recurses as deep as the terms that it is given.
 pub fn used(
     alloc: Global,
     table: &mut Table,

@@ -62,7 +62,7 @@ fn sides(
     Ok((l, e, r.copy(alloc)?))
 }
 
-/// The form of a process. Want of memory is the only error.
+/// The form of a process. Want of memory is the only error. It recurses as deep as the process.
 pub fn form_of(alloc: Global, p: &Process) -> Result<Form, Mem>
     ensures { IfOk result (λ f. (q r : Proc) → form_proc f q r ≡ with_children (proc p.now) q r) }
 {

@@ -40,13 +40,14 @@ pub struct File {
 
 impl File {
     /// A file that tells the same. Want of memory is the only error.
+    /// It recurses as deep as the file's process, formulas and terms.
     pub fn copy(&self, alloc: Global) -> Result<File, Mem>
         ensures { IfOk result (λ f. told_by f ≡ told_by self.now) }
     {
         Ok(Box::into_inner(self.boxed_copy(alloc)?))
     }
 
-    /// The same in a box.
+    /// The same in a box. It recurses as deep as the file's process, formulas and terms.
     pub fn boxed_copy(&self, alloc: Global) -> Result<Box<File>, Mem>
         ensures { IfOk result (λ f. told_by f.value ≡ told_by self.now) }
     {

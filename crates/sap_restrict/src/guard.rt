@@ -60,6 +60,7 @@ impl Guard {
     /// the first. Kept, the guard stands for each trace for which it stood, with the time behind it, and all seven formulas are
     /// true there, for every signature for which that is a trace of messages. Broken or refused for want of memory, it keeps
     /// what it kept. It takes time in the size of the facts on average, however long the trace is.
+    /// It recurses as deep as the facts' terms.
     pub fn admit(&mut self, acts: &FactList) -> Result<Admit, Mem>
         requires { HasOneReserved acts.now }
         ensures ok { IfOk result (λ a. Answers a (machine self.old) (machine self.new) acts.now) }

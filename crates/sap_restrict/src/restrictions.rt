@@ -35,6 +35,7 @@ fn name_of(alloc: Global, which: Which) -> Result<Name, Mem>
 }
 
 /// The restrictions that the process needs, in their order. Want of memory is the only error.
+/// It recurses as deep as the process.
 pub fn needed_restrictions(alloc: Global, p: &Process) -> Result<RestrictionList, Mem>
     ensures { IfOk result (λ rs. rs ≡ needed_restrictions (proc p.now)) }
 {

@@ -47,7 +47,7 @@ fn normal_all(alloc: Global, sig: &Signature, ts: &TermList) -> Result<TermList,
     Ok(out)
 }
 
-/// Whether a signature's equations make the two terms equal.
+/// Whether a signature's equations make the two terms equal. It recurses as deep as the terms that it is given.
 pub fn same_modulo(alloc: Global, sig: &Signature, a: &Term, b: &Term) -> Result<bool, Mem>
     ensures { IfOk result (λ r. IsTrue r ↔ IsTheoryEqual (equations sig.now) (tree a.now) (tree b.now)) }
 {

@@ -107,7 +107,7 @@ fn small_reduced<L: Lends>(
 
 /// The normal form of a symbol on normal terms that are lent, if it has at most `most` nodes; `Large` if it has more.
 /// Since the terms are normal, the equations are tried at the symbol alone. The normal form is counted before anything
-/// is copied, and only what stands in it is copied.
+/// is copied, and only what stands in it is copied. It recurses as deep as the terms that it is given.
 pub fn normal_on(
     alloc: Global,
     sig: &Signature,

@@ -64,6 +64,7 @@ impl Theory {
     }
 
     /// Whether each rule is well made, so that the theory's rules can be run. It takes time in proportion to the rules.
+    /// It recurses as deep as the rules' terms.
     pub fn can_run(&self, alloc: Global) -> Result<bool, Mem>
         ensures { IfOk result (λ b. IsTrue b ↔ All (IsWellMade self.now.signature) self.now.rules) }
     {

@@ -23,7 +23,7 @@ pub fn is_well_made(alloc: Global, sig: &Signature, r: &Rule) -> Result<bool, Me
     is_well_shaped(alloc, r)
 }
 
-/// Whether each symbol of the rule is held with its arity.
+/// Whether each symbol of the rule is held with its arity. It recurses as deep as the rule's terms.
 pub fn is_rule_over(sig: &Signature, r: &Rule) -> bool
     ensures { IsTrue result ↔ IsRuleOver sig.now r.now }
 {
@@ -31,7 +31,7 @@ pub fn is_rule_over(sig: &Signature, r: &Rule) -> bool
 }
 
 /// Whether `Fr` and `In` stand only on the rule's left side, `Out` only on its right side, each linear with one argument;
-/// `K`, `KU` and `KD` nowhere; and no name of a variable with two sorts.
+/// `K`, `KU` and `KD` nowhere; and no name of a variable with two sorts. It recurses as deep as the rule's terms.
 pub fn is_well_shaped(alloc: Global, r: &Rule) -> Result<bool, Mem>
     ensures { IfOk result (λ b. IsTrue b ↔ IsWellShaped r.now) }
 {

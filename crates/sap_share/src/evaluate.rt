@@ -41,7 +41,7 @@ impl Table {
 
     /// The number of the normal form of a term under what is bound, if no subterm's normal form has more nodes than the
     /// limit; `Large` where one has. No tree is built. Refused, the table may have more numbers than before, and those given
-    /// before mean what they meant.
+    /// before mean what they meant. It recurses as deep as the terms that it is given.
     #[cycle(evaluate)]
     #[tactic(auto, using(crate::proofs::Evaluated::evaluate_laws))]
     pub fn evaluate(&mut self, alloc: Global, env: &Env, t: &Term, most: u64) -> Result<u64, Cut>

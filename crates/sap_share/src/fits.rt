@@ -114,7 +114,7 @@ impl Table {
 
     /// The match of a pattern with the term of a number: what is bound, and then a number for each of the pattern's variables
     /// that isn't bound, in order of first occurrence, which turn the pattern into the term; false where there is none.
-    /// Where it is false or fails, more may be bound than before.
+    /// Where it is false or fails, more may be bound than before. It recurses as deep as the terms that it is given.
     pub fn fits(&self, alloc: Global, pattern: &Term, id: u64, env: &mut Env) -> Result<bool, Mem>
         requires id { id < length self.now.trees }
         requires env { AreBound (length self.now.trees) env.old }
@@ -127,6 +127,7 @@ impl Table {
 
     /// The match of patterns with the terms of numbers, one by one: that of a symbol on the patterns with the same symbol on the
     /// terms, whatever the symbol is. Where it is false or fails, more may be bound than before.
+    /// It recurses as deep as the terms that it is given.
     pub fn fits_each(
         &self,
         alloc: Global,

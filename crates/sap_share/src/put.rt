@@ -12,6 +12,7 @@ use std::alloc::Global;
 
 impl Table {
     /// The number of a ground term. Refused, the table may have more numbers than before.
+    /// It recurses as deep as the terms that it is given.
     #[cycle(put)]
     #[tactic(auto, using(crate::proofs::Kept::put_laws))]
     pub fn put(&mut self, alloc: Global, t: &Term) -> Result<u64, Mem>

@@ -13,6 +13,7 @@ use sap_terms::{Bindings, Copied, MOST_TERM_NODES, Mem, Signature, Vars};
 use std::alloc::Global;
 
 /// The bindings with numbers for their terms. Refused, the table may have more numbers than before.
+/// It recurses as deep as the terms that it is given.
 #[tactic(auto, using(crate::proofs::Kept::kept_laws))]
 pub fn number_bindings(table: &mut Table, alloc: Global, b: &Bindings) -> Result<Env, Mem>
     requires { All (λ e. IsMessage table.old.sig e.var.sort (tree e.term)) b.now }
@@ -68,7 +69,7 @@ pub fn are_of(b: &Bindings, vars: &Vars) -> bool
     true
 }
 
-/// Whether each is to a message of its variable's sort.
+/// Whether each is to a message of its variable's sort. It recurses as deep as the terms that it is given.
 pub fn are_messages(alloc: Global, sig: &Signature, b: &Bindings) -> Result<bool, Mem>
     ensures { IfOk result (λ r. IsTrue r ↔ All (λ e. IsMessage sig.now e.var.sort (tree e.term)) b.now) }
 {

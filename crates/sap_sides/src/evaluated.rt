@@ -16,6 +16,7 @@ use sap_terms::{
 use std::alloc::Global;
 
 /// The normal forms of these facts under the bindings; Large where that of a subterm has more than 256 nodes.
+/// It recurses as deep as the terms that it is given.
 pub fn forms_of_facts(
     alloc: Global,
     sig: &Signature,

@@ -45,6 +45,7 @@ fn fit_args(
 
 /// Whether a fact without destructors fits a fact with numbers, under what is bound and what is bound then: a number for
 /// each of its variables that wasn't bound. Where it is false or fails, more may be bound than before.
+/// It recurses as deep as the terms that it is given.
 pub fn fit_fact(
     table: &Table,
     alloc: Global,

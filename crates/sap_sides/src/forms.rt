@@ -72,6 +72,7 @@ fn form_fact(table: &mut Table, alloc: Global, env: &Env, f: &Fact) -> Result<Sh
 
 /// The normal forms of these facts under what is bound, with numbers for their arguments; Large where that of a subterm
 /// has more than 256 nodes. Refused, the table may have more numbers than before.
+/// It recurses as deep as the terms that it is given.
 #[tactic(auto, using(crate::proofs::ByNumbers::side_laws))]
 pub fn form_facts(
     table: &mut Table,
@@ -113,6 +114,7 @@ fn form_acts(table: &mut Table, alloc: Global, env: &Env, fs: &FactList) -> Resu
 
 /// What a rule with these acts and this right side shows and adds under what is bound; Large where the normal form of a
 /// subterm has more than 256 nodes. Refused, the table may have more numbers than before.
+/// It recurses as deep as the terms that it is given.
 pub fn form_sides(
     table: &mut Table,
     alloc: Global,

@@ -10,7 +10,7 @@ use sap_terms::{Bindings, Fact, FactList, Mem, Signature, TermList};
 use std::alloc::Global;
 
 /// The bindings b and then terms for the variables of these facts outside destructors, which turn the facts into the
-/// others around destructors; None where there are none.
+/// others around destructors; None where there are none. It recurses as deep as the terms that it is given.
 pub fn match_facts(
     alloc: Global,
     sig: &Signature,

@@ -46,6 +46,7 @@ fn trees_of_numbers(table: &Table, alloc: Global, ks: &Numbers) -> Result<TermLi
 }
 
 /// The fact with numbers for its arguments. Refused, the table may have more numbers than before.
+/// It recurses as deep as the terms that it is given.
 pub fn share_fact(table: &mut Table, alloc: Global, f: &Fact) -> Result<SharedFact, Mem>
     requires { IsSmallMessageFact table.old.sig f.now }
     ensures shared { IfOk result (IsShared table.new.trees f.now) }
@@ -70,6 +71,7 @@ pub(crate) fn push_fact(shared: &mut Vec<SharedFact>, f: SharedFact) -> Result<(
 }
 
 /// The facts with numbers for their arguments. Refused, the table may have more numbers than before.
+/// It recurses as deep as the terms that it is given.
 #[tactic(auto, using(crate::proofs::Kept::kept_laws))]
 pub fn share_facts(table: &mut Table, alloc: Global, fs: &FactList) -> Result<Vec<SharedFact>, Mem>
     requires { All (IsSmallMessageFact table.old.sig) fs.now }

@@ -71,7 +71,7 @@ fn made_ready(alloc: Global, sig: &Signature, rules: &RuleList) -> Result<Named<
 }
 
 impl RuleState {
-    /// Where each run of the theory's rules starts.
+    /// Where each run of the theory's rules starts. It recurses as deep as the terms of the rules.
     pub fn start(alloc: Global, t: &Theory) -> Result<RuleState, Mem>
         requires { All (IsWellMade t.now.signature) t.now.rules }
         ensures sig { IfOk result (λ s. s.sig ≡ t.now.signature) }
@@ -99,6 +99,7 @@ impl RuleState {
 
     /// Takes one step, and gives what it shows, which are facts of messages. Refused, the state is as it was; the fault is
     /// want of memory, or the first test of the step that fails.
+    /// It recurses as deep as the terms of the rules, the step and the entries.
     pub fn step(&mut self, alloc: Global, s: &RStep) -> Result<FactList, RFault>
         ensures ok { IfOk result (λ acts. IsLine self.old.sig self.old.rules IsSmall self.old.at s.now acts self.new.at) }
         ensures refused { IfErr result (IsLineFault self.old.sig self.old.rules self.old.at s.now) }

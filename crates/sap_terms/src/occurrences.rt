@@ -23,7 +23,7 @@ pub fn push_vars(alloc: Global, t: &Term, out: &mut Vars) -> Result<(), Mem>
     Ok(())
 }
 
-/// Puts last those in these terms, one term after another.
+/// Puts last those in these terms, one term after another. It recurses as deep as the terms that it is given.
 #[cycle(push)]
 #[tactic(auto, using(crate::proofs::PlainLaws::Lists::front_laws))]
 pub fn push_all_vars(alloc: Global, ts: &TermList, out: &mut Vars) -> Result<(), Mem>
@@ -36,7 +36,7 @@ pub fn push_all_vars(alloc: Global, ts: &TermList, out: &mut Vars) -> Result<(),
     Ok(())
 }
 
-/// Puts last those in the facts, one fact after another.
+/// Puts last those in the facts, one fact after another. It recurses as deep as the terms that it is given.
 #[tactic(auto, using(crate::proofs::PlainLaws::Lists::front_laws))]
 pub fn push_facts_vars(alloc: Global, fs: &FactList, out: &mut Vars) -> Result<(), Mem>
     ensures ok { OnOk result (out.new ≡ out.old ++ facts_vars fs.now) }

@@ -21,6 +21,7 @@ fn find_binding<'a>(b: &'a Bindings, v: &Var) -> Option<&'a Binding>
 }
 
 /// The term with each bound variable replaced by its term. Variables are known by their names.
+/// It recurses as deep as the terms that it is given.
 #[cycle(subst)]
 #[tactic(auto, using(crate::proofs::PlainLaws::Trees::list_laws))]
 pub fn subst(alloc: Global, t: &Term, b: &Bindings) -> Result<Term, Mem>
