@@ -3,7 +3,7 @@ use Rattle.std.proofs.Common.{◌≡◌, ℕ, List, [], ◌∷◌, Bool, true, f
 use Rattle.std.specs.Prelude.{codes}
 use Rattle.sap_terms.specs.Signature.{Sig, pairs_alone}
 use Rattle.sap_formula.proofs.Counting.{faultless as none_found, found-counts}
-use Rattle.sap_formula.specs.CheckExamples.{IsTold, bad_functions, destructors, reserved_names, unbound, unguarded, two_functions, two_unbound, two_unguarded, function_before, destructor_before, reserved_before, unbound_before, faultless, sdec_declared, with_symmetric, decrypted, sorted_ones}
+use Rattle.sap_formula.specs.CheckExamples.{IsTold, bad_functions, destructors, reserved_names, unbound, unguarded, places, two_functions, two_unbound, two_unguarded, function_before, destructor_before, reserved_before, unbound_before, faultless, sdec_declared, with_symmetric, decrypted, sorted_ones}
 use Rattle.sap_formula.specs.Faults.{HasNoFault, IsFirstFault}
 use Rattle.sap_formula.specs.Form.{Form}
 use Rattle.sap_formula.specs.Parts.{form_parts}
@@ -28,6 +28,13 @@ each_faultless (f ∷ fs) h = (none_found pairs_alone true f h.0, each_faultless
 pub functions_told : EachIn (IsTold BadFunction) bad_functions
 functions_told = each_told BadFunction bad_functions (refl, (refl, tt))
 
+each_has_f : (fs : List Form) → EachIn (λ f. found pairs_alone true f ≡ Some (BadFunction, codes "f")) fs → EachIn (λ f. IsTold BadFunction (f, codes "f")) fs
+each_has_f [] h = tt
+each_has_f (f ∷ fs) h = (found-counts pairs_alone true f BadFunction (codes "f") h.0, each_has_f fs h.1)
+
+pub everywhere : EachIn (λ f. IsTold BadFunction (f, codes "f")) places
+everywhere = each_has_f places (refl, (refl, (refl, (refl, (refl, (refl, (refl, (refl, (refl, (refl, tt))))))))))
+
 pub destructors_told : EachIn (IsTold Destructor) destructors
 destructors_told = each_told Destructor destructors (refl, (refl, tt))
 
@@ -38,13 +45,13 @@ pub unbound_told : EachIn (IsTold UnboundVar) unbound
 unbound_told = each_told UnboundVar unbound (refl, (refl, (refl, (refl, (refl, (refl, (refl, (refl, tt))))))))
 
 pub unguarded_told : EachIn (IsTold Unguarded) unguarded
-unguarded_told = each_told Unguarded unguarded (refl, (refl, (refl, (refl, (refl, (refl, (refl, (refl, tt))))))))
+unguarded_told = each_told Unguarded unguarded (refl, (refl, (refl, (refl, (refl, (refl, (refl, (refl, (refl, (refl, (refl, (refl, tt))))))))))))
 
 pub first_function : EachIn (IsTold BadFunction) two_functions
-first_function = each_told BadFunction two_functions (refl, (refl, (refl, tt)))
+first_function = each_told BadFunction two_functions (refl, (refl, (refl, (refl, (refl, (refl, (refl, tt)))))))
 
 pub first_unbound : EachIn (IsTold UnboundVar) two_unbound
-first_unbound = each_told UnboundVar two_unbound (refl, (refl, tt))
+first_unbound = each_told UnboundVar two_unbound (refl, (refl, (refl, tt)))
 
 pub first_unguarded : EachIn (IsTold Unguarded) two_unguarded
 first_unguarded = each_told Unguarded two_unguarded (refl, (refl, tt))

@@ -13,7 +13,7 @@ use Rattle.sap_formula.specs.Verdict.{IsVerdict}
 use Rattle.sap_formula.specs.declared.verdict.Verdict.TheVariants.{Holds, Fails, TooCostly}
 
 pub cost_each : EachIn (λ e. form_cost two_and_three e.0 ≡ e.1) costs
-cost_each = (refl, (refl, (refl, (refl, (refl, (refl, (refl, (refl, (refl, (refl, (refl, (refl, (refl, tt)))))))))))))
+cost_each = (refl, (refl, (refl, (refl, (refl, (refl, (refl, (refl, (refl, (refl, (refl, (refl, (refl, (refl, (refl, tt)))))))))))))))
 
 true_at_limit : (g : Sig) → IsTrueOn g at_limit (many_times 10)
 true_at_limit g =

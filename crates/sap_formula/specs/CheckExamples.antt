@@ -77,8 +77,8 @@ unbound =
     ∷ []
 
 -- Ex x #i. A('a')@i; Ex x #i. A('a')@i & x = 'a'; Ex #i #j. A('a')@i & #i < #j; Ex #i. not A('a')@i;
--- Ex #i. A('a')@i | A('b')@i; Ex #i. (Ex #j. A('a')@i & A('a')@j). With All, where guards stand on the left of an
--- implication alone: All x #i. A(x)@i; All #i. T ==> A('a')@i
+-- Ex #i. A('a')@i | A('b')@i, and with the arrows; Ex #i. (Ex #j. A('a')@i & A('a')@j), and with All inside. With All, where
+-- guards stand on the left of an implication alone: All x #i. A(x)@i; All #i. A('a')@i & T; All #i. T ==> A('a')@i
 abbrev pub unguarded : List (Form × List ℕ)
 unguarded =
     (exists (Message x ∷ Time i ∷ []) (shows a i), codes "x")
@@ -86,19 +86,50 @@ unguarded =
     ∷ (exists (Time i ∷ Time j ∷ []) (both (shows a i) (earlier i j)), codes "j")
     ∷ (exists (Time i ∷ []) (negation (shows a i)), codes "i")
     ∷ (exists (Time i ∷ []) (either (shows a i) (shows b i)), codes "i")
+    ∷ (exists (Time i ∷ []) (implies (shows a i) (shows b i)), codes "i")
+    ∷ (exists (Time i ∷ []) (equivalent (shows a i) (shows b i)), codes "i")
+    ∷ (exists (Time i ∷ []) (every (Time j ∷ []) (implies (both (shows a i) (shows a j)) truth)), codes "i")
     ∷ (exists (Time i ∷ []) (exists (Time j ∷ []) (both (shows a i) (shows a j))), codes "i")
     ∷ (every (Message x ∷ Time i ∷ []) (shows (variable x) i), codes "x")
+    ∷ (every (Time i ∷ []) (both (shows a i) truth), codes "i")
     ∷ (every (Time i ∷ []) (implies truth (shows a i)), codes "i")
     ∷ []
 
--- the first of two of a kind is told: A(f(g('a'))); A(g('a'),f('a')); f('a') = g('a')
+-- t = 'a'
+abbrev pub is_a : Tree → Form
+is_a t = equal t a
+
+-- f('a') at each place where a formula has parts
+abbrev pub places : List Form
+places =
+    equal a (f_of a)
+    ∷ equal (app2 pair_name a (f_of a)) a
+    ∷ negation (is_a (f_of a))
+    ∷ both truth (is_a (f_of a))
+    ∷ either truth (is_a (f_of a))
+    ∷ implies truth (is_a (f_of a))
+    ∷ equivalent truth (is_a (f_of a))
+    ∷ every [] (is_a (f_of a))
+    ∷ exists [] (is_a (f_of a))
+    ∷ exists (Time i ∷ []) (shows_both a (f_of a) i)
+    ∷ []
+
+-- the first of two of a kind is told: A(f(g('a'))); A(g('a'),f('a')); f('a') = g('a'); f('a') = 'a' and g('a') = 'a' under
+-- each connective
 abbrev pub two_functions : List (Form × List ℕ)
 two_functions =
-    (some_time (f_of (g_of a)), codes "f") ∷ (exists (Time i ∷ []) (shows_both (g_of a) (f_of a) i), codes "g") ∷ (equal (f_of a) (g_of a), codes "f") ∷ []
+    (some_time (f_of (g_of a)), codes "f")
+    ∷ (exists (Time i ∷ []) (shows_both (g_of a) (f_of a) i), codes "g")
+    ∷ (equal (f_of a) (g_of a), codes "f")
+    ∷ (both (is_a (f_of a)) (is_a (g_of a)), codes "f")
+    ∷ (either (is_a (f_of a)) (is_a (g_of a)), codes "f")
+    ∷ (implies (is_a (f_of a)) (is_a (g_of a)), codes "f")
+    ∷ (equivalent (is_a (f_of a)) (is_a (g_of a)), codes "f")
+    ∷ []
 
--- A(x)@i; #i < #j
+-- A(x)@i; #i < #j; #i = #j
 abbrev pub two_unbound : List (Form × List ℕ)
-two_unbound = (shows (variable x) i, codes "x") ∷ (earlier i j, codes "i") ∷ []
+two_unbound = (shows (variable x) i, codes "x") ∷ (earlier i j, codes "i") ∷ (same_time i j, codes "i") ∷ []
 
 -- Ex x y #i. A('a')@i; Ex y #i. A('a')@i & (Ex x #j. A('a')@j)
 abbrev pub two_unguarded : List (Form × List ℕ)

@@ -53,9 +53,12 @@ costs =
     ∷ (every (Time i ∷ []) (implies (both first_guard no_fact) truth), 0)
     -- Ex #i. A('a')@i & (Ex #j. B('a')@j): 2 * (1 + (1 + 3 * (1 + 1)))
     ∷ (exists (Time i ∷ []) (both first_guard (exists (Time j ∷ []) (other_guard j))), 16)
-    -- Ex #i. A('a')@i & not B('a')@i, and with or: 2 * (1 + 2), 1 * (1 + 2)
+    -- Ex #i. A('a')@i & not B('a')@i, and with | and <=>: 2 * (1 + 2), 1 * (1 + 2)
     ∷ (exists (Time i ∷ []) (both first_guard (negation (other_guard i))), 6)
     ∷ (exists (Time i ∷ []) (either first_guard (other_guard i)), 3)
+    ∷ (exists (Time i ∷ []) (equivalent first_guard (other_guard i)), 3)
+    -- Ex #i. A('a')@i & (All. A('a')@i): 2 * (1 + (1 + 1 * (1 + 1)))
+    ∷ (exists (Time i ∷ []) (both first_guard (every [] first_guard)), 8)
     ∷ []
 
 -- A('a'), this often

@@ -5,7 +5,7 @@ ghost use Rattle.sap_terms.specs.Trace.{Trace};
 ghost use Rattle.sap_formula.specs.Truth.{EachIn, IsTrueOn};
 ghost use Rattle.sap_formula.specs.HoldsOf.{HoldsOf};
 ghost use Rattle.sap_formula.specs.Examples.{a, b, x, fresh_x, public_x, fact, other_fact, trace_a, trace_aa, trace_ab, IsEither, only_a, some_time, two_times, some_b, two_binders, first_of_pair, first_is, one_time_alone, true_ones, false_ones};
-ghost use Rattle.sap_formula.specs.CheckExamples.{IsTold, bad_functions, destructors, reserved_names, unbound, unguarded, two_functions, two_unbound, two_unguarded, function_before, destructor_before, reserved_before, unbound_before, faultless, sdec_declared, with_symmetric, decrypted, sorted_ones};
+ghost use Rattle.sap_formula.specs.CheckExamples.{IsTold, bad_functions, destructors, reserved_names, unbound, unguarded, places, two_functions, two_unbound, two_unguarded, function_before, destructor_before, reserved_before, unbound_before, faultless, sdec_declared, with_symmetric, decrypted, sorted_ones};
 ghost use Rattle.sap_formula.specs.Cost.{form_cost};
 ghost use Rattle.sap_formula.specs.Faults.{HasNoFault, IsFirstFault};
 ghost use Rattle.sap_formula.specs.Form.{both, truth, negation};
@@ -66,6 +66,7 @@ pub fn checks_by_hand()
     ensures reserved { EachIn (IsTold Reserved) reserved_names }
     ensures unbound { EachIn (IsTold UnboundVar) unbound }
     ensures unguarded { EachIn (IsTold Unguarded) unguarded }
+    ensures everywhere { EachIn (λ f. IsTold BadFunction (f, codes "f")) places }
     ensures first_function { EachIn (IsTold BadFunction) two_functions }
     ensures first_unbound { EachIn (IsTold UnboundVar) two_unbound }
     ensures first_unguarded { EachIn (IsTold Unguarded) two_unguarded }

@@ -1,4 +1,4 @@
-use Rattle.sap_formula.proofs.ChecksByHand.{functions_told, destructors_told, reserved_told, unbound_told, unguarded_told, first_function, first_unbound, first_unguarded, function_told, destructor_told, name_told, variable_told, none, reserved_allowed, declared_alone, with_its_equation, sorts}
+use Rattle.sap_formula.proofs.ChecksByHand.{functions_told, destructors_told, reserved_told, unbound_told, unguarded_told, everywhere, first_function, first_unbound, first_unguarded, function_told, destructor_told, name_told, variable_told, none, reserved_allowed, declared_alone, with_its_equation, sorts}
 use Rattle.sap_formula.proofs.laws.checks_by_hand.Goals as goal
 
 pub returns-clause-bad_function : goal.returns-clause-bad_function
@@ -51,3 +51,6 @@ returns-clause-with_its_equation c = with_its_equation
 
 pub returns-clause-sorts : goal.returns-clause-sorts
 returns-clause-sorts c = sorts
+
+pub returns-clause-everywhere : goal.returns-clause-everywhere
+returns-clause-everywhere c = everywhere
