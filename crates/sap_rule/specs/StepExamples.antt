@@ -57,9 +57,10 @@ abbrev pub moving : Sort → Rule
 moving s =
     rule (codes "Moving") (left_fact (var_of s) ∷ []) (shown_fact (first_of (pair (var_of s) b)) ∷ []) (right_fact (first_of (pair (var_of s) b)) ∷ [])
 
--- L(fst(<x,'b'>)) --[ A(x) ]->
+-- L(fst(<x,'b'>)) --[ A(x), A('b') ]-> M(x), L('b')
 abbrev pub opening : Rule
-opening = rule (codes "Opening") (left_fact (first_of (pair (var_of Msg) b)) ∷ []) (shown_fact (var_of Msg) ∷ []) []
+opening =
+    rule (codes "Opening") (left_fact (first_of (pair (var_of Msg) b)) ∷ []) (shown_fact (var_of Msg) ∷ shown_fact b ∷ []) (right_fact (var_of Msg) ∷ left_fact b ∷ [])
 
 -- L('a'), L('a') --[ A('a') ]->
 abbrev pub taking_twice : Rule

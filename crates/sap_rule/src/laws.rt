@@ -68,15 +68,15 @@ pub fn steps_by_hand()
     ensures knows_public { (g : Sig) (rules : List Rule) → RuleStep g rules (state [] (a ∷ []) []) [] (state [] (a ∷ b ∷ []) []) }
     ensures applies { (rules : List Rule) → RuleStep pairs_alone rules (state [] (a ∷ b ∷ []) []) []
         (state [] (a ∷ b ∷ pair b a ∷ []) []) }
-    ensures applies_normal { (rules : List Rule) → RuleStep pairs_alone rules (state [] (pair a b ∷ []) []) []
-        (state [] (pair a b ∷ a ∷ []) []) }
+    ensures applies_normal { (rules : List Rule) → RuleStep pairs_alone rules (state [] (pair (fresh 4) b ∷ []) []) []
+        (state [] (pair (fresh 4) b ∷ fresh 4 ∷ []) []) }
     ensures gives { (g : Sig) (rules : List Rule) → RuleStep g rules (state (None ∷ []) (a ∷ b ∷ []) []) (k_fact b ∷ [])
         (state (None ∷ Some (in_fact b) ∷ []) (a ∷ b ∷ []) []) }
     ensures uses { (g : Sig) → RuleStep g (telling ∷ moving Msg ∷ [])
         (state (Some (left_fact b) ∷ Some (left_fact a) ∷ []) (a ∷ []) (4 ∷ [])) (shown_fact a ∷ [])
         (state (Some (left_fact b) ∷ None ∷ Some (right_fact a) ∷ []) (a ∷ []) (4 ∷ [])) }
-    ensures uses_equal { (g : Sig) → RuleStep g (opening ∷ []) (state (Some (left_fact a) ∷ []) [] []) (shown_fact a ∷ [])
-        (state (None ∷ []) [] []) }
+    ensures uses_equal { (g : Sig) → RuleStep g (opening ∷ []) (state (Some (left_fact a) ∷ []) [] [])
+        (shown_fact a ∷ shown_fact b ∷ []) (state (None ∷ Some (right_fact a) ∷ Some (left_fact b) ∷ []) [] []) }
     ensures uses_lasting { (g : Sig) → RuleStep g (taking_lasting ∷ []) (state (Some (lasting_fact a) ∷ []) [] []) (shown_fact a ∷ [])
         (state (Some (lasting_fact a) ∷ []) [] []) }
 {

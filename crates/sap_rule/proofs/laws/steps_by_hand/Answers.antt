@@ -5,9 +5,10 @@ use Rattle.sap_terms.specs.Equal.{same, next, forward}
 use Rattle.sap_terms.specs.Equations.{equations, first, pair_name, fst_name}
 use Rattle.sap_terms.specs.Piles.{one, nothing}
 use Rattle.sap_terms.specs.Signature.{pairs_alone}
+use Rattle.sap_terms.specs.Tree.{fresh}
 use Rattle.sap_rule.specs.RuleSteps.{makes_name, learns, owns, knows_public, applies, gives, uses}
 use Rattle.sap_rule.specs.StepExamples.{a, b, lasting_fact, left_fact, moving, opening, pair, right_fact, shown_fact, taking_lasting}
-use Rattle.sap_rule.proofs.StepForms.{own_form, pair_form, first_form, names, names_messages, no_other}
+use Rattle.sap_rule.proofs.StepForms.{own_form, fresh_normal, pair_form, first_form, names, names_messages, no_other}
 use Rattle.sap_rule.proofs.laws.steps_by_hand.Goals as goal
 
 pub returns-clause-makes_name : goal.returns-clause-makes_name
@@ -28,9 +29,9 @@ returns-clause-applies c = λ rules. applies pair_name (b ∷ a ∷ []) (pair b 
     (pair_form (equations pairs_alone) (codes "b") (codes "a"))
 
 pub returns-clause-applies_normal : goal.returns-clause-applies_normal
-returns-clause-applies_normal c = λ rules. applies fst_name (pair a b ∷ []) a refl refl
-    (All-cons (Contains (pair a b ∷ [])) (pair a b) [] (0, lit< tt, refl) (All-nil (Contains (pair a b ∷ []))))
-    (first_form (equations pairs_alone) (codes "a") b)
+returns-clause-applies_normal c = λ rules. applies fst_name (pair (fresh 4) b ∷ []) (fresh 4) refl refl
+    (All-cons (Contains (pair (fresh 4) b ∷ [])) (pair (fresh 4) b) [] (0, lit< tt, refl) (All-nil (Contains (pair (fresh 4) b ∷ []))))
+    (record { equal = next (forward first) same; normal = fresh_normal (equations pairs_alone) 4 })
 
 pub returns-clause-gives : goal.returns-clause-gives
 returns-clause-gives c = λ g rules. gives b (1, lit< tt, refl)
@@ -46,13 +47,19 @@ returns-clause-uses c = λ g. uses (moving _) (1 ∷ []) names (left_fact a ∷ 
     })
 
 pub returns-clause-uses_equal : goal.returns-clause-uses_equal
-returns-clause-uses_equal c = λ g. uses opening (0 ∷ []) names (left_fact a ∷ []) (shown_fact a ∷ []) [] (0, lit< tt, refl)
+returns-clause-uses_equal c = λ g. uses opening (0 ∷ []) names (left_fact a ∷ []) (shown_fact a ∷ shown_fact b ∷ []) (right_fact a ∷ left_fact b ∷ []) (0, lit< tt, refl)
     (one refl nothing)
     (record {
       messages = names_messages c.names_are_messages.ensures g;
       takes = (record { name = refl; persistent = refl; args = (next (forward first) same, tt) }, tt);
-      shows = (record { name = refl; persistent = refl; args = (own_form (equations g) (codes "a"), tt) }, tt);
-      adds = tt;
+      shows = (
+        record { name = refl; persistent = refl; args = (own_form (equations g) (codes "a"), tt) },
+        (record { name = refl; persistent = refl; args = (own_form (equations g) (codes "b"), tt) }, tt),
+      );
+      adds = (
+        record { name = refl; persistent = refl; args = (own_form (equations g) (codes "a"), tt) },
+        (record { name = refl; persistent = refl; args = (own_form (equations g) (codes "b"), tt) }, tt),
+      );
     })
 
 pub returns-clause-uses_lasting : goal.returns-clause-uses_lasting
