@@ -16,11 +16,11 @@
 #   lemmas  so many lemmas, up to 12,000 in 0.9 MB
 #   binders a lemma with so many variables of one quantifier, all in one guard
 #   guards  a lemma with so many variables of one quantifier, and a guard for each
-#   inline  one lemma and so many restrictions, which it carries, up to 40,000 in 0.9 MB, on a stack of 8 MiB
+#   inline  one lemma and so many restrictions, which it carries, up to 40,000 in 0.9 MB
 # usage: bench/compile.sh [KIND..]
 set -eu
 . "$(dirname "$0")/growth.sh"
-ulimit -s 8192
+ulimit -s 1024
 
 # A balanced parallel of so many copies of a process, and what stands before it.
 parallel() {
