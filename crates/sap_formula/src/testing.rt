@@ -138,7 +138,7 @@ fn is_shown<'a>(
 }
 
 // Whether the formula is true where slots hold what they hold.
-#[cycle(test)]
+#[cycle(tested)]
 #[tactic(auto, using(crate::proofs::SearchSteps::test_laws))]
 pub(crate) fn test<'a>(
     trace: &'a ReadyTrace<'_>,
@@ -164,7 +164,7 @@ pub(crate) fn test<'a>(
 }
 
 // The answer of a quantifier, from this guard on. No slot stays filled.
-#[cycle(test)]
+#[cycle(tested)]
 #[tactic(auto, using(crate::proofs::SearchSteps::search_laws))]
 fn search<'a>(
     trace: &'a ReadyTrace<'_>,
@@ -194,7 +194,7 @@ fn meets_only<'a>(values: &mut Vec<Value<'a>>, g: &GuardPlan<'a>) -> Result<bool
 }
 
 // The same. Guards whose name has one fact alone are matched in a loop.
-#[cycle(test)]
+#[cycle(tested)]
 #[tactic(auto, using(crate::proofs::SearchSteps::pass_laws))]
 fn pass<'a>(
     trace: &'a ReadyTrace<'_>,
@@ -220,7 +220,7 @@ fn pass<'a>(
 }
 
 // The answer where the guard at this index picks one of these facts after another.
-#[cycle(test)]
+#[cycle(tested)]
 #[tactic(auto, using(crate::proofs::SearchSteps::branch_laws))]
 fn branch<'a>(
     trace: &'a ReadyTrace<'_>,
@@ -244,7 +244,7 @@ fn branch<'a>(
 }
 
 // The answer where it picks this fact. No slot stays filled.
-#[cycle(test)]
+#[cycle(tested)]
 #[tactic(auto, using(crate::proofs::SearchSteps::choose_laws))]
 fn choose<'a>(
     trace: &'a ReadyTrace<'_>,

@@ -3,7 +3,7 @@ use Rattle.sap_formula.specs.code.PlanView.{held, plan}
 use Rattle.sap_formula.specs.code.Ready.{planned, searched}
 use Rattle.sap_formula.proofs.Slots.{front_on}
 use Rattle.sap_formula.proofs.SearchSteps.{by_facts, one_met, one_missed}
-use Rattle.sap_formula.proofs.testing.+test.Goals as goal
+use Rattle.sap_formula.proofs.testing.+tested.Goals as goal
 
 pub pass-returns-then-g-ne1-clause-answer : goal.pass-returns-then-g-ne1-clause-answer
 pass-returns-then-g-ne1-clause-answer t c =

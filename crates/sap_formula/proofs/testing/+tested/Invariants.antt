@@ -3,7 +3,7 @@ use Rattle.sap_formula.specs.code.PlanSize.{plan_size}
 use Rattle.sap_formula.specs.code.PlanView.{guard, held, plan, sight}
 use Rattle.sap_formula.specs.code.Reached.{StaysInFront, chosen}
 use Rattle.sap_formula.specs.code.Ready.{any_or_all, planned, searched}
-use Rattle.sap_formula.proofs.testing.+test.Given as goal
+use Rattle.sap_formula.proofs.testing.+tested.Given as goal
 
 abbrev pub decreases-test : goal.decreases-test
 decreases-test l = plan_size (plan l.p.now)
