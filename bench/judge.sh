@@ -83,21 +83,21 @@ judged() {
 }
 
 make_lemmas() {
-    theory 'print "rule R: [ ] --[ A() ]-> [ ]"' "list(\"lemma lK: \\\"All #i. A()@i ==> T\\\"\", \" \", $1)"
+    theory 'print "rule R: [ ] --[ A() ]-> [ ]"' "list(\"lemma lK: \\\"All #i. A()@i ==> #i = #i\\\"\", \" \", $1)"
 }
 make_terms() {
     theory 'printf "rule R: [ ] --[ A("; pairs(128); print ") ]-> [ ]"' 'list("lemma lK: \"T\"", " ", 80)'
 }
 make_names() {
-    theory "printf \"rule R: [ ] --[ \"; list(\"NK()\", \", \", $1); print \" ]-> [ ]\"" 'print "lemma l: \"All #i. N1()@i ==> T\""'
+    theory "printf \"rule R: [ ] --[ \"; list(\"NK()\", \", \", $1); print \" ]-> [ ]\"" 'print "lemma l: \"All #i. N1()@i ==> #i = #i\""'
 }
 make_spread() {
-    theory "list(\"rule RK: [ ] --[ NK(), MK() ]-> [ ]\", \" \", $1)" 'print "lemma l: \"All #i. N1()@i ==> T\""'
+    theory "list(\"rule RK: [ ] --[ NK(), MK() ]-> [ ]\", \" \", $1)" 'print "lemma l: \"All #i. N1()@i ==> #i = #i\""'
     awk -v n="$1" 'BEGIN { print "rule-run"; for (k = 1; k <= n; k++) printf "rule R%d\n", k }' > "$work/run"
 }
 make_crowd() {
     theory "printf \"rule R: [ ] --[ \"; list(\"A(\\047K\\047)\", \", \", $1); print \" ]-> [ ]\"" \
-        'print "lemma l: \"All x #i. A(x)@i ==> T\""'
+        'print "lemma l: \"All x #i. A(x)@i ==> x = x\""'
 }
 make_aside() {
     theory "printf \"rule R: [ ] --[ \"; list(\"A(\\047K\\047)\", \", \", $1); print \" ]-> [ ]\"" \
@@ -123,7 +123,7 @@ make_wide() {
 }
 make_arguments() {
     theory "printf \"rule R: [ ] --[ A(\"; list(\"\\047a\\047\", \", \", $1); print \") ]-> [ ]\"" \
-        "printf \"lemma l: \\\"All \"; list(\"xK\", \" \", $1); printf \" #i. A(\"; list(\"xK\", \", \", $1); print \")@i ==> T\\\"\""
+        "printf \"lemma l: \\\"All \"; list(\"xK\", \" \", $1); printf \" #i. A(\"; list(\"xK\", \", \", $1); print \")@i ==> x1 = x1\\\"\""
 }
 make_body() {
     theory "printf \"rule R: [ ] --[ A(\"; list(\"\\047a\\047\", \", \", $1); print \") ]-> [ ]\"" \
