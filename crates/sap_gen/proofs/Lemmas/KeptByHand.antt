@@ -23,7 +23,7 @@ small_sound laws g hold =
     record { hold = hold; sound = secret.sound; over = secret.over; restrictions = (tt, tt); lemmas = (tt, tt) }
 
 -- the name of the first restriction
-first_name : List RestrictionForm → List ℕ
+abbrev first_name : List RestrictionForm → List ℕ
 first_name [] = []
 first_name (r ∷ rs) = r.name
 
