@@ -106,13 +106,16 @@ the_rule : (r : Rule) → Member r (starting_rule ∷ []) → r ≡ starting_rul
 the_rule r Member.here = refl
 the_rule r (Member.later m) = elim m [ ]
 
+not_known : codes "A" ≡ codes "K" → ⊥
+not_known e = absurd (cc)
+
 acts_start : (g : Sig) {s z : RuleState} {acts : List Fact} → RuleStep g (starting_rule ∷ []) s acts z → AnyIn IsPlain acts → AnyIn (IsStart g) acts
 acts_start g (RuleStep.makes_name n u) a = absurd a
 acts_start g (RuleStep.learns k x takes) a = absurd a
 acts_start g (RuleStep.owns k n takes) a = absurd a
 acts_start g (RuleStep.knows_public n) a = absurd a
 acts_start g (RuleStep.applies f ts x p b all n) a = absurd a
-acts_start g (RuleStep.gives x m) (inl e) = absurd (cc)
+acts_start g (RuleStep.gives x m) (inl e) = not_known e
 acts_start g (RuleStep.gives x m) (inr a) = absurd a
 acts_start g (RuleStep.uses r ks σ left acts right m takes fits) a =
     start_first g σ acts (subst (λ z. AreFormsOfFacts (equations g) (instance_facts σ z.acts) acts) (the_rule r (member r (starting_rule ∷ []) m)) fits.shows)
