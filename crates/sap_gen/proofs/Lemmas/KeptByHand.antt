@@ -1,5 +1,5 @@
 -- Small files by hand: which theories keep them, and which don't.
-use Rattle.std.proofs.Common.{◌≡◌, ℕ, List, [], ◌∷◌, length, inl, refl, ap, arith}
+use Rattle.std.proofs.Common.{◌≡◌, ℕ, List, [], ◌∷◌, Bool, true, false, inl, refl, sym, ap, arith}
 use Rattle.std.specs.Prelude.{codes}
 use Rattle.sap_formula.specs.Form.{RestrictionForm, falsity, implies, negation, truth}
 use Rattle.sap_formula.specs.declared.lemma.Mode.TheVariants.{AllTraces, ExistsTrace}
@@ -27,19 +27,34 @@ abbrev first_name : List RestrictionForm → List ℕ
 first_name [] = []
 first_name (r ∷ rs) = r.name
 
+-- whether there is a restriction, and a second one
+abbrev is_one : List RestrictionForm → Bool
+is_one [] = false
+is_one (r ∷ rs) = true
+
+abbrev is_second : List RestrictionForm → Bool
+is_second [] = false
+is_second (r ∷ rs) = is_one rs
+
+differ : true ≡ false → ⊥
+differ e = absurd (cc)
+
+other_word : codes "Other" ≡ codes "Small" → ⊥
+other_word e = absurd (cc)
+
 -- the theory
 
 pub kept : (laws : LemmaLaws) (g : Sig) → HoldsBuiltins g → KeepsFile (small_file g) (file_theory (small_file g))
 kept laws g hold = keeps_file laws (small_file g) (small_sound laws g hold)
 
 pub other_name : (g : Sig) → KeepsFile (small_file g) (renamed (file_theory (small_file g))) → ⊥
-other_name g keeps = let e : codes "Other" ≡ codes "Small" = keeps.name in absurd (cc)
+other_name g keeps = other_word keeps.name
 
 pub other_signature : (g h : Sig) → (h ≡ g → ⊥) → KeepsFile (small_file g) (over_signature (file_theory (small_file g)) h) → ⊥
 other_signature g h other keeps = other keeps.signature
 
 pub own_restriction_left_out : (g : Sig) → KeepsFile (small_file g) (with_restrictions (file_theory (small_file g)) (needed_restrictions sends_secret)) → ⊥
-own_restriction_left_out g keeps = let e : 1 ≡ 2 = ap length keeps.restrictions in omega arith
+own_restriction_left_out g keeps = differ (sym (ap is_second keeps.restrictions))
 
 pub own_restriction_first : (g : Sig) → KeepsFile (small_file g) (with_restrictions (file_theory (small_file g)) (anyway ∷ needed_restrictions sends_secret)) → ⊥
 own_restriction_first g keeps = let e : codes "anyway" ≡ codes "sapic_init" = ap first_name keeps.restrictions in absurd (cc)
@@ -79,13 +94,13 @@ pub kept_inlined : (laws : LemmaLaws) (g : Sig) → HoldsBuiltins g → KeepsFil
 kept_inlined laws g hold = keeps_file_inlined laws (small_file g) (small_sound laws g hold)
 
 pub inlined_other_name : (g : Sig) → KeepsFileInlined (small_file g) (renamed (inlined_file_theory (small_file g))) → ⊥
-inlined_other_name g keeps = let e : codes "Other" ≡ codes "Small" = keeps.name in absurd (cc)
+inlined_other_name g keeps = other_word keeps.name
 
 pub inlined_other_signature : (g h : Sig) → (h ≡ g → ⊥) → KeepsFileInlined (small_file g) (over_signature (inlined_file_theory (small_file g)) h) → ⊥
 inlined_other_signature g h other keeps = other keeps.signature
 
 pub some_restriction : (g : Sig) → KeepsFileInlined (small_file g) (with_restrictions (inlined_file_theory (small_file g)) (anyway ∷ [])) → ⊥
-some_restriction g keeps = let e : 1 ≡ 0 = ap length keeps.restrictions in omega arith
+some_restriction g keeps = differ (ap is_one keeps.restrictions)
 
 pub plain_lemma : (g : Sig) → KeepsFileInlined (small_file g) (with_lemmas (inlined_file_theory (small_file g)) (ever ∷ [])) → ⊥
 plain_lemma g keeps =
