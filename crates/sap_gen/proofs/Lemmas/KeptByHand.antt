@@ -1,6 +1,7 @@
 -- Small files by hand: which theories keep them, and which don't.
 use Rattle.std.proofs.Common.{◌≡◌, ℕ, List, [], ◌∷◌, Bool, true, false, inl, refl, sym, ap, arith}
 use Rattle.std.specs.Prelude.{codes}
+use Rattle.std.specs.Str.{bytes_eq}
 use Rattle.sap_formula.specs.Form.{RestrictionForm, falsity, implies, negation, truth}
 use Rattle.sap_formula.specs.declared.lemma.Mode.TheVariants.{AllTraces, ExistsTrace}
 use Rattle.sap_process.specs.Proc.{nil}
@@ -40,7 +41,7 @@ differ : true ≡ false → ⊥
 differ e = absurd (cc)
 
 other_word : codes "Other" ≡ codes "Small" → ⊥
-other_word e = absurd (cc)
+other_word e = differ (ap (bytes_eq (codes "Other")) e)
 
 -- the theory
 

@@ -1,7 +1,8 @@
 -- A theory whose restrictions speak of a hidden fact: they are judged on the full traces of its runs.
-use Rattle.std.proofs.Common.{◌≡◌, ◌<◌, ◌⊎◌, inl, inr, ℕ, zero, suc, List, [], ◌∷◌, ◌++◌, Bool, true, false, not, if◌then◌else◌, length, refl, sym, subst, arith}
+use Rattle.std.proofs.Common.{◌≡◌, ◌<◌, ◌⊎◌, inl, inr, ℕ, zero, suc, List, [], ◌∷◌, ◌++◌, Bool, true, false, not, if◌then◌else◌, length, refl, sym, ap, subst, arith}
 use Rattle.std.specs.Prelude.{codes, Contains}
 use Rattle.std.specs.List.{AllZip}
+use Rattle.std.specs.Str.{bytes_eq}
 use Rattle.sap_formula.specs.Hide.{hide, is_hidden, visible}
 use Rattle.sap_formula.specs.Truth.{AnyIn, IsTrueOn, Shows, facts_at}
 use Rattle.sap_restrict.specs.ReservedFacts.{init_fact}
@@ -106,8 +107,11 @@ the_rule : (r : Rule) → Member r (starting_rule ∷ []) → r ≡ starting_rul
 the_rule r Member.here = refl
 the_rule r (Member.later m) = elim m [ ]
 
+differ : true ≡ false → ⊥
+differ e = absurd (cc)
+
 not_known : codes "A" ≡ codes "K" → ⊥
-not_known e = absurd (cc)
+not_known e = differ (ap (bytes_eq (codes "A")) e)
 
 acts_start : (g : Sig) {s z : RuleState} {acts : List Fact} → RuleStep g (starting_rule ∷ []) s acts z → AnyIn IsPlain acts → AnyIn (IsStart g) acts
 acts_start g (RuleStep.makes_name n u) a = absurd a
