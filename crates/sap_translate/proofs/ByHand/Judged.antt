@@ -119,7 +119,7 @@ acts_start g (RuleStep.learns k x takes) a = absurd a
 acts_start g (RuleStep.owns k n takes) a = absurd a
 acts_start g (RuleStep.knows_public n) a = absurd a
 acts_start g (RuleStep.applies f ts x p b all n) a = absurd a
-acts_start g (RuleStep.gives x m) (inl e) = not_known e
+acts_start g (RuleStep.gives x m) (inl e) = absurd (not_known e)
 acts_start g (RuleStep.gives x m) (inr a) = absurd a
 acts_start g (RuleStep.uses r ks σ left acts right m takes fits) a =
     start_first g σ acts (subst (λ z. AreFormsOfFacts (equations g) (instance_facts σ z.acts) acts) (the_rule r (member r (starting_rule ∷ []) m)) fits.shows)
