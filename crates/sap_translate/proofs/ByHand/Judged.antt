@@ -1,6 +1,6 @@
 -- A theory whose restrictions speak of a hidden fact: they are judged on the full traces of its runs.
 use Rattle.std.proofs.Common.{◌≡◌, ◌<◌, ◌⊎◌, inl, inr, ℕ, zero, suc, List, [], ◌∷◌, ◌++◌, Bool, true, false, not, if◌then◌else◌, length, refl, sym, ap, subst, arith}
-use Rattle.std.specs.Prelude.{codes, Contains}
+use Rattle.std.specs.Prelude.{codes}
 use Rattle.std.specs.List.{AllZip}
 use Rattle.std.specs.Str.{bytes_eq}
 use Rattle.sap_formula.specs.Hide.{hide, is_hidden, visible}
