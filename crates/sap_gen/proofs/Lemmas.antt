@@ -7,3 +7,4 @@ pub mod Closed
 pub mod Secret
 pub mod Unseen
 pub mod NoRules
+pub mod KeptByHand

@@ -1,3 +1,4 @@
 pub mod Theories
 pub mod Kept
 pub mod LemmaExamples
+pub mod KeptExamples

@@ -8,3 +8,4 @@ pub mod Lacks
 pub mod Unserved
 pub mod Channels
 pub mod Pairs
+pub mod Judged

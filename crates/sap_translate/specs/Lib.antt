@@ -14,3 +14,4 @@ pub mod Faithful
 pub mod relation
 pub mod code
 pub mod Examples
+pub mod ShownExamples

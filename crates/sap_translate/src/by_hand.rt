@@ -1,7 +1,8 @@
 //! Small processes whose runs are followed by hand, as contracts of a function that only calls the laws below.
 ghost use Rattle.std.specs.Prelude.{[], Contains, List, Some, codes, ◌∷◌, ◌≡◌, ℕ};
 ghost use Rattle.sap_translate.specs.Examples.{a_fact, b_fact, both_wait, both_wait_trace, copied_twice, deleted_again, first_fact, first_goes_on, g_fact, locked_test, locked_twice, no_fact, plain_fact, second_fact, term_a, term_b, twin_pattern, twins, twins_told, two_inputs, two_inputs_served_once, two_senders, yes_fact};
-ghost use Rattle.sap_translate.specs.Faithful.{IsVisibleTrace};
+ghost use Rattle.sap_translate.specs.Faithful.{IsShownBy, IsVisibleTrace};
+ghost use Rattle.sap_translate.specs.ShownExamples.{must_start, never_starts, starting_theory};
 ghost use Rattle.sap_translate.specs.Templates.{rules_of};
 ghost use Rattle.sap_process.specs.ProcessSteps.{Fits, IsProcessTrace};
 ghost use Rattle.sap_restrict.specs.Standard.{IsAdmitted};
@@ -134,6 +135,27 @@ pub fn rule_runs_by_hand()
         → Contains (rules_of two_senders) r → r.name ≡ codes "OutAck_1221" → Takes both_wait.facts ks left rest
         → ¬ IsUse g r σ left acts right }
     ensures own_tag { (g : Sig) → RuleStep g (rules_of two_senders) both_wait [] first_goes_on }
+{
+    leaves_are_normal();
+    each_term_has_a_normal_form();
+    normal_forms_are_unique();
+    equality_is_kept();
+    forms_are_messages();
+    instances_of_processes();
+    restrictions_say_sentences();
+}
+
+/// A law: a theory's restrictions are judged on the full traces of its runs, and not on what is seen of them. The theory has one
+/// rule, which shows Init() and A() at once, and Init() is hidden. Where some time has to show Init(), it shows A() twice, though
+/// nothing that is seen shows Init(); where none may, it shows nothing that begins with A(), but it shows the empty trace, of the
+/// run without a step. Each of several restrictions counts.
+pub fn shown_by_hand()
+    ensures shown { (g : Sig)
+        → IsShownBy (starting_theory g (must_start ∷ [])) ((plain_fact ∷ []) ∷ (plain_fact ∷ []) ∷ []) }
+    ensures unshown { (g : Sig) (tr : Trace) → ¬ IsShownBy (starting_theory g (never_starts ∷ [])) ((plain_fact ∷ []) ∷ tr) }
+    ensures unshown_by_second { (g : Sig) (tr : Trace)
+        → ¬ IsShownBy (starting_theory g (must_start ∷ never_starts ∷ [])) ((plain_fact ∷ []) ∷ tr) }
+    ensures shown_at_rest { (g : Sig) → IsShownBy (starting_theory g (never_starts ∷ [])) [] }
 {
     leaves_are_normal();
     each_term_has_a_normal_form();

@@ -9,7 +9,7 @@ mod place_laws;
 mod relation_laws;
 mod rules;
 
-pub use by_hand::{rule_runs_by_hand, runs_by_hand, traces_by_hand};
+pub use by_hand::{rule_runs_by_hand, runs_by_hand, shown_by_hand, traces_by_hand};
 pub use generation::generate;
 pub use laws::{
     annotations_are_settled, needed_restrictions_suffice, rules_are_well_made, rules_go_by_places,

@@ -27,7 +27,7 @@ known_visible g = ((inr (inl refl), (inl refl, tt)), ((refl, (refl, tt), refl), 
 secret_visible : (g : Sig) → IsCheckedVisible g some_secret
 secret_visible g = ((inr (inl refl), (inl refl, tt)), (refl, (refl, tt), refl))
 
-secret_sound : (laws : LemmaLaws) (g : Sig) → HoldsBuiltins g → IsSoundFile (secret_file g)
+pub secret_sound : (laws : LemmaLaws) (g : Sig) → HoldsBuiltins g → IsSoundFile (secret_file g)
 secret_sound laws g hold = record {
   hold = hold;
   sound = laws.shown.parts g sends_secret (refl, ((refl, (Member.here, tt)), (Member.here, tt))) tt;
