@@ -30,15 +30,15 @@ pub(crate) fn place_of_part<L: Lends>(sig: &Signature, f: &Name, args: &L) -> Op
     }
 }
 
-// The part of the first argument at this place, taken out of it.
+// The part of the first argument at this place.
 #[tactic(auto, using(crate::proofs::Parts::part_laws))]
-fn into_part(args: TermList, k: u64) -> Term
-    requires { IsSome (inner_part (trees_of args) k) }
-    ensures { inner_part (trees_of args) k ≡ Some (tree result) }
+fn part_at(alloc: Global, args: &TermList, k: u64) -> Result<Term, Mem>
+    requires { IsSome (inner_part (trees_of args.now) k) }
+    ensures { IfOk result (λ t. inner_part (trees_of args.now) k ≡ Some (tree t)) }
 {
-    match args.into_item(0) {
-        Term::App(_, parts) => parts.into_item(k),
-        other => other,
+    match args.at(0) {
+        Term::App(_, parts) => parts.at(k).copy(alloc),
+        other => other.copy(alloc),
     }
 }
 
@@ -86,12 +86,13 @@ pub(crate) fn is_left_side(sig: &Signature, f: &Name, args: &TermList) -> bool
     }
 }
 
-// The normal form of a symbol on normal terms. What an equation leaves is moved out of them, not copied.
+// The normal form of a symbol on normal terms.
 pub(crate) fn reduce(alloc: Global, sig: &Signature, f: &Name, args: TermList) -> Result<Term, Mem>
     ensures { IfOk result (λ r. tree r ≡ reduced (equations sig.now) f.now (trees_of args)) }
 {
     if let Some(k) = place_of_part(sig, f, &args) {
-        return Ok(into_part(args, k));
+        let part = part_at(alloc, &args, k)?;
+        return Ok(part);
     }
     if is_verified(sig, f, &args) {
         return true_constant(alloc);

@@ -4,3 +4,4 @@ pub mod SameLaws
 pub mod Places
 pub mod Hashed
 pub mod Keys
+pub mod Held

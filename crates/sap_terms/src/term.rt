@@ -7,6 +7,7 @@ use crate::{Copied, Mem, Name, Var};
 use std::alloc::Global;
 use std::hash::{Hash, Hasher};
 use std::marker::Model;
+use std::rc::Rc;
 
 /// A term of the symbolic model. Contracts see it as a plain tree, by `tree` of the specs' `View`.
 #[cycle(term)]
@@ -22,11 +23,14 @@ pub enum Term {
     App(Name, TermList),
 }
 
-/// A list of terms, which contracts see as the list of their trees.
+/// A list of terms, which contracts see as the list of their trees. Copies share the terms, so a copy of a list, and so of a
+/// term, takes no memory and the same time whatever its size.
 #[cycle(term)]
 #[derive(Drop)]
 pub struct TermList {
-    items: Vec<Term>,
+    alloc: Global,
+    // None where there is no term.
+    shared: Option<Rc<Vec<Term>>>,
 }
 
 impl Model for TermList {
@@ -40,15 +44,42 @@ impl Model for TermList {
 
     ghost use Rattle.sap_terms.specs.View.{tree};
     ghost use Rattle.sap_terms.specs.Tree.{trees_of, trees_count};
+    ghost use Rattle.sap_terms.specs.code.Held.{held};
 
-    ghost view = { λ a. map tree a.items.items };
+    ghost view = { λ a. map tree (held a.shared) };
 
     ghost size = { λ ts. trees_count (trees_of ts) };
 
     ghost use Rattle.std.proofs.Common.{arith};
-    ghost use Rattle.sap_terms.specs.Falls.{most_le-trees_count};
+    ghost use Rattle.sap_terms.specs.Falls.{falls};
 
-    ghost size_decreases = { λ a h. omega (arith, most_le-trees_count a.items.items) };
+    ghost size_decreases = { λ a h. falls a.alloc a.shared };
+}
+
+// Copies of these terms, with room for one more.
+fn copies(alloc: Global, ts: &[Term]) -> Result<Vec<Term>, Mem>
+    ensures { IfOk result (λ v. v.items ≡ ts.now) }
+{
+    let mut items = Vec::with_capacity(alloc, ts.len() + 1)?;
+    for t in ts {
+        items.push(t.copy(alloc)?)?;
+    }
+    Ok(items)
+}
+
+// Puts the term last, where no other list has these terms in place, else in a list of its own.
+fn push_on(alloc: Global, shared: &mut Rc<Vec<Term>>, item: Term) -> Result<(), Mem>
+    ensures ok { OnOk result (shared.new.value.items ≡ shared.old.value.items ++ item ∷ []) }
+    ensures err { OnErr result (shared.new.value.items ≡ shared.old.value.items) }
+{
+    if let Some(items) = Rc::get_mut(shared) {
+        items.push(item)?;
+        return Ok(());
+    }
+    let mut items = copies(alloc, shared.as_slice())?;
+    items.push(item)?;
+    *shared = Rc::new(alloc, items)?;
+    Ok(())
 }
 
 impl TermList {
@@ -60,7 +91,8 @@ impl TermList {
         ensures { result ≡ [] }
     {
         TermList {
-            items: Vec::new(alloc),
+            alloc,
+            shared: None,
         }
     }
 
@@ -68,40 +100,60 @@ impl TermList {
     pub fn with_room(alloc: Global, count: u64) -> Result<TermList, Mem>
         ensures { IfOk result (λ a. a ≡ []) }
     {
+        if count == 0 {
+            return Ok(TermList::new(alloc));
+        }
         let items = Vec::with_capacity(alloc, count as usize)?;
-        Ok(TermList { items })
+        TermList::of(alloc, items)
     }
 
-    /// Puts the term last; a refused term is dropped, and the list is as it was.
+    // The list of these terms.
+    fn of(alloc: Global, items: Vec<Term>) -> Result<TermList, Mem>
+        ensures { IfOk result (λ a. a ≡ map tree items.items) }
+    {
+        let shared = Rc::new(alloc, items)?;
+        Ok(TermList {
+            alloc,
+            shared: Some(shared),
+        })
+    }
+
+    /// Puts the term last; a refused term is dropped, and the list is as it was. Where copies share the list's terms, it gets
+    /// a list of its own first.
     pub fn push(&mut self, item: Term) -> Result<(), Mem>
         ensures ok { OnOk result (self.new ≡ self.old ++ tree item ∷ []) }
         ensures err { OnErr result (self.new ≡ self.old) }
     {
-        self.items.push(item)?;
+        let alloc = self.alloc;
+        if let Some(shared) = &mut self.shared {
+            return push_on(alloc, shared, item);
+        }
+        let mut items = Vec::new(alloc);
+        items.push(item)?;
+        self.shared = Some(Rc::new(alloc, items)?);
         Ok(())
-    }
-
-    /// Takes the term at an index that the list has, from 0, out of it; the other terms are dropped.
-    pub fn into_item(self, k: u64) -> Term
-        requires { k < length self }
-        ensures { slice_get self k ≡ Some (tree result) }
-    {
-        let mut items = self.items;
-        items.swap_remove(k as usize)
     }
 
     /// The number of terms.
     pub fn len(&self) -> u64
         ensures { result ≡ length self.now }
     {
-        self.items.len() as u64
+        self.as_slice().len() as u64
     }
 
     /// The term at index k, from 0.
     pub fn get(&self, k: u64) -> Option<&Term>
         ensures { option_map tree (option_copied result) ≡ slice_get self.now k }
     {
-        self.items.get(k as usize)
+        self.as_slice().get(k as usize)
+    }
+
+    // The term at an index that the list has.
+    fn item(&self, k: u64) -> &Term
+        requires { k < length self.now }
+        ensures { slice_get self.now k ≡ Some (tree result.now) }
+    {
+        &self.as_slice()[k as usize]
     }
 
     /// The term at an index that the list has, which is smaller than the list.
@@ -112,14 +164,17 @@ impl TermList {
         ensures item { tree result.now ≡ slice_index_or self.now k (tree result.now) }
         ensures smaller { node_count (tree result.now) ≤ trees_count (trees_of self.now) }
     {
-        &self.items[k as usize]
+        self.item(k)
     }
 
     /// The terms side by side.
     pub fn as_slice(&self) -> &[Term]
         ensures { map tree result.now ≡ self.now }
     {
-        self.items.as_slice()
+        match &self.shared {
+            Some(items) => items.as_slice(),
+            None => &[],
+        }
     }
 
     #[cycle(nodes)]
@@ -128,8 +183,8 @@ impl TermList {
         ensures { result ≡ min (trees_count (trees_of self.now)) u64.MAX }
     {
         let mut total: u64 = 0;
-        for t in &self.items {
-            total = total.saturating_add(t.nodes());
+        for k in 0..self.len() {
+            total = total.saturating_add(self.at(k).nodes());
         }
         total
     }
@@ -139,8 +194,8 @@ impl TermList {
         ensures { result ≡ min (trees_levels (trees_of self.now)) u64.MAX }
     {
         let mut deepest: u64 = 0;
-        for t in &self.items {
-            deepest = deepest.max(t.levels());
+        for k in 0..self.len() {
+            deepest = deepest.max(self.at(k).levels());
         }
         deepest
     }
@@ -149,11 +204,11 @@ impl TermList {
     fn is(&self, other: &TermList) -> bool
         ensures { IsTrue result ↔ (self.now ≡ other.now) }
     {
-        if self.items.len() != other.items.len() {
+        if self.len() != other.len() {
             return false;
         }
-        for k in 0..self.items.len() {
-            if !self.items[k].is(&other.items[k]) {
+        for k in 0..self.len() {
+            if !self.at(k).is(other.at(k)) {
                 return false;
             }
         }
@@ -210,7 +265,6 @@ impl Term {
 }
 
 impl Copied for Term {
-    #[cycle(copy)]
     fn copy(&self, alloc: Global) -> Result<Term, Mem> {
         match self {
             Term::Var(v) => Ok(Term::Var(v.copy(alloc)?)),
@@ -222,13 +276,15 @@ impl Copied for Term {
 }
 
 impl Copied for TermList {
-    #[cycle(copy)]
-    fn copy(&self, alloc: Global) -> Result<TermList, Mem> {
-        let mut items = Vec::with_capacity(alloc, self.items.len())?;
-        for t in &self.items {
-            items.push(t.copy(alloc)?)?;
-        }
-        Ok(TermList { items })
+    fn copy(&self, _alloc: Global) -> Result<TermList, Mem> {
+        let shared = match &self.shared {
+            Some(items) => Some(items.clone()?),
+            None => None,
+        };
+        Ok(TermList {
+            alloc: self.alloc,
+            shared,
+        })
     }
 }
 
@@ -294,8 +350,8 @@ impl TermList {
     fn feed<H: Hasher>(&self, state: &mut H)
         ensures { state.new ≡ fold H.write state.old (fed_trees (trees_of self.now)) }
     {
-        for t in &self.items {
-            t.hash(state);
+        for k in 0..self.len() {
+            self.at(k).hash(state);
         }
     }
 }

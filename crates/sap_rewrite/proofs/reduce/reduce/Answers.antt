@@ -7,13 +7,13 @@ use Rattle.sap_terms.specs.Equations.{equations}
 use Rattle.sap_rewrite.proofs.Parts.{part_there, part_left, left_as_is, left_true}
 use Rattle.sap_rewrite.proofs.reduce.reduce.Goals as goal
 
-pub into_part-requires : goal.into_part-requires
-into_part-requires c =
+pub part_at-requires : goal.part_at-requires
+part_at-requires c =
     part_there (equations c.args.sig.now) c.args.f.now (trees_of c.args.args) c.in-Some.k (sym c.place_of_part.ensures ∙ c.in-Some.is)
 
 pub returns-in-Some : goal.returns-in-Some
 returns-in-Some c =
-    part_left (equations c.args.sig.now) c.args.f.now (trees_of c.args.args) c.in-Some.k _ (sym c.place_of_part.ensures ∙ c.in-Some.is) c.into_part.ensures
+    part_left (equations c.args.sig.now) c.args.f.now (trees_of c.args.args) c.in-Some.k _ (sym c.place_of_part.ensures ∙ c.in-Some.is) c.in_ok-part.ensures
 
 pub returns : goal.returns
 returns c =

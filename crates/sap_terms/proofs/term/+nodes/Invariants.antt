@@ -1,8 +1,9 @@
-use Rattle.std.proofs.Common.{◌≡◌, ◌-◌, ◌^◌, min, sum_by, take}
-use Rattle.sap_terms.specs.View.{tree}
-use Rattle.sap_terms.specs.Tree.{node_count}
+use Rattle.std.proofs.Common.{◌≡◌, ◌≤◌, ◌+◌, ◌-◌, ◌^◌, min, drop}
+use Rattle.sap_terms.specs.Tree.{trees_of, trees_count}
 use Rattle.sap_terms.proofs.term.+nodes.Given as goal
 
-abbrev pub invariant-TermList::nodes-loop-t : goal.invariant-TermList::nodes-loop-t
-invariant-TermList::nodes-loop-t l =
-    l.total ≡ min (sum_by (λ t. node_count (tree t)) (take l.t-index l.t-items)) (2 ^ 64 - 1)
+abbrev pub invariant-TermList::nodes-loop-k : goal.invariant-TermList::nodes-loop-k
+invariant-TermList::nodes-loop-k l =
+    (l.total ≤ 2 ^ 64 - 1)
+    × (min (l.total + trees_count (trees_of (drop l.k l.fn.self))) (2 ^ 64 - 1)
+    ≡ min (trees_count (trees_of l.fn.self)) (2 ^ 64 - 1))

@@ -1,16 +1,15 @@
-use Rattle.std.proofs.Common.{◌≡◌, get_or, arith, sym, ap, ◌∙◌}
-use Rattle.std.proofs.lemmas.List.{get_or_read}
-use Rattle.sap_terms.proofs.PlainLaws.Trees.{same_terms}
+use Rattle.std.proofs.Common.{◌≡◌, sym, ap, ◌∙◌}
+use Rattle.sap_terms.specs.View.{tree, term, term-tree}
 use Rattle.sap_terms.proofs.term.+same.Goals as goal
 
 pub TermList::is-returns-then-not-is : goal.TermList::is-returns-then-not-is
 TermList::is-returns-then-not-is t c =
-    let x = c.index.result.now in
-    let y = c.index-in-loop-k.result.now in (
+    let x = c.at.result.now in
+    let y = c.at-in-loop-k.result.now in (
       λ h. cc,
       λ e.
-          let same = same_terms _ _ (c.self.view_is ∙ e ∙ sym c.other.view_is) in
-          let there : x ≡ y =
-          get_or_read c.self.inside.items.items _ _ (omega arith) c.index.ensures y ∙ ap (λ xs. get_or xs c.loop-k.k y) same ∙ sym c.index-in-loop-k.ensures in
-          rw c.if-not-is.true at (c.is.ensures.1 there),
+          let got = c.at.ensures.got in
+          let other = c.at-in-loop-k.ensures.got in
+          let same : tree x ≡ tree y = cc in
+          rw c.if-not-is.true at (c.is.ensures.1 (sym (term-tree x) ∙ ap term same ∙ term-tree y)),
     )
