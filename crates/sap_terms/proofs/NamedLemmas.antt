@@ -1,5 +1,5 @@
--- Items looked up by their places, and one item more.
-use Rattle.std.proofs.Common.{◌≡◌, ℕ, zero, suc, Bool, true, false, List, [], ◌∷◌, ◌++◌, length, Option, Some, None, option_map, is_some, if◌then◌else◌, cond, slice_get, refl, ap, sym, ◌∙◌}
+-- Items looked up by their places, one item more and one less.
+use Rattle.std.proofs.Common.{◌≡◌, ℕ, zero, suc, ◌<◌, arith, Bool, true, false, List, [], ◌∷◌, ◌++◌, length, Option, Some, None, option_map, is_some, if◌then◌else◌, cond, slice_get, refl, ap, sym, ◌∙◌}
 use Rattle.std.specs.Str.{bytes_eq}
 use Rattle.std.proofs.lemmas.Bool.{false≢true}
 use Rattle.std.proofs.lemmas.Slice.Eq.{bytes_eq-Decides}
@@ -60,19 +60,62 @@ module _ {X : Type 0} (name : X → List ℕ) where
         absurd (false≢true (rw gone at there))
 
   -- a new name has the last place
-  places-more : (places after : List ℕ → Option ℕ) (ss : List X) (s : X) → ((n : List ℕ) → places n ≡ place_of name ss n) → is_some (places (name s)) ≡ false
-      → ((n : List ℕ) → after n ≡ cond (bytes_eq (name s) n) (Some (length ss)) (places n)) → (n : List ℕ) → after n ≡ place_of name (ss ++ s ∷ []) n
-  places-more places after ss s tied none updates n = by (bytes_eq (name s) n) refl (place_of name ss n) refl where
+  pub places-more : (places after : List ℕ → Option ℕ) (ss : List X) (s : X) (called : List ℕ) (place : ℕ) → ((n : List ℕ) → places n ≡ place_of name ss n)
+      → place_of name ss (name s) ≡ None → called ≡ name s → place ≡ length ss
+      → ((n : List ℕ) → after n ≡ cond (bytes_eq called n) (Some place) (places n)) → (n : List ℕ) → after n ≡ place_of name (ss ++ s ∷ []) n
+  places-more places after ss s called place tied none e f updates n = by (bytes_eq (name s) n) refl (place_of name ss n) refl where
+    put : after n ≡ cond (bytes_eq (name s) n) (Some (length ss)) (places n)
+    put = rw (e, f) at (updates n)
+
     by : (b : Bool) → bytes_eq (name s) n ≡ b → (o : Option ℕ) → place_of name ss n ≡ o → after n ≡ place_of name (ss ++ s ∷ []) n
-    by true d None e = updates n ∙ rw (place_of-push ss s n, e, d) refl
+    by true d None e = put ∙ rw (place_of-push ss s n, e, d) refl
     by true d (Some k) e =
         let same : (name s) ≡ n = (bytes_eq-Decides (name s) n).0 d in
-        let there : places (name s) ≡ Some k = rw same (tied n ∙ e) in
-        absurd (false≢true (sym (rw there at none)))
-    by false d o e = updates n ∙ rw (place_of-push ss s n, d, tied n) (or_none (place_of name ss n))
+        let there : place_of name ss (name s) ≡ Some k = rw same e in
+        absurd (false≢true (ap is_some (sym none ∙ there)))
+    by false d o e = put ∙ rw (place_of-push ss s n, d, tied n) (or_none (place_of name ss n))
 
-  -- the same, where the name and the place are known by equations
-  pub places-more_at : (places after : List ℕ → Option ℕ) (ss : List X) (s : X) (called : List ℕ) (place : ℕ) → ((n : List ℕ) → places n ≡ place_of name ss n)
-      → is_some (places (name s)) ≡ false → called ≡ name s → place ≡ length ss
-      → ((n : List ℕ) → after n ≡ cond (bytes_eq called n) (Some place) (places n)) → (n : List ℕ) → after n ≡ place_of name (ss ++ s ∷ []) n
-  places-more_at places after ss s called place tied none e d updates = places-more places after ss s tied none (λ n. rw (e, d) at (updates n))
+  -- the place of each name is below the length
+  pub place_of-below : (ss : List X) (n : List ℕ) (k : ℕ) → place_of name ss n ≡ Some k → k < length ss
+  place_of-below [] n k e = cc
+  place_of-below (s ∷ ss) n k e = by (bytes_eq (name s) n) (place_of name ss n) k e (place_of-below ss n) where
+    by : (b : Bool) (o : Option ℕ) (k : ℕ) → (if b then Some 0 else option_map suc o) ≡ Some k → ((j : ℕ) → o ≡ Some j → j < length ss) → k < suc (length ss)
+    by true o zero e later = omega arith
+    by true o (suc k) e later = cc
+    by false None k e later = cc
+    by false (Some j) zero e later = cc
+    by false (Some j) (suc k) e later = let same : j ≡ k = cc in let below : k < length ss = later k (ap Some same) in omega (arith, below)
+
+  -- the last item's place is taken out where it is the first of its name
+  pub places-less : (places after : List ℕ → Option ℕ) (ss rs : List X) (s : X) → ss ≡ rs ++ s ∷ [] → ((n : List ℕ) → places n ≡ place_of name ss n) → places (name s) ≡ Some (length rs)
+      → ((n : List ℕ) → after n ≡ cond (bytes_eq (name s) n) None (places n)) → (n : List ℕ) → after n ≡ place_of name rs n
+  places-less places after ss rs s whole tied first updates n = by (bytes_eq (name s) n) refl (place_of name rs n) refl where
+    was : places n ≡ or_place (place_of name rs n) (if bytes_eq (name s) n then Some (length rs) else None)
+    was = tied n ∙ ap (λ us. place_of name us n) whole ∙ place_of-push rs s n
+
+    by : (b : Bool) → bytes_eq (name s) n ≡ b → (o : Option ℕ) → place_of name rs n ≡ o → after n ≡ o
+    by true d None e = updates n ∙ rw d refl
+    by true d (Some k) e =
+        let same : (name s) ≡ n = (bytes_eq-Decides (name s) n).0 d in
+        let here : places n ≡ Some k = was ∙ rw e refl in
+        let there : places n ≡ Some (length rs) = ap places (sym same) ∙ first in
+        let equal : Some k ≡ Some (length rs) = sym here ∙ there in
+        let same_place : k ≡ length rs = cc in
+        let below : k < length rs = place_of-below rs n k e in
+        absurd (omega arith)
+    by false d o e = updates n ∙ rw d (was ∙ rw (d, e) (sym (or_none o)))
+
+  -- and stays where it isn't
+  pub places-left : (places : List ℕ → Option ℕ) (ss rs : List X) (s : X) → ss ≡ rs ++ s ∷ [] → ((n : List ℕ) → places n ≡ place_of name ss n) → ¬ (places (name s) ≡ Some (length rs))
+      → (n : List ℕ) → places n ≡ place_of name rs n
+  places-left places ss rs s whole tied later n = by (bytes_eq (name s) n) refl (place_of name rs n) refl where
+    was : places n ≡ or_place (place_of name rs n) (if bytes_eq (name s) n then Some (length rs) else None)
+    was = tied n ∙ ap (λ us. place_of name us n) whole ∙ place_of-push rs s n
+
+    by : (b : Bool) → bytes_eq (name s) n ≡ b → (o : Option ℕ) → place_of name rs n ≡ o → places n ≡ o
+    by true d None e =
+        let same : (name s) ≡ n = (bytes_eq-Decides (name s) n).0 d in
+        let here : places n ≡ Some (length rs) = was ∙ rw (e, d) refl in
+        absurd (later (ap places same ∙ here))
+    by b d (Some k) e = was ∙ rw e refl
+    by false d None e = was ∙ rw (d, e) refl

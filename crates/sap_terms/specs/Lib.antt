@@ -7,6 +7,8 @@ pub mod Choice
 pub mod Subst
 pub mod Variables
 pub mod Named
+pub mod NameMap
+pub mod NameSet
 pub mod Signature
 pub mod Equations
 pub mod Equal

@@ -9,6 +9,8 @@ mod laws;
 mod limits;
 mod mem;
 mod name;
+mod name_map;
+mod name_set;
 mod named;
 mod occurrences;
 mod path;
@@ -32,6 +34,8 @@ pub use limits::{
 };
 pub use mem::Mem;
 pub use name::{Name, NameList};
+pub use name_map::NameMap;
+pub use name_set::NameSet;
 pub use named::{HasName, Named};
 pub use occurrences::{push_all_vars, push_facts_vars, push_vars};
 pub use path::Path;

@@ -1,12 +1,11 @@
 //! Lists whose items are found by their names.
-ghost use Rattle.std.specs.Prelude.{◌≡◌, ℕ, ◌<◌, ◌≤◌, List, [], ◌∷◌, ◌++◌, length, Some, IfOk, OnOk, OnErr, slice_get};
-ghost use Rattle.std.specs.Str.{bytes_eq};
-ghost use Rattle.indexmap.specs.IndexMap.{spare, IsUnchanged, Updates};
+ghost use Rattle.std.specs.Prelude.{◌≡◌, ℕ, ◌<◌, ◌-◌, ◌↔◌, List, [], ◌∷◌, ◌++◌, length, take, None, Some, IsTrue, OnOk, OnErr, slice_get};
 ghost use Rattle.std.specs.Option.{option_copied};
 ghost use Rattle.sap_terms.specs.Named.{first_named};
+ghost use Rattle.sap_terms.specs.NameMap.{value_at};
+ghost use Rattle.sap_terms.specs.code.Places.{place_of};
 
-use crate::{Copied, Items, Mem, Name};
-use indexmap::IndexMap;
+use crate::{Copied, Items, Mem, Name, NameMap};
 use std::alloc::Global;
 use std::marker::Model;
 
@@ -20,24 +19,23 @@ pub trait HasName: Sized {
 }
 
 /// A list, which contracts see as the list of its items. The first item of a name is found without a pass over them: a
-/// look-up takes time in the length of the name on average, however many items there are.
+/// look-up takes time in the logarithm of their number, times the length of what two names have in common.
 #[derive(Drop)]
 pub struct Named<T: HasName> {
     items: Items<T>,
-    places: IndexMap<Name, u64>,
+    places: NameMap<u64>,
 }
 
 impl<T: HasName> Model for Named<T> {
     ghost use Rattle.std.specs.Prelude.{◌≡◌, ℕ, List};
-    ghost use Rattle.std.specs.Str.{bytes_eq};
-    ghost use Rattle.indexmap.specs.IndexMap.{get};
+    ghost use Rattle.sap_terms.specs.NameMap.{value_at};
     ghost use Rattle.sap_terms.specs.code.Places.{place_of};
 
     ghost Value = { List T };
 
     ghost view = { λ a. a.items };
 
-    ghost invariant = { λ a. (n : List ℕ) → get bytes_eq a.places n ≡ place_of T.name_of a.items n };
+    ghost invariant = { λ a. (n : List ℕ) → value_at a.places n ≡ place_of T.name_of a.items n };
 }
 
 impl<T: HasName> Named<T> {
@@ -47,7 +45,7 @@ impl<T: HasName> Named<T> {
     {
         Named {
             items: Items::new(alloc),
-            places: IndexMap::new(alloc),
+            places: NameMap::new(alloc),
         }
     }
 
@@ -81,6 +79,13 @@ impl<T: HasName> Named<T> {
         self.items.get(*place)
     }
 
+    // The index of the first item of this name, from 0.
+    pub(crate) fn place_of(&self, name: &Name) -> Option<u64>
+        ensures { result ≡ place_of T.name_of self.now name.now }
+    {
+        self.places.get(name).copied()
+    }
+
     /// The items side by side.
     pub fn as_slice(&self) -> &[T]
         ensures { result.now ≡ self.now }
@@ -94,25 +99,13 @@ impl<T: HasName> Named<T> {
     }
 }
 
-// A copy of the name, and room for it among the places.
-fn name_with_room(alloc: Global, name: &Name, places: &mut IndexMap<Name, u64>) -> Result<Name, Mem>
-    ensures name { IfOk result (λ n. n ≡ name.now) }
-    ensures room { OnOk result (1 ≤ spare places.new) }
-    ensures places { IsUnchanged places.old places.new }
+// Whether the name has this place.
+fn is_placed(places: &NameMap<u64>, name: &Name, place: u64) -> bool
+    ensures { IsTrue result ↔ (value_at places.now name.now ≡ Some place) }
 {
-    let copied = name.copy(alloc)?;
-    places.reserve(1)?;
-    Ok(copied)
-}
-
-// Notes the place of a name that has none, where there is room.
-fn note_place(places: &mut IndexMap<Name, u64>, name: Name, place: u64)
-    requires { 1 ≤ spare places.old }
-    ensures { Updates bytes_eq places.old places.new name (Some place) }
-{
-    match places.insert(name, place) {
-        Ok(_) => {}
-        Err(_) => unreachable!(),
+    match places.get(name) {
+        Some(first) => *first == place,
+        None => false,
     }
 }
 
@@ -134,11 +127,46 @@ impl<T: HasName + Drop> Named<T> {
             self.items.push(item)?;
             return Ok(());
         }
-        let name = name_with_room(self.items.allocator(), item.name(), &mut self.places)?;
+        self.push_first(item)
+    }
+
+    // Puts the item last, where no item has its name. Refused, the item is dropped, and the list is as it was.
+    pub(crate) fn push_first(&mut self, item: T) -> Result<(), Mem>
+        requires { place_of T.name_of self.old (T.name_of item) ≡ None }
+        ensures ok { OnOk result (self.new ≡ self.old ++ item ∷ []) }
+        ensures err { OnErr result (self.new ≡ self.old) }
+    {
+        let name = item.name().copy(self.items.allocator())?;
         let place = self.items.len();
         self.items.push(item)?;
-        note_place(&mut self.places, name, place);
-        Ok(())
+        match self.places.insert(name, place) {
+            Ok(()) => Ok(()),
+            Err(e) => {
+                self.items.cut(place);
+                Err(e)
+            }
+        }
+    }
+
+    /// Leaves the first `len` items. It takes time in the number of the others.
+    pub fn cut(&mut self, len: u64)
+        ensures { self.new ≡ take len self.old }
+    {
+        while self.items.len() > len {
+            self.pop();
+        }
+    }
+
+    // Drops the last item, if there is one.
+    fn pop(&mut self)
+        ensures { self.new ≡ take (length self.old - 1) self.old }
+    {
+        if let Some(item) = self.items.pop() {
+            let place = self.items.len();
+            if is_placed(&self.places, item.name(), place) {
+                self.places.remove(item.name());
+            }
+        }
     }
 }
 

@@ -1,5 +1,5 @@
 //! Signatures: which symbols are held, and the equations between them.
-ghost use Rattle.std.specs.Prelude.{◌≡◌, ℕ, ◌↔◌, List, [], ◌∷◌, ◌++◌, IsTrue, IsErrOf, OnOk, OnErr, IfOk, MatchOption, option_map, slice_get, map, None, Some, false};
+ghost use Rattle.std.specs.Prelude.{◌≡◌, ℕ, ◌↔◌, List, [], ◌∷◌, ◌++◌, IsTrue, IsErrOf, OnOk, OnErr, IfOk, MatchOption, option_map, slice_get, map, length, take, None, Some, false};
 ghost use Rattle.std.specs.Option.{option_copied};
 ghost use Rattle.sap_terms.specs.Signature.{Sig, find_symbol, arity_of, IsPublic, Clashes, declared, has_builtin, is_destructor_of, builtin_symbols, public_symbol, declared_all, is_held_otherwise, first_clash, added, pairs_alone, IsMap, IsFirstClash, HoldsBuiltins};
 ghost use Rattle.sap_terms.specs.declared.signature.SigFault.TheVariants.{Mem as OutOfMemory};
@@ -51,7 +51,7 @@ impl From<Mem> for SigFault {
 }
 
 /// Symbols with their arities and privacy, in order of first declaration, and builtins. No name stands twice.
-/// A look-up by a name takes time in the length of the name on average, however many symbols are held.
+/// A look-up by a name takes time in the logarithm of their number, times the length of what two names have in common.
 #[derive(Drop)]
 pub struct Signature {
     symbols: Named<Symbol>,
@@ -257,40 +257,52 @@ fn first_clash(symbols: &Named<Symbol>, added: &Named<Symbol>) -> Option<u64>
     None
 }
 
-// Puts a copy of the symbol last, unless its name is held.
+// Puts a copy of the symbol last, unless its name is held. Refused, the symbols are as they were.
 fn declare_copy(alloc: Global, symbols: &mut Named<Symbol>, s: &Symbol) -> Result<(), Mem>
-    ensures { OnOk result (symbols.new ≡ declared symbols.old s.now.name s.now.arity s.now.private) }
+    ensures ok { OnOk result (symbols.new ≡ declared symbols.old s.now.name s.now.arity s.now.private) }
+    ensures err { OnErr result (symbols.new ≡ symbols.old) }
 {
     if held(symbols, &s.name).is_some() {
         return Ok(());
     }
-    symbols.push_copy(alloc, s)
+    symbols.push(s.copy(alloc)?)
 }
 
-// The symbols with these, one after another, where their names are not held.
-fn declare_all(
-    alloc: Global,
-    symbols: &Named<Symbol>,
-    added: &Named<Symbol>,
-) -> Result<Named<Symbol>, Mem>
-    ensures { IfOk result (λ ss. ss ≡ declared_all symbols.now added.now) }
+// Puts copies of these symbols last, one after another, where their names are not held. Refused, some of them may be
+// there, behind those that were.
+fn declare_each(symbols: &mut Named<Symbol>, added: &Named<Symbol>) -> Result<(), Mem>
+    ensures ok { OnOk result (symbols.new ≡ declared_all symbols.old added.now) }
+    ensures kept { take (length symbols.old) symbols.new ≡ symbols.old }
 {
-    let mut all = symbols.copy(alloc)?;
+    let alloc = symbols.allocator();
     for s in added.as_slice() {
-        declare_copy(alloc, &mut all, s)?;
+        declare_copy(alloc, symbols, s)?;
     }
-    Ok(all)
+    Ok(())
 }
 
-// The symbols with these, one after another; where one of these is held otherwise, a clash at the first that is.
-fn joined(
-    alloc: Global,
-    symbols: &Named<Symbol>,
-    added: Named<Symbol>,
-) -> Result<Named<Symbol>, SigFault>
-    ensures ok { IfOk result (λ ss. ss ≡ declared_all symbols.now added) }
-    ensures no_clash { OnOk result (first_clash symbols.now added ≡ None) }
-    ensures clash { (n : List ℕ) → IsErrOf result (SigFault.Clash n) → first_clash symbols.now added ≡ Some n }
+// The same; refused, the symbols are as they were.
+fn declare_all(symbols: &mut Named<Symbol>, added: &Named<Symbol>) -> Result<(), Mem>
+    ensures ok { OnOk result (symbols.new ≡ declared_all symbols.old added.now) }
+    ensures err { OnErr result (symbols.new ≡ symbols.old) }
+{
+    let count = symbols.len();
+    match declare_each(symbols, added) {
+        Ok(()) => Ok(()),
+        Err(e) => {
+            symbols.cut(count);
+            Err(e)
+        }
+    }
+}
+
+// Puts copies of these symbols last, one after another, where their names are not held; where one of these is held
+// otherwise, a clash at the first that is. Refused, the symbols are as they were.
+fn join(symbols: &mut Named<Symbol>, added: Named<Symbol>) -> Result<(), SigFault>
+    ensures ok { OnOk result (symbols.new ≡ declared_all symbols.old added) }
+    ensures no_clash { OnOk result (first_clash symbols.old added ≡ None) }
+    ensures clash { (n : List ℕ) → IsErrOf result (SigFault.Clash n) → first_clash symbols.old added ≡ Some n }
+    ensures err { OnErr result (symbols.new ≡ symbols.old) }
 {
     match first_clash(symbols, &added) {
         Some(k) => {
@@ -298,8 +310,8 @@ fn joined(
             Err(SigFault::Clash { name: symbol.name })
         }
         None => {
-            let all = declare_all(alloc, symbols, &added)?;
-            Ok(all)
+            declare_all(symbols, &added)?;
+            Ok(())
         }
     }
 }
@@ -337,7 +349,8 @@ impl Signature {
     }
 
     /// Adds a builtin's symbols, in their order, and switches on its equations. A clash names the first of these
-    /// symbols that is held with another arity or privacy. Refused, the signature is as it was.
+    /// symbols that is held with another arity or privacy. Refused, the signature is as it was. It takes the time of looking
+    /// up the builtin's symbols, however many others are held.
     #[tactic(auto, using(crate::proofs::SignatureLemmas::signature_laws))]
     pub fn add_builtin(&mut self, b: Builtin) -> Result<(), SigFault>
         ensures ok { OnOk result (self.new ≡ added self.old b) }
@@ -351,7 +364,7 @@ impl Signature {
         }
         let alloc = self.symbols.allocator();
         let added = symbols_of(alloc, b)?;
-        self.symbols = joined(alloc, &self.symbols, added)?;
+        join(&mut self.symbols, added)?;
         self.builtins = self.builtins.including(b);
         Ok(())
     }

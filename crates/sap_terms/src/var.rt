@@ -1,7 +1,7 @@
 //! Variables and their sorts.
 ghost use Rattle.std.specs.Prelude.{◌≡◌, ◌↔◌, IsTrue};
 
-use crate::{Copied, Items, Mem, Name};
+use crate::{Copied, HasName, Items, Mem, Name};
 use std::alloc::Global;
 
 /// What may stand for a variable: any message, a fresh name, or a public name.
@@ -33,6 +33,14 @@ impl Var {
         ensures { IsTrue result ↔ (self.now ≡ other.now) }
     {
         self.name.same(&other.name) && self.sort.is(other.sort)
+    }
+}
+
+impl HasName for Var {
+    ghost name_of = { λ v. v.name };
+
+    fn name(&self) -> &Name {
+        &self.name
     }
 }
 

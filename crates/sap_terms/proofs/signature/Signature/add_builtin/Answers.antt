@@ -15,6 +15,6 @@ held g b xs ss on m h is f e o =
     let both = subst (λ rs. IsMap rs × HoldsBuiltins (record { symbols = rs; builtins = with_builtin g.builtins b })) (sym same) made in
     subst (λ os. IsMap ss × HoldsBuiltins (record { symbols = ss; builtins = os })) (sym o) both
 
-pub invariant_of-self : goal.invariant_of-self
-invariant_of-self c =
-    held (record { symbols = c.self.inside.symbols; builtins = c.self.inside.builtins }) c.args.b c.in_ok-added.added c.in_ok-self-inside.field-0 c.including-self-inside.result c.self.invariant.0 c.self.invariant.1 c.in_ok-added.ensures c.in_ok-self-inside.ensures.no_clash c.in_ok-self-inside.ensures.ok c.including-self-inside.ensures
+pub invariant_of-self-2 : goal.invariant_of-self-2
+invariant_of-self-2 c =
+    held (record { symbols = c.self.inside.symbols; builtins = c.self.inside.builtins }) c.args.b c.in_ok-added.added c.join.new.symbols c.including-self-inside.result c.self.invariant.0 c.self.invariant.1 c.in_ok-added.ensures c.in_ok-join.ensures.no_clash c.in_ok-join.ensures.ok c.including-self-inside.ensures

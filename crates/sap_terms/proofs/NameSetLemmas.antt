@@ -1,0 +1,77 @@
+-- The place of a name among names, and whether it is there.
+use Rattle.std.proofs.Common.{◌≡◌, ℕ, suc, ◌+◌, Bool, true, false, not, ◌||◌, cond, arith, List, [], ◌∷◌, ◌++◌, length, Option, Some, None, option_map, is_some, if◌then◌else◌, refl, ap, sym, ◌∙◌}
+use Rattle.std.specs.Str.{bytes_eq}
+use Rattle.std.specs.List.{list_any, position, position_or_len}
+use Rattle.std.proofs.lemmas.Cmp.{nat_list_eq_equiv}
+use Rattle.std.proofs.lemmas.Grind.{common_steps}
+use Rattle.sap_terms.proofs.NamedLemmas.{place_of-below}
+use Rattle.sap_terms.specs.NameSet.{with_name}
+use Rattle.sap_terms.specs.code.Places.{place_of}
+
+-- the place, or the length where there is none
+abbrev or_length : Option ℕ → ℕ → ℕ
+or_length None k = k
+or_length (Some j) k = j
+
+abbrev place : List (List ℕ) → List ℕ → Option ℕ
+place names n = place_of (λ (m : List ℕ). m) names n
+
+-- a name has a place where it is there
+pub place-any : (names : List (List ℕ)) (n : List ℕ) → is_some (place names n) ≡ list_any (bytes_eq n) names
+place-any [] n = refl
+place-any (m ∷ names) n = rw (nat_list_eq_equiv.symm n m) (by (bytes_eq m n) (place names n) (place-any names n)) where
+  by : (b : Bool) (o : Option ℕ) → is_some o ≡ list_any (bytes_eq n) names → is_some (if b then Some 0 else option_map suc o) ≡ (b || list_any (bytes_eq n) names)
+  by true o later = refl
+  by false None later = later
+  by false (Some k) later = later
+
+one : (k : ℕ) → 1 + k ≡ suc k
+one k = omega arith
+
+place-length : (names : List (List ℕ)) (n : List ℕ) → position_or_len (bytes_eq n) names ≡ or_length (place names n) (length names)
+place-length [] n = refl
+place-length (m ∷ names) n = rw (nat_list_eq_equiv.symm n m) (by (bytes_eq m n) (place names n) (place-length names n)) where
+  by : (b : Bool) (o : Option ℕ) → position_or_len (bytes_eq n) names ≡ or_length o (length names) → cond (not b) (1 + position_or_len (bytes_eq n) names) 0 ≡ or_length (if b then Some 0 else option_map suc o) (suc (length names))
+  by true o later = refl
+  by false None later = one (position_or_len (bytes_eq n) names) ∙ ap suc later
+  by false (Some k) later = one (position_or_len (bytes_eq n) names) ∙ ap suc later
+
+-- and it is the index of the first that is equal
+pub place-position : (names : List (List ℕ)) (n : List ℕ) → place names n ≡ position (bytes_eq n) names
+place-position names n = by (place names n) refl (place-length names n) where
+  p : ℕ
+  p = position_or_len (bytes_eq n) names
+
+  by : (o : Option ℕ) → place names n ≡ o → p ≡ or_length o (length names) → o ≡ position (bytes_eq n) names
+  by None e at = grind (arith, common_steps)
+  by (Some k) e at = let below = place_of-below (λ (m : List ℕ). m) names n k e in grind (arith, common_steps)
+
+-- what a place says
+pub record IsThere (names : List (List ℕ)) (n : List ℕ) (k : ℕ) : Type 0 where
+  pub any : list_any (bytes_eq n) names ≡ true
+  pub at : position_or_len (bytes_eq n) names ≡ k
+  pub same : with_name names n ≡ names
+
+pub place-some : (names : List (List ℕ)) (n : List ℕ) (k : ℕ) → place names n ≡ Some k → IsThere names n k
+place-some names n k e =
+    let any : list_any (bytes_eq n) names ≡ true = sym (place-any names n) ∙ ap is_some e in
+    record {
+      any = any;
+      at = place-length names n ∙ ap (λ o. or_length o (length names)) e;
+      same = ap (λ b. if b then names else names ++ n ∷ []) any;
+    }
+
+-- and what the want of one
+pub record IsNew (names : List (List ℕ)) (n : List ℕ) : Type 0 where
+  pub any : list_any (bytes_eq n) names ≡ false
+  pub at : position_or_len (bytes_eq n) names ≡ length names
+  pub last : with_name names n ≡ names ++ n ∷ []
+
+pub place-none : (names : List (List ℕ)) (n : List ℕ) → place names n ≡ None → IsNew names n
+place-none names n e =
+    let any : list_any (bytes_eq n) names ≡ false = sym (place-any names n) ∙ ap is_some e in
+    record {
+      any = any;
+      at = place-length names n ∙ ap (λ o. or_length o (length names)) e;
+      last = ap (λ b. if b then names else names ++ n ∷ []) any;
+    }

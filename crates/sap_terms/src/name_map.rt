@@ -1,0 +1,71 @@
+//! Maps from names.
+ghost use Rattle.std.specs.Prelude.{◌≡◌, [], None, Some, OnOk, OnErr, is_some};
+ghost use Rattle.std.specs.Option.{option_copied};
+ghost use Rattle.sap_terms.specs.NameMap.{Puts, value_at};
+
+use crate::{Mem, Name};
+use std::alloc::Global;
+use std::collections::BTreeMap;
+use std::marker::Model;
+
+/// A value for each of some names, which contracts see as these pairs. The names are held in their order, so a call takes
+/// time in the logarithm of their number, times the length of what two names have in common, whatever names they are.
+#[derive(Drop)]
+pub struct NameMap<T> {
+    pairs: BTreeMap<Name, T>,
+}
+
+impl<T> Model for NameMap<T> {
+    ghost use Rattle.std.specs.Prelude.{ℕ, List};
+
+    ghost Value = { List (List ℕ × T) };
+
+    ghost view = { λ a. a.pairs.entries };
+}
+
+impl<T> NameMap<T> {
+    /// The map of no names. It takes no memory.
+    pub fn new(alloc: Global) -> NameMap<T>
+        ensures { result ≡ [] }
+    {
+        NameMap {
+            pairs: BTreeMap::new(alloc),
+        }
+    }
+
+    /// The value of the name; None where it has none.
+    #[tactic(auto, using(crate::proofs::PlainLaws::Maps::map_laws))]
+    pub fn get(&self, name: &Name) -> Option<&T>
+        ensures { option_copied result ≡ value_at self.now name.now }
+    {
+        self.pairs.get(name)
+    }
+
+    /// Whether the name has a value.
+    #[tactic(auto, using(crate::proofs::PlainLaws::Maps::map_laws))]
+    pub fn contains_key(&self, name: &Name) -> bool
+        ensures { result ≡ is_some (value_at self.now name.now) }
+    {
+        self.pairs.contains_key(name)
+    }
+}
+
+impl<T: Drop> NameMap<T> {
+    /// Gives the name this value, in place of one that it has. Refused, the map is as it was.
+    #[tactic(auto, using(crate::proofs::PlainLaws::Maps::map_laws))]
+    pub fn insert(&mut self, name: Name, value: T) -> Result<(), Mem>
+        ensures ok { OnOk result (Puts self.old self.new name (Some value)) }
+        ensures err { OnErr result (self.new ≡ self.old) }
+    {
+        self.pairs.insert(name, value)?;
+        Ok(())
+    }
+
+    /// Takes the name's value out, if it has one.
+    #[tactic(auto, using(crate::proofs::PlainLaws::Maps::map_laws))]
+    pub fn remove(&mut self, name: &Name)
+        ensures { Puts self.old self.new name.now None }
+    {
+        self.pairs.remove(name);
+    }
+}
