@@ -1,5 +1,5 @@
 //! Sets of names.
-ghost use Rattle.std.specs.Prelude.{◌≡◌, [], not, length, position, IfOk, OnOk, OnErr};
+ghost use Rattle.std.specs.Prelude.{◌≡◌, ◌||◌, ℕ, List, [], not, length, position, slice_get, Some, IfOk, OnOk, OnErr};
 ghost use Rattle.std.specs.List.{list_any, position_or_len};
 ghost use Rattle.std.specs.Str.{bytes_eq};
 ghost use Rattle.sap_terms.specs.NameSet.{with_name};
@@ -74,6 +74,8 @@ impl NameSet {
         ensures place { IfOk result (λ r. r.0 ≡ position_or_len (bytes_eq name.now) self.old) }
         ensures new { IfOk result (λ r. r.1 ≡ not (list_any (bytes_eq name.now) self.old)) }
         ensures ok { OnOk result (self.new ≡ with_name self.old name.now) }
+        ensures there { IfOk result (λ r. slice_get self.new r.0 ≡ Some name.now) }
+        ensures more { OnOk result ((n : List ℕ) → list_any (bytes_eq n) self.new ≡ (bytes_eq name.now n || list_any (bytes_eq n) self.old)) }
         ensures err { OnErr result (self.new ≡ self.old) }
     {
         match self.names.place_of(name) {

@@ -1,6 +1,7 @@
 use Rattle.std.proofs.Common.{◌≡◌, ◌++◌, ◌∷◌, [], List, ℕ, Some, None, length, not, ap, sym, ◌∙◌}
+use Rattle.std.specs.Prelude.{slice_get}
 use Rattle.sap_terms.specs.code.Places.{place_of}
-use Rattle.sap_terms.proofs.NameSetLemmas.{IsThere, IsNew, place-some, place-none}
+use Rattle.sap_terms.proofs.NameSetLemmas.{IsThere, IsNew, place-some, place-none, more-there, got-last}
 use Rattle.sap_terms.proofs.name_set.NameSet.insert.Goals as goal
 
 -- the same of names that are equal to these
@@ -9,6 +10,9 @@ there names now n k same e = place-some now n k (ap (λ ms. place_of (λ (m : Li
 
 fresh : (names now : List (List ℕ)) (n : List ℕ) → names ≡ now → None ≡ place_of (λ (m : List ℕ). m) names n → IsNew now n
 fresh names now n same e = place-none now n (ap (λ ms. place_of (λ (m : List ℕ). m) ms n) (sym same) ∙ sym e)
+
+put : (names after : List (List ℕ)) (copy n : List ℕ) → after ≡ names ++ copy ∷ [] → copy ≡ n → after ≡ names ++ n ∷ []
+put names after copy n e same = e ∙ ap (λ m. names ++ m ∷ []) same
 
 pub returns-in-Some-clause-place : goal.returns-in-Some-clause-place
 returns-in-Some-clause-place c = sym (there c.self.inside.names c.args.self.now c.args.name.now c.in-Some.place c.self.view_is c.in-Some.ensures).at
@@ -29,3 +33,17 @@ returns-in_ok-push_first-in-None-clause-new c = sym (ap not (fresh c.self.inside
 pub returns-in_ok-push_first-in-None-clause-ok : goal.returns-in_ok-push_first-in-None-clause-ok
 returns-in_ok-push_first-in-None-clause-ok c =
     c.in_ok-push_first-in-None.ensures.ok ∙ (λ i. c.self.view_is i ++ c.in_ok-copy-in-None.ensures i ∷ []) ∙ sym (fresh c.self.inside.names c.args.self.now c.args.name.now c.self.view_is c.in-None.ensures).last
+
+pub returns-in-Some-clause-there : goal.returns-in-Some-clause-there
+returns-in-Some-clause-there c = (there c.self.inside.names c.args.self.now c.args.name.now c.in-Some.place c.self.view_is c.in-Some.ensures).got
+
+pub returns-in-Some-clause-more : goal.returns-in-Some-clause-more
+returns-in-Some-clause-more c = more-there c.args.self.now c.args.self.now c.args.name.now (sym (there c.self.inside.names c.args.self.now c.args.name.now c.in-Some.place c.self.view_is c.in-Some.ensures).same)
+
+pub returns-in_ok-push_first-in-None-clause-there : goal.returns-in_ok-push_first-in-None-clause-there
+returns-in_ok-push_first-in-None-clause-there c =
+    (λ i. slice_get (put c.self.inside.names c.push_first.new.self c.in_ok-copy-in-None.copy c.args.name.now c.in_ok-push_first-in-None.ensures.ok c.in_ok-copy-in-None.ensures i) (c.len-place.ensures i)) ∙ got-last c.self.inside.names c.args.name.now
+
+pub returns-in_ok-push_first-in-None-clause-more : goal.returns-in_ok-push_first-in-None-clause-more
+returns-in_ok-push_first-in-None-clause-more c =
+    more-there c.args.self.now c.push_first.new.self c.args.name.now (c.in_ok-push_first-in-None.ensures.ok ∙ (λ i. c.self.view_is i ++ c.in_ok-copy-in-None.ensures i ∷ []) ∙ sym (fresh c.self.inside.names c.args.self.now c.args.name.now c.self.view_is c.in-None.ensures).last)
