@@ -1,4 +1,4 @@
-use Rattle.std.proofs.Common.{◌≡◌, ◌<◌, ◌+◌, ◌++◌, length, length-append, arith}
+use Rattle.std.proofs.Common.{◌<◌, ◌+◌, ◌++◌, length, length-append, arith}
 use Rattle.std.proofs.lemmas.Grind.{common_steps}
 use Rattle.sap_run_texts.proofs.Begun as begun
 use Rattle.sap_run_texts.proofs.reader.head_with.Goals as goal
