@@ -6,8 +6,8 @@ pub mod Digits
 pub mod TermsTaken
 pub mod TermsRead
 pub mod WordsTaken
-pub mod WordTurns
 pub mod StepsTaken
+pub mod WordsOn
 pub mod TermsPrinted
 pub mod Lines
 pub mod NoFeeds

@@ -14,6 +14,7 @@ use Rattle.sap_run_lines.specs.code.StepTaking.{process_step_of, rule_step_of, p
 use Rattle.sap_run_lines.proofs.OnTaken.{OnSome, some_on}
 use Rattle.sap_run_lines.proofs.WordsTaken.{words_are, are_words}
 use Rattle.sap_run_lines.proofs.StepsTaken.{process_on, process_back, rule_on, rule_back}
+use Rattle.sap_run_lines.proofs.WordsOn.{process_line_is, rule_line_is}
 use Rattle.sap_run_lines.proofs.TermsPrinted.{words_printed}
 
 -- steps of one kind, by their words, what they name, and the step that words are
@@ -61,10 +62,10 @@ rule_line : (s : RStep) (z : List ℕ) → NamesRule s → AreLineWords (rule_wo
 rule_line s z n r = record { named = n; words = r }
 
 pub process_read : (z : List ℕ) → IsLineRead IsProcessStepLine z (process_line_of z)
-process_read = line_read process_words NamesSymbol IsProcessStepLine process_step_of process_line (λ s z l. l.named) (λ s z l. l.words) process_on process_back
+process_read z = subst (λ (o : Option PStep). IsLineRead IsProcessStepLine z o) (process_line_is z) (line_read process_words NamesSymbol IsProcessStepLine process_step_of process_line (λ s z l. l.named) (λ s z l. l.words) process_on process_back z)
 
 pub rule_read : (z : List ℕ) → IsLineRead IsRuleStepLine z (rule_line_of z)
-rule_read = line_read rule_words NamesRule IsRuleStepLine rule_step_of rule_line (λ s z l. l.named) (λ s z l. l.words) rule_on rule_back
+rule_read z = subst (λ (o : Option RStep). IsLineRead IsRuleStepLine z o) (rule_line_is z) (line_read rule_words NamesRule IsRuleStepLine rule_step_of rule_line (λ s z l. l.named) (λ s z l. l.words) rule_on rule_back z)
 
 -- bytes are one step's line at most
 pub one_process : (s u : PStep) (z : List ℕ) → IsProcessStepLine s z → IsProcessStepLine u z → s ≡ u

@@ -37,7 +37,7 @@ identifier_is (fresh_name n) x e = absurd (cc)
 identifier_is (public_name s) x e = absurd (cc)
 identifier_is (bound v t) x e = absurd (cc)
 
-number_is : (w : LineWord) (x : ℕ) → as_number w ≡ Some x → w ≡ number x
+pub number_is : (w : LineWord) (x : ℕ) → as_number w ≡ Some x → w ≡ number x
 number_is (identifier y) x e = absurd (cc)
 number_is (number n) x e = let same : n ≡ x = cc in ap number same
 number_is (fresh_name n) x e = absurd (cc)

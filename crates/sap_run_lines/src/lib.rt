@@ -7,7 +7,7 @@ mod rule_line;
 mod take;
 mod take_steps;
 mod take_term;
-mod take_words;
+mod take_word;
 mod written_word;
 
 pub use laws::{lines_are_one, step_lines_are_lines, written_lines_are_read};

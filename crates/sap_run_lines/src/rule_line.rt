@@ -3,19 +3,19 @@ ghost use Rattle.std.specs.Prelude.{◌≡◌, IfOk};
 ghost use Rattle.sap_run_lines.specs.StepLines.{IsRuleStepLine, IsLineRead};
 ghost use Rattle.sap_run_lines.specs.code.StepTaking.{rule_line_of};
 
-use crate::take_steps::rule_step_of;
-use crate::take_words::take_words;
+use crate::take::identifier_at;
+use crate::take_steps::rule_named;
 use sap_runs::RStep;
 use sap_terms::Mem;
 use std::alloc::Global;
 
-#[tactic(auto, unfolding(crate::specs::code::Taking::given))]
+#[tactic(auto, unfolding(crate::specs::code::Taking::after))]
 fn rule_line(alloc: Global, bytes: &[u8]) -> Result<Option<RStep>, Mem>
     ensures { IfOk result (λ o. o ≡ rule_line_of bytes.now) }
 {
-    match take_words(alloc, bytes)? {
+    match identifier_at(bytes) {
         None => Ok(None),
-        Some(words) => rule_step_of(alloc, words.as_slice()),
+        Some((word, rest)) => rule_named(alloc, word, rest),
     }
 }
 

@@ -1,47 +1,40 @@
-//! Steps, from the words of their lines.
-ghost use Rattle.std.specs.Prelude.{◌≡◌, ◌++◌, ◌∷◌, [], ◌<◌, IfOk, OnOk, IsTrue, Some, map, length};
-ghost use Rattle.std.specs.Option.{option_copied, option_map};
+//! Steps, from the bytes behind the first word of their lines. Each field is taken straight into its place.
+ghost use Rattle.std.specs.Prelude.{◌≡◌, ◌++◌, ◌∷◌, [], ◌<◌, IfOk, Some, length};
+ghost use Rattle.std.specs.Option.{option_map};
+ghost use Rattle.std.specs.Str.{bytes_eq};
 ghost use Rattle.sap_runs.specs.declared.process_step.PStep.TheVariants as process;
 ghost use Rattle.sap_runs.specs.declared.rule_step.RStep.TheVariants as rule;
-ghost use Rattle.sap_run_lines.specs.code.Taking.{given};
-ghost use Rattle.sap_run_lines.specs.code.WordTaking.{line_word};
-ghost use Rattle.sap_run_lines.specs.code.StepTaking.{as_identifier, as_number, as_fresh, as_public, as_bound, as_name, only, numbers_first, starts_number, behind_numbers, numbers_of, bindings_of, some_bindings, is_with, with_of, uses_of, name_first, number_first, word_first, applied_of, named_of, public_of, fresh_of, number_of, process_one, process_two, process_behind, process_numbered, new_of, embedded_of, process_named, process_step_of, rule_one, rule_numbered, rule_named, rule_step_of};
+ghost use Rattle.sap_run_lines.specs.code.Taking.{given, Takes, Finds};
+ghost use Rattle.sap_run_lines.specs.code.WordTaking.{line_word, word_at, on_words, behind_blank};
+ghost use Rattle.sap_run_lines.specs.code.StepTaking.{as_number, as_fresh, as_public, as_bound, only, number_behind, name_behind, binding_behind, behind_with, AreNumbersFirst, numbers_of, bindings_of, some_bindings, with_of, uses_of, applied_of, named_of, public_of, fresh_of, number_of, process_one, process_two, process_behind, process_numbered, new_of, embedded_of, process_named_at, rule_one, rule_numbered, rule_named_at};
 
-use crate::take::is_run_name;
+use crate::take::{behind, identifier_at, name_at, number_at, starts};
+use crate::take_word::take_word;
 use crate::written_word::WrittenWord;
 use sap_runs::{PStep, RStep};
-use sap_terms::{Binding, Bindings, Copied, Mem, Name, Numbers};
+use sap_terms::{Binding, Bindings, Mem, Name, Numbers};
 use std::alloc::Global;
 
-fn as_identifier(word: &WrittenWord) -> Option<&Name>
-    ensures { option_copied result ≡ as_identifier (line_word word.now) }
+fn into_number(word: WrittenWord) -> Option<u64>
+    ensures { result ≡ as_number (line_word word) }
 {
     match word {
-        WrittenWord::Identifier(name) => Some(name),
+        WrittenWord::Number(n) => Some(n),
         _ => None,
     }
 }
 
-fn as_number(word: &WrittenWord) -> Option<u64>
-    ensures { result ≡ as_number (line_word word.now) }
+fn into_fresh(word: WrittenWord) -> Option<u64>
+    ensures { result ≡ as_fresh (line_word word) }
 {
     match word {
-        WrittenWord::Number(n) => Some(*n),
+        WrittenWord::Fresh(n) => Some(n),
         _ => None,
     }
 }
 
-fn as_fresh(word: &WrittenWord) -> Option<u64>
-    ensures { result ≡ as_fresh (line_word word.now) }
-{
-    match word {
-        WrittenWord::Fresh(n) => Some(*n),
-        _ => None,
-    }
-}
-
-fn as_public(word: &WrittenWord) -> Option<&Name>
-    ensures { option_copied result ≡ as_public (line_word word.now) }
+fn into_public(word: WrittenWord) -> Option<Name>
+    ensures { result ≡ as_public (line_word word) }
 {
     match word {
         WrittenWord::Public(name) => Some(name),
@@ -50,8 +43,8 @@ fn as_public(word: &WrittenWord) -> Option<&Name>
 }
 
 #[tactic(auto, using(crate::proofs::StepsTaken::bindings))]
-fn as_bound(word: &WrittenWord) -> Option<&Binding>
-    ensures { option_copied result ≡ as_bound (line_word word.now) }
+fn into_bound(word: WrittenWord) -> Option<Binding>
+    ensures { result ≡ as_bound (line_word word) }
 {
     match word {
         WrittenWord::Bound(binding) => Some(binding),
@@ -59,294 +52,311 @@ fn as_bound(word: &WrittenWord) -> Option<&Binding>
     }
 }
 
-fn only(words: &[WrittenWord]) -> Option<&WrittenWord>
-    ensures { option_map line_word (option_copied result) ≡ only (map line_word words.now) }
+// The word behind one blank, and the bytes behind it.
+fn word_behind<'a>(alloc: Global, bytes: &'a [u8]) -> Result<Option<(WrittenWord, &'a [u8])>, Mem>
+    ensures { Takes line_word result (behind_blank word_at bytes.now) }
 {
-    let (word, rest) = words.split_first()?;
-    if rest.is_empty() { Some(word) } else { None }
-}
-
-fn take_numbers(alloc: Global, words: &[WrittenWord]) -> Result<Numbers, Mem>
-    ensures { IfOk result (λ numbers. numbers ≡ numbers_first (map line_word words.now)) }
-{
-    let mut numbers = Numbers::new(alloc);
-    for word in words {
-        let Some(number) = as_number(word) else {
-            return Ok(numbers);
-        };
-        numbers.push(number)?;
-    }
-    Ok(numbers)
-}
-
-fn starts_number(words: &[WrittenWord]) -> bool
-    ensures is { result ≡ starts_number (map line_word words.now) }
-    ensures some { IsTrue result → 0 < length words.now }
-{
-    match words.split_first() {
-        Some((word, _)) => as_number(word).is_some(),
-        None => false,
-    }
-}
-
-fn behind_numbers(words: &[WrittenWord]) -> &[WrittenWord]
-    ensures { map line_word result.now ≡ behind_numbers (map line_word words.now) }
-{
-    let mut rest = words;
-    while starts_number(rest) {
-        rest = &rest[1..];
-    }
-    rest
-}
-
-fn all_numbers(alloc: Global, words: &[WrittenWord]) -> Result<Option<Numbers>, Mem>
-    ensures { IfOk result (λ o. o ≡ numbers_of (map line_word words.now)) }
-{
-    let numbers = take_numbers(alloc, words)?;
-    if behind_numbers(words).is_empty() {
-        Ok(Some(numbers))
+    if starts(b' ', bytes) {
+        take_word(alloc, behind(1, bytes))
     } else {
         Ok(None)
     }
 }
 
-fn push_binding(alloc: Global, bindings: &mut Bindings, binding: &Binding) -> Result<(), Mem>
-    ensures { OnOk result (bindings.new ≡ bindings.old ++ binding.now ∷ []) }
+fn number_behind(bytes: &[u8]) -> Option<(u64, &[u8])>
+    ensures { Finds (λ n. n) result (number_behind bytes.now) }
 {
-    let binding = binding.copy(alloc)?;
-    bindings.push(binding)
-}
-
-#[tactic(auto, unfolding(crate::specs::code::StepTaking::bindings_onto, crate::specs::code::Taking::given))]
-fn take_bindings(alloc: Global, words: &[WrittenWord]) -> Result<Option<Bindings>, Mem>
-    ensures { IfOk result (λ o. o ≡ bindings_of (map line_word words.now)) }
-{
-    let mut bindings = Bindings::new(alloc);
-    for word in words {
-        let Some(binding) = as_bound(word) else {
-            return Ok(None);
-        };
-        push_binding(alloc, &mut bindings, binding)?;
-    }
-    Ok(Some(bindings))
-}
-
-fn some_bindings(alloc: Global, words: &[WrittenWord]) -> Result<Option<Bindings>, Mem>
-    ensures { IfOk result (λ o. o ≡ some_bindings (map line_word words.now)) }
-{
-    if words.is_empty() {
-        Ok(None)
+    if starts(b' ', bytes) {
+        number_at(behind(1, bytes))
     } else {
-        take_bindings(alloc, words)
+        None
     }
 }
 
-fn is_with(word: &WrittenWord) -> bool
-    ensures { result ≡ is_with (as_identifier (line_word word.now)) }
+fn name_behind(bytes: &[u8]) -> Option<(&[u8], &[u8])>
+    ensures { Finds (λ x. x.now) result (name_behind bytes.now) }
 {
-    match as_identifier(word) {
-        None => false,
-        Some(name) => name.is(b"with"),
+    if starts(b' ', bytes) {
+        name_at(behind(1, bytes))
+    } else {
+        None
     }
 }
 
-fn take_with(alloc: Global, words: &[WrittenWord]) -> Result<Option<Bindings>, Mem>
-    ensures { IfOk result (λ o. o ≡ with_of (map line_word words.now)) }
+#[tactic(auto, unfolding(crate::specs::code::Taking::after, crate::specs::code::Taking::given))]
+fn binding_behind<'a>(alloc: Global, bytes: &'a [u8]) -> Result<Option<(Binding, &'a [u8])>, Mem>
+    ensures { Takes (λ b. b) result (binding_behind bytes.now) }
 {
-    match words.split_first() {
-        None => Ok(Some(Bindings::new(alloc))),
-        Some((word, rest)) => if is_with(word) {
-            some_bindings(alloc, rest)
+    match word_behind(alloc, bytes)? {
+        None => Ok(None),
+        Some((word, rest)) => match into_bound(word) {
+            None => Ok(None),
+            Some(binding) => Ok(Some((binding, rest))),
+        },
+    }
+}
+
+// The only word behind a word.
+fn only_word(alloc: Global, bytes: &[u8]) -> Result<Option<WrittenWord>, Mem>
+    ensures { IfOk result (λ o. option_map line_word o ≡ on_words only bytes.now) }
+{
+    match word_behind(alloc, bytes)? {
+        None => Ok(None),
+        Some((word, rest)) => if rest.is_empty() {
+            Ok(Some(word))
         } else {
             Ok(None)
         },
     }
 }
 
-#[tactic(auto, unfolding(crate::specs::code::StepTaking::uses_of, crate::specs::code::Taking::given))]
-fn take_uses(alloc: Global, words: &[WrittenWord]) -> Result<Option<(Numbers, Bindings)>, Mem>
-    ensures { IfOk result (λ o. o ≡ uses_of (map line_word words.now)) }
+#[tactic(auto, using(crate::proofs::WordsOn::only_number), unfolding(crate::specs::code::Taking::given))]
+fn number_of(alloc: Global, bytes: &[u8]) -> Result<Option<u64>, Mem>
+    ensures { IfOk result (λ o. o ≡ on_words number_of bytes.now) }
 {
-    match take_with(alloc, behind_numbers(words))? {
+    match only_word(alloc, bytes)? {
         None => Ok(None),
-        Some(bindings) => {
-            let numbers = take_numbers(alloc, words)?;
-            Ok(Some((numbers, bindings)))
-        }
+        Some(word) => Ok(into_number(word)),
     }
 }
 
-#[tactic(auto, unfolding(crate::specs::code::Taking::given))]
-fn as_name(word: &WrittenWord) -> Option<&Name>
-    ensures { option_copied result ≡ as_name (line_word word.now) }
+#[tactic(auto, using(crate::proofs::WordsOn::only_fresh), unfolding(crate::specs::code::Taking::given))]
+fn fresh_of(alloc: Global, bytes: &[u8]) -> Result<Option<u64>, Mem>
+    ensures { IfOk result (λ o. o ≡ on_words fresh_of bytes.now) }
 {
-    let name = as_identifier(word)?;
-    if is_run_name(name.as_bytes()) {
-        Some(name)
+    match only_word(alloc, bytes)? {
+        None => Ok(None),
+        Some(word) => Ok(into_fresh(word)),
+    }
+}
+
+#[tactic(auto, using(crate::proofs::WordsOn::only_public), unfolding(crate::specs::code::Taking::given))]
+fn public_of(alloc: Global, bytes: &[u8]) -> Result<Option<Name>, Mem>
+    ensures { IfOk result (λ o. o ≡ on_words public_of bytes.now) }
+{
+    match only_word(alloc, bytes)? {
+        None => Ok(None),
+        Some(word) => Ok(into_public(word)),
+    }
+}
+
+// The numbers that stand first behind a word, and the bytes behind them.
+fn take_numbers<'a>(alloc: Global, bytes: &'a [u8]) -> Result<(Numbers, &'a [u8]), Mem>
+    ensures { IfOk result (λ p. AreNumbersFirst bytes.now p.0 p.1.now) }
+{
+    let mut numbers = Numbers::new(alloc);
+    let mut rest = bytes;
+    while let Some((number, next)) = number_behind(rest) {
+        numbers.push(number)?;
+        rest = next;
+    }
+    Ok((numbers, rest))
+}
+
+#[tactic(auto, using(crate::proofs::WordsOn::numbers_not_whole))]
+fn all_numbers(alloc: Global, bytes: &[u8]) -> Result<Option<Numbers>, Mem>
+    ensures { IfOk result (λ o. o ≡ on_words numbers_of bytes.now) }
+{
+    let (numbers, rest) = take_numbers(alloc, bytes)?;
+    if rest.is_empty() {
+        Ok(Some(numbers))
     } else {
-        None
+        Ok(None)
     }
 }
 
-// The name that stands first, and the words behind it.
-#[tactic(auto, unfolding(crate::specs::code::Taking::given))]
-fn name_first(words: &[WrittenWord]) -> Option<(&Name, &[WrittenWord])>
-    ensures { option_map (λ p. (p.0.now, map line_word p.1.now)) result ≡ name_first (map line_word words.now) }
+fn take_bindings(alloc: Global, bytes: &[u8]) -> Result<Option<Bindings>, Mem>
+    ensures { IfOk result (λ o. o ≡ on_words bindings_of bytes.now) }
 {
-    let (word, rest) = words.split_first()?;
-    let name = as_name(word)?;
-    Some((name, rest))
+    let mut bindings = Bindings::new(alloc);
+    let mut rest = bytes;
+    while !rest.is_empty() {
+        let Some((binding, next)) = binding_behind(alloc, rest)? else {
+            return Ok(None);
+        };
+        bindings.push(binding)?;
+        rest = next;
+    }
+    Ok(Some(bindings))
 }
 
-#[tactic(auto, unfolding(crate::specs::code::StepTaking::applied_of, crate::specs::code::Taking::given))]
-fn take_applied(alloc: Global, words: &[WrittenWord]) -> Result<Option<(Name, Numbers)>, Mem>
-    ensures { IfOk result (λ o. o ≡ applied_of (map line_word words.now)) }
+#[tactic(auto, using(crate::proofs::WordsOn::some_bindings_are))]
+fn take_some_bindings(alloc: Global, bytes: &[u8]) -> Result<Option<Bindings>, Mem>
+    ensures { IfOk result (λ o. o ≡ on_words some_bindings bytes.now) }
 {
-    let Some((symbol, rest)) = name_first(words) else {
+    if bytes.is_empty() {
+        Ok(None)
+    } else {
+        take_bindings(alloc, bytes)
+    }
+}
+
+// The bytes behind the word `with`.
+#[tactic(auto, unfolding(crate::specs::code::Taking::after))]
+fn behind_with(bytes: &[u8]) -> Option<&[u8]>
+    ensures { option_map (λ r. r.now) result ≡ behind_with bytes.now }
+{
+    if !starts(b' ', bytes) {
+        return None;
+    }
+    let (word, rest) = identifier_at(behind(1, bytes))?;
+    if is(word, b"with") { Some(rest) } else { None }
+}
+
+#[tactic(auto, using(crate::proofs::WordsOn::with_is), unfolding(crate::specs::code::Taking::given))]
+fn take_with(alloc: Global, bytes: &[u8]) -> Result<Option<Bindings>, Mem>
+    ensures { IfOk result (λ o. o ≡ on_words with_of bytes.now) }
+{
+    if bytes.is_empty() {
+        return Ok(Some(Bindings::new(alloc)));
+    }
+    match behind_with(bytes) {
+        None => Ok(None),
+        Some(rest) => take_some_bindings(alloc, rest),
+    }
+}
+
+fn take_uses(alloc: Global, bytes: &[u8]) -> Result<Option<(Numbers, Bindings)>, Mem>
+    ensures { IfOk result (λ o. o ≡ on_words uses_of bytes.now) }
+{
+    let (numbers, rest) = take_numbers(alloc, bytes)?;
+    match take_with(alloc, rest)? {
+        None => Ok(None),
+        Some(bindings) => Ok(Some((numbers, bindings))),
+    }
+}
+
+#[tactic(auto, using(crate::proofs::WordsOn::applied_split), unfolding(crate::specs::code::Taking::after, crate::specs::code::Taking::given))]
+fn take_applied(alloc: Global, bytes: &[u8]) -> Result<Option<(Name, Numbers)>, Mem>
+    ensures { IfOk result (λ o. o ≡ on_words applied_of bytes.now) }
+{
+    let Some((symbol, rest)) = name_behind(bytes) else {
         return Ok(None);
     };
     match all_numbers(alloc, rest)? {
         None => Ok(None),
         Some(numbers) => {
-            let symbol = symbol.copy(alloc)?;
+            let symbol = Name::from_bytes(alloc, symbol)?;
             Ok(Some((symbol, numbers)))
         }
     }
 }
 
-#[tactic(auto, unfolding(crate::specs::code::StepTaking::named_of, crate::specs::code::Taking::given))]
+#[tactic(auto, using(crate::proofs::WordsOn::named_split), unfolding(crate::specs::code::Taking::after, crate::specs::code::Taking::given))]
 fn take_named(
     alloc: Global,
-    words: &[WrittenWord],
+    bytes: &[u8],
 ) -> Result<Option<(Name, Numbers, Bindings)>, Mem>
-    ensures { IfOk result (λ o. o ≡ named_of (map line_word words.now)) }
+    ensures { IfOk result (λ o. o ≡ on_words named_of bytes.now) }
 {
-    let Some((name, rest)) = name_first(words) else {
+    let Some((name, rest)) = name_behind(bytes) else {
         return Ok(None);
     };
     match take_uses(alloc, rest)? {
         None => Ok(None),
         Some((facts, bindings)) => {
-            let name = name.copy(alloc)?;
+            let name = Name::from_bytes(alloc, name)?;
             Ok(Some((name, facts, bindings)))
         }
     }
 }
 
-#[tactic(auto, unfolding(crate::specs::code::Taking::given))]
-fn public_of(words: &[WrittenWord]) -> Option<&Name>
-    ensures { option_copied result ≡ public_of (map line_word words.now) }
+fn is(text: &[u8], word: &[u8]) -> bool
+    ensures { result ≡ bytes_eq text.now word.now }
 {
-    as_public(only(words)?)
+    text == word
 }
 
-#[tactic(auto, unfolding(crate::specs::code::Taking::given))]
-fn fresh_of(words: &[WrittenWord]) -> Option<u64>
-    ensures { result ≡ fresh_of (map line_word words.now) }
-{
-    as_fresh(only(words)?)
-}
-
-#[tactic(auto, unfolding(crate::specs::code::Taking::given))]
-fn number_of(words: &[WrittenWord]) -> Option<u64>
-    ensures { result ≡ number_of (map line_word words.now) }
-{
-    as_number(only(words)?)
-}
-
-fn process_one(word: &Name, t: u64) -> Option<PStep>
+fn process_one(word: &[u8], t: u64) -> Option<PStep>
     ensures { result ≡ process_one word.now t }
 {
-    if word.is(b"nil") {
+    if is(word, b"nil") {
         Some(PStep::Nil(t))
-    } else if word.is(b"par") {
+    } else if is(word, b"par") {
         Some(PStep::Par(t))
-    } else if word.is(b"rep") {
+    } else if is(word, b"rep") {
         Some(PStep::Rep(t))
-    } else if word.is(b"out") {
+    } else if is(word, b"out") {
         Some(PStep::Out(t))
-    } else if word.is(b"then") {
+    } else if is(word, b"then") {
         Some(PStep::Then(t))
-    } else if word.is(b"else") {
+    } else if is(word, b"else") {
         Some(PStep::Else(t))
-    } else if word.is(b"event") {
+    } else if is(word, b"event") {
         Some(PStep::Event(t))
-    } else if word.is(b"insert") {
+    } else if is(word, b"insert") {
         Some(PStep::Insert(t))
-    } else if word.is(b"delete") {
+    } else if is(word, b"delete") {
         Some(PStep::Delete(t))
-    } else if word.is(b"found") {
+    } else if is(word, b"found") {
         Some(PStep::Found(t))
-    } else if word.is(b"missing") {
+    } else if is(word, b"missing") {
         Some(PStep::Missing(t))
-    } else if word.is(b"lock") {
+    } else if is(word, b"lock") {
         Some(PStep::Lock(t))
-    } else if word.is(b"unlock") {
+    } else if is(word, b"unlock") {
         Some(PStep::Unlock(t))
-    } else if word.is(b"know") {
+    } else if is(word, b"know") {
         Some(PStep::Know(t))
     } else {
         None
     }
 }
 
-fn process_two(word: &Name, a: u64, b: u64) -> Option<PStep>
+fn process_two(word: &[u8], a: u64, b: u64) -> Option<PStep>
     ensures { result ≡ process_two word.now a b }
 {
-    if word.is(b"send") {
+    if is(word, b"send") {
         Some(PStep::Send(a, b))
-    } else if word.is(b"in") {
+    } else if is(word, b"in") {
         Some(PStep::In(a, b))
-    } else if word.is(b"sync") {
+    } else if is(word, b"sync") {
         Some(PStep::Sync(a, b))
     } else {
         None
     }
 }
 
-#[tactic(auto, unfolding(crate::specs::code::Taking::given))]
-fn process_behind(word: &Name, t: u64, words: &[WrittenWord]) -> Option<PStep>
-    ensures { result ≡ process_behind word.now t (map line_word words.now) }
+fn process_behind(alloc: Global, word: &[u8], t: u64, bytes: &[u8]) -> Result<Option<PStep>, Mem>
+    ensures { IfOk result (λ o. o ≡ on_words (process_behind word.now t) bytes.now) }
 {
-    if words.is_empty() {
-        return process_one(word, t);
+    if bytes.is_empty() {
+        return Ok(process_one(word, t));
     }
-    let b = number_of(words)?;
-    process_two(word, t, b)
+    match number_of(alloc, bytes)? {
+        None => Ok(None),
+        Some(b) => Ok(process_two(word, t, b)),
+    }
 }
 
-// The number that stands first, and the words behind it.
-#[tactic(auto, unfolding(crate::specs::code::Taking::given))]
-fn number_first(words: &[WrittenWord]) -> Option<(u64, &[WrittenWord])>
-    ensures { option_map (λ p. (p.0, map line_word p.1.now)) result ≡ number_first (map line_word words.now) }
+#[tactic(auto, using(crate::proofs::WordsOn::numbered_split), unfolding(crate::specs::code::Taking::after))]
+fn process_numbered(alloc: Global, word: &[u8], bytes: &[u8]) -> Result<Option<PStep>, Mem>
+    ensures { IfOk result (λ o. o ≡ on_words (process_numbered word.now) bytes.now) }
 {
-    let (word, rest) = words.split_first()?;
-    let number = as_number(word)?;
-    Some((number, rest))
+    match number_behind(bytes) {
+        None => Ok(None),
+        Some((t, rest)) => process_behind(alloc, word, t, rest),
+    }
 }
 
-#[tactic(auto, unfolding(crate::specs::code::Taking::given))]
-fn process_numbered(word: &Name, words: &[WrittenWord]) -> Option<PStep>
-    ensures { result ≡ process_numbered word.now (map line_word words.now) }
+#[tactic(auto, using(crate::proofs::WordsOn::new_split), unfolding(crate::specs::code::Taking::after, crate::specs::code::Taking::given))]
+fn new_of(alloc: Global, bytes: &[u8]) -> Result<Option<PStep>, Mem>
+    ensures { IfOk result (λ o. o ≡ on_words new_of bytes.now) }
 {
-    let (t, rest) = number_first(words)?;
-    process_behind(word, t, rest)
+    let Some((t, rest)) = number_behind(bytes) else {
+        return Ok(None);
+    };
+    match fresh_of(alloc, rest)? {
+        None => Ok(None),
+        Some(n) => Ok(Some(PStep::New(t, n))),
+    }
 }
 
-#[tactic(auto, unfolding(crate::specs::code::Taking::given))]
-fn new_of(words: &[WrittenWord]) -> Option<PStep>
-    ensures { result ≡ new_of (map line_word words.now) }
+#[tactic(auto, using(crate::proofs::WordsOn::embedded_split), unfolding(crate::specs::code::Taking::after, crate::specs::code::Taking::given))]
+fn embedded_of(alloc: Global, bytes: &[u8]) -> Result<Option<PStep>, Mem>
+    ensures { IfOk result (λ o. o ≡ on_words embedded_of bytes.now) }
 {
-    let (t, rest) = number_first(words)?;
-    let n = fresh_of(rest)?;
-    Some(PStep::New(t, n))
-}
-
-#[tactic(auto, unfolding(crate::specs::code::Taking::given))]
-fn embedded_of(alloc: Global, words: &[WrittenWord]) -> Result<Option<PStep>, Mem>
-    ensures { IfOk result (λ o. o ≡ embedded_of (map line_word words.now)) }
-{
-    let Some((t, rest)) = number_first(words) else {
+    let Some((t, rest)) = number_behind(bytes) else {
         return Ok(None);
     };
     match take_uses(alloc, rest)? {
@@ -356,166 +366,146 @@ fn embedded_of(alloc: Global, words: &[WrittenWord]) -> Result<Option<PStep>, Me
 }
 
 #[tactic(auto, unfolding(crate::specs::code::Taking::given))]
-fn process_apply(alloc: Global, words: &[WrittenWord]) -> Result<Option<PStep>, Mem>
-    ensures { IfOk result (λ o. o ≡ given (applied_of (map line_word words.now))
+fn process_apply(alloc: Global, bytes: &[u8]) -> Result<Option<PStep>, Mem>
+    ensures { IfOk result (λ o. o ≡ given (on_words applied_of bytes.now)
         (λ a. Some (process.Apply a.0 a.1))) }
 {
-    match take_applied(alloc, words)? {
+    match take_applied(alloc, bytes)? {
         None => Ok(None),
         Some((symbol, numbers)) => Ok(Some(PStep::Apply(symbol, numbers))),
     }
 }
 
 #[tactic(auto, unfolding(crate::specs::code::Taking::given))]
-fn process_public(alloc: Global, words: &[WrittenWord]) -> Result<Option<PStep>, Mem>
-    ensures { IfOk result (λ o. o ≡ given (public_of (map line_word words.now))
+fn process_public(alloc: Global, bytes: &[u8]) -> Result<Option<PStep>, Mem>
+    ensures { IfOk result (λ o. o ≡ given (on_words public_of bytes.now)
         (λ s. Some (process.Public s))) }
 {
-    match public_of(words) {
+    match public_of(alloc, bytes)? {
         None => Ok(None),
-        Some(name) => {
-            let name = name.copy(alloc)?;
-            Ok(Some(PStep::Public(name)))
-        }
+        Some(name) => Ok(Some(PStep::Public(name))),
     }
 }
 
 #[tactic(auto, unfolding(crate::specs::code::Taking::given))]
-fn process_name(words: &[WrittenWord]) -> Option<PStep>
-    ensures { result ≡ given (fresh_of (map line_word words.now)) (λ n. Some (process.Name n)) }
+fn process_name(alloc: Global, bytes: &[u8]) -> Result<Option<PStep>, Mem>
+    ensures { IfOk result (λ o. o ≡ given (on_words fresh_of bytes.now)
+        (λ n. Some (process.Name n))) }
 {
-    let n = fresh_of(words)?;
-    Some(PStep::Name(n))
+    match fresh_of(alloc, bytes)? {
+        None => Ok(None),
+        Some(n) => Ok(Some(PStep::Name(n))),
+    }
 }
 
-fn process_named(alloc: Global, word: &Name, words: &[WrittenWord]) -> Result<Option<PStep>, Mem>
-    ensures { IfOk result (λ o. o ≡ process_named word.now (map line_word words.now)) }
+/// The step of a process that begins with this word, from the bytes behind it.
+pub(crate) fn process_named(
+    alloc: Global,
+    word: &[u8],
+    bytes: &[u8],
+) -> Result<Option<PStep>, Mem>
+    ensures { IfOk result (λ o. o ≡ process_named_at word.now bytes.now) }
 {
-    if word.is(b"rule") {
-        embedded_of(alloc, words)
-    } else if word.is(b"app") {
-        process_apply(alloc, words)
-    } else if word.is(b"pub") {
-        process_public(alloc, words)
-    } else if word.is(b"name") {
-        Ok(process_name(words))
-    } else if word.is(b"new") {
-        Ok(new_of(words))
+    if is(word, b"rule") {
+        embedded_of(alloc, bytes)
+    } else if is(word, b"app") {
+        process_apply(alloc, bytes)
+    } else if is(word, b"pub") {
+        process_public(alloc, bytes)
+    } else if is(word, b"name") {
+        process_name(alloc, bytes)
+    } else if is(word, b"new") {
+        new_of(alloc, bytes)
     } else {
-        Ok(process_numbered(word, words))
+        process_numbered(alloc, word, bytes)
     }
 }
 
-// The identifier that stands first, and the words behind it.
-#[tactic(auto, unfolding(crate::specs::code::Taking::given))]
-fn word_first(words: &[WrittenWord]) -> Option<(&Name, &[WrittenWord])>
-    ensures { option_map (λ p. (p.0.now, map line_word p.1.now)) result ≡ word_first (map line_word words.now) }
-{
-    let (word, rest) = words.split_first()?;
-    let name = as_identifier(word)?;
-    Some((name, rest))
-}
-
-/// The step of a process that has these words.
-#[tactic(auto, unfolding(crate::specs::code::StepTaking::process_step_of, crate::specs::code::Taking::given))]
-pub(crate) fn process_step_of(alloc: Global, words: &[WrittenWord]) -> Result<Option<PStep>, Mem>
-    ensures { IfOk result (λ o. o ≡ process_step_of (map line_word words.now)) }
-{
-    match word_first(words) {
-        None => Ok(None),
-        Some((word, rest)) => process_named(alloc, word, rest),
-    }
-}
-
-fn rule_one(word: &Name, f: u64) -> Option<RStep>
+fn rule_one(word: &[u8], f: u64) -> Option<RStep>
     ensures { result ≡ rule_one word.now f }
 {
-    if word.is(b"learn") {
+    if is(word, b"learn") {
         Some(RStep::Learn(f))
-    } else if word.is(b"own") {
+    } else if is(word, b"own") {
         Some(RStep::Own(f))
-    } else if word.is(b"know") {
+    } else if is(word, b"know") {
         Some(RStep::Know(f))
     } else {
         None
     }
 }
 
-#[tactic(auto, unfolding(crate::specs::code::Taking::given))]
-fn rule_numbered(word: &Name, words: &[WrittenWord]) -> Option<RStep>
-    ensures { result ≡ rule_numbered word.now (map line_word words.now) }
+#[tactic(auto, using(crate::proofs::WordsOn::rule_numbered_split), unfolding(crate::specs::code::Taking::given))]
+fn rule_numbered(alloc: Global, word: &[u8], bytes: &[u8]) -> Result<Option<RStep>, Mem>
+    ensures { IfOk result (λ o. o ≡ on_words (rule_numbered word.now) bytes.now) }
 {
-    let f = number_of(words)?;
-    rule_one(word, f)
+    match number_of(alloc, bytes)? {
+        None => Ok(None),
+        Some(f) => Ok(rule_one(word, f)),
+    }
 }
 
 #[tactic(auto, unfolding(crate::specs::code::Taking::given))]
-fn rule_used(alloc: Global, words: &[WrittenWord]) -> Result<Option<RStep>, Mem>
-    ensures { IfOk result (λ o. o ≡ given (named_of (map line_word words.now))
+fn rule_used(alloc: Global, bytes: &[u8]) -> Result<Option<RStep>, Mem>
+    ensures { IfOk result (λ o. o ≡ given (on_words named_of bytes.now)
         (λ u. Some (rule.Rule u.0 u.1 u.2))) }
 {
-    match take_named(alloc, words)? {
+    match take_named(alloc, bytes)? {
         None => Ok(None),
         Some((name, facts, bindings)) => Ok(Some(RStep::Rule(name, facts, bindings))),
     }
 }
 
 #[tactic(auto, unfolding(crate::specs::code::Taking::given))]
-fn rule_apply(alloc: Global, words: &[WrittenWord]) -> Result<Option<RStep>, Mem>
-    ensures { IfOk result (λ o. o ≡ given (applied_of (map line_word words.now))
+fn rule_apply(alloc: Global, bytes: &[u8]) -> Result<Option<RStep>, Mem>
+    ensures { IfOk result (λ o. o ≡ given (on_words applied_of bytes.now)
         (λ a. Some (rule.Apply a.0 a.1))) }
 {
-    match take_applied(alloc, words)? {
+    match take_applied(alloc, bytes)? {
         None => Ok(None),
         Some((symbol, numbers)) => Ok(Some(RStep::Apply(symbol, numbers))),
     }
 }
 
 #[tactic(auto, unfolding(crate::specs::code::Taking::given))]
-fn rule_public(alloc: Global, words: &[WrittenWord]) -> Result<Option<RStep>, Mem>
-    ensures { IfOk result (λ o. o ≡ given (public_of (map line_word words.now))
+fn rule_public(alloc: Global, bytes: &[u8]) -> Result<Option<RStep>, Mem>
+    ensures { IfOk result (λ o. o ≡ given (on_words public_of bytes.now)
         (λ s. Some (rule.Public s))) }
 {
-    match public_of(words) {
+    match public_of(alloc, bytes)? {
         None => Ok(None),
-        Some(name) => {
-            let name = name.copy(alloc)?;
-            Ok(Some(RStep::Public(name)))
-        }
+        Some(name) => Ok(Some(RStep::Public(name))),
     }
 }
 
 #[tactic(auto, unfolding(crate::specs::code::Taking::given))]
-fn rule_fresh(words: &[WrittenWord]) -> Option<RStep>
-    ensures { result ≡ given (fresh_of (map line_word words.now)) (λ n. Some (rule.Fresh n)) }
+fn rule_fresh(alloc: Global, bytes: &[u8]) -> Result<Option<RStep>, Mem>
+    ensures { IfOk result (λ o. o ≡ given (on_words fresh_of bytes.now)
+        (λ n. Some (rule.Fresh n))) }
 {
-    let n = fresh_of(words)?;
-    Some(RStep::Fresh(n))
-}
-
-fn rule_named(alloc: Global, word: &Name, words: &[WrittenWord]) -> Result<Option<RStep>, Mem>
-    ensures { IfOk result (λ o. o ≡ rule_named word.now (map line_word words.now)) }
-{
-    if word.is(b"rule") {
-        rule_used(alloc, words)
-    } else if word.is(b"app") {
-        rule_apply(alloc, words)
-    } else if word.is(b"pub") {
-        rule_public(alloc, words)
-    } else if word.is(b"fresh") {
-        Ok(rule_fresh(words))
-    } else {
-        Ok(rule_numbered(word, words))
+    match fresh_of(alloc, bytes)? {
+        None => Ok(None),
+        Some(n) => Ok(Some(RStep::Fresh(n))),
     }
 }
 
-/// The step of rules that has these words.
-#[tactic(auto, unfolding(crate::specs::code::StepTaking::rule_step_of, crate::specs::code::Taking::given))]
-pub(crate) fn rule_step_of(alloc: Global, words: &[WrittenWord]) -> Result<Option<RStep>, Mem>
-    ensures { IfOk result (λ o. o ≡ rule_step_of (map line_word words.now)) }
+/// The step of rules that begins with this word, from the bytes behind it.
+pub(crate) fn rule_named(
+    alloc: Global,
+    word: &[u8],
+    bytes: &[u8],
+) -> Result<Option<RStep>, Mem>
+    ensures { IfOk result (λ o. o ≡ rule_named_at word.now bytes.now) }
 {
-    match word_first(words) {
-        None => Ok(None),
-        Some((word, rest)) => rule_named(alloc, word, rest),
+    if is(word, b"rule") {
+        rule_used(alloc, bytes)
+    } else if is(word, b"app") {
+        rule_apply(alloc, bytes)
+    } else if is(word, b"pub") {
+        rule_public(alloc, bytes)
+    } else if is(word, b"fresh") {
+        rule_fresh(alloc, bytes)
+    } else {
+        rule_numbered(alloc, word, bytes)
     }
 }

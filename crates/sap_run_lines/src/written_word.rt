@@ -1,5 +1,5 @@
 //! Words of a line.
-use sap_terms::{Binding, Items, Name};
+use sap_terms::{Binding, Name};
 
 /// A word of a line.
 #[derive(Drop)]
@@ -15,6 +15,3 @@ pub(crate) enum WrittenWord {
     /// A variable with the term that stands for it.
     Bound(Binding),
 }
-
-/// Words of a line, in order.
-pub(crate) type WrittenWords = Items<WrittenWord>;

@@ -1,5 +1,5 @@
--- What one more byte makes of what was begun, and what the end does.
-use Rattle.std.proofs.Common.{◌≡◌, ◌≤◌, ◌<◌, ◌+◌, ℕ, true, List, [], ◌∷◌, ◌++◌, append_assoc, length, refl, sym, ap, subst, ◌∙◌, inl, inr, arith}
+-- What more bytes make of what was begun, and what the end does.
+use Rattle.std.proofs.Common.{◌≡◌, ◌≤◌, ◌<◌, ◌+◌, ℕ, List, [], ◌∷◌, ◌++◌, append_assoc, length, refl, sym, ap, subst, ◌∙◌, inl, inr, arith}
 use Rattle.std.specs.Prelude.{Result, Ok, Err}
 use Rattle.std.proofs.lemmas.List.{length-append, append-nil}
 use Rattle.sap_text.specs.Tokens.{is_not_feed}
@@ -15,7 +15,7 @@ use Rattle.sap_run_texts.specs.declared.limits.TheConstants.{MOST_PROCESS_STEPS,
 use Rattle.sap_run_lines.specs.StepLines.{IsProcessStepLine, IsRuleStepLine, IsOpenLine}
 use Rattle.sap_run_texts.specs.RunTexts.{lines_text, AreStepLines, no_lines, lines_more, no_step, not_ended, all_steps, bad_line, too_many, IsHeaded, IsHeadless, IsText, headed, headless, process_head, rule_head, IsProcessRunText, IsRuleRunText, process_answer, rule_answer, IsTold, IsRunRead, as_process, as_rules, told_process, told_rules, told_neither}
 use Rattle.sap_run_texts.specs.RunReading.{faulty, in_head, in_process, in_rules, TakesProcess, TakesRules, IsBegun, HoldsFor}
-use Rattle.sap_run_texts.proofs.Fronts.{one_front, no_longer, one_more, below_or_not}
+use Rattle.sap_run_texts.proofs.Fronts.{one_front, no_longer, both_pass, below_or_not}
 
 -- a text that is read as a run of a process, where one may be
 pub read_process : (k : Kinds) (body z : List ℕ) (o : Result (List PStep) RunFault) → TakesProcess k → IsHeaded process_head body z
@@ -71,15 +71,15 @@ module _ {A : Type 0} (head : List ℕ) (IsStepLine : A → List ℕ → Type 0)
   whole_on b more =
       ap (λ y. y ++ more) b.whole ∙ (append_assoc head (10 ∷ (lines_text b.lines ++ line)) more ∙ ap (λ y. head ++ (10 ∷ y)) (append_assoc (lines_text b.lines) line more))
 
-  -- one more byte of the line
-  pub begun_byte : (c : ℕ) → is_not_feed c ≡ true → length ss < most → IsBegun head IsStepLine most ss line z
-      → IsBegun head IsStepLine most ss (line ++ c ∷ []) (z ++ c ∷ [])
-  begun_byte c plain few b = record {
+  -- more bytes of the line
+  pub begun_with : (y : List ℕ) → IsOpenLine y → length ss < most → IsBegun head IsStepLine most ss line z
+      → IsBegun head IsStepLine most ss (line ++ y) (z ++ y)
+  begun_with y plain few b = record {
     lines = b.lines;
-    whole = whole_on b (c ∷ []);
+    whole = whole_on b y;
     steps = b.steps;
     within = b.within;
-    opened = one_more is_not_feed line c b.opened plain;
+    opened = both_pass is_not_feed line y b.opened plain;
     full = λ all. absurd (omega (arith, all, few));
   }
 
@@ -103,15 +103,15 @@ module _ {A : Type 0} (head : List ℕ) (IsStepLine : A → List ℕ → Type 0)
       → IsText head IsStepLine most (z ++ (10 ∷ more)) (Err (fault.BadLine (length ss + 2)))
   begun_bad none few b more = headed (whole_on b (10 ∷ more)) (bad_line b.steps few (no_step line more b.opened none))
 
-  -- a byte behind the last line that may come
-  pub begun_many : most ≤ length ss → (b : IsBegun head IsStepLine most ss line z) (c : ℕ) (more : List ℕ)
-      → IsText head IsStepLine most (z ++ (c ∷ more)) (Err fault.TooManySteps)
-  begun_many many b c more =
+  -- bytes behind the last line that may come
+  pub begun_many : most ≤ length ss → (b : IsBegun head IsStepLine most ss line z) (y more : List ℕ) → 0 < length y
+      → IsText head IsStepLine most (z ++ (y ++ more)) (Err fault.TooManySteps)
+  begun_many many b y more some =
       let all : length ss ≡ most = omega (arith, many, b.within) in
       let none : line ≡ [] = b.full all in
-      let whole : IsHeaded head (lines_text b.lines ++ (c ∷ more)) (z ++ (c ∷ more)) =
-      whole_on b (c ∷ more) ∙ ap (λ y. head ++ (10 ∷ (lines_text b.lines ++ (y ++ (c ∷ more))))) none in
-      headed whole (too_many (c ∷ more) b.steps all (omega arith))
+      let whole : IsHeaded head (lines_text b.lines ++ (y ++ more)) (z ++ (y ++ more)) =
+      whole_on b (y ++ more) ∙ ap (λ x. head ++ (10 ∷ (lines_text b.lines ++ (x ++ (y ++ more))))) none in
+      headed whole (too_many (y ++ more) b.steps all (omega (arith, some, length-append y more)))
 
   -- the text's end behind the end of a line
   pub begun_end : line ≡ [] → (b : IsBegun head IsStepLine most ss line z) → IsText head IsStepLine most z (Ok ss)
@@ -130,7 +130,7 @@ module _ {A : Type 0} (head : List ℕ) (IsStepLine : A → List ℕ → Type 0)
         | inr ge ↦ let none : length line ≡ 0 = ap length (b.full (omega (arith, ge, b.within))) in absurd (omega (arith, none, some))
       ]
 
--- the first line, with one byte more or ended
+-- the first line, with more bytes or ended
 pub head_process : (k : Kinds) (line z : List ℕ) → line ≡ process_head → TakesProcess k → HoldsFor k (in_head line) z
     → HoldsFor k (in_process [] []) (z ++ 10 ∷ [])
 head_process k line z e t h = (
@@ -167,19 +167,18 @@ head_other k line z p r h more =
     (read_headless k (line ++ (10 ∷ more)) (λ t. other_head process_head line more refl h.1 (λ e. p (t, e)))
     (λ t. other_head rule_head line more refl h.1 (λ e. r (t, e))))
 
-pub head_long : (k : Kinds) (line z : List ℕ) (c : ℕ) → is_not_feed c ≡ true → 11 ≤ length line → HoldsFor k (in_head line) z
-    → HoldsFor k (faulty fault.BadHead) (z ++ c ∷ [])
-head_long k line z c plain long h more =
-    let same : (line ++ c ∷ []) ++ more ≡ (z ++ c ∷ []) ++ more = ap (λ y. (y ++ c ∷ []) ++ more) (sym h.0) in
-    let opened : IsOpenLine (line ++ c ∷ []) = one_more is_not_feed line c h.1 plain in
-    let longer : 11 < length (line ++ c ∷ []) = omega (arith, long, length-append line (c ∷ [])) in
-    subst (λ (y : List ℕ). IsRunRead k y (Err fault.BadHead)) same
-    (read_headless k ((line ++ c ∷ []) ++ more) (λ t. long_head process_head (line ++ c ∷ []) more opened longer)
-    (λ t. long_head rule_head (line ++ c ∷ []) more opened (omega (arith, longer))))
+pub head_long : (k : Kinds) (line z y : List ℕ) → IsOpenLine y → 11 < length (line ++ y) → HoldsFor k (in_head line) z
+    → HoldsFor k (faulty fault.BadHead) (z ++ y)
+head_long k line z y plain longer h more =
+    let same : (line ++ y) ++ more ≡ (z ++ y) ++ more = ap (λ x. (x ++ y) ++ more) (sym h.0) in
+    let opened : IsOpenLine (line ++ y) = both_pass is_not_feed line y h.1 plain in
+    subst (λ (x : List ℕ). IsRunRead k x (Err fault.BadHead)) same
+    (read_headless k ((line ++ y) ++ more) (λ t. long_head process_head (line ++ y) more opened longer)
+    (λ t. long_head rule_head (line ++ y) more opened (omega (arith, longer))))
 
-pub head_byte : (k : Kinds) (line z : List ℕ) (c : ℕ) → is_not_feed c ≡ true → HoldsFor k (in_head line) z
-    → HoldsFor k (in_head (line ++ c ∷ [])) (z ++ c ∷ [])
-head_byte k line z c plain h = (ap (λ y. y ++ c ∷ []) h.0, one_more is_not_feed line c h.1 plain)
+pub head_more : (k : Kinds) (line z y : List ℕ) → IsOpenLine y → HoldsFor k (in_head line) z
+    → HoldsFor k (in_head (line ++ y)) (z ++ y)
+head_more k line z y plain h = (ap (λ x. x ++ y) h.0, both_pass is_not_feed line y h.1 plain)
 
 pub head_open : (k : Kinds) (line z : List ℕ) → HoldsFor k (in_head line) z → IsRunRead k z (Err fault.BadHead)
 head_open k line z h =
@@ -187,8 +186,8 @@ head_open k line z h =
     (read_headless k line (λ t. open_head process_head line h.1) (λ t. open_head rule_head line h.1))
 
 -- a fault stays
-pub fault_stays : (k : Kinds) (e : RunFault) (z : List ℕ) (c : ℕ) → HoldsFor k (faulty e) z → HoldsFor k (faulty e) (z ++ c ∷ [])
-fault_stays k e z c h more = subst (λ (y : List ℕ). IsRunRead k y (Err e)) (sym (append_assoc z (c ∷ []) more)) (h (c ∷ more))
+pub fault_stays : (k : Kinds) (e : RunFault) (z y : List ℕ) → HoldsFor k (faulty e) z → HoldsFor k (faulty e) (z ++ y)
+fault_stays k e z y h more = subst (λ (x : List ℕ). IsRunRead k x (Err e)) (sym (append_assoc z y more)) (h (y ++ more))
 
 pub fault_told : (k : Kinds) (e : RunFault) (z : List ℕ) → HoldsFor k (faulty e) z → IsRunRead k z (Err e)
 fault_told k e z h = subst (λ (y : List ℕ). IsRunRead k y (Err e)) (append-nil z) (h [])
@@ -201,17 +200,17 @@ told_of k z (Err fault.BadHead) is = is
 told_of k z (Err (fault.BadLine line)) is = is
 told_of k z (Err fault.TooManySteps) is = is
 
--- a run of a process: with one byte more, with a line more, and at the end
+-- a run of a process: with more bytes, with a line more, and at the end
 module _ (k : Kinds) (ss : List PStep) (line z : List ℕ) where
-  pub many_process : (c : ℕ) → MOST_PROCESS_STEPS ≤ length ss → HoldsFor k (in_process ss line) z → HoldsFor k (faulty fault.TooManySteps) (z ++ c ∷ [])
-  many_process c many h more =
-      subst (λ (y : List ℕ). IsRunRead k y (Err fault.TooManySteps)) (sym (append_assoc z (c ∷ []) more))
-      (read_process k (lines_text h.1.lines ++ (line ++ (c ∷ more))) (z ++ (c ∷ more)) (Err fault.TooManySteps) h.0
-      (whole_on process_head IsProcessStepLine MOST_PROCESS_STEPS ss line z h.1 (c ∷ more)) (begun_many process_head IsProcessStepLine MOST_PROCESS_STEPS ss line z many h.1 c more))
+  pub many_process : (y : List ℕ) → 0 < length y → MOST_PROCESS_STEPS ≤ length ss → HoldsFor k (in_process ss line) z → HoldsFor k (faulty fault.TooManySteps) (z ++ y)
+  many_process y some many h more =
+      subst (λ (x : List ℕ). IsRunRead k x (Err fault.TooManySteps)) (sym (append_assoc z y more))
+      (read_process k (lines_text h.1.lines ++ (line ++ (y ++ more))) (z ++ (y ++ more)) (Err fault.TooManySteps) h.0
+      (whole_on process_head IsProcessStepLine MOST_PROCESS_STEPS ss line z h.1 (y ++ more)) (begun_many process_head IsProcessStepLine MOST_PROCESS_STEPS ss line z many h.1 y more some))
 
-  pub byte_process : (c : ℕ) → is_not_feed c ≡ true → length ss < MOST_PROCESS_STEPS → HoldsFor k (in_process ss line) z
-      → HoldsFor k (in_process ss (line ++ c ∷ [])) (z ++ c ∷ [])
-  byte_process c plain few h = (h.0, begun_byte process_head IsProcessStepLine MOST_PROCESS_STEPS ss line z c plain few h.1)
+  pub with_process : (y : List ℕ) → IsOpenLine y → length ss < MOST_PROCESS_STEPS → HoldsFor k (in_process ss line) z
+      → HoldsFor k (in_process ss (line ++ y)) (z ++ y)
+  with_process y plain few h = (h.0, begun_with process_head IsProcessStepLine MOST_PROCESS_STEPS ss line z y plain few h.1)
 
   pub step_process : (s : PStep) → IsProcessStepLine s line → length ss < MOST_PROCESS_STEPS → HoldsFor k (in_process ss line) z
       → HoldsFor k (in_process (ss ++ s ∷ []) []) (z ++ 10 ∷ [])
@@ -232,17 +231,17 @@ module _ (k : Kinds) (ss : List PStep) (line z : List ℕ) where
   open_process some h =
       (h.1.within, read_process k (lines_text h.1.lines ++ line) z (Err (fault.BadLine (length ss + 2))) h.0 h.1.whole (begun_open process_head IsProcessStepLine MOST_PROCESS_STEPS ss line z some h.1))
 
--- a run of rules: with one byte more, with a line more, and at the end
+-- a run of rules: with more bytes, with a line more, and at the end
 module _ (k : Kinds) (ss : List RStep) (line z : List ℕ) where
-  pub many_rules : (c : ℕ) → MOST_RULE_STEPS ≤ length ss → HoldsFor k (in_rules ss line) z → HoldsFor k (faulty fault.TooManySteps) (z ++ c ∷ [])
-  many_rules c many h more =
-      subst (λ (y : List ℕ). IsRunRead k y (Err fault.TooManySteps)) (sym (append_assoc z (c ∷ []) more))
-      (read_rules k (lines_text h.1.lines ++ (line ++ (c ∷ more))) (z ++ (c ∷ more)) (Err fault.TooManySteps) h.0
-      (whole_on rule_head IsRuleStepLine MOST_RULE_STEPS ss line z h.1 (c ∷ more)) (begun_many rule_head IsRuleStepLine MOST_RULE_STEPS ss line z many h.1 c more))
+  pub many_rules : (y : List ℕ) → 0 < length y → MOST_RULE_STEPS ≤ length ss → HoldsFor k (in_rules ss line) z → HoldsFor k (faulty fault.TooManySteps) (z ++ y)
+  many_rules y some many h more =
+      subst (λ (x : List ℕ). IsRunRead k x (Err fault.TooManySteps)) (sym (append_assoc z y more))
+      (read_rules k (lines_text h.1.lines ++ (line ++ (y ++ more))) (z ++ (y ++ more)) (Err fault.TooManySteps) h.0
+      (whole_on rule_head IsRuleStepLine MOST_RULE_STEPS ss line z h.1 (y ++ more)) (begun_many rule_head IsRuleStepLine MOST_RULE_STEPS ss line z many h.1 y more some))
 
-  pub byte_rules : (c : ℕ) → is_not_feed c ≡ true → length ss < MOST_RULE_STEPS → HoldsFor k (in_rules ss line) z
-      → HoldsFor k (in_rules ss (line ++ c ∷ [])) (z ++ c ∷ [])
-  byte_rules c plain few h = (h.0, begun_byte rule_head IsRuleStepLine MOST_RULE_STEPS ss line z c plain few h.1)
+  pub with_rules : (y : List ℕ) → IsOpenLine y → length ss < MOST_RULE_STEPS → HoldsFor k (in_rules ss line) z
+      → HoldsFor k (in_rules ss (line ++ y)) (z ++ y)
+  with_rules y plain few h = (h.0, begun_with rule_head IsRuleStepLine MOST_RULE_STEPS ss line z y plain few h.1)
 
   pub step_rules : (s : RStep) → IsRuleStepLine s line → length ss < MOST_RULE_STEPS → HoldsFor k (in_rules ss line) z
       → HoldsFor k (in_rules (ss ++ s ∷ []) []) (z ++ 10 ∷ [])

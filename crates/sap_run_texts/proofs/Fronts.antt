@@ -1,7 +1,8 @@
 -- Where the front of some bytes ends, all of which pass a test.
-use Rattle.std.proofs.Common.{◌≡◌, ◌≤◌, ◌<◌, ◌⊎◌, inl, inr, ℕ, Bool, true, false, List, [], ◌∷◌, ◌++◌, length, refl, arith}
-use Rattle.std.specs.Prelude.{nat_lt}
-use Rattle.std.specs.List.{list_all}
+use Rattle.std.proofs.Common.{◌≡◌, ◌≤◌, ◌<◌, ◌⊎◌, inl, inr, ℕ, suc, ◌+◌, Bool, true, false, List, [], ◌∷◌, ◌++◌, length, take, refl, arith}
+use Rattle.std.specs.Prelude.{nat_lt, ◌==◌, not, if◌then◌else◌}
+use Rattle.std.specs.List.{list_all, prefix_len}
+use Rattle.std.proofs.lemmas.Bool.{eqb-true}
 use Rattle.sap_text.specs.Tokens.{is_not_feed, Stops}
 use Rattle.sap_terms.proofs.PlainLaws.Tests.{and_left, and_right, and_true}
 
@@ -40,11 +41,29 @@ no_longer (x ∷ a) y (c ∷ h) w o e =
     let tails : a ++ y ≡ h ++ (10 ∷ w) = cc in
     omega (arith, no_longer a y h w (and_right (is_not_feed x) (list_all is_not_feed a) o) tails)
 
--- one more byte that passes
-pub one_more : (f : ℕ → Bool) (a : List ℕ) (b : ℕ) → list_all f a ≡ true → f b ≡ true → list_all f (a ++ b ∷ []) ≡ true
-one_more f [] b l h = and_true (f b) true h refl
-one_more f (x ∷ a) b l h =
-    and_true (f x) (list_all f (a ++ b ∷ [])) (and_left (f x) (list_all f a) l) (one_more f a b (and_right (f x) (list_all f a) l) h)
+-- more bytes that pass
+pub both_pass : (f : ℕ → Bool) (a y : List ℕ) → list_all f a ≡ true → list_all f y ≡ true → list_all f (a ++ y) ≡ true
+both_pass f [] y l h = h
+both_pass f (x ∷ a) y l h =
+    and_true (f x) (list_all f (a ++ y)) (and_left (f x) (list_all f a) l) (both_pass f a y (and_right (f x) (list_all f a) l) h)
+
+-- the bytes before the first that doesn't pass
+pub front_passes : (f : ℕ → Bool) (z : List ℕ) → list_all f (take (prefix_len f z) z) ≡ true
+front_passes f [] = refl
+front_passes f (x ∷ z) = at (f x) refl (front_passes f z) where
+  at : (b : Bool) → f x ≡ b → list_all f (take (prefix_len f z) z) ≡ true → list_all f (take (if b then 1 + prefix_len f z else 0) (x ∷ z)) ≡ true
+  at true e all =
+      let one : 1 + prefix_len f z ≡ suc (prefix_len f z) = omega arith in
+      rw one (and_true (f x) (list_all f (take (prefix_len f z) z)) e all)
+  at false e all = refl
+
+-- a line feed that stands first
+pub first_feed : (z : List ℕ) → 0 < length z → prefix_len is_not_feed z ≡ 0 → take 1 z ≡ 10 ∷ []
+first_feed [] some e = absurd (omega (arith, some))
+first_feed (x ∷ z) some e = at (x == 10) refl e where
+  at : (b : Bool) → (x == 10) ≡ b → (if not b then 1 + prefix_len is_not_feed z else 0) ≡ 0 → take 1 (x ∷ z) ≡ 10 ∷ []
+  at true h f = let same : x ≡ 10 = eqb-true x 10 h in rw same refl
+  at false h f = absurd (omega (arith, f))
 
 -- a number is below another or not
 pub below_or_not : (m n : ℕ) → (m < n) ⊎ (n ≤ m)

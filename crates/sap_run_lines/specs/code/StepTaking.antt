@@ -1,5 +1,5 @@
--- Which step has these words.
-use Rattle.std.specs.Prelude.{ℕ, Bool, true, false, codes, if◌then◌else◌, List, [], ◌∷◌, ◌++◌, Option, Some, None}
+-- Which step has these words, and the step whose words stand in bytes.
+use Rattle.std.specs.Prelude.{◌≡◌, ℕ, Bool, true, false, codes, if◌then◌else◌, List, [], ◌∷◌, ◌++◌, Option, Some, None}
 use Rattle.std.specs.Str.{bytes_eq}
 use Rattle.sap_terms.specs.declared.binding.Binding.{Binding}
 use Rattle.sap_terms.specs.View.{term}
@@ -8,8 +8,9 @@ use Rattle.sap_runs.specs.declared.process_step.PStep.TheVariants as step
 use Rattle.sap_runs.specs.declared.rule_step.RStep.{RStep}
 use Rattle.sap_runs.specs.declared.rule_step.RStep.TheVariants as rstep
 use Rattle.sap_run_lines.specs.LineWords.{LineWord, identifier, number, fresh_name, public_name, bound}
-use Rattle.sap_run_lines.specs.code.Taking.{given, is_run_name}
-use Rattle.sap_run_lines.specs.code.WordTaking.{words_of}
+use Rattle.sap_run_lines.specs.code.Taking.{after, given, is_run_name, identifier_at, name_at, number_at}
+use Rattle.sap_run_lines.specs.code.TermTaking.{Taker}
+use Rattle.sap_run_lines.specs.code.WordTaking.{word_at, on_words, behind_blank}
 
 -- what a word holds, if it is of the kind
 abbrev pub as_identifier : LineWord → Option (List ℕ)
@@ -221,10 +222,49 @@ rule_named x ws =
 unfoldable pub rule_step_of : List LineWord → Option RStep
 rule_step_of ws = given (word_first ws) (λ p. rule_named p.0 p.1)
 
+-- a number, a name, a binding, behind one blank
+abbrev pub number_behind : Taker ℕ
+number_behind = behind_blank number_at
+
+abbrev pub name_behind : Taker (List ℕ)
+name_behind = behind_blank name_at
+
+abbrev pub binding_behind : Taker Binding
+binding_behind z = after (behind_blank word_at z) (λ w r. given (as_bound w) (λ b. Some (b, r)))
+
+-- the bytes behind the word `with`
+abbrev pub behind_with : List ℕ → Option (List ℕ)
+behind_with z = after (behind_blank identifier_at z) (λ x r. if bytes_eq x (codes "with") then Some r else None)
+
+-- the numbers that stand first behind a word are these, and the words behind them are those behind these bytes
+abbrev pub numbers_apart : List ℕ → Option (List ℕ × List LineWord)
+numbers_apart z = on_words (λ ws. Some (numbers_first ws, behind_numbers ws)) z
+
+abbrev pub AreNumbersFirst : List ℕ → List ℕ → List ℕ → Type 0
+AreNumbersFirst z ks r = numbers_apart z ≡ on_words (λ ws. Some (ks, ws)) r
+
+-- the step that begins with this word, from the bytes behind it
+abbrev pub process_named_at : List ℕ → List ℕ → Option PStep
+process_named_at x z =
+    if bytes_eq x (codes "rule") then on_words embedded_of z
+    else if bytes_eq x (codes "app") then given (on_words applied_of z) (λ a. Some (step.Apply a.0 a.1))
+    else if bytes_eq x (codes "pub") then given (on_words public_of z) (λ s. Some (step.Public s))
+    else if bytes_eq x (codes "name") then given (on_words fresh_of z) (λ n. Some (step.Name n))
+    else if bytes_eq x (codes "new") then on_words new_of z
+    else on_words (process_numbered x) z
+
+abbrev pub rule_named_at : List ℕ → List ℕ → Option RStep
+rule_named_at x z =
+    if bytes_eq x (codes "rule") then given (on_words named_of z) (λ u. Some (rstep.Rule u.0 u.1 u.2))
+    else if bytes_eq x (codes "app") then given (on_words applied_of z) (λ a. Some (rstep.Apply a.0 a.1))
+    else if bytes_eq x (codes "pub") then given (on_words public_of z) (λ s. Some (rstep.Public s))
+    else if bytes_eq x (codes "fresh") then given (on_words fresh_of z) (λ n. Some (rstep.Fresh n))
+    else on_words (rule_numbered x) z
+
 -- the step of a process whose line the bytes are
 abbrev pub process_line_of : List ℕ → Option PStep
-process_line_of z = given (words_of z) process_step_of
+process_line_of z = after (identifier_at z) process_named_at
 
 -- the step of rules
 abbrev pub rule_line_of : List ℕ → Option RStep
-rule_line_of z = given (words_of z) rule_step_of
+rule_line_of z = after (identifier_at z) rule_named_at

@@ -1,6 +1,6 @@
 -- Words of a line, taken from the left.
 -- Bytes by their codes: 32 is a space, 36 `$`, 39 `'`, 61 `=`, 126 `~`.
-use Rattle.std.specs.Prelude.{◌≡◌, ℕ, zero, suc, ◌==◌, if◌then◌else◌, List, [], ◌∷◌, length, drop, Option, Some, None, Result, Ok, Err, ⊤, map}
+use Rattle.std.specs.Prelude.{ℕ, zero, suc, ◌==◌, if◌then◌else◌, List, [], ◌∷◌, length, drop, Option, Some, None}
 use Rattle.std.specs.Option.{option_map}
 use Rattle.sap_terms.specs.declared.var.Sort.{Sort}
 use Rattle.sap_terms.specs.declared.var.Sort.TheVariants.{Msg, Fresh, Pub}
@@ -9,7 +9,7 @@ use Rattle.sap_run_lines.specs.LineWords.{LineWord, identifier, number, fresh_na
 use Rattle.sap_run_lines.specs.StepLines.{bound_word}
 use Rattle.sap_run_lines.specs.declared.written_word.WrittenWord.{WrittenWord}
 use Rattle.sap_run_lines.specs.declared.written_word.WrittenWord.TheVariants as written
-use Rattle.sap_run_lines.specs.code.Taking.{after, starts, starts_letter, identifier_at, name_at, number_at, content_at}
+use Rattle.sap_run_lines.specs.code.Taking.{after, given, starts, starts_letter, identifier_at, name_at, number_at, content_at}
 use Rattle.sap_run_lines.specs.code.TermTaking.{Taker, small_term}
 
 -- the word as the grammar has it
@@ -69,7 +69,15 @@ words_in (suc n) z = after (word_at z) (λ w r. next_words (words_in n) w r)
 abbrev pub words_of : List ℕ → Option (List LineWord)
 words_of z = words_in (length z) z
 
--- the answer is these words, or that there are none; of want of memory nothing is said
-abbrev pub GivesWords : {E : Type 0} → Result (Option (List WrittenWord)) E → Option (List LineWord) → Type 0
-GivesWords (Err e) words = ⊤
-GivesWords (Ok o) words = option_map (λ ws. map line_word ws) o ≡ words
+-- the words behind a word: none where the bytes end, else those behind one blank
+abbrev pub more_words : List ℕ → Option (List LineWord)
+more_words [] = Some []
+more_words (b ∷ z) = if b == 32 then words_of z else None
+
+-- what is made of the words behind a word
+unfoldable pub on_words : {B : Type 0} → (List LineWord → Option B) → List ℕ → Option B
+on_words f z = given (more_words z) f
+
+-- what is taken behind one blank
+abbrev pub behind_blank : {A : Type 0} → Taker A → Taker A
+behind_blank taker z = if starts 32 z then taker (drop 1 z) else None

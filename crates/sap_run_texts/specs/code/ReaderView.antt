@@ -2,9 +2,10 @@
 use Rattle.std.specs.Prelude.{◌≡◌, ℕ, List, []}
 use Rattle.sap_runs.specs.declared.process_step.PStep.{PStep}
 use Rattle.sap_runs.specs.declared.rule_step.RStep.{RStep}
+use Rattle.sap_run_texts.specs.declared.run_fault.RunFault.{RunFault}
 use Rattle.sap_run_texts.specs.declared.phase.Phase.{Phase}
 use Rattle.sap_run_texts.specs.declared.phase.Phase.TheVariants as phase
-use Rattle.sap_run_texts.specs.RunReading.{Held, failed, faulty, in_head, in_process, in_rules}
+use Rattle.sap_run_texts.specs.RunReading.{Held, Reading, failed, faulty, in_head, in_process, in_rules}
 
 -- a phase, the bytes of the line that hasn't ended, and the steps of both kinds
 abbrev pub held_of : Phase → List ℕ → List PStep → List RStep → Held
@@ -23,3 +24,7 @@ IsPastHead _ = Unit {0}
 abbrev pub EmptyAtHead : Phase → List PStep → List RStep → Type 0
 EmptyAtHead phase.Head ps rs = (ps ≡ []) × (rs ≡ [])
 EmptyAtHead _ ps rs = Unit {0}
+
+-- the text has a fault
+abbrev pub IsFaulty : Reading → Type 0
+IsFaulty r = (e : RunFault) × (r.held ≡ faulty e)

@@ -7,34 +7,30 @@ use Rattle.sap_run_texts.specs.declared.limits.TheConstants.{MOST_RULE_STEPS}
 use Rattle.sap_run_lines.specs.StepLines.{IsRuleStepLine, IsLineRead}
 use Rattle.sap_run_texts.specs.RunReading.{HoldsFor, faulty, in_rules}
 use Rattle.sap_run_texts.proofs.Begun as begun
-use Rattle.sap_run_texts.proofs.reader.take_in_rules.Goals as goal
+use Rattle.sap_run_texts.proofs.reader.end_rules.Goals as goal
 
 pub returns-then-len-ge-MOST_RULE_STEPS-clause-holds : goal.returns-then-len-ge-MOST_RULE_STEPS-clause-holds
 returns-then-len-ge-MOST_RULE_STEPS-clause-holds c k process z h =
     let many : MOST_RULE_STEPS ≤ length c.args.steps.now = omega (arith, c.if-len-ge-MOST_RULE_STEPS.true, c.len.ensures) in
-    begun.many_rules k c.args.steps.now c.args.line.now.items z c.args.byte many h
+    begun.many_rules k c.args.steps.now c.args.line.now.items z (10 ∷ []) (omega arith) many h
 
 pub returns-in_ok-push-in-Some-clause-holds : goal.returns-in_ok-push-in-Some-clause-holds
 returns-in_ok-push-in-Some-clause-holds c k process z h =
-    let feed : 10 ≡ c.args.byte = omega (arith, c.if-byte-ne10.false) in
     let few : length c.args.steps.now < MOST_RULE_STEPS = omega (arith, c.if-len-ge-MOST_RULE_STEPS.false, c.len.ensures) in
     let read : IsLineRead IsRuleStepLine c.args.line.now.items c.in_ok-step.step =
     subst (λ (y : List ℕ). IsLineRead IsRuleStepLine y c.in_ok-step.step) c.as_slice.ensures.value c.in_ok-step.ensures in
     let here : IsRuleStepLine c.in-Some.step c.args.line.now.items =
     subst (λ (o : Option RStep). IsLineRead IsRuleStepLine c.args.line.now.items o) c.in-Some.is read in
-    let pushed : c.args.steps.now ++ c.in-Some.step ∷ [] ≡ c.push-in-Some.new.self = grind (arith, common_steps) in
+    let pushed : c.args.steps.now ++ c.in-Some.step ∷ [] ≡ c.push.new.self = grind (arith, common_steps) in
     let cleared : [] ≡ c.clear.new.self.items = sym c.clear.ensures.items in
     let done : HoldsFor k (in_rules (c.args.steps.now ++ c.in-Some.step ∷ []) []) (z ++ 10 ∷ []) =
     begun.step_rules k c.args.steps.now c.args.line.now.items z c.in-Some.step here few h in
-    let with_steps : HoldsFor k (in_rules c.push-in-Some.new.self []) (z ++ 10 ∷ []) =
+    let with_steps : HoldsFor k (in_rules c.push.new.self []) (z ++ 10 ∷ []) =
     subst (λ (ss : List RStep). HoldsFor k (in_rules ss []) (z ++ 10 ∷ [])) pushed done in
-    let with_line : HoldsFor k (in_rules c.push-in-Some.new.self c.clear.new.self.items) (z ++ 10 ∷ []) =
-    subst (λ (y : List ℕ). HoldsFor k (in_rules c.push-in-Some.new.self y) (z ++ 10 ∷ [])) cleared with_steps in
-    subst (λ (b : ℕ). HoldsFor k (in_rules c.push-in-Some.new.self c.clear.new.self.items) (z ++ b ∷ [])) feed with_line
+    subst (λ (y : List ℕ). HoldsFor k (in_rules c.push.new.self y) (z ++ 10 ∷ [])) cleared with_steps
 
 pub returns-in-None-clause-holds : goal.returns-in-None-clause-holds
 returns-in-None-clause-holds c k process z h =
-    let feed : 10 ≡ c.args.byte = omega (arith, c.if-byte-ne10.false) in
     let few : length c.args.steps.now < MOST_RULE_STEPS = omega (arith, c.if-len-ge-MOST_RULE_STEPS.false, c.len.ensures) in
     let read : IsLineRead IsRuleStepLine c.args.line.now.items c.in_ok-step.step =
     subst (λ (y : List ℕ). IsLineRead IsRuleStepLine y c.in_ok-step.step) c.as_slice.ensures.value c.in_ok-step.ensures in
@@ -43,6 +39,4 @@ returns-in-None-clause-holds c k process z h =
     let counted : length c.args.steps.now ≡ c.len-in-None.result = sym c.len-in-None.ensures in
     let done : HoldsFor k (faulty (fault.BadLine (length c.args.steps.now + 2))) (z ++ 10 ∷ []) =
     begun.bad_rules k c.args.steps.now c.args.line.now.items z none few h in
-    let with_count : HoldsFor k (faulty (fault.BadLine (c.len-in-None.result + 2))) (z ++ 10 ∷ []) =
-    subst (λ (n : ℕ). HoldsFor k (faulty (fault.BadLine (n + 2))) (z ++ 10 ∷ [])) counted done in
-    subst (λ (b : ℕ). HoldsFor k (faulty (fault.BadLine (c.len-in-None.result + 2))) (z ++ b ∷ [])) feed with_count
+    subst (λ (n : ℕ). HoldsFor k (faulty (fault.BadLine (n + 2))) (z ++ 10 ∷ [])) counted done

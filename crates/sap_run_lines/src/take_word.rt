@@ -1,11 +1,11 @@
-//! Words of a line, taken from the left of its bytes.
+//! A word of a line, taken from the left of bytes.
 ghost use Rattle.std.specs.Prelude.{◌≡◌};
 ghost use Rattle.sap_run_lines.specs.code.Taking.{Takes};
-ghost use Rattle.sap_run_lines.specs.code.WordTaking.{line_word, sorted, value_at, bound_at, number_word_at, tilde_at, public_word_at, letter_at, word_at, words_of, GivesWords};
+ghost use Rattle.sap_run_lines.specs.code.WordTaking.{line_word, sorted, value_at, bound_at, number_word_at, tilde_at, public_word_at, letter_at, word_at};
 
 use crate::take::{behind, content_at, identifier_at, name_at, number_at, starts, starts_letter};
 use crate::take_term::small_term;
-use crate::written_word::{WrittenWord, WrittenWords};
+use crate::written_word::WrittenWord;
 use sap_terms::{Binding, Mem, Name, Sort, Var};
 use std::alloc::Global;
 
@@ -98,8 +98,9 @@ fn take_letter<'a>(alloc: Global, bytes: &'a [u8]) -> Result<Option<(WrittenWord
     }
 }
 
+/// The word that stands first, and the bytes behind it.
 #[tactic(auto, unfolding(crate::specs::code::WordTaking::word_at))]
-fn take_word<'a>(alloc: Global, bytes: &'a [u8]) -> Result<Option<(WrittenWord, &'a [u8])>, Mem>
+pub(crate) fn take_word<'a>(alloc: Global, bytes: &'a [u8]) -> Result<Option<(WrittenWord, &'a [u8])>, Mem>
     ensures { Takes line_word result (word_at bytes.now) }
 {
     if starts(b'~', bytes) {
@@ -113,26 +114,4 @@ fn take_word<'a>(alloc: Global, bytes: &'a [u8]) -> Result<Option<(WrittenWord, 
     } else {
         take_number(bytes)
     }
-}
-
-/// The words that all of the bytes are, with one blank between each two.
-pub(crate) fn take_words(alloc: Global, bytes: &[u8]) -> Result<Option<WrittenWords>, Mem>
-    ensures { GivesWords result (words_of bytes.now) }
-{
-    let mut words = WrittenWords::new(alloc);
-    let mut rest = bytes;
-    while !rest.is_empty() {
-        let Some((word, next)) = take_word(alloc, rest)? else {
-            return Ok(None);
-        };
-        words.push(word)?;
-        if next.is_empty() {
-            return Ok(Some(words));
-        }
-        if !starts(b' ', next) {
-            return Ok(None);
-        }
-        rest = behind(1, next);
-    }
-    Ok(None)
 }
