@@ -1,14 +1,16 @@
 //! Cuts what stands behind a header into items.
 ghost use Rattle.std.specs.Prelude.{◌≡◌, ◌≤◌, ◌<◌, ◌↔◌, ℕ, List, [], ◌∷◌, length, IsTrue};
+ghost use Rattle.std.specs.List.{list_any};
 ghost use Rattle.std.specs.Option.{option_copied};
+ghost use Rattle.std.specs.Str.{bytes_eq};
 ghost use Rattle.sap_grammar.specs.Words.{words_of};
-ghost use Rattle.sap_grammar.specs.Cut.{placed, first_line, last_line, begins_item};
+ghost use Rattle.sap_grammar.specs.Cut.{placed, first_line, last_line, begins_item, cut_words};
 ghost use Rattle.sap_grammar.specs.Items.{IsEnd};
 ghost use Rattle.sap_grammar.specs.ItemReading.{count_on, cut, header_of};
 ghost use Rattle.sap_grammar.specs.code.DeclarationView.{placed_token};
 
-use crate::look::{beyond, is_mark, name_at, starts};
-use sap_text::Token;
+use crate::look::{beyond, is, name_at, starts, text_at};
+use sap_text::{Kind, Token};
 
 /// The name in the header, where the tokens begin with one.
 pub fn header_name<'a>(bytes: &'a [u8], tokens: &[Token]) -> Option<&'a [u8]>
@@ -32,18 +34,29 @@ pub fn last_line(tokens: &[Token]) -> u64
     }
 }
 
+// Whether it is one of the words that an item begins with. Most texts differ from each of them in the first byte.
+fn is_cut_word(text: &[u8]) -> bool
+    ensures { result ≡ list_any (bytes_eq text.now) cut_words }
+{
+    match text {
+        [b'b', ..] => is(text, "builtins"),
+        [b'f', ..] => is(text, "functions"),
+        [b'l', ..] => is(text, "let") || is(text, "lemma"),
+        [b'p', ..] => is(text, "process"),
+        [b'r', ..] => is(text, "restriction") || is(text, "rule"),
+        [b'e', ..] => is(text, "end"),
+        _ => false,
+    }
+}
+
 // Whether an item begins with this token.
 fn begins_item(bytes: &[u8], token: Token) -> bool
     ensures { result ≡ begins_item (placed_token bytes.now token) }
 {
-    is_mark(bytes, token, "builtins")
-        || is_mark(bytes, token, "functions")
-        || is_mark(bytes, token, "let")
-        || is_mark(bytes, token, "process")
-        || is_mark(bytes, token, "restriction")
-        || is_mark(bytes, token, "lemma")
-        || is_mark(bytes, token, "rule")
-        || is_mark(bytes, token, "end")
+    match token.kind {
+        Kind::Ident | Kind::Symbol => is_cut_word(text_at(bytes, token)),
+        Kind::Number | Kind::Quoted => false,
+    }
 }
 
 // How many of these tokens belong to the item before them.

@@ -9,7 +9,8 @@ ghost use Rattle.sap_grammar.specs.Reading.{as_name, as_quoted, as_number, name_
 
 use sap_text::{Kind, Token};
 
-fn is(text: &[u8], word: &str) -> bool
+// Whether the text is this word.
+pub(crate) fn is(text: &[u8], word: &str) -> bool
     ensures { result ≡ bytes_eq text.now word.now }
 {
     text == word.as_bytes()
@@ -66,7 +67,8 @@ fn part(bytes: &[u8], from: u64, to: u64) -> &[u8]
     &bytes[start..end]
 }
 
-fn text_at(bytes: &[u8], token: Token) -> &[u8]
+// The bytes in the token's span.
+pub(crate) fn text_at(bytes: &[u8], token: Token) -> &[u8]
     ensures { result.now ≡ text_of bytes.now token }
 {
     part(bytes, token.from, token.to)
