@@ -6,19 +6,15 @@ use Rattle.std.proofs.lemmas.Bool.{cases_eq}
 use Rattle.std.proofs.lemmas.Option.{slice_get_within, slice_get-get_or, get_or_from_slice_get}
 use Rattle.std.proofs.Math.Seq.{get_or-append_seam}
 use Rattle.std.proofs.lemmas.List.Elements.{All-head, All-tail}
+use Rattle.sap_terms.proofs.PlainLaws.Items.{got_contained}
 use Rattle.sap_terms.specs.Ground.{IsGround, AreGround}
 use Rattle.sap_terms.specs.Message.{IsOver, AreOver}
 use Rattle.sap_terms.specs.Signature.{Sig}
 use Rattle.sap_terms.specs.Tree.{Tree, fresh, apply, trees_of, list_of, list_of-trees_of}
 use Rattle.sap_share.specs.Shared.{tree_at, trees_at, node_tree, AreBelow, StandsBelow, IsHeld, HaveOneNumber}
-use Rattle.sap_share.specs.code.Inside.{grown, IsTable, IsNew}
+use Rattle.sap_share.specs.code.Inside.{IsTable, IsNew}
 use Rattle.sap_share.specs.declared.node.Node.{Node}
 use Rattle.sap_share.specs.declared.node.Node.TheVariants.{Public, Fresh, App}
-
--- the last node's tree comes last
-pub grown-push : (ts : List Tree) (ns : List Node) (n : Node) → grown ts (ns ++ n ∷ []) ≡ grown ts ns ++ node_tree (grown ts ns) n ∷ []
-grown-push ts [] n = refl
-grown-push ts (m ∷ ms) n = grown-push (ts ++ node_tree ts m ∷ []) ms n
 
 -- earlier numbers keep their trees
 pub tree_at-front : (ts us : List Tree) (k : ℕ) → k < length ts → tree_at (ts ++ us) k ≡ tree_at ts k
@@ -152,6 +148,15 @@ module _ (g : Sig) (ns : List Node) (ts : List Tree) (fs ss : List ℕ) (it : Is
   new_node n new (k, lt, e) =
       let stands : slice_get ns k ≡ Some n = slice_get-get_or ns k n lt ∙ ap Some e in
       new k (got_below k n stands) (it.trees k n stands)
+
+  -- nor is it there after a node of another tree
+  pub new_after : (m n : Node) → IsNew ts n → (node_tree ts m ≡ node_tree ts n → ⊥) → Contains (ns ++ m ∷ []) n → ⊥
+  new_after m n new other there =
+      let at = got_contained (ns ++ m ∷ []) n there in
+      elim (got_push ns m at.0 n at.1) [
+        | inl p ↦ new at.0 (got_below at.0 n p) (it.trees at.0 n p)
+        | inr q ↦ other (ap (node_tree ts) (sym q.1))
+      ]
 
 -- what follows where there is no value
 pub IfNone_then : {X : Type 0} (o : Option X) {P Q : Type 0} → IfNone o P → (P → Q) → IfNone o Q

@@ -2,6 +2,7 @@ mod Keys
 mod NodeKeys
 mod Grown
 mod Pushed
+mod Rows
 mod Sizes
 mod Both
 mod Shapes
@@ -10,4 +11,3 @@ mod Reduced
 mod Kept
 mod Evaluated
 mod Fitting
-pub mod Own

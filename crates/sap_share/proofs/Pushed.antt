@@ -1,17 +1,19 @@
 -- A table with one node more.
 use Rattle.std.proofs.Common.{◌≡◌, ◌<◌, ◌≤◌, ◌-◌, ◌+◌, ◌^◌, ℕ, List, [], ◌∷◌, ◌++◌, length, Some, sym, ap, subst, ◌∙◌, arith, min, inl, inr}
 use Rattle.std.specs.Prelude.{slice_get, slice_index}
-use Rattle.std.proofs.lemmas.List.{get_or_append_left, get_or_push, length_push}
+use Rattle.std.proofs.lemmas.List.{get_or_append_left, get_or_push, length_push, map_push}
 use Rattle.sap_terms.specs.Ground.{IsGround}
 use Rattle.sap_terms.specs.Message.{IsOver}
 use Rattle.sap_terms.specs.Normal.{IsNormalForm}
 use Rattle.sap_terms.specs.Signature.{Sig}
 use Rattle.sap_terms.specs.Equations.{equations}
 use Rattle.sap_terms.specs.Tree.{Tree, node_count}
+use Rattle.sap_terms.specs.View.{tree}
 use Rattle.sap_share.specs.Shared.{Shared, tree_at, node_tree, StandsBelow, IsHeld, HaveOneNumber}
-use Rattle.sap_share.specs.code.Inside.{grown, IsTable, IsNew}
+use Rattle.sap_share.specs.code.Inside.{trees_in, forms_in, sizes_in, IsRowOf, IsTable, IsNew}
 use Rattle.sap_share.specs.declared.node.Node.{Node}
-use Rattle.sap_share.proofs.Grown.{grown-push, tree_at-front, tree_at-last, node_tree-front, got_push, below_push, got_below, got_stands, node_ground, node_over}
+use Rattle.sap_share.specs.declared.row.Row.{Row}
+use Rattle.sap_share.proofs.Grown.{tree_at-front, tree_at-last, node_tree-front, got_push, below_push, got_below, got_stands, node_ground, node_over}
 
 -- what a list of numbers has with one more
 index_front : (xs : List ℕ) (y k : ℕ) → k < length xs → slice_index (xs ++ y ∷ []) k ≡ slice_index xs k
@@ -99,7 +101,7 @@ module _ (g : Sig) (ns : List Node) (ts : List Tree) (fs ss : List ℕ) (it : Is
     | inr p ↦ index_last ss size k (p ∙ it.trees_count ∙ sym it.sizes_count) ∙ is_size ∙ ap (λ t. min (node_count t) (2 ^ 64 - 1)) (sym (last k p))
   ]
 
-  pub pushed : IsTable g (ns ++ n ∷ []) more forms_more (ss ++ size ∷ [])
+  pushed : IsTable g (ns ++ n ∷ []) more forms_more (ss ++ size ∷ [])
   pushed = record {
     trees_count = longer ∙ ap (λ c. c + 1) it.trees_count ∙ sym (length_push ns n);
     forms_count = length_push fs form ∙ ap (λ c. c + 1) it.forms_count ∙ sym (length_push ns n);
@@ -114,30 +116,28 @@ module _ (g : Sig) (ns : List Node) (ts : List Tree) (fs ss : List ℕ) (it : Is
     size = size_more;
   }
 
--- the same, where the trees are those of the nodes
-pub pushed_grown : (g : Sig) (ns : List Node) (fs ss : List ℕ) → IsTable g ns (grown [] ns) fs ss → (n : Node) → StandsBelow (length (grown [] ns)) n → IsHeld g n → IsNew (grown [] ns) n
-    → (form size : ℕ) → form ≤ length (grown [] ns) → IsNormalForm (equations g) (node_tree (grown [] ns) n) (tree_at (grown [] ns ++ node_tree (grown [] ns) n ∷ []) form)
-    → size ≡ min (node_count (node_tree (grown [] ns) n)) (2 ^ 64 - 1)
-    → IsTable g (ns ++ n ∷ []) (grown [] (ns ++ n ∷ [])) (fs ++ form ∷ []) (ss ++ size ∷ [])
-pushed_grown g ns fs ss it n below held new form size form_below is_form is_size =
-    subst (λ us. IsTable g (ns ++ n ∷ []) us (fs ++ form ∷ []) (ss ++ size ∷ [])) (sym (grown-push [] ns n)) (pushed g ns (grown [] ns) fs ss it n below held new form size form_below is_form is_size)
-
 -- what contracts see of the parts
-abbrev pub seen : Sig → List Node → Shared
-seen g ns = record { sig = g; trees = grown [] ns }
+abbrev pub seen : Sig → List Row → Shared
+seen g rs = record { sig = g; trees = trees_in rs }
 
--- the same, where the node is new to what contracts see
-pub pushed_self : (g : Sig) (ns : List Node) (fs ss : List ℕ) → IsTable g ns (grown [] ns) fs ss → (s : Shared) → seen g ns ≡ s → (n : Node) → StandsBelow (length s.trees) n → IsHeld s.sig n → IsNew s.trees n
-    → (form size : ℕ) → form ≤ length s.trees → IsNormalForm (equations s.sig) (node_tree s.trees n) (tree_at (s.trees ++ node_tree s.trees n ∷ []) form)
-    → size ≡ min (node_count (node_tree s.trees n)) (2 ^ 64 - 1)
-    → IsTable g (ns ++ n ∷ []) (grown [] (ns ++ n ∷ [])) (fs ++ form ∷ []) (ss ++ size ∷ [])
-pushed_self g ns fs ss it s is n =
-    let P : Shared → Type 0 = λ s. StandsBelow (length s.trees) n → IsHeld s.sig n → IsNew s.trees n → (form size : ℕ) → form ≤ length s.trees → IsNormalForm (equations s.sig) (node_tree s.trees n) (tree_at (s.trees ++ node_tree s.trees n ∷ []) form)
-    → size ≡ min (node_count (node_tree s.trees n)) (2 ^ 64 - 1) → IsTable g (ns ++ n ∷ []) (grown [] (ns ++ n ∷ [])) (fs ++ form ∷ []) (ss ++ size ∷ []) in
-    subst P is (pushed_grown g ns fs ss it n)
+-- the same, over rows, where the node is new to what contracts see
+pub pushed_row : (g : Sig) (ns : List Node) (rs : List Row) → IsTable g ns (trees_in rs) (forms_in rs) (sizes_in rs) → (s : Shared) → seen g rs ≡ s → (n : Node) → StandsBelow (length s.trees) n → IsHeld s.sig n → IsNew s.trees n
+    → (form : ℕ) → form ≤ length s.trees → IsNormalForm (equations s.sig) (node_tree s.trees n) (tree_at (s.trees ++ node_tree s.trees n ∷ []) form) → (r : Row) → IsRowOf s.trees n form r
+    → IsTable g (ns ++ n ∷ []) (trees_in (rs ++ r ∷ [])) (forms_in (rs ++ r ∷ [])) (sizes_in (rs ++ r ∷ []))
+pushed_row g ns rs it s is n =
+    let P : Shared → Type 0 = λ s. StandsBelow (length s.trees) n → IsHeld s.sig n → IsNew s.trees n
+    → (form : ℕ) → form ≤ length s.trees → IsNormalForm (equations s.sig) (node_tree s.trees n) (tree_at (s.trees ++ node_tree s.trees n ∷ []) form) → (r : Row) → IsRowOf s.trees n form r
+    → IsTable g (ns ++ n ∷ []) (trees_in (rs ++ r ∷ [])) (forms_in (rs ++ r ∷ [])) (sizes_in (rs ++ r ∷ [])) in
+    subst P is (λ below held new form form_below is_form r row.
+    let ts = trees_in rs in
+    let trees : trees_in (rs ++ r ∷ []) ≡ ts ++ node_tree ts n ∷ [] = map_push (λ (r : Row). tree r.term) rs r ∙ ap (λ t. ts ++ t ∷ []) row.term in
+    let forms : forms_in (rs ++ r ∷ []) ≡ forms_in rs ++ form ∷ [] = map_push (λ (r : Row). r.form) rs r ∙ ap (λ k. forms_in rs ++ k ∷ []) row.form in
+    let sizes : sizes_in (rs ++ r ∷ []) ≡ sizes_in rs ++ r.size ∷ [] = map_push (λ (r : Row). r.size) rs r in
+    rw (trees, forms, sizes) (pushed g ns ts (forms_in rs) (sizes_in rs) it n below held new form r.size form_below is_form row.size))
 
--- what contracts see of one node more
-pub pushed_view : (g : Sig) (ns ms : List Node) (s : Shared) → seen g ns ≡ s → (n : Node) → ms ≡ ns ++ n ∷ [] → seen g ms ≡ record s { trees = s.trees ++ node_tree s.trees n ∷ [] }
-pushed_view g ns ms s is n more =
-    let P : Shared → Type 0 = λ s. seen g ms ≡ record s { trees = s.trees ++ node_tree s.trees n ∷ [] } in
-    subst P is (ap (seen g) more ∙ ap (λ ts. record { sig = g; trees = ts }) (grown-push [] ns n))
+-- what contracts see of one row more
+pub pushed_view : (g : Sig) (rs : List Row) (s : Shared) → seen g rs ≡ s → (n : Node) (form : ℕ) (r : Row) → IsRowOf s.trees n form r → seen g (rs ++ r ∷ []) ≡ record s { trees = s.trees ++ node_tree s.trees n ∷ [] }
+pushed_view g rs s is n form r row =
+    let tree_of : Row → Tree = λ (r : Row). tree r.term in
+    let trees : trees_in (rs ++ r ∷ []) ≡ s.trees ++ node_tree s.trees n ∷ [] = map_push tree_of rs r ∙ ap (λ (v : Shared). v.trees ++ tree r.term ∷ []) is ∙ ap (λ t. s.trees ++ t ∷ []) row.term in
+    ap (λ (v : Shared). record v { trees = trees_in (rs ++ r ∷ []) }) is ∙ ap (λ ts. record s { trees = ts }) trees

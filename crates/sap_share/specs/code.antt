@@ -4,4 +4,3 @@ pub mod Forms
 pub mod Sides
 pub mod Found
 pub mod Matching
-pub mod Put

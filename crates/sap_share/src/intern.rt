@@ -83,7 +83,7 @@ impl Table {
     }
 
     // Gives a new node a number, where its normal form is another node.
-    fn add_like(&mut self, form: Node, node: Node) -> Result<u64, Mem>
+    fn add_like(&mut self, alloc: Global, form: Node, node: Node) -> Result<u64, Mem>
         requires below { StandsBelow (length self.old.trees) node }
         requires held { IsHeld self.old.sig node }
         requires new { IsNew self.old.trees node }
@@ -96,8 +96,8 @@ impl Table {
         self.each_is_ground();
         self.each_is_over();
         match self.number_of(&form) {
-            Some(k) => self.add(node, k),
-            None => self.add_both(form, node),
+            Some(k) => self.add(alloc, node, k),
+            None => self.add_both(alloc, form, node),
         }
     }
 
@@ -113,9 +113,9 @@ impl Table {
             return Ok(k);
         }
         match self.form_of(alloc, &node)? {
-            Form::Itself => self.add_own(node),
-            Form::Old(k) => self.add(node, k),
-            Form::Like(form) => self.add_like(form, node),
+            Form::Itself => self.add_own(alloc, node),
+            Form::Old(k) => self.add(alloc, node, k),
+            Form::Like(form) => self.add_like(alloc, form, node),
         }
     }
 
@@ -130,8 +130,8 @@ impl Table {
         equality_is_kept();
         leaves_are_normal();
         match node {
-            Node::Public(name) => self.add_own(Node::Public(name)),
-            Node::Fresh(n) => self.add_own(Node::Fresh(n)),
+            Node::Public(name) => self.put_own(alloc, Node::Public(name)),
+            Node::Fresh(n) => self.put_own(alloc, Node::Fresh(n)),
             Node::App(f, ks) => self.intern_applied(alloc, f, ks),
         }
     }

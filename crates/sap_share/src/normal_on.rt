@@ -15,7 +15,7 @@ use std::alloc::Global;
 
 impl Table {
     // The number of a normal node, if it has no more nodes than the limit.
-    fn small_number(&mut self, node: Node, most: u64) -> Result<u64, Cut>
+    fn small_number(&mut self, alloc: Global, node: Node, most: u64) -> Result<u64, Cut>
         requires most { most < u64.MAX }
         requires below { StandsBelow (length self.old.trees) node }
         requires held { IsHeld self.old.sig node }
@@ -30,7 +30,7 @@ impl Table {
         if self.size_of(&node) > most {
             return Err(Cut::Large);
         }
-        let number = self.add_own(node)?;
+        let number = self.put_own(alloc, node)?;
         Ok(number)
     }
 
@@ -51,7 +51,7 @@ impl Table {
         self.each_is_ground();
         self.each_is_over();
         let name = Name::from_bytes(alloc, b"true")?;
-        self.small_number(Node::App(name, Numbers::new(alloc)), most)
+        self.small_number(alloc, Node::App(name, Numbers::new(alloc)), most)
     }
 
     /// The number of the normal form of a symbol on numbers of normal terms, if that has at most `most` nodes; `Large` if it
@@ -81,7 +81,7 @@ impl Table {
             Side::Truth => self.truth_number(alloc, f, &ks, most),
             Side::Nothing => {
                 let name = f.copy(alloc)?;
-                self.small_number(Node::App(name, ks), most)
+                self.small_number(alloc, Node::App(name, ks), most)
             }
         }
     }

@@ -1,18 +1,19 @@
 // The table of numbered nodes.
-ghost use Rattle.std.specs.Prelude.{ℕ, ◌≡◌, ◌<◌, ◌≤◌, ◌+◌, ◌^◌, ◌-◌, [], ◌∷◌, ◌++◌, length, IfOk, OnOk, OnErr, IfSome, IfNone, Some, true, false, slice_get, slice_index, Contains, min};
+ghost use Rattle.std.specs.Prelude.{ℕ, ◌≡◌, ◌<◌, ◌≤◌, ◌+◌, ◌^◌, ◌-◌, [], ◌∷◌, ◌++◌, length, IfOk, OnOk, OnErr, IfSome, IfNone, Some, slice_get, slice_index, min};
 ghost use Rattle.std.specs.Vec.{vec_len, vec_capacity};
-ghost use Rattle.indexmap.specs.IndexSet.{spare};
+ghost use Rattle.sap_terms.specs.View.{tree};
 ghost use Rattle.sap_terms.specs.Ground.{IsGround};
 ghost use Rattle.sap_terms.specs.Message.{IsOver};
 ghost use Rattle.sap_terms.specs.Normal.{IsNormal, IsNormalForm};
 ghost use Rattle.sap_terms.specs.Equations.{equations};
 ghost use Rattle.sap_terms.specs.Tree.{node_count};
-ghost use Rattle.sap_share.specs.Shared.{tree_at, node_tree, StandsBelow, IsHeld, HaveOneNumber, IsNew, Gives, ComesAlone};
-ghost use Rattle.sap_share.specs.code.Put.{IsPut};
+ghost use Rattle.sap_share.specs.Shared.{tree_at, trees_at, node_tree, AreBelow, StandsBelow, IsHeld, HaveOneNumber, IsNew, Gives, ComesAlone};
+ghost use Rattle.sap_share.specs.code.Inside.{trees_in, forms_in, sizes_in, IsRowOf};
 
 use crate::Node;
-use indexmap::IndexSet;
-use sap_terms::{Copied, Mem, Signature};
+use crate::nodes::Nodes;
+use crate::row::Row;
+use sap_terms::{Copied, Mem, Numbers, Signature, Term, TermList};
 use std::alloc::Global;
 use std::marker::Model;
 
@@ -20,13 +21,11 @@ use std::marker::Model;
 #[derive(Drop)]
 pub struct Table {
     sig: Signature,
-    nodes: IndexSet<Node>,
-    forms: Vec<u64>,
-    sizes: Vec<u64>,
+    nodes: Nodes,
+    rows: Vec<Row>,
 }
 
 impl Model for Table {
-    ghost use Rattle.std.specs.Prelude.{[]};
     ghost use Rattle.std.specs.Coded.{codes};
     ghost use Rattle.sap_terms.specs.Codes.{tree_code};
     ghost use Rattle.sap_share.specs.Shared.{Shared};
@@ -35,125 +34,23 @@ impl Model for Table {
 
     ghost coded = { Prim.hlevel (codes, tree_code) };
 
-    ghost use Rattle.sap_share.specs.code.Inside.{grown, IsTable};
+    ghost use Rattle.sap_share.specs.code.Inside.{trees_in, forms_in, sizes_in, IsTable};
 
-    ghost view = { λ a. record { sig = a.sig; trees = grown [] a.nodes.keys } };
+    ghost view = { λ a. record { sig = a.sig; trees = trees_in a.rows.items } };
 
-    ghost invariant = { λ a. IsTable a.sig a.nodes.keys (grown [] a.nodes.keys) a.forms.items a.sizes.items };
+    ghost invariant = { λ a. IsTable a.sig a.nodes (trees_in a.rows.items) (forms_in a.rows.items) (sizes_in a.rows.items) };
 }
 
-// The number of a node, where it has one.
-fn find(nodes: &IndexSet<Node>, node: &Node) -> Option<u64>
-    ensures found { IfSome result (λ k. slice_get nodes.now.keys k ≡ Some node.now) }
-    ensures none { IfNone result (¬ Contains nodes.now.keys node.now) }
+// Puts a row last. There is room.
+fn put_row(rows: &mut Vec<Row>, row: Row)
+    requires { vec_len rows.old < vec_capacity rows.old }
+    ensures rows { rows.new.items ≡ rows.old.items ++ row ∷ [] }
+    ensures capacity { vec_capacity rows.old ≤ vec_capacity rows.new }
 {
-    match nodes.get_index_of(node) {
-        Some(k) => Some(k as u64),
-        None => None,
-    }
-}
-
-// Makes room for more of each.
-fn make_room(
-    nodes: &mut IndexSet<Node>,
-    forms: &mut Vec<u64>,
-    sizes: &mut Vec<u64>,
-    more: usize,
-) -> Result<(), Mem>
-    ensures room { OnOk result (more ≤ spare nodes.new) }
-    ensures room_forms { OnOk result (vec_len forms.new + more ≤ vec_capacity forms.new) }
-    ensures room_sizes { OnOk result (vec_len sizes.new + more ≤ vec_capacity sizes.new) }
-    ensures nodes { nodes.new.keys ≡ nodes.old.keys }
-    ensures forms { forms.new.items ≡ forms.old.items }
-    ensures sizes { sizes.new.items ≡ sizes.old.items }
-{
-    nodes.reserve(more)?;
-    forms.reserve(more)?;
-    sizes.reserve(more)?;
-    Ok(())
-}
-
-// Puts a node that isn't there last. There is room.
-fn put_node(nodes: &mut IndexSet<Node>, node: Node)
-    requires new { ¬ Contains nodes.old.keys node }
-    requires room { 0 < spare nodes.old }
-    ensures nodes { nodes.new.keys ≡ nodes.old.keys ++ node ∷ [] }
-    ensures spare { spare nodes.old ≤ spare nodes.new + 1 }
-{
-    match nodes.insert(node) {
+    match rows.push(row) {
         Ok(_) => {}
         Err(_) => unreachable!(),
     }
-}
-
-// Puts a node last that isn't there, and gives its number with whether it came. The node is hashed once.
-fn put_once(nodes: &mut IndexSet<Node>, node: Node) -> Result<(u64, bool), Mem>
-    ensures was { IfOk result (λ r. r.1 ≡ false → (slice_get nodes.old.keys r.0 ≡ Some node) × (nodes.new.keys ≡ nodes.old.keys)) }
-    ensures came { IfOk result (λ r. r.1 ≡ true → (¬ Contains nodes.old.keys node) × (r.0 ≡ length nodes.old.keys) × (nodes.new.keys ≡ nodes.old.keys ++ node ∷ [])) }
-    ensures err { OnErr result (nodes.new.keys ≡ nodes.old.keys) }
-{
-    let (number, came) = nodes.insert_full(node)?;
-    Ok((number as u64, came))
-}
-
-// The number of a node that is its own normal form. Where it isn't there, it is put last, with its size.
-fn put_own(
-    nodes: &mut IndexSet<Node>,
-    forms: &mut Vec<u64>,
-    sizes: &mut Vec<u64>,
-    node: Node,
-    size: u64,
-) -> Result<u64, Mem>
-    ensures put { IfOk result (λ k. IsPut nodes.old.keys forms.old.items sizes.old.items node size k nodes.new.keys forms.new.items sizes.new.items) }
-    ensures nodes { OnErr result (nodes.new.keys ≡ nodes.old.keys) }
-    ensures forms { OnErr result (forms.new.items ≡ forms.old.items) }
-    ensures sizes { OnErr result (sizes.new.items ≡ sizes.old.items) }
-{
-    forms.reserve(1)?;
-    sizes.reserve(1)?;
-    let (number, came) = put_once(nodes, node)?;
-    if came {
-        put_number(forms, number);
-        put_number(sizes, size);
-    }
-    Ok(number)
-}
-
-// Puts a number last. There is room.
-fn put_number(numbers: &mut Vec<u64>, n: u64)
-    requires { vec_len numbers.old < vec_capacity numbers.old }
-    ensures numbers { numbers.new.items ≡ numbers.old.items ++ n ∷ [] }
-    ensures capacity { vec_capacity numbers.old ≤ vec_capacity numbers.new }
-{
-    match numbers.push(n) {
-        Ok(_) => {}
-        Err(_) => unreachable!(),
-    }
-}
-
-// Puts a node that isn't there last, with its form and its size. There is room.
-fn put_last(
-    nodes: &mut IndexSet<Node>,
-    forms: &mut Vec<u64>,
-    sizes: &mut Vec<u64>,
-    node: Node,
-    form: u64,
-    size: u64,
-)
-    requires new { ¬ Contains nodes.old.keys node }
-    requires room { 0 < spare nodes.old }
-    requires room_forms { vec_len forms.old < vec_capacity forms.old }
-    requires room_sizes { vec_len sizes.old < vec_capacity sizes.old }
-    ensures nodes { nodes.new.keys ≡ nodes.old.keys ++ node ∷ [] }
-    ensures forms { forms.new.items ≡ forms.old.items ++ form ∷ [] }
-    ensures sizes { sizes.new.items ≡ sizes.old.items ++ size ∷ [] }
-    ensures spare { spare nodes.old ≤ spare nodes.new + 1 }
-    ensures capacity_forms { vec_capacity forms.old ≤ vec_capacity forms.new }
-    ensures capacity_sizes { vec_capacity sizes.old ≤ vec_capacity sizes.new }
-{
-    put_node(nodes, node);
-    put_number(forms, form);
-    put_number(sizes, size);
 }
 
 impl Table {
@@ -164,9 +61,8 @@ impl Table {
         let sig = sig.copy(alloc)?;
         Ok(Table {
             sig,
-            nodes: IndexSet::new(alloc),
-            forms: Vec::new(alloc),
-            sizes: Vec::new(alloc),
+            nodes: Nodes::new(alloc),
+            rows: Vec::new(alloc),
         })
     }
 
@@ -181,7 +77,7 @@ impl Table {
     pub fn count(&self) -> u64
         ensures { result ≡ length self.now.trees }
     {
-        self.nodes.len() as u64
+        self.nodes.len()
     }
 
     /// The number of a term's normal form.
@@ -190,7 +86,7 @@ impl Table {
         ensures below { result < length self.now.trees }
         ensures form { IsNormalForm (equations self.now.sig) (tree_at self.now.trees id) (tree_at self.now.trees result) }
     {
-        self.forms[id as usize]
+        self.rows[id as usize].form
     }
 
     /// How many nodes the term has; from the greatest u64 on, that number.
@@ -198,7 +94,7 @@ impl Table {
         requires { id < length self.now.trees }
         ensures { result ≡ min (node_count (tree_at self.now.trees id)) u64.MAX }
     {
-        self.sizes[id as usize]
+        self.rows[id as usize].size
     }
 
     /// The node of a number.
@@ -207,7 +103,15 @@ impl Table {
         ensures tree { node_tree self.now.trees result.now ≡ tree_at self.now.trees id }
         ensures below { StandsBelow id result.now }
     {
-        &self.nodes[id as usize]
+        self.nodes.at(id)
+    }
+
+    /// The term of a number. It is held: no memory is taken.
+    pub fn term(&self, id: u64) -> &Term
+        requires { id < length self.now.trees }
+        ensures { tree result.now ≡ tree_at self.now.trees id }
+    {
+        &self.rows[id as usize].term
     }
 
     /// Each term is ground.
@@ -237,7 +141,7 @@ impl Table {
         ensures found { IfSome result (λ k. (k < length self.now.trees) × (tree_at self.now.trees k ≡ node_tree self.now.trees node.now)) }
         ensures none { IfNone result (IsNew self.now.trees node.now) }
     {
-        find(&self.nodes, node)
+        self.nodes.find(node)
     }
 
     /// How many nodes a node's tree has.
@@ -258,27 +162,48 @@ impl Table {
         }
     }
 
-    /// The number of a node that is its own normal form: the old one where the node is there, else the next.
-    pub(crate) fn add_own(&mut self, node: Node) -> Result<u64, Mem>
-        requires below { StandsBelow (length self.old.trees) node }
-        requires held { IsHeld self.old.sig node }
-        requires form { IsNormalForm (equations self.old.sig) (node_tree self.old.trees node) (node_tree self.old.trees node) }
-        ensures ok { IfOk result (λ k. Gives self.old self.new k (node_tree self.old.trees node)) }
-        ensures alone { IfOk result (ComesAlone self.old self.new) }
-        ensures err { OnErr result (self.new ≡ self.old) }
+    // The terms of these numbers.
+    #[tactic(auto, using(crate::proofs::Kept::tree_laws))]
+    fn terms_of(&self, alloc: Global, ks: &Numbers) -> Result<TermList, Mem>
+        requires { AreBelow (length self.now.trees) ks.now }
+        ensures { IfOk result (λ ts. ts ≡ trees_at self.now.trees ks.now) }
     {
-        let size = self.size_of(&node);
-        put_own(
-            &mut self.nodes,
-            &mut self.forms,
-            &mut self.sizes,
-            node,
-            size,
-        )
+        let mut terms = TermList::with_room(alloc, ks.len())?;
+        for k in ks.as_slice() {
+            let term = self.term(*k).copy(alloc)?;
+            terms.push(term)?;
+        }
+        Ok(terms)
+    }
+
+    // The term of a node.
+    fn term_of(&self, alloc: Global, node: &Node) -> Result<Term, Mem>
+        requires { StandsBelow (length self.now.trees) node.now }
+        ensures { IfOk result (λ t. tree t ≡ node_tree self.now.trees node.now) }
+    {
+        match node {
+            Node::Public(n) => Ok(Term::Public(n.copy(alloc)?)),
+            Node::Fresh(k) => Ok(Term::Fresh(*k)),
+            Node::App(f, ks) => {
+                let name = f.copy(alloc)?;
+                let terms = self.terms_of(alloc, ks)?;
+                Ok(Term::App(name, terms))
+            }
+        }
+    }
+
+    // What the table will keep of a node, whose normal form has this number.
+    fn row_of(&self, alloc: Global, node: &Node, form: u64) -> Result<Row, Mem>
+        requires { StandsBelow (length self.now.trees) node.now }
+        ensures { IfOk result (λ r. IsRowOf self.now.trees node.now form r) }
+    {
+        let size = self.size_of(node);
+        let term = self.term_of(alloc, node)?;
+        Ok(Row { term, form, size })
     }
 
     /// Gives a new node a number, and remembers its form's, which may be the new one.
-    pub(crate) fn add(&mut self, node: Node, form: u64) -> Result<u64, Mem>
+    pub(crate) fn add(&mut self, alloc: Global, node: Node, form: u64) -> Result<u64, Mem>
         requires below { StandsBelow (length self.old.trees) node }
         requires held { IsHeld self.old.sig node }
         requires new { IsNew self.old.trees node }
@@ -288,22 +213,45 @@ impl Table {
         ensures ok { OnOk result (self.new ≡ record self.old { trees = self.old.trees ++ node_tree self.old.trees node ∷ [] }) }
         ensures err { OnErr result (self.new ≡ self.old) }
     {
-        let number = self.nodes.len() as u64;
-        let size = self.size_of(&node);
-        make_room(&mut self.nodes, &mut self.forms, &mut self.sizes, 1)?;
-        put_last(
-            &mut self.nodes,
-            &mut self.forms,
-            &mut self.sizes,
-            node,
-            form,
-            size,
-        );
+        let number = self.nodes.len();
+        let row = self.row_of(alloc, &node, form)?;
+        self.rows.reserve(1)?;
+        self.nodes.push(node)?;
+        put_row(&mut self.rows, row);
         Ok(number)
     }
 
+    /// Gives a new node that is its own normal form a number.
+    pub(crate) fn add_own(&mut self, alloc: Global, node: Node) -> Result<u64, Mem>
+        requires below { StandsBelow (length self.old.trees) node }
+        requires held { IsHeld self.old.sig node }
+        requires new { IsNew self.old.trees node }
+        requires form { IsNormalForm (equations self.old.sig) (node_tree self.old.trees node) (node_tree self.old.trees node) }
+        ensures ok { IfOk result (λ k. Gives self.old self.new k (node_tree self.old.trees node)) }
+        ensures alone { IfOk result (ComesAlone self.old self.new) }
+        ensures err { OnErr result (self.new ≡ self.old) }
+    {
+        let own = self.count();
+        self.add(alloc, node, own)
+    }
+
+    /// The number of a node that is its own normal form: the old one where the node is there, else the next.
+    pub(crate) fn put_own(&mut self, alloc: Global, node: Node) -> Result<u64, Mem>
+        requires below { StandsBelow (length self.old.trees) node }
+        requires held { IsHeld self.old.sig node }
+        requires form { IsNormalForm (equations self.old.sig) (node_tree self.old.trees node) (node_tree self.old.trees node) }
+        ensures ok { IfOk result (λ k. Gives self.old self.new k (node_tree self.old.trees node)) }
+        ensures alone { IfOk result (ComesAlone self.old self.new) }
+        ensures err { OnErr result (self.new ≡ self.old) }
+    {
+        match self.number_of(&node) {
+            Some(k) => Ok(k),
+            None => self.add_own(alloc, node),
+        }
+    }
+
     /// Gives two new nodes their numbers, the second of which has the first for its normal form.
-    pub(crate) fn add_both(&mut self, first: Node, second: Node) -> Result<u64, Mem>
+    pub(crate) fn add_both(&mut self, alloc: Global, first: Node, second: Node) -> Result<u64, Mem>
         requires below { StandsBelow (length self.old.trees) first }
         requires held { IsHeld self.old.sig first }
         requires new { IsNew self.old.trees first }
@@ -317,26 +265,13 @@ impl Table {
         ensures ok { OnOk result (self.new ≡ record self.old { trees = self.old.trees ++ node_tree self.old.trees first ∷ node_tree self.old.trees second ∷ [] }) }
         ensures err { OnErr result (self.new ≡ self.old) }
     {
-        let form = self.nodes.len() as u64;
-        let first_size = self.size_of(&first);
-        let second_size = self.size_of(&second);
-        make_room(&mut self.nodes, &mut self.forms, &mut self.sizes, 2)?;
-        put_last(
-            &mut self.nodes,
-            &mut self.forms,
-            &mut self.sizes,
-            first,
-            form,
-            first_size,
-        );
-        put_last(
-            &mut self.nodes,
-            &mut self.forms,
-            &mut self.sizes,
-            second,
-            form,
-            second_size,
-        );
+        let form = self.nodes.len();
+        let first_row = self.row_of(alloc, &first, form)?;
+        let second_row = self.row_of(alloc, &second, form)?;
+        self.rows.reserve(2)?;
+        self.nodes.push_both(first, second)?;
+        put_row(&mut self.rows, first_row);
+        put_row(&mut self.rows, second_row);
         Ok(form + 1)
     }
 }

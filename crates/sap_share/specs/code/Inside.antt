@@ -1,19 +1,34 @@
 -- What a table's parts have to do with each other.
-use Rattle.std.specs.Prelude.{◌≡◌, ◌<◌, ◌-◌, ◌^◌, ℕ, List, [], ◌∷◌, ◌++◌, length, slice_get, slice_index, Some, min}
+use Rattle.std.specs.Prelude.{◌≡◌, ◌<◌, ◌-◌, ◌^◌, ℕ, List, length, slice_get, slice_index, map, Some, min}
 use Rattle.sap_terms.specs.Equations.{equations}
 use Rattle.sap_terms.specs.Ground.{IsGround}
 use Rattle.sap_terms.specs.Message.{IsOver}
 use Rattle.sap_terms.specs.Normal.{IsNormalForm}
 use Rattle.sap_terms.specs.Signature.{Sig}
 use Rattle.sap_terms.specs.Tree.{Tree, node_count}
+use Rattle.sap_terms.specs.View.{tree}
 use Rattle.sap_share.specs.Shared.{tree_at, node_tree, StandsBelow, HaveOneNumber}
 pub use Rattle.sap_share.specs.Shared.{IsNew}
 use Rattle.sap_share.specs.declared.node.Node.{Node}
+use Rattle.sap_share.specs.declared.row.Row.{Row}
 
--- these trees, and then those of the nodes, each over the trees before it
-abbrev pub grown : List Tree → List Node → List Tree
-grown ts [] = ts
-grown ts (n ∷ ns) = grown (ts ++ node_tree ts n ∷ []) ns
+-- the trees of the rows' terms
+abbrev pub trees_in : List Row → List Tree
+trees_in rs = map (λ (r : Row). tree r.term) rs
+
+-- the numbers of their normal forms
+abbrev pub forms_in : List Row → List ℕ
+forms_in rs = map (λ (r : Row). r.form) rs
+
+-- their sizes
+abbrev pub sizes_in : List Row → List ℕ
+sizes_in rs = map (λ (r : Row). r.size) rs
+
+-- the row is that of the node, whose normal form has this number
+pub record IsRowOf (ts : List Tree) (n : Node) (number : ℕ) (r : Row) : Type 0 where
+  pub term : tree r.term ≡ node_tree ts n
+  pub form : r.form ≡ number
+  pub size : r.size ≡ min (node_count (node_tree ts n)) (2 ^ 64 - 1)
 
 -- each node stands on earlier ones and is unlike them, and its normal form's number and its size are remembered
 pub record IsTable (g : Sig) (nodes : List Node) (ts : List Tree) (forms sizes : List ℕ) : Type 0 where

@@ -1,22 +1,29 @@
-use Rattle.std.proofs.Common.{sym, length, [], ◌∷◌, ◌++◌, ◌∙◌, ap}
-use Rattle.sap_share.specs.Shared.{Shared}
+use Rattle.std.proofs.Common.{◌≡◌, sym, length, ◌∙◌, ap, subst}
+use Rattle.sap_share.specs.Shared.{Shared, node_tree, IsNew}
+use Rattle.sap_share.specs.code.Inside.{trees_in, forms_in, sizes_in}
+use Rattle.sap_share.proofs.Grown.{new_after}
 use Rattle.sap_share.proofs.Both.{pushed_both, seen_both}
 use Rattle.sap_share.proofs.table.Table.add_both.Goals as goal
+
+pub push_both-requires-clause-second : goal.push_both-requires-clause-second
+push_both-requires-clause-second c =
+    let a = c.self.inside in
+    let new = subst (λ (s : Shared). IsNew s.trees c.args.second) (sym c.self.view_is) c.requires.second_new in
+    let other = subst (λ (s : Shared). node_tree s.trees c.args.first ≡ node_tree s.trees c.args.second → ⊥) (sym c.self.view_is) c.requires.other in
+    new_after a.sig a.nodes (trees_in a.rows.items) (forms_in a.rows.items) (sizes_in a.rows.items) c.self.invariant c.args.first c.args.second new other
 
 pub invariant_of-self-2 : goal.invariant_of-self-2
 invariant_of-self-2 c =
     let a = c.self.inside in
     let r = c.requires in
-    let p = c.put_last-2.ensures in
-    let q = c.put_last.ensures in
-    let m = c.make_room.ensures in
-    rw (p.nodes, p.forms, p.sizes, q.nodes, q.forms, q.sizes, m.nodes, m.forms, m.sizes)
-    (pushed_both a.sig a.nodes.keys a.forms.items a.sizes.items c.self.invariant c.args.self.now c.self.view_is c.args.first c.args.second r.below r.held r.new r.normal r.second_below r.second_held r.second_new r.other r.form
-    c.len-form.result c.size_of-first_size.result c.size_of-second_size.result (c.len-form.ensures.len ∙ sym c.self.invariant.trees_count ∙ ap (λ (v : Shared). length v.trees) c.self.view_is) c.size_of-first_size.ensures c.size_of-second_size.ensures)
+    rw (c.in_ok-push_both.ensures.ok, c.put_row-2.ensures.rows, c.put_row.ensures.rows, c.reserve.ensures.items)
+    (pushed_both a.sig a.nodes a.rows.items c.self.invariant c.args.self.now c.self.view_is c.args.first c.args.second r.below r.held r.new r.normal r.second_below r.second_held r.second_new r.other r.form
+    c.len-form.result (c.len-form.ensures ∙ sym c.self.invariant.trees_count ∙ ap (λ (v : Shared). length v.trees) c.self.view_is) c.in_ok-first_row.first_row c.in_ok-first_row.ensures c.in_ok-second_row.second_row c.in_ok-second_row.ensures)
 
 pub returns-clause-ok : goal.returns-clause-ok
 returns-clause-ok c =
     let a = c.self.inside in
     let r = c.requires in
-    seen_both a.sig a.nodes.keys a.forms.items a.sizes.items c.self.invariant c.args.self.now c.self.view_is c.args.first c.args.second r.below r.held r.new r.normal r.second_below r.second_held r.second_new r.other r.form
-    c.put_last-2.new.nodes.keys (c.put_last-2.ensures.nodes ∙ ap (λ ns. ns ++ c.args.second ∷ []) (c.put_last.ensures.nodes ∙ ap (λ ns. ns ++ c.args.first ∷ []) c.make_room.ensures.nodes))
+    rw (c.put_row-2.ensures.rows, c.put_row.ensures.rows, c.reserve.ensures.items)
+    (seen_both a.sig a.nodes a.rows.items c.self.invariant c.args.self.now c.self.view_is c.args.first c.args.second r.below r.held r.new r.normal r.second_below r.second_held r.second_new r.other r.form
+    c.len-form.result (c.len-form.ensures ∙ sym c.self.invariant.trees_count ∙ ap (λ (v : Shared). length v.trees) c.self.view_is) c.in_ok-first_row.first_row c.in_ok-first_row.ensures c.in_ok-second_row.second_row c.in_ok-second_row.ensures)
