@@ -10,4 +10,5 @@ mod Reduced
 mod Kept
 mod Evaluated
 mod Fitting
+mod Indexed
 pub mod Own
