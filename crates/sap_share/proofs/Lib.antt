@@ -11,3 +11,4 @@ mod Reduced
 mod Kept
 mod Evaluated
 mod Fitting
+mod Indexed

@@ -4,6 +4,7 @@
 mod env;
 mod evaluate;
 mod fits;
+mod index;
 mod intern;
 mod node;
 mod nodes;
