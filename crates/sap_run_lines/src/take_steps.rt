@@ -1,5 +1,5 @@
 //! Steps, from the bytes behind the first word of their lines. Each field is taken straight into its place.
-ghost use Rattle.std.specs.Prelude.{◌≡◌, ◌++◌, ◌∷◌, [], ◌<◌, IfOk, Some, length};
+ghost use Rattle.std.specs.Prelude.{◌≡◌, IfOk, Some};
 ghost use Rattle.std.specs.Option.{option_map};
 ghost use Rattle.std.specs.Str.{bytes_eq};
 ghost use Rattle.sap_runs.specs.declared.process_step.PStep.TheVariants as process;
@@ -243,10 +243,7 @@ fn take_applied(alloc: Global, bytes: &[u8]) -> Result<Option<(Name, Numbers)>, 
 }
 
 #[tactic(auto, using(crate::proofs::WordsOn::named_split), unfolding(crate::specs::code::Taking::after, crate::specs::code::Taking::given))]
-fn take_named(
-    alloc: Global,
-    bytes: &[u8],
-) -> Result<Option<(Name, Numbers, Bindings)>, Mem>
+fn take_named(alloc: Global, bytes: &[u8]) -> Result<Option<(Name, Numbers, Bindings)>, Mem>
     ensures { IfOk result (λ o. o ≡ on_words named_of bytes.now) }
 {
     let Some((name, rest)) = name_behind(bytes) else {
@@ -399,11 +396,7 @@ fn process_name(alloc: Global, bytes: &[u8]) -> Result<Option<PStep>, Mem>
 }
 
 /// The step of a process that begins with this word, from the bytes behind it.
-pub(crate) fn process_named(
-    alloc: Global,
-    word: &[u8],
-    bytes: &[u8],
-) -> Result<Option<PStep>, Mem>
+pub(crate) fn process_named(alloc: Global, word: &[u8], bytes: &[u8]) -> Result<Option<PStep>, Mem>
     ensures { IfOk result (λ o. o ≡ process_named_at word.now bytes.now) }
 {
     if is(word, b"rule") {
@@ -490,11 +483,7 @@ fn rule_fresh(alloc: Global, bytes: &[u8]) -> Result<Option<RStep>, Mem>
 }
 
 /// The step of rules that begins with this word, from the bytes behind it.
-pub(crate) fn rule_named(
-    alloc: Global,
-    word: &[u8],
-    bytes: &[u8],
-) -> Result<Option<RStep>, Mem>
+pub(crate) fn rule_named(alloc: Global, word: &[u8], bytes: &[u8]) -> Result<Option<RStep>, Mem>
     ensures { IfOk result (λ o. o ≡ rule_named_at word.now bytes.now) }
 {
     if is(word, b"rule") {

@@ -100,7 +100,10 @@ fn take_letter<'a>(alloc: Global, bytes: &'a [u8]) -> Result<Option<(WrittenWord
 
 /// The word that stands first, and the bytes behind it.
 #[tactic(auto, unfolding(crate::specs::code::WordTaking::word_at))]
-pub(crate) fn take_word<'a>(alloc: Global, bytes: &'a [u8]) -> Result<Option<(WrittenWord, &'a [u8])>, Mem>
+pub(crate) fn take_word<'a>(
+    alloc: Global,
+    bytes: &'a [u8],
+) -> Result<Option<(WrittenWord, &'a [u8])>, Mem>
     ensures { Takes line_word result (word_at bytes.now) }
 {
     if starts(b'~', bytes) {

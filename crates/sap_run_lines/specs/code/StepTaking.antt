@@ -67,10 +67,6 @@ abbrev pub is_some : Option ℕ → Bool
 is_some None = false
 is_some (Some n) = true
 
-abbrev pub starts_number : List LineWord → Bool
-starts_number [] = false
-starts_number (w ∷ ws) = is_some (as_number w)
-
 abbrev pub behind_numbers : List LineWord → List LineWord
 behind_numbers [] = []
 behind_numbers (w ∷ ws) = if is_some (as_number w) then behind_numbers ws else w ∷ ws
