@@ -147,7 +147,7 @@ def embedded_wide(plain, n):
     rule = "[ !F(%s,%s) ] --> [ G(%s) ]" % (",".join(["x"] * n), y, ",".join([y] * n))
     write(plain, "file", process("[ ] --> [ !F(%s) ]; ! %s" % (",".join(["'a'"] * (n + 1)), rule), after=HOLDS))
     lines = ["rule 0"]
-    for k in range(20):
+    for k in range(4):
         lines += ["rep 0", "rule %d 0" % (k + 1)]
     write(plain, "run", process_run(lines))
 
