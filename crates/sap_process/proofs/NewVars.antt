@@ -84,4 +84,4 @@ pub ruleset new_laws = (with_new-append, with_new-none, item_le-trees_count)
 
 pub ruleset new_facts = (with_new-facts)
 
-pub ruleset unbound_rule = (items-filter, drop-front, new-behind)
+pub ruleset unbound_rule = (items-filter, drop-front, new-behind, with_new-facts)

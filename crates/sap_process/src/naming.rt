@@ -1,18 +1,18 @@
 //! What the head of a process binds, and tests of its names against those in scope.
-ghost use Rattle.std.specs.Prelude.{◌≡◌, IfOk, OnOk};
-ghost use Rattle.std.specs.List.{list_any};
+ghost use Rattle.std.specs.Prelude.{◌≡◌, ◌++◌, IfOk, OnOk};
+ghost use Rattle.sap_terms.specs.Variables.{facts_vars};
 ghost use Rattle.sap_process.specs.Action.{embedded};
-ghost use Rattle.sap_process.specs.Heads.{terms_vars, head_terms};
 ghost use Rattle.sap_process.specs.Proc.{proc};
 ghost use Rattle.sap_process.specs.Flaws.{unbound, unbound_at, scope_at};
-ghost use Rattle.sap_process.specs.code.Tests.{has_items, rebinds, has_other_sort};
+ghost use Rattle.sap_process.specs.code.Binders.{with_new};
+ghost use Rattle.sap_process.specs.code.Tests.{has_items, rebinds, tested_at};
 
 use crate::binding::{bind_both, bind_facts, bind_rule, bind_term};
 use crate::heads::binder;
-use crate::occurrences::{any_at_head, any_used};
+use crate::occurrences::any_used;
 use crate::scope::Scope;
 use crate::{Flaw, Process};
-use sap_terms::{Copied, FactList, Mem, Sort, Var};
+use sap_terms::{Copied, FactList, MOST_SCOPE_NAMES, Mem, Sort, Var};
 use std::alloc::Global;
 
 // A copy of the variable, of this sort.
@@ -37,21 +37,57 @@ pub(crate) fn bind(alloc: Global, scope: &mut Scope, p: &Process) -> Result<(), 
     }
 }
 
-// Whether a name is used that nothing in scope binds.
+// What is tested of a place before its head binds: whether a fact there clashes with an earlier one, whether a name is used that
+// nothing in scope binds, whether the binder names what is in scope already, and whether more is in scope than may be.
+#[derive(Clone, Copy)]
+pub(crate) struct Tested {
+    pub(crate) clash: bool,
+    pub(crate) unbound: bool,
+    pub(crate) rebound: bool,
+    pub(crate) full: bool,
+}
+
+// Tests the place and binds what its head binds, so that this is bound once a place.
+pub(crate) fn test(
+    alloc: Global,
+    scope: &mut Scope,
+    locks: u64,
+    clash: bool,
+    p: &Process,
+) -> Result<Tested, Mem>
+    ensures tested { IfOk result (λ t. t ≡ tested_at clash scope.old locks (proc p.now)) }
+    ensures bound { OnOk result (scope.new ≡ scope_at scope.old (proc p.now)) }
+{
+    let full = scope.len().saturating_add(locks) > MOST_SCOPE_NAMES;
+    let rebound = is_rebound(scope, p);
+    let unbound = bind_using(alloc, scope, p)?;
+    Ok(Tested {
+        clash,
+        unbound,
+        rebound,
+        full,
+    })
+}
+
+// Binds what the head of the process binds; whether a name is used that nothing in scope binds.
 #[tactic(auto, using(crate::proofs::VarLists::unbound_laws))]
-pub(crate) fn has_unbound(alloc: Global, scope: &mut Scope, p: &Process) -> Result<bool, Mem>
+fn bind_using(alloc: Global, scope: &mut Scope, p: &Process) -> Result<bool, Mem>
     ensures found { IfOk result (λ b. b ≡ has_items (unbound scope.old (proc p.now))) }
-    ensures same { OnOk result (scope.new ≡ scope.old) }
+    ensures bound { OnOk result (scope.new ≡ scope_at scope.old (proc p.now)) }
 {
     match p {
-        Process::Embedded(l, e, r, _) => rule_has_unbound(alloc, scope, l, e, r),
-        _ => Ok(any_used(Flaw::Unbound, scope, p)),
+        Process::Embedded(l, e, r, _) => bind_rule_using(alloc, scope, l, e, r),
+        _ => {
+            let found = any_used(Flaw::Unbound, scope, p);
+            bind(alloc, scope, p)?;
+            Ok(found)
+        }
     }
 }
 
 // The same of an embedded rule, which binds what it takes and what is first written `$x`.
 #[tactic(auto, using(crate::proofs::NewVars::unbound_rule))]
-fn rule_has_unbound(
+fn bind_rule_using(
     alloc: Global,
     scope: &mut Scope,
     l: &FactList,
@@ -59,36 +95,20 @@ fn rule_has_unbound(
     r: &FactList,
 ) -> Result<bool, Mem>
     ensures found { IfOk result (λ b. b ≡ has_items (unbound_at scope.old (embedded l.now e.now r.now))) }
-    ensures same { OnOk result (scope.new ≡ scope.old) }
+    ensures bound { OnOk result (scope.new ≡ with_new scope.old (facts_vars (l.now ++ (e.now ++ r.now)))) }
 {
-    let before = scope.len();
     bind_facts(alloc, scope, l)?;
     let taken = scope.len();
     bind_both(alloc, scope, e, r)?;
-    let found = scope.has_unsigned_from(taken);
-    scope.cut(before);
-    Ok(found)
+    Ok(scope.has_unsigned_from(taken))
 }
 
 // Whether the binder names what is in scope already.
-pub(crate) fn is_rebound(scope: &Scope, p: &Process) -> bool
+fn is_rebound(scope: &Scope, p: &Process) -> bool
     ensures { result ≡ rebinds scope.now (proc p.now) }
 {
     match binder(p) {
         Some(x) => scope.knows(&x.name),
         None => false,
     }
-}
-
-// Whether a variable at the head has a sign that isn't the sort of its binder.
-pub(crate) fn has_sort_clash(alloc: Global, scope: &mut Scope, p: &Process) -> Result<bool, Mem>
-    ensures found { IfOk result (λ b. b ≡ list_any
-        (has_other_sort (scope_at scope.old (proc p.now))) (terms_vars (head_terms (proc p.now)))) }
-    ensures same { OnOk result (scope.new ≡ scope.old) }
-{
-    let before = scope.len();
-    bind(alloc, scope, p)?;
-    let found = any_at_head(Flaw::SortClash, scope, p);
-    scope.cut(before);
-    Ok(found)
 }

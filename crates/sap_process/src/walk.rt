@@ -1,21 +1,23 @@
 //! The search for the flaw that counts.
-ghost use Rattle.std.specs.Prelude.{◌≡◌, ◌+◌, [], ◌∷◌, ◌++◌, IfOk, OnOk};
+ghost use Rattle.std.specs.Prelude.{◌≡◌, ◌+◌, List, [], ◌∷◌, ◌++◌, IfOk, OnOk};
 ghost use Rattle.sap_terms.specs.Path.{IsDigit};
+ghost use Rattle.sap_terms.specs.declared.var.Var.{Var};
 ghost use Rattle.sap_process.specs.Proc.{proc};
 ghost use Rattle.sap_process.specs.Flaws.{scope_at};
 ghost use Rattle.sap_process.specs.code.Places.{head_locks, site, sites_below};
 ghost use Rattle.sap_process.specs.code.Searches.{searched};
 ghost use Rattle.sap_process.specs.Sites.{sites, sites_from, message_var};
-ghost use Rattle.sap_process.specs.code.Tests.{has_flaw, lacking};
+ghost use Rattle.sap_process.specs.code.Tests.{free_of, is_told};
 ghost use Rattle.sap_process.specs.code.Walks.{first_flaw, found_at, unmet};
 
 use crate::found::Found;
 use crate::heads::{has_pattern_destructor, has_reserved_fact, has_reserved_var, is_bad_head};
-use crate::naming::{bind, has_sort_clash, has_unbound, is_rebound, with_sort};
+use crate::naming::{Tested, test, with_sort};
+use crate::occurrences::any_at_head;
 use crate::scope::Scope;
 use crate::trail::Trail;
 use crate::{Flaw, Process};
-use sap_terms::{MOST_SCOPE_NAMES, Mem, Path, Signature, Sort, Var};
+use sap_terms::{Mem, Path, Signature, Sort, Var};
 use std::alloc::Global;
 
 // Where a walk in preorder stands: the path of the place, what is in scope there, and what was found before.
@@ -68,11 +70,14 @@ fn search(
     ensures { OnOk result (walk.new ≡ searched sig.now walk.old
         (sites_from walk.old.trail walk.old.scope locks (proc p.now))) }
 {
+    let above = walk.scope.len();
     meet(alloc, sig, walk, locks, p)?;
-    search_below(alloc, sig, walk, locks, p)
+    search_below(alloc, sig, walk, locks, p)?;
+    walk.scope.cut(above);
+    Ok(())
 }
 
-// Meets the places below this one.
+// Meets the places below this one, where what its head binds is in scope.
 #[cycle(search)]
 fn search_below(
     alloc: Global,
@@ -81,8 +86,9 @@ fn search_below(
     locks: u64,
     p: &Process,
 ) -> Result<(), Mem>
-    ensures { OnOk result (walk.new ≡ searched sig.now walk.old
-        (sites_below walk.old.trail walk.old.scope locks (proc p.now))) }
+    ensures { (scope : List Var) → walk.old.scope ≡ scope_at scope (proc p.now)
+        → OnOk result (walk.new ≡ searched sig.now walk.old
+        (sites_below walk.old.trail scope locks (proc p.now))) }
 {
     match p {
         Process::Nil => Ok(()),
@@ -101,7 +107,7 @@ fn search_below(
         | Process::Delete(_, q)
         | Process::Lock(_, _, q)
         | Process::Unlock(_, _, q)
-        | Process::Embedded(_, _, _, q) => search_bound(alloc, sig, walk, p, locks, q),
+        | Process::Embedded(_, _, _, q) => search_next(alloc, sig, walk, p, locks, q),
     }
 }
 
@@ -144,9 +150,9 @@ fn search_branches(
     Ok(())
 }
 
-// Meets the places of the child with what the head of its parent binds.
+// Meets the places of the only child, below the locks that the head of its parent sets.
 #[cycle(search)]
-fn search_bound(
+fn search_next(
     alloc: Global,
     sig: &Signature,
     walk: &mut Walk,
@@ -155,15 +161,11 @@ fn search_bound(
     q: &Process,
 ) -> Result<(), Mem>
     ensures { OnOk result (walk.new ≡ searched sig.now walk.old
-        (sites_from (walk.old.trail ++ 1 ∷ []) (scope_at walk.old.scope (proc p.now))
+        (sites_from (walk.old.trail ++ 1 ∷ []) walk.old.scope
         (locks + head_locks (proc p.now)) (proc q.now))) }
 {
-    let before = walk.scope.len();
-    bind(alloc, &mut walk.scope, p)?;
     let locks = locks_below(p, locks)?;
-    search_child(alloc, sig, walk, 1, locks, q)?;
-    walk.scope.cut(before);
-    Ok(())
+    search_child(alloc, sig, walk, 1, locks, q)
 }
 
 // Meets the places of the first branch of `lookup`, with its binder.
@@ -206,63 +208,46 @@ fn search_child(
     Ok(())
 }
 
-// Meets the place itself.
+// Meets the place itself, and leaves in scope what its head binds.
 fn meet(alloc: Global, sig: &Signature, walk: &mut Walk, locks: u64, p: &Process) -> Result<(), Mem>
     ensures { OnOk result (walk.new ≡ record walk.old {
+      scope = scope_at walk.old.scope (proc p.now);
       found = found_at sig.now walk.old.found
           (site walk.old.trail walk.old.scope locks (proc p.now));
     }) }
 {
     let clash = walk.found.seen.note(alloc, p)?;
-    let flaws = walk.found.sought.as_slice();
-    let free = lacking(alloc, sig, &mut walk.scope, flaws, locks, clash, p)?;
+    let tested = test(alloc, &mut walk.scope, locks, clash, p)?;
+    let free = free_of(sig, tested, &walk.scope, walk.found.sought.as_slice(), p);
     walk.found.settle(alloc, free, &walk.trail)
 }
 
-// How many of these flaws stand before the first that the place has.
-fn lacking(
-    alloc: Global,
-    sig: &Signature,
-    scope: &mut Scope,
-    flaws: &[Flaw],
-    locks: u64,
-    clash: bool,
-    p: &Process,
-) -> Result<u64, Mem>
-    ensures free { IfOk result (λ k. k ≡ lacking sig.now clash scope.old locks (proc p.now) flaws.now) }
-    ensures same { OnOk result (scope.new ≡ scope.old) }
+// How many of these flaws stand before the first that the place has, by what was tested, where what its head binds is in scope.
+fn free_of(sig: &Signature, tested: Tested, scope: &Scope, flaws: &[Flaw], p: &Process) -> u64
+    ensures { result ≡ free_of sig.now tested scope.now (proc p.now) flaws.now }
 {
     for k in 0..flaws.len() {
-        if is_flawed(alloc, sig, scope, flaws[k], locks, clash, p)? {
-            return Ok(k as u64);
+        if is_told(sig, tested, scope, p, flaws[k]) {
+            return k as u64;
         }
     }
-    Ok(flaws.len() as u64)
+    flaws.len() as u64
 }
 
-// Whether the place has the flaw, where a fact there clashes with an earlier one or not.
-fn is_flawed(
-    alloc: Global,
-    sig: &Signature,
-    scope: &mut Scope,
-    which: Flaw,
-    locks: u64,
-    clash: bool,
-    p: &Process,
-) -> Result<bool, Mem>
-    ensures found { IfOk result (λ b. b ≡ has_flaw sig.now which clash scope.old locks (proc p.now)) }
-    ensures same { OnOk result (scope.new ≡ scope.old) }
+// Whether the place has the flaw.
+fn is_told(sig: &Signature, tested: Tested, scope: &Scope, p: &Process, which: Flaw) -> bool
+    ensures { result ≡ is_told sig.now tested scope.now (proc p.now) which }
 {
     match which {
-        Flaw::BadFunction => Ok(is_bad_head(sig, p)),
-        Flaw::ReservedVar => Ok(has_reserved_var(scope, p)),
-        Flaw::ReservedFact => Ok(has_reserved_fact(p)),
-        Flaw::FactClash => Ok(clash),
-        Flaw::PatternDestructor => Ok(has_pattern_destructor(sig, p)),
-        Flaw::Unbound => has_unbound(alloc, scope, p),
-        Flaw::Rebound => Ok(is_rebound(scope, p)),
-        Flaw::SortClash => has_sort_clash(alloc, scope, p),
-        Flaw::ScopeFull => Ok(scope.len().saturating_add(locks) > MOST_SCOPE_NAMES),
+        Flaw::BadFunction => is_bad_head(sig, p),
+        Flaw::ReservedVar => has_reserved_var(scope, p),
+        Flaw::ReservedFact => has_reserved_fact(p),
+        Flaw::FactClash => tested.clash,
+        Flaw::PatternDestructor => has_pattern_destructor(sig, p),
+        Flaw::Unbound => tested.unbound,
+        Flaw::Rebound => tested.rebound,
+        Flaw::SortClash => any_at_head(Flaw::SortClash, scope, p),
+        Flaw::ScopeFull => tested.full,
     }
 }
 

@@ -23,6 +23,7 @@ use Rattle.sap_process.specs.Proc.{Proc}
 use Rattle.sap_process.specs.declared.flaw.Flaw.{Flaw}
 use Rattle.sap_process.specs.declared.flaw.Flaw.TheVariants.{BadFunction, ReservedVar, ReservedFact, FactClash, PatternDestructor, Unbound, Rebound, SortClash, ScopeFull}
 use Rattle.sap_process.specs.declared.met.Shape.{Shape}
+use Rattle.sap_process.specs.declared.naming.Tested.{Tested}
 
 -- the variable is a plain identifier that is a constant
 abbrev pub is_constant : Sig → Var → Bool
@@ -93,19 +94,37 @@ var_flawed Unbound scope = λ (v : Var). not (is_known (var_names scope) v.name)
 var_flawed SortClash scope = has_other_sort scope
 var_flawed _ scope = λ (v : Var). false
 
--- the place has the flaw, where these are in scope, so many locks are set above, and a fact there clashes or not
-abbrev pub has_flaw : Sig → Flaw → Bool → List Var → ℕ → Proc → Bool
-has_flaw g BadFunction clash scope locks p = not (are_over g (trees_of (head_terms p))) || binds_constant g p
-has_flaw g ReservedVar clash scope locks p = list_any is_reserved_var (head_vars p)
-has_flaw g ReservedFact clash scope locks p = list_any is_reserved_fact (stored_facts p ++ shown_facts p)
-has_flaw g FactClash clash scope locks p = clash
-has_flaw g PatternDestructor clash scope locks p = any_has_destructor g (trees_of (patterns p))
-has_flaw g Unbound clash scope locks p = has_items (unbound scope p)
-has_flaw g Rebound clash scope locks p = rebinds scope p
-has_flaw g SortClash clash scope locks p = list_any (has_other_sort (scope_at scope p)) (terms_vars (head_terms p))
-has_flaw g ScopeFull clash scope locks p = nat_lt MOST_SCOPE_NAMES (length scope + locks)
+-- what is tested of a place before its head binds: where these are in scope, so many locks are set above, and a fact there
+-- clashes or not
+abbrev pub tested_at : Bool → List Var → ℕ → Proc → Tested
+tested_at clash scope locks p = record {
+  clash = clash;
+  unbound = has_items (unbound scope p);
+  rebound = rebinds scope p;
+  full = nat_lt MOST_SCOPE_NAMES (length scope + locks);
+}
+
+-- the place has the flaw, by what was tested, where what its head binds is in scope too
+abbrev pub is_told : Sig → Tested → List Var → Proc → Flaw → Bool
+is_told g t scope p BadFunction = not (are_over g (trees_of (head_terms p))) || binds_constant g p
+is_told g t scope p ReservedVar = list_any is_reserved_var (head_vars p)
+is_told g t scope p ReservedFact = list_any is_reserved_fact (stored_facts p ++ shown_facts p)
+is_told g t scope p FactClash = t.clash
+is_told g t scope p PatternDestructor = any_has_destructor g (trees_of (patterns p))
+is_told g t scope p Unbound = t.unbound
+is_told g t scope p Rebound = t.rebound
+is_told g t scope p SortClash = list_any (has_other_sort scope) (terms_vars (head_terms p))
+is_told g t scope p ScopeFull = t.full
 
 -- how many of these flaws stand before the first that the place has
+abbrev pub free_of : Sig → Tested → List Var → Proc → List Flaw → ℕ
+free_of g t scope p [] = 0
+free_of g t scope p (w ∷ ws) = if is_told g t scope p w then 0 else suc (free_of g t scope p ws)
+
+-- the place has the flaw, where these are in scope, so many locks are set above, and a fact there clashes or not
+abbrev pub has_flaw : Sig → Flaw → Bool → List Var → ℕ → Proc → Bool
+has_flaw g w clash scope locks p = is_told g (tested_at clash scope locks p) (scope_at scope p) p w
+
+-- how many of these flaws stand before the first that it has
 abbrev pub lacking : Sig → Bool → List Var → ℕ → Proc → List Flaw → ℕ
-lacking g clash scope locks p [] = 0
-lacking g clash scope locks p (w ∷ ws) = if has_flaw g w clash scope locks p then 0 else suc (lacking g clash scope locks p ws)
+lacking g clash scope locks p ws = free_of g (tested_at clash scope locks p) (scope_at scope p) p ws

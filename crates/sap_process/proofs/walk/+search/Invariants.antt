@@ -8,8 +8,8 @@ decreases-search l = 8 * node_count (proc l.p.now) + 3
 abbrev pub decreases-search_below : goal.decreases-search_below
 decreases-search_below l = 8 * node_count (proc l.p.now) + 2
 
-abbrev pub decreases-search_bound : goal.decreases-search_bound
-decreases-search_bound l = 8 * node_count (proc l.q.now) + 6
+abbrev pub decreases-search_next : goal.decreases-search_next
+decreases-search_next l = 8 * node_count (proc l.q.now) + 6
 
 abbrev pub decreases-search_with : goal.decreases-search_with
 decreases-search_with l = 8 * node_count (proc l.q.now) + 5
