@@ -6,10 +6,10 @@
 #
 #   know-large       an entry of 255 nodes that the adversary shows again and again; beside an entry of one node
 #   app-large        a symbol applied to entries, which makes an entry of 255 nodes each time; beside one of three nodes
-#   in-large         inputs of a term of 255 nodes, of a process and of its rules; beside one node
+#   in-large         inputs of a term of 255 nodes, of a process and, in four times as many lines, of rules; beside one node
 #   look-up-large    look-ups of such a key, where such a term is stored; beside one node
 #   insert-large     inserts of it; beside one node
-#   act-large        events and shown facts of it; beside one node
+#   act-large        events of it and, in four times as many lines, shown facts; beside one node
 #   symbols          so many symbols with long names, each applied once; beside one of them, applied as often
 #   wide-destructor  a rule that takes F(x) and G(fst(y)) and adds a fact of so many x of 255 nodes; beside G(y)
 #   variables        a rule of so many variables that fifty lines use; beside one variable, as often
@@ -343,7 +343,7 @@ app_large() { legal app-large '5000 10000 20000' check-rules theory run; }
 in_large() {
     legal in-large '1250 2500 5000' to-rules file run
     legal in-large '1250 2500 5000' judge file run
-    legal in-large '2500 5000 10000' check-rules theory lines
+    legal in-large '1250 2500 5000' check-rules theory lines
 }
 look_up_large() {
     legal look-up-large '1250 2500 5000' to-rules file run
