@@ -1,12 +1,10 @@
 -- A symbol on entries, through the table.
-use Rattle.std.proofs.Common.{◌≡◌, ℕ, List, length, Some, sym, subst}
-use Rattle.std.specs.Prelude.{All}
+use Rattle.std.proofs.Common.{◌≡◌, ℕ, List, length, Some, subst}
 use Rattle.sap_terms.specs.Tree.{Tree, apply, trees_of}
 use Rattle.sap_terms.specs.Signature.{Sig, IsPublic, arity_of}
 use Rattle.sap_terms.specs.Equations.{equations}
 use Rattle.sap_terms.specs.Normal.{IsNormalForm}
 use Rattle.sap_terms.specs.declared.limits.TheConstants.{MOST_TERM_NODES}
-use Rattle.sap_share.specs.Shared.{Shared, trees_at}
 use Rattle.sap_rewrite.specs.Large.{HasLargeForm}
 use Rattle.sap_deduce.specs.declared.deny.Deny.{Deny}
 use Rattle.sap_deduce.specs.declared.deny.Deny.TheVariants.{Mem, NotPublic, Arity, NoEntry, TermLarge}

@@ -26,8 +26,11 @@ terms_of-entries es = map-map (λ (e : Entry). e.term) entry_of es
 pub entries_none : (g : Sig) → AreEntries (seen g [])
 entries_none g = record { entered = none_yet; within = All-nil (λ (e : Entry). node_count e.term ≤ MOST_TERM_NODES) }
 
+pub numbered_none : (s : Shared) (g : Sig) → s.sig ≡ g → AreNumbered s (seen g [])
+numbered_none s g same = record { sig = same; below = All-nil (λ k. k < length s.trees); terms = refl }
+
 -- a line more is an entry more
-pub gains_line : (g : Sig) (es : List Line) (n : ℕ) (t : Tree) (origin : Origin) → Gains (seen g es) (seen g (es ++ record { number = n; term = t; origin = origin } ∷ [])) origin t
+abbrev pub gains_line : (g : Sig) (es : List Line) (n : ℕ) (t : Tree) (origin : Origin) → Gains (seen g es) (seen g (es ++ record { number = n; term = t; origin = origin } ∷ [])) origin t
 gains_line g es n t origin = record {
   sig = refl;
   entries = entries_of-push es _;

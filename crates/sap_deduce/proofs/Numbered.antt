@@ -49,12 +49,11 @@ pub number_beyond : (s : Shared) (k : Entries) → AreNumbered s k → (j : ℕ)
 number_beyond s k h j le = sym (slice_get_past k.numbers j (rw (numbers-length s k h) le))
 
 -- the numbers of some entries' terms, and of one more entry's
-pub numbers_more : (s : Shared) (k : Entries) (ns ks more : List ℕ) (i n j : ℕ) → AreNumbered s k → AreTermsAt k.entries (take i ns) (trees_at s.trees ks) → AreBelow (length s.trees) ks → slice_get ns i ≡ Some n
-    → slice_get k.numbers n ≡ Some j → more ≡ ks ++ j ∷ [] → AreTermsAt k.entries (take (i + 1) ns) (trees_at s.trees more) × AreBelow (length s.trees) more
-numbers_more s k ns ks more i n j h terms below at number is =
-    let P : ℕ → Type 0 = λ m. m < length s.trees in
-    let says = number-says s k h n j number in
-    rw (is, map_push (tree_at s.trees) ks j) (
-      terms_at-more (terms_of k.entries) ns i n (trees_at s.trees ks) (tree_at s.trees j) terms at says.1,
-      All-push P ks j below says.0,
+pub numbers_more : (es : List Entry) (trees : List Tree) (ns ks more : List ℕ) (i n k : ℕ) → AreTermsAt es (take i ns) (trees_at trees ks) → AreBelow (length trees) ks → slice_get ns i ≡ Some n
+    → slice_get (terms_of es) n ≡ Some (tree_at trees k) → k < length trees → more ≡ ks ++ k ∷ [] → AreTermsAt es (take (i + 1) ns) (trees_at trees more) × AreBelow (length trees) more
+numbers_more es trees ns ks more i n k terms below at term lt is =
+    let P : ℕ → Type 0 = λ j. j < length trees in
+    rw (is, map_push (tree_at trees) ks k) (
+      terms_at-more (terms_of es) ns i n (trees_at trees ks) (tree_at trees k) terms at term,
+      All-push P ks k below lt,
     )

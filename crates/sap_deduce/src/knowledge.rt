@@ -1,5 +1,5 @@
 //! What the adversary knows, entry by entry.
-ghost use Rattle.std.specs.Prelude.{ℕ, List, ◌≡◌, ◌+◌, ◌<◌, ◌≤◌, [], length, IfOk, OnOk, OnErr, IfErr, IfSome, IfNone, option_map, slice_get, find, nat_le, All, Some};
+ghost use Rattle.std.specs.Prelude.{◌≡◌, ◌<◌, ◌≤◌, [], length, IfOk, OnOk, OnErr, IfErr, IfSome, IfNone, option_map, slice_get, find, nat_le, All, Some};
 ghost use Rattle.std.specs.Option.{option_copied};
 ghost use Rattle.sap_terms.specs.View.{tree};
 ghost use Rattle.sap_terms.specs.Tree.{node_count, fresh, public, apply, trees_of};
@@ -7,7 +7,7 @@ ghost use Rattle.sap_terms.specs.Message.{IsMessage};
 ghost use Rattle.sap_terms.specs.Normal.{IsNormal, IsNormalForm};
 ghost use Rattle.sap_terms.specs.Equations.{equations};
 ghost use Rattle.sap_terms.specs.declared.var.Sort.TheVariants.{Msg};
-ghost use Rattle.sap_share.specs.Shared.{tree_at, trees_at, AreBelow, Keeps};
+ghost use Rattle.sap_share.specs.Shared.{Shared, tree_at, trees_at, AreBelow, Keeps};
 ghost use Rattle.sap_rewrite.specs.Large.{HasLargeForm};
 ghost use Rattle.sap_deduce.specs.Entries.{Gains, Adds, terms_of, AreNumbered, AreTermsAt, Applies, IsCause};
 ghost use Rattle.sap_deduce.specs.Laws.{NumbersTellTerms};
@@ -56,12 +56,21 @@ impl Model for Knowledge {
 impl Knowledge {
     /// Knowledge without entries, of terms over a signature.
     pub fn new(alloc: Global, sig: &Signature) -> Result<Knowledge, Mem>
-        ensures { IfOk result (λ k. (k.sig ≡ sig.now) × (k.entries ≡ [])) }
+        ensures empty { IfOk result (λ k. (k.sig ≡ sig.now) × (k.entries ≡ [])) }
+        ensures numbered { IfOk result (λ k. (s : Shared) → s.sig ≡ sig.now → AreNumbered s k) }
     {
+        let sig = sig.copy(alloc)?;
         Ok(Knowledge {
-            sig: sig.copy(alloc)?,
+            sig,
             entries: Lines::new(alloc),
         })
+    }
+
+    /// The signature that the terms are over.
+    pub fn signature(&self) -> &Signature
+        ensures { result.now ≡ self.now.sig }
+    {
+        &self.sig
     }
 
     /// The number of entries.
@@ -79,10 +88,13 @@ impl Knowledge {
         self.entries.term(k)
     }
 
-    // The number of an entry's term.
-    fn number_at(&self, k: u64) -> u64
-        requires { k < length self.now.entries }
-        ensures { slice_get self.now.numbers k ≡ Some result }
+    // The number in the table of an entry's term.
+    fn number_at(&self, table: &Table, k: u64) -> u64
+        requires numbered { AreNumbered table.now self.now }
+        requires within { k < length self.now.entries }
+        ensures number { slice_get self.now.numbers k ≡ Some result }
+        ensures below { result < length table.now.trees }
+        ensures term { slice_get (terms_of self.now.entries) k ≡ Some (tree_at table.now.trees result) }
     {
         self.entries.number(k)
     }
@@ -94,9 +106,8 @@ impl Knowledge {
         ensures some { IfSome result (λ n. (n < length table.now.trees) × (slice_get (terms_of self.now.entries) k ≡ Some (tree_at table.now.trees n))) }
         ensures none { IfNone result (length self.now.entries ≤ k) }
     {
-        let _table = table;
         if k < self.len() {
-            Some(self.number_at(k))
+            Some(self.number_at(table, k))
         } else {
             None
         }
@@ -217,7 +228,7 @@ impl Knowledge {
     {
         let mut ks = Numbers::with_room(alloc, numbers.len())?;
         for k in numbers.as_slice() {
-            ks.push(self.number_at(*k))?;
+            ks.push(self.number_at(table, *k))?;
         }
         Ok(ks)
     }
@@ -229,11 +240,10 @@ impl Knowledge {
         ensures known { OnOk result (All (λ k. k < length self.now.entries) numbers.now) }
         ensures denied { IfErr result (IsCause self.now f.now numbers.now) }
     {
-        let sig = &self.sig;
-        if !sig.is_public(f) {
+        if !self.sig.is_public(f) {
             return Err(Deny::NotPublic { f: f.copy(alloc)? });
         }
-        if sig.arity(f) != Some(numbers.len()) {
+        if self.sig.arity(f) != Some(numbers.len()) {
             return Err(Deny::Arity { f: f.copy(alloc)? });
         }
         match self.first_unknown(numbers) {
