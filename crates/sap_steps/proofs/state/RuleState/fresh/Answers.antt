@@ -1,12 +1,10 @@
 use Rattle.std.specs.Prelude.{codes}
 use Rattle.sap_terms.specs.Tree.{fresh}
+use Rattle.sap_steps.specs.code.Piled.{table_of}
 use Rattle.sap_steps.proofs.Tied.{tied_push, held_single, held_fresh}
 use Rattle.sap_steps.proofs.state.RuleState.fresh.Goals as goal
 
-pub put_single-requires : goal.put_single-requires
-put_single-requires c = held_fresh c.names_are_messages.ensures _ c.args.n
-
 pub invariant_of-self-2 : goal.invariant_of-self-2
 invariant_of-self-2 c =
-    rw (c.put_single.ensures.sig, c.in_ok-put_single.ensures.ok)
-    (tied_push _ _ _ _ _ c.self.invariant (held_single _ (codes "Fr") (fresh c.args.n) (held_fresh c.names_are_messages.ensures _ c.args.n)))
+    let numbered = c.numbers_stay.ensures (table_of c.self.inside.facts) (table_of c.put_fresh.new.self) c.self.inside.knowledge c.self.invariant.numbered c.put_fresh.ensures.keeps in
+    tied_push _ _ _ _ _ c.self.invariant (held_single _ (codes "Fr") (fresh c.args.n) (held_fresh c.names_are_messages.ensures _ c.args.n)) numbered c.in_ok-put_fresh.ensures.ok

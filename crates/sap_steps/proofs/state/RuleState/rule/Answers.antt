@@ -6,7 +6,7 @@ use Rattle.sap_rule.specs.RuleSteps.{RuleState}
 use Rattle.sap_sides.specs.SharedFacts.{fact_seen}
 use Rattle.sap_steps.specs.code.Ready.{IsReady, rules_of}
 use Rattle.sap_steps.proofs.Ready.{no_rule, its_rule, ready-all}
-use Rattle.sap_steps.proofs.Tied.{tied_used}
+use Rattle.sap_steps.proofs.Tied.{tied_keeps, tied_used}
 use Rattle.sap_steps.proofs.Used.{rule_fault, rule_line}
 use Rattle.sap_steps.proofs.state.RuleState.rule.Goals as goal
 
@@ -29,8 +29,8 @@ returns-in_err-fired-clause-refused c =
 
 pub invariant_of-self-2 : goal.invariant_of-self-2
 invariant_of-self-2 c =
-    rw (c.in_ok-acts.ensures.sig, c.in_ok-fired.ensures.sig, c.in_ok-acts.ensures.ok, c.in_ok-fired.ensures.slots)
-    (tied_used c.self.inside.rules c.self.inside.facts.sig c.self.inside.facts.slots c.self.inside.knowledge c.args.numbers.now (map (fact_seen c.use_rule.new.facts.trees) c.in_ok-fired.fired.right.items) c.self.invariant (rw c.signature-sig.ensures at c.in_ok-fired.ensures.held))
+    let used = tied_keeps c.numbers_stay.ensures c.self.inside.rules c.self.inside.facts c.use_rule.new.facts c.self.inside.knowledge c.self.invariant c.use_rule.ensures.slots c.use_rule.ensures.keeps in
+    tied_used c.self.inside.rules c.use_rule.new.facts c.carry_out.new.facts c.self.inside.knowledge c.args.numbers.now (map (fact_seen c.use_rule.new.facts.trees) c.in_ok-fired.fired.right.items) used (rw c.signature-sig.ensures at c.in_ok-fired.ensures.held) c.carry_out.ensures.sig c.carry_out.ensures.trees c.in_ok-acts.ensures.ok
 
 pub returns-clause-ok : goal.returns-clause-ok
 returns-clause-ok c =
