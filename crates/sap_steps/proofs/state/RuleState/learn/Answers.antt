@@ -14,8 +14,8 @@ output-requires-clause-within c = rw c.table.ensures (held_argument _ _ _ _ _ c.
 
 pub invariant_of-self-2 : goal.invariant_of-self-2
 invariant_of-self-2 c =
-    let knows = tied_knows _ _ _ _ _ _ _ c.self.invariant c.in_ok-output.ensures.ok refl (rw c.table.ensures at c.output.ensures.numbered) in
-    tied_without _ _ _ _ _ knows c.remove.ensures.sig c.remove.ensures.trees c.remove.ensures.slots
+    let knows = tied_knows c.self.inside.rules c.self.inside.facts c.self.inside.facts c.self.inside.knowledge _ _ _ c.self.invariant c.in_ok-output.ensures.ok refl (rw c.table.ensures at c.output.ensures.numbered) in
+    tied_without c.self.inside.rules c.self.inside.facts _ _ _ knows c.remove.ensures.sig c.remove.ensures.trees c.remove.ensures.slots
 
 pub returns-clause-ok : goal.returns-clause-ok
 returns-clause-ok c = rw (← c.self.view_is, c.remove.ensures.slots) (
