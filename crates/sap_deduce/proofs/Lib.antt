@@ -1,5 +1,5 @@
 pub mod Lined
-pub mod Prefix
+pub mod Kept
 pub mod Derivations
 pub mod Entered
 pub mod Applied

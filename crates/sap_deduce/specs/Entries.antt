@@ -9,7 +9,7 @@ use Rattle.sap_terms.specs.Normal.{IsNormalForm}
 use Rattle.sap_terms.specs.Message.{IsMessage}
 use Rattle.sap_terms.specs.declared.limits.TheConstants.{MOST_TERM_NODES}
 use Rattle.sap_terms.specs.declared.var.Sort.TheVariants.{Msg}
-use Rattle.sap_share.specs.Shared.{Shared, trees_at, AreBelow, Keeps}
+use Rattle.sap_share.specs.Shared.{Shared, trees_at, AreBelow}
 use Rattle.sap_deduce.specs.declared.origin.Origin.{Origin}
 use Rattle.sap_deduce.specs.declared.origin.Origin.TheVariants.{Name, Public, Output, Apply}
 use Rattle.sap_deduce.specs.declared.deny.Deny.{Deny}
@@ -20,16 +20,11 @@ pub record Entry : Type 0 where
   pub term : Tree
   pub origin : Origin
 
--- a signature, and the entries by their numbers; terms that have numbers in a table, and the number of each entry's term
+-- a signature, the entries by their numbers, and the number that each entry's term has in a table
 pub record Entries : Type 0 where
   pub sig : Sig
   pub entries : List Entry
-  pub trees : List Tree
   pub numbers : List ℕ
-
--- the terms that have numbers
-abbrev pub shared_of : Entries → Shared
-shared_of k = record { sig = k.sig; trees = k.trees }
 
 -- the entries' terms
 abbrev pub terms_of : List Entry → List Tree
@@ -86,10 +81,11 @@ pub record AreEntries (k : Entries) : Type 0 where
   pub entered : AreEntered k.sig k.entries
   pub within : All (λ (e : Entry). node_count e.term ≤ MOST_TERM_NODES) k.entries
 
--- each entry has a number of the table, that of its term
-pub record AreNumbered (k : Entries) : Type 0 where
-  pub below : AreBelow (length k.trees) k.numbers
-  pub terms : trees_at k.trees k.numbers ≡ terms_of k.entries
+-- the table is over the entries' signature, and each entry's number is a number of the table, that of its term
+pub record AreNumbered (s : Shared) (k : Entries) : Type 0 where
+  pub sig : s.sig ≡ k.sig
+  pub below : AreBelow (length s.trees) k.numbers
+  pub terms : trees_at s.trees k.numbers ≡ terms_of k.entries
 
 -- why a symbol on these entries is refused; each cause but want of memory is the first in this order
 abbrev pub IsCause : Entries → List ℕ → List ℕ → Deny → Type 0
@@ -99,10 +95,12 @@ IsCause k f ks (Arity n) = (n ≡ f) × IsPublic k.sig f × ¬ (arity_of k.sig f
 IsCause k f ks (NoEntry n) = IsPublic k.sig f × (arity_of k.sig f ≡ Some (length ks)) × IsFirstUnknown (length k.entries) ks n
 IsCause k f ks TermLarge = (t : Tree) × IsApplication k.sig k.entries f ks t × (MOST_TERM_NODES < node_count t)
 
--- the entries have gained the term, which came in this way
+-- the entries have gained the term, which came in this way, and its number; those before are as they were
 pub record Gains (old new : Entries) (origin : Origin) (t : Tree) : Type 0 where
   pub sig : new.sig ≡ old.sig
   pub entries : new.entries ≡ old.entries ++ record { term = t; origin = origin } ∷ []
+  pub number : ℕ
+  pub numbers : new.numbers ≡ old.numbers ++ number ∷ []
 
 -- they have gained the normal form of the symbol on these entries, which isn't too large
 pub record Applies (old new : Entries) (f ks : List ℕ) : Type 0 where
@@ -110,9 +108,3 @@ pub record Applies (old new : Entries) (f ks : List ℕ) : Type 0 where
   pub application : IsApplication old.sig old.entries f ks term
   pub within : node_count term ≤ MOST_TERM_NODES
   pub gains : Gains old new (Apply f ks) term
-
--- numbers of terms keep their meaning, and the new entry has a number of the table after those of the entries before it
-pub record GainsNumber (old new : Entries) : Type 0 where
-  pub keeps : Keeps (shared_of old) (shared_of new)
-  pub number : ℕ
-  pub numbers : new.numbers ≡ old.numbers ++ number ∷ []

@@ -5,7 +5,8 @@ use Rattle.sap_terms.specs.Signature.{Sig}
 use Rattle.sap_terms.specs.Message.{IsMessage}
 use Rattle.sap_terms.specs.declared.var.Sort.TheVariants.{Msg}
 use Rattle.sap_terms.specs.Deduce.{IsDeducible, IsDerivation}
-use Rattle.sap_deduce.specs.Entries.{Entry, Entries, terms_of, names_given, outputs_given, AreEntered}
+use Rattle.sap_share.specs.Shared.{Shared, Keeps}
+use Rattle.sap_deduce.specs.Entries.{Entry, Entries, terms_of, names_given, outputs_given, AreEntered, AreNumbered}
 
 -- each entry's term is deducible from the names and the outputs that were given
 abbrev pub AreDeducible : Entries → Type 0
@@ -28,3 +29,7 @@ DerivationsCanBeEntered =
 abbrev pub NumbersTellTerms : Entries → Type 0
 NumbersTellTerms k =
     (i j : ℕ) → i < length k.entries → j < length k.entries → (slice_get k.numbers i ≡ slice_get k.numbers j) ↔ (slice_get (terms_of k.entries) i ≡ slice_get (terms_of k.entries) j)
+
+-- entries keep their numbers while the table gains more
+abbrev pub NumbersStay : Type 0
+NumbersStay = (s t : Shared) (k : Entries) → AreNumbered s k → Keeps s t → AreNumbered t k

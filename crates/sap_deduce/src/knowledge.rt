@@ -1,5 +1,5 @@
 //! What the adversary knows, entry by entry.
-ghost use Rattle.std.specs.Prelude.{ℕ, List, ◌≡◌, ◌+◌, ◌<◌, ◌≤◌, [], length, IfOk, OnOk, OnErr, IfErr, IfSome, IfNone, option_map, slice_get, find, nat_le, All, Some};
+ghost use Rattle.std.specs.Prelude.{◌≡◌, ◌<◌, ◌≤◌, [], length, IfOk, OnOk, OnErr, IfErr, IfSome, IfNone, option_map, slice_get, find, nat_le, All, Some};
 ghost use Rattle.std.specs.Option.{option_copied};
 ghost use Rattle.sap_terms.specs.View.{tree};
 ghost use Rattle.sap_terms.specs.Tree.{node_count, fresh, public, apply, trees_of};
@@ -7,14 +7,12 @@ ghost use Rattle.sap_terms.specs.Message.{IsMessage};
 ghost use Rattle.sap_terms.specs.Normal.{IsNormal, IsNormalForm};
 ghost use Rattle.sap_terms.specs.Equations.{equations};
 ghost use Rattle.sap_terms.specs.declared.var.Sort.TheVariants.{Msg};
-ghost use Rattle.sap_share.specs.Shared.{tree_at, trees_at, AreBelow, Keeps, Gives};
-ghost use Rattle.sap_share.specs.declared.node.Node.TheVariants.{Public as PublicNode};
+ghost use Rattle.sap_share.specs.Shared.{Shared, tree_at, trees_at, AreBelow, Keeps};
 ghost use Rattle.sap_rewrite.specs.Large.{HasLargeForm};
-ghost use Rattle.sap_deduce.specs.Entries.{Gains, GainsNumber, Adds, terms_of, shared_of, AreTermsAt, Applies, IsCause};
+ghost use Rattle.sap_deduce.specs.Entries.{Gains, Adds, terms_of, AreNumbered, AreTermsAt, Applies, IsCause};
 ghost use Rattle.sap_deduce.specs.Laws.{NumbersTellTerms};
 ghost use Rattle.sap_deduce.specs.code.Large.{IsLargeOn};
 ghost use Rattle.sap_deduce.specs.code.Lines.{origin_given};
-ghost use Rattle.sap_deduce.specs.code.Views.{seen, AreKept};
 ghost use Rattle.sap_terms.specs.Signature.{IsPublic, arity_of};
 ghost use Rattle.sap_deduce.specs.declared.origin.Origin.TheVariants.{Name as NameOrigin, Public as PublicOrigin, Output as OutputOrigin, Apply as ApplyOrigin};
 
@@ -31,11 +29,10 @@ use std::alloc::Global;
 use std::marker::Model;
 
 /// The terms that an adversary knows, as entries that are numbered from 0 and stay. Each keeps how it came to be known, and
-/// its term has a number in a table of shared terms.
+/// the number of its term in a table of shared terms that the caller holds.
 #[derive(Drop)]
 pub struct Knowledge {
-    table: Table,
-    count: u64,
+    sig: Signature,
     entries: Lines,
 }
 
@@ -48,100 +45,23 @@ impl Model for Knowledge {
 
     ghost coded = { Prim.hlevel (codes, tree_code) };
 
-    ghost use Rattle.sap_deduce.specs.code.Views.{seen, AreKept};
+    ghost use Rattle.sap_deduce.specs.Entries.{AreEntries};
+    ghost use Rattle.sap_deduce.specs.code.Views.{seen};
 
-    ghost view = { λ a. seen a.table a.count a.entries };
+    ghost view = { λ a. seen a.sig a.entries };
 
-    ghost invariant = { λ a. AreKept a.table a.count a.entries };
-}
-
-// The public name of a node.
-fn public_term(node: Node) -> Term
-    ensures { (a : List ℕ) → node ≡ PublicNode a → tree result ≡ public a }
-{
-    match node {
-        Node::Public(name) => Term::Public(name),
-        Node::Fresh(n) => Term::Fresh(n),
-        Node::App(name, _numbers) => Term::Public(name),
-    }
-}
-
-// The number of a public name, and its term. The name is copied only where it has no number yet.
-fn public_number(table: &mut Table, alloc: Global, a: Name) -> Result<(u64, Term), Mem>
-    ensures gives { IfOk result (λ p. Gives table.old table.new p.0 (public a)) }
-    ensures term { IfOk result (λ p. tree p.1 ≡ public a) }
-    ensures keeps { Keeps table.old table.new }
-{
-    let node = Node::Public(a);
-    if let Some(k) = table.number_of(&node) {
-        return Ok((k, public_term(node)));
-    }
-    let term = public_term(node);
-    let number = table.put(alloc, &term)?;
-    Ok((number, term))
-}
-
-// Adds an entry that came without others, whose term has this number in the table.
-fn enter(
-    table: &Table,
-    count: &mut u64,
-    entries: &mut Lines,
-    number: u64,
-    term: Term,
-    given: Given,
-) -> Result<u64, Mem>
-    requires kept { AreKept table.now count.old entries.old }
-    requires below { number < length table.now.trees }
-    requires tree { tree_at table.now.trees number ≡ tree term }
-    requires adds { Adds table.now.sig (seen table.now count.old entries.old).entries (origin_given given) (tree term) }
-    requires within { node_count (tree term) ≤ MOST_TERM_NODES }
-    ensures number { IfOk result (λ k. k ≡ length entries.old) }
-    ensures gains { OnOk result (Gains (seen table.now count.old entries.old) (seen table.now count.new entries.new) (origin_given given) (tree term)) }
-    ensures numbered { OnOk result (GainsNumber (seen table.now count.old entries.old) (seen table.now count.new entries.new)) }
-    ensures kept { AreKept table.now count.new entries.new }
-    ensures err { OnErr result (seen table.now count.new entries.new ≡ seen table.now count.old entries.old) }
-{
-    let place = entries.len();
-    entries.push(number, term, given)?;
-    *count = table.count();
-    Ok(place)
-}
-
-// Adds an entry that came by a symbol on entries, whose term has this number in the table.
-fn enter_applied(
-    table: &Table,
-    count: &mut u64,
-    entries: &mut Lines,
-    number: u64,
-    term: Term,
-    f: &Name,
-    numbers: &Numbers,
-) -> Result<u64, Mem>
-    requires kept { AreKept table.now count.old entries.old }
-    requires below { number < length table.now.trees }
-    requires tree { tree_at table.now.trees number ≡ tree term }
-    requires adds { Adds table.now.sig (seen table.now count.old entries.old).entries (ApplyOrigin f.now numbers.now) (tree term) }
-    requires within { node_count (tree term) ≤ MOST_TERM_NODES }
-    ensures number { IfOk result (λ k. k ≡ length entries.old) }
-    ensures gains { OnOk result (Gains (seen table.now count.old entries.old) (seen table.now count.new entries.new) (ApplyOrigin f.now numbers.now) (tree term)) }
-    ensures numbered { OnOk result (GainsNumber (seen table.now count.old entries.old) (seen table.now count.new entries.new)) }
-    ensures kept { AreKept table.now count.new entries.new }
-    ensures err { OnErr result (seen table.now count.new entries.new ≡ seen table.now count.old entries.old) }
-{
-    let place = entries.len();
-    entries.push_applied(number, term, f, numbers)?;
-    *count = table.count();
-    Ok(place)
+    ghost invariant = { λ a. AreEntries (seen a.sig a.entries) };
 }
 
 impl Knowledge {
     /// Knowledge without entries, of terms over a signature.
     pub fn new(alloc: Global, sig: &Signature) -> Result<Knowledge, Mem>
-        ensures { IfOk result (λ k. (k.sig ≡ sig.now) × (k.entries ≡ [])) }
+        ensures empty { IfOk result (λ k. (k.sig ≡ sig.now) × (k.entries ≡ [])) }
+        ensures numbered { IfOk result (λ k. (s : Shared) → s.sig ≡ sig.now → AreNumbered s k) }
     {
+        let sig = sig.copy(alloc)?;
         Ok(Knowledge {
-            table: Table::new(alloc, sig)?,
-            count: 0,
+            sig,
             entries: Lines::new(alloc),
         })
     }
@@ -150,14 +70,7 @@ impl Knowledge {
     pub fn signature(&self) -> &Signature
         ensures { result.now ≡ self.now.sig }
     {
-        self.table.signature()
-    }
-
-    /// The table in which the entries' terms have numbers.
-    pub fn table(&self) -> &Table
-        ensures { Keeps (shared_of self.now) result.now }
-    {
-        &self.table
+        &self.sig
     }
 
     /// The number of entries.
@@ -176,93 +89,120 @@ impl Knowledge {
     }
 
     // The number in the table of an entry's term.
-    fn number_at(&self, k: u64) -> u64
-        requires { k < length self.now.entries }
+    fn number_at(&self, table: &Table, k: u64) -> u64
+        requires numbered { AreNumbered table.now self.now }
+        requires within { k < length self.now.entries }
         ensures number { slice_get self.now.numbers k ≡ Some result }
-        ensures below { result < length self.now.trees }
-        ensures term { slice_get (terms_of self.now.entries) k ≡ Some (tree_at self.now.trees result) }
+        ensures below { result < length table.now.trees }
+        ensures term { slice_get (terms_of self.now.entries) k ≡ Some (tree_at table.now.trees result) }
     {
         self.entries.number(k)
     }
 
     /// The number in the table of an entry's term; None where no entry has the number.
-    pub fn number(&self, k: u64) -> Option<u64>
+    pub fn number(&self, table: &Table, k: u64) -> Option<u64>
+        requires { AreNumbered table.now self.now }
         ensures number { result ≡ slice_get self.now.numbers k }
-        ensures some { IfSome result (λ n. (n < length self.now.trees) × (slice_get (terms_of self.now.entries) k ≡ Some (tree_at self.now.trees n))) }
+        ensures some { IfSome result (λ n. (n < length table.now.trees) × (slice_get (terms_of self.now.entries) k ≡ Some (tree_at table.now.trees n))) }
         ensures none { IfNone result (length self.now.entries ≤ k) }
     {
-        let _table = &self.table;
         if k < self.len() {
-            Some(self.number_at(k))
+            Some(self.number_at(table, k))
         } else {
             None
         }
     }
 
     /// Two entries have one number exactly where they have one term.
-    pub fn numbers_tell_terms(&self)
+    pub fn numbers_tell_terms(&self, table: &Table)
+        requires { AreNumbered table.now self.now }
         ensures { NumbersTellTerms self.now }
     {
-        self.table.each_has_one_number();
+        table.each_has_one_number();
+    }
+
+    // Adds an entry that came without others, whose term has this number.
+    fn enter(&mut self, table: &Table, number: u64, given: Given) -> Result<u64, Mem>
+        requires numbered { AreNumbered table.now self.old }
+        requires below { number < length table.now.trees }
+        requires adds { Adds self.old.sig self.old.entries (origin_given given) (tree_at table.now.trees number) }
+        requires within { node_count (tree_at table.now.trees number) ≤ MOST_TERM_NODES }
+        ensures number { IfOk result (λ k. k ≡ length self.old.entries) }
+        ensures ok { OnOk result (Gains self.old self.new (origin_given given) (tree_at table.now.trees number)) }
+        ensures numbered { AreNumbered table.now self.new }
+        ensures err { OnErr result (self.new ≡ self.old) }
+    {
+        let alloc = self.entries.allocator();
+        let place = self.entries.len();
+        let term = table.tree(alloc, number)?;
+        self.entries.push(number, term, given)?;
+        Ok(place)
+    }
+
+    // Adds an entry that came by a symbol on entries, whose term has this number.
+    fn enter_applied(
+        &mut self,
+        table: &Table,
+        number: u64,
+        f: &Name,
+        numbers: &Numbers,
+    ) -> Result<u64, Mem>
+        requires numbered { AreNumbered table.now self.old }
+        requires below { number < length table.now.trees }
+        requires adds { Adds self.old.sig self.old.entries (ApplyOrigin f.now numbers.now) (tree_at table.now.trees number) }
+        requires within { node_count (tree_at table.now.trees number) ≤ MOST_TERM_NODES }
+        ensures number { IfOk result (λ k. k ≡ length self.old.entries) }
+        ensures ok { OnOk result (Gains self.old self.new (ApplyOrigin f.now numbers.now) (tree_at table.now.trees number)) }
+        ensures numbered { AreNumbered table.now self.new }
+        ensures err { OnErr result (self.new ≡ self.old) }
+    {
+        let alloc = self.entries.allocator();
+        let place = self.entries.len();
+        let term = table.tree(alloc, number)?;
+        self.entries.push_applied(number, term, f, numbers)?;
+        Ok(place)
     }
 
     /// Adds a name that the adversary made, and gives the entry's number.
-    pub fn name(&mut self, n: u64) -> Result<u64, Mem>
+    pub fn name(&mut self, table: &mut Table, n: u64) -> Result<u64, Mem>
+        requires { AreNumbered table.old self.old }
         ensures number { IfOk result (λ k. k ≡ length self.old.entries) }
         ensures ok { OnOk result (Gains self.old self.new (NameOrigin n) (fresh n)) }
-        ensures numbered { OnOk result (GainsNumber self.old self.new) }
+        ensures keeps { Keeps table.old table.new }
+        ensures numbered { AreNumbered table.new self.new }
         ensures err { OnErr result (self.new ≡ self.old) }
     {
         let alloc = self.entries.allocator();
-        let number = self.table.intern(alloc, Node::Fresh(n))?;
-        enter(
-            &self.table,
-            &mut self.count,
-            &mut self.entries,
-            number,
-            Term::Fresh(n),
-            Given::Name(n),
-        )
+        let number = table.intern(alloc, Node::Fresh(n))?;
+        self.enter(table, number, Given::Name(n))
     }
 
     /// Adds a public name, and gives the entry's number.
-    pub fn public(&mut self, a: Name) -> Result<u64, Mem>
+    pub fn public(&mut self, table: &mut Table, a: Name) -> Result<u64, Mem>
+        requires { AreNumbered table.old self.old }
         ensures number { IfOk result (λ k. k ≡ length self.old.entries) }
         ensures ok { OnOk result (Gains self.old self.new PublicOrigin (public a)) }
-        ensures numbered { OnOk result (GainsNumber self.old self.new) }
+        ensures keeps { Keeps table.old table.new }
+        ensures numbered { AreNumbered table.new self.new }
         ensures err { OnErr result (self.new ≡ self.old) }
     {
         let alloc = self.entries.allocator();
-        let (number, term) = public_number(&mut self.table, alloc, a)?;
-        enter(
-            &self.table,
-            &mut self.count,
-            &mut self.entries,
-            number,
-            term,
-            Given::Public,
-        )
+        let number = table.intern(alloc, Node::Public(a))?;
+        self.enter(table, number, Given::Public)
     }
 
-    /// Adds a term that was sent, and gives the entry's number. It recurses as deep as the terms that it is given.
-    pub fn output(&mut self, t: Term) -> Result<u64, Mem>
-        requires message { IsMessage self.old.sig Msg (tree t) }
-        requires within { node_count (tree t) ≤ MOST_TERM_NODES }
+    /// Adds a term that was sent, which has this number in the table, and gives the entry's number.
+    pub fn output(&mut self, table: &Table, number: u64) -> Result<u64, Mem>
+        requires numbered { AreNumbered table.now self.old }
+        requires below { number < length table.now.trees }
+        requires message { IsMessage self.old.sig Msg (tree_at table.now.trees number) }
+        requires within { node_count (tree_at table.now.trees number) ≤ MOST_TERM_NODES }
         ensures number { IfOk result (λ k. k ≡ length self.old.entries) }
-        ensures ok { OnOk result (Gains self.old self.new OutputOrigin (tree t)) }
-        ensures numbered { OnOk result (GainsNumber self.old self.new) }
+        ensures ok { OnOk result (Gains self.old self.new OutputOrigin (tree_at table.now.trees number)) }
+        ensures numbered { AreNumbered table.now self.new }
         ensures err { OnErr result (self.new ≡ self.old) }
     {
-        let alloc = self.entries.allocator();
-        let number = self.table.put(alloc, &t)?;
-        enter(
-            &self.table,
-            &mut self.count,
-            &mut self.entries,
-            number,
-            t,
-            Given::Output,
-        )
+        self.enter(table, number, Given::Output)
     }
 
     // The first of these numbers that isn't an entry.
@@ -279,15 +219,16 @@ impl Knowledge {
     }
 
     // The numbers in the table of these entries' terms.
-    fn numbers_at(&self, alloc: Global, numbers: &Numbers) -> Result<Numbers, Mem>
-        requires { All (λ k. k < length self.now.entries) numbers.now }
+    fn numbers_at(&self, table: &Table, alloc: Global, numbers: &Numbers) -> Result<Numbers, Mem>
+        requires numbered { AreNumbered table.now self.now }
+        requires known { All (λ k. k < length self.now.entries) numbers.now }
         ensures count { IfOk result (λ ks. length ks ≡ length numbers.now) }
-        ensures below { IfOk result (AreBelow (length self.now.trees)) }
-        ensures terms { IfOk result (λ ks. AreTermsAt self.now.entries numbers.now (trees_at self.now.trees ks)) }
+        ensures below { IfOk result (AreBelow (length table.now.trees)) }
+        ensures terms { IfOk result (λ ks. AreTermsAt self.now.entries numbers.now (trees_at table.now.trees ks)) }
     {
         let mut ks = Numbers::with_room(alloc, numbers.len())?;
         for k in numbers.as_slice() {
-            ks.push(self.number_at(*k))?;
+            ks.push(self.number_at(table, *k))?;
         }
         Ok(ks)
     }
@@ -299,11 +240,10 @@ impl Knowledge {
         ensures known { OnOk result (All (λ k. k < length self.now.entries) numbers.now) }
         ensures denied { IfErr result (IsCause self.now f.now numbers.now) }
     {
-        let sig = self.table.signature();
-        if !sig.is_public(f) {
+        if !self.sig.is_public(f) {
             return Err(Deny::NotPublic { f: f.copy(alloc)? });
         }
-        if sig.arity(f) != Some(numbers.len()) {
+        if self.sig.arity(f) != Some(numbers.len()) {
             return Err(Deny::Arity { f: f.copy(alloc)? });
         }
         match self.first_unknown(numbers) {
@@ -314,31 +254,24 @@ impl Knowledge {
 
     /// Adds the normal form of a symbol on the entries of these numbers, and gives the new entry's number.
     /// Refused, the knowledge is as it was.
-    pub fn apply(&mut self, f: &Name, numbers: &Numbers) -> Result<u64, Deny>
+    pub fn apply(&mut self, table: &mut Table, f: &Name, numbers: &Numbers) -> Result<u64, Deny>
+        requires { AreNumbered table.old self.old }
         ensures number { IfOk result (λ k. k ≡ length self.old.entries) }
         ensures ok { OnOk result (Applies self.old self.new f.now numbers.now) }
-        ensures numbered { OnOk result (GainsNumber self.old self.new) }
+        ensures keeps { Keeps table.old table.new }
+        ensures numbered { AreNumbered table.new self.new }
         ensures denied { IfErr result (IsCause self.old f.now numbers.now) }
         ensures err { OnErr result (self.new ≡ self.old) }
     {
         leaves_are_normal();
         let alloc = self.entries.allocator();
         self.check(alloc, f, numbers)?;
-        let ks = self.numbers_at(alloc, numbers)?;
-        let number = match form_number(&mut self.table, alloc, f, ks) {
+        let ks = self.numbers_at(table, alloc, numbers)?;
+        let number = match form_number(table, alloc, f, ks) {
             Ok(number) => number,
             Err(cause) => return Err(cause),
         };
-        let term = self.table.tree(alloc, number)?;
-        let place = enter_applied(
-            &self.table,
-            &mut self.count,
-            &mut self.entries,
-            number,
-            term,
-            f,
-            numbers,
-        )?;
+        let place = self.enter_applied(table, number, f, numbers)?;
         Ok(place)
     }
 
@@ -356,7 +289,7 @@ impl Knowledge {
         names_are_messages();
         leaves_are_normal();
         forms_are_messages();
-        self.table.signature().builtins_are_held();
+        self.sig.builtins_are_held();
     }
 }
 

@@ -20,3 +20,4 @@ pub mod SomeAnswer
 pub mod Shown
 pub mod Piled
 pub mod Joined
+pub mod Kept

@@ -1,6 +1,6 @@
 -- A pile whose facts have numbers, while the table grows and facts come and go.
 use Rattle.std.proofs.Common.{◌≡◌, ◌<◌, ℕ, zero, suc, Bool, true, false, List, [], ◌∷◌, ◌++◌, length, map, Option, Some, None, option_map, slice_set, refl, sym, ap, subst, ◌∙◌, arith, append_assoc}
-use Rattle.std.specs.Prelude.{slice_get, IsSome, Result, Ok, Err, IfOk}
+use Rattle.std.specs.Prelude.{slice_get, IsSome, MatchOption, Result, Ok, Err, IfOk}
 use Rattle.std.specs.Option.{option_eq}
 use Rattle.std.proofs.lemmas.List.{map_push}
 use Rattle.std.proofs.lemmas.Option.{slice_get-map, same_Some}
@@ -9,11 +9,12 @@ use Rattle.sap_terms.specs.Piles.{Pile, adds}
 use Rattle.sap_terms.specs.Tree.{Tree}
 use Rattle.sap_terms.specs.declared.fact.Fact.{Fact}
 use Rattle.sap_facts.specs.Facts.{standing, fact_at, slots_without}
-use Rattle.sap_share.specs.Shared.{Shared, Keeps}
+use Rattle.sap_terms.specs.AdversaryFacts.{linear}
+use Rattle.sap_share.specs.Shared.{Shared, tree_at, AreBelow, Keeps}
 use Rattle.sap_sides.specs.Laws.{SharedFactsStay}
 use Rattle.sap_sides.specs.SharedFacts.{fact_seen}
 use Rattle.sap_sides.specs.declared.shared_fact.SharedFact.{SharedFact}
-use Rattle.sap_steps.specs.code.Piled.{slot_seen, slots_seen, IsSlotBelow, AreSlotsBelow}
+use Rattle.sap_steps.specs.code.Piled.{slot_seen, slots_seen, single_of, IsSlotBelow, AreSlotsBelow}
 
 -- the facts of all slots stay what they are while the table grows
 pub slots_stay : SharedFactsStay → (s t : Shared) (slots : List (Option SharedFact)) → Keeps s t → AreSlotsBelow (length s.trees) slots → (slots_seen t.trees slots ≡ slots_seen s.trees slots) × AreSlotsBelow (length t.trees) slots
@@ -83,3 +84,12 @@ adds_seen facts now after ts ss s n a =
     let some : Fact → Option Fact = λ f. Some f in
     let one_more : map some (map (fact_seen ts) (ss ++ s ∷ [])) ≡ map some (map (fact_seen ts) ss) ++ Some (fact_seen ts s) ∷ [] = ap (map some) (map_push (fact_seen ts) ss s) ∙ map_push some (map (fact_seen ts) ss) (fact_seen ts s) in
     a ∙ ap (λ xs. xs ++ Some (fact_seen ts s) ∷ []) n ∙ append_assoc facts (map some (map (fact_seen ts) ss)) (Some (fact_seen ts s) ∷ []) ∙ ap (λ xs. facts ++ xs) (sym one_more)
+
+-- the argument of a linear fact of one name
+pub argument_seen : (ts : List Tree) (facts : Pile) (k : ℕ) (h : SharedFact) (name : List ℕ) (r : Option ℕ) → fact_at facts k ≡ Some (fact_seen ts h) → AreBelow (length ts) h.args
+    → MatchOption r ((us : List Tree) (t : Tree) → ¬ (fact_seen us h ≡ linear name (t ∷ []))) (λ n. h ≡ single_of name n)
+    → MatchOption r ((t : Tree) → ¬ (fact_at facts k ≡ Some (linear name (t ∷ [])))) (λ n. (n < length ts) × (fact_at facts k ≡ Some (linear name (tree_at ts n ∷ []))))
+argument_seen ts facts k h name None at below none = λ t e. none ts t (same_Some _ _ (sym at ∙ e))
+argument_seen ts facts k h name (Some n) at below is =
+    let P : ℕ → Type 0 = λ j. j < length ts in
+    (All-head P n [] (subst (λ (s : SharedFact). AreBelow (length ts) s.args) is below), at ∙ ap (λ (s : SharedFact). Some (fact_seen ts s)) is)

@@ -11,12 +11,15 @@ use Rattle.sap_terms.specs.Laws.{NamesAreMessages}
 use Rattle.sap_terms.specs.Tree.{Tree, fresh}
 use Rattle.sap_terms.specs.declared.fact.Fact.{Fact}
 use Rattle.sap_terms.specs.declared.var.Sort.TheVariants.{Msg}
-use Rattle.sap_deduce.specs.Entries.{Entry, Entries, terms_of, Gains}
+use Rattle.sap_deduce.specs.Entries.{Entry, Entries, AreNumbered, terms_of, Gains}
+use Rattle.sap_deduce.specs.Laws.{NumbersStay}
 use Rattle.sap_deduce.specs.declared.origin.Origin.{Origin}
 use Rattle.sap_facts.specs.Facts.{standing, fact_at, if_linear, slots_without}
 use Rattle.sap_rule.specs.RuleSteps.{RuleState, gains}
+use Rattle.sap_share.specs.Shared.{Shared, Keeps}
 use Rattle.sap_sides.specs.Messages.{IsSmallMessage, IsSmallMessageFact, HoldsSmallMessages}
 use Rattle.sap_facts.specs.Cited.{left_of}
+use Rattle.sap_steps.specs.code.Piled.{Piled, table_of}
 use Rattle.sap_steps.specs.code.Ready.{IsReady}
 use Rattle.sap_steps.specs.code.Tied.{IsTied}
 use Rattle.sap_steps.specs.declared.prepared.Prepared.{Prepared}
@@ -61,24 +64,61 @@ held_adds g facts (f ∷ fs) held all =
     let apart : adds (facts ++ Some f ∷ []) fs ≡ adds facts (f ∷ fs) = append_assoc facts (Some f ∷ []) (map (λ f. Some f) fs) in
     rw (← apart) (held_adds g (facts ++ Some f ∷ []) fs (held_push g facts f held (All-head (IsSmallMessageFact g) f fs all)) (All-tail (IsSmallMessageFact g) f fs all))
 
-pub tied_knows : (rules : List Prepared) (g : Sig) (facts : Pile) (old new : Entries) (origin : Origin) (t : Tree) → IsTied rules g facts old → Gains old new origin t → IsTied rules g facts new
-tied_knows rules g facts old new origin t tied more = record {
-  sig = tied.sig ∙ sym more.sig;
+same_table : (facts after : Piled) → after.sig ≡ facts.sig → after.trees ≡ facts.trees → table_of facts ≡ table_of after
+same_table facts after s t = let sig = sym s in let trees = sym t in λ i. record { sig = sig i; trees = trees i }
+
+numbered_same : (facts after : Piled) (known : Entries) → AreNumbered (table_of facts) known → after.sig ≡ facts.sig → after.trees ≡ facts.trees → AreNumbered (table_of after) known
+numbered_same facts after known h s t = subst (λ (x : Shared). AreNumbered x known) (same_table facts after s t) h
+
+-- the adversary knows a term more, and the facts stay, over a table that may have gained
+pub tied_knows : (rules : List Prepared) (facts after : Piled) (old new : Entries) (origin : Origin) (t : Tree) → IsTied rules facts old → Gains old new origin t → after.slots ≡ facts.slots → AreNumbered (table_of after) new → IsTied rules after new
+tied_knows rules facts after old new origin t tied more slots numbered = record {
   ready = subst (λ g. All (IsReady g) rules) (sym more.sig) tied.ready;
-  held = subst (λ g. HoldsSmallMessages g facts) (sym more.sig) tied.held;
+  held = rw slots (subst (λ g. HoldsSmallMessages g facts.slots) (sym more.sig) tied.held);
+  numbered = numbered;
 }
 
-tied_facts : (rules : List Prepared) (g : Sig) (facts after : Pile) (known : Entries) → IsTied rules g facts known → HoldsSmallMessages known.sig after → IsTied rules g after known
-tied_facts rules g facts after known tied held = record { sig = tied.sig; ready = tied.ready; held = held }
+-- no term more is known, and the facts stay
+pub tied_stays : (rules : List Prepared) (facts after : Piled) (old new : Entries) → IsTied rules facts old → new ≡ old → after.slots ≡ facts.slots → AreNumbered (table_of after) new → IsTied rules after new
+tied_stays rules facts after old new tied same slots numbered = record {
+  ready = rw same tied.ready;
+  held = rw (same, slots) tied.held;
+  numbered = numbered;
+}
 
-pub tied_without : (rules : List Prepared) (g : Sig) (facts : Pile) (known : Entries) (k : ℕ) → IsTied rules g facts known → IsTied rules g (slots_without facts k) known
-tied_without rules g facts known k tied = tied_facts rules g facts (slots_without facts k) known tied (held_without known.sig facts k tied.held)
+-- the facts stay, over a table that has gained
+pub tied_keeps : NumbersStay → (rules : List Prepared) (facts after : Piled) (known : Entries) → IsTied rules facts known → after.slots ≡ facts.slots → Keeps (table_of facts) (table_of after) → IsTied rules after known
+tied_keeps stay rules facts after known tied slots keeps = record {
+  ready = tied.ready;
+  held = rw slots tied.held;
+  numbered = stay (table_of facts) (table_of after) known tied.numbered keeps;
+}
 
-pub tied_push : (rules : List Prepared) (g : Sig) (facts : Pile) (known : Entries) (f : Fact) → IsTied rules g facts known → IsSmallMessageFact known.sig f → IsTied rules g (facts ++ Some f ∷ []) known
-tied_push rules g facts known f tied held = tied_facts rules g facts (facts ++ Some f ∷ []) known tied (held_push known.sig facts f tied.held held)
+pub tied_without : (rules : List Prepared) (facts after : Piled) (known : Entries) (k : ℕ) → IsTied rules facts known → after.sig ≡ facts.sig → after.trees ≡ facts.trees → after.slots ≡ slots_without facts.slots k → IsTied rules after known
+tied_without rules facts after known k tied sig trees slots = record {
+  ready = tied.ready;
+  held = rw slots (held_without known.sig facts.slots k tied.held);
+  numbered = numbered_same facts after known tied.numbered sig trees;
+}
 
-pub tied_used : (rules : List Prepared) (g : Sig) (facts : Pile) (known : Entries) (ks : List ℕ) (fs : List Fact) → IsTied rules g facts known → All (IsSmallMessageFact known.sig) fs → IsTied rules g (adds (left_of facts ks) fs) known
-tied_used rules g facts known ks fs tied held = tied_facts rules g facts (adds (left_of facts ks) fs) known tied (held_adds known.sig (left_of facts ks) fs (held_left known.sig facts ks tied.held) held)
+pub tied_push : (rules : List Prepared) (facts after : Piled) (known : Entries) (f : Fact) → IsTied rules facts known → IsSmallMessageFact known.sig f → AreNumbered (table_of after) known → after.slots ≡ facts.slots ++ Some f ∷ [] → IsTied rules after known
+tied_push rules facts after known f tied held numbered slots = record {
+  ready = tied.ready;
+  held = rw slots (held_push known.sig facts.slots f tied.held held);
+  numbered = numbered;
+}
+
+pub tied_push_same : (rules : List Prepared) (facts after : Piled) (known : Entries) (f : Fact) → IsTied rules facts known → IsSmallMessageFact known.sig f → after.sig ≡ facts.sig → after.trees ≡ facts.trees → after.slots ≡ facts.slots ++ Some f ∷ [] → IsTied rules after known
+tied_push_same rules facts after known f tied held sig trees slots = tied_push rules facts after known f tied held (numbered_same facts after known tied.numbered sig trees) slots
+
+pub tied_used : (rules : List Prepared) (facts after : Piled) (known : Entries) (ks : List ℕ) (fs : List Fact) → IsTied rules facts known → All (IsSmallMessageFact known.sig) fs → after.sig ≡ facts.sig → after.trees ≡ facts.trees → after.slots ≡ adds (left_of facts.slots ks) fs → IsTied rules after known
+tied_used rules facts after known ks fs tied held sig trees slots = record {
+  ready = tied.ready;
+  held = rw slots (held_adds known.sig (left_of facts.slots ks) fs (held_left known.sig facts.slots ks tied.held) held);
+  numbered = numbered_same facts after known tied.numbered sig trees;
+}
+
+pub ruleset tied_laws = (tied_stays, tied_keeps)
 
 is_some-of : (o p : Option Fact) → ((f : Fact) → o ≡ Some f → p ≡ Some f) → IsSome o → IsSome p
 is_some-of None p f h = cc

@@ -4,12 +4,14 @@ ghost use Rattle.sap_facts.specs.Cited.{cited_at};
 ghost use Rattle.sap_facts.specs.Facts.{fact_at};
 ghost use Rattle.sap_rule.specs.Variables.{facts_outer_vars};
 ghost use Rattle.sap_share.specs.Env.{AreBound, AreSmallForms, bindings_of};
+ghost use Rattle.sap_share.specs.Shared.{Keeps};
 ghost use Rattle.sap_sides.specs.Fitting.{FactsFit, IsOnlyChoice};
 ghost use Rattle.sap_sides.specs.Messages.{HasNoDestructor, HoldsSmallMessages, IsSmallMessageFact};
 ghost use Rattle.sap_sides.specs.SharedFacts.{fact_seen, AreFactsBelow};
 ghost use Rattle.sap_steps.specs.Faults.{AreRight, IsRuleRefusal};
 ghost use Rattle.sap_steps.specs.Lines.{Fires, IsSmall};
 ghost use Rattle.sap_steps.specs.code.Firing.{Laws};
+ghost use Rattle.sap_steps.specs.code.Piled.{table_of};
 ghost use Rattle.sap_steps.specs.code.Ready.{IsReady};
 ghost use Rattle.sap_terms.specs.Equations.{equations};
 
@@ -32,6 +34,7 @@ use std::alloc::Global;
 
 // What the rule shows and adds, where it takes the facts with these numbers and its open variables stand for these terms.
 // A plain rule is matched and evaluated by numbers.
+#[tactic(auto, using(crate::proofs::Kept::table_laws))]
 pub(crate) fn fire(
     alloc: Global,
     sig: &Signature,
@@ -48,6 +51,7 @@ pub(crate) fn fire(
     ensures fires { IfOk result (λ x. Fires sig.now IsSmall rule.now.rule b.now (cited_at facts.old.slots numbers.now) x.acts (map (fact_seen facts.new.trees) x.right.items)) }
     ensures held { IfOk result (λ x. All (IsSmallMessageFact sig.now) (map (fact_seen facts.new.trees) x.right.items)) }
     ensures below { IfOk result (λ x. AreFactsBelow (length facts.new.trees) x.right.items) }
+    ensures keeps { Keeps (table_of facts.old) (table_of facts.new) }
     ensures refused { IfErr result (IsRuleRefusal sig.now rule.now.rule b.now (cited_at facts.old.slots numbers.now)) }
     ensures sig { facts.new.sig ≡ facts.old.sig }
     ensures slots { facts.new.slots ≡ facts.old.slots }
@@ -66,6 +70,7 @@ pub(crate) fn fire(
 }
 
 // The same with trees for the facts that are cited.
+#[tactic(auto, using(crate::proofs::Kept::table_laws))]
 fn fire_built(
     alloc: Global,
     sig: &Signature,
@@ -83,6 +88,7 @@ fn fire_built(
     ensures fires { IfOk result (λ x. Fires sig.now IsSmall rule.now.rule b.now (cited_at facts.old.slots numbers.now) x.acts (map (fact_seen facts.new.trees) x.right.items)) }
     ensures held { IfOk result (λ x. All (IsSmallMessageFact sig.now) (map (fact_seen facts.new.trees) x.right.items)) }
     ensures below { IfOk result (λ x. AreFactsBelow (length facts.new.trees) x.right.items) }
+    ensures keeps { Keeps (table_of facts.old) (table_of facts.new) }
     ensures refused { IfErr result (IsRuleRefusal sig.now rule.now.rule b.now (cited_at facts.old.slots numbers.now)) }
     ensures sig { facts.new.sig ≡ facts.old.sig }
     ensures slots { facts.new.slots ≡ facts.old.slots }
@@ -94,6 +100,7 @@ fn fire_built(
 }
 
 // The same of a rule in whose left side no destructor stands.
+#[tactic(auto, using(crate::proofs::Kept::table_laws))]
 fn fire_plain(
     alloc: Global,
     sig: &Signature,
@@ -112,6 +119,7 @@ fn fire_plain(
     ensures fires { IfOk result (λ x. Fires sig.now IsSmall rule.now.rule b.now (cited_at facts.old.slots numbers.now) x.acts (map (fact_seen facts.new.trees) x.right.items)) }
     ensures held { IfOk result (λ x. All (IsSmallMessageFact sig.now) (map (fact_seen facts.new.trees) x.right.items)) }
     ensures below { IfOk result (λ x. AreFactsBelow (length facts.new.trees) x.right.items) }
+    ensures keeps { Keeps (table_of facts.old) (table_of facts.new) }
     ensures refused { IfErr result (IsRuleRefusal sig.now rule.now.rule b.now (cited_at facts.old.slots numbers.now)) }
     ensures sig { facts.new.sig ≡ facts.old.sig }
     ensures slots { facts.new.slots ≡ facts.old.slots }
@@ -122,6 +130,7 @@ fn fire_plain(
 
 // The same, where the bindings have numbers for their terms. Trees are built where a bound term isn't normal, or has more
 // than 256 nodes.
+#[tactic(auto, using(crate::proofs::Kept::table_laws))]
 fn fire_numbered(
     alloc: Global,
     sig: &Signature,
@@ -143,6 +152,7 @@ fn fire_numbered(
     ensures fires { IfOk result (λ x. Fires sig.now IsSmall rule.now.rule b.now (cited_at facts.old.slots numbers.now) x.acts (map (fact_seen facts.new.trees) x.right.items)) }
     ensures held { IfOk result (λ x. All (IsSmallMessageFact sig.now) (map (fact_seen facts.new.trees) x.right.items)) }
     ensures below { IfOk result (λ x. AreFactsBelow (length facts.new.trees) x.right.items) }
+    ensures keeps { Keeps (table_of facts.old) (table_of facts.new) }
     ensures refused { IfErr result (IsRuleRefusal sig.now rule.now.rule b.now (cited_at facts.old.slots numbers.now)) }
     ensures sig { facts.new.sig ≡ facts.old.sig }
     ensures slots { facts.new.slots ≡ facts.old.slots }
@@ -176,6 +186,7 @@ fn fire_bound(
     ensures fires { IfOk result (λ x. Fires sig.now IsSmall rule.now.rule b.now (cited_at facts.old.slots numbers.now) x.acts (map (fact_seen facts.new.trees) x.right.items)) }
     ensures held { IfOk result (λ x. All (IsSmallMessageFact sig.now) (map (fact_seen facts.new.trees) x.right.items)) }
     ensures below { IfOk result (λ x. AreFactsBelow (length facts.new.trees) x.right.items) }
+    ensures keeps { Keeps (table_of facts.old) (table_of facts.new) }
     ensures refused { IfErr result (IsRuleRefusal sig.now rule.now.rule b.now (cited_at facts.old.slots numbers.now)) }
     ensures sig { facts.new.sig ≡ facts.old.sig }
     ensures slots { facts.new.slots ≡ facts.old.slots }

@@ -9,6 +9,7 @@ mod firing;
 mod laws;
 mod pile;
 mod prepared;
+mod single;
 mod state;
 mod taking;
 mod using;

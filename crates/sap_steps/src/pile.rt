@@ -1,38 +1,43 @@
 // Facts by their numbers, whose arguments are numbers of shared terms.
-ghost use Rattle.std.specs.Prelude.{◌≡◌, ◌+◌, ◌<◌, ◌≤◌, [], ◌∷◌, ◌++◌, length, true, false, All, IsSome, MatchOption, IfOk, IsErrOf, OnErr, OnOk, None, Some, slice_set, vec_capacity};
+ghost use Rattle.std.specs.Prelude.{◌≡◌, ◌+◌, ◌<◌, ◌≤◌, [], ◌∷◌, ◌++◌, length, true, false, All, IsSome, MatchOption, IfOk, IfErr, IsErrOf, OnErr, OnOk, None, Some, slice_set, vec_capacity};
+ghost use Rattle.sap_deduce.specs.Entries.{AreNumbered, Gains, Applies, IsCause};
+ghost use Rattle.sap_deduce.specs.declared.origin.Origin.TheVariants.{Name as NameOrigin, Public as PublicOrigin};
 ghost use Rattle.sap_facts.specs.Cited.{cited_at};
 ghost use Rattle.sap_facts.specs.Facts.{fact_at, slots_without};
 ghost use Rattle.sap_rewrite.specs.Around.{all_outer_vars};
 ghost use Rattle.sap_rule.specs.Variables.{facts_outer_vars};
 ghost use Rattle.sap_rule.specs.WellMade.{IsRuleOver};
 ghost use Rattle.sap_share.specs.Env.{given, AreBound, AreSmallForms, bindings_of};
-ghost use Rattle.sap_share.specs.Shared.{AreBelow};
+ghost use Rattle.sap_share.specs.Shared.{tree_at, AreBelow, Keeps};
 ghost use Rattle.sap_sides.specs.Fitting.{IsOnlyChoice, HasNoChoice, FactFit, FactsFit};
 ghost use Rattle.sap_sides.specs.Forms.{AreSides, HasLargeSide};
 ghost use Rattle.sap_sides.specs.Messages.{IsSmallMessageFact, HasNoDestructor, IsGroundFact};
-ghost use Rattle.sap_sides.specs.SharedFacts.{fact_seen, IsShared, AreShared};
-ghost use Rattle.sap_steps.specs.code.Piled.{slots_seen, AreSlotsBelow};
+ghost use Rattle.sap_sides.specs.SharedFacts.{fact_seen, AreShared};
+ghost use Rattle.sap_steps.specs.code.Piled.{slots_seen, table_of, AreSlotsBelow};
+ghost use Rattle.sap_terms.specs.AdversaryFacts.{linear, fr_fact};
 ghost use Rattle.sap_terms.specs.Equations.{equations};
 ghost use Rattle.sap_terms.specs.Message.{IsMessage};
 ghost use Rattle.sap_terms.specs.Modulo.{instance_facts};
-ghost use Rattle.sap_terms.specs.Tree.{trees_of};
+ghost use Rattle.sap_terms.specs.Tree.{Tree, fresh, public, trees_of};
 ghost use Rattle.sap_terms.specs.View.{tree};
 ghost use Rattle.sap_terms.specs.declared.fact.Fact.{Fact as Held};
 
+use crate::single::{argument, single_shared};
+use sap_deduce::{Deny, Knowledge};
 use sap_facts::HasFacts;
 use sap_rewrite::Cut;
 use sap_rule::Rule;
-use sap_share::{Env, Table};
+use sap_share::{Env, Node, Table};
 use sap_sides::{
     SharedFact, Sides, are_small_forms, built_fact, facts_fit_in_turn, fit_fact, form_sides,
-    number_bindings, share_fact, share_facts, shared_facts_stay,
+    number_bindings, share_facts, shared_facts_stay,
 };
-use sap_terms::{Bindings, Fact, FactList, MOST_TERM_NODES, Mem, Numbers, Signature};
+use sap_terms::{Bindings, Fact, FactList, MOST_TERM_NODES, Mem, Name, Numbers, Signature};
 use std::alloc::Global;
 use std::marker::Model;
 
-// Facts that were put on one after another and have numbers from 0, in order, and the table in which their arguments have
-// theirs. A linear fact stays until it is taken, a persistent one for good.
+// Facts that were put on one after another and have numbers from 0, in order, and the table of the run, in which their
+// arguments and the adversary's entries have theirs. A linear fact stays until it is taken, a persistent one for good.
 #[derive(Drop)]
 pub(crate) struct SharedPile {
     table: Table,
@@ -111,23 +116,12 @@ impl SharedPile {
         Ok(())
     }
 
-    // The fact with numbers for its arguments. Refused, there may be more numbers than before.
-    fn share(&mut self, alloc: Global, f: &Fact) -> Result<SharedFact, Mem>
-        requires { IsSmallMessageFact self.old.sig f.now }
-        ensures shared { IfOk result (IsShared self.new.trees f.now) }
-        ensures sig { self.new.sig ≡ self.old.sig }
-        ensures slots { self.new.slots ≡ self.old.slots }
-        ensures spare { self.new.spare ≡ self.old.spare }
-    {
-        shared_facts_stay();
-        share_fact(&mut self.table, alloc, f)
-    }
-
     // The facts with numbers for their arguments. Refused, there may be more numbers than before.
     pub(crate) fn share_all(&mut self, alloc: Global, fs: &FactList) -> Result<Vec<SharedFact>, Mem>
         requires { All (IsSmallMessageFact self.old.sig) fs.now }
         ensures shared { IfOk result (λ v. AreShared self.new.trees fs.now v.items) }
         ensures sig { self.new.sig ≡ self.old.sig }
+        ensures keeps { Keeps (table_of self.old) (table_of self.new) }
         ensures slots { self.new.slots ≡ self.old.slots }
     {
         shared_facts_stay();
@@ -140,6 +134,7 @@ impl SharedPile {
         ensures are { IfOk result (λ env. bindings_of self.new.trees env ≡ b.now) }
         ensures bound { IfOk result (AreBound (length self.new.trees)) }
         ensures sig { self.new.sig ≡ self.old.sig }
+        ensures keeps { Keeps (table_of self.old) (table_of self.new) }
         ensures slots { self.new.slots ≡ self.old.slots }
     {
         shared_facts_stay();
@@ -156,6 +151,7 @@ impl SharedPile {
         ensures sides { IfOk result (λ x. AreSides self.old.sig (given self.old.trees env.now) rule.now.acts rule.now.right self.new.trees x.acts x.right.items) }
         ensures large { IsErrOf result Cut.Large → HasLargeSide self.old.sig (given self.old.trees env.now) rule.now.acts rule.now.right }
         ensures sig { self.new.sig ≡ self.old.sig }
+        ensures keeps { Keeps (table_of self.old) (table_of self.new) }
         ensures slots { self.new.slots ≡ self.old.slots }
     {
         shared_facts_stay();
@@ -177,17 +173,90 @@ impl SharedPile {
         }
     }
 
-    // Puts a fact on. Refused, there may be more numbers than before.
-    pub(crate) fn put(&mut self, alloc: Global, f: &Fact) -> Result<(), Mem>
-        requires { IsSmallMessageFact self.old.sig f.now }
-        ensures ok { OnOk result (self.new.slots ≡ self.old.slots ++ Some f.now ∷ []) }
+    // Puts the linear fact of this name on whose one argument has this number.
+    pub(crate) fn put_single(&mut self, alloc: Global, name: &[u8], number: u64) -> Result<(), Mem>
+        requires { number < length self.old.trees }
+        ensures ok { OnOk result (self.new.slots ≡ self.old.slots ++ Some (linear name.now (tree_at self.old.trees number ∷ [])) ∷ []) }
         ensures err { OnErr result (self.new.slots ≡ self.old.slots) }
         ensures sig { self.new.sig ≡ self.old.sig }
+        ensures trees { self.new.trees ≡ self.old.trees }
     {
         self.reserve(1)?;
-        let shared = self.share(alloc, f)?;
-        self.add(shared);
+        let f = single_shared(alloc, name, number)?;
+        self.add(f);
         Ok(())
+    }
+
+    // The number of a fresh name.
+    #[tactic(auto, using(crate::proofs::Kept::table_laws))]
+    fn fresh_number(&mut self, alloc: Global, n: u64) -> Result<u64, Mem>
+        ensures below { IfOk result (λ k. k < length self.new.trees) }
+        ensures tree { IfOk result (λ k. tree_at self.new.trees k ≡ fresh n) }
+        ensures keeps { Keeps (table_of self.old) (table_of self.new) }
+        ensures slots { self.new.slots ≡ self.old.slots }
+    {
+        shared_facts_stay();
+        let number = self.table.intern(alloc, Node::Fresh(n))?;
+        Ok(number)
+    }
+
+    // Puts the fact on that makes a fresh name. Refused, there may be more numbers than before.
+    pub(crate) fn put_fresh(&mut self, alloc: Global, n: u64) -> Result<(), Mem>
+        ensures ok { OnOk result (self.new.slots ≡ self.old.slots ++ Some (fr_fact n) ∷ []) }
+        ensures err { OnErr result (self.new.slots ≡ self.old.slots) }
+        ensures keeps { Keeps (table_of self.old) (table_of self.new) }
+    {
+        let number = self.fresh_number(alloc, n)?;
+        self.put_single(alloc, b"Fr", number)
+    }
+
+    // The table in which the arguments have their numbers.
+    pub(crate) fn table(&self) -> &Table
+        ensures { result.now ≡ table_of self.now }
+    {
+        &self.table
+    }
+
+    // Lets the adversary know a name that it made. Refused, there may be more numbers than before.
+    pub(crate) fn know_name(&mut self, knowledge: &mut Knowledge, n: u64) -> Result<u64, Mem>
+        requires { AreNumbered (table_of self.old) knowledge.old }
+        ensures ok { OnOk result (Gains knowledge.old knowledge.new (NameOrigin n) (fresh n)) }
+        ensures numbered { AreNumbered (table_of self.new) knowledge.new }
+        ensures slots { self.new.slots ≡ self.old.slots }
+        ensures err { OnErr result (knowledge.new ≡ knowledge.old) }
+    {
+        shared_facts_stay();
+        knowledge.name(&mut self.table, n)
+    }
+
+    // Lets the adversary know a public name. Refused, there may be more numbers than before.
+    pub(crate) fn know_public(&mut self, knowledge: &mut Knowledge, a: Name) -> Result<u64, Mem>
+        requires { AreNumbered (table_of self.old) knowledge.old }
+        ensures ok { OnOk result (Gains knowledge.old knowledge.new PublicOrigin (public a)) }
+        ensures numbered { AreNumbered (table_of self.new) knowledge.new }
+        ensures slots { self.new.slots ≡ self.old.slots }
+        ensures err { OnErr result (knowledge.new ≡ knowledge.old) }
+    {
+        shared_facts_stay();
+        knowledge.public(&mut self.table, a)
+    }
+
+    // Lets the adversary apply a symbol to entries. Refused, there may be more numbers than before.
+    pub(crate) fn know_applied(
+        &mut self,
+        knowledge: &mut Knowledge,
+        f: &Name,
+        entries: &Numbers,
+    ) -> Result<u64, Deny>
+        requires { AreNumbered (table_of self.old) knowledge.old }
+        ensures ok { OnOk result (Applies knowledge.old knowledge.new f.now entries.now) }
+        ensures numbered { AreNumbered (table_of self.new) knowledge.new }
+        ensures denied { IfErr result (IsCause knowledge.old f.now entries.now) }
+        ensures slots { self.new.slots ≡ self.old.slots }
+        ensures err { OnErr result (knowledge.new ≡ knowledge.old) }
+    {
+        shared_facts_stay();
+        knowledge.apply(&mut self.table, f, entries)
     }
 
     // The fact of this number, built anew; None where no fact has the number, or it was taken.
@@ -207,6 +276,16 @@ impl SharedPile {
         match self.slots.get(k as usize) {
             Some(Some(h)) => Some(h),
             Some(None) => None,
+            None => None,
+        }
+    }
+
+    // The number of the argument of the fact of this number, if it is linear, has this name and one argument.
+    pub(crate) fn argument(&self, k: u64, name: &[u8]) -> Option<u64>
+        ensures { MatchOption result ((t : Tree) → ¬ (fact_at self.now.slots k ≡ Some (linear name.now (t ∷ [])))) (λ n. (n < length self.now.trees) × (fact_at self.now.slots k ≡ Some (linear name.now (tree_at self.now.trees n ∷ [])))) }
+    {
+        match self.standing(k) {
+            Some(h) => argument(h, name),
             None => None,
         }
     }

@@ -9,19 +9,19 @@ ghost use Rattle.sap_steps.specs.Lines.{IsLine, IsSmall};
 ghost use Rattle.sap_steps.specs.code.Ready.{IsReady, rules_of};
 
 use crate::RFault;
-use crate::adversary::{give, name_made, put_out, put_single};
+use crate::adversary::{give, name_made, put_out};
 use crate::laws::lines_are_steps;
 use crate::pile::SharedPile;
 use crate::prepared::{Prepared, ready_rule};
 use crate::taking::carry_out;
 use crate::using::use_rule;
 use indexmap::IndexSet;
-use sap_deduce::Knowledge;
+use sap_deduce::{Knowledge, numbers_stay};
 use sap_rule::{RuleList, Theory, steps_keep_messages};
 use sap_runs::RStep;
 use sap_sides::{find_room, is_among, put_last};
 use sap_terms::{
-    Bindings, Copied, FactList, Mem, Name, Named, Numbers, Signature, Term, names_are_messages,
+    Bindings, Copied, FactList, Mem, Name, Named, Numbers, Signature, names_are_messages,
 };
 use std::alloc::Global;
 use std::marker::Model;
@@ -54,7 +54,7 @@ impl Model for RuleState {
       at = record { facts = a.facts.slots; known = terms_of a.knowledge.entries; made = a.made.keys };
     } };
 
-    ghost invariant = { λ a. IsTied a.rules a.facts.sig a.facts.slots a.knowledge };
+    ghost invariant = { λ a. IsTied a.rules a.facts a.knowledge };
 }
 
 // The rules, ready to be used.
@@ -98,8 +98,9 @@ impl RuleState {
     }
 
     /// Takes one step, and gives what it shows, which are facts of messages. Refused, the state is as it was; the fault is
-    /// want of memory, or the first test of the step that fails.
-    /// It recurses as deep as the terms of the rules, the step and the entries.
+    /// want of memory, or the first test of the step that fails. Lines of the adversary look at the numbers of their terms
+    /// alone, however large the terms are; only a rule walks through terms, those of the rule and of the line's bindings,
+    /// and those of the cited facts where a destructor stands in its left side. It recurses as deep as these terms.
     pub fn step(&mut self, alloc: Global, s: &RStep) -> Result<FactList, RFault>
         ensures ok { IfOk result (λ acts. IsLine self.old.sig self.old.rules IsSmall self.old.at s.now acts self.new.at) }
         ensures refused { IfErr result (IsLineFault self.old.sig self.old.rules self.old.at s.now) }
@@ -142,12 +143,13 @@ impl RuleState {
         ensures sig { self.new.sig ≡ self.old.sig }
         ensures rules { self.new.rules ≡ self.old.rules }
     {
+        numbers_stay();
         names_are_messages();
         if is_among(&self.made, n) {
             return Err(RFault::UsedName { n });
         }
         find_room(&mut self.made)?;
-        put_single(&mut self.facts, alloc, b"Fr", Term::Fresh(n))?;
+        self.facts.put_fresh(alloc, n)?;
         put_last(&mut self.made, n);
         Ok(FactList::new(alloc))
     }
@@ -160,8 +162,8 @@ impl RuleState {
         ensures sig { self.new.sig ≡ self.old.sig }
         ensures rules { self.new.rules ≡ self.old.rules }
     {
-        let t = put_out(alloc, &self.facts, k)?;
-        self.knowledge.output(t)?;
+        let number = put_out(&self.facts, k)?;
+        self.knowledge.output(self.facts.table(), number)?;
         self.facts.remove(k);
         Ok(FactList::new(alloc))
     }
@@ -174,10 +176,10 @@ impl RuleState {
         ensures sig { self.new.sig ≡ self.old.sig }
         ensures rules { self.new.rules ≡ self.old.rules }
     {
-        let Some(n) = name_made(alloc, &self.facts, k)? else {
+        let Some(n) = name_made(&self.facts, k) else {
             return Err(RFault::WrongFact { f: k });
         };
-        self.knowledge.name(n)?;
+        self.facts.know_name(&mut self.knowledge, n)?;
         self.facts.remove(k);
         Ok(FactList::new(alloc))
     }
@@ -191,7 +193,7 @@ impl RuleState {
         ensures rules { self.new.rules ≡ self.old.rules }
     {
         let name = a.copy(alloc)?;
-        self.knowledge.public(name)?;
+        self.facts.know_public(&mut self.knowledge, name)?;
         Ok(FactList::new(alloc))
     }
 
@@ -203,7 +205,7 @@ impl RuleState {
         ensures sig { self.new.sig ≡ self.old.sig }
         ensures rules { self.new.rules ≡ self.old.rules }
     {
-        self.knowledge.apply(f, entries)?;
+        self.facts.know_applied(&mut self.knowledge, f, entries)?;
         Ok(FactList::new(alloc))
     }
 
@@ -216,10 +218,10 @@ impl RuleState {
         ensures rules { self.new.rules ≡ self.old.rules }
     {
         self.knowledge.each_is_deducible();
-        let Some(t) = self.knowledge.at(k) else {
+        let Some(number) = self.knowledge.number(self.facts.table(), k) else {
             return Err(RFault::NoEntry { k });
         };
-        let acts = give(&mut self.facts, alloc, t)?;
+        let acts = give(&mut self.facts, alloc, number)?;
         Ok(acts)
     }
 
@@ -237,6 +239,7 @@ impl RuleState {
         ensures sig { self.new.sig ≡ self.old.sig }
         ensures rules { self.new.rules ≡ self.old.rules }
     {
+        numbers_stay();
         let Some(rule) = self.rules.named(name) else {
             return Err(RFault::NoRule);
         };

@@ -18,6 +18,7 @@ pub(crate) fn carry_out(
     ensures ok { OnOk result (facts.new.slots ≡ adds (left_of facts.old.slots numbers.now) (map (fact_seen facts.old.trees) fired.right.items)) }
     ensures err { OnErr result (facts.new.slots ≡ facts.old.slots) }
     ensures sig { facts.new.sig ≡ facts.old.sig }
+    ensures trees { facts.new.trees ≡ facts.old.trees }
     ensures acts { IfOk result (λ acts. acts ≡ fired.acts) }
 {
     let Sides { acts, right } = fired;
@@ -31,6 +32,7 @@ fn exchange(facts: &mut SharedPile, numbers: &Numbers, added: Vec<SharedFact>) -
     ensures ok { OnOk result (facts.new.slots ≡ adds (left_of facts.old.slots numbers.now) (map (fact_seen facts.old.trees) added.items)) }
     ensures err { OnErr result (facts.new.slots ≡ facts.old.slots) }
     ensures sig { facts.new.sig ≡ facts.old.sig }
+    ensures trees { facts.new.trees ≡ facts.old.trees }
 {
     facts.reserve(added.len() as u64)?;
     take_each(facts, numbers);
@@ -55,6 +57,7 @@ fn add_each(facts: &mut SharedPile, added: Vec<SharedFact>)
     requires room { length added.items ≤ facts.old.spare }
     requires below { AreFactsBelow (length facts.old.trees) added.items }
     ensures sig { facts.new.sig ≡ facts.old.sig }
+    ensures trees { facts.new.trees ≡ facts.old.trees }
     ensures slots { facts.new.slots ≡ adds facts.old.slots (map (fact_seen facts.old.trees) added.items) }
 {
     for f in added {

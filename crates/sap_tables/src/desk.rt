@@ -1,8 +1,8 @@
 //! What the rows of a table have made so far, where they go on from one another.
+use crate::known::Known;
 use crate::notation::{list, name, signature};
 use crate::page::Page;
 use sap_calc::Config;
-use sap_deduce::Knowledge;
 use sap_facts::Pile;
 use sap_rule::Theory;
 use sap_steps::RuleState;
@@ -16,7 +16,7 @@ pub struct Desk {
     pub terms: Items<Term>,
     pub pile: Pile,
     pub theory: Theory,
-    pub knowledge: Option<Box<Knowledge>>,
+    pub knowledge: Option<Box<Known>>,
     pub run: Option<Box<RuleState>>,
     pub config: Option<Box<Config>>,
     pub shelf: MemShelf,

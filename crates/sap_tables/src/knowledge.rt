@@ -2,9 +2,10 @@
 ghost use Rattle.std.specs.Prelude.{◌≡◌};
 
 use crate::desk::Desk;
+use crate::known::Known;
 use crate::notation::{list, name, number, part, parted};
 use crate::page::Page;
-use sap_deduce::{Deny, Knowledge};
+use sap_deduce::Deny;
 use sap_rewrite::{is_message, normal};
 use sap_terms::{MOST_TERM_NODES, Mem, Numbers, Signature, Sort, Term};
 use std::alloc::Global;
@@ -19,7 +20,7 @@ fn show_deny(page: &mut Page, deny: &Deny) {
     }
 }
 
-fn apply(page: &mut Page, k: &mut Knowledge, f: &str, entries: &Numbers) {
+fn apply(page: &mut Page, k: &mut Known, f: &str, entries: &Numbers) {
     match &name(page.alloc, f) {
         Some(f) => match k.apply(f, entries) {
             Ok(number) => page.numbered("", number),
@@ -29,7 +30,7 @@ fn apply(page: &mut Page, k: &mut Knowledge, f: &str, entries: &Numbers) {
     }
 }
 
-fn show_numbered(page: &mut Page, k: &mut Knowledge, kind: &str, n: u64) {
+fn show_numbered(page: &mut Page, k: &mut Known, kind: &str, n: u64) {
     match (kind, k.at(n)) {
         ("name", _) => page.show(k.name(n)),
         ("nodes", Some(t)) => page.numbered("", t.nodes()),
@@ -39,7 +40,7 @@ fn show_numbered(page: &mut Page, k: &mut Knowledge, kind: &str, n: u64) {
     }
 }
 
-fn show_entry(page: &mut Page, sig: &Signature, k: &mut Knowledge, kind: &str, what: &str) {
+fn show_entry(page: &mut Page, sig: &Signature, k: &mut Known, kind: &str, what: &str) {
     match kind {
         "public" => match name(page.alloc, what) {
             Some(a) => page.show(k.public(a)),
@@ -58,22 +59,22 @@ fn show_entry(page: &mut Page, sig: &Signature, k: &mut Knowledge, kind: &str, w
 }
 
 // Enters a term's normal form, if it is a message and isn't large.
-fn send(alloc: Global, sig: &Signature, k: &mut Knowledge, t: &Term) -> Result<(), Mem>
+fn send(alloc: Global, sig: &Signature, k: &mut Known, t: &Term) -> Result<(), Mem>
     requires { k.old.sig ≡ sig.now }
 {
     let form = normal(alloc, sig, t)?;
     if form.nodes() > MOST_TERM_NODES || !is_message(alloc, sig, Sort::Msg, &form)? {
         return Ok(());
     }
-    match k.output(form) {
+    match k.send(alloc, &form) {
         Ok(_) => Ok(()),
         Err(_) => Err(Mem),
     }
 }
 
 // The knowledge of a term that is sent first.
-fn of_sent(alloc: Global, sig: &Signature, t: &Term) -> Result<Box<Knowledge>, Mem> {
-    let mut k = Box::new(alloc, Knowledge::new(alloc, sig)?)?;
+fn of_sent(alloc: Global, sig: &Signature, t: &Term) -> Result<Box<Known>, Mem> {
+    let mut k = Box::new(alloc, Known::new(alloc, sig)?)?;
     send(alloc, sig, &mut k, t)?;
     Ok(k)
 }

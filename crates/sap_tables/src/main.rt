@@ -9,6 +9,7 @@ mod files;
 mod formulas;
 mod guards;
 mod knowledge;
+mod known;
 mod notation;
 mod page;
 mod piles;

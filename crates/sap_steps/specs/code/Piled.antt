@@ -1,10 +1,10 @@
 -- How a pile is seen whose facts have numbers of shared terms.
-use Rattle.std.specs.Prelude.{ℕ, List, map, Option, Some, None, All}
+use Rattle.std.specs.Prelude.{ℕ, List, [], ◌∷◌, false, map, Option, Some, None, All}
 use Rattle.sap_terms.specs.Piles.{Pile}
 use Rattle.sap_terms.specs.Signature.{Sig}
 use Rattle.sap_terms.specs.Tree.{Tree}
 use Rattle.sap_terms.specs.declared.fact.Fact.{Fact}
-use Rattle.sap_share.specs.Shared.{AreBelow}
+use Rattle.sap_share.specs.Shared.{Shared, AreBelow}
 use Rattle.sap_sides.specs.SharedFacts.{fact_seen}
 use Rattle.sap_sides.specs.declared.shared_fact.SharedFact.{SharedFact}
 
@@ -14,6 +14,10 @@ pub record Piled : Type 0 where
   pub trees : List Tree
   pub slots : Pile
   pub spare : ℕ
+
+-- the table that it has
+abbrev pub table_of : Piled → Shared
+table_of p = record { sig = p.sig; trees = p.trees }
 
 -- the fact of a slot, if it stands
 abbrev pub slot_seen : List Tree → Option SharedFact → Option Fact
@@ -32,3 +36,7 @@ IsSlotBelow count (Some f) = AreBelow count f.args
 -- so are those in all slots
 abbrev pub AreSlotsBelow : ℕ → List (Option SharedFact) → Type 0
 AreSlotsBelow count slots = All (IsSlotBelow count) slots
+
+-- the linear fact of this name whose one argument has this number
+abbrev pub single_of : List ℕ → ℕ → SharedFact
+single_of name n = record { name = name; persistent = false; args = n ∷ [] }

@@ -6,6 +6,6 @@ use Rattle.sap_deduce.proofs.knowledge.Knowledge.numbers_at.Given as goal
 abbrev pub invariant-loop-k : goal.invariant-loop-k
 invariant-loop-k l = record {
   count : length l.ks ≡ l.k-index;
-  below : AreBelow (length l.self.trees) l.ks;
-  terms : AreTermsAt l.self.entries (take l.k-index l.k-items) (trees_at l.self.trees l.ks);
+  below : AreBelow (length l.table.trees) l.ks;
+  terms : AreTermsAt l.self.entries (take l.k-index l.k-items) (trees_at l.table.trees l.ks);
 }

@@ -2,4 +2,4 @@ use Rattle.sap_steps.proofs.Tied.{tied_knows}
 use Rattle.sap_steps.proofs.state.RuleState.public.Goals as goal
 
 pub invariant_of-self-2 : goal.invariant_of-self-2
-invariant_of-self-2 c = tied_knows _ _ _ _ _ _ _ c.self.invariant c.in_ok-public.ensures.ok
+invariant_of-self-2 c = tied_knows _ _ _ _ _ _ _ c.self.invariant c.in_ok-know_public.ensures.ok c.know_public.ensures.slots c.know_public.ensures.numbered

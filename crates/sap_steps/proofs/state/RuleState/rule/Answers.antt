@@ -5,8 +5,10 @@ use Rattle.sap_deduce.specs.Entries.{terms_of}
 use Rattle.sap_rule.specs.RuleSteps.{RuleState}
 use Rattle.sap_sides.specs.SharedFacts.{fact_seen}
 use Rattle.sap_steps.specs.code.Ready.{IsReady, rules_of}
+use Rattle.sap_steps.specs.code.Piled.{table_of}
+use Rattle.sap_steps.proofs.Kept.{keeps_moved}
 use Rattle.sap_steps.proofs.Ready.{no_rule, its_rule, ready-all}
-use Rattle.sap_steps.proofs.Tied.{tied_used}
+use Rattle.sap_steps.proofs.Tied.{tied_keeps, tied_used}
 use Rattle.sap_steps.proofs.Used.{rule_fault, rule_line}
 use Rattle.sap_steps.proofs.state.RuleState.rule.Goals as goal
 
@@ -29,8 +31,8 @@ returns-in_err-fired-clause-refused c =
 
 pub invariant_of-self-2 : goal.invariant_of-self-2
 invariant_of-self-2 c =
-    rw (c.in_ok-acts.ensures.sig, c.in_ok-fired.ensures.sig, c.in_ok-acts.ensures.ok, c.in_ok-fired.ensures.slots)
-    (tied_used c.self.inside.rules c.self.inside.facts.sig c.self.inside.facts.slots c.self.inside.knowledge c.args.numbers.now (map (fact_seen c.use_rule.new.facts.trees) c.in_ok-fired.fired.right.items) c.self.invariant (rw c.signature-sig.ensures at c.in_ok-fired.ensures.held))
+    let used = tied_keeps c.numbers_stay.ensures c.self.inside.rules c.self.inside.facts c.use_rule.new.facts c.self.inside.knowledge c.self.invariant c.use_rule.ensures.slots c.use_rule.ensures.keeps in
+    tied_used c.self.inside.rules c.use_rule.new.facts c.carry_out.new.facts c.self.inside.knowledge c.args.numbers.now (map (fact_seen c.use_rule.new.facts.trees) c.in_ok-fired.fired.right.items) used (rw c.signature-sig.ensures at c.in_ok-fired.ensures.held) c.carry_out.ensures.sig c.carry_out.ensures.trees c.in_ok-acts.ensures.ok
 
 pub returns-clause-ok : goal.returns-clause-ok
 returns-clause-ok c =
@@ -38,3 +40,12 @@ returns-clause-ok c =
     rw (c.in_ok-acts.ensures.acts, ← c.self.view_is)
     (rule_line c.self.inside.knowledge.sig (rules_of c.self.inside.rules) c.self.inside.facts.slots c.carry_out.new.facts.slots (terms_of c.self.inside.knowledge.entries) c.self.inside.made.keys c.args.name.now c.args.numbers.now c.args.b.now c.in-Some.rule.now.rule c.in_ok-fired.fired.acts (map (fact_seen c.use_rule.new.facts.trees) c.in_ok-fired.fired.right.items) named c.in_ok-fired.ensures.taken (rw c.signature-sig.ensures at c.in_ok-fired.ensures.fires)
     (rw (c.in_ok-acts.ensures.ok, c.in_ok-fired.ensures.slots) refl))
+
+pub invariant_of-self : goal.invariant_of-self
+invariant_of-self c =
+    tied_keeps c.numbers_stay.ensures c.self.inside.rules c.self.inside.facts c.use_rule.new.facts c.self.inside.knowledge c.self.invariant c.use_rule.ensures.slots c.use_rule.ensures.keeps
+
+pub invariant_of-self-in_err-acts : goal.invariant_of-self-in_err-acts
+invariant_of-self-in_err-acts c =
+    let keeps = keeps_moved _ _ (table_of c.carry_out.new.facts) c.use_rule.ensures.keeps c.carry_out.ensures.sig c.carry_out.ensures.trees in
+    tied_keeps c.numbers_stay.ensures c.self.inside.rules c.self.inside.facts c.carry_out.new.facts c.self.inside.knowledge c.self.invariant (c.in_err-acts.ensures.err ∙ c.use_rule.ensures.slots) keeps
