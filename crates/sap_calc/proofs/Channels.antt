@@ -1,5 +1,5 @@
 -- Threads that send on a channel, and that show a fact.
-use Rattle.std.proofs.Common.{◌≡◌, ◌<◌, ℕ, List, [], ◌∷◌, ◌++◌, length, Some, refl, sym, ap, subst, ◌∙◌, inl, inr}
+use Rattle.std.proofs.Common.{◌≡◌, ◌<◌, ℕ, List, [], ◌∷◌, ◌++◌, length, Some, None, refl, sym, ap, subst, ◌∙◌}
 use Rattle.std.specs.Prelude.{slice_get, All}
 use Rattle.std.proofs.lemmas.List.{append-nil}
 use Rattle.sap_rewrite.specs.Laws.{FormIsOne}
@@ -12,7 +12,7 @@ use Rattle.sap_terms.specs.View.{tree}
 use Rattle.sap_terms.specs.Modulo.{instance_fact}
 use Rattle.sap_terms.specs.declared.fact.Fact.{Fact}
 use Rattle.sap_terms.specs.declared.term.Term.{Term}
-use Rattle.sap_deduce.specs.Entries.{Entries, Gains, terms_of}
+use Rattle.sap_deduce.specs.Entries.{Entries, AreNumbered, Gains, terms_of}
 use Rattle.sap_deduce.specs.declared.origin.Origin.TheVariants.{Output}
 use Rattle.sap_process.specs.Action as action
 use Rattle.sap_process.specs.Configuration.{Runs, becomes, sends_out}
@@ -22,7 +22,7 @@ use Rattle.sap_process.specs.Sites.{above_of, var_names}
 use Rattle.sap_runs.specs.declared.process_step.PStep.TheVariants as line
 use Rattle.sap_share.specs.Env.{given}
 use Rattle.sap_share.specs.Shared.{Shared, tree_at, Keeps, HaveOneNumber}
-use Rattle.sap_lines.specs.Faults.{EvaluateSmall, no_memory, unknown_channel, other_channel}
+use Rattle.sap_lines.specs.Faults.{EvaluateSmall, unknown_channel, other_channel}
 use Rattle.sap_lines.specs.Lines.{outputs_on, shows}
 use Rattle.sap_calc.specs.Running.{configuration, IsDone, IsDenied}
 use Rattle.sap_lines.specs.Places.{proc_at, procs_of}
@@ -31,7 +31,7 @@ use Rattle.sap_calc.specs.code.Sound.{IsSoundFrom}
 use Rattle.sap_calc.specs.code.Threads.{live, IsThread}
 use Rattle.sap_heads.specs.Values.{IsSmallNumber}
 use Rattle.sap_heads.specs.Values.{CanEvaluate, AreValues, IsValueFault, IsShown}
-use Rattle.sap_calc.specs.code.Given.{IsEntryNumber, IsEntryFault}
+use Rattle.sap_calc.specs.code.Given.{IsEntryNumber}
 use Rattle.sap_lines.specs.declared.fault.PFault.{PFault}
 use Rattle.sap_lines.specs.declared.fault.PFault.TheVariants as fault
 use Rattle.sap_lines.specs.declared.form.Form.TheVariants.{Nil, Send, Event}
@@ -74,9 +74,8 @@ module _ (P : Parts) (t : ℕ) (th : Thread) (x : Place) (tied : AreTied P) (is 
       let here = sound_head P.table.sig _ _ send_sound in
       can_second P t th tied is grounds send_sound.path (act (action.send (tree m) (tree n)) (proc_at (procs_of P.places) x.first)) here (tree m) (tree n) here.bound (second_of (tree m) (tree n) [])
 
-  pub send_unknown : (k : ℕ) (f : PFault) → IsEntryFault P.known k f → IsDenied (seen P) (line.Send t k) f
-  send_unknown k f (inl h) = rw h (no_memory (line.Send t k))
-  send_unknown k f (inr h) = rw h.0 (unknown_channel t k send_runs refl h.1)
+  pub send_unknown : (k : ℕ) → slice_get (terms_of P.known.entries) k ≡ None → IsDenied (seen P) (line.Send t k) (fault.NoEntry k)
+  send_unknown k none = unknown_channel t k send_runs refl none
 
   module _ (k e : ℕ) (entry : IsEntryNumber P.table P.known k e) where
     pub send_large : (f : PFault) → IsValueFault P.table.sig ((instance (given P.table.trees th.env) (tree m)) ∷ (instance (given P.table.trees th.env) (tree n)) ∷ []) f → IsDenied (seen P) (line.Send t k) f
@@ -84,13 +83,13 @@ module _ (P : Parts) (t : ℕ) (th : Thread) (x : Place) (tied : AreTied P) (is 
 
     module _ (u : Shared) (keeps : Keeps P.table u) (i j : ℕ) (v : AreValues P.table u th.env (tree m) (tree n) i j) where
       channel_form : IsNormalForm (equations P.known.sig) (instance (given P.table.trees th.env) (tree m)) (tree_at u.trees i)
-      channel_form = rw tied.sig at v.first_form
+      channel_form = rw tied.numbered.sig at v.first_form
 
       message_form : IsNormalForm (equations P.known.sig) (instance (given P.table.trees th.env) (tree n)) (tree_at u.trees j)
-      message_form = rw tied.sig at v.second_form
+      message_form = rw tied.numbered.sig at v.second_form
 
       send_small : EvaluateSmall P.known.sig ((instance (given P.table.trees th.env) (tree m)) ∷ (instance (given P.table.trees th.env) (tree n)) ∷ [])
-      send_small = rw tied.sig at v.small
+      send_small = rw tied.numbered.sig at v.small
 
       entry_stays : tree_at u.trees e ≡ tree_at P.table.trees e
       entry_stays = tree_stays P.table u keeps e entry.small.below
@@ -99,9 +98,9 @@ module _ (P : Parts) (t : ℕ) (th : Thread) (x : Place) (tied : AreTied P) (is 
       send_denied one once below other =
           other_channel t k send_runs entry.at send_small (λ form. other (once i e v.first_number.below below (one (equations P.known.sig) (instance (given P.table.trees th.env) (tree m)) (tree_at u.trees i) (tree_at P.table.trees e) channel_form form ∙ sym entry_stays)))
 
-      module _ (known : Entries) (gains : Gains P.known known Output (tree_at u.trees j)) where
+      module _ (known : Entries) (gains : Gains P.known known Output (tree_at u.trees j)) (numbered : AreNumbered u known) where
         pub send_tied : AreTied (record (gone P u t th x.first) { known = known })
-        send_tied = sent_tied (gone P u t th x.first) known (tree_at u.trees j) gains (gone_tied P u t th x.first keeps tied (behind P t th x tied is _ send_below.0 (sound_behind P.table.sig _ _ _ send_sound)))
+        send_tied = sent_tied (gone P u t th x.first) known (tree_at u.trees j) gains numbered (gone_tied P u t th x.first keeps tied (behind P t th x tied is _ send_below.0 (sound_behind P.table.sig _ _ _ send_sound)))
 
         pub send_line : i ≡ e → (label : List Fact) → label ≡ k_fact (tree_at u.trees e) ∷ [] → IsDone (seen P) (seen (record (gone P u t th x.first) { known = known })) (line.Send t k) label
         send_line same label shown =
@@ -135,9 +134,9 @@ module _ (P : Parts) (t : ℕ) (th : Thread) (x : Place) (tied : AreTied P) (is 
 
     pub event_line : (label : List Fact) → IsShown P.table th.env f label → IsDone (seen P) (seen (gone P u t th x.first)) (line.Event t) label
     event_line label h =
-        let small : EvaluateSmall P.known.sig (instance_fact (given P.table.trees th.env) f).args = rw tied.sig at h.small in
+        let small : EvaluateSmall P.known.sig (instance_fact (given P.table.trees th.env) f).args = rw tied.numbered.sig at h.small in
         rw h.alone (record {
           inner = [];
-          line = rw (gone_is P u t th x.first keeps tied is) (shows t event_runs (rw tied.sig at h.form) small);
+          line = rw (gone_is P u t th x.first keeps tied is) (shows t event_runs (rw tied.numbered.sig at h.form) small);
           sig = refl;
         })

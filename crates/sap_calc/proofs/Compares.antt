@@ -62,13 +62,13 @@ module _ (P : Parts) (t : ℕ) (th : Thread) (x : Place) (tied : AreTied P) (is 
 
   module _ (u : Shared) (keeps : Keeps P.table u) (j k : ℕ) (v : AreValues P.table u th.env (tree m) (tree n) j k) where
     first_form : IsNormalForm (equations P.known.sig) (instance (given P.table.trees th.env) (tree m)) (tree_at u.trees j)
-    first_form = rw tied.sig at v.first_form
+    first_form = rw tied.numbered.sig at v.first_form
 
     second_form : IsNormalForm (equations P.known.sig) (instance (given P.table.trees th.env) (tree n)) (tree_at u.trees k)
-    second_form = rw tied.sig at v.second_form
+    second_form = rw tied.numbered.sig at v.second_form
 
     small : EvaluateSmall P.known.sig (instance (given P.table.trees th.env) (tree m) ∷ instance (given P.table.trees th.env) (tree n) ∷ [])
-    small = rw tied.sig at v.small
+    small = rw tied.numbered.sig at v.small
 
     pub then_tied : AreTied (gone P u t th x.first)
     then_tied = gone_tied P u t th x.first keeps tied (moved P t th tied is x.first (thread_tied P t th tied is).above below.0 (sound_then P.table.sig _ _ _ _ _ sound) refl)

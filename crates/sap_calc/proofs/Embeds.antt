@@ -1,5 +1,5 @@
 -- Threads that use their embedded rules on facts.
-use Rattle.std.proofs.Common.{◌≡◌, ◌<◌, ℕ, zero, suc, Bool, true, false, List, [], ◌∷◌, ◌++◌, length, Option, Some, None, if◌then◌else◌, refl, sym, ap, subst, ◌∙◌, ◌⊎◌, inl, inr}
+use Rattle.std.proofs.Common.{◌≡◌, ◌<◌, ℕ, zero, suc, Bool, true, false, List, [], ◌∷◌, ◌++◌, length, map, Option, Some, None, if◌then◌else◌, refl, sym, ap, subst, ◌∙◌, ◌⊎◌, inl, inr}
 use Rattle.std.specs.Prelude.{All, Contains, slice_get, slice_set}
 use Rattle.std.proofs.lemmas.List.{map-append}
 use Rattle.std.proofs.lemmas.List.Elements.{All-nil, All-cons, All-contains, Contains-get_or}
@@ -28,8 +28,11 @@ use Rattle.sap_process.specs.Sites.{bound_by}
 use Rattle.sap_process.specs.Sorted.{with_sorts, by_binder}
 use Rattle.sap_runs.specs.declared.process_step.PStep.TheVariants as line
 use Rattle.sap_share.specs.Env.{given}
+use Rattle.sap_share.specs.Shared.{Shared, Keeps}
 use Rattle.sap_share.specs.declared.env.Bound.{Bound}
 use Rattle.sap_sides.specs.Messages.{IsSmallMessageFact, HoldsSmallMessages}
+use Rattle.sap_sides.specs.SharedFacts.{fact_seen, slots_seen, AreSlotsBelow}
+use Rattle.sap_sides.specs.declared.shared_fact.SharedFact.{SharedFact}
 use Rattle.sap_lines.specs.Faults.{AreRight, FitsFacts, EvaluateSmall, no_memory, fact_count, fact_missing, bad_binding, unfitting_facts, large_rule}
 use Rattle.sap_lines.specs.Lines.{left_open, embeds}
 use Rattle.sap_lines.specs.Places.{proc_at, procs_of}
@@ -48,6 +51,7 @@ use Rattle.sap_calc.specs.code.Threads.{live}
 use Rattle.sap_calc.specs.declared.thread.Thread.{Thread}
 use Rattle.sap_calc.proofs.Evaluable.{over_at}
 use Rattle.sap_calc.proofs.Further.{further_is, further_tied}
+use Rattle.sap_calc.proofs.Moves.{slots_stay}
 use Rattle.sap_calc.proofs.Lines.{thread_tied, children_below, runs_form, sound_form}
 use Rattle.sap_calc.proofs.Sounds.{sound_head}
 
@@ -91,6 +95,14 @@ adds_fine g facts ks cited right h taken fine k f here = elim (got_adds (left_of
   | inr new ↦ All-contains (IsSmallMessageFact g) right f fine (contains_got right f new.0 new.1)
 ]
 
+-- facts that are cited are cited of a larger table
+pub cited_stay : (P : Parts) (u : Shared) → Keeps P.table u → AreTied P → (ks : List ℕ) (cited : List Fact) → AreCited (slots_seen P.table.trees P.facts) ks cited → AreCited (slots_seen u.trees P.facts) ks cited
+cited_stay P u keeps tied ks cited h = subst (λ facts. AreCited facts ks cited) (sym (slots_stay P.table u keeps P.facts tied.slots).0) h
+
+-- facts that are the same are cited alike
+pub cited_same : (facts : Pile) (ts : List Tree) (ks : List ℕ) (xs ys : List SharedFact) → xs ≡ ys → AreCited facts ks (map (fact_seen ts) ys) → AreCited facts ks (map (fact_seen ts) xs)
+cited_same facts ts ks xs ys same h = subst (λ (zs : List SharedFact). AreCited facts ks (map (fact_seen ts) zs)) (sym same) h
+
 count_is : (σ : Choice) (fs : List Fact) → length (instance_facts σ fs) ≡ length fs
 count_is σ [] = refl
 count_is σ (f ∷ fs) = ap suc (count_is σ fs)
@@ -129,44 +141,46 @@ module _ (P : Parts) (t : ℕ) (th : Thread) (x : Place) (tied : AreTied P) (is 
     pub embed_count : (length ks ≡ length l → ⊥) → IsDenied (seen P) (line.Embedded t ks b) fault.FactCount
     embed_count other = fact_count t ks b rule_runs (λ same. other (same ∙ count_is (given P.table.trees th.env) l))
 
-    pub embed_uncited : length ks ≡ length l → (f : PFault) → AreUncited P.facts ks f → IsDenied (seen P) (line.Embedded t ks b) f
+    pub embed_uncited : length ks ≡ length l → (f : PFault) → AreUncited (slots_seen P.table.trees P.facts) ks f → IsDenied (seen P) (line.Embedded t ks b) f
     embed_uncited count f (inl none) = rw none (no_memory (line.Embedded t ks b))
     embed_uncited count f (inr missing) = rw missing.1 (fact_missing t ks b missing.0 rule_runs (count ∙ sym (count_is (given P.table.trees th.env) l)) missing.2)
 
-    module _ (cited : List Fact) (here : AreCited P.facts ks cited) where
-      takes : Takes P.facts ks cited (left_of P.facts ks)
-      takes = subst (λ fs. Takes P.facts ks fs (left_of P.facts ks)) (sym here.are) here.taken
+    module _ (cited : List Fact) (here : AreCited (slots_seen P.table.trees P.facts) ks cited) where
+      takes : Takes (slots_seen P.table.trees P.facts) ks cited (left_of (slots_seen P.table.trees P.facts) ks)
+      takes = subst (λ fs. Takes (slots_seen P.table.trees P.facts) ks fs (left_of (slots_seen P.table.trees P.facts) ks)) (sym here.are) here.taken
 
       pub cited_fine : All (IsSmallMessageFact P.table.sig) cited
       cited_fine = taken_fine P.table.sig tied.facts takes
 
       pub embed_unused : length ks ≡ length l → (f : PFault) → IsUnused P.table th.env cited l e r b f → IsDenied (seen P) (line.Embedded t ks b) f
       embed_unused count f rule.no_memory = no_memory (line.Embedded t ks b)
-      embed_unused count f (rule.not_opened bad) = bad_binding t ks b rule_runs (count ∙ sym (count_is (given P.table.trees th.env) l)) takes (rw tied.sig at bad)
-      embed_unused count f (rule.not_fitting opened none_fits) = unfitting_facts t ks b rule_runs (count ∙ sym (count_is (given P.table.trees th.env) l)) takes (rw tied.sig at opened) (rw tied.sig at none_fits)
-      embed_unused count f (rule.too_large σ opened fits large) = large_rule t ks b σ rule_runs takes (rw tied.sig at opened) (rw tied.sig at fits) (rw tied.sig at large)
+      embed_unused count f (rule.not_opened bad) = bad_binding t ks b rule_runs (count ∙ sym (count_is (given P.table.trees th.env) l)) takes (rw tied.numbered.sig at bad)
+      embed_unused count f (rule.not_fitting opened none_fits) = unfitting_facts t ks b rule_runs (count ∙ sym (count_is (given P.table.trees th.env) l)) takes (rw tied.numbered.sig at opened) (rw tied.numbered.sig at none_fits)
+      embed_unused count f (rule.too_large σ opened fits large) = large_rule t ks b σ rule_runs takes (rw tied.numbered.sig at opened) (rw tied.numbered.sig at fits) (rw tied.numbered.sig at large)
 
-      module _ (env : List Bound) (shown added : List Fact) (h : IsUsed P.table th.env cited l e r b env shown added) where
-        pub embed_tied : AreTied (record P { threads = slice_set P.threads t (Some (record { place = x.first; env = env })); facts = adds (left_of P.facts ks) added })
+      module _ (env : List Bound) (shown added : List Fact) (h : IsUsed P.table th.env cited l e r b env shown added) (slots : List (Option SharedFact)) (below : AreSlotsBelow (length P.table.trees) slots)
+          (left : slots_seen P.table.trees slots ≡ adds (left_of (slots_seen P.table.trees P.facts) ks) added) where
+        pub embed_tied : AreTied (record P { threads = slice_set P.threads t (Some (record { place = x.first; env = env })); facts = slots })
         embed_tied =
             let set = further_tied P t th tied is h.choice (facts_vars (l ++ (e ++ r))) (facts_vars (rule_given P.table th.env l e r)) x.first env h.bound (action.embedded l e r) (λ scope. refl) rule_below.0 rule_sound in
             record {
-              sig = set.sig;
+              numbered = set.numbered;
               places = set.places;
               threads = set.threads;
               keys = set.keys;
               values = set.values;
               held = set.held;
               own = set.own;
-              facts = adds_fine P.table.sig P.facts ks cited added tied.facts takes h.messages;
+              slots = below;
+              facts = subst (HoldsSmallMessages P.table.sig) (sym left) (adds_fine P.table.sig (slots_seen P.table.trees P.facts) ks cited added tied.facts takes h.messages);
             }
 
-        pub embed_line : IsDone (seen P) (seen (record P { threads = slice_set P.threads t (Some (record { place = x.first; env = env })); facts = adds (left_of P.facts ks) added })) (line.Embedded t ks b) shown
+        pub embed_line : IsDone (seen P) (seen (record P { threads = slice_set P.threads t (Some (record { place = x.first; env = env })); facts = slots })) (line.Embedded t ks b) shown
         embed_line =
-            let fits : FitsFacts P.known.sig (facts_given P.table th.env l) b cited h.choice = rw tied.sig at h.fits in
-            let right : AreRight P.known.sig (left_open (facts_given P.table th.env l) (facts_given P.table th.env e) (facts_given P.table th.env r)) b = rw tied.sig at h.opened in
-            let acts : AreFormsOfFacts (equations P.known.sig) (instance_facts h.choice (facts_given P.table th.env e)) shown = rw tied.sig at h.acts in
-            let right_forms : AreFormsOfFacts (equations P.known.sig) (instance_facts h.choice (facts_given P.table th.env r)) added = rw tied.sig at h.right in
-            let whole : EvaluateSmall P.known.sig (facts_terms (instance_facts h.choice (rule_given P.table th.env l e r))) = rw tied.sig at h.small in
-            let after = ap (λ c. leaves c (adds (left_of P.facts ks) added)) (further_is P t th tied is h.choice (facts_vars (l ++ (e ++ r))) (facts_vars (rule_given P.table th.env l e r)) x.first env h.bound) in
+            let fits : FitsFacts P.known.sig (facts_given P.table th.env l) b cited h.choice = rw tied.numbered.sig at h.fits in
+            let right : AreRight P.known.sig (left_open (facts_given P.table th.env l) (facts_given P.table th.env e) (facts_given P.table th.env r)) b = rw tied.numbered.sig at h.opened in
+            let acts : AreFormsOfFacts (equations P.known.sig) (instance_facts h.choice (facts_given P.table th.env e)) shown = rw tied.numbered.sig at h.acts in
+            let right_forms : AreFormsOfFacts (equations P.known.sig) (instance_facts h.choice (facts_given P.table th.env r)) added = rw tied.numbered.sig at h.right in
+            let whole : EvaluateSmall P.known.sig (facts_terms (instance_facts h.choice (rule_given P.table th.env l e r))) = rw tied.numbered.sig at h.small in
+            let after = (λ i. record (configuration (seen (record P { threads = slice_set P.threads t (Some (record { place = x.first; env = env })) }))) { facts = left i }) ∙ ap (λ c. leaves c (adds (left_of (slots_seen P.table.trees P.facts) ks) added)) (further_is P t th tied is h.choice (facts_vars (l ++ (e ++ r))) (facts_vars (rule_given P.table th.env l e r)) x.first env h.bound) in
             record { inner = []; line = rw after (embeds t ks b h.choice cited shown added rule_runs fits.messages right.vars fits.agrees fits.equal takes acts right_forms whole); sig = refl }

@@ -1,12 +1,12 @@
 -- The first configuration: one thread at the root.
-use Rattle.std.proofs.Common.{◌≡◌, ℕ, zero, suc, List, [], ◌∷◌, Option, Some, None, refl, sym, ap, subst, ◌∙◌}
+use Rattle.std.proofs.Common.{◌≡◌, ℕ, zero, suc, List, [], ◌∷◌, length, Option, Some, None, refl, sym, ap, subst, ◌∙◌}
 use Rattle.std.specs.Prelude.{Bool, false, slice_get}
 use Rattle.std.proofs.lemmas.List.Elements.{All-nil}
 use Rattle.sap_terms.specs.Equations.{equations}
 use Rattle.sap_terms.specs.Signature.{Sig}
 use Rattle.sap_terms.specs.Tree.{variable}
 use Rattle.sap_terms.specs.declared.limits.TheConstants.{MOST_TERM_NODES}
-use Rattle.sap_deduce.specs.Entries.{Entries}
+use Rattle.sap_deduce.specs.Entries.{Entries, AreNumbered}
 use Rattle.sap_process.specs.Configuration.{initial}
 use Rattle.sap_process.specs.Ready.{IsReady}
 use Rattle.sap_process.specs.Instance.{process_instance}
@@ -15,6 +15,7 @@ use Rattle.sap_process.specs.Sites.{above_of}
 use Rattle.sap_share.specs.Env.{IsSmallForm}
 use Rattle.sap_share.specs.Shared.{Shared}
 use Rattle.sap_share.specs.declared.env.Bound.{Bound}
+use Rattle.sap_sides.specs.SharedFacts.{IsSlotBelow}
 use Rattle.sap_calc.specs.Running.{configuration}
 use Rattle.sap_lines.specs.Places.{IsRooted, proc_at, procs_of}
 use Rattle.sap_calc.specs.code.Parts.{Parts, AreTied, seen, IsSmallValue}
@@ -28,15 +29,16 @@ use Rattle.sap_calc.proofs.Sounds.{sound_root}
 abbrev pub first_parts : Shared → List Place → ℕ → Entries → Parts
 first_parts s places root k = record { table = s; places = places; threads = Some (record { place = root; env = [] }) ∷ []; store = []; held = []; facts = []; made = []; own = []; known = k }
 
-pub first_tied : (g : Sig) (p : Proc) (s : Shared) (places : List Place) (root : ℕ) (k : Entries) → IsReady g p → IsRooted places root p → s.sig ≡ g → k.sig ≡ g → k.entries ≡ [] → AreTied (first_parts s places root k)
-first_tied g p s places root k ready rooted sig known none = record {
-  sig = sig ∙ sym known;
+pub first_tied : (g : Sig) (p : Proc) (s : Shared) (places : List Place) (root : ℕ) (k : Entries) → IsReady g p → IsRooted places root p → s.sig ≡ g → AreNumbered s k → k.entries ≡ [] → AreTied (first_parts s places root k)
+first_tied g p s places root k ready rooted sig numbered none = record {
+  numbered = numbered;
   places = rooted.places;
   threads = only;
   keys = All-nil (λ (e : ℕ × Option ℕ). IsSmallNumber s e.0);
   values = All-nil (λ (e : ℕ × Option ℕ). IsSmallValue s e.1);
   held = All-nil (λ (e : ℕ × Bool). IsSmallNumber s e.0);
   own = rw none refl;
+  slots = All-nil (IsSlotBelow (length s.trees));
   facts = λ k f here. cc;
 } where
   first : IsThread s places (record { place = root; env = [] })
@@ -68,8 +70,8 @@ module _ (P : Parts) (root : ℕ) (threads : P.threads ≡ Some (record { place 
   are_first : P ≡ first_parts P.table P.places root P.known
   are_first = λ i. record { table = P.table; places = P.places; threads = threads i; store = store i; held = held i; facts = facts i; made = made i; own = own i; known = P.known }
 
-  pub start_tied : (g : Sig) (p : Proc) → IsReady g p → IsRooted P.places root p → P.table.sig ≡ g → P.known.sig ≡ g → P.known.entries ≡ [] → AreTied P
-  start_tied g p ready rooted sig known none = subst AreTied (sym are_first) (first_tied g p P.table P.places root P.known ready rooted sig known none)
+  pub start_tied : (g : Sig) (p : Proc) → IsReady g p → IsRooted P.places root p → P.table.sig ≡ g → AreNumbered P.table P.known → P.known.entries ≡ [] → AreTied P
+  start_tied g p ready rooted sig numbered none = subst AreTied (sym are_first) (first_tied g p P.table P.places root P.known ready rooted sig numbered none)
 
   pub start_is : (g : Sig) (p : Proc) → ((q : Proc) → process_instance (λ v. variable v) q ≡ q) → IsRooted P.places root p → P.known.entries ≡ [] → configuration (seen P) ≡ initial p
   start_is g p law rooted none = ap (λ Q. configuration (seen Q)) are_first ∙ first_is g p P.table P.places root P.known law rooted none

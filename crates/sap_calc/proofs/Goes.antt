@@ -98,7 +98,7 @@ pub denied_value : (P : Parts) (step : PStep) (t : ℕ) (p : Proc) (f : PFault) 
     → IsValueFault P.table.sig (evaluated p) f → IsDenied (seen P) step f
 denied_value P step t p f tied named runs form entry (inl none) = rw none (no_memory step)
 denied_value P step t p f tied named runs form entry (inr big) =
-    rw big.0 (large (record { thread = t; named = named; runs = runs; form = form }) entry (rw tied.sig at big.1))
+    rw big.0 (large (record { thread = t; named = named; runs = runs; form = form }) entry (rw tied.numbered.sig at big.1))
 
 -- a small number is that of a message
 pub message_at : (s : Shared) (g : Sig) (k : ℕ) → s.sig ≡ g → IsGround (tree_at s.trees k) → IsOver s.sig (tree_at s.trees k) → IsSmallNumber s k → IsMessage g Msg (tree_at s.trees k)

@@ -1,5 +1,5 @@
 -- Lines of a thread that evaluate the terms at the head of its place, test or write, and go on.
-use Rattle.std.proofs.Common.{◌≡◌, ◌<◌, ℕ, List, [], ◌∷◌, length, Option, Some, None, refl, sym, subst, ◌⊎◌, inl, inr, Bool}
+use Rattle.std.proofs.Common.{◌≡◌, ◌<◌, ℕ, List, [], ◌∷◌, length, Option, Some, refl, sym, subst, ◌⊎◌, inl, inr, Bool}
 use Rattle.std.specs.Prelude.{slice_get}
 use Rattle.std.proofs.lemmas.List.Elements.{All-nil}
 use Rattle.sap_rewrite.specs.Laws.{FormsDecide}
@@ -16,6 +16,7 @@ use Rattle.sap_lines.specs.declared.fault.PFault.{PFault}
 use Rattle.sap_lines.specs.declared.fault.PFault.TheVariants as fault
 use Rattle.sap_lines.specs.declared.place.Place.{Place}
 use Rattle.sap_heads.specs.Values.{IsSmallNumber, CanEvaluate, IsValueFault}
+use Rattle.sap_sides.specs.SharedFacts.{IsSlotBelow}
 use Rattle.sap_calc.specs.Running.{IsDone, IsDenied}
 use Rattle.sap_calc.specs.code.HeadLines.{line_of, next_of, HasOne, HasTwo, StandsAt, IsOneAsked, AreTwoAsked, IsAsked, IsUnasked, nobody, other_form, one_fails, two_fail, Passes, Fails, values_after, marks_after}
 use Rattle.sap_calc.specs.code.Parts.{Parts, AreTied, seen, IsSmallValue}
@@ -40,19 +41,20 @@ standing s places threads = record {
   facts = [];
   made = [];
   own = [];
-  known = record { sig = s.sig; entries = []; trees = []; numbers = [] };
+  known = record { sig = s.sig; entries = []; numbers = [] };
 }
 
 pub standing_tied : (s : Shared) (places : List Place) (threads : List (Option Thread)) → ArePlaced places
     → ((k : ℕ) (th : Thread) → slice_get threads k ≡ Some (Some th) → IsThread s places th) → AreTied (standing s places threads)
 standing_tied s places threads placed tied = record {
-  sig = refl;
+  numbered = record { sig = refl; below = All-nil (λ (k : ℕ). k < length s.trees); terms = refl };
   places = placed;
   threads = tied;
   keys = All-nil (λ (e : ℕ × Option ℕ). IsSmallNumber s e.0);
   values = All-nil (λ (e : ℕ × Option ℕ). IsSmallValue s e.1);
   held = All-nil (λ (e : ℕ × Bool). IsSmallNumber s e.0);
   own = refl;
+  slots = All-nil (IsSlotBelow (length s.trees));
   facts = λ k f h. cc;
 }
 

@@ -13,7 +13,7 @@ use Rattle.sap_terms.specs.View.{tree}
 use Rattle.sap_terms.specs.declared.fact.Fact.{Fact}
 use Rattle.sap_terms.specs.declared.term.Term.{Term}
 use Rattle.sap_rewrite.specs.Match.{HaveOneSort}
-use Rattle.sap_deduce.specs.Entries.{Entries}
+use Rattle.sap_deduce.specs.Entries.{Entries, terms_of}
 use Rattle.sap_process.specs.Action as action
 use Rattle.sap_process.specs.Configuration.{Runs}
 use Rattle.sap_process.specs.Instance.{process_instance}
@@ -30,13 +30,14 @@ use Rattle.sap_lines.specs.Lines.{inputs, inputs_on}
 use Rattle.sap_lines.specs.Places.{proc_at, procs_of}
 use Rattle.sap_lines.specs.Sorts.{PatternsHaveOneSort}
 use Rattle.sap_lines.specs.declared.fault.PFault.{PFault}
+use Rattle.sap_lines.specs.declared.fault.PFault.TheVariants as fault
 use Rattle.sap_lines.specs.declared.form.Form.TheVariants.{Nil, In, Recv}
 use Rattle.sap_lines.specs.declared.place.Place.{Place}
 use Rattle.sap_heads.specs.Taken.{IsTaken, IsUntaken, IsReceived, IsUnreceived}
 use Rattle.sap_heads.specs.Taken as take
 use Rattle.sap_heads.specs.Values.{CanEvaluate}
 use Rattle.sap_calc.specs.Running.{IsDone, IsDenied}
-use Rattle.sap_calc.specs.code.Given.{IsEntryNumber, IsEntryFault}
+use Rattle.sap_calc.specs.code.Given.{IsEntryNumber}
 use Rattle.sap_calc.specs.code.Parts.{Parts, AreTied, seen}
 use Rattle.sap_calc.specs.code.Sound.{IsSoundFrom}
 use Rattle.sap_calc.specs.code.Threads.{live}
@@ -103,7 +104,7 @@ module _ (P : Parts) (t : ℕ) (th : Thread) (x : Place) (tied : AreTied P) (is 
   module _ (k e : ℕ) (entry : IsEntryNumber P.table P.known k e) where
     in_denied : (n : Term) (form : x.form ≡ In n) (f : PFault) → IsUntaken P.table th.env (tree n) (tree_at P.table.trees e) f → IsDenied (seen P) (line.In t k) f
     in_denied n form f (inl h) = rw h (no_memory (line.In t k))
-    in_denied n form f (inr h) = rw h.0 (unfitting t k (in_runs n form) entry.at (rw tied.sig at h.1))
+    in_denied n form f (inr h) = rw h.0 (unfitting t k (in_runs n form) entry.at (rw tied.numbered.sig at h.1))
 
     in_tied : (n : Term) (form : x.form ≡ In n) (env : List Bound) → IsTaken P.table th.env (tree n) (tree_at P.table.trees e) env → AreTied (record P { threads = slice_set P.threads t (Some (record { place = x.first; env = env })) })
     in_tied n form env f = further_tied P t th tied is f.choice (tree_vars (tree n)) (tree_vars (instance (given P.table.trees th.env) (tree n))) x.first env f.bound (action.input (tree n)) (λ scope. refl) (in_below n form).0 (in_sound n form)
@@ -111,7 +112,7 @@ module _ (P : Parts) (t : ℕ) (th : Thread) (x : Place) (tied : AreTied P) (is 
     in_line : (n : Term) (form : x.form ≡ In n) (env : List Bound) → IsTaken P.table th.env (tree n) (tree_at P.table.trees e) env
         → IsDone (seen P) (seen (record P { threads = slice_set P.threads t (Some (record { place = x.first; env = env })) })) (line.In t k) (k_fact (tree_at P.table.trees e) ∷ [])
     in_line n form env f =
-        let good : Fits P.known.sig f.choice (instance (given P.table.trees th.env) (tree n)) (tree_at P.table.trees e) = rw tied.sig at f.fits in
+        let good : Fits P.known.sig f.choice (instance (given P.table.trees th.env) (tree n)) (tree_at P.table.trees e) = rw tied.numbered.sig at f.fits in
         record {
           inner = [];
           line = rw (further_is P t th tied is f.choice (tree_vars (tree n)) (tree_vars (instance (given P.table.trees th.env) (tree n))) x.first env f.bound) (inputs t k f.choice (in_runs n form) entry.at good);
@@ -123,8 +124,8 @@ module _ (P : Parts) (t : ℕ) (th : Thread) (x : Place) (tied : AreTied P) (is 
       recv_denied : (f : PFault) → IsUnreceived P.table th.env (tree m) (tree n) (tree_at P.table.trees e) f → IsDenied (seen P) (line.In t k) f
       recv_denied f (take.unvalued h) = denied_value P (line.In t k) t _ f tied refl (recv_runs m n form) refl (tree_at P.table.trees e, entry.at) h
       recv_denied f take.no_memory = no_memory (line.In t k)
-      recv_denied f (take.unfitting small never) = unfitting_part t k (recv_runs m n form) entry.at (rw tied.sig at small) (rw tied.sig at never)
-      recv_denied f (take.other_channel σ y z small pair fits other) = other_part t k σ (recv_runs m n form) entry.at (rw tied.sig at small) pair (rw tied.sig at fits) (rw tied.sig at other)
+      recv_denied f (take.unfitting small never) = unfitting_part t k (recv_runs m n form) entry.at (rw tied.numbered.sig at small) (rw tied.numbered.sig at never)
+      recv_denied f (take.other_channel σ y z small pair fits other) = other_part t k σ (recv_runs m n form) entry.at (rw tied.numbered.sig at small) pair (rw tied.numbered.sig at fits) (rw tied.numbered.sig at other)
 
       recv_tied : (env : List Bound) → IsReceived P.table th.env (tree m) (tree n) (tree_at P.table.trees e) env → AreTied (record P { threads = slice_set P.threads t (Some (record { place = x.first; env = env })) })
       recv_tied env f = further_tied P t th tied is f.choice (tree_vars (tree n)) (tree_vars (instance (given P.table.trees th.env) (tree n))) x.first env f.bound (action.receive (tree m) (tree n)) (λ scope. refl) (recv_below m n form).0 (recv_sound m n form)
@@ -132,11 +133,11 @@ module _ (P : Parts) (t : ℕ) (th : Thread) (x : Place) (tied : AreTied P) (is 
       recv_line : (env : List Bound) → IsReceived P.table th.env (tree m) (tree n) (tree_at P.table.trees e) env
           → IsDone (seen P) (seen (record P { threads = slice_set P.threads t (Some (record { place = x.first; env = env })) })) (line.In t k) (k_fact (tree_at P.table.trees e) ∷ [])
       recv_line env f =
-          let mine : IsMessageChoice P.known.sig f.choice = rw tied.sig at f.messages in
-          let equal : IsTheoryEqual (equations P.known.sig) (app2 pair_name (instance (given P.table.trees th.env) (tree m)) (instance f.choice (instance (given P.table.trees th.env) (tree n)))) (tree_at P.table.trees e) = rw tied.sig at f.equal in
+          let mine : IsMessageChoice P.known.sig f.choice = rw tied.numbered.sig at f.messages in
+          let equal : IsTheoryEqual (equations P.known.sig) (app2 pair_name (instance (given P.table.trees th.env) (tree m)) (instance f.choice (instance (given P.table.trees th.env) (tree n)))) (tree_at P.table.trees e) = rw tied.numbered.sig at f.equal in
           record {
             inner = [];
-            line = rw (further_is P t th tied is f.choice (tree_vars (tree n)) (tree_vars (instance (given P.table.trees th.env) (tree n))) x.first env f.bound) (inputs_on t k f.choice (recv_runs m n form) entry.at mine equal (rw tied.sig at f.small));
+            line = rw (further_is P t th tied is f.choice (tree_vars (tree n)) (tree_vars (instance (given P.table.trees th.env) (tree n))) x.first env f.bound) (inputs_on t k f.choice (recv_runs m n form) entry.at mine equal (rw tied.numbered.sig at f.small));
             sig = refl;
           }
 
@@ -158,10 +159,9 @@ module _ (P : Parts) (t : ℕ) (th : Thread) (x : Place) (tied : AreTied P) (is 
 
 -- before an entry is known
 module _ (P : Parts) (t : ℕ) (th : Thread) (x : Place) (tied : AreTied P) (is : Some th ≡ live P.threads t) (at : slice_get P.places th.place ≡ Some x) {X : Type 0} (now : X → Term) (n : Term) where
-  pub input_unknown : (o : Option X) → MatchOption o (x.form ≡ In n) (λ m. x.form ≡ Recv (now m) n) → (k : ℕ) (f : PFault) → IsEntryFault P.known k f → IsDenied (seen P) (line.In t k) f
-  input_unknown o form k f (inl h) = rw h (no_memory (line.In t k))
-  input_unknown None form k f (inr h) = rw h.0 (unknown_input t k (runs_form P t th x tied is at (In n) form) refl h.1)
-  input_unknown (Some m) form k f (inr h) = rw h.0 (unknown_input t k (runs_form P t th x tied is at (Recv (now m) n) form) refl h.1)
+  pub input_unknown : (o : Option X) → MatchOption o (x.form ≡ In n) (λ m. x.form ≡ Recv (now m) n) → (k : ℕ) → slice_get (terms_of P.known.entries) k ≡ None → IsDenied (seen P) (line.In t k) (fault.NoEntry k)
+  input_unknown None form k none = unknown_input t k (runs_form P t th x tied is at (In n) form) refl none
+  input_unknown (Some m) form k none = unknown_input t k (runs_form P t th x tied is at (Recv (now m) n) form) refl none
 
   pub input_can : (o : Option X) → MatchOption o (x.form ≡ In n) (λ m. x.form ≡ Recv (now m) n) → ((k : ℕ) → k < length P.table.trees → IsGround (tree_at P.table.trees k)) → MatchOption o (Unit {0}) (λ m. CanEvaluate P.table th.env (tree (now m)))
   input_can None form grounds = tt

@@ -6,7 +6,7 @@ use Rattle.std.proofs.lemmas.List.Elements.{filter_map-append, filter-append}
 use Rattle.sap_terms.specs.AdversaryFacts.{k_fact}
 use Rattle.sap_terms.specs.Tree.{Tree, public, fresh}
 use Rattle.sap_terms.specs.declared.fact.Fact.{Fact}
-use Rattle.sap_deduce.specs.Entries.{Entry, Entries, Gains, Applies, IsCause, terms_of, names_given, outputs_given, name_of, is_output}
+use Rattle.sap_deduce.specs.Entries.{Entry, Entries, AreNumbered, Gains, Applies, IsCause, terms_of, names_given, outputs_given, name_of, is_output}
 use Rattle.sap_deduce.specs.declared.deny.Deny.{Deny}
 use Rattle.sap_deduce.specs.declared.deny.Deny.TheVariants.{Mem, NotPublic, Arity, NoEntry, TermLarge}
 use Rattle.sap_deduce.specs.declared.origin.Origin.{Origin}
@@ -47,15 +47,16 @@ module _ (P : Parts) (k : Entries) (t : Tree) (o : Origin) (gains : Gains P.know
   pub learns_is : configuration (seen (record P { known = k })) ≡ configuration (seen P)
   learns_is = λ i. record (configuration (seen P)) { own = same_names i; frame = same_outputs i }
 
-  pub learns_tied : AreTied P → AreTied (record P { known = k })
-  learns_tied tied = record {
-    sig = tied.sig ∙ sym gains.sig;
+  pub learns_tied : AreNumbered P.table k → AreTied P → AreTied (record P { known = k })
+  learns_tied numbered tied = record {
+    numbered = numbered;
     places = tied.places;
     threads = tied.threads;
     keys = tied.keys;
     values = tied.values;
     held = tied.held;
     own = tied.own ∙ sym same_names;
+    slots = tied.slots;
     facts = tied.facts;
   }
 
@@ -75,8 +76,8 @@ apply_line P k f ks label h silent =
     let a = h.application in
     rw silent (record { inner = []; line = rw (after, entries) (applies f ks a.args h.term a.public_symbol a.arity a.at_numbers a.form h.within); sig = h.gains.sig })
 
-pub apply_tied : (P : Parts) (k : Entries) (f ks : List ℕ) → Applies P.known k f ks → AreTied P → AreTied (record P { known = k })
-apply_tied P k f ks h tied = learns_tied P k h.term (Apply f ks) h.gains refl refl tied
+pub apply_tied : (P : Parts) (k : Entries) (f ks : List ℕ) → Applies P.known k f ks → AreNumbered P.table k → AreTied P → AreTied (record P { known = k })
+apply_tied P k f ks h numbered tied = learns_tied P k h.term (Apply f ks) h.gains refl refl numbered tied
 
 pub apply_denied : (P : Parts) (f ks : List ℕ) (d : Deny) → IsCause P.known f ks d → IsDenied (seen P) (line.Apply f ks) (denied_fault d)
 apply_denied P f ks Mem h = no_memory (line.Apply f ks)
@@ -100,15 +101,16 @@ module _ (P : Parts) (k : Entries) (n : ℕ) (own : List ℕ) (gains : Gains P.k
       ∙ map-append (λ (e : Entry). e.term) (filter (λ (e : Entry). is_output e.origin) P.known.entries) []
       ∙ append-nil (outputs_given P.known.entries)
 
-  pub name_tied : AreTied (record P { own = own; known = k })
-  name_tied = record {
-    sig = tied.sig ∙ sym gains.sig;
+  pub name_tied : AreNumbered P.table k → AreTied (record P { own = own; known = k })
+  name_tied numbered = record {
+    numbered = numbered;
     places = tied.places;
     threads = tied.threads;
     keys = tied.keys;
     values = tied.values;
     held = tied.held;
     own = more ∙ ap (λ ns. ns ++ n ∷ []) tied.own ∙ sym names_more;
+    slots = tied.slots;
     facts = tied.facts;
   }
 

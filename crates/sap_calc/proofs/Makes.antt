@@ -35,13 +35,14 @@ use Rattle.sap_calc.proofs.Sounds.{sound_head, sound_behind}
 -- names that were made are tied to nothing
 pub made_tied : (P : Parts) (ns : List ℕ) → AreTied P → AreTied (record P { made = ns })
 made_tied P ns tied = record {
-  sig = tied.sig;
+  numbered = tied.numbered;
   places = tied.places;
   threads = tied.threads;
   keys = tied.keys;
   values = tied.values;
   held = tied.held;
   own = tied.own;
+  slots = tied.slots;
   facts = tied.facts;
 }
 

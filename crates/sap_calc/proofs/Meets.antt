@@ -86,9 +86,9 @@ module _ (P : Parts) (tied : AreTied P) (s : ℕ) (sender : Thread) (from : Plac
 
       pub sync_denied : (f : PFault) → IsUnmet P.table sender.env th.env (tree m) (tree n) (tree l) (tree p) f → IsDenied (seen P) (line.Sync s t) f
       sync_denied f (unmet_values (inl h)) = rw h (no_memory (line.Sync s t))
-      sync_denied f (unmet_values (inr h)) = rw h.0 (large_meeting s t (send_runs P s sender from tied is_sender at_sender m n sends) (recv_runs P t th x tied is at l p form) (rw tied.sig at h.1))
-      sync_denied f (misfit small none_fits) = unfitting_message s t (send_runs P s sender from tied is_sender at_sender m n sends) (recv_runs P t th x tied is at l p form) (rw tied.sig at small) (rw tied.sig at none_fits)
-      sync_denied f (apart σ small fits other) = channels_differ s t σ (send_runs P s sender from tied is_sender at_sender m n sends) (recv_runs P t th x tied is at l p form) (rw tied.sig at small) (rw tied.sig at fits) (rw tied.sig at other)
+      sync_denied f (unmet_values (inr h)) = rw h.0 (large_meeting s t (send_runs P s sender from tied is_sender at_sender m n sends) (recv_runs P t th x tied is at l p form) (rw tied.numbered.sig at h.1))
+      sync_denied f (misfit small none_fits) = unfitting_message s t (send_runs P s sender from tied is_sender at_sender m n sends) (recv_runs P t th x tied is at l p form) (rw tied.numbered.sig at small) (rw tied.numbered.sig at none_fits)
+      sync_denied f (apart σ small fits other) = channels_differ s t σ (send_runs P s sender from tied is_sender at_sender m n sends) (recv_runs P t th x tied is at l p form) (rw tied.numbered.sig at small) (rw tied.numbered.sig at fits) (rw tied.numbered.sig at other)
 
       module _ (env : List Bound) (f : IsMet P.table sender.env th.env (tree m) (tree n) (tree l) (tree p) env) where
         pub sync_tied : AreTied (record P { threads = slice_set (slice_set P.threads s (Some (record sender { place = from.first }))) t (Some (record { place = x.first; env = env })) })
@@ -100,9 +100,9 @@ module _ (P : Parts) (tied : AreTied P) (s : ℕ) (sender : Thread) (from : Plac
         pub sync_line : (label : List Fact) → label ≡ [] → IsDone (seen P) (seen (record P { threads = slice_set (slice_set P.threads s (Some (record sender { place = from.first }))) t (Some (record { place = x.first; env = env })) })) (line.Sync s t) label
         sync_line label silent =
             let q = proc_at (procs_of P.places) x.first in
-            let channel : IsTheoryEqual (equations P.known.sig) (instance (given P.table.trees sender.env) (tree m)) (instance (given P.table.trees th.env) (tree l)) = rw tied.sig at f.channel in
-            let small : EvaluateSmall P.known.sig ((instance (given P.table.trees sender.env) (tree m)) ∷ (instance (given P.table.trees sender.env) (tree n)) ∷ (instance (given P.table.trees th.env) (tree l)) ∷ []) = rw tied.sig at f.small in
-            let good : Fits P.known.sig f.choice (instance (given P.table.trees th.env) (tree p)) (instance (given P.table.trees sender.env) (tree n)) = rw tied.sig at f.fits in
+            let channel : IsTheoryEqual (equations P.known.sig) (instance (given P.table.trees sender.env) (tree m)) (instance (given P.table.trees th.env) (tree l)) = rw tied.numbered.sig at f.channel in
+            let small : EvaluateSmall P.known.sig ((instance (given P.table.trees sender.env) (tree m)) ∷ (instance (given P.table.trees sender.env) (tree n)) ∷ (instance (given P.table.trees th.env) (tree l)) ∷ []) = rw tied.numbered.sig at f.small in
+            let good : Fits P.known.sig f.choice (instance (given P.table.trees th.env) (tree p)) (instance (given P.table.trees sender.env) (tree n)) = rw tied.numbered.sig at f.fits in
             let after : configuration (seen (record P { threads = slice_set (slice_set P.threads s (Some (record sender { place = from.first }))) t (Some (record { place = x.first; env = env })) })) ≡ becomes (becomes (configuration (seen P)) s (Some (process_instance (given P.table.trees sender.env) (proc_at (procs_of P.places) from.first)))) t (Some (with_choice f.choice (tree_vars (instance (given P.table.trees th.env) (tree p))) (process_instance (given P.table.trees th.env) q))) =
             sets_is (record P { threads = slice_set P.threads s (Some (record sender { place = from.first })) }) t (record { place = x.first; env = env }) ∙ ap (λ c. becomes c t (Some (process_instance (given P.table.trees env) q))) (sets_is P s (record sender { place = from.first }))
             ∙ ap (λ r. becomes (becomes (configuration (seen P)) s (Some (process_instance (given P.table.trees sender.env) (proc_at (procs_of P.places) from.first)))) t (Some r)) (f.bound.goes q) in

@@ -3,22 +3,25 @@ use Rattle.std.proofs.Common.{◌≡◌, ◌<◌, ℕ, zero, suc, List, [], ◌�
 use Rattle.std.specs.Prelude.{slice_get, slice_set, All}
 use Rattle.std.specs.Str.{bytes_eq}
 use Rattle.std.proofs.lemmas.List.{append-nil}
-use Rattle.std.proofs.lemmas.List.Elements.{All-head, All-tail}
+use Rattle.std.proofs.lemmas.List.Elements.{All-nil, All-cons, All-head, All-tail}
 use Rattle.sap_terms.specs.Equations.{equations}
 use Rattle.sap_terms.specs.Tree.{Tree}
 use Rattle.sap_terms.specs.declared.limits.TheConstants.{MOST_TERM_NODES}
 use Rattle.sap_terms.specs.declared.var.Var.{Var}
+use Rattle.sap_deduce.specs.Entries.{Entries, AreNumbered}
 use Rattle.sap_process.specs.Configuration.{Runs, becomes, spawns}
 use Rattle.sap_process.specs.Instance.{process_instance}
 use Rattle.sap_process.specs.Proc.{Proc}
 use Rattle.sap_share.specs.Env.{given, AreSmallForms, IsSmallForm}
-use Rattle.sap_share.specs.Shared.{Shared, tree_at, Keeps}
+use Rattle.sap_share.specs.Shared.{Shared, tree_at, trees_at, AreBelow, Keeps}
 use Rattle.sap_share.specs.declared.env.Bound.{Bound}
 use Rattle.sap_calc.specs.Running.{configuration}
 use Rattle.sap_lines.specs.Places.{proc_at, place_proc, procs_of}
 use Rattle.sap_calc.specs.code.Parts.{Parts, AreTied, seen, entry_at, mark_at, IsSmallValue}
 use Rattle.sap_calc.specs.code.Threads.{running, all_running, live, IsThread}
 use Rattle.sap_heads.specs.Values.{IsSmallNumber}
+use Rattle.sap_sides.specs.SharedFacts.{slots_seen, IsSlotBelow, AreSlotsBelow}
+use Rattle.sap_sides.specs.declared.shared_fact.SharedFact.{SharedFact}
 use Rattle.sap_lines.specs.declared.place.Place.{Place}
 use Rattle.sap_calc.specs.declared.thread.Thread.{Thread}
 use Rattle.sap_calc.proofs.Numbered.{live_got, got_set, got_last, map_write, map_last, got_map, some_same}
@@ -96,6 +99,35 @@ module _ (s u : Shared) (h : Keeps s u) where
       let tail = marks_stay es (All-tail P e es i) in
       λ j. (key j, e.1) ∷ tail j
 
+  -- facts too
+  args_stay : (ks : List ℕ) → AreBelow (length s.trees) ks → (trees_at u.trees ks ≡ trees_at s.trees ks) × AreBelow (length u.trees) ks
+  args_stay [] b = (refl, All-nil (λ (k : ℕ). k < length u.trees))
+  args_stay (k ∷ ks) b =
+      let P : ℕ → Type 0 = λ j. j < length s.trees in
+      let here = All-head P k ks b in
+      let is = tree_stays k here in
+      let rest = args_stay ks (All-tail P k ks b) in
+      let same = rest.0 in
+      (λ i. is i ∷ same i, All-cons (λ (j : ℕ). j < length u.trees) k ks (longer k here) rest.1)
+
+  -- and entries
+  pub numbers_stay : (k : Entries) → AreNumbered s k → AreNumbered u k
+  numbers_stay k i =
+      let there = args_stay k.numbers i.below in
+      record { sig = h.sig ∙ i.sig; below = there.1; terms = there.0 ∙ i.terms }
+
+  pub slots_stay : (slots : List (Option SharedFact)) → AreSlotsBelow (length s.trees) slots → (slots_seen u.trees slots ≡ slots_seen s.trees slots) × AreSlotsBelow (length u.trees) slots
+  slots_stay [] b = (refl, All-nil (IsSlotBelow (length u.trees)))
+  slots_stay (None ∷ xs) b =
+      let rest = slots_stay xs (All-tail (IsSlotBelow (length s.trees)) None xs b) in
+      (ap (λ fs. None ∷ fs) rest.0, All-cons (IsSlotBelow (length u.trees)) None xs tt rest.1)
+  slots_stay (Some f ∷ xs) b =
+      let args = args_stay f.args (All-head (IsSlotBelow (length s.trees)) (Some f) xs b) in
+      let rest = slots_stay xs (All-tail (IsSlotBelow (length s.trees)) (Some f) xs b) in
+      let is = args.0 in
+      let same = rest.0 in
+      (λ i. Some (record { name = f.name; persistent = f.persistent; args = is i }) ∷ same i, All-cons (IsSlotBelow (length u.trees)) (Some f) xs args.1 rest.1)
+
 pub keeps_same : (s : Shared) → Keeps s s
 keeps_same s = record { sig = refl; added = []; trees = sym (append-nil s.trees) }
 
@@ -104,14 +136,15 @@ keeps_twice s u v h i = record { sig = i.sig ∙ h.sig; added = h.added ++ i.add
 
 pub keeps_tied : (P : Parts) (u : Shared) → Keeps P.table u → AreTied P → AreTied (record P { table = u })
 keeps_tied P u h tied = record {
-  sig = h.sig ∙ tied.sig;
+  numbered = numbers_stay P.table u h P.known tied.numbered;
   places = tied.places;
   threads = λ t th at. thread_stays P.table u h P.places th (tied.threads t th at);
   keys = λ k d lt. small_stays P.table u h _ (tied.keys k d lt);
   values = λ k d lt v is. small_stays P.table u h v (tied.values k d lt v is);
   held = λ k d lt. small_stays P.table u h _ (tied.held k d lt);
   own = tied.own;
-  facts = rw h.sig tied.facts;
+  slots = (slots_stay P.table u h P.facts tied.slots).1;
+  facts = rw (h.sig, (slots_stay P.table u h P.facts tied.slots).0) tied.facts;
 }
 
 pub keeps_seen : (P : Parts) (u : Shared) → Keeps P.table u → AreTied P → seen (record P { table = u }) ≡ seen P
@@ -119,18 +152,20 @@ keeps_seen P u h tied =
     let a = all_running_stay P.table u h P.places P.threads tied.threads in
     let b = entries_stay P.table u h P.store tied.keys tied.values in
     let c = marks_stay P.table u h P.held tied.held in
-    λ i. record { sig = P.known.sig; threads = a i; store = b i; held = c i; facts = P.facts; made = P.made; known = P.known.entries }
+    let d = (slots_stay P.table u h P.facts tied.slots).0 in
+    λ i. record { sig = P.known.sig; threads = a i; store = b i; held = c i; facts = d i; made = P.made; known = P.known.entries }
 
 -- a thread is something else from now on
 pub sets_tied : (P : Parts) (t : ℕ) (th : Thread) → AreTied P → IsThread P.table P.places th → AreTied (record P { threads = slice_set P.threads t (Some th) })
 sets_tied P t th tied new = record {
-  sig = tied.sig;
+  numbered = tied.numbered;
   places = tied.places;
   threads = λ k x at. elim (got_set P.threads t (Some th) k (Some x) at) [ inl before ↦ tied.threads k x before | inr same ↦ subst (IsThread P.table P.places) (sym (some_same same)) new ];
   keys = tied.keys;
   values = tied.values;
   held = tied.held;
   own = tied.own;
+  slots = tied.slots;
   facts = tied.facts;
 }
 
@@ -140,13 +175,14 @@ sets_is P t th = ap (λ ts. record (configuration (seen P)) { threads = ts }) (m
 
 pub ends_tied : (P : Parts) (t : ℕ) → AreTied P → AreTied (record P { threads = slice_set P.threads t None })
 ends_tied P t tied = record {
-  sig = tied.sig;
+  numbered = tied.numbered;
   places = tied.places;
   threads = λ k x at. elim (got_set P.threads t None k (Some x) at) [ inl before ↦ tied.threads k x before | inr same ↦ absurd (none_some same) ];
   keys = tied.keys;
   values = tied.values;
   held = tied.held;
   own = tied.own;
+  slots = tied.slots;
   facts = tied.facts;
 } where
   none_some : {X : Type 0} {x : X} → Some x ≡ None → ⊥
@@ -157,13 +193,14 @@ ends_is P t = ap (λ ts. record (configuration (seen P)) { threads = ts }) (map_
 
 pub adds_tied : (P : Parts) (th : Thread) → AreTied P → IsThread P.table P.places th → AreTied (record P { threads = P.threads ++ Some th ∷ [] })
 adds_tied P th tied new = record {
-  sig = tied.sig;
+  numbered = tied.numbered;
   places = tied.places;
   threads = λ k x at. elim (got_last P.threads (Some th) k (Some x) at) [ inl before ↦ tied.threads k x before | inr same ↦ subst (IsThread P.table P.places) (sym (some_same same)) new ];
   keys = tied.keys;
   values = tied.values;
   held = tied.held;
   own = tied.own;
+  slots = tied.slots;
   facts = tied.facts;
 }
 

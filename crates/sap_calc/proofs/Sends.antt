@@ -11,7 +11,7 @@ use Rattle.sap_terms.specs.Tree.{Tree}
 use Rattle.sap_terms.specs.View.{tree}
 use Rattle.sap_terms.specs.declared.fact.Fact.{Fact}
 use Rattle.sap_terms.specs.declared.term.Term.{Term}
-use Rattle.sap_deduce.specs.Entries.{Entry, Entries, Gains, terms_of, names_given, outputs_given, name_of, is_output}
+use Rattle.sap_deduce.specs.Entries.{Entry, Entries, AreNumbered, Gains, terms_of, names_given, outputs_given, name_of, is_output}
 use Rattle.sap_deduce.specs.declared.origin.Origin.{Origin}
 use Rattle.sap_deduce.specs.declared.origin.Origin.TheVariants.{Output}
 use Rattle.sap_process.specs.Action.{out}
@@ -58,15 +58,16 @@ sent_is P k t gains =
     let frame = ap outputs_given gains.entries ∙ outputs_output P.known.entries t in
     λ i. record (configuration (seen P)) { own = own i; frame = frame i }
 
-pub sent_tied : (P : Parts) (k : Entries) (t : Tree) → Gains P.known k Output t → AreTied P → AreTied (record P { known = k })
-sent_tied P k t gains tied = record {
-  sig = tied.sig ∙ sym gains.sig;
+pub sent_tied : (P : Parts) (k : Entries) (t : Tree) → Gains P.known k Output t → AreNumbered P.table k → AreTied P → AreTied (record P { known = k })
+sent_tied P k t gains numbered tied = record {
+  numbered = numbered;
   places = tied.places;
   threads = tied.threads;
   keys = tied.keys;
   values = tied.values;
   held = tied.held;
   own = tied.own ∙ sym (names_output P.known.entries t) ∙ ap names_given (sym gains.entries);
+  slots = tied.slots;
   facts = tied.facts;
 }
 
@@ -85,7 +86,7 @@ module _ (P : Parts) (t : ℕ) (th : Thread) (x : Place) (tied : AreTied P) (is 
   pub out_large : (f : PFault) → IsValueFault P.table.sig (instance (given P.table.trees th.env) (tree m) ∷ []) f → IsDenied (seen P) (line.Out t) f
   out_large f h = denied_value P (line.Out t) t _ f tied refl runs refl tt h
 
-  module _ (u : Shared) (keeps : Keeps P.table u) (k : ℕ) (v : IsValue P.table u th.env (tree m) k) (known : Entries) (gains : Gains P.known known Output (tree_at u.trees k)) where
+  module _ (u : Shared) (keeps : Keeps P.table u) (k : ℕ) (v : IsValue P.table u th.env (tree m) k) (known : Entries) (gains : Gains P.known known Output (tree_at u.trees k)) (numbered : AreNumbered u known) where
     first : IsThread P.table P.places (record th { place = x.first })
     first =
         let below = children_below P t th x tied is at (λ leaf. let e : Out m ≡ Nil = sym form ∙ leaf in cc) in
@@ -93,12 +94,12 @@ module _ (P : Parts) (t : ℕ) (th : Thread) (x : Place) (tied : AreTied P) (is 
         moved P t th tied is x.first (above_of (above.scope ++ []) (above.locks + 0)) below.0 (sound_behind P.table.sig _ _ _ sound) (ap var_names (sym (append-nil above.scope)))
 
     pub out_tied : AreTied (record (gone P u t th x.first) { known = known })
-    out_tied = sent_tied (gone P u t th x.first) known (tree_at u.trees k) gains (gone_tied P u t th x.first keeps tied first)
+    out_tied = sent_tied (gone P u t th x.first) known (tree_at u.trees k) gains numbered (gone_tied P u t th x.first keeps tied first)
 
     pub out_line : (label : List Fact) → label ≡ [] → IsDone (seen P) (seen (record (gone P u t th x.first) { known = known })) (line.Out t) label
     out_line label silent =
-        let value : IsNormalForm (equations P.known.sig) (instance (given P.table.trees th.env) (tree m)) (tree_at u.trees k) = rw tied.sig at v.form in
-        let small : EvaluateSmall P.known.sig (instance (given P.table.trees th.env) (tree m) ∷ []) = rw tied.sig at v.small in
+        let value : IsNormalForm (equations P.known.sig) (instance (given P.table.trees th.env) (tree m)) (tree_at u.trees k) = rw tied.numbered.sig at v.form in
+        let small : EvaluateSmall P.known.sig (instance (given P.table.trees th.env) (tree m) ∷ []) = rw tied.numbered.sig at v.small in
         let after : configuration (seen (record (gone P u t th x.first) { known = known })) ≡ sends_out (becomes (configuration (seen P)) t (Some (process_instance (given P.table.trees th.env) (proc_at (procs_of P.places) x.first)))) (tree_at u.trees k) =
         sent_is (gone P u t th x.first) known (tree_at u.trees k) gains ∙ ap (λ c. sends_out c (tree_at u.trees k)) (gone_is P u t th x.first keeps tied is) in
         let entries : terms_of known.entries ≡ terms_of P.known.entries ++ tree_at u.trees k ∷ [] = ap terms_of gains.entries ∙ terms_more P.known.entries (tree_at u.trees k) Output in

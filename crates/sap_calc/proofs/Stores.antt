@@ -88,13 +88,14 @@ module _ (P : Parts) (tied : AreTied P) (once : HaveOneNumber P.table.trees (len
 
   pub stores_tied : (v : Option ℕ) → IsSmallValue P.table v → AreTied (record P { store = insert_entry nat_eq P.store k v })
   stores_tied v value = record {
-    sig = tied.sig;
+    numbered = tied.numbered;
     places = tied.places;
     threads = tied.threads;
     keys = put_all (λ (e : ℕ × Option ℕ). IsSmallNumber P.table e.0) P.store k v (λ j e. subst (IsSmallNumber P.table) e small) tied.keys;
     values = put_all (λ (e : ℕ × Option ℕ). IsSmallValue P.table e.1) P.store k v (λ j e. value) tied.values;
     held = tied.held;
     own = tied.own;
+    slots = tied.slots;
     facts = tied.facts;
   }
 
@@ -108,13 +109,14 @@ module _ (P : Parts) (tied : AreTied P) (once : HaveOneNumber P.table.trees (len
 
   pub holds_tied : (b : Bool) → AreTied (record P { held = insert_entry nat_eq P.held k b })
   holds_tied b = record {
-    sig = tied.sig;
+    numbered = tied.numbered;
     places = tied.places;
     threads = tied.threads;
     keys = tied.keys;
     values = tied.values;
     held = put_all (λ (e : ℕ × Bool). IsSmallNumber P.table e.0) P.held k b (λ j e. subst (IsSmallNumber P.table) e small) tied.held;
     own = tied.own;
+    slots = tied.slots;
     facts = tied.facts;
   }
 

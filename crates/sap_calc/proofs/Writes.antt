@@ -79,13 +79,13 @@ module _ (P : Parts) (t : ℕ) (th : Thread) (x : Place) (tied : AreTied P) (is 
 
   module _ (u : Shared) (keeps : Keeps P.table u) (j k : ℕ) (v : AreValues P.table u th.env (tree m) (tree n) j k) (once : HaveOneNumber u.trees (length u.trees)) where
     insert_key : IsNormalForm (equations P.known.sig) (instance (given P.table.trees th.env) (tree m)) (tree_at u.trees j)
-    insert_key = rw tied.sig at v.first_form
+    insert_key = rw tied.numbered.sig at v.first_form
 
     insert_value : IsNormalForm (equations P.known.sig) (instance (given P.table.trees th.env) (tree n)) (tree_at u.trees k)
-    insert_value = rw tied.sig at v.second_form
+    insert_value = rw tied.numbered.sig at v.second_form
 
     insert_small : EvaluateSmall P.known.sig ((instance (given P.table.trees th.env) (tree m)) ∷ (instance (given P.table.trees th.env) (tree n)) ∷ [])
-    insert_small = rw tied.sig at v.small
+    insert_small = rw tied.numbered.sig at v.small
 
     insert_gone : AreTied (gone P u t th x.first)
     insert_gone = gone_tied P u t th x.first keeps tied (behind P t th x tied is _ insert_below.0 (sound_behind P.table.sig _ _ _ insert_sound))
@@ -122,10 +122,10 @@ module _ (P : Parts) (t : ℕ) (th : Thread) (x : Place) (tied : AreTied P) (is 
 
   module _ (u : Shared) (keeps : Keeps P.table u) (k : ℕ) (v : IsValue P.table u th.env (tree m) k) (once : HaveOneNumber u.trees (length u.trees)) where
     delete_key : IsNormalForm (equations P.known.sig) (instance (given P.table.trees th.env) (tree m)) (tree_at u.trees k)
-    delete_key = rw tied.sig at v.form
+    delete_key = rw tied.numbered.sig at v.form
 
     delete_small : EvaluateSmall P.known.sig ((instance (given P.table.trees th.env) (tree m)) ∷ [])
-    delete_small = rw tied.sig at v.small
+    delete_small = rw tied.numbered.sig at v.small
 
     delete_gone : AreTied (gone P u t th x.first)
     delete_gone = gone_tied P u t th x.first keeps tied (behind P t th x tied is _ delete_below.0 (sound_behind P.table.sig _ _ _ delete_sound))
@@ -162,10 +162,10 @@ module _ (P : Parts) (t : ℕ) (th : Thread) (x : Place) (tied : AreTied P) (is 
 
   module _ (u : Shared) (keeps : Keeps P.table u) (k : ℕ) (v : IsValue P.table u th.env (tree m) k) (once : HaveOneNumber u.trees (length u.trees)) where
     lock_key : IsNormalForm (equations P.known.sig) (instance (given P.table.trees th.env) (tree m)) (tree_at u.trees k)
-    lock_key = rw tied.sig at v.form
+    lock_key = rw tied.numbered.sig at v.form
 
     lock_small : EvaluateSmall P.known.sig ((instance (given P.table.trees th.env) (tree m)) ∷ [])
-    lock_small = rw tied.sig at v.small
+    lock_small = rw tied.numbered.sig at v.small
 
     lock_gone : AreTied (gone P u t th x.first)
     lock_gone = gone_tied P u t th x.first keeps tied (behind P t th x tied is _ lock_below.0 (sound_behind P.table.sig _ _ _ lock_sound))
@@ -205,10 +205,10 @@ module _ (P : Parts) (t : ℕ) (th : Thread) (x : Place) (tied : AreTied P) (is 
 
   module _ (u : Shared) (keeps : Keeps P.table u) (k : ℕ) (v : IsValue P.table u th.env (tree m) k) (once : HaveOneNumber u.trees (length u.trees)) where
     unlock_key : IsNormalForm (equations P.known.sig) (instance (given P.table.trees th.env) (tree m)) (tree_at u.trees k)
-    unlock_key = rw tied.sig at v.form
+    unlock_key = rw tied.numbered.sig at v.form
 
     unlock_small : EvaluateSmall P.known.sig ((instance (given P.table.trees th.env) (tree m)) ∷ [])
-    unlock_small = rw tied.sig at v.small
+    unlock_small = rw tied.numbered.sig at v.small
 
     unlock_gone : AreTied (gone P u t th x.first)
     unlock_gone = gone_tied P u t th x.first keeps tied (behind P t th x tied is _ unlock_below.0 (sound_behind P.table.sig _ _ _ unlock_sound))
@@ -248,10 +248,10 @@ module _ (P : Parts) (t : ℕ) (th : Thread) (x : Place) (tied : AreTied P) (is 
 
   module _ (u : Shared) (keeps : Keeps P.table u) (k : ℕ) (v : IsValue P.table u th.env (tree m) k) (once : HaveOneNumber u.trees (length u.trees)) where
     lookup_key : IsNormalForm (equations P.known.sig) (instance (given P.table.trees th.env) (tree m)) (tree_at u.trees k)
-    lookup_key = rw tied.sig at v.form
+    lookup_key = rw tied.numbered.sig at v.form
 
     lookup_small : EvaluateSmall P.known.sig ((instance (given P.table.trees th.env) (tree m)) ∷ [])
-    lookup_small = rw tied.sig at v.small
+    lookup_small = rw tied.numbered.sig at v.small
 
     lookup_stored : (configuration (seen P)).store (tree_at u.trees k) ≡ option_map (tree_at u.trees) (unwrap_or (looked (nat_eq k) P.store) None)
     lookup_stored = ap (λ r. (configuration r).store (tree_at u.trees k)) (sym (keeps_seen P u keeps tied)) ∙ stored_is (record P { table = u }) (keeps_tied P u keeps tied) once k v.number

@@ -66,7 +66,7 @@ impl Config {
         ensures err { OnErr result (self.new ≡ self.old) }
     {
         let name = a.copy(alloc)?;
-        self.knowledge.public(name)?;
+        self.knowledge.public(&mut self.table, name)?;
         Ok(FactList::new(alloc))
     }
 
@@ -81,7 +81,7 @@ impl Config {
         ensures refused { IfErr result (IsDenied self.old (ApplyLine f.now entries.now)) }
         ensures err { OnErr result (self.new ≡ self.old) }
     {
-        match self.knowledge.apply(f, entries) {
+        match self.knowledge.apply(&mut self.table, f, entries) {
             Err(d) => Err(fault_of(d)),
             Ok(_) => Ok(FactList::new(alloc)),
         }
@@ -113,7 +113,7 @@ impl Config {
         }
         match find_room(&mut self.own) {
             Err(_) => Err(PFault::Mem),
-            Ok(()) => match self.knowledge.name(n) {
+            Ok(()) => match self.knowledge.name(&mut self.table, n) {
                 Err(_) => Err(PFault::Mem),
                 Ok(_) => {
                     put_last(&mut self.own, n);

@@ -1,43 +1,30 @@
 // The facts that a line cites.
-ghost use Rattle.std.specs.Prelude.{◌≡◌, ◌++◌, ◌∷◌, [], IfOk, IfErr, OnOk};
-ghost use Rattle.sap_facts.specs.Cited.{cited_at};
+ghost use Rattle.std.specs.Prelude.{length, map, IfOk, IfErr};
+ghost use Rattle.sap_sides.specs.SharedFacts.{fact_seen, slots_seen, AreFactsBelow, AreSlotsBelow};
 ghost use Rattle.sap_calc.specs.code.Cited.{AreCited, AreUncited};
 
-use sap_facts::Pile;
 use sap_lines::PFault;
-use sap_terms::{Copied, FactList, Mem, Numbers};
+use sap_share::Table;
+use sap_sides::{SharedFact, SharedPile};
+use sap_terms::Numbers;
 use std::alloc::Global;
 
-// Puts a copy of the fact of this number last, if it stands.
-fn push_live(alloc: Global, facts: &Pile, k: u64, out: &mut FactList) -> Result<(), Mem>
-    ensures { OnOk result (out.new ≡ out.old ++ cited_at facts.now.slots (k ∷ [])) }
-{
-    if let Some(f) = facts.get(k) {
-        out.push(f.copy(alloc)?)?;
-    }
-    Ok(())
-}
-
-// Copies of the facts with these numbers that stand.
-fn copies(alloc: Global, facts: &Pile, numbers: &Numbers) -> Result<FactList, Mem>
-    ensures { IfOk result (λ fs. fs ≡ cited_at facts.now.slots numbers.now) }
-{
-    let mut out = FactList::new(alloc);
-    for i in 0..numbers.len() {
-        push_live(alloc, facts, *numbers.at(i), &mut out)?;
-    }
-    Ok(out)
-}
-
 // Copies of the facts with these numbers, where all can be taken in this order.
-pub(crate) fn cited(alloc: Global, facts: &Pile, numbers: &Numbers) -> Result<FactList, PFault>
-    ensures ok { IfOk result (AreCited facts.now.slots numbers.now) }
-    ensures refused { IfErr result (AreUncited facts.now.slots numbers.now) }
+pub(crate) fn cited(
+    alloc: Global,
+    table: &Table,
+    facts: &SharedPile,
+    numbers: &Numbers,
+) -> Result<Vec<SharedFact>, PFault>
+    requires { AreSlotsBelow (length table.now.trees) facts.now }
+    ensures ok { IfOk result (λ v. AreCited (slots_seen table.now.trees facts.now) numbers.now (map (fact_seen table.now.trees) v.items)) }
+    ensures below { IfOk result (λ v. AreFactsBelow (length table.now.trees) v.items) }
+    ensures refused { IfErr result (AreUncited (slots_seen table.now.trees facts.now) numbers.now) }
 {
-    match facts.first_missing(alloc, numbers) {
+    match facts.first_missing(alloc, table, numbers) {
         Err(_) => Err(PFault::Mem),
         Ok(Some(place)) => Err(PFault::FactMissing { place }),
-        Ok(None) => match copies(alloc, facts, numbers) {
+        Ok(None) => match facts.cited(alloc, numbers) {
             Err(_) => Err(PFault::Mem),
             Ok(fs) => Ok(fs),
         },

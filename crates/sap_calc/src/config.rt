@@ -10,11 +10,11 @@ use crate::entry::send;
 use crate::thread::{Threads, add, copy_at, end, first_thread, go_on, thread_at};
 use indexmap::{IndexMap, IndexSet};
 use sap_deduce::Knowledge;
-use sap_facts::Pile;
 use sap_heads::value;
 use sap_lines::{PFault, Places, places_of};
 use sap_process::{Process, instances_of_processes};
 use sap_share::Table;
+use sap_sides::SharedPile;
 use sap_terms::{FactList, Mem, Signature};
 use std::alloc::Global;
 use std::marker::Model;
@@ -28,7 +28,7 @@ pub struct Config {
     pub(crate) threads: Threads,
     pub(crate) store: IndexMap<u64, Option<u64>>,
     pub(crate) held: IndexMap<u64, bool>,
-    pub(crate) facts: Pile,
+    pub(crate) facts: SharedPile,
     pub(crate) made: IndexSet<u64>,
     pub(crate) own: IndexSet<u64>,
     pub(crate) knowledge: Knowledge,
@@ -52,7 +52,7 @@ impl Model for Config {
       threads = a.threads.items;
       store = a.store.entries;
       held = a.held.entries;
-      facts = a.facts.slots;
+      facts = a.facts;
       made = a.made.keys;
       own = a.own.keys;
       known = a.knowledge;
@@ -64,7 +64,7 @@ impl Model for Config {
       threads = a.threads.items;
       store = a.store.entries;
       held = a.held.entries;
-      facts = a.facts.slots;
+      facts = a.facts;
       made = a.made.keys;
       own = a.own.keys;
       known = a.knowledge;
@@ -91,7 +91,7 @@ impl Config {
             threads,
             store: IndexMap::new(alloc),
             held: IndexMap::new(alloc),
-            facts: Pile::new(alloc),
+            facts: SharedPile::new(alloc),
             made: IndexSet::new(alloc),
             own: IndexSet::new(alloc),
             knowledge,
@@ -169,7 +169,7 @@ impl Config {
         let next = place.first;
         match value(alloc, &mut self.table, &th.env, m) {
             Err(fault) => Err(fault),
-            Ok(k) => match send(alloc, &self.table, &mut self.knowledge, k) {
+            Ok(k) => match send(&self.table, &mut self.knowledge, k) {
                 Err(_) => Err(PFault::Mem),
                 Ok(()) => {
                     go_on(&mut self.threads, t, next);

@@ -8,6 +8,7 @@ use crate::citing::cited;
 use crate::thread::{Thread, set, thread_at};
 use sap_heads::used;
 use sap_lines::{PFault, sorts_are_one};
+use sap_sides::Sides;
 use sap_terms::{Bindings, FactList, Numbers};
 use std::alloc::Global;
 
@@ -37,17 +38,29 @@ impl Config {
             return Err(PFault::FactCount);
         }
         let next = place.first;
-        match cited(alloc, &self.facts, numbers) {
+        match cited(alloc, &self.table, &self.facts, numbers) {
             Err(fault) => Err(fault),
-            Ok(facts) => match used(alloc, &mut self.table, &th.env, &facts, l, e, r, b) {
+            Ok(facts) => match used(
+                alloc,
+                &mut self.table,
+                &th.env,
+                facts.as_slice(),
+                l,
+                e,
+                r,
+                b,
+            ) {
                 Err(fault) => Err(fault),
-                Ok((env, acts, right)) => match self.facts.exchange(numbers, right) {
-                    Err(_) => Err(PFault::Mem),
-                    Ok(()) => {
-                        set(&mut self.threads, t, Thread { place: next, env });
-                        Ok(acts)
+                Ok((env, sides)) => {
+                    let Sides { acts, right } = sides;
+                    match self.facts.exchange(numbers, right) {
+                        Err(_) => Err(PFault::Mem),
+                        Ok(()) => {
+                            set(&mut self.threads, t, Thread { place: next, env });
+                            Ok(acts)
+                        }
                     }
-                },
+                }
             },
         }
     }

@@ -52,30 +52,26 @@ impl Config {
             return Err(PFault::WrongForm { t });
         };
         let next = place.first;
-        match entry_number(alloc, &mut self.table, &self.knowledge, k) {
+        let Some(e) = entry_number(&self.table, &self.knowledge, k) else {
+            return Err(PFault::NoEntry { k });
+        };
+        self.table.each_is_ground();
+        match values(alloc, &mut self.table, &th.env, m, n) {
             Err(fault) => Err(fault),
-            Ok(e) => {
-                self.table.each_is_ground();
-                match values(alloc, &mut self.table, &th.env, m, n) {
-                    Err(fault) => Err(fault),
-                    Ok((i, j)) => {
-                        self.table.each_has_one_number();
-                        if i != e {
-                            return Err(PFault::Unequal);
+            Ok((i, j)) => {
+                self.table.each_has_one_number();
+                if i != e {
+                    return Err(PFault::Unequal);
+                }
+                match shown_number(alloc, &self.table, e) {
+                    Err(_) => Err(PFault::Mem),
+                    Ok(label) => match send(&self.table, &mut self.knowledge, j) {
+                        Err(_) => Err(PFault::Mem),
+                        Ok(()) => {
+                            go_on(&mut self.threads, t, next);
+                            Ok(label)
                         }
-                        match shown_number(alloc, &self.table, e) {
-                            Err(_) => Err(PFault::Mem),
-                            Ok(label) => {
-                                match send(alloc, &self.table, &mut self.knowledge, j) {
-                                    Err(_) => Err(PFault::Mem),
-                                    Ok(()) => {
-                                        go_on(&mut self.threads, t, next);
-                                        Ok(label)
-                                    }
-                                }
-                            }
-                        }
-                    }
+                    },
                 }
             }
         }

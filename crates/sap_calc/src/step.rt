@@ -25,7 +25,8 @@ impl Config {
     ///
     /// Numbers count from 0. The notion is the step of the calculus SAPIC, cut so that each choice is written.
     ///
-    /// It recurses as deep as the terms of the process, the line and the entries.
+    /// Its time goes with the terms of the process and of the line, not with those of the entries, the store and the facts, whose
+    /// terms are numbers. It recurses as deep as the terms of the process and of the line.
     pub fn step(&mut self, alloc: Global, s: &PStep) -> Result<FactList, PFault>
         ensures ok { IfOk result (IsDone self.old self.new s.now) }
         ensures refused { IfErr result (IsDenied self.old s.now) }

@@ -62,21 +62,19 @@ impl Config {
             return Err(PFault::WrongForm { t });
         };
         let next = place.first;
-        match entry_number(alloc, &mut self.table, &self.knowledge, k) {
+        let Some(e) = entry_number(&self.table, &self.knowledge, k) else {
+            return Err(PFault::NoEntry { k });
+        };
+        self.table.each_is_ground();
+        match taken(alloc, &mut self.table, &th.env, channel, n, e) {
             Err(fault) => Err(fault),
-            Ok(e) => {
-                self.table.each_is_ground();
-                match taken(alloc, &mut self.table, &th.env, channel, n, e) {
-                    Err(fault) => Err(fault),
-                    Ok(env) => match shown_number(alloc, &self.table, e) {
-                        Err(_) => Err(PFault::Mem),
-                        Ok(label) => {
-                            set(&mut self.threads, t, Thread { place: next, env });
-                            Ok(label)
-                        }
-                    },
+            Ok(env) => match shown_number(alloc, &self.table, e) {
+                Err(_) => Err(PFault::Mem),
+                Ok(label) => {
+                    set(&mut self.threads, t, Thread { place: next, env });
+                    Ok(label)
                 }
-            }
+            },
         }
     }
 }

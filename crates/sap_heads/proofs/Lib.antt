@@ -6,7 +6,8 @@ pub mod Chosen
 mod Counted
 mod Extended
 mod Sided
-mod FormedFacts
+mod FormedSides
+mod Flat
 mod Stays
 pub mod Named
 pub mod Matched

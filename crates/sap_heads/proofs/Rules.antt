@@ -65,15 +65,15 @@ module _ (s : Shared) (grounds : (k : ℕ) → k < length s.trees → IsGround (
 
     -- it is used
     pub used_is : ((p : Proc) (s t : Choice) → ((v : Var) → IsGround (s v) ⊎ (s v ≡ variable v)) → process_instance t (process_instance s p) ≡ process_instance (λ v. instance t (s v)) p) → FormIsOne
-        → (shown added : List Fact) → AreFactsFormed s new e shown → AreFactsFormed s new r added → IsUsed s env cited l e r b new shown added
-    used_is twice one_form shown added acts right = record {
+        → (shown added : List Fact) → AreFactsFormed s new e shown → AreFactsFormed s new r added → All (IsSmallMessageFact s.sig) added → IsUsed s env cited l e r b new shown added
+    used_is twice one_form shown added acts right small_messages = record {
       choice = rule_choice s.sig s.trees grounds env small l e r one cited fine x.found x.matched once give b x.opened;
       opened = opened_is x.opened;
       fits = rule_fits s.sig s.trees grounds env small l e r one cited fine x.found x.matched once give b x.opened;
       acts = subst (λ fs. AreFormsOfFacts (equations s.sig) fs shown) (acts_are s.sig s.trees grounds env small l e r one cited fine x.found x.matched once give b x.opened new x.bound) acts.forms;
       right = subst (λ fs. AreFormsOfFacts (equations s.sig) fs added) (right_are s.sig s.trees grounds env small l e r one cited fine x.found x.matched once give b x.opened new x.bound) right.forms;
       small = rule_small s.sig s.trees grounds env small l e r one cited fine x.found x.matched once give b x.opened new x.bound one_form acts.small right.small;
-      messages = right.fine;
+      messages = small_messages;
       bound = record {
         names = rule_names s.sig s.trees grounds env small l e r one cited fine x.found x.matched once give b x.opened new x.bound;
         small = rule_small_env s.sig s.trees grounds env small l e r one cited fine x.found x.matched once give b x.opened new x.bound;

@@ -41,7 +41,7 @@ pub trees_instance : (σ : Choice) (ts : List Tree) → instances σ (trees_of t
 trees_instance σ [] = refl
 trees_instance σ (t ∷ ts) = ap (λ us. more (instance σ t) us) (trees_instance σ ts)
 
-terms_instance : (σ : Choice) (fs : List Fact) → map (instance σ) (facts_terms fs) ≡ facts_terms (instance_facts σ fs)
+pub terms_instance : (σ : Choice) (fs : List Fact) → map (instance σ) (facts_terms fs) ≡ facts_terms (instance_facts σ fs)
 terms_instance σ [] = refl
 terms_instance σ (f ∷ fs) = map-append (instance σ) f.args (facts_terms fs) ∙ ap (λ ts. map (instance σ) f.args ++ ts) (terms_instance σ fs)
 
@@ -59,7 +59,7 @@ facts_twice σ γ (f ∷ fs) =
     λ i. record { name = f.name; persistent = f.persistent; args = args i } ∷ facts_twice σ γ fs i
 
 -- facts of one shape with the same arguments are the same
-length-map : {X Y : Type 0} (f : X → Y) (xs : List X) → length (map f xs) ≡ length xs
+pub length-map : {X Y : Type 0} (f : X → Y) (xs : List X) → length (map f xs) ≡ length xs
 length-map f [] = refl
 length-map f (x ∷ xs) = ap suc (length-map f xs)
 

@@ -65,22 +65,16 @@ module _ (s u : Shared) (h : Keeps s u) where
   }
 
   pub formed_stays : (env : List Bound) (fs hs : List Fact) → AreSmallForms (equations s.sig) MOST_TERM_NODES s.trees env → AreFactsFormed s env fs hs → AreFactsFormed u env fs hs
-  formed_stays env fs hs small x = record { forms = rw (h.sig, given_stays s u h env small) x.forms; small = rw (h.sig, given_stays s u h env small) x.small; fine = rw h.sig x.fine }
+  formed_stays env fs hs small x = record { forms = rw (h.sig, given_stays s u h env small) x.forms; small = rw (h.sig, given_stays s u h env small) x.small }
 
   -- where bindings were added by larger numbers
   pub bound_there : (found : List Bound) (b : List Binding) (new : List Bound) → AreBound (length s.trees) found → IsBound s.trees u.trees found b new → IsBound u.trees u.trees found b new
   bound_there found b new below x = record { is = x.is ∙ ap (λ c. c ++ b) (sym (bindings_stay found below)); below = x.below; within = x.within }
 
--- faults and forms at a larger table, and back
+-- faults at a larger table
 module _ (s u : Shared) (h : Keeps s u) (env : List Bound) (small : AreSmallForms (equations s.sig) MOST_TERM_NODES s.trees env) (fs : List Fact) where
   pub fault_forth : (f : PFault) → IsValueFault s.sig (facts_terms (instance_facts (given s.trees env) fs)) f → IsValueFault u.sig (facts_terms (instance_facts (given u.trees env) fs)) f
   fault_forth f x = rw (h.sig, given_stays s u h env small) x
-
-  pub fault_back : (f : PFault) → IsValueFault u.sig (facts_terms (instance_facts (given u.trees env) fs)) f → IsValueFault s.sig (facts_terms (instance_facts (given s.trees env) fs)) f
-  fault_back f x = rw (h.sig, given_stays s u h env small) at x
-
-  pub formed_back : (hs : List Fact) → AreFactsFormed u env fs hs → AreFactsFormed s env fs hs
-  formed_back hs x = record { forms = rw (h.sig, given_stays s u h env small) at x.forms; small = rw (h.sig, given_stays s u h env small) at x.small; fine = rw h.sig at x.fine }
 
 -- small forms have numbers
 pub small_bound : (s : Shared) (env : List Bound) → AreSmallForms (equations s.sig) MOST_TERM_NODES s.trees env → AreBound (length s.trees) env
@@ -97,27 +91,6 @@ joined_names (b ∷ bs) vs = ap (λ ns. b.var.name ∷ ns) (joined_names bs vs)
 -- bindings that are right for variables and a signature are so for the same
 pub right_there : (g h k : Sig) (ws vs : List Var) (b : List Binding) → g ≡ h → k ≡ h → ws ≡ vs → AreRight g ws b → AreRight k vs b
 right_there g h k ws vs b e f v x = subst (λ m. AreRight m vs b) (e ∙ sym f) (subst (λ us. AreRight g us b) v x)
-
--- numbers at a larger table
-trees_stay : (s u : Shared) (h : Keeps s u) (ks : List ℕ) → AreBelow (length s.trees) ks → (trees_at u.trees ks ≡ trees_at s.trees ks) × AreBelow (length u.trees) ks
-trees_stay s u h [] below = (refl, All-nil (λ (k : ℕ). k < length u.trees))
-trees_stay s u h (k ∷ ks) below =
-    let here : k < length s.trees = All-head (λ (j : ℕ). j < length s.trees) k ks below in
-    let is = tree_stays s u h k here in
-    let rest = trees_stay s u h ks (All-tail (λ (j : ℕ). j < length s.trees) k ks below) in
-    let same = rest.0 in
-    let m = more s u h in
-    (λ i. is i ∷ same i, All-cons (λ (j : ℕ). j < length u.trees) k ks (omega (arith, here, m)) rest.1)
-
--- numbers of the first trees of a list, and one more
-pub put_more : (s t : Shared) (ts : List Tree) (i : ℕ) (u : Tree) (ks next : List ℕ) (k : ℕ) → trees_at s.trees ks ≡ take i ts → AreBelow (length s.trees) ks → Gives s t k u → slice_get ts i ≡ Some u → next ≡ ks ++ k ∷ []
-    → (trees_at t.trees next ≡ take (i + 1) ts) × AreBelow (length t.trees) next
-put_more s t ts i u ks next k trees below gives at is =
-    let old = trees_stay s t gives.keeps ks below in
-    rw is (
-      map-append (tree_at t.trees) ks (k ∷ []) ∙ (λ j. (old.0 ∙ trees) j ++ gives.tree j ∷ []) ∙ sym (take_got ts i u at),
-      All-push (λ (j : ℕ). j < length t.trees) ks k old.1 gives.below,
-    )
 
 -- bindings, the first of others with numbers for their terms, and one more
 pub bind_more : (s t : Shared) (front b : List Binding) (i : ℕ) (e : Binding) (env next : List Bound) (x : Bound) → bindings_of s.trees env ≡ front ++ take i b → AreBound (length s.trees) env → Gives s t x.id (tree e.term) → x.var ≡ e.var → slice_get b i ≡ Some e → next ≡ env ++ x ∷ []

@@ -1,35 +1,36 @@
 // The left side of a rule, and the facts that it takes.
-ghost use Rattle.std.specs.Prelude.{◌≡◌, ◌↔◌, ◌++◌, length, IfOk, IfErr, OnOk, IsTrue, All};
+ghost use Rattle.std.specs.Prelude.{◌≡◌, ◌↔◌, ◌++◌, length, map, IfOk, IfErr, OnOk, IsTrue, All};
 ghost use Rattle.sap_terms.specs.Message.{IsMessage};
 ghost use Rattle.sap_terms.specs.View.{tree};
 ghost use Rattle.sap_process.specs.Heads.{facts_terms};
 ghost use Rattle.sap_share.specs.Env.{AreBound, bindings_of};
-ghost use Rattle.sap_share.specs.Shared.{trees_at, AreBelow, Keeps};
-ghost use Rattle.sap_sides.specs.Messages.{IsSmallMessage, IsSmallMessageFact};
-ghost use Rattle.sap_heads.specs.code.Rules.{shape_of, shapes_of, IsFit, IsFound, IsNotFound, IsBound, IsNotBound};
+ghost use Rattle.sap_share.specs.Shared.{AreBelow, Keeps};
+ghost use Rattle.sap_sides.specs.SharedFacts.{fact_seen, AreFactsBelow};
+ghost use Rattle.sap_heads.specs.code.Rules.{shape_of, shapes_of, shapes_shared, args_numbers, IsFit, IsFound, IsNotFound, IsBound, IsNotBound};
 
 use crate::bindings::some_large;
 use sap_lines::PFault;
 use sap_share::{Bound, Env, Table};
+use sap_sides::SharedFact;
 use sap_terms::{Bindings, Copied, Fact, FactList, Mem, Numbers, TermList};
 use std::alloc::Global;
 
 // Whether the facts have one name, persistence and count of arguments.
-fn is_alike(f: &Fact, h: &Fact) -> bool
-    ensures { IsTrue result ↔ (shape_of f.now ≡ shape_of h.now) }
+fn is_alike(f: &Fact, s: &SharedFact) -> bool
+    ensures { IsTrue result ↔ (shape_of f.now ≡ (s.now.name, (s.now.persistent, length s.now.args))) }
 {
-    f.name.same(&h.name) && f.persistent == h.persistent && f.args.len() == h.args.len()
+    f.name.same(&s.name) && f.persistent == s.persistent && f.args.len() == s.args.len()
 }
 
 // Whether facts are so, one by one.
-fn are_alike(fs: &FactList, hs: &FactList) -> bool
-    ensures { IsTrue result ↔ (shapes_of fs.now ≡ shapes_of hs.now) }
+fn are_alike(fs: &FactList, ss: &[SharedFact]) -> bool
+    ensures { IsTrue result ↔ (shapes_of fs.now ≡ shapes_shared ss.now) }
 {
-    if fs.len() != hs.len() {
+    if fs.len() != ss.len() as u64 {
         return false;
     }
     for k in 0..fs.len() {
-        if !is_alike(fs.at(k), hs.at(k)) {
+        if !is_alike(fs.at(k), &ss[k as usize]) {
             return false;
         }
     }
@@ -57,32 +58,25 @@ fn terms_of(alloc: Global, fs: &FactList) -> Result<TermList, Mem>
     Ok(out)
 }
 
-// Numbers of terms.
-fn numbers_of(alloc: Global, table: &mut Table, ts: &TermList) -> Result<Numbers, Mem>
-    requires { All (IsSmallMessage table.old.sig) ts.now }
-    ensures trees { IfOk result (λ ks. trees_at table.new.trees ks ≡ ts.now) }
-    ensures below { IfOk result (AreBelow (length table.new.trees)) }
-    ensures keeps { Keeps table.old table.new }
+// Puts numbers last.
+fn push_numbers(ks: &Numbers, out: &mut Numbers) -> Result<(), Mem>
+    ensures { OnOk result (out.new ≡ out.old ++ ks.now) }
 {
-    let mut ks = Numbers::new(alloc);
-    for i in 0..ts.len() {
-        let k = table.put(alloc, ts.at(i))?;
-        ks.push(k)?;
+    for k in ks.as_slice() {
+        out.push(*k)?;
     }
-    Ok(ks)
+    Ok(())
 }
 
-// Numbers of the arguments of facts, one fact after another.
-fn numbered(alloc: Global, table: &mut Table, fs: &FactList) -> Result<Numbers, Mem>
-    requires { All (IsSmallMessageFact table.old.sig) fs.now }
-    ensures trees { IfOk result (λ ks. trees_at table.new.trees ks ≡ facts_terms fs.now) }
-    ensures below { IfOk result (AreBelow (length table.new.trees)) }
-    ensures keeps { Keeps table.old table.new }
+// The numbers in facts, one fact after another.
+fn numbers_of(alloc: Global, ss: &[SharedFact]) -> Result<Numbers, Mem>
+    ensures { IfOk result (λ ks. ks ≡ args_numbers ss.now) }
 {
-    match terms_of(alloc, fs) {
-        Err(_) => Err(Mem),
-        Ok(ts) => numbers_of(alloc, table, &ts),
+    let mut out = Numbers::new(alloc);
+    for s in ss {
+        push_numbers(&s.args, &mut out)?;
     }
+    Ok(out)
 }
 
 // What is bound where the arguments of the facts fit the numbers.
@@ -109,21 +103,20 @@ fn fit_terms(
 // What is bound where the left side is matched with the cited facts.
 pub(crate) fn found(
     alloc: Global,
-    table: &mut Table,
+    table: &Table,
     env: &Env,
     l: &FactList,
-    cited: &FactList,
+    cited: &[SharedFact],
 ) -> Result<Env, PFault>
-    requires env { AreBound (length table.old.trees) env.now }
-    requires fine { All (IsSmallMessageFact table.old.sig) cited.now }
-    ensures ok { IfOk result (IsFound table.new.trees env.now l.now cited.now) }
-    ensures refused { IfErr result (IsNotFound table.new.trees env.now l.now cited.now) }
-    ensures keeps { Keeps table.old table.new }
+    requires env { AreBound (length table.now.trees) env.now }
+    requires below { AreFactsBelow (length table.now.trees) cited.now }
+    ensures ok { IfOk result (IsFound table.now.trees env.now l.now (map (fact_seen table.now.trees) cited.now)) }
+    ensures refused { IfErr result (IsNotFound table.now.trees env.now l.now (map (fact_seen table.now.trees) cited.now)) }
 {
     if !are_alike(l, cited) {
         return Err(PFault::NoMatch);
     }
-    match numbered(alloc, table, cited) {
+    match numbers_of(alloc, cited) {
         Err(_) => Err(PFault::Mem),
         Ok(ks) => match fit_terms(alloc, table, env, l, &ks) {
             Err(_) => Err(PFault::Mem),

@@ -2,10 +2,7 @@
 ghost use Rattle.std.specs.Prelude.{map, All, IfOk, IfErr, [], ◌∷◌};
 ghost use Rattle.sap_terms.specs.Choice.{instance};
 ghost use Rattle.sap_terms.specs.Equations.{equations};
-ghost use Rattle.sap_terms.specs.Modulo.{instance_facts};
 ghost use Rattle.sap_terms.specs.View.{tree};
-ghost use Rattle.sap_process.specs.Heads.{facts_terms};
-ghost use Rattle.sap_heads.specs.code.Rules.{AreFactsFormed};
 ghost use Rattle.sap_share.specs.Env.{given, AreSmallForms};
 ghost use Rattle.sap_share.specs.Shared.{Keeps};
 ghost use Rattle.sap_heads.specs.Values.{CanEvaluate, IsShown, IsValueFault};
@@ -92,27 +89,4 @@ pub fn shown_form(alloc: Global, table: &mut Table, env: &Env, f: &Fact) -> Resu
             Ok(()) => Ok(facts),
         },
     }
-}
-
-// Those of facts.
-pub(crate) fn forms_of_facts(
-    alloc: Global,
-    table: &mut Table,
-    env: &Env,
-    fs: &FactList,
-) -> Result<FactList, PFault>
-    requires env { AreSmallForms (equations table.old.sig) MOST_TERM_NODES table.old.trees env.now }
-    requires can { All (CanEvaluate table.old env.now) (facts_terms fs.now) }
-    ensures ok { IfOk result (AreFactsFormed table.old env.now fs.now) }
-    ensures refused { IfErr result (IsValueFault table.old.sig (facts_terms (instance_facts (given table.old.trees env.now) fs.now))) }
-    ensures keeps { Keeps table.old table.new }
-{
-    let mut out = FactList::new(alloc);
-    for i in 0..fs.len() {
-        match form_of_fact(alloc, table, env, fs.at(i)) {
-            Err(fault) => return Err(fault),
-            Ok(h) => out.push(h)?,
-        }
-    }
-    Ok(out)
 }

@@ -7,3 +7,4 @@ pub mod PlainMatch
 pub mod ByNumbers
 pub mod Names
 pub mod Normals
+pub mod Slotted

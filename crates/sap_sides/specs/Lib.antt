@@ -3,3 +3,4 @@ pub mod Messages
 pub mod Fitting
 pub mod Forms
 pub mod Laws
+pub mod code

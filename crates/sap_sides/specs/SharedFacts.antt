@@ -1,5 +1,6 @@
 -- Facts whose arguments are numbers of shared terms.
-use Rattle.std.specs.Prelude.{◌≡◌, ℕ, List, map, length, All}
+use Rattle.std.specs.Prelude.{◌≡◌, ℕ, List, map, length, Option, Some, None, All}
+use Rattle.sap_terms.specs.Piles.{Pile}
 use Rattle.sap_terms.specs.Tree.{Tree}
 use Rattle.sap_terms.specs.declared.fact.Fact.{Fact}
 use Rattle.sap_share.specs.Shared.{trees_at, AreBelow}
@@ -22,3 +23,21 @@ pub record IsShared (ts : List Tree) (f : Fact) (s : SharedFact) : Type 0 where
 pub record AreShared (ts : List Tree) (fs : List Fact) (ss : List SharedFact) : Type 0 where
   pub below : AreFactsBelow (length ts) ss
   pub are : map (fact_seen ts) ss ≡ fs
+
+-- the fact of a slot, with the trees of its numbers, if it stands
+abbrev pub slot_seen : List Tree → Option SharedFact → Option Fact
+slot_seen ts None = None
+slot_seen ts (Some s) = Some (fact_seen ts s)
+
+-- the facts of all slots
+abbrev pub slots_seen : List Tree → List (Option SharedFact) → Pile
+slots_seen ts slots = map (slot_seen ts) slots
+
+-- the numbers in the slot are below the count
+abbrev pub IsSlotBelow : ℕ → Option SharedFact → Type 0
+IsSlotBelow count None = Unit {0}
+IsSlotBelow count (Some s) = AreBelow count s.args
+
+-- so are those in all slots
+abbrev pub AreSlotsBelow : ℕ → List (Option SharedFact) → Type 0
+AreSlotsBelow count slots = All (IsSlotBelow count) slots

@@ -8,6 +8,7 @@ mod forms;
 mod laws;
 mod made;
 mod matching;
+mod pile;
 mod shared_fact;
 
 pub use bindings::{are_messages, are_of, are_small_forms, number_bindings};
@@ -20,4 +21,5 @@ pub use laws::{
 };
 pub use made::{find_room, is_among, put_last};
 pub use matching::match_facts;
+pub use pile::SharedPile;
 pub use shared_fact::{SharedFact, built_fact, built_facts, share_fact, share_facts};

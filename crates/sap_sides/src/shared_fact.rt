@@ -16,6 +16,18 @@ pub struct SharedFact {
     pub args: Numbers,
 }
 
+impl Copied for SharedFact {
+    fn copy(&self, alloc: Global) -> Result<SharedFact, Mem> {
+        let name = self.name.copy(alloc)?;
+        let args = self.args.copy(alloc)?;
+        Ok(SharedFact {
+            name,
+            persistent: self.persistent,
+            args,
+        })
+    }
+}
+
 // The numbers of these terms.
 #[tactic(auto, using(crate::proofs::Kept::kept_laws))]
 fn share_args(table: &mut Table, alloc: Global, ts: &TermList) -> Result<Numbers, Mem>

@@ -1,5 +1,6 @@
 -- A rule that is used part by part: what is open, matched, bound and formed.
 use Rattle.std.specs.Prelude.{◌≡◌, ◌<◌, ◌≤◌, ◌⊎◌, ℕ, Bool, List, [], ◌++◌, Option, Some, None, length, map, All, Contains}
+use Rattle.std.specs.List.{flat_map}
 use Rattle.sap_terms.specs.Equations.{equations}
 use Rattle.sap_terms.specs.Modulo.{instance_facts, AreFormsOfFacts}
 use Rattle.sap_terms.specs.Signature.{Sig}
@@ -16,7 +17,7 @@ use Rattle.sap_process.specs.Sites.{var_names}
 use Rattle.sap_share.specs.Env.{given, bindings_of, AreBound}
 use Rattle.sap_share.specs.Shared.{Shared, trees_at}
 use Rattle.sap_share.specs.declared.env.Bound.{Bound}
-use Rattle.sap_sides.specs.Messages.{IsSmallMessageFact}
+use Rattle.sap_sides.specs.declared.shared_fact.SharedFact.{SharedFact}
 use Rattle.sap_lines.specs.Faults.{AreRight, EvaluateSmall}
 use Rattle.sap_lines.specs.declared.fault.PFault.{PFault}
 use Rattle.sap_lines.specs.declared.fault.PFault.TheVariants.{Mem, BadBinding, NoMatch, TermLarge}
@@ -36,6 +37,14 @@ shape_of f = (f.name, (f.persistent, length f.args))
 
 abbrev pub shapes_of : List Fact → List (List ℕ × (Bool × ℕ))
 shapes_of fs = map shape_of fs
+
+-- the same of facts with numbers
+abbrev pub shapes_shared : List SharedFact → List (List ℕ × (Bool × ℕ))
+shapes_shared ss = map (λ (s : SharedFact). (s.name, (s.persistent, length s.args))) ss
+
+-- the numbers in facts, one fact after another
+abbrev pub args_numbers : List SharedFact → List ℕ
+args_numbers ss = flat_map (λ (s : SharedFact). s.args) ss
 
 -- the arguments of facts, as one tree
 abbrev pub together : List Fact → Tree
@@ -76,11 +85,10 @@ pub record IsBound (ts us : List Tree) (found : List Bound) (b : List Binding) (
 abbrev pub IsNotBound : List Binding → PFault → Type 0
 IsNotBound b f = (f ≡ Mem) ⊎ ((f ≡ TermLarge) × SomeLarge b)
 
--- these are the normal forms of facts, small ones, and no subterm of what those stand for has a large one
+-- these are the normal forms of facts, and no subterm of what those stand for has a large one
 pub record AreFactsFormed (s : Shared) (env : List Bound) (fs hs : List Fact) : Type 0 where
   pub forms : AreFormsOfFacts (equations s.sig) (instance_facts (given s.trees env) fs) hs
   pub small : EvaluateSmall s.sig (facts_terms (instance_facts (given s.trees env) fs))
-  pub fine : All (IsSmallMessageFact s.sig) hs
 
 -- what is bound where a rule is used
 pub record IsRuleEnv (u : Shared) (env : List Bound) (cited l e r : List Fact) (b : List Binding) (new : List Bound) : Type 0 where

@@ -1,18 +1,37 @@
-use Rattle.sap_process.specs.Heads.{facts_terms}
+use Rattle.std.proofs.Common.{ap, Err}
 use Rattle.sap_share.specs.Env.{given}
-use Rattle.sap_heads.proofs.FormedFacts.{facts_can_stay, front_fault, back_fault}
-use Rattle.sap_heads.proofs.Stays.{fault_back, formed_back}
+use Rattle.sap_heads.proofs.FormedSides.{facts_ground, facts_over, side_small, side_large, side_fine}
 use Rattle.sap_heads.proofs.using.sides.Goals as goal
 
-pub forms_of_facts-requires-in-Ok-clause-can : goal.forms_of_facts-requires-in-Ok-clause-can
-forms_of_facts-requires-in-Ok-clause-can c = facts_can_stay c.args.table.now c.forms_of_facts.new.table c.args.env.now (facts_terms c.args.r.now) c.forms_of_facts.ensures.keeps c.requires.env c.requires.right
+pub form_sides-requires-clause-ground_acts : goal.form_sides-requires-clause-ground_acts
+form_sides-requires-clause-ground_acts c = facts_ground c.args.table.now c.args.env.now c.args.e.now c.requires.acts
 
-pub returns-in-Err-clause-refused : goal.returns-in-Err-clause-refused
-returns-in-Err-clause-refused c = front_fault c.args.table.now.sig (given c.args.table.now.trees c.args.env.now) c.args.e.now c.args.r.now c.in-Err.fault c.in-Err.ensures.refused
+pub form_sides-requires-clause-ground_right : goal.form_sides-requires-clause-ground_right
+form_sides-requires-clause-ground_right c = facts_ground c.args.table.now c.args.env.now c.args.r.now c.requires.right
 
-pub returns-in-Err-forms_of_facts-clause-refused : goal.returns-in-Err-forms_of_facts-clause-refused
-returns-in-Err-forms_of_facts-clause-refused c =
-    back_fault c.args.table.now.sig (given c.args.table.now.trees c.args.env.now) c.args.e.now c.args.r.now c.in-Err-forms_of_facts.fault (fault_back c.args.table.now c.forms_of_facts.new.table c.forms_of_facts.ensures.keeps c.args.env.now c.requires.env c.args.r.now c.in-Err-forms_of_facts.fault c.in-Err-forms_of_facts.ensures.refused)
+pub form_sides-requires-clause-over_acts : goal.form_sides-requires-clause-over_acts
+form_sides-requires-clause-over_acts c = facts_over c.args.table.now c.args.env.now c.args.e.now c.requires.acts
 
-pub returns-in-Ok-forms_of_facts-clause-right : goal.returns-in-Ok-forms_of_facts-clause-right
-returns-in-Ok-forms_of_facts-clause-right c = formed_back c.args.table.now c.forms_of_facts.new.table c.forms_of_facts.ensures.keeps c.args.env.now c.requires.env c.args.r.now c.in-Ok-forms_of_facts.right c.in-Ok-forms_of_facts.ensures.ok
+pub form_sides-requires-clause-over_right : goal.form_sides-requires-clause-over_right
+form_sides-requires-clause-over_right c = facts_over c.args.table.now c.args.env.now c.args.r.now c.requires.right
+
+pub returns-in-Err-Large-clause-refused : goal.returns-in-Err-Large-clause-refused
+returns-in-Err-Large-clause-refused c = side_large c.args.table.now.sig (given c.args.table.now.trees c.args.env.now) c.args.e.now c.args.r.now (c.in-Err-Large.ensures.large (ap Err c.in-Err-Large.field-0-is))
+
+pub returns-in-Ok-clause-acts : goal.returns-in-Ok-clause-acts
+returns-in-Ok-clause-acts c = record {
+  forms = c.in-Ok.ensures.sides.acts_forms;
+  small = side_small c.args.table.now.sig (given c.args.table.now.trees c.args.env.now) c.args.e.now c.in-Ok.ensures.sides.within_acts;
+}
+
+pub returns-in-Ok-clause-right : goal.returns-in-Ok-clause-right
+returns-in-Ok-clause-right c = record {
+  forms = c.in-Ok.ensures.sides.right_forms;
+  small = side_small c.args.table.now.sig (given c.args.table.now.trees c.args.env.now) c.args.r.now c.in-Ok.ensures.sides.within_right;
+}
+
+pub returns-in-Ok-clause-fine : goal.returns-in-Ok-clause-fine
+returns-in-Ok-clause-fine c =
+    let s = c.args.table.now in
+    let u = c.form_sides.new.table in
+    side_fine s u c.form_sides.ensures.keeps c.each_is_ground.ensures c.each_is_over.ensures (given s.trees c.args.env.now) c.args.r.now c.in-Ok.sides.right.items c.in-Ok.ensures.sides.below c.in-Ok.ensures.sides.right_forms c.in-Ok.ensures.sides.within_right

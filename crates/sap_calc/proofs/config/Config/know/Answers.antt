@@ -11,7 +11,7 @@ use Rattle.sap_calc.proofs.config.Config.know.Goals as goal
 
 pub returns-in_default-clause-refused : goal.returns-in_default-clause-refused
 returns-in_default-clause-refused c =
-    let P : Parts = record { table = c.self.inside.table; places = c.self.inside.places; threads = c.self.inside.threads.items; store = c.self.inside.store.entries; held = c.self.inside.held.entries; facts = c.self.inside.facts.slots; made = c.self.inside.made.keys; own = c.self.inside.own.keys; known = c.self.inside.knowledge } in
+    let P : Parts = record { table = c.self.inside.table; places = c.self.inside.places; threads = c.self.inside.threads.items; store = c.self.inside.store.entries; held = c.self.inside.held.entries; facts = c.self.inside.facts; made = c.self.inside.made.keys; own = c.self.inside.own.keys; known = c.self.inside.knowledge } in
     rw (← c.self.view_is) (unknown_shown c.args.k (sym c.at.ensures ∙ ap (λ o. option_map tree (option_copied o)) c.in_default.is))
 
 pub returns-in_err-shown-clause-refused : goal.returns-in_err-shown-clause-refused
@@ -19,5 +19,5 @@ returns-in_err-shown-clause-refused c = let p = err_from_is_err_and c.from_resid
 
 pub returns-clause-ok : goal.returns-clause-ok
 returns-clause-ok c =
-    let P : Parts = record { table = c.self.inside.table; places = c.self.inside.places; threads = c.self.inside.threads.items; store = c.self.inside.store.entries; held = c.self.inside.held.entries; facts = c.self.inside.facts.slots; made = c.self.inside.made.keys; own = c.self.inside.own.keys; known = c.self.inside.knowledge } in
+    let P : Parts = record { table = c.self.inside.table; places = c.self.inside.places; threads = c.self.inside.threads.items; store = c.self.inside.store.entries; held = c.self.inside.held.entries; facts = c.self.inside.facts; made = c.self.inside.made.keys; own = c.self.inside.own.keys; known = c.self.inside.knowledge } in
     rw (← c.self.view_is) (know_line P c.args.k (tree c.in-Some.t.now) c.in_ok-shown.field-0 (sym c.in-Some.ensures) c.in_ok-shown.ensures)
