@@ -1,4 +1,5 @@
 mod Kept
+mod Known
 mod Numbers
 mod Binds
 mod Formed

@@ -8,8 +8,6 @@ use Rattle.sap_terms.specs.View.{term}
 use Rattle.sap_terms.specs.declared.binding.Binding.{Binding}
 use Rattle.sap_terms.specs.declared.fact.Fact.{Fact}
 use Rattle.sap_terms.specs.declared.limits.TheConstants.{MOST_TERM_NODES}
-use Rattle.sap_process.specs.Sites.{var_names}
-use Rattle.sap_heads.specs.Bound.{names_of}
 use Rattle.std.proofs.lemmas.List.{map-append}
 use Rattle.sap_terms.specs.Signature.{Sig}
 use Rattle.sap_terms.proofs.PlainLaws.Lists.{take_got}
@@ -82,11 +80,6 @@ small_bound s [] h = All-nil (λ (b : Bound). b.id < length s.trees)
 small_bound s (b ∷ bs) h =
     let P : Bound → Type 0 = λ b. IsSmallForm (equations s.sig) MOST_TERM_NODES s.trees b.id in
     All-cons (λ (b : Bound). b.id < length s.trees) b bs (All-head P b bs h).below (small_bound s bs (All-tail P b bs h))
-
--- the names of what is bound and of other variables
-pub joined_names : (env : List Bound) (vs : List Var) → var_names (map (λ (b : Bound). b.var) env ++ vs) ≡ names_of env ++ var_names vs
-joined_names [] vs = refl
-joined_names (b ∷ bs) vs = ap (λ ns. b.var.name ∷ ns) (joined_names bs vs)
 
 -- bindings that are right for variables and a signature are so for the same
 pub right_there : (g h k : Sig) (ws vs : List Var) (b : List Binding) → g ≡ h → k ≡ h → ws ≡ vs → AreRight g ws b → AreRight k vs b

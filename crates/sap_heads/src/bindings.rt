@@ -1,72 +1,95 @@
 // The bindings of a line, and the variables that a rule leaves open.
-ghost use Rattle.std.specs.Prelude.{◌≡◌, ◌++◌, true, false, IfOk, IfErr, OnOk, map};
+ghost use Rattle.std.specs.Prelude.{◌≡◌, ◌++◌, ◌∷◌, [], true, false, not, IfOk, IfErr, OnOk};
 ghost use Rattle.sap_terms.specs.Variables.{facts_vars, is_known, new_vars};
 ghost use Rattle.sap_process.specs.Sites.{var_names};
 ghost use Rattle.sap_lines.specs.Faults.{AreRight};
+ghost use Rattle.sap_heads.specs.Bound.{names_of};
+ghost use Rattle.sap_heads.specs.code.Known.{KnowAlike, IsSifted};
 ghost use Rattle.sap_heads.specs.code.Rules.{open_vars, AreNotOpen, SomeLarge, NoneLarge};
 
 use sap_lines::PFault;
 use sap_share::Env;
 use sap_sides::{are_messages, are_of};
 use sap_terms::{
-    Bindings, Copied, FactList, MOST_TERM_NODES, Mem, Name, Signature, Vars, push_facts_vars,
+    Bindings, Copied, FactList, MOST_TERM_NODES, Mem, Name, Signature, Var, Vars, push_facts_vars,
 };
 use std::alloc::Global;
+use std::collections::BTreeSet;
 
-// Whether the name is a variable's among these.
-fn knows(vars: &Vars, name: &Name) -> bool
-    ensures { result ≡ is_known (var_names vars.now) name.now }
+// Adds a name; true where it wasn't there.
+fn note(alloc: Global, known: &mut BTreeSet<Name>, name: &Name) -> Result<bool, Mem>
+    ensures new { IfOk result (λ r. r ≡ not (is_known known.old.keys name.now)) }
+    ensures puts { OnOk result (KnowAlike known.new.keys (known.old.keys ++ name.now ∷ [])) }
 {
-    for v in vars.as_slice() {
-        if v.name.same(name) {
-            return true;
-        }
+    if known.contains(name) {
+        return Ok(false);
     }
-    false
+    let name = name.copy(alloc)?;
+    known.insert(name)?;
+    Ok(true)
 }
 
-// The first occurrences of variables whose names are not known, which are known then.
-fn first_of(alloc: Global, known: &mut Vars, vars: &Vars) -> Result<Vars, Mem>
-    ensures { IfOk result (λ out. out ≡ new_vars (var_names known.old) vars.now) }
+// The names of these variables.
+fn names_in(alloc: Global, vars: &Vars) -> Result<BTreeSet<Name>, Mem>
+    ensures { IfOk result (λ s. KnowAlike s.keys (var_names vars.now)) }
+{
+    let mut names = BTreeSet::new(alloc);
+    for v in vars.as_slice() {
+        note(alloc, &mut names, &v.name)?;
+    }
+    Ok(names)
+}
+
+// Whether a variable is new among what is bound and these names, which have its name then.
+fn is_new(alloc: Global, env: &Env, known: &mut BTreeSet<Name>, v: &Var) -> Result<bool, Mem>
+    ensures new { IfOk result (λ r. r ≡ not (is_known (names_of env.now ++ known.old.keys) v.now.name)) }
+    ensures sifts { OnOk result (IsSifted (names_of env.now ++ known.old.keys) (names_of env.now ++ known.new.keys) v.now) }
+{
+    if env.binds(&v.name) {
+        return Ok(false);
+    }
+    let new = note(alloc, known, &v.name)?;
+    Ok(new)
+}
+
+// The first occurrences of variables whose names are neither bound nor known. It takes time in proportion to the
+// occurrences and to the logarithm of how many are bound and known.
+fn first_of(alloc: Global, env: &Env, known: &mut BTreeSet<Name>, vars: &Vars) -> Result<Vars, Mem>
+    ensures { IfOk result (λ out. out ≡ new_vars (names_of env.now ++ known.old.keys) vars.now) }
 {
     let mut out = Vars::new(alloc);
     for v in vars.as_slice() {
-        if !knows(known, &v.name) {
-            known.push(v.copy(alloc)?)?;
+        if is_new(alloc, env, known, v)? {
             out.push(v.copy(alloc)?)?;
         }
     }
     Ok(out)
 }
 
-// The variables that are bound.
-fn vars_of(alloc: Global, env: &Env) -> Result<Vars, Mem>
-    ensures { IfOk result (λ vs. vs ≡ map (λ b. b.var) env.now) }
+// The variables of facts.
+fn vars_of(alloc: Global, fs: &FactList) -> Result<Vars, Mem>
+    ensures { IfOk result (λ vs. vs ≡ facts_vars fs.now) }
 {
     let mut vars = Vars::new(alloc);
-    for b in env.as_slice() {
-        vars.push(b.var.copy(alloc)?)?;
-    }
+    push_facts_vars(alloc, fs, &mut vars)?;
     Ok(vars)
-}
-
-// The variables that are bound, and those of facts.
-fn known_of(alloc: Global, env: &Env, l: &FactList) -> Result<Vars, Mem>
-    ensures { IfOk result (λ vs. vs ≡ map (λ b. b.var) env.now ++ facts_vars l.now) }
-{
-    let mut known = vars_of(alloc, env)?;
-    push_facts_vars(alloc, l, &mut known)?;
-    Ok(known)
 }
 
 // The variables of facts, and then of others.
 fn later_of(alloc: Global, e: &FactList, r: &FactList) -> Result<Vars, Mem>
     ensures { IfOk result (λ vs. vs ≡ facts_vars e.now ++ facts_vars r.now) }
 {
-    let mut vars = Vars::new(alloc);
-    push_facts_vars(alloc, e, &mut vars)?;
+    let mut vars = vars_of(alloc, e)?;
     push_facts_vars(alloc, r, &mut vars)?;
     Ok(vars)
+}
+
+// The names of the variables of facts.
+fn names_of_facts(alloc: Global, fs: &FactList) -> Result<BTreeSet<Name>, Mem>
+    ensures { IfOk result (λ s. KnowAlike s.keys (var_names (facts_vars fs.now))) }
+{
+    let vars = vars_of(alloc, fs)?;
+    names_in(alloc, &vars)
 }
 
 // The variables that a rule leaves open.
@@ -79,9 +102,9 @@ pub(crate) fn open_of(
 ) -> Result<Vars, Mem>
     ensures { IfOk result (λ vs. vs ≡ open_vars env.now l.now e.now r.now) }
 {
-    let mut known = known_of(alloc, env, l)?;
     let vars = later_of(alloc, e, r)?;
-    first_of(alloc, &mut known, &vars)
+    let mut known = names_of_facts(alloc, l)?;
+    first_of(alloc, env, &mut known, &vars)
 }
 
 // Tests that the bindings are of these variables, each to a message.
