@@ -1,5 +1,5 @@
 -- What changes of parts change in what they stand for.
-use Rattle.std.proofs.Common.{◌≡◌, ◌<◌, ℕ, zero, suc, List, [], ◌∷◌, ◌++◌, length, map, Option, Some, None, option_map, unwrap_or, refl, sym, ap, subst, ◌∙◌, arith, Bool, inl, inr, if◌then◌else◌, append_assoc}
+use Rattle.std.proofs.Common.{◌≡◌, ◌<◌, ℕ, zero, suc, List, [], ◌∷◌, ◌++◌, length, map, Option, Some, None, option_map, unwrap_or, refl, sym, ap, subst, ◌∙◌, arith, Bool, inl, inr, if◌then◌else◌}
 use Rattle.std.specs.Prelude.{slice_get, slice_set, All}
 use Rattle.std.specs.Str.{bytes_eq}
 use Rattle.std.proofs.lemmas.List.{append-nil}
@@ -130,9 +130,6 @@ module _ (s u : Shared) (h : Keeps s u) where
 
 pub keeps_same : (s : Shared) → Keeps s s
 keeps_same s = record { sig = refl; added = []; trees = sym (append-nil s.trees) }
-
-pub keeps_twice : (s u v : Shared) → Keeps s u → Keeps u v → Keeps s v
-keeps_twice s u v h i = record { sig = i.sig ∙ h.sig; added = h.added ++ i.added; trees = i.trees ∙ ap (λ ts. ts ++ i.added) h.trees ∙ append_assoc s.trees h.added i.added }
 
 pub keeps_tied : (P : Parts) (u : Shared) → Keeps P.table u → AreTied P → AreTied (record P { table = u })
 keeps_tied P u h tied = record {

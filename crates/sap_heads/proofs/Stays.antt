@@ -2,7 +2,6 @@
 use Rattle.std.proofs.Common.{◌≡◌, ◌<◌, ◌++◌, ℕ, List, [], ◌∷◌, length, map, refl, sym, ap, subst, ◌∙◌, arith, ◌+◌, length-append}
 use Rattle.std.proofs.lemmas.List.Elements.{All-nil, All-cons, All-head, All-tail}
 use Rattle.sap_terms.specs.Equations.{equations}
-use Rattle.sap_terms.specs.Tree.{Tree}
 use Rattle.sap_terms.specs.declared.var.Var.{Var}
 use Rattle.sap_terms.specs.View.{term}
 use Rattle.sap_terms.specs.declared.binding.Binding.{Binding}
@@ -15,7 +14,7 @@ use Rattle.std.specs.Prelude.{slice_get, Some}
 use Rattle.std.proofs.lemmas.List.Elements.{All-push}
 use Rattle.std.proofs.Common.{take, append_assoc}
 use Rattle.sap_terms.specs.View.{tree, term-tree}
-use Rattle.sap_share.specs.Shared.{trees_at, AreBelow, Gives}
+use Rattle.sap_share.specs.Shared.{Gives}
 use Rattle.sap_share.specs.Env.{bindings_of, AreBound, AreSmallForms, IsSmallForm}
 use Rattle.sap_share.specs.Shared.{Shared, tree_at, Keeps}
 use Rattle.sap_share.specs.declared.env.Bound.{Bound}

@@ -1,5 +1,5 @@
 -- Slots with facts of numbers, and the facts that they are seen as.
-use Rattle.std.proofs.Common.{◌≡◌, ◌<◌, ◌+◌, ℕ, zero, suc, Bool, true, false, List, [], ◌∷◌, ◌++◌, length, map, Option, Some, None, refl, sym, ap, ◌∙◌, take}
+use Rattle.std.proofs.Common.{◌≡◌, ◌+◌, ℕ, zero, suc, Bool, true, false, List, [], ◌∷◌, ◌++◌, map, Option, Some, None, refl, sym, ap, ◌∙◌, take}
 use Rattle.std.specs.Prelude.{slice_get, slice_set}
 use Rattle.std.specs.List.{cons_option}
 use Rattle.std.proofs.lemmas.List.{map-append}
@@ -7,7 +7,6 @@ use Rattle.std.proofs.lemmas.List.Elements.{All-head, All-tail, All-nil, All-con
 use Rattle.sap_terms.proofs.PlainLaws.Lists.{take_got}
 use Rattle.sap_terms.specs.Piles.{adds}
 use Rattle.sap_terms.specs.Tree.{Tree}
-use Rattle.sap_terms.specs.declared.fact.Fact.{Fact}
 use Rattle.sap_facts.specs.Cited.{cited_at, left_of}
 use Rattle.sap_facts.specs.Facts.{fact_at, slots_without}
 use Rattle.sap_share.specs.Shared.{AreBelow}

@@ -1,9 +1,8 @@
-use Rattle.std.proofs.Common.{◌≡◌, ◌<◌, List, [], ℕ, length, map, inr, refl, sym, ap, subst, ◌∙◌}
+use Rattle.std.proofs.Common.{◌≡◌, List, [], length, inr, refl, sym, ap, subst, ◌∙◌}
 use Rattle.sap_terms.specs.Tree.{Tree, apply, trees_of}
 use Rattle.sap_rewrite.specs.Match.{IsOnlyMatch, HasNoMatch}
 use Rattle.sap_share.specs.Env.{bindings_of}
 use Rattle.sap_share.specs.Shared.{trees_at, AreBelow}
-use Rattle.sap_sides.specs.SharedFacts.{fact_seen}
 use Rattle.sap_heads.specs.code.Rules.{together, IsFit}
 use Rattle.sap_heads.proofs.Flat.{shapes_seen, args_seen, args_below}
 use Rattle.sap_heads.proofs.fitting.found.Goals as goal

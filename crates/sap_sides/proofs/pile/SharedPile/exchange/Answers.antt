@@ -1,6 +1,5 @@
 use Rattle.std.proofs.Common.{◌≡◌, ◌++◌, List, map, Option, Some, ap, subst, sym, ◌∙◌}
 use Rattle.sap_terms.specs.Piles.{adds}
-use Rattle.sap_facts.specs.Cited.{left_of}
 use Rattle.sap_sides.specs.SharedFacts.{fact_seen, slots_seen, AreSlotsBelow}
 use Rattle.sap_sides.specs.code.Slots.{cleared_each}
 use Rattle.sap_sides.specs.declared.shared_fact.SharedFact.{SharedFact}
