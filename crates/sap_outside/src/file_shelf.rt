@@ -1,5 +1,6 @@
 //! The files of the system, as a shelf.
-ghost use Rattle.std.specs.Prelude.{◌≡◌, ◌≤◌, ◌+◌, ◌-◌, ◌^◌, min, length, IfOk, None, option_map, string_bytes};
+ghost use Rattle.std.specs.Prelude.{◌≡◌, ◌≢◌, ◌≤◌, ◌+◌, ◌-◌, ◌^◌, ℕ, List, [], min, length, IfOk, OnOk, OnErr, IsErrOf, IsSomeAnd, Option, None, Some, option_map, string_bytes};
+ghost use Rattle.sap_outside.specs.Outside.{Rose, IsWholeFile, IsNextPart};
 
 use crate::{Shelf, ShelfFault};
 use std::alloc::Global;
@@ -30,14 +31,19 @@ impl<'a, R: Files> FileShelf<'a, R> {
         self.name = None;
     }
 
-    // Counts a failure, after which no file is open.
-    fn fail(&mut self)
-        ensures name { self.new.name ≡ None }
-        ensures count { self.new.count ≡ min (self.old.count + 1) (2 ^ 64 - 1) }
+    // Counts the fault, where it is one that counts.
+    fn counted(&mut self, fault: ShelfFault) -> ShelfFault
+        ensures same { result ≡ fault }
+        ensures name { self.new.name ≡ self.old.name }
+        ensures counted { fault ≡ ShelfFault.Failed → self.new.count ≡ min (self.old.count + 1) (2 ^ 64 - 1) }
+        ensures uncounted { fault ≡ ShelfFault.Mem → self.new.count ≡ self.old.count }
         ensures later { self.old.count ≤ self.new.count }
     {
-        self.close();
-        self.count = self.count.saturating_add(1);
+        match fault {
+            ShelfFault::Mem => (),
+            ShelfFault::Failed => self.count = self.count.saturating_add(1),
+        }
+        fault
     }
 }
 
@@ -47,13 +53,21 @@ const FIRST_ROOM: usize = 65_536;
 /// How often in a row a signal may interrupt a read.
 const MOST_TRIES: u64 = 1_000_000;
 
-// Reads into the buffer itself, which doubles as it fills up.
-fn read_up_to<F: Read + Drop>(alloc: Global, file: F, most: u64) -> Result<Vec<u8>, ShelfFault>
+// Opens the file of this name.
+fn open<R: Files>(rt: &R, name: &str) -> Result<R::File, ShelfFault> {
+    match fs::open(rt, name) {
+        Ok(file) => Ok(file),
+        Err(e) => Err(fault_of(e.kind())),
+    }
+}
+
+// The first bytes of the file of this name. They are read into the buffer itself, which doubles as it fills up.
+fn read_up_to<R: Files>(alloc: Global, rt: &R, name: &str, most: u64) -> Result<Vec<u8>, ShelfFault>
     requires { most ≤ 16777217 }
     ensures { IfOk result (λ v. length v.items ≤ most) }
 {
     let mut bytes = Vec::with_capacity(alloc, FIRST_ROOM)?;
-    match file.take(most).read_to_end(&mut bytes) {
+    match open(rt, name)?.take(most).read_to_end(&mut bytes) {
         Ok(_) => {
             bytes.truncate(most as usize);
             Ok(bytes)
@@ -82,7 +96,11 @@ fn read_piece<F: Read>(alloc: Global, file: &mut F, most: u64) -> Result<Vec<u8>
     Err(ShelfFault::Failed)
 }
 
-fn fault_of(kind: ErrorKind) -> ShelfFault {
+// What an error of the system is: want of memory, where it says so, and a fault otherwise.
+fn fault_of(kind: ErrorKind) -> ShelfFault
+    ensures mem { kind ≡ ErrorKind.OutOfMemory → result ≡ ShelfFault.Mem }
+    ensures fault { kind ≢ ErrorKind.OutOfMemory → result ≡ ShelfFault.Failed }
+{
     match kind {
         ErrorKind::OutOfMemory => ShelfFault::Mem,
         _ => ShelfFault::Failed,
@@ -100,39 +118,65 @@ impl<'a, R: Files> Shelf for FileShelf<'a, R> {
 
     ghost rest = { λ _. None };
 
-    fn fetch(&mut self, alloc: Global, name: &str, limit: u64) -> Result<Vec<u8>, ShelfFault> {
-        match fs::open(self.rt, name) {
-            Ok(file) => {
-                let read = read_up_to(alloc, file, limit + 1);
-                if let Err(ShelfFault::Failed) = read {
-                    self.count = self.count.saturating_add(1);
-                }
-                read
-            }
-            Err(_) => {
-                self.count = self.count.saturating_add(1);
-                Err(ShelfFault::Failed)
-            }
+    // The count rises exactly where it fails.
+    fn fetch(&mut self, alloc: Global, name: &str, limit: u64) -> Result<Vec<u8>, ShelfFault>
+        requires { limit ≤ 16777216 }
+        ensures most { IfOk result (λ v. length v.items ≤ limit + 1) }
+        ensures kept { (option_map string_bytes self.new.name ≡ option_map string_bytes self.old.name)
+            × (let rest : Option (List ℕ) = None in rest ≡ rest) }
+        ensures later { self.old.count ≤ self.new.count }
+        ensures cause { IsErrOf result ShelfFault.Failed → Rose self.old.count self.new.count }
+        ensures counted { IsErrOf result ShelfFault.Failed → self.new.count ≡ min (self.old.count + 1) (2 ^ 64 - 1) }
+        ensures uncounted { OnOk result (self.new.count ≡ self.old.count) }
+        ensures mem { IsErrOf result ShelfFault.Mem → self.new.count ≡ self.old.count }
+    {
+        match read_up_to(alloc, self.rt, name, limit + 1) {
+            Ok(bytes) => Ok(bytes),
+            Err(fault) => Err(self.counted(fault)),
         }
     }
 
-    fn begin(&mut self, alloc: Global, name: &str) -> Result<(), ShelfFault> {
+    // The count rises exactly where it fails. The old file is closed before the new one is opened.
+    fn begin(&mut self, alloc: Global, name: &str) -> Result<(), ShelfFault>
+        ensures opened { OnOk result (option_map string_bytes self.new.name ≡ Some name.now) }
+        ensures told { OnOk result (IsWholeFile None name.now None) }
+        ensures shut { OnErr result (option_map string_bytes self.new.name ≡ None) }
+        ensures later { self.old.count ≤ self.new.count }
+        ensures cause { IsErrOf result ShelfFault.Failed → Rose self.old.count self.new.count }
+        ensures counted { IsErrOf result ShelfFault.Failed → self.new.count ≡ min (self.old.count + 1) (2 ^ 64 - 1) }
+        ensures uncounted { OnOk result (self.new.count ≡ self.old.count) }
+        ensures mem { IsErrOf result ShelfFault.Mem → self.new.count ≡ self.old.count }
+    {
         self.close();
         let copy = String::from_str(alloc, name)?;
-        match fs::open(self.rt, name) {
+        match open(self.rt, name) {
             Ok(file) => {
                 self.file = Some(file);
                 self.name = Some(copy);
                 Ok(())
             }
-            Err(_) => {
-                self.count = self.count.saturating_add(1);
-                Err(ShelfFault::Failed)
-            }
+            Err(fault) => Err(self.counted(fault)),
         }
     }
 
-    fn next(&mut self, alloc: Global, most: u64) -> Result<Vec<u8>, ShelfFault> {
+    // The count rises exactly where it fails.
+    fn next(&mut self, alloc: Global, most: u64) -> Result<Vec<u8>, ShelfFault>
+        requires { 1 ≤ most }
+        ensures most { IfOk result (λ v. length v.items ≤ most) }
+        ensures closed { option_map string_bytes self.old.name ≡ None → IfOk result (λ v. v.items ≡ []) }
+        ensures told { IfOk result (λ v. IsNextPart None None v.items) }
+        ensures opened { OnOk result (option_map string_bytes self.new.name ≡ option_map string_bytes self.old.name) }
+        ensures shut { IsErrOf result ShelfFault.Failed → option_map string_bytes self.new.name ≡ None }
+        ensures mem { IsErrOf result ShelfFault.Mem
+            → (option_map string_bytes self.new.name ≡ option_map string_bytes self.old.name)
+            × (let rest : Option (List ℕ) = None in rest ≡ rest) }
+        ensures later { self.old.count ≤ self.new.count }
+        ensures cause { IsErrOf result ShelfFault.Failed
+            → IsSomeAnd (option_map string_bytes self.old.name) (λ name. Rose self.old.count self.new.count) }
+        ensures counted { IsErrOf result ShelfFault.Failed → self.new.count ≡ min (self.old.count + 1) (2 ^ 64 - 1) }
+        ensures uncounted { OnOk result (self.new.count ≡ self.old.count) }
+        ensures mem_count { IsErrOf result ShelfFault.Mem → self.new.count ≡ self.old.count }
+    {
         if self.name.is_none() {
             return Ok(Vec::new(alloc));
         }
@@ -141,10 +185,12 @@ impl<'a, R: Files> Shelf for FileShelf<'a, R> {
         };
         match read_piece(alloc, file, most) {
             Ok(bytes) => Ok(bytes),
-            Err(ShelfFault::Mem) => Err(ShelfFault::Mem),
-            Err(ShelfFault::Failed) => {
-                self.fail();
-                Err(ShelfFault::Failed)
+            Err(fault) => {
+                match fault {
+                    ShelfFault::Mem => (),
+                    ShelfFault::Failed => self.close(),
+                }
+                Err(self.counted(fault))
             }
         }
     }

@@ -74,6 +74,7 @@ impl Sink for MemSink {
         ensures want { IsErrOf result SinkFault.Mem → Rose self.old.wants self.new.wants }
         ensures empty { bytes.now ≡ [] → IsOk result × (self.new.calls ≡ self.old.calls) }
         ensures asked { bytes.now ≢ [] → Some self.new.calls ≡ one_more (Some self.old.calls) }
+        ensures idle { bytes.now ≡ [] → Some self.new.calls ≡ Some self.old.calls }
         ensures list { self.new.fail_on.items ≡ self.old.fail_on.items }
         ensures calls { bytes.now ≢ [] → self.new.calls ≡ min (self.old.calls + 1) (2 ^ 64 - 1) }
         ensures failed { IsErrOf result SinkFault.Failed

@@ -37,7 +37,8 @@ pub trait Sink {
     /// How many puts of some bytes there were, where it tells; it stops at the greatest u64.
     ghost asked: { Self → Option ℕ };
 
-    /// Appends the bytes; after a fault or a want of memory, some first ones of them. No bytes at all are always taken.
+    /// Appends the bytes; after a fault or a want of memory, some first ones of them. No bytes at all are always taken, and
+    /// nothing is asked for them.
     fn put(&mut self, bytes: &[u8]) -> Result<(), SinkFault>
         ensures whole { OnOk result (Appends (written self.old) (written self.new) bytes.now) }
         ensures part { OnErr result (AppendsSome (written self.old) (written self.new) bytes.now) }
@@ -46,5 +47,6 @@ pub trait Sink {
         ensures later_wants { wants self.old ≤ wants self.new }
         ensures want { IsErrOf result SinkFault.Mem → Rose (wants self.old) (wants self.new) }
         ensures empty { bytes.now ≡ [] → IsOk result }
-        ensures asked { bytes.now ≢ [] → asked self.new ≡ one_more (asked self.old) };
+        ensures asked { bytes.now ≢ [] → asked self.new ≡ one_more (asked self.old) }
+        ensures idle { bytes.now ≡ [] → asked self.new ≡ asked self.old };
 }

@@ -1,5 +1,6 @@
 //! The streams of the system, as sinks.
-ghost use Rattle.std.specs.Prelude.{None};
+ghost use Rattle.std.specs.Prelude.{◌≡◌, ◌≤◌, ◌+◌, ◌-◌, ◌^◌, [], min, IsOk, OnOk, IfErr, IsErrOf, None};
+ghost use Rattle.sap_outside.specs.Outside.{Rose};
 
 use crate::{Sink, SinkFault};
 use std::io::Write;
@@ -22,8 +23,16 @@ impl<W: Write> Sink for StreamSink<W> {
 
     ghost asked = { λ _. None };
 
-    // It wants no memory. A write that takes nothing is a fault. Each turn writes at least one byte.
-    fn put(&mut self, bytes: &[u8]) -> Result<(), SinkFault> {
+    // It wants no memory, and the count rises exactly where it fails. A write that takes nothing is a fault. Each turn writes at
+    // least one byte.
+    fn put(&mut self, bytes: &[u8]) -> Result<(), SinkFault>
+        ensures later { self.old.count ≤ self.new.count }
+        ensures cause { IsErrOf result SinkFault.Failed → Rose self.old.count self.new.count }
+        ensures empty { bytes.now ≡ [] → IsOk result }
+        ensures counted { IsErrOf result SinkFault.Failed → self.new.count ≡ min (self.old.count + 1) (2 ^ 64 - 1) }
+        ensures uncounted { OnOk result (self.new.count ≡ self.old.count) }
+        ensures only { IfErr result (λ e. e ≡ SinkFault.Failed) }
+    {
         let mut rest = bytes;
         for _ in 0..bytes.len() {
             if rest.is_empty() {
