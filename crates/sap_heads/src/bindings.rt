@@ -1,5 +1,5 @@
 // The bindings of a line, and the variables that a rule leaves open.
-ghost use Rattle.std.specs.Prelude.{◌≡◌, ◌++◌, ◌∷◌, [], true, false, not, IfOk, IfErr, OnOk};
+ghost use Rattle.std.specs.Prelude.{◌≡◌, ◌++◌, true, false, not, IfOk, IfErr, OnOk};
 ghost use Rattle.sap_terms.specs.Variables.{facts_vars, is_known, new_vars};
 ghost use Rattle.sap_process.specs.Sites.{var_names};
 ghost use Rattle.sap_lines.specs.Faults.{AreRight};
@@ -11,55 +11,42 @@ use sap_lines::PFault;
 use sap_share::Env;
 use sap_sides::{are_messages, are_of};
 use sap_terms::{
-    Bindings, Copied, FactList, MOST_TERM_NODES, Mem, Name, Signature, Var, Vars, push_facts_vars,
+    Bindings, Copied, FactList, MOST_TERM_NODES, Mem, NameSet, Signature, Var, Vars,
+    push_facts_vars,
 };
 use std::alloc::Global;
-use std::collections::BTreeSet;
-
-// Adds a name; true where it wasn't there.
-fn note(alloc: Global, known: &mut BTreeSet<Name>, name: &Name) -> Result<bool, Mem>
-    ensures new { IfOk result (λ r. r ≡ not (is_known known.old.keys name.now)) }
-    ensures puts { OnOk result (KnowAlike known.new.keys (known.old.keys ++ name.now ∷ [])) }
-{
-    if known.contains(name) {
-        return Ok(false);
-    }
-    let name = name.copy(alloc)?;
-    known.insert(name)?;
-    Ok(true)
-}
 
 // The names of these variables.
-fn names_in(alloc: Global, vars: &Vars) -> Result<BTreeSet<Name>, Mem>
-    ensures { IfOk result (λ s. KnowAlike s.keys (var_names vars.now)) }
+fn names_in(alloc: Global, vars: &Vars) -> Result<NameSet, Mem>
+    ensures { IfOk result (λ s. KnowAlike s (var_names vars.now)) }
 {
-    let mut names = BTreeSet::new(alloc);
+    let mut names = NameSet::new(alloc);
     for v in vars.as_slice() {
-        note(alloc, &mut names, &v.name)?;
+        names.insert(&v.name)?;
     }
     Ok(names)
 }
 
-// Whether a variable is new among what is bound and these names, which have its name then.
-fn is_new(alloc: Global, env: &Env, known: &mut BTreeSet<Name>, v: &Var) -> Result<bool, Mem>
-    ensures new { IfOk result (λ r. r ≡ not (is_known (names_of env.now ++ known.old.keys) v.now.name)) }
-    ensures sifts { OnOk result (IsSifted (names_of env.now ++ known.old.keys) (names_of env.now ++ known.new.keys) v.now) }
+// Whether a variable is new among what is bound and these names; if it is, they have its name then.
+fn is_new(env: &Env, known: &mut NameSet, v: &Var) -> Result<bool, Mem>
+    ensures new { IfOk result (λ r. r ≡ not (is_known (names_of env.now ++ known.old) v.now.name)) }
+    ensures sifts { OnOk result (IsSifted (names_of env.now ++ known.old) (names_of env.now ++ known.new) v.now) }
 {
     if env.binds(&v.name) {
         return Ok(false);
     }
-    let new = note(alloc, known, &v.name)?;
-    Ok(new)
+    let added = known.insert(&v.name)?;
+    Ok(added.1)
 }
 
 // The first occurrences of variables whose names are neither bound nor known. It takes time in proportion to the
 // occurrences and to the logarithm of how many are bound and known.
-fn first_of(alloc: Global, env: &Env, known: &mut BTreeSet<Name>, vars: &Vars) -> Result<Vars, Mem>
-    ensures { IfOk result (λ out. out ≡ new_vars (names_of env.now ++ known.old.keys) vars.now) }
+fn first_of(alloc: Global, env: &Env, known: &mut NameSet, vars: &Vars) -> Result<Vars, Mem>
+    ensures { IfOk result (λ out. out ≡ new_vars (names_of env.now ++ known.old) vars.now) }
 {
     let mut out = Vars::new(alloc);
     for v in vars.as_slice() {
-        if is_new(alloc, env, known, v)? {
+        if is_new(env, known, v)? {
             out.push(v.copy(alloc)?)?;
         }
     }
@@ -85,8 +72,8 @@ fn later_of(alloc: Global, e: &FactList, r: &FactList) -> Result<Vars, Mem>
 }
 
 // The names of the variables of facts.
-fn names_of_facts(alloc: Global, fs: &FactList) -> Result<BTreeSet<Name>, Mem>
-    ensures { IfOk result (λ s. KnowAlike s.keys (var_names (facts_vars fs.now))) }
+fn names_of_facts(alloc: Global, fs: &FactList) -> Result<NameSet, Mem>
+    ensures { IfOk result (λ s. KnowAlike s (var_names (facts_vars fs.now))) }
 {
     let vars = vars_of(alloc, fs)?;
     names_in(alloc, &vars)

@@ -4,4 +4,4 @@ use Rattle.sap_heads.specs.code.Known.{KnowAlike}
 use Rattle.sap_heads.proofs.bindings.names_in.Given as goal
 
 abbrev pub invariant-loop-v : goal.invariant-loop-v
-invariant-loop-v l = KnowAlike l.names.keys (var_names (take l.v-index l.v-items))
+invariant-loop-v l = KnowAlike l.names (var_names (take l.v-index l.v-items))

@@ -18,4 +18,4 @@ opened (Ok vs) env l e r known vars k v is =
 opened (Err x) env l e r known vars k v is = tt
 
 pub returns : goal.returns
-returns c = opened c.first_of.result c.args.env.now c.args.l.now c.args.e.now c.args.r.now c.in_ok-known.known.keys c.in_ok-vars.vars c.in_ok-known.ensures c.in_ok-vars.ensures c.first_of.ensures
+returns c = opened c.first_of.result c.args.env.now c.args.l.now c.args.e.now c.args.r.now c.in_ok-known.known c.in_ok-vars.vars c.in_ok-known.ensures c.in_ok-vars.ensures c.first_of.ensures
