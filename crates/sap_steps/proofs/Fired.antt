@@ -1,5 +1,5 @@
 -- What the bindings found and the forms made say of the rule's use.
-use Rattle.std.proofs.Common.{◌≡◌, true, List, [], ◌∷◌, ◌++◌, map, ◌⊎◌, inl, inr, refl, sym, ap, subst, ◌∙◌, append_assoc}
+use Rattle.std.proofs.Common.{◌≡◌, Bool, true, false, List, [], ◌∷◌, ◌++◌, map, ◌⊎◌, inl, inr, refl, sym, ap, subst, ◌∙◌, append_assoc}
 use Rattle.std.specs.Prelude.{All, Contains, Result, Ok, Err, IfOk, IfErr}
 use Rattle.std.proofs.lemmas.List.Elements.{All-append, Contains-append_left, Contains-append_right}
 use Rattle.sap_terms.specs.Choice.{Choice, fits_sort, instance}
@@ -23,7 +23,7 @@ use Rattle.sap_steps.specs.Faults.{AreRight, IsFitting, IsRuleRefusal}
 use Rattle.sap_sides.specs.Fitting.{IsOnlyChoice, HasNoChoice, FactsFit}
 use Rattle.sap_sides.specs.Forms.{SomeLarge, args_of, HaveArgs}
 use Rattle.sap_sides.specs.Messages.{IsGroundFact}
-use Rattle.sap_steps.specs.code.Firing.{IsLeftSame, Evaluates, IsEvaluationFault, limited_fault}
+use Rattle.sap_steps.specs.code.Firing.{IsLeftSame, Evaluates, EvaluatesOtherwise, IsEvaluationFault, limited_fault}
 use Rattle.sap_sides.specs.Messages.{IsSmallMessageFact}
 use Rattle.sap_steps.specs.Lines.{Fires, IsSmall, rule_terms}
 use Rattle.sap_steps.specs.declared.fault.RFault.{RFault}
@@ -31,7 +31,7 @@ use Rattle.sap_steps.specs.declared.fault.RFault.TheVariants.{Mem, NoRule, FactC
 use Rattle.sap_rewrite.specs.declared.cut.Cut.{Cut}
 use Rattle.sap_rewrite.specs.declared.cut.Cut.TheVariants.{Large}
 use Rattle.sap_sides.specs.Messages.{HasNoDestructor}
-use Rattle.sap_steps.proofs.Evaluated.{fault_large, in_acts, in_right, none_large}
+use Rattle.sap_steps.proofs.Evaluated.{fault_large, in_left, in_acts, in_right, none_large}
 use Rattle.sap_steps.proofs.Found.{agrees_extended}
 use Rattle.sap_steps.specs.code.Firing.{Laws}
 use Rattle.sap_steps.proofs.Uses.{each_item, agrees_at, sorted_at, var_at, facts_message, facts_same, terms_instance, facts_ground, facts_equal, facts_hold, facts_held, large_evaluated, evaluated_small}
@@ -84,7 +84,7 @@ module _ (laws : Laws) (g : Sig) (r : Rule) (b c : List Binding) (cited : List F
   agrees_itself = laws.once.agree c named_once
 
   -- what was found are messages
-  messages : All (IsGood g) c
+  pub messages : All (IsGood g) c
   messages =
       let added = found.extends.added in
       subst (All (IsGood g)) (sym found.extends.is) (All-append (IsGood g) b added good.terms (each_item (IsGood g) added (λ e m.
@@ -94,7 +94,7 @@ module _ (laws : Laws) (g : Sig) (r : Rule) (b c : List Binding) (cited : List F
       let sorted = ap (fits_sort e.var.sort) is ∙ sorted_at added e found.extends.sorted m in
       subst (IsMessage g e.var.sort) is (facts_message laws.messages g (bound_to c) r.left cited (found.is one (bound_to c) agrees_itself) held e.var outer sorted))))
 
-  pub fits_itself : FactsFit g r.left cited (bound_to c)
+  fits_itself : FactsFit g r.left cited (bound_to c)
   fits_itself = found.is one (bound_to c) agrees_itself
 
   chosen : (σ : Choice) × IsMessageChoice g σ × Agrees c σ
@@ -162,22 +162,38 @@ module _ (laws : Laws) (g : Sig) (r : Rule) (b c : List Binding) (cited : List F
   none_moved : (fs : List Fact) (h : Sig) (τ : Choice) → h ≡ g → τ ≡ bound_to c → (SomeLarge h (map (instance τ) (args_of fs)) → ⊥) → SomeLarge g (map (instance (bound_to c)) (args_of fs)) → ⊥
   none_moved fs h τ is eq l = move (λ (k : Sig) (σ : Choice). SomeLarge k (map (instance σ) (args_of fs)) → ⊥) h τ is eq l
 
-  -- a plain rule is evaluated where its other sides are
-  pub evaluates_plain : All (HasNoDestructor g) r.left → (h : Sig) (τ : Choice) → h ≡ g → τ ≡ bound_to c → (acts right : List Fact) → AreFormsOfFacts (equations h) (instance_facts τ r.acts) acts → AreFormsOfFacts (equations h) (instance_facts τ r.right) right
-      → (SomeLarge h (map (instance τ) (args_of r.acts)) → ⊥) → (SomeLarge h (map (instance τ) (args_of r.right)) → ⊥) → Evaluates g (bound_to c) r cited acts right
-  evaluates_plain plain h τ is eq acts right a z wa wz =
-      let left = plain_left laws g (bound_to c) r.left cited plain fits_itself held in record {
-        left = left.left;
-        left_forms = left.forms;
-        same = left.same.0 refl;
-        acts_forms = move (λ (k : Sig) (σ : Choice). AreFormsOfFacts (equations k) (instance_facts σ r.acts) acts) h τ is eq a;
-        right_forms = move (λ (k : Sig) (σ : Choice). AreFormsOfFacts (equations k) (instance_facts σ r.right) right) h τ is eq z;
-        small = none_large laws.parts g (bound_to c) r left.small (none_moved r.acts h τ is eq wa) (none_moved r.right h τ is eq wz);
-      }
+  -- a left side without destructors has the arguments of the cited facts
+  pub plain : All (HasNoDestructor g) r.left → IsLeftSame g (bound_to c) r.left cited true
+  plain n = plain_left laws g (bound_to c) r.left cited n fits_itself held
 
-  -- a plain rule isn't where one of them is too large
-  pub cut_plain : (h : Sig) (τ : Choice) → h ≡ g → τ ≡ bound_to c → (k : Cut) → (k ≡ Large → SomeLarge h (map (instance τ) (args_of r.acts)) ⊎ SomeLarge h (map (instance τ) (args_of r.right))) → IsEvaluationFault g (bound_to c) r cited (limited_fault k)
-  cut_plain h τ is eq k l = fault_large g (bound_to c) r cited k (λ e. elim (l e) as (λ _. SomeLarge g (map (instance (bound_to c)) (rule_terms r))) [
+  -- a rule is evaluated where its left side has these arguments and its other sides are evaluated
+  pub evaluates_bound : (same : Bool) → same ≡ true → IsLeftSame g (bound_to c) r.left cited same → (h : Sig) (τ : Choice) → h ≡ g → τ ≡ bound_to c → (acts right : List Fact) → AreFormsOfFacts (equations h) (instance_facts τ r.acts) acts → AreFormsOfFacts (equations h) (instance_facts τ r.right) right
+      → (SomeLarge h (map (instance τ) (args_of r.acts)) → ⊥) → (SomeLarge h (map (instance τ) (args_of r.right)) → ⊥) → Evaluates g (bound_to c) r cited acts right
+  evaluates_bound same holds left h τ is eq acts right a z wa wz = record {
+    left = left.left;
+    left_forms = left.forms;
+    same = left.same.0 holds;
+    acts_forms = move (λ (k : Sig) (σ : Choice). AreFormsOfFacts (equations k) (instance_facts σ r.acts) acts) h τ is eq a;
+    right_forms = move (λ (k : Sig) (σ : Choice). AreFormsOfFacts (equations k) (instance_facts σ r.right) right) h τ is eq z;
+    small = none_large laws.parts g (bound_to c) r left.small (none_moved r.acts h τ is eq wa) (none_moved r.right h τ is eq wz);
+  }
+
+  -- it is otherwise where its left side has others
+  pub otherwise_bound : (same : Bool) → same ≡ false → IsLeftSame g (bound_to c) r.left cited same → (h : Sig) (τ : Choice) → h ≡ g → τ ≡ bound_to c → (SomeLarge h (map (instance τ) (args_of r.acts)) → ⊥) → (SomeLarge h (map (instance τ) (args_of r.right)) → ⊥) → EvaluatesOtherwise g (bound_to c) r cited
+  otherwise_bound same fails left h τ is eq wa wz = record {
+    left = left.left;
+    left_forms = left.forms;
+    other = λ o. let so = left.same.1 o in cc (so, fails);
+    small = none_large laws.parts g (bound_to c) r left.small (none_moved r.acts h τ is eq wa) (none_moved r.right h τ is eq wz);
+  }
+
+  -- it is refused where the left side is too large
+  pub cut_left : (k : Cut) → (k ≡ Large → SomeLarge g (map (instance (bound_to c)) (args_of r.left))) → IsEvaluationFault g (bound_to c) r cited (limited_fault k)
+  cut_left k l = fault_large g (bound_to c) r cited k (λ e. in_left laws.parts g (bound_to c) r (l e))
+
+  -- so it is where one of the other sides is
+  pub cut_bound : (h : Sig) (τ : Choice) → h ≡ g → τ ≡ bound_to c → (k : Cut) → (k ≡ Large → SomeLarge h (map (instance τ) (args_of r.acts)) ⊎ SomeLarge h (map (instance τ) (args_of r.right))) → IsEvaluationFault g (bound_to c) r cited (limited_fault k)
+  cut_bound h τ is eq k l = fault_large g (bound_to c) r cited k (λ e. elim (l e) as (λ _. SomeLarge g (map (instance (bound_to c)) (rule_terms r))) [
     | inl x ↦ in_acts laws.parts g (bound_to c) r (some_moved r.acts h τ is eq x)
     | inr y ↦ in_right laws.parts g (bound_to c) r (some_moved r.right h τ is eq y)
   ])

@@ -15,8 +15,8 @@ use crate::firing::laws_below;
 use crate::prepared::Prepared;
 use sap_rewrite::Cut;
 use sap_rule::Rule;
-use sap_sides::{forms_of_facts, have_args, large_facts_are_in_parts, match_facts};
-use sap_terms::{Bindings, Copied, FactList, Signature};
+use sap_sides::{forms_of_facts, have_args, large_facts_are_in_parts};
+use sap_terms::{Bindings, FactList, Signature};
 use std::alloc::Global;
 
 // What a rule shows and adds.
@@ -26,30 +26,8 @@ pub(crate) struct BuiltSides {
     pub(crate) right: FactList,
 }
 
-// What the rule shows and adds, where it takes these facts and its open variables stand for these terms.
-pub(crate) fn fire_trees(
-    alloc: Global,
-    sig: &Signature,
-    rule: &Prepared,
-    cited: &FactList,
-    b: &Bindings,
-) -> Result<BuiltSides, RFault>
-    requires ready { IsReady sig.now rule.now }
-    requires right { AreRight sig.now rule.now.rule b.now }
-    requires count { length cited.now ≡ length rule.now.rule.left }
-    requires held { All (IsSmallMessageFact sig.now) cited.now }
-    ensures fires { IfOk result (λ x. Fires sig.now IsSmall rule.now.rule b.now cited.now x.acts x.right) }
-    ensures held { IfOk result (λ x. All (IsSmallMessageFact sig.now) x.right) }
-    ensures refused { IfErr result (IsRuleRefusal sig.now rule.now.rule b.now cited.now) }
-{
-    match match_facts(alloc, sig, &rule.rule.left, cited, b.copy(alloc)?)? {
-        Some(c) => fire_under(alloc, sig, rule, cited, b, &c),
-        None => Err(RFault::NoMatch),
-    }
-}
-
 // What the rule shows and adds under the bindings that were found.
-fn fire_under(
+pub(crate) fn fire_trees(
     alloc: Global,
     sig: &Signature,
     rule: &Prepared,
@@ -94,7 +72,7 @@ fn evaluate(
 }
 
 // Whether the rule's left side has the arguments of the cited facts.
-fn is_left_same(
+pub(crate) fn is_left_same(
     alloc: Global,
     sig: &Signature,
     rule: &Rule,

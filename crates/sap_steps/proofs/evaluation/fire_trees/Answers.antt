@@ -1,20 +1,26 @@
-use Rattle.std.proofs.Common.{List, subst}
-use Rattle.sap_rule.specs.Variables.{facts_outer_vars}
-use Rattle.sap_sides.specs.Fitting.{IsOnlyChoice, HasNoChoice, FactsFit}
-use Rattle.sap_terms.specs.declared.binding.Binding.{Binding}
-use Rattle.sap_steps.proofs.Fired.{no_match}
-use Rattle.std.proofs.lemmas.Option.{MatchOption-at_none, MatchOption-at_some}
+use Rattle.sap_steps.proofs.Fired.{fires, refused, right_held, if_ok, if_err}
 use Rattle.sap_steps.proofs.evaluation.fire_trees.Goals as goal
 
-pub fire_under-requires-clause-found : goal.fire_under-requires-clause-found
-fire_under-requires-clause-found c =
-    let g = c.args.sig.now in
-    let fs = c.args.rule.now.rule.left in
-    subst (λ (xs : List Binding). IsOnlyChoice (FactsFit g fs c.args.cited.now) (facts_outer_vars g fs) xs c.in-Some.c) c.in_ok-copy.ensures (MatchOption-at_some _ _ c.in-Some.c c.in-Some.is c.in_ok-c.ensures)
-
-pub returns-in-None-clause-refused : goal.returns-in-None-clause-refused
-returns-in-None-clause-refused c =
+pub returns-clause-fires : goal.returns-clause-fires
+returns-clause-fires c =
     let g = c.args.sig.now in
     let r = c.args.rule.now.rule in
-    let nothing = subst (λ (xs : List Binding). HasNoChoice (FactsFit g r.left c.args.cited.now) (facts_outer_vars g r.left) xs) c.in_ok-copy.ensures (MatchOption-at_none _ _ c.in-None.is c.in_ok-c.ensures) in
-    no_match g r c.args.b.now c.args.cited.now c.requires.ready.well_made c.requires.right nothing
+    let b = c.args.b.now in
+    let hs = c.args.cited.now in
+    if_ok _ _ c.evaluate.result (λ x e. fires c.laws_below.ensures g r b c.args.c.now hs c.requires.ready.well_made c.requires.right c.requires.found c.requires.held x.acts x.right e) c.evaluate.ensures.evaluates
+
+pub returns-clause-held : goal.returns-clause-held
+returns-clause-held c =
+    let g = c.args.sig.now in
+    let r = c.args.rule.now.rule in
+    let b = c.args.b.now in
+    let hs = c.args.cited.now in
+    if_ok _ _ c.evaluate.result (λ x e. right_held c.laws_below.ensures g r b c.args.c.now hs c.requires.ready.well_made c.requires.right c.requires.found c.requires.held c.builtins_are_held.ensures x.acts x.right e) c.evaluate.ensures.evaluates
+
+pub returns-clause-refused : goal.returns-clause-refused
+returns-clause-refused c =
+    let g = c.args.sig.now in
+    let r = c.args.rule.now.rule in
+    let b = c.args.b.now in
+    let hs = c.args.cited.now in
+    if_err _ _ c.evaluate.result (λ e h. refused c.laws_below.ensures g r b c.args.c.now hs c.requires.ready.well_made c.requires.right c.requires.found c.requires.held e h) c.evaluate.ensures.refused
