@@ -9,7 +9,7 @@
 # Then the most kilobytes that each command holds on a run of numbers of nineteen digits, which take less as numbers than in the text.
 # For each KiB more of these a command is to hold less than one more: so it doesn't hold the text.
 #
-# The program reads a run in pieces of 65,536 bytes. What other pieces cost is measured nowhere.
+# The program reads a run in pieces of 4,096 bytes. What other pieces cost is measured nowhere.
 # usage: bench/texts.sh [FAMILY..]
 set -eu
 . "$(dirname "$0")/growth.sh"
