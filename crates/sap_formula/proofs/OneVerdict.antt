@@ -5,7 +5,8 @@ use Rattle.std.proofs.lemmas.Bool.{cases_lt}
 use Rattle.sap_formula.proofs.Plain.{NormalLaws}
 use Rattle.sap_formula.proofs.Planning.{plan_law}
 use Rattle.sap_formula.specs.Cost.{form_cost}
-use Rattle.sap_formula.specs.Laws.{OneVerdictLaw, SomeVerdictLaw}
+use Rattle.sap_formula.specs.Laws.{OneVerdictLaw, SomeVerdictLaw, DecidedLaw}
+use Rattle.sap_formula.specs.Truth.{IsTrueOn}
 use Rattle.sap_formula.specs.Verdict.{IsVerdict}
 use Rattle.sap_formula.specs.code.Folded.{judged}
 use Rattle.sap_formula.specs.declared.verdict.TheConstants.{MOST_COST}
@@ -36,3 +37,9 @@ some_verdict w g f tr m c = by (cases_lt MOST_COST (form_cost tr f)) where
   by : (MOST_COST < form_cost tr f) ⊎ (form_cost tr f ≤ MOST_COST) → (v : Verdict) × IsVerdict g f tr v
   by (inl high) = (TooCostly (min (form_cost tr f) (2 ^ 64 - 1)), (high, refl))
   by (inr low) = found low (judged f tr) refl
+
+pub decided : NormalLaws → DecidedLaw
+decided w g f tr m c = by (judged f tr) refl where
+  by : (b : Bool) → judged f tr ≡ b → IsTrueOn g f tr ⊎ (IsTrueOn g f tr → ⊥)
+  by true e = inl ((plan_law w g f tr m c).0 e)
+  by false e = inr (λ h. let yes = (plan_law w g f tr m c).1 h in absurd (cc))

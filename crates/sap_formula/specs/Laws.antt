@@ -72,3 +72,7 @@ OneVerdictLaw = (g : Sig) (f : Form) (tr : Trace) (v w : Verdict) → IsVerdict 
 -- of a checked closed one on a trace of messages there is some
 abbrev pub SomeVerdictLaw : Type 0
 SomeVerdictLaw = (g : Sig) (f : Form) (tr : Trace) → IsMessageTrace g tr → IsClosed g f → (v : Verdict) × IsVerdict g f tr v
+
+-- of a checked closed formula it is decided on each trace of messages whether it is true, whatever judging costs
+abbrev pub DecidedLaw : Type 0
+DecidedLaw = (g : Sig) (f : Form) (tr : Trace) → IsMessageTrace g tr → IsClosed g f → IsTrueOn g f tr ⊎ (IsTrueOn g f tr → ⊥)

@@ -15,7 +15,7 @@ ghost use Rattle.sap_formula.specs.Sorted.{with_sorts};
 ghost use Rattle.sap_formula.specs.Verdict.{IsVerdict};
 ghost use Rattle.sap_formula.specs.declared.fault.FormulaFlaw.TheVariants.{BadFunction, Destructor, Reserved, UnboundVar, Unguarded};
 ghost use Rattle.sap_formula.specs.declared.verdict.Verdict.TheVariants.{Holds, Fails, TooCostly};
-ghost use Rattle.sap_formula.specs.Laws.{OneVerdictLaw, SomeVerdictLaw, SubtermLaw, HiddenBinderLaw, HideLaw, CheckLaw, ClosedLaw, OneFaultLaw, NoFaultLaw, SomeFaultLaw};
+ghost use Rattle.sap_formula.specs.Laws.{OneVerdictLaw, SomeVerdictLaw, DecidedLaw, SubtermLaw, HiddenBinderLaw, HideLaw, CheckLaw, ClosedLaw, OneFaultLaw, NoFaultLaw, SomeFaultLaw};
 
 use crate::Mode;
 use sap_rewrite::normal_terms_decide;
@@ -92,10 +92,12 @@ pub fn judging_by_hand()
     ensures hidden { EachIn (λ e. hide e.0 ≡ e.1) hidden_ones }
 {}
 
-/// Of a formula on a trace there is at most one verdict, and of a checked closed one on a trace of messages some.
+/// Of a formula on a trace there is at most one verdict, and of a checked closed one on a trace of messages some. That one is
+/// true there or it isn't, also where judging costs too much.
 pub fn one_verdict()
     ensures one { OneVerdictLaw }
     ensures some { SomeVerdictLaw }
+    ensures decided { DecidedLaw }
 {
     normal_terms_decide();
     leaves_are_normal();
