@@ -12,9 +12,4 @@ pub use laws::{
     theories_pass_checks,
 };
 pub use lemma_examples::lemmas_by_hand;
-pub use sap_translate::{
-    generate, needed_restrictions_suffice, process_steps_are_answered, rule_runs_by_hand,
-    rule_steps_are_followed, rules_are_well_made, rules_go_by_places, rules_name_their_places,
-    rules_show_the_process, runs_by_hand, shown_by_hand, traces_by_hand,
-};
 pub use theory::theory_of;
