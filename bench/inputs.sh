@@ -12,16 +12,17 @@
 #   act-large        events of it and, in four times as many lines, shown facts; beside one node
 #   symbols          so many symbols with long names, each applied once; beside one of them, applied as often
 #   wide-destructor  a rule that takes F(x) and G(fst(y)) and adds a fact of so many x of 255 nodes; beside G(y)
-#   variables        a rule of so many variables that fifty lines use; beside one variable, as often
+#   variables        a rule of so many variables that fifty lines use; beside a rule of ten, which as many variables in all use
 #   embedded-wide    an embedded rule that takes so many x, then y, and adds as many y; beside x in its place
 #   collide          symbols whose names one fixed hash sends to one place, found by a program that cc compiles; beside other names
-#   words            a line of so many short words; beside a line of one word with as many bytes. Both are refused
-#   line             a line of so many bytes of one word; beside as many bytes in lines. Both are refused
+#   words            a line of so many short words; beside the same words in lines of four hundred. Both are refused
+#   line             a line of so many bytes of one word, which is refused; beside as many bytes in lines that are steps
 #   behind-fault     so many lines behind one that is no step, which is refused; beside the same lines where it is one
 #   builtins         all builtins, behind so many symbols; beside none
-#   let-embedded     a name that stands 1,333 times for an embedded rule of so many variables; beside an event of as many
-#   parentheses      so many parentheses with a byte at their end that begins no token; beside blanks. Both are refused
-#   unread           so many parentheses where a rule is to stand; beside blanks. Both are refused
+#   let-embedded     a name that stands 1,333 times for an embedded rule of so many variables; beside an event of as many, which an
+#                    input binds
+#   parentheses      so many parentheses with a byte at their end that begins no token; beside the same without it. Both are refused
+#   unread           so many parentheses where a rule is to stand; beside as many tokens that are names. Both are refused
 #
 # usage: bench/inputs.sh [[--rows] FAMILY..]
 set -eu
@@ -135,11 +136,12 @@ def wide_destructor(plain, n):
 
 
 def variables(plain, n):
-    names = ["x" if plain else "x%d" % k for k in range(n)]
-    rules = "rule Give: [ ] --> [ !F(%s) ] " % ",".join(["'a'"] * n)
+    wide, uses = (10, 5 * n) if plain else (n, 50)
+    names = ["x%d" % k for k in range(wide)]
+    rules = "rule Give: [ ] --> [ !F(%s) ] " % ",".join(["'a'"] * wide)
     rules += "rule R: [ !F(%s) ] --> [ G(%s) ]" % (",".join(names), ",".join(names))
     write(plain, "theory", theory(rules))
-    write(plain, "run", rule_run(["rule Give"] + ["rule R 0"] * 50))
+    write(plain, "run", rule_run(["rule Give"] + ["rule R 0"] * uses))
 
 
 def embedded_wide(plain, n):
@@ -161,12 +163,14 @@ def collide(plain, n):
 
 def words(plain, n):
     write(plain, "theory", theory("rule R: [ ] --> [ ]"))
-    write(plain, "run", rule_run(["pub 'a'", "app pair " + ("0" * (2 * n - 1) if plain else " ".join(["0"] * n))]))
+    wide = 400 if plain else n
+    write(plain, "run", rule_run(["pub 'a'"] + ["app pair " + " ".join(["0"] * wide)] * (n // wide)))
 
 
 def line(plain, n):
-    write(plain, "theory", theory("rule R: [ ] --> [ ]"))
-    write(plain, "run", rule_run(["a" * 99] * (n // 100) if plain else ["a" * n]))
+    write(plain, "theory", theory("rule R: [ ] --[ A(x) ]-> [ ]"))
+    use = "rule R with x=<%s>" % ",".join(["'%s'" % ("a" * 63)] * 12)
+    write(plain, "run", rule_run([use] * (n // len(use)) if plain else ["a" * n]))
 
 
 def behind_fault(plain, n):
@@ -189,20 +193,19 @@ def tree(leaves):
 
 
 def let_embedded(plain, n):
-    if plain:
-        action = "event F(%s)" % ",".join("'x%d'" % (k % 50) for k in range(n))
-    else:
-        action = "[ F(%s) ] --> [ ]" % ",".join("x%d" % (k % 50) for k in range(n))
-    write(plain, "file", process(tree(1333), "let A = " + action + " "))
+    names = ",".join("x%d" % (k % 50) for k in range(n))
+    action = "event F(%s)" % names if plain else "[ F(%s) ] --> [ ]" % names
+    first = "in(<%s>); " % ",".join("x%d" % k for k in range(50)) if plain else ""
+    write(plain, "file", process("%s(%s)" % (first, tree(1333)), "let A = " + action + " "))
 
 
 def parentheses(plain, n):
-    write(plain, "theory", "theory Bench begin " + (" " if plain else "(") * n + "%")
+    write(plain, "theory", "theory Bench begin " + "(" * n + ("" if plain else "%"))
     write(plain, "run", rule_run([]))
 
 
 def unread(plain, n):
-    write(plain, "theory", "theory Bench begin rule" + (" " if plain else "(") * n)
+    write(plain, "theory", "theory Bench begin rule" + (" a" if plain else "(") * n)
     write(plain, "run", rule_run([]))
 
 
@@ -320,7 +323,8 @@ legal() {
     done
 }
 
-# refused FAMILY SIZES TEXT PLAIN: a family whose inputs are refused by check-rules with these texts; a number of bytes is told as AT
+# refused FAMILY SIZES TEXT PLAIN: a family whose inputs are refused by check-rules with these texts; a number of bytes is told as AT.
+# Without a plain text the same without what is large is legal
 refused() {
     what=$1 text=$3 plain_text=$4
     family "$what, check-rules" 2
@@ -329,7 +333,7 @@ refused() {
         at=$(($(wc -c < "$work/theory") - 1))
         status=$([ "${text#run}" = "$text" ] && echo 1 || echo 2)
         ends "$status" "$(echo "$text" | sed "s/AT/$at/")"
-        beside "$status" "$(echo "$plain_text" | sed "s/AT/$at/")"
+        beside "$([ -z "$plain_text" ] && echo 0 || echo "$status")" "$plain_text"
         row "$size" check-rules theory run
     done
 }
@@ -372,10 +376,11 @@ collide() {
     legal collide '2500 5000 10000' compile file
 }
 words() {
-    refused words '2000000 4000000 8000000' 'run refused: step 2: function pair has another arity' 'run refused: line 3 is not a step'
+    refused words '2000000 4000000 8000000' 'run refused: step 2: function pair has another arity' \
+        'run refused: step 2: function pair has another arity'
 }
 line() {
-    refused line '4000000 8000000 16000000' 'run refused: line 2 is not a step' 'run refused: line 2 is not a step'
+    refused line '4000000 8000000 16000000' 'run refused: line 2 is not a step' ''
 }
 behind_fault() {
     ends 2 'run refused: line 2 is not a step'
@@ -389,10 +394,10 @@ behind_fault() {
 builtins() { legal builtins '125000 250000 500000' check-rules theory run; }
 let_embedded() { legal let-embedded '500 1000 2000' compile file; }
 parentheses() {
-    refused parentheses '4000000 8000000 16000000' 'file refused: byte AT begins no token' 'file refused: byte AT begins no token'
+    refused parentheses '4000000 8000000 16000000' 'file refused: byte AT begins no token' 'file refused: line 1: not in the grammar'
 }
 unread() {
-    refused unread '4000000 8000000 16000000' 'file refused: line 1: not in the grammar' 'file refused: line 1: not in the grammar'
+    refused unread '2000000 4000000 8000000' 'file refused: line 1: not in the grammar' 'file refused: line 1: not in the grammar'
 }
 
 [ "${1:-}" = --rows ] && shift
