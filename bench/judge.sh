@@ -25,9 +25,10 @@
 set -eu
 . "$(dirname "$0")/growth.sh"
 
-# Words of awk that write the text for each K from 1 to n: one behind another with a word between them, or bracketed in halves.
+# Words of awk that write the text for each K from 1 to n: one behind another with a word between them, or bracketed in halves. K is
+# written in five digits, so that twice as many names are twice as many bytes.
 lists='function one(text, k,    at) {
-    while ((at = index(text, "K")) > 0) { printf "%s%d", substr(text, 1, at - 1), k; text = substr(text, at + 1) }
+    while ((at = index(text, "K")) > 0) { printf "%s%05d", substr(text, 1, at - 1), k; text = substr(text, at + 1) }
     printf "%s", text
 }
 function list(text, between, n,    k) {
@@ -89,11 +90,11 @@ make_terms() {
     theory 'printf "rule R: [ ] --[ A("; pairs(128); print ") ]-> [ ]"' 'list("lemma lK: \"T\"", " ", 80)'
 }
 make_names() {
-    theory "printf \"rule R: [ ] --[ \"; list(\"NK()\", \", \", $1); print \" ]-> [ ]\"" 'print "lemma l: \"All #i. N1()@i ==> #i = #i\""'
+    theory "printf \"rule R: [ ] --[ \"; list(\"NK()\", \", \", $1); print \" ]-> [ ]\"" 'print "lemma l: \"All #i. N00001()@i ==> #i = #i\""'
 }
 make_spread() {
-    theory "list(\"rule RK: [ ] --[ NK(), MK() ]-> [ ]\", \" \", $1)" 'print "lemma l: \"All #i. N1()@i ==> #i = #i\""'
-    awk -v n="$1" 'BEGIN { print "rule-run"; for (k = 1; k <= n; k++) printf "rule R%d\n", k }' > "$work/run"
+    theory "list(\"rule RK: [ ] --[ NK(), MK() ]-> [ ]\", \" \", $1)" 'print "lemma l: \"All #i. N00001()@i ==> #i = #i\""'
+    awk -v n="$1" 'BEGIN { print "rule-run"; for (k = 1; k <= n; k++) printf "rule R%05d\n", k }' > "$work/run"
 }
 make_crowd() {
     theory "printf \"rule R: [ ] --[ \"; list(\"A(\\047K\\047)\", \", \", $1); print \" ]-> [ ]\"" \
@@ -123,7 +124,7 @@ make_wide() {
 }
 make_arguments() {
     theory "printf \"rule R: [ ] --[ A(\"; list(\"\\047a\\047\", \", \", $1); print \") ]-> [ ]\"" \
-        "printf \"lemma l: \\\"All \"; list(\"xK\", \" \", $1); printf \" #i. A(\"; list(\"xK\", \", \", $1); print \")@i ==> x1 = x1\\\"\""
+        "printf \"lemma l: \\\"All \"; list(\"xK\", \" \", $1); printf \" #i. A(\"; list(\"xK\", \", \", $1); print \")@i ==> x00001 = x00001\\\"\""
 }
 make_body() {
     theory "printf \"rule R: [ ] --[ A(\"; list(\"\\047a\\047\", \", \", $1); print \") ]-> [ ]\"" \
