@@ -7,3 +7,4 @@ pub mod Limits
 pub mod Numbers
 pub mod Numbered
 pub mod Known
+pub mod OneAnswer

@@ -1,21 +1,20 @@
 -- Lines as they are stored, and what more of their parts keeps.
-use Rattle.std.proofs.Common.{◌≡◌, ◌<◌, ◌≤◌, ◌+◌, ℕ, List, [], ◌∷◌, ◌++◌, length, map, take, drop, option_map, slice_get, slice_index_or, refl, ap, subst, sym, ◌∙◌, arith, length-append, Bool, true, false, Some, if◌then◌else◌}
+use Rattle.std.proofs.Common.{◌≡◌, ◌<◌, ◌≤◌, ◌+◌, ℕ, zero, suc, List, [], ◌∷◌, ◌++◌, length, map, take, drop, option_map, slice_get, slice_index_or, refl, ap, subst, sym, ◌∙◌, arith, length-append, Bool, true, false, Some, if◌then◌else◌}
 use Rattle.std.specs.Prelude.{Result, Ok, Err, OnErr}
 use Rattle.std.proofs.lemmas.List.{map-append, length-map, get_or_append_left, take-append-le, drop-append-le, append-nil, length-drop}
 use Rattle.std.proofs.Math.Seq.{take-length, drop-append_seam}
 use Rattle.std.proofs.lemmas.Simd.{map-map}
 use Rattle.std.proofs.lemmas.List.Elements.{All-nil, All-head, All-tail, All-push}
-use Rattle.std.proofs.lemmas.Option.{get_or_from_slice_get, slice_get-map}
+use Rattle.std.proofs.lemmas.Option.{get_or_from_slice_get, slice_get_within, slice_get-map, same_Some}
 use Rattle.std.proofs.lemmas.Slice.Eq.{bytes_eq-Decides}
-use Rattle.std.specs.List.{list_any}
 use Rattle.std.specs.Str.{bytes_eq}
-use Rattle.indexmap.specs.IndexSet.{insert_key}
+use Rattle.sap_terms.specs.NameMap.{Puts, value_at}
 use Rattle.sap_terms.specs.View.{tree}
 use Rattle.sap_deduce.specs.declared.entry.Entry.{Entry}
 use Rattle.sap_deduce.specs.declared.origin.Origin.TheVariants.{Apply}
 use Rattle.sap_deduce.specs.declared.way.Way.{Way}
 use Rattle.sap_deduce.specs.declared.way.Way.TheVariants.{Given, Applied}
-use Rattle.sap_deduce.specs.code.Lines.{Line, origin_of, IsWithin, lines_of, AreWithin, IsMore}
+use Rattle.sap_deduce.specs.code.Lines.{Line, origin_of, IsWithin, lines_of, AreWithin, ArePlaces, IsMore}
 
 pub length-lines_of : (symbols : List (List ℕ)) (used : List ℕ) (es : List Entry) → length (lines_of symbols used es) ≡ length es
 length-lines_of symbols used es = length-map es (λ (e : Entry). record { number = e.number; term = tree e.term; origin = origin_of symbols used e.way })
@@ -97,18 +96,44 @@ pub on_err : {T E P : Type 0} (r : Result T E) → P → OnErr r P
 on_err (Ok x) p = tt
 on_err (Err e) p = p
 
--- a name put among others, unless it is there
-pub more_inserted : (names : List (List ℕ)) (f : List ℕ) → IsMore names (insert_key bytes_eq names f)
-more_inserted names f = at (list_any (bytes_eq f) names) where
-  at : (b : Bool) → IsMore names (if b then names else names ++ f ∷ [])
-  at true = more-none names
-  at false = record { added = f ∷ []; is = refl }
+-- what stands in a list stands there where more is put behind
+got_front : {X : Type 0} (xs ys : List X) (k : ℕ) (x : X) → slice_get xs k ≡ Some x → slice_get (xs ++ ys) k ≡ Some x
+got_front [] ys k x h = cc
+got_front (y ∷ xs) ys zero x h = h
+got_front (y ∷ xs) ys (suc k) x h = got_front xs ys k x h
 
-pub more_kept : (names new : List (List ℕ)) (f : List ℕ) → new ≡ insert_key bytes_eq names f → IsMore names new
-more_kept names new f e = subst (λ z. IsMore names z) (sym e) (more_inserted names f)
+got_last : {X : Type 0} (xs : List X) (x : X) → slice_get (xs ++ x ∷ []) (length xs) ≡ Some x
+got_last [] x = refl
+got_last (y ∷ xs) x = got_last xs x
 
--- the name at its place
-pub name_stored : (names : List (List ℕ)) (k : ℕ) (f g : List ℕ) → slice_get names k ≡ Some g → bytes_eq f g ≡ true → slice_index_or names k [] ≡ f
-name_stored names k f g h e = get_or_from_slice_get names k g [] h ∙ sym ((bytes_eq-Decides f g).0 e)
+-- one name more
+pub more_push : {X : Type 0} (old new : List X) (x : X) → new ≡ old ++ x ∷ [] → IsMore old new
+more_push old new x is = record { added = x ∷ []; is = is }
 
-pub ruleset place_laws = (more_kept, more-none, name_stored)
+-- a name at its place
+pub name_stored : (names : List (List ℕ)) (k : ℕ) (f : List ℕ) → slice_get names k ≡ Some f → (k < length names) × (slice_index_or names k [] ≡ f)
+name_stored names k f h = (slice_get_within names k f h, get_or_from_slice_get names k f [] h)
+
+-- the last one
+pub name_last : (names new : List (List ℕ)) (k : ℕ) (f : List ℕ) → k ≡ length names → new ≡ names ++ f ∷ [] → slice_get new k ≡ Some f
+name_last names new k f last is = rw (last, is) (got_last names f)
+
+-- places stay where names are put behind
+pub places_kept : (old new : List (List ℕ)) (places : List (List ℕ × ℕ)) → IsMore old new → ArePlaces old places → ArePlaces new places
+places_kept old new places more h n s at = rw more.is (got_front old more.added s n (h n s at))
+
+-- and one more place
+pub places_put : (names : List (List ℕ)) (old new : List (List ℕ × ℕ)) (f : List ℕ) (k : ℕ) → ArePlaces names old → slice_get names k ≡ Some f → Puts old new f (Some k) → ArePlaces names new
+places_put names old new f k h at puts n s has = by (bytes_eq f n) refl where
+  by : (b : Bool) → bytes_eq f n ≡ b → slice_get names s ≡ Some n
+  by true e =
+      let same : f ≡ n = (bytes_eq-Decides f n).0 e in
+      let there : Some k ≡ Some s = sym (puts n ∙ ap (λ b. if b then Some k else value_at old n) e) ∙ has in
+      let place : k ≡ s = same_Some k s there in
+      rw (← place, ← same) at
+  by false e = h n s (sym (puts n ∙ ap (λ b. if b then Some k else value_at old n) e) ∙ has)
+
+pub places_none : (names : List (List ℕ)) → ArePlaces names []
+places_none names n s h = cc
+
+pub ruleset place_laws = (more_push, more-none, name_stored, name_last)

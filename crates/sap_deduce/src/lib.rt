@@ -11,5 +11,5 @@ mod way;
 
 pub use deny::Deny;
 pub use knowledge::Knowledge;
-pub use laws::{derivations_can_be_entered, numbers_stay};
+pub use laws::{derivations_can_be_entered, numbers_stay, one_answer_of_applications};
 pub use origin::Origin;

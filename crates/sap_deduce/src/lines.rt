@@ -2,20 +2,21 @@
 ghost use Rattle.std.specs.Prelude.{◌≡◌, ◌<◌, [], ◌∷◌, ◌++◌, length, IfOk, OnOk, OnErr, IfSome, option_map, slice_get, slice_index_or, map, Some};
 ghost use Rattle.std.specs.Option.{option_copied};
 ghost use Rattle.sap_terms.specs.View.{tree};
-ghost use Rattle.sap_deduce.specs.code.Lines.{Line, IsMore, origin_given};
+ghost use Rattle.sap_deduce.specs.code.Lines.{Line, IsMore, ArePlaces, origin_given};
 ghost use Rattle.sap_deduce.specs.declared.origin.Origin.TheVariants.{Apply as ApplyOrigin};
 
 use crate::entry::Entry;
 use crate::way::{Given, Way};
-use indexmap::IndexSet;
-use sap_terms::{Copied, Items, Mem, Name, Numbers, Term};
+use sap_terms::{Copied, Items, Mem, Name, NameList, NameMap, Numbers, Term};
 use std::alloc::Global;
 use std::marker::Model;
 
+// The entries, the symbols of those that came by one, with their places in the names' order, and the numbers that they stand on.
 #[derive(Drop)]
 pub(crate) struct Lines {
     entries: Items<Entry>,
-    symbols: IndexSet<Name>,
+    symbols: NameList,
+    places: NameMap<u64>,
     used: Numbers,
 }
 
@@ -23,27 +24,38 @@ impl Model for Lines {
     ghost use Rattle.std.specs.Prelude.{List, length};
     ghost use Rattle.std.specs.Coded.{codes};
     ghost use Rattle.sap_terms.specs.Codes.{tree_code};
-    ghost use Rattle.sap_deduce.specs.code.Lines.{Line, lines_of, AreWithin};
+    ghost use Rattle.sap_deduce.specs.code.Lines.{Line, lines_of, AreStored};
 
     ghost Value = { List Line };
 
     ghost coded = { Prim.hlevel (codes, tree_code) };
 
-    ghost view = { λ a. lines_of a.symbols.keys a.used a.entries };
+    ghost view = { λ a. lines_of a.symbols a.used a.entries };
 
-    ghost invariant = { λ a. AreWithin (length a.symbols.keys) (length a.used) a.entries };
+    ghost invariant = { λ a. AreStored a.symbols a.places (length a.used) a.entries };
 }
 
 // The place of a name among these, where it comes last if it isn't there.
 #[tactic(auto, using(crate::proofs::Lined::place_laws))]
-fn place_in(alloc: Global, names: &mut IndexSet<Name>, f: &Name) -> Result<u64, Mem>
-    ensures below { IfOk result (λ s. s < length names.new.keys) }
-    ensures name { IfOk result (λ s. slice_index_or names.new.keys s [] ≡ f.now) }
-    ensures more { IsMore names.old.keys names.new.keys }
+fn place_in(
+    alloc: Global,
+    names: &mut NameList,
+    places: &mut NameMap<u64>,
+    f: &Name,
+) -> Result<u64, Mem>
+    requires { ArePlaces names.old places.old }
+    ensures below { IfOk result (λ s. s < length names.new) }
+    ensures name { IfOk result (λ s. slice_index_or names.new s [] ≡ f.now) }
+    ensures more { IsMore names.old names.new }
+    ensures places { ArePlaces names.new places.new }
 {
-    let name = f.copy(alloc)?;
-    let (place, _) = names.insert_full(name)?;
-    Ok(place as u64)
+    if let Some(place) = places.get(f) {
+        return Ok(*place);
+    }
+    let place = names.len();
+    names.push(f.copy(alloc)?)?;
+    places.insert(f.copy(alloc)?, place)?;
+    Ok(place)
 }
 
 // Puts numbers behind these, and gives the place of the first.
@@ -66,7 +78,8 @@ impl Lines {
     {
         Lines {
             entries: Items::new(alloc),
-            symbols: IndexSet::new(alloc),
+            symbols: NameList::new(alloc),
+            places: NameMap::new(alloc),
             used: Numbers::new(alloc),
         }
     }
@@ -129,7 +142,7 @@ impl Lines {
         ensures err { OnErr result (self.new ≡ self.old) }
     {
         let alloc = self.entries.allocator();
-        let symbol = place_in(alloc, &mut self.symbols, f)?;
+        let symbol = place_in(alloc, &mut self.symbols, &mut self.places, f)?;
         let from = append(&mut self.used, numbers)?;
         let count = numbers.len();
         self.entries.push(Entry {

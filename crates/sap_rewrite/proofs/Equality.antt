@@ -1,8 +1,8 @@
 -- Theory-equality is an equivalence that symbols and substitutions respect.
 use Rattle.std.proofs.Common.{◌≡◌, ℕ, List, [], ◌∷◌, ◌++◌, refl, inl, inr, Some, None, Option, sym, ◌∙◌}
-use Rattle.std.specs.Prelude.{Contains, ◌⊎◌}
+use Rattle.std.specs.Prelude.{All, Contains, ◌⊎◌}
 use Rattle.std.specs.List.{AllZip}
-use Rattle.std.proofs.lemmas.List.Elements.{Contains-push, Contains-append_left, Contains-append_right}
+use Rattle.std.proofs.lemmas.List.Elements.{All-head, All-tail, Contains-push, Contains-append_left, Contains-append_right}
 use Rattle.std.proofs.lemmas.Option.{same_Some}
 use Rattle.sap_terms.specs.Choice.{Choice, instance, instances}
 use Rattle.sap_terms.specs.Equal.{IsStep, forward, backward, inside, IsStepWithin, here, later, IsTheoryEqual, same, next}
@@ -13,10 +13,14 @@ use Rattle.sap_terms.specs.Variables.{tree_vars, trees_vars}
 use Rattle.sap_terms.specs.declared.var.Var.{Var}
 use Rattle.sap_rewrite.specs.Laws.{EqualityIsKept, SymbolsReduceOnce}
 use Rattle.sap_rewrite.specs.code.Reduce.{contracted}
-use Rattle.sap_rewrite.proofs.Lent.{all_normal}
 use Rattle.sap_rewrite.proofs.NormalForms.{no_instance, right-normal}
 use Rattle.sap_rewrite.proofs.Reach.{AreTheoryEqual, done, join, join_all, at_head, at_tail, within, back}
 use Rattle.sap_rewrite.proofs.Sound.{contracted-sound, contracted-complete}
+
+-- a list of normal trees
+all_normal : (e : Equations) (ts : List Tree) → All (IsNormal e) ts → AreNormal e (trees_of ts)
+all_normal e [] h = tt
+all_normal e (t ∷ ts) h = (All-head (IsNormal e) t ts h, all_normal e ts (All-tail (IsNormal e) t ts h))
 
 -- lists of theory-equal terms
 lists_equal : (e : Equations) (ts us : List Tree) → AllZip (IsTheoryEqual e) ts us → AreTheoryEqual e (trees_of ts) (trees_of us)

@@ -15,5 +15,4 @@ pub mod Around
 pub mod Bound
 pub mod Forms
 pub mod Messages
-pub mod Lent
 pub mod Equality

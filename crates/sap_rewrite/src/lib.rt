@@ -3,13 +3,11 @@
 
 mod cut;
 mod laws;
-mod lends;
 mod matching;
 mod message;
 mod normal_form;
 mod reduce;
 mod shape;
-mod symbol;
 mod within;
 
 pub use cut::Cut;
@@ -22,5 +20,4 @@ pub use laws::{
 pub use matching::{match_around, match_pattern};
 pub use message::is_message;
 pub use normal_form::{normal, same_modulo};
-pub use symbol::normal_on;
 pub use within::normal_within;

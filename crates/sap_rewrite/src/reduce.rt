@@ -6,14 +6,13 @@ ghost use Rattle.sap_terms.specs.Tree.{apply, trees_of};
 ghost use Rattle.sap_terms.specs.Equations.{equations, app0, true_name};
 ghost use Rattle.sap_rewrite.specs.code.Reduce.{inner_part, place, by_signing, by_revealing, by_check, reduced};
 
-use crate::lends::Lends;
 use crate::shape::{first_part, opened, opened_by_key, second_part, verifies};
 use sap_terms::{Builtin, Copied, Mem, Name, Signature, Term, TermList};
 use std::alloc::Global;
 
 // Where in the first argument the part stands that an equation leaves.
-pub(crate) fn place_of_part<L: Lends>(sig: &Signature, f: &Name, args: &L) -> Option<u64>
-    ensures { result ≡ place (equations sig.now) f.now (trees_of (L.lent args.now)) }
+fn place_of_part(sig: &Signature, f: &Name, args: &TermList) -> Option<u64>
+    ensures { result ≡ place (equations sig.now) f.now (trees_of args.now) }
 {
     if f.is(b"fst") {
         first_part(b"pair", args).map(|_| 0)
@@ -43,15 +42,15 @@ fn part_at(alloc: Global, args: &TermList, k: u64) -> Result<Term, Mem>
 }
 
 // Whether the symbol on these terms is `verify` and holds.
-fn is_signed<L: Lends>(sig: &Signature, f: &Name, args: &L) -> bool
-    ensures { (if result then Some (app0 true_name) else None) ≡ by_signing (equations sig.now) f.now (trees_of (L.lent args.now)) }
+fn is_signed(sig: &Signature, f: &Name, args: &TermList) -> bool
+    ensures { (if result then Some (app0 true_name) else None) ≡ by_signing (equations sig.now) f.now (trees_of args.now) }
 {
     f.is(b"verify") && sig.has(Builtin::Signing) && verifies(b"sign", args).is_some()
 }
 
 // Whether it is `revealVerify` and holds.
-fn is_openly_signed<L: Lends>(sig: &Signature, f: &Name, args: &L) -> bool
-    ensures { (if result then Some (app0 true_name) else None) ≡ by_revealing (equations sig.now) f.now (trees_of (L.lent args.now)) }
+fn is_openly_signed(sig: &Signature, f: &Name, args: &TermList) -> bool
+    ensures { (if result then Some (app0 true_name) else None) ≡ by_revealing (equations sig.now) f.now (trees_of args.now) }
 {
     f.is(b"revealVerify")
         && sig.has(Builtin::RevealingSigning)
@@ -59,8 +58,8 @@ fn is_openly_signed<L: Lends>(sig: &Signature, f: &Name, args: &L) -> bool
 }
 
 // Whether the symbol on these terms is a check of a signature that holds.
-pub(crate) fn is_verified<L: Lends>(sig: &Signature, f: &Name, args: &L) -> bool
-    ensures { (if result then Some (app0 true_name) else None) ≡ by_check (equations sig.now) f.now (trees_of (L.lent args.now)) }
+fn is_verified(sig: &Signature, f: &Name, args: &TermList) -> bool
+    ensures { (if result then Some (app0 true_name) else None) ≡ by_check (equations sig.now) f.now (trees_of args.now) }
 {
     if is_signed(sig, f, args) {
         return true;
@@ -69,7 +68,7 @@ pub(crate) fn is_verified<L: Lends>(sig: &Signature, f: &Name, args: &L) -> bool
 }
 
 // The constant that a check of a signature gives where it holds.
-pub(crate) fn true_constant(alloc: Global) -> Result<Term, Mem>
+fn true_constant(alloc: Global) -> Result<Term, Mem>
     ensures { IfOk result (λ t. tree t ≡ app0 true_name) }
 {
     let name = Name::from_bytes(alloc, b"true")?;

@@ -6,37 +6,32 @@ ghost use Rattle.sap_terms.specs.Tree.{trees_of};
 ghost use Rattle.sap_terms.specs.Equations.{app0, true_name};
 ghost use Rattle.sap_rewrite.specs.code.Reduce.{args1, args2, args3, under, parts_under, owner_of, first_part, second_part, opened, opened_by_key, verified};
 
-use crate::lends::Lends;
 use sap_terms::{Term, TermList};
 
 // The term that stands alone.
-fn one<L: Lends>(ts: &L) -> Option<&Term>
-    ensures { option_map tree (option_copied result) ≡ args1 (trees_of (L.lent ts.now)) }
+fn one(ts: &TermList) -> Option<&Term>
+    ensures { option_map tree (option_copied result) ≡ args1 (trees_of ts.now) }
 {
-    if ts.count() == 1 {
-        Some(ts.lend(0))
-    } else {
-        None
-    }
+    if ts.len() == 1 { Some(ts.at(0)) } else { None }
 }
 
 // The two terms of a list of two.
-fn two<L: Lends>(ts: &L) -> Option<(&Term, &Term)>
-    ensures { option_map (λ p. (tree p.0.now, tree p.1.now)) result ≡ args2 (trees_of (L.lent ts.now)) }
+fn two(ts: &TermList) -> Option<(&Term, &Term)>
+    ensures { option_map (λ p. (tree p.0.now, tree p.1.now)) result ≡ args2 (trees_of ts.now) }
 {
-    if ts.count() == 2 {
-        Some((ts.lend(0), ts.lend(1)))
+    if ts.len() == 2 {
+        Some((ts.at(0), ts.at(1)))
     } else {
         None
     }
 }
 
 // The three terms of a list of three.
-fn three<L: Lends>(ts: &L) -> Option<(&Term, &Term, &Term)>
-    ensures { option_map (λ p. (tree p.0.now, tree p.1.now, tree p.2.now)) result ≡ args3 (trees_of (L.lent ts.now)) }
+fn three(ts: &TermList) -> Option<(&Term, &Term, &Term)>
+    ensures { option_map (λ p. (tree p.0.now, tree p.1.now, tree p.2.now)) result ≡ args3 (trees_of ts.now) }
 {
-    if ts.count() == 3 {
-        Some((ts.lend(0), ts.lend(1), ts.lend(2)))
+    if ts.len() == 3 {
+        Some((ts.at(0), ts.at(1), ts.at(2)))
     } else {
         None
     }
@@ -67,24 +62,24 @@ fn owner(t: &Term) -> Option<&Term>
 }
 
 // The first of the two terms under a symbol of this name.
-pub(crate) fn first_part<'a, L: Lends>(name: &[u8], ts: &'a L) -> Option<&'a Term>
-    ensures { option_map tree (option_copied result) ≡ first_part name.now (trees_of (L.lent ts.now)) }
+pub(crate) fn first_part<'a>(name: &[u8], ts: &'a TermList) -> Option<&'a Term>
+    ensures { option_map tree (option_copied result) ≡ first_part name.now (trees_of ts.now) }
 {
     let (a, _) = parts(name, one(ts)?)?;
     Some(a)
 }
 
 // The second part of a pair.
-pub(crate) fn second_part<L: Lends>(ts: &L) -> Option<&Term>
-    ensures { option_map tree (option_copied result) ≡ second_part (trees_of (L.lent ts.now)) }
+pub(crate) fn second_part(ts: &TermList) -> Option<&Term>
+    ensures { option_map tree (option_copied result) ≡ second_part (trees_of ts.now) }
 {
     let (_, b) = parts(b"pair", one(ts)?)?;
     Some(b)
 }
 
 // The message that was sealed with the key it is opened with.
-pub(crate) fn opened<L: Lends>(ts: &L) -> Option<&Term>
-    ensures { option_map tree (option_copied result) ≡ opened (trees_of (L.lent ts.now)) }
+pub(crate) fn opened(ts: &TermList) -> Option<&Term>
+    ensures { option_map tree (option_copied result) ≡ opened (trees_of ts.now) }
 {
     let (sealed, key) = two(ts)?;
     let (message, own) = parts(b"senc", sealed)?;
@@ -92,8 +87,8 @@ pub(crate) fn opened<L: Lends>(ts: &L) -> Option<&Term>
 }
 
 // The message that was sealed with the public key of the key it is opened with.
-pub(crate) fn opened_by_key<L: Lends>(ts: &L) -> Option<&Term>
-    ensures { option_map tree (option_copied result) ≡ opened_by_key (trees_of (L.lent ts.now)) }
+pub(crate) fn opened_by_key(ts: &TermList) -> Option<&Term>
+    ensures { option_map tree (option_copied result) ≡ opened_by_key (trees_of ts.now) }
 {
     let (sealed, key) = two(ts)?;
     let (message, public) = parts(b"aenc", sealed)?;
@@ -102,8 +97,8 @@ pub(crate) fn opened_by_key<L: Lends>(ts: &L) -> Option<&Term>
 }
 
 // Whether the signature, which a symbol of this name makes, is one of the message by the key whose public key is given.
-pub(crate) fn verifies<L: Lends>(name: &[u8], ts: &L) -> Option<()>
-    ensures { option_map (λ _. app0 true_name) result ≡ verified name.now (trees_of (L.lent ts.now)) }
+pub(crate) fn verifies(name: &[u8], ts: &TermList) -> Option<()>
+    ensures { option_map (λ _. app0 true_name) result ≡ verified name.now (trees_of ts.now) }
 {
     let (signed, claimed, public) = three(ts)?;
     let (message, own) = parts(name, signed)?;

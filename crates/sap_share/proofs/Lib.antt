@@ -8,6 +8,7 @@ mod Both
 mod Shapes
 mod Sides
 mod Reduced
+mod Came
 mod Kept
 mod Evaluated
 mod Fitting

@@ -1,5 +1,5 @@
 -- Trees that are shared: each is a node over the numbers of other trees.
-use Rattle.std.specs.Prelude.{◌≡◌, ◌<◌, ◌⊎◌, ℕ, List, [], ◌∷◌, ◌++◌, map, length, slice_index_or, All, Some}
+use Rattle.std.specs.Prelude.{◌≡◌, ◌<◌, ◌+◌, ◌⊎◌, ℕ, List, [], ◌∷◌, ◌++◌, map, length, slice_index_or, All, Some}
 use Rattle.sap_terms.specs.Signature.{Sig, arity_of}
 use Rattle.sap_terms.specs.Tree.{Tree, public, fresh, apply, trees_of}
 use Rattle.sap_share.specs.declared.node.Node.{Node}
@@ -63,3 +63,10 @@ pub record Gives (old new : Shared) (k : ℕ) (t : Tree) : Type 0 where
 -- no number came but this one, if it is new
 abbrev pub ComesAlone : Shared → Shared → ℕ → Type 0
 ComesAlone old new k = (new.trees ≡ old.trees) ⊎ (new.trees ≡ old.trees ++ tree_at new.trees k ∷ [])
+
+-- how a number came: it was given before, and none came; or it is the next one, and came alone; or it is the one behind the next,
+-- which came with it
+pub data Came (old new : Shared) (k : ℕ) : Type 0 where
+  given : k < length old.trees → new.trees ≡ old.trees → Came old new k
+  alone : k ≡ length old.trees → length new.trees ≡ k + 1 → Came old new k
+  second : k ≡ length old.trees + 1 → length new.trees ≡ k + 1 → Came old new k

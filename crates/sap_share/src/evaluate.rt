@@ -1,5 +1,5 @@
 // Terms evaluated to the numbers of their normal forms.
-ghost use Rattle.std.specs.Prelude.{◌<◌, ◌≤◌, length, map, IfOk, OnOk, IsErrOf};
+ghost use Rattle.std.specs.Prelude.{◌<◌, ◌≤◌, ◌+◌, ◌*◌, length, map, IfOk, OnOk, IsErrOf};
 ghost use Rattle.std.specs.List.{AllZip};
 ghost use Rattle.sap_terms.specs.View.{tree};
 ghost use Rattle.sap_terms.specs.Choice.{instance};
@@ -8,7 +8,7 @@ ghost use Rattle.sap_terms.specs.Ground.{IsGround, AreGround};
 ghost use Rattle.sap_terms.specs.Message.{IsOver, AreOver};
 ghost use Rattle.sap_terms.specs.Normal.{IsNormalForm};
 ghost use Rattle.sap_terms.specs.Subterms.{SomeSubtermWithin};
-ghost use Rattle.sap_terms.specs.Tree.{trees_of, node_count};
+ghost use Rattle.sap_terms.specs.Tree.{trees_of, node_count, trees_count};
 ghost use Rattle.sap_rewrite.specs.Large.{HasLargeForm, HasLargeSubterm};
 ghost use Rattle.sap_share.specs.Shared.{tree_at, trees_at, node_tree, AreBelow, StandsBelow, IsHeld, Keeps};
 ghost use Rattle.sap_share.specs.Env.{given, AreSmallForms};
@@ -28,6 +28,7 @@ impl Table {
         ensures below { IfOk result (λ k. k < length self.new.trees) }
         ensures form { IfOk result (λ k. IsNormalForm (equations self.old.sig) (node_tree self.old.trees node) (tree_at self.new.trees k)) }
         ensures keeps { Keeps self.old self.new }
+        ensures few { length self.new.trees ≤ length self.old.trees + 2 }
         ensures within { IfOk result (λ k. node_count (tree_at self.new.trees k) ≤ most) }
         ensures large { IsErrOf result Cut.Large → HasLargeForm (equations self.old.sig) most (node_tree self.old.trees node) }
     {
@@ -52,6 +53,7 @@ impl Table {
         ensures below { IfOk result (λ k. k < length self.new.trees) }
         ensures form { IfOk result (λ k. IsNormalForm (equations self.old.sig) (instance (given self.old.trees env.now) (tree t.now)) (tree_at self.new.trees k)) }
         ensures keeps { Keeps self.old self.new }
+        ensures few { length self.new.trees ≤ length self.old.trees + 2 * node_count (tree t.now) }
         ensures within { OnOk result (HasLargeSubterm (equations self.old.sig) most (instance (given self.old.trees env.now) (tree t.now)) → ⊥) }
         ensures large { IsErrOf result Cut.Large → HasLargeSubterm (equations self.old.sig) most (instance (given self.old.trees env.now) (tree t.now)) }
     {
@@ -94,6 +96,7 @@ impl Table {
         ensures below { IfOk result (AreBelow (length self.new.trees)) }
         ensures forms { IfOk result (λ ks. AllZip (IsNormalForm (equations self.old.sig)) (map (instance (given self.old.trees env.now)) ts.now) (trees_at self.new.trees ks)) }
         ensures keeps { Keeps self.old self.new }
+        ensures few { length self.new.trees ≤ length self.old.trees + 2 * trees_count (trees_of ts.now) }
         ensures within { OnOk result (SomeSubtermWithin (HasLargeForm (equations self.old.sig) most) (trees_of (map (instance (given self.old.trees env.now)) ts.now)) → ⊥) }
         ensures large { IsErrOf result Cut.Large → SomeSubtermWithin (HasLargeForm (equations self.old.sig) most) (trees_of (map (instance (given self.old.trees env.now)) ts.now)) }
     {

@@ -1,10 +1,10 @@
 // Nodes with their numbers and the numbers of their normal forms.
-ghost use Rattle.std.specs.Prelude.{◌≡◌, ◌<◌, length, IfOk, OnErr, Some};
+ghost use Rattle.std.specs.Prelude.{◌≡◌, ◌<◌, ◌≤◌, ◌+◌, length, IfOk, OnErr, Some};
 ghost use Rattle.std.specs.List.{AllZip};
 ghost use Rattle.sap_terms.specs.Equations.{equations};
 ghost use Rattle.sap_terms.specs.Normal.{IsNormalForm};
 ghost use Rattle.sap_terms.specs.Signature.{arity_of};
-ghost use Rattle.sap_share.specs.Shared.{tree_at, trees_at, node_tree, AreBelow, StandsBelow, IsHeld, Gives};
+ghost use Rattle.sap_share.specs.Shared.{tree_at, trees_at, node_tree, AreBelow, StandsBelow, IsHeld, Gives, Came};
 ghost use Rattle.sap_share.specs.code.Forms.{IsFormOf};
 ghost use Rattle.sap_share.specs.code.Inside.{IsNew};
 ghost use Rattle.sap_share.specs.declared.node.Node.TheVariants.{App as OnNumbers};
@@ -89,6 +89,7 @@ impl Table {
         requires new { IsNew self.old.trees node }
         requires form { IsFormOf self.old node (LikeNode form) }
         ensures ok { IfOk result (λ k. Gives self.old self.new k (node_tree self.old.trees node)) }
+        ensures came { IfOk result (Came self.old self.new) }
         ensures err { OnErr result (self.new ≡ self.old) }
     {
         forms_are_messages();
@@ -106,6 +107,7 @@ impl Table {
         requires below { AreBelow (length self.old.trees) ks }
         requires held { arity_of self.old.sig f ≡ Some (length ks) }
         ensures ok { IfOk result (λ k. Gives self.old self.new k (node_tree self.old.trees (OnNumbers f ks))) }
+        ensures came { IfOk result (Came self.old self.new) }
         ensures err { OnErr result (self.new ≡ self.old) }
     {
         let node = Node::App(f, ks);
@@ -120,11 +122,13 @@ impl Table {
     }
 
     /// The number of a node: the old one where the node is there, else the next, and then the number of its normal form is
-    /// remembered, which is given at the same time where there is none. Refused, the table is as it was.
+    /// remembered, which is given at the same time, before the node's, where there is none. Refused, the table is as it was.
     pub fn intern(&mut self, alloc: Global, node: Node) -> Result<u64, Mem>
         requires below { StandsBelow (length self.old.trees) node }
         requires held { IsHeld self.old.sig node }
         ensures ok { IfOk result (λ k. Gives self.old self.new k (node_tree self.old.trees node)) }
+        ensures came { IfOk result (Came self.old self.new) }
+        ensures few { length self.new.trees ≤ length self.old.trees + 2 }
         ensures err { OnErr result (self.new ≡ self.old) }
     {
         equality_is_kept();

@@ -6,6 +6,7 @@ mod evaluate;
 mod fits;
 mod index;
 mod intern;
+mod key;
 mod node;
 mod nodes;
 mod normal_on;

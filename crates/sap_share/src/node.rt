@@ -1,8 +1,9 @@
 //! Nodes: terms one level deep, over numbers.
-use sap_terms::{Name, Numbers};
+use sap_terms::{Copied, Mem, Name, Numbers};
+use std::alloc::Global;
 
-/// A node of a term over the numbers of other nodes. Nodes are keys: two are the same where their names and numbers are.
-#[derive(PartialEq, Eq, Hash, Drop)]
+/// A node of a term over the numbers of other nodes. Two are the same where their names and numbers are.
+#[derive(PartialEq, Eq, Drop)]
 pub enum Node {
     /// A name that everybody knows.
     Public(Name),
@@ -10,4 +11,18 @@ pub enum Node {
     Fresh(u64),
     /// A symbol on the nodes of these numbers.
     App(Name, Numbers),
+}
+
+impl Copied for Node {
+    fn copy(&self, alloc: Global) -> Result<Node, Mem> {
+        match self {
+            Node::Public(n) => Ok(Node::Public(n.copy(alloc)?)),
+            Node::Fresh(k) => Ok(Node::Fresh(*k)),
+            Node::App(f, ks) => {
+                let name = f.copy(alloc)?;
+                let numbers = ks.copy(alloc)?;
+                Ok(Node::App(name, numbers))
+            }
+        }
+    }
 }

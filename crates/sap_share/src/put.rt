@@ -1,5 +1,5 @@
 // Whole terms.
-ghost use Rattle.std.specs.Prelude.{◌≡◌, ◌<◌, length, IfOk};
+ghost use Rattle.std.specs.Prelude.{◌≡◌, ◌<◌, ◌≤◌, ◌+◌, ◌*◌, length, IfOk};
 ghost use Rattle.sap_terms.specs.View.{tree};
 ghost use Rattle.sap_terms.specs.Tree.{trees_of, trees_count, node_count};
 ghost use Rattle.sap_terms.specs.Ground.{IsGround, AreGround};
@@ -11,7 +11,7 @@ use sap_terms::{Copied, Mem, Numbers, Term, TermList};
 use std::alloc::Global;
 
 impl Table {
-    /// The number of a ground term. Refused, the table may have more numbers than before.
+    /// The number of a ground term. Refused, the table may have more numbers than before, at most two for each node.
     /// It recurses as deep as the terms that it is given.
     #[cycle(put)]
     #[tactic(auto, using(crate::proofs::Kept::put_laws))]
@@ -20,6 +20,7 @@ impl Table {
         requires over { IsOver self.old.sig (tree t.now) }
         ensures gives { IfOk result (λ k. Gives self.old self.new k (tree t.now)) }
         ensures keeps { Keeps self.old self.new }
+        ensures few { length self.new.trees ≤ length self.old.trees + 2 * node_count (tree t.now) }
     {
         match t {
             Term::Var(_) => unreachable!(),
@@ -45,6 +46,7 @@ impl Table {
         ensures trees { IfOk result (λ ks. trees_at self.new.trees ks ≡ ts.now) }
         ensures below { IfOk result (AreBelow (length self.new.trees)) }
         ensures keeps { Keeps self.old self.new }
+        ensures few { length self.new.trees ≤ length self.old.trees + 2 * trees_count (trees_of ts.now) }
     {
         let mut ks = Numbers::with_room(alloc, ts.len())?;
         for i in 0..ts.len() {

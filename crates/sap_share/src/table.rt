@@ -7,7 +7,7 @@ ghost use Rattle.sap_terms.specs.Message.{IsOver};
 ghost use Rattle.sap_terms.specs.Normal.{IsNormal, IsNormalForm};
 ghost use Rattle.sap_terms.specs.Equations.{equations};
 ghost use Rattle.sap_terms.specs.Tree.{node_count};
-ghost use Rattle.sap_share.specs.Shared.{tree_at, trees_at, node_tree, AreBelow, StandsBelow, IsHeld, HaveOneNumber, IsNew, Gives, ComesAlone};
+ghost use Rattle.sap_share.specs.Shared.{tree_at, trees_at, node_tree, AreBelow, StandsBelow, IsHeld, HaveOneNumber, IsNew, Gives, ComesAlone, Came};
 ghost use Rattle.sap_share.specs.code.Inside.{trees_in, forms_in, sizes_in, IsRowOf};
 
 use crate::Node;
@@ -216,7 +216,7 @@ impl Table {
         let number = self.nodes.len();
         let row = self.row_of(alloc, &node, form)?;
         self.rows.reserve(1)?;
-        self.nodes.push(node)?;
+        self.nodes.push(alloc, node)?;
         put_row(&mut self.rows, row);
         Ok(number)
     }
@@ -229,6 +229,7 @@ impl Table {
         requires form { IsNormalForm (equations self.old.sig) (node_tree self.old.trees node) (node_tree self.old.trees node) }
         ensures ok { IfOk result (λ k. Gives self.old self.new k (node_tree self.old.trees node)) }
         ensures alone { IfOk result (ComesAlone self.old self.new) }
+        ensures came { IfOk result (Came self.old self.new) }
         ensures err { OnErr result (self.new ≡ self.old) }
     {
         let own = self.count();
@@ -242,6 +243,7 @@ impl Table {
         requires form { IsNormalForm (equations self.old.sig) (node_tree self.old.trees node) (node_tree self.old.trees node) }
         ensures ok { IfOk result (λ k. Gives self.old self.new k (node_tree self.old.trees node)) }
         ensures alone { IfOk result (ComesAlone self.old self.new) }
+        ensures came { IfOk result (Came self.old self.new) }
         ensures err { OnErr result (self.new ≡ self.old) }
     {
         match self.number_of(&node) {
@@ -269,7 +271,7 @@ impl Table {
         let first_row = self.row_of(alloc, &first, form)?;
         let second_row = self.row_of(alloc, &second, form)?;
         self.rows.reserve(2)?;
-        self.nodes.push_both(first, second)?;
+        self.nodes.push_both(alloc, first, second)?;
         put_row(&mut self.rows, first_row);
         put_row(&mut self.rows, second_row);
         Ok(form + 1)

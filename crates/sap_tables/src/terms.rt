@@ -6,7 +6,7 @@ use crate::show::Show;
 use indexmap::IndexSet;
 use sap_read::{read_fact, read_term};
 use sap_rewrite::{
-    Cut, is_message, match_around, match_pattern, normal, normal_on, normal_within, same_modulo,
+    Cut, is_message, match_around, match_pattern, normal, normal_within, same_modulo,
 };
 use sap_terms::{Copied, Mem, Name, SigFault, Signature, Sort, Term, is_reserved};
 use std::alloc::Global;
@@ -78,21 +78,6 @@ fn show_keys(page: &mut Page, kind: &str, terms: &[Term]) {
     );
 }
 
-fn form_on(alloc: Global, sig: &Signature, f: &Name, t: &Term, most: u64) -> Result<Term, Cut> {
-    let form = normal(alloc, sig, t)?;
-    match Vec::from_array(alloc, [&form]) {
-        Ok(lent) => normal_on(alloc, sig, f, &lent, most.min(100000)),
-        Err(_) => Err(Cut::Mem),
-    }
-}
-
-fn show_on(page: &mut Page, sig: &Signature, f: &Name, t: &Term, most: u64) {
-    match form_on(page.alloc, sig, f, t, most) {
-        Err(Cut::Large) => page.word("large"),
-        form => form.show_on(page),
-    }
-}
-
 fn show_within(page: &mut Page, sig: &Signature, t: &Term, most: u64) {
     match normal_within(page.alloc, sig, t, most.min(100000)) {
         Err(Cut::Mem) => page.fail(),
@@ -118,13 +103,6 @@ fn show_term(page: &mut Page, sig: &Signature, t: &Term, row: &str) {
             let most = number(page, part(row, 3));
             show_within(page, sig, t, most);
         }
-        "on" => {
-            let most = number(page, part(row, 3));
-            match &name(page.alloc, part(row, 4)) {
-                Some(f) => show_on(page, sig, f, t, most),
-                None => page.fail(),
-            }
-        }
         "msg" => page.show(is_message(page.alloc, sig, Sort::Msg, t)),
         "fresh" => page.show(is_message(page.alloc, sig, Sort::Fresh, t)),
         "pub" => page.show(is_message(page.alloc, sig, Sort::Pub, t)),
@@ -135,8 +113,7 @@ fn show_term(page: &mut Page, sig: &Signature, t: &Term, row: &str) {
 /// A row over these symbols, whose terms are this part, with bars between them: `size`, a term, its nodes and levels; `same`, two terms
 /// and whether they are; `instance`, a term and its tree; `keys`, terms, and how many keys of a map they are; `lists`, terms, and how many
 /// keys of a map the lists are on which their symbols stand; `normal`, a term and its normal form; `within`, a term, a number of nodes, and
-/// whether the normal forms of its subterms have at most so many; `on`, a term, a number of nodes, a symbol, and the normal form of the
-/// symbol on that of the term, or `large` where it has more; `equal`, two terms, and whether they are equal modulo the equations; `msg`,
+/// whether the normal forms of its subterms have at most so many; `equal`, two terms, and whether they are equal modulo the equations; `msg`,
 /// `fresh` or `pub`, a term, and whether it is a message of the sort; `whole` or `around` the signature's destructors, a pattern and a
 /// term, the bindings before, and those after or `none`.
 pub fn terms_row(page: &mut Page, desk: &mut Desk, symbols: &str, at: usize, row: &str) {

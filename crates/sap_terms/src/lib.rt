@@ -26,7 +26,8 @@ pub use builtins::Builtins;
 pub use fact::{Fact, FactList, Trace};
 pub use items::{Copied, Items, Numbers};
 pub use laws::{
-    builtins_stay_held, destructors_head_left_sides, leaves_are_normal, names_are_messages,
+    builtins_stay_held, destructors_head_left_sides, leaves_are_normal, limits_by_hand,
+    names_are_messages,
 };
 pub use limits::{
     MOST_ARITY, MOST_FILE_NAME_BYTES, MOST_PROCESS_LEVELS, MOST_PROCESS_PLACES, MOST_SCOPE_NAMES,

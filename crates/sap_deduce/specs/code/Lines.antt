@@ -1,5 +1,6 @@
 -- How entries are stored, and seen as lines.
-use Rattle.std.specs.Prelude.{◌≡◌, ◌<◌, ◌≤◌, ◌+◌, ℕ, List, [], ◌++◌, map, take, drop, slice_index_or, All, ⊤}
+use Rattle.std.specs.Prelude.{◌≡◌, ◌<◌, ◌≤◌, ◌+◌, ℕ, List, [], ◌++◌, Some, length, map, take, drop, slice_get, slice_index_or, All, ⊤}
+use Rattle.sap_terms.specs.NameMap.{value_at}
 use Rattle.sap_terms.specs.Tree.{Tree}
 use Rattle.sap_terms.specs.View.{tree}
 use Rattle.sap_deduce.specs.declared.entry.Entry.{Entry}
@@ -39,6 +40,15 @@ lines_of symbols used es = map (λ (e : Entry). record { number = e.number; term
 -- each stands on what is there
 abbrev pub AreWithin : ℕ → ℕ → List Entry → Type 0
 AreWithin symbols used es = All (λ (e : Entry). IsWithin symbols used e.way) es
+
+-- where a name has a place, it stands there
+abbrev pub ArePlaces : List (List ℕ) → List (List ℕ × ℕ) → Type 0
+ArePlaces names places = (n : List ℕ) (s : ℕ) → value_at places n ≡ Some s → slice_get names s ≡ Some n
+
+-- the entries stand on what is there, and the symbols have their places
+pub record AreStored (symbols : List (List ℕ)) (m : List (List ℕ × ℕ)) (used : ℕ) (es : List Entry) : Type 0 where
+  pub within : AreWithin (length symbols) used es
+  pub places : ArePlaces symbols m
 
 -- a list, and more behind it
 pub record IsMore {X : Type 0} (old new : List X) : Type 0 where

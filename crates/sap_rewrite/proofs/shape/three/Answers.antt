@@ -3,8 +3,8 @@ use Rattle.sap_terms.specs.View.{tree}
 use Rattle.sap_rewrite.proofs.Shapes.{args3-got, args3-none}
 use Rattle.sap_rewrite.proofs.shape.three.Goals as goal
 
-pub returns-else-count-eq3 : goal.returns-else-count-eq3
-returns-else-count-eq3 g c = args3-none (g.L.Lends.lent c.args.ts.now) (λ h. c.if-count-eq3.false (c.count.ensures ∙ h))
+pub returns-else-len-eq3 : goal.returns-else-len-eq3
+returns-else-len-eq3 c = args3-none c.args.ts.now (λ h. c.if-len-eq3.false (c.len.ensures ∙ h))
 
-pub returns-then-count-eq3 : goal.returns-then-count-eq3
-returns-then-count-eq3 g c = args3-got (g.L.Lends.lent c.args.ts.now) (tree c.lend.result.now) (tree c.lend-then-count-eq3.result.now) (tree c.lend-then-count-eq3-2.result.now) (sym c.count.ensures ∙ c.if-count-eq3.true) c.lend.ensures c.lend-then-count-eq3.ensures c.lend-then-count-eq3-2.ensures
+pub returns-then-len-eq3 : goal.returns-then-len-eq3
+returns-then-len-eq3 c = args3-got c.args.ts.now (tree c.at.result.now) (tree c.at-then-len-eq3.result.now) (tree c.at-then-len-eq3-2.result.now) (sym c.len.ensures ∙ c.if-len-eq3.true) c.at.ensures.got c.at-then-len-eq3.ensures.got c.at-then-len-eq3-2.ensures.got

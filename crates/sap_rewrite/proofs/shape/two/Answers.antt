@@ -3,8 +3,8 @@ use Rattle.sap_terms.specs.View.{tree}
 use Rattle.sap_rewrite.proofs.Shapes.{args2-got, args2-none}
 use Rattle.sap_rewrite.proofs.shape.two.Goals as goal
 
-pub returns-else-count-eq2 : goal.returns-else-count-eq2
-returns-else-count-eq2 g c = args2-none (g.L.Lends.lent c.args.ts.now) (λ h. c.if-count-eq2.false (c.count.ensures ∙ h))
+pub returns-else-len-eq2 : goal.returns-else-len-eq2
+returns-else-len-eq2 c = args2-none c.args.ts.now (λ h. c.if-len-eq2.false (c.len.ensures ∙ h))
 
-pub returns-then-count-eq2 : goal.returns-then-count-eq2
-returns-then-count-eq2 g c = args2-got (g.L.Lends.lent c.args.ts.now) (tree c.lend.result.now) (tree c.lend-then-count-eq2.result.now) (sym c.count.ensures ∙ c.if-count-eq2.true) c.lend.ensures c.lend-then-count-eq2.ensures
+pub returns-then-len-eq2 : goal.returns-then-len-eq2
+returns-then-len-eq2 c = args2-got c.args.ts.now (tree c.at.result.now) (tree c.at-then-len-eq2.result.now) (sym c.len.ensures ∙ c.if-len-eq2.true) c.at.ensures.got c.at-then-len-eq2.ensures.got

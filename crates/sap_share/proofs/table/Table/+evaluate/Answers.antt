@@ -1,4 +1,4 @@
-use Rattle.std.proofs.Common.{rules, sym, ap, subst, ◌∙◌, arith}
+use Rattle.std.proofs.Common.{length, rules, sym, ap, subst, ◌∙◌, arith}
 use Rattle.sap_terms.specs.Choice.{instance, instances}
 use Rattle.sap_terms.specs.Equations.{equations}
 use Rattle.sap_terms.specs.Ground.{IsGround, AreGround}
@@ -12,6 +12,7 @@ use Rattle.sap_share.specs.Shared.{tree_at}
 use Rattle.sap_share.proofs.Kept.{keeps-self, keeps-both, over_at}
 use Rattle.sap_share.proofs.Evaluated.{variable_fits, no_variable, symbol_held, symbol_form, symbol_large, symbol_fits, leaf_fits, within_instances, instances_within, instances-trees_of, step_env, step_ground, step_forms, step_rest, step_large, none_within}
 use Rattle.sap_share.proofs.Grown.{if_ok, both_ok}
+use Rattle.sap_share.proofs.Came.{few_more, few_of_all, few_one_more}
 use Rattle.sap_share.proofs.table.Table.+evaluate.Goals as goal
 
 pub evaluate-unreachable-requires : goal.evaluate-unreachable-requires
@@ -122,6 +123,7 @@ evaluate_all-loop-i-preserved t c =
       forms = m.0;
       below = m.1;
       keeps = keeps-both s c.loop-i.self c.evaluate.new.self h.keeps c.in-Ok.ensures.keeps;
+      few = few_more c.args.ts.now c.loop-i.i (length s.trees) (length c.loop-i.self.trees) (length c.evaluate.new.self.trees) x c.at.ensures.got h.few c.in-Ok.ensures.few;
       rest = step_rest s c.loop-i.self c.args.env.now c.args.most c.requires.env h.keeps c.args.ts.now c.loop-i.i x c.at.ensures.got h.rest c.in-Ok.ensures.within;
     }
 
@@ -156,10 +158,36 @@ pub evaluate_all-returns-in_err-ks-clause-keeps : goal.evaluate_all-returns-in_e
 evaluate_all-returns-in_err-ks-clause-keeps t c = keeps-self c.args.self.now
 
 pub evaluate_all-loop-i-init : goal.evaluate_all-loop-i-init
-evaluate_all-loop-i-init t c = record { forms = search rules; below = search rules; keeps = keeps-self c.args.self.now; rest = λ w. w }
+evaluate_all-loop-i-init t c = record { forms = search rules; below = search rules; keeps = keeps-self c.args.self.now; few = omega arith; rest = λ w. w }
 
 pub evaluate_all-returns-in_err-push-in-Ok-clause-keeps : goal.evaluate_all-returns-in_err-push-in-Ok-clause-keeps
 evaluate_all-returns-in_err-push-in-Ok-clause-keeps t c = keeps-both c.args.self.now c.loop-i.self c.evaluate.new.self c.loop-i.invariant.keeps c.in-Ok.ensures.keeps
 
 pub evaluate_all-returns-in-Err-clause-keeps : goal.evaluate_all-returns-in-Err-clause-keeps
 evaluate_all-returns-in-Err-clause-keeps t c = keeps-both c.args.self.now c.loop-i.self c.evaluate.new.self c.loop-i.invariant.keeps c.in-Err.ensures.keeps
+
+pub evaluate_all-returns-in-Err-clause-few : goal.evaluate_all-returns-in-Err-clause-few
+evaluate_all-returns-in-Err-clause-few t c =
+    few_one_more c.args.ts.now c.loop-i.i (length c.args.self.now.trees) (length c.loop-i.self.trees) (length c.evaluate.new.self.trees) (tree c.at.result.now) c.at.ensures.got c.loop-i.invariant.few c.in-Err.ensures.few
+
+pub evaluate_all-returns-in_err-push-in-Ok-clause-few : goal.evaluate_all-returns-in_err-push-in-Ok-clause-few
+evaluate_all-returns-in_err-push-in-Ok-clause-few t c =
+    few_one_more c.args.ts.now c.loop-i.i (length c.args.self.now.trees) (length c.loop-i.self.trees) (length c.evaluate.new.self.trees) (tree c.at.result.now) c.at.ensures.got c.loop-i.invariant.few c.in-Ok.ensures.few
+
+pub evaluate_all-returns-clause-few : goal.evaluate_all-returns-clause-few
+evaluate_all-returns-clause-few t c = few_of_all c.args.ts.now c.loop-i.i (length c.args.self.now.trees) (length c.loop-i.self.trees) c.loop-i.invariant.few
+
+pub evaluate-returns-in_ok-name-in-Public-clause-few : goal.evaluate-returns-in_ok-name-in-Public-clause-few
+evaluate-returns-in_ok-name-in-Public-clause-few t c = let n = c.form_within.ensures.few in rw (ap tree c.in-Public.is) (omega (arith, n))
+
+pub evaluate-returns-in-Fresh-clause-few : goal.evaluate-returns-in-Fresh-clause-few
+evaluate-returns-in-Fresh-clause-few t c = let n = c.form_within-in-Fresh.ensures.few in rw (ap tree c.in-Fresh.is) (omega (arith, n))
+
+pub evaluate-returns-in-Err-clause-few : goal.evaluate-returns-in-Err-clause-few
+evaluate-returns-in-Err-clause-few t c = let n = c.in-Err.ensures.few in rw (ap tree c.in-App.is) (omega (arith, n))
+
+pub evaluate-returns-in-Ok-clause-few : goal.evaluate-returns-in-Ok-clause-few
+evaluate-returns-in-Ok-clause-few t c =
+    let n = c.in-Ok.ensures.few in
+    let m = c.form_within-in-Ok.ensures.few in
+    rw (ap tree c.in-App.is) (omega (arith, n, m))

@@ -1,4 +1,4 @@
-use Rattle.std.proofs.Common.{◌+◌, ◌*◌, length, take, drop, map}
+use Rattle.std.proofs.Common.{◌≤◌, ◌+◌, ◌*◌, length, take, drop, map}
 use Rattle.std.specs.List.{AllZip}
 use Rattle.sap_terms.specs.Choice.{instance}
 use Rattle.sap_terms.specs.Equations.{equations}
@@ -22,6 +22,7 @@ invariant-evaluate_all-loop-i l = record {
   forms : AllZip (IsNormalForm (equations l.initial.self.sig)) (map (instance (given l.initial.self.trees l.env)) (take l.i l.ts)) (trees_at l.self.trees l.ks);
   below : AreBelow (length l.self.trees) l.ks;
   keeps : Keeps l.initial.self l.self;
+  few : length l.self.trees ≤ length l.initial.self.trees + 2 * trees_count (trees_of (take l.i l.ts));
   rest : SomeSubtermWithin (HasLargeForm (equations l.initial.self.sig) l.most) (trees_of (map (instance (given l.initial.self.trees l.env)) l.ts))
       → SomeSubtermWithin (HasLargeForm (equations l.initial.self.sig) l.most) (trees_of (map (instance (given l.initial.self.trees l.env)) (drop l.i l.ts)));
 }

@@ -1,9 +1,10 @@
-use Rattle.std.proofs.Common.{arith, rules, sym, ap, subst, ◌∙◌}
+use Rattle.std.proofs.Common.{length, arith, rules, sym, ap, subst, ◌∙◌}
 use Rattle.sap_terms.specs.Message.{IsOver}
 use Rattle.sap_terms.specs.Tree.{public}
 use Rattle.sap_terms.specs.View.{tree}
 use Rattle.sap_terms.specs.declared.term.Term.{Term}
 use Rattle.sap_share.proofs.Kept.{ground_at, over_at, held_over, put_more, keeps-self, keeps-both, numbered_keeps, applied_given}
+use Rattle.sap_share.proofs.Came.{few_more, few_of_all, few_one_more}
 use Rattle.sap_share.proofs.table.Table.+put.Goals as goal
 
 pub put-intern-requires-in-App-clause-held : goal.put-intern-requires-in-App-clause-held
@@ -22,7 +23,12 @@ pub put_all-loop-i-preserved : goal.put_all-loop-i-preserved
 put_all-loop-i-preserved t c =
     let h = c.loop-i.invariant in
     let m = put_more c.loop-i.self c.put.new.self c.args.ts.now c.loop-i.i (tree c.at.result.now) c.loop-i.ks c.push.new.self c.in_ok-k.k h.trees h.below c.in_ok-k.ensures.gives c.at.ensures.got c.in_ok-push.ensures.ok in
-    record { trees = m.0; below = m.1; keeps = keeps-both c.args.self.now c.loop-i.self c.put.new.self h.keeps c.in_ok-k.ensures.keeps }
+    record {
+      trees = m.0;
+      below = m.1;
+      keeps = keeps-both c.args.self.now c.loop-i.self c.put.new.self h.keeps c.in_ok-k.ensures.keeps;
+      few = few_more c.args.ts.now c.loop-i.i (length c.args.self.now.trees) (length c.loop-i.self.trees) (length c.put.new.self.trees) (tree c.at.result.now) c.at.ensures.got h.few c.in_ok-k.ensures.few;
+    }
 
 pub put-returns-in_err-name-in-Public-clause-keeps : goal.put-returns-in_err-name-in-Public-clause-keeps
 put-returns-in_err-name-in-Public-clause-keeps t c = keeps-self c.args.self.now
@@ -60,10 +66,36 @@ pub put_all-returns-in_err-ks-clause-keeps : goal.put_all-returns-in_err-ks-clau
 put_all-returns-in_err-ks-clause-keeps t c = keeps-self c.args.self.now
 
 pub put_all-loop-i-init : goal.put_all-loop-i-init
-put_all-loop-i-init t c = record { trees = search rules; below = search rules; keeps = keeps-self c.args.self.now }
+put_all-loop-i-init t c = record { trees = search rules; below = search rules; keeps = keeps-self c.args.self.now; few = omega arith }
 
 pub put_all-returns-in_err-k-clause-keeps : goal.put_all-returns-in_err-k-clause-keeps
 put_all-returns-in_err-k-clause-keeps t c = keeps-both c.args.self.now c.loop-i.self c.put.new.self c.loop-i.invariant.keeps c.in_err-k.ensures.keeps
 
 pub put_all-returns-in_err-push-clause-keeps : goal.put_all-returns-in_err-push-clause-keeps
 put_all-returns-in_err-push-clause-keeps t c = keeps-both c.args.self.now c.loop-i.self c.put.new.self c.loop-i.invariant.keeps c.in_ok-k.ensures.keeps
+
+pub put_all-returns-in_err-k-clause-few : goal.put_all-returns-in_err-k-clause-few
+put_all-returns-in_err-k-clause-few t c =
+    few_one_more c.args.ts.now c.loop-i.i (length c.args.self.now.trees) (length c.loop-i.self.trees) (length c.put.new.self.trees) (tree c.at.result.now) c.at.ensures.got c.loop-i.invariant.few c.in_err-k.ensures.few
+
+pub put_all-returns-in_err-push-clause-few : goal.put_all-returns-in_err-push-clause-few
+put_all-returns-in_err-push-clause-few t c =
+    few_one_more c.args.ts.now c.loop-i.i (length c.args.self.now.trees) (length c.loop-i.self.trees) (length c.put.new.self.trees) (tree c.at.result.now) c.at.ensures.got c.loop-i.invariant.few c.in_ok-k.ensures.few
+
+pub put_all-returns-clause-few : goal.put_all-returns-clause-few
+put_all-returns-clause-few t c = few_of_all c.args.ts.now c.loop-i.i (length c.args.self.now.trees) (length c.loop-i.self.trees) c.loop-i.invariant.few
+
+pub put-returns-in_ok-name-in-Public-clause-few : goal.put-returns-in_ok-name-in-Public-clause-few
+put-returns-in_ok-name-in-Public-clause-few t c = let n = c.intern.ensures.few in rw (ap tree c.in-Public.is) (omega (arith, n))
+
+pub put-returns-in-Fresh-clause-few : goal.put-returns-in-Fresh-clause-few
+put-returns-in-Fresh-clause-few t c = let n = c.intern-in-Fresh.ensures.few in rw (ap tree c.in-Fresh.is) (omega (arith, n))
+
+pub put-returns-in_err-ks-in-App-clause-few : goal.put-returns-in_err-ks-in-App-clause-few
+put-returns-in_err-ks-in-App-clause-few t c = let n = c.in_err-ks-in-App.ensures.few in rw (ap tree c.in-App.is) (omega (arith, n))
+
+pub put-returns-in_ok-ks-in-App-clause-few : goal.put-returns-in_ok-ks-in-App-clause-few
+put-returns-in_ok-ks-in-App-clause-few t c =
+    let n = c.in_ok-ks-in-App.ensures.few in
+    let m = c.intern-in-App.ensures.few in
+    rw (ap tree c.in-App.is) (omega (arith, n, m))
