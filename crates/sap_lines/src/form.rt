@@ -104,6 +104,47 @@ pub fn form_of(alloc: Global, p: &Process) -> Result<Form, Mem>
     }
 }
 
+impl Copied for Form {
+    fn copy(&self, alloc: Global) -> Result<Form, Mem> {
+        match self {
+            Form::Nil => Ok(Form::Nil),
+            Form::Par => Ok(Form::Par),
+            Form::Rep => Ok(Form::Rep),
+            Form::New(x) => Ok(Form::New(x.copy(alloc)?)),
+            Form::Out(t) => Ok(Form::Out(t.copy(alloc)?)),
+            Form::Send(t, u) => {
+                let (t, u) = two(alloc, t, u)?;
+                Ok(Form::Send(t, u))
+            }
+            Form::In(t) => Ok(Form::In(t.copy(alloc)?)),
+            Form::Recv(t, u) => {
+                let (t, u) = two(alloc, t, u)?;
+                Ok(Form::Recv(t, u))
+            }
+            Form::If(t, u) => {
+                let (t, u) = two(alloc, t, u)?;
+                Ok(Form::If(t, u))
+            }
+            Form::Event(f) => Ok(Form::Event(f.copy(alloc)?)),
+            Form::Insert(t, u) => {
+                let (t, u) = two(alloc, t, u)?;
+                Ok(Form::Insert(t, u))
+            }
+            Form::Delete(t) => Ok(Form::Delete(t.copy(alloc)?)),
+            Form::Lookup(t, x) => {
+                let (t, x) = term_and_var(alloc, t, x)?;
+                Ok(Form::Lookup(t, x))
+            }
+            Form::Lock(t, n) => Ok(Form::Lock(t.copy(alloc)?, *n)),
+            Form::Unlock(t, n) => Ok(Form::Unlock(t.copy(alloc)?, *n)),
+            Form::Embedded(l, e, r) => {
+                let (l, e, r) = sides(alloc, l, e, r)?;
+                Ok(Form::Embedded(l, e, r))
+            }
+        }
+    }
+}
+
 impl Form {
     /// Whether nothing is there.
     pub fn is_nil(&self) -> bool

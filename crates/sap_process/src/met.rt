@@ -1,15 +1,12 @@
 //! Facts that a walk through a process has met, by name.
 ghost use Rattle.std.specs.Prelude.{◌≡◌, true, false, ◌||◌, [], ◌++◌, IfOk, OnOk};
-ghost use Rattle.std.specs.Map.{lookup};
-ghost use Rattle.std.specs.Str.{bytes_eq};
 ghost use Rattle.sap_process.specs.Heads.{stored_facts, shown_facts};
 ghost use Rattle.sap_process.specs.Proc.{proc};
-ghost use Rattle.sap_process.specs.code.Tests.{is_shape, is_other_shape, noted, noted_all, has_clash, shape_of};
+ghost use Rattle.sap_process.specs.code.Tests.{is_shape, is_other_shape, noted_shape, noted, noted_all, has_clash, shape_of};
 ghost use Rattle.sap_process.specs.code.Walks.{seen_at};
 
 use crate::Process;
-use indexmap::IndexMap;
-use sap_terms::{Copied, Fact, FactList, Mem, Name};
+use sap_terms::{Copied, Fact, FactList, HasName, Mem, Name, Named};
 use std::alloc::Global;
 use std::marker::Model;
 
@@ -38,19 +35,34 @@ fn shape_of(both: bool, f: &Fact) -> Shape
     }
 }
 
+// The name of a fact, with its shape.
+#[derive(Drop)]
+pub(crate) struct Noted {
+    name: Name,
+    shape: Shape,
+}
+
+impl HasName for Noted {
+    ghost name_of = { λ x. x.name };
+
+    fn name(&self) -> &Name {
+        &self.name
+    }
+}
+
 // The shapes of the first facts of their names.
 #[derive(Drop)]
 pub(crate) struct Met {
-    shapes: IndexMap<Name, Shape>,
+    facts: Named<Noted>,
 }
 
 impl Model for Met {
-    ghost use Rattle.std.specs.Prelude.{ℕ, List};
-    ghost use Rattle.sap_process.specs.declared.met.Shape.{Shape};
+    ghost use Rattle.std.specs.Prelude.{List};
+    ghost use Rattle.sap_process.specs.declared.met.Noted.{Noted};
 
-    ghost Value = { List (List ℕ × Shape) };
+    ghost Value = { List Noted };
 
-    ghost view = { λ a. a.shapes.entries };
+    ghost view = { λ a. a.facts };
 }
 
 impl Met {
@@ -59,20 +71,20 @@ impl Met {
         ensures { result ≡ [] }
     {
         Met {
-            shapes: IndexMap::new(alloc),
+            facts: Named::new(alloc),
         }
     }
 
     // Notes the shape, where none is noted for the name; whether another one is noted.
     fn note(&mut self, alloc: Global, name: &Name, shape: Shape) -> Result<bool, Mem>
-        ensures other { IfOk result (λ b. b ≡ is_other_shape (lookup (bytes_eq name.now) self.old) shape) }
+        ensures other { IfOk result (λ b. b ≡ is_other_shape (noted_shape self.old name.now) shape) }
         ensures noted { OnOk result (self.new ≡ noted self.old name.now shape) }
     {
-        if let Some(other) = self.shapes.get(name) {
-            return Ok(!other.is(shape));
+        if let Some(first) = self.facts.named(name) {
+            return Ok(!first.shape.is(shape));
         }
         let name = name.copy(alloc)?;
-        self.shapes.insert(name, shape)?;
+        self.facts.push(Noted { name, shape })?;
         Ok(false)
     }
 

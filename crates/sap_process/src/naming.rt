@@ -30,7 +30,7 @@ pub(crate) fn bind(alloc: Global, scope: &mut Scope, p: &Process) -> Result<(), 
     ensures { OnOk result (scope.new ≡ scope_at scope.old (proc p.now)) }
 {
     match p {
-        Process::New(x, _) => scope.push(alloc, with_sort(alloc, x, Sort::Fresh)?),
+        Process::New(x, _) => scope.push(with_sort(alloc, x, Sort::Fresh)?),
         Process::In(t, _) | Process::Recv(_, t, _) => bind_term(alloc, scope, t),
         Process::Embedded(l, e, r, _) => bind_rule(alloc, scope, l, e, r),
         _ => Ok(()),

@@ -127,7 +127,7 @@ fn sorted_with(alloc: Global, scope: &mut Scope, x: &Var, p: &Process) -> Result
     ensures same { OnOk result (scope.new ≡ scope.old) }
 {
     let before = scope.len();
-    scope.push(alloc, with_sort(alloc, x, Sort::Msg)?)?;
+    scope.push(with_sort(alloc, x, Sort::Msg)?)?;
     let made = sorted(alloc, scope, p)?;
     scope.cut(before);
     Ok(made)

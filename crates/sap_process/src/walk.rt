@@ -182,7 +182,7 @@ fn search_with(
         (sites_from (walk.old.trail ++ 1 ∷ []) (walk.old.scope ++ message_var x.now ∷ []) locks (proc q.now))) }
 {
     let outside = walk.scope.len();
-    walk.scope.push(alloc, with_sort(alloc, x, Sort::Msg)?)?;
+    walk.scope.push(with_sort(alloc, x, Sort::Msg)?)?;
     search_child(alloc, sig, walk, 1, locks, q)?;
     walk.scope.cut(outside);
     Ok(())

@@ -1,9 +1,8 @@
 -- Which cause comes first.
 use Rattle.std.proofs.Common.{◌≡◌, ℕ, ◌-◌, ◌^◌, ◌≤◌, ◌<◌, min, List, [], ◌∷◌, Bool, true, false, Option, Some, None, refl, sym, subst, ◌∙◌, arith, map}
 use Rattle.std.specs.Prelude.{nat_lt, if◌then◌else◌}
-use Rattle.std.specs.Str.{bytes_eq}
 use Rattle.std.proofs.lemmas.Bool.{lt-ltb, le-ltb, ltb-true, ltb-false}
-use Rattle.indexmap.specs.IndexMap.{IndexMap, get}
+use Rattle.sap_terms.specs.NameMap.{value_at}
 use Rattle.sap_process.specs.Proc.{Proc, node_count, level_count}
 use Rattle.sap_restrict.specs.Restrictions.{is_generated}
 use Rattle.sap_statements.specs.declared.statement.Statement.{Statement}
@@ -17,7 +16,7 @@ use Rattle.sap_read.specs.Replaced.{replaced, process_of, no_meaning}
 use Rattle.sap_read.specs.Causes.{first_of, unlabelled, labels, unknown_from, first_repeated, first_taken, cause}
 use Rattle.sap_draft.specs.Drafts.{written}
 use Rattle.sap_read.specs.code.Bodies.{body}
-use Rattle.sap_read.specs.code.Meaning.{meaning_of, AreMeant, nodes_in, levels_in, IsCounted, AreCounted, AreTargets, IsExpanded, AreExpanded, size_fault}
+use Rattle.sap_read.specs.code.Meaning.{KeptNames, meaning_of, AreMeant, nodes_in, levels_in, IsCounted, AreCounted, AreTargets, IsExpanded, AreExpanded, size_fault}
 use Rattle.sap_read.proofs.Kept.{nodes_counted, levels_counted}
 use Rattle.sap_read.proofs.Meaning.{AreFresh, fixed, process_fixed}
 use Rattle.sap_terms.specs.declared.limits.TheConstants.{MOST_PROCESS_LEVELS, MOST_PROCESS_PLACES}
@@ -40,9 +39,9 @@ process_is es e one known distinct =
     process_fixed (map body es) [] no_meaning (body e) [] known distinct (nothing_known (map body es)) one
 
 -- what is kept of names tells what they mean
-pub all_expanded : {S : Type 0} (es : List Definition) (names : IndexMap (List ℕ) Meant S) → unknown_from [] (map body es) ≡ None → first_repeated (labels (map body es)) ≡ None → AreCounted names (meaning_of es) → AreTargets es names → AreExpanded es names
-all_expanded es names known distinct counted targets x = by (get bytes_eq names x) refl (counted x) where
-  by : (o : Option Meant) → get bytes_eq names x ≡ o → IsCounted o (meaning_of es x) → IsExpanded es x o
+pub all_expanded : (es : List Definition) (names : KeptNames) → unknown_from [] (map body es) ≡ None → first_repeated (labels (map body es)) ≡ None → AreCounted names (meaning_of es) → AreTargets es names → AreExpanded es names
+all_expanded es names known distinct counted targets x = by (value_at names x) refl (counted x) where
+  by : (o : Option Meant) → value_at names x ≡ o → IsCounted o (meaning_of es x) → IsExpanded es x o
   by None q h = h
   by (Some m) q h = targets (meaning_of es) (all_meant es known distinct) x m q
 
@@ -69,7 +68,7 @@ same_above limit n m most below e = by (nat_lt limit m) refl where
   by false q = le-ltb _ _ (omega (arith, below, e, ltb-false limit m q))
 
 -- and the numbers that are kept decide it
-pub by_kept_size : {S : Type 0} (es : List Definition) (ss : List Statement) (e : Definition) (names : IndexMap (List ℕ) Meant S) → unlabelled (map body es) ≡ body e ∷ [] → unknown_from [] (map body es) ≡ None → first_repeated (labels (map body es)) ≡ None → first_taken is_generated (map name_of ss) ≡ None
+pub by_kept_size : (es : List Definition) (ss : List Statement) (e : Definition) (names : KeptNames) → unlabelled (map body es) ≡ body e ∷ [] → unknown_from [] (map body es) ≡ None → first_repeated (labels (map body es)) ≡ None → first_taken is_generated (map name_of ss) ≡ None
     → AreCounted names (meaning_of es) → cause (map body es) ss None ≡ size_fault (min (nodes_in names (written e.draft.value)) (2 ^ 64 - 1)) (min (levels_in names (written e.draft.value)) (2 ^ 64 - 1))
 by_kept_size es ss e names one known distinct free counted =
     let p = replaced (meaning_of es) (written e.draft.value) in
@@ -86,7 +85,7 @@ low_enough n l h = by (nat_lt MOST_PROCESS_PLACES n) (nat_lt MOST_PROCESS_LEVELS
   by false false q h = ltb-false MOST_PROCESS_LEVELS l q
 
 -- and how deep the process is
-pub few_levels : {S : Type 0} (es : List Definition) (e : Definition) (names : IndexMap (List ℕ) Meant S) → AreCounted names (meaning_of es) → size_fault (min (nodes_in names (written e.draft.value)) (2 ^ 64 - 1)) (min (levels_in names (written e.draft.value)) (2 ^ 64 - 1)) ≡ None → level_count (replaced (meaning_of es) (written e.draft.value)) ≤ MOST_PROCESS_LEVELS
+pub few_levels : (es : List Definition) (e : Definition) (names : KeptNames) → AreCounted names (meaning_of es) → size_fault (min (nodes_in names (written e.draft.value)) (2 ^ 64 - 1)) (min (levels_in names (written e.draft.value)) (2 ^ 64 - 1)) ≡ None → level_count (replaced (meaning_of es) (written e.draft.value)) ≤ MOST_PROCESS_LEVELS
 few_levels es e names counted h =
     let cut : min (levels_in names (written e.draft.value)) (2 ^ 64 - 1) ≤ MOST_PROCESS_LEVELS = low_enough _ _ h in
     uncut _ (2 ^ 64 - 1) MOST_PROCESS_LEVELS (rw (← levels_counted names (meaning_of es) counted (written e.draft.value)) cut) (omega arith)
@@ -98,7 +97,7 @@ few_enough n l h = by (nat_lt MOST_PROCESS_PLACES n) (nat_lt MOST_PROCESS_LEVELS
   by false t q h = ltb-false MOST_PROCESS_PLACES n q
 
 -- and how many places it has
-pub few_nodes : {S : Type 0} (es : List Definition) (e : Definition) (names : IndexMap (List ℕ) Meant S) → AreCounted names (meaning_of es) → size_fault (min (nodes_in names (written e.draft.value)) (2 ^ 64 - 1)) (min (levels_in names (written e.draft.value)) (2 ^ 64 - 1)) ≡ None → node_count (replaced (meaning_of es) (written e.draft.value)) ≤ MOST_PROCESS_PLACES
+pub few_nodes : (es : List Definition) (e : Definition) (names : KeptNames) → AreCounted names (meaning_of es) → size_fault (min (nodes_in names (written e.draft.value)) (2 ^ 64 - 1)) (min (levels_in names (written e.draft.value)) (2 ^ 64 - 1)) ≡ None → node_count (replaced (meaning_of es) (written e.draft.value)) ≤ MOST_PROCESS_PLACES
 few_nodes es e names counted h =
     let cut : min (nodes_in names (written e.draft.value)) (2 ^ 64 - 1) ≤ MOST_PROCESS_PLACES = few_enough _ _ h in
     uncut _ (2 ^ 64 - 1) MOST_PROCESS_PLACES (rw (← nodes_counted names (meaning_of es) counted (written e.draft.value)) cut) (omega arith)

@@ -1,13 +1,12 @@
 -- What a draft is expanded from.
 use Rattle.std.proofs.Common.{◌≡◌, ℕ, zero, suc, ◌<◌, List, [], ◌∷◌, length, Some, false, arith}
 use Rattle.std.specs.Prelude.{slice_get}
-use Rattle.std.specs.Str.{bytes_eq}
-use Rattle.indexmap.specs.IndexMap.{IndexMap, get}
+use Rattle.sap_terms.specs.NameMap.{value_at}
 use Rattle.sap_process.specs.Proc.{Proc}
 use Rattle.sap_read.specs.declared.definition.Definition.{Definition}
 use Rattle.sap_read.specs.declared.names.Meant.{Meant}
 use Rattle.sap_draft.specs.Written.{Written, nil, call, parallel, replicated, act, test, lookup}
-use Rattle.sap_read.specs.code.Meaning.{is_call, IsFormed, IsExpanded, AreExpanded}
+use Rattle.sap_read.specs.code.Meaning.{KeptNames, is_call, IsFormed, IsExpanded, AreExpanded}
 
 -- what is no name is formed
 pub formed : (means : List ℕ → Proc) (w : Written) → is_call w ≡ false → IsFormed means w
@@ -28,5 +27,5 @@ below_length (y ∷ ys) zero x e = omega arith
 below_length (y ∷ ys) (suc k) x e = omega (arith, below_length ys k x e)
 
 -- the index that is kept of a name is that of a process
-pub kept_within : {S : Type 0} (es : List Definition) (names : IndexMap (List ℕ) Meant S) (x : List ℕ) (m : Meant) → AreExpanded es names → get bytes_eq names x ≡ Some m → m.index < length es
+pub kept_within : (es : List Definition) (names : KeptNames) (x : List ℕ) (m : Meant) → AreExpanded es names → value_at names x ≡ Some m → m.index < length es
 kept_within es names x m all is = let it : IsExpanded es x (Some m) = rw is at (all x) in below_length es m.index it.0 it.1

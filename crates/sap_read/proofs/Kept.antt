@@ -7,7 +7,7 @@ use Rattle.std.specs.Str.{bytes_eq}
 use Rattle.std.proofs.lemmas.List.Folds.{list_any-append}
 use Rattle.std.proofs.lemmas.Option.{slice_get-map}
 use Rattle.std.proofs.lemmas.Slice.Eq.{bytes_eq-Decides}
-use Rattle.indexmap.specs.IndexMap.{IndexMap, get}
+use Rattle.sap_terms.specs.NameMap.{value_at}
 use Rattle.sap_process.specs.Proc as whole
 use Rattle.sap_process.specs.Proc.{Proc, node_count, level_count}
 use Rattle.sap_terms.proofs.PlainLaws.Lists.{drop_got}
@@ -20,12 +20,12 @@ use Rattle.sap_read.specs.Replaced.{calls, replaced, after_body, no_meaning}
 use Rattle.sap_read.specs.Causes.{first_of, listed, is_among, unknown_from}
 use Rattle.sap_draft.specs.Drafts.{written}
 use Rattle.sap_read.specs.code.Bodies.{body}
-use Rattle.sap_read.specs.code.Meaning.{meaning, AreMeant, nodes_kept, nodes_in, levels_kept, levels_in, unknown_among, index_kept, target, meant, kept_behind, IsCounted, AreCounted, is_call, IsTarget, AreBehind}
+use Rattle.sap_read.specs.code.Meaning.{KeptNames, meaning, AreMeant, nodes_kept, nodes_in, levels_kept, levels_in, unknown_among, index_kept, target, meant, kept_behind, IsCounted, AreCounted, is_call, IsTarget, AreBehind}
 
 -- the first unknown name of two lists
-pub unknown_append : {S : Type 0} (names : IndexMap (List ℕ) Meant S) (xs ys : List (List ℕ)) → unknown_among names (xs ++ ys) ≡ (if is_some (unknown_among names xs) then unknown_among names xs else unknown_among names ys)
+pub unknown_append : (names : KeptNames) (xs ys : List (List ℕ)) → unknown_among names (xs ++ ys) ≡ (if is_some (unknown_among names xs) then unknown_among names xs else unknown_among names ys)
 unknown_append names [] ys = refl
-unknown_append names (x ∷ xs) ys = by (is_some (get bytes_eq names x)) (unknown_append names xs ys) where
+unknown_append names (x ∷ xs) ys = by (is_some (value_at names x)) (unknown_append names xs ys) where
   by : (t : Bool) → unknown_among names (xs ++ ys) ≡ (if is_some (unknown_among names xs) then unknown_among names xs else unknown_among names ys) → (if t then unknown_among names (xs ++ ys) else Some x) ≡ (if is_some (if t then unknown_among names xs else Some x) then (if t then unknown_among names xs else Some x) else unknown_among names ys)
   by true e = e
   by false e = refl
@@ -33,7 +33,7 @@ unknown_append names (x ∷ xs) ys = by (is_some (get bytes_eq names x)) (unknow
 pub ruleset unknown_laws = (unknown_append)
 
 -- what is known tells which names are unknown
-pub unknown_same : {S : Type 0} (names : IndexMap (List ℕ) Meant S) (ks xs : List (List ℕ)) → ((x : List ℕ) → is_some (get bytes_eq names x) ≡ is_among ks x) → unknown_among names xs ≡ find (λ x. not (is_among ks x)) xs
+pub unknown_same : (names : KeptNames) (ks xs : List (List ℕ)) → ((x : List ℕ) → is_some (value_at names x) ≡ is_among ks x) → unknown_among names xs ≡ find (λ x. not (is_among ks x)) xs
 unknown_same names ks [] h = refl
 unknown_same names ks (x ∷ xs) h = rw (h x) (by (is_among ks x) (unknown_same names ks xs h)) where
   by : (t : Bool) → unknown_among names xs ≡ find (λ x. not (is_among ks x)) xs → (if t then unknown_among names xs else Some x) ≡ (if not t then Some x else find (λ x. not (is_among ks x)) xs)
@@ -59,9 +59,9 @@ max_cut : (a b c d most : ℕ) → min a most ≡ min b most → min c most ≡ 
 max_cut a b c d most e f = omega (arith, e, f)
 
 -- the places are counted
-pub nodes_counted : {S : Type 0} (names : IndexMap (List ℕ) Meant S) (means : List ℕ → Proc) → AreCounted names means → (w : Written) → min (nodes_in names w) (2 ^ 64 - 1) ≡ min (node_count (replaced means w)) (2 ^ 64 - 1)
+pub nodes_counted : (names : KeptNames) (means : List ℕ → Proc) → AreCounted names means → (w : Written) → min (nodes_in names w) (2 ^ 64 - 1) ≡ min (node_count (replaced means w)) (2 ^ 64 - 1)
 nodes_counted names means h nil = refl
-nodes_counted names means h (call x) = nodes_at (get bytes_eq names x) (means x) (h x)
+nodes_counted names means h (call x) = nodes_at (value_at names x) (means x) (h x)
 nodes_counted names means h (parallel p q) =
     sum_cut _ _ _ _ (2 ^ 64 - 1) (nodes_counted names means h p) (nodes_counted names means h q)
 nodes_counted names means h (replicated p) = more_cut _ _ (2 ^ 64 - 1) (nodes_counted names means h p)
@@ -72,9 +72,9 @@ nodes_counted names means h (lookup t x p q) =
     sum_cut _ _ _ _ (2 ^ 64 - 1) (nodes_counted names means h p) (nodes_counted names means h q)
 
 -- the levels are counted
-pub levels_counted : {S : Type 0} (names : IndexMap (List ℕ) Meant S) (means : List ℕ → Proc) → AreCounted names means → (w : Written) → min (levels_in names w) (2 ^ 64 - 1) ≡ min (level_count (replaced means w)) (2 ^ 64 - 1)
+pub levels_counted : (names : KeptNames) (means : List ℕ → Proc) → AreCounted names means → (w : Written) → min (levels_in names w) (2 ^ 64 - 1) ≡ min (level_count (replaced means w)) (2 ^ 64 - 1)
 levels_counted names means h nil = refl
-levels_counted names means h (call x) = levels_at (get bytes_eq names x) (means x) (h x)
+levels_counted names means h (call x) = levels_at (value_at names x) (means x) (h x)
 levels_counted names means h (parallel p q) =
     max_cut _ _ _ _ (2 ^ 64 - 1) (levels_counted names means h p) (levels_counted names means h q)
 levels_counted names means h (replicated p) = more_cut _ _ (2 ^ 64 - 1) (levels_counted names means h p)
@@ -100,9 +100,9 @@ or_true true = refl
 or_true false = refl
 
 -- one more name is known
-known_more : {S : Type 0} (names : IndexMap (List ℕ) Meant S) (ks : List (List ℕ)) (k : ℕ) (l : Option (List ℕ)) (w : Written) → ((x : List ℕ) → is_some (get bytes_eq names x) ≡ is_among ks x) → (x : List ℕ) → is_some (kept_behind names k l w x) ≡ is_among (ks ++ listed l) x
+known_more : (names : KeptNames) (ks : List (List ℕ)) (k : ℕ) (l : Option (List ℕ)) (w : Written) → ((x : List ℕ) → is_some (value_at names x) ≡ is_among ks x) → (x : List ℕ) → is_some (kept_behind names k l w x) ≡ is_among (ks ++ listed l) x
 known_more names ks k l w h x = by l ∙ sym (list_any-append (λ y. bytes_eq y x) ks (listed l)) where
-  at : (t s : Bool) → is_some (get bytes_eq names x) ≡ s → is_some (if t then Some (meant names k w) else get bytes_eq names x) ≡ (s || (t || false))
+  at : (t s : Bool) → is_some (value_at names x) ≡ s → is_some (if t then Some (meant names k w) else value_at names x) ≡ (s || (t || false))
   at true s e = or_true s
   at false s e = e ∙ or_false s
 
@@ -111,22 +111,22 @@ known_more names ks k l w h x = by l ∙ sym (list_any-append (λ y. bytes_eq y 
   by (Some y) = at (bytes_eq y x) (is_among ks x) (h x)
 
 -- and counted
-counted_more : {S : Type 0} (names : IndexMap (List ℕ) Meant S) (means : List ℕ → Proc) (k : ℕ) (l : Option (List ℕ)) (w : Written) → AreCounted names means → (x : List ℕ) → IsCounted (kept_behind names k l w x) (after_body means l w x)
+counted_more : (names : KeptNames) (means : List ℕ → Proc) (k : ℕ) (l : Option (List ℕ)) (w : Written) → AreCounted names means → (x : List ℕ) → IsCounted (kept_behind names k l w x) (after_body means l w x)
 counted_more names means k None w h x = h x
 counted_more names means k (Some y) w h x = at (bytes_eq y x) where
-  at : (t : Bool) → IsCounted (if t then Some (meant names k w) else get bytes_eq names x) (if t then replaced means w else means x)
+  at : (t : Bool) → IsCounted (if t then Some (meant names k w) else value_at names x) (if t then replaced means w else means x)
   at true = (nodes_counted names means h w, levels_counted names means h w)
   at false = h x
 
 -- a known name has something kept
-known_call : {S : Type 0} (names : IndexMap (List ℕ) Meant S) (z : List ℕ) → unknown_among names (z ∷ []) ≡ None → (m : Meant) × (get bytes_eq names z ≡ Some m)
-known_call names z h = by (get bytes_eq names z) refl where
-  by : (o : Option Meant) → get bytes_eq names z ≡ o → (m : Meant) × (get bytes_eq names z ≡ Some m)
+known_call : (names : KeptNames) (z : List ℕ) → unknown_among names (z ∷ []) ≡ None → (m : Meant) × (value_at names z ≡ Some m)
+known_call names z h = by (value_at names z) refl where
+  by : (o : Option Meant) → value_at names z ≡ o → (m : Meant) × (value_at names z ≡ Some m)
   by None e = absurd (let k : unknown_among names (z ∷ []) ≡ Some z = rw e refl in cc)
   by (Some m) e = (m, e)
 
 -- the target of a process' name
-aimed : {S : Type 0} (names : IndexMap (List ℕ) Meant S) (means : List ℕ → Proc) (es : List Definition) (k : ℕ) (e : Definition) (x : List ℕ) → ((z : List ℕ) (m : Meant) → get bytes_eq names z ≡ Some m → IsTarget means es z m.index) → slice_get es k ≡ Some e → means x ≡ replaced means (written e.draft.value) → unknown_among names (calls (written e.draft.value)) ≡ None → IsTarget means es x (target names k (written e.draft.value))
+aimed : (names : KeptNames) (means : List ℕ → Proc) (es : List Definition) (k : ℕ) (e : Definition) (x : List ℕ) → ((z : List ℕ) (m : Meant) → value_at names z ≡ Some m → IsTarget means es z m.index) → slice_get es k ≡ Some e → means x ≡ replaced means (written e.draft.value) → unknown_among names (calls (written e.draft.value)) ≡ None → IsTarget means es x (target names k (written e.draft.value))
 aimed names means es k e x old there is known = by (written e.draft.value) refl where
   here : is_call (written e.draft.value) ≡ false → IsTarget means es x k
   here plain = (e, there, plain, is)
@@ -145,10 +145,10 @@ aimed names means es k e x old there is known = by (written e.draft.value) refl 
       let same : means x ≡ means z = is ∙ ap (replaced means) q in
       subst (λ o. IsTarget means es x (index_kept k o)) (sym kept.1) (it.0, it.1, it.2, same ∙ it.3)
 
-targets_more : {S : Type 0} (names : IndexMap (List ℕ) Meant S) (means : List ℕ → Proc) (es : List Definition) (k : ℕ) (e : Definition) → AreMeant means (map body es) → ((z : List ℕ) (m : Meant) → get bytes_eq names z ≡ Some m → IsTarget means es z m.index) → slice_get es k ≡ Some e → unknown_among names (calls (written e.draft.value)) ≡ None → (l : Option (List ℕ)) → e.label ≡ l → (x : List ℕ) (m : Meant) → kept_behind names k l (written e.draft.value) x ≡ Some m → IsTarget means es x m.index
+targets_more : (names : KeptNames) (means : List ℕ → Proc) (es : List Definition) (k : ℕ) (e : Definition) → AreMeant means (map body es) → ((z : List ℕ) (m : Meant) → value_at names z ≡ Some m → IsTarget means es z m.index) → slice_get es k ≡ Some e → unknown_among names (calls (written e.draft.value)) ≡ None → (l : Option (List ℕ)) → e.label ≡ l → (x : List ℕ) (m : Meant) → kept_behind names k l (written e.draft.value) x ≡ Some m → IsTarget means es x m.index
 targets_more names means es k e all old there known None q x m h = old x m h
 targets_more names means es k e all old there known (Some y) q x m h = at (bytes_eq y x) refl h where
-  at : (t : Bool) → bytes_eq y x ≡ t → (if t then Some (meant names k (written e.draft.value)) else get bytes_eq names x) ≡ Some m → IsTarget means es x m.index
+  at : (t : Bool) → bytes_eq y x ≡ t → (if t then Some (meant names k (written e.draft.value)) else value_at names x) ≡ Some m → IsTarget means es x m.index
   at true s h =
       let same : meant names k (written e.draft.value) ≡ m = cc in
       let name : y ≡ x = (bytes_eq-Decides y x).0 s in
@@ -158,15 +158,15 @@ targets_more names means es k e all old there known (Some y) q x m h = at (bytes
   at false s h = old x m h
 
 -- behind none of the processes
-pub behind_none : {S : Type 0} (es : List Definition) (names : IndexMap (List ℕ) Meant S) → ((x : List ℕ) → get bytes_eq names x ≡ None) → AreBehind es 0 names
+pub behind_none : (es : List Definition) (names : KeptNames) → ((x : List ℕ) → value_at names x ≡ None) → AreBehind es 0 names
 behind_none es names empty = record {
   known = ([], refl, λ x. ap is_some (empty x));
   counted = (no_meaning, refl, λ x. subst (λ o. IsCounted o whole.nil) (sym (empty x)) refl);
-  targets = λ means all x m h. absurd (let no : get bytes_eq names x ≡ None = empty x in cc);
+  targets = λ means all x m h. absurd (let no : value_at names x ≡ None = empty x in cc);
 }
 
 -- behind one more
-pub behind_more : {S : Type 0} (es : List Definition) (k : ℕ) (e : Definition) (old new : IndexMap (List ℕ) Meant S) → AreBehind es k old → slice_get es k ≡ Some e → unknown_among old (calls (written e.draft.value)) ≡ None → ((x : List ℕ) → get bytes_eq new x ≡ kept_behind old k e.label (written e.draft.value) x) → AreBehind es (k + 1) new
+pub behind_more : (es : List Definition) (k : ℕ) (e : Definition) (old new : KeptNames) → AreBehind es k old → slice_get es k ≡ Some e → unknown_among old (calls (written e.draft.value)) ≡ None → ((x : List ℕ) → value_at new x ≡ kept_behind old k e.label (written e.draft.value) x) → AreBehind es (k + 1) new
 behind_more es k e old new h there known is =
     let rest : map body (drop k es) ≡ body e ∷ map body (drop (k + 1) es) = ap (map body) (drop_got es k e there) in
     let ks = h.known.0 in
@@ -187,14 +187,14 @@ behind_more es k e old new h there known is =
     }
 
 -- the first unknown name is that of the file
-pub behind_unknown : {S : Type 0} (es : List Definition) (k : ℕ) (e : Definition) (names : IndexMap (List ℕ) Meant S) → AreBehind es k names → slice_get es k ≡ Some e → (x : List ℕ) → unknown_among names (calls (written e.draft.value)) ≡ Some x → unknown_from [] (map body es) ≡ Some x
+pub behind_unknown : (es : List Definition) (k : ℕ) (e : Definition) (names : KeptNames) → AreBehind es k names → slice_get es k ≡ Some e → (x : List ℕ) → unknown_among names (calls (written e.draft.value)) ≡ Some x → unknown_from [] (map body es) ≡ Some x
 behind_unknown es k e names h there x is =
     let rest : map body (drop k es) ≡ body e ∷ map body (drop (k + 1) es) = ap (map body) (drop_got es k e there) in
     let ks = h.known.0 in
     h.known.1 ∙ ap (unknown_from ks) rest ∙ first_found (find (λ x. not (is_among ks x)) (calls (written e.draft.value))) (unknown_from (ks ++ listed e.label) (map body (drop (k + 1) es))) x (sym (unknown_same names ks (calls (written e.draft.value)) h.known.2) ∙ is)
 
 -- and so is the fault
-pub behind_fault : {S : Type 0} (es : List Definition) (k : ℕ) (e : Definition) (names : IndexMap (List ℕ) Meant S) → AreBehind es k names → slice_get es k ≡ Some e → (f : ReadFault) → option_map UnknownProcess (unknown_among names (calls (written e.draft.value))) ≡ Some f → option_map UnknownProcess (unknown_from [] (map body es)) ≡ Some f
+pub behind_fault : (es : List Definition) (k : ℕ) (e : Definition) (names : KeptNames) → AreBehind es k names → slice_get es k ≡ Some e → (f : ReadFault) → option_map UnknownProcess (unknown_among names (calls (written e.draft.value))) ≡ Some f → option_map UnknownProcess (unknown_from [] (map body es)) ≡ Some f
 behind_fault es k e names h there f is = by (unknown_among names (calls (written e.draft.value))) refl where
   by : (o : Option (List ℕ)) → unknown_among names (calls (written e.draft.value)) ≡ o → option_map UnknownProcess (unknown_from [] (map body es)) ≡ Some f
   by None q = absurd (let no_fault : option_map UnknownProcess (unknown_among names (calls (written e.draft.value))) ≡ None = ap (option_map UnknownProcess) q in cc)

@@ -1,8 +1,7 @@
 //! Names of processes: what is kept of each, and which are used before they are defined.
 ghost use Rattle.std.specs.Prelude.{◌≡◌, ℕ, List, [], map, None, Some, min, IfOk, OnOk, IsErrOf};
 ghost use Rattle.std.specs.Option.{option_copied, option_map};
-ghost use Rattle.std.specs.Str.{bytes_eq};
-ghost use Rattle.indexmap.specs.IndexMap.{get};
+ghost use Rattle.sap_terms.specs.NameMap.{value_at};
 ghost use Rattle.sap_read.specs.declared.fault.ReadFault.{ReadFault};
 ghost use Rattle.sap_read.specs.declared.fault.ReadFault.TheVariants.{Mem as OutOfMemory, UnknownProcess as IsUnknown};
 ghost use Rattle.sap_read.specs.Replaced.{calls};
@@ -13,9 +12,8 @@ ghost use Rattle.sap_read.specs.code.Meaning.{nodes_in, levels_in, unknown_among
 
 use crate::definition::Definition;
 use crate::fault::ReadFault;
-use indexmap::IndexMap;
 use sap_draft::Draft;
-use sap_terms::{Copied, Items, Mem, Name};
+use sap_terms::{Copied, Items, Mem, Name, NameMap};
 use std::alloc::Global;
 
 /// What is kept of a name: the index of the process that it stands for, which is no name itself, and the nodes and levels
@@ -28,7 +26,7 @@ pub(crate) struct Meant {
 }
 
 /// Names of processes that are defined.
-pub(crate) type Names = IndexMap<Name, Meant>;
+pub(crate) type Names = NameMap<Meant>;
 
 /// The nodes of the draft, its names replaced by what they stand for; from the greatest u64 on, that number. It takes no
 /// memory, and recurses as deep as the draft.
@@ -106,7 +104,7 @@ fn target(names: &Names, draft: &Draft, k: u64) -> u64
 // Keeps the name of the process at index k, if it has one.
 fn keep(alloc: Global, names: &mut Names, entry: &Definition, k: u64) -> Result<(), Mem>
     ensures { OnOk result ((x : List ℕ)
-        → get bytes_eq names.new x ≡ kept_behind names.old k entry.now.label
+        → value_at names.new x ≡ kept_behind names.old k entry.now.label
         (written entry.now.draft.value) x) }
 {
     let Some(label) = &entry.label else {
@@ -127,7 +125,7 @@ fn enter(alloc: Global, names: &mut Names, entry: &Definition, k: u64) -> Result
     ensures known { OnOk result (unknown_among names.old (calls
         (written entry.now.draft.value)) ≡ None) }
     ensures kept { OnOk result ((x : List ℕ)
-        → get bytes_eq names.new x ≡ kept_behind names.old k entry.now.label
+        → value_at names.new x ≡ kept_behind names.old k entry.now.label
         (written entry.now.draft.value) x) }
     ensures unknown { (e : ReadFault) → IsErrOf result e → (e ≡ OutOfMemory → ⊥)
         → option_map IsUnknown (unknown_among names.old (calls
@@ -138,7 +136,7 @@ fn enter(alloc: Global, names: &mut Names, entry: &Definition, k: u64) -> Result
 }
 
 /// The names of the processes; an error where a process has a name that none before it defines. It takes time in proportion
-/// to the processes as they are written.
+/// to the processes as they are written, where each name in them is looked for by its order.
 pub(crate) fn names_of(alloc: Global, entries: &Items<Definition>) -> Result<Names, ReadFault>
     ensures known { IfOk result (λ names. unknown_from [] (map body entries.now) ≡ None) }
     ensures counted { IfOk result (λ names. AreCounted names (meaning_of entries.now)) }
@@ -146,7 +144,7 @@ pub(crate) fn names_of(alloc: Global, entries: &Items<Definition>) -> Result<Nam
     ensures unknown { (e : ReadFault) → IsErrOf result e → (e ≡ OutOfMemory → ⊥)
         → option_map IsUnknown (unknown_from [] (map body entries.now)) ≡ Some e }
 {
-    let mut names = IndexMap::new(alloc);
+    let mut names = NameMap::new(alloc);
     for (k, entry) in entries.as_slice().iter().enumerate() {
         enter(alloc, &mut names, entry, k as u64)?;
     }

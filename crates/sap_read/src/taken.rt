@@ -9,10 +9,9 @@ ghost use Rattle.sap_read.specs.code.Bodies.{body};
 ghost use Rattle.sap_read.specs.code.Label.{name_there};
 
 use crate::definition::Definition;
-use indexmap::IndexSet;
 use sap_restrict::is_generated;
 use sap_statements::Statement;
-use sap_terms::{Copied, Items, Mem, Name, NameList};
+use sap_terms::{Copied, Items, Mem, Name, NameList, NameSet};
 use std::alloc::Global;
 
 // Puts the label last, if there is one.
@@ -49,34 +48,29 @@ fn statement_names(alloc: Global, statements: &Items<Statement>) -> Result<NameL
 }
 
 // Whether the name is taken: it is one of these, or, where those count, that of a generated restriction. It is one of these now.
-fn is_taken(
-    alloc: Global,
-    names: &mut IndexSet<Name>,
-    name: &Name,
-    generated: bool,
-) -> Result<bool, Mem>
+fn is_taken(names: &mut NameSet, name: &Name, generated: bool) -> Result<bool, Mem>
     ensures is { IfOk result (λ b. b ≡ ((generated && is_generated name.now)
-        || list_any (bytes_eq name.now) names.old.keys)) }
+        || list_any (bytes_eq name.now) names.old)) }
     ensures more { OnOk result ((x : List ℕ)
-        → list_any (bytes_eq x) names.new.keys ≡ (bytes_eq name.now x
-        || list_any (bytes_eq x) names.old.keys)) }
+        → list_any (bytes_eq x) names.new ≡ (bytes_eq name.now x
+        || list_any (bytes_eq x) names.old)) }
 {
-    let copy = name.copy(alloc)?;
-    let is_new = names.insert(copy)?;
+    let (_, is_new) = names.insert(name)?;
     Ok((generated && is_generated(name)) || !is_new)
 }
 
-// The index of the first of the names that is taken. It takes time in proportion to the list.
+// The index of the first of the names that is taken. It takes time in proportion to the list, where each name is looked for
+// among those behind it by its order.
 fn first_taken_at(alloc: Global, names: &NameList, generated: bool) -> Result<Option<u64>, Mem>
     ensures { IfOk result (λ k. first_taken (λ x. generated && is_generated x) names.now
         ≡ name_there names.now k) }
 {
-    let mut behind = IndexSet::new(alloc);
+    let mut behind = NameSet::new(alloc);
     let mut found = None;
     let mut k = names.len();
     while k > 0 {
         k -= 1;
-        if is_taken(alloc, &mut behind, names.at(k), generated)? {
+        if is_taken(&mut behind, names.at(k), generated)? {
             found = Some(k);
         }
     }
@@ -96,7 +90,8 @@ fn first_taken(alloc: Global, names: &NameList, generated: bool) -> Result<Optio
     }
 }
 
-/// The first name that another process behind it has too. It takes time in proportion to the list.
+/// The first name that another process behind it has too. It takes time in proportion to the list, where each name is looked for
+/// among those behind it by its order.
 pub(crate) fn first_repeated(
     alloc: Global,
     entries: &Items<Definition>,
@@ -108,7 +103,7 @@ pub(crate) fn first_repeated(
 }
 
 /// The first name of a restriction or lemma that another behind it has too, or a generated restriction. It takes time in
-/// proportion to the list.
+/// proportion to the list, where each name is looked for among those behind it by its order.
 pub(crate) fn first_reused(
     alloc: Global,
     statements: &Items<Statement>,

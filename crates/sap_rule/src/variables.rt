@@ -7,13 +7,15 @@ ghost use Rattle.sap_rewrite.specs.Around.{outer_vars, all_outer_vars};
 ghost use Rattle.sap_rule.specs.Variables.{facts_outer_vars, rule_vars, open_variables};
 
 use crate::Rule;
-use indexmap::IndexSet;
-use sap_terms::{Copied, FactList, Mem, Name, Signature, Term, TermList, Vars, push_facts_vars};
+use sap_terms::{
+    Copied, FactList, Mem, Name, NameSet, Signature, Term, TermList, Vars, push_facts_vars,
+};
 use std::alloc::Global;
 
 /// The open variables of a rule: those that stand nowhere on its left side outside a subterm that a destructor of the
 /// signature heads. They come in order of first occurrence over the left side, the acts and the right side. It takes
-/// time in proportion to the rule, and recurses as deep as its terms.
+/// time in proportion to the rule, where each name of a variable is looked for among the others by its order, and recurses as
+/// deep as its terms.
 pub fn open_vars(alloc: Global, sig: &Signature, r: &Rule) -> Result<Vars, Mem>
     ensures { IfOk result (λ vs. vs ≡ open_variables sig.now r.now) }
 {
@@ -23,8 +25,8 @@ pub fn open_vars(alloc: Global, sig: &Signature, r: &Rule) -> Result<Vars, Mem>
 }
 
 // The names of the variables that stand in these facts outside the subterms that a destructor heads.
-fn outer_names(alloc: Global, sig: &Signature, fs: &FactList) -> Result<IndexSet<Name>, Mem>
-    ensures { IfOk result (λ s. (n : List ℕ) → is_known s.keys n ≡ is_known (map (λ v. v.name) (facts_outer_vars sig.now fs.now)) n) }
+fn outer_names(alloc: Global, sig: &Signature, fs: &FactList) -> Result<NameSet, Mem>
+    ensures { IfOk result (λ s. (n : List ℕ) → is_known s n ≡ is_known (map (λ v. v.name) (facts_outer_vars sig.now fs.now)) n) }
 {
     let mut outer = Vars::new(alloc);
     push_facts_outer_vars(alloc, sig, fs, &mut outer)?;
@@ -43,33 +45,32 @@ pub(crate) fn vars_of(alloc: Global, r: &Rule) -> Result<Vars, Mem>
 }
 
 // Adds a name to the known ones; true where it wasn't known.
-fn note(alloc: Global, known: &mut IndexSet<Name>, name: &Name) -> Result<bool, Mem>
-    ensures new { IfOk result (λ r. r ≡ not (is_known known.old.keys name.now)) }
-    ensures keys { OnOk result (known.new.keys ≡ (if is_known known.old.keys name.now then known.old.keys else known.old.keys ++ name.now ∷ [])) }
+fn note(known: &mut NameSet, name: &Name) -> Result<bool, Mem>
+    ensures new { IfOk result (λ r. r ≡ not (is_known known.old name.now)) }
+    ensures keys { OnOk result (known.new ≡ (if is_known known.old name.now then known.old else known.old ++ name.now ∷ [])) }
 {
-    let name = name.copy(alloc)?;
-    let new = known.insert(name)?;
+    let (_, new) = known.insert(name)?;
     Ok(new)
 }
 
 // The names of these variables.
-fn names_of(alloc: Global, vars: &Vars) -> Result<IndexSet<Name>, Mem>
-    ensures { IfOk result (λ s. (n : List ℕ) → is_known s.keys n ≡ is_known (map (λ v. v.name) vars.now) n) }
+fn names_of(alloc: Global, vars: &Vars) -> Result<NameSet, Mem>
+    ensures { IfOk result (λ s. (n : List ℕ) → is_known s n ≡ is_known (map (λ v. v.name) vars.now) n) }
 {
-    let mut names = IndexSet::new(alloc);
+    let mut names = NameSet::new(alloc);
     for v in vars.as_slice() {
-        note(alloc, &mut names, &v.name)?;
+        note(&mut names, &v.name)?;
     }
     Ok(names)
 }
 
 // The first occurrences of variables whose names are not known.
-fn first_occurrences(alloc: Global, known: &mut IndexSet<Name>, vars: &Vars) -> Result<Vars, Mem>
-    ensures { IfOk result (λ out. out ≡ new_vars known.old.keys vars.now) }
+fn first_occurrences(alloc: Global, known: &mut NameSet, vars: &Vars) -> Result<Vars, Mem>
+    ensures { IfOk result (λ out. out ≡ new_vars known.old vars.now) }
 {
     let mut out = Vars::new(alloc);
     for v in vars.as_slice() {
-        if note(alloc, known, &v.name)? {
+        if note(known, &v.name)? {
             out.push(v.copy(alloc)?)?;
         }
     }

@@ -1,19 +1,19 @@
 //! Whether a rule can be run.
 ghost use Rattle.std.specs.Prelude.{◌≡◌, ◌↔◌, ℕ, List, All, IfOk, IsTrue, true, false, Some, if◌then◌else◌};
 ghost use Rattle.std.specs.Str.{bytes_eq};
-ghost use Rattle.indexmap.specs.IndexMap.{get};
+ghost use Rattle.sap_terms.specs.NameMap.{value_at};
 ghost use Rattle.sap_rewrite.specs.Match.{HaveOneSort};
 ghost use Rattle.sap_rule.specs.code.Checks.{IsOtherSort};
 ghost use Rattle.sap_rule.specs.WellMade.{IsSingle, IsKnowledge, IsLeftFact, IsRightFact, IsActFact, IsFactOver, IsRuleOver, IsWellShaped, IsWellMade};
 
 use crate::Rule;
 use crate::variables::vars_of;
-use indexmap::IndexMap;
-use sap_terms::{Copied, Fact, FactList, Mem, Name, Signature, Sort, Var, Vars};
+use sap_terms::{Copied, Fact, FactList, Mem, Name, NameMap, Signature, Sort, Var, Vars};
 use std::alloc::Global;
 
 /// Whether the rule can be run: it is over the signature and well-shaped. It takes time in proportion to the rule, where
-/// each symbol in it is looked for among those of the signature, and recurses as deep as its terms.
+/// each symbol in it is looked for among those of the signature and each variable among the others by the order of their names,
+/// and recurses as deep as its terms.
 pub fn is_well_made(alloc: Global, sig: &Signature, r: &Rule) -> Result<bool, Mem>
     ensures { IfOk result (λ b. IsTrue b ↔ IsWellMade sig.now r.now) }
 {
@@ -134,7 +134,7 @@ fn is_single(f: &Fact) -> bool
 fn have_one_sort(alloc: Global, vars: &Vars) -> Result<bool, Mem>
     ensures { IfOk result (λ b. IsTrue b ↔ HaveOneSort vars.now) }
 {
-    let mut sorts = IndexMap::new(alloc);
+    let mut sorts = NameMap::new(alloc);
     for v in vars.as_slice() {
         if !note_sort(alloc, &mut sorts, v)? {
             return Ok(false);
@@ -144,9 +144,9 @@ fn have_one_sort(alloc: Global, vars: &Vars) -> Result<bool, Mem>
 }
 
 // Notes the sort of the variable's name; false where another one is noted.
-fn note_sort(alloc: Global, sorts: &mut IndexMap<Name, Sort>, v: &Var) -> Result<bool, Mem>
-    ensures other { IfOk result (λ b. b ≡ false ↔ IsOtherSort (get bytes_eq sorts.old v.now.name) v.now.sort) }
-    ensures noted { IfOk result (λ b. b ≡ true → (n : List ℕ) → get bytes_eq sorts.new n ≡ (if bytes_eq v.now.name n then Some v.now.sort else get bytes_eq sorts.old n)) }
+fn note_sort(alloc: Global, sorts: &mut NameMap<Sort>, v: &Var) -> Result<bool, Mem>
+    ensures other { IfOk result (λ b. b ≡ false ↔ IsOtherSort (value_at sorts.old v.now.name) v.now.sort) }
+    ensures noted { IfOk result (λ b. b ≡ true → (n : List ℕ) → value_at sorts.new n ≡ (if bytes_eq v.now.name n then Some v.now.sort else value_at sorts.old n)) }
 {
     if let Some(s) = sorts.get(&v.name) {
         return Ok(*s == v.sort);

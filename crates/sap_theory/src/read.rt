@@ -25,7 +25,7 @@ use std::alloc::Global;
 /// and lemmas stand in the order of the bytes.
 ///
 /// The time is linear in the bytes, but for look-ups in the signature, of which each symbol in a term needs one; names of rules,
-/// restrictions and lemmas are found by their hashes.
+/// restrictions and lemmas are looked for by their order.
 pub fn read_theory(alloc: Global, bytes: &[u8]) -> Result<Theory, TheoryFault>
     ensures accepted { IfOk result (λ t. IsTheoryRead bytes.now (Ok t)) }
     ensures refused { (e : TheoryFault) → IsErrOf result e → (e ≡ OutOfMemory → ⊥)

@@ -2,9 +2,7 @@
 use Rattle.std.specs.Prelude.{ℕ, suc, ◌+◌, Bool, true, false, not, ◌&&◌, ◌||◌, List, [], ◌∷◌, ◌++◌, length, Option, Some, None, option_map, if◌then◌else◌, is_some, codes, nat_eq, nat_lt}
 use Rattle.std.specs.List.{list_any, starts_with}
 use Rattle.std.specs.Option.{option_map_or}
-use Rattle.std.specs.Map.{lookup}
-use Rattle.std.specs.Str.{bytes_eq}
-use Rattle.indexmap.specs.IndexMap.{insert_entry}
+use Rattle.sap_terms.specs.Named.{first_named}
 use Rattle.sap_terms.specs.Reserved.{is_reserved}
 use Rattle.sap_terms.specs.Same.{same_sort}
 use Rattle.sap_terms.specs.Signature.{Sig, arity_of, same_bool}
@@ -22,6 +20,7 @@ use Rattle.sap_process.specs.Flaws.{unbound, binder_of, scope_at}
 use Rattle.sap_process.specs.Proc.{Proc}
 use Rattle.sap_process.specs.declared.flaw.Flaw.{Flaw}
 use Rattle.sap_process.specs.declared.flaw.Flaw.TheVariants.{BadFunction, ReservedVar, ReservedFact, FactClash, PatternDestructor, Unbound, Rebound, SortClash, ScopeFull}
+use Rattle.sap_process.specs.declared.met.Noted.{Noted}
 use Rattle.sap_process.specs.declared.met.Shape.{Shape}
 use Rattle.sap_process.specs.declared.naming.Tested.{Tested}
 
@@ -45,7 +44,11 @@ shape_of both f = record { arity = length f.args; persistent = both && f.persist
 
 -- the shapes of the first facts of their names
 abbrev pub Shapes : Type 0
-Shapes = List (List ℕ × Shape)
+Shapes = List Noted
+
+-- the shape of the first of this name
+abbrev pub noted_shape : Shapes → List ℕ → Option Shape
+noted_shape met n = option_map (λ (x : Noted). x.shape) (first_named (λ (x : Noted). x.name) met n)
 
 abbrev pub is_shape : Shape → Shape → Bool
 is_shape a b = nat_eq a.arity b.arity && same_bool a.persistent b.persistent
@@ -57,7 +60,7 @@ is_other_shape (Some b) a = not (is_shape b a)
 
 -- the shape is noted, where none is noted for the name
 abbrev pub noted : Shapes → List ℕ → Shape → Shapes
-noted met n a = if is_some (lookup (bytes_eq n) met) then met else insert_entry bytes_eq met n a
+noted met n a = if is_some (noted_shape met n) then met else met ++ record { name = n; shape = a } ∷ []
 
 -- those of these facts, one after another
 abbrev pub noted_all : Bool → Shapes → List Fact → Shapes
@@ -68,7 +71,7 @@ noted_all both met (f ∷ fs) = noted_all both (noted met f.name (shape_of both 
 abbrev pub has_clash : Bool → Shapes → List Fact → Bool
 has_clash both met [] = false
 has_clash both met (f ∷ fs) =
-    is_other_shape (lookup (bytes_eq f.name) met) (shape_of both f) || has_clash both (noted met f.name (shape_of both f)) fs
+    is_other_shape (noted_shape met f.name) (shape_of both f) || has_clash both (noted met f.name (shape_of both f)) fs
 
 abbrev pub has_items : {X : Type 0} → List X → Bool
 has_items [] = false

@@ -1,7 +1,7 @@
 -- What names of processes mean, and what the program keeps of it.
 use Rattle.std.specs.Prelude.{◌≡◌, ℕ, ◌+◌, ◌-◌, ◌^◌, max, min, Bool, true, false, ⊤, List, [], ◌∷◌, Option, Some, None, if◌then◌else◌, map, drop, slice_get, is_some, nat_lt}
 use Rattle.std.specs.Str.{bytes_eq}
-use Rattle.indexmap.specs.IndexMap.{IndexMap, get}
+use Rattle.sap_terms.specs.NameMap.{value_at}
 use Rattle.sap_process.specs.Proc as whole
 use Rattle.sap_process.specs.Proc.{Proc, node_count, level_count}
 use Rattle.sap_read.specs.declared.definition.Definition.{Definition}
@@ -29,14 +29,18 @@ meaning_of es = meaning no_meaning (map body es)
 abbrev pub AreMeant : (List ℕ → Proc) → List Body → Type 0
 AreMeant means bs = (k : ℕ) (b : Body) (x : List ℕ) → slice_get bs k ≡ Some b → b.label ≡ Some x → means x ≡ replaced means b.content
 
+-- names with what is kept of each
+abbrev pub KeptNames : Type 0
+KeptNames = List (List ℕ × Meant)
+
 -- how many places a process has, where its names have as many as is kept of them; one of which nothing is kept has one
 abbrev pub nodes_kept : Option Meant → ℕ
 nodes_kept None = 1
 nodes_kept (Some m) = m.nodes
 
-abbrev pub nodes_in : {S : Type 0} → IndexMap (List ℕ) Meant S → Written → ℕ
+abbrev pub nodes_in : KeptNames → Written → ℕ
 nodes_in names nil = 1
-nodes_in names (call x) = nodes_kept (get bytes_eq names x)
+nodes_in names (call x) = nodes_kept (value_at names x)
 nodes_in names (parallel p q) = nodes_in names p + nodes_in names q + 1
 nodes_in names (replicated p) = nodes_in names p + 1
 nodes_in names (act a p) = nodes_in names p + 1
@@ -48,9 +52,9 @@ abbrev pub levels_kept : Option Meant → ℕ
 levels_kept None = 1
 levels_kept (Some m) = m.levels
 
-abbrev pub levels_in : {S : Type 0} → IndexMap (List ℕ) Meant S → Written → ℕ
+abbrev pub levels_in : KeptNames → Written → ℕ
 levels_in names nil = 1
-levels_in names (call x) = levels_kept (get bytes_eq names x)
+levels_in names (call x) = levels_kept (value_at names x)
 levels_in names (parallel p q) = max (levels_in names p) (levels_in names q) + 1
 levels_in names (replicated p) = levels_in names p + 1
 levels_in names (act a p) = levels_in names p + 1
@@ -58,18 +62,18 @@ levels_in names (test t u p q) = max (levels_in names p) (levels_in names q) + 1
 levels_in names (lookup t x p q) = max (levels_in names p) (levels_in names q) + 1
 
 -- the first of these names of which nothing is kept
-abbrev pub unknown_among : {S : Type 0} → IndexMap (List ℕ) Meant S → List (List ℕ) → Option (List ℕ)
+abbrev pub unknown_among : KeptNames → List (List ℕ) → Option (List ℕ)
 unknown_among names [] = None
-unknown_among names (x ∷ xs) = if is_some (get bytes_eq names x) then unknown_among names xs else Some x
+unknown_among names (x ∷ xs) = if is_some (value_at names x) then unknown_among names xs else Some x
 
 -- the index that is kept of the name that a process is, else this index
 abbrev pub index_kept : ℕ → Option Meant → ℕ
 index_kept k None = k
 index_kept k (Some m) = m.index
 
-abbrev pub target : {S : Type 0} → IndexMap (List ℕ) Meant S → ℕ → Written → ℕ
+abbrev pub target : KeptNames → ℕ → Written → ℕ
 target names k nil = k
-target names k (call x) = index_kept k (get bytes_eq names x)
+target names k (call x) = index_kept k (value_at names x)
 target names k (parallel p q) = k
 target names k (replicated p) = k
 target names k (act a p) = k
@@ -77,7 +81,7 @@ target names k (test t u p q) = k
 target names k (lookup t x p q) = k
 
 -- what is kept of the name of the process at this index
-abbrev pub meant : {S : Type 0} → IndexMap (List ℕ) Meant S → ℕ → Written → Meant
+abbrev pub meant : KeptNames → ℕ → Written → Meant
 meant names k w = record {
   index = target names k w;
   nodes = min (nodes_in names w) (2 ^ 64 - 1);
@@ -85,9 +89,9 @@ meant names k w = record {
 }
 
 -- what is kept of a name behind the process at this index
-abbrev pub kept_behind : {S : Type 0} → IndexMap (List ℕ) Meant S → ℕ → Option (List ℕ) → Written → List ℕ → Option Meant
-kept_behind names k None w x = get bytes_eq names x
-kept_behind names k (Some y) w x = if bytes_eq y x then Some (meant names k w) else get bytes_eq names x
+abbrev pub kept_behind : KeptNames → ℕ → Option (List ℕ) → Written → List ℕ → Option Meant
+kept_behind names k None w x = value_at names x
+kept_behind names k (Some y) w x = if bytes_eq y x then Some (meant names k w) else value_at names x
 
 -- what is kept of a name counts what the name means
 abbrev pub IsCounted : Option Meant → Proc → Type 0
@@ -126,18 +130,18 @@ abbrev pub IsTarget : (List ℕ → Proc) → List Definition → List ℕ → �
 IsTarget means es x k = (e : Definition) × (slice_get es k ≡ Some e) × (is_call (written e.draft.value) ≡ false) × (means x ≡ replaced means (written e.draft.value))
 
 -- what is kept of names counts what they mean
-abbrev pub AreCounted : {S : Type 0} → IndexMap (List ℕ) Meant S → (List ℕ → Proc) → Type 0
-AreCounted names means = (x : List ℕ) → IsCounted (get bytes_eq names x) (means x)
+abbrev pub AreCounted : KeptNames → (List ℕ → Proc) → Type 0
+AreCounted names means = (x : List ℕ) → IsCounted (value_at names x) (means x)
 
 -- each name of which something is kept has its target, if each means what its process is
-abbrev pub AreTargets : {S : Type 0} → List Definition → IndexMap (List ℕ) Meant S → Type 0
+abbrev pub AreTargets : List Definition → KeptNames → Type 0
 AreTargets es names =
-    (means : List ℕ → Proc) → AreMeant means (map body es) → (x : List ℕ) (m : Meant) → get bytes_eq names x ≡ Some m → IsTarget means es x m.index
+    (means : List ℕ → Proc) → AreMeant means (map body es) → (x : List ℕ) (m : Meant) → value_at names x ≡ Some m → IsTarget means es x m.index
 
 -- what is kept of names behind the first processes of a file
-pub record AreBehind {S : Type 0} (es : List Definition) (k : ℕ) (names : IndexMap (List ℕ) Meant S) : Type 0 where
+pub record AreBehind (es : List Definition) (k : ℕ) (names : KeptNames) : Type 0 where
   -- of the names that they define; the first unknown name of the file is the first behind them
-  pub known : (ks : List (List ℕ)) × (unknown_from [] (map body es) ≡ unknown_from ks (map body (drop k es))) × ((x : List ℕ) → is_some (get bytes_eq names x) ≡ is_among ks x)
+  pub known : (ks : List (List ℕ)) × (unknown_from [] (map body es) ≡ unknown_from ks (map body (drop k es))) × ((x : List ℕ) → is_some (value_at names x) ≡ is_among ks x)
   -- it counts what they mean there
   pub counted : (means : List ℕ → Proc) × (meaning_of es ≡ meaning means (map body (drop k es))) × AreCounted names means
   -- and each has its target
@@ -148,8 +152,8 @@ abbrev pub IsExpanded : List Definition → List ℕ → Option Meant → Type 0
 IsExpanded es x None = meaning_of es x ≡ whole.nil
 IsExpanded es x (Some m) = IsTarget (meaning_of es) es x m.index
 
-abbrev pub AreExpanded : {S : Type 0} → List Definition → IndexMap (List ℕ) Meant S → Type 0
-AreExpanded es names = (x : List ℕ) → IsExpanded es x (get bytes_eq names x)
+abbrev pub AreExpanded : List Definition → KeptNames → Type 0
+AreExpanded es names = (x : List ℕ) → IsExpanded es x (value_at names x)
 
 -- the cause that a process of so many places and levels gives
 abbrev pub size_fault : ℕ → ℕ → Option ReadFault

@@ -8,10 +8,9 @@ ghost use Rattle.sap_theory.specs.declared.fault.TheoryFault.{TheoryFault};
 ghost use Rattle.sap_theory.specs.declared.fault.TheoryFault.TheVariants.{Mem as OutOfMemory, DuplicateName as IsDuplicate, FunctionClash as IsClash};
 
 use crate::fault::TheoryFault;
-use indexmap::IndexSet;
 use sap_rule::RuleList;
 use sap_statements::Statement;
-use sap_terms::{Copied, Items, Mem, Name, NameList};
+use sap_terms::{Copied, Items, Mem, Name, NameList, NameSet};
 use std::alloc::Global;
 
 // The names of rules, in order.
@@ -37,27 +36,27 @@ fn statement_names(alloc: Global, statements: &Items<Statement>) -> Result<NameL
 }
 
 // Whether the name is one of these. It is one of them now.
-fn is_repeated(alloc: Global, names: &mut IndexSet<Name>, name: &Name) -> Result<bool, Mem>
-    ensures is { IfOk result (λ b. b ≡ list_any (bytes_eq name.now) names.old.keys) }
+fn is_repeated(names: &mut NameSet, name: &Name) -> Result<bool, Mem>
+    ensures is { IfOk result (λ b. b ≡ list_any (bytes_eq name.now) names.old) }
     ensures more { OnOk result ((x : List ℕ)
-        → list_any (bytes_eq x) names.new.keys ≡ (bytes_eq name.now x
-        || list_any (bytes_eq x) names.old.keys)) }
+        → list_any (bytes_eq x) names.new ≡ (bytes_eq name.now x
+        || list_any (bytes_eq x) names.old)) }
 {
-    let copy = name.copy(alloc)?;
-    let is_new = names.insert(copy)?;
+    let (_, is_new) = names.insert(name)?;
     Ok(!is_new)
 }
 
-// The index of the first of the names that stands again behind it. It takes time in proportion to the list.
+// The index of the first of the names that stands again behind it. It takes time in proportion to the list, where
+// each name is looked for among those behind it by its order.
 fn first_repeated_at(alloc: Global, names: &NameList) -> Result<Option<u64>, Mem>
     ensures { IfOk result (λ k. first_repeated names.now ≡ name_there names.now k) }
 {
-    let mut behind = IndexSet::new(alloc);
+    let mut behind = NameSet::new(alloc);
     let mut found = None;
     let mut k = names.len();
     while k > 0 {
         k -= 1;
-        if is_repeated(alloc, &mut behind, names.at(k))? {
+        if is_repeated(&mut behind, names.at(k))? {
             found = Some(k);
         }
     }
@@ -93,7 +92,7 @@ fn shared(
     first_repeated(alloc, &names)
 }
 
-/// Refuses a name that is shared. It takes time in proportion to the lists, whose names are found by their hashes.
+/// Refuses a name that is shared. It takes time in proportion to the lists, whose names are found by their order.
 pub(crate) fn check_names(
     alloc: Global,
     rules: &RuleList,

@@ -7,7 +7,7 @@ use Rattle.sap_read.proofs.Kept.{behind_none, behind_more, behind_fault}
 use Rattle.sap_read.proofs.names.names_of.Goals as goal
 
 pub loop-k-init : goal.loop-k-init
-loop-k-init c = behind_none c.args.entries.now c.new-names.result (λ x. rw c.new-names.ensures.empty)
+loop-k-init c = behind_none c.args.entries.now c.new-names.result (λ x. rw c.new-names.ensures refl)
 
 -- the entry there
 entry_at : (es xs : List Definition) (k : ℕ) (e : Definition) → xs ≡ es → k < length xs → e ≡ get_or xs k e → slice_get es k ≡ Some e

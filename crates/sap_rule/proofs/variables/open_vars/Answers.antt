@@ -13,4 +13,4 @@ opened (Err e) ks all whole outer w h is = tt
 
 pub returns : goal.returns
 returns c =
-    opened c.first_occurrences.result c.in_ok-known.known.keys c.in_ok-all.all (rule_vars c.args.r.now) (facts_outer_vars c.args.sig.now c.args.r.now.left) c.in_ok-all.ensures c.in_ok-known.ensures c.first_occurrences.ensures
+    opened c.first_occurrences.result c.in_ok-known.known c.in_ok-all.all (rule_vars c.args.r.now) (facts_outer_vars c.args.sig.now c.args.r.now.left) c.in_ok-all.ensures c.in_ok-known.ensures c.first_occurrences.ensures

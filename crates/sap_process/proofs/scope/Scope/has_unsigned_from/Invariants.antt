@@ -7,4 +7,4 @@ use Rattle.sap_process.proofs.scope.Scope.has_unsigned_from.Given as goal
 
 abbrev pub invariant-loop-k : goal.invariant-loop-k
 invariant-loop-k l =
-    list_any (λ (v : Var). not (same_sort v.sort Pub)) (drop l.first l.self) ≡ list_any (λ (v : Var). not (same_sort v.sort Pub)) (drop l.k l.self)
+    list_any (λ (v : Var). not (same_sort v.sort Pub)) (drop l.first l.vars) ≡ list_any (λ (v : Var). not (same_sort v.sort Pub)) (drop l.k l.vars)
