@@ -1,6 +1,7 @@
 -- The bytes of a run, which are read in pieces, and what is answered of them.
-use Rattle.std.specs.Prelude.{◌≡◌, ◌≤◌, ◌<◌, ◌+◌, ℕ, min, List, [], ◌++◌, length, Option, None, Some, IsSomeAnd, Result, Ok, Err}
+use Rattle.std.specs.Prelude.{◌≡◌, ◌≢◌, ◌≤◌, ◌<◌, ◌+◌, ◌⊎◌, ℕ, min, List, [], ◌∷◌, ◌++◌, length, All, Option, None, Some, IsSomeAnd, Result, Ok, Err}
 use Rattle.std.specs.FinMap as map
+use Rattle.std.specs.List.{concat}
 use Rattle.sap_run_texts.specs.declared.run.Kinds.{Kinds}
 use Rattle.sap_run_texts.specs.declared.run.Run.{Run}
 use Rattle.sap_run_texts.specs.declared.run_fault.RunFault.TheVariants as fault
@@ -8,7 +9,8 @@ use Rattle.sap_run_texts.specs.declared.limits.TheConstants.{MOST_PROCESS_STEPS,
 use Rattle.sap_run_texts.specs.RunTexts.{IsHeaded, process_head, rule_head, IsRunRead}
 use Rattle.sap_outside.specs.declared.run_refusal.RunRefusal.{RunRefusal}
 use Rattle.sap_outside.specs.declared.run_refusal.RunRefusal.TheVariants as refusal
-use Rattle.sap_outside.specs.Outside.{Files, piece_bytes, more}
+use Rattle.sap_outside.specs.Outside.{Files, piece_bytes}
+use Rattle.sap_outside.specs.Requests.{Request, Requested, for_run}
 
 -- how many bytes a run may have
 abbrev pub most_run_bytes : ℕ
@@ -37,20 +39,32 @@ abbrev pub may_come : Option Files → List ℕ → ℕ
 may_come None name = most_run_bytes
 may_come (Some files) name = min most_run_bytes (held_length (map.get files name))
 
--- reading the run of this name may give these bytes, and the shelf was asked as often as opening it and its pieces allow, where
--- each piece but the last has a byte: once at least, and at most as often as there are bytes and twice more
-pub record WasRead (holds : Option Files) (name : List ℕ) (asked_before asked_after : Option ℕ) (z : List ℕ) : Type 0 where
-  pub joined : IsJoined holds name z
-  pub nexts : ℕ
-  pub few : nexts ≤ length z + 1
-  pub asked : asked_after ≡ more (nexts + 1) asked_before
+-- the pieces of a run as they were given: each has so many bytes at most, each but the last has some, and all but the last are no more
+-- than a run may have; the last one is empty, or with it they are more
+pub record ArePieces (pieces : List (List ℕ)) : Type 0 where
+  pub before : List (List ℕ)
+  pub last : List ℕ
+  pub parted : pieces ≡ before ++ last ∷ []
+  pub small : All (λ (piece : List ℕ). length piece ≤ piece_bytes) pieces
+  pub some : All (λ (piece : List ℕ). piece ≢ []) before
+  pub within : length (concat before) ≤ most_run_bytes
+  pub ends : (last ≡ []) ⊎ (most_run_bytes < length (concat pieces))
 
--- reading the run of this name was given up, and the shelf was asked as often as opening it and its pieces allow, where each
--- piece but the last has a byte
-pub record WasGivenUp (holds : Option Files) (name : List ℕ) (asked_before asked_after : Option ℕ) : Type 0 where
+-- reading the run of this name may give these bytes, and behind the first of these requests the shelf was asked to open it, once, and
+-- for the pieces of these bytes, and for nothing else
+pub record WasRead (holds : Option Files) (name : List ℕ) (first : List Request) (asked_before asked_after : Option (List Request)) (z : List ℕ) : Type 0 where
+  pub joined : IsJoined holds name z
+  pub pieces : List (List ℕ)
+  pub are : ArePieces pieces
+  pub whole : z ≡ concat pieces
+  pub asked : Requested (first ++ for_run name (length pieces)) asked_before asked_after
+
+-- reading the run of this name was given up, and behind the first of these requests the shelf was asked to open it, once, for pieces, one
+-- more at most than bytes may have come, and for nothing else
+pub record WasGivenUp (holds : Option Files) (name : List ℕ) (first : List Request) (asked_before asked_after : Option (List Request)) : Type 0 where
   pub nexts : ℕ
   pub few : nexts ≤ may_come holds name + 1
-  pub asked : asked_after ≡ more (nexts + 1) asked_before
+  pub asked : Requested (first ++ for_run name nexts) asked_before asked_after
 
 -- what is answered of these bytes, where runs of this kind are asked for: the run; or why they are none, which is that they are
 -- too many, whatever else is wrong, or what their reader says, and for too many steps how many a run of its kind may have

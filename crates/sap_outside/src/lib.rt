@@ -1,6 +1,7 @@
 //! Where the program reads from and writes to: shelves, from which a run is read in pieces, and sinks, on which a text is put in pieces.
 #![tactic(auto)]
 
+mod asked;
 mod file_shelf;
 mod laws;
 mod mem_shelf;
@@ -13,8 +14,9 @@ mod sink;
 mod stream_sink;
 mod tally;
 
+pub use asked::Asked;
 pub use file_shelf::FileShelf;
-pub use laws::calls_by_hand;
+pub use laws::{calls_by_hand, requests_are_joined};
 pub use mem_shelf::MemShelf;
 pub use mem_sink::MemSink;
 pub use pieces::put_pieces;

@@ -1,9 +1,13 @@
 //! Files in memory, as a shelf that fails when it is told to.
-ghost use Rattle.std.specs.Prelude.{◌≡◌, ◌≤◌, ◌+◌, ◌-◌, ◌^◌, ◌++◌, ◌↔◌, ◌⊎◌, [], length, take, min, Contains, IsNone, IsSome, IsSomeAnd, IfOk, IfErr, IsErrOf, MatchOption, OnOk, OnErr, None, Some, option_map, string_bytes};
+ghost use Rattle.std.specs.Prelude.{◌≡◌, ◌≤◌, ◌+◌, ◌-◌, ◌^◌, ◌++◌, ◌↔◌, ◌⊎◌, [], ◌∷◌, length, take, min, Contains, IsNone, IsSome, IsSomeAnd, IfOk, IfErr, IsErrOf, MatchOption, OnOk, OnErr, None, Some, option_map, string_bytes};
 ghost use Rattle.std.specs.FinMap as map;
 ghost use Rattle.std.specs.Option.{ForNone};
-ghost use Rattle.sap_outside.specs.Outside.{Rose, IsFetched, IsWholeFile, IsNextPart, files_of, one_more};
+ghost use Rattle.sap_outside.specs.Outside.{Rose, IsFetched, IsWholeFile, IsNextPart, files_of};
+ghost use Rattle.sap_outside.specs.Requests.{Request, Requested};
+ghost use Rattle.sap_outside.specs.Requests as request;
+ghost use Rattle.sap_outside.specs.Asked.{request_of, told_of};
 
+use crate::asked::{Asked, noted};
 use crate::{Shelf, ShelfFault};
 use std::alloc::{AllocError, Global};
 use std::collections::BTreeMap;
@@ -16,6 +20,8 @@ pub struct MemShelf {
     pub files: BTreeMap<String, Vec<u8>>,
     /// The numbers, from 1, of the calls that fail.
     pub fail_on: Vec<u64>,
+    /// What it was asked for, the first request first; none from where there was no memory to note one.
+    pub requests: Option<Vec<Asked>>,
     /// How many calls there were; it stops at the greatest u64.
     pub calls: u64,
     /// How many of them failed; it stops at the greatest u64.
@@ -31,11 +37,28 @@ pub struct MemShelf {
 }
 
 impl MemShelf {
+    // Notes what it is asked for, and counts the call.
+    fn note(&mut self, more: Result<Asked, AllocError>)
+        ensures noted { (r : Request) → IfOk more (λ asked. request_of asked ≡ r)
+            → Requested (r ∷ []) (told_of self.old.requests) (told_of self.new.requests) }
+        ensures calls { self.new.calls ≡ min (self.old.calls + 1) (2 ^ 64 - 1) }
+        ensures files { self.new.files ≡ self.old.files }
+        ensures list { self.new.fail_on.items ≡ self.old.fail_on.items }
+        ensures name { self.new.name ≡ self.old.name }
+        ensures rest { self.new.rest.items ≡ self.old.rest.items }
+        ensures count { self.new.count ≡ self.old.count }
+        ensures piece { self.new.piece ≡ self.old.piece }
+    {
+        self.requests = noted(self.requests.take(), more);
+        self.calls = self.calls.saturating_add(1);
+    }
+
     // Closes the open file.
     fn close(&mut self)
         ensures shut { (self.new.name ≡ None) × (self.new.rest.items ≡ []) }
         ensures files { self.new.files ≡ self.old.files }
         ensures list { self.new.fail_on.items ≡ self.old.fail_on.items }
+        ensures requests { self.new.requests ≡ self.old.requests }
         ensures calls { self.new.calls ≡ self.old.calls }
         ensures count { self.new.count ≡ self.old.count }
         ensures piece { self.new.piece ≡ self.old.piece }
@@ -49,6 +72,7 @@ impl MemShelf {
         ensures shut { (self.new.name ≡ None) × (self.new.rest.items ≡ []) }
         ensures files { self.new.files ≡ self.old.files }
         ensures list { self.new.fail_on.items ≡ self.old.fail_on.items }
+        ensures requests { self.new.requests ≡ self.old.requests }
         ensures calls { self.new.calls ≡ self.old.calls }
         ensures count { self.new.count ≡ min (self.old.count + 1) (2 ^ 64 - 1) }
         ensures later { self.old.count ≤ self.new.count }
@@ -67,6 +91,7 @@ impl MemShelf {
         ensures files { self.new.files ≡ self.old.files }
         ensures list { self.new.fail_on.items ≡ self.old.fail_on.items }
         ensures name { self.new.name ≡ self.old.name }
+        ensures requests { self.new.requests ≡ self.old.requests }
         ensures calls { self.new.calls ≡ self.old.calls }
         ensures count { self.new.count ≡ self.old.count }
         ensures piece { self.new.piece ≡ self.old.piece }
@@ -120,7 +145,7 @@ impl Shelf for MemShelf {
 
     ghost faults = { λ s _. s.count };
 
-    ghost asked = { λ s. Some s.calls };
+    ghost asked = { λ s. told_of s.requests };
 
     ghost opened = { λ s. option_map string_bytes s.name };
 
@@ -132,7 +157,7 @@ impl Shelf for MemShelf {
         ensures most { IfOk result (λ v. length v.items ≤ limit + 1) }
         ensures told { IfOk result (λ v. IsFetched (Some (files_of self.old.files)) name.now limit v.items) }
         ensures same { self.new.files ≡ self.old.files }
-        ensures asked { Some self.new.calls ≡ one_more (Some self.old.calls) }
+        ensures asked { Requested (request.fetch name.now limit ∷ []) (told_of self.old.requests) (told_of self.new.requests) }
         ensures later { self.old.count ≤ self.new.count }
         ensures cause { IsErrOf result ShelfFault.Failed → Rose self.old.count self.new.count }
         ensures calls { self.new.calls ≡ min (self.old.calls + 1) (2 ^ 64 - 1) }
@@ -145,7 +170,7 @@ impl Shelf for MemShelf {
         ensures kept { (self.new.name ≡ self.old.name) × (self.new.rest.items ≡ self.old.rest.items) }
         ensures piece { self.new.piece ≡ self.old.piece }
     {
-        self.calls = self.calls.saturating_add(1);
+        self.note(Asked::fetch(alloc, name, limit));
         match file_of_call(&self.files, &self.fail_on, self.calls, name) {
             None => {
                 self.count = self.count.saturating_add(1);
@@ -161,7 +186,7 @@ impl Shelf for MemShelf {
         ensures told { OnOk result (IsWholeFile (Some (files_of self.old.files)) name.now (Some self.new.rest.items)) }
         ensures shut { OnErr result (option_map string_bytes self.new.name ≡ None) }
         ensures same { self.new.files ≡ self.old.files }
-        ensures asked { Some self.new.calls ≡ one_more (Some self.old.calls) }
+        ensures asked { Requested (request.begin name.now ∷ []) (told_of self.old.requests) (told_of self.new.requests) }
         ensures later { self.old.count ≤ self.new.count }
         ensures cause { IsErrOf result ShelfFault.Failed → Rose self.old.count self.new.count }
         ensures calls { self.new.calls ≡ min (self.old.calls + 1) (2 ^ 64 - 1) }
@@ -174,7 +199,7 @@ impl Shelf for MemShelf {
         ensures piece { self.new.piece ≡ self.old.piece }
     {
         self.close();
-        self.calls = self.calls.saturating_add(1);
+        self.note(Asked::begin(alloc, name));
         match file_of_call(&self.files, &self.fail_on, self.calls, name) {
             None => {
                 self.count = self.count.saturating_add(1);
@@ -202,7 +227,7 @@ impl Shelf for MemShelf {
             → (option_map string_bytes self.new.name ≡ option_map string_bytes self.old.name)
             × (Some self.new.rest.items ≡ Some self.old.rest.items) }
         ensures same { self.new.files ≡ self.old.files }
-        ensures asked { Some self.new.calls ≡ one_more (Some self.old.calls) }
+        ensures asked { Requested (request.next most ∷ []) (told_of self.old.requests) (told_of self.new.requests) }
         ensures later { self.old.count ≤ self.new.count }
         ensures cause { IsErrOf result ShelfFault.Failed
             → IsSomeAnd (option_map string_bytes self.old.name) (λ name. Rose self.old.count self.new.count) }
@@ -216,7 +241,7 @@ impl Shelf for MemShelf {
         ensures mem_count { IsErrOf result ShelfFault.Mem → self.new.count ≡ self.old.count }
         ensures piece { self.new.piece ≡ self.old.piece }
     {
-        self.calls = self.calls.saturating_add(1);
+        self.note(Ok(Asked::Next { most }));
         if self.name.is_some() && self.fail_on.contains(&self.calls) {
             self.fail();
             return Err(ShelfFault::Failed);

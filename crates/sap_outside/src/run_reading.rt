@@ -1,10 +1,12 @@
 //! Runs read from a shelf, in pieces.
-ghost use Rattle.std.specs.Prelude.{◌≡◌, ◌≤◌, ◌+◌, ◌↔◌, ℕ, List, Err, length, slice_get, Option, OnOk, OnErr, IfOk, IsErrOf, IsTrue, IsSomeAnd, Some};
+ghost use Rattle.std.specs.Prelude.{◌≡◌, ◌≤◌, ◌+◌, ◌↔◌, ℕ, List, [], ◌∷◌, Err, length, slice_get, Option, OnOk, OnErr, IfOk, IsErrOf, IsTrue, IsSomeAnd, Some};
 ghost use Rattle.sap_run_texts.specs.RunReading.{StandsFor};
 ghost use Rattle.sap_run_texts.specs.RunTexts.{IsRunRead};
 ghost use Rattle.sap_run_texts.specs.declared.run_fault.RunFault.TheVariants as fault;
 ghost use Rattle.sap_outside.specs.declared.run_refusal.RunRefusal.TheVariants as refusal;
-ghost use Rattle.sap_outside.specs.Outside.{Files, Rose, IsWholeFile, one_more};
+ghost use Rattle.sap_outside.specs.Outside.{Files, Rose, IsWholeFile, piece_bytes};
+ghost use Rattle.sap_outside.specs.Requests.{Request, Requested};
+ghost use Rattle.sap_outside.specs.Requests as request;
 ghost use Rattle.sap_outside.specs.RunPieces.{most_run_bytes, IsRunAnswer, WasRead, WasGivenUp};
 ghost use Rattle.sap_outside.specs.code.RunFed.{IsTallyOf, IsPieceFed, IsRunFed, WasAsked, may_come_of};
 
@@ -29,10 +31,10 @@ pub fn read_run<S: Shelf>(
     kinds: Kinds,
 ) -> Result<Result<Run, RunRefusal>, ShelfFault>
     ensures told { IfOk result (λ answer. (z : List ℕ)
-        × WasRead (S.holds shelf.old) name.now (S.asked shelf.old) (S.asked shelf.new) z
+        × WasRead (S.holds shelf.old) name.now [] (S.asked shelf.old) (S.asked shelf.new) z
         × IsRunAnswer kinds z answer) }
     ensures given_up { OnErr result
-        (WasGivenUp (S.holds shelf.old) name.now (S.asked shelf.old) (S.asked shelf.new)) }
+        (WasGivenUp (S.holds shelf.old) name.now [] (S.asked shelf.old) (S.asked shelf.new)) }
     ensures opened { OnOk result (S.opened shelf.new ≡ Some name.now) }
     ensures same { S.holds shelf.new ≡ S.holds shelf.old }
     ensures later { (n : List ℕ) → S.faults shelf.old n ≤ S.faults shelf.new n }
@@ -49,13 +51,15 @@ fn read_open<S: Shelf>(
     shelf: &mut S,
     kinds: Kinds,
 ) -> Result<Result<Run, RunRefusal>, ShelfFault>
-    ensures told { (holds : Option Files) → (name : List ℕ) → (before : Option ℕ)
-        → IsWholeFile holds name (S.rest shelf.old) → S.asked shelf.old ≡ one_more before
+    ensures told { (holds : Option Files) → (name : List ℕ) → (before : Option (List Request))
+        → IsWholeFile holds name (S.rest shelf.old)
+        → Requested (request.begin name ∷ []) before (S.asked shelf.old)
         → IfOk result (λ answer. (z : List ℕ)
-        × WasRead holds name before (S.asked shelf.new) z × IsRunAnswer kinds z answer) }
-    ensures given_up { (holds : Option Files) → (name : List ℕ) → (before : Option ℕ)
-        → IsWholeFile holds name (S.rest shelf.old) → S.asked shelf.old ≡ one_more before
-        → OnErr result (WasGivenUp holds name before (S.asked shelf.new)) }
+        × WasRead holds name [] before (S.asked shelf.new) z × IsRunAnswer kinds z answer) }
+    ensures given_up { (holds : Option Files) → (name : List ℕ) → (before : Option (List Request))
+        → IsWholeFile holds name (S.rest shelf.old)
+        → Requested (request.begin name ∷ []) before (S.asked shelf.old)
+        → OnErr result (WasGivenUp holds name [] before (S.asked shelf.new)) }
     ensures opened { OnOk result (S.opened shelf.new ≡ S.opened shelf.old) }
     ensures same { S.holds shelf.new ≡ S.holds shelf.old }
     ensures later { (n : List ℕ) → S.faults shelf.old n ≤ S.faults shelf.new n }
@@ -74,8 +78,8 @@ fn feed_pieces<S: Shelf>(
     shelf: &mut S,
     reader: &mut RunReader,
 ) -> Result<Tally, ShelfFault>
-    ensures fed { IfOk result (λ t. IsRunFed (S.rest shelf.old) reader.old reader.new t.given t.first) }
-    ensures asked { IfOk result (λ t. WasAsked (t.given + 1) (S.asked shelf.old) (S.asked shelf.new)) }
+    ensures fed { IfOk result (λ t. IsRunFed (S.rest shelf.old) reader.old reader.new t.given t.first
+        (S.asked shelf.old) (S.asked shelf.new)) }
     ensures given_up { OnErr result
         (WasAsked (may_come_of (S.rest shelf.old) + 1) (S.asked shelf.old) (S.asked shelf.new)) }
     ensures opened { OnOk result (S.opened shelf.new ≡ S.opened shelf.old) }
@@ -107,7 +111,7 @@ fn feed_piece<S: Shelf>(
         tally.given tally.first next.given next.first) }
     ensures opened { OnOk result (S.opened shelf.new ≡ S.opened shelf.old) }
     ensures same { S.holds shelf.new ≡ S.holds shelf.old }
-    ensures asked { S.asked shelf.new ≡ one_more (S.asked shelf.old) }
+    ensures asked { Requested (request.next piece_bytes ∷ []) (S.asked shelf.old) (S.asked shelf.new) }
     ensures later { (n : List ℕ) → S.faults shelf.old n ≤ S.faults shelf.new n }
     ensures cause { IsErrOf result ShelfFault.Failed
         → IsSomeAnd (S.opened shelf.old) (λ name. Rose (S.faults shelf.old name) (S.faults shelf.new name)) }
@@ -126,7 +130,6 @@ fn answer(
     requires { reader.kinds ≡ kinds }
     ensures told { (z : List ℕ) → StandsFor reader z → IsTallyOf z tally.given tally.first
         → IfOk result (IsRunAnswer kinds z) }
-    ensures short { OnErr result (tally.given ≤ most_run_bytes) }
     ensures sound { IsErrOf result ShelfFault.Failed → ⊥ }
 {
     if tally.given > MOST_RUN_BYTES {

@@ -1,7 +1,9 @@
 //! Shelves: where files are fetched from, whole or piece by piece.
-ghost use Rattle.std.specs.Prelude.{◌≡◌, ◌≤◌, ◌+◌, ℕ, List, [], length, IfOk, OnOk, OnErr, IsErrOf, Option, None, Some, IsSomeAnd};
+ghost use Rattle.std.specs.Prelude.{◌≡◌, ◌≤◌, ◌+◌, ℕ, List, [], ◌∷◌, length, IfOk, OnOk, OnErr, IsErrOf, Option, None, Some, IsSomeAnd};
 ghost use Rattle.sap_outside.specs.declared.shelf.ShelfFault.TheVariants.{Mem};
-ghost use Rattle.sap_outside.specs.Outside.{Rose, IsFetched, IsWholeFile, IsNextPart, Files, one_more};
+ghost use Rattle.sap_outside.specs.Outside.{Rose, IsFetched, IsWholeFile, IsNextPart, Files};
+ghost use Rattle.sap_outside.specs.Requests.{Request, Requested};
+ghost use Rattle.sap_outside.specs.Requests as request;
 
 use sap_terms::Mem as OutOfMemory;
 use std::alloc::{AllocError, AllocFailed, Global};
@@ -47,8 +49,9 @@ pub trait Shelf {
     /// A count that rises each time the file of a name fails, and may rise otherwise; it stops at the greatest u64.
     ghost faults: { Self → List ℕ → ℕ };
 
-    /// How many calls there were, where it tells; it stops at the greatest u64.
-    ghost asked: { Self → Option ℕ };
+    /// The list of what it was asked for, the first request first, where it tells that. It may stop to tell it, and doesn't begin
+    /// anew.
+    ghost asked: { Self → Option (List Request) };
 
     /// The name of the file that is open, where one is.
     ghost opened: { Self → Option (List ℕ) };
@@ -65,7 +68,7 @@ pub trait Shelf {
         ensures told { IfOk result (λ v. IsFetched (holds self.old) name.now limit v.items) }
         ensures kept { (opened self.new ≡ opened self.old) × (rest self.new ≡ rest self.old) }
         ensures same { holds self.new ≡ holds self.old }
-        ensures asked { asked self.new ≡ one_more (asked self.old) }
+        ensures asked { Requested (request.fetch name.now limit ∷ []) (asked self.old) (asked self.new) }
         ensures later { (n : List ℕ) → faults self.old n ≤ faults self.new n }
         ensures cause { IsErrOf result ShelfFault.Failed → Rose (faults self.old name.now) (faults self.new name.now) };
 
@@ -76,7 +79,7 @@ pub trait Shelf {
         ensures told { OnOk result (IsWholeFile (holds self.old) name.now (rest self.new)) }
         ensures shut { OnErr result (opened self.new ≡ None) }
         ensures same { holds self.new ≡ holds self.old }
-        ensures asked { asked self.new ≡ one_more (asked self.old) }
+        ensures asked { Requested (request.begin name.now ∷ []) (asked self.old) (asked self.new) }
         ensures later { (n : List ℕ) → faults self.old n ≤ faults self.new n }
         ensures cause { IsErrOf result ShelfFault.Failed → Rose (faults self.old name.now) (faults self.new name.now) };
 
@@ -92,7 +95,7 @@ pub trait Shelf {
         ensures mem { IsErrOf result ShelfFault.Mem
             → (opened self.new ≡ opened self.old) × (rest self.new ≡ rest self.old) }
         ensures same { holds self.new ≡ holds self.old }
-        ensures asked { asked self.new ≡ one_more (asked self.old) }
+        ensures asked { Requested (request.next most ∷ []) (asked self.old) (asked self.new) }
         ensures later { (n : List ℕ) → faults self.old n ≤ faults self.new n }
         ensures cause { IsErrOf result ShelfFault.Failed
             → IsSomeAnd (opened self.old) (λ name. Rose (faults self.old name) (faults self.new name)) };

@@ -7,8 +7,8 @@ ghost use Rattle.sap_back.specs.Converted.{IsConverted as IsBack};
 ghost use Rattle.sap_terms.specs.Trace.{Trace as Seen};
 ghost use Rattle.sap_sample.specs.Sample.{count_line, counts_text, most_sessions, sample_file_text, sample_lines, sample_text, session};
 
-use sap_back::to_process;
-use sap_forward::{process_trace, to_rules};
+use sap_back::{BackAt, rule_runs_have_one_answer, to_process};
+use sap_forward::{At, process_runs_have_one_answer, process_trace, to_rules};
 use sap_read::{File, files_are_runnable, read_file_boxed};
 use sap_runs::{PStep, PSteps, RSteps};
 use sap_terms::Mem;
@@ -82,7 +82,7 @@ fn converted(alloc: Global, n: u64, file: &File, run: &PSteps) -> Result<Text, M
 {
     let shown = shown_times(alloc, file, run)?;
     let rules = rules_opposite(alloc, file, run)?;
-    let back = lines_opposite(alloc, file, &rules)?;
+    let back = lines_opposite(alloc, file, run, &rules)?;
     let mut text = Text::new(alloc);
     push_counts(&mut text, n, run.len(), rules.len(), back.len(), shown)?;
     Ok(text)
@@ -99,25 +99,33 @@ fn shown_times(alloc: Global, file: &File, run: &PSteps) -> Result<u64, Mem>
     }
 }
 
-// The run of rules opposite to a run of the file's process. No line of the sample is refused.
+// The run of rules opposite to a run of the file's process that shows something, of which no line is refused.
 fn rules_opposite(alloc: Global, file: &File, run: &PSteps) -> Result<RSteps, Mem>
     requires runnable { IsRunnable (told_by file.now) }
+    requires shown { (tr : Seen) × IsShownBy file.now.signature (proc file.now.process) run.now tr }
     ensures { IfOk result (IsForward file.now.signature (proc file.now.process) run.now) }
 {
+    process_runs_have_one_answer();
     match to_rules(alloc, file, run) {
         Ok(rules) => Ok(rules),
-        Err(_) => Err(Mem),
+        Err(At::Mem) => Err(Mem),
+        Err(At::Step { .. }) => unreachable!(),
     }
 }
 
-// The run of the process opposite to a run of its rules. No line of the sample is refused.
-fn lines_opposite(alloc: Global, file: &File, rules: &RSteps) -> Result<PSteps, Mem>
+// The run of the process opposite to a run of its rules that is opposite to one of the process. None of its lines is refused, and
+// none breaks a restriction.
+fn lines_opposite(alloc: Global, file: &File, run: &PSteps, rules: &RSteps) -> Result<PSteps, Mem>
     requires runnable { IsRunnable (told_by file.now) }
+    requires opposite { IsForward file.now.signature (proc file.now.process) run.now rules.now }
     ensures { IfOk result (IsBack file.now.signature (proc file.now.process) rules.now) }
 {
+    rule_runs_have_one_answer();
     match to_process(alloc, file, rules) {
         Ok(lines) => Ok(lines),
-        Err(_) => Err(Mem),
+        Err(BackAt::Mem) => Err(Mem),
+        Err(BackAt::Step { .. }) => unreachable!(),
+        Err(BackAt::Broken { .. }) => unreachable!(),
     }
 }
 

@@ -88,6 +88,7 @@ pub fn shelf_with(
     MemShelf {
         files,
         fail_on,
+        requests: Some(Vec::new(page.alloc)),
         calls: 0,
         count: 0,
         rest: Vec::new(page.alloc),

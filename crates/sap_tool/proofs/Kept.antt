@@ -9,7 +9,7 @@ use Rattle.sap_rule.specs.declared.theory.Theory.{Theory}
 use Rattle.sap_run_texts.specs.declared.run.Kinds.TheVariants.{Rules}
 use Rattle.sap_run_texts.specs.declared.run.Run.{Run}
 use Rattle.sap_theory.specs.ReadTheory.{IsTheoryRead}
-use Rattle.sap_outside.specs.Outside.{Files, IsFetched, IsFirstPart, one_more}
+use Rattle.sap_outside.specs.Outside.{Files, IsFetched, IsFirstPart}
 use Rattle.sap_refusals.specs.Refusals.{refused_line}
 use Rattle.sap_outside.specs.Pieces.{pieces}
 use Rattle.sap_outside.specs.Stream.{Gained, Failed, CutShort}
@@ -20,7 +20,7 @@ use Rattle.sap_tool.specs.declared.way.Way.{Way}
 use Rattle.sap_tool.specs.declared.way.Way.TheVariants.{Plain, Inlined}
 use Rattle.sap_tool.specs.Commands.{Command, compile, replay, check, Input, alone, and_run, word_of_way, word_of_task, spelled, file_of, run_of, limit_of, kinds_of, IsUnknown, Accepts, Refuses, RefusesRun, TakesRun, Allows, Means}
 use Rattle.sap_tool.specs.AcceptedFile.{compiled_theory}
-use Rattle.sap_tool.specs.Answers.{Answer, gives, tells, status_of, allowed, refused, run_refused, Asks, Fetched, IsAnswer, to_input, sampled, usage, unread, unread_run, IsPut, whole, broken, wanting, IsLast, complete, cut, write_fault_text, memory_text, Ended, answered, unanswered}
+use Rattle.sap_tool.specs.Answers.{Answer, gives, tells, status_of, allowed, refused, run_refused, Asks, for_file, Fetched, IsAnswer, IsBegun, to_input, sampled, usage, unread, unread_run, IsPut, whole, broken, wanting, IsLast, complete, cut, write_fault_text, memory_text, Ended, answered, unanswered}
 use Rattle.sap_tool.specs.Promises as promised
 use Rattle.sap_outside.specs.RunPieces.{IsJoined, IsReadUp, WasRead}
 use Rattle.sap_tool.specs.RunRefusals.{IsIllegal, IsIllegalOfTheory, IsRunRefusedWith, no_run, illegal}
@@ -280,7 +280,7 @@ one_name : (o : Option (List ℕ)) (run other : List ℕ) → o ≡ Some run →
 one_name o run other h e = let same : ◌≡◌ {A = Option (List ℕ)} (Some run) (Some other) = sym h ∙ e in cc
 
 module _ (laws : Laws) (c : Call) where
-  statuses : (s : ℕ) → Ended (IsAnswer c) c.out c.err s → Contains (0 ∷ 1 ∷ 2 ∷ 3 ∷ 4 ∷ 5 ∷ 6 ∷ []) s
+  statuses : (s : ℕ) → Ended (IsAnswer c) (IsBegun c) c.out c.err s → Contains (0 ∷ 1 ∷ 2 ∷ 3 ∷ 4 ∷ 5 ∷ 6 ∷ []) s
   statuses s (answered a is (whole e w)) = at is e where
     at : {b : Answer} → IsAnswer c b → s ≡ status_of b → Contains (0 ∷ 1 ∷ 2 ∷ 3 ∷ 4 ∷ 5 ∷ 6 ∷ []) s
     at (to_input k input asks fetched (allowed t)) e = (0, lit< tt, sym e)
@@ -292,9 +292,9 @@ module _ (laws : Laws) (c : Call) where
     at (unread_run k bytes run asks fetched is_run f n) e = (4, lit< tt, sym e)
   statuses s (answered a is (broken taken last e b p l)) = (5, lit< tt, sym e)
   statuses s (answered a is (wanting taken last e b p l)) = (6, lit< tt, sym e)
-  statuses s (unanswered last e none word l) = (6, lit< tt, sym e)
+  statuses s (unanswered begun last e none word l) = (6, lit< tt, sym e)
 
-  given : (s : ℕ) → Ended (IsAnswer c) c.out c.err s → s ≡ 0 → promised.Given c ⊎ promised.GivenSample c
+  given : (s : ℕ) → Ended (IsAnswer c) (IsBegun c) c.out c.err s → s ≡ 0 → promised.Given c ⊎ promised.GivenSample c
   given s (answered (tells n text) is (whole e w)) z = absurd (at is (sym e ∙ z)) where
     at : {m : ℕ} {t : List ℕ} → IsAnswer c (tells m t) → m ≡ 0 → ⊥
     at (to_input k input asks fetched (refused why r)) e = omega (arith, e)
@@ -316,15 +316,15 @@ module _ (laws : Laws) (c : Call) where
   given s (answered _ (sampled n asks none) (whole e w)) z = inr (record { sessions = n; asked = asks; fetched = none; out = w.0; err = w.1 })
   given s (answered a is (broken taken last e b p l)) z = absurd (omega arith)
   given s (answered a is (wanting taken last e b p l)) z = absurd (omega arith)
-  given s (unanswered last e none word l) z = absurd (omega arith)
+  given s (unanswered begun last e none word l) z = absurd (omega arith)
 
-  told : (n s : ℕ) → 0 < n → n < 5 → Ended (IsAnswer c) c.out c.err s → s ≡ n → promised.Told c n
+  told : (n s : ℕ) → 0 < n → n < 5 → Ended (IsAnswer c) (IsBegun c) c.out c.err s → s ≡ n → promised.Told c n
   told n s more less (answered (gives text) is (whole e w)) z = absurd (omega (arith, e, z))
   told n s more less (answered (tells m text) is (whole e w)) z =
       record { text = text; cause = subst (λ (i : ℕ). IsAnswer c (tells i text)) (sym e ∙ z) is; out = w.0; err = w.1 }
   told n s more less (answered a is (broken taken last e b p l)) z = absurd (omega arith)
   told n s more less (answered a is (wanting taken last e b p l)) z = absurd (omega arith)
-  told n s more less (unanswered last e none word l) z = absurd (omega arith)
+  told n s more less (unanswered begun last e none word l) z = absurd (omega arith)
 
   -- what is told or given whole has a status below 5
   below_five : {a : Answer} → IsAnswer c a → status_of a < 5
@@ -336,19 +336,19 @@ module _ (laws : Laws) (c : Call) where
   below_five (unread k asks f n) = lit< tt
   below_five (unread_run k bytes run asks fetched is_run f n) = lit< tt
 
-  unwritten : (s : ℕ) → Ended (IsAnswer c) c.out c.err s → s ≡ 5 → promised.Unwritten c
+  unwritten : (s : ℕ) → Ended (IsAnswer c) (IsBegun c) c.out c.err s → s ≡ 5 → promised.Unwritten c
   unwritten s (answered a is (whole e w)) z = let l = below_five is in absurd (omega (arith, l, e, z))
   unwritten s (answered a is (broken taken last e b p l)) z = record { answer = a; cause = is; broken = b; taken = taken; last = last; part = p; word = l }
   unwritten s (answered a is (wanting taken last e b p l)) z = absurd (omega arith)
-  unwritten s (unanswered last e none word l) z = absurd (omega arith)
+  unwritten s (unanswered begun last e none word l) z = absurd (omega arith)
 
-  wanting_of : (s : ℕ) → Ended (IsAnswer c) c.out c.err s → s ≡ 6 → promised.Wanting c
+  wanting_of : (s : ℕ) → Ended (IsAnswer c) (IsBegun c) c.out c.err s → s ≡ 6 → promised.Wanting c
   wanting_of s (answered a is (whole e w)) z = let l = below_five is in absurd (omega (arith, l, e, z))
   wanting_of s (answered a is (broken taken last e b p l)) z = absurd (omega arith)
   wanting_of s (answered a is (wanting taken last e b p l)) z = promised.while_put a taken last is b p l
-  wanting_of s (unanswered last e none word l) z = promised.before_all last none word l
+  wanting_of s (unanswered begun last e none word l) z = promised.before_all last begun none word l
 
-  last_word : (s : ℕ) → Ended (IsAnswer c) c.out c.err s → (CutShort c.err → ⊥)
+  last_word : (s : ℕ) → Ended (IsAnswer c) (IsBegun c) c.out c.err s → (CutShort c.err → ⊥)
       → (s ≡ 5 → Gained c.err 1 write_fault_text) × (s ≡ 6 → Gained c.err 1 memory_text)
   last_word s (answered a is (whole e w)) uncut =
       let l = below_five is in (λ z. absurd (omega (arith, l, e, z)), λ z. absurd (omega (arith, l, e, z)))
@@ -358,7 +358,7 @@ module _ (laws : Laws) (c : Call) where
   last_word s (answered (gives text) is (wanting taken last e b p l)) uncut =
       (λ z. absurd (omega (arith, e, z)), λ z. subst (λ (y : List ℕ). Gained c.err 1 y) (whole_word memory_text last uncut l) p.1)
   last_word s (answered (tells n text) is (wanting taken last e b p l)) uncut = absurd (uncut (inr b))
-  last_word s (unanswered last e none word l) uncut =
+  last_word s (unanswered begun last e none word l) uncut =
       (λ z. absurd (omega (arith, e, z)), λ z. subst (λ (y : List ℕ). Gained c.err 1 y) (whole_word memory_text last uncut l) word)
 
   -- where an answer for err was put, its status, 5 for a fault of err, or 6
@@ -368,13 +368,26 @@ module _ (laws : Laws) (c : Call) where
   told_ends s n text (broken taken last e b p l) = inr (inl (e, b))
   told_ends s n text (wanting taken last e b p l) = inr (inr e)
 
-  must_tell_usage : (s : ℕ) → Ended (IsAnswer c) c.out c.err s → IsUnknown c.words → (s ≡ 3) ⊎ ((s ≡ 5) × Failed c.err) ⊎ (s ≡ 6)
+  must_tell_usage : (s : ℕ) → Ended (IsAnswer c) (IsBegun c) c.out c.err s → IsUnknown c.words → (s ≡ 3) ⊎ ((s ≡ 5) × Failed c.err) ⊎ (s ≡ 6)
   must_tell_usage s (answered a (to_input k input asks fetched is) put) unknown = absurd (unknown.no_command k asks)
   must_tell_usage s (answered _ (sampled n asks none) put) unknown = absurd (unknown.no_sample n asks)
   must_tell_usage s (answered _ (usage u n) put) unknown = elim (told_ends s 3 _ put) [ inl h ↦ inl h.0 | inr h ↦ inr h ]
   must_tell_usage s (answered _ (unread k asks f n) put) unknown = absurd (unknown.no_command k asks)
   must_tell_usage s (answered _ (unread_run k bytes run asks fetched is_run f n) put) unknown = absurd (unknown.no_command k asks)
-  must_tell_usage s (unanswered last e none word l) unknown = inr (inr e)
+  must_tell_usage s (unanswered begun last e none word l) unknown = inr (inr e)
+
+  -- where no answer is a text for out, out has nothing
+  nothing_given : (s : ℕ) → Ended (IsAnswer c) (IsBegun c) c.out c.err s → ((text : List ℕ) → IsAnswer c (gives text) → ⊥) → Gained c.out 0 []
+  nothing_given s (answered (gives text) is put) never_gives = absurd (never_gives text is)
+  nothing_given s (answered (tells n text) is (whole e w)) never_gives = w.0
+  nothing_given s (answered (tells n text) is (broken taken last e b p l)) never_gives = p.0
+  nothing_given s (answered (tells n text) is (wanting taken last e b p l)) never_gives = p.0
+  nothing_given s (unanswered begun last e none word l) never_gives = none
+
+  -- words that ask for nothing are given none
+  unknown_gives : IsUnknown c.words → (text : List ℕ) → IsAnswer c (gives text) → ⊥
+  unknown_gives unknown text (to_input k input asks fetched t) = unknown.no_command k asks
+  unknown_gives unknown _ (sampled n asks none) = unknown.no_sample n asks
 
   module _ (k : Command) (bytes : List ℕ) (asked : Asks c k) (held : Holds c.holds (file_of k) bytes) where
     -- the bytes that were fetched, for whatever command the words ask for, are a first part of what is held
@@ -412,12 +425,17 @@ module _ (laws : Laws) (c : Call) where
         subst (λ (x : List ℕ). RefusesRun k x y why) (fetched_of l z asks fetched)
         (subst (λ (m : Command). RefusesRun m z y why) (one_command c.words l k asks asked) r)
 
-    must_refuse : (s : ℕ) → Ended (IsAnswer c) c.out c.err s → (why : List ℕ) → Refuses k bytes why
+    -- a file that is refused is given none
+    refused_gives : (why : List ℕ) → Refuses k bytes why → (text : List ℕ) → IsAnswer c (gives text) → ⊥
+    refused_gives why r text (to_input l (alone z) asks fetched (allowed t)) =
+        never laws k (alone part) text why (allows_of l z text asks fetched.0 t) (part_is_refused k bytes why r)
+    refused_gives why r text (to_input l (and_run z y) asks fetched (allowed t)) =
+        never laws k (and_run part y) text why (allows_run_of l z y text asks fetched.0 t) (part_is_refused k bytes why r)
+    refused_gives why r _ (sampled n asks none) = no_command_is_sample c.words k n asked asks
+
+    must_refuse : (s : ℕ) → Ended (IsAnswer c) (IsBegun c) c.out c.err s → (why : List ℕ) → Refuses k bytes why
         → ((s ≡ 1) × Gained c.err 1 (refused_line why)) ⊎ ((s ≡ 4) × FailedOn c (file_of k)) ⊎ ((s ≡ 5) × Failed c.err) ⊎ (s ≡ 6)
-    must_refuse s (answered _ (to_input l (alone z) asks fetched (allowed {text = text} t)) put) why r =
-        absurd (never laws k (alone part) text why (allows_of l z text asks fetched.0 t) (part_is_refused k bytes why r))
-    must_refuse s (answered _ (to_input l (and_run z y) asks fetched (allowed {text = text} t)) put) why r =
-        absurd (never laws k (and_run part y) text why (allows_run_of l z y text asks fetched.0 t) (part_is_refused k bytes why r))
+    must_refuse s (answered (gives text) is put) why r = absurd (refused_gives why r text is)
     must_refuse s (answered _ (to_input l (alone z) asks fetched (refused other o)) put) why r =
         let same : other ≡ why = one_why laws k part other why (refuses_of l z other asks fetched.0 o) (part_is_refused k bytes why r) in
         elim (told_ends s 1 (refused_line other) put) [
@@ -426,26 +444,25 @@ module _ (laws : Laws) (c : Call) where
         ]
     must_refuse s (answered _ (to_input l (and_run z y) asks fetched (run_refused other o)) put) why r =
         absurd (accepted_never laws k part why (run_accepts k part y other (refuses_run_of l z y other asks fetched.0 o)) (part_is_refused k bytes why r))
-    must_refuse s (answered _ (sampled n asks none) put) why r = absurd (no_command_is_sample c.words k n asked asks)
     must_refuse s (answered _ (usage u n) put) why r = absurd (u.no_command k asked)
     must_refuse s (answered _ (unread l asks f n) put) why r =
         elim (told_ends s 4 _ put) [ inl h ↦ inr (inl (h.0, failed_of l asks f)) | inr h ↦ inr (inr h) ]
     must_refuse s (answered _ (unread_run l z run asks fetched is_run f n) put) why r =
         absurd (accepted_never laws k part why (accepts_of l z asks fetched.0 fetched.1) (part_is_refused k bytes why r))
-    must_refuse s (unanswered last e none word l) why r = inr (inr (inr e))
+    must_refuse s (unanswered begun last e none word l) why r = inr (inr (inr e))
 
     -- the run of whatever command the words ask for is this one's
     module _ (run z : List ℕ) (is_run : run_of k ≡ Some run) (held_run : Holds c.holds run z) where
-      read_up_of : (l : Command) (y : List ℕ) → Asks c l → ((other : List ℕ) × (run_of l ≡ Some other) × WasRead c.holds other (one_more c.asked_before) c.asked_after y) → IsReadUp z y
+      read_up_of : (l : Command) (y : List ℕ) → Asks c l → ((other : List ℕ) × (run_of l ≡ Some other) × WasRead c.holds other (for_file l) c.asked_before c.asked_after y) → IsReadUp z y
       read_up_of l y asks was =
           let same : run_of k ≡ Some was.0 = subst (λ (m : Command). run_of m ≡ Some was.0) (one_command c.words l k asks asked) was.1 in
           joined_part c.holds run z y held_run
           (subst (λ (name : List ℕ). IsJoined c.holds name y) (one_name (run_of k) was.0 run same is_run) was.2.joined)
 
-      must_refuse_run : (s : ℕ) → Ended (IsAnswer c) c.out c.err s → (why : List ℕ) → RefusesRun k bytes z why
-          → ((s ≡ 2) × Gained c.err 1 (run_refused_line why)) ⊎ ((s ≡ 4) × promised.FailedOnNamed c k) ⊎ ((s ≡ 5) × Failed c.err) ⊎ (s ≡ 6)
-      must_refuse_run s (answered _ (to_input l (alone x) asks fetched (allowed {text = text} t)) put) why r =
-          absurd (no_text_alone k part z text why (allows_of l x text asks fetched.0 t) (run_part_alone why r))
+      -- a run that is refused is given none
+      refused_run_gives : (why : List ℕ) → RefusesRun k bytes z why → (text : List ℕ) → IsAnswer c (gives text) → ⊥
+      refused_run_gives why r text (to_input l (alone x) asks fetched (allowed t)) =
+          no_text_alone k part z text why (allows_of l x text asks fetched.0 t) (run_part_alone why r)
         where
           run_part_alone : (w : List ℕ) → RefusesRun k bytes z w → RefusesRun k part z w
           run_part_alone w o = part_of k o where
@@ -453,8 +470,13 @@ module _ (laws : Laws) (c : Call) where
             part_of (compile way file) o = absurd o
             part_of (replay task file name) o = (o.0, part_accepted bytes o.0 o.1, o.2)
             part_of (check theory name) o = (o.0, theory_part_accepted bytes o.0 o.1, o.2)
-      must_refuse_run s (answered _ (to_input l (and_run x y) asks fetched (allowed {text = text} t)) put) why r =
-          absurd (never_run laws k part y text why (allows_run_of l x y text asks fetched.0 t) (run_part_refused k bytes z y why (read_up_of l y asks fetched.1) r))
+      refused_run_gives why r text (to_input l (and_run x y) asks fetched (allowed t)) =
+          never_run laws k part y text why (allows_run_of l x y text asks fetched.0 t) (run_part_refused k bytes z y why (read_up_of l y asks fetched.1) r)
+      refused_run_gives why r _ (sampled n asks none) = no_command_is_sample c.words k n asked asks
+
+      must_refuse_run : (s : ℕ) → Ended (IsAnswer c) (IsBegun c) c.out c.err s → (why : List ℕ) → RefusesRun k bytes z why
+          → ((s ≡ 2) × Gained c.err 1 (run_refused_line why)) ⊎ ((s ≡ 4) × promised.FailedOnNamed c k) ⊎ ((s ≡ 5) × Failed c.err) ⊎ (s ≡ 6)
+      must_refuse_run s (answered (gives text) is put) why r = absurd (refused_run_gives why r text is)
       must_refuse_run s (answered _ (to_input l (alone x) asks fetched (refused other o)) put) why r =
           absurd (accepted_never laws k part other (part_is_accepted k bytes (run_accepts k bytes z why r)) (refuses_of l x other asks fetched.0 o))
       must_refuse_run s (answered _ (to_input l (and_run x y) asks fetched (run_refused other o)) put) why r =
@@ -464,19 +486,18 @@ module _ (laws : Laws) (c : Call) where
             | inl h ↦ inl (h.0, subst (λ (w : List ℕ). Gained c.err 1 (run_refused_line w)) same h.1)
             | inr h ↦ inr (inr h)
           ]
-      must_refuse_run s (answered _ (sampled n asks none) put) why r = absurd (no_command_is_sample c.words k n asked asks)
       must_refuse_run s (answered _ (usage u n) put) why r = absurd (u.no_command k asked)
       must_refuse_run s (answered _ (unread l asks f n) put) why r =
           elim (told_ends s 4 _ put) [ inl h ↦ inr (inl (h.0, inl (failed_of l asks f))) | inr h ↦ inr (inr h) ]
       must_refuse_run s (answered _ (unread_run l x name asks fetched named f n) put) why r =
           let same : run_of k ≡ Some name = subst (λ (m : Command). run_of m ≡ Some name) (one_command c.words l k asks asked) named in
           elim (told_ends s 4 _ put) [ inl h ↦ inr (inl (h.0, inr (name, same, f))) | inr h ↦ inr (inr h) ]
-      must_refuse_run s (unanswered last e none word l) why r = inr (inr (inr e))
+      must_refuse_run s (unanswered begun last e none word l) why r = inr (inr (inr e))
 
     -- where no count of a name rose, nor out's, a text is there unless a cause refuses what was read
     module _ (unrefused : (why : List ℕ) → Refuses k bytes why → ⊥) (run_unrefused : (l : Command) (x y why : List ℕ) → Asks c l → Fetched c l (and_run x y) → RefusesRun l x y why → ⊥)
         (sound : promised.FailedOnNamed c k → ⊥) (open_out : Failed c.out → ⊥) where
-      must_answer : (s : ℕ) → Ended (IsAnswer c) c.out c.err s → (s ≡ 0) ⊎ (s ≡ 6)
+      must_answer : (s : ℕ) → Ended (IsAnswer c) (IsBegun c) c.out c.err s → (s ≡ 0) ⊎ (s ≡ 6)
       must_answer s (answered _ (to_input l input asks fetched (allowed t)) (whole e w)) = inl e
       must_answer s (answered _ (to_input l input asks fetched (allowed t)) (broken taken last e b p w)) = absurd (open_out b)
       must_answer s (answered _ (to_input l input asks fetched (allowed t)) (wanting taken last e b p w)) = inr e
@@ -489,9 +510,9 @@ module _ (laws : Laws) (c : Call) where
       must_answer s (answered _ (unread_run l x name asks fetched named f n) put) =
           let same : run_of k ≡ Some name = subst (λ (m : Command). run_of m ≡ Some name) (one_command c.words l k asks asked) named in
           absurd (sound (inr (name, same, f)))
-      must_answer s (unanswered last e none word l) = inr e
+      must_answer s (unanswered begun last e none word l) = inr e
 
-  must_answer_all : (s : ℕ) → Ended (IsAnswer c) c.out c.err s → (k : Command) (input : Input) → Asks c k → promised.HoldsInput c k input
+  must_answer_all : (s : ℕ) → Ended (IsAnswer c) (IsBegun c) c.out c.err s → (k : Command) (input : Input) → Asks c k → promised.HoldsInput c k input
       → ((why : List ℕ) → promised.RefusesInput k input why → ⊥) → (promised.FailedOnNamed c k → ⊥) → (Failed c.out → ⊥) → (s ≡ 0) ⊎ (s ≡ 6)
   must_answer_all s o k (alone bytes) asked held unrefused sound open_out =
       must_answer k bytes asked held.0 unrefused
@@ -506,7 +527,7 @@ module _ (laws : Laws) (c : Call) where
       sound open_out s o
 
   -- what is taken, no cause refuses
-  must_take : (s : ℕ) → Ended (IsAnswer c) c.out c.err s → (k : Command) (bytes z : List ℕ) → Asks c k → promised.HoldsInput c k (and_run bytes z) → TakesRun k bytes z
+  must_take : (s : ℕ) → Ended (IsAnswer c) (IsBegun c) c.out c.err s → (k : Command) (bytes z : List ℕ) → Asks c k → promised.HoldsInput c k (and_run bytes z) → TakesRun k bytes z
       → (promised.FailedOnNamed c k → ⊥) → (Failed c.out → ⊥) → (s ≡ 0) ⊎ (s ≡ 6)
   must_take s o k bytes z asked held takes sound open_out = must_answer_all s o k (and_run bytes z) asked held unrefused sound open_out where
     unrefused : (why : List ℕ) → promised.RefusesInput k (and_run bytes z) why → ⊥
@@ -519,20 +540,20 @@ module _ (laws : Laws) (c : Call) where
   given_text s text other same open_out (wanting taken last e b p l) = inr e
 
   module _ (n : ℕ) (asked : IsSample c.words n) where
-    must_tell_sample : (s : ℕ) → Ended (IsAnswer c) c.out c.err s → (Failed c.out → ⊥) → ((s ≡ 0) × Gained c.out (pieces (sample_text n)) (sample_text n)) ⊎ (s ≡ 6)
+    must_tell_sample : (s : ℕ) → Ended (IsAnswer c) (IsBegun c) c.out c.err s → (Failed c.out → ⊥) → ((s ≡ 0) × Gained c.out (pieces (sample_text n)) (sample_text n)) ⊎ (s ≡ 6)
     must_tell_sample s (answered _ (to_input k input asks fetched is) put) open_out = absurd (no_command_is_sample c.words k n asks asked)
     must_tell_sample s (answered _ (sampled m asks none) put) open_out =
         given_text s (sample_text n) (sample_text m) (ap sample_text (one_sample c.words m n asks asked)) open_out put
     must_tell_sample s (answered _ (usage u none) put) open_out = absurd (u.no_sample n asked)
     must_tell_sample s (answered _ (unread k asks f none) put) open_out = absurd (no_command_is_sample c.words k n asks asked)
     must_tell_sample s (answered _ (unread_run k bytes run asks fetched is_run f none) put) open_out = absurd (no_command_is_sample c.words k n asks asked)
-    must_tell_sample s (unanswered last e none word l) open_out = inr e
+    must_tell_sample s (unanswered begun last e none word l) open_out = inr e
 
   module _ (way : Way) (file bytes : List ℕ) (asked : Asks c (compile way file)) (held : Holds c.holds file bytes) where
     abbrev k : Command
     k = compile way file
 
-    must_give : (s : ℕ) → Ended (IsAnswer c) c.out c.err s → (text : List ℕ) → Allows k (alone bytes) text → (FailedOn c file → ⊥) → (Failed c.out → ⊥)
+    must_give : (s : ℕ) → Ended (IsAnswer c) (IsBegun c) c.out c.err s → (text : List ℕ) → Allows k (alone bytes) text → (FailedOn c file → ⊥) → (Failed c.out → ⊥)
         → ((s ≡ 0) × Gained c.out (pieces text) text) ⊎ (s ≡ 6)
     must_give s (answered _ (to_input l (alone z) asks fetched (allowed {text = other} u)) put) text t sound open_out =
         given_text s text other
@@ -548,9 +569,15 @@ module _ (laws : Laws) (c : Call) where
     must_give s (answered _ (unread l asks f n) put) text t sound open_out = absurd (sound (failed_of k bytes asked held l asks f))
     must_give s (answered _ (unread_run l x name asks fetched named f n) put) text t sound open_out =
         let none : run_of k ≡ Some name = subst (λ (m : Command). run_of m ≡ Some name) (one_command c.words l k asks asked) named in cc
-    must_give s (unanswered last e none word l) text t sound open_out = inr e
+    must_give s (unanswered begun last e none word l) text t sound open_out = inr e
 
-pub kept : Laws → (c : Call) (s : ℕ) → Ended (IsAnswer c) c.out c.err s → promised.Promises c s
+nothing_out : (laws : Laws) (c : Call) (s : ℕ) → Ended (IsAnswer c) (IsBegun c) c.out c.err s → promised.IsRefusedCall c → Gained c.out 0 []
+nothing_out laws c s o (promised.unknown u) = nothing_given laws c s o (unknown_gives laws c u)
+nothing_out laws c s o (promised.of_file k bytes why asked held r) = nothing_given laws c s o (refused_gives laws c k bytes asked held why r)
+nothing_out laws c s o (promised.of_run k bytes z why asked held r) =
+    nothing_given laws c s o (refused_run_gives laws c k bytes asked held.0 held.1.0 z held.1.1 held.1.2 why r)
+
+pub kept : Laws → (c : Call) (s : ℕ) → Ended (IsAnswer c) (IsBegun c) c.out c.err s → promised.Promises c s
 kept laws c s o = record {
   statuses = statuses laws c s o;
   given = given laws c s o;
@@ -568,4 +595,5 @@ kept laws c s o = record {
   must_take = λ k bytes z asked held takes sound open_out. must_take laws c s o k bytes z asked held takes sound open_out;
   must_give = λ way file bytes text asked held t sound open_out. must_give laws c way file bytes asked held s o text t sound open_out;
   must_tell_sample = λ n asked open_out. must_tell_sample laws c n asked s o open_out;
+  nothing_out = nothing_out laws c s o;
 }

@@ -4,7 +4,7 @@ use Rattle.std.proofs.lemmas.Fmt.{decimal_injective}
 use Rattle.sap_tool.specs.Call.{Call}
 use Rattle.sap_tool.specs.Commands.{Command, compile, replay, check, spelled}
 use Rattle.sap_sample.specs.Sample.{IsSample, sample_words}
-use Rattle.sap_tool.specs.Answers.{gives, IsAnswer, sampled, usage}
+use Rattle.sap_tool.specs.Answers.{gives, IsAnswer, sampled, usage, asked_nothing}
 use Rattle.sap_tool.specs.code.Endings.{Ends}
 use Rattle.sap_tool.specs.code.Sampled.{EndsSample}
 use Rattle.sap_tool.specs.declared.ending.Ending.{Ending}
@@ -39,7 +39,7 @@ ends_of_sample c ending.Usage none same h = usage (record { no_command = none; n
 ends_of_sample c ending.Unread none same h = absurd h
 ends_of_sample c (ending.File line) none same h = absurd h
 ends_of_sample c (ending.Run line) none same h = absurd h
-ends_of_sample c ending.Mem none same h = h
+ends_of_sample c ending.Mem none same h = asked_nothing same
 
 -- no command is asked for, where none of each kind is
 pub no_command_of : (words : List (List ℕ)) → ((way : Way) (file : List ℕ) → words ≢ spelled (compile way file)) → ((task : Task) (file run : List ℕ) → words ≢ spelled (replay task file run))

@@ -1,8 +1,9 @@
 -- What there is to say of a call, and how that is put.
-use Rattle.std.specs.Prelude.{◌≡◌, ℕ, codes, List, [], ◌++◌, take, Some}
-use Rattle.sap_outside.specs.Outside.{IsFetched, one_more}
+use Rattle.std.specs.Prelude.{◌≡◌, ℕ, codes, List, [], ◌∷◌, ◌++◌, take, Some}
+use Rattle.sap_outside.specs.Outside.{IsFetched}
+use Rattle.sap_outside.specs.Requests.{Request, fetch}
 use Rattle.sap_outside.specs.Stream.{Stream, Gained, Failed, Wanted, CutShort, CutTwice}
-use Rattle.sap_tool.specs.Call.{Call, FailedOn}
+use Rattle.sap_tool.specs.Call.{Call, FailedOn, AskedFor}
 use Rattle.sap_tool.specs.Commands.{Command, Input, alone, and_run, spelled, file_of, run_of, limit_of, IsUnknown, Accepts, Refuses, RefusesRun, Allows}
 use Rattle.sap_outside.specs.Pieces.{pieces, GainedPart}
 use Rattle.sap_refusals.specs.Refusals.{refused_line}
@@ -30,16 +31,16 @@ pub data IsAnswerTo (k : Command) : Input → Answer → Type 0 where
 abbrev pub Asks : Call → Command → Type 0
 Asks c k = c.words ≡ spelled k
 
--- the shelf was asked once, where it tells that
-abbrev pub AskedOnce : Call → Type 0
-AskedOnce c = c.asked_after ≡ one_more c.asked_before
+-- to fetch the command's file, and nothing else
+abbrev pub for_file : Command → List Request
+for_file k = fetch (file_of k) (limit_of k) ∷ []
 
--- these are bytes that a fetch of the command's file may answer, and then ones that reading its run may give, by what the shelf tells;
--- of its calls only the number is told
+-- these are bytes that a fetch of the command's file may answer, and then ones that reading its run may give, by what the shelf tells, and
+-- it was asked for the file, then for the run, and for nothing else
 abbrev pub Fetched : Call → Command → Input → Type 0
-Fetched c k (alone bytes) = IsFetched c.holds (file_of k) (limit_of k) bytes × AskedOnce c
+Fetched c k (alone bytes) = IsFetched c.holds (file_of k) (limit_of k) bytes × AskedFor c (for_file k)
 Fetched c k (and_run bytes z) =
-    IsFetched c.holds (file_of k) (limit_of k) bytes × ((run : List ℕ) × (run_of k ≡ Some run) × WasRead c.holds run (one_more c.asked_before) c.asked_after z)
+    IsFetched c.holds (file_of k) (limit_of k) bytes × ((run : List ℕ) × (run_of k ≡ Some run) × WasRead c.holds run (for_file k) c.asked_before c.asked_after z)
 
 -- these are bytes that a fetch of the command's file may answer, and it accepts them
 abbrev pub FetchedAccepted : Call → Command → List ℕ → Type 0
@@ -66,9 +67,18 @@ pub data IsAnswer (c : Call) : Answer → Type 0 where
   to_input : {a : Answer} (k : Command) (input : Input) → Asks c k → Fetched c k input → IsAnswerTo k input a → IsAnswer c a
   sampled : (n : ℕ) → IsSample c.words n → c.asked_after ≡ c.asked_before → IsAnswer c (gives (sample_text n))
   usage : IsUnknown c.words → c.asked_after ≡ c.asked_before → IsAnswer c (tells 3 usage_text)
-  unread : (k : Command) → Asks c k → FailedOn c (file_of k) → AskedOnce c → IsAnswer c (tells 4 read_fault_text)
+  unread : (k : Command) → Asks c k → FailedOn c (file_of k) → AskedFor c (for_file k) → IsAnswer c (tells 4 read_fault_text)
   unread_run : (k : Command) (bytes run : List ℕ) → Asks c k → FetchedAccepted c k bytes → run_of k ≡ Some run → FailedOn c run
-      → WasGivenUp c.holds run (one_more c.asked_before) c.asked_after → IsAnswer c (tells 4 read_fault_text)
+      → WasGivenUp c.holds run (for_file k) c.asked_before c.asked_after → IsAnswer c (tells 4 read_fault_text)
+
+-- what the shelf was asked for where memory was wanting before there was an answer: nothing; or the file that the words ask for alone; or,
+-- behind a file that is accepted, its run too, up to where that was given up, or whole
+pub data IsBegun (c : Call) : Type 0 where
+  asked_nothing : c.asked_after ≡ c.asked_before → IsBegun c
+  asked_file : (k : Command) → Asks c k → AskedFor c (for_file k) → IsBegun c
+  asked_run : (k : Command) (bytes run : List ℕ) → Asks c k → FetchedAccepted c k bytes → run_of k ≡ Some run
+      → WasGivenUp c.holds run (for_file k) c.asked_before c.asked_after → IsBegun c
+  asked_both : (k : Command) (bytes z : List ℕ) → Asks c k → FetchedAccepted c k bytes → Fetched c k (and_run bytes z) → IsBegun c
 
 -- the answer's text is whole where it belongs, put in pieces on out and at once on err, and nothing was put elsewhere
 abbrev pub Whole : Answer → Stream → Stream → Type 0
@@ -110,7 +120,7 @@ pub data IsPut (a : Answer) (out err : Stream) (status : ℕ) : Type 0 where
   wanting : (taken : ℕ) (last : List ℕ) → status ≡ 6 → Starved a out err → Part a taken last out err → IsLast (CutLast a err) memory_text last
       → IsPut a out err status
 
--- one of these answers was put, or memory was wanting before there was one, and err has the last word
-pub data Ended (P : Answer → Type 0) (out err : Stream) (status : ℕ) : Type 0 where
-  answered : (a : Answer) → P a → IsPut a out err status → Ended P out err status
-  unanswered : (last : List ℕ) → status ≡ 6 → Gained out 0 [] → Gained err 1 last → IsLast (CutShort err) memory_text last → Ended P out err status
+-- one of these answers was put; or memory was wanting before there was one, where this is so, and err has the last word
+pub data Ended (P : Answer → Type 0) (Begun : Type 0) (out err : Stream) (status : ℕ) : Type 0 where
+  answered : (a : Answer) → P a → IsPut a out err status → Ended P Begun out err status
+  unanswered : Begun → (last : List ℕ) → status ≡ 6 → Gained out 0 [] → Gained err 1 last → IsLast (CutShort err) memory_text last → Ended P Begun out err status

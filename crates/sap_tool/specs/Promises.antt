@@ -3,7 +3,7 @@ use Rattle.std.specs.Prelude.{◌≡◌, ◌⊎◌, ℕ, List, [], ◌∷◌, Co
 use Rattle.sap_outside.specs.Stream.{Gained, Failed, CutShort}
 use Rattle.sap_tool.specs.Call.{Call, FailedOn, Holds}
 use Rattle.sap_tool.specs.Commands.{Command, Input, alone, and_run, compile, file_of, run_of, IsUnknown, Refuses, RefusesRun, TakesRun, Allows, Means}
-use Rattle.sap_tool.specs.Answers.{Answer, tells, IsAnswer, Asks, Fetched, Part, Broken, Starved, CutLast, IsLast, write_fault_text, memory_text}
+use Rattle.sap_tool.specs.Answers.{Answer, tells, IsAnswer, Asks, Fetched, IsBegun, Part, Broken, Starved, CutLast, IsLast, write_fault_text, memory_text}
 use Rattle.sap_outside.specs.Pieces.{pieces}
 use Rattle.sap_refusals.specs.Refusals.{refused_line}
 use Rattle.sap_refusals.specs.RunFaultTexts.{run_refused_line}
@@ -36,7 +36,7 @@ pub record Given (c : Call) : Type 0 where
   pub out : Gained c.out (pieces text) text
   pub err : Gained c.err 0 []
 
--- out gained what is told of the sample that the words ask for, nothing was fetched, and nothing was put on err
+-- out gained what is told of the sample that the words ask for, the shelf was asked for nothing, and nothing was put on err
 pub record GivenSample (c : Call) : Type 0 where
   pub sessions : ℕ
   pub asked : IsSample c.words sessions
@@ -62,15 +62,22 @@ pub record Unwritten (c : Call) : Type 0 where
   pub part : Part answer taken last c.out c.err
   pub word : IsLast (CutLast answer c.err) write_fault_text last
 
--- err has the last word, whole unless its put was cut short, and out has nothing, where there was no answer yet; or the sink
--- that an answer belongs on counted a want of memory, and has a first part of it
+-- err has the last word, whole unless its put was cut short, out has nothing, and the shelf was asked for no more than the call begins
+-- with, where there was no answer yet; or the sink that an answer belongs on counted a want of memory, and has a first part of it
 pub data Wanting (c : Call) : Type 0 where
-  before_all : (last : List ℕ) → Gained c.out 0 [] → Gained c.err 1 last → IsLast (CutShort c.err) memory_text last → Wanting c
+  before_all : (last : List ℕ) → IsBegun c → Gained c.out 0 [] → Gained c.err 1 last → IsLast (CutShort c.err) memory_text last → Wanting c
   while_put : (a : Answer) (taken : ℕ) (last : List ℕ) → IsAnswer c a → Starved a c.out c.err → Part a taken last c.out c.err
       → IsLast (CutLast a c.err) memory_text last → Wanting c
 
+-- the words ask for nothing; or the shelf tells that it holds a file that a cause refuses; or a file that is accepted, and a run that
+-- a cause refuses
+pub data IsRefusedCall (c : Call) : Type 0 where
+  unknown : IsUnknown c.words → IsRefusedCall c
+  of_file : (k : Command) (bytes why : List ℕ) → Asks c k → Holds c.holds (file_of k) bytes → Refuses k bytes why → IsRefusedCall c
+  of_run : (k : Command) (bytes z why : List ℕ) → Asks c k → HoldsInput c k (and_run bytes z) → RefusesRun k bytes z why → IsRefusedCall c
+
 -- Each status comes only with its cause and with what it leaves on the two sinks, and the last fields say when 0, 1, 2 and 3 must
--- come.
+-- come, and when out has nothing.
 pub record Promises (c : Call) (status : ℕ) : Type 0 where
   pub statuses : Contains (0 ∷ 1 ∷ 2 ∷ 3 ∷ 4 ∷ 5 ∷ 6 ∷ []) status
   pub given : status ≡ 0 → Given c ⊎ GivenSample c
@@ -101,3 +108,5 @@ pub record Promises (c : Call) (status : ℕ) : Type 0 where
       → (FailedOn c file → ⊥) → (Failed c.out → ⊥) → ((status ≡ 0) × Gained c.out (pieces text) text) ⊎ (status ≡ 6)
   -- for a sample: it is what is told of it
   pub must_tell_sample : (n : ℕ) → IsSample c.words n → (Failed c.out → ⊥) → ((status ≡ 0) × Gained c.out (pieces (sample_text n)) (sample_text n)) ⊎ (status ≡ 6)
+  -- where the words, a file or a run are refused, out has nothing, whatever the status
+  pub nothing_out : IsRefusedCall c → Gained c.out 0 []

@@ -1,8 +1,10 @@
 //! What words ask for, and what a call ends with.
 
-ghost use Rattle.std.specs.Prelude.{◌≡◌, ◌≢◌, ◌≤◌, ℕ, List, IfOk, IsErrOf, MatchOption};
+ghost use Rattle.std.specs.Prelude.{◌≡◌, ◌≢◌, ◌≤◌, ℕ, List, [], ◌∷◌, IfOk, IsErrOf, MatchOption};
 ghost use Rattle.sap_read.specs.Files.{IsRunnable, told_by};
-ghost use Rattle.sap_outside.specs.Outside.{IsFetched, Rose, one_more};
+ghost use Rattle.sap_outside.specs.Outside.{IsFetched, Rose};
+ghost use Rattle.sap_outside.specs.Requests.{Requested};
+ghost use Rattle.sap_outside.specs.Requests as request;
 ghost use Rattle.sap_tool.specs.AcceptedFile.{most_bytes, IsAcceptedFile};
 ghost use Rattle.sap_tool.specs.AcceptedTheory.{IsAcceptedTheory};
 ghost use Rattle.sap_outside.specs.Stream.{Stream};
@@ -23,7 +25,7 @@ use crate::sessions::end_sample;
 use crate::task::{Task, kinds_of, task_of};
 use crate::theory_reading::{MOST_THEORY_BYTES, accepted_theory};
 use crate::way::{Way, way_of};
-use sap_outside::{Shelf, ShelfFault, read_run};
+use sap_outside::{Shelf, ShelfFault, read_run, requests_are_joined};
 use sap_read::{File, files_are_runnable};
 use sap_refusals::Refusal;
 use sap_rule::Theory;
@@ -95,7 +97,7 @@ fn run_to_check(words: &Vec<String>) -> Option<(&str, &str)>
 fn fetched<S: Shelf>(alloc: Global, shelf: &mut S, file: &str) -> Result<Vec<u8>, ShelfFault>
     ensures told { IfOk result (λ v. IsFetched (S.holds shelf.old) file.now most_bytes v.items) }
     ensures same { S.holds shelf.new ≡ S.holds shelf.old }
-    ensures once { S.asked shelf.new ≡ one_more (S.asked shelf.old) }
+    ensures once { Requested (request.fetch file.now most_bytes ∷ []) (S.asked shelf.old) (S.asked shelf.new) }
     ensures later { (n : List ℕ) → S.faults shelf.old n ≤ S.faults shelf.new n }
     ensures cause { IsErrOf result ShelfFault.Failed → Rose (S.faults shelf.old file.now) (S.faults shelf.new file.now) }
 {
@@ -132,6 +134,7 @@ fn end_replay<S: Shelf>(alloc: Global, task: Task, shelf: &mut S, file: &str, ru
         (call_of words (S.holds shelf.old) (S.faults shelf.old) (S.faults shelf.new)
         (S.asked shelf.old) (S.asked shelf.new) out err) result }
 {
+    requests_are_joined();
     match fetched(alloc, shelf, file) {
         Ok(bytes) => replay_bytes(alloc, task, shelf, &bytes, run),
         Err(ShelfFault::Failed) => Ending::Unread,
@@ -202,6 +205,7 @@ fn end_check<S: Shelf>(alloc: Global, shelf: &mut S, theory: &str, run: &str) ->
         (call_of words (S.holds shelf.old) (S.faults shelf.old) (S.faults shelf.new)
         (S.asked shelf.old) (S.asked shelf.new) out err) result }
 {
+    requests_are_joined();
     match shelf.fetch(alloc, theory, MOST_THEORY_BYTES) {
         Ok(bytes) => check_bytes(alloc, shelf, &bytes, run),
         Err(ShelfFault::Failed) => Ending::Unread,

@@ -5,7 +5,7 @@ ghost use Rattle.sap_outside.specs.Outside.{Rose, one_more};
 ghost use Rattle.std.specs.Io.KnownBytes.{Appends};
 ghost use Rattle.sap_outside.specs.Stream.{Stream, stream, Gained};
 ghost use Rattle.sap_tool.specs.Call.{Call, call};
-ghost use Rattle.sap_tool.specs.Answers.{gives, tells, IsAnswer, IsPut, IsLast, Ended};
+ghost use Rattle.sap_tool.specs.Answers.{gives, tells, IsAnswer, IsBegun, IsPut, IsLast, Ended};
 ghost use Rattle.sap_tool.specs.Promises.{Promises};
 ghost use Rattle.sap_tool.specs.code.Endings.{Ends};
 
@@ -91,6 +91,13 @@ fn run<S: Shelf, O: Sink, E: Sink>(
         (O.wants out.old) (O.wants out.new) (O.asked out.old) (O.asked out.new))
         (stream (E.written err.old) (E.written err.new) (E.faults err.old) (E.faults err.new)
         (E.wants err.old) (E.wants err.new) (E.asked err.old) (E.asked err.new))))
+        (IsBegun
+        (call words.now.items (S.holds shelf.old) (S.faults shelf.old) (S.faults shelf.new)
+        (S.asked shelf.old) (S.asked shelf.new)
+        (stream (O.written out.old) (O.written out.new) (O.faults out.old) (O.faults out.new)
+        (O.wants out.old) (O.wants out.new) (O.asked out.old) (O.asked out.new))
+        (stream (E.written err.old) (E.written err.new) (E.faults err.old) (E.faults err.new)
+        (E.wants err.old) (E.wants err.new) (E.asked err.old) (E.asked err.new))))
         (stream (O.written out.old) (O.written out.new) (O.faults out.old) (O.faults out.new)
         (O.wants out.old) (O.wants out.new) (O.asked out.old) (O.asked out.new))
         (stream (E.written err.old) (E.written err.new) (E.faults err.old) (E.faults err.new)
@@ -103,7 +110,7 @@ fn run<S: Shelf, O: Sink, E: Sink>(
 
 // Puts on out or on err what is said at the end.
 fn deliver<O: Sink, E: Sink>(ending: &Ending, out: &mut O, err: &mut E) -> u8
-    ensures { (c : Call) → Ends c ending.now → Ended (IsAnswer c)
+    ensures { (c : Call) → Ends c ending.now → Ended (IsAnswer c) (IsBegun c)
         (stream (O.written out.old) (O.written out.new) (O.faults out.old) (O.faults out.new)
         (O.wants out.old) (O.wants out.new) (O.asked out.old) (O.asked out.new))
         (stream (E.written err.old) (E.written err.new) (E.faults err.old) (E.faults err.new)

@@ -28,4 +28,4 @@ returns-in-Run g c = λ k ends.
 pub returns-in-Mem : goal.returns-in-Mem
 returns-in-Mem g c = λ k ends.
     let word = c.last_word.ensures.ends in
-    unanswered word.0 c.last_word.ensures.status (nothing_put _ _) (word.1, c.last_word.ensures.asked memory_is) word.2
+    unanswered (subst (Ends k) c.in-Mem.is ends) word.0 c.last_word.ensures.status (nothing_put _ _) (word.1, c.last_word.ensures.asked memory_is) word.2
