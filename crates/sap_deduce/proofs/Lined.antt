@@ -1,5 +1,5 @@
 -- Lines as they are stored, and what more of their parts keeps.
-use Rattle.std.proofs.Common.{◌≡◌, ◌<◌, ◌≤◌, ◌+◌, ℕ, zero, suc, List, [], ◌∷◌, ◌++◌, length, map, take, drop, option_map, slice_get, slice_index_or, refl, ap, subst, sym, ◌∙◌, arith, length-append, Bool, true, false, Some, if◌then◌else◌}
+use Rattle.std.proofs.Common.{◌≡◌, ◌<◌, ◌≤◌, ◌+◌, ℕ, zero, suc, List, [], ◌∷◌, ◌++◌, length, map, take, drop, option_map, slice_get, slice_index_or, refl, ap, sym, ◌∙◌, arith, length-append, Bool, true, false, Some, if◌then◌else◌}
 use Rattle.std.specs.Prelude.{Result, Ok, Err, OnErr}
 use Rattle.std.proofs.lemmas.List.{map-append, length-map, get_or_append_left, take-append-le, drop-append-le, append-nil, length-drop}
 use Rattle.std.proofs.Math.Seq.{take-length, drop-append_seam}

@@ -5,14 +5,13 @@ use Rattle.std.proofs.lemmas.Bool.{cases_lt}
 use Rattle.std.proofs.lemmas.List.{length-map}
 use Rattle.std.proofs.lemmas.Option.{slice_get_within, slice_get-get_or, same_Some}
 use Rattle.sap_terms.specs.Equations.{equations}
-use Rattle.sap_terms.specs.Signature.{Sig, IsPublic, arity_of, find_symbol}
+use Rattle.sap_terms.specs.Signature.{Sig, arity_of, find_symbol}
 use Rattle.sap_terms.specs.Tree.{Tree, fresh, apply, trees_of, node_count}
 use Rattle.sap_terms.specs.declared.limits.TheConstants.{MOST_TERM_NODES}
 use Rattle.sap_terms.specs.declared.signature.Symbol.{Symbol}
 use Rattle.sap_rewrite.specs.Laws.{EachHasForm, FormIsOne}
 use Rattle.sap_deduce.specs.Answers.{ApplicationsHaveOneOutcome, ApplicationsHaveOneAnswer, CausesAreOne, ApplicationsHaveSomeAnswer}
-use Rattle.sap_deduce.specs.Entries.{Entry, Entries, terms_of, AreTermsAt, IsApplication, Applies, IsCause, Gains}
-use Rattle.sap_deduce.specs.declared.deny.Deny.{Deny}
+use Rattle.sap_deduce.specs.Entries.{Entry, Entries, terms_of, AreTermsAt, IsApplication, Gains}
 use Rattle.sap_deduce.specs.declared.deny.Deny.TheVariants.{Mem, NotPublic, Arity, NoEntry, TermLarge}
 use Rattle.sap_deduce.specs.declared.origin.Origin.TheVariants.{Apply}
 
