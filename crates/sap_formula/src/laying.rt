@@ -122,11 +122,7 @@ fn note(seen: &mut NameSet, n: &Name) -> Result<(), Mem>
 }
 
 // The slot of an occurrence, none where it fills the next one, which is the name's from here on.
-pub(crate) fn mark(
-    spot: &Spot<'_>,
-    seen: &mut NameSet,
-    n: &Name,
-) -> Result<Option<u64>, Mem>
+pub(crate) fn mark(spot: &Spot<'_>, seen: &mut NameSet, n: &Name) -> Result<Option<u64>, Mem>
     ensures slot { IfOk result (λ k. k ≡ slot_at (place spot.now) seen.old n.now) }
     ensures seen { OnOk result (seen.new ≡ noted (slot_at (place spot.now) seen.old n.now) seen.old n.now) }
 {
@@ -140,12 +136,7 @@ pub(crate) fn mark(
 }
 
 // Puts the slot of an occurrence behind the other marks.
-fn lay_name(
-    spot: &Spot<'_>,
-    seen: &mut NameSet,
-    marks: &mut Marks,
-    n: &Name,
-) -> Result<(), Mem>
+fn lay_name(spot: &Spot<'_>, seen: &mut NameSet, marks: &mut Marks, n: &Name) -> Result<(), Mem>
     ensures marks { OnOk result (marks.new ≡ marks.old ++ slot_at (place spot.now) seen.old n.now ∷ []) }
     ensures seen { OnOk result (seen.new ≡ noted (slot_at (place spot.now) seen.old n.now) seen.old n.now) }
 {
