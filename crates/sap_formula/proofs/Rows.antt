@@ -1,16 +1,17 @@
 -- The map of a trace's facts.
-use Rattle.std.proofs.Common.{◌≡◌, ℕ, suc, ◌+◌, List, [], ◌∷◌, ◌++◌, Bool, true, false, Some, cond, drop, length, map, append_assoc, append-nil, refl, sym, ap, subst, ◌∙◌, if◌then◌else◌, arith}
+use Rattle.std.proofs.Common.{◌≡◌, ℕ, suc, ◌+◌, List, [], ◌∷◌, ◌++◌, Bool, true, false, Some, drop, length, map, append_assoc, append-nil, refl, sym, ap, ◌∙◌, if◌then◌else◌, arith}
 use Rattle.std.specs.Prelude.{slice_get}
+use Rattle.std.specs.Option.{unwrap_or}
 use Rattle.std.specs.Str.{bytes_eq}
 use Rattle.std.proofs.lemmas.List.{length-append, length-map, map_push}
 use Rattle.std.proofs.lemmas.Slice.Eq.{bytes_eq-Decides}
-use Rattle.indexmap.specs.IndexMap.{IndexMap, get}
 use Rattle.sap_formula.specs.Cost.{time_facts, trace_facts}
 use Rattle.sap_formula.specs.code.PlanView.{sight}
 use Rattle.sap_formula.specs.code.Ready.{sights, sights_at, sights_from}
-use Rattle.sap_formula.specs.code.Rows.{Adds, if_named, in_row, row_of}
+use Rattle.sap_formula.specs.code.Rows.{Adds, if_named, row_of}
 use Rattle.sap_formula.specs.declared.sighted.Sighted.{Sighted}
 use Rattle.sap_terms.proofs.PlainLaws.Lists.{drop_got}
+use Rattle.sap_terms.specs.NameMap.{Puts, items_at, value_at}
 use Rattle.sap_terms.specs.Trace.{Trace}
 use Rattle.sap_terms.specs.declared.fact.Fact.{Fact}
 
@@ -23,28 +24,28 @@ test_turned m n = by (bytes_eq m n) refl (bytes_eq n m) refl where
   by false e false h = e ∙ sym h
 
 -- a fact more in the row of its name
-pub behind_row : {S : Type 0} (old new : IndexMap (List ℕ) (List Sighted) S) (s : Sighted) (row : List Sighted) → get bytes_eq old s.fact.now.name ≡ Some row
-    → ((n : List ℕ) → get bytes_eq new n ≡ cond (bytes_eq s.fact.now.name n) (Some (row ++ s ∷ [])) (get bytes_eq old n)) → Adds old new (λ n. if_named n s)
-behind_row old new s row at after n = by (bytes_eq s.fact.now.name n) refl where
+pub behind_row : (old new : List (List ℕ × List Sighted)) (s : Sighted) → Puts old new s.fact.now.name (Some (items_at old s.fact.now.name ++ s ∷ [])) → Adds old new (λ n. if_named n s)
+behind_row old new s put n = by (bytes_eq s.fact.now.name n) refl where
   name : List ℕ
   name = s.fact.now.name
 
+  longer : List Sighted
+  longer = items_at old name ++ s ∷ []
+
   by : (b : Bool) → bytes_eq s.fact.now.name n ≡ b → row_of new n ≡ row_of old n ++ if_named n s
   by true e =
-      let same : name ≡ n = (bytes_eq-Decides name n).0 e in
-      let here : get bytes_eq new n ≡ Some (row ++ s ∷ []) = after n ∙ ap (λ b. cond b (Some (row ++ s ∷ [])) (get bytes_eq old n)) e in
-      let there : get bytes_eq old n ≡ Some row = subst (λ (m : List ℕ). get bytes_eq old m ≡ Some row) same at in
-      let new_row : row_of new n ≡ map sight row ++ sight s ∷ [] = ap in_row here ∙ map_push sight row s in
-      let old_row : row_of old n ≡ map sight row = ap in_row there in
+      let here : value_at new n ≡ Some longer = put n ∙ ap (λ (b : Bool). if b then Some longer else value_at old n) e in
+      let new_row : row_of new n ≡ row_of old name ++ sight s ∷ [] = ap (λ o. map sight (unwrap_or o [])) here ∙ map_push sight (items_at old name) s in
+      let old_row : row_of old name ≡ row_of old n = ap (row_of old) ((bytes_eq-Decides name n).0 e) in
       let one : if_named n s ≡ sight s ∷ [] = ap (λ (b : Bool). if b then sight s ∷ [] else []) (test_turned n name ∙ e) in
-      cc
+      new_row ∙ (λ i. old_row i ++ sym one i)
   by false e =
-      let here : get bytes_eq new n ≡ get bytes_eq old n = after n ∙ ap (λ b. cond b (Some (row ++ s ∷ [])) (get bytes_eq old n)) e in
+      let here : value_at new n ≡ value_at old n = put n ∙ ap (λ (b : Bool). if b then Some longer else value_at old n) e in
       let none : if_named n s ≡ [] = ap (λ (b : Bool). if b then sight s ∷ [] else []) (test_turned n name ∙ e) in
-      ap in_row here ∙ sym (append-nil (row_of old n)) ∙ ap (λ z. row_of old n ++ z) (sym none)
+      ap (λ o. map sight (unwrap_or o [])) here ∙ sym (append-nil (row_of old n)) ∙ ap (λ z. row_of old n ++ z) (sym none)
 
 -- one time more
-pub times_more : {S : Type 0} (tr : Trace) (rows more : IndexMap (List ℕ) (List Sighted) S) (k : ℕ) (p : List Fact) → ((n : List ℕ) → sights n tr ≡ row_of rows n ++ sights_from n k (drop k tr))
+pub times_more : (tr : Trace) (rows more : List (List ℕ × List Sighted)) (k : ℕ) (p : List Fact) → ((n : List ℕ) → sights n tr ≡ row_of rows n ++ sights_from n k (drop k tr))
     → slice_get tr k ≡ Some p → Adds rows more (λ n. sights_at n k p) → (n : List ℕ) → sights n tr ≡ row_of more n ++ sights_from n (k + 1) (drop (k + 1) tr)
 times_more tr rows more k p i h a n =
     let rest = sights_from n (k + 1) (drop (k + 1) tr) in

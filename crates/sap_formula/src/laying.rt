@@ -12,15 +12,14 @@ ghost use Rattle.sap_terms.specs.View.{tree};
 
 use crate::plan::{AtomPlan, GuardPlan, Marks};
 use crate::{Binder, Binders, Formula, ReadyTrace};
-use indexmap::IndexSet;
-use sap_terms::{Copied, Fact, Items, Mem, Name, Named, Term, TermList};
+use sap_terms::{Copied, Fact, Items, Mem, Name, NameSet, Named, Term, TermList};
 use std::alloc::Global;
 
 // The names of the slots, quantifier by quantifier, the innermost first.
 #[derive(Clone, Copy)]
 pub(crate) enum Levels<'a> {
     Outside,
-    Inside(&'a IndexSet<Name>, &'a Levels<'a>),
+    Inside(&'a NameSet, &'a Levels<'a>),
 }
 
 // Where an atom stands.
@@ -55,7 +54,7 @@ fn slot_count(levels: &Levels<'_>) -> Result<u64, Mem>
 {
     match levels {
         Levels::Outside => Ok(0),
-        Levels::Inside(names, outer) => added(slot_count(outer)?, names.len() as u64),
+        Levels::Inside(names, outer) => added(slot_count(outer)?, names.len()),
     }
 }
 
@@ -65,8 +64,8 @@ pub(crate) fn slot_in(levels: &Levels<'_>, n: &Name) -> Result<Option<u64>, Mem>
 {
     match levels {
         Levels::Outside => Ok(None),
-        Levels::Inside(names, outer) => match names.get_index_of(n) {
-            Some(k) => Ok(Some(added(slot_count(outer)?, k as u64)?)),
+        Levels::Inside(names, outer) => match names.place_of(n) {
+            Some(k) => Ok(Some(added(slot_count(outer)?, k)?)),
             None => slot_in(outer, n),
         },
     }
@@ -104,56 +103,44 @@ fn binds(bs: &Named<Binder>, n: &Name) -> bool
 }
 
 // The slot of a name, where these names have slots already; none where it is to get the next.
-fn slot_at(spot: &Spot<'_>, seen: &IndexSet<Name>, n: &Name) -> Result<Option<u64>, Mem>
-    ensures { IfOk result (λ k. k ≡ slot_at (place spot.now) seen.now.keys n.now) }
+fn slot_at(spot: &Spot<'_>, seen: &NameSet, n: &Name) -> Result<Option<u64>, Mem>
+    ensures { IfOk result (λ k. k ≡ slot_at (place spot.now) seen.now n.now) }
 {
-    match seen.get_index_of(n) {
-        Some(k) => Ok(Some(added(slots_outside(spot)?, k as u64)?)),
+    match seen.place_of(n) {
+        Some(k) => Ok(Some(added(slots_outside(spot)?, k)?)),
         None => slot_outside(spot, n),
     }
 }
 
 // Puts a new name behind the others.
-fn note(alloc: Global, seen: &mut IndexSet<Name>, n: &Name) -> Result<(), Mem>
-    requires { list_any (bytes_eq n.now) seen.old.keys ≡ false }
-    ensures { OnOk result (seen.new.keys ≡ seen.old.keys ++ n.now ∷ []) }
+fn note(seen: &mut NameSet, n: &Name) -> Result<(), Mem>
+    requires { list_any (bytes_eq n.now) seen.old ≡ false }
+    ensures { OnOk result (seen.new ≡ seen.old ++ n.now ∷ []) }
 {
-    let name = n.copy(alloc)?;
-    seen.insert(name)?;
+    seen.insert(n)?;
     Ok(())
 }
 
 // The slot of an occurrence, none where it fills the next one, which is the name's from here on.
-pub(crate) fn mark(
-    alloc: Global,
-    spot: &Spot<'_>,
-    seen: &mut IndexSet<Name>,
-    n: &Name,
-) -> Result<Option<u64>, Mem>
-    ensures slot { IfOk result (λ k. k ≡ slot_at (place spot.now) seen.old.keys n.now) }
-    ensures seen { OnOk result (seen.new.keys ≡ noted (slot_at (place spot.now) seen.old.keys n.now) seen.old.keys n.now) }
+pub(crate) fn mark(spot: &Spot<'_>, seen: &mut NameSet, n: &Name) -> Result<Option<u64>, Mem>
+    ensures slot { IfOk result (λ k. k ≡ slot_at (place spot.now) seen.old n.now) }
+    ensures seen { OnOk result (seen.new ≡ noted (slot_at (place spot.now) seen.old n.now) seen.old n.now) }
 {
     match slot_at(spot, seen, n)? {
         Some(k) => Ok(Some(k)),
         None => {
-            note(alloc, seen, n)?;
+            note(seen, n)?;
             Ok(None)
         }
     }
 }
 
 // Puts the slot of an occurrence behind the other marks.
-fn lay_name(
-    alloc: Global,
-    spot: &Spot<'_>,
-    seen: &mut IndexSet<Name>,
-    marks: &mut Marks,
-    n: &Name,
-) -> Result<(), Mem>
-    ensures marks { OnOk result (marks.new ≡ marks.old ++ slot_at (place spot.now) seen.old.keys n.now ∷ []) }
-    ensures seen { OnOk result (seen.new.keys ≡ noted (slot_at (place spot.now) seen.old.keys n.now) seen.old.keys n.now) }
+fn lay_name(spot: &Spot<'_>, seen: &mut NameSet, marks: &mut Marks, n: &Name) -> Result<(), Mem>
+    ensures marks { OnOk result (marks.new ≡ marks.old ++ slot_at (place spot.now) seen.old n.now ∷ []) }
+    ensures seen { OnOk result (seen.new ≡ noted (slot_at (place spot.now) seen.old n.now) seen.old n.now) }
 {
-    let slot = mark(alloc, spot, seen, n)?;
+    let slot = mark(spot, seen, n)?;
     marks.push(slot)
 }
 
@@ -161,18 +148,17 @@ fn lay_name(
 #[cycle(lay)]
 #[tactic(auto, using(crate::proofs::Marks::lay_laws))]
 pub(crate) fn lay(
-    alloc: Global,
     spot: &Spot<'_>,
-    seen: &mut IndexSet<Name>,
+    seen: &mut NameSet,
     marks: &mut Marks,
     t: &Term,
 ) -> Result<(), Mem>
-    ensures marks { OnOk result (marks.new ≡ marks.old ++ (marked (place spot.now) seen.old.keys (tree t.now)).marks) }
-    ensures seen { OnOk result (seen.new.keys ≡ (marked (place spot.now) seen.old.keys (tree t.now)).seen) }
+    ensures marks { OnOk result (marks.new ≡ marks.old ++ (marked (place spot.now) seen.old (tree t.now)).marks) }
+    ensures seen { OnOk result (seen.new ≡ (marked (place spot.now) seen.old (tree t.now)).seen) }
 {
     match t {
-        Term::Var(v) => lay_name(alloc, spot, seen, marks, &v.name),
-        Term::App(_, ts) => lay_all(alloc, spot, seen, marks, ts),
+        Term::Var(v) => lay_name(spot, seen, marks, &v.name),
+        Term::App(_, ts) => lay_all(spot, seen, marks, ts),
         _ => Ok(()),
     }
 }
@@ -181,17 +167,16 @@ pub(crate) fn lay(
 #[cycle(lay)]
 #[tactic(auto, using(crate::proofs::Marks::lay_laws))]
 pub(crate) fn lay_all(
-    alloc: Global,
     spot: &Spot<'_>,
-    seen: &mut IndexSet<Name>,
+    seen: &mut NameSet,
     marks: &mut Marks,
     ts: &TermList,
 ) -> Result<(), Mem>
-    ensures marks { OnOk result (marks.new ≡ marks.old ++ (marked_all (place spot.now) seen.old.keys (trees_of ts.now)).marks) }
-    ensures seen { OnOk result (seen.new.keys ≡ (marked_all (place spot.now) seen.old.keys (trees_of ts.now)).seen) }
+    ensures marks { OnOk result (marks.new ≡ marks.old ++ (marked_all (place spot.now) seen.old (trees_of ts.now)).marks) }
+    ensures seen { OnOk result (seen.new ≡ (marked_all (place spot.now) seen.old (trees_of ts.now)).seen) }
 {
     for k in 0..ts.len() {
-        lay(alloc, spot, seen, marks, ts.at(k))?;
+        lay(spot, seen, marks, ts.at(k))?;
     }
     Ok(())
 }
@@ -200,15 +185,15 @@ pub(crate) fn lay_all(
 pub(crate) fn lay_atom<'a>(
     alloc: Global,
     spot: &Spot<'_>,
-    seen: &mut IndexSet<Name>,
+    seen: &mut NameSet,
     a: &ActionAtom<'a>,
 ) -> Result<AtomPlan<'a>, Mem>
-    ensures atom { IfOk result (λ r. atom r ≡ atom_of (place spot.now) seen.old.keys (action a.now)) }
-    ensures seen { OnOk result (seen.new.keys ≡ seen_behind (place spot.now) seen.old.keys (action a.now)) }
+    ensures atom { IfOk result (λ r. atom r ≡ atom_of (place spot.now) seen.old (action a.now)) }
+    ensures seen { OnOk result (seen.new ≡ seen_behind (place spot.now) seen.old (action a.now)) }
 {
     let mut marks = Marks::new(alloc);
-    lay_all(alloc, spot, seen, &mut marks, &a.fact.args)?;
-    let time = mark(alloc, spot, seen, a.time)?;
+    lay_all(spot, seen, &mut marks, &a.fact.args)?;
+    let time = mark(spot, seen, a.time)?;
     Ok(AtomPlan {
         args: &a.fact.args,
         marks,
@@ -221,12 +206,12 @@ fn lay_guard<'a>(
     alloc: Global,
     trace: &'a ReadyTrace<'_>,
     spot: &Spot<'_>,
-    seen: &mut IndexSet<Name>,
+    seen: &mut NameSet,
     a: &ActionAtom<'a>,
     out: &mut Items<GuardPlan<'a>>,
 ) -> Result<(), Mem>
-    ensures guards { OnOk result (map guard out.new ≡ map guard out.old ++ guards_of trace.now (place spot.now) seen.old.keys (action a.now ∷ [])) }
-    ensures seen { OnOk result (seen.new.keys ≡ seen_behind (place spot.now) seen.old.keys (action a.now)) }
+    ensures guards { OnOk result (map guard out.new ≡ map guard out.old ++ guards_of trace.now (place spot.now) seen.old (action a.now ∷ [])) }
+    ensures seen { OnOk result (seen.new ≡ seen_behind (place spot.now) seen.old (action a.now)) }
 {
     let atom = lay_atom(alloc, spot, seen, a)?;
     let facts = trace.named(&a.fact.name);
@@ -238,11 +223,11 @@ pub(crate) fn lay_guards<'a>(
     alloc: Global,
     trace: &'a ReadyTrace<'_>,
     spot: &Spot<'_>,
-    seen: &mut IndexSet<Name>,
+    seen: &mut NameSet,
     actions: &Items<ActionAtom<'a>>,
 ) -> Result<Items<GuardPlan<'a>>, Mem>
-    ensures guards { IfOk result (λ gs. map guard gs ≡ guards_of trace.now (place spot.now) seen.old.keys (map action actions.now)) }
-    ensures seen { OnOk result (seen.new.keys ≡ seen_by (place spot.now) seen.old.keys (map action actions.now)) }
+    ensures guards { IfOk result (λ gs. map guard gs ≡ guards_of trace.now (place spot.now) seen.old (map action actions.now)) }
+    ensures seen { OnOk result (seen.new ≡ seen_by (place spot.now) seen.old (map action actions.now)) }
 {
     let mut out = Items::new(alloc);
     for k in 0..actions.len() {

@@ -18,8 +18,7 @@ use crate::laying::{
 use crate::plan::{GuardPlan, Marks, Plan};
 use crate::remaking::both;
 use crate::{Binders, Formula, ReadyTrace};
-use indexmap::IndexSet;
-use sap_terms::{Fact, Items, Mem, Name, Term};
+use sap_terms::{Fact, Items, Mem, Name, NameSet, Term};
 use std::alloc::Global;
 
 /// What of the formula is left to test, made ready for the trace, inside these levels. It takes time in
@@ -65,7 +64,7 @@ fn quantified<'a>(
 ) -> Result<Box<Plan<'a>>, Mem>
     ensures { IfOk result (λ r. plan r.value ≡ folded (quantified trace.now every (layers levels.now) bs.now (form f.now))) }
 {
-    let mut names = IndexSet::new(alloc);
+    let mut names = NameSet::new(alloc);
     let guards = ready_guards(alloc, trace, every, levels, bs, f, &mut names)?;
     if are_idle(&guards) {
         return always(alloc, every);
@@ -84,10 +83,10 @@ fn ready_guards<'a>(
     levels: &Levels<'_>,
     bs: &Binders,
     f: &'a Formula,
-    names: &mut IndexSet<Name>,
+    names: &mut NameSet,
 ) -> Result<Items<GuardPlan<'a>>, Mem>
-    ensures guards { IfOk result (λ gs. map guard gs ≡ guards_of trace.now (place_of bs.now (layers levels.now)) names.old.keys (guards_over every (form f.now))) }
-    ensures names { OnOk result (names.new.keys ≡ seen_by (place_of bs.now (layers levels.now)) names.old.keys (guards_over every (form f.now))) }
+    ensures guards { IfOk result (λ gs. map guard gs ≡ guards_of trace.now (place_of bs.now (layers levels.now)) names.old (guards_over every (form f.now))) }
+    ensures names { OnOk result (names.new ≡ seen_by (place_of bs.now (layers levels.now)) names.old (guards_over every (form f.now))) }
 {
     let bound = named_binders(alloc, bs)?;
     let actions = guards_over(alloc, every, f)?;
@@ -140,7 +139,7 @@ fn ready_action<'a>(
         Extent::Rest => always(alloc, true),
         _ => {
             let spot = Spot::Anywhere(&*levels);
-            let mut names = IndexSet::new(alloc);
+            let mut names = NameSet::new(alloc);
             let atom = ActionAtom { fact, time };
             let laid = lay_atom(alloc, &spot, &mut names, &atom)?;
             Ok(Box::new(alloc, Plan::Shows(&fact.name, laid))?)
@@ -153,9 +152,9 @@ fn marks_of(alloc: Global, levels: &Levels<'_>, t: &Term) -> Result<Marks, Mem>
     ensures { IfOk result (λ ms. ms ≡ (marked (inside (layers levels.now)) [] (tree t.now)).marks) }
 {
     let spot = Spot::Anywhere(&*levels);
-    let mut names = IndexSet::new(alloc);
+    let mut names = NameSet::new(alloc);
     let mut marks = Marks::new(alloc);
-    lay(alloc, &spot, &mut names, &mut marks, t)?;
+    lay(&spot, &mut names, &mut marks, t)?;
     Ok(marks)
 }
 

@@ -14,8 +14,7 @@ use crate::guards::guard_names;
 use crate::scope::{Scope, binder_name, binds_message, binds_time, entered};
 use crate::visible::is_hidden;
 use crate::{Binders, Formula, FormulaFlaw};
-use indexmap::IndexSet;
-use sap_terms::{Fact, Mem, Name, Signature, Term, TermList, Var};
+use sap_terms::{Fact, Mem, Name, NameSet, Signature, Term, TermList, Var};
 use std::alloc::Global;
 
 // What is looked for: a fault under a signature.
@@ -136,8 +135,8 @@ fn in_times<'a>(aim: &Aim<'_>, scope: &Scope<'_>, i: &'a Name, j: &'a Name) -> O
 }
 
 // The name of the first binder that isn't among these.
-fn first_outside<'a>(names: &IndexSet<Name>, bs: &'a Binders) -> Option<&'a Name>
-    ensures { option_copied result ≡ first_outside names.now.keys bs.now }
+fn first_outside<'a>(names: &NameSet, bs: &'a Binders) -> Option<&'a Name>
+    ensures { option_copied result ≡ first_outside names.now bs.now }
 {
     for b in bs.as_slice() {
         let name = binder_name(b);

@@ -1,13 +1,10 @@
 //! The facts of a trace by their names.
-ghost use Rattle.std.specs.Prelude.{◌≡◌, Some, [], ◌∷◌, IfOk, OnOk, map};
-ghost use Rattle.std.specs.Str.{bytes_eq};
-ghost use Rattle.indexmap.specs.IndexMap.{Updates};
+ghost use Rattle.std.specs.Prelude.{◌≡◌, IfOk, OnOk, map};
 ghost use Rattle.sap_formula.specs.code.PlanView.{sight};
 ghost use Rattle.sap_formula.specs.code.Ready.{sights, sights_at};
 ghost use Rattle.sap_formula.specs.code.Rows.{Adds, IsOf, if_named, row_of};
 
-use indexmap::IndexMap;
-use sap_terms::{Copied, Fact, FactList, Items, Mem, Name, Trace};
+use sap_terms::{Fact, FactList, Items, Mem, Name, NameMap, Trace};
 use std::alloc::Global;
 
 /// A fact of a trace and its time.
@@ -18,27 +15,13 @@ pub(crate) struct Sighted<'t> {
 }
 
 /// The facts of a trace by their names.
-pub(crate) type Rows<'t> = IndexMap<Name, Items<Sighted<'t>>>;
-
-// Gives a name without a row one with its first fact.
-fn start_row<'t>(alloc: Global, s: Sighted<'t>, rows: &mut Rows<'t>) -> Result<(), Mem>
-    ensures { OnOk result (Updates bytes_eq rows.old rows.new s.entry.fact.now.name (Some (s.entry ∷ []))) }
-{
-    let mut row = Items::new(alloc);
-    row.push(s)?;
-    let name = s.fact.name.copy(alloc)?;
-    rows.insert(name, row)?;
-    Ok(())
-}
+pub(crate) type Rows<'t> = NameMap<Items<Sighted<'t>>>;
 
 // Puts a fact last in the row of its name.
 fn note<'t>(alloc: Global, s: Sighted<'t>, rows: &mut Rows<'t>) -> Result<(), Mem>
     ensures { OnOk result (Adds rows.old rows.new (λ n. if_named n s.entry)) }
 {
-    match rows.get_mut(&s.fact.name) {
-        Some(row) => row.push(s),
-        None => start_row(alloc, s, rows),
-    }
+    rows.push(alloc, &s.fact.name, s)
 }
 
 // Puts the facts of a time last in their rows.
@@ -60,7 +43,7 @@ fn note_facts<'t>(
 pub(crate) fn rows_of<'t>(alloc: Global, trace: &'t Trace) -> Result<Rows<'t>, Mem>
     ensures { IfOk result (λ r. IsOf trace.now r) }
 {
-    let mut rows = IndexMap::new(alloc);
+    let mut rows = NameMap::new(alloc);
     for k in 0..trace.len() {
         note_facts(alloc, k, trace.at(k), &mut rows)?;
     }

@@ -1,12 +1,13 @@
 -- The place of a name among names, and whether it is there.
 use Rattle.std.proofs.Common.{◌≡◌, ℕ, zero, suc, ◌+◌, Bool, true, false, not, ◌||◌, cond, arith, List, [], ◌∷◌, ◌++◌, length, Option, Some, None, option_map, is_some, if◌then◌else◌, refl, ap, sym, ◌∙◌}
 use Rattle.std.specs.Str.{bytes_eq}
-use Rattle.std.specs.List.{list_any, position, position_or_len}
+use Rattle.std.specs.List.{IsDistinct, list_any, position, position_or_len}
 use Rattle.std.specs.Prelude.{slice_get}
 use Rattle.std.proofs.lemmas.List.Folds.{list_any-append}
 use Rattle.std.proofs.lemmas.Slice.Eq.{bytes_eq-Decides}
 use Rattle.std.proofs.lemmas.Cmp.{nat_list_eq_equiv}
 use Rattle.std.proofs.lemmas.Grind.{common_steps}
+use Rattle.std.proofs.lemmas.Map.Keys.{IsDistinct-push}
 use Rattle.sap_terms.proofs.NamedLemmas.{place_of-below}
 use Rattle.sap_terms.specs.NameSet.{with_name}
 use Rattle.sap_terms.specs.code.Places.{place_of}
@@ -116,3 +117,12 @@ more-there names after n e k = ap (list_any (bytes_eq k)) e ∙ one-more names n
 pub got-last : (names : List (List ℕ)) (n : List ℕ) → slice_get (names ++ n ∷ []) (length names) ≡ Some n
 got-last [] n = refl
 got-last (m ∷ names) n = got-last names n
+
+-- no name is twice among none
+pub none_twice : IsDistinct bytes_eq []
+unfolding IsDistinct
+none_twice = tt
+
+-- nor among names with one more that isn't there
+pub one_new : (names after : List (List ℕ)) (n : List ℕ) → IsDistinct bytes_eq names → None ≡ place_of (λ (m : List ℕ). m) names n → after ≡ names ++ n ∷ [] → IsDistinct bytes_eq after
+one_new names after n once e last = rw last (IsDistinct-push nat_list_eq_equiv names n once (place-none names n (sym e)).any)

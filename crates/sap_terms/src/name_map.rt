@@ -1,9 +1,9 @@
 //! Maps from names.
-ghost use Rattle.std.specs.Prelude.{◌≡◌, [], None, Some, OnOk, OnErr, is_some};
+ghost use Rattle.std.specs.Prelude.{◌≡◌, ◌∷◌, ◌++◌, [], None, Some, OnOk, OnErr, is_some};
 ghost use Rattle.std.specs.Option.{option_copied};
-ghost use Rattle.sap_terms.specs.NameMap.{Puts, value_at};
+ghost use Rattle.sap_terms.specs.NameMap.{Puts, items_at, value_at};
 
-use crate::{Mem, Name};
+use crate::{Copied, Items, Mem, Name};
 use std::alloc::Global;
 use std::collections::BTreeMap;
 use std::marker::Model;
@@ -67,5 +67,50 @@ impl<T: Drop> NameMap<T> {
         ensures { Puts self.old self.new name.now None }
     {
         self.pairs.remove(name);
+    }
+}
+
+// Gives the name a list of this item alone.
+#[tactic(auto, using(crate::proofs::PlainLaws::Maps::map_laws))]
+fn start<T: Drop>(
+    alloc: Global,
+    pairs: &mut BTreeMap<Name, Items<T>>,
+    name: &Name,
+    item: T,
+) -> Result<(), Mem>
+    ensures ok { OnOk result (Puts pairs.old.entries pairs.new.entries name.now (Some (item ∷ []))) }
+    ensures err { OnErr result (pairs.new.entries ≡ pairs.old.entries) }
+{
+    let mut items = Items::new(alloc);
+    items.push(item)?;
+    let copy = name.copy(alloc)?;
+    pairs.insert(copy, items)?;
+    Ok(())
+}
+
+// Puts the item last in the name's list.
+fn put_last<T: Drop>(
+    alloc: Global,
+    pairs: &mut BTreeMap<Name, Items<T>>,
+    name: &Name,
+    item: T,
+) -> Result<(), Mem>
+    ensures ok { OnOk result (Puts pairs.old.entries pairs.new.entries name.now (Some (items_at pairs.old.entries name.now ++ item ∷ []))) }
+    ensures err { OnErr result (pairs.new.entries ≡ pairs.old.entries) }
+{
+    match pairs.get_mut(name) {
+        Some(items) => items.push(item),
+        None => start(alloc, pairs, name, item),
+    }
+}
+
+impl<T: Drop> NameMap<Items<T>> {
+    /// Puts the item last in the name's list, which is made where it has none. Refused, the item is dropped, and the map is
+    /// as it was.
+    pub fn push(&mut self, alloc: Global, name: &Name, item: T) -> Result<(), Mem>
+        ensures ok { OnOk result (Puts self.old self.new name.now (Some (items_at self.old name.now ++ item ∷ []))) }
+        ensures err { OnErr result (self.new ≡ self.old) }
+    {
+        put_last(alloc, &mut self.pairs, name, item)
     }
 }

@@ -1,6 +1,6 @@
 //! Sets of names.
 ghost use Rattle.std.specs.Prelude.{◌≡◌, ◌||◌, ℕ, List, [], not, length, position, slice_get, Some, IfOk, OnOk, OnErr};
-ghost use Rattle.std.specs.List.{list_any, position_or_len};
+ghost use Rattle.std.specs.List.{IsDistinct, list_any, position_or_len};
 ghost use Rattle.std.specs.Str.{bytes_eq};
 ghost use Rattle.sap_terms.specs.NameSet.{with_name};
 
@@ -29,6 +29,11 @@ impl Model for NameSet {
     ghost Value = { List (List ℕ) };
 
     ghost view = { λ a. a.names };
+
+    ghost use Rattle.std.specs.List.{IsDistinct};
+    ghost use Rattle.std.specs.Str.{bytes_eq};
+
+    ghost invariant = { λ a. IsDistinct bytes_eq a.names };
 }
 
 impl NameSet {
@@ -62,9 +67,10 @@ impl NameSet {
         self.names.place_of(name)
     }
 
-    /// The names, in the order in which they came.
+    /// The names, in the order in which they came, of which no two are the same.
     pub fn as_slice(&self) -> &[Name]
-        ensures { result.now ≡ self.now }
+        ensures names { result.now ≡ self.now }
+        ensures once { IsDistinct bytes_eq self.now }
     {
         self.names.as_slice()
     }

@@ -10,7 +10,7 @@ use Rattle.sap_formula.specs.declared.laying.Spot.TheVariants.{Anywhere, Guards}
 -- the names of the slots, the innermost quantifier first
 abbrev pub layers : Levels → Layers
 layers Outside = []
-layers (Inside' names a outer) = names.now.keys ∷ layers outer
+layers (Inside' names a outer) = names.now ∷ layers outer
 
 -- where an atom stands
 abbrev pub place : Spot → Place

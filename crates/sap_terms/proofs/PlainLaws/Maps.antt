@@ -1,11 +1,13 @@
 -- Maps whose names are in order, looked up by the names' bytes.
-use Rattle.std.proofs.Common.{◌≡◌, ℕ, List, Option, cond, sym, ap, ◌∙◌, is_some}
+use Rattle.std.proofs.Common.{◌≡◌, ℕ, List, [], ◌∷◌, ◌++◌, Option, Some, None, cond, sym, ap, ◌∙◌, is_some}
 use Rattle.std.specs.Map.{lookup}
+use Rattle.std.specs.Option.{unwrap_or}
+use Rattle.std.specs.Str.{bytes_eq}
 use Rattle.std.specs.Ordering.{nat_cmp}
 use Rattle.std.specs.Cmp.Lexicographic.{slice_cmp}
 use Rattle.std.specs.BTreeMap.{BTreeMap, get, UpdatesBy}
 use Rattle.std.proofs.lemmas.Map.Text.{is_eq-slice_cmp}
-use Rattle.sap_terms.specs.NameMap.{Puts, value_at}
+use Rattle.sap_terms.specs.NameMap.{Puts, items_at, value_at}
 
 module _ {X : Type 0} where
   -- what is found in the names' order is found by the bytes
@@ -17,5 +19,18 @@ module _ {X : Type 0} where
 
   pub put_by_bytes : (m r : BTreeMap (List ℕ) X) (n : List ℕ) (o : Option X) → UpdatesBy (slice_cmp nat_cmp) (slice_cmp nat_cmp n) m r o → Puts m.entries r.entries n o
   put_by_bytes m r n o h k = sym (by_bytes r k) ∙ h.0 k ∙ (λ i. cond (is_eq-slice_cmp n k i) o (by_bytes m k i))
+
+-- an item more in a name's list
+pub item_by_bytes : {X : Type 0} (m r : BTreeMap (List ℕ) (List X)) (n : List ℕ) (xs ys : List X) (x : X) → get (slice_cmp nat_cmp) m n ≡ Some xs → ys ≡ xs ++ x ∷ [] → UpdatesBy (slice_cmp nat_cmp) (slice_cmp nat_cmp n) m r (Some ys)
+    → Puts m.entries r.entries n (Some (items_at m.entries n ++ x ∷ []))
+item_by_bytes {X} m r n xs ys x at longer h k =
+    let had : items_at m.entries n ≡ xs = ap (λ (o : Option (List X)). unwrap_or o []) (sym (by_bytes m n) ∙ at) in
+    put_by_bytes m r n (Some ys) h k ∙ ap (λ (zs : List X). cond (bytes_eq n k) (Some zs) (value_at m.entries k)) (longer ∙ ap (λ (zs : List X). zs ++ x ∷ []) (sym had))
+
+-- and the first one of a name without a list
+pub first_by_bytes : {X : Type 0} (m : BTreeMap (List ℕ) (List X)) (r : List (List ℕ × List X)) (n : List ℕ) (x : X) → get (slice_cmp nat_cmp) m n ≡ None → Puts m.entries r n (Some (x ∷ [])) → Puts m.entries r n (Some (items_at m.entries n ++ x ∷ []))
+first_by_bytes {X} m r n x none h k =
+    let had : items_at m.entries n ≡ [] = ap (λ (o : Option (List X)). unwrap_or o []) (sym (by_bytes m n) ∙ none) in
+    h k ∙ ap (λ (zs : List X). cond (bytes_eq n k) (Some zs) (value_at m.entries k)) (ap (λ (zs : List X). zs ++ x ∷ []) (sym had))
 
 pub ruleset map_laws = (by_bytes, has_by_bytes, put_by_bytes)

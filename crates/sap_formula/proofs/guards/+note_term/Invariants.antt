@@ -13,4 +13,4 @@ abbrev pub decreases-note_terms : goal.decreases-note_terms
 decreases-note_terms l = 2 * trees_count (trees_of l.ts.now) + 1
 
 abbrev pub invariant-note_terms-loop-k : goal.invariant-note_terms-loop-k
-invariant-note_terms-loop-k l = (n : List ℕ) → (stands_in_any n (trees_of l.ts) || list_any (bytes_eq n) l.initial.names.keys) ≡ (stands_in_any n (trees_of (drop l.k l.ts)) || list_any (bytes_eq n) l.names.keys)
+invariant-note_terms-loop-k l = (n : List ℕ) → (stands_in_any n (trees_of l.ts) || list_any (bytes_eq n) l.initial.names) ≡ (stands_in_any n (trees_of (drop l.k l.ts)) || list_any (bytes_eq n) l.names)

@@ -9,6 +9,6 @@ lay_all-loop-k-preserved t c =
     let p = place c.args.spot.now in
     let l = c.loop-k in
     record {
-      marks = more_marks p l.seen.keys c.lay.new.seen.keys l.marks c.lay.new.marks c.args.ts.now l.k (tree c.at.result.now) c.at.ensures.got c.in_ok-lay.ensures.marks c.in_ok-lay.ensures.seen ∙ l.invariant.marks;
-      seen = more_seen p l.seen.keys c.lay.new.seen.keys c.args.ts.now l.k (tree c.at.result.now) c.at.ensures.got c.in_ok-lay.ensures.seen ∙ l.invariant.seen;
+      marks = more_marks p l.seen c.lay.new.seen l.marks c.lay.new.marks c.args.ts.now l.k (tree c.at.result.now) c.at.ensures.got c.in_ok-lay.ensures.marks c.in_ok-lay.ensures.seen ∙ l.invariant.marks;
+      seen = more_seen p l.seen c.lay.new.seen c.args.ts.now l.k (tree c.at.result.now) c.at.ensures.got c.in_ok-lay.ensures.seen ∙ l.invariant.seen;
     }

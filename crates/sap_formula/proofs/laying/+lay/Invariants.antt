@@ -13,6 +13,6 @@ decreases-lay_all l = 2 * trees_count (trees_of l.ts.now) + 1
 
 abbrev pub invariant-lay_all-loop-k : goal.invariant-lay_all-loop-k
 invariant-lay_all-loop-k l = record {
-  marks : l.marks ++ (marked_all (place l.spot) l.seen.keys (trees_of (drop l.k l.ts))).marks ≡ l.initial.marks ++ (marked_all (place l.spot) l.initial.seen.keys (trees_of l.ts)).marks;
-  seen : (marked_all (place l.spot) l.seen.keys (trees_of (drop l.k l.ts))).seen ≡ (marked_all (place l.spot) l.initial.seen.keys (trees_of l.ts)).seen;
+  marks : l.marks ++ (marked_all (place l.spot) l.seen (trees_of (drop l.k l.ts))).marks ≡ l.initial.marks ++ (marked_all (place l.spot) l.initial.seen (trees_of l.ts)).marks;
+  seen : (marked_all (place l.spot) l.seen (trees_of (drop l.k l.ts))).seen ≡ (marked_all (place l.spot) l.initial.seen (trees_of l.ts)).seen;
 }

@@ -9,6 +9,6 @@ loop-k-preserved c =
     let p = place c.args.spot.now in
     let l = c.loop-k in
     record {
-      guards = more_guards action c.args.trace.now p l.seen.keys c.lay_guard.new.seen.keys (map guard l.out) (map guard c.lay_guard.new.out) c.args.actions.now l.k c.at.result.now c.at.ensures c.in_ok-lay_guard.ensures.guards c.in_ok-lay_guard.ensures.seen ∙ l.invariant.guards;
-      seen = more_seen_by action p l.seen.keys c.lay_guard.new.seen.keys c.args.actions.now l.k c.at.result.now c.at.ensures c.in_ok-lay_guard.ensures.seen ∙ l.invariant.seen;
+      guards = more_guards action c.args.trace.now p l.seen c.lay_guard.new.seen (map guard l.out) (map guard c.lay_guard.new.out) c.args.actions.now l.k c.at.result.now c.at.ensures c.in_ok-lay_guard.ensures.guards c.in_ok-lay_guard.ensures.seen ∙ l.invariant.guards;
+      seen = more_seen_by action p l.seen c.lay_guard.new.seen c.args.actions.now l.k c.at.result.now c.at.ensures c.in_ok-lay_guard.ensures.seen ∙ l.invariant.seen;
     }

@@ -6,6 +6,6 @@ use Rattle.sap_formula.proofs.laying.lay_guards.Given as goal
 
 abbrev pub invariant-loop-k : goal.invariant-loop-k
 invariant-loop-k l = record {
-  guards : map guard l.out ++ guards_of l.trace (place l.spot) l.seen.keys (map action (drop l.k l.actions)) ≡ guards_of l.trace (place l.spot) l.initial.seen.keys (map action l.actions);
-  seen : seen_by (place l.spot) l.seen.keys (map action (drop l.k l.actions)) ≡ seen_by (place l.spot) l.initial.seen.keys (map action l.actions);
+  guards : map guard l.out ++ guards_of l.trace (place l.spot) l.seen (map action (drop l.k l.actions)) ≡ guards_of l.trace (place l.spot) l.initial.seen (map action l.actions);
+  seen : seen_by (place l.spot) l.seen (map action (drop l.k l.actions)) ≡ seen_by (place l.spot) l.initial.seen (map action l.actions);
 }

@@ -4,4 +4,4 @@ use Rattle.sap_formula.specs.code.Laid.{place}
 use Rattle.sap_formula.proofs.laying.mark.Goals as goal
 
 pub note-requires : goal.note-requires
-note-requires c = unseen (place c.args.spot.now) c.args.seen.now.keys c.args.n.now (sym c.in_ok-k.ensures ∙ c.in-None.is)
+note-requires c = unseen (place c.args.spot.now) c.args.seen.now c.args.n.now (sym c.in_ok-k.ensures ∙ c.in-None.is)

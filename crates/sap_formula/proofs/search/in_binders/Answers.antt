@@ -9,7 +9,7 @@ pub returns-in_ok-names-in-Unguarded : goal.returns-in_ok-names-in-Unguarded
 returns-in_ok-names-in-Unguarded c =
     let a = c.args.aim.now in
     let f = form c.args.f.now in
-    c.first_outside.ensures ∙ first_unguarded a.sig.now a.reserved f c.in_ok-names-in-Unguarded.names.keys c.args.bs.now c.in_ok-names-in-Unguarded.ensures ∙ ap (λ w. first_name a.sig.now a.reserved w (map (bound f) c.args.bs.now)) (sym c.in-Unguarded.is)
+    c.first_outside.ensures ∙ first_unguarded a.sig.now a.reserved f c.in_ok-names-in-Unguarded.names c.args.bs.now c.in_ok-names-in-Unguarded.ensures ∙ ap (λ w. first_name a.sig.now a.reserved w (map (bound f) c.args.bs.now)) (sym c.in-Unguarded.is)
 
 pub returns-in_default : goal.returns-in_default
 returns-in_default c =

@@ -1,7 +1,7 @@
 use Rattle.std.proofs.Common.{◌≡◌, ◌++◌, ◌∷◌, [], List, ℕ, Some, None, length, not, ap, sym, ◌∙◌}
 use Rattle.std.specs.Prelude.{slice_get}
 use Rattle.sap_terms.specs.code.Places.{place_of}
-use Rattle.sap_terms.proofs.NameSetLemmas.{IsThere, IsNew, place-some, place-none, more-there, got-last}
+use Rattle.sap_terms.proofs.NameSetLemmas.{IsThere, IsNew, place-some, place-none, more-there, got-last, one_new}
 use Rattle.sap_terms.proofs.name_set.NameSet.insert.Goals as goal
 
 -- the same of names that are equal to these
@@ -47,3 +47,7 @@ returns-in_ok-push_first-in-None-clause-there c =
 pub returns-in_ok-push_first-in-None-clause-more : goal.returns-in_ok-push_first-in-None-clause-more
 returns-in_ok-push_first-in-None-clause-more c =
     more-there c.args.self.now c.push_first.new.self c.args.name.now (c.in_ok-push_first-in-None.ensures.ok ∙ (λ i. c.self.view_is i ++ c.in_ok-copy-in-None.ensures i ∷ []) ∙ sym (fresh c.self.inside.names c.args.self.now c.args.name.now c.self.view_is c.in-None.ensures).last)
+
+pub invariant_of-self-in-None : goal.invariant_of-self-in-None
+invariant_of-self-in-None c =
+    one_new c.self.inside.names c.push_first.new.self c.args.name.now c.self.invariant c.in-None.ensures (put c.self.inside.names c.push_first.new.self c.in_ok-copy-in-None.copy c.args.name.now c.in_ok-push_first-in-None.ensures.ok c.in_ok-copy-in-None.ensures)
