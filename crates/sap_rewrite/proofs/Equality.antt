@@ -1,5 +1,5 @@
 -- Theory-equality is an equivalence that symbols and substitutions respect.
-use Rattle.std.proofs.Common.{◌≡◌, ℕ, List, [], ◌∷◌, ◌++◌, refl, inl, inr, Some, None, Option, sym, ◌∙◌}
+use Rattle.std.proofs.Common.{◌≡◌, ℕ, List, [], ◌∷◌, refl, inl, inr, Some, None, Option, sym, ◌∙◌}
 use Rattle.std.specs.Prelude.{All, Contains, ◌⊎◌}
 use Rattle.std.specs.List.{AllZip}
 use Rattle.std.proofs.lemmas.List.Elements.{All-head, All-tail, Contains-push, Contains-append_left, Contains-append_right}
@@ -7,7 +7,7 @@ use Rattle.std.proofs.lemmas.Option.{same_Some}
 use Rattle.sap_terms.specs.Choice.{Choice, instance, instances}
 use Rattle.sap_terms.specs.Equal.{IsStep, forward, backward, inside, IsStepWithin, here, later, IsTheoryEqual, same, next}
 use Rattle.sap_terms.specs.Equations.{Equations, IsInstance, first, second, symmetric, asymmetric, signing, revealing, revealed}
-use Rattle.sap_terms.specs.Normal.{IsNormal, AreNormal, IsNoLeftSide, IsNormalForm}
+use Rattle.sap_terms.specs.Normal.{IsNormal, AreNormal, IsNoLeftSide}
 use Rattle.sap_terms.specs.Tree.{Tree, variable, public, fresh, apply, Trees, none, more, trees_of}
 use Rattle.sap_terms.specs.Variables.{tree_vars, trees_vars}
 use Rattle.sap_terms.specs.declared.var.Var.{Var}

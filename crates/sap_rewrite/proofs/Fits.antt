@@ -9,13 +9,12 @@ use Rattle.sap_terms.specs.declared.term.Term.{Term}
 use Rattle.sap_terms.specs.declared.term.Term.TheVariants.{Var, Public, Fresh, App}
 use Rattle.sap_terms.specs.Equations.{Equations}
 use Rattle.sap_terms.proofs.PlainLaws.Tests.{and_left, and_right, and_true}
-use Rattle.sap_terms.proofs.PlainLaws.Trees.{item_le-trees_count}
 use Rattle.sap_rewrite.specs.code.Reduce.{nf}
 use Rattle.sap_rewrite.specs.declared.within.Counted.{Counted}
 use Rattle.sap_rewrite.specs.code.Fit.{form_fits, each_fits, all_fit}
 use Rattle.sap_rewrite.specs.Large.{SomeSubterm, itself, below, SomeSubtermWithin, here, later, HasLargeForm}
 use Rattle.sap_rewrite.proofs.NormalForms.{has_normal_form, one_normal_form}
-use Rattle.sap_rewrite.proofs.ListLaws.{nf-variable, nf-public, nf-fresh, nf-apply}
+use Rattle.sap_rewrite.proofs.ListLaws.{nf-variable, nf-public, nf-fresh}
 
 pub trees_count-push : (ts : List Tree) (t : Tree) → trees_count (trees_of (ts ++ t ∷ [])) ≡ trees_count (trees_of ts) + node_count t
 trees_count-push [] t = omega arith

@@ -1,16 +1,16 @@
 -- Instances of patterns under normal substitutions.
-use Rattle.std.proofs.Common.{◌≡◌, ℕ, List, true, sym, refl, ap, subst, ◌∙◌, inl, inr}
+use Rattle.std.proofs.Common.{◌≡◌, ℕ, List, sym, refl, ap, subst, ◌∙◌, inl, inr}
 use Rattle.std.specs.Prelude.{◌⊎◌}
 use Rattle.sap_terms.specs.Destructors.{HasDestructor, AnyHasDestructor}
 use Rattle.sap_terms.specs.Laws.{DestructorsHeadLeftSides}
-use Rattle.sap_terms.specs.Signature.{Sig, is_destructor_of}
+use Rattle.sap_terms.specs.Signature.{Sig}
 use Rattle.sap_terms.specs.declared.var.Var.{Var}
 use Rattle.sap_terms.specs.Tree.{Tree, variable, public, fresh, apply, Trees, none, more}
 use Rattle.sap_terms.specs.Ground.{IsGround, AreGround}
 use Rattle.sap_terms.specs.Choice.{Choice, instance, instances}
 use Rattle.sap_terms.specs.Equations.{Equations, equations, IsInstance, IsDestructor}
 use Rattle.sap_terms.specs.Equal.{IsTheoryEqual, same}
-use Rattle.sap_terms.specs.Normal.{IsNormal, AreNormal, IsNoLeftSide, EachSubterm, EachSubtermWithin}
+use Rattle.sap_terms.specs.Normal.{IsNormal, AreNormal, IsNoLeftSide, EachSubtermWithin}
 use Rattle.sap_rewrite.specs.Pattern.{HeadsDestructor, IsPattern, IsNormalChoice}
 use Rattle.sap_rewrite.proofs.NormalForms.{leaf-normal, nf-fixed}
 use Rattle.sap_rewrite.proofs.Respects.{nf-equal}

@@ -1,4 +1,4 @@
-use Rattle.std.proofs.Common.{◌≡◌, min, ◌+◌, ◌∷◌, [], ◌++◌, ◌&&◌, map, take, drop, ap, sym, ◌∙◌, arith}
+use Rattle.std.proofs.Common.{min, ◌+◌, ◌∷◌, [], ◌++◌, ◌&&◌, map, take, drop, ap, sym, ◌∙◌, arith}
 use Rattle.sap_terms.specs.Tree.{node_count, trees_of, trees_count}
 use Rattle.sap_terms.specs.View.{tree}
 use Rattle.sap_terms.specs.Equations.{equations}
