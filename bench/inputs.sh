@@ -14,7 +14,10 @@
 #   wide-destructor  a rule that takes F(x) and G(fst(y)) and adds a fact of so many x of 255 nodes; beside G(y)
 #   variables        a rule of so many variables that fifty lines use; beside a rule of ten, which as many variables in all use
 #   embedded-wide    an embedded rule that takes so many x, then y, and adds as many y; beside x in its place
-#   collide          symbols whose names one fixed hash sends to one place, found by a program that cc compiles; beside other names
+#   collide          names that one fixed hash sends to one place, found by a program that cc compiles; beside other names. They are
+#                    those of symbols; of definitions; of the variables of an embedded rule, which is refused; of the facts that an
+#                    embedded rule shows, which are judged in the second row; of the variables of a rule; of the facts that it
+#                    shows; of rules; and of lemmas
 #   words            a line of so many short words; beside the same words in lines of four hundred. Both are refused
 #   line             a line of so many bytes of one word, which is refused; beside as many bytes in lines that are steps
 #   behind-fault     so many lines behind one that is no step, which is refused; beside the same lines where it is one
@@ -154,11 +157,55 @@ def embedded_wide(plain, n):
     write(plain, "run", process_run(lines))
 
 
-# The names that collide stand in the file "names".
-def collide(plain, n):
-    with open(os.path.join(folder, "names")) as listed:
-        names = ["n%08d" % k if plain else next(listed).strip() for k in range(n)]
-    write(plain, "file", process("0", "functions: " + ", ".join(name + "/0" for name in names) + " "))
+# So many names that begin with this letter. Those that collide stand in the file that it names.
+def named(letter, plain, n):
+    with open(os.path.join(folder, letter)) as listed:
+        return [letter + "%08d" % k if plain else next(listed).strip() for k in range(n)]
+
+
+def collide_symbols(plain, n):
+    functions = ", ".join(name + "/0" for name in named("n", plain, n))
+    write(plain, "file", process("0", "functions: " + functions + " "))
+
+
+def collide_lets(plain, n):
+    write(plain, "file", process("0", "".join("let %s = 0 " % name for name in named("n", plain, n))))
+
+
+def collide_bound(plain, n):
+    write(plain, "file", process("[ F(%s) ] --> [ ]" % ",".join(named("n", plain, n))))
+
+
+# Facts of these names, with one more that a lemma speaks of, and that lemma.
+def shown(plain, n):
+    return "[ ] --[ A(), %s ]-> [ ]" % ", ".join(name + "()" for name in named("N", plain, n)), ' lemma l: "All #i. A() @ #i ==> T"'
+
+
+def collide_events(plain, n):
+    rule, lemma = shown(plain, n)
+    write(plain, "file", process(rule, after=lemma))
+    write(plain, "run", process_run(["rule 0"]))
+
+
+def collide_variables(plain, n):
+    names = ",".join(named("n", plain, n))
+    write(plain, "theory", theory("rule R: [ F(%s) ] --> [ G(%s) ]" % (names, names)))
+    write(plain, "run", rule_run([]))
+
+
+def collide_facts(plain, n):
+    rule, lemma = shown(plain, n)
+    write(plain, "theory", theory("rule R: " + rule + lemma))
+    write(plain, "run", rule_run(["rule R"]))
+
+
+def collide_rules(plain, n):
+    write(plain, "theory", theory(" ".join("rule %s: [ ] --> [ ]" % name for name in named("n", plain, n))))
+    write(plain, "run", rule_run([]))
+
+
+def collide_lemmas(plain, n):
+    write(plain, "file", process("0", after="".join(' lemma %s: "T"' % name for name in named("n", plain, n))))
 
 
 def words(plain, n):
@@ -241,8 +288,8 @@ cat > "$work/names.c" << 'END'
 #include <stdio.h>
 #include <stdlib.h>
 
-// names COUNT: writes so many names of nine bytes that the hash of the toolchain's maps (FoldHasher, byte by byte behind the length)
-// sends to one group with one tag, in a table of up to 2,048 groups.
+// names LETTER COUNT: writes so many names of nine bytes, of which this letter is the first, that the hash of the toolchain's maps
+// (FoldHasher, byte by byte behind the length) sends to one group with one tag, in a table of up to 2,048 groups.
 static const char *digits = "0123456789abcdefghijklmnopqrstuvwxyz";
 static const uint64_t multiplier = 0x9e3779b97f4a7c15;
 
@@ -256,10 +303,12 @@ static uint64_t behind(uint64_t state, char byte) {
 }
 
 int main(int argc, char **argv) {
-    long wanted = argc > 1 ? atol(argv[1]) : 0;
-    uint64_t start = behind(multiplied(0x243f6a8885a308d3 ^ 9, multiplier ^ 16), 'n');
+    if (argc < 3) return 2;
+    char letter = argv[1][0];
+    long wanted = atol(argv[2]);
+    uint64_t start = behind(multiplied(0x243f6a8885a308d3 ^ 9, multiplier ^ 16), letter);
     for (long prefix = 0; wanted > 0; prefix++) {
-        char name[10] = "n";
+        char name[10] = {letter};
         uint64_t state = start;
         for (long at = 1, left = prefix; at <= 4; at++, left /= 36) state = behind(state, name[at] = digits[left % 36]);
         for (long suffix = 0; suffix < 36 * 36 * 36 && wanted > 0; suffix++) {
@@ -372,8 +421,27 @@ embedded_wide() {
 }
 collide() {
     cc -O2 -o "$work/namer" "$work/names.c"
-    "$work/namer" 10000 > "$work/names"
-    legal collide '2500 5000 10000' compile file
+    for letter in n N; do
+        "$work/namer" "$letter" 10000 > "$work/$letter"
+    done
+    legal collide-symbols '2500 5000 10000' compile file
+    legal collide-lets '2500 5000 10000' compile file
+    collide_bound
+    legal collide-events '2500 5000 10000' compile file
+    legal collide-events '2500 5000 10000' judge file run
+    legal collide-variables '2500 5000 10000' check-rules theory run
+    legal collide-facts '2500 5000 10000' check-rules theory run
+    legal collide-rules '2500 5000 10000' check-rules theory run
+    legal collide-lemmas '2500 5000 10000' compile file
+}
+collide_bound() {
+    ends 1 'file refused: place 1: scope is full'
+    beside 1 'file refused: place 1: scope is full'
+    family 'collide-bound, compile' 2
+    for size in 2500 5000 10000; do
+        python3 "$work/make.py" "$work" collide-bound "$size"
+        row "$size" compile file
+    done
 }
 words() {
     refused words '2000000 4000000 8000000' 'run refused: step 2: function pair has another arity' \
