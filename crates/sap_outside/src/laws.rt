@@ -13,19 +13,22 @@ pub fn calls_by_hand()
     ensures empty { (name : List ℕ)
         → WasRead None name [] (Some []) (Some (begin name ∷ next piece_bytes ∷ [])) [] }
     ensures no_second { (holds : Option Files) (name : List ℕ)
-        → WasRead holds name [] (Some []) (Some (begin name ∷ next piece_bytes ∷ next piece_bytes ∷ [])) [] → ⊥ }
+        → WasRead holds name [] (Some [])
+        (Some (begin name ∷ next piece_bytes ∷ next piece_bytes ∷ [])) [] → ⊥ }
     ensures no_other { (holds : Option Files) (name other z : List ℕ) (more : List Request)
         → WasRead holds name [] (Some []) (Some (begin other ∷ more)) z → name ≡ other }
     ensures one_piece { (name : List ℕ)
-        → WasRead None name [] (Some []) (Some (begin name ∷ next piece_bytes ∷ next piece_bytes ∷ [])) (7 ∷ []) }
+        → WasRead None name [] (Some [])
+        (Some (begin name ∷ next piece_bytes ∷ next piece_bytes ∷ [])) (7 ∷ []) }
     ensures no_end { (holds : Option Files) (name : List ℕ)
         → WasRead holds name [] (Some []) (Some (begin name ∷ next piece_bytes ∷ [])) (7 ∷ []) → ⊥ }
-    ensures given_up { (files : Files) (name : List ℕ) (asked : List Request) → map.get files name ≡ None
-        → WasGivenUp (Some files) name [] (Some []) (Some asked) → length asked ≤ 2 }
+    ensures given_up { (files : Files) (name : List ℕ) (asked : List Request)
+        → map.get files name ≡ None → WasGivenUp (Some files) name [] (Some []) (Some asked) → length asked ≤ 2 }
 {}
 
 /// A law: requests that were made, and then others, were made one behind another.
 pub fn requests_are_joined()
     ensures { (first more : List Request) (before mid after : Option (List Request))
-        → Requested first before mid → Requested more mid after → Requested (first ++ more) before after }
+        → Requested first before mid → Requested more mid after
+        → Requested (first ++ more) before after }
 {}

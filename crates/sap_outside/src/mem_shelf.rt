@@ -157,7 +157,8 @@ impl Shelf for MemShelf {
         ensures most { IfOk result (λ v. length v.items ≤ limit + 1) }
         ensures told { IfOk result (λ v. IsFetched (Some (files_of self.old.files)) name.now limit v.items) }
         ensures same { self.new.files ≡ self.old.files }
-        ensures asked { Requested (request.fetch name.now limit ∷ []) (told_of self.old.requests) (told_of self.new.requests) }
+        ensures asked { Requested (request.fetch name.now limit ∷ [])
+            (told_of self.old.requests) (told_of self.new.requests) }
         ensures later { self.old.count ≤ self.new.count }
         ensures cause { IsErrOf result ShelfFault.Failed → Rose self.old.count self.new.count }
         ensures calls { self.new.calls ≡ min (self.old.calls + 1) (2 ^ 64 - 1) }
@@ -186,7 +187,8 @@ impl Shelf for MemShelf {
         ensures told { OnOk result (IsWholeFile (Some (files_of self.old.files)) name.now (Some self.new.rest.items)) }
         ensures shut { OnErr result (option_map string_bytes self.new.name ≡ None) }
         ensures same { self.new.files ≡ self.old.files }
-        ensures asked { Requested (request.begin name.now ∷ []) (told_of self.old.requests) (told_of self.new.requests) }
+        ensures asked { Requested (request.begin name.now ∷ [])
+            (told_of self.old.requests) (told_of self.new.requests) }
         ensures later { self.old.count ≤ self.new.count }
         ensures cause { IsErrOf result ShelfFault.Failed → Rose self.old.count self.new.count }
         ensures calls { self.new.calls ≡ min (self.old.calls + 1) (2 ^ 64 - 1) }
@@ -227,7 +229,8 @@ impl Shelf for MemShelf {
             → (option_map string_bytes self.new.name ≡ option_map string_bytes self.old.name)
             × (Some self.new.rest.items ≡ Some self.old.rest.items) }
         ensures same { self.new.files ≡ self.old.files }
-        ensures asked { Requested (request.next most ∷ []) (told_of self.old.requests) (told_of self.new.requests) }
+        ensures asked { Requested (request.next most ∷ [])
+            (told_of self.old.requests) (told_of self.new.requests) }
         ensures later { self.old.count ≤ self.new.count }
         ensures cause { IsErrOf result ShelfFault.Failed
             → IsSomeAnd (option_map string_bytes self.old.name) (λ name. Rose self.old.count self.new.count) }

@@ -78,8 +78,8 @@ fn feed_pieces<S: Shelf>(
     shelf: &mut S,
     reader: &mut RunReader,
 ) -> Result<Tally, ShelfFault>
-    ensures fed { IfOk result (λ t. IsRunFed (S.rest shelf.old) reader.old reader.new t.given t.first
-        (S.asked shelf.old) (S.asked shelf.new)) }
+    ensures fed { IfOk result (λ t. IsRunFed (S.rest shelf.old) reader.old reader.new
+        t.given t.first (S.asked shelf.old) (S.asked shelf.new)) }
     ensures given_up { OnErr result
         (WasAsked (may_come_of (S.rest shelf.old) + 1) (S.asked shelf.old) (S.asked shelf.new)) }
     ensures opened { OnOk result (S.opened shelf.new ≡ S.opened shelf.old) }
@@ -111,7 +111,8 @@ fn feed_piece<S: Shelf>(
         tally.given tally.first next.given next.first) }
     ensures opened { OnOk result (S.opened shelf.new ≡ S.opened shelf.old) }
     ensures same { S.holds shelf.new ≡ S.holds shelf.old }
-    ensures asked { Requested (request.next piece_bytes ∷ []) (S.asked shelf.old) (S.asked shelf.new) }
+    ensures asked { Requested (request.next piece_bytes ∷ [])
+        (S.asked shelf.old) (S.asked shelf.new) }
     ensures later { (n : List ℕ) → S.faults shelf.old n ≤ S.faults shelf.new n }
     ensures cause { IsErrOf result ShelfFault.Failed
         → IsSomeAnd (S.opened shelf.old) (λ name. Rose (S.faults shelf.old name) (S.faults shelf.new name)) }

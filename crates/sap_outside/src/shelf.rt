@@ -68,7 +68,8 @@ pub trait Shelf {
         ensures told { IfOk result (λ v. IsFetched (holds self.old) name.now limit v.items) }
         ensures kept { (opened self.new ≡ opened self.old) × (rest self.new ≡ rest self.old) }
         ensures same { holds self.new ≡ holds self.old }
-        ensures asked { Requested (request.fetch name.now limit ∷ []) (asked self.old) (asked self.new) }
+        ensures asked { Requested (request.fetch name.now limit ∷ [])
+            (asked self.old) (asked self.new) }
         ensures later { (n : List ℕ) → faults self.old n ≤ faults self.new n }
         ensures cause { IsErrOf result ShelfFault.Failed → Rose (faults self.old name.now) (faults self.new name.now) };
 

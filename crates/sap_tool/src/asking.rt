@@ -97,7 +97,8 @@ fn run_to_check(words: &Vec<String>) -> Option<(&str, &str)>
 fn fetched<S: Shelf>(alloc: Global, shelf: &mut S, file: &str) -> Result<Vec<u8>, ShelfFault>
     ensures told { IfOk result (λ v. IsFetched (S.holds shelf.old) file.now most_bytes v.items) }
     ensures same { S.holds shelf.new ≡ S.holds shelf.old }
-    ensures once { Requested (request.fetch file.now most_bytes ∷ []) (S.asked shelf.old) (S.asked shelf.new) }
+    ensures once { Requested (request.fetch file.now most_bytes ∷ [])
+        (S.asked shelf.old) (S.asked shelf.new) }
     ensures later { (n : List ℕ) → S.faults shelf.old n ≤ S.faults shelf.new n }
     ensures cause { IsErrOf result ShelfFault.Failed → Rose (S.faults shelf.old file.now) (S.faults shelf.new file.now) }
 {
