@@ -26,8 +26,8 @@ pub use checking::{well_formed, well_formed_boxed};
 pub use flaw::{Flaw, Ill};
 pub use laws::{
     choices_are_bindings, exact_steps_by_hand, instances_of_processes, no_steps_by_hand,
-    no_traces_by_hand, one_flaw, rule_traces_by_hand, runs_stay_ground, sites_are_the_places, some_flaw, sorting_keeps,
-    steps_by_hand, traces_by_hand,
+    no_traces_by_hand, one_flaw, rule_traces_by_hand, runs_stay_ground, sites_are_the_places,
+    some_flaw, sorting_keeps, steps_by_hand, traces_by_hand,
 };
 pub use places::{HandsDown, ScopeBelow, places_are_by_path, places_are_ordered};
 pub use process::Process;
