@@ -90,9 +90,9 @@ pub fn open_locks_are_by_ways()
 {}
 
 /// A law: in the annotation of a well-formed process the variable of a lock isn't in scope where the lock stands; and in an
-/// annotated process the label of an unlock is that of a lock of the same term that is open there. It pins that labels are
-/// numbers of their own (a way whose locks all have one number is refused by its first clause), and that what an unlock ends is
-/// open by scopes too.
+/// annotated process the label of an unlock is that of a lock of the same term that is open there. It pins that locks
+/// above one another have labels of their own: if locks weren't counted on the way, the variable of the first would be in scope
+/// where the second stands. And it pins that what an unlock ends is open by scopes too.
 pub fn labels_are_right()
     ensures not_in_scope { (g : Sig) (p q : Proc) (a : Spot) (t : Tree) (n : ℕ) → IsWellFormed g p → node_count p < 2 ^ 64
         → IsAnnotation p q → Contains (spots q) a → lock_at a.body ≡ Some (t, n)
