@@ -2,7 +2,7 @@
 use Rattle.std.proofs.Common.{◌≡◌, ◌+◌, ℕ, List, [], ◌∷◌, ◌++◌, map, Bool, true, false, refl, sym, ap, ◌∙◌, arith}
 use Rattle.std.specs.Prelude.{nat_eq}
 use Rattle.sap_terms.specs.FactNames.{state_prefix, semi_prefix}
-use Rattle.sap_terms.specs.Tree.{Tree, variable}
+use Rattle.sap_terms.specs.Tree.{variable}
 use Rattle.sap_terms.specs.declared.fact.Fact.{Fact}
 use Rattle.sap_terms.specs.declared.var.Var.{Var}
 use Rattle.sap_place.specs.StateFacts.{digits, state_of, semi_of}

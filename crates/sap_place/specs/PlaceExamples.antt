@@ -1,7 +1,7 @@
 -- The places of a small process, and facts of control, by hand.
 use Rattle.std.specs.Prelude.{ℕ, codes, true, List, [], ◌∷◌}
 use Rattle.sap_terms.specs.AdversaryFacts.{linear}
-use Rattle.sap_terms.specs.Tree.{Tree, variable}
+use Rattle.sap_terms.specs.Tree.{variable}
 use Rattle.sap_terms.specs.declared.fact.Fact.{Fact}
 use Rattle.sap_terms.specs.declared.var.Sort.TheVariants.{Msg, Fresh}
 use Rattle.sap_terms.specs.declared.var.Var.{Var}

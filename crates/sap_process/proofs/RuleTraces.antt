@@ -1,9 +1,8 @@
 -- Traces of small processes with embedded rules.
-use Rattle.std.proofs.Common.{◌≡◌, ◌⊎◌, ℕ, zero, suc, List, [], ◌∷◌, ◌++◌, Option, Some, None, Bool, true, false, slice_get, slice_set, refl, sym, ap, subst, ◌∙◌, inl, inr}
+use Rattle.std.proofs.Common.{◌≡◌, ◌⊎◌, ℕ, zero, suc, List, [], ◌∷◌, Some, None, true, false, slice_get, refl, sym, ap, subst, ◌∙◌, inl, inr}
 use Rattle.std.specs.Prelude.{Contains, codes}
 use Rattle.std.specs.List.{AllZip}
 use Rattle.sap_rewrite.specs.Laws.{FormIsOne}
-use Rattle.sap_terms.specs.AdversaryFacts.{linear, k_fact}
 use Rattle.sap_terms.specs.Equal.{same}
 use Rattle.sap_terms.specs.Equations.{equations}
 use Rattle.sap_terms.specs.Modulo.{IsEqualFact, IsFormOfFact}
@@ -11,7 +10,7 @@ use Rattle.sap_terms.specs.Piles.{Pile, Takes, used, adds, one, nothing}
 use Rattle.sap_terms.specs.Same.{same_tree}
 use Rattle.sap_terms.specs.Signature.{Sig}
 use Rattle.sap_terms.specs.Trace.{Trace, shown}
-use Rattle.sap_terms.specs.Tree.{Tree, public}
+use Rattle.sap_terms.specs.Tree.{public}
 use Rattle.sap_terms.specs.declared.fact.Fact.{Fact}
 use Rattle.sap_process.specs.Configuration.{Config, initial}
 use Rattle.sap_process.specs.Proc.{Proc, nil}

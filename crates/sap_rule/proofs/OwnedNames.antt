@@ -1,9 +1,9 @@
 -- Names that the adversary took, by hand.
-use Rattle.std.proofs.Common.{◌≡◌, ℕ, zero, suc, List, [], ◌∷◌, Bool, true, false, Option, Some, None, refl, sym, ap, subst, slice_get, lit<}
+use Rattle.std.proofs.Common.{◌≡◌, ℕ, zero, suc, List, [], ◌∷◌, Bool, true, false, Some, None, refl, sym, ap, subst, slice_get, lit<}
 use Rattle.std.specs.Prelude.{Contains, codes}
 use Rattle.std.specs.List.{AllZip}
 use Rattle.std.specs.Str.{bytes_eq}
-use Rattle.sap_terms.specs.AdversaryFacts.{linear, k_fact, out_fact, fr_fact}
+use Rattle.sap_terms.specs.AdversaryFacts.{linear, out_fact, fr_fact}
 use Rattle.sap_terms.specs.Choice.{Choice}
 use Rattle.sap_terms.specs.Equal.{same}
 use Rattle.sap_terms.specs.Equations.{equations}

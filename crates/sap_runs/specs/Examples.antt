@@ -1,5 +1,5 @@
 -- Small steps and terms, to try marks and the limit by hand.
-use Rattle.std.specs.Prelude.{ℕ, zero, suc, codes, List, [], ◌∷◌}
+use Rattle.std.specs.Prelude.{ℕ, zero, suc, codes, [], ◌∷◌}
 use Rattle.sap_terms.specs.AdversaryFacts.{linear}
 use Rattle.sap_terms.specs.Equations.{app1}
 use Rattle.sap_terms.specs.Tree.{Tree, public}

@@ -15,7 +15,7 @@ use Rattle.sap_rule.specs.declared.theory.Theory.{Theory}
 use Rattle.sap_run_texts.specs.declared.run.Run.{Run}
 use Rattle.sap_translate.specs.Templates.{rules_of}
 use Rattle.sap_tool.specs.Replays.{IsSeen, of_process, of_rules, IsJudgedText, IsFullOf, of_theory, IsCheckedText}
-use Rattle.sap_tool.specs.Verdicts.{Judged, judged_restrictions, judged_lemmas, all_judged, verdict_line, AreVerdicts, no_line, line_more}
+use Rattle.sap_tool.specs.Verdicts.{Judged, judged_lemmas, all_judged, verdict_line, AreVerdicts, no_line, line_more}
 use Rattle.sap_tool.proofs.Legal.{Laws, file_ready, rules_made}
 use Rattle.sap_tool.proofs.ProcessRuns as process
 use Rattle.sap_tool.proofs.RuleRuns as rules

@@ -1,5 +1,5 @@
 -- A name that the adversary took is none that a process makes.
-use Rattle.std.proofs.Common.{◌≡◌, ℕ, List, [], ◌∷◌, Bool, Some, None, true, false, refl, sym, ap, subst, ◌∙◌, arith}
+use Rattle.std.proofs.Common.{◌≡◌, ℕ, List, [], ◌∷◌, true, false, refl, sym, ap, subst, ◌∙◌, arith}
 use Rattle.std.specs.Prelude.{codes, Contains}
 use Rattle.std.specs.Str.{bytes_eq}
 use Rattle.sap_formula.specs.Truth.{EachIn}
