@@ -16,3 +16,4 @@ pub mod Named
 pub mod Written
 mod Leaf
 mod Placed
+pub mod MarksByHand

@@ -6,3 +6,4 @@ pub mod Sorts
 pub mod Places
 pub mod Heads
 pub mod ProcCode
+pub mod LineExamples

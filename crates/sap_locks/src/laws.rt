@@ -7,11 +7,11 @@ ghost use Rattle.sap_process.specs.Flaws.{IsWellFormed};
 ghost use Rattle.sap_process.specs.Places.{place_at, IsBefore};
 ghost use Rattle.sap_process.specs.Ready.{IsReady};
 ghost use Rattle.sap_process.specs.Sites.{var_names};
-ghost use Rattle.sap_process.specs.Proc.{Proc, nil, node_count, parallel, replicated};
+ghost use Rattle.sap_process.specs.Proc.{Proc, nil, node_count, parallel, replicated, test, lookup};
 ghost use Rattle.sap_locks.specs.OpenLocks.{HasOpenLocks};
 ghost use Rattle.sap_process.specs.Scopes.{Spot, lock_scope, lock_scope_below, lock_var, spots};
 ghost use Rattle.sap_locks.specs.Ways.{IsLockOf, LockSite, lock_sites, way_above, way_below};
-ghost use Rattle.sap_locks.specs.LockExamples.{s, t, locking, unlocking, showing};
+ghost use Rattle.sap_locks.specs.LockExamples.{s, t, x, locking, unlocking, showing};
 ghost use Rattle.sap_locks.specs.Annotation.{IsAnnotated, IsAnnotation, IsFirstLockFlaw, LockFlaw, lock_at, unlock_at, without, over};
 
 use crate::descents::{LockScopeBelow, WayBelow};
@@ -47,6 +47,32 @@ pub fn annotations_by_hand()
     ensures above_first { IsFirstLockFlaw (locking s 0 (parallel (unlocking t 0 nil) (unlocking s 0 nil))) over (1 ∷ []) }
 {}
 
+/// A law: the same of small processes with an `if` and a look-up. Each branch may unlock what was locked above, in the one as in
+/// the other, so that both unlocks have one label and no other; locks of the second branch are numbered on from those of the
+/// first; and a lock of the first branch is none for an unlock in the second. A branch that unlocks below a parallel is refused at
+/// the parallel, and not at the `if`. And no other labels are an annotation. `0` is its own.
+pub fn branches_by_hand()
+    ensures nothing { IsAnnotation nil nil }
+    ensures both_unlock { IsAnnotation (locking s 0 (test s t (unlocking s 0 nil) (unlocking s 0 nil)))
+        (locking s 1 (test s t (unlocking s 1 nil) (unlocking s 1 nil))) }
+    ensures one_unlocks { IsAnnotation (locking s 0 (test s t (unlocking s 0 (locking s 0 nil)) (locking s 0 (unlocking s 0 nil))))
+        (locking s 1 (test s t (unlocking s 1 (locking s 2 nil)) (locking s 3 (unlocking s 3 nil)))) }
+    ensures looked_up { IsAnnotation (locking s 0 (lookup t x (locking t 0 (unlocking s 0 nil)) (locking t 0 (unlocking t 0 nil))))
+        (locking s 1 (lookup t x (locking t 2 (unlocking s 1 nil)) (locking t 3 (unlocking t 3 nil)))) }
+    ensures not_beside { IsFirstLockFlaw (test s t (locking s 0 nil) (unlocking s 0 nil)) without (2 ∷ []) }
+    ensures not_beside_in_lookup { IsFirstLockFlaw (lookup t x (locking s 0 nil) (unlocking s 0 nil)) without (2 ∷ []) }
+    ensures twice_in_lookup { IsFirstLockFlaw (locking s 0 (lookup t x (unlocking s 0 (unlocking s 0 nil)) (unlocking s 0 nil)))
+        without (1 ∷ 1 ∷ 1 ∷ []) }
+    ensures over_in_branch { IsFirstLockFlaw (locking s 0 (test s t nil (parallel nil (unlocking s 0 nil)))) over (1 ∷ 2 ∷ []) }
+    ensures no_other_label { ¬ IsAnnotation (locking s 0 (test s t (unlocking s 0 nil) (unlocking s 0 nil)))
+        (locking s 1 (test s t (unlocking s 1 nil) (unlocking s 2 nil))) }
+    ensures not_numbered_again { ¬ IsAnnotation (lookup t x (locking s 0 nil) (locking s 0 nil))
+        (lookup t x (locking s 1 nil) (locking s 1 nil)) }
+    ensures not_without_labels { ¬ IsAnnotation (lookup t x (locking s 0 (unlocking s 0 nil)) nil)
+        (lookup t x (locking s 0 (unlocking s 0 nil)) nil) }
+    ensures no_other_process { ¬ IsAnnotation (test s t (locking s 0 nil) nil) (test t s (locking s 1 nil) nil) }
+{}
+
 /// A law: labels are no flaw and change no sort. So the annotation of a well-formed process is well-formed, and that of a
 /// process that is ready to run is ready to run.
 pub fn annotations_are_ready()
@@ -54,14 +80,19 @@ pub fn annotations_are_ready()
     ensures ready { (g : Sig) (p q : Proc) → IsReady g p → IsAnnotation p q → IsReady g q }
 {}
 
-/// A law: in an annotated process the locks that a place holds as open are those that are open there by the way to it.
+/// A law: in an annotated process the locks that a place holds as open are those that are open there by the way to it. It pins which
+/// locks scopes hold as open, `locks_behind`, by the definition that annotation goes by, `IsOpen`: a scope whose unlock ends no
+/// lock, or another one than its own, is refused here. In which order they are listed it doesn't say; `scopes_by_hand` of
+/// `sap_process` does.
 pub fn open_locks_are_by_ways()
     ensures { (p : Proc) (k : ℕ) (a : Spot) (s : LockSite) → IsAnnotated p → slice_get (spots p) k ≡ Some a
         → slice_get (lock_sites p) k ≡ Some s → HasOpenLocks a s }
 {}
 
 /// A law: in the annotation of a well-formed process the variable of a lock isn't in scope where the lock stands; and in an
-/// annotated process the label of an unlock is that of a lock of the same term that is open there.
+/// annotated process the label of an unlock is that of a lock of the same term that is open there. It pins that locks
+/// above one another have labels of their own: if locks weren't counted on the way, the variable of the first would be in scope
+/// where the second stands. And it pins that what an unlock ends is open by scopes too.
 pub fn labels_are_right()
     ensures not_in_scope { (g : Sig) (p q : Proc) (a : Spot) (t : Tree) (n : ℕ) → IsWellFormed g p → node_count p < 2 ^ 64
         → IsAnnotation p q → Contains (spots q) a → lock_at a.body ≡ Some (t, n)
@@ -71,8 +102,10 @@ pub fn labels_are_right()
         → Contains a.above.open_locks n × IsLockOf s.above.way n t }
 {}
 
-/// A law: the list of places with their scopes and open locks has each place that a path leads to, and nothing else, in
-/// preorder; and so has that of the places with their ways.
+/// A law: the list of places with their scopes and open locks has each place that a path leads to, with what is handed down on
+/// the way there, and nothing else, in preorder; and so has that of the places with their ways. This holds of whatever is handed
+/// down, so it says nothing of which variables are in scope, which locks are open, or what a way meets: `places_by_hand` and
+/// `scopes_by_hand` of `sap_process` say it of small processes, `open_locks_are_by_ways` and `annotations_by_hand` of locks.
 pub fn lock_places_are_by_path()
     ensures scopes { (p : Proc) (a : Spot) → Contains (spots p) a → place_at lock_scope_below (lock_scope [] []) p a.path ≡ Some a }
     ensures scopes_listed { (p : Proc) (path : List ℕ) (a : Spot) → place_at lock_scope_below (lock_scope [] []) p path ≡ Some a

@@ -13,6 +13,6 @@ pub use annotating::{annotate, annotate_boxed};
 pub use descents::{LockScopeBelow, WayBelow};
 pub use fault::LockFault;
 pub use laws::{
-    annotations_are_ready, annotations_by_hand, annotations_of_processes, labels_are_right,
-    lock_places_are_by_path, open_locks_are_by_ways,
+    annotations_are_ready, annotations_by_hand, annotations_of_processes, branches_by_hand,
+    labels_are_right, lock_places_are_by_path, open_locks_are_by_ways,
 };

@@ -1,1 +1,2 @@
 pub mod RuleVars
+pub mod FactNames

@@ -1,3 +1,4 @@
 pub mod PlaceLists
 pub mod StateFacts
+pub mod PlaceExamples
 pub mod code

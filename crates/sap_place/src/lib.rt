@@ -1,11 +1,13 @@
 //! The places of a process, and the facts that say where control is.
 #![tactic(auto)]
 
+mod laws;
 mod place;
 mod scoping;
 mod state;
 mod walking;
 
+pub use laws::{facts_by_hand, facts_name_their_places, places_by_hand};
 pub use place::{Form, Place, PlaceList};
 pub use scoping::{lock_var, with_lock, with_pattern, with_rule, with_var};
 pub use state::{

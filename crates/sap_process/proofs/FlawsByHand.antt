@@ -62,7 +62,7 @@ near PatternDestructor = are_well_formed (near_misses PatternDestructor) (refl, 
 near Unbound = are_well_formed (near_misses Unbound) (refl, (refl, (refl, (refl, (refl, tt)))))
 near Rebound = are_well_formed (near_misses Rebound) (refl, (refl, (refl, (refl, tt))))
 near SortClash = are_well_formed (near_misses SortClash) (refl, (refl, (refl, (refl, (refl, tt)))))
-near ScopeFull = are_well_formed (near_misses ScopeFull) (refl, (refl, (refl, (refl, tt))))
+near ScopeFull = are_well_formed (near_misses ScopeFull) (refl, (refl, (refl, (refl, (refl, (refl, tt))))))
 
 pub order : (w : Flaw) → AreFlawed w (later_but_first w)
 order BadFunction = are_flawed BadFunction (later_but_first BadFunction) (refl, tt)

@@ -30,3 +30,4 @@ pub mod NoTraces
 pub mod ExactSteps
 pub mod FlawsByHand
 pub mod PlacesOrdered
+pub mod RuleTraces

@@ -23,7 +23,7 @@ use Rattle.sap_process.proofs.OwnNames.{HasOnly, deduced_has, has_more}
 use Rattle.sap_process.proofs.StepLemmas.{fresh_normal, value, one_form}
 
 -- the first argument of the first fact, and whether that fact is an A
-abbrev first_arg : List Fact → Tree
+abbrev pub first_arg : List Fact → Tree
 first_arg [] = a
 first_arg (f ∷ fs) = first f.args
   where
@@ -35,7 +35,7 @@ abbrev named_a : List Fact → Bool
 named_a [] = false
 named_a (f ∷ fs) = bytes_eq f.name (codes "A")
 
-not_known : (t u : Tree) → shown_fact t ∷ [] ≡ k_fact u ∷ [] → ⊥
+pub not_known : (t u : Tree) → shown_fact t ∷ [] ≡ k_fact u ∷ [] → ⊥
 not_known t u e = let p : true ≡ false = ap named_a e in cc
 
 -- nothing is left to run
@@ -54,7 +54,7 @@ idle_ends c d label g t p (inr h) r after = absurd (ended t (subst (λ ts. slice
     ended (suc t) e = cc
 
 -- what a trace has at its end
-at_end : (tr : Trace) (label fs : List Fact) → Contains (tr ++ shown label) fs → Contains tr fs ⊎ ((label ≡ fs) × (¬ (label ≡ [])))
+pub at_end : (tr : Trace) (label fs : List Fact) → Contains (tr ++ shown label) fs → Contains tr fs ⊎ ((label ≡ fs) × (¬ (label ≡ [])))
 at_end tr [] fs m = elim (Contains-append_cases tr [] fs m) [ inl k ↦ inl k | inr k ↦ absurd (member-none fs k) ]
 at_end tr (f ∷ label) fs m = elim (Contains-push_cases tr (f ∷ label) fs m) [ inl k ↦ inl k | inr e ↦ inr (e, λ n. cc) ]
 

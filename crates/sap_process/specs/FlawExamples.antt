@@ -3,7 +3,7 @@ use Rattle.std.specs.Prelude.{ℕ, zero, suc, true, codes, List, [], ◌∷◌}
 use Rattle.sap_terms.specs.AdversaryFacts.{linear}
 use Rattle.sap_terms.specs.Equations.{app1, app2, app3, fst_name, pair_name, sign_name, verify_name}
 use Rattle.sap_terms.specs.Signature.{Sig, pairs_alone, added}
-use Rattle.sap_terms.specs.Tree.{Tree, variable}
+use Rattle.sap_terms.specs.Tree.{Tree, variable, public}
 use Rattle.sap_terms.specs.declared.fact.Fact.{Fact}
 use Rattle.sap_terms.specs.declared.signature.Builtin.TheVariants.{Signing}
 use Rattle.sap_terms.specs.declared.var.Sort.TheVariants.{Msg, Fresh}
@@ -163,9 +163,9 @@ near_misses Rebound =
 near_misses SortClash =
     naming x (giving (variable fresh_x) nil) ∷ naming public_x (giving (variable fresh_x) nil) ∷ taking (variable public_x) (giving var_x nil)
     ∷ taking (variable fresh_x) (giving (variable fresh_x) nil) ∷ lookup a fresh_x (giving var_x nil) nil ∷ []
--- 64 in all; locks beside one another
+-- `0`; an unlock without a lock, which is for annotation to refuse; 64 in all; locks beside one another
 near_misses ScopeFull =
-    locking 64 nil ∷ naming x (locking 63 nil) ∷ naming x (relocking 63 nil) ∷ parallel (locking 64 nil) (locking 64 nil) ∷ []
+    nil ∷ act (unlock (public (codes "s")) 0) nil ∷ locking 64 nil ∷ naming x (locking 63 nil) ∷ naming x (relocking 63 nil) ∷ parallel (locking 64 nil) (locking 64 nil) ∷ []
 
 -- each flaw below the one that counts next, which stands above it or to the left, and so earlier
 abbrev pub later_but_first : Flaw → List (Proc × List ℕ)

@@ -1,6 +1,7 @@
 -- Small processes and configurations, to try the steps of processes by hand.
 use Rattle.std.specs.Prelude.{Bool, true, false, codes, List, [], ◌∷◌, Option, Some, None, if◌then◌else◌}
 use Rattle.sap_terms.specs.AdversaryFacts.{linear}
+use Rattle.sap_terms.specs.Piles.{Pile}
 use Rattle.sap_terms.specs.Same.{same_tree}
 use Rattle.sap_terms.specs.Equations.{app1, app2, fst_name, pair_name}
 use Rattle.sap_terms.specs.Tree.{Tree, variable, public}
@@ -119,3 +120,29 @@ inputting s = act (input (var_of s)) (showing (var_of s))
 -- an embedded rule that takes !L('a') twice, and then event A('a')
 abbrev pub taking_lasting : Proc
 taking_lasting = act (embedded (lasting_fact a ∷ lasting_fact a ∷ []) [] []) (showing a)
+
+-- an embedded rule that adds L('a'), and then p
+abbrev pub adding_left : Proc → Proc
+adding_left p = act (embedded [] [] (left_fact a ∷ [])) p
+
+-- one that takes L('a') and shows A(t), and then p
+abbrev pub using_left : Tree → Proc → Proc
+using_left t p = act (embedded (left_fact a ∷ []) (shown_fact t ∷ []) []) p
+
+-- [] --> [L('a')]; [L('a')] --[A('a')]-> []; [L('a')] --[A('b')]-> []; 0
+abbrev pub used_twice : Proc
+used_twice = adding_left (using_left a (using_left b nil))
+
+-- the same with !L('a')
+abbrev pub adding_lasting : Proc → Proc
+adding_lasting p = act (embedded [] [] (lasting_fact a ∷ [])) p
+
+abbrev pub using_lasting : Tree → Proc → Proc
+using_lasting t p = act (embedded (lasting_fact a ∷ []) (shown_fact t ∷ []) []) p
+
+abbrev pub lasting_used_twice : Proc
+lasting_used_twice = adding_lasting (using_lasting a (using_lasting b nil))
+
+-- this thread alone, over these facts
+abbrev pub over_facts : Pile → Proc → Config
+over_facts facts p = record (alone p) { facts = facts }

@@ -5,7 +5,9 @@ ghost use Rattle.sap_terms.specs.declared.var.Sort.TheVariants.{Msg, Fresh, Pub}
 ghost use Rattle.sap_process.specs.FlawExamples.{AreFlawed, AreWellFormed, flawed_ones, near_misses, later_but_first, twice_flawed, giving, naming, taking};
 ghost use Rattle.sap_process.specs.Instance.{process_instance};
 ghost use Rattle.sap_process.specs.Proc.{nil, lookup};
-ghost use Rattle.sap_process.specs.ScopeExamples.{open_at, known_at, y_of, z_of, seventh_lock, two_locks, locked_again, binding, x_is, everywhere};
+ghost use Rattle.sap_process.specs.ScopeExamples.{open_at, known_at, y_of, z_of, seventh_lock, two_locks, locked_again, binding, worked, worked_spots, worked_sites, x_is, everywhere};
+ghost use Rattle.sap_process.specs.Scopes.{lock_var, spots};
+ghost use Rattle.sap_process.specs.Sites.{sites};
 ghost use Rattle.sap_process.specs.StepExamples.{a, x, var_x, fresh_x, pair};
 ghost use Rattle.sap_process.specs.declared.flaw.Flaw.{Flaw};
 ghost use Rattle.sap_process.specs.declared.flaw.Flaw.TheVariants.{Unbound};
@@ -41,6 +43,20 @@ pub fn scopes_by_hand()
     ensures taken { known_at binding (1 ∷ 1 ∷ 1 ∷ 1 ∷ []) ≡ Some (fresh_x ∷ seventh_lock ∷ y_of Msg ∷ z_of Msg ∷ []) }
     ensures missing { known_at binding (1 ∷ 1 ∷ 2 ∷ []) ≡ Some (fresh_x ∷ seventh_lock ∷ []) }
     ensures by_rule { known_at binding (1 ∷ 1 ∷ 2 ∷ 1 ∷ []) ≡ Some (fresh_x ∷ seventh_lock ∷ z_of Pub ∷ []) }
+{}
+
+/// A law: all places of a process with `new`, a lock, an `if`, a look-up, an embedded rule, a pattern and an unlock, in preorder,
+/// each with its path, what is in scope and which locks are open there; and, as flaws see them, with what is bound above and how many
+/// locks are set there. No look-up binds in its second branch, nothing that one branch binds is in scope in another, and no place
+/// stands where no path leads.
+pub fn places_by_hand()
+    ensures scopes { spots worked ≡ worked_spots }
+    ensures counted { sites worked ≡ worked_sites }
+    ensures not_in_other_branch { ¬ (known_at worked (1 ∷ 1 ∷ 2 ∷ []) ≡ Some (fresh_x ∷ lock_var 7 ∷ y_of Msg ∷ [])) }
+    ensures not_in_second_branch { ¬ (known_at worked (1 ∷ 1 ∷ 1 ∷ 2 ∷ []) ≡ Some (fresh_x ∷ lock_var 7 ∷ y_of Msg ∷ [])) }
+    ensures not_open_behind { ¬ (open_at worked (1 ∷ 1 ∷ 2 ∷ 1 ∷ 1 ∷ []) ≡ Some (7 ∷ [])) }
+    ensures no_third_child { known_at worked (1 ∷ 1 ∷ 3 ∷ []) ≡ None }
+    ensures none_below { known_at worked (1 ∷ 1 ∷ 1 ∷ 1 ∷ 1 ∷ 1 ∷ []) ≡ None }
 {}
 
 /// A law: small processes with 'a' for x. It is put into terms and patterns, and not below a `new x`, of whatever sort, nor into

@@ -29,7 +29,7 @@ ghost use Rattle.sap_process.specs.Places.{place_at, IsBefore};
 ghost use Rattle.sap_process.specs.Ready.{IsReady};
 ghost use Rattle.sap_process.specs.Sites.{Site, above_of, scope_below, sites};
 ghost use Rattle.sap_process.specs.Sorted.{with_sorts};
-ghost use Rattle.sap_process.specs.StepExamples.{a, b, c, x, var_x, pair, first_of_pair, shown_fact, left_fact, right_fact, showing, running, alone, only, just, input_shown, fresh_x, public_x, adding_public, taking_twice, new_shown, inputting, sending, receiving, ruling, lasting_fact, taking_lasting};
+ghost use Rattle.sap_process.specs.StepExamples.{a, b, c, x, var_x, pair, first_of_pair, shown_fact, left_fact, right_fact, showing, running, alone, only, just, input_shown, fresh_x, public_x, adding_public, taking_twice, new_shown, inputting, sending, receiving, ruling, lasting_fact, taking_lasting, using_left, used_twice, lasting_used_twice};
 
 use crate::places::{ScopeBelow, places_are_by_path};
 use sap_rewrite::{forms_are_messages, normal_forms_are_unique};
@@ -186,6 +186,18 @@ pub fn no_traces_by_hand()
     normal_forms_are_unique();
 }
 
+/// A law: traces of processes with embedded rules. A fact that was never added isn't used: no trace of `[L('a')] --[A('b')]-> []` shows
+/// `A('b')`. A linear fact that was added once is used once: behind `[] --> [L('a')]` the first rule that takes it shows `A('a')`, and
+/// no second one shows `A('b')`; of a persistent fact both do.
+pub fn rule_traces_by_hand()
+    ensures never_added { (g : Sig) (tr : Trace) → IsProcessTrace g (using_left b nil) tr → ¬ Contains tr (shown_fact b ∷ []) }
+    ensures once { (g : Sig) → IsProcessTrace g used_twice ((shown_fact a ∷ []) ∷ []) }
+    ensures not_twice { (g : Sig) (tr : Trace) → IsProcessTrace g used_twice tr → ¬ Contains tr (shown_fact b ∷ []) }
+    ensures lasting { (g : Sig) → IsProcessTrace g lasting_used_twice ((shown_fact a ∷ []) ∷ (shown_fact b ∷ []) ∷ []) }
+{
+    normal_forms_are_unique();
+}
+
 /// A law: the process `in(x); event A(x)` has the trace `K('a')`, `A('a')`.
 pub fn traces_by_hand()
     ensures { (g : Sig) → IsProcessTrace g input_shown ((k_fact a ∷ []) ∷ (shown_fact a ∷ []) ∷ []) }
@@ -208,8 +220,10 @@ pub fn choices_are_bindings()
         → with_choice s (map (λ (e : Binding). e.var) b) p ≡ process_instance (bound_to b) p }
 {}
 
-/// A law: the list of places has each place that a path leads to, with its path, what is in scope and the locks above it, and
-/// nothing else, in preorder; so it has each place once.
+/// A law: the list of places has each place that a path leads to, with its path and with what is handed down on the way there, and
+/// nothing else, in preorder; so it has each place once. This is `places_are_by_path` at `scope_below`, and holds of whatever is
+/// handed down: that this is what is bound above and how many locks are set there is said by `places_by_hand`, of one process, and
+/// by `flaws_by_hand`.
 pub fn sites_are_the_places()
     ensures at_path { (p : Proc) (s : Site) → Contains (sites p) s → place_at scope_below (above_of [] 0) p s.path ≡ Some s }
     ensures listed { (p : Proc) (path : List ℕ) (s : Site) → place_at scope_below (above_of [] 0) p path ≡ Some s

@@ -21,13 +21,13 @@ mod substituting;
 mod trail;
 mod walk;
 
-pub use by_hand::{flaws_by_hand, instances_by_hand, scopes_by_hand};
+pub use by_hand::{flaws_by_hand, instances_by_hand, places_by_hand, scopes_by_hand};
 pub use checking::{well_formed, well_formed_boxed};
 pub use flaw::{Flaw, Ill};
 pub use laws::{
     choices_are_bindings, exact_steps_by_hand, instances_of_processes, no_steps_by_hand,
-    no_traces_by_hand, one_flaw, runs_stay_ground, sites_are_the_places, some_flaw, sorting_keeps,
-    steps_by_hand, traces_by_hand,
+    no_traces_by_hand, one_flaw, rule_traces_by_hand, runs_stay_ground, sites_are_the_places,
+    some_flaw, sorting_keeps, steps_by_hand, traces_by_hand,
 };
 pub use places::{HandsDown, ScopeBelow, places_are_by_path, places_are_ordered};
 pub use process::Process;

@@ -21,3 +21,4 @@ pub mod PrintableLabels
 pub mod PrintableStatements
 pub mod PrintableItems
 pub mod OwnNames
+pub mod FilesByHand

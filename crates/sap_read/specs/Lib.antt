@@ -23,4 +23,6 @@ pub mod Causes
 pub mod Files
 pub mod Printable
 pub mod OwnNames
+pub mod CauseExamples
+pub mod FileExamples
 pub mod code

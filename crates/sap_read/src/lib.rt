@@ -1,6 +1,7 @@
 //! Files, read from their bytes: their processes, what they declare, and their restrictions and lemmas.
 #![tactic(auto)]
 
+mod by_hand;
 mod definition;
 mod expansion;
 mod fault;
@@ -13,6 +14,7 @@ mod taken;
 mod terms;
 mod whole;
 
+pub use by_hand::{causes_by_hand, file_processes_by_hand, files_by_hand};
 pub use fault::ReadFault;
 pub use file::{File, read_file, read_file_boxed};
 pub use laws::{

@@ -7,3 +7,4 @@ pub mod StepForms
 pub mod ExactSteps
 pub mod ExactUses
 pub mod SmallRuns
+pub mod OwnedNames

@@ -131,6 +131,17 @@ pub fn exact_uses_by_hand()
     normal_forms_are_unique();
 }
 
+/// Names that the adversary took. Once it took Fr(~3), `Fr(~x) --[ A(~x) ]-> Out(~x)` shows no name of it, nor any other where no
+/// other was drawn; where Fr(~4) stands beside, it shows that one and no other.
+pub fn owned_names_by_hand()
+    ensures taken { (g : Sig) (t : Tree) (acts : List Fact) (z : RuleState)
+        → RuleStep g (telling ∷ []) (state (None ∷ []) (fresh 3 ∷ []) (3 ∷ [])) acts z → ¬ (acts ≡ shown_fact t ∷ []) }
+    ensures other { (g : Sig) → RuleStep g (telling ∷ []) (state (None ∷ Some (fr_fact 4) ∷ []) (fresh 3 ∷ []) (3 ∷ 4 ∷ []))
+        (shown_fact (fresh 4) ∷ []) (state (None ∷ None ∷ Some (out_fact (fresh 4)) ∷ []) (fresh 3 ∷ []) (3 ∷ 4 ∷ [])) }
+{
+    names_are_messages();
+}
+
 /// Runs: they start where nothing stands and nothing is known, and a full trace has a time for each step, the first one first,
 /// also where nothing is shown. `Fr(~x) --[ A(~x) ]-> Out(~x)` shows the name that was made, and then the adversary gives it.
 pub fn runs_by_hand()

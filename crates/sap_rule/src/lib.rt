@@ -8,8 +8,8 @@ mod variables;
 mod well_made;
 
 pub use laws::{
-    exact_steps_by_hand, exact_uses_by_hand, names_by_hand, runs_by_hand, runs_reach_messages,
-    steps_by_hand, steps_keep_messages, taken_facts_are_messages,
+    exact_steps_by_hand, exact_uses_by_hand, names_by_hand, owned_names_by_hand, runs_by_hand,
+    runs_reach_messages, steps_by_hand, steps_keep_messages, taken_facts_are_messages,
 };
 pub use rule::{Rule, RuleList};
 pub use theory::Theory;

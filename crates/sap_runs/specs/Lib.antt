@@ -1,3 +1,4 @@
 pub mod Inner
 pub mod Marks
 pub mod Limits
+pub mod Examples

@@ -5,6 +5,7 @@ mod asking;
 mod checking;
 mod compile;
 mod ending;
+mod judged_laws;
 mod laws;
 mod reading;
 mod replay;
@@ -15,6 +16,7 @@ mod top;
 mod verdicts;
 mod way;
 
+pub use judged_laws::one_judged_text;
 pub use laws::{unrestricted_files_are_shown, verdicts_are_kept};
 pub use sap_outside::{
     FileShelf, MemShelf, MemSink, Shelf, ShelfFault, Sink, SinkFault, StreamSink,

@@ -9,3 +9,4 @@ pub mod Unserved
 pub mod Channels
 pub mod Pairs
 pub mod Judged
+pub mod OwnedNames

@@ -15,3 +15,4 @@ pub mod relation
 pub mod code
 pub mod Examples
 pub mod ShownExamples
+pub mod NameExamples

@@ -5,6 +5,7 @@ mod by_hand;
 mod facts;
 mod generation;
 mod laws;
+mod names_by_hand;
 mod place_laws;
 mod relation_laws;
 mod rules;
@@ -15,6 +16,7 @@ pub use laws::{
     annotations_are_settled, needed_restrictions_suffice, rules_are_well_made, rules_go_by_places,
     rules_name_their_places, rules_show_the_process, sound_processes_are_shown,
 };
+pub use names_by_hand::owned_names_by_hand;
 pub use place_laws::{
     patterns_are_plain, rules_are_found_by_name, rules_leave_open, terms_stand_under_choices,
 };

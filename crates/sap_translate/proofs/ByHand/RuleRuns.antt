@@ -72,7 +72,7 @@ abbrev pub rule_at : Proc → ℕ → Rule
 rule_at p n = slice_index_or (rules_of p) n init_rule
 
 -- a use of a rule where all that it shows and adds are names
-used : (laws : Laws) → {g : Sig} {rules : List Rule} {s : RuleState} {rest : Pile} (r : Rule) (ks : List ℕ) (σ : Choice) → Contains rules r → IsMessageChoice g σ → Takes s.facts ks (instance_facts σ r.left) rest
+pub used : (laws : Laws) → {g : Sig} {rules : List Rule} {s : RuleState} {rest : Pile} (r : Rule) (ks : List ℕ) (σ : Choice) → Contains rules r → IsMessageChoice g σ → Takes s.facts ks (instance_facts σ r.left) rest
     → have_names (instance_facts σ r.acts) ≡ true → have_names (instance_facts σ r.right) ≡ true
     → RuleStep g rules s (instance_facts σ r.acts) (leaves s (adds rest (instance_facts σ r.right)))
 used laws {g = g} r ks σ is messages takes acts right =
@@ -99,12 +99,12 @@ served_once laws g =
     )
 
 -- the channel is ~1, and each tag is this name
-abbrev name_of : ℕ → List ℕ → Sort → Tree
+abbrev pub name_of : ℕ → List ℕ → Sort → Tree
 name_of n v Msg = public (codes "m")
 name_of n v Fresh = fresh (if bytes_eq v (codes "c") then 1 else n)
 name_of n v Pub = public (codes "m")
 
-abbrev tagged : ℕ → Choice
+abbrev pub tagged : ℕ → Choice
 tagged n v = name_of n v.name v.sort
 
 of_message : (laws : Laws) → (g : Sig) (n : ℕ) (v : List ℕ) (s : Sort) → IsMessage g s (name_of n v s)
@@ -112,10 +112,10 @@ of_message laws g n v Msg = record { ground = tt; over = tt; normal = laws.leave
 of_message laws g n v Fresh = record { ground = tt; over = tt; normal = laws.leaves.of_fresh_name (equations g) (if bytes_eq v (codes "c") then 1 else n); sorted = refl }
 of_message laws g n v Pub = record { ground = tt; over = tt; normal = laws.leaves.of_public_name (equations g) (codes "m"); sorted = refl }
 
-tags_messages : (laws : Laws) → (g : Sig) (n : ℕ) → IsMessageChoice g (tagged n)
+pub tags_messages : (laws : Laws) → (g : Sig) (n : ℕ) → IsMessageChoice g (tagged n)
 tags_messages laws g n v = of_message laws g n v.name v.sort
 
-unmade : (made : List ℕ) (n : ℕ) → EachIn (λ k. k ≡ n → ⊥) made → Contains made n → ⊥
+pub unmade : (made : List ℕ) (n : ℕ) → EachIn (λ k. k ≡ n → ⊥) made → Contains made n → ⊥
 unmade made n others has = each_at (λ k. k ≡ n → ⊥) made others n (member n made has) refl
 
 -- the first sender's message is taken, and then the second sender sends

@@ -26,12 +26,12 @@ use Rattle.sap_translate.proofs.Premises.WellMade.{each_at}
 use Rattle.sap_translate.proofs.Terms.Derive.{member}
 
 -- so it is with each fact of the pile
-abbrev EachLeft : (Fact → Type 0) → Pile → Type 0
+abbrev pub EachLeft : (Fact → Type 0) → Pile → Type 0
 EachLeft P [] = Unit {0}
 EachLeft P (None ∷ facts) = EachLeft P facts
 EachLeft P (Some f ∷ facts) = P f × EachLeft P facts
 
-every_left : (P : Fact → Type 0) (facts : Pile) → EachLeft P facts → Every P facts
+pub every_left : (P : Fact → Type 0) (facts : Pile) → EachLeft P facts → Every P facts
 every_left P [] h t a e = absurd (cc)
 every_left P (None ∷ facts) h zero a e = absurd (cc)
 every_left P (None ∷ facts) h (suc t) a e = every_left P facts h t a e

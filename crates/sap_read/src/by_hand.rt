@@ -1,0 +1,54 @@
+//! Why small files are refused, and what their processes are, by hand, as contracts of functions that do nothing.
+ghost use Rattle.std.specs.Prelude.{[], Err, Ok, codes};
+ghost use Rattle.sap_formula.specs.declared.fault.FormulaFault.TheVariants.{UnboundVar};
+ghost use Rattle.sap_locks.specs.Annotation.{without};
+ghost use Rattle.sap_process.specs.declared.flaw.Flaw.TheVariants.{Unbound};
+ghost use Rattle.sap_text.specs.declared.fault.Lex.TheVariants.{OpenQuote};
+ghost use Rattle.sap_read.specs.CauseExamples.{AreNoProcesses, AreProcesses, AreRefused, AreUnrefused, counting_first, file_processes, near_files, other_processes, with_clash, with_repeated, with_too_deep, with_too_many, with_two, with_unknown, without_process};
+ghost use Rattle.sap_read.specs.Causes.{lock_fault};
+ghost use Rattle.sap_read.specs.FileExamples.{empty_file, endless_file, headless_file, quoting_file, timeless_file, told_whole, unbound_file, unlocking_file, whole_file};
+ghost use Rattle.sap_read.specs.Files.{IsRead};
+ghost use Rattle.sap_read.specs.declared.fault.ReadFault.TheVariants.{Formula, Header, Ill, Lex as LexFault, NoProcess, Syntax};
+
+use sap_locks::{annotations_by_hand, branches_by_hand};
+use sap_process::flaws_by_hand;
+use sap_text::longest_tokens;
+
+/// A law: small files, each given by its items, with each cause for which items are refused: no process, a second one by its line, a
+/// name of a process that nothing before defines, a name that stands twice, a declaration that clashes, 4,001 places, 301 levels. Near
+/// misses of each are refused for none; and of two causes the one that stands first here counts.
+pub fn causes_by_hand()
+    ensures no_process { AreRefused without_process }
+    ensures two_processes { AreRefused with_two }
+    ensures unknown { AreRefused with_unknown }
+    ensures repeated { AreRefused with_repeated }
+    ensures clash { AreRefused with_clash }
+    ensures too_many { AreRefused with_too_many }
+    ensures too_deep { AreRefused with_too_deep }
+    ensures near { AreUnrefused near_files }
+    ensures order { AreRefused counting_first }
+{}
+
+/// A law: the processes of small files, with names replaced by what they stand for, and processes that are none of theirs.
+pub fn file_processes_by_hand()
+    ensures are { AreProcesses file_processes }
+    ensures are_not { AreNoProcesses other_processes }
+{}
+
+/// A law: small files byte by byte, one that is read and seven that are refused: for what is no token, for want of a header, of `end`
+/// and of a process, for an unbound variable, for an unlock without a lock, and for a lemma's unbound time.
+pub fn files_by_hand()
+    ensures read { IsRead whole_file (Ok told_whole) }
+    ensures no_token { IsRead quoting_file (Err (LexFault (OpenQuote 15))) }
+    ensures no_header { IsRead headless_file (Err Header) }
+    ensures no_end { IsRead endless_file (Err (Syntax 1)) }
+    ensures no_process { IsRead empty_file (Err NoProcess) }
+    ensures unbound { IsRead unbound_file (Err (Ill Unbound [])) }
+    ensures without_lock { IsRead unlocking_file (Err (lock_fault without [])) }
+    ensures no_time { IsRead timeless_file (Err (Formula (codes "l") (UnboundVar (codes "i")))) }
+{
+    longest_tokens();
+    flaws_by_hand();
+    annotations_by_hand();
+    branches_by_hand();
+}

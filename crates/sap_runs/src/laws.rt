@@ -1,0 +1,30 @@
+//! Marks of steps and the limit on terms by hand, as contracts of functions that do nothing.
+ghost use Rattle.std.specs.Prelude.{◌≡◌, [], ◌∷◌};
+ghost use Rattle.sap_terms.specs.AdversaryFacts.{k_fact};
+ghost use Rattle.sap_runs.specs.Examples.{k, v, a_fact, b_fact, hashed};
+ghost use Rattle.sap_runs.specs.Inner.{locked, unlocked, found};
+ghost use Rattle.sap_runs.specs.Limits.{AnySize, IsSmall};
+ghost use Rattle.sap_runs.specs.Marks.{inside, showing, marks_of};
+
+/// A law: the marks of single steps. What a step does inside comes first, one mark for each action and in their order; then, as
+/// one mark, the facts that are seen, in their order, without what the adversary knows. A step that shows nothing else has no
+/// mark of what is seen. No other order is that of the marks, and no fact of a step has a mark of its own.
+pub fn marks_of_steps_by_hand()
+    ensures none { marks_of [] [] ≡ [] }
+    ensures known { marks_of [] (k_fact k ∷ []) ≡ [] }
+    ensures inner { marks_of (locked k ∷ unlocked k ∷ []) [] ≡ inside (locked k) ∷ inside (unlocked k) ∷ [] }
+    ensures seen { marks_of [] (a_fact ∷ k_fact k ∷ b_fact ∷ []) ≡ showing (a_fact ∷ b_fact ∷ []) ∷ [] }
+    ensures both { marks_of (locked k ∷ found k v ∷ []) (a_fact ∷ []) ≡ inside (locked k) ∷ inside (found k v) ∷ showing (a_fact ∷ []) ∷ [] }
+    ensures not_turned { ¬ (marks_of (locked k ∷ unlocked k ∷ []) [] ≡ inside (unlocked k) ∷ inside (locked k) ∷ []) }
+    ensures not_seen_first { ¬ (marks_of (locked k ∷ []) (a_fact ∷ []) ≡ showing (a_fact ∷ []) ∷ inside (locked k) ∷ []) }
+    ensures facts_not_turned { ¬ (marks_of [] (a_fact ∷ b_fact ∷ []) ≡ showing (b_fact ∷ a_fact ∷ []) ∷ []) }
+    ensures not_apart { ¬ (marks_of [] (a_fact ∷ b_fact ∷ []) ≡ showing (a_fact ∷ []) ∷ showing (b_fact ∷ []) ∷ []) }
+    ensures not_known { ¬ (marks_of [] (k_fact k ∷ []) ≡ showing (k_fact k ∷ []) ∷ []) }
+{}
+
+/// A law: a term of 256 nodes is within the limit, one of 257 isn't, and one of any size is of any size.
+pub fn limit_by_hand()
+    ensures at_limit { IsSmall (hashed 255) }
+    ensures above_limit { ¬ IsSmall (hashed 256) }
+    ensures any { AnySize (hashed 256) }
+{}
