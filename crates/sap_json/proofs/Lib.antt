@@ -10,3 +10,4 @@ pub mod ReadBack
 pub mod WrittenRead
 pub mod ByHand
 pub mod RunPieces
+pub mod SomeRun

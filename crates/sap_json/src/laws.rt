@@ -14,8 +14,8 @@ ghost use Rattle.sap_json.specs.Arrays.{IsProcessArray};
 ghost use Rattle.sap_json.specs.Written.{process_data, json_text, CanBeWritten, HasFewSteps};
 
 use sap_run_lines::{
-    one_run_term, one_run_word, spelled_terms_can_be_written, written_lines_are_read,
-    written_words_are_ascii,
+    one_run_term, one_run_word, run_words_are_decided, spelled_terms_can_be_written,
+    written_lines_are_read, written_words_are_ascii,
 };
 
 /// A law: bytes have one answer at most.
@@ -24,6 +24,15 @@ pub fn one_json_run()
 {
     one_run_term();
     one_run_word();
+}
+
+/// A law: each bytes have an answer.
+pub fn some_json_run()
+    ensures { (z : List ℕ) → ((o : Result Run JsonFault) × IsJsonRead z o) }
+{
+    one_run_term();
+    one_run_word();
+    run_words_are_decided();
 }
 
 /// A law: what is written of a run is read as this run, where each of its steps can be written and they aren't more than a run

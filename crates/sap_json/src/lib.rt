@@ -16,6 +16,8 @@ mod values;
 mod write;
 
 pub use json_fault::JsonFault;
-pub use laws::{arrays_by_hand, json_runs_can_be_written, one_json_run, written_json_is_read};
+pub use laws::{
+    arrays_by_hand, json_runs_can_be_written, one_json_run, some_json_run, written_json_is_read,
+};
 pub use read::read_json;
 pub use write::write_json;
