@@ -11,3 +11,6 @@ pub mod WordsOn
 pub mod TermsPrinted
 pub mod Lines
 pub mod NoFeeds
+pub mod WholeWords
+pub mod Ascii
+pub mod Spelled

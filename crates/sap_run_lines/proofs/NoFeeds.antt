@@ -19,11 +19,11 @@ use Rattle.sap_run_lines.specs.LineWords.{LineWord, IsLineWord, word_identifier,
 use Rattle.sap_run_lines.specs.StepLines.{IsProcessStepLine, IsRuleStepLine, IsOpenLine}
 
 -- a weaker test
-weaker : (f g : ℕ → Bool) → ((b : ℕ) → f b ≡ true → g b ≡ true) → (s : List ℕ) → list_all f s ≡ true → list_all g s ≡ true
+pub weaker : (f g : ℕ → Bool) → ((b : ℕ) → f b ≡ true → g b ≡ true) → (s : List ℕ) → list_all f s ≡ true → list_all g s ≡ true
 weaker f g h [] l = refl
 weaker f g h (x ∷ s) l = and_true (g x) (list_all g s) (h x (and_left (f x) (list_all f s) l)) (weaker f g h s (and_right (f x) (list_all f s) l))
 
-joins : (f : ℕ → Bool) (x y : List ℕ) → list_all f x ≡ true → list_all f y ≡ true → list_all f (x ++ y) ≡ true
+pub joins : (f : ℕ → Bool) (x y : List ℕ) → list_all f x ≡ true → list_all f y ≡ true → list_all f (x ++ y) ≡ true
 joins f x y p q = list_all-append f x y ∙ and_true (list_all f x) (list_all f y) p q
 
 word_byte : (b : ℕ) → is_word b ≡ true → is_not_feed b ≡ true

@@ -3,4 +3,5 @@ pub mod LineWords
 pub mod StepLines
 pub mod LineText
 pub mod Spellable
+pub mod WholeWords
 pub mod code

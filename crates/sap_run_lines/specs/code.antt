@@ -3,3 +3,4 @@ pub mod Taking
 pub mod TermTaking
 pub mod WordTaking
 pub mod StepTaking
+pub mod WholeTaking

@@ -1,0 +1,13 @@
+pub mod Each
+pub mod OperandsRead
+pub mod OneOperands
+pub mod StepForms
+pub mod StepsRead
+pub mod StepLists
+pub mod ValueParts
+pub mod RunsRead
+pub mod ReadBack
+pub mod WrittenRead
+pub mod ByHand
+pub mod RunPieces
+pub mod SomeRun

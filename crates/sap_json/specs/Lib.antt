@@ -1,0 +1,4 @@
+pub mod Arrays
+pub mod RunValues
+pub mod Written
+pub mod code
