@@ -1,5 +1,5 @@
 -- A test that the names in a process and in its lines pass, the names in all that a run leads to pass.
-use Rattle.std.proofs.Common.{◌≡◌, ℕ, zero, suc, Bool, true, false, List, [], ◌∷◌, ◌++◌, Option, Some, None, cond, map, slice_get, slice_set, refl, sym, subst, ◌∙◌, ◌⊎◌, inl, inr, arith}
+use Rattle.std.proofs.Common.{◌≡◌, ℕ, zero, suc, Bool, true, false, List, [], ◌∷◌, ◌++◌, Option, Some, None, cond, map, slice_get, slice_set, refl, sym, subst, inl, inr, arith}
 use Rattle.std.specs.Prelude.{All, Contains}
 use Rattle.std.specs.List.{AllZip}
 use Rattle.std.specs.Option.{option_map_or}
@@ -29,18 +29,17 @@ use Rattle.sap_process.specs.Action as action
 use Rattle.sap_process.specs.Action.{Action}
 use Rattle.sap_process.specs.Configuration.{Config, Runs, initial, stored}
 use Rattle.sap_process.specs.Flaws.{binder_of}
-use Rattle.sap_process.specs.Heads.{facts_terms, patterns}
 use Rattle.sap_process.specs.Instance.{process_instance, action_instance, behind, without}
 use Rattle.sap_process.specs.Proc as whole
 use Rattle.sap_process.specs.Proc.{Proc, act}
-use Rattle.sap_process.specs.ProcessSteps.{chosen, with_choice, with_term, Fits}
+use Rattle.sap_process.specs.ProcessSteps.{chosen, with_choice, with_term}
 use Rattle.sap_runs.specs.Inner.{InnerAction}
 use Rattle.sap_runs.specs.Limits.{IsSmall}
 use Rattle.sap_runs.specs.Marks.{Mark}
 use Rattle.sap_runs.specs.declared.process_step.PStep.{PStep}
 use Rattle.sap_lines.specs.Answers.{MatchesExactly, RunsMatchExactly}
 use Rattle.sap_lines.specs.Lines.{IsProcessLine, left_open}
-use Rattle.sap_lines.specs.NamesPass.{NamesPass, AllNamesPass, FactsPass, ActionPasses, ProcessPasses, BindingsPass, LinePasses, LinesPass, ConfigPasses, NamesStandInRuns}
+use Rattle.sap_lines.specs.NamesPass.{NamesPass, AllNamesPass, FactsPass, ActionPasses, ProcessPasses, BindingsPass, LinePasses, LinesPass, NamesStandInRuns}
 use Rattle.sap_lines.specs.Runs.{IsLegalProcessRun, SmallProcessRunsAreLegal}
 use Rattle.sap_lines.proofs.Agreeing.{binder_among}
 use Rattle.sap_lines.proofs.Fits.{pair_parts, facts_all, taken_all}
@@ -238,8 +237,8 @@ module _ (test : Tree → Bool) where
       passing_form (apply f ts) h =
           let parts = passing_forms ts h in
           let equal : IsTheoryEqual (equations g) (apply f ts) (apply f (trees_of parts.forms)) =
-              subst (λ (us : Trees). IsTheoryEqual (equations g) (apply f us) (apply f (trees_of parts.forms))) (trees_of-list_of ts)
-              (laws.kept.under_symbols (equations g) f (list_of ts) parts.forms parts.equal)
+          subst (λ (us : Trees). IsTheoryEqual (equations g) (apply f us) (apply f (trees_of parts.forms))) (trees_of-list_of ts)
+          (laws.kept.under_symbols (equations g) f (list_of ts) parts.forms parts.equal)
           in
           symbol_form f ts (trees_of parts.forms) equal parts.normal parts.passes
 
@@ -465,12 +464,12 @@ module _ (test : Tree → Bool) where
 
     module _ (p : Proc) (passes : ProcessPasses test p)
         (exactly : (lines : List PStep) (c : Config) (es : List Tree) (tr : Trace) (marks : List Mark) → IsLegalProcessRun g IsSmall p lines c es tr marks → MatchesExactly g c es)
-        where
-      run_good : (lines : List PStep) (c : Config) (es : List Tree) (tr : Trace) (marks : List Mark) → LinesPass test lines → IsLegalProcessRun g IsSmall p lines c es tr marks → Good c es
-      run_good _ _ _ _ _ h IsLegalProcessRun.starts = starts_good p passes
-      run_good _ d fs _ _ h (IsLegalProcessRun.further {lines = lines} {c = c} {es = es} {tr = tr} {marks = marks} step inner label run is) =
-          let parts = lines_before lines step h in
-          keeps c es (run_good lines c es tr marks parts.0 run) (exactly lines c es tr marks run) d fs step inner label is parts.1
+      where
+        run_good : (lines : List PStep) (c : Config) (es : List Tree) (tr : Trace) (marks : List Mark) → LinesPass test lines → IsLegalProcessRun g IsSmall p lines c es tr marks → Good c es
+        run_good _ _ _ _ _ h IsLegalProcessRun.starts = starts_good p passes
+        run_good _ d fs _ _ h (IsLegalProcessRun.further {lines = lines} {c = c} {es = es} {tr = tr} {marks = marks} step inner label run is) =
+            let parts = lines_before lines step h in
+            keeps c es (run_good lines c es tr marks parts.0 run) (exactly lines c es tr marks run) d fs step inner label is parts.1
 
 pub names_stand : Laws → SymbolsReduceOnce → RunsMatchExactly → SmallProcessRunsAreLegal → NamesStandInRuns
 names_stand laws symbols exactly legal test g p lines c es tr marks hold ready passes brought run =

@@ -15,7 +15,7 @@ mod top;
 mod verdicts;
 mod way;
 
-pub use laws::{unrestricted_files_are_shown, verdicts_are_kept};
+pub use laws::{unrestricted_files_are_shown, verdicts_are_kept, written_runs_are_judged_alike};
 pub use sap_outside::{
     FileShelf, MemShelf, MemSink, Shelf, ShelfFault, Sink, SinkFault, StreamSink,
 };
