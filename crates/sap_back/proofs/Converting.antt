@@ -44,7 +44,7 @@ pub record IsConverting (g : Sig) (q : Proc) (s : State) (m : Machine) (tables :
   -- they are as many as are counted, without the one for what is pending
   pub count : length lines + count_pending pending ≡ back_count before
   -- they stand in turn, without what is pending
-  pub turns : AreLinesForAll before lines
+  pub turns : AreLinesForAll None before full lines tables.pending
 
 module _ (g : Sig) (q : Proc) where
   -- before the first line
@@ -60,7 +60,7 @@ module _ (g : Sig) (q : Proc) where
     along = subst (λ z. IsAlong g IsSmall q (Some (unborn q) ∷ []) None [] (initial q) [] [] z []) (sym at) begins;
     tabled = subst (λ z. AreTables (Some (unborn q) ∷ []) None (initial q) [] z tables) (sym at) (subst (AreTables (Some (unborn q) ∷ []) None (initial q) [] empty_state) (sym first) begins_tabled);
     count = refl;
-    turns = no_lines;
+    turns = subst (λ (k : Option ℕ). AreLinesForAll None [] [] [] k) (sym (ap (λ (z : Tables). z.pending) first)) no_lines;
   }
 
   -- behind one more line
@@ -86,7 +86,8 @@ module _ (g : Sig) (q : Proc) where
         along = subst (λ z. IsAlong g IsSmall q f.next f.later z f.config f.entries f.trace t.at (w.full ++ k.acts ∷ [])) (sym written.0) f.is;
         tabled = subst (AreTables f.next f.later f.config f.entries t.at) (sym written.1) f.tabled;
         count = omega arith;
-        turns = one_more_is before step lines f.more longer written.0 w.turns (written_lines f.written);
+        turns = subst (λ (z : Tables). AreLinesForAll None (before ++ step ∷ []) (w.full ++ k.acts ∷ []) longer z.pending) (sym written.1)
+            (one_more_is None tables.pending f.behind.pending before w.full step k.acts lines f.more longer written.0 w.turns (written_lines f.written));
       }
 
   -- each line shows one time

@@ -34,8 +34,8 @@ pub record IsConverted (g : Sig) (start : Proc) (rule_lines : List RStep) (lines
   pub opposite : IsOpposite g start rule_lines state full lines
   -- there are exactly so many
   pub count : length lines ≡ back_count rule_lines
-  -- they stand in turn
-  pub turns : StandInTurn rule_lines lines
+  -- they stand in turn, and so it is told where a `know` stands
+  pub turns : StandInTurn rule_lines full lines
 
 -- the lines before the one with this number, from 1, are such a run, and that one is refused for this cause
 pub record IsFirstRefused (g : Sig) (start : Proc) (rule_lines : List RStep) (number : ℕ) (fault : RFault) : Type 0 where

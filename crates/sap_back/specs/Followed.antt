@@ -30,23 +30,13 @@ use Rattle.sap_steps.specs.Lines.{IsLine}
 use Rattle.sap_steps.specs.Marks.{marks}
 use Rattle.sap_translate.specs.ChannelFacts.{msg_fact}
 pub use Rattle.sap_translate.specs.RuleLines.{uses, numbers_from}
-pub use Rattle.sap_back.specs.LinesFor.{pending_lines}
+pub use Rattle.sap_back.specs.LinesFor.{pending_lines, lines_before, left_pending}
 use Rattle.sap_translate.specs.Templates.{rules_of, first_of, second_of}
 use Rattle.sap_translate.specs.relation.Agents.{Agent, unborn, running, copying, awaiting, received}
 use Rattle.sap_translate.specs.relation.Answers.{Stands, Copies, goes_on as onwards, goes_aside as aside, term_under, widened}
 use Rattle.sap_translate.specs.relation.Envs.{Env, no_env, just, join, values}
 use Rattle.sap_back.specs.Along.{IsAlong}
 use Rattle.sap_back.specs.Tables.{Tables, AreTables, IsPending, come, with_thread, with_known, enters, waiting, first_tables}
-
--- those that a line which shows this has written first: none where it shows nothing
-abbrev pub lines_before : List Fact → Option ℕ → List PStep
-lines_before [] k = []
-lines_before (f ∷ fs) k = pending_lines k
-
--- what is pending behind it
-abbrev pub left_pending : {A : Type 0} → List Fact → Option A → Option A
-left_pending [] k = k
-left_pending (f ∷ fs) k = None
 
 -- so many facts of the process come behind the fact of thread t
 abbrev pub with_pile : Tables → (t many : ℕ) → Tables

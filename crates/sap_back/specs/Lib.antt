@@ -1,5 +1,6 @@
 pub mod Opposite
 pub mod LinesFor
+pub mod LineExamples
 pub mod NamedIn
 pub mod Converted
 pub mod Tables

@@ -1,8 +1,9 @@
 //! Laws of runs of rules and of the process, as contracts of functions that only call the laws below.
-ghost use Rattle.std.specs.Prelude.{All, ℕ, List, [], ◌∷◌, Some, codes, ◌<◌, ◌^◌, ◌≡◌};
+ghost use Rattle.std.specs.Prelude.{All, ℕ, List, [], ◌∷◌, Option, Some, None, codes, ◌<◌, ◌^◌, ◌≡◌};
 ghost use Rattle.sap_back.specs.Along.{BeginsAlong};
 ghost use Rattle.sap_back.specs.Followed.{BeginsTabled, EndsTabled, LinesAreFollowed};
-ghost use Rattle.sap_back.specs.LinesFor.{AreLinesFor, AreLinesForAll, StandInTurn};
+ghost use Rattle.sap_back.specs.LineExamples.{six_rule_lines, six_shown, their_lines};
+ghost use Rattle.sap_back.specs.LinesFor.{uses, AreLinesFor, AreLinesForAll, StandInTurn};
 ghost use Rattle.sap_back.specs.NamedIn.{IsNamedIn};
 ghost use Rattle.sap_back.specs.Opposite.{HasOpposites};
 ghost use Rattle.sap_locks.specs.Annotation.{IsAnnotation};
@@ -13,7 +14,9 @@ ghost use Rattle.sap_rule.specs.WellMade.{IsWellMade};
 ghost use Rattle.sap_runs.specs.declared.process_step.PStep.{PStep};
 ghost use Rattle.sap_runs.specs.declared.process_step.PStep.TheVariants as line;
 ghost use Rattle.sap_runs.specs.declared.rule_step.RStep.{RStep};
-ghost use Rattle.sap_runs.specs.declared.rule_step.RStep.TheVariants.{Public as PublicLine, Apply as ApplyLine};
+ghost use Rattle.sap_runs.specs.declared.rule_step.RStep.TheVariants.{Public as PublicLine, Apply as ApplyLine, Know as KnowLine};
+ghost use Rattle.sap_terms.specs.Trace.{Trace};
+ghost use Rattle.sap_terms.specs.declared.fact.Fact.{Fact};
 ghost use Rattle.sap_terms.specs.Equations.{pair_name};
 ghost use Rattle.sap_terms.specs.Signature.{HoldsBuiltins, Sig, arity_of};
 ghost use Rattle.sap_back.specs.Answers.{HaveOneAnswer};
@@ -120,17 +123,34 @@ pub fn rule_runs_have_one_answer()
 /// A law: what lines name that stand in turn stands in the lines of rules: the public name that a line writes down, the symbol that
 /// one applies, the bindings of an embedded rule.
 pub fn names_stand_in_lines()
-    ensures { (rule_lines : List RStep) (lines : List PStep) → StandInTurn rule_lines lines
-        → All (IsNamedIn rule_lines) lines }
+    ensures { (rule_lines : List RStep) (full : Trace) (lines : List PStep)
+        → StandInTurn rule_lines full lines → All (IsNamedIn rule_lines) lines }
 {}
 
 /// A law: lines tried by hand. For `pub 'a'` alone stands the line that writes down `a`, and no other, so no name with a quote and a
-/// line feed in it; for `pub 'a'` and `pub 'b'` stand the two in this order; for `app f 0` one that applies `f`, to whatever entry.
+/// line feed in it; for `pub 'a'` and `pub 'b'` stand the two in this order; for `app f 0` one that applies `f`, to whatever entry. Six
+/// lines with where their `know` stands; what is given isn't shown at once, but where the next is given, unless an input takes it,
+/// which takes nothing where nothing is pending.
 pub fn turns_by_hand()
-    ensures alone { (lines : List PStep) → AreLinesForAll (PublicLine (codes "a") ∷ []) lines
+    ensures alone { (acts : List Fact) (lines : List PStep) (last : Option ℕ)
+        → AreLinesForAll None (PublicLine (codes "a") ∷ []) (acts ∷ []) lines last
         → lines ≡ line.Public (codes "a") ∷ [] }
-    ensures in_order { (lines : List PStep) → AreLinesForAll (PublicLine (codes "a") ∷ PublicLine (codes "b") ∷ []) lines
+    ensures in_order { (acts others : List Fact) (lines : List PStep) (last : Option ℕ)
+        → AreLinesForAll None (PublicLine (codes "a") ∷ PublicLine (codes "b") ∷ []) (acts ∷ others ∷ []) lines last
         → lines ≡ line.Public (codes "a") ∷ line.Public (codes "b") ∷ [] }
-    ensures symbol { (lines : List PStep) → AreLinesFor (ApplyLine (codes "f") (0 ∷ [])) lines
+    ensures symbol { (k next : Option ℕ) (acts : List Fact) (lines : List PStep)
+        → AreLinesFor k (ApplyLine (codes "f") (0 ∷ [])) acts lines next
         → (entries : List ℕ) × (lines ≡ line.Apply (codes "f") entries ∷ []) }
+    ensures six { StandInTurn six_rule_lines six_shown their_lines }
+    ensures waits { (acts others : List Fact) (lines : List PStep) (last : Option ℕ)
+        → AreLinesForAll None (KnowLine 0 ∷ PublicLine (codes "a") ∷ []) (acts ∷ others ∷ []) lines last
+        → (lines ≡ line.Public (codes "a") ∷ []) × ((e : ℕ) × (last ≡ Some e)) }
+    ensures shown_next { (acts others : List Fact) (lines : List PStep) (last : Option ℕ)
+        → AreLinesForAll None (KnowLine 0 ∷ KnowLine 1 ∷ []) (acts ∷ others ∷ []) lines last
+        → (e : ℕ) × (lines ≡ line.Know e ∷ []) × ((u : ℕ) × (last ≡ Some u)) }
+    ensures taken { (acts others : List Fact) (lines : List PStep) (last : Option ℕ)
+        → AreLinesForAll None (KnowLine 0 ∷ uses (codes "In_") [] (0 ∷ 1 ∷ []) [] ∷ []) (acts ∷ others ∷ []) lines last
+        → (t e : ℕ) × (lines ≡ line.In t e ∷ []) × (last ≡ None) }
+    ensures not_taken { (acts : List Fact) (lines : List PStep) (last : Option ℕ)
+        → AreLinesForAll None (uses (codes "In_") [] (0 ∷ 1 ∷ []) [] ∷ []) (acts ∷ []) lines last → ⊥ }
 {}

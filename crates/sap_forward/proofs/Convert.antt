@@ -41,10 +41,12 @@ use Rattle.sap_forward.specs.Counted.{rule_count, all_copying}
 use Rattle.sap_forward.specs.Least.{is_among, names_drawn}
 use Rattle.sap_forward.specs.LinesFor.{no_lines}
 use Rattle.sap_forward.specs.Linked.{Linked, EnvWithin}
+use Rattle.sap_forward.specs.RuleLinesPass.{BringNoName}
 use Rattle.sap_forward.specs.code.Begun.{AreCopying, Converted}
 use Rattle.sap_forward.proofs.Counting.{counts, copying_join, first_copying, grown, back_grown}
 use Rattle.sap_forward.proofs.EachLine.{written_for, for_join}
 use Rattle.sap_forward.proofs.Evaluated.{rule_within}
+use Rattle.sap_forward.proofs.Passing.{StandSoFar, brought_join, written_passes}
 use Rattle.sap_forward.proofs.Given.{drawn_join, among_join, among_self, or_left, or_right}
 use Rattle.sap_forward.proofs.Premises.{Laws, RunLaws}
 use Rattle.sap_forward.proofs.Tabled.{length_join}
@@ -146,8 +148,9 @@ pub record Grows {g : Sig} {W : Tree → Type 0} {q : Proc} {drawn : List ℕ} {
   pub agents : after.agents ≡ a.later
   pub tables : after.tables ≡ a.behind
 
-pub grows : {g : Sig} {W : Tree → Type 0} {q : Proc} {drawn : List ℕ} {lines : List PStep} {step : PStep} {c d : Config} {es fs : List Tree} {tr tr2 : Trace} {ms ms2 : List Mark} (w : Converted g W q drawn lines c es tr ms) (a : IsAnswered g W q drawn w.agents c w.tables w.state w.full step d fs tr2 ms2) → Grows w a
-grows {g = g} {W = W} {q = q} {drawn = drawn} {lines = lines} {step = step} w a = let own = written_for a.written in let count = counts (all_copying [] lines) w.copying a.written in record {
+-- what is written for a line is asked of where the lines before it lead to
+pub grows : {g : Sig} {W : Tree → Type 0} {q : Proc} {drawn : List ℕ} {lines : List PStep} {step : PStep} {c d : Config} {es fs : List Tree} {tr tr2 : Trace} {ms ms2 : List Mark} (w : Converted g W q drawn lines c es tr ms) (a : IsAnswered g W q drawn w.agents c w.tables w.state w.full step d fs tr2 ms2) → StandSoFar q lines c es → Grows w a
+grows {g = g} {W = W} {q = q} {drawn = drawn} {lines = lines} {step = step} w a stand = let own = written_for a.written in let count = counts (all_copying [] lines) w.copying a.written in record {
   after = record {
     rest = w.rest ++ a.lines;
     agents = a.later;
@@ -164,6 +167,7 @@ grows {g = g} {W = W} {q = q} {drawn = drawn} {lines = lines} {step = step} w a 
     copying = subst (λ x. AreCopying x a.later) (sym (copying_join [] lines step)) count.copying;
     counted = grown lines step w.rest a.lines w.counted count.counted;
     back = back_grown lines step w.rest a.lines w.back count.back;
+    brought = brought_join q lines step w.rest a.lines w.brought (λ test process passed own. written_passes test (stand test process passed).store a.written own);
   };
   rest = refl;
   agents = refl;
@@ -195,6 +199,7 @@ first_converted g q starts drawn = record {
     copying = first_copying q;
     counted = refl;
     back = refl;
+    brought = λ test process passed. tt;
   };
   rest = refl;
   agents = refl;
@@ -211,13 +216,18 @@ module _ (laws : RunLaws) (g : Sig) (p q : Proc) (hold : HoldsBuiltins g) (ready
       let exact = laws.exactly g q lines c es tr ms hold (laws.ready g p q ready annotated) (laws.excludes g q lines c es tr ms run) in
       laws.lines g p q hold ready small annotated drawn w.tables w.agents c d es fs tr w.state w.full step inner label w.linked can exact draws is
 
+  -- the names in what lines lead to stand in the process or in these lines
+  pub stand_so_far : {lines : List PStep} {c : Config} {es : List Tree} {tr : Trace} {ms : List Mark} → IsLegalProcessRun g IsSmall q lines c es tr ms → StandSoFar q lines c es
+  stand_so_far {lines = lines} {c = c} {es = es} {tr = tr} {ms = ms} run test process passed =
+      laws.stand test g q lines c es tr ms hold (laws.ready g p q ready annotated) process passed run
+
   pub converted : {lines : List PStep} {c : Config} {es : List Tree} {tr : Trace} {ms : List Mark} → IsLegalProcessRun g IsSmall q lines c es tr ms → ((n : ℕ) → is_among (names_drawn lines) n ≡ true → is_among drawn n ≡ true) → Converted g IsSmall q drawn lines c es tr ms
   converted IsLegalProcessRun.starts h = (first_converted g q (laws.starts g p q ready small annotated) drawn).so_far
   converted (IsLegalProcessRun.further {lines = lines} {c = c} {d = d} {es = es} {fs = fs} {tr = tr} {marks = ms} step inner label run is) h =
       let joined : (n : ℕ) → is_among (names_drawn (lines ++ step ∷ [])) n ≡ (is_among (names_drawn lines) n || is_among (names_drawn (step ∷ [])) n) = λ n. ap (λ x. is_among x n) (drawn_join lines (step ∷ [])) ∙ among_join (names_drawn lines) (names_drawn (step ∷ [])) n in
       let w = converted run (λ n e. h n (joined n ∙ or_left (is_among (names_drawn lines) n) (is_among (names_drawn (step ∷ [])) n) e)) in
       let draws = draws_last drawn step (λ n e. h n (joined n ∙ or_right (is_among (names_drawn lines) n) (is_among (names_drawn (step ∷ [])) n) e)) in
-      (grows w (answered w run step inner label d fs draws is)).after
+      (grows w (answered w run step inner label d fs draws is) (stand_so_far run)).after
 
 pushed : {A : Type 0} (xs : List A) (x : A) → xs ++ x ∷ [] ≡ [] → ⊥
 pushed [] x e = absurd (cc)
@@ -271,6 +281,10 @@ module _ {g : Sig} {W : Tree → Type 0} {q : Proc} {drawn : List ℕ} {step : P
   -- and as many of the process as there are stand opposite to those
   pub all_back : back_count (init_line ∷ w.rest) ≡ length (step ∷ lines)
   all_back = let k : back_count (init_line ∷ w.rest) ≡ back_count w.rest = omega arith in k ∙ w.back
+
+-- the line that starts the rules brings no name
+pub all_brought : {g : Sig} {W : Tree → Type 0} {q : Proc} {drawn : List ℕ} {lines : List PStep} {c : Config} {es : List Tree} {tr : Trace} {ms : List Mark} (w : Converted g W q drawn lines c es tr ms) → BringNoName q lines (init_line ∷ w.rest)
+all_brought w test process passed = (tt, w.brought test process passed)
 
 pub have_opposites : (laws : RunLaws) (g : Sig) (p q : Proc) → HoldsBuiltins g → IsReady g p → node_count p < 2 ^ 64 → IsAnnotation p q → HasOpposites g q
 have_opposites laws g p q hold ready small annotated [] c es tr ms run =

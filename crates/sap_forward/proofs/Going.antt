@@ -23,10 +23,11 @@ use Rattle.sap_forward.specs.Answered.{Draws}
 use Rattle.sap_forward.specs.Converted.{IsConverted}
 use Rattle.sap_forward.specs.Least.{is_among, names_drawn}
 use Rattle.sap_forward.specs.Opposite.{IsOpposite, init_line}
+use Rattle.sap_forward.specs.RuleLinesPass.{BringNoName}
 use Rattle.sap_forward.specs.code.Begun.{Begins, GoesOn, EndsConverted}
 use Rattle.sap_forward.specs.code.Desk.{Keeps}
 use Rattle.sap_forward.proofs.Bound.{binds_found}
-use Rattle.sap_forward.proofs.Convert.{Starts, first_converted, answered, grows, none_opposite, all_opposite, all_counted, all_back, draws_last}
+use Rattle.sap_forward.proofs.Convert.{Starts, first_converted, answered, grows, none_opposite, all_opposite, all_counted, all_back, all_brought, draws_last, stand_so_far}
 use Rattle.sap_forward.proofs.Given.{drawn_join, among_join, or_left, or_right}
 use Rattle.sap_forward.proofs.Premises.{RunLaws}
 
@@ -59,7 +60,7 @@ module _ (laws : RunLaws) (one_form : FormIsOne) (refusal : ProcessLinesHaveOneA
       let w = b.so_far in
       let is : IsProcessLine g IsSmall c es step t.done.inner t.label (configuration z) (terms_of z.known) = subst (λ x. IsProcessLine x IsSmall c es step t.done.inner t.label (configuration z) (terms_of z.known)) b.sig t.done.line in
       let a = answered laws g p q hold ready small annotated drawn w b.legal step t.done.inner t.label (configuration z) (terms_of z.known) draws is in
-      let n = grows w a in
+      let n = grows w a (stand_so_far laws g p q hold ready small annotated drawn b.legal) in
       let exact = laws.exactly g q lines c es b.trace b.marks hold (laws.ready g p q ready annotated) (laws.excludes g q lines c es b.trace b.marks b.legal) in
       let binds = binds_found one_form refusal g q drawn w.agents b.trace w.state w.full r w.tables b.sig exact w.linked.rest step t.done.inner t.label (configuration z) (terms_of z.known) a.lines t.found a.later a.behind is t.finds a.written in
       let put = t.writes g q drawn w.agents a.later c w.tables a.behind a.lines b.keeps a.written binds in
@@ -87,6 +88,7 @@ ends laws g p q hold ready small annotated step lines r d written b =
       opposite = subst (λ x. IsOpposite g q all es b.trace b.marks x) (sym b.stand) (all_opposite laws g p q hold ready small annotated step lines (configuration r) es b.trace b.marks b.so_far);
       counted = ap length b.stand ∙ all_counted b.so_far;
       back = ap back_count b.stand ∙ all_back b.so_far;
+      names = subst (BringNoName q all) (sym b.stand) (all_brought b.so_far);
     }
 
 -- no lines are converted to none
@@ -100,4 +102,5 @@ none laws g q = record {
   opposite = none_opposite laws g q;
   counted = refl;
   back = refl;
+  names = λ test process passed. tt;
 }

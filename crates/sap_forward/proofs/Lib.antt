@@ -19,6 +19,7 @@ pub mod Embedded
 pub mod Answer
 pub mod Counting
 pub mod EachLine
+pub mod Passing
 pub mod NamesMade
 pub mod LinesTried
 pub mod Convert

@@ -27,6 +27,7 @@ use Rattle.sap_rule.specs.Variables.{open_variables}
 use Rattle.sap_rule.specs.declared.rule.Rule.{Rule}
 use Rattle.sap_runs.specs.Limits.{IsSmall}
 use Rattle.sap_lines.specs.Answers.{RunsMatchExactly}
+use Rattle.sap_lines.specs.NamesPass.{NamesStandInRuns}
 use Rattle.sap_lines.specs.Runs.{ProcessLinesAreRuns, SmallProcessRunsAreLegal}
 use Rattle.sap_translate.specs.Opened.{left_open, opened}
 use Rattle.sap_translate.specs.Places.{root, scoped_place_at}
@@ -107,3 +108,4 @@ pub record RunLaws : Type 0 where
   pub exactly : RunsMatchExactly
   pub excludes : SmallProcessRunsAreLegal
   pub quiet : QuietLaw
+  pub stand : NamesStandInRuns

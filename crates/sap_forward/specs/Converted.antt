@@ -16,6 +16,7 @@ use Rattle.sap_lines.specs.declared.fault.PFault.TheVariants.{Mem}
 use Rattle.sap_translate.specs.LineCounts.{back_count}
 use Rattle.sap_forward.specs.Counted.{rule_count}
 use Rattle.sap_forward.specs.Opposite.{IsOpposite}
+use Rattle.sap_forward.specs.RuleLinesPass.{BringNoName}
 
 -- the lines are a legal run of the process within the limit, with this trace
 pub record IsShownBy (g : Sig) (start : Proc) (lines : List PStep) (tr : Trace) : Type 0 where
@@ -35,6 +36,8 @@ pub record IsConverted (g : Sig) (start : Proc) (lines : List PStep) (rule_lines
   -- there are exactly so many, and as many lines as these stand opposite to them
   pub counted : length rule_lines ≡ rule_count lines
   pub back : back_count rule_lines ≡ length lines
+  -- no name in what they write down and bind comes from elsewhere than the process and its lines
+  pub names : BringNoName start lines rule_lines
 
 -- the lines before the one with this number, from 1, are such a run, and that one is refused for this cause
 pub record IsFirstRefused (g : Sig) (start : Proc) (lines : List PStep) (number : ℕ) (fault : PFault) : Type 0 where

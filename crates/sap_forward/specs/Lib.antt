@@ -4,6 +4,7 @@ pub mod Linked
 pub mod LinesFor
 pub mod Written
 pub mod Opposite
+pub mod RuleLinesPass
 pub mod LineExamples
 pub mod Counted
 pub mod Converted

@@ -22,7 +22,9 @@ use crate::desk::Desk;
 use crate::laws::lines_are_answered;
 use crate::trace::{follow, started};
 use sap_calc::Config;
-use sap_lines::{limit_excludes, lines_are_steps, lines_have_one_answer, runs_match_exactly};
+use sap_lines::{
+    limit_excludes, lines_are_steps, lines_have_one_answer, names_stand_in_runs, runs_match_exactly,
+};
 use sap_locks::annotations_are_ready;
 use sap_read::File;
 use sap_restrict::restrictions_say_sentences;
@@ -49,6 +51,7 @@ fn conversions_go_on()
     lines_have_one_answer();
     runs_match_exactly();
     limit_excludes();
+    names_stand_in_runs();
     restrictions_say_sentences();
     normal_forms_are_unique();
 }

@@ -14,7 +14,7 @@ ghost use Rattle.sap_terms.specs.Signature.{HoldsBuiltins, Sig};
 
 use sap_lines::{
     limit_excludes, lines_are_steps, lines_have_one_answer, lines_have_some_answer,
-    runs_match_exactly,
+    names_stand_in_runs, runs_match_exactly,
 };
 use sap_locks::annotations_are_ready;
 use sap_restrict::restrictions_say_sentences;
@@ -69,6 +69,7 @@ pub fn legal_runs_have_lines_opposite()
     lines_are_steps();
     runs_match_exactly();
     limit_excludes();
+    names_stand_in_runs();
     restrictions_say_sentences();
 }
 

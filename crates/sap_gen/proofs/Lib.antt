@@ -1,3 +1,4 @@
 pub mod Lists
+pub mod Carried
 pub mod Lemmas
 pub mod Printable

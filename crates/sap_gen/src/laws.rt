@@ -1,5 +1,13 @@
 //! Laws of the theories of a file, as contracts of functions that only call the laws below.
-ghost use Rattle.std.specs.Prelude.{All, false, ◌≡◌};
+ghost use Rattle.std.specs.Prelude.{All, List, [], false, ◌≡◌, ◌↔◌};
+ghost use Rattle.sap_formula.specs.Form.{Form};
+ghost use Rattle.sap_formula.specs.HoldsOf.{HoldsOf};
+ghost use Rattle.sap_formula.specs.declared.lemma.Mode.{Mode};
+ghost use Rattle.sap_process.specs.Proc.{Proc};
+ghost use Rattle.sap_process.specs.ProcessSteps.{IsProcessTrace};
+ghost use Rattle.sap_restrict.specs.Inline.{inlined};
+ghost use Rattle.sap_rule.specs.RuleSteps.{IsFullTrace};
+ghost use Rattle.sap_terms.specs.Signature.{Sig};
 ghost use Rattle.sap_theory.specs.ReadAgain.{PassesChecks};
 ghost use Rattle.sap_gen.specs.Kept.{IsClosedTheory, KeepsFile, KeepsFileInlined, file_theory, inlined_file_theory};
 ghost use Rattle.sap_read.specs.OwnNames.{HaveOwnNames, IsNamedApart};
@@ -55,6 +63,17 @@ pub fn theories_are_printable()
         → All (λ (r : Rule). All (λ (h : Fact). h.persistent ≡ false) r.acts) (rules_of f.process) }
 {
     annotations_are_settled();
+}
+
+/// A law: a lemma holds of all full traces of rules, or of all traces of a process, among those on which some restrictions are
+/// true, exactly where the lemma that carries them holds of the same traces under none.
+pub fn inlined_lemmas_hold()
+    ensures rules { (g : Sig) (rules : List Rule) (us : List Form) (mode : Mode) (f : Form)
+        → HoldsOf g (IsFullTrace g rules) us mode f ↔ HoldsOf g (IsFullTrace g rules) [] mode (inlined mode us f) }
+    ensures process { (g : Sig) (p : Proc) (us : List Form) (mode : Mode) (f : Form)
+        → HoldsOf g (IsProcessTrace g p) us mode f ↔ HoldsOf g (IsProcessTrace g p) [] mode (inlined mode us f) }
+{
+    inlining_keeps_lemmas();
 }
 
 /// A law: where no two of a file's restrictions and lemmas have one name, and none has that of one of the seven, no two of those

@@ -8,8 +8,8 @@ mod theory;
 
 pub use kept_examples::{kept_by_hand, kept_inlined_by_hand};
 pub use laws::{
-    theories_are_closed, theories_are_named_apart, theories_are_printable, theories_keep_files,
-    theories_pass_checks,
+    inlined_lemmas_hold, theories_are_closed, theories_are_named_apart, theories_are_printable,
+    theories_keep_files, theories_pass_checks,
 };
 pub use lemma_examples::lemmas_by_hand;
 pub use theory::theory_of;

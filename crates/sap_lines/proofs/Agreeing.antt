@@ -18,7 +18,7 @@ use Rattle.sap_terms.proofs.PlainLaws.Choices.{Agree}
 use Rattle.sap_terms.proofs.PlainLaws.Items.{first_item, later_item}
 
 -- the binder of a name is among the variables
-binder_among : (vs : List Var) (n : List ℕ) (w : Var) → binder_of vs n ≡ Some w → Contains vs w
+pub binder_among : (vs : List Var) (n : List ℕ) (w : Var) → binder_of vs n ≡ Some w → Contains vs w
 binder_among [] n w e = cc
 binder_among (v ∷ vs) n w e = at (bytes_eq v.name n) e (λ h. binder_among vs n w h) where
   at : (b : Bool) → (if b then Some v else binder_of vs n) ≡ Some w → (binder_of vs n ≡ Some w → Contains vs w) → Contains (v ∷ vs) w

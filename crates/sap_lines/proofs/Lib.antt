@@ -11,6 +11,7 @@ pub mod OneCause
 pub mod Decided
 pub mod SomeAnswer
 pub mod Outcomes
+pub mod Passing
 pub mod Answers
 pub mod Named
 pub mod Written

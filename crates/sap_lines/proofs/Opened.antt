@@ -38,7 +38,7 @@ named_among (w ∷ ws) n h = at (bytes_eq w.name n) refl h (λ k. named_among ws
   at false e h rest = let r = rest h in (r.0, later_item w ws r.0 r.1, r.2)
 
 -- where no name has two sorts, each variable of a rule stands in its left side or is left open
-covered : (l e r : List Fact) → HaveOneSort (facts_vars (l ++ (e ++ r))) → (v : Var) → Contains (facts_vars (l ++ (e ++ r))) v → Contains (facts_vars l) v ⊎ Contains (left_open l e r) v
+pub covered : (l e r : List Fact) → HaveOneSort (facts_vars (l ++ (e ++ r))) → (v : Var) → Contains (facts_vars (l ++ (e ++ r))) v → Contains (facts_vars l) v ⊎ Contains (left_open l e r) v
 covered l e r sorts v m = at (Contains-append_cases (facts_vars l) (facts_vars (e ++ r)) v (subst (λ vs. Contains vs v) (facts_vars-append l (e ++ r)) m))
   where
     left : (w : Var) → Contains (facts_vars l) w → Contains (facts_vars (l ++ (e ++ r))) w

@@ -1,5 +1,6 @@
 pub mod Lines
 pub mod Runs
+pub mod NamesPass
 pub mod Faults
 pub mod Answers
 pub mod Sorts

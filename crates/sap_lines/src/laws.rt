@@ -1,5 +1,6 @@
 // Laws of written runs of processes, as contracts of functions that do nothing.
 ghost use Rattle.sap_lines.specs.Answers.{ProcessLinesHaveOneOutcome, ProcessLinesHaveOneAnswer, ProcessLinesHaveSomeAnswer, RefusalsAreOne, RunsMatchExactly};
+ghost use Rattle.sap_lines.specs.NamesPass.{NamesStandInRuns};
 ghost use Rattle.sap_lines.specs.Runs.{ProcessLinesAreSteps, ProcessLinesAreRuns, ProcessRunsCanBeWritten, GivenTermsCanBeEntered, SmallProcessLinesAreLines, SmallProcessRunsAreLegal};
 ghost use Rattle.sap_lines.specs.Sorts.{PatternsHaveOneSort, RulesHaveOneSort};
 ghost use Rattle.sap_runs.specs.Limits.{AnySize, IsSmall};
@@ -7,7 +8,7 @@ ghost use Rattle.sap_runs.specs.Limits.{AnySize, IsSmall};
 use sap_process::runs_stay_ground;
 use sap_rewrite::{
     each_term_has_a_normal_form, equality_is_kept, matching_is_modulo, normal_forms_are_unique,
-    normal_forms_decide,
+    normal_forms_decide, symbols_reduce_once,
 };
 use sap_terms::{destructors_head_left_sides, leaves_are_normal, names_are_messages};
 
@@ -78,6 +79,24 @@ pub fn runs_match_exactly()
     runs_stay_ground();
     leaves_are_normal();
     destructors_head_left_sides();
+}
+
+/// A test that the public names and fresh names in a ready process pass, and those that lines bring, the names pass in all
+/// that a legal run of these lines leads to: in the running processes, the store, the facts and the entries. So no name
+/// comes from elsewhere.
+pub fn names_stand_in_runs()
+    ensures { NamesStandInRuns }
+{
+    each_term_has_a_normal_form();
+    normal_forms_are_unique();
+    normal_forms_decide();
+    equality_is_kept();
+    symbols_reduce_once();
+    leaves_are_normal();
+    destructors_head_left_sides();
+    matching_is_modulo();
+    runs_match_exactly();
+    limit_excludes();
 }
 
 /// Where each variable has the sort of its binder, no name of a pattern or of an embedded rule has two sorts.

@@ -40,8 +40,8 @@ pub fn one_restriction_breaks()
 }
 
 /// A law: a formula that carries restrictions is true on a trace exactly where it says what the formula says under them: for all
-/// traces, where the formula is true if they are; for some trace, where they are true and the formula too. So a lemma holds of a
-/// set of traces under restrictions exactly where the one that carries them holds of it under none.
+/// traces, where the formula is true if they are; for some trace, where they are true and the formula too. What follows for all
+/// traces of rules and of a process, `inlined_lemmas_hold` of `sap_gen` says.
 pub fn inlining_keeps_lemmas()
     ensures for_all { InlinedForAllLaw }
     ensures for_some { InlinedForSomeLaw }

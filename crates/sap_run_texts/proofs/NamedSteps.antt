@@ -3,10 +3,12 @@ use Rattle.std.proofs.Common.{ℕ, List, [], ◌∷◌, ◌++◌, map, refl}
 use Rattle.sap_text.specs.Tokens.{ident}
 use Rattle.sap_runs.specs.declared.process_step.PStep.{PStep}
 use Rattle.sap_runs.specs.declared.process_step.PStep.TheVariants as step
+use Rattle.sap_runs.specs.declared.rule_step.RStep.{RStep}
+use Rattle.sap_runs.specs.declared.rule_step.RStep.TheVariants as rstep
 use Rattle.sap_run_lines.specs.LineWords.{LineWord, number}
-use Rattle.sap_run_lines.specs.StepLines.{process_words, with_words, NamesSymbol}
-use Rattle.sap_run_lines.specs.Spellable.{AreWritableWords, IsWritableProcess}
-use Rattle.sap_run_texts.specs.Writable.{AreNumbered, CanBeNamed}
+use Rattle.sap_run_lines.specs.StepLines.{process_words, rule_words, with_words, NamesSymbol, NamesRule}
+use Rattle.sap_run_lines.specs.Spellable.{AreWritableWords, IsWritableProcess, IsWritableRule}
+use Rattle.sap_run_texts.specs.Writable.{AreNumbered, CanBeNamed, RuleCanBeNamed}
 
 -- numbers alone
 numbers_written : (ns : List ℕ) → AreNumbered (map number ns) → AreWritableWords (map number ns)
@@ -70,3 +72,25 @@ symbol_named (step.Know k) c = tt
 
 pub named_written : (s : PStep) → CanBeNamed s → AreNumbered (process_words s) → IsWritableProcess s
 named_written s c h = record { named = symbol_named s c; words = words_written s c h }
+
+-- a step of rules
+rule_words_written : (s : RStep) → RuleCanBeNamed s → AreNumbered (rule_words s) → AreWritableWords (rule_words s)
+rule_words_written (rstep.Fresh n) c h = (ident refl refl, h.1)
+rule_words_written (rstep.Learn f) c h = (ident refl refl, h.1)
+rule_words_written (rstep.Own f) c h = (ident refl refl, h.1)
+rule_words_written (rstep.Public a) c h = (ident refl refl, (c, tt))
+rule_words_written (rstep.Apply f entries) c h = (ident refl refl, (c.is, numbers_written entries h.1.1))
+rule_words_written (rstep.Know k) c h = (ident refl refl, h.1)
+rule_words_written (rstep.Rule name facts bindings) c h = (ident refl refl, (c.0.is, numbers_before facts (with_words bindings) h.1.1 c.1))
+
+rule_named : (s : RStep) → RuleCanBeNamed s → NamesRule s
+rule_named (rstep.Fresh n) c = tt
+rule_named (rstep.Learn f) c = tt
+rule_named (rstep.Own f) c = tt
+rule_named (rstep.Public a) c = tt
+rule_named (rstep.Apply f entries) c = c
+rule_named (rstep.Know k) c = tt
+rule_named (rstep.Rule name facts bindings) c = c.0
+
+pub named_rule_written : (s : RStep) → RuleCanBeNamed s → AreNumbered (rule_words s) → IsWritableRule s
+named_rule_written s c h = record { named = rule_named s c; words = rule_words_written s c h }

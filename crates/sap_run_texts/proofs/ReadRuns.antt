@@ -1,5 +1,5 @@
 -- Each step of a run that was read can be written.
-use Rattle.std.proofs.Common.{◌≡◌, ℕ, true, false, List, Ok}
+use Rattle.std.proofs.Common.{◌≤◌, length, ◌≡◌, ℕ, true, false, List, Ok}
 use Rattle.sap_terms.specs.Tree.{Tree, Trees}
 use Rattle.sap_runs.specs.declared.process_step.PStep.{PStep}
 use Rattle.sap_runs.specs.declared.rule_step.RStep.{RStep}
@@ -60,3 +60,11 @@ process_run_back z ss t = text_back IsProcessStepLine IsWritableProcess process_
 
 pub rule_run_back : (z : List ℕ) (ss : List RStep) → IsRuleRunText z (Ok ss) → Each IsWritableRule ss
 rule_run_back z ss t = text_back IsRuleStepLine IsWritableRule rule_line_back _ _ z ss t
+
+-- a run that was read has no more steps than it may have
+module _ {A : Type 0} (IsStepLine : A → List ℕ → Type 0) where
+  body_within : (most : ℕ) (z : List ℕ) (ss : List A) → IsBody IsStepLine most z (Ok ss) → length ss ≤ most
+  body_within most _ ss (all_steps steps few) = few
+
+  pub text_within : (head : List ℕ) (most : ℕ) (z : List ℕ) (ss : List A) → IsText head IsStepLine most z (Ok ss) → length ss ≤ most
+  text_within head most z ss (headed {body = body} at is) = body_within most body ss is

@@ -2,6 +2,8 @@
 use Rattle.std.specs.Prelude.{List, [], ◌∷◌}
 use Rattle.sap_runs.specs.declared.process_step.PStep.{PStep}
 use Rattle.sap_runs.specs.declared.process_step.PStep.TheVariants as step
+use Rattle.sap_runs.specs.declared.rule_step.RStep.{RStep}
+use Rattle.sap_runs.specs.declared.rule_step.RStep.TheVariants as rstep
 use Rattle.sap_run_lines.specs.RunTerms.{IsNumber, IsRunName, IsRunContent}
 use Rattle.sap_run_lines.specs.LineWords.{LineWord, identifier, number, fresh_name, public_name, bound}
 use Rattle.sap_run_lines.specs.StepLines.{with_words}
@@ -27,3 +29,10 @@ CanBeNamed (step.Public a) = IsRunContent a
 CanBeNamed (step.Apply f entries) = IsRunName f
 CanBeNamed (step.Embedded t facts bindings) = AreWritableWords (with_words bindings)
 CanBeNamed _ = Unit {0}
+
+-- so it is with a step of rules: the public name, the symbol, the name of the rule that is used, with its bindings
+abbrev pub RuleCanBeNamed : RStep → Type 0
+RuleCanBeNamed (rstep.Public a) = IsRunContent a
+RuleCanBeNamed (rstep.Apply f entries) = IsRunName f
+RuleCanBeNamed (rstep.Rule name facts bindings) = IsRunName name × AreWritableWords (with_words bindings)
+RuleCanBeNamed _ = Unit {0}

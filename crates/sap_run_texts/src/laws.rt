@@ -3,7 +3,7 @@ ghost use Rattle.std.specs.Prelude.{◌≡◌, ◌≤◌, ◌^◌, ℕ, codes, L
 ghost use Rattle.sap_runs.specs.declared.process_step.PStep.{PStep};
 ghost use Rattle.sap_runs.specs.declared.process_step.PStep.TheVariants as step;
 ghost use Rattle.sap_runs.specs.declared.rule_step.RStep.{RStep};
-ghost use Rattle.sap_run_lines.specs.StepLines.{process_words};
+ghost use Rattle.sap_run_lines.specs.StepLines.{process_words, rule_words};
 ghost use Rattle.sap_run_lines.specs.Spellable.{IsWritableProcess, IsWritableRule};
 ghost use Rattle.sap_run_texts.specs.declared.run_fault.RunFault.{RunFault};
 ghost use Rattle.sap_run_texts.specs.declared.run.Kinds.{Kinds};
@@ -11,7 +11,7 @@ ghost use Rattle.sap_run_texts.specs.declared.run.Run.{Run};
 ghost use Rattle.sap_run_texts.specs.declared.limits.TheConstants.{MOST_PROCESS_STEPS, MOST_RULE_STEPS};
 ghost use Rattle.sap_run_texts.specs.RunTexts.{IsProcessRunText, IsRuleRunText, IsRunRead};
 ghost use Rattle.sap_run_texts.specs.RunPrinted.{Each, process_run_text, rule_run_text};
-ghost use Rattle.sap_run_texts.specs.Writable.{AreNumbered, CanBeNamed};
+ghost use Rattle.sap_run_texts.specs.Writable.{AreNumbered, CanBeNamed, RuleCanBeNamed};
 
 use sap_run_lines::{lines_are_one, step_lines_are_lines, written_lines_are_read};
 
@@ -48,9 +48,11 @@ pub fn printed_runs_are_read()
     written_lines_are_read();
 }
 
-/// A law: a step of a process can be written where its numbers are of 64 bits and the names and bindings in it can be written.
+/// A law: a step can be written where its numbers are of 64 bits and the names and bindings in it can be written.
 pub fn named_steps_can_be_written()
-    ensures { (s : PStep) → CanBeNamed s → AreNumbered (process_words s) → IsWritableProcess s }
+    ensures process { (s : PStep) → CanBeNamed s → AreNumbered (process_words s)
+        → IsWritableProcess s }
+    ensures rule { (s : RStep) → RuleCanBeNamed s → AreNumbered (rule_words s) → IsWritableRule s }
 {}
 
 /// A law: steps tried by hand. The greatest number of 64 bits can be written, and the number after it can't; a public name of
@@ -70,3 +72,14 @@ pub fn read_runs_can_be_written()
     ensures rule { (z : List ℕ) (ss : List RStep) → IsRuleRunText z (Ok ss)
         → Each IsWritableRule ss }
 {}
+
+/// A law: a run that was read is what its printed text is read as, however the text that was read spells its terms.
+pub fn read_runs_are_read_again()
+    ensures process { (z : List ℕ) (ss : List PStep) → IsProcessRunText z (Ok ss)
+        → IsProcessRunText (process_run_text ss) (Ok ss) }
+    ensures rule { (z : List ℕ) (ss : List RStep) → IsRuleRunText z (Ok ss)
+        → IsRuleRunText (rule_run_text ss) (Ok ss) }
+{
+    read_runs_can_be_written();
+    printed_runs_are_read();
+}

@@ -3,7 +3,7 @@ use Rattle.std.proofs.Common.{◌≡◌, ◌+◌, ◌<◌, ℕ, List, [], ◌∷
 use Rattle.std.specs.Prelude.{Contains, Ok, All}
 use Rattle.std.specs.FinMap as files
 use Rattle.sap_terms.specs.Signature.{HoldsBuiltins}
-use Rattle.sap_read.specs.Files.{FileContent, IsRunnable}
+use Rattle.sap_read.specs.Files.{FileContent, IsRead, IsRunnable}
 use Rattle.sap_rule.specs.WellMade.{IsWellMade}
 use Rattle.sap_rule.specs.declared.theory.Theory.{Theory}
 use Rattle.sap_run_texts.specs.declared.run.Kinds.TheVariants.{Rules}
@@ -29,7 +29,7 @@ use Rattle.sap_tool.proofs.Legal as legal
 use Rattle.sap_tool.proofs.Legal.{seen_is_legal, never_illegal, never_illegal_of_theory}
 use Rattle.sap_tool.proofs.Takes.{allowed_takes, taken_accepts}
 use Rattle.sap_tool.proofs.Meant as meant
-use Rattle.sap_tool.proofs.Meant.{written_says}
+use Rattle.sap_tool.proofs.Meant.{CanBePrinted, written_says}
 use Rattle.sap_sample.specs.Sample.{IsSample, sample_text}
 use Rattle.sap_tool.proofs.SampleWords.{no_command_is_sample, one_sample}
 use Rattle.sap_tool.proofs.OneRefusal.{one_run_cause}
@@ -46,6 +46,7 @@ pub record IsRunnableTheory (t : Theory) : Type 0 where
 pub record Laws : Type 0 where
   pub keeping : Keeping
   pub runnable : Runnable
+  pub printed : (z : List ℕ) (f : FileContent) → IsRead z (Ok f) → CanBePrinted f
   pub writing : Writing
   pub one : OneReading
   pub one_theory : OneTheory
@@ -77,7 +78,7 @@ means laws (replay task file run) (and_run bytes z) text t =
       file = t.file;
       lines = t.lines;
       read = t.read;
-      written = written_says laws.meant (kinds_of task) z t.told (laws.runnable bytes t.told t.file.read) task t.lines text t.read t.written;
+      written = written_says laws.meant (kinds_of task) z t.told (laws.runnable bytes t.told t.file.read) (laws.printed bytes t.told t.file.read) task t.lines text t.read t.written;
     }
 means laws (check theory run) (alone bytes) text t = absurd t
 means laws (check theory run) (and_run bytes z) text t = t

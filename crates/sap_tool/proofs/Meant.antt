@@ -3,7 +3,11 @@ use Rattle.std.proofs.Common.{ℕ, List, Ok, refl, subst}
 use Rattle.std.specs.Prelude.{◌↔◌, Contains}
 use Rattle.sap_terms.specs.Tree.{Tree}
 use Rattle.sap_formula.specs.Hide.{hide}
+use Rattle.sap_terms.specs.declared.limits.TheConstants.{MOST_FILE_NAME_BYTES, MOST_THEORY_NAME_BYTES}
 use Rattle.sap_read.specs.Files.{FileContent, IsRunnable}
+use Rattle.sap_read.specs.Printable.{IsPrintableFile}
+use Rattle.sap_theory.specs.PrintableTheory.{IsPrintable}
+use Rattle.sap_gen.specs.Kept.{file_theory}
 use Rattle.sap_run_texts.specs.declared.run.Kinds.{Kinds}
 use Rattle.sap_run_texts.specs.declared.run.Run.{Run}
 use Rattle.sap_run_texts.specs.declared.run.Run.TheVariants as run
@@ -20,13 +24,20 @@ use Rattle.sap_tool.specs.declared.task.Task.{Task}
 use Rattle.sap_tool.specs.declared.task.Task.TheVariants.{ToRules, ToProcess, Judge}
 use Rattle.sap_tool.specs.declared.way.Way.TheVariants.{Plain}
 use Rattle.sap_tool.proofs.Written as written
-use Rattle.sap_tool.proofs.Written.{opposite_is_read}
+use Rattle.sap_tool.proofs.Written.{opposite_is_read, process_text_of_answer}
+use Rattle.sap_tool.proofs.WrittenRules.{RuleLaws, rules_are_read}
 
 -- what is so of texts of runs, and of what is said on runs that are opposite
 pub record Laws : Type 0 where
   pub texts : written.Laws
+  pub rules : RuleLaws
   pub alike : (f : FileContent) (lines : List PStep) (rule_lines : List RStep) (text : List ℕ) → IsRunnable f → AreOpposite f lines rule_lines
       → IsJudgedText f (run.Process lines) text ↔ IsJudgedText f (run.Rules rule_lines) text
+
+-- the file can be printed, and its theory
+pub record CanBePrinted (f : FileContent) : Type 0 where
+  pub file : IsPrintableFile MOST_FILE_NAME_BYTES f
+  pub theory : IsPrintable MOST_THEORY_NAME_BYTES (file_theory f)
 
 -- a run of the process and the one of rules that it is converted to are opposite, and the other way about
 forward_is_opposite : (f : FileContent) (lines : List PStep) (rule_lines : List RStep) → forward.IsConverted f.signature f.process lines rule_lines → AreOpposite f lines rule_lines
@@ -65,15 +76,16 @@ back_is_opposite f rule_lines lines c = record {
   known = c.opposite.known;
 }
 
-module _ (laws : Laws) (k : Kinds) (z : List ℕ) (f : FileContent) (runnable : IsRunnable f) where
+module _ (laws : Laws) (k : Kinds) (z : List ℕ) (f : FileContent) (runnable : IsRunnable f) (printable : CanBePrinted f) where
   converted_is_opposite : (r : Run) (text : List ℕ) → IsRunAnswer k z (Ok r) → IsConvertedText f r text → IsOppositeText f r text
-  converted_is_opposite _ _ answer (to_rules {lines = lines} rule_lines c) =
+  converted_is_opposite _ _ answer (to_rules {lines = lines} rule_lines c numbered) =
       let opposite = forward_is_opposite f lines rule_lines c in
       rules_of_process rule_lines opposite (λ text. laws.alike f lines rule_lines text runnable opposite)
+      (λ short. rules_are_read laws.rules f printable.file printable.theory z lines rule_lines (process_text_of_answer k z lines answer) c numbered short)
   converted_is_opposite _ _ answer (to_process {rule_lines = rule_lines} lines c numbered) =
       let opposite = back_is_opposite f rule_lines lines c in
       process_of_rules lines opposite (λ text. let both = laws.alike f lines rule_lines text runnable opposite in (both.1, both.0))
-      (λ short. opposite_is_read laws.texts k z rule_lines lines answer c.turns numbered short)
+      (λ short. opposite_is_read laws.texts k z rule_lines c.full lines answer c.turns numbered short)
 
   -- what a task writes of a run that was read says what it should
   pub written_says : (task : Task) (r : Run) (text : List ℕ) → IsRunAnswer k z (Ok r) → Writes task f r text → Says task f r text

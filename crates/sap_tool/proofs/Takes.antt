@@ -11,7 +11,7 @@ use Rattle.sap_tool.specs.Replays.{IsConvertedText, to_rules, to_process, IsSeen
 
 -- what is converted is seen
 converted_is_seen : (f : FileContent) (r : Run) (text : List ℕ) → IsConvertedText f r text → (tr : Trace) × IsSeen f r tr
-converted_is_seen f _ _ (to_rules rule_lines c) = (c.trace, of_process (record { config = c.config; entries = c.entries; marks = c.marks; legal = c.legal }))
+converted_is_seen f _ _ (to_rules rule_lines c numbered) = (c.trace, of_process (record { config = c.config; entries = c.entries; marks = c.marks; legal = c.legal }))
 converted_is_seen f _ _ (to_process lines c numbered) = (hide c.full, of_rules c.state c.full c.counted)
 
 written_is_seen : (task : Task) (f : FileContent) (r : Run) (text : List ℕ) → Writes task f r text → (tr : Trace) × IsSeen f r tr

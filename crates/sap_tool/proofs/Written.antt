@@ -2,6 +2,7 @@
 use Rattle.std.proofs.Common.{◌≡◌, ◌≤◌, ℕ, List, [], ◌∷◌, length, Result, Ok, Err, refl, subst}
 use Rattle.std.specs.Prelude.{All}
 use Rattle.std.proofs.lemmas.List.Elements.{All-nil, All-cons, All-head, All-tail, All-contains}
+use Rattle.sap_terms.specs.Trace.{Trace}
 use Rattle.sap_terms.specs.declared.binding.Binding.{Binding}
 use Rattle.sap_runs.specs.declared.process_step.PStep.{PStep}
 use Rattle.sap_runs.specs.declared.process_step.PStep.TheVariants as step
@@ -24,7 +25,7 @@ use Rattle.sap_back.specs.NamedIn.{IsNamedIn}
 -- what is so of texts of runs
 pub record Laws : Type 0 where
   pub named : (s : PStep) → CanBeNamed s → AreNumbered (process_words s) → IsWritableProcess s
-  pub names : (ls : List RStep) (ss : List PStep) → StandInTurn ls ss → All (IsNamedIn ls) ss
+  pub names : (ls : List RStep) (full : Trace) (ss : List PStep) → StandInTurn ls full ss → All (IsNamedIn ls) ss
   pub read : (z : List ℕ) (ss : List RStep) → IsRuleRunText z (Ok ss) → Each IsWritableRule ss
   pub printed : (ss : List PStep) → Each IsWritableProcess ss → length ss ≤ MOST_PROCESS_STEPS → IsProcessRunText (process_run_text ss) (Ok ss)
 
@@ -43,6 +44,25 @@ of_read _ z _ ls (as_rules {o = o} t) e = these_rules z o ls e t
 of_read _ z _ ls (told_process {o = o} h t) e = absurd (no_rules o ls e)
 of_read _ z _ ls (told_rules {o = o} h t) e = these_rules z o ls e t
 of_read _ z _ ls (told_neither p r) e = absurd (cc)
+
+no_process : (o : Result (List RStep) RunFault) (ss : List PStep) → rule_answer o ≡ Ok (run.Process ss) → ⊥
+no_process (Ok ls) ss e = cc
+no_process (Err x) ss e = cc
+
+these_lines : (z : List ℕ) (o : Result (List PStep) RunFault) (ss : List PStep) → process_answer o ≡ Ok (run.Process ss) → IsProcessRunText z o → IsProcessRunText z (Ok ss)
+these_lines z (Ok ls) ss e t = let same : ls ≡ ss = cc in subst (λ (x : List PStep). IsProcessRunText z (Ok x)) same t
+these_lines z (Err x) ss e t = absurd (cc)
+
+process_of_read : (k : Kinds) (z : List ℕ) (a : Result Run RunFault) (ss : List PStep) → IsRunRead k z a → a ≡ Ok (run.Process ss) → IsProcessRunText z (Ok ss)
+process_of_read _ z _ ss (as_process {o = o} t) e = these_lines z o ss e t
+process_of_read _ z _ ss (as_rules {o = o} t) e = absurd (no_process o ss e)
+process_of_read _ z _ ss (told_process {o = o} h t) e = these_lines z o ss e t
+process_of_read _ z _ ss (told_rules {o = o} h t) e = absurd (no_process o ss e)
+process_of_read _ z _ ss (told_neither p r) e = absurd (cc)
+
+-- lines of a process that were answered are those of their text
+pub process_text_of_answer : (k : Kinds) (z : List ℕ) (ss : List PStep) → IsRunAnswer k z (Ok (run.Process ss)) → IsProcessRunText z (Ok ss)
+process_text_of_answer k z ss (is_run short r) = process_of_read k z (Ok (run.Process ss)) ss r refl
 
 -- lines of rules that were answered are those of their text
 text_of_answer : (k : Kinds) (z : List ℕ) (ls : List RStep) → IsRunAnswer k z (Ok (run.Rules ls)) → IsRuleRunText z (Ok ls)
@@ -91,8 +111,8 @@ module _ (ls : List RStep) (writable : All IsWritableRule ls) where
 
 -- the text of lines that stand in turn, those for each line of rules that were read, and whose numbers are of 64 bits, is read as these
 -- lines
-pub opposite_is_read : Laws → (k : Kinds) (z : List ℕ) (ls : List RStep) (ss : List PStep) → IsRunAnswer k z (Ok (run.Rules ls)) → StandInTurn ls ss
+pub opposite_is_read : Laws → (k : Kinds) (z : List ℕ) (ls : List RStep) (full : Trace) (ss : List PStep) → IsRunAnswer k z (Ok (run.Rules ls)) → StandInTurn ls full ss
     → Each (λ s. AreNumbered (process_words s)) ss → length ss ≤ MOST_PROCESS_STEPS → IsProcessRunText (process_run_text ss) (Ok ss)
-opposite_is_read laws k z ls ss answer turns numbered short =
+opposite_is_read laws k z ls full ss answer turns numbered short =
     let writable = all_of IsWritableRule ls (laws.read z ls (text_of_answer k z ls answer)) in
-    laws.printed ss (can_be_written ls writable laws ss (laws.names ls ss turns) numbered) short
+    laws.printed ss (can_be_written ls writable laws ss (laws.names ls full ss turns) numbered) short

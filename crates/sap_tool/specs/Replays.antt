@@ -9,13 +9,13 @@ use Rattle.sap_read.specs.Files.{FileContent}
 use Rattle.sap_restrict.specs.Standard.{IsAdmitted}
 use Rattle.sap_rule.specs.RuleSteps.{RuleState}
 use Rattle.sap_rule.specs.declared.theory.Theory.{Theory}
-use Rattle.sap_run_lines.specs.StepLines.{process_words}
+use Rattle.sap_run_lines.specs.StepLines.{process_words, rule_words}
 use Rattle.sap_run_texts.specs.RunPrinted.{Each, process_run_text, rule_run_text}
-use Rattle.sap_run_texts.specs.RunTexts.{IsProcessRunText}
+use Rattle.sap_run_texts.specs.RunTexts.{IsProcessRunText, IsRuleRunText}
 use Rattle.sap_run_texts.specs.Writable.{AreNumbered}
-use Rattle.sap_run_texts.specs.declared.limits.TheConstants.{MOST_PROCESS_STEPS}
+use Rattle.sap_run_texts.specs.declared.limits.TheConstants.{MOST_PROCESS_STEPS, MOST_RULE_STEPS}
 use Rattle.sap_run_texts.specs.declared.run.Kinds.{Kinds}
-use Rattle.sap_run_texts.specs.declared.run.Kinds.TheVariants.{Rules}
+use Rattle.sap_run_texts.specs.declared.run.Kinds.TheVariants.{Rules, Either}
 use Rattle.sap_run_texts.specs.declared.run.Run.{Run}
 use Rattle.sap_run_texts.specs.declared.run.Run.TheVariants as run
 use Rattle.sap_runs.specs.Limits.{IsSmall}
@@ -28,15 +28,15 @@ use Rattle.sap_terms.specs.Trace.{Trace}
 use Rattle.sap_terms.specs.Tree.{Tree}
 use Rattle.sap_tool.specs.AcceptedFile.{IsAcceptedFile, compiled_theory}
 use Rattle.sap_tool.specs.AcceptedTheory.{IsAcceptedTheory}
-use Rattle.sap_outside.specs.RunPieces.{IsRunAnswer}
+use Rattle.sap_outside.specs.RunPieces.{IsRunAnswer, most_run_bytes}
 use Rattle.sap_tool.specs.Verdicts.{all_judged, AreVerdicts}
 use Rattle.sap_tool.specs.declared.way.Way.TheVariants.{Plain}
 
 -- the text is that of a run opposite, of the other kind
 pub data IsConvertedText (f : FileContent) : Run → List ℕ → Type 0 where
+  -- of the lines that are written, the numbers that their words write are of 64 bits, those in the terms of bindings apart
   to_rules : {lines : List PStep} (rule_lines : List RStep) → forward.IsConverted f.signature f.process lines rule_lines
-      → IsConvertedText f (run.Process lines) (rule_run_text rule_lines)
-  -- of the lines of the process, the numbers that their words write are of 64 bits, those in the terms of bindings apart
+      → Each (λ line. AreNumbered (rule_words line)) rule_lines → IsConvertedText f (run.Process lines) (rule_run_text rule_lines)
   to_process : {rule_lines : List RStep} (lines : List PStep) → back.IsConverted f.signature f.process rule_lines lines
       → Each (λ line. AreNumbered (process_words line)) lines → IsConvertedText f (run.Rules rule_lines) (process_run_text lines)
 
@@ -120,12 +120,26 @@ pub record AreOpposite (f : FileContent) (lines : List PStep) (rule_lines : List
 abbrev pub AreJudgedAlike : FileContent → Run → Run → Type 0
 AreJudgedAlike f r other = (text : List ℕ) → IsJudgedText f r text ↔ IsJudgedText f other text
 
--- The text is that of a run that is opposite to the one that was read, and of both the same is said. A run of the process is what
--- its text is read as, unless it has more steps than a run that is read may have.
+-- The text is that of a run that is opposite to the one that was read, and of both the same is said. It is read as this run, unless
+-- that has more steps than a run that is read may have.
 pub data IsOppositeText (f : FileContent) : Run → List ℕ → Type 0 where
   rules_of_process : {lines : List PStep} (rule_lines : List RStep) → AreOpposite f lines rule_lines
-      → AreJudgedAlike f (run.Process lines) (run.Rules rule_lines) → IsOppositeText f (run.Process lines) (rule_run_text rule_lines)
+      → AreJudgedAlike f (run.Process lines) (run.Rules rule_lines)
+      → (length rule_lines ≤ MOST_RULE_STEPS → IsRuleRunText (rule_run_text rule_lines) (Ok rule_lines))
+      → IsOppositeText f (run.Process lines) (rule_run_text rule_lines)
   process_of_rules : {rule_lines : List RStep} (lines : List PStep) → AreOpposite f lines rule_lines
       → AreJudgedAlike f (run.Rules rule_lines) (run.Process lines)
       → (length lines ≤ MOST_PROCESS_STEPS → IsProcessRunText (process_run_text lines) (Ok lines))
       → IsOppositeText f (run.Rules rule_lines) (process_run_text lines)
+
+-- it has no more steps than a run that is read may have
+abbrev pub HasFewSteps : Run → Type 0
+HasFewSteps (run.Process lines) = length lines ≤ MOST_PROCESS_STEPS
+HasFewSteps (run.Rules rule_lines) = length rule_lines ≤ MOST_RULE_STEPS
+
+-- The text is that of some run, of which is said what is said of this one, and where it has few enough steps and bytes, it is read as
+-- that run.
+pub record IsJudgedAlike (f : FileContent) (r : Run) (text : List ℕ) : Type 0 where
+  pub other : Run
+  pub alike : AreJudgedAlike f r other
+  pub read : HasFewSteps other → length text ≤ most_run_bytes → IsRunAnswer Either text (Ok other)

@@ -23,7 +23,7 @@ ghost use Rattle.sap_tool.specs.code.Checked.{IsCheckable};
 ghost use Rattle.sap_run_texts.specs.declared.run.Run.TheVariants as runs;
 ghost use Rattle.sap_runs.specs.declared.process_step.PStep.{PStep};
 ghost use Rattle.sap_runs.specs.declared.rule_step.RStep.{RStep};
-ghost use Rattle.sap_tool.specs.Replays.{AreOpposite, IsJudgedText, IsSeen};
+ghost use Rattle.sap_tool.specs.Replays.{AreOpposite, IsJudgedAlike, IsJudgedText, IsOppositeText, IsSeen};
 ghost use Rattle.sap_tool.specs.RunRefusals.{IsIllegal, IsIllegalOfTheory};
 ghost use Rattle.sap_translate.specs.Faithful.{IsShownBy};
 ghost use Rattle.sap_gen.specs.Kept.{KeepsFile};
@@ -56,6 +56,12 @@ pub fn verdicts_are_kept()
     annotations_are_ready();
     rules_are_well_made();
 }
+
+/// A law: of the text that `to-rules` or `to-process` writes of a run `judge` says what it says of that run, where the text has few
+/// enough steps and bytes to be read.
+pub fn written_runs_are_judged_alike()
+    ensures { (f : FileContent) (r : Run) (text : List ℕ) → IsOppositeText f r text → IsJudgedAlike f r text }
+{}
 
 /// A law: what a run of a file that can run shows, a run of its process or of its rules, are messages.
 pub(crate) fn seen_traces_are_messages()

@@ -17,7 +17,7 @@ mod verdicts;
 mod way;
 
 pub use judged_laws::one_judged_text;
-pub use laws::{unrestricted_files_are_shown, verdicts_are_kept};
+pub use laws::{unrestricted_files_are_shown, verdicts_are_kept, written_runs_are_judged_alike};
 pub use sap_outside::{
     FileShelf, MemShelf, MemSink, Shelf, ShelfFault, Sink, SinkFault, StreamSink,
 };

@@ -81,8 +81,8 @@ use sap_terms::leaves_are_normal;
 /// again; the start is such a place, and where both rest they show the same and the full trace counts. Each clause says for its
 /// case, from the number of the thread and that of its state fact, which rules are used on which facts under which choice, what
 /// they show, and which threads and facts there are behind. For a lock or a tag Fr may be made of any name of which it was not
-/// made. What the adversary can give, the rules first come to know (`deduces`). `every` holds these together: each step has its
-/// thread and its facts.
+/// made. What the adversary can give, the rules first come to know (`deduces`). `every` holds these together: each step is
+/// answered by some moves, of which it says neither thread nor facts.
 pub fn process_steps_are_answered()
     ensures starts { (g : Sig) (p q : Proc) → IsReady g p → node_count p < 2 ^ 64 → IsAnnotation p q → Starts g q }
     ensures shows_the_same { WhereAtRest ShowsTheSame }

@@ -27,6 +27,7 @@ use Rattle.sap_forward.specs.Least.{is_among, names_drawn, not_drawn, numbers_be
 use Rattle.sap_forward.specs.LinesFor.{AreLinesForAll}
 use Rattle.sap_forward.specs.Linked.{Linked}
 use Rattle.sap_forward.specs.Opposite.{init_line}
+use Rattle.sap_forward.specs.RuleLinesPass.{BringNoName}
 use Rattle.sap_forward.specs.Tables.{Tables}
 use Rattle.sap_forward.specs.code.Desk.{Keeps}
 use Rattle.sap_forward.specs.code.Taken.{IsTaken}
@@ -60,6 +61,8 @@ pub record Converted (g : Sig) (W : Tree → Type 0) (q : Proc) (drawn : List �
   pub copying : AreCopying (all_copying [] lines) agents
   pub counted : length rest ≡ lines_for_all lines + length (all_copying [] lines)
   pub back : back_count rest ≡ length lines
+  -- the names in what they write down and bind
+  pub brought : BringNoName q lines rest
 
 -- the lines so far are legal and lead here, the lines of rules that stand there are opposite to them, and the desk keeps what they
 -- lead to

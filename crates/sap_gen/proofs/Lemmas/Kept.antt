@@ -19,6 +19,7 @@ use Rattle.sap_translate.specs.Faithful.{AreRestrictionsTrue}
 use Rattle.sap_translate.specs.Sound.{IsSound}
 use Rattle.sap_translate.specs.Templates.{rules_of}
 use Rattle.sap_translate.specs.relation.Spelled.{IsProcessOver}
+use Rattle.sap_gen.proofs.Carried.{carried}
 use Rattle.sap_gen.proofs.Lemmas.LemmaLaws.{LemmaLaws}
 
 -- the formula of each is checked, and none of its facts is hidden
@@ -41,16 +42,7 @@ second_true g (r ∷ rs) ss tr h = second_true g rs ss tr h.1
 
 -- what carries these formulas holds of a set of traces exactly where the formula holds of it under them
 inlined_holds : (laws : LemmaLaws) (g : Sig) (S : Trace → Type 0) (us : List Form) (m : Mode) (f : Form) → HoldsOf g S us m f ↔ HoldsOf g S [] m (inlined m us f)
-inlined_holds laws g S us AllTraces f = (
-  λ h tr s none. (laws.for_all g us f tr).1 (h tr s),
-  λ h tr s u. (laws.for_all g us f tr).0 (h tr s tt) u,
-)
-inlined_holds laws g S us ExistsTrace f = (
-  λ h. (h.0, h.1, tt, (laws.for_some g us f h.0).1 (h.2, h.3)),
-  λ h.
-      let both = (laws.for_some g us f h.0).0 h.3 in
-      (h.0, h.1, both.0, both.1),
-)
+inlined_holds laws g S us m f = carried laws.for_all laws.for_some g S us m f
 
 module _ (laws : LemmaLaws) (g : Sig) (p : Proc) (hold : HoldsBuiltins g) (sound : IsSound g p) (over : IsProcessOver g p) where
   full_messages : (full : Trace) → IsFullTrace g (rules_of p) full → IsMessageTrace g full

@@ -13,6 +13,7 @@ returns c =
       exactly = c.runs_match_exactly.ensures;
       excludes = c.limit_excludes.ensures.runs;
       quiet = c.restrictions_say_sentences.ensures.quiet;
+      stand = c.names_stand_in_runs.ensures;
     } in
     record {
       begins = begins laws;

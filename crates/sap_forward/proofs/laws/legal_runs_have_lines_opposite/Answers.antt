@@ -13,5 +13,6 @@ returns c =
       exactly = c.runs_match_exactly.ensures;
       excludes = c.limit_excludes.ensures.runs;
       quiet = c.restrictions_say_sentences.ensures.quiet;
+      stand = c.names_stand_in_runs.ensures;
     } in
     have_opposites laws

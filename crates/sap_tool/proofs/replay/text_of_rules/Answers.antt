@@ -5,7 +5,7 @@ use Rattle.sap_tool.proofs.Stopped.{process_stops}
 use Rattle.sap_tool.proofs.replay.text_of_rules.Goals as goal
 
 pub returns-in_ok-print_rrun-in-Ok-clause-given : goal.returns-in_ok-print_rrun-in-Ok-clause-given
-returns-in_ok-print_rrun-in-Ok-clause-given c = rw c.in_ok-print_rrun-in-Ok.ensures.text (to_rules _ c.in-Ok.ensures.ok)
+returns-in_ok-print_rrun-in-Ok-clause-given c = rw c.in_ok-print_rrun-in-Ok.ensures.text (to_rules _ c.in-Ok.ensures.ok c.in_ok-print_rrun-in-Ok.ensures.numbers)
 
 pub returns-in-Err-clause-refused : goal.returns-in-Err-clause-refused
 returns-in-Err-clause-refused c = λ line h.

@@ -8,6 +8,10 @@ returns g c =
     (record {
       keeping = both_ways c.theories_keep_files.ensures.plain c.theories_keep_files.ensures.inlined;
       runnable = c.files_are_runnable.ensures;
+      printed = λ z told read. record {
+        file = c.files_are_printable.ensures z told read;
+        theory = c.theories_are_printable.ensures.plain told (c.files_are_runnable.ensures z told read) (c.files_are_printable.ensures z told read);
+      };
       writing = in_both_ways
           (λ z told read. let t = c.theories_are_printable.ensures.plain told (c.files_are_runnable.ensures z told read) (c.files_are_printable.ensures z told read) in
           record { spelled = c.printed_theories.ensures.printable _ _ t; no_other = λ u. c.printed_theories.ensures.no_other _ _ u t })
@@ -37,10 +41,15 @@ returns g c =
       };
       meant = record {
         texts = record {
-          named = c.named_steps_can_be_written.ensures;
+          named = c.named_steps_can_be_written.ensures.process;
           names = c.names_stand_in_lines.ensures;
           read = c.read_runs_can_be_written.ensures.rule;
           printed = c.printed_runs_are_read.ensures.process;
+        };
+        rules = record {
+          named = c.named_steps_can_be_written.ensures.rule;
+          read = c.read_runs_can_be_written.ensures.process;
+          printed = c.printed_runs_are_read.ensures.rule;
         };
         alike = c.verdicts_are_kept.ensures;
       };
