@@ -3,7 +3,7 @@ ghost use Rattle.std.specs.Prelude.{◌≡◌, IfOk, map, option_map};
 ghost use Rattle.serde_json.specs.Find.{as_str};
 ghost use Rattle.serde_json.specs.View.{view};
 ghost use Rattle.sap_run_lines.specs.WholeWords.{IsReadAs};
-ghost use Rattle.sap_json.specs.code.Reading.{list_in, pair_in, first_in, IsNumberData, IsFreshData, IsPublicData, IsNameData, IsBindingData, IsBindingOf};
+ghost use Rattle.sap_json.specs.code.Reading.{list_in, both, pair_in, first_in, IsNumberData, IsFreshData, IsPublicData, IsNameData, IsBindingData, IsBindingOf};
 
 use sap_run_lines::{
     is_run_name, read_fresh_name, read_public_name, read_run_term, read_run_variable,
@@ -32,16 +32,28 @@ pub(crate) fn text(value: &Value) -> Option<&[u8]>
     }
 }
 
+// Both strings.
+fn texts<'a>(first: &'a Value, second: &'a Value) -> Option<(&'a [u8], &'a [u8])>
+    ensures { option_map (λ p. (p.0.now, p.1.now)) result
+        ≡ both (as_str (view first.now)) (as_str (view second.now)) }
+{
+    match text(first) {
+        None => None,
+        Some(first) => match text(second) {
+            None => None,
+            Some(second) => Some((first, second)),
+        },
+    }
+}
+
 // The strings of an array of two.
 fn pair(value: &Value) -> Option<(&[u8], &[u8])>
     ensures { option_map (λ p. (p.0.now, p.1.now)) result ≡ pair_in (view value.now) }
 {
-    let (first, rest) = list(value)?.split_first()?;
-    let (second, rest) = rest.split_first()?;
-    if !rest.is_empty() {
-        return None;
+    match list(value) {
+        Some([first, second]) => texts(first, second),
+        _ => None,
     }
-    Some((text(first)?, text(second)?))
 }
 
 /// The string that an array begins with, and its further items.

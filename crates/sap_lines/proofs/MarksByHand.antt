@@ -1,10 +1,10 @@
 -- The marks of a small written run.
-use Rattle.std.proofs.Common.{◌≡◌, ℕ, zero, suc, List, [], ◌∷◌, ◌++◌, Option, Some, None, refl, sym, ap, subst, ◌∙◌, slice_get, slice_set}
+use Rattle.std.proofs.Common.{◌≡◌, ℕ, zero, suc, List, [], ◌∷◌, ◌++◌, Option, Some, refl, sym, ap, subst, ◌∙◌, slice_get, slice_set}
 use Rattle.std.specs.List.{AllZip}
 use Rattle.std.specs.Prelude.{codes}
 use Rattle.sap_rewrite.specs.Laws.{FormIsOne}
 use Rattle.sap_terms.specs.Equal.{same}
-use Rattle.sap_terms.specs.Equations.{Equations, equations}
+use Rattle.sap_terms.specs.Equations.{equations}
 use Rattle.sap_terms.specs.Laws.{LeavesAreNormal}
 use Rattle.sap_terms.specs.Modulo.{IsFormOfFact}
 use Rattle.sap_terms.specs.Normal.{IsNormalForm}
@@ -13,8 +13,7 @@ use Rattle.sap_terms.specs.Trace.{Trace}
 use Rattle.sap_terms.specs.Tree.{Tree}
 use Rattle.sap_terms.specs.declared.fact.Fact.{Fact}
 use Rattle.sap_process.specs.Action as action
-use Rattle.sap_process.specs.Configuration.{Config, initial, Runs, becomes, holds}
-use Rattle.sap_process.specs.Proc as whole
+use Rattle.sap_process.specs.Configuration.{Config, initial}
 use Rattle.sap_process.specs.Proc.{Proc, act}
 use Rattle.sap_process.specs.StepExamples.{a, shown_fact}
 use Rattle.sap_runs.specs.Inner.{InnerAction, locked}

@@ -1,10 +1,10 @@
 -- Small files, read byte by byte.
 use Rattle.std.proofs.Common.{◌≡◌, ◌<◌, ◌≤◌, ◌+◌, ℕ, zero, suc, List, [], ◌∷◌, ◌++◌, length, map, Bool, true, false, Some, Ok, Err, refl, sym, ap, subst, arith, slice_get, lit≤}
-use Rattle.std.specs.Prelude.{codes, Result}
+use Rattle.std.specs.Prelude.{codes}
 use Rattle.std.specs.List.{list_all}
 use Rattle.std.specs.Char.{is_ascii_digit}
 use Rattle.std.proofs.lemmas.List.Elements.{All-nil}
-use Rattle.sap_text.specs.Tokens.{IsToken, ident, number, symbol, IsLongest, IsLexed, Lexed, before, counted, ended, skipped, taken, failed, blank, open_quote, Stops, is_word, is_content, stands_alone}
+use Rattle.sap_text.specs.Tokens.{IsToken, ident, number, symbol, IsLongest, IsLexed, Lexed, before, ended, skipped, taken, failed, blank, open_quote, Stops, is_word, is_content, stands_alone}
 use Rattle.sap_text.specs.declared.fault.Lex.TheVariants.{OpenQuote}
 use Rattle.sap_text.specs.declared.token.Kind.{Kind}
 use Rattle.sap_text.specs.declared.token.Kind.TheVariants as kind
@@ -18,7 +18,7 @@ use Rattle.sap_process.specs.StepExamples.{x}
 use Rattle.sap_process.specs.declared.flaw.Flaw.TheVariants.{Unbound}
 use Rattle.sap_terms.specs.Tree.{public, variable}
 use Rattle.sap_locks.specs.Annotation.{IsAnnotation, IsFirstLockFlaw, without}
-use Rattle.sap_grammar.specs.Cut.{Placed, placed, IsCut, cut_none, cut_one, IsHeader}
+use Rattle.sap_grammar.specs.Cut.{Placed, cut_none, cut_one}
 use Rattle.sap_grammar.specs.Declarations.{builtins_last, spells_signing}
 use Rattle.sap_grammar.specs.Items.{items_end, items_more, no_end}
 use Rattle.sap_grammar.specs.TermGrammar.{IsShort, term_message, term_quoted}
@@ -42,7 +42,6 @@ use Rattle.sap_read.specs.FileExamples.{empty_file, endless_file, headless_file,
 use Rattle.sap_read.specs.Files.{IsRead, IsParted, no_tokens, no_header, no_item, refused, ill, locked, unchecked, accepted}
 use Rattle.sap_read.specs.Item.{Standing, builtins, process, statement}
 use Rattle.sap_read.specs.ItemGrammar.{item_builtins, item_process, item_statement}
-use Rattle.sap_read.specs.declared.fault.ReadFault.{ReadFault}
 use Rattle.sap_read.specs.declared.fault.ReadFault.TheVariants.{Formula, Header, Ill, Lex as LexFault, NoProcess, Syntax}
 
 -- what the law of tokens says

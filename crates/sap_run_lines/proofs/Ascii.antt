@@ -1,5 +1,5 @@
 -- The bytes of a term that is spelled, and of a word that is written, are ASCII.
-use Rattle.std.proofs.Common.{◌≡◌, ℕ, Bool, true, List, [], ◌∷◌, ◌++◌, append-nil, decimal, refl, ◌∙◌, arith, subst}
+use Rattle.std.proofs.Common.{◌≡◌, ℕ, true, List, [], ◌∷◌, ◌++◌, append-nil, decimal, refl, arith, subst}
 use Rattle.std.specs.List.{list_all}
 use Rattle.std.specs.Char.{is_ascii_alphabetic, is_ascii_digit}
 use Rattle.sap_text.specs.declared.token.Kind.TheVariants as kind

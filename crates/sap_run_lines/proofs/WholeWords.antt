@@ -1,5 +1,5 @@
 -- Words that are taken with nothing left behind are all of the bytes, and what all of the bytes spell is taken.
-use Rattle.std.proofs.Common.{◌≡◌, ◌≤◌, ◌*◌, ◌+◌, ℕ, Bool, true, false, List, [], ◌∷◌, ◌++◌, append-nil, drop, Option, Some, None, refl, sym, ap, subst, ◌∙◌, ◌⊎◌, inl, inr, arith}
+use Rattle.std.proofs.Common.{◌≡◌, ◌*◌, ◌+◌, ℕ, Bool, true, false, List, [], ◌∷◌, ◌++◌, append-nil, drop, Option, Some, None, refl, sym, ap, subst, ◌∙◌, ◌⊎◌, inl, inr, arith}
 use Rattle.std.specs.Prelude.{◌↔◌, IsTrue, is_some, decimal, if◌then◌else◌, Result, Ok, Err, IfOk}
 use Rattle.std.specs.Option.{option_map}
 use Rattle.std.specs.Char.{is_ascii_alphabetic}
@@ -7,14 +7,13 @@ use Rattle.sap_terms.specs.declared.var.Sort.{Sort}
 use Rattle.sap_terms.specs.declared.var.Sort.TheVariants.{Msg, Fresh, Pub}
 use Rattle.sap_terms.specs.declared.var.Var.{Var}
 use Rattle.sap_terms.specs.Tree.{Tree, node_count}
-use Rattle.sap_grammar.specs.TermText.{sign_of, variable_text}
+use Rattle.sap_grammar.specs.TermText.{sign_of}
 use Rattle.sap_runs.specs.Limits.{IsSmall}
 use Rattle.sap_run_lines.specs.RunTerms.{IsNumber, IsRunName, IsRunContent, IsRunTerm}
 use Rattle.sap_run_lines.specs.StepLines.{IsDecided}
 use Rattle.sap_run_lines.specs.WholeWords.{IsReadAs, IsFreshName, IsPublicName, IsRunVariable, IsWholeTerm}
 use Rattle.sap_run_lines.specs.code.Taking.{Taken, after, given, starts, name_at, number_at, content_at}
-use Rattle.sap_run_lines.specs.code.TermTaking.{term, small_term}
-use Rattle.sap_run_lines.specs.code.WordTaking.{sorted}
+use Rattle.sap_run_lines.specs.code.TermTaking.{small_term}
 use Rattle.sap_run_lines.specs.code.WholeTaking.{alone, whole, name_alone, fresh_alone, public_alone, sort_first, behind_sign, variable_alone, term_alone}
 use Rattle.sap_run_lines.proofs.OnTaken.{Says, OnTaken, OnSome, after_on, given_on, if_on, some_on}
 use Rattle.sap_run_lines.proofs.Names.{name_on, name_read, content_on, content_read, no_sign}

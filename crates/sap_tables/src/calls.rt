@@ -172,25 +172,29 @@ fn call(page: &mut Page, kind: &str, words: &str, shelf: &mut MemShelf, out: &st
     show_call(page, kind, status, shelf.calls, &out, &err);
 }
 
-// The same over a shelf of these files that doesn't fail.
-fn call_on(page: &mut Page, kind: &str, words: &str, file: &[u8], run: &[u8]) {
+/// The same over a shelf that doesn't fail, of a file and a run of these bytes.
+pub fn call_on(page: &mut Page, kind: &str, words: &str, file: &[u8], run: &[u8]) {
     let mut shelf = shelf_of(page, file, run, 0, 4096);
     call(page, kind, words, &mut shelf, "", "");
 }
 
-/// The words; the bytes of a.spthy and of b.run; the number of the call at which the shelf fails, or 0; how many bytes of a run it
-/// gives at once; the failures of out and those of err; and how often the shelf is asked and out and err are written to, the status,
-/// and what out and err took.
+/// The words; the bytes of a.spthy and of b.run; the number of the call at which the shelf fails, or 0, and behind it how many faults it
+/// had before, if any; how many bytes of a run it gives at once; the failures of out and those of err; and how often the shelf is asked and
+/// out and err are written to, the status, and what out and err took.
 pub fn calls_row(page: &mut Page, row: &str) {
     let file = enclosed(page.alloc, "", part(row, 1), "");
     let run = enclosed(page.alloc, "", part(row, 2), "");
-    let failing = number(page, part(row, 3));
+    let (failing, faults) = parted(part(row, 3));
+    let failing = number(page, failing);
     let piece = number(page, part(row, 4));
     if piece == 0 {
         page.fail();
         return;
     }
     let mut shelf = shelf_of(page, file.as_bytes(), run.as_bytes(), failing, piece);
+    if !faults.is_empty() {
+        shelf.count = number(page, faults);
+    }
     call(
         page,
         "counts",

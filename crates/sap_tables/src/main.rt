@@ -14,6 +14,7 @@ mod notation;
 mod page;
 mod piles;
 mod processes;
+mod refused;
 mod run_texts;
 mod runs;
 mod sharing;

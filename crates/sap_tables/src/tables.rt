@@ -4,16 +4,16 @@ use crate::desk::{Desk, empty_desk};
 use crate::notation::{number, part, written};
 use crate::page::Page;
 use crate::{
-    calls, copies, files, formulas, guards, knowledge, piles, processes, run_texts, runs, sharing,
-    terms, theories, tokens,
+    calls, copies, files, formulas, guards, knowledge, piles, processes, refused, run_texts, runs,
+    sharing, terms, theories, tokens,
 };
 use std::collections::BTreeMap;
 
 // The symbols of messages.
 const BUILTINS: &str = "hashing symmetric asymmetric signing";
 
-// Puts last what is found for a row of the table. The page isn't whole where the row isn't written as the table's rows are.
-fn show_found(page: &mut Page, desk: &mut Desk, table: &str, row: &str) {
+/// Puts last what is found for a row of the table. The page isn't whole where the row isn't written as the table's rows are.
+pub fn show_found(page: &mut Page, desk: &mut Desk, table: &str, row: &str) {
     match table {
         "tokens" => tokens::tokens_row(page, row),
         "pieces" => tokens::pieces_row(page, row),
@@ -58,6 +58,9 @@ fn show_found_above(page: &mut Page, desk: &mut Desk, table: &str, row: &str) {
         "written-theories" => calls::command(page, "back", part(row, 0), part(row, 1)),
         "statements" => calls::statements_row(page, row),
         "calls" => calls::calls_row(page, row),
+        "failing" => refused::failing_row(page, row),
+        "cut" => refused::cut_row(page, row),
+        "prefixes" => refused::prefixes_row(page, row),
         _ => page.fail(),
     }
 }
@@ -79,7 +82,10 @@ fn tell_row(out: &mut Page, desk: &mut Desk, table: &str, row: &str) -> u64 {
     let (_, want) = row.rsplit_once('%').unwrap_or(("", ""));
     let want = written(out.alloc, want.trim());
     let mut found = Page::new(out.alloc);
-    show_found(&mut found, desk, table, row);
+    match table {
+        "undisturbed" => refused::undisturbed_row(&mut found, desk, row),
+        _ => show_found(&mut found, desk, table, row),
+    }
     if !found.is_whole {
         found.word(" (no answer)");
     }
