@@ -13,6 +13,7 @@ pub record Placed : Type 0 where
 abbrev pub placed : List ℕ → List Token → List Placed
 placed bytes tokens = map (λ (t : Token). record { word = word_of bytes t; line = t.line }) tokens
 
+-- the words alone
 abbrev pub words : List Placed → List Word
 words ps = map (λ (p : Placed). p.word) ps
 
@@ -21,9 +22,11 @@ abbrev pub cut_words : List (List ℕ)
 cut_words =
     codes "builtins" ∷ codes "functions" ∷ codes "let" ∷ codes "process" ∷ codes "restriction" ∷ codes "lemma" ∷ codes "rule" ∷ codes "end" ∷ []
 
+-- one of these
 abbrev pub is_item_word : Word → Bool
 is_item_word w = list_any (λ m. is_mark m w) cut_words
 
+-- it is one of these, on any line
 abbrev pub begins_item : Placed → Bool
 begins_item p = is_item_word p.word
 

@@ -16,9 +16,11 @@ abbrev pub value_from : ℕ → List ℕ → ℕ
 value_from n [] = n
 value_from n (d ∷ ds) = value_from (n * 10 + (d - 48)) ds
 
+-- the number that all of them write
 abbrev pub value : List ℕ → ℕ
 value ds = value_from 0 ds
 
+-- the words from the first of the name of a builtin on, and those behind its last
 pub data IsBuiltin : Builtin → List Word → List Word → Type 0 where
   spells_hashing : {a : List Word} → IsBuiltin Hashing (name (codes "hashing") ∷ a) a
   spells_symmetric : {a : List Word} → IsBuiltin Symmetric (name (codes "symmetric") ∷ mark (codes "-") ∷ name (codes "encryption") ∷ a) a

@@ -13,6 +13,7 @@ sign_of Msg = []
 sign_of Fresh = codes "~"
 sign_of Pub = codes "$"
 
+-- the variable with its sign
 abbrev pub variable_text : Var → List ℕ
 variable_text v = sign_of v.sort ++ v.name
 
@@ -21,6 +22,7 @@ abbrev pub is_pair : List ℕ → Trees → Bool
 is_pair f (more t (more u none)) = bytes_eq f (codes "pair")
 is_pair f ts = false
 
+-- the parts of a pair, with brackets unless some are open
 abbrev pub in_brackets : Bool → List ℕ → List ℕ
 in_brackets is_open text = if is_open then text else codes "<" ++ (text ++ codes ">")
 
@@ -37,13 +39,16 @@ abbrev mutual
   term_text is_open (fresh k) = codes "~" ++ decimal k
   term_text is_open (apply f ts) = if is_pair f ts then in_brackets is_open (pair_text ts) else applied f (term_texts ts)
 
+  -- the two parts of a pair, with a comma between them
   pub pair_text : Trees → List ℕ
   pair_text (more t (more u ts)) = term_text false t ++ (codes "," ++ term_text true u)
   pair_text _ = []
 
+  -- each of these by itself
   pub term_texts : Trees → List (List ℕ)
   term_texts none = []
   term_texts (more t ts) = term_text false t ∷ term_texts ts
 
+-- a term whose brackets aren't open
 abbrev pub tree_text : Tree → List ℕ
 tree_text t = term_text false t

@@ -40,15 +40,19 @@ becomes c t o = record c { threads = slice_set c.threads t o }
 abbrev pub spawns : Config → Proc → Config
 spawns c p = record c { threads = c.threads ++ Some p ∷ [] }
 
+-- a process made the name n
 abbrev pub makes : Config → ℕ → Config
 makes c n = record c { made = c.made ++ n ∷ [] }
 
+-- the adversary made the name n
 abbrev pub owns : Config → ℕ → Config
 owns c n = record c { own = c.own ++ n ∷ [] }
 
+-- t was sent, behind all before it
 abbrev pub sends_out : Config → Tree → Config
 sends_out c t = record c { frame = c.frame ++ t ∷ [] }
 
+-- what the store has at y, once it has o at x
 abbrev pub stored : (Tree → Option Tree) → Tree → Option Tree → Tree → Option Tree
 stored store x o y = if same_tree x y then o else store y
 
@@ -56,6 +60,7 @@ stored store x o y = if same_tree x y then o else store y
 abbrev pub stores : Config → Tree → Option Tree → Config
 stores c x o = record c { store = stored c.store x o }
 
+-- whether y is held, once x is held, or isn't, as b says
 abbrev pub marked : (Tree → Bool) → Tree → Bool → Tree → Bool
 marked held x b y = if same_tree x y then b else held y
 
@@ -63,6 +68,7 @@ marked held x b y = if same_tree x y then b else held y
 abbrev pub holds : Config → Tree → Bool → Config
 holds c x b = record c { held = marked c.held x b }
 
+-- these are left of the facts
 abbrev pub leaves : Config → Pile → Config
 leaves c facts = record c { facts = facts }
 

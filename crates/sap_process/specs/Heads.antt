@@ -31,6 +31,7 @@ action_terms (lock t n) = t ∷ []
 action_terms (unlock t n) = t ∷ []
 action_terms (embedded l e r) = facts_terms (l ++ (e ++ r))
 
+-- the terms at the head of a process
 abbrev pub head_terms : Proc → List Tree
 head_terms nil = []
 head_terms (parallel p q) = []
@@ -62,6 +63,7 @@ bound_as (act a p) = action_binder a
 bound_as (test t u p q) = None
 bound_as (lookup t x p q) = Some (record { name = x.name; sort = Msg })
 
+-- it, or nothing
 abbrev pub listed : Option Var → List Var
 listed None = []
 listed (Some x) = x ∷ []
@@ -77,6 +79,7 @@ action_patterns (receive t u) = u ∷ []
 action_patterns (embedded l e r) = facts_terms l
 action_patterns _ = []
 
+-- those at the head of a process
 abbrev pub patterns : Proc → List Tree
 patterns (act a p) = action_patterns a
 patterns _ = []
@@ -86,6 +89,7 @@ abbrev pub action_stored : Action → List Fact
 action_stored (embedded l e r) = l ++ r
 action_stored _ = []
 
+-- those at the head of a process
 abbrev pub stored_facts : Proc → List Fact
 stored_facts (act a p) = action_stored a
 stored_facts _ = []
@@ -96,6 +100,7 @@ action_shown (event f) = f ∷ []
 action_shown (embedded l e r) = e
 action_shown _ = []
 
+-- those at the head of a process
 abbrev pub shown_facts : Proc → List Fact
 shown_facts (act a p) = action_shown a
 shown_facts _ = []

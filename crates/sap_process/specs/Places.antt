@@ -13,6 +13,7 @@ pub record Place (S : Type 0) : Type 0 where
   pub above : S
   pub body : Proc
 
+-- the place with this path, what was handed down, and the process
 abbrev pub place : {S : Type 0} → List ℕ → S → Proc → Place S
 place path s p = record { path = path; above = s; body = p }
 

@@ -10,9 +10,11 @@ use Rattle.sap_process.specs.declared.process.Process.TheVariants.{Nil, Par', Re
 pub data Proc : Type 0 where
   -- nothing more
   nil : Proc
+  -- both, side by side
   parallel : Proc → Proc → Proc
   -- as many copies as one likes
   replicated : Proc → Proc
+  -- the action, and then the rest
   act : Action → Proc → Proc
   -- where the two terms are equal, the first, else the second
   test : Tree → Tree → Proc → Proc → Proc

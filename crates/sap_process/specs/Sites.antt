@@ -12,9 +12,11 @@ use Rattle.sap_process.specs.Places.{Descent, Place, places_from}
 abbrev pub var_names : List Var → List (List ℕ)
 var_names vs = map (λ (v : Var). v.name) vs
 
+-- the variable as one that stands for a fresh name
 abbrev pub fresh_var : Var → Var
 fresh_var x = record { name = x.name; sort = Fresh }
 
+-- as one that stands for any message
 abbrev pub message_var : Var → Var
 message_var x = record { name = x.name; sort = Msg }
 
@@ -35,6 +37,7 @@ pub record Above : Type 0 where
   -- how many locks they set
   pub locks : ℕ
 
+-- these variables, and so many locks
 abbrev pub above_of : List Var → ℕ → Above
 above_of scope k = record { scope = scope; locks = k }
 

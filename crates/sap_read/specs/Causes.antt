@@ -30,6 +30,7 @@ first_of (o ∷ os) = if is_some o then o else first_of os
 abbrev pub unlabelled : List Body → List Body
 unlabelled bs = filter (λ b. is_none b.label) bs
 
+-- it, or nothing
 abbrev pub listed : Option (List ℕ) → List (List ℕ)
 listed None = []
 listed (Some x) = x ∷ []
@@ -39,6 +40,7 @@ abbrev pub labels : List Body → List (List ℕ)
 labels [] = []
 labels (b ∷ bs) = listed b.label ++ labels bs
 
+-- the name is one of these
 abbrev pub is_among : List (List ℕ) → List ℕ → Bool
 is_among xs x = list_any (λ y. bytes_eq y x) xs
 

@@ -10,6 +10,7 @@ use Rattle.sap_grammar.specs.Items.{declared_by_all}
 use Rattle.sap_statements.specs.declared.statement.Statement.{Statement}
 use Rattle.sap_draft.specs.Written.{Written}
 
+-- an item of a file
 pub data Item : Type 0 where
   builtins : List Builtin → Item
   functions : List Symbol → Item
@@ -46,6 +47,7 @@ pub record Body : Type 0 where
   pub content : Written
   pub line : ℕ
 
+-- what the item on this line says of a process, if it does
 abbrev pub body_of : Item → ℕ → List Body
 body_of (builtins bs) n = []
 body_of (functions ss) n = []

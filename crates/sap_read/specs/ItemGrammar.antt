@@ -14,6 +14,7 @@ use Rattle.sap_draft.specs.Written.{Written}
 use Rattle.sap_draft.specs.ProcessGrammar.{IsProcess}
 use Rattle.sap_read.specs.Item.{Item, builtins, functions, definition, process, statement, Standing}
 
+-- the words are this item, whole
 pub data IsItem (g : Sig) : Item → List Word → Type 0 where
   item_builtins : {bs : List Builtin} {a : List Word} → AreBuiltins bs a → IsItem g (builtins bs) (mark (codes "builtins") ∷ mark (codes ":") ∷ a)
   item_functions : {ss : List Symbol} {a : List Word} → AreSymbols ss a → IsItem g (functions ss) (mark (codes "functions") ∷ mark (codes ":") ∷ a)

@@ -30,6 +30,7 @@ replaced means (lookup t x p q) = whole.lookup t x (replaced means p) (replaced 
 abbrev pub with_meaning : (List ℕ → Proc) → List ℕ → Proc → List ℕ → Proc
 with_meaning means x p y = if bytes_eq x y then p else means y
 
+-- what names mean where nothing is defined
 abbrev pub no_meaning : List ℕ → Proc
 no_meaning x = whole.nil
 

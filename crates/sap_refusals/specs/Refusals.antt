@@ -25,6 +25,7 @@ at_place path what = codes "place " ++ (place_text path ++ (codes ": " ++ what))
 abbrev pub between : List ℕ → List ℕ → List ℕ → List ℕ
 between before middle after = before ++ (middle ++ after)
 
+-- the flaw in words
 abbrev pub flaw_text : Flaw → List ℕ
 flaw_text BadFunction = codes "bad function"
 flaw_text ReservedVar = codes "reserved variable"

@@ -17,7 +17,7 @@ use Rattle.sap_rule.specs.declared.rule.Rule.{Rule}
 pub record RuleState : Type 0 where
   -- the facts by their numbers: none where one was taken
   pub facts : Pile
-  -- the terms of the facts !K, in order of coming
+  -- the terms that the adversary knows, in order of coming
   pub known : List Tree
   -- the names that Fr was made of, in order of coming
   pub made : List ℕ

@@ -10,6 +10,7 @@ use Rattle.sap_run_texts.specs.RunTexts.{lines_text, process_head, rule_head}
 abbrev pub process_run_text : List PStep → List ℕ
 process_run_text ss = lines_text (process_head ∷ map (λ s. words_text (process_words s)) ss)
 
+-- the same of a run of rules
 abbrev pub rule_run_text : List RStep → List ℕ
 rule_run_text ss = lines_text (rule_head ∷ map (λ s. words_text (rule_words s)) ss)
 

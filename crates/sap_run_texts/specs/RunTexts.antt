@@ -55,6 +55,7 @@ pub data IsText {A : Type 0} (head : List ℕ) (IsStepLine : A → List ℕ → 
 abbrev pub process_head : List ℕ
 process_head = codes "process-run"
 
+-- of a run of rules
 abbrev pub rule_head : List ℕ
 rule_head = codes "rule-run"
 
@@ -71,6 +72,7 @@ abbrev pub process_answer : Result (List PStep) RunFault → Result Run RunFault
 process_answer (Ok ss) = Ok (run.Process ss)
 process_answer (Err e) = Err e
 
+-- the same of a run of rules
 abbrev pub rule_answer : Result (List RStep) RunFault → Result Run RunFault
 rule_answer (Ok ss) = Ok (run.Rules ss)
 rule_answer (Err e) = Err e

@@ -25,6 +25,7 @@ var s x = record { name = x; sort = s }
 abbrev pub is_truth_name : List ℕ → Bool
 is_truth_name x = bytes_eq x (codes "T") || bytes_eq x (codes "F")
 
+-- the word is such a name
 abbrev pub is_truth : Word → Bool
 is_truth (mark s) = false
 is_truth (name s) = is_truth_name s

@@ -37,6 +37,7 @@ symbols =
     ∷ codes "&" ∷ codes "=" ∷ codes "==>" ∷ codes "<=>" ∷ codes "@" ∷ codes "#" ∷ codes "~" ∷ codes "$" ∷ codes "!" ∷ codes "/" ∷ codes "\"" ∷ codes "-"
     ∷ codes "--[" ∷ codes "]->" ∷ codes "-->" ∷ []
 
+-- one of these
 abbrev pub is_symbol : List ℕ → Bool
 is_symbol s = list_any (λ t. bytes_eq s t) symbols
 

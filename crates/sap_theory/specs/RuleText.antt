@@ -8,5 +8,6 @@ use Rattle.sap_grammar.specs.FactText.{facts_text, arrow_text}
 abbrev pub rule_text : Rule → List ℕ
 rule_text r = codes "\nrule " ++ (r.name ++ (codes ":\n  " ++ (facts_text r.left ++ (arrow_text r.acts ++ (facts_text r.right ++ codes "\n")))))
 
+-- one behind the other
 abbrev pub rules_text : List Rule → List ℕ
 rules_text rs = flat_map rule_text rs

@@ -15,6 +15,7 @@ quoted f = codes "  \"" ++ (formula_text 0 f ++ codes "\"\n")
 abbrev pub restriction_text : RestrictionForm → List ℕ
 restriction_text r = codes "\nrestriction " ++ (r.name ++ (codes ":\n" ++ quoted r.formula))
 
+-- one behind the other
 abbrev pub restrictions_text : List RestrictionForm → List ℕ
 restrictions_text rs = flat_map restriction_text rs
 
@@ -23,6 +24,7 @@ abbrev pub attributes_text : List (List ℕ) → List ℕ
 attributes_text [] = []
 attributes_text (name ∷ names) = codes " [" ++ (joined (codes ", ") (name ∷ names) ++ codes "]")
 
+-- the word of a mode
 abbrev pub mode_text : Mode → List ℕ
 mode_text AllTraces = codes "all-traces"
 mode_text ExistsTrace = codes "exists-trace"
@@ -31,5 +33,6 @@ mode_text ExistsTrace = codes "exists-trace"
 abbrev pub lemma_text : LemmaForm → List ℕ
 lemma_text l = codes "\nlemma " ++ (l.name ++ (attributes_text l.attributes ++ (codes ":\n  " ++ (mode_text l.mode ++ (codes "\n" ++ quoted l.formula)))))
 
+-- one behind the other
 abbrev pub lemmas_text : List LemmaForm → List ℕ
 lemmas_text ls = flat_map lemma_text ls

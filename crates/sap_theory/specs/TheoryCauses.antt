@@ -21,9 +21,11 @@ abbrev pub first_repeated : List (List ℕ) → Option (List ℕ)
 first_repeated [] = None
 first_repeated (x ∷ xs) = if list_any (λ y. bytes_eq y x) xs then Some x else first_repeated xs
 
+-- the names of rules, in order
 abbrev pub rule_names : List Rule → List (List ℕ)
 rule_names rs = map (λ (r : Rule). r.name) rs
 
+-- the names of restrictions and lemmas, in order
 abbrev pub statement_names : List Statement → List (List ℕ)
 statement_names ss = map name_of ss
 

@@ -98,6 +98,7 @@ restrictions_in (rule r ∷ vs) = restrictions_in vs
 restrictions_in (statement (restriction r) ∷ vs) = r ∷ restrictions_in vs
 restrictions_in (statement (lemma l) ∷ vs) = restrictions_in vs
 
+-- the lemmas alone
 abbrev pub lemmas_in : List TheoryItem → List LemmaForm
 lemmas_in [] = []
 lemmas_in (builtins bs ∷ vs) = lemmas_in vs

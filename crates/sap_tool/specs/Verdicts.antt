@@ -16,6 +16,7 @@ pub record Judged : Type 0 where
 abbrev pub judged_restrictions : List RestrictionForm → List Judged
 judged_restrictions rs = map (λ (r : RestrictionForm). record { name = r.name; formula = r.formula }) rs
 
+-- and lemmas
 abbrev pub judged_lemmas : List LemmaForm → List Judged
 judged_lemmas ls = map (λ (l : LemmaForm). record { name = l.name; formula = l.formula }) ls
 

@@ -20,6 +20,7 @@ use Rattle.sap_translate.specs.ChannelFacts.{fresh_fact, msg_fact, ack_fact}
 abbrev pub first_of : List ℕ → List ℕ
 first_of path = path ++ 1 ∷ []
 
+-- that of the second
 abbrev pub second_of : List ℕ → List ℕ
 second_of path = path ++ 2 ∷ []
 
