@@ -3,7 +3,7 @@ use Rattle.std.specs.Prelude.{ℕ, Bool, ◌||◌, nat_eq, codes, List, [], ◌�
 use Rattle.std.specs.List.{list_any, starts_with}
 use Rattle.std.specs.Str.{bytes_eq}
 
--- the names that facts of a process cannot have
+-- the words that are taken
 abbrev pub reserved_words : List (List ℕ)
 reserved_words =
     codes "Init" ∷ codes "Event" ∷ codes "Eq" ∷ codes "NotEq" ∷ codes "Insert" ∷ codes "Delete" ∷ codes "IsIn" ∷ codes "IsNotSet"
