@@ -117,8 +117,8 @@ fn run(alloc: Global, value: &Value) -> Result<Run, JsonFault>
 }
 
 /// The run that the bytes are as JSON. Of several faults the first in the order of their list is answered, of several bad steps
-/// the first. The work is linear in the bytes, but for the order of an object's keys; the value, some twenty times as large as a
-/// text of short numbers, is held until the run is read.
+/// the first. The work is linear in the bytes, but for the order of an object's keys; the value is held whole until the run is
+/// read.
 pub fn read_json(alloc: Global, bytes: &[u8]) -> Result<Run, JsonFault>
     ensures { IsTold (IsJsonRead bytes.now) result }
 {
