@@ -15,7 +15,7 @@ use Rattle.sap_terms.specs.declared.binding.Binding.{Binding}
 use Rattle.sap_terms.specs.declared.fact.Fact.{Fact}
 use Rattle.sap_terms.specs.declared.var.Var.{Var}
 use Rattle.sap_process.specs.Action as action
-use Rattle.sap_process.specs.Configuration.{Config, Runs, becomes, spawns, sends_out, stores, holds}
+use Rattle.sap_process.specs.Configuration.{Config, Runs, becomes, spawns, sends_out, stores, holding}
 use Rattle.sap_process.specs.Places.{place}
 use Rattle.sap_process.specs.Proc as whole
 use Rattle.sap_process.specs.Proc.{Proc, act, node_count}
@@ -280,7 +280,7 @@ module _ (laws : Laws) (g : Sig) (W : Tree → Type 0) (p q : Proc) (hold : Hold
       let k = two_forms_of (equations g) (unlock_fact lock m).name (instance σ lock) (instance σ m) acts st.used.fits.shows in
       let fx = form_is st.env σ m k.second st.same in_scope k.second_form in
       let f = law _ laws.follows_unlock st.thread st.number path st.env m k.second l u σ left acts right rest st.seated.stands st.used fx in
-      silent (rules.unlock_rule path v m l).name ks (st.number ∷ []) b st.numbers (goes_on agents st.thread path st.env u) (come tables (st.thread ∷ [])) rest acts right (process.unlocks st.thread) (unlocked k.second ∷ []) (holds (becomes c st.thread (Some (under st.env u))) k.second false) (IsWritten.unlocks st.thread st.number path st.env b m l u st.seated, λ fs i. (trades_on st (first_of path) st.used.fits.adds, kept refl refl i)) f
+      silent (rules.unlock_rule path v m l).name ks (st.number ∷ []) b st.numbers (goes_on agents st.thread path st.env u) (come tables (st.thread ∷ [])) rest acts right (process.unlocks st.thread) (unlocked k.second ∷ []) (holding (becomes c st.thread (Some (under st.env u))) k.second false) (IsWritten.unlocks st.thread st.number path st.env b m l u st.seated, λ fs i. (trades_on st (first_of path) st.used.fits.adds, kept refl refl i)) f
       (head_is b st.thread (running path st.env body) st.seated.stands.thread (process.unlocks st.thread) (unlocked k.second ∷ [])
       (k.second, fx, one_within st.env σ (rules.unlock_rule path (names st.env) m l) (unlock_fact lock m) m st.same in_scope st.within (Member.later Member.here) (Member.later Member.here), refl))
       (ap (λ a. marks (a ∷ [])) k.is) (on_set st.thread (first_of path) st.env u)

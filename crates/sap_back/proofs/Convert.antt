@@ -1,4 +1,4 @@
--- Each line of rules is followed by lines of the process, whichever it is; and so is each legal run whose full trace counts.
+-- Each line of rules is followed by lines of the process, whichever it is; and so is each legal run whose full trace is admitted.
 use Rattle.std.proofs.Common.{◌≡◌, ℕ, zero, suc, ◌<◌, ◌^◌, List, [], ◌∷◌, ◌++◌, Option, Some, None, refl, sym, ap, ◌∙◌, subst, arith, slice_get, map, length, inl, inr}
 use Rattle.std.specs.Prelude.{Contains, All}
 use Rattle.sap_terms.specs.Choice.{Choice}
@@ -21,7 +21,7 @@ use Rattle.sap_locks.specs.Annotation.{IsAnnotation}
 use Rattle.sap_restrict.specs.Standard.{IsAdmitted}
 use Rattle.sap_rule.specs.RuleSteps.{RuleState, RuleStep, RuleRun, leaves}
 use Rattle.sap_rule.specs.declared.rule.Rule.{Rule}
-use Rattle.sap_runs.specs.Limits.{IsSmall}
+use Rattle.sap_runs.specs.Limits.{HasFewNodes}
 use Rattle.sap_runs.specs.declared.process_step.PStep.{PStep}
 use Rattle.sap_runs.specs.declared.rule_step.RStep.{RStep}
 use Rattle.sap_runs.specs.declared.rule_step.RStep.TheVariants as rline
@@ -78,54 +78,54 @@ one_of_three : {A : Type 0} (P : A → Type 0) (x y w z : A) → P x → P y →
 one_of_three P x y w z a b d m = elim (cons_cases x (y ∷ w ∷ []) z m) [ inl e ↦ subst P e a | inr k ↦ one_of_two P y w z b d k ]
 
 module _ (laws : Laws) (g : Sig) (p q : Proc) (hold : HoldsBuiltins g) (ready : IsReady g p) (small : node_count p < 2 ^ 64) (annotated : IsAnnotation p q) where
-  module _ (agents : List (Option Agent)) (pending : Option Tree) (lines : List PStep) (c : Config) (es : List Tree) (tr : Trace) (s : RuleState) (full : Trace) (w : IsAlong g IsSmall q agents pending lines c es tr s full) (tables : Tables) (table : AreTables agents pending c es s tables) where
+  module _ (agents : List (Option Agent)) (pending : Option Tree) (lines : List PStep) (c : Config) (es : List Tree) (tr : Trace) (s : RuleState) (full : Trace) (w : IsAlong g HasFewNodes q agents pending lines c es tr s full) (tables : Tables) (table : AreTables agents pending c es s tables) where
     -- lines go along with a use of the rule, whatever it takes
     abbrev Followable : Rule → Type 0
-    Followable r = (ks : List ℕ) (b : List Binding) (σ : Choice) (left acts right : List Fact) (rest : Pile) → Fired g IsSmall s full r ks b σ left acts right rest → Goes laws g IsSmall p q hold ready small annotated agents pending lines c es tr s full w tables table r.name ks b rest acts right
+    Followable r = (ks : List ℕ) (b : List Binding) (σ : Choice) (left acts right : List Fact) (rest : Pile) → Fired g HasFewNodes s full r ks b σ left acts right rest → Goes laws g HasFewNodes p q hold ready small annotated agents pending lines c es tr s full w tables table r.name ks b rest acts right
 
     action_case : (path : List ℕ) (v : List Var) (a : Action) (u : Proc) → scoped_place_at (root q) path ≡ Some (place path v (act a u)) → (r : Rule) → Contains (own_rules path v (act a u)) r → Followable r
-    action_case path v (action.new x) u at r m = subst Followable (item_cases (rules.new_rule path v x) r m) (new_case laws g IsSmall p q hold ready small annotated agents pending lines c es tr s full w tables table path v x u at)
-    action_case path v (action.out t) u at r m = subst Followable (item_cases (rules.out_rule path v t) r m) (cases.out_case laws g IsSmall p q hold ready small annotated agents pending lines c es tr s full w tables table path v t u at)
+    action_case path v (action.new x) u at r m = subst Followable (item_cases (rules.new_rule path v x) r m) (new_case laws g HasFewNodes p q hold ready small annotated agents pending lines c es tr s full w tables table path v x u at)
+    action_case path v (action.out t) u at r m = subst Followable (item_cases (rules.out_rule path v t) r m) (cases.out_case laws g HasFewNodes p q hold ready small annotated agents pending lines c es tr s full w tables table path v t u at)
     action_case path v (action.send t o) u at r m =
-        one_of_three Followable (rules.out_adv_rule path v t o) (rules.out_msg_rule path v t o) (rules.out_ack_rule path v) r (out_adv_case laws g IsSmall p q hold ready small annotated agents pending lines c es tr s full w tables table path v t o u at)
-        (out_msg_case laws g IsSmall p q hold ready small annotated agents pending lines c es tr s full w tables table path v t o u at) (out_ack_case laws g IsSmall p q hold ready small annotated agents pending lines c es tr s full w tables table path v t o u at) m
-    action_case path v (action.input t) u at r m = subst Followable (item_cases (rules.in_rule path v t) r m) (in_case laws g IsSmall p q hold ready small annotated agents pending lines c es tr s full w tables table path v t u at)
+        one_of_three Followable (rules.out_adv_rule path v t o) (rules.out_msg_rule path v t o) (rules.out_ack_rule path v) r (out_adv_case laws g HasFewNodes p q hold ready small annotated agents pending lines c es tr s full w tables table path v t o u at)
+        (out_msg_case laws g HasFewNodes p q hold ready small annotated agents pending lines c es tr s full w tables table path v t o u at) (out_ack_case laws g HasFewNodes p q hold ready small annotated agents pending lines c es tr s full w tables table path v t o u at) m
+    action_case path v (action.input t) u at r m = subst Followable (item_cases (rules.in_rule path v t) r m) (in_case laws g HasFewNodes p q hold ready small annotated agents pending lines c es tr s full w tables table path v t u at)
     action_case path v (action.receive t o) u at r m =
-        one_of_two Followable (rules.in_adv_rule path v t o) (rules.in_msg_rule path v t o) r (in_adv_case laws g IsSmall p q hold ready small annotated agents pending lines c es tr s full w tables table path v t o u at)
-        (in_msg_case laws g IsSmall p q hold ready small annotated agents pending lines c es tr s full w tables table path v t o u at) m
-    action_case path v (action.event f) u at r m = subst Followable (item_cases (rules.event_rule path v f) r m) (cases.event_case laws g IsSmall p q hold ready small annotated agents pending lines c es tr s full w tables table path v f u at)
-    action_case path v (action.insert t o) u at r m = subst Followable (item_cases (rules.insert_rule path v t o) r m) (cases.insert_case laws g IsSmall p q hold ready small annotated agents pending lines c es tr s full w tables table path v t o u at)
-    action_case path v (action.delete t) u at r m = subst Followable (item_cases (rules.delete_rule path v t) r m) (cases.delete_case laws g IsSmall p q hold ready small annotated agents pending lines c es tr s full w tables table path v t u at)
-    action_case path v (action.lock t l) u at r m = subst Followable (item_cases (rules.lock_rule path v t l) r m) (lock_case laws g IsSmall p q hold ready small annotated agents pending lines c es tr s full w tables table path v t l u at)
-    action_case path v (action.unlock t l) u at r m = subst Followable (item_cases (rules.unlock_rule path v t l) r m) (cases.unlock_case laws g IsSmall p q hold ready small annotated agents pending lines c es tr s full w tables table path v t l u at)
-    action_case path v (action.embedded l a o) u at r m = subst Followable (item_cases (rules.embedded_rule path v l a o) r m) (rule_case laws g IsSmall p q hold ready small annotated agents pending lines c es tr s full w tables table path v l a o u at)
+        one_of_two Followable (rules.in_adv_rule path v t o) (rules.in_msg_rule path v t o) r (in_adv_case laws g HasFewNodes p q hold ready small annotated agents pending lines c es tr s full w tables table path v t o u at)
+        (in_msg_case laws g HasFewNodes p q hold ready small annotated agents pending lines c es tr s full w tables table path v t o u at) m
+    action_case path v (action.event f) u at r m = subst Followable (item_cases (rules.event_rule path v f) r m) (cases.event_case laws g HasFewNodes p q hold ready small annotated agents pending lines c es tr s full w tables table path v f u at)
+    action_case path v (action.insert t o) u at r m = subst Followable (item_cases (rules.insert_rule path v t o) r m) (cases.insert_case laws g HasFewNodes p q hold ready small annotated agents pending lines c es tr s full w tables table path v t o u at)
+    action_case path v (action.delete t) u at r m = subst Followable (item_cases (rules.delete_rule path v t) r m) (cases.delete_case laws g HasFewNodes p q hold ready small annotated agents pending lines c es tr s full w tables table path v t u at)
+    action_case path v (action.lock t l) u at r m = subst Followable (item_cases (rules.lock_rule path v t l) r m) (lock_case laws g HasFewNodes p q hold ready small annotated agents pending lines c es tr s full w tables table path v t l u at)
+    action_case path v (action.unlock t l) u at r m = subst Followable (item_cases (rules.unlock_rule path v t l) r m) (cases.unlock_case laws g HasFewNodes p q hold ready small annotated agents pending lines c es tr s full w tables table path v t l u at)
+    action_case path v (action.embedded l a o) u at r m = subst Followable (item_cases (rules.embedded_rule path v l a o) r m) (rule_case laws g HasFewNodes p q hold ready small annotated agents pending lines c es tr s full w tables table path v l a o u at)
 
     place_case : (path : List ℕ) (v : List Var) (b : Proc) → scoped_place_at (root q) path ≡ Some (place path v b) → (r : Rule) → Contains (own_rules path v b) r → Followable r
-    place_case path v whole.nil at r m = subst Followable (item_cases (rules.nil_rule path v) r m) (cases.nil_case laws g IsSmall p q hold ready small annotated agents pending lines c es tr s full w tables table path v at)
-    place_case path v (whole.parallel u o) at r m = subst Followable (item_cases (rules.parallel_rule path v) r m) (cases.parallel_case laws g IsSmall p q hold ready small annotated agents pending lines c es tr s full w tables table path v u o at)
+    place_case path v whole.nil at r m = subst Followable (item_cases (rules.nil_rule path v) r m) (cases.nil_case laws g HasFewNodes p q hold ready small annotated agents pending lines c es tr s full w tables table path v at)
+    place_case path v (whole.parallel u o) at r m = subst Followable (item_cases (rules.parallel_rule path v) r m) (cases.parallel_case laws g HasFewNodes p q hold ready small annotated agents pending lines c es tr s full w tables table path v u o at)
     place_case path v (whole.replicated u) at r m =
-        one_of_two Followable (rules.rep_start_rule path v) (rules.rep_copy_rule path v) r (cases.rep_start_case laws g IsSmall p q hold ready small annotated agents pending lines c es tr s full w tables table path v u at)
-        (cases.rep_copy_case laws g IsSmall p q hold ready small annotated agents pending lines c es tr s full w tables table path v u at) m
+        one_of_two Followable (rules.rep_start_rule path v) (rules.rep_copy_rule path v) r (cases.rep_start_case laws g HasFewNodes p q hold ready small annotated agents pending lines c es tr s full w tables table path v u at)
+        (cases.rep_copy_case laws g HasFewNodes p q hold ready small annotated agents pending lines c es tr s full w tables table path v u at) m
     place_case path v (act a u) at r m = action_case path v a u at r m
     place_case path v (whole.test t y u o) at r m =
-        one_of_two Followable (rules.then_rule path v t y) (rules.else_rule path v t y) r (cases.then_case laws g IsSmall p q hold ready small annotated agents pending lines c es tr s full w tables table path v t y u o at)
-        (cases.else_case laws g IsSmall p q hold ready small annotated agents pending lines c es tr s full w tables table path v t y u o at) m
+        one_of_two Followable (rules.then_rule path v t y) (rules.else_rule path v t y) r (cases.then_case laws g HasFewNodes p q hold ready small annotated agents pending lines c es tr s full w tables table path v t y u o at)
+        (cases.else_case laws g HasFewNodes p q hold ready small annotated agents pending lines c es tr s full w tables table path v t y u o at) m
     place_case path v (whole.lookup t x u o) at r m =
-        one_of_two Followable (rules.found_rule path v t x) (rules.missing_rule path v t) r (cases.found_case laws g IsSmall p q hold ready small annotated agents pending lines c es tr s full w tables table path v t x u o at)
-        (cases.missing_case laws g IsSmall p q hold ready small annotated agents pending lines c es tr s full w tables table path v t x u o at) m
+        one_of_two Followable (rules.found_rule path v t x) (rules.missing_rule path v t) r (cases.found_case laws g HasFewNodes p q hold ready small annotated agents pending lines c es tr s full w tables table path v t x u o at)
+        (cases.missing_case laws g HasFewNodes p q hold ready small annotated agents pending lines c es tr s full w tables table path v t x u o at) m
 
     followable : (r : Rule) → Contains (rules_of q) r → Followable r
     followable r m = elim (laws.origin q r m) [
-      | inl e ↦ subst Followable (sym e) (init_case laws g IsSmall p q hold ready small annotated agents pending lines c es tr s full w tables table)
+      | inl e ↦ subst Followable (sym e) (init_case laws g HasFewNodes p q hold ready small annotated agents pending lines c es tr s full w tables table)
       | inr o ↦ place_case o.path o.scope o.body o.stands r o.own
     ]
 
     -- a line of a rule
-    rule_line : (name ks : List ℕ) (b : List Binding) (acts : List Fact) (z : RuleState) → IsRuleLine g (rules_of q) IsSmall s name ks b acts z → RuleStep g (rules_of q) s acts z → IsAdmitted g (full ++ acts ∷ []) → IsContinued g IsSmall q agents pending lines c es s full tables (rline.Rule name ks b) z acts
+    rule_line : (name ks : List ℕ) (b : List Binding) (acts : List Fact) (z : RuleState) → IsRuleLine g (rules_of q) HasFewNodes s name ks b acts z → RuleStep g (rules_of q) s acts z → IsAdmitted g (full ++ acts ∷ []) → IsContinued g HasFewNodes q agents pending lines c es s full tables (rline.Rule name ks b) z acts
     rule_line name ks b acts z l step admitted =
-        let f : IsFollowed g q z (full ++ acts ∷ []) = law laws g IsSmall p q hold ready small annotated agents pending lines c es tr s full w tables table _ laws.follows_every acts z step admitted in
+        let f : IsFollowed g q z (full ++ acts ∷ []) = law laws g HasFewNodes p q hold ready small annotated agents pending lines c es tr s full w tables table _ laws.follows_every acts z step admitted in
         let once = f.together.related.init in
-        subst (λ y. IsContinued g IsSmall q agents pending lines c es s full tables (rline.Rule name ks b) y acts) (sym l.becomes) (subst (λ y. IsContinued g IsSmall q agents pending lines c es s full tables (rline.Rule y ks b) (leaves s (adds l.rest l.right)) acts) (found_named (rules_of q) name l.rule l.named)
+        subst (λ y. IsContinued g HasFewNodes q agents pending lines c es s full tables (rline.Rule name ks b) y acts) (sym l.becomes) (subst (λ y. IsContinued g HasFewNodes q agents pending lines c es s full tables (rline.Rule y ks b) (leaves s (adds l.rest l.right)) acts) (found_named (rules_of q) name l.rule l.named)
         (followable l.rule (found_among (rules_of q) name l.rule l.named) ks b l.fires.choice l.left acts l.right l.rest
         (record {
           used = record { takes = l.takes; fits = l.fires.use_; admitted = admitted };
@@ -150,21 +150,21 @@ module _ (laws : Laws) (g : Sig) (p q : Proc) (hold : HoldsBuiltins g) (ready : 
     lengths known (t ∷ ts) (k ∷ ks) e = ap suc (lengths known ts ks (let h : map (slice_get known) ks ≡ map (λ y. Some y) ts = cc in h))
 
     -- what a line without acts leads to
-    quietly : (l : RStep) (acts : List Fact) (z y : RuleState) → acts ≡ [] → z ≡ y → IsContinued g IsSmall q agents pending lines c es s full tables l y [] → IsContinued g IsSmall q agents pending lines c es s full tables l z acts
-    quietly l acts z y e f h = subst (λ a. IsContinued g IsSmall q agents pending lines c es s full tables l z a) (sym e) (subst (λ x. IsContinued g IsSmall q agents pending lines c es s full tables l x []) (sym f) h)
+    quietly : (l : RStep) (acts : List Fact) (z y : RuleState) → acts ≡ [] → z ≡ y → IsContinued g HasFewNodes q agents pending lines c es s full tables l y [] → IsContinued g HasFewNodes q agents pending lines c es s full tables l z acts
+    quietly l acts z y e f h = subst (λ a. IsContinued g HasFewNodes q agents pending lines c es s full tables l z a) (sym e) (subst (λ x. IsContinued g HasFewNodes q agents pending lines c es s full tables l x []) (sym f) h)
 
     -- any line
-    pub any_line : (l : RStep) (acts : List Fact) (z : RuleState) → IsLine g (rules_of q) IsSmall s l acts z → IsAdmitted g (full ++ acts ∷ []) → IsContinued g IsSmall q agents pending lines c es s full tables l z acts
-    any_line (rline.Fresh n) acts z h admitted = quietly (rline.Fresh n) acts z _ h.silent h.becomes (fresh_line laws g IsSmall p q hold ready small annotated agents pending lines c es tr s full w tables table n h.new)
-    any_line (rline.Learn k) acts z (t, h) admitted = quietly (rline.Learn k) acts z _ h.silent h.becomes (learn_line laws g IsSmall p q hold ready small annotated agents pending lines c es tr s full w tables table k t h.rest h.takes)
-    any_line (rline.Own k) acts z (n, h) admitted = quietly (rline.Own k) acts z _ h.silent h.becomes (own_line laws g IsSmall p q hold ready small annotated agents pending lines c es tr s full w tables table k n h.rest h.takes)
-    any_line (rline.Public a) acts z h admitted = quietly (rline.Public a) acts z _ h.0 h.1 (public_line laws g IsSmall p q hold ready small annotated agents pending lines c es tr s full w tables table a)
+    pub any_line : (l : RStep) (acts : List Fact) (z : RuleState) → IsLine g (rules_of q) HasFewNodes s l acts z → IsAdmitted g (full ++ acts ∷ []) → IsContinued g HasFewNodes q agents pending lines c es s full tables l z acts
+    any_line (rline.Fresh n) acts z h admitted = quietly (rline.Fresh n) acts z _ h.silent h.becomes (fresh_line laws g HasFewNodes p q hold ready small annotated agents pending lines c es tr s full w tables table n h.new)
+    any_line (rline.Learn k) acts z (t, h) admitted = quietly (rline.Learn k) acts z _ h.silent h.becomes (learn_line laws g HasFewNodes p q hold ready small annotated agents pending lines c es tr s full w tables table k t h.rest h.takes)
+    any_line (rline.Own k) acts z (n, h) admitted = quietly (rline.Own k) acts z _ h.silent h.becomes (own_line laws g HasFewNodes p q hold ready small annotated agents pending lines c es tr s full w tables table k n h.rest h.takes)
+    any_line (rline.Public a) acts z h admitted = quietly (rline.Public a) acts z _ h.0 h.1 (public_line laws g HasFewNodes p q hold ready small annotated agents pending lines c es tr s full w tables table a)
     any_line (rline.Apply f ks) acts z h admitted =
         let all = all_known s.known h.terms ks h.entries in
-        quietly (rline.Apply f ks) acts z _ h.silent h.becomes (apply_line laws g IsSmall p q hold ready small annotated agents pending lines c es tr s full w tables table f ks h.terms h.form h.entries h.public_symbol (h.arity ∙ ap (λ i. Some i) (lengths s.known h.terms ks h.entries)) (each_item (Contains s.known) h.terms all) h.is_form h.within)
+        quietly (rline.Apply f ks) acts z _ h.silent h.becomes (apply_line laws g HasFewNodes p q hold ready small annotated agents pending lines c es tr s full w tables table f ks h.terms h.form h.entries h.public_symbol (h.arity ∙ ap (λ i. Some i) (lengths s.known h.terms ks h.entries)) (each_item (Contains s.known) h.terms all) h.is_form h.within)
     any_line (rline.Know k) acts z h admitted =
-        subst (λ a. IsContinued g IsSmall q agents pending lines c es s full tables (rline.Know k) z a) (sym h.shows) (subst (λ x. IsContinued g IsSmall q agents pending lines c es s full tables (rline.Know k) x (Rattle.sap_terms.specs.AdversaryFacts.k_fact h.term ∷ [])) (sym h.becomes)
-        (know_line laws g IsSmall p q hold ready small annotated agents pending lines c es tr s full w tables table k h.term h.entry (contains_got s.known h.term k h.entry)))
+        subst (λ a. IsContinued g HasFewNodes q agents pending lines c es s full tables (rline.Know k) z a) (sym h.shows) (subst (λ x. IsContinued g HasFewNodes q agents pending lines c es s full tables (rline.Know k) x (Rattle.sap_terms.specs.AdversaryFacts.k_fact h.term ∷ [])) (sym h.becomes)
+        (know_line laws g HasFewNodes p q hold ready small annotated agents pending lines c es tr s full w tables table k h.term h.entry (contains_got s.known h.term k h.entry)))
     any_line (rline.Rule name ks b) acts z h admitted = rule_line name ks b acts z h (laws.steps g (rules_of q) s z acts (rline.Rule name ks b) h) admitted
 
   -- before the first line
@@ -183,23 +183,23 @@ module _ (laws : Laws) (g : Sig) (p q : Proc) (hold : HoldsBuiltins g) (ready : 
       nothing : (x : Tree) → Free [] x → ⊥
       nothing x f = let e = f.known.1 in cc
 
-      first : (t : ℕ) (a : Agent) → slice_get (Some (unborn q) ∷ []) t ≡ Some (Some a) → SentWithin g IsSmall a
-      first zero a e = let same : unborn q ≡ a = cc in subst (λ z. SentWithin g IsSmall z) same tt
+      first : (t : ℕ) (a : Agent) → slice_get (Some (unborn q) ∷ []) t ≡ Some (Some a) → SentWithin g HasFewNodes a
+      first zero a e = let same : unborn q ≡ a = cc in subst (λ z. SentWithin g HasFewNodes z) same tt
       first (suc t) a e = absurd (cc)
 
   pub lines_followed : LinesAreFollowed g q
-  lines_followed agents pending lines c es tr s z full tables step acts w table is admitted = followed_tabled g IsSmall q agents pending lines c es s full tables step z acts table (any_line agents pending lines c es tr s full w tables table step acts z is admitted)
+  lines_followed agents pending lines c es tr s z full tables step acts w table is admitted = followed_tabled g HasFewNodes q agents pending lines c es s full tables step z acts table (any_line agents pending lines c es tr s full w tables table step acts z is admitted)
 
   pub ends_tabled : EndsTabled g q
   ends_tabled agents pending lines c es tr s full tables w waits =
-      let b = pending_written g IsSmall q agents pending tables.pending lines c es tr s full waits w in
-      subst (λ t. IsLegalProcessRun g IsSmall q (lines ++ pending_lines tables.pending) c es t (marks full)) (sym w.together.related.traces.shows) b.legal
+      let b = pending_written g HasFewNodes q agents pending tables.pending lines c es tr s full waits w in
+      subst (λ t. IsLegalProcessRun g HasFewNodes q (lines ++ pending_lines tables.pending) c es t (marks full)) (sym w.together.related.traces.shows) b.legal
 
   -- what counts, counts before its last time
   admitted_before : (s : RuleState) (full : Trace) (acts : List Fact) → RuleRun g (rules_of q) s (full ++ acts ∷ []) → IsAdmitted g (full ++ acts ∷ []) → IsAdmitted g full
   admitted_before s full acts run h which = laws.prefix which g full (acts ∷ []) (laws.messages g q (full ++ acts ∷ []) hold (laws.over g p q ready annotated) (s, run)) (h which)
 
-  along : (rule_lines : List RStep) (s : RuleState) (full : Trace) → IsLegalRun g (rules_of q) IsSmall rule_lines s full → IsAdmitted g full → GoesAlong g IsSmall q s full
+  along : (rule_lines : List RStep) (s : RuleState) (full : Trace) → IsLegalRun g (rules_of q) HasFewNodes rule_lines s full → IsAdmitted g full → GoesAlong g HasFewNodes q s full
   along rule_lines s full IsLegalRun.starts h = record { agents = Some (unborn q) ∷ []; pending = None; lines = []; config = initial q; entries = []; trace = []; is = begins_along; tables = first_tables; table = begins_tabled q }
   along rule_lines s full (IsLegalRun.further {lines = before} {s = y} {full = seen} l acts run is) h =
       let a = along before y seen run (admitted_before s seen acts (laws.runs g (rules_of q) (before ++ l ∷ []) s (seen ++ acts ∷ []) (IsLegalRun.further l acts run is)) h) in
@@ -207,7 +207,7 @@ module _ (laws : Laws) (g : Sig) (p q : Proc) (hold : HoldsBuiltins g) (ready : 
       record { agents = f.next; pending = f.later; lines = a.lines ++ f.more; config = f.config; entries = f.entries; trace = f.trace; is = f.is; tables = f.behind; table = f.tabled }
 
   -- each line shows one time
-  one_each : (rule_lines : List RStep) (s : RuleState) (full : Trace) → IsLegalRun g (rules_of q) IsSmall rule_lines s full → length full ≡ length rule_lines
+  one_each : (rule_lines : List RStep) (s : RuleState) (full : Trace) → IsLegalRun g (rules_of q) HasFewNodes rule_lines s full → length full ≡ length rule_lines
   one_each rule_lines s full IsLegalRun.starts = refl
   one_each rule_lines s full (IsLegalRun.further {lines = before} {s = y} {full = seen} l acts run is) =
       let e = one_each before y seen run in
@@ -218,13 +218,13 @@ module _ (laws : Laws) (g : Sig) (p q : Proc) (hold : HoldsBuiltins g) (ready : 
   pub have_opposites : HasOpposites g q
   have_opposites rule_lines s full legal admitted =
       let a = along rule_lines s full legal admitted in
-      let b = pending_written g IsSmall q a.agents a.pending a.tables.pending a.lines a.config a.entries a.trace s full a.table.waits a.is in
+      let b = pending_written g HasFewNodes q a.agents a.pending a.tables.pending a.lines a.config a.entries a.trace s full a.table.waits a.is in
       let shows = a.is.together.related.traces.shows in (
         a.lines ++ pending_lines a.tables.pending,
         record {
           config = a.config;
           entries = a.entries;
-          legal = subst (λ t. IsLegalProcessRun g IsSmall q (a.lines ++ pending_lines a.tables.pending) a.config a.entries t (marks full)) (sym shows) b.legal;
+          legal = subst (λ t. IsLegalProcessRun g HasFewNodes q (a.lines ++ pending_lines a.tables.pending) a.config a.entries t (marks full)) (sym shows) b.legal;
           known = b.known;
           short = let h = b.short in let n = one_each rule_lines s full legal in omega arith;
         },

@@ -9,7 +9,7 @@ use Rattle.sap_process.specs.Configuration.{Config, initial}
 use Rattle.sap_process.specs.Proc.{Proc}
 use Rattle.sap_restrict.specs.Stands.{Machine}
 use Rattle.sap_rule.specs.RuleSteps.{RuleState, empty_state}
-use Rattle.sap_runs.specs.Limits.{IsSmall}
+use Rattle.sap_runs.specs.Limits.{HasFewNodes}
 use Rattle.sap_runs.specs.declared.process_step.PStep.{PStep}
 use Rattle.sap_runs.specs.declared.rule_step.RStep.{RStep}
 use Rattle.sap_lines.specs.Runs.{IsLegalProcessRun}
@@ -39,7 +39,7 @@ pub record IsConverting (g : Sig) (q : Proc) (s : State) (m : Machine) (tables :
   pub config : Config
   pub entries : List Tree
   pub trace : Trace
-  pub along : IsAlong g IsSmall q agents pending lines config entries trace s.at full
+  pub along : IsAlong g HasFewNodes q agents pending lines config entries trace s.at full
   pub tabled : AreTables agents pending config entries s.at tables
   -- they are as many as are counted, without the one for what is pending
   pub count : length lines + count_pending pending ≡ back_count before
@@ -57,7 +57,7 @@ module _ (g : Sig) (q : Proc) where
     config = initial q;
     entries = [];
     trace = [];
-    along = subst (λ z. IsAlong g IsSmall q (Some (unborn q) ∷ []) None [] (initial q) [] [] z []) (sym at) begins;
+    along = subst (λ z. IsAlong g HasFewNodes q (Some (unborn q) ∷ []) None [] (initial q) [] [] z []) (sym at) begins;
     tabled = subst (λ z. AreTables (Some (unborn q) ∷ []) None (initial q) [] z tables) (sym at) (subst (AreTables (Some (unborn q) ∷ []) None (initial q) [] empty_state) (sym first) begins_tabled);
     count = refl;
     turns = subst (λ (k : Option ℕ). AreLinesForAll None [] [] [] k) (sym (ap (λ (z : Tables). z.pending) first)) no_lines;
@@ -83,7 +83,7 @@ module _ (g : Sig) (q : Proc) where
         config = f.config;
         entries = f.entries;
         trace = f.trace;
-        along = subst (λ z. IsAlong g IsSmall q f.next f.later z f.config f.entries f.trace t.at (w.full ++ k.acts ∷ [])) (sym written.0) f.is;
+        along = subst (λ z. IsAlong g HasFewNodes q f.next f.later z f.config f.entries f.trace t.at (w.full ++ k.acts ∷ [])) (sym written.0) f.is;
         tabled = subst (AreTables f.next f.later f.config f.entries t.at) (sym written.1) f.tabled;
         count = omega arith;
         turns = subst (λ (z : Tables). AreLinesForAll None (before ++ step ∷ []) (w.full ++ k.acts ∷ []) longer z.pending) (sym written.1)
@@ -91,7 +91,7 @@ module _ (g : Sig) (q : Proc) where
       }
 
   -- each line shows one time
-  one_each : (rule_lines : List RStep) (s : RuleState) (full : Trace) → IsLegalRun g (rules_of q) IsSmall rule_lines s full → length full ≡ length rule_lines
+  one_each : (rule_lines : List RStep) (s : RuleState) (full : Trace) → IsLegalRun g (rules_of q) HasFewNodes rule_lines s full → length full ≡ length rule_lines
   one_each rule_lines s full IsLegalRun.starts = refl
   one_each rule_lines s full (IsLegalRun.further {lines = before} {s = y} {full = seen} l acts run is) =
       let e = one_each before y seen run in
@@ -116,7 +116,7 @@ module _ (g : Sig) (q : Proc) where
         opposite = record {
           config = w.config;
           entries = w.entries;
-          legal = subst (λ z. IsLegalProcessRun g IsSmall q z w.config w.entries (hide w.full) (marks w.full)) (sym written) legal;
+          legal = subst (λ z. IsLegalProcessRun g HasFewNodes q z w.config w.entries (hide w.full) (marks w.full)) (sym written) legal;
           known = w.along.known;
           short = omega arith;
         };

@@ -17,7 +17,7 @@ use Rattle.sap_terms.specs.declared.fact.Fact.{Fact}
 use Rattle.sap_terms.specs.declared.var.Var.{Var}
 use Rattle.sap_process.specs.Action as action
 use Rattle.sap_process.specs.Configuration as config
-use Rattle.sap_process.specs.Configuration.{Config, Runs, becomes, sends_out, holds}
+use Rattle.sap_process.specs.Configuration.{Config, Runs, becomes, sends_out, holding}
 use Rattle.sap_process.specs.Places.{place}
 use Rattle.sap_process.specs.Proc.{Proc, act, node_count}
 use Rattle.sap_process.specs.Ready.{IsReady}
@@ -150,7 +150,7 @@ module _ (laws : Laws) (g : Sig) (W : Tree → Type 0) (p q : Proc) (hold : Hold
       let n = a_name g (σ (lock_var l)) (st.used.fits.messages (lock_var l)) in
       let wider = join st.env (just (lock_var l) (fresh n.0)) in
       let f = law laws g W p q hold ready small annotated agents pending lines c es tr s full w tables table _ laws.follows_lock st.thread st.number st.other n.0 path st.env m k.second l u σ left acts right rest st.seated.stands st.used fx n.1 in
-      silent laws g W p q hold ready small annotated agents pending lines c es tr s full w tables table (rules.lock_rule path v m l).name ks (st.number ∷ st.other ∷ []) b st.numbers (goes_on agents st.thread path wider u) (come tables (st.thread ∷ [])) rest acts right (process.locks st.thread) (locked k.second ∷ []) (holds (becomes c st.thread (Some (under st.env u))) k.second true) (IsWritten.locks st.thread st.number st.other n.0 path st.env b m l u st.seated, λ fs i. (trades_two laws g W p q hold ready small annotated agents pending lines c es tr s full w tables table st (one_state laws g σ st.used.fits.messages (first_of path) wider right (wider_by_one laws st.env σ (lock_var l) (fresh n.0) st.same sound.1 n.1) st.used.fits.adds), kept refl refl i)) f
+      silent laws g W p q hold ready small annotated agents pending lines c es tr s full w tables table (rules.lock_rule path v m l).name ks (st.number ∷ st.other ∷ []) b st.numbers (goes_on agents st.thread path wider u) (come tables (st.thread ∷ [])) rest acts right (process.locks st.thread) (locked k.second ∷ []) (holding (becomes c st.thread (Some (under st.env u))) k.second true) (IsWritten.locks st.thread st.number st.other n.0 path st.env b m l u st.seated, λ fs i. (trades_two laws g W p q hold ready small annotated agents pending lines c es tr s full w tables table st (one_state laws g σ st.used.fits.messages (first_of path) wider right (wider_by_one laws st.env σ (lock_var l) (fresh n.0) st.same sound.1 n.1) st.used.fits.adds), kept refl refl i)) f
       (head_is laws g W p q hold ready small annotated agents pending lines c es tr s full w tables table b st.thread (running path st.env body) st.seated.stands.thread (process.locks st.thread) (locked k.second ∷ [])
       (k.second, fx, one_within laws g W p q hold ready small annotated agents pending lines c es tr s full w tables table st.env σ (rules.lock_rule path (names st.env) m l) (lock_fact lock m) m st.same in_scope st.within (Member.later (Member.later Member.here)) (Member.later Member.here), refl))
       (ap (λ a. marks (a ∷ [])) k.is) (on_set laws g W p q hold ready small annotated agents pending lines c es tr s full w tables table st.thread (first_of path) wider u)

@@ -17,7 +17,7 @@ use Rattle.sap_process.specs.Proc as whole
 use Rattle.sap_process.specs.Proc.{Proc, act, node_count}
 use Rattle.sap_restrict.specs.Stands.{HasOneReserved}
 use Rattle.sap_rule.specs.declared.rule.Rule.{Rule}
-use Rattle.sap_runs.specs.Limits.{IsSmall}
+use Rattle.sap_runs.specs.Limits.{HasFewNodes}
 use Rattle.sap_runs.specs.declared.rule_step.RStep.{RStep}
 use Rattle.sap_runs.specs.declared.rule_step.RStep.TheVariants as rline
 use Rattle.sap_steps.specs.Lines.{IsLine}
@@ -113,7 +113,7 @@ none_shown acts e = subst FirstAlone (sym e) tt
 pub show_one : (g : Sig) (q : Proc) → ((r : Rule) → Contains (rules_of q) r → (r ≡ init_rule) ⊎ IsOfPlace q r) → IsSound g q → ShowOneReserved g (rules_of q)
 show_one g q origin sound s z line acts is = one_reserved acts (alone line is)
   where
-    alone : (line : RStep) → IsLine g (rules_of q) IsSmall s line acts z → FirstAlone acts
+    alone : (line : RStep) → IsLine g (rules_of q) HasFewNodes s line acts z → FirstAlone acts
     alone (rline.Fresh n) h = none_shown acts h.silent
     alone (rline.Learn k) (t, h) = none_shown acts h.silent
     alone (rline.Own k) (n, h) = none_shown acts h.silent

@@ -16,7 +16,7 @@ use Rattle.sap_restrict.specs.declared.which.Which.TheVariants as kind
 use Rattle.sap_rule.specs.Messages.{RunsReachMessages}
 use Rattle.sap_rule.specs.RuleSteps.{RuleState}
 use Rattle.sap_rule.specs.WellMade.{IsWellMade}
-use Rattle.sap_runs.specs.Limits.{IsSmall}
+use Rattle.sap_runs.specs.Limits.{HasFewNodes}
 use Rattle.sap_runs.specs.declared.rule_step.RStep.{RStep}
 use Rattle.sap_steps.specs.Answers.{ReachedHaveOneAnswer, ReachedHaveOneOutcome, RefusalsAreOne}
 use Rattle.sap_steps.specs.Faults.{IsLineFault}
@@ -26,7 +26,7 @@ use Rattle.sap_steps.specs.declared.fault.RFault.{RFault}
 use Rattle.sap_steps.specs.declared.fault.RFault.TheVariants.{Mem}
 use Rattle.sap_translate.specs.Templates.{rules_of}
 use Rattle.sap_back.specs.Answers.{HasSomeAnswer, HaveOneAnswer}
-use Rattle.sap_back.specs.Converted.{IsCounted, IsFirstBroken, IsFirstRefused}
+use Rattle.sap_back.specs.Converted.{IsAdmittedRun, IsFirstBroken, IsFirstRefusedOfRules}
 
 -- none has an item at its end
 none_pushed : {X : Type 0} (xs : List X) (x : X) → [] ≡ xs ++ x ∷ [] → ⊥
@@ -103,30 +103,30 @@ one_which v w h = by (nat_eq (place_of v) (place_of w)) refl
     by true e = sym (placed_back v) ∙ ap at_place (same_number (place_of v) (place_of w) e) ∙ placed_back w
     by false e = absurd (h (λ s. let k : nat_eq (place_of v) (place_of v) ≡ false = subst (λ z. nat_eq (place_of v) (place_of z) ≡ false) (sym s) e in let z : true ≡ false = sym (placed_alike v) ∙ k in cc))
 
-module _ (prefix : PrefixLaw) (runs : LinesAreRuns IsSmall) (reached : RunsReachMessages) (answer : ReachedHaveOneAnswer) (outcome : ReachedHaveOneOutcome IsSmall) (causes : RefusalsAreOne) (g : Sig) (q : Proc) (hold : HoldsBuiltins g) (well : All (IsWellMade g) (rules_of q)) where
+module _ (prefix : PrefixLaw) (runs : LinesAreRuns HasFewNodes) (reached : RunsReachMessages) (answer : ReachedHaveOneAnswer) (outcome : ReachedHaveOneOutcome HasFewNodes) (causes : RefusalsAreOne) (g : Sig) (q : Proc) (hold : HoldsBuiltins g) (well : All (IsWellMade g) (rules_of q)) where
   -- lines that are legal lead to one state
-  one_run : (lines other : List RStep) (s z : RuleState) (full tr : Trace) → lines ≡ other → IsLegalRun g (rules_of q) IsSmall lines s full → IsLegalRun g (rules_of q) IsSmall other z tr → (s ≡ z) × (full ≡ tr)
+  one_run : (lines other : List RStep) (s z : RuleState) (full tr : Trace) → lines ≡ other → IsLegalRun g (rules_of q) HasFewNodes lines s full → IsLegalRun g (rules_of q) HasFewNodes other z tr → (s ≡ z) × (full ≡ tr)
   one_run lines other s z full tr e IsLegalRun.starts IsLegalRun.starts = (refl, refl)
   one_run lines other s z full tr e IsLegalRun.starts (IsLegalRun.further {lines = ys} m shown r k) = absurd (none_pushed ys m e)
   one_run lines other s z full tr e (IsLegalRun.further {lines = xs} l acts p h) IsLegalRun.starts = absurd (none_pushed xs l (sym e))
   one_run lines other s z full tr e (IsLegalRun.further {lines = xs} {s = x} {full = before} l acts p h) (IsLegalRun.further {lines = ys} {s = y} {full = seen} m shown r k) =
       let same = same_from_push xs ys l m e in
       let first = one_run xs ys x y before seen same.0 p r in
-      let last = outcome g (rules_of q) x s z before acts shown l hold well (runs g (rules_of q) xs x before p) h (subst (λ w. IsLine g (rules_of q) IsSmall w l shown z) (sym first.0) (subst (λ w. IsLine g (rules_of q) IsSmall y w shown z) (sym same.1) k)) in
+      let last = outcome g (rules_of q) x s z before acts shown l hold well (runs g (rules_of q) xs x before p) h (subst (λ w. IsLine g (rules_of q) HasFewNodes w l shown z) (sym first.0) (subst (λ w. IsLine g (rules_of q) HasFewNodes y w shown z) (sym same.1) k)) in
       (last.1, λ i. first.1 i ++ last.0 i ∷ [])
 
   -- a legal run, cut at one of its lines
   record CutAt (before : List RStep) (line : RStep) (full : Trace) : Type 0 where
     state : RuleState
     seen : Trace
-    legal : IsLegalRun g (rules_of q) IsSmall before state seen
+    legal : IsLegalRun g (rules_of q) HasFewNodes before state seen
     acts : List Fact
     next : RuleState
-    possible : IsLine g (rules_of q) IsSmall state line acts next
+    possible : IsLine g (rules_of q) HasFewNodes state line acts next
     later : Trace
     whole : full ≡ (seen ++ acts ∷ []) ++ later
 
-  cut_run : (lines before after : List RStep) (line : RStep) (s : RuleState) (full : Trace) → lines ≡ before ++ line ∷ after → IsLegalRun g (rules_of q) IsSmall lines s full → CutAt before line full
+  cut_run : (lines before after : List RStep) (line : RStep) (s : RuleState) (full : Trace) → lines ≡ before ++ line ∷ after → IsLegalRun g (rules_of q) HasFewNodes lines s full → CutAt before line full
   cut_run lines before after line s full e IsLegalRun.starts = absurd (none_cut before after line e)
   cut_run lines before after line s full e (IsLegalRun.further {lines = xs} {s = x} {full = seen} l acts p h) = elim (last_of after) [
     | inl none ↦
@@ -134,10 +134,10 @@ module _ (prefix : PrefixLaw) (runs : LinesAreRuns IsSmall) (reached : RunsReach
         record {
           state = x;
           seen = seen;
-          legal = subst (λ z. IsLegalRun g (rules_of q) IsSmall z x seen) same.0 p;
+          legal = subst (λ z. IsLegalRun g (rules_of q) HasFewNodes z x seen) same.0 p;
           acts = acts;
           next = s;
-          possible = subst (λ z. IsLine g (rules_of q) IsSmall x z acts s) same.1 h;
+          possible = subst (λ z. IsLine g (rules_of q) HasFewNodes x z acts s) same.1 h;
           later = [];
           whole = sym (append-nil (seen ++ acts ∷ []));
         }
@@ -166,19 +166,19 @@ module _ (prefix : PrefixLaw) (runs : LinesAreRuns IsSmall) (reached : RunsReach
     acts : List Fact
     next : RuleState
     which : Which
-    possible : IsLine g (rules_of q) IsSmall s line acts next
+    possible : IsLine g (rules_of q) HasFewNodes s line acts next
     broken : ¬ IsTrueOn g (standard which) (full ++ acts ∷ [])
 
   -- what is possible isn't refused
-  not_both : (before : List RStep) (s z : RuleState) (full : Trace) (line : RStep) (acts : List Fact) → IsLegalRun g (rules_of q) IsSmall before s full → IsLine g (rules_of q) IsSmall s line acts z → Refused s line → ⊥
+  not_both : (before : List RStep) (s z : RuleState) (full : Trace) (line : RStep) (acts : List Fact) → IsLegalRun g (rules_of q) HasFewNodes before s full → IsLine g (rules_of q) HasFewNodes s line acts z → Refused s line → ⊥
   not_both before s z full line acts legal is r = r.cause (answer g (rules_of q) s z full acts line r.fault hold well (runs g (rules_of q) before s full legal) is r.refused)
 
   -- lines that count don't stop at one of them
-  goes_on : (lines before after : List RStep) (line : RStep) (s z : RuleState) (full tr : Trace) → lines ≡ before ++ line ∷ after → IsCounted g q lines s full → IsCounted g q before z tr → Refused z line ⊎ Breaks z tr line → ⊥
+  goes_on : (lines before after : List RStep) (line : RStep) (s z : RuleState) (full tr : Trace) → lines ≡ before ++ line ∷ after → IsAdmittedRun g q lines s full → IsAdmittedRun g q before z tr → Refused z line ⊎ Breaks z tr line → ⊥
   goes_on lines before after line s z full tr e counted stops stop =
       let c = cut_run lines before after line s full e counted.legal in
       let same = one_run before before c.state z c.seen tr refl c.legal stops.legal in
-      let possible = subst (λ w. IsLine g (rules_of q) IsSmall w line c.acts c.next) same.0 c.possible in
+      let possible = subst (λ w. IsLine g (rules_of q) HasFewNodes w line c.acts c.next) same.0 c.possible in
       let whole : full ≡ (tr ++ c.acts ∷ []) ++ c.later = c.whole ∙ ap (λ w. (w ++ c.acts ∷ []) ++ c.later) same.1 in
       let messages = (reached g (rules_of q) s full hold well (runs g (rules_of q) lines s full counted.legal)).0 in
       elim stop [
@@ -190,7 +190,7 @@ module _ (prefix : PrefixLaw) (runs : LinesAreRuns IsSmall) (reached : RunsReach
       ]
 
   -- two lines at which one run stops are one
-  stops_once : (lines b c xs ys : List RStep) (x y : RStep) (s z : RuleState) (full tr : Trace) → lines ≡ b ++ x ∷ xs → lines ≡ c ++ y ∷ ys → IsCounted g q b s full → IsCounted g q c z tr → Refused s x ⊎ Breaks s full x → Refused z y ⊎ Breaks z tr y → (b ≡ c) × (x ≡ y)
+  stops_once : (lines b c xs ys : List RStep) (x y : RStep) (s z : RuleState) (full tr : Trace) → lines ≡ b ++ x ∷ xs → lines ≡ c ++ y ∷ ys → IsAdmittedRun g q b s full → IsAdmittedRun g q c z tr → Refused s x ⊎ Breaks s full x → Refused z y ⊎ Breaks z tr y → (b ≡ c) × (x ≡ y)
   stops_once lines b c xs ys x y s z full tr e h counted counted_too stop stop_too = elim (two_cuts b c x y xs ys (sym e ∙ h)) [
     | inl same ↦ same
     | inr o ↦ elim o [
@@ -199,11 +199,11 @@ module _ (prefix : PrefixLaw) (runs : LinesAreRuns IsSmall) (reached : RunsReach
     ]
   ]
 
-  of_refused : (lines : List RStep) (n : ℕ) (fault : RFault) → (r : IsFirstRefused g q lines n fault) → Refused r.state r.line
+  of_refused : (lines : List RStep) (n : ℕ) (fault : RFault) → (r : IsFirstRefusedOfRules g q lines n fault) → Refused r.state r.line
   of_refused lines n fault r = record { fault = fault; refused = r.refused; cause = r.cause }
 
   -- what one line is refused for is one
-  one_cause : (lines : List RStep) (n m : ℕ) (fault other : RFault) → (a : IsFirstRefused g q lines n fault) → (b : IsFirstRefused g q lines m other) → (a.before ≡ b.before) × (a.line ≡ b.line) → fault ≡ other
+  one_cause : (lines : List RStep) (n m : ℕ) (fault other : RFault) → (a : IsFirstRefusedOfRules g q lines n fault) → (b : IsFirstRefusedOfRules g q lines m other) → (a.before ≡ b.before) × (a.line ≡ b.line) → fault ≡ other
   one_cause lines n m fault other a b same =
       let states = one_run a.before b.before a.state b.state a.full b.full same.0 a.counted.legal b.counted.legal in
       let there = subst (λ w. IsLineFault g (rules_of q) w a.line other) (sym states.0) (subst (λ w. IsLineFault g (rules_of q) b.state w other) (sym same.1) b.refused) in
@@ -224,14 +224,14 @@ module _ (prefix : PrefixLaw) (runs : LinesAreRuns IsSmall) (reached : RunsReach
     refused_or_broken = λ n m fault which a b.
         let same = stops_once lines a.before b.before a.after b.after a.line b.line a.state b.state a.full b.full a.cut b.cut a.counted b.counted (inl (of_refused lines n fault a)) (inr (of_broken lines m which b)) in
         let states = one_run a.before b.before a.state b.state a.full b.full same.0 a.counted.legal b.counted.legal in
-        not_both a.before a.state b.next a.full a.line b.acts a.counted.legal (subst (λ w. IsLine g (rules_of q) IsSmall w a.line b.acts b.next) (sym states.0) (subst (λ w. IsLine g (rules_of q) IsSmall b.state w b.acts b.next) (sym same.1) b.possible)) (of_refused lines n fault a);
+        not_both a.before a.state b.next a.full a.line b.acts a.counted.legal (subst (λ w. IsLine g (rules_of q) HasFewNodes w a.line b.acts b.next) (sym states.0) (subst (λ w. IsLine g (rules_of q) HasFewNodes b.state w b.acts b.next) (sym same.1) b.possible)) (of_refused lines n fault a);
     one_refused = λ n m fault cause a b.
         let same = stops_once lines a.before b.before a.after b.after a.line b.line a.state b.state a.full b.full a.cut b.cut a.counted b.counted (inl (of_refused lines n fault a)) (inl (of_refused lines m cause b)) in
         (a.counts ∙ ap (λ w. length w + 1) same.0 ∙ sym b.counts, one_cause lines n m fault cause a b same);
     one_broken = λ n m v w a b.
         let same = stops_once lines a.before b.before a.after b.after a.line b.line a.state b.state a.full b.full a.cut b.cut a.counted b.counted (inr (of_broken lines n v a)) (inr (of_broken lines m w b)) in
         let states = one_run a.before b.before a.state b.state a.full b.full same.0 a.counted.legal b.counted.legal in
-        let line = subst (λ r. IsLine g (rules_of q) IsSmall r a.line b.acts b.next) (sym states.0) (subst (λ r. IsLine g (rules_of q) IsSmall b.state r b.acts b.next) (sym same.1) b.possible) in
+        let line = subst (λ r. IsLine g (rules_of q) HasFewNodes r a.line b.acts b.next) (sym states.0) (subst (λ r. IsLine g (rules_of q) HasFewNodes b.state r b.acts b.next) (sym same.1) b.possible) in
         let acts = (outcome g (rules_of q) a.state a.next b.next a.full a.acts b.acts a.line hold well (runs g (rules_of q) a.before a.state a.full a.counted.legal) a.possible line).0 in
         let trace : a.full ++ a.acts ∷ [] ≡ b.full ++ b.acts ∷ [] = λ i. states.1 i ++ acts i ∷ [] in (
           a.counts ∙ ap (λ r. length r + 1) same.0 ∙ sym b.counts,

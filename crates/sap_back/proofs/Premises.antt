@@ -21,7 +21,7 @@ use Rattle.sap_restrict.specs.Laws.{PrefixLaw}
 use Rattle.sap_rule.specs.RuleSteps.{IsFullTrace}
 use Rattle.sap_rule.specs.Variables.{open_variables}
 use Rattle.sap_rule.specs.declared.rule.Rule.{Rule}
-use Rattle.sap_runs.specs.Limits.{IsSmall}
+use Rattle.sap_runs.specs.Limits.{HasFewNodes}
 use Rattle.sap_steps.specs.Runs.{LinesAreSteps, LinesAreRuns}
 use Rattle.sap_translate.specs.Opened.{left_open, opened}
 use Rattle.sap_translate.specs.PlaceRules.{IsOfPlace}
@@ -86,8 +86,8 @@ pub record Laws : Type 0 where
   pub messages : (g : Sig) (p : Proc) (full : Trace) → HoldsBuiltins g → IsProcessOver g p → IsFullTrace g (rules_of p) full → IsMessageTrace g full
   -- of lines and terms
   pub prefix : PrefixLaw
-  pub steps : LinesAreSteps IsSmall
-  pub runs : LinesAreRuns IsSmall
+  pub steps : LinesAreSteps HasFewNodes
+  pub runs : LinesAreRuns HasFewNodes
   pub each_form : EachHasForm
   pub one_form : FormIsOne
   pub decide : FormsDecide

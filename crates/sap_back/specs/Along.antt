@@ -6,7 +6,7 @@ use Rattle.sap_terms.specs.Tree.{Tree}
 use Rattle.sap_process.specs.Configuration.{Config, initial}
 use Rattle.sap_process.specs.Proc.{Proc}
 use Rattle.sap_rule.specs.RuleSteps.{RuleState, empty_state}
-use Rattle.sap_runs.specs.Limits.{IsSmall}
+use Rattle.sap_runs.specs.Limits.{HasFewNodes}
 use Rattle.sap_runs.specs.declared.process_step.PStep.{PStep}
 use Rattle.sap_lines.specs.Lines.{EvaluateWithin}
 use Rattle.sap_lines.specs.Runs.{IsLegalProcessRun}
@@ -47,4 +47,4 @@ pub record IsAlong (g : Sig) (W : Tree → Type 0) (start : Proc) (agents : List
 
 -- before the first line of rules, none of the process go along
 abbrev pub BeginsAlong : Sig → Proc → Type 0
-BeginsAlong g start = IsAlong g IsSmall start (Some (unborn start) ∷ []) None [] (initial start) [] [] empty_state []
+BeginsAlong g start = IsAlong g HasFewNodes start (Some (unborn start) ∷ []) None [] (initial start) [] [] empty_state []

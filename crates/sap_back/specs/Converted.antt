@@ -8,7 +8,7 @@ use Rattle.sap_restrict.specs.Answer.{IsOnlyFalse}
 use Rattle.sap_restrict.specs.Standard.{IsAdmitted}
 use Rattle.sap_restrict.specs.declared.which.Which.{Which}
 use Rattle.sap_rule.specs.RuleSteps.{RuleState}
-use Rattle.sap_runs.specs.Limits.{IsSmall}
+use Rattle.sap_runs.specs.Limits.{HasFewNodes}
 use Rattle.sap_runs.specs.declared.process_step.PStep.{PStep}
 use Rattle.sap_runs.specs.declared.rule_step.RStep.{RStep}
 use Rattle.sap_steps.specs.Faults.{IsLineFault}
@@ -21,16 +21,16 @@ use Rattle.sap_translate.specs.LineCounts.{back_count}
 use Rattle.sap_back.specs.LinesFor.{StandInTurn}
 use Rattle.sap_back.specs.Opposite.{IsOpposite}
 
--- the lines are a legal run of the rules of the process within the limit, which leads to the state, and its full trace counts
-pub record IsCounted (g : Sig) (start : Proc) (rule_lines : List RStep) (s : RuleState) (full : Trace) : Type 0 where
-  pub legal : IsLegalRun g (rules_of start) IsSmall rule_lines s full
+-- the lines are a legal run of the rules of the process within the limit, which leads to the state, and its full trace is admitted
+pub record IsAdmittedRun (g : Sig) (start : Proc) (rule_lines : List RStep) (s : RuleState) (full : Trace) : Type 0 where
+  pub legal : IsLegalRun g (rules_of start) HasFewNodes rule_lines s full
   pub admitted : IsAdmitted g full
 
 -- the lines are such a run, and these of the process are opposite to them
 pub record IsConverted (g : Sig) (start : Proc) (rule_lines : List RStep) (lines : List PStep) : Type 0 where
   pub state : RuleState
   pub full : Trace
-  pub counted : IsCounted g start rule_lines state full
+  pub counted : IsAdmittedRun g start rule_lines state full
   pub opposite : IsOpposite g start rule_lines state full lines
   -- there are exactly so many
   pub count : length lines ≡ back_count rule_lines
@@ -38,7 +38,7 @@ pub record IsConverted (g : Sig) (start : Proc) (rule_lines : List RStep) (lines
   pub turns : StandInTurn rule_lines full lines
 
 -- the lines before the one with this number, from 1, are such a run, and that one is refused for this cause
-pub record IsFirstRefused (g : Sig) (start : Proc) (rule_lines : List RStep) (number : ℕ) (fault : RFault) : Type 0 where
+pub record IsFirstRefusedOfRules (g : Sig) (start : Proc) (rule_lines : List RStep) (number : ℕ) (fault : RFault) : Type 0 where
   pub before : List RStep
   pub line : RStep
   pub after : List RStep
@@ -46,7 +46,7 @@ pub record IsFirstRefused (g : Sig) (start : Proc) (rule_lines : List RStep) (nu
   pub counts : number ≡ length before + 1
   pub state : RuleState
   pub full : Trace
-  pub counted : IsCounted g start before state full
+  pub counted : IsAdmittedRun g start before state full
   pub refused : IsLineFault g (rules_of start) state line fault
   pub cause : ¬ (fault ≡ Mem)
 
@@ -60,8 +60,8 @@ pub record IsFirstBroken (g : Sig) (start : Proc) (rule_lines : List RStep) (num
   pub counts : number ≡ length before + 1
   pub state : RuleState
   pub full : Trace
-  pub counted : IsCounted g start before state full
+  pub counted : IsAdmittedRun g start before state full
   pub acts : List Fact
   pub next : RuleState
-  pub possible : IsLine g (rules_of start) IsSmall state line acts next
+  pub possible : IsLine g (rules_of start) HasFewNodes state line acts next
   pub broken : IsOnlyFalse g (full ++ acts ∷ []) which

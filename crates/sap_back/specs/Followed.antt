@@ -20,7 +20,7 @@ use Rattle.sap_process.specs.Sites.{fresh_var, message_var}
 use Rattle.sap_place.specs.StateFacts.{waits_fact}
 use Rattle.sap_restrict.specs.Standard.{IsAdmitted}
 use Rattle.sap_rule.specs.RuleSteps.{RuleState, empty_state}
-use Rattle.sap_runs.specs.Limits.{IsSmall}
+use Rattle.sap_runs.specs.Limits.{HasFewNodes}
 use Rattle.sap_runs.specs.declared.process_step.PStep.{PStep}
 use Rattle.sap_runs.specs.declared.process_step.PStep.TheVariants as line
 use Rattle.sap_runs.specs.declared.rule_step.RStep.{RStep}
@@ -33,7 +33,7 @@ pub use Rattle.sap_translate.specs.RuleLines.{uses, numbers_from}
 pub use Rattle.sap_back.specs.LinesFor.{pending_lines, lines_before, left_pending}
 use Rattle.sap_translate.specs.Templates.{rules_of, first_of, second_of}
 use Rattle.sap_translate.specs.relation.Agents.{Agent, unborn, running, copying, awaiting, received}
-use Rattle.sap_translate.specs.relation.Answers.{Stands, Copies, goes_on as onwards, goes_aside as aside, term_under, widened}
+use Rattle.sap_translate.specs.relation.Answers.{StandsBefore, Copies, goes_on as onwards, goes_aside as aside, term_under, widened}
 use Rattle.sap_translate.specs.relation.Envs.{Env, no_env, just, join, values}
 use Rattle.sap_back.specs.Along.{IsAlong}
 use Rattle.sap_back.specs.Tables.{Tables, AreTables, IsPending, come, with_thread, with_known, enters, waiting, first_tables}
@@ -44,7 +44,7 @@ with_pile tables t many = record tables { facts = tables.facts ++ t ∷ numbers_
 
 -- thread t stands before this, and fact k says so, by the tables too
 pub record Seated (agents : List (Option Agent)) (s : RuleState) (tables : Tables) (t k : ℕ) (path : List ℕ) (env : Env) (body : Proc) : Type 0 where
-  pub stands : Stands agents s t k path env body
+  pub stands : StandsBefore agents s t k path env body
   pub number : slice_get tables.facts k ≡ Some t
 
 -- The threads, what is pending, the state of rules and the tables before; the line of rules, what it shows, and the lines of the
@@ -160,16 +160,16 @@ abbrev pub BeginsTabled : Proc → Type 0
 BeginsTabled start = AreTables (Some (unborn start) ∷ []) None (initial start) [] empty_state first_tables
 
 -- wherever lines go along, with their tables, each line of rules that is possible within the limit, and behind which the full trace
--- counts, is followed
+-- is admitted, is followed
 abbrev pub LinesAreFollowed : Sig → Proc → Type 0
 LinesAreFollowed g start =
     (agents : List (Option Agent)) (pending : Option Tree) (lines : List PStep) (c : Config) (es : List Tree) (tr : Trace) (s z : RuleState) (full : Trace) (tables : Tables) (step : RStep) (acts : List Fact)
-    → IsAlong g IsSmall start agents pending lines c es tr s full → AreTables agents pending c es s tables → IsLine g (rules_of start) IsSmall s step acts z → IsAdmitted g (full ++ acts ∷ [])
-    → IsFollowedBy g IsSmall start agents pending lines s full tables step z acts
+    → IsAlong g HasFewNodes start agents pending lines c es tr s full → AreTables agents pending c es s tables → IsLine g (rules_of start) HasFewNodes s step acts z → IsAdmitted g (full ++ acts ∷ [])
+    → IsFollowedBy g HasFewNodes start agents pending lines s full tables step z acts
 
 -- Behind the last line what is pending is written, by its number: then the lines are legal, show what is seen of the full trace, and
 -- have its marks.
 abbrev pub EndsTabled : Sig → Proc → Type 0
 EndsTabled g start =
     (agents : List (Option Agent)) (pending : Option Tree) (lines : List PStep) (c : Config) (es : List Tree) (tr : Trace) (s : RuleState) (full : Trace) (tables : Tables)
-    → IsAlong g IsSmall start agents pending lines c es tr s full → IsPending es pending tables.pending → IsLegalProcessRun g IsSmall start (lines ++ pending_lines tables.pending) c es (hide full) (marks full)
+    → IsAlong g HasFewNodes start agents pending lines c es tr s full → IsPending es pending tables.pending → IsLegalProcessRun g HasFewNodes start (lines ++ pending_lines tables.pending) c es (hide full) (marks full)

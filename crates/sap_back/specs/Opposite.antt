@@ -8,7 +8,7 @@ use Rattle.sap_process.specs.Configuration.{Config}
 use Rattle.sap_process.specs.Proc.{Proc}
 use Rattle.sap_restrict.specs.Standard.{IsAdmitted}
 use Rattle.sap_rule.specs.RuleSteps.{RuleState}
-use Rattle.sap_runs.specs.Limits.{IsSmall}
+use Rattle.sap_runs.specs.Limits.{HasFewNodes}
 use Rattle.sap_runs.specs.declared.process_step.PStep.{PStep}
 use Rattle.sap_runs.specs.declared.rule_step.RStep.{RStep}
 use Rattle.sap_lines.specs.Runs.{IsLegalProcessRun}
@@ -21,14 +21,14 @@ pub record IsOpposite (g : Sig) (start : Proc) (rule_lines : List RStep) (s : Ru
   pub config : Config
   pub entries : List Tree
   -- they are legal within the limit, show what is seen of the full trace, and have its marks
-  pub legal : IsLegalProcessRun g IsSmall start lines config entries (hide full) (marks full)
+  pub legal : IsLegalProcessRun g HasFewNodes start lines config entries (hide full) (marks full)
   -- the adversary knows all that it knows there
   pub known : (t : Tree) → Contains s.known t → Contains entries t
   -- there are no more of them
   pub short : length lines ≤ length rule_lines
 
--- each legal run of the rules whose full trace counts has lines of the process opposite
+-- each legal run of the rules whose full trace is admitted has lines of the process opposite
 abbrev pub HasOpposites : Sig → Proc → Type 0
 HasOpposites g start =
-    (rule_lines : List RStep) (s : RuleState) (full : Trace) → IsLegalRun g (rules_of start) IsSmall rule_lines s full → IsAdmitted g full
+    (rule_lines : List RStep) (s : RuleState) (full : Trace) → IsLegalRun g (rules_of start) HasFewNodes rule_lines s full → IsAdmitted g full
     → (lines : List PStep) × IsOpposite g start rule_lines s full lines

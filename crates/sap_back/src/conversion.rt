@@ -1,7 +1,7 @@
 //! Runs of the rules of a process converted to runs of the process.
 ghost use Rattle.std.specs.Prelude.{◌≡◌, IfErr, IfOk, Err, OnOk, ℕ};
 ghost use Rattle.sap_process.specs.Proc.{proc};
-ghost use Rattle.sap_back.specs.Converted.{IsConverted, IsCounted, IsFirstBroken, IsFirstRefused};
+ghost use Rattle.sap_back.specs.Converted.{IsConverted, IsAdmittedRun, IsFirstBroken, IsFirstRefusedOfRules};
 ghost use Rattle.sap_back.specs.declared.back_at.BackAt.TheVariants.{Step as StepOf, Broken as BrokenAt};
 ghost use Rattle.sap_read.specs.Files.{IsRunnable, told_by};
 ghost use Rattle.sap_restrict.specs.declared.which.Which.{Which as Restriction};
@@ -32,7 +32,7 @@ pub fn to_process(alloc: Global, f: &File, run: &RSteps) -> Result<PSteps, BackA
     requires { IsRunnable (told_by f.now) }
     ensures ok { IfOk result (IsConverted f.now.signature (proc f.now.process) run.now) }
     ensures refused { (step : ℕ) (fault : Fault) → result ≡ Err (StepOf step fault)
-        → IsFirstRefused f.now.signature (proc f.now.process) run.now step fault }
+        → IsFirstRefusedOfRules f.now.signature (proc f.now.process) run.now step fault }
     ensures broken { (step : ℕ) (which : Restriction) → result ≡ Err (BrokenAt step which)
         → IsFirstBroken f.now.signature (proc f.now.process) run.now step which }
 {
@@ -59,9 +59,9 @@ pub fn to_process(alloc: Global, f: &File, run: &RSteps) -> Result<PSteps, BackA
 /// It recurses as deep as the file's process and the terms of file and run.
 pub fn rule_trace(alloc: Global, f: &File, run: &RSteps) -> Result<Trace, BackAt>
     requires { IsRunnable (told_by f.now) }
-    ensures ok { IfOk result (λ full. (s : State) × IsCounted f.now.signature (proc f.now.process) run.now s full) }
+    ensures ok { IfOk result (λ full. (s : State) × IsAdmittedRun f.now.signature (proc f.now.process) run.now s full) }
     ensures refused { (step : ℕ) (fault : Fault) → result ≡ Err (StepOf step fault)
-        → IsFirstRefused f.now.signature (proc f.now.process) run.now step fault }
+        → IsFirstRefusedOfRules f.now.signature (proc f.now.process) run.now step fault }
     ensures broken { (step : ℕ) (which : Restriction) → result ≡ Err (BrokenAt step which)
         → IsFirstBroken f.now.signature (proc f.now.process) run.now step which }
 {

@@ -37,7 +37,7 @@ use sap_translate::{
 };
 
 /// A law: before the first line of rules no line of the process goes along, and from there on each line of the rules that is
-/// possible within the limit on terms, and behind which the full trace counts, is followed, where the process is the annotation
+/// possible within the limit on terms, and behind which the full trace is admitted, is followed, where the process is the annotation
 /// of one that is ready and has fewer than 2^64 places, over a signature that holds what its builtins declare: by the lines of
 /// the process that `IsWritten` tells from it and from tables, which say what the facts and the entries of the rules are in the
 /// process. There are tables before the first line, and `IsWritten` tells those behind each. A K event is left pending until an
@@ -77,7 +77,7 @@ pub(crate) fn files_are_replayed()
     rules_are_found_by_name();
 }
 
-/// A law: each run of the rules of a process that is legal within the limit on terms, and whose full trace counts, has lines of
+/// A law: each run of the rules of a process that is legal within the limit on terms, and whose full trace is admitted, has lines of
 /// the process opposite, where the process is the annotation of one that is ready and has fewer than 2^64 places, over a
 /// signature that holds what its builtins declare. They are legal within the limit, show what is seen of the full trace, have its
 /// marks, and leave the adversary with all that it knows there; there are no more of them.

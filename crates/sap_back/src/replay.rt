@@ -1,11 +1,11 @@
 //! Runs of rules replayed line by line, as long as the restrictions are true.
 ghost use Rattle.std.specs.Prelude.{◌≡◌, [], All, IfOk, IfErr, ⊤};
 ghost use Rattle.sap_process.specs.Proc.{proc};
-ghost use Rattle.sap_restrict.specs.Stands.{HasOneReserved, Stands};
+ghost use Rattle.sap_restrict.specs.Stands.{HasOneReserved, KeepsTrace};
 ghost use Rattle.sap_restrict.specs.View.{machine};
 ghost use Rattle.sap_rule.specs.RuleSteps.{empty_state};
 ghost use Rattle.sap_rule.specs.WellMade.{IsWellMade};
-ghost use Rattle.sap_steps.specs.Lines.{IsLine, IsSmall};
+ghost use Rattle.sap_steps.specs.Lines.{IsLine, HasFewNodes};
 ghost use Rattle.sap_terms.specs.Message.{AreMessageFacts};
 ghost use Rattle.sap_translate.specs.Templates.{rules_of};
 ghost use Rattle.sap_back.specs.code.Replayed.{IsKept, IsStopped, IsTakenUp, IsUnkept, ShowOneReserved, stop_at};
@@ -35,7 +35,7 @@ impl Replay {
         ensures sig { IfOk result (λ r. r.state.sig ≡ f.now.signature) }
         ensures rules { IfOk result (λ r. r.state.rules ≡ rules_of (proc f.now.process)) }
         ensures at { IfOk result (λ r. r.state.at ≡ empty_state) }
-        ensures guard { IfOk result (λ r. Stands (machine r.guard) []) }
+        ensures guard { IfOk result (λ r. KeepsTrace (machine r.guard) []) }
     {
         let state = started(alloc, f)?;
         Ok(Replay {
@@ -68,7 +68,7 @@ pub(crate) fn begun(alloc: Global, f: &File) -> Result<Box<Replay>, Mem>
     ensures sig { IfOk result (λ r. r.value.state.sig ≡ f.now.signature) }
     ensures rules { IfOk result (λ r. r.value.state.rules ≡ rules_of (proc f.now.process)) }
     ensures at { IfOk result (λ r. r.value.state.at ≡ empty_state) }
-    ensures guard { IfOk result (λ r. Stands (machine r.value.guard) []) }
+    ensures guard { IfOk result (λ r. KeepsTrace (machine r.value.guard) []) }
 {
     Ok(Box::new(alloc, Replay::start(alloc, f)?)?)
 }

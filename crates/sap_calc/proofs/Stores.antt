@@ -9,7 +9,7 @@ use Rattle.indexmap.specs.IndexMap.{insert_entry}
 use Rattle.sap_terms.specs.Same.{same_tree}
 use Rattle.sap_terms.specs.Tree.{Tree}
 use Rattle.sap_terms.proofs.PlainLaws.Tests.{same_tree-sound, same_tree-refl}
-use Rattle.sap_process.specs.Configuration.{stores, holds}
+use Rattle.sap_process.specs.Configuration.{stores, holding}
 use Rattle.sap_share.specs.Shared.{Shared, tree_at, HaveOneNumber}
 use Rattle.sap_calc.specs.Running.{value_at, configuration}
 use Rattle.sap_calc.specs.code.Parts.{Parts, AreTied, seen, IsSmallValue}
@@ -102,7 +102,7 @@ module _ (P : Parts) (tied : AreTied P) (once : HaveOneNumber P.table.trees (len
   pub stored_is : (configuration (seen P)).store (tree_at P.table.trees k) ≡ option_map (tree_at P.table.trees) (unwrap_or (lookup (nat_eq k) P.store) None)
   stored_is = found_at P.table.trees once k small.below (option_map (tree_at P.table.trees)) None None refl P.store keys_below
 
-  pub holds_is : (b : Bool) → configuration (seen (record P { held = insert_entry nat_eq P.held k b })) ≡ holds (configuration (seen P)) (tree_at P.table.trees k) b
+  pub holds_is : (b : Bool) → configuration (seen (record P { held = insert_entry nat_eq P.held k b })) ≡ holding (configuration (seen P)) (tree_at P.table.trees k) b
   holds_is b =
       let f : Bool → Bool = λ b. b in
       λ i. record (configuration (seen P)) { held = λ t. put_at P.table.trees once k small.below f false b P.held marks_below t i }

@@ -13,7 +13,7 @@ use Rattle.sap_terms.specs.declared.fact.Fact.{Fact}
 use Rattle.sap_terms.specs.declared.term.Term.{Term}
 use Rattle.sap_terms.specs.declared.var.Var.{Var}
 use Rattle.sap_process.specs.Action as action
-use Rattle.sap_process.specs.Configuration.{Runs, becomes, stores, holds}
+use Rattle.sap_process.specs.Configuration.{Runs, becomes, stores, holding}
 use Rattle.sap_process.specs.Instance.{process_instance, without}
 use Rattle.sap_process.specs.Proc.{act, lookup}
 use Rattle.sap_process.specs.Sites.{above_of, scope_below, var_names, message_var}
@@ -181,8 +181,8 @@ module _ (P : Parts) (t : ℕ) (th : Thread) (x : Place) (tied : AreTied P) (is 
 
     pub lock_line : (label : List Fact) → label ≡ [] → unwrap_or (looked (nat_eq k) P.held) false ≡ false → IsDone (seen P) (seen (record (gone P u t th x.first) { held = insert_entry nat_eq P.held k true })) (line.Lock t) label
     lock_line label silent free =
-        let after : configuration (seen (record (gone P u t th x.first) { held = insert_entry nat_eq P.held k true })) ≡ holds (becomes (configuration (seen P)) t (Some (process_instance (given P.table.trees th.env) (proc_at (procs_of P.places) x.first)))) (tree_at u.trees k) true =
-        holds_is (gone P u t th x.first) lock_gone once k v.number true ∙ ap (λ c. holds c (tree_at u.trees k) true) (gone_is P u t th x.first keeps tied is) in
+        let after : configuration (seen (record (gone P u t th x.first) { held = insert_entry nat_eq P.held k true })) ≡ holding (becomes (configuration (seen P)) t (Some (process_instance (given P.table.trees th.env) (proc_at (procs_of P.places) x.first)))) (tree_at u.trees k) true =
+        holds_is (gone P u t th x.first) lock_gone once k v.number true ∙ ap (λ c. holding c (tree_at u.trees k) true) (gone_is P u t th x.first keeps tied is) in
         rw silent (record { inner = locked (tree_at u.trees k) ∷ []; line = rw after (locks t lock_runs lock_key (lock_held ∙ free) lock_small); sig = refl })
 
 module _ (P : Parts) (t : ℕ) (th : Thread) (x : Place) (tied : AreTied P) (is : Some th ≡ live P.threads t) (at : slice_get P.places th.place ≡ Some x) (m : Term) (i : ℕ) (form : x.form ≡ Unlock m i) where
@@ -218,8 +218,8 @@ module _ (P : Parts) (t : ℕ) (th : Thread) (x : Place) (tied : AreTied P) (is 
 
     pub unlock_line : (label : List Fact) → label ≡ [] → IsDone (seen P) (seen (record (gone P u t th x.first) { held = insert_entry nat_eq P.held k false })) (line.Unlock t) label
     unlock_line label silent =
-        let after : configuration (seen (record (gone P u t th x.first) { held = insert_entry nat_eq P.held k false })) ≡ holds (becomes (configuration (seen P)) t (Some (process_instance (given P.table.trees th.env) (proc_at (procs_of P.places) x.first)))) (tree_at u.trees k) false =
-        holds_is (gone P u t th x.first) unlock_gone once k v.number false ∙ ap (λ c. holds c (tree_at u.trees k) false) (gone_is P u t th x.first keeps tied is) in
+        let after : configuration (seen (record (gone P u t th x.first) { held = insert_entry nat_eq P.held k false })) ≡ holding (becomes (configuration (seen P)) t (Some (process_instance (given P.table.trees th.env) (proc_at (procs_of P.places) x.first)))) (tree_at u.trees k) false =
+        holds_is (gone P u t th x.first) unlock_gone once k v.number false ∙ ap (λ c. holding c (tree_at u.trees k) false) (gone_is P u t th x.first keeps tied is) in
         rw silent (record { inner = unlocked (tree_at u.trees k) ∷ []; line = rw after (unlocks t unlock_runs unlock_key unlock_small); sig = refl })
 
 module _ (P : Parts) (t : ℕ) (th : Thread) (x : Place) (tied : AreTied P) (is : Some th ≡ live P.threads t) (at : slice_get P.places th.place ≡ Some x) (m : Term) (y : Var) (form : x.form ≡ Lookup m y) where

@@ -6,7 +6,7 @@ use Rattle.sap_terms.specs.declared.fact.Fact.{Fact}
 use Rattle.sap_deduce.specs.Entries.{terms_of}
 use Rattle.sap_process.specs.Configuration.{initial}
 use Rattle.sap_process.specs.Proc.{Proc}
-use Rattle.sap_runs.specs.Limits.{IsSmall}
+use Rattle.sap_runs.specs.Limits.{HasFewNodes}
 use Rattle.sap_runs.specs.Marks.{Mark}
 use Rattle.sap_runs.specs.declared.process_step.PStep.{PStep}
 use Rattle.sap_lines.specs.Runs.{IsLegalProcessRun}
@@ -21,7 +21,7 @@ pub data AreDone (r : Running) : List PStep → Running → Trace → Type 0 whe
 -- they are a legal run of the process within the limit, over this signature
 pub record IsReplayed (g : Sig) (p : Proc) (lines : List PStep) (z : Running) (tr : Trace) : Type 0 where
   pub marks : List Mark
-  pub run : IsLegalProcessRun g IsSmall p lines (configuration z) (terms_of z.known) tr marks
+  pub run : IsLegalProcessRun g HasFewNodes p lines (configuration z) (terms_of z.known) tr marks
   pub sig : z.sig ≡ g
 
 -- from where the process runs and nothing else is there, lines that are done in turn are such a run

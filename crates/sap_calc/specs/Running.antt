@@ -9,7 +9,7 @@ use Rattle.sap_deduce.specs.Entries.{Entry, terms_of, names_given, outputs_given
 use Rattle.sap_process.specs.Configuration.{Config}
 use Rattle.sap_process.specs.Proc.{Proc}
 use Rattle.sap_runs.specs.Inner.{InnerAction, found}
-use Rattle.sap_runs.specs.Limits.{IsSmall}
+use Rattle.sap_runs.specs.Limits.{HasFewNodes}
 use Rattle.sap_runs.specs.declared.process_step.PStep.{PStep}
 use Rattle.sap_runs.specs.declared.process_step.PStep.TheVariants as line
 use Rattle.sap_lines.specs.Faults.{IsRefused}
@@ -48,7 +48,7 @@ configuration r = record {
 -- the line is possible, with some inner actions, and leads from one to the other
 pub record IsDone (r z : Running) (step : PStep) (label : List Fact) : Type 0 where
   pub inner : List InnerAction
-  pub line : IsProcessLine r.sig IsSmall (configuration r) (terms_of r.known) step inner label (configuration z) (terms_of z.known)
+  pub line : IsProcessLine r.sig HasFewNodes (configuration r) (terms_of r.known) step inner label (configuration z) (terms_of z.known)
   pub sig : z.sig ≡ r.sig
 
 -- it is refused for this cause
@@ -59,7 +59,7 @@ IsDenied r step fault = IsRefused r.sig (configuration r) (terms_of r.known) ste
 pub record WouldFind (r : Running) (t : ℕ) (v : Tree) : Type 0 where
   pub key : Tree
   pub after : Config
-  pub line : IsProcessLine r.sig IsSmall (configuration r) (terms_of r.known) (line.Found t) (found key v ∷ []) [] after (terms_of r.known)
+  pub line : IsProcessLine r.sig HasFewNodes (configuration r) (terms_of r.known) (line.Found t) (found key v ∷ []) [] after (terms_of r.known)
 
 -- it is refused, and not for want of memory
 pub record FindsNothing (r : Running) (t : ℕ) : Type 0 where

@@ -9,7 +9,7 @@ use Rattle.sap_terms.specs.Choice.{instance, instances}
 use Rattle.sap_terms.specs.Signature.{Sig, is_destructor_of}
 use Rattle.sap_terms.specs.Tree.{Tree, Trees, apply, fresh, list_of, more, none, public, trees_of, variable}
 use Rattle.sap_terms.specs.declared.var.Var.{Var}
-use Rattle.sap_formula.specs.Checked.{AreCheckedTerms, AreGuarded, IsChecked, IsCheckedTerm, Stands, StandsIn, StandsInAny, binder_name, enter, find_binder, premise}
+use Rattle.sap_formula.specs.Checked.{AreCheckedTerms, AreGuarded, IsChecked, IsCheckedTerm, StandsInAtom, StandsIn, StandsInAny, binder_name, enter, find_binder, premise}
 use Rattle.sap_formula.specs.Hide.{is_hidden}
 use Rattle.sap_formula.specs.Faults.{HasFault}
 use Rattle.sap_formula.specs.Laws.{Allowed, CheckLaw, ClosedLaw}
@@ -81,7 +81,7 @@ mutual
   any_sorted scope n (more t ts) (inl h) = inl (stands_sorted scope n t h)
   any_sorted scope n (more t ts) (inr h) = inr (any_sorted scope n ts h)
 
-guard_sorted : (scope : List Binder) (n : List ℕ) (f : Form) → Stands n f → Stands n (with_sorts scope f)
+guard_sorted : (scope : List Binder) (n : List ℕ) (f : Form) → StandsInAtom n f → StandsInAtom n (with_sorts scope f)
 guard_sorted scope n (both f g) (inl h) = inl (guard_sorted scope n f h)
 guard_sorted scope n (both f g) (inr h) = inr (guard_sorted scope n g h)
 guard_sorted scope n (action f i) (inl h) = inl h
@@ -99,7 +99,7 @@ guard_sorted scope n (equivalent f g) h = absurd h
 guard_sorted scope n (every bs f) h = absurd h
 guard_sorted scope n (exists bs f) h = absurd h
 
-premise_sorted : (scope : List Binder) (n : List ℕ) (f : Form) → Stands n (premise f) → Stands n (premise (with_sorts scope f))
+premise_sorted : (scope : List Binder) (n : List ℕ) (f : Form) → StandsInAtom n (premise f) → StandsInAtom n (premise (with_sorts scope f))
 premise_sorted scope n (implies f g) h = guard_sorted scope n f h
 premise_sorted scope n truth h = absurd h
 premise_sorted scope n falsity h = absurd h
@@ -115,7 +115,7 @@ premise_sorted scope n (every bs f) h = absurd h
 premise_sorted scope n (exists bs f) h = absurd h
 
 -- each variable of a quantifier is guarded
-guarded : (g : Sig) (r : Bool) (f h : Form) (bs : List Binder) (ps : List Part) → ((n : List ℕ) → Stands n f → Stands n h) → Faultless g r (map (bound f) bs ++ ps) → AreGuarded bs h
+guarded : (g : Sig) (r : Bool) (f h : Form) (bs : List Binder) (ps : List Part) → ((n : List ℕ) → StandsInAtom n f → StandsInAtom n h) → Faultless g r (map (bound f) bs ++ ps) → AreGuarded bs h
 guarded g r f h [] ps to all = tt
 guarded g r f h (b ∷ bs) ps to all =
     (to (binder_name b) (guard_found g r f b (all.0 Unguarded)), guarded g r f h bs ps to all.1)

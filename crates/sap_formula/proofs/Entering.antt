@@ -12,7 +12,7 @@ use Rattle.sap_formula.proofs.Patterns.{IsCheckedAction}
 use Rattle.sap_formula.proofs.Plain.{NormalLaws, IsNormalEnv}
 use Rattle.sap_formula.proofs.Reading.{Agrees, AreFilled, IsFitting, Start, get_kept, value}
 use Rattle.sap_formula.proofs.Layers.{bound_apart, bound_stands, by_slotted, by_stay, same_slots}
-use Rattle.sap_formula.specs.Checked.{AreGuarded, NoTwice, Stands, binder_name, enter, find_binder}
+use Rattle.sap_formula.specs.Checked.{AreGuarded, NoTwice, StandsInAtom, binder_name, enter, find_binder}
 use Rattle.sap_formula.specs.Form.{Form}
 use Rattle.sap_formula.specs.Truth.{EachIn, Every, Exists, Times}
 use Rattle.sap_formula.specs.code.Ready.{Held, Layers, guards, guards_of, held_term, held_time, place_of, searched, seen_by, slot_at, slot_count, slot_in}
@@ -122,7 +122,7 @@ module _ (w : NormalLaws) (g : Sig) (tr : Trace) (m : IsMessageTrace g tr) (scop
       -- each binder of the quantifier has a slot that holds what suits it
       each_held : EachIn (HasOne g tr Holds) bs
       each_held =
-          each_both (λ b. find_binder (enter bs scope) (binder_name b) ≡ Some b) (λ b. Stands (binder_name b) q) (HasOne g tr Holds) bs (λ b i s.
+          each_both (λ b. find_binder (enter bs scope) (binder_name b) ≡ Some b) (λ b. StandsInAtom (binder_name b) q) (HasOne g tr Holds) bs (λ b i s.
           let t = by_slotted (place_of bs layers) q [] (binder_name b) s in
           let r = reached.start.filled b t.0 i t.1 in
           (r.0, r.2, λ k e. let t1 = t.1 in let same : t.0 ≡ k = cc in subst (λ j. slice_get out j ≡ Some r.0) same r.1)) (entered bs scope once) guarded

@@ -17,7 +17,7 @@ use Rattle.sap_terms.specs.declared.fact.Fact.{Fact}
 use Rattle.sap_terms.specs.declared.var.Sort.{Sort}
 use Rattle.sap_terms.specs.declared.var.Var.{Var}
 use Rattle.sap_formula.proofs.Plain.{NormalLaws, IsNormalEnv, args-same}
-use Rattle.sap_formula.specs.Checked.{AreCheckedTerms, AreGuarded, BindsOnce, IsChecked, IsCheckedTerm, NoTwice, Stands, StandsIn, StandsInAny, binder_name, enter, find_binder}
+use Rattle.sap_formula.specs.Checked.{AreCheckedTerms, AreGuarded, BindsOnce, IsChecked, IsCheckedTerm, NoTwice, StandsInAtom, StandsIn, StandsInAny, binder_name, enter, find_binder}
 
 -- lists
 
@@ -142,7 +142,7 @@ record End (e : Equations) (bs : List Binder) (B : Choice → Times → Type 0) 
   holds : B terms times
 
 module _ (w : NormalLaws) (g : Sig) (V : List ℕ → Type 0) (Q : Tree → Type 0) (R : ℕ → Type 0) (tr : Trace) (seen : AllSeen g V Q R tr) (D : Sort → Tree → Type 0) (P : ℕ → Type 0) (normal : (s : Sort) (t : Tree) → D s t → IsNormal (equations g) t) where
-  action_holds : (scope : List Binder) (f : Fact) (j : List ℕ) (σ : Choice) (τ : Times) → IsChecked g V scope (action f j) → IsNormalEnv (equations g) σ → IsTrueUnder (equations g) tr D P (action f j) σ τ → (b : Binder) → find_binder scope (binder_name b) ≡ Some b → Stands (binder_name b) (action f j) → HasValue Q R σ τ b
+  action_holds : (scope : List Binder) (f : Fact) (j : List ℕ) (σ : Choice) (τ : Times) → IsChecked g V scope (action f j) → IsNormalEnv (equations g) σ → IsTrueUnder (equations g) tr D P (action f j) σ τ → (b : Binder) → find_binder scope (binder_name b) ≡ Some b → StandsInAtom (binder_name b) (action f j) → HasValue Q R σ τ b
   action_holds scope f j σ τ c n t b i s =
       let k = τ j in
       let x = any_each (Shows (equations g) σ f) (Seen g V Q R k) (facts_at tr k) t (seen k) in
@@ -161,7 +161,7 @@ module _ (w : NormalLaws) (g : Sig) (V : List ℕ → Type 0) (Q : Tree → Type
             subst (HasValue Q R σ τ) (sym e) o.has
       ]
 
-  guard_holds : (scope : List Binder) (f : Form) (σ : Choice) (τ : Times) → IsChecked g V scope f → IsNormalEnv (equations g) σ → IsTrueUnder (equations g) tr D P f σ τ → (b : Binder) → find_binder scope (binder_name b) ≡ Some b → Stands (binder_name b) f → HasValue Q R σ τ b
+  guard_holds : (scope : List Binder) (f : Form) (σ : Choice) (τ : Times) → IsChecked g V scope f → IsNormalEnv (equations g) σ → IsTrueUnder (equations g) tr D P f σ τ → (b : Binder) → find_binder scope (binder_name b) ≡ Some b → StandsInAtom (binder_name b) f → HasValue Q R σ τ b
   guard_holds scope (both f h) σ τ c n t b i (inl s) = guard_holds scope f σ τ c.0 n t.0 b i s
   guard_holds scope (both f h) σ τ c n t b i (inr s) = guard_holds scope h σ τ c.1 n t.1 b i s
   guard_holds scope (action f j) σ τ c n t b i s = action_holds scope f j σ τ c n t b i s
@@ -180,7 +180,7 @@ module _ (w : NormalLaws) (g : Sig) (V : List ℕ → Type 0) (Q : Tree → Type
   -- where its guards hold, each variable of a quantifier has a value that was seen
   all_guarded : (scope bs : List Binder) (f : Form) (σ : Choice) (τ : Times) → NoTwice bs → AreGuarded bs f → IsChecked g V (enter bs scope) f → IsNormalEnv (equations g) σ → IsTrueUnder (equations g) tr D P f σ τ → EachIn (HasValue Q R σ τ) bs
   all_guarded scope bs f σ τ o a c n t =
-      each_both (λ b. find_binder (enter bs scope) (binder_name b) ≡ Some b) (λ b. Stands (binder_name b) f) (HasValue Q R σ τ) bs (λ b i s. guard_holds (enter bs scope) f σ τ c n t b i s) (entered bs scope o) a
+      each_both (λ b. find_binder (enter bs scope) (binder_name b) ≡ Some b) (λ b. StandsInAtom (binder_name b) f) (HasValue Q R σ τ) bs (λ b i s. guard_holds (enter bs scope) f σ τ c n t b i s) (entered bs scope o) a
 
   every_narrow : (bs : List Binder) (B C : Choice → Times → Type 0) → ((σ : Choice) (τ : Times) → IsNormalEnv (equations g) σ → B σ τ → C σ τ) → (σ : Choice) (τ : Times) → IsNormalEnv (equations g) σ → Every D P bs B σ τ → Every (Within D Q) (Among P R) bs C σ τ
   every_narrow [] B C f σ τ n h = f σ τ n h

@@ -6,7 +6,7 @@ use Rattle.std.specs.Str.{bytes_eq}
 use Rattle.std.proofs.lemmas.Iterator.Adapters.{position_from-zero}
 use Rattle.std.proofs.lemmas.Slice.Eq.{bytes_eq-Decides}
 use Rattle.sap_formula.proofs.Law.{IsApart}
-use Rattle.sap_formula.specs.Checked.{AreGuarded, Stands, StandsIn, StandsInAny, binder_name}
+use Rattle.sap_formula.specs.Checked.{AreGuarded, StandsInAtom, StandsIn, StandsInAny, binder_name}
 use Rattle.sap_formula.specs.Form.{Form, action, both, earlier, either, equal, equivalent, every, exists, falsity, implies, negation, same_time, truth}
 use Rattle.sap_formula.specs.code.Ready.{Action, Layers, Place, guards, marked, marked_all, noted, place_of, seen_behind, seen_by, slot_at, slot_count, slot_in, slot_or}
 use Rattle.sap_formula.specs.declared.binder.Binder.{Binder}
@@ -147,7 +147,7 @@ module _ (p : Place) where
   by_append seen [] ys = refl
   by_append seen (a ∷ xs) ys = by_append (seen_behind p seen a) xs ys
 
-  pub by_slotted : (f : Form) (seen : List (List ℕ)) (n : List ℕ) → Stands n f → IsSlotted (seen_by p seen (guards f)) n
+  pub by_slotted : (f : Form) (seen : List (List ℕ)) (n : List ℕ) → StandsInAtom n f → IsSlotted (seen_by p seen (guards f)) n
   by_slotted (both f h) seen n (inl s) =
       let first = by_slotted f seen n s in
       let there = stay_slotted (seen_by p seen (guards f)) (seen_by p (seen_by p seen (guards f)) (guards h)) n (by_stay (seen_by p seen (guards f)) (guards h)) first in
@@ -174,11 +174,11 @@ bound_apart (b ∷ bs) n h = at (bytes_eq n (binder_name b)) refl h (bound_apart
   at true e h f = absurd (cc)
   at false e h f = (λ q. let t = (bytes_eq-Decides n (binder_name b)).1 (sym q) in absurd (cc), f h)
 
-pub bound_stands : (bs : List Binder) (f : Form) (n : List ℕ) → AreGuarded bs f → list_any (bytes_eq n) (map binder_name bs) ≡ true → Stands n f
+pub bound_stands : (bs : List Binder) (f : Form) (n : List ℕ) → AreGuarded bs f → list_any (bytes_eq n) (map binder_name bs) ≡ true → StandsInAtom n f
 bound_stands [] f n g h = absurd (cc)
 bound_stands (b ∷ bs) f n g h = at (bytes_eq n (binder_name b)) refl h (bound_stands bs f n g.1) where
-  at : (r : Bool) → bytes_eq n (binder_name b) ≡ r → (r || list_any (bytes_eq n) (map binder_name bs)) ≡ true → (list_any (bytes_eq n) (map binder_name bs) ≡ true → Stands n f) → Stands n f
-  at true e h k = subst (λ m. Stands m f) (sym ((bytes_eq-Decides n (binder_name b)).0 e)) g.0
+  at : (r : Bool) → bytes_eq n (binder_name b) ≡ r → (r || list_any (bytes_eq n) (map binder_name bs)) ≡ true → (list_any (bytes_eq n) (map binder_name bs) ≡ true → StandsInAtom n f) → StandsInAtom n f
+  at true e h k = subst (λ m. StandsInAtom m f) (sym ((bytes_eq-Decides n (binder_name b)).0 e)) g.0
   at false e h k = k h
 
 -- where each bound name has a slot, the look-up behind the guards is that of the body

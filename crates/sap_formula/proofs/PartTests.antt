@@ -13,7 +13,7 @@ use Rattle.sap_terms.specs.Tree.{Tree, Trees, apply, fresh, more, none, public, 
 use Rattle.sap_terms.specs.declared.var.Sort.{Sort}
 use Rattle.sap_terms.specs.declared.var.Sort.TheVariants.{Msg, Fresh, Pub}
 use Rattle.sap_terms.specs.declared.var.Var.{Var}
-use Rattle.sap_formula.specs.Checked.{IsCheckedTerm, Stands, StandsIn, StandsInAny, binder_name, find_binder}
+use Rattle.sap_formula.specs.Checked.{IsCheckedTerm, StandsInAtom, StandsIn, StandsInAny, binder_name, find_binder}
 use Rattle.sap_formula.specs.Hide.{is_hidden}
 use Rattle.sap_formula.proofs.Tests.{decides_not, decides_or}
 use Rattle.sap_formula.specs.Faults.{HasFault, IsBound}
@@ -82,8 +82,8 @@ mutual
   any_decided n none = (λ h. absurd (cc), λ h. absurd h)
   any_decided n (more t ts) = decides_or (stands_in n t) (stands_in_any n ts) (StandsIn n t) (StandsInAny n ts) (in_decided n t) (any_decided n ts)
 
-guard_decided : (n : List ℕ) (f : Form) → Decides (stands n f) (Stands n f)
-guard_decided n (both f g) = decides_or (stands n f) (stands n g) (Stands n f) (Stands n g) (guard_decided n f) (guard_decided n g)
+guard_decided : (n : List ℕ) (f : Form) → Decides (stands n f) (StandsInAtom n f)
+guard_decided n (both f g) = decides_or (stands n f) (stands n g) (StandsInAtom n f) (StandsInAtom n g) (guard_decided n f) (guard_decided n g)
 guard_decided n (action f i) =
     decides_or (bytes_eq i n) (stands_in_any n (trees_of f.args)) (i ≡ n) (StandsInAny n (trees_of f.args)) (bytes_eq-Decides i n) (any_decided n (trees_of f.args))
 guard_decided n truth = (λ h. absurd (cc), λ h. absurd h)
@@ -127,7 +127,7 @@ fault_decided g r Unguarded (symbol f n) = never
 fault_decided g r Unguarded (fact_name n) = never
 fault_decided g r Unguarded (message s v) = never
 fault_decided g r Unguarded (time s n) = never
-fault_decided g r Unguarded (bound f b) = decides_not (stands (binder_name b) f) (Stands (binder_name b) f) (guard_decided (binder_name b) f)
+fault_decided g r Unguarded (bound f b) = decides_not (stands (binder_name b) f) (StandsInAtom (binder_name b) f) (guard_decided (binder_name b) f)
 
 same_sorted : (n : List ℕ) (w : Var) → w.name ≡ n → record { name = n; sort = w.sort } ≡ w
 same_sorted n w e = let back = sym e in λ i. record { name = back i; sort = w.sort }
@@ -146,5 +146,5 @@ time_bound g r scope n h = stable (binds_time (find_binder scope n)) (find_binde
 pub arity_found : (g : Sig) (r : Bool) (f : List ℕ) (n : ℕ) → (HasFault g r BadFunction (symbol f n) → ⊥) → arity_of g f ≡ Some n
 arity_found g r f n h = stable (has_arity (arity_of g f) n) (arity_of g f ≡ Some n) (arity_decided (arity_of g f) n) h
 
-pub guard_found : (g : Sig) (r : Bool) (f : Form) (b : Binder) → (HasFault g r Unguarded (bound f b) → ⊥) → Stands (binder_name b) f
-guard_found g r f b h = stable (stands (binder_name b) f) (Stands (binder_name b) f) (guard_decided (binder_name b) f) h
+pub guard_found : (g : Sig) (r : Bool) (f : Form) (b : Binder) → (HasFault g r Unguarded (bound f b) → ⊥) → StandsInAtom (binder_name b) f
+guard_found g r f b h = stable (stands (binder_name b) f) (StandsInAtom (binder_name b) f) (guard_decided (binder_name b) f) h

@@ -20,7 +20,7 @@ use Rattle.sap_formula.proofs.Alike.{alike}
 use Rattle.sap_formula.proofs.Law.{IsApart, each_map, other}
 use Rattle.sap_formula.proofs.Plain.{NormalLaws, fresh-normal, public-normal}
 use Rattle.sap_formula.proofs.Tests.{or_cases}
-use Rattle.sap_formula.specs.Checked.{AreCheckedTerms, AreGuarded, BindsOnce, IsChecked, IsCheckedTerm, NoTwice, Stands, binder_name, enter, find_binder, premise}
+use Rattle.sap_formula.specs.Checked.{AreCheckedTerms, AreGuarded, BindsOnce, IsChecked, IsCheckedTerm, NoTwice, StandsInAtom, binder_name, enter, find_binder, premise}
 use Rattle.sap_formula.specs.Laws.{HiddenBinderLaw}
 use Rattle.sap_formula.specs.Slim.{binds, lasts, slim}
 
@@ -88,7 +88,7 @@ mutual
   terms_scope g s z f none c = tt
   terms_scope g s z f (more t ts) c = (term_scope g s z f t c.0, terms_scope g s z f ts c.1)
 
-slim_stands : (f : Form) (n : List ℕ) → Stands n f → Stands n (slim f)
+slim_stands : (f : Form) (n : List ℕ) → StandsInAtom n f → StandsInAtom n (slim f)
 slim_stands (both f h) n s = elim s [ inl x ↦ inl (slim_stands f n x) | inr x ↦ inr (slim_stands h n x) ]
 slim_stands (action f i) n s = s
 slim_stands truth n s = s
@@ -103,7 +103,7 @@ slim_stands (equivalent f h) n s = s
 slim_stands (every bs f) n s = s
 slim_stands (exists bs f) n s = s
 
-slim_premise : (f : Form) (n : List ℕ) → Stands n (premise f) → Stands n (premise (slim f))
+slim_premise : (f : Form) (n : List ℕ) → StandsInAtom n (premise f) → StandsInAtom n (premise (slim f))
 slim_premise (implies f h) n s = slim_stands f n s
 slim_premise (both f h) n s = s
 slim_premise (action f i) n s = s
@@ -131,11 +131,11 @@ slim_checked g V (either f h) s z e c = (slim_checked g V f s z e c.0, slim_chec
 slim_checked g V (implies f h) s z e c = (slim_checked g V f s z e c.0, slim_checked g V h s z e c.1)
 slim_checked g V (equivalent f h) s z e c = (slim_checked g V f s z e c.0, slim_checked g V h s z e c.1)
 slim_checked g V (every bs f) s z e c = (
-  lasts_each (λ b. Stands (binder_name b) (premise (slim f))) bs (each_map (λ b. Stands (binder_name b) (premise f)) (λ b. Stands (binder_name b) (premise (slim f))) bs (λ b x. slim_premise f (binder_name b) x) c.0),
+  lasts_each (λ b. StandsInAtom (binder_name b) (premise (slim f))) bs (each_map (λ b. StandsInAtom (binder_name b) (premise f)) (λ b. StandsInAtom (binder_name b) (premise (slim f))) bs (λ b x. slim_premise f (binder_name b) x) c.0),
   slim_checked g V f (enter bs s) (enter (lasts bs) z) (same_scope bs s z (λ n a. e n tt)) c.1,
 )
 slim_checked g V (exists bs f) s z e c = (
-  lasts_each (λ b. Stands (binder_name b) (slim f)) bs (each_map (λ b. Stands (binder_name b) f) (λ b. Stands (binder_name b) (slim f)) bs (λ b x. slim_stands f (binder_name b) x) c.0),
+  lasts_each (λ b. StandsInAtom (binder_name b) (slim f)) bs (each_map (λ b. StandsInAtom (binder_name b) f) (λ b. StandsInAtom (binder_name b) (slim f)) bs (λ b x. slim_stands f (binder_name b) x) c.0),
   slim_checked g V f (enter bs s) (enter (lasts bs) z) (same_scope bs s z (λ n a. e n tt)) c.1,
 )
 
@@ -267,7 +267,7 @@ some_message w g Fresh = (fresh 0, record { ground = tt; over = tt; normal = fre
 some_message w g Pub = (public [], record { ground = tt; over = tt; normal = public-normal w (equations g) []; sorted = refl })
 
 module _ (w : NormalLaws) (g : Sig) (V : List ℕ → Type 0) (tr : Trace) where
-  guard_time : (f : Form) (n : List ℕ) → Stands n f → (σ : Choice) (τ : Times) → IsTrueUnder (equations g) tr (IsMessage g) (λ k. k < length tr) f σ τ → (k : ℕ) × (k < length tr)
+  guard_time : (f : Form) (n : List ℕ) → StandsInAtom n f → (σ : Choice) (τ : Times) → IsTrueUnder (equations g) tr (IsMessage g) (λ k. k < length tr) f σ τ → (k : ℕ) × (k < length tr)
   guard_time (both f h) n s σ τ t = elim s [ inl x ↦ guard_time f n x σ τ t.0 | inr x ↦ guard_time h n x σ τ t.1 ]
   guard_time (action f i) n s σ τ t = (τ i, any_below_length (Shows (equations g) σ f) tr (τ i) t)
   guard_time truth n s σ τ t = absurd s

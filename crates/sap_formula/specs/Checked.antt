@@ -51,20 +51,20 @@ abbrev mutual
   StandsInAny n (more t ts) = StandsIn n t ⊎ StandsInAny n ts
 
 -- a variable of this name stands in an action atom among the conjuncts
-abbrev pub Stands : List ℕ → Form → Type 0
-Stands n (both f g) = Stands n f ⊎ Stands n g
-Stands n (action f i) = (i ≡ n) ⊎ StandsInAny n (trees_of f.args)
-Stands n truth = ⊥
-Stands n falsity = ⊥
-Stands n (equal s t) = ⊥
-Stands n (same_time i j) = ⊥
-Stands n (earlier i j) = ⊥
-Stands n (negation f) = ⊥
-Stands n (either f g) = ⊥
-Stands n (implies f g) = ⊥
-Stands n (equivalent f g) = ⊥
-Stands n (every bs f) = ⊥
-Stands n (exists bs f) = ⊥
+abbrev pub StandsInAtom : List ℕ → Form → Type 0
+StandsInAtom n (both f g) = StandsInAtom n f ⊎ StandsInAtom n g
+StandsInAtom n (action f i) = (i ≡ n) ⊎ StandsInAny n (trees_of f.args)
+StandsInAtom n truth = ⊥
+StandsInAtom n falsity = ⊥
+StandsInAtom n (equal s t) = ⊥
+StandsInAtom n (same_time i j) = ⊥
+StandsInAtom n (earlier i j) = ⊥
+StandsInAtom n (negation f) = ⊥
+StandsInAtom n (either f g) = ⊥
+StandsInAtom n (implies f g) = ⊥
+StandsInAtom n (equivalent f g) = ⊥
+StandsInAtom n (every bs f) = ⊥
+StandsInAtom n (exists bs f) = ⊥
 
 -- where the guards of an `All` are looked for
 abbrev pub premise : Form → Form
@@ -84,7 +84,7 @@ premise (exists bs f) = truth
 
 -- each of these binders stands in an action atom among the conjuncts
 abbrev pub AreGuarded : List Binder → Form → Type 0
-AreGuarded bs f = EachIn (λ b. Stands (binder_name b) f) bs
+AreGuarded bs f = EachIn (λ b. StandsInAtom (binder_name b) f) bs
 
 -- none of the five faults is anywhere; V is what names of facts are allowed
 abbrev pub IsChecked : Sig → (List ℕ → Type 0) → List Binder → Form → Type 0

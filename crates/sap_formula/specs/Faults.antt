@@ -6,7 +6,7 @@ use Rattle.sap_formula.specs.declared.binder.Binder.TheVariants.{Message, Time}
 use Rattle.sap_terms.specs.Signature.{Sig, arity_of, is_destructor_of}
 use Rattle.sap_terms.specs.declared.var.Sort.TheVariants.{Msg}
 use Rattle.sap_terms.specs.declared.var.Var.{Var}
-use Rattle.sap_formula.specs.Checked.{Stands, binder_name, find_binder}
+use Rattle.sap_formula.specs.Checked.{StandsInAtom, binder_name, find_binder}
 use Rattle.sap_formula.specs.Hide.{is_hidden}
 use Rattle.sap_formula.specs.Parts.{Part, symbol, fact_name, message, time, bound, part_name, form_parts}
 use Rattle.sap_formula.specs.declared.fault.FormulaFlaw.{FormulaFlaw}
@@ -27,7 +27,7 @@ HasFault g r Destructor (symbol f n) = is_destructor_of g f ≡ true
 HasFault g r Reserved (fact_name n) = (r ≡ true) × (is_hidden n ≡ true)
 HasFault g r UnboundVar (message scope v) = ¬ IsBound scope v
 HasFault g r UnboundVar (time scope n) = ¬ (find_binder scope n ≡ Some (Time n))
-HasFault g r Unguarded (bound f b) = ¬ Stands (binder_name b) f
+HasFault g r Unguarded (bound f b) = ¬ StandsInAtom (binder_name b) f
 HasFault _ _ _ _ = ⊥
 
 -- the fault, told with a name

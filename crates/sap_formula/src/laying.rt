@@ -64,7 +64,7 @@ pub(crate) fn slot_in(levels: &Levels<'_>, n: &Name) -> Result<Option<u64>, Mem>
 {
     match levels {
         Levels::Outside => Ok(None),
-        Levels::Inside(names, outer) => match names.place_of(n) {
+        Levels::Inside(names, outer) => match names.index_of(n) {
             Some(k) => Ok(Some(added(slot_count(outer)?, k)?)),
             None => slot_in(outer, n),
         },
@@ -106,7 +106,7 @@ fn binds(bs: &Named<Binder>, n: &Name) -> bool
 fn slot_at(spot: &Spot<'_>, seen: &NameSet, n: &Name) -> Result<Option<u64>, Mem>
     ensures { IfOk result (λ k. k ≡ slot_at (place spot.now) seen.now n.now) }
 {
-    match seen.place_of(n) {
+    match seen.index_of(n) {
         Some(k) => Ok(Some(added(slots_outside(spot)?, k)?)),
         None => slot_outside(spot, n),
     }

@@ -32,7 +32,7 @@ use Rattle.sap_translate.specs.Opened.{opened}
 use Rattle.sap_translate.specs.Sound.{SoundAt}
 use Rattle.sap_translate.specs.Templates.{rules_of, own_rules}
 use Rattle.sap_translate.specs.relation.Agents.{Agent, running, env_of, IsAt}
-use Rattle.sap_translate.specs.relation.Answers.{Answers, Stands, trades}
+use Rattle.sap_translate.specs.relation.Answers.{Answers, StandsBefore, trades}
 use Rattle.sap_translate.specs.relation.Answered.{Case, WhereAtRest}
 use Rattle.sap_translate.specs.relation.Envs.{Env, names, values, filled}
 use Rattle.sap_translate.specs.relation.ProcessMoves.{ProcessMove}
@@ -94,7 +94,7 @@ module _ (laws : Laws) (g : Sig) (W : Tree → Type 0) (p q : Proc) (hold : Hold
     stands_at t path env b is = lk.rest.related.placed t (running path env b) is
 
     -- the seat of a thread
-    pub seated : (t : ℕ) (path : List ℕ) (env : Env) (b : Proc) → slice_get agents t ≡ Some (Some (running path env b)) → (k : ℕ) × Seated agents tables t k path env b × Stands agents s t k path env b
+    pub seated : (t : ℕ) (path : List ℕ) (env : Env) (b : Proc) → slice_get agents t ≡ Some (Some (running path env b)) → (k : ℕ) × Seated agents tables t k path env b × StandsBefore agents s t k path env b
     seated t path env b is =
         let n = seat agents c.facts s.facts tables lk.tabled t (running path env b) (state_fact path (values env)) is refl in
         (n.0, record { thread = is; number = n.1 }, record { thread = is; fact = n.2 })

@@ -20,7 +20,7 @@ use Rattle.sap_process.specs.Heads.{facts_terms}
 use Rattle.sap_process.specs.Action as action
 use Rattle.sap_process.specs.Action.{Action}
 use Rattle.sap_process.specs.Configuration as config
-use Rattle.sap_process.specs.Configuration.{Config, Runs, becomes, spawns, makes, stores, holds, sends_out, IsUnused}
+use Rattle.sap_process.specs.Configuration.{Config, Runs, becomes, spawns, makes, stores, holding, sends_out, IsUnused}
 use Rattle.sap_process.specs.Proc as whole
 use Rattle.sap_process.specs.Proc.{Proc, act, node_count}
 use Rattle.sap_process.specs.ProcessSteps.{Fits, with_choice, with_term}
@@ -69,8 +69,8 @@ module _ (laws : Laws) (g : Sig) (W : Tree → Type 0) (p q : Proc) (hold : Hold
   ActGoal t (action.event f) u = (h : Fact) → IsFormOfFact (equations g) f h → EvaluateWithin g W f.args → Goes (line.Event t) (becomes c t (Some u)) es (h ∷ []) []
   ActGoal t (action.insert m n) u = (x y : Tree) → IsNormalForm (equations g) m x → IsNormalForm (equations g) n y → EvaluateWithin g W (m ∷ n ∷ []) → Goes (line.Insert t) (stores (becomes c t (Some u)) x (Some y)) es [] (inserted x y ∷ [])
   ActGoal t (action.delete m) u = (x : Tree) → IsNormalForm (equations g) m x → EvaluateWithin g W (m ∷ []) → Goes (line.Delete t) (stores (becomes c t (Some u)) x None) es [] (deleted x ∷ [])
-  ActGoal t (action.lock m l) u = (x : Tree) → IsNormalForm (equations g) m x → c.held x ≡ false → EvaluateWithin g W (m ∷ []) → Goes (line.Lock t) (holds (becomes c t (Some u)) x true) es [] (locked x ∷ [])
-  ActGoal t (action.unlock m l) u = (x : Tree) → IsNormalForm (equations g) m x → EvaluateWithin g W (m ∷ []) → Goes (line.Unlock t) (holds (becomes c t (Some u)) x false) es [] (unlocked x ∷ [])
+  ActGoal t (action.lock m l) u = (x : Tree) → IsNormalForm (equations g) m x → c.held x ≡ false → EvaluateWithin g W (m ∷ []) → Goes (line.Lock t) (holding (becomes c t (Some u)) x true) es [] (locked x ∷ [])
+  ActGoal t (action.unlock m l) u = (x : Tree) → IsNormalForm (equations g) m x → EvaluateWithin g W (m ∷ []) → Goes (line.Unlock t) (holding (becomes c t (Some u)) x false) es [] (unlocked x ∷ [])
   ActGoal t (action.embedded l e r) u =
       (ks : List ℕ) (b : List Binding) (σ : Choice) (taken acts added : List Fact) (rest : Pile) → IsMessageChoice g σ → bound_vars b ≡ line_open l e r → Agrees b σ → AreEqualFacts (equations g) (instance_facts σ l) taken → Takes c.facts ks taken rest
       → AreFormsOfFacts (equations g) (instance_facts σ e) acts → AreFormsOfFacts (equations g) (instance_facts σ r) added → EvaluateWithin g W (facts_terms (instance_facts σ (l ++ (e ++ r))))

@@ -19,7 +19,7 @@ use Rattle.sap_process.specs.Instance.{process_instance, without}
 use Rattle.sap_process.specs.Proc.{Proc, lookup}
 use Rattle.sap_rule.specs.RuleSteps.{RuleState}
 use Rattle.sap_runs.specs.Inner.{InnerAction, found}
-use Rattle.sap_runs.specs.Limits.{IsSmall}
+use Rattle.sap_runs.specs.Limits.{HasFewNodes}
 use Rattle.sap_runs.specs.declared.process_step.PStep.{PStep}
 use Rattle.sap_runs.specs.declared.process_step.PStep.TheVariants as line
 use Rattle.sap_runs.specs.declared.rule_step.RStep.{RStep}
@@ -52,7 +52,7 @@ one_value one g c es fs t m x v n k u y z p q a b runs form held runs_too form_t
 
 -- what a line finds
 value_of : (one : FormIsOne) (g : Sig) (c : Config) (es fs : List Tree) (t : ℕ) (m x v key w : Tree) (y : Var) (p q : Proc) (inner : List InnerAction) (label : List Fact) (d : Config) → Runs c t (lookup m y p q) → IsNormalForm (equations g) m x → c.store x ≡ Some v
-    → IsProcessLine g IsSmall c es (line.Found t) inner label d fs → inner ≡ found key w ∷ [] → v ≡ w
+    → IsProcessLine g HasFewNodes c es (line.Found t) inner label d fs → inner ≡ found key w ∷ [] → v ≡ w
 value_of one g c es fs t m x v key w y p q inner label d runs form held (IsProcessLine.finds {m = n} {k = k} {v = u} {x = z} {p = a} {q = b} _ runs_too form_too held_too small) e =
     let there : v ≡ u = one_value one g c es fs t m x v n k u y z p q a b runs form held runs_too form_too held_too in
     let same : u ≡ w = cc in
@@ -61,14 +61,14 @@ value_of one g c es fs t m x v key w y p q inner label d runs form held (IsProce
 module _ (one : FormIsOne) (answer : ProcessLinesHaveOneAnswer) (g : Sig) (start : Proc) (drawn : List ℕ) (agents : List (Option Agent)) (tr : Trace) (s : RuleState) (full : Trace) (r : Running) (tables : Tables) (sig : r.sig ≡ g) (exact : MatchesExactly g (configuration r) (terms_of r.known)) (rest : AtRest g start agents (configuration r) tr s full) where
   -- what was found before the line is done is the value that the line finds
   found_is : (t : ℕ) (inner : List InnerAction) (label : List Fact) (d : Config) (fs : List Tree) (m x v : Tree) (y : Var) (p q : Proc) (o : Option Term) → Runs (configuration r) t (lookup m y p q) → IsNormalForm (equations g) m x → (configuration r).store x ≡ Some v
-      → IsProcessLine g IsSmall (configuration r) (terms_of r.known) (line.Found t) inner label d fs → MatchOption o (FindsNothing r t) (λ w. WouldFind r t (tree w)) → option_map tree o ≡ Some v
+      → IsProcessLine g HasFewNodes (configuration r) (terms_of r.known) (line.Found t) inner label d fs → MatchOption o (FindsNothing r t) (λ w. WouldFind r t (tree w)) → option_map tree o ≡ Some v
   found_is t inner label d fs m x v y p q None runs form held is h =
       absurd (h.cause (answer g (configuration r) d (terms_of r.known) fs (line.Found t) inner label h.fault exact is (subst (λ x. IsRefused x (configuration r) (terms_of r.known) (line.Found t) h.fault) sig h.denied)))
   found_is t inner label d fs m x v y p q (Some w) runs form held is h =
-      ap Some (sym (value_of one g (configuration r) (terms_of r.known) (terms_of r.known) t m x v h.key (tree w) y p q (found h.key (tree w) ∷ []) [] h.after runs form held (subst (λ x. IsProcessLine x IsSmall (configuration r) (terms_of r.known) (line.Found t) (found h.key (tree w) ∷ []) [] h.after (terms_of r.known)) sig h.line) refl))
+      ap Some (sym (value_of one g (configuration r) (terms_of r.known) (terms_of r.known) t m x v h.key (tree w) y p q (found h.key (tree w) ∷ []) [] h.after runs form held (subst (λ x. IsProcessLine x HasFewNodes (configuration r) (terms_of r.known) (line.Found t) (found h.key (tree w) ∷ []) [] h.after (terms_of r.known)) sig h.line) refl))
 
   -- so what is written binds it
-  pub binds_found : (step : PStep) (inner : List InnerAction) (label : List Fact) (d : Config) (fs : List Tree) (ls : List RStep) (o : Option Term) (later : List (Option Agent)) (behind : Tables) → IsProcessLine g IsSmall (configuration r) (terms_of r.known) step inner label d fs → IsFoundBy r step o
+  pub binds_found : (step : PStep) (inner : List InnerAction) (label : List Fact) (d : Config) (fs : List Tree) (ls : List RStep) (o : Option Term) (later : List (Option Agent)) (behind : Tables) → IsProcessLine g HasFewNodes (configuration r) (terms_of r.known) step inner label d fs → IsFoundBy r step o
       → IsWritten g drawn agents (configuration r) tables step ls later behind → BindsFound o step ls
   binds_found (line.Found t) inner label d fs ls o later behind is h (IsWritten.finds _ k path env m x v y b p q sits form held var term) = λ name ks b2 e.
       let same : b ≡ b2 = cc in

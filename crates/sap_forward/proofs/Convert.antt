@@ -7,7 +7,7 @@ use Rattle.sap_forward.specs.Opposite.{HasOpposites, IsOpposite, init_line}
 use Rattle.sap_steps.specs.Runs.{IsLegalRun}
 use Rattle.sap_lines.specs.Lines.{IsProcessLine}
 use Rattle.sap_lines.specs.Runs.{IsLegalProcessRun}
-use Rattle.sap_runs.specs.Limits.{IsSmall}
+use Rattle.sap_runs.specs.Limits.{HasFewNodes}
 use Rattle.sap_restrict.specs.Shown.{HasFact}
 use Rattle.sap_restrict.specs.ReservedFacts.{init_fact}
 use Rattle.sap_terms.proofs.PlainLaws.Items.{first_item}
@@ -105,7 +105,7 @@ draws_last drawn (line.Apply f ks) h = tt
 draws_last drawn (line.Know k) h = tt
 
 module _ (laws : Laws) (g : Sig) (p q : Proc) (ready : IsReady g p) (small : node_count p < 2 ^ 64) (annotated : IsAnnotation p q) (drawn : List ℕ) where
-  pub first_linked : Linked g IsSmall q drawn first_tables (Some (running [] no_env q) ∷ []) (initial q) [] [] first_state ((init_fact ∷ []) ∷ [])
+  pub first_linked : Linked g HasFewNodes q drawn first_tables (Some (running [] no_env q) ∷ []) (initial q) [] [] first_state ((init_fact ∷ []) ∷ [])
   first_linked = record {
     rest = laws.starts g p q ready small annotated;
     known = refl;
@@ -134,11 +134,11 @@ module _ (laws : Laws) (g : Sig) (p q : Proc) (ready : IsReady g p) (small : nod
       first_given zero k e = let same : 0 ≡ k = cc in omega arith
       first_given (suc t) k e = absurd (cc)
 
-      none_within : EnvWithin g IsSmall no_env
+      none_within : EnvWithin g HasFewNodes no_env
       none_within x m = elim m [ ]
 
-      first_env : (t : ℕ) (a : Agent) → slice_get (Some (running [] no_env q) ∷ []) t ≡ Some (Some a) → EnvWithin g IsSmall (env_of a)
-      first_env zero a e = let same : running [] no_env q ≡ a = cc in subst (λ x. EnvWithin g IsSmall (env_of x)) same none_within
+      first_env : (t : ℕ) (a : Agent) → slice_get (Some (running [] no_env q) ∷ []) t ≡ Some (Some a) → EnvWithin g HasFewNodes (env_of a)
+      first_env zero a e = let same : running [] no_env q ≡ a = cc in subst (λ x. EnvWithin g HasFewNodes (env_of x)) same none_within
       first_env (suc t) a e = absurd (cc)
 
 -- what one more line makes of the lines so far
@@ -176,7 +176,7 @@ grows {g = g} {W = W} {q = q} {drawn = drawn} {lines = lines} {step = step} w a 
 
 -- what is converted before the first line
 pub record Starts (g : Sig) (q : Proc) (drawn : List ℕ) (c : Config) (es : List Tree) : Type 0 where
-  pub so_far : Converted g IsSmall q drawn [] c es [] []
+  pub so_far : Converted g HasFewNodes q drawn [] c es [] []
   pub rest : so_far.rest ≡ []
   pub agents : so_far.agents ≡ Some (running [] no_env q) ∷ []
   pub tables : so_far.tables ≡ first_tables
@@ -208,20 +208,20 @@ first_converted g q starts drawn = record {
 
 module _ (laws : RunLaws) (g : Sig) (p q : Proc) (hold : HoldsBuiltins g) (ready : IsReady g p) (small : node_count p < 2 ^ 64) (annotated : IsAnnotation p q) (drawn : List ℕ) where
   -- the line behind a legal run is answered
-  pub answered : {lines : List PStep} {c : Config} {es : List Tree} {tr : Trace} {ms : List Mark} (w : Converted g IsSmall q drawn lines c es tr ms) → IsLegalProcessRun g IsSmall q lines c es tr ms
-      → (step : PStep) (inner : List InnerAction) (label : List Fact) (d : Config) (fs : List Tree) → Draws drawn step → IsProcessLine g IsSmall c es step inner label d fs
-      → IsAnswered g IsSmall q drawn w.agents c w.tables w.state w.full step d fs (tr ++ shown label) (marks_of inner label)
+  pub answered : {lines : List PStep} {c : Config} {es : List Tree} {tr : Trace} {ms : List Mark} (w : Converted g HasFewNodes q drawn lines c es tr ms) → IsLegalProcessRun g HasFewNodes q lines c es tr ms
+      → (step : PStep) (inner : List InnerAction) (label : List Fact) (d : Config) (fs : List Tree) → Draws drawn step → IsProcessLine g HasFewNodes c es step inner label d fs
+      → IsAnswered g HasFewNodes q drawn w.agents c w.tables w.state w.full step d fs (tr ++ shown label) (marks_of inner label)
   answered {lines = lines} {c = c} {es = es} {tr = tr} {ms = ms} w run step inner label d fs draws is =
       let can = (laws.runs g q lines c es tr ms run).1 in
       let exact = laws.exactly g q lines c es tr ms hold (laws.ready g p q ready annotated) (laws.excludes g q lines c es tr ms run) in
       laws.lines g p q hold ready small annotated drawn w.tables w.agents c d es fs tr w.state w.full step inner label w.linked can exact draws is
 
   -- the names in what lines lead to stand in the process or in these lines
-  pub stand_so_far : {lines : List PStep} {c : Config} {es : List Tree} {tr : Trace} {ms : List Mark} → IsLegalProcessRun g IsSmall q lines c es tr ms → StandSoFar q lines c es
+  pub stand_so_far : {lines : List PStep} {c : Config} {es : List Tree} {tr : Trace} {ms : List Mark} → IsLegalProcessRun g HasFewNodes q lines c es tr ms → StandSoFar q lines c es
   stand_so_far {lines = lines} {c = c} {es = es} {tr = tr} {ms = ms} run test process passed =
       laws.stand test g q lines c es tr ms hold (laws.ready g p q ready annotated) process passed run
 
-  pub converted : {lines : List PStep} {c : Config} {es : List Tree} {tr : Trace} {ms : List Mark} → IsLegalProcessRun g IsSmall q lines c es tr ms → ((n : ℕ) → is_among (names_drawn lines) n ≡ true → is_among drawn n ≡ true) → Converted g IsSmall q drawn lines c es tr ms
+  pub converted : {lines : List PStep} {c : Config} {es : List Tree} {tr : Trace} {ms : List Mark} → IsLegalProcessRun g HasFewNodes q lines c es tr ms → ((n : ℕ) → is_among (names_drawn lines) n ≡ true → is_among drawn n ≡ true) → Converted g HasFewNodes q drawn lines c es tr ms
   converted IsLegalProcessRun.starts h = (first_converted g q (laws.starts g p q ready small annotated) drawn).so_far
   converted (IsLegalProcessRun.further {lines = lines} {c = c} {d = d} {es = es} {fs = fs} {tr = tr} {marks = ms} step inner label run is) h =
       let joined : (n : ℕ) → is_among (names_drawn (lines ++ step ∷ [])) n ≡ (is_among (names_drawn lines) n || is_among (names_drawn (step ∷ [])) n) = λ n. ap (λ x. is_among x n) (drawn_join lines (step ∷ [])) ∙ among_join (names_drawn lines) (names_drawn (step ∷ [])) n in
@@ -234,7 +234,7 @@ pushed [] x e = absurd (cc)
 pushed (y ∷ xs) x e = absurd (cc)
 
 -- without lines nothing is known or shown
-nothing_yet : {g : Sig} {q : Proc} {lines : List PStep} {c : Config} {es : List Tree} {tr : Trace} {ms : List Mark} → IsLegalProcessRun g IsSmall q lines c es tr ms → lines ≡ [] → (es ≡ []) × (tr ≡ []) × (ms ≡ [])
+nothing_yet : {g : Sig} {q : Proc} {lines : List PStep} {c : Config} {es : List Tree} {tr : Trace} {ms : List Mark} → IsLegalProcessRun g HasFewNodes q lines c es tr ms → lines ≡ [] → (es ≡ []) × (tr ≡ []) × (ms ≡ [])
 nothing_yet IsLegalProcessRun.starts e = (refl, refl, refl)
 nothing_yet (IsLegalProcessRun.further {lines = lines} step inner label run is) e = absurd (pushed lines step e)
 
@@ -258,7 +258,7 @@ none_opposite laws g q = record {
 
 -- what is converted behind the last line is opposite to all
 pub all_opposite : (laws : RunLaws) (g : Sig) (p q : Proc) → HoldsBuiltins g → IsReady g p → node_count p < 2 ^ 64 → IsAnnotation p q → (step : PStep) (lines : List PStep) (c : Config) (es : List Tree) (tr : Trace) (ms : List Mark)
-    (w : Converted g IsSmall q (names_drawn (step ∷ lines)) (step ∷ lines) c es tr ms) → IsOpposite g q (step ∷ lines) es tr ms (init_line ∷ w.rest)
+    (w : Converted g HasFewNodes q (names_drawn (step ∷ lines)) (step ∷ lines) c es tr ms) → IsOpposite g q (step ∷ lines) es tr ms (init_line ∷ w.rest)
 all_opposite laws g p q hold ready small annotated step lines c es tr ms w =
     let same = laws.shows_the_same g p q hold ready small annotated w.agents c tr w.state w.full w.linked.rest in
     record {

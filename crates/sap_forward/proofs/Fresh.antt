@@ -12,7 +12,7 @@ use Rattle.sap_terms.specs.Trace.{Trace, shown}
 use Rattle.sap_terms.specs.Tree.{Tree, fresh}
 use Rattle.sap_terms.specs.declared.var.Var.{Var}
 use Rattle.sap_process.specs.Action as action
-use Rattle.sap_process.specs.Configuration.{Config, Runs, becomes, makes, owns, holds, IsUnused}
+use Rattle.sap_process.specs.Configuration.{Config, Runs, becomes, makes, owns, holding, IsUnused}
 use Rattle.sap_process.specs.Instance.{process_instance, without}
 use Rattle.sap_process.specs.Proc.{Proc, act, node_count}
 use Rattle.sap_process.specs.ProcessSteps.{with_term}
@@ -136,7 +136,7 @@ module _ (laws : Laws) (g : Sig) (W : Tree → Type 0) (p q : Proc) (hold : Hold
       further m (MadeFor.a_lock_or_tag e l) = MadeFor.a_lock_or_tag e l
 
   pub locks_here : (t : ℕ) (path : List ℕ) (env : Env) (m x : Tree) (l : ℕ) (u : Proc) → slice_get agents t ≡ Some (Some (running path env (act (action.lock m l) u))) → IsNormalForm (equations g) (term_under env m) x → c.held x ≡ false → EvaluateWithin g W (term_under env m ∷ [])
-      → IsAnswered g W q drawn agents c tables s full (line.Lock t) (holds (becomes c t (Some (under env u))) x true) es (tr ++ shown []) (marks_of (locked x ∷ []) [])
+      → IsAnswered g W q drawn agents c tables s full (line.Lock t) (holding (becomes c t (Some (under env u))) x true) es (tr ++ shown []) (marks_of (locked x ∷ []) [])
   locks_here t path env m x l u is fx unheld heads =
       let body : Proc = act (action.lock m l) u in
       let next = next_from drawn tables.next in
@@ -158,7 +158,7 @@ module _ (laws : Laws) (g : Sig) (W : Tree → Type 0) (p q : Proc) (hold : Hold
       let none : open_variables g r ≡ [] = cc in
       let clear : Contains s.made n → ⊥ = λ i. next_new drawn tables.next c n next.1 (lk.made n i) in
       let ans = law laws g W p q hold ready small annotated drawn agents c es tr s full tables lk case.Locks laws.locks t k n path env m x l u sits.2 fx unheld clear in
-      let d : Config = holds (becomes c t (Some (under env u))) x true in
+      let d : Config = holding (becomes c t (Some (under env u))) x true in
       twofold laws g W p q hold ready small annotated drawn agents c es tr s full tables lk t k path env body sits.1 (first_of path) wider u all (line.Lock t) (process.locks t) [] d (move.makes_name n) (Fresh n) [] (fr_fact n) r (filled wider) (lock_fact (fresh n) x ∷ []) (marks_of (locked x ∷ []) []) _ (n + 1) ans
       refl lk.known (made_next drawn tables.next c d n s.made refl refl next.1 lk.made)
       (λ a z h. made_line W g (rules_of q) (laws.named q) s z a n h) none (rule_within g W (filled wider) r (st, ((var, tt), tt)) ((var, (key, tt)), tt) (st2, tt)) refl lk.stored refl

@@ -9,7 +9,7 @@ use Rattle.sap_process.specs.Configuration.{Config, initial}
 use Rattle.sap_process.specs.Proc.{Proc, node_count}
 use Rattle.sap_process.specs.Ready.{IsReady}
 use Rattle.sap_locks.specs.Annotation.{IsAnnotation}
-use Rattle.sap_runs.specs.Limits.{IsSmall}
+use Rattle.sap_runs.specs.Limits.{HasFewNodes}
 use Rattle.sap_runs.specs.Marks.{marks_of}
 use Rattle.sap_runs.specs.declared.process_step.PStep.{PStep}
 use Rattle.sap_lines.specs.Answers.{ProcessLinesHaveOneAnswer}
@@ -46,7 +46,7 @@ begins laws g p q ready small annotated drawn r d sig known conf keeps =
       trace = [];
       marks = [];
       sig = sig;
-      legal = subst (λ x. IsLegalProcessRun g IsSmall q [] x (terms_of r.known) [] []) (sym conf) (subst (λ x. IsLegalProcessRun g IsSmall q [] (initial q) x [] []) (sym none) IsLegalProcessRun.starts);
+      legal = subst (λ x. IsLegalProcessRun g HasFewNodes q [] x (terms_of r.known) [] []) (sym conf) (subst (λ x. IsLegalProcessRun g HasFewNodes q [] (initial q) x [] []) (sym none) IsLegalProcessRun.starts);
       so_far = s.so_far;
       stand = ap (λ x. init_line ∷ x) (sym s.rest);
       keeps = subst (λ x. Keeps q drawn x s.so_far.tables d) (sym s.agents) (subst (λ x. Keeps q drawn (Some (running [] no_env q) ∷ []) x d) (sym s.tables) keeps);
@@ -58,7 +58,7 @@ module _ (laws : RunLaws) (one_form : FormIsOne) (refusal : ProcessLinesHaveOneA
       let c : Config = configuration r in
       let es : List Tree = terms_of r.known in
       let w = b.so_far in
-      let is : IsProcessLine g IsSmall c es step t.done.inner t.label (configuration z) (terms_of z.known) = subst (λ x. IsProcessLine x IsSmall c es step t.done.inner t.label (configuration z) (terms_of z.known)) b.sig t.done.line in
+      let is : IsProcessLine g HasFewNodes c es step t.done.inner t.label (configuration z) (terms_of z.known) = subst (λ x. IsProcessLine x HasFewNodes c es step t.done.inner t.label (configuration z) (terms_of z.known)) b.sig t.done.line in
       let a = answered laws g p q hold ready small annotated drawn w b.legal step t.done.inner t.label (configuration z) (terms_of z.known) draws is in
       let n = grows w a (stand_so_far laws g p q hold ready small annotated drawn b.legal) in
       let exact = laws.exactly g q lines c es b.trace b.marks hold (laws.ready g p q ready annotated) (laws.excludes g q lines c es b.trace b.marks b.legal) in

@@ -8,7 +8,7 @@ use Rattle.sap_terms.specs.Subterms.{SomeSubterm, SomeSubtermWithin, itself, bel
 use Rattle.sap_terms.specs.Tree.{Tree, variable, public, fresh, apply, Trees, node_count, trees_count}
 use Rattle.sap_terms.specs.Tree as tree
 use Rattle.sap_rewrite.specs.Laws.{FormIsOne}
-use Rattle.sap_runs.specs.Limits.{IsSmall}
+use Rattle.sap_runs.specs.Limits.{HasFewNodes}
 use Rattle.sap_forward.proofs.Advance.{IsLimit}
 
 module _ (one : FormIsOne) (g : Sig) where
@@ -35,5 +35,5 @@ module _ (one : FormIsOne) (g : Sig) where
   only_part t n (here s) = s
   only_part t n (later s) = elim s [ ]
 
-  pub small_is_limit : IsLimit g IsSmall
+  pub small_is_limit : IsLimit g HasFewNodes
   small_is_limit = record { names = λ n. omega arith; publics = λ a. omega arith; parts = λ t h w n s. let le = part_small t n h (only_part t n s) in omega arith }

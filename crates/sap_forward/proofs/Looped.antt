@@ -7,7 +7,7 @@ use Rattle.sap_terms.proofs.PlainLaws.Lists.{take_got, drop_got}
 use Rattle.sap_deduce.specs.Entries.{terms_of}
 use Rattle.sap_process.specs.Configuration.{Config, initial}
 use Rattle.sap_process.specs.Proc.{Proc}
-use Rattle.sap_runs.specs.Limits.{IsSmall}
+use Rattle.sap_runs.specs.Limits.{HasFewNodes}
 use Rattle.sap_runs.specs.Marks.{Mark}
 use Rattle.sap_runs.specs.declared.process_step.PStep.{PStep}
 use Rattle.sap_runs.specs.declared.rule_step.RStep.{RStep}
@@ -17,7 +17,7 @@ use Rattle.sap_lines.specs.declared.fault.PFault.{PFault}
 use Rattle.sap_calc.specs.Replays.{AreDone, DoneLinesAreLegal}
 use Rattle.sap_calc.specs.Running.{Running, configuration}
 use Rattle.sap_forward.specs.Answered.{Draws}
-use Rattle.sap_forward.specs.Converted.{IsConverted, IsFirstRefused, IsShownBy}
+use Rattle.sap_forward.specs.Converted.{IsConverted, IsFirstRefusedOfProcess, IsShownByLines}
 use Rattle.sap_forward.specs.Least.{names_drawn}
 use Rattle.sap_forward.specs.code.Begun.{IsBegun, GoesOn, EndsConverted}
 use Rattle.sap_forward.specs.code.Taken.{AreDoneUntil, IsTaken, IsShown, IsRefusedAt}
@@ -40,8 +40,8 @@ take_all (x ∷ xs) zero h = absurd (omega arith)
 take_all (x ∷ xs) (suc k) h = ap (λ zs. x ∷ zs) (take_all xs k (omega arith))
 
 -- a line that is refused behind a legal run is the first
-pub first_refused : {g : Sig} {q : Proc} {before : List PStep} {c : Config} {es : List Tree} {tr : Trace} {ms : List Mark} → IsLegalProcessRun g IsSmall q before c es tr ms → (run after : List PStep) (step : PStep) (r : Running) → run ≡ before ++ step ∷ after
-    → r.sig ≡ g → configuration r ≡ c → terms_of r.known ≡ es → (number n : ℕ) (fault : PFault) → number ≡ length before + 1 → IsRefusedAt r step number n fault → IsFirstRefused g q run n fault
+pub first_refused : {g : Sig} {q : Proc} {before : List PStep} {c : Config} {es : List Tree} {tr : Trace} {ms : List Mark} → IsLegalProcessRun g HasFewNodes q before c es tr ms → (run after : List PStep) (step : PStep) (r : Running) → run ≡ before ++ step ∷ after
+    → r.sig ≡ g → configuration r ≡ c → terms_of r.known ≡ es → (number n : ℕ) (fault : PFault) → number ≡ length before + 1 → IsRefusedAt r step number n fault → IsFirstRefusedOfProcess g q run n fault
 first_refused {g = g} {before = before} {c = c} {es = es} {tr = tr} {ms = ms} legal run after step r cut sig conf known number n fault counts h = record {
   before = before;
   line = step;
@@ -71,7 +71,7 @@ begun_at {g = g} {q = q} {drawn = drawn} {lines = lines} {r = r} {z = z} {d = d}
     subst (λ x. IsBegun g q drawn lines z e x) written (subst (λ x. IsBegun g q drawn lines z x before) desks (subst (λ x. IsBegun g q drawn lines x d before) configs b))
 
 pub refused_here : {g : Sig} {q : Proc} {drawn : List ℕ} {r : Running} {d : Desk} {written : List RStep} (run : List PStep) (k n : ℕ) (step : PStep) (fault : PFault) → slice_get run k ≡ Some step → IsBegun g q drawn (take k run) r d written
-    → IsRefusedAt r step (k + 1) n fault → IsFirstRefused g q run n fault
+    → IsRefusedAt r step (k + 1) n fault → IsFirstRefusedOfProcess g q run n fault
 refused_here {r = r} run k n step fault got b h =
     first_refused b.legal run (drop (k + 1) run) step r (cut_got run k step got) b.sig refl refl (k + 1) n fault (ap (λ m. m + 1) (sym (length_before run k step got))) h
 
@@ -89,13 +89,13 @@ pub one_more_shown : {r y z : Running} {before after : Trace} (run : List PStep)
 one_more_shown {r = r} {z = z} {after = after} run k step got h t =
     subst (λ x. AreDone r x z after) (sym (take_got run k step got)) (subst (λ x. AreDone r (take k run ++ step ∷ []) z x) (sym t.grows) (AreDone.one_more step t.label h t.done))
 
-pub refused_there : {g : Sig} {q : Proc} {r : Running} → DoneLinesAreLegal → r.sig ≡ g → r.known ≡ [] → configuration r ≡ initial q → (run : List PStep) (n : ℕ) (fault : PFault) → AreDoneUntil r run n fault → IsFirstRefused g q run n fault
+pub refused_there : {g : Sig} {q : Proc} {r : Running} → DoneLinesAreLegal → r.sig ≡ g → r.known ≡ [] → configuration r ≡ initial q → (run : List PStep) (n : ℕ) (fault : PFault) → AreDoneUntil r run n fault → IsFirstRefusedOfProcess g q run n fault
 refused_there {g = g} {q = q} {r = r} legal sig known conf run n fault h =
     let k = h.before in
     let all = legal q r h.behind (take k run) h.trace known conf h.done in
-    subst (λ x. IsFirstRefused x q run n fault) sig (first_refused all.run run (drop (k + 1) run) h.line h.behind (cut_got run k h.line h.there) all.sig refl refl (k + 1) n fault (ap (λ m. m + 1) (sym (length_before run k h.line h.there))) h.refused)
+    subst (λ x. IsFirstRefusedOfProcess x q run n fault) sig (first_refused all.run run (drop (k + 1) run) h.line h.behind (cut_got run k h.line h.there) all.sig refl refl (k + 1) n fault (ap (λ m. m + 1) (sym (length_before run k h.line h.there))) h.refused)
 
-pub all_shown : {g : Sig} {q : Proc} {r z : Running} {tr : Trace} → DoneLinesAreLegal → r.sig ≡ g → r.known ≡ [] → configuration r ≡ initial q → (run : List PStep) → AreDone r run z tr → IsShownBy g q run tr
+pub all_shown : {g : Sig} {q : Proc} {r z : Running} {tr : Trace} → DoneLinesAreLegal → r.sig ≡ g → r.known ≡ [] → configuration r ≡ initial q → (run : List PStep) → AreDone r run z tr → IsShownByLines g q run tr
 all_shown {g = g} {q = q} {r = r} {z = z} {tr = tr} legal sig known conf run done =
     let h = legal q r z run tr known conf done in
-    subst (λ x. IsShownBy x q run tr) sig (record { config = configuration z; entries = terms_of z.known; marks = h.marks; legal = h.run })
+    subst (λ x. IsShownByLines x q run tr) sig (record { config = configuration z; entries = terms_of z.known; marks = h.marks; legal = h.run })

@@ -8,7 +8,7 @@ use Rattle.sap_process.specs.Configuration.{Config, initial}
 use Rattle.sap_process.specs.Proc.{Proc}
 use Rattle.sap_process.specs.Ready.{IsReady}
 use Rattle.sap_runs.specs.Inner.{InnerAction}
-use Rattle.sap_runs.specs.Limits.{IsSmall}
+use Rattle.sap_runs.specs.Limits.{HasFewNodes}
 use Rattle.sap_runs.specs.Marks.{Mark, marks_of}
 use Rattle.sap_runs.specs.declared.process_step.PStep.{PStep}
 use Rattle.sap_lines.specs.Answers.{MatchesExactly, ProcessLinesHaveOneOutcome, ProcessLinesHaveOneAnswer, ProcessLinesHaveSomeAnswer, RefusalsAreOne, RunsMatchExactly}
@@ -18,7 +18,7 @@ use Rattle.sap_lines.specs.Runs.{IsLegalProcessRun, SmallProcessLinesAreLines, S
 use Rattle.sap_lines.specs.declared.fault.PFault.{PFault}
 use Rattle.sap_lines.specs.declared.fault.PFault.TheVariants.{Mem}
 use Rattle.sap_forward.specs.Answers.{HasSomeAnswer, LegalIsNotRefused, HasOneTrace, HasOneFirst}
-use Rattle.sap_forward.specs.Converted.{IsShownBy, IsFirstRefused}
+use Rattle.sap_forward.specs.Converted.{IsShownByLines, IsFirstRefusedOfProcess}
 
 -- lists that are put together at the end
 
@@ -81,14 +81,14 @@ record CutRun (g : Sig) (q : Proc) (before : List PStep) (step : PStep) : Type 0
   entries : List Tree
   trace : Trace
   marks : List Mark
-  legal : IsLegalProcessRun g IsSmall q before config entries trace marks
+  legal : IsLegalProcessRun g HasFewNodes q before config entries trace marks
   inner : List InnerAction
   label : List Fact
   after : Config
   later : List Tree
-  is : IsProcessLine g IsSmall config entries step inner label after later
+  is : IsProcessLine g HasFewNodes config entries step inner label after later
 
-cut_run : {g : Sig} {q : Proc} {lines : List PStep} {c : Config} {es : List Tree} {tr : Trace} {ms : List Mark} → IsLegalProcessRun g IsSmall q lines c es tr ms → (before after : List PStep) (step : PStep) → lines ≡ before ++ step ∷ after → CutRun g q before step
+cut_run : {g : Sig} {q : Proc} {lines : List PStep} {c : Config} {es : List Tree} {tr : Trace} {ms : List Mark} → IsLegalProcessRun g HasFewNodes q lines c es tr ms → (before after : List PStep) (step : PStep) → lines ≡ before ++ step ∷ after → CutRun g q before step
 cut_run IsLegalProcessRun.starts before after step e = absurd (no_cut before after step e)
 cut_run {g = g} {q = q} (IsLegalProcessRun.further {lines = lines} {c = c} {d = d} {es = es} {fs = fs} {tr = tr} {marks = ms} last inner label run is) before after step e = by (last_of after) (λ ys k. cut_run run before ys step k) where
   by : Last after → ((ys : List PStep) → lines ≡ before ++ step ∷ ys → CutRun g q before step) → CutRun g q before step
@@ -99,27 +99,27 @@ cut_run {g = g} {q = q} (IsLegalProcessRun.further {lines = lines} {c = c} {d = 
         entries = es;
         trace = tr;
         marks = ms;
-        legal = subst (λ xs. IsLegalProcessRun g IsSmall q xs c es tr ms) ends.0 run;
+        legal = subst (λ xs. IsLegalProcessRun g HasFewNodes q xs c es tr ms) ends.0 run;
         inner = inner;
         label = label;
         after = d;
         later = fs;
-        is = subst (λ x. IsProcessLine g IsSmall c es x inner label d fs) ends.1 is;
+        is = subst (λ x. IsProcessLine g HasFewNodes c es x inner label d fs) ends.1 is;
       }
   by (behind ys y there) more = more ys (last_same lines (before ++ step ∷ ys) last y (e ∙ ap (λ zs. before ++ step ∷ zs) there ∙ sym (append_assoc before (step ∷ ys) (y ∷ [])))).0
 
 module _ (outcome : ProcessLinesHaveOneOutcome) (answer : ProcessLinesHaveOneAnswer) (cause : RefusalsAreOne) (some : ProcessLinesHaveSomeAnswer) (exactly : RunsMatchExactly) (wide_line : SmallProcessLinesAreLines) (wide_run : SmallProcessRunsAreLegal) (g : Sig) (q : Proc) (hold : HoldsBuiltins g) (ready : IsReady g q) where
-  exact : {lines : List PStep} {c : Config} {es : List Tree} {tr : Trace} {ms : List Mark} → IsLegalProcessRun g IsSmall q lines c es tr ms → MatchesExactly g c es
+  exact : {lines : List PStep} {c : Config} {es : List Tree} {tr : Trace} {ms : List Mark} → IsLegalProcessRun g HasFewNodes q lines c es tr ms → MatchesExactly g c es
   exact {lines = lines} {c = c} {es = es} {tr = tr} {ms = ms} run = exactly g q lines c es tr ms hold ready (wide_run g q lines c es tr ms run)
 
-  one_run : {lines more : List PStep} {c d : Config} {es fs : List Tree} {tr tr2 : Trace} {ms ms2 : List Mark} → IsLegalProcessRun g IsSmall q lines c es tr ms → IsLegalProcessRun g IsSmall q more d fs tr2 ms2 → lines ≡ more → AreOneRun c d es fs tr tr2 ms ms2
+  one_run : {lines more : List PStep} {c d : Config} {es fs : List Tree} {tr tr2 : Trace} {ms ms2 : List Mark} → IsLegalProcessRun g HasFewNodes q lines c es tr ms → IsLegalProcessRun g HasFewNodes q more d fs tr2 ms2 → lines ≡ more → AreOneRun c d es fs tr tr2 ms ms2
   one_run IsLegalProcessRun.starts IsLegalProcessRun.starts e = record { configs = refl; entries = refl; traces = refl; marks = refl }
   one_run IsLegalProcessRun.starts (IsLegalProcessRun.further {lines = more} step inner label run is) e = absurd (pushed more step (sym e))
   one_run (IsLegalProcessRun.further {lines = lines} step inner label run is) IsLegalProcessRun.starts e = absurd (pushed lines step e)
   one_run (IsLegalProcessRun.further {lines = lines} {c = c} {d = d} {es = es} {fs = fs} {tr = tr} {marks = ms} step inner label run is) (IsLegalProcessRun.further {lines = more} {c = c2} {d = d2} {es = es2} {fs = fs2} {tr = tr2} {marks = ms2} step2 inner2 label2 run2 is2) e =
       let ends = last_same lines more step step2 e in
       let h = one_run run run2 ends.0 in
-      let other : IsProcessLine g IsSmall c es step inner2 label2 d2 fs2 = subst (λ x. IsProcessLine g IsSmall x es step inner2 label2 d2 fs2) (sym h.configs) (subst (λ x. IsProcessLine g IsSmall c2 x step inner2 label2 d2 fs2) (sym h.entries) (subst (λ x. IsProcessLine g IsSmall c2 es2 x inner2 label2 d2 fs2) (sym ends.1) is2)) in
+      let other : IsProcessLine g HasFewNodes c es step inner2 label2 d2 fs2 = subst (λ x. IsProcessLine g HasFewNodes x es step inner2 label2 d2 fs2) (sym h.configs) (subst (λ x. IsProcessLine g HasFewNodes c2 x step inner2 label2 d2 fs2) (sym h.entries) (subst (λ x. IsProcessLine g HasFewNodes c2 es2 x inner2 label2 d2 fs2) (sym ends.1) is2)) in
       let o = outcome g c d d2 es fs fs2 step inner inner2 label label2 (exact run) (wide_line g c d es fs step inner label is) (wide_line g c d2 es fs2 step inner2 label2 other) in
       record {
         configs = o.configurations;
@@ -129,8 +129,8 @@ module _ (outcome : ProcessLinesHaveOneOutcome) (answer : ProcessLinesHaveOneAns
       }
 
   -- a line of a legal run is refused for want of memory alone
-  not_refused : {lines before : List PStep} {c d : Config} {es fs : List Tree} {tr tr2 : Trace} {ms ms2 : List Mark} → IsLegalProcessRun g IsSmall q lines c es tr ms → (after : List PStep) (step : PStep) → lines ≡ before ++ step ∷ after
-      → IsLegalProcessRun g IsSmall q before d fs tr2 ms2 → (fault : PFault) → IsRefused g d fs step fault → fault ≡ Mem
+  not_refused : {lines before : List PStep} {c d : Config} {es fs : List Tree} {tr tr2 : Trace} {ms ms2 : List Mark} → IsLegalProcessRun g HasFewNodes q lines c es tr ms → (after : List PStep) (step : PStep) → lines ≡ before ++ step ∷ after
+      → IsLegalProcessRun g HasFewNodes q before d fs tr2 ms2 → (fault : PFault) → IsRefused g d fs step fault → fault ≡ Mem
   not_refused {before = before} {d = d} {fs = fs} run after step e part fault refused =
       let k = cut_run run before after step e in
       let h = one_run k.legal part refl in
@@ -156,10 +156,10 @@ module _ (outcome : ProcessLinesHaveOneOutcome) (answer : ProcessLinesHaveOneAns
     by (second_before rest is) = absurd (h.cause (not_refused f.legal rest h.line is h.legal reason h.refused))
 
   abbrev Answered : List PStep → Type 0
-  Answered lines = ((tr : Trace) × IsShownBy g q lines tr) ⊎ ((number : ℕ) × (fault : PFault) × IsFirstRefused g q lines number fault)
+  Answered lines = ((tr : Trace) × IsShownByLines g q lines tr) ⊎ ((number : ℕ) × (fault : PFault) × IsFirstRefusedOfProcess g q lines number fault)
 
-  some_from : (rest before : List PStep) (c : Config) (es : List Tree) (tr : Trace) (ms : List Mark) → IsLegalProcessRun g IsSmall q before c es tr ms → Answered (before ++ rest)
-  some_from [] before c es tr ms run = inl (tr, record { config = c; entries = es; marks = ms; legal = subst (λ xs. IsLegalProcessRun g IsSmall q xs c es tr ms) (sym (append-nil before)) run })
+  some_from : (rest before : List PStep) (c : Config) (es : List Tree) (tr : Trace) (ms : List Mark) → IsLegalProcessRun g HasFewNodes q before c es tr ms → Answered (before ++ rest)
+  some_from [] before c es tr ms run = inl (tr, record { config = c; entries = es; marks = ms; legal = subst (λ xs. IsLegalProcessRun g HasFewNodes q xs c es tr ms) (sym (append-nil before)) run })
   some_from (step ∷ rest) before c es tr ms run = elim (some g c es step (exact run)) [
     | inl h ↦ subst Answered (append_assoc before (step ∷ []) rest) (some_from rest (before ++ step ∷ []) h.2 h.3 (tr ++ shown h.1) (ms ++ marks_of h.0 h.1) (IsLegalProcessRun.further step h.0 h.1 run h.4))
     | inr h ↦ inr (

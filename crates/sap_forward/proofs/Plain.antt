@@ -13,7 +13,7 @@ use Rattle.sap_terms.specs.Tree.{Tree, variable}
 use Rattle.sap_terms.specs.declared.fact.Fact.{Fact}
 use Rattle.sap_terms.specs.declared.var.Var.{Var}
 use Rattle.sap_process.specs.Action as action
-use Rattle.sap_process.specs.Configuration.{Config, becomes, stores, stored, holds}
+use Rattle.sap_process.specs.Configuration.{Config, becomes, stores, stored, holding}
 use Rattle.sap_process.specs.Proc as whole
 use Rattle.sap_process.specs.Proc.{Proc, act, node_count}
 use Rattle.sap_process.specs.Ready.{IsReady}
@@ -157,7 +157,7 @@ module _ (laws : Laws) (g : Sig) (W : Tree → Type 0) (p q : Proc) (hold : Hold
       refl refl refl lk.stored refl (IsWritten.misses t sits.0 path env m y u v sits.1)
 
   pub unlocks_here : (t : ℕ) (path : List ℕ) (env : Env) (m x : Tree) (l : ℕ) (u : Proc)
-      → slice_get agents t ≡ Some (Some (running path env (act (action.unlock m l) u))) → IsNormalForm (equations g) (term_under env m) x → EvaluateWithin g W (term_under env m ∷ []) → Goes (line.Unlock t) (holds (becomes c t (Some (under env u))) x false) [] (marks_of (unlocked x ∷ []) [])
+      → slice_get agents t ≡ Some (Some (running path env (act (action.unlock m l) u))) → IsNormalForm (equations g) (term_under env m) x → EvaluateWithin g W (term_under env m ∷ []) → Goes (line.Unlock t) (holding (becomes c t (Some (under env u))) x false) [] (marks_of (unlocked x ∷ []) [])
   unlocks_here t path env m x l u is fx heads =
       let body : Proc = act (action.unlock m l) u in
       let sits = seated laws g W p q hold ready small annotated drawn agents c es tr s full tables lk t path env body is in
@@ -169,7 +169,7 @@ module _ (laws : Laws) (g : Sig) (W : Tree → Type 0) (p q : Proc) (hold : Hold
       let lock_named : EvaluateWithin g W (filled env (lock_var l) ∷ []) = subst (λ i. EvaluateWithin g W (i ∷ [])) (sym (laws.variables env (lock_var l) (contains sound.1))) (wide (lock_var l) sound.1) in
       let none : open_variables g (rules.unlock_rule path (names env) m l) ≡ [] = cc in
       let ans = law laws g W p q hold ready small annotated drawn agents c es tr s full tables lk Unlocks laws.unlocks t sits.0 path env m x l u sits.2 fx in
-      plain laws g W p q hold ready small annotated drawn agents c es tr s full tables lk t sits.0 path env body sits.1 (first_of path) env u wide (line.Unlock t) (process.unlocks t) [] (holds (becomes c t (Some (under env u))) x false) (rules.unlock_rule path (names env) m l) (filled env) [] _ (marks_of (unlocked x ∷ []) []) ans
+      plain laws g W p q hold ready small annotated drawn agents c es tr s full tables lk t sits.0 path env body sits.1 (first_of path) env u wide (line.Unlock t) (process.unlocks t) [] (holding (becomes c t (Some (under env u))) x false) (rules.unlock_rule path (names env) m l) (filled env) [] _ (marks_of (unlocked x ∷ []) []) ans
       (record { vars = sym none; agrees = tt })
       (rule_within g W (filled env) (rules.unlock_rule path (names env) m l) (st, tt) ((lock_named, (put env m path sound.0 heads, tt)), tt) (st, tt))
       refl refl refl lk.stored refl (IsWritten.unlocks t sits.0 path env m l u sits.1)

@@ -25,7 +25,7 @@ use Rattle.sap_restrict.specs.Laws.{QuietLaw}
 use Rattle.sap_rule.specs.Named.{rule_named}
 use Rattle.sap_rule.specs.Variables.{open_variables}
 use Rattle.sap_rule.specs.declared.rule.Rule.{Rule}
-use Rattle.sap_runs.specs.Limits.{IsSmall}
+use Rattle.sap_runs.specs.Limits.{HasFewNodes}
 use Rattle.sap_lines.specs.Answers.{RunsMatchExactly}
 use Rattle.sap_lines.specs.NamesPass.{NamesStandInRuns}
 use Rattle.sap_lines.specs.Runs.{ProcessLinesAreRuns, SmallProcessRunsAreLegal}
@@ -104,7 +104,7 @@ pub record RunLaws : Type 0 where
   pub lines : (g : Sig) (p q : Proc) → HoldsBuiltins g → IsReady g p → node_count p < 2 ^ 64 → IsAnnotation p q → LinesAreAnswered g q
   pub shows_the_same : WhereAtRest ShowsTheSame
   pub ready : (g : Sig) (p q : Proc) → IsReady g p → IsAnnotation p q → IsReady g q
-  pub runs : ProcessLinesAreRuns IsSmall
+  pub runs : ProcessLinesAreRuns HasFewNodes
   pub exactly : RunsMatchExactly
   pub excludes : SmallProcessRunsAreLegal
   pub quiet : QuietLaw

@@ -11,7 +11,7 @@ use Rattle.sap_restrict.specs.ReservedFacts.{init_fact}
 use Rattle.sap_rule.specs.RuleSteps.{RuleState, empty_state}
 use Rattle.sap_rule.specs.declared.rule.Rule.{Rule}
 use Rattle.sap_runs.specs.Inner.{InnerAction}
-use Rattle.sap_runs.specs.Limits.{IsSmall}
+use Rattle.sap_runs.specs.Limits.{HasFewNodes}
 use Rattle.sap_runs.specs.Marks.{Mark, marks_of}
 use Rattle.sap_runs.specs.declared.process_step.PStep.{PStep}
 use Rattle.sap_runs.specs.declared.process_step.PStep.TheVariants.{New, Name}
@@ -67,12 +67,12 @@ first_state = gets empty_state (state_fact [] [] ∷ [])
 
 -- the first line is possible and links both sides, whatever is drawn
 pub record StartsLinked (g : Sig) (start : Proc) : Type 0 where
-  pub line : IsLine g (rules_of start) IsSmall empty_state init_line (init_fact ∷ []) first_state
-  pub linked : (drawn : List ℕ) → Linked g IsSmall start drawn first_tables (Some (running [] no_env start) ∷ []) (initial start) [] [] first_state ((init_fact ∷ []) ∷ [])
+  pub line : IsLine g (rules_of start) HasFewNodes empty_state init_line (init_fact ∷ []) first_state
+  pub linked : (drawn : List ℕ) → Linked g HasFewNodes start drawn first_tables (Some (running [] no_env start) ∷ []) (initial start) [] [] first_state ((init_fact ∷ []) ∷ [])
 
 -- wherever both sides are linked, each line that is possible within the limit is answered
 abbrev pub LinesAreAnswered : Sig → Proc → Type 0
 LinesAreAnswered g start =
     (drawn : List ℕ) (tables : Tables) (agents : List (Option Agent)) (c d : Config) (es fs : List Tree) (tr : Trace) (s : RuleState) (full : Trace) (step : PStep) (inner : List InnerAction) (label : List Fact)
-    → Linked g IsSmall start drawn tables agents c es tr s full → CanGiveEach g c es → MatchesExactly g c es → Draws drawn step → IsProcessLine g IsSmall c es step inner label d fs
-    → IsAnswered g IsSmall start drawn agents c tables s full step d fs (tr ++ shown label) (marks_of inner label)
+    → Linked g HasFewNodes start drawn tables agents c es tr s full → CanGiveEach g c es → MatchesExactly g c es → Draws drawn step → IsProcessLine g HasFewNodes c es step inner label d fs
+    → IsAnswered g HasFewNodes start drawn agents c tables s full step d fs (tr ++ shown label) (marks_of inner label)

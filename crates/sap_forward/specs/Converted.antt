@@ -5,7 +5,7 @@ use Rattle.sap_terms.specs.Trace.{Trace}
 use Rattle.sap_terms.specs.Tree.{Tree}
 use Rattle.sap_process.specs.Configuration.{Config}
 use Rattle.sap_process.specs.Proc.{Proc}
-use Rattle.sap_runs.specs.Limits.{IsSmall}
+use Rattle.sap_runs.specs.Limits.{HasFewNodes}
 use Rattle.sap_runs.specs.Marks.{Mark}
 use Rattle.sap_runs.specs.declared.process_step.PStep.{PStep}
 use Rattle.sap_runs.specs.declared.rule_step.RStep.{RStep}
@@ -19,11 +19,11 @@ use Rattle.sap_forward.specs.Opposite.{IsOpposite}
 use Rattle.sap_forward.specs.RuleLinesPass.{BringNoName}
 
 -- the lines are a legal run of the process within the limit, with this trace
-pub record IsShownBy (g : Sig) (start : Proc) (lines : List PStep) (tr : Trace) : Type 0 where
+pub record IsShownByLines (g : Sig) (start : Proc) (lines : List PStep) (tr : Trace) : Type 0 where
   pub config : Config
   pub entries : List Tree
   pub marks : List Mark
-  pub legal : IsLegalProcessRun g IsSmall start lines config entries tr marks
+  pub legal : IsLegalProcessRun g HasFewNodes start lines config entries tr marks
 
 -- the lines are a legal run of the process within the limit, and these of the rules are opposite to them
 pub record IsConverted (g : Sig) (start : Proc) (lines : List PStep) (rule_lines : List RStep) : Type 0 where
@@ -31,7 +31,7 @@ pub record IsConverted (g : Sig) (start : Proc) (lines : List PStep) (rule_lines
   pub entries : List Tree
   pub trace : Trace
   pub marks : List Mark
-  pub legal : IsLegalProcessRun g IsSmall start lines config entries trace marks
+  pub legal : IsLegalProcessRun g HasFewNodes start lines config entries trace marks
   pub opposite : IsOpposite g start lines entries trace marks rule_lines
   -- there are exactly so many, and as many lines as these stand opposite to them
   pub counted : length rule_lines ≡ rule_count lines
@@ -40,7 +40,7 @@ pub record IsConverted (g : Sig) (start : Proc) (lines : List PStep) (rule_lines
   pub names : BringNoName start lines rule_lines
 
 -- the lines before the one with this number, from 1, are such a run, and that one is refused for this cause
-pub record IsFirstRefused (g : Sig) (start : Proc) (lines : List PStep) (number : ℕ) (fault : PFault) : Type 0 where
+pub record IsFirstRefusedOfProcess (g : Sig) (start : Proc) (lines : List PStep) (number : ℕ) (fault : PFault) : Type 0 where
   pub before : List PStep
   pub line : PStep
   pub after : List PStep
@@ -50,6 +50,6 @@ pub record IsFirstRefused (g : Sig) (start : Proc) (lines : List PStep) (number 
   pub entries : List Tree
   pub trace : Trace
   pub marks : List Mark
-  pub legal : IsLegalProcessRun g IsSmall start before config entries trace marks
+  pub legal : IsLegalProcessRun g HasFewNodes start before config entries trace marks
   pub refused : IsRefused g config entries line fault
   pub cause : ¬ (fault ≡ Mem)

@@ -8,7 +8,7 @@ use Rattle.sap_process.specs.Configuration.{Config}
 use Rattle.sap_process.specs.Proc.{Proc}
 use Rattle.sap_restrict.specs.Standard.{IsAdmitted}
 use Rattle.sap_rule.specs.RuleSteps.{RuleState}
-use Rattle.sap_runs.specs.Limits.{IsSmall}
+use Rattle.sap_runs.specs.Limits.{HasFewNodes}
 use Rattle.sap_runs.specs.Marks.{Mark}
 use Rattle.sap_runs.specs.declared.process_step.PStep.{PStep}
 use Rattle.sap_runs.specs.declared.rule_step.RStep.{RStep}
@@ -45,8 +45,8 @@ StandOpposite (line ∷ lines) rule_lines = StandInTurn (line ∷ lines) rule_li
 pub record IsOpposite (g : Sig) (start : Proc) (lines : List PStep) (es : List Tree) (tr : Trace) (ms : List Mark) (rule_lines : List RStep) : Type 0 where
   pub state : RuleState
   pub full : Trace
-  -- they are legal within the limit, and their full trace counts
-  pub legal : IsLegalRun g (rules_of start) IsSmall rule_lines state full
+  -- they are legal within the limit, and their full trace is admitted
+  pub legal : IsLegalRun g (rules_of start) HasFewNodes rule_lines state full
   pub admitted : IsAdmitted g full
   -- they show the same, have the same marks, and leave the adversary with the same
   pub shows : hide full ≡ tr
@@ -59,5 +59,5 @@ pub record IsOpposite (g : Sig) (start : Proc) (lines : List PStep) (es : List T
 -- each legal run of the process has lines opposite, exactly so many, and as many lines as there are stand opposite to these
 abbrev pub HasOpposites : Sig → Proc → Type 0
 HasOpposites g start =
-    (lines : List PStep) (c : Config) (es : List Tree) (tr : Trace) (ms : List Mark) → IsLegalProcessRun g IsSmall start lines c es tr ms
+    (lines : List PStep) (c : Config) (es : List Tree) (tr : Trace) (ms : List Mark) → IsLegalProcessRun g HasFewNodes start lines c es tr ms
     → (rule_lines : List RStep) × IsOpposite g start lines es tr ms rule_lines × (length rule_lines ≡ rule_count lines) × (back_count rule_lines ≡ length lines)

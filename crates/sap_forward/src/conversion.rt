@@ -4,7 +4,7 @@ ghost use Rattle.sap_locks.specs.Annotation.{IsAnnotation};
 ghost use Rattle.sap_process.specs.Proc.{Proc, node_count, proc};
 ghost use Rattle.sap_process.specs.Ready.{IsReady};
 ghost use Rattle.sap_terms.specs.Signature.{HoldsBuiltins, Sig};
-ghost use Rattle.sap_forward.specs.Converted.{IsConverted, IsFirstRefused};
+ghost use Rattle.sap_forward.specs.Converted.{IsConverted, IsFirstRefusedOfProcess};
 ghost use Rattle.sap_forward.specs.Answered.{first_tables};
 ghost use Rattle.sap_forward.specs.Least.{names_drawn};
 ghost use Rattle.sap_forward.specs.Opposite.{init_line};
@@ -129,7 +129,7 @@ pub fn to_rules(alloc: Global, f: &File, run: &PSteps) -> Result<RSteps, At>
     requires { IsRunnable (told_by f.now) }
     ensures ok { IfOk result (IsConverted f.now.signature (proc f.now.process) run.now) }
     ensures refused { (step : ℕ) (fault : Fault) → result ≡ Err (StepOf step fault)
-        → IsFirstRefused f.now.signature (proc f.now.process) run.now step fault }
+        → IsFirstRefusedOfProcess f.now.signature (proc f.now.process) run.now step fault }
 {
     conversions_go_on();
     let mut lines = RSteps::new(alloc);

@@ -55,7 +55,7 @@ pub fn lines_are_answered()
 
 /// A law: each written run of a process that is legal within the limit on terms has lines of its rules opposite, where the
 /// process is the annotation of one that is ready and has fewer than 2^64 places, over a signature that holds what its builtins
-/// declare. They are legal within the limit, and their full trace counts; they show the same, have the same marks, and leave the
+/// declare. They are legal within the limit, and their full trace is admitted; they show the same, have the same marks, and leave the
 /// adversary with the same entries. None stand opposite to none; elsewhere the first is `Init`, and behind it stand those for
 /// each line in turn, exactly as many as are counted. Locks and tags get the least names that no line of the process draws, in
 /// ascending order, and what a line draws stays its own.

@@ -5,7 +5,7 @@ ghost use Rattle.sap_process.specs.Configuration.{initial};
 ghost use Rattle.sap_terms.specs.Trace.{shown};
 ghost use Rattle.sap_process.specs.Proc.{proc};
 ghost use Rattle.sap_calc.specs.Running.{configuration, IsDone};
-ghost use Rattle.sap_forward.specs.Converted.{IsFirstRefused, IsShownBy};
+ghost use Rattle.sap_forward.specs.Converted.{IsFirstRefusedOfProcess, IsShownByLines};
 ghost use Rattle.sap_forward.specs.code.Taken.{AreDoneUntil, IsRefusedAt, IsShown};
 ghost use Rattle.sap_forward.specs.declared.at.At.TheVariants.{Step as StepOf};
 ghost use Rattle.sap_lines.specs.declared.fault.PFault.{PFault as Fault};
@@ -105,9 +105,9 @@ pub(crate) fn started(alloc: Global, f: &File) -> Result<Box<Config>, Mem>
 /// It recurses as deep as the file's process and the terms of file and run.
 pub fn process_trace(alloc: Global, f: &File, run: &PSteps) -> Result<Trace, At>
     requires { IsRunnable (told_by f.now) }
-    ensures ok { IfOk result (λ tr. IsShownBy f.now.signature (proc f.now.process) run.now tr) }
+    ensures ok { IfOk result (λ tr. IsShownByLines f.now.signature (proc f.now.process) run.now tr) }
     ensures refused { (step : ℕ) (fault : Fault) → result ≡ Err (StepOf step fault)
-        → IsFirstRefused f.now.signature (proc f.now.process) run.now step fault }
+        → IsFirstRefusedOfProcess f.now.signature (proc f.now.process) run.now step fault }
 {
     replays_are_legal();
     let mut config = started(alloc, f)?;

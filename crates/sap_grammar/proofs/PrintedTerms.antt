@@ -10,7 +10,7 @@ use Rattle.sap_terms.specs.Equations.{pair_name}
 use Rattle.sap_terms.specs.Signature.{Sig, arity_of}
 use Rattle.sap_terms.specs.Message.{IsOver, AreOver}
 use Rattle.sap_grammar.specs.Words.{Word, mark, name, is_lower}
-use Rattle.sap_grammar.specs.Cut.{is_item_word, IsFree}
+use Rattle.sap_grammar.specs.Cut.{is_item_word, AreNoItemWords}
 use Rattle.sap_grammar.specs.TermGrammar.{IsTerm, IsRest, IsList, IsArgs, sorted, args_none, args_some, list_last, list_more, rest_last, rest_more, term_constant, term_fresh, term_message, term_pub, term_quoted, term_symbol, term_tuple}
 use Rattle.sap_grammar.specs.FactGrammar.{IsFact, fact_linear, fact_persistent}
 use Rattle.sap_grammar.specs.TermText.{is_pair}
@@ -183,7 +183,7 @@ fact_front f k l = by_sign f.persistent
 
 -- No item begins inside a term or a fact.
 mutual
-  pub term_free : {g : Sig} {t : Tree} {a b : List Word} → IsTerm g t a b → IsFree b → IsFree a
+  pub term_free : {g : Sig} {t : Tree} {a b : List Word} → IsTerm g t a b → AreNoItemWords b → AreNoItemWords a
   term_free (term_constant is) h = (refl, h)
   term_free (term_message is) h = (refl, h)
   term_free term_fresh h = (refl, (refl, h))
@@ -192,18 +192,18 @@ mutual
   term_free (term_symbol low r) h = (refl, (refl, args_free r h))
   term_free (term_tuple r s) h = (refl, term_free r (refl, rest_free s h))
 
-  rest_free : {g : Sig} {t : Tree} {a b : List Word} → IsRest g t a b → IsFree b → IsFree a
+  rest_free : {g : Sig} {t : Tree} {a b : List Word} → IsRest g t a b → AreNoItemWords b → AreNoItemWords a
   rest_free (rest_last r) h = term_free r (refl, h)
   rest_free (rest_more r s) h = term_free r (refl, rest_free s h)
 
-  list_free : {g : Sig} {ts : List Tree} {a b : List Word} → IsList g ts a b → IsFree b → IsFree a
+  list_free : {g : Sig} {ts : List Tree} {a b : List Word} → IsList g ts a b → AreNoItemWords b → AreNoItemWords a
   list_free (list_last r) h = term_free r (refl, h)
   list_free (list_more r s) h = term_free r (refl, list_free s h)
 
-  args_free : {g : Sig} {ts : List Tree} {a b : List Word} → IsArgs g ts a b → IsFree b → IsFree a
+  args_free : {g : Sig} {ts : List Tree} {a b : List Word} → IsArgs g ts a b → AreNoItemWords b → AreNoItemWords a
   args_free args_none h = (refl, h)
   args_free (args_some r) h = list_free r h
 
-pub fact_free : {g : Sig} {f : Fact} {a b : List Word} → IsFact g f a b → IsFree b → IsFree a
+pub fact_free : {g : Sig} {f : Fact} {a b : List Word} → IsFact g f a b → AreNoItemWords b → AreNoItemWords a
 fact_free (fact_linear up r) h = (refl, (refl, args_free r h))
 fact_free (fact_persistent up r) h = (refl, (refl, (refl, args_free r h)))

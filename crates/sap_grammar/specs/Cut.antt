@@ -36,9 +36,9 @@ NoItemWord [] = Unit {0}
 NoItemWord (p ∷ ps) = (begins_item p ≡ false) × NoItemWord ps
 
 -- so of words without lines
-abbrev pub IsFree : List Word → Type 0
-IsFree [] = Unit {0}
-IsFree (w ∷ ws) = (is_item_word w ≡ false) × IsFree ws
+abbrev pub AreNoItemWords : List Word → Type 0
+AreNoItemWords [] = Unit {0}
+AreNoItemWords (w ∷ ws) = (is_item_word w ≡ false) × AreNoItemWords ws
 
 -- there are no more, or an item begins
 abbrev pub StartsItem : List Placed → Type 0

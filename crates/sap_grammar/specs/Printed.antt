@@ -5,7 +5,7 @@ use Rattle.sap_terms.specs.Tree.{Tree, trees_of}
 use Rattle.sap_terms.specs.Signature.{Sig}
 use Rattle.sap_terms.specs.Message.{IsOver, AreOver}
 use Rattle.sap_grammar.specs.Words.{Word}
-use Rattle.sap_grammar.specs.Cut.{IsFree}
+use Rattle.sap_grammar.specs.Cut.{AreNoItemWords}
 use Rattle.sap_grammar.specs.TermGrammar.{IsTerm}
 use Rattle.sap_grammar.specs.FactGrammar.{IsFact}
 use Rattle.sap_grammar.specs.TermText.{tree_text}
@@ -23,11 +23,11 @@ pub record ArePrinted : Type 0 where
       → AreWords most (tree_text t ++ z) (term_words false t k)
   pub term_names : (most : ℕ) (g : Sig) (t : Tree) (a b : List Word) → IsTerm g t a b → AreTokenWords most a → HasNames most t × AreTokenWords most b
   pub term_front : (t : Tree) (k l : List Word) → term_words false t (k ++ l) ≡ term_words false t k ++ l
-  pub term_free : (g : Sig) (t : Tree) (a b : List Word) → IsTerm g t a b → IsFree b → IsFree a
+  pub term_free : (g : Sig) (t : Tree) (a b : List Word) → IsTerm g t a b → AreNoItemWords b → AreNoItemWords a
   pub fact_spelled : (g : Sig) (f : Fact) → IsTidyFact g f → (k : List Word) → IsFact g f (fact_words f k) k
   pub fact_tidy : (g : Sig) (f : Fact) (a b : List Word) → IsFact g f a b → AreOver g (trees_of f.args) → IsTidyFact g f
   pub fact_bytes : (most : ℕ) (f : Fact) → FactHasNames most f → (z : List ℕ) (k : List Word) → AreWords most z k
       → AreWords most (fact_text f ++ z) (fact_words f k)
   pub fact_names : (most : ℕ) (g : Sig) (f : Fact) (a b : List Word) → IsFact g f a b → AreTokenWords most a → FactHasNames most f × AreTokenWords most b
   pub fact_front : (f : Fact) (k l : List Word) → fact_words f (k ++ l) ≡ fact_words f k ++ l
-  pub fact_free : (g : Sig) (f : Fact) (a b : List Word) → IsFact g f a b → IsFree b → IsFree a
+  pub fact_free : (g : Sig) (f : Fact) (a b : List Word) → IsFact g f a b → AreNoItemWords b → AreNoItemWords a

@@ -27,7 +27,7 @@ use Rattle.sap_process.specs.Proc as whole
 use Rattle.sap_process.specs.Proc.{Proc, act}
 use Rattle.sap_process.specs.ProcessSteps.{Fits}
 use Rattle.sap_runs.specs.Inner.{InnerAction}
-use Rattle.sap_runs.specs.Limits.{IsSmall}
+use Rattle.sap_runs.specs.Limits.{HasFewNodes}
 use Rattle.sap_runs.specs.declared.process_step.PStep.{PStep}
 use Rattle.sap_lines.specs.Answers.{MatchesExactly, ProcessLinesHaveOneAnswer}
 use Rattle.sap_lines.specs.Faults.{IsRefused, IsUnfit, IsUsed, EvaluateLarge, thread_of, has_form, is_send, is_receive, evaluated}
@@ -55,7 +55,7 @@ pub too_large : (n : Tree) → MOST_TERM_NODES < node_count n → node_count n �
 too_large n a b = omega arith
 
 -- what is too large isn't within the limit
-pub large_small : (g : Sig) (ts : List Tree) → EvaluateLarge g ts → EvaluateWithin g IsSmall ts → ⊥
+pub large_small : (g : Sig) (ts : List Tree) → EvaluateLarge g ts → EvaluateWithin g HasFewNodes ts → ⊥
 large_small g ts h small =
     let r = pulled_within (HasLargeForm (equations g) MOST_TERM_NODES) (λ n. MOST_TERM_NODES < node_count n) (λ n u. IsNormalForm (equations g) u n) (λ t k. (k.form, k.large, k.is_form)) (trees_of ts) h in
     too_large r.0 r.1 (small r.0 r.2)
@@ -105,9 +105,9 @@ record HasRun (g : Sig) (c : Config) (step : PStep) (t : ℕ) : Type 0 where
   process : Proc
   runs : Runs c t process
   form : has_form step process ≡ true
-  within : EvaluateWithin g IsSmall (evaluated process)
+  within : EvaluateWithin g HasFewNodes (evaluated process)
 
-pub nothing_large : (g : Sig) → EvaluateWithin g IsSmall []
+pub nothing_large : (g : Sig) → EvaluateWithin g HasFewNodes []
 nothing_large g n h = elim h [ ]
 
 the_thread : (step : PStep) (s t : ℕ) → thread_of step ≡ Some s → thread_of step ≡ Some t → s ≡ t
@@ -115,10 +115,10 @@ the_thread step s t a b = cc
 
 module _ (g : Sig) where
   -- the same, for the number that the line names
-  abbrev run : {c : Config} {step : PStep} (s t : ℕ) → thread_of step ≡ Some s → thread_of step ≡ Some t → (p : Proc) → Runs c s p → has_form step p ≡ true → EvaluateWithin g IsSmall (evaluated p) → HasRun g c step t
+  abbrev run : {c : Config} {step : PStep} (s t : ℕ) → thread_of step ≡ Some s → thread_of step ≡ Some t → (p : Proc) → Runs c s p → has_form step p ≡ true → EvaluateWithin g HasFewNodes (evaluated p) → HasRun g c step t
   run {c} {step} s t a b p r f w = record { process = p; runs = subst (λ n. Runs c n p) (the_thread step s t a b) r; form = f; within = w }
 
-  has_run : (c d : Config) (es fs : List Tree) (step : PStep) (inner : List InnerAction) (label : List Fact) → IsProcessLine g IsSmall c es step inner label d fs → (t : ℕ) → thread_of step ≡ Some t → HasRun g c step t
+  has_run : (c d : Config) (es fs : List Tree) (step : PStep) (inner : List InnerAction) (label : List Fact) → IsProcessLine g HasFewNodes c es step inner label d fs → (t : ℕ) → thread_of step ≡ Some t → HasRun g c step t
   has_run c d es fs step inner label (IsProcessLine.ends s r) t e = run s t refl e _ r refl (nothing_large g)
   has_run c d es fs step inner label (IsProcessLine.splits s r) t e = run s t refl e _ r refl (nothing_large g)
   has_run c d es fs step inner label (IsProcessLine.copies s r) t e = run s t refl e _ r refl (nothing_large g)
@@ -151,10 +151,10 @@ never_unfit c t form e p r f (IsUnfit.other_form {p = q} s other) =
     cc
 
 module _ (laws : Laws) (g : Sig) (c : Config) (es : List Tree) (exact : MatchesExactly g c es) where
-  large_head : (t : ℕ) (p q : Proc) → Runs c t p → Runs c t q → EvaluateWithin g IsSmall (evaluated p) → EvaluateLarge g (evaluated q) → ⊥
-  large_head t p q r s small large = large_small g (evaluated q) large (subst (λ z. EvaluateWithin g IsSmall (evaluated z)) (one_thread c t p q r s) small)
+  large_head : (t : ℕ) (p q : Proc) → Runs c t p → Runs c t q → EvaluateWithin g HasFewNodes (evaluated p) → EvaluateLarge g (evaluated q) → ⊥
+  large_head t p q r s small large = large_small g (evaluated q) large (subst (λ z. EvaluateWithin g HasFewNodes (evaluated z)) (one_thread c t p q r s) small)
 
-  refute : (step : PStep) (e : PFault) (d : Config) (fs : List Tree) (inner : List InnerAction) (label : List Fact) → IsRefused g c es step e → IsProcessLine g IsSmall c es step inner label d fs → e ≡ fault.Mem
+  refute : (step : PStep) (e : PFault) (d : Config) (fs : List Tree) (inner : List InnerAction) (label : List Fact) → IsRefused g c es step e → IsProcessLine g HasFewNodes c es step inner label d fs → e ≡ fault.Mem
   refute _ _ d fs inner label (IsRefused.no_memory step) h = refl
   refute _ e d fs inner label (IsRefused.unfit {step = step} t named unfit) h = let k = has_run g c d es fs step inner label h t named in absurd (never_unfit c t (has_form step) e k.process k.runs k.form unfit)
   refute _ e d fs inner label (IsRefused.unfit_sender s t unfit) (IsProcessLine.meets s' t' σ r q k f v) = absurd (never_unfit c s is_send e _ r refl unfit)

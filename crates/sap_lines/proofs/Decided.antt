@@ -24,7 +24,7 @@ use Rattle.sap_terms.specs.declared.var.Var.{Var}
 use Rattle.sap_terms.proofs.PlainLaws.Tests.{same_tree-refl, same_tree-sound, same_trees-refl, same_trees-sound}
 use Rattle.sap_rewrite.specs.Large.{SomeSubterm, SomeSubtermWithin, HasLargeForm, itself, below, here, later}
 use Rattle.sap_rewrite.specs.Match.{Agrees, bound_vars}
-use Rattle.sap_runs.specs.Limits.{IsSmall}
+use Rattle.sap_runs.specs.Limits.{HasFewNodes}
 use Rattle.sap_lines.specs.Faults.{EvaluateLarge, EvaluateSmall}
 use Rattle.sap_lines.proofs.Premises.{Laws}
 use Rattle.sap_terms.proofs.PlainLaws.Choices.{Agree, trees_agree}
@@ -112,12 +112,12 @@ module _ (laws : Laws) (names : NamesAreMessages) (g : Sig) where
   some_message Pub = (public [], names.public_name g Pub [] refl)
 
   -- a term's own normal form
-  own : (t : Tree) → HasLargeForm (equations g) MOST_TERM_NODES t ⊎ ((n : Tree) → IsNormalForm (equations g) t n → IsSmall n)
+  own : (t : Tree) → HasLargeForm (equations g) MOST_TERM_NODES t ⊎ ((n : Tree) → IsNormalForm (equations g) t n → HasFewNodes n)
   own t =
       let f = laws.each (equations g) t in
       elim (cases_lt MOST_TERM_NODES (node_count f.0)) [
         | inl large ↦ inl (record { form = f.0; is_form = f.1; large = large })
-        | inr small ↦ inr (λ n h. subst IsSmall (laws.one_form (equations g) t f.0 n f.1 h) small)
+        | inr small ↦ inr (λ n h. subst HasFewNodes (laws.one_form (equations g) t f.0 n f.1 h) small)
       ]
 
   only_variable : (v : Var) (n : Tree) → SomeSubterm (λ u. IsNormalForm (equations g) u n) (variable v) → IsNormalForm (equations g) (variable v) n
@@ -129,20 +129,20 @@ module _ (laws : Laws) (names : NamesAreMessages) (g : Sig) where
   only_fresh : (k : ℕ) (n : Tree) → SomeSubterm (λ u. IsNormalForm (equations g) u n) (fresh k) → IsNormalForm (equations g) (fresh k) n
   only_fresh k n (itself h) = h
 
-  leaf : (t : Tree) → ((n : Tree) → SomeSubterm (λ u. IsNormalForm (equations g) u n) t → IsNormalForm (equations g) t n) → SomeSubterm (HasLargeForm (equations g) MOST_TERM_NODES) t ⊎ ((n : Tree) → SomeSubterm (λ u. IsNormalForm (equations g) u n) t → IsSmall n)
+  leaf : (t : Tree) → ((n : Tree) → SomeSubterm (λ u. IsNormalForm (equations g) u n) t → IsNormalForm (equations g) t n) → SomeSubterm (HasLargeForm (equations g) MOST_TERM_NODES) t ⊎ ((n : Tree) → SomeSubterm (λ u. IsNormalForm (equations g) u n) t → HasFewNodes n)
   leaf t only = elim (own t) [ inl h ↦ inl (itself h) | inr small ↦ inr (λ n h. small n (only n h)) ]
 
-  applied : (f : List ℕ) (ts : Trees) (n : Tree) → ((n : Tree) → IsNormalForm (equations g) (apply f ts) n → IsSmall n) → ((n : Tree) → SomeSubtermWithin (λ u. IsNormalForm (equations g) u n) ts → IsSmall n) → SomeSubterm (λ u. IsNormalForm (equations g) u n) (apply f ts) → IsSmall n
+  applied : (f : List ℕ) (ts : Trees) (n : Tree) → ((n : Tree) → IsNormalForm (equations g) (apply f ts) n → HasFewNodes n) → ((n : Tree) → SomeSubtermWithin (λ u. IsNormalForm (equations g) u n) ts → HasFewNodes n) → SomeSubterm (λ u. IsNormalForm (equations g) u n) (apply f ts) → HasFewNodes n
   applied f ts n small within (itself h) = small n h
   applied f ts n small within (below h) = within n h
 
-  any_of : (t : Tree) (ts : Trees) (n : Tree) → ((n : Tree) → SomeSubterm (λ u. IsNormalForm (equations g) u n) t → IsSmall n) → ((n : Tree) → SomeSubtermWithin (λ u. IsNormalForm (equations g) u n) ts → IsSmall n) → SomeSubtermWithin (λ u. IsNormalForm (equations g) u n) (more t ts) → IsSmall n
+  any_of : (t : Tree) (ts : Trees) (n : Tree) → ((n : Tree) → SomeSubterm (λ u. IsNormalForm (equations g) u n) t → HasFewNodes n) → ((n : Tree) → SomeSubtermWithin (λ u. IsNormalForm (equations g) u n) ts → HasFewNodes n) → SomeSubtermWithin (λ u. IsNormalForm (equations g) u n) (more t ts) → HasFewNodes n
   any_of t ts n first rest (here h) = first n h
   any_of t ts n first rest (later h) = rest n h
 
   -- some subterm is too large, or all are within the limit
   mutual
-    large_or_not : (t : Tree) → SomeSubterm (HasLargeForm (equations g) MOST_TERM_NODES) t ⊎ ((n : Tree) → SomeSubterm (λ u. IsNormalForm (equations g) u n) t → IsSmall n)
+    large_or_not : (t : Tree) → SomeSubterm (HasLargeForm (equations g) MOST_TERM_NODES) t ⊎ ((n : Tree) → SomeSubterm (λ u. IsNormalForm (equations g) u n) t → HasFewNodes n)
     large_or_not (variable v) = leaf (variable v) (λ n h. only_variable v n h)
     large_or_not (public a) = leaf (public a) (λ n h. only_public a n h)
     large_or_not (fresh k) = leaf (fresh k) (λ n h. only_fresh k n h)
@@ -151,7 +151,7 @@ module _ (laws : Laws) (names : NamesAreMessages) (g : Sig) where
       | inr within ↦ elim (own (apply f ts)) [ inl h ↦ inl (itself h) | inr small ↦ inr (λ n h. applied f ts n small within h) ]
     ]
 
-    larges_or_not : (ts : Trees) → SomeSubtermWithin (HasLargeForm (equations g) MOST_TERM_NODES) ts ⊎ ((n : Tree) → SomeSubtermWithin (λ u. IsNormalForm (equations g) u n) ts → IsSmall n)
+    larges_or_not : (ts : Trees) → SomeSubtermWithin (HasLargeForm (equations g) MOST_TERM_NODES) ts ⊎ ((n : Tree) → SomeSubtermWithin (λ u. IsNormalForm (equations g) u n) ts → HasFewNodes n)
     larges_or_not none = inr (λ n h. elim h [ ])
     larges_or_not (more t ts) = elim (large_or_not t) [
       | inl h ↦ inl (here h)

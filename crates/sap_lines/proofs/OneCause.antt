@@ -18,7 +18,7 @@ use Rattle.sap_process.specs.Configuration.{Config, Runs}
 use Rattle.sap_process.specs.Proc as whole
 use Rattle.sap_process.specs.Proc.{Proc, act}
 use Rattle.sap_process.specs.ProcessSteps.{Fits}
-use Rattle.sap_runs.specs.Limits.{IsSmall}
+use Rattle.sap_runs.specs.Limits.{HasFewNodes}
 use Rattle.sap_runs.specs.declared.process_step.PStep.{PStep}
 use Rattle.sap_runs.specs.declared.process_step.PStep.TheVariants as line
 use Rattle.sap_lines.specs.Answers.{RefusalsAreOne}
@@ -109,8 +109,8 @@ module _ (g : Sig) (c : Config) (es : List Tree) where
 
   abbrev small : ℕ → Chain → Chain
   small t rest =
-      single ((p : Proc) × Runs c t p × EvaluateWithin g IsSmall (evaluated p)) ((p : Proc) × Runs c t p × EvaluateLarge g (evaluated p)) fault.TermLarge
-      (λ h k. (let is : h.0 ≡ k.0 = one_thread c t h.0 k.0 h.1 k.1 in large_small g (evaluated k.0) k.2 (subst (λ p. EvaluateWithin g IsSmall (evaluated p)) is h.2))) rest
+      single ((p : Proc) × Runs c t p × EvaluateWithin g HasFewNodes (evaluated p)) ((p : Proc) × Runs c t p × EvaluateLarge g (evaluated p)) fault.TermLarge
+      (λ h k. (let is : h.0 ≡ k.0 = one_thread c t h.0 k.0 h.1 k.1 in large_small g (evaluated k.0) k.2 (subst (λ p. EvaluateWithin g HasFewNodes (evaluated p)) is h.2))) rest
 
   -- what an input asks of its entry: that it is a pair whose second part fits
   abbrev InFits : ℕ → ℕ → Type 0
@@ -185,8 +185,8 @@ module _ (g : Sig) (c : Config) (es : List Tree) where
 
   abbrev meeting_chain : ℕ → ℕ → Chain
   meeting_chain s t =
-      single ((m : Meeting s t) × EvaluateWithin g IsSmall (m.channel ∷ m.message ∷ m.other ∷ [])) ((m : Meeting s t) × EvaluateLarge g (m.channel ∷ m.message ∷ m.other ∷ [])) fault.TermLarge
-      (λ h k. (let same = meeting_same s t h.0 k.0 in large_small g (k.0.channel ∷ k.0.message ∷ k.0.other ∷ []) k.1 (subst (EvaluateWithin g IsSmall) (λ i. same.0 i ∷ same.1 i ∷ same.2 i ∷ []) h.1)))
+      single ((m : Meeting s t) × EvaluateWithin g HasFewNodes (m.channel ∷ m.message ∷ m.other ∷ [])) ((m : Meeting s t) × EvaluateLarge g (m.channel ∷ m.message ∷ m.other ∷ [])) fault.TermLarge
+      (λ h k. (let same = meeting_same s t h.0 k.0 in large_small g (k.0.channel ∷ k.0.message ∷ k.0.other ∷ []) k.1 (subst (EvaluateWithin g HasFewNodes) (λ i. same.0 i ∷ same.1 i ∷ same.2 i ∷ []) h.1)))
       (single ((m : Meeting s t) × (σ : Choice) × Fits g σ m.pattern m.message) ((m : Meeting s t) × FitsNothing g m.pattern m.message) fault.NoMatch
       (λ h k. (let same = meeting_same s t h.0 k.0 in k.1 h.1 (subst (λ x. Fits g h.1 x k.0.message) same.3 (subst (λ x. Fits g h.1 h.0.pattern x) same.1 h.2))))
       (last fault.Unequal))
@@ -232,7 +232,7 @@ module _ (g : Sig) (c : Config) (es : List Tree) where
   behind_thread : (t : ℕ) (form : Proc → Bool) (rest : Chain) (p : Proc) (e : PFault) → Runs c t p → form p ≡ true → Fails rest e → Fails (thread t form rest) e
   behind_thread t form rest p e runs passes h = inr ((p, runs), inr ((p, runs, passes), h))
 
-  behind_all : (t : ℕ) (step : PStep) (p : Proc) (e : PFault) → Runs c t p → has_form step p ≡ true → HasEntry es step → EvaluateWithin g IsSmall (evaluated p) → Fails (own_chain step) e → Fails (chain_of (Some t) step) e
+  behind_all : (t : ℕ) (step : PStep) (p : Proc) (e : PFault) → Runs c t p → has_form step p ≡ true → HasEntry es step → EvaluateWithin g HasFewNodes (evaluated p) → Fails (own_chain step) e → Fails (chain_of (Some t) step) e
   behind_all t step p e runs passes entry is_small h =
       behind_thread t (has_form step) (test (HasEntry es step) (NoEntryOf step) (entry_never step) (entry_same step) (small t (own_chain step))) p e runs passes (inr (entry, inr ((p, runs, is_small), h)))
 
@@ -240,7 +240,7 @@ module _ (g : Sig) (c : Config) (es : List Tree) where
   unfit_fails t form rest _ (IsUnfit.not_running never) = inl (never, refl)
   unfit_fails t form rest _ (IsUnfit.other_form {p = p} runs other) = inr ((p, runs), inl ((p, runs, other), refl))
 
-  new_small : (t n : ℕ) (p : Proc) → has_form (line.New t n) p ≡ true → EvaluateWithin g IsSmall (evaluated p)
+  new_small : (t n : ℕ) (p : Proc) → has_form (line.New t n) p ≡ true → EvaluateWithin g HasFewNodes (evaluated p)
   new_small t n (act (action.new x) p) h = nothing_large g
   new_small t n _ h = absurd (cc)
 

@@ -18,7 +18,7 @@ use Rattle.sap_terms.specs.declared.fact.Fact.{Fact}
 use Rattle.sap_rewrite.specs.Match.{Agrees, bound_vars}
 use Rattle.sap_rewrite.specs.Pattern.{IsPattern}
 use Rattle.sap_process.specs.Action as action
-use Rattle.sap_process.specs.Configuration.{Config, Runs, becomes, spawns, makes, sends_out, stores, holds, leaves}
+use Rattle.sap_process.specs.Configuration.{Config, Runs, becomes, spawns, makes, sends_out, stores, holding, leaves}
 use Rattle.sap_process.specs.Proc as whole
 use Rattle.sap_process.specs.Proc.{Proc, act}
 use Rattle.sap_process.specs.ProcessSteps.{with_choice, with_term, Fits}
@@ -257,13 +257,13 @@ module _ (laws : Laws) (g : Sig) (c : Config) (es : List Tree) (exact : MatchesE
       let term : m ≡ m' = cc in
       let behind : p ≡ p' = cc in
       let key = one_form m m' k k' term f f' in
-      one_way (λ i. locked (key i) ∷ []) refl (λ i. holds (becomes c t (Some (behind i))) (key i) true) refl
+      one_way (λ i. locked (key i) ∷ []) refl (λ i. holding (becomes c t (Some (behind i))) (key i) true) refl
   one_outcome _ _ _ _ _ _ _ _ _ (IsProcessLine.unlocks {m = m} {k = k} {i = n} {p = p} t r f v) (IsProcessLine.unlocks {m = m'} {k = k'} {i = n'} {p = p'} t' r' f' v') =
       let is = one_thread c t (act (action.unlock m n) p) (act (action.unlock m' n') p') r r' in
       let term : m ≡ m' = cc in
       let behind : p ≡ p' = cc in
       let key = one_form m m' k k' term f f' in
-      one_way (λ i. unlocked (key i) ∷ []) refl (λ i. holds (becomes c t (Some (behind i))) (key i) false) refl
+      one_way (λ i. unlocked (key i) ∷ []) refl (λ i. holding (becomes c t (Some (behind i))) (key i) false) refl
   one_outcome _ _ _ _ _ _ _ _ _ (IsProcessLine.embeds {l = l} {e = e} {r = r} {rest = rest} {p = p} t ks b σ left acts right runs m q a i j k h v) (IsProcessLine.embeds {l = l'} {e = e'} {r = r'} {rest = rest'} {p = p'} t' ks' b' σ' left' acts' right' runs' m' q' a' i' j' k' h' v') =
       let one = embed_one t ks b l e r l' e' r' p p' σ σ' left left' acts acts' right right' rest rest'
       (record { runs = runs; messages = m; vars = q; agrees = a; equal = i; takes = j; shown = k; added = h })

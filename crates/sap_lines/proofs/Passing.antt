@@ -34,7 +34,7 @@ use Rattle.sap_process.specs.Proc as whole
 use Rattle.sap_process.specs.Proc.{Proc, act}
 use Rattle.sap_process.specs.ProcessSteps.{chosen, with_choice, with_term}
 use Rattle.sap_runs.specs.Inner.{InnerAction}
-use Rattle.sap_runs.specs.Limits.{IsSmall}
+use Rattle.sap_runs.specs.Limits.{HasFewNodes}
 use Rattle.sap_runs.specs.Marks.{Mark}
 use Rattle.sap_runs.specs.declared.process_step.PStep.{PStep}
 use Rattle.sap_lines.specs.Answers.{MatchesExactly, RunsMatchExactly}
@@ -370,7 +370,7 @@ module _ (test : Tree → Bool) where
           | inr i ↦ bound_pass b σ agrees h v (subst (λ (vs : List Var). Contains vs v) (sym vars) i)
         ]
 
-        keeps : (d : Config) (fs : List Tree) (step : PStep) (inner : List InnerAction) (label : List Fact) → IsProcessLine g IsSmall c es step inner label d fs → LinePasses test step → Good d fs
+        keeps : (d : Config) (fs : List Tree) (step : PStep) (inner : List InnerAction) (label : List Fact) → IsProcessLine g HasFewNodes c es step inner label d fs → LinePasses test step → Good d fs
         keeps _ _ _ _ _ (IsProcessLine.ends t r) h = record { threads = every_set (ProcessPasses test) c.threads t None good.threads (λ q e. absurd (cc)); store = good.store; facts = good.facts; entries = good.entries }
         keeps _ _ _ _ _ (IsProcessLine.splits {p = p} {q = q} t r) h =
             let b = good.threads t (whole.parallel p q) r in
@@ -463,9 +463,9 @@ module _ (test : Tree → Bool) where
     lines_before (x ∷ lines) step h = let rest = lines_before lines step h.1 in ((h.0, rest.0), rest.1)
 
     module _ (p : Proc) (passes : ProcessPasses test p)
-        (exactly : (lines : List PStep) (c : Config) (es : List Tree) (tr : Trace) (marks : List Mark) → IsLegalProcessRun g IsSmall p lines c es tr marks → MatchesExactly g c es)
+        (exactly : (lines : List PStep) (c : Config) (es : List Tree) (tr : Trace) (marks : List Mark) → IsLegalProcessRun g HasFewNodes p lines c es tr marks → MatchesExactly g c es)
       where
-        run_good : (lines : List PStep) (c : Config) (es : List Tree) (tr : Trace) (marks : List Mark) → LinesPass test lines → IsLegalProcessRun g IsSmall p lines c es tr marks → Good c es
+        run_good : (lines : List PStep) (c : Config) (es : List Tree) (tr : Trace) (marks : List Mark) → LinesPass test lines → IsLegalProcessRun g HasFewNodes p lines c es tr marks → Good c es
         run_good _ _ _ _ _ h IsLegalProcessRun.starts = starts_good p passes
         run_good _ d fs _ _ h (IsLegalProcessRun.further {lines = lines} {c = c} {es = es} {tr = tr} {marks = marks} step inner label run is) =
             let parts = lines_before lines step h in

@@ -34,7 +34,7 @@ use Rattle.sap_process.specs.Proc as whole
 use Rattle.sap_process.specs.Proc.{Proc, act}
 use Rattle.sap_process.specs.ProcessSteps.{Fits}
 use Rattle.sap_runs.specs.Inner.{InnerAction}
-use Rattle.sap_runs.specs.Limits.{IsSmall}
+use Rattle.sap_runs.specs.Limits.{HasFewNodes}
 use Rattle.sap_runs.specs.declared.process_step.PStep.{PStep}
 use Rattle.sap_runs.specs.declared.process_step.PStep.TheVariants as line
 use Rattle.sap_lines.specs.Answers.{MatchesExactly, ProcessLinesHaveSomeAnswer}
@@ -111,9 +111,9 @@ pair_or_not _ = inr (λ y z e. cc)
 
 module _ (laws : Laws) (names : NamesAreMessages) (g : Sig) (c : Config) (es : List Tree) (exact : MatchesExactly g c es) where
   abbrev Answer : PStep → Type 0
-  Answer step = ((inner : List InnerAction) × (label : List Fact) × (d : Config) × (fs : List Tree) × IsProcessLine g IsSmall c es step inner label d fs) ⊎ ((e : PFault) × IsRefused g c es step e × (¬ (e ≡ fault.Mem)))
+  Answer step = ((inner : List InnerAction) × (label : List Fact) × (d : Config) × (fs : List Tree) × IsProcessLine g HasFewNodes c es step inner label d fs) ⊎ ((e : PFault) × IsRefused g c es step e × (¬ (e ≡ fault.Mem)))
 
-  abbrev possible : {step : PStep} {inner : List InnerAction} {label : List Fact} {d : Config} {fs : List Tree} → IsProcessLine g IsSmall c es step inner label d fs → Answer step
+  abbrev possible : {step : PStep} {inner : List InnerAction} {label : List Fact} {d : Config} {fs : List Tree} → IsProcessLine g HasFewNodes c es step inner label d fs → Answer step
   possible {inner = i} {label = a} {d = d} {fs = fs} h = inl (i, a, d, fs, h)
 
   abbrev form : (t : Tree) → (n : Tree) × IsNormalForm (equations g) t n

@@ -15,7 +15,7 @@ use Rattle.sap_process.specs.Heads.{patterns}
 use Rattle.sap_process.specs.Proc.{Proc, act}
 use Rattle.sap_process.specs.Ready.{IsReady}
 use Rattle.sap_runs.specs.Inner.{InnerAction}
-use Rattle.sap_runs.specs.Limits.{AnySize, IsSmall}
+use Rattle.sap_runs.specs.Limits.{AnySize, HasFewNodes}
 use Rattle.sap_runs.specs.Marks.{Mark}
 use Rattle.sap_runs.specs.declared.process_step.PStep.{PStep}
 use Rattle.sap_lines.specs.Faults.{IsRefused}
@@ -47,7 +47,7 @@ ProcessLinesHaveOneOutcome =
 -- one that is possible within the limit is refused for want of memory alone
 abbrev pub ProcessLinesHaveOneAnswer : Type 0
 ProcessLinesHaveOneAnswer =
-    (g : Sig) (c d : Config) (es fs : List Tree) (step : PStep) (inner : List InnerAction) (label : List Fact) (e : PFault) → MatchesExactly g c es → IsProcessLine g IsSmall c es step inner label d fs → IsRefused g c es step e → e ≡ Mem
+    (g : Sig) (c d : Config) (es fs : List Tree) (step : PStep) (inner : List InnerAction) (label : List Fact) (e : PFault) → MatchesExactly g c es → IsProcessLine g HasFewNodes c es step inner label d fs → IsRefused g c es step e → e ≡ Mem
 
 -- wherever written runs of a ready process lead to, what lines match, they match exactly
 abbrev pub RunsMatchExactly : Type 0
@@ -61,4 +61,4 @@ RefusalsAreOne = (g : Sig) (c : Config) (es : List Tree) (step : PStep) (e f : P
 -- a line is possible within the limit, or refused for another cause than want of memory
 abbrev pub ProcessLinesHaveSomeAnswer : Type 0
 ProcessLinesHaveSomeAnswer =
-    (g : Sig) (c : Config) (es : List Tree) (step : PStep) → MatchesExactly g c es → ((inner : List InnerAction) × (label : List Fact) × (d : Config) × (fs : List Tree) × IsProcessLine g IsSmall c es step inner label d fs) ⊎ ((e : PFault) × IsRefused g c es step e × (¬ (e ≡ Mem)))
+    (g : Sig) (c : Config) (es : List Tree) (step : PStep) → MatchesExactly g c es → ((inner : List InnerAction) × (label : List Fact) × (d : Config) × (fs : List Tree) × IsProcessLine g HasFewNodes c es step inner label d fs) ⊎ ((e : PFault) × IsRefused g c es step e × (¬ (e ≡ Mem)))

@@ -23,7 +23,7 @@ use Rattle.sap_process.specs.Heads.{facts_terms, action_used}
 use Rattle.sap_process.specs.Proc.{Proc, nil, parallel, replicated, act, test, lookup}
 use Rattle.sap_process.specs.Configuration.{Config, Runs}
 use Rattle.sap_process.specs.ProcessSteps.{Fits}
-use Rattle.sap_runs.specs.Limits.{IsSmall}
+use Rattle.sap_runs.specs.Limits.{HasFewNodes}
 use Rattle.sap_runs.specs.declared.process_step.PStep.{PStep}
 use Rattle.sap_runs.specs.declared.process_step.PStep.TheVariants as line
 use Rattle.sap_lines.specs.Lines.{EvaluateWithin, left_open}
@@ -96,7 +96,7 @@ EvaluateLarge g ts = SomeSubtermWithin (HasLargeForm (equations g) MOST_TERM_NOD
 
 -- none has
 abbrev pub EvaluateSmall : Sig → List Tree → Type 0
-EvaluateSmall g ts = EvaluateWithin g IsSmall ts
+EvaluateSmall g ts = EvaluateWithin g HasFewNodes ts
 
 -- thread t isn't running, or as a process of another form
 pub data IsUnfit (c : Config) (t : ℕ) (form : Proc → Bool) : PFault → Type 0 where

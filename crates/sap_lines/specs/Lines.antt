@@ -21,7 +21,7 @@ use Rattle.sap_process.specs.Proc as whole
 use Rattle.sap_process.specs.Proc.{Proc, act}
 use Rattle.sap_process.specs.Heads.{facts_terms}
 use Rattle.sap_process.specs.Sites.{var_names}
-use Rattle.sap_process.specs.Configuration.{Config, Runs, becomes, spawns, makes, owns, sends_out, stores, holds, leaves, IsUnused}
+use Rattle.sap_process.specs.Configuration.{Config, Runs, becomes, spawns, makes, owns, sends_out, stores, holding, leaves, IsUnused}
 use Rattle.sap_process.specs.ProcessSteps.{with_choice, with_term, Fits}
 use Rattle.sap_runs.specs.Inner.{InnerAction, equal, different, found, missing, inserted, deleted, locked, unlocked}
 use Rattle.sap_runs.specs.declared.process_step.PStep.{PStep}
@@ -94,10 +94,10 @@ pub data IsProcessLine (g : Sig) (W : Tree → Type 0) : Config → List Tree �
       → c.store k ≡ None → EvaluateWithin g W (m ∷ []) → IsProcessLine g W c es (line.Missing t) (missing k ∷ []) [] (becomes c t (Some q)) es
   -- it holds a term that isn't held
   locks : {c : Config} {es : List Tree} {m k : Tree} {i : ℕ} {p : Proc} (t : ℕ) → Runs c t (act (action.lock m i) p) → IsNormalForm (equations g) m k
-      → c.held k ≡ false → EvaluateWithin g W (m ∷ []) → IsProcessLine g W c es (line.Lock t) (locked k ∷ []) [] (holds (becomes c t (Some p)) k true) es
+      → c.held k ≡ false → EvaluateWithin g W (m ∷ []) → IsProcessLine g W c es (line.Lock t) (locked k ∷ []) [] (holding (becomes c t (Some p)) k true) es
   -- the term isn't held from now on
   unlocks : {c : Config} {es : List Tree} {m k : Tree} {i : ℕ} {p : Proc} (t : ℕ) → Runs c t (act (action.unlock m i) p) → IsNormalForm (equations g) m k
-      → EvaluateWithin g W (m ∷ []) → IsProcessLine g W c es (line.Unlock t) (unlocked k ∷ []) [] (holds (becomes c t (Some p)) k false) es
+      → EvaluateWithin g W (m ∷ []) → IsProcessLine g W c es (line.Unlock t) (unlocked k ∷ []) [] (holding (becomes c t (Some p)) k false) es
   -- the facts with these numbers are taken; the bindings are of the open variables, in order
   embeds : {c : Config} {es : List Tree} {l e r : List Fact} {rest : Pile} {p : Proc} (t : ℕ) (ks : List ℕ) (b : List Binding) (σ : Choice) (left acts right : List Fact)
       → Runs c t (act (action.embedded l e r) p) → IsMessageChoice g σ → bound_vars b ≡ left_open l e r → Agrees b σ

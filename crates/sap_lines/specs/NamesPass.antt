@@ -12,7 +12,7 @@ use Rattle.sap_process.specs.Configuration.{Config, Runs}
 use Rattle.sap_process.specs.Proc as whole
 use Rattle.sap_process.specs.Proc.{Proc}
 use Rattle.sap_process.specs.Ready.{IsReady}
-use Rattle.sap_runs.specs.Limits.{IsSmall}
+use Rattle.sap_runs.specs.Limits.{HasFewNodes}
 use Rattle.sap_runs.specs.Marks.{Mark}
 use Rattle.sap_runs.specs.declared.process_step.PStep.{PStep}
 use Rattle.sap_runs.specs.declared.process_step.PStep.TheVariants as line
@@ -89,4 +89,4 @@ pub record ConfigPasses (test : Tree → Bool) (c : Config) (es : List Tree) : T
 abbrev pub NamesStandInRuns : Type 0
 NamesStandInRuns =
     (test : Tree → Bool) (g : Sig) (p : Proc) (lines : List PStep) (c : Config) (es : List Tree) (tr : Trace) (marks : List Mark) → HoldsBuiltins g → IsReady g p → ProcessPasses test p → LinesPass test lines
-    → IsLegalProcessRun g IsSmall p lines c es tr marks → ConfigPasses test c es
+    → IsLegalProcessRun g HasFewNodes p lines c es tr marks → ConfigPasses test c es

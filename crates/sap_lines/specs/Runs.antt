@@ -8,7 +8,7 @@ use Rattle.sap_process.specs.Configuration.{Config, initial, CanGive}
 use Rattle.sap_process.specs.Proc.{Proc}
 use Rattle.sap_process.specs.ProcessSteps.{ProcessStep, ProcessRun}
 use Rattle.sap_runs.specs.Inner.{InnerAction}
-use Rattle.sap_runs.specs.Limits.{AnySize, IsSmall}
+use Rattle.sap_runs.specs.Limits.{AnySize, HasFewNodes}
 use Rattle.sap_runs.specs.Marks.{Mark, marks_of}
 use Rattle.sap_runs.specs.declared.process_step.PStep.{PStep}
 use Rattle.sap_runs.specs.declared.process_step.PStep.TheVariants as line
@@ -57,9 +57,9 @@ GivenTermsCanBeEntered =
 -- a line that is possible within the limit is possible
 abbrev pub SmallProcessLinesAreLines : Type 0
 SmallProcessLinesAreLines =
-    (g : Sig) (c d : Config) (es fs : List Tree) (step : PStep) (inner : List InnerAction) (label : List Fact) → IsProcessLine g IsSmall c es step inner label d fs → IsProcessLine g AnySize c es step inner label d fs
+    (g : Sig) (c d : Config) (es fs : List Tree) (step : PStep) (inner : List InnerAction) (label : List Fact) → IsProcessLine g HasFewNodes c es step inner label d fs → IsProcessLine g AnySize c es step inner label d fs
 
 -- so what is legal within it is legal
 abbrev pub SmallProcessRunsAreLegal : Type 0
 SmallProcessRunsAreLegal =
-    (g : Sig) (p : Proc) (lines : List PStep) (c : Config) (es : List Tree) (tr : Trace) (marks : List Mark) → IsLegalProcessRun g IsSmall p lines c es tr marks → IsLegalProcessRun g AnySize p lines c es tr marks
+    (g : Sig) (p : Proc) (lines : List PStep) (c : Config) (es : List Tree) (tr : Trace) (marks : List Mark) → IsLegalProcessRun g HasFewNodes p lines c es tr marks → IsLegalProcessRun g AnySize p lines c es tr marks

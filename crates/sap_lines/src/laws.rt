@@ -3,7 +3,7 @@ ghost use Rattle.sap_lines.specs.Answers.{ProcessLinesHaveOneOutcome, ProcessLin
 ghost use Rattle.sap_lines.specs.NamesPass.{NamesStandInRuns};
 ghost use Rattle.sap_lines.specs.Runs.{ProcessLinesAreSteps, ProcessLinesAreRuns, ProcessRunsCanBeWritten, GivenTermsCanBeEntered, SmallProcessLinesAreLines, SmallProcessRunsAreLegal};
 ghost use Rattle.sap_lines.specs.Sorts.{PatternsHaveOneSort, RulesHaveOneSort};
-ghost use Rattle.sap_runs.specs.Limits.{AnySize, IsSmall};
+ghost use Rattle.sap_runs.specs.Limits.{AnySize, HasFewNodes};
 
 use sap_process::runs_stay_ground;
 use sap_rewrite::{
@@ -15,9 +15,9 @@ use sap_terms::{destructors_head_left_sides, leaves_are_normal, names_are_messag
 /// A line that is possible is a step, or one more entry that the adversary can give; and legal lines are a run.
 pub fn lines_are_steps()
     ensures steps { ProcessLinesAreSteps AnySize }
-    ensures small_steps { ProcessLinesAreSteps IsSmall }
+    ensures small_steps { ProcessLinesAreSteps HasFewNodes }
     ensures runs { ProcessLinesAreRuns AnySize }
-    ensures small_runs { ProcessLinesAreRuns IsSmall }
+    ensures small_runs { ProcessLinesAreRuns HasFewNodes }
 {
     normal_forms_are_unique();
     normal_forms_decide();

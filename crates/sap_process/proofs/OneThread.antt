@@ -13,7 +13,7 @@ use Rattle.sap_terms.specs.Tree.{Tree, fresh}
 use Rattle.sap_terms.specs.Variables.{tree_vars, facts_vars}
 use Rattle.sap_terms.specs.declared.fact.Fact.{Fact}
 use Rattle.sap_process.specs.Action.{Action, new, out, send, input, receive, event, insert, delete, lock, unlock, embedded}
-use Rattle.sap_process.specs.Configuration.{Config, Runs, CanGive, IsUnused, becomes, spawns, makes, owns, sends_out, stores, holds, leaves}
+use Rattle.sap_process.specs.Configuration.{Config, Runs, CanGive, IsUnused, becomes, spawns, makes, owns, sends_out, stores, holding, leaves}
 use Rattle.sap_process.specs.Proc.{Proc, nil, parallel, replicated, act, test, lookup}
 use Rattle.sap_process.specs.ProcessSteps.{ProcessStep, Fits, with_choice, with_term}
 
@@ -66,9 +66,9 @@ AfterAction g c d label t (insert m n) p =
 AfterAction g c d label t (delete m) p =
     (k : Tree) × IsNormalForm (equations g) m k × (label ≡ []) × (d ≡ stores (becomes c t (Some p)) k None)
 AfterAction g c d label t (lock m i) p =
-    (k : Tree) × IsNormalForm (equations g) m k × (c.held k ≡ false) × (label ≡ []) × (d ≡ holds (becomes c t (Some p)) k true)
+    (k : Tree) × IsNormalForm (equations g) m k × (c.held k ≡ false) × (label ≡ []) × (d ≡ holding (becomes c t (Some p)) k true)
 AfterAction g c d label t (unlock m i) p =
-    (k : Tree) × IsNormalForm (equations g) m k × (label ≡ []) × (d ≡ holds (becomes c t (Some p)) k false)
+    (k : Tree) × IsNormalForm (equations g) m k × (label ≡ []) × (d ≡ holding (becomes c t (Some p)) k false)
 AfterAction g c d label t (embedded l e r) p = Ruled g c d label l e r t p
 
 -- the same of each form

@@ -65,8 +65,8 @@ abbrev pub marked : (Tree → Bool) → Tree → Bool → Tree → Bool
 marked held x b y = if same_tree x y then b else held y
 
 -- x is held, or isn't
-abbrev pub holds : Config → Tree → Bool → Config
-holds c x b = record c { held = marked c.held x b }
+abbrev pub holding : Config → Tree → Bool → Config
+holding c x b = record c { held = marked c.held x b }
 
 -- these are left of the facts
 abbrev pub leaves : Config → Pile → Config

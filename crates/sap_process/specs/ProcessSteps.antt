@@ -19,7 +19,7 @@ use Rattle.sap_process.specs.Action.{new, out, send, input, receive, event, inse
 use Rattle.sap_process.specs.Proc.{Proc, nil, parallel, replicated, act, test, lookup}
 use Rattle.sap_process.specs.Flaws.{binder_of}
 use Rattle.sap_process.specs.Instance.{process_instance}
-use Rattle.sap_process.specs.Configuration.{Config, initial, Runs, becomes, spawns, makes, owns, sends_out, stores, holds, leaves, IsUnused, CanGive}
+use Rattle.sap_process.specs.Configuration.{Config, initial, Runs, becomes, spawns, makes, owns, sends_out, stores, holding, leaves, IsUnused, CanGive}
 
 -- the choice for these variables alone, which are known by their names: a name stands for what its first variable stands for
 abbrev pub chosen : Choice → List Var → Choice
@@ -89,10 +89,10 @@ pub data ProcessStep (g : Sig) : Config → List Fact → Config → Type 0 wher
       → c.store k ≡ None → ProcessStep g c [] (becomes c t (Some q))
   -- a process holds a term that isn't held
   locks : {c : Config} {m k : Tree} {i : ℕ} {p : Proc} (t : ℕ) → Runs c t (act (lock m i) p) → IsNormalForm (equations g) m k
-      → c.held k ≡ false → ProcessStep g c [] (holds (becomes c t (Some p)) k true)
+      → c.held k ≡ false → ProcessStep g c [] (holding (becomes c t (Some p)) k true)
   -- from now on a term isn't held
   unlocks : {c : Config} {m k : Tree} {i : ℕ} {p : Proc} (t : ℕ) → Runs c t (act (unlock m i) p) → IsNormalForm (equations g) m k
-      → ProcessStep g c [] (holds (becomes c t (Some p)) k false)
+      → ProcessStep g c [] (holding (becomes c t (Some p)) k false)
   -- an embedded rule takes facts, shows facts and adds facts
   embeds : {c : Config} {l e r : List Fact} {rest : Pile} {p : Proc} (t : ℕ) (ks : List ℕ) (σ : Choice) (left acts right : List Fact)
       → Runs c t (act (embedded l e r) p) → IsMessageChoice g σ → AreEqualFacts (equations g) (instance_facts σ l) left

@@ -17,7 +17,7 @@ use Rattle.sap_statements.specs.Statements.{IsStatement, is_restriction, is_lemm
 use Rattle.sap_draft.specs.declared.limits.TheConstants.{FILE_LIMITS}
 use Rattle.sap_read.specs.Item.{Item, definition, process, statement, bodies, statements}
 use Rattle.sap_draft.specs.ProcessGrammar.{IsProcess}
-use Rattle.sap_read.specs.ItemGrammar.{IsItem, AreItems, IsSomeItem, IsFaulty, item_builtins, item_functions, item_definition, item_process, item_statement}
+use Rattle.sap_read.specs.ItemGrammar.{IsItem, AreItems, IsSomeItem, IsFaultyFile, item_builtins, item_functions, item_definition, item_process, item_statement}
 use Rattle.sap_read.specs.declared.definition.Definition.{Definition}
 use Rattle.sap_read.specs.code.Bodies.{body}
 use Rattle.sap_read.specs.code.ItemView.{IsItemOf, IsAdded, IsAdding, IsGoodBehind, IsPushed, IsStated, SaysProcess, AreSaid}
@@ -202,7 +202,7 @@ stated_tried laws g z ts es ss after (Err e) l p none is = tt
 -- Turns of the loop over items, where `entries` and `earlier` were read before the tokens `rest`.
 module _ (laws : ItemLaws) (g : Sig) (last : ℕ) (z : List ℕ) (ts rest item behind : List Token) (entries : List Definition) (earlier : List Statement)
     (good : IsGoodBehind g z ts rest entries earlier)
-    (faulty : (n : ℕ) → IsFaulty last (cut (placed z rest)) n → IsFaulty last (cut (placed z ts)) n)
+    (faulty : (n : ℕ) → IsFaultyFile last (cut (placed z rest)) n → IsFaultyFile last (cut (placed z ts)) n)
     (split : cut (placed z rest) ≡ placed z item ∷ cut (placed z behind)) where
   pub turn_end : IsEnd (placed z item) → behind ≡ [] → (items : List (List Placed)) → IsCut (placed z ts) items → AreSaid g items entries earlier
   turn_end e none items r =
@@ -215,12 +215,12 @@ module _ (laws : ItemLaws) (g : Sig) (last : ℕ) (z : List ℕ) (ts rest item b
         statements_are = sym (append-nil earlier) ∙ all.3;
       }
 
-  pub turn_bad : (IsEnd (placed z item) × (behind ≡ []) → ⊥) → (IsSomeItem (words_of z item) → ⊥) → (line : ℕ) → line ≡ first_line (placed z item) → (items : List (List Placed)) → IsCut (placed z ts) items → IsFaulty last items line
+  pub turn_bad : (IsEnd (placed z item) × (behind ≡ []) → ⊥) → (IsSomeItem (words_of z item) → ⊥) → (line : ℕ) → line ≡ first_line (placed z item) → (items : List (List Placed)) → IsCut (placed z ts) items → IsFaultyFile last items line
   turn_bad not_last none line l items r =
       let bad : IsSomeItem (words (placed z item)) → ⊥ = rw (words_placed z item) none in
-      let here : IsFaulty last (placed z item ∷ cut (placed z behind)) (first_line (placed z item)) = bad_item bad (λ e f. not_last (e, cut_nothing laws z behind f)) in
-      let there = faulty (first_line (placed z item)) (subst (λ (y : List (List Placed)). IsFaulty last y (first_line (placed z item))) (sym split) here) in
-      rw l (subst (λ (y : List (List Placed)). IsFaulty last y (first_line (placed z item))) (cut_is laws r) there)
+      let here : IsFaultyFile last (placed z item ∷ cut (placed z behind)) (first_line (placed z item)) = bad_item bad (λ e f. not_last (e, cut_nothing laws z behind f)) in
+      let there = faulty (first_line (placed z item)) (subst (λ (y : List (List Placed)). IsFaultyFile last y (first_line (placed z item))) (sym split) here) in
+      rw l (subst (λ (y : List (List Placed)). IsFaultyFile last y (first_line (placed z item))) (cut_is laws r) there)
 
   module _ (after : List Definition) (later : List Statement) (it : IsAdding g z item entries after earlier later) where
     pub turn_good : IsGoodBehind g z ts behind after later
@@ -234,15 +234,15 @@ module _ (laws : ItemLaws) (g : Sig) (last : ℕ) (z : List ℕ) (ts rest item b
           rw (it.statements_are, append_assoc earlier it.stated (statements is), ← it.is.states) all.3,
         )
 
-    pub turn_later : (n : ℕ) → IsFaulty last (cut (placed z behind)) n → IsFaulty last (cut (placed z ts)) n
+    pub turn_later : (n : ℕ) → IsFaultyFile last (cut (placed z behind)) n → IsFaultyFile last (cut (placed z ts)) n
     turn_later n r =
         let spelled : IsItem g it.is.item (words (placed z item)) = rw (words_placed z item) it.is.spelled in
-        faulty n (subst (λ (y : List (List Placed)). IsFaulty last y n) (sym split) (later_item (record { sig = g; item = it.is.item; is = spelled }) r))
+        faulty n (subst (λ (y : List (List Placed)). IsFaultyFile last y n) (sym split) (later_item (record { sig = g; item = it.is.item; is = spelled }) r))
 
 -- where `end` is missing
-pub turn_over : ItemLaws → (last : ℕ) (z : List ℕ) (ts rest : List Token) → ((n : ℕ) → IsFaulty last (cut (placed z rest)) n → IsFaulty last (cut (placed z ts)) n) → rest ≡ []
-    → (items : List (List Placed)) → IsCut (placed z ts) items → IsFaulty last items last
+pub turn_over : ItemLaws → (last : ℕ) (z : List ℕ) (ts rest : List Token) → ((n : ℕ) → IsFaultyFile last (cut (placed z rest)) n → IsFaultyFile last (cut (placed z ts)) n) → rest ≡ []
+    → (items : List (List Placed)) → IsCut (placed z ts) items → IsFaultyFile last items last
 turn_over laws last z ts rest faulty none items r =
     let over : cut (placed z rest) ≡ [] = rw none refl in
-    let there = faulty last (subst (λ (y : List (List Placed)). IsFaulty last y last) (sym over) no_end) in
-    subst (λ (y : List (List Placed)). IsFaulty last y last) (cut_is laws r) there
+    let there = faulty last (subst (λ (y : List (List Placed)). IsFaultyFile last y last) (sym over) no_end) in
+    subst (λ (y : List (List Placed)). IsFaultyFile last y last) (cut_is laws r) there

@@ -10,7 +10,7 @@ use Rattle.sap_grammar.specs.ItemReading.{declared_in, told, declared_in_all}
 use Rattle.sap_draft.specs.declared.limits.TheConstants.{FILE_LIMITS}
 use Rattle.sap_draft.specs.Written.{Written}
 use Rattle.sap_read.specs.Item.{Item, builtins, functions, definition, process, statement, Standing, declared_by, declarations, body_of, stated_by}
-use Rattle.sap_read.specs.ItemGrammar.{IsItem, AreItems, IsFaulty, item_builtins, item_functions, item_definition, item_process, item_statement}
+use Rattle.sap_read.specs.ItemGrammar.{IsItem, AreItems, IsFaultyFile, item_builtins, item_functions, item_definition, item_process, item_statement}
 use Rattle.sap_statements.specs.declared.statement.Statement.{Statement}
 use Rattle.sap_statements.specs.Statements.{is_restriction, is_lemma}
 use Rattle.sap_read.specs.code.ItemLaws.{ItemLaws}
@@ -67,13 +67,13 @@ never_end g i v e s =
     let no : true ≡ false = not_end (subst (λ (w : List Word). IsItem g v w) e s) in
     absurd (cc)
 
-pub good_or_faulty : (g : Sig) (last n : ℕ) (cut : List (List Placed)) (is : List Standing) → AreItems g cut is → IsFaulty last cut n → ⊥
+pub good_or_faulty : (g : Sig) (last n : ℕ) (cut : List (List Placed)) (is : List Standing) → AreItems g cut is → IsFaultyFile last cut n → ⊥
 good_or_faulty g last n cut is (items_end e) (bad_item a b) = b e refl
 good_or_faulty g last n cut is (items_end {i = i} e) (later_item s r) = never_end s.sig i s.item e s.is
 good_or_faulty g last n cut is (items_more {v = v} s r) (bad_item a b) = a (record { sig = g; item = v; is = s })
 good_or_faulty g last n cut is (items_more {is = more} {vs = vs} s r) (later_item t k) = good_or_faulty g last n more vs r k
 
-pub one_fault : (last n k : ℕ) (cut : List (List Placed)) → IsFaulty last cut n → IsFaulty last cut k → n ≡ k
+pub one_fault : (last n k : ℕ) (cut : List (List Placed)) → IsFaultyFile last cut n → IsFaultyFile last cut k → n ≡ k
 one_fault last n k cut no_end no_end = refl
 one_fault last n k cut (bad_item a b) (bad_item c d) = refl
 one_fault last n k cut (bad_item a b) (later_item s r) = absurd (a s)

@@ -17,7 +17,7 @@ use Rattle.sap_statements.specs.declared.statement.Statement.{Statement}
 use Rattle.sap_read.specs.Item.{Standing, bodies, statements}
 use Rattle.sap_statements.specs.Stated.{AreFaultless, IsFirstFaulty, restrictions_of, lemmas_of}
 use Rattle.sap_grammar.specs.Cut.{Placed, placed, IsCut, IsHeader, last_line}
-use Rattle.sap_read.specs.ItemGrammar.{AreItems, IsFaulty}
+use Rattle.sap_read.specs.ItemGrammar.{AreItems, IsFaultyFile}
 use Rattle.sap_read.specs.Replaced.{process_of, no_meaning}
 use Rattle.sap_grammar.specs.Signatures.{signature_from}
 use Rattle.sap_read.specs.Item.{signature_of}
@@ -49,7 +49,7 @@ data AfterItems (x : List ℕ) (is : List Standing) : Result FileContent ReadFau
 
 -- what its parts make of it
 data AfterParts (x : List ℕ) (last : ℕ) (cut : List (List Placed)) : Result FileContent ReadFault → Type 0 where
-  is_faulty : (line : ℕ) → IsFaulty last cut line → AfterParts x last cut (Err (Syntax line))
+  is_faulty : (line : ℕ) → IsFaultyFile last cut line → AfterParts x last cut (Err (Syntax line))
   has_items : {o : Result FileContent ReadFault} (is : List Standing) → AreItems (signature_of is) cut is → AfterItems x is o → AfterParts x last cut o
 
 -- what its tokens make of it

@@ -20,7 +20,7 @@ use Rattle.sap_read.specs.Item.{Item, definition, process, statement, Standing, 
 use Rattle.sap_grammar.specs.Declarations.{Declaration}
 use Rattle.sap_grammar.specs.Cut.{Placed, placed, words, first_line, last_line}
 use Rattle.sap_draft.specs.ProcessGrammar.{IsProcess}
-use Rattle.sap_read.specs.ItemGrammar.{IsItem, AreItems, IsSomeItem, IsFaulty, item_definition, item_process, item_statement}
+use Rattle.sap_read.specs.ItemGrammar.{IsItem, AreItems, IsSomeItem, IsFaultyFile, item_definition, item_process, item_statement}
 use Rattle.sap_grammar.specs.Items.{items_end, items_more, no_end, bad_item, later_item}
 use Rattle.sap_grammar.specs.Signatures.{signature_from, clash_from}
 use Rattle.sap_read.specs.Item.{signature_of}
@@ -116,7 +116,7 @@ module _ (laws : ItemLaws) (stated : StatementLaws) (written : ProcessLaws) wher
 
   -- the pieces are items, or the first fault is on some line
   abbrev ItemsOrFault : Sig → ℕ → List (List Placed) → Type 0
-  ItemsOrFault g last cut = ((is : List Standing) × AreItems g cut is) ⊎ ((n : ℕ) × IsFaulty last cut n)
+  ItemsOrFault g last cut = ((is : List Standing) × AreItems g cut is) ⊎ ((n : ℕ) × IsFaultyFile last cut n)
 
   last_or_fault : (g : Sig) (last : ℕ) (i : List Placed) (is : List (List Placed)) → (IsSomeItem (words i) → ⊥) → ItemsOrFault g last (i ∷ is)
   last_or_fault g last i (j ∷ is) never = inr (first_line i, bad_item never (λ e none. absurd (cc (none))))

@@ -20,7 +20,7 @@ use Rattle.sap_read.specs.declared.fault.ReadFault.{ReadFault}
 use Rattle.sap_read.specs.declared.fault.ReadFault.TheVariants.{Lex as LexFault, Header, Syntax, Ill, Formula}
 use Rattle.sap_read.specs.Item.{Standing, bodies, statements}
 use Rattle.sap_grammar.specs.Cut.{Placed, placed, IsCut, IsHeader, last_line}
-use Rattle.sap_read.specs.ItemGrammar.{AreItems, IsFaulty}
+use Rattle.sap_read.specs.ItemGrammar.{AreItems, IsFaultyFile}
 use Rattle.sap_read.specs.Replaced.{process_of, no_meaning}
 use Rattle.sap_read.specs.Item.{signature_of}
 use Rattle.sap_read.specs.Causes.{cause_of, lock_fault}
@@ -54,7 +54,7 @@ pub record IsParted (z : List ℕ) (ts : List Token) (x : List ℕ) (cut : List 
 pub data IsRead (z : List ℕ) : Result FileContent ReadFault → Type 0 where
   no_tokens : {f : Lex} → IsLexed MOST_FILE_NAME_BYTES 0 1 z (Err f) → IsRead z (Err (LexFault f))
   no_header : {ts : List Token} → AreTokens z ts → ((x : List ℕ) (rest : List Placed) → IsHeader x (placed z ts) rest → ⊥) → IsRead z (Err Header)
-  no_item : {ts : List Token} {x : List ℕ} {cut : List (List Placed)} {line : ℕ} → IsParted z ts x cut → IsFaulty (last_line (placed z ts)) cut line
+  no_item : {ts : List Token} {x : List ℕ} {cut : List (List Placed)} {line : ℕ} → IsParted z ts x cut → IsFaultyFile (last_line (placed z ts)) cut line
       → IsRead z (Err (Syntax line))
   refused : {ts : List Token} {x : List ℕ} {cut : List (List Placed)} {is : List Standing} {e : ReadFault} → IsParted z ts x cut
       → AreItems (signature_of is) cut is → cause_of is ≡ Some e → IsRead z (Err e)

@@ -35,5 +35,5 @@ pub record IsSomeItem (a : List Word) : Type 0 where
 
 -- The first that is no item under any signature is on this line; where only `end` is missing, the line is that of the file's
 -- last word.
-abbrev pub IsFaulty : ℕ → List (List Placed) → ℕ → Type 0
-IsFaulty = items.IsFaulty IsSomeItem
+abbrev pub IsFaultyFile : ℕ → List (List Placed) → ℕ → Type 0
+IsFaultyFile = items.IsFaulty IsSomeItem

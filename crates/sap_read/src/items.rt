@@ -2,7 +2,7 @@
 ghost use Rattle.std.specs.Prelude.{◌≡◌, ℕ, true, codes, List, [], ◌∷◌, ◌++◌, IfOk, OnOk, IsErrOf};
 ghost use Rattle.sap_grammar.specs.Words.{starts, words_of};
 ghost use Rattle.sap_grammar.specs.Cut.{Placed, placed, IsCut};
-ghost use Rattle.sap_read.specs.ItemGrammar.{IsFaulty};
+ghost use Rattle.sap_read.specs.ItemGrammar.{IsFaultyFile};
 ghost use Rattle.sap_read.specs.code.ItemView.{AreSaid, IsAdded, IsPushed, IsStated, SaysProcess};
 ghost use Rattle.sap_read.specs.declared.fault.ReadFault.{ReadFault};
 ghost use Rattle.sap_read.specs.declared.fault.ReadFault.TheVariants.{Mem as OutOfMemory, Syntax};
@@ -151,7 +151,7 @@ pub(crate) fn read_items(
         → IsCut (placed bytes.now tokens.now) cut → AreSaid sig.now cut c.entries c.statements) }
     ensures faulty { (line : ℕ) → IsErrOf result (Syntax line) → (cut : List (List Placed))
         → IsCut (placed bytes.now tokens.now) cut
-        → IsFaulty last cut line }
+        → IsFaultyFile last cut line }
     ensures other { (e : ReadFault) → IsErrOf result e → (e ≡ OutOfMemory → ⊥) → (line : ℕ)
         × (e ≡ Syntax line) }
 {

@@ -3,7 +3,7 @@ use Rattle.std.proofs.Common.{◌≡◌, ℕ, ◌≤◌, refl, sym, subst, ◌�
 use Rattle.std.specs.Prelude.{MatchOption, IsTrue}
 use Rattle.sap_restrict.proofs.Longer.{IsLonger}
 use Rattle.sap_restrict.specs.ReservedFacts.{delete_fact, event_fact, init_fact, input_fact, insert_fact, lock_fact, unlock_fact}
-use Rattle.sap_restrict.specs.Stands.{HasValue, IsFree, IsHeldSince, IsReleased, IsUnset, IsUsable, MayTake}
+use Rattle.sap_restrict.specs.Stands.{HasValue, IsUnlocked, IsHeldSince, IsReleased, IsUnset, IsUsable, MayTake}
 use Rattle.sap_restrict.specs.code.Deeds.{Deed, deletes, happens, inserts, knows, locks, starts, takes, unlocks}
 use Rattle.sap_terms.proofs.PlainLaws.Tests.{same_tree-refl}
 use Rattle.sap_terms.specs.AdversaryFacts.{k_fact}
@@ -18,7 +18,7 @@ abbrev pub StoreStands : (ℕ → Fact → Type 0) → Tree → Option Tree → 
 StoreStands H x o = MatchOption o (IsUnset H x) (λ v. HasValue H x v)
 
 abbrev pub HeldStands : (ℕ → Fact → Type 0) → Tree → Option Tree → Type 0
-HeldStands H x o = MatchOption o (IsFree H x) (λ l. (i : ℕ) × IsHeldSince H l x i)
+HeldStands H x o = MatchOption o (IsUnlocked H x) (λ l. (i : ℕ) × IsHeldSince H l x i)
 
 abbrev pub UsableStands : (ℕ → Fact → Type 0) → Option Tree → Type 0
 UsableStands H o = MatchOption o ((x : Tree) (j : ℕ) → ¬ IsUsable H x j) (λ x. MayTake H x)
@@ -90,7 +90,7 @@ module _ (H H' : ℕ → Fact → Type 0) (n : ℕ) (d : Deed) (l : IsLonger H H
     },
   )
 
-  pub held_lock : (k x : Tree) → d ≡ locks k x → IsFree H x → HeldStands H' x (Some k)
+  pub held_lock : (k x : Tree) → d ≡ locks k x → IsUnlocked H x → HeldStands H' x (Some k)
   held_lock k x q f = (
     n,
     record {

@@ -4,7 +4,7 @@ use Rattle.std.specs.Prelude.{is_none}
 use Rattle.sap_restrict.proofs.Lasts.{HeldStands, StartStands, StoreStands, UsableStands, not_same}
 use Rattle.sap_restrict.proofs.Steps.{Asks}
 use Rattle.sap_restrict.specs.ReservedFacts.{insert_fact}
-use Rattle.sap_restrict.specs.Stands.{IsFree, IsStored, IsUnset, IsUsable, Machine}
+use Rattle.sap_restrict.specs.Stands.{IsUnlocked, IsStored, IsUnset, IsUsable, Machine}
 use Rattle.sap_restrict.specs.code.Deeds.{Deed, deletes, differs, equals, finds, happens, idle, inserts, knows, locks, misses, starts, takes, unlocks}
 use Rattle.sap_restrict.specs.code.Machines.{broken, is_the}
 use Rattle.sap_restrict.specs.declared.which.Which.{Which}
@@ -85,11 +85,11 @@ module _ (H : ℕ → Fact → Type 0) where
       let c = r.2 in
       omega arith
 
-  none_free : (o : Option Tree) (x : Tree) → HeldStands H x o → is_none o ≡ true → IsFree H x
+  none_free : (o : Option Tree) (x : Tree) → HeldStands H x o → is_none o ≡ true → IsUnlocked H x
   none_free None x w h = w
   none_free (Some v) x w h = absurd (cc)
 
-  some_held : (o : Option Tree) (x : Tree) → HeldStands H x o → is_none o ≡ false → IsFree H x → ⊥
+  some_held : (o : Option Tree) (x : Tree) → HeldStands H x o → is_none o ≡ false → IsUnlocked H x → ⊥
   some_held None x w h f = absurd (cc)
   some_held (Some k) x w h f =
       let r = f k w.0 w.1.locked in
@@ -167,5 +167,5 @@ module _ (e : Equations) (H : ℕ → Fact → Type 0) (m : Machine) (k : Keeps 
   fails (unlocks l s) x w h = absurd (nothing w h)
   fails idle x w h = absurd (nothing w h)
 
-pub free_lock : (H : ℕ → Fact → Type 0) (m : Machine) → Keeps H m → (l s : Tree) → broken m (locks l s) ≡ None → IsFree H s
+pub free_lock : (H : ℕ → Fact → Type 0) (m : Machine) → Keeps H m → (l s : Tree) → broken m (locks l s) ≡ None → IsUnlocked H s
 free_lock H m k l s h = none_free H (m.held s) s (k.held s) (none_then (is_none (m.held s)) Lock h)

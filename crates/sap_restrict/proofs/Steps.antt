@@ -3,7 +3,7 @@ use Rattle.std.proofs.Common.{◌≡◌, ℕ, ◌<◌, refl, sym, subst, ◌∙�
 use Rattle.sap_restrict.proofs.Longer.{IsExtension, IsLonger, same}
 use Rattle.sap_restrict.specs.ReservedFacts.{delete_fact, eq_fact, event_fact, init_fact, input_fact, insert_fact, is_in_fact, is_not_set_fact, lock_fact, not_eq_fact, unlock_fact}
 use Rattle.sap_restrict.specs.Sentences.{IsFound, IsServed, Says}
-use Rattle.sap_restrict.specs.Stands.{IsFree, IsStored, IsUnset, IsUsable}
+use Rattle.sap_restrict.specs.Stands.{IsUnlocked, IsStored, IsUnset, IsUsable}
 use Rattle.sap_restrict.specs.code.Deeds.{Deed, deletes, differs, equals, finds, happens, inserts, knows, locks, misses, starts, takes}
 use Rattle.sap_restrict.specs.declared.which.Which.{Which}
 use Rattle.sap_restrict.specs.declared.which.Which.TheVariants.{Eq, In, InEv, Init, Lock, NotEq, NotIn}
@@ -20,7 +20,7 @@ Asks e H d Eq = (x y : Tree) → d ≡ equals x y → IsTheoryEqual e x y
 Asks e H d NotEq = (x y : Tree) → d ≡ differs x y → IsTheoryEqual e x y → ⊥
 Asks e H d In = (x v : Tree) → d ≡ finds x v → (j : ℕ) × IsStored H x v j
 Asks e H d NotIn = (x : Tree) → d ≡ misses x → IsUnset H x
-Asks e H d Lock = (m x : Tree) → d ≡ locks m x → IsFree H x
+Asks e H d Lock = (m x : Tree) → d ≡ locks m x → IsUnlocked H x
 Asks e H d InEv = (x : Tree) → d ≡ takes x → (j : ℕ) × IsUsable H x j
 
 module _ (H H' : ℕ → Fact → Type 0) (n : ℕ) (l : IsExtension H H' n) where

@@ -15,7 +15,7 @@ use Rattle.sap_restrict.specs.ReservedFacts.{eq_fact, init_fact, input_fact, ins
 use Rattle.sap_restrict.specs.Sentences.{Says}
 use Rattle.sap_restrict.specs.Shown.{HasAlike}
 use Rattle.sap_restrict.specs.Standard.{IsAdmitted}
-use Rattle.sap_restrict.specs.Stands.{HasOneReserved, Machine, Stands}
+use Rattle.sap_restrict.specs.Stands.{HasOneReserved, Machine, KeepsTrace}
 use Rattle.sap_restrict.specs.code.Deeds.{Deed, deed_by, reserved_in}
 use Rattle.sap_restrict.specs.code.Machines.{Does, after, broken, fresh_machine}
 use Rattle.sap_restrict.specs.declared.guard.Admit.{Admit}
@@ -41,7 +41,7 @@ prefix_law decide w g tr us m h =
     (meaning_law decide w g tr (messages_before g tr us m)).1
     (says_back (HasAlike tr) (HasAlike (tr ++ us)) (length tr) (extension tr us) (equations g) w ((meaning_law decide w g (tr ++ us) m).0 h))
 
-keeps : (m : Machine) (tr : Trace) → Stands m tr → Keeps (HasAlike tr) m
+keeps : (m : Machine) (tr : Trace) → KeepsTrace m tr → Keeps (HasAlike tr) m
 keeps m tr s = record { started = s.started; stored = s.stored; held = s.held; usable = s.usable }
 
 some_is : (v w : Which) → Some v ≡ Some w → v ≡ w
@@ -66,15 +66,15 @@ module _ (decide : NormalTermsDecide) (g : Sig) (tr : Trace) (p : List Fact) (on
             (decide (equations g) x y m.0.normal m.1.0.normal).0 e
       ]
 
-  said : (m : Machine) → Stands m tr → (w : Which) → Says (equations g) (HasAlike tr) w
+  said : (m : Machine) → KeepsTrace m tr → (w : Which) → Says (equations g) (HasAlike tr) w
   said m s w = (meaning_law decide w g tr (messages_before g tr (p ∷ []) msgs)).0 (s.admitted g (messages_before g tr (p ∷ []) msgs) w)
 
-  still_admitted : (m : Machine) → Stands m tr → broken m done ≡ None → IsAdmitted g (tr ++ p ∷ [])
+  still_admitted : (m : Machine) → KeepsTrace m tr → broken m done ≡ None → IsAdmitted g (tr ++ p ∷ [])
   still_admitted m s h w =
       (meaning_law decide w g (tr ++ p ∷ []) msgs).1
       (says_on (HasAlike tr) (HasAlike (tr ++ p ∷ [])) (length tr) done longer (equations g) w (said m s w) (passes (equations g) (HasAlike tr) m (keeps m tr s) done exact h w))
 
-  one_false : (m : Machine) → Stands m tr → (w : Which) → broken m done ≡ Some w → IsOnlyFalse g (tr ++ p ∷ []) w
+  one_false : (m : Machine) → KeepsTrace m tr → (w : Which) → broken m done ≡ Some w → IsOnlyFalse g (tr ++ p ∷ []) w
   one_false m s w h =
       let f = fails (equations g) (HasAlike tr) m (keeps m tr s) done exact w h in
       record {
@@ -84,7 +84,7 @@ module _ (decide : NormalTermsDecide) (g : Sig) (tr : Trace) (p : List Fact) (on
             (says_on (HasAlike tr) (HasAlike (tr ++ p ∷ [])) (length tr) done longer (equations g) v (said m s v) (unwatched (equations g) (HasAlike tr) done v (λ q. no (some_is v w (sym q ∙ f.0)))));
       }
 
-pub stands_next : NormalTermsDecide → (p : List Fact) → HasOneReserved p → (m : Machine) (tr : Trace) → Stands m tr → broken m (deed_by (reserved_in p)) ≡ None → Stands (after m (deed_by (reserved_in p))) (tr ++ p ∷ [])
+pub stands_next : NormalTermsDecide → (p : List Fact) → HasOneReserved p → (m : Machine) (tr : Trace) → KeepsTrace m tr → broken m (deed_by (reserved_in p)) ≡ None → KeepsTrace (after m (deed_by (reserved_in p))) (tr ++ p ∷ [])
 stands_next decide p one m tr s h =
     let k = keeps_after (HasAlike tr) (HasAlike (tr ++ p ∷ [])) (length tr) m (keeps m tr s) (deed_by (reserved_in p)) (one_longer tr p one) h in
     record {
@@ -96,7 +96,7 @@ stands_next decide p one m tr s h =
     }
 
 pub answers : NormalTermsDecide → (p : List Fact) → HasOneReserved p → (r : Result Admit Mem) (m n : Machine) → Does (deed_by (reserved_in p)) r m n → IfOk r (λ a. Answers a m n p)
-answers decide p one (Ok Kept) m n d = λ tr s. subst (λ z. Stands z (tr ++ p ∷ [])) (sym d.1) (stands_next decide p one m tr s d.0)
+answers decide p one (Ok Kept) m n d = λ tr s. subst (λ z. KeepsTrace z (tr ++ p ∷ [])) (sym d.1) (stands_next decide p one m tr s d.0)
 answers decide p one (Ok (Broken w)) m n d = (d.1, λ g tr s msgs. one_false decide g tr p one msgs m s w d.0)
 answers decide p one (Err e) m n d = tt
 
@@ -118,7 +118,7 @@ nothing_said g NotIn = λ x y i j a b o. absurd (none_shown i (is_not_set_fact x
 nothing_said g Lock = λ l m x i j a b o. absurd (none_shown i (lock_fact l x) a)
 nothing_said g InEv = λ x i a. absurd (none_shown i (input_fact x) a)
 
-pub fresh_stands : NormalTermsDecide → Stands fresh_machine []
+pub fresh_stands : NormalTermsDecide → KeepsTrace fresh_machine []
 fresh_stands decide = record {
   started = (λ h. absurd (cc), λ r. absurd (none_shown r.0 init_fact r.1));
   stored = λ x y j s. absurd (none_shown j (insert_fact x y) s);

@@ -2,7 +2,7 @@
 use Rattle.std.specs.Prelude.{◌≡◌, List, [], ◌∷◌, ◌++◌}
 use Rattle.sap_formula.specs.Truth.{IsTrueOn}
 use Rattle.sap_restrict.specs.Standard.{standard}
-use Rattle.sap_restrict.specs.Stands.{Machine, Stands}
+use Rattle.sap_restrict.specs.Stands.{Machine, KeepsTrace}
 use Rattle.sap_restrict.specs.declared.guard.Admit.{Admit}
 use Rattle.sap_restrict.specs.declared.guard.Admit.TheVariants.{Kept, Broken}
 use Rattle.sap_restrict.specs.declared.which.Which.{Which}
@@ -20,5 +20,5 @@ pub record IsOnlyFalse (g : Sig) (tr : Trace) (w : Which) : Type 0 where
 -- the time behind it, where all seven formulas are true; broken, it keeps what it kept, and on each such trace of messages the
 -- formula that it names is false
 abbrev pub Answers : Admit → Machine → Machine → List Fact → Type 0
-Answers Kept m n p = (tr : Trace) → Stands m tr → Stands n (tr ++ p ∷ [])
-Answers (Broken w) m n p = (n ≡ m) × ((g : Sig) (tr : Trace) → Stands m tr → IsMessageTrace g (tr ++ p ∷ []) → IsOnlyFalse g (tr ++ p ∷ []) w)
+Answers Kept m n p = (tr : Trace) → KeepsTrace m tr → KeepsTrace n (tr ++ p ∷ [])
+Answers (Broken w) m n p = (n ≡ m) × ((g : Sig) (tr : Trace) → KeepsTrace m tr → IsMessageTrace g (tr ++ p ∷ []) → IsOnlyFalse g (tr ++ p ∷ []) w)

@@ -145,6 +145,6 @@ standard InEv = each_served
 abbrev pub every_which : List Which
 every_which = Init ∷ Eq ∷ NotEq ∷ In ∷ NotIn ∷ Lock ∷ InEv ∷ []
 
--- a full trace counts where all seven formulas are true on it
+-- a full trace is admitted where all seven formulas are true on it
 abbrev pub IsAdmitted : Sig → Trace → Type 0
 IsAdmitted g tr = (w : Which) → IsTrueOn g (standard w) tr

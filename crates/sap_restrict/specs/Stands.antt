@@ -41,8 +41,8 @@ abbrev pub IsReleased : (ℕ → Fact → Type 0) → Tree → Tree → ℕ → 
 IsReleased H l x i = (k : ℕ) × H k (unlock_fact l x) × (i < k)
 
 -- after each lock of x comes the unlock of its name
-abbrev pub IsFree : (ℕ → Fact → Type 0) → Tree → Type 0
-IsFree H x = (l : Tree) (i : ℕ) → H i (lock_fact l x) → IsReleased H l x i
+abbrev pub IsUnlocked : (ℕ → Fact → Type 0) → Tree → Type 0
+IsUnlocked H x = (l : Tree) (i : ℕ) → H i (lock_fact l x) → IsReleased H l x i
 
 -- x was locked under the name l at time i and not unlocked under it from then on; after each lock under another name came its
 -- unlock
@@ -65,9 +65,9 @@ MayTake H x = (j : ℕ) × IsUsable H x j × ((y : Tree) → H j (k_fact y) → 
 
 -- the machine keeps of the trace whether it started, what the store has, what is held under which name, and what an input may
 -- take next; and all seven formulas are true on the trace, for each signature for which it is one of messages
-pub record Stands (m : Machine) (tr : Trace) : Type 0 where
+pub record KeepsTrace (m : Machine) (tr : Trace) : Type 0 where
   pub started : IsTrue m.started ↔ ((i : ℕ) × HasAlike tr i init_fact)
   pub stored : (x : Tree) → MatchOption (m.stored x) (IsUnset (HasAlike tr) x) (λ v. HasValue (HasAlike tr) x v)
-  pub held : (x : Tree) → MatchOption (m.held x) (IsFree (HasAlike tr) x) (λ l. (i : ℕ) × IsHeldSince (HasAlike tr) l x i)
+  pub held : (x : Tree) → MatchOption (m.held x) (IsUnlocked (HasAlike tr) x) (λ l. (i : ℕ) × IsHeldSince (HasAlike tr) l x i)
   pub usable : MatchOption m.usable ((x : Tree) (j : ℕ) → ¬ IsUsable (HasAlike tr) x j) (λ x. MayTake (HasAlike tr) x)
   pub admitted : (g : Sig) → IsMessageTrace g tr → IsAdmitted g tr

@@ -3,7 +3,7 @@ ghost use Rattle.std.specs.Prelude.{◌≡◌, [], IfOk, OnErr, Ok, option_map};
 ghost use Rattle.std.specs.Option.{option_copied};
 ghost use Rattle.sap_terms.specs.View.{tree};
 ghost use Rattle.sap_restrict.specs.Answer.{Answers};
-ghost use Rattle.sap_restrict.specs.Stands.{HasOneReserved, Stands};
+ghost use Rattle.sap_restrict.specs.Stands.{HasOneReserved, KeepsTrace};
 ghost use Rattle.sap_restrict.specs.View.{machine};
 ghost use Rattle.sap_restrict.specs.code.Deeds.{deed, deed_by, deed_none, deed_one, deed_two, reserved_in, starts, happens, knows, takes, deletes, misses, equals, differs, inserts, finds, locks, unlocks};
 ghost use Rattle.sap_restrict.specs.code.Machines.{Does, fresh_machine, is_the};
@@ -38,7 +38,7 @@ pub struct Guard {
 impl Guard {
     /// The guard that stands for the empty trace. It takes no memory.
     pub fn new(alloc: Global) -> Guard
-        ensures { Stands (machine result) [] }
+        ensures { KeepsTrace (machine result) [] }
     {
         normal_terms_decide();
         Guard::fresh(alloc)

@@ -5,7 +5,7 @@ use Rattle.std.proofs.lemmas.Bool.{le-leb}
 use Rattle.sap_terms.specs.declared.limits.TheConstants.{MOST_TERM_NODES}
 use Rattle.sap_terms.specs.Tree.{Tree, variable, public, fresh, apply, Trees, list_of, trees_of-list_of, node_count, trees_count}
 use Rattle.sap_grammar.specs.ByteWords.{Ends}
-use Rattle.sap_runs.specs.Limits.{IsSmall}
+use Rattle.sap_runs.specs.Limits.{HasFewNodes}
 use Rattle.sap_run_lines.specs.RunTerms.{IsRunTerm, IsRunRest, AreRunTerms, term_public, term_fresh, term_constant, term_symbol, term_tuple, rest_last, rest_more, terms_last, terms_more}
 use Rattle.sap_run_lines.specs.code.Taking.{starts, after}
 use Rattle.sap_run_lines.specs.code.TermTaking.{term, rest, terms, small_term}
@@ -57,7 +57,7 @@ mutual
   terms_read (terms_more {t = t} {ts = ts} {y = y} r s) (suc d) le xs =
       rw (term_read r d (omega (arith, le)) (comma y), terms_read s d (omega (arith, le, some_nodes t)) (xs ++ t ∷ []), append_assoc xs (t ∷ []) (list_of ts)) refl
 
-pub small_term_read : {t : Tree} {z k : List ℕ} → IsRunTerm t z k → IsSmall t → Closes k → small_term z ≡ Some (t, k)
+pub small_term_read : {t : Tree} {z k : List ℕ} → IsRunTerm t z k → HasFewNodes t → Closes k → small_term z ≡ Some (t, k)
 unfolding small_term after
 small_term_read {t = t} r small c =
     let few : nat_le (node_count t) MOST_TERM_NODES ≡ true = le-leb (node_count t) MOST_TERM_NODES small in

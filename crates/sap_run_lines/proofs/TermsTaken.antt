@@ -4,7 +4,7 @@ use Rattle.std.specs.Prelude.{decimal, nat_le}
 use Rattle.std.proofs.lemmas.Bool.{eqb-true, leb-true}
 use Rattle.sap_terms.specs.declared.limits.TheConstants.{MOST_TERM_NODES}
 use Rattle.sap_terms.specs.Tree.{Tree, trees_of, node_count}
-use Rattle.sap_runs.specs.Limits.{IsSmall}
+use Rattle.sap_runs.specs.Limits.{HasFewNodes}
 use Rattle.sap_run_lines.specs.RunTerms.{IsNumber, IsRunName, IsRunContent, IsRunTerm, IsRunRest, AreRunTerms, term_public, term_fresh, term_constant, term_symbol, term_tuple, rest_last, rest_more, terms_last, terms_more}
 use Rattle.sap_run_lines.specs.code.Taking.{starts, name_at, number_at, content_at}
 use Rattle.sap_run_lines.specs.code.TermTaking.{Taker, term, rest, terms, term_at, rest_at, terms_at, public_at, fresh_at, tuple_at, symbol_at, small_term}
@@ -91,7 +91,7 @@ mutual
   terms_on_all zero xs z = tt
   terms_on_all (suc d) xs z = terms_on (term d) (rest d) (terms d) (term_on d) (rest_on_all d) (terms_on_all d) xs z
 
-pub small_term_on : (z : List ℕ) → OnTaken (λ t k. IsRunTerm t z k × IsSmall t) (small_term z)
+pub small_term_on : (z : List ℕ) → OnTaken (λ t k. IsRunTerm t z k × HasFewNodes t) (small_term z)
 unfolding small_term
-small_term_on z = after_on (λ t k. IsRunTerm t z k) (both (λ t k. IsRunTerm t z k × IsSmall t)) (term (2 * MOST_TERM_NODES) z) _ (term_on (2 * MOST_TERM_NODES) z) (λ t k h.
-    if_on (both (λ t k. IsRunTerm t z k × IsSmall t)) (nat_le (node_count t) MOST_TERM_NODES) _ _ (λ e. (h, leb-true (node_count t) MOST_TERM_NODES e)) (λ e. tt))
+small_term_on z = after_on (λ t k. IsRunTerm t z k) (both (λ t k. IsRunTerm t z k × HasFewNodes t)) (term (2 * MOST_TERM_NODES) z) _ (term_on (2 * MOST_TERM_NODES) z) (λ t k h.
+    if_on (both (λ t k. IsRunTerm t z k × HasFewNodes t)) (nat_le (node_count t) MOST_TERM_NODES) _ _ (λ e. (h, leb-true (node_count t) MOST_TERM_NODES e)) (λ e. tt))

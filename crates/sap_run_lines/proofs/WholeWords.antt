@@ -8,7 +8,7 @@ use Rattle.sap_terms.specs.declared.var.Sort.TheVariants.{Msg, Fresh, Pub}
 use Rattle.sap_terms.specs.declared.var.Var.{Var}
 use Rattle.sap_terms.specs.Tree.{Tree, node_count}
 use Rattle.sap_grammar.specs.TermText.{sign_of}
-use Rattle.sap_runs.specs.Limits.{IsSmall}
+use Rattle.sap_runs.specs.Limits.{HasFewNodes}
 use Rattle.sap_run_lines.specs.RunTerms.{IsNumber, IsRunName, IsRunContent, IsRunTerm}
 use Rattle.sap_run_lines.specs.StepLines.{IsDecided}
 use Rattle.sap_run_lines.specs.WholeWords.{IsReadAs, IsFreshName, IsPublicName, IsRunVariable, IsWholeTerm}
@@ -124,7 +124,7 @@ variable_told z = both IsRunVariable z (variable_alone z) (variable_is z) (λ v 
 -- terms
 
 term_is : (z : List ℕ) → OnSome (λ t. IsWholeTerm t z) (term_alone z)
-term_is z = whole_on (λ t k. IsRunTerm t z k × IsSmall t) (small_term z) (small_term_on z)
+term_is z = whole_on (λ t k. IsRunTerm t z k × HasFewNodes t) (small_term z) (small_term_on z)
 
 term_back : (t : Tree) (z : List ℕ) → IsWholeTerm t z → term_alone z ≡ Some t
 unfolding after

@@ -10,7 +10,7 @@ use Rattle.sap_terms.specs.declared.var.Sort.{Sort}
 use Rattle.sap_terms.specs.declared.var.Sort.TheVariants.{Msg, Fresh, Pub}
 use Rattle.sap_terms.specs.Tree.{Tree, Trees}
 use Rattle.sap_grammar.specs.TermText.{sign_of, variable_text}
-use Rattle.sap_runs.specs.Limits.{IsSmall}
+use Rattle.sap_runs.specs.Limits.{HasFewNodes}
 use Rattle.sap_run_lines.specs.RunTerms.{IsNumber, IsRunName, IsRunContent, IsRunTerm, IsRunRest, AreRunTerms, term_public, term_fresh, term_constant, term_symbol, term_tuple, rest_last, rest_more, terms_last, terms_more}
 use Rattle.sap_run_lines.specs.LineWords.{LineWord, bound, IsLineWord, word_identifier, word_number, word_fresh, word_public, word_bound, AreLineWords, words_last, words_more}
 use Rattle.sap_run_lines.specs.code.Taking.{after, starts, starts_letter, identifier_at, name_at, number_at, content_at}
@@ -28,7 +28,7 @@ from {w = w} {k = k} r e = subst (λ (y : List ℕ). IsLineWord w y k) (sym e) r
 bound_on : (s : Sort) (z y : List ℕ) → y ≡ sign_of s ++ z → OnTaken (λ w k. IsLineWord w y k) (bound_at s z)
 bound_on s z y e = after_on (λ x k. IsRunName x × (z ≡ x ++ k)) (both (λ w k. IsLineWord w y k)) (name_at z) _ (name_on z) (λ x r h.
     if_on (both (λ w k. IsLineWord w y k)) (starts 61 r) _ _ (λ c.
-    after_on (λ t k. IsRunTerm t (drop 1 r) k × IsSmall t) (both (λ w k. IsLineWord w y k)) (small_term (drop 1 r)) _ (small_term_on (drop 1 r)) (λ t k i.
+    after_on (λ t k. IsRunTerm t (drop 1 r) k × HasFewNodes t) (both (λ w k. IsLineWord w y k)) (small_term (drop 1 r)) _ (small_term_on (drop 1 r)) (λ t k i.
     from (word_bound {v = sorted s x} h.0 i.0 i.1)
     (e ∙ (ap (λ u. sign_of s ++ u) (h.1 ∙ ap (λ u. x ++ u) (first_is 61 r c)) ∙ sym (append_assoc (sign_of s) x (61 ∷ drop 1 r)))))) (λ c. tt))
 
@@ -93,11 +93,11 @@ no_letter n k fits =
     at : (b : ℕ) → is_ascii_digit b ≡ true → is_ascii_alphabetic b ≡ false
     at b d = grind arith
 
-bound_read : {t : Tree} {z k : List ℕ} (s : Sort) (x : List ℕ) → IsRunName x → IsRunTerm t z k → IsSmall t → Closes k → bound_at s (x ++ (61 ∷ z)) ≡ Some (bound (sorted s x) t, k)
+bound_read : {t : Tree} {z k : List ℕ} (s : Sort) (x : List ℕ) → IsRunName x → IsRunTerm t z k → HasFewNodes t → Closes k → bound_at s (x ++ (61 ∷ z)) ≡ Some (bound (sorted s x) t, k)
 unfolding after
 bound_read {z = z} s x n r small c = rw (name_read x (61 ∷ z) n refl, small_term_read r small c) refl
 
-value_read : {t : Tree} {z k : List ℕ} (s : Sort) (x : List ℕ) → IsRunName x → IsRunTerm t z k → IsSmall t → Closes k → word_at ((sign_of s ++ x) ++ (61 ∷ z)) ≡ Some (bound (sorted s x) t, k)
+value_read : {t : Tree} {z k : List ℕ} (s : Sort) (x : List ℕ) → IsRunName x → IsRunTerm t z k → HasFewNodes t → Closes k → word_at ((sign_of s ++ x) ++ (61 ∷ z)) ≡ Some (bound (sorted s x) t, k)
 unfolding word_at after
 value_read {z = z} Fresh x n r small c = rw (letter_first x (61 ∷ z) n.is, bound_read Fresh x n r small c) refl
 value_read Pub x n r small c = rw (bound_read Pub x n r small c) refl

@@ -6,7 +6,7 @@ use Rattle.sap_text.specs.Tokens.{IsToken}
 use Rattle.sap_terms.specs.declared.var.Var.{Var}
 use Rattle.sap_terms.specs.Tree.{Tree}
 use Rattle.sap_grammar.specs.TermText.{variable_text}
-use Rattle.sap_runs.specs.Limits.{IsSmall}
+use Rattle.sap_runs.specs.Limits.{HasFewNodes}
 use Rattle.sap_run_lines.specs.RunTerms.{IsNumber, IsRunName, IsRunContent, IsRunTerm}
 
 -- an identifier, a number, a fresh name by its number, a public name, a variable with the term that stands for it
@@ -23,7 +23,7 @@ pub data IsLineWord : LineWord → List ℕ → List ℕ → Type 0 where
   word_number : {n : ℕ} {k : List ℕ} → IsNumber n → IsLineWord (number n) (decimal n ++ k) k
   word_fresh : {n : ℕ} {k : List ℕ} → IsNumber n → IsLineWord (fresh_name n) (126 ∷ (decimal n ++ k)) k
   word_public : {s k : List ℕ} → IsRunContent s → IsLineWord (public_name s) (39 ∷ (s ++ (39 ∷ k))) k
-  word_bound : {v : Var} {t : Tree} {z k : List ℕ} → IsRunName v.name → IsRunTerm t z k → IsSmall t
+  word_bound : {v : Var} {t : Tree} {z k : List ℕ} → IsRunName v.name → IsRunTerm t z k → HasFewNodes t
       → IsLineWord (bound v t) (variable_text v ++ (61 ∷ z)) k
 
 -- all of the bytes are these words, one or more, with one blank between each two

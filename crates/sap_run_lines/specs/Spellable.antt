@@ -4,7 +4,7 @@ use Rattle.sap_text.specs.declared.token.Kind.TheVariants as kind
 use Rattle.sap_text.specs.Tokens.{IsToken}
 use Rattle.sap_terms.specs.Tree.{Tree, variable, public, fresh, apply, Trees, none, more}
 use Rattle.sap_grammar.specs.TermText.{is_pair}
-use Rattle.sap_runs.specs.Limits.{IsSmall}
+use Rattle.sap_runs.specs.Limits.{HasFewNodes}
 use Rattle.sap_runs.specs.declared.process_step.PStep.{PStep}
 use Rattle.sap_runs.specs.declared.rule_step.RStep.{RStep}
 use Rattle.sap_run_lines.specs.RunTerms.{IsNumber, IsRunName, IsRunContent}
@@ -30,7 +30,7 @@ IsWritableWord (identifier x) = IsToken kind.Ident x
 IsWritableWord (number n) = IsNumber n
 IsWritableWord (fresh_name n) = IsNumber n
 IsWritableWord (public_name s) = IsRunContent s
-IsWritableWord (bound v t) = IsRunName v.name × IsWritable t × IsSmall t
+IsWritableWord (bound v t) = IsRunName v.name × IsWritable t × HasFewNodes t
 
 -- each of these words
 abbrev pub AreWritableWords : List LineWord → Type 0

@@ -5,7 +5,7 @@ use Rattle.std.specs.List.{list_all}
 use Rattle.sap_terms.specs.declared.var.Var.{Var}
 use Rattle.sap_terms.specs.Tree.{Tree}
 use Rattle.sap_grammar.specs.TermText.{variable_text}
-use Rattle.sap_runs.specs.Limits.{IsSmall}
+use Rattle.sap_runs.specs.Limits.{HasFewNodes}
 use Rattle.sap_run_lines.specs.RunTerms.{IsNumber, IsRunName, IsRunContent, IsRunTerm}
 
 -- the value that something is, or that it is none's
@@ -27,7 +27,7 @@ IsRunVariable v z = IsRunName v.name × (z ≡ variable_text v)
 
 -- they spell this ground term, which has at most 256 nodes
 abbrev pub IsWholeTerm : Tree → List ℕ → Type 0
-IsWholeTerm t z = IsRunTerm t z [] × IsSmall t
+IsWholeTerm t z = IsRunTerm t z [] × HasFewNodes t
 
 -- a byte of ASCII
 abbrev pub is_ascii : ℕ → Bool

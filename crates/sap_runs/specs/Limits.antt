@@ -8,5 +8,5 @@ abbrev pub AnySize : Tree → Type 0
 AnySize t = Unit {0}
 
 -- of at most 256 nodes
-abbrev pub IsSmall : Tree → Type 0
-IsSmall t = node_count t ≤ MOST_TERM_NODES
+abbrev pub HasFewNodes : Tree → Type 0
+HasFewNodes t = node_count t ≤ MOST_TERM_NODES

@@ -3,7 +3,7 @@ ghost use Rattle.std.specs.Prelude.{◌≡◌, [], ◌∷◌};
 ghost use Rattle.sap_terms.specs.AdversaryFacts.{k_fact};
 ghost use Rattle.sap_runs.specs.Examples.{k, v, a_fact, b_fact, hashed};
 ghost use Rattle.sap_runs.specs.Inner.{locked, unlocked, found};
-ghost use Rattle.sap_runs.specs.Limits.{AnySize, IsSmall};
+ghost use Rattle.sap_runs.specs.Limits.{AnySize, HasFewNodes};
 ghost use Rattle.sap_runs.specs.Marks.{inside, showing, marks_of};
 
 /// A law: the marks of single steps. What a step does inside comes first, one mark for each action and in their order; then, as
@@ -24,7 +24,7 @@ pub fn marks_of_steps_by_hand()
 
 /// A law: a term of 256 nodes is within the limit, one of 257 isn't, and one of any size is of any size.
 pub fn limit_by_hand()
-    ensures at_limit { IsSmall (hashed 255) }
-    ensures above_limit { ¬ IsSmall (hashed 256) }
+    ensures at_limit { HasFewNodes (hashed 255) }
+    ensures above_limit { ¬ HasFewNodes (hashed 256) }
     ensures any { AnySize (hashed 256) }
 {}

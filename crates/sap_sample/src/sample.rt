@@ -2,7 +2,7 @@
 ghost use Rattle.std.specs.Prelude.{◌≡◌, ◌≤◌, ◌++◌, ◌+◌, ◌*◌, Ok, length, IfOk, OnOk};
 ghost use Rattle.sap_process.specs.Proc.{proc};
 ghost use Rattle.sap_read.specs.Files.{IsRead, IsRunnable, told_by};
-ghost use Rattle.sap_forward.specs.Converted.{IsConverted as IsForward, IsShownBy};
+ghost use Rattle.sap_forward.specs.Converted.{IsConverted as IsForward, IsShownByLines};
 ghost use Rattle.sap_back.specs.Converted.{IsConverted as IsBack};
 ghost use Rattle.sap_terms.specs.Trace.{Trace as Seen};
 ghost use Rattle.sap_sample.specs.Sample.{count_line, counts_text, most_sessions, sample_file_text, sample_lines, sample_text, session};
@@ -91,7 +91,7 @@ fn converted(alloc: Global, n: u64, file: &File, run: &PSteps) -> Result<Text, M
 // At how many times the run of the file's process shows something. No line of the sample is refused.
 fn shown_times(alloc: Global, file: &File, run: &PSteps) -> Result<u64, Mem>
     requires runnable { IsRunnable (told_by file.now) }
-    ensures { IfOk result (λ times. (tr : Seen) × IsShownBy file.now.signature (proc file.now.process) run.now tr × (times ≡ length tr)) }
+    ensures { IfOk result (λ times. (tr : Seen) × IsShownByLines file.now.signature (proc file.now.process) run.now tr × (times ≡ length tr)) }
 {
     match process_trace(alloc, file, run) {
         Ok(trace) => Ok(trace.len()),
@@ -102,7 +102,7 @@ fn shown_times(alloc: Global, file: &File, run: &PSteps) -> Result<u64, Mem>
 // The run of rules opposite to a run of the file's process that shows something, of which no line is refused.
 fn rules_opposite(alloc: Global, file: &File, run: &PSteps) -> Result<RSteps, Mem>
     requires runnable { IsRunnable (told_by file.now) }
-    requires shown { (tr : Seen) × IsShownBy file.now.signature (proc file.now.process) run.now tr }
+    requires shown { (tr : Seen) × IsShownByLines file.now.signature (proc file.now.process) run.now tr }
     ensures { IfOk result (IsForward file.now.signature (proc file.now.process) run.now) }
 {
     process_runs_have_one_answer();

@@ -8,7 +8,7 @@ use Rattle.sap_terms.specs.Signature.{Sig}
 use Rattle.sap_formula.specs.Form.{Form}
 use Rattle.sap_formula.specs.declared.binder.Binder.{Binder}
 use Rattle.sap_grammar.specs.Words.{Word, mark, is_lower}
-use Rattle.sap_grammar.specs.Cut.{IsFree}
+use Rattle.sap_grammar.specs.Cut.{AreNoItemWords}
 use Rattle.sap_grammar.specs.TermGrammar.{IsTerm, term_constant, term_fresh, term_message, term_pub, term_quoted, term_symbol, term_tuple}
 use Rattle.sap_grammar.specs.ByteWords.{IsName, AreTokenWords}
 use Rattle.sap_grammar.specs.Printed.{ArePrinted}
@@ -119,11 +119,11 @@ module _ (printed : ArePrinted) where
       iff_names (iff_one r) h = imp_names r h
       iff_names (iff_more r s) h = let f = imp_names r h in let k = imp_names s f.1.1 in ((f.0, k.0), k.1)
 
-  time_free : {i : List ℕ} {a b : List Word} → IsTime i a b → IsFree b → IsFree a
+  time_free : {i : List ℕ} {a b : List Word} → IsTime i a b → AreNoItemWords b → AreNoItemWords a
   time_free time_signed h = (refl, (refl, h))
   time_free time_plain h = (refl, h)
 
-  atom_free : {g : Sig} {f : Form} {a b : List Word} → IsAtom g f a b → IsFree b → IsFree a
+  atom_free : {g : Sig} {f : Form} {a b : List Word} → IsAtom g f a b → AreNoItemWords b → AreNoItemWords a
   atom_free (atom_true e) h = (refl, h)
   atom_free (atom_false e) h = (refl, h)
   atom_free (atom_action r p t) h = printed.fact_free _ _ _ _ r (refl, time_free t h)
@@ -131,36 +131,36 @@ module _ (printed : ArePrinted) where
   atom_free atom_same h = (refl, (refl, (refl, (refl, (refl, h)))))
   atom_free (atom_earlier plain r s) h = time_free r (refl, time_free s h)
 
-  binder_free : {v : Binder} {a b : List Word} → IsBinder v a b → IsFree b → IsFree a
+  binder_free : {v : Binder} {a b : List Word} → IsBinder v a b → AreNoItemWords b → AreNoItemWords a
   binder_free binds_message h = (refl, h)
   binder_free binds_fresh h = (refl, (refl, h))
   binder_free binds_pub h = (refl, (refl, h))
   binder_free binds_time h = (refl, (refl, h))
 
-  binders_free : {vs : List Binder} {a b : List Word} → AreBinders vs a b → IsFree b → IsFree a
+  binders_free : {vs : List Binder} {a b : List Word} → AreBinders vs a b → AreNoItemWords b → AreNoItemWords a
   binders_free (binders_last r) h = binder_free r (refl, h)
   binders_free (binders_more r s) h = binder_free r (binders_free s h)
 
   mutual
-    un_free : {g : Sig} {e : Reach} {f : Form} {n : ℕ} {a b : List Word} → IsUn g e f n a b → IsFree b → IsFree a
+    un_free : {g : Sig} {e : Reach} {f : Form} {n : ℕ} {a b : List Word} → IsUn g e f n a b → AreNoItemWords b → AreNoItemWords a
     un_free (un_atom r) h = atom_free r h
     un_free (un_not r) h = (refl, un_free r h)
     un_free (un_every r s) h = (refl, binders_free r (iff_free s h))
     un_free (un_exists r s) h = (refl, binders_free r (iff_free s h))
     un_free (un_parentheses r) h = (refl, iff_free r (refl, h))
 
-    and_free : {g : Sig} {e : Reach} {f : Form} {n : ℕ} {a b : List Word} → IsAnd g e f n a b → IsFree b → IsFree a
+    and_free : {g : Sig} {e : Reach} {f : Form} {n : ℕ} {a b : List Word} → IsAnd g e f n a b → AreNoItemWords b → AreNoItemWords a
     and_free (and_one r) h = un_free r h
     and_free (and_more r s) h = and_free r (refl, un_free s h)
 
-    or_free : {g : Sig} {e : Reach} {f : Form} {n : ℕ} {a b : List Word} → IsOr g e f n a b → IsFree b → IsFree a
+    or_free : {g : Sig} {e : Reach} {f : Form} {n : ℕ} {a b : List Word} → IsOr g e f n a b → AreNoItemWords b → AreNoItemWords a
     or_free (or_one r) h = and_free r h
     or_free (or_more r s) h = or_free r (refl, and_free s h)
 
-    imp_free : {g : Sig} {e : Reach} {f : Form} {n : ℕ} {a b : List Word} → IsImp g e f n a b → IsFree b → IsFree a
+    imp_free : {g : Sig} {e : Reach} {f : Form} {n : ℕ} {a b : List Word} → IsImp g e f n a b → AreNoItemWords b → AreNoItemWords a
     imp_free (imp_one r) h = or_free r h
     imp_free (imp_more r s) h = or_free r (refl, imp_free s h)
 
-    pub iff_free : {g : Sig} {e : Reach} {f : Form} {n : ℕ} {a b : List Word} → IsIff g e f n a b → IsFree b → IsFree a
+    pub iff_free : {g : Sig} {e : Reach} {f : Form} {n : ℕ} {a b : List Word} → IsIff g e f n a b → AreNoItemWords b → AreNoItemWords a
     iff_free (iff_one r) h = imp_free r h
     iff_free (iff_more r s) h = imp_free r (refl, imp_free s h)

@@ -7,7 +7,7 @@ ghost use Rattle.sap_formula.specs.declared.fault.FormulaFault.{FormulaFault};
 ghost use Rattle.sap_formula.specs.Sorted.{with_sorts};
 ghost use Rattle.sap_grammar.specs.declared.limits.Limits.{Limits};
 ghost use Rattle.sap_grammar.specs.Words.{Word};
-ghost use Rattle.sap_grammar.specs.Cut.{IsFree};
+ghost use Rattle.sap_grammar.specs.Cut.{AreNoItemWords};
 ghost use Rattle.sap_grammar.specs.ByteWords.{AreTokenWords};
 ghost use Rattle.sap_statements.specs.FormulaExamples.{closing, precedence_words, precedence_formula, left_words, left_formula, right_words, right_formula, body_words, body_formula, chain_words, enclosed_words, enclosed_formula, name_words, name_formula, truth_words, lemma_words, lemma_statement};
 ghost use Rattle.sap_statements.specs.FormulaGrammar.{IsIff, IsShortFormula, Reach, closed, reaching, EndsFormula, IsFormulaAt};
@@ -96,7 +96,7 @@ pub fn formulas_are_printable()
     ensures names { (most : ℕ) (g : Sig) (e : Reach) (f : Form) (n : ℕ) (a b : List Word)
         → IsIff g e f n a b → AreTokenWords most a → FormHasNames most f × AreTokenWords most b }
     ensures free { (g : Sig) (e : Reach) (f : Form) (n : ℕ) (a b : List Word) → IsIff g e f n a b
-        → IsFree b → IsFree a }
+        → AreNoItemWords b → AreNoItemWords a }
 {
     printed_words();
 }

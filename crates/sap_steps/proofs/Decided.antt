@@ -30,7 +30,7 @@ use Rattle.sap_rewrite.specs.Match.{bound_vars}
 use Rattle.sap_rule.specs.Variables.{open_variables}
 use Rattle.sap_rule.specs.declared.rule.Rule.{Rule}
 use Rattle.sap_steps.specs.Faults.{AreRight, IsFirstMissing}
-use Rattle.sap_steps.specs.Lines.{IsSmall}
+use Rattle.sap_steps.specs.Lines.{HasFewNodes}
 use Rattle.sap_steps.proofs.Vars.{nothing_in, first_item, later_item, item_cases}
 
 -- it is so, or isn't
@@ -191,14 +191,14 @@ module _ (each : EachHasForm) (one_form : FormIsOne) (g : Sig) where
   HasLarge t = (n : Tree) × SomeSubterm (IsFormOf n) t × (MOST_TERM_NODES < node_count n)
 
   abbrev AllSmall : Tree → Type 0
-  AllSmall t = (n : Tree) → SomeSubterm (IsFormOf n) t → IsSmall n
+  AllSmall t = (n : Tree) → SomeSubterm (IsFormOf n) t → HasFewNodes n
 
-  own : (t : Tree) → HasLarge t ⊎ ((n : Tree) → IsFormOf n t → IsSmall n)
+  own : (t : Tree) → HasLarge t ⊎ ((n : Tree) → IsFormOf n t → HasFewNodes n)
   own t =
       let f = each (equations g) t in
       elim (cases_lt MOST_TERM_NODES (node_count f.0)) [
         | inl large ↦ inl (f.0, itself f.1, large)
-        | inr small ↦ inr (λ n h. subst IsSmall (one_form (equations g) t f.0 n f.1 h) small)
+        | inr small ↦ inr (λ n h. subst HasFewNodes (one_form (equations g) t f.0 n f.1 h) small)
       ]
 
   leaf : (t : Tree) → ((n : Tree) → SomeSubterm (IsFormOf n) t → IsFormOf n t) → HasLarge t ⊎ AllSmall t
@@ -213,11 +213,11 @@ module _ (each : EachHasForm) (one_form : FormIsOne) (g : Sig) where
   only_fresh : (k : ℕ) (n : Tree) → SomeSubterm (IsFormOf n) (fresh k) → IsFormOf n (fresh k)
   only_fresh k n (itself h) = h
 
-  applied : (f : List ℕ) (ts : Trees) (n : Tree) → ((n : Tree) → IsFormOf n (apply f ts) → IsSmall n) → ((n : Tree) → SomeSubtermWithin (IsFormOf n) ts → IsSmall n) → SomeSubterm (IsFormOf n) (apply f ts) → IsSmall n
+  applied : (f : List ℕ) (ts : Trees) (n : Tree) → ((n : Tree) → IsFormOf n (apply f ts) → HasFewNodes n) → ((n : Tree) → SomeSubtermWithin (IsFormOf n) ts → HasFewNodes n) → SomeSubterm (IsFormOf n) (apply f ts) → HasFewNodes n
   applied f ts n small within (itself h) = small n h
   applied f ts n small within (below h) = within n h
 
-  any_of : (t : Tree) (ts : Trees) (n : Tree) → AllSmall t → ((n : Tree) → SomeSubtermWithin (IsFormOf n) ts → IsSmall n) → SomeSubtermWithin (IsFormOf n) (more t ts) → IsSmall n
+  any_of : (t : Tree) (ts : Trees) (n : Tree) → AllSmall t → ((n : Tree) → SomeSubtermWithin (IsFormOf n) ts → HasFewNodes n) → SomeSubtermWithin (IsFormOf n) (more t ts) → HasFewNodes n
   any_of t ts n first rest (here h) = first n h
   any_of t ts n first rest (later h) = rest n h
 
@@ -231,7 +231,7 @@ module _ (each : EachHasForm) (one_form : FormIsOne) (g : Sig) where
       | inr within ↦ elim (own (apply f ts)) [ inl h ↦ inl h | inr small ↦ inr (λ n h. applied f ts n small within h) ]
     ]
 
-    pub larges_or_not : (ts : Trees) → ((n : Tree) × SomeSubtermWithin (IsFormOf n) ts × (MOST_TERM_NODES < node_count n)) ⊎ ((n : Tree) → SomeSubtermWithin (IsFormOf n) ts → IsSmall n)
+    pub larges_or_not : (ts : Trees) → ((n : Tree) × SomeSubtermWithin (IsFormOf n) ts × (MOST_TERM_NODES < node_count n)) ⊎ ((n : Tree) → SomeSubtermWithin (IsFormOf n) ts → HasFewNodes n)
     larges_or_not none = inr (λ n h. elim h [ ])
     larges_or_not (more t ts) = elim (large_or_not t) [
       | inl h ↦ inl (h.0, here h.1, h.2)

@@ -25,7 +25,7 @@ use Rattle.sap_sides.specs.Forms.{SomeLarge, args_of, HaveArgs}
 use Rattle.sap_sides.specs.Messages.{IsGroundFact}
 use Rattle.sap_steps.specs.code.Firing.{IsLeftSame, Evaluates, EvaluatesOtherwise, IsEvaluationFault, limited_fault}
 use Rattle.sap_sides.specs.Messages.{IsSmallMessageFact}
-use Rattle.sap_steps.specs.Lines.{Fires, IsSmall, rule_terms}
+use Rattle.sap_steps.specs.Lines.{Fires, HasFewNodes, rule_terms}
 use Rattle.sap_steps.specs.declared.fault.RFault.{RFault}
 use Rattle.sap_steps.specs.declared.fault.RFault.TheVariants.{Mem, NoRule, FactCount, FactMissing, BadBinding, NoMatch, TermLarge, Unequal, UsedName, WrongFact, NoEntry, NotPublic, Arity}
 use Rattle.sap_rewrite.specs.declared.cut.Cut.{Cut}
@@ -135,7 +135,7 @@ module _ (laws : Laws) (g : Sig) (r : Rule) (b c : List Binding) (cited : List F
   small : (SomeLarge g (map (instance (bound_to c)) (rule_terms r)) → ⊥) → SomeLarge g (map (instance chosen.0) (rule_terms r)) → ⊥
   small h s = h (subst (SomeLarge g) (sym same_terms) s)
 
-  pub fires : (acts right : List Fact) → Evaluates g (bound_to c) r cited acts right → Fires g IsSmall r b cited acts right
+  pub fires : (acts right : List Fact) → Evaluates g (bound_to c) r cited acts right → Fires g HasFewNodes r b cited acts right
   fires acts right e = record {
     choice = chosen.0;
     binds = record { vars = good.vars; agrees = fitting.agrees };

@@ -29,7 +29,7 @@ use Rattle.sap_rule.specs.declared.rule.Rule.{Rule}
 use Rattle.sap_runs.specs.declared.rule_step.RStep.TheVariants.{Fresh, Learn, Own, Apply, Know, Rule as RuleLine}
 use Rattle.sap_steps.specs.Answers.{LinesHaveOneAnswer, ReachedHaveOneAnswer}
 use Rattle.sap_steps.specs.Faults.{FactFits, FactHolds, IsRuleRefusal, IsRuleFault, IsFaultOfNamed}
-use Rattle.sap_steps.specs.Lines.{IsRuleLine, Fires, IsSmall}
+use Rattle.sap_steps.specs.Lines.{IsRuleLine, Fires, HasFewNodes}
 use Rattle.sap_steps.specs.declared.fault.RFault.{RFault}
 use Rattle.sap_steps.specs.declared.fault.RFault.TheVariants.{Mem, NoRule, FactCount, FactMissing, BadBinding, NoMatch, TermLarge, Unequal, UsedName, WrongFact, NoEntry, NotPublic, Arity}
 use Rattle.sap_steps.proofs.Determined.{facts_fit, left_same, terms_same}
@@ -102,7 +102,7 @@ good_terms : (g : Sig) (σ : Choice) (b : List Binding) → IsMessageChoice g σ
 good_terms g σ [] m a = All-nil (λ (e : Binding). IsMessage g e.var.sort (tree e.term))
 good_terms g σ (x ∷ xs) m a = All-cons (λ (e : Binding). IsMessage g e.var.sort (tree e.term)) x xs (subst (IsMessage g x.var.sort) a.0 (m x.var)) (good_terms g σ xs m a.1)
 
-module _ (modulo : MatchingAroundIsModulo) (one_form : FormIsOne) (taken : TakenAreMessages) (g : Sig) (r : Rule) (s : RuleState) (ks : List ℕ) (b : List Binding) (acts left right : List Fact) (rest : Pile) (well : IsWellMade g r) (holds : HoldsMessages g s) (takes : Takes s.facts ks left rest) (fires : Fires g IsSmall r b left acts right) where
+module _ (modulo : MatchingAroundIsModulo) (one_form : FormIsOne) (taken : TakenAreMessages) (g : Sig) (r : Rule) (s : RuleState) (ks : List ℕ) (b : List Binding) (acts left right : List Fact) (rest : Pile) (well : IsWellMade g r) (holds : HoldsMessages g s) (takes : Takes s.facts ks left rest) (fires : Fires g HasFewNodes r b left acts right) where
   abbrev σ : Choice
   σ = fires.choice
 
@@ -146,13 +146,13 @@ module _ (modulo : MatchingAroundIsModulo) (one_form : FormIsOne) (taken : Taken
   rule_answer (NotPublic n) h = absurd h.refusal
   rule_answer (Arity n) h = absurd h.refusal
 
-named_answer : MatchingAroundIsModulo → FormIsOne → TakenAreMessages → (g : Sig) (rules : List Rule) (s z : RuleState) (name ks : List ℕ) (b : List Binding) (acts : List Fact) (e : RFault) → All (IsWellMade g) rules → HoldsMessages g s → IsRuleLine g rules IsSmall s name ks b acts z → IsFaultOfNamed g rules s.facts name ks b e → e ≡ Mem
+named_answer : MatchingAroundIsModulo → FormIsOne → TakenAreMessages → (g : Sig) (rules : List Rule) (s z : RuleState) (name ks : List ℕ) (b : List Binding) (acts : List Fact) (e : RFault) → All (IsWellMade g) rules → HoldsMessages g s → IsRuleLine g rules HasFewNodes s name ks b acts z → IsFaultOfNamed g rules s.facts name ks b e → e ≡ Mem
 named_answer modulo one_form taken g rules s z name ks b acts e well holds line found =
     let r = found.rule in
     let named = found.named in
     let same : line.rule ≡ r = cc (line.named, named) in
     let at = Contains-rule_named rules r name named in
-    rule_answer modulo one_form taken g r s ks b acts line.left line.right line.rest (All-contains (IsWellMade g) rules r well (Contains-get rules r at.0 at.1)) holds line.takes (subst (λ q. Fires g IsSmall q b line.left acts line.right) same line.fires) e found.cause
+    rule_answer modulo one_form taken g r s ks b acts line.left line.right line.rest (All-contains (IsWellMade g) rules r well (Contains-get rules r at.0 at.1)) holds line.takes (subst (λ q. Fires g HasFewNodes q b line.left acts line.right) same line.fires) e found.cause
 
 pub one_answer : MatchingAroundIsModulo → FormIsOne → TakenAreMessages → LinesHaveOneAnswer
 one_answer modulo one_form taken g rules s z acts (Fresh n) (UsedName m) well holds line h = absurd (line.new h.1)

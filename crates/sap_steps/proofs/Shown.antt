@@ -12,7 +12,7 @@ use Rattle.sap_rule.specs.Messages.{StepsKeepMessages}
 use Rattle.sap_rule.specs.RuleSteps.{RuleState}
 use Rattle.sap_rule.specs.WellMade.{IsWellMade}
 use Rattle.sap_runs.specs.declared.rule_step.RStep.{RStep}
-use Rattle.sap_steps.specs.Lines.{IsLine, IsSmall}
+use Rattle.sap_steps.specs.Lines.{IsLine, HasFewNodes}
 use Rattle.sap_steps.specs.Runs.{LinesAreSteps}
 use Rattle.sap_sides.specs.Messages.{IsSmallMessage, IsSmallMessageFact, HoldsSmallMessages}
 use Rattle.sap_steps.specs.code.Ready.{IsReady, rules_of}
@@ -33,7 +33,7 @@ well_rules g [] h = All-nil (IsWellMade g)
 well_rules g (p ∷ ps) h =
     All-cons (IsWellMade g) p.rule (rules_of ps) (All-head (IsReady g) p ps h).well_made (well_rules g ps (All-tail (IsReady g) p ps h))
 
-pub shown : LinesAreSteps IsSmall → StepsKeepMessages → (g : Sig) (ps : List Prepared) (facts : Pile) (known : List Tree) (made : List ℕ) (z : RuleState) (line : RStep) (acts : List Fact) → HoldsBuiltins g → All (IsReady g) ps → HoldsSmallMessages g facts → All (IsMessage g Msg) known → IsLine g (rules_of ps) IsSmall (record { facts = facts; known = known; made = made }) line acts z → AreMessageFacts g acts
+pub shown : LinesAreSteps HasFewNodes → StepsKeepMessages → (g : Sig) (ps : List Prepared) (facts : Pile) (known : List Tree) (made : List ℕ) (z : RuleState) (line : RStep) (acts : List Fact) → HoldsBuiltins g → All (IsReady g) ps → HoldsSmallMessages g facts → All (IsMessage g Msg) known → IsLine g (rules_of ps) HasFewNodes (record { facts = facts; known = known; made = made }) line acts z → AreMessageFacts g acts
 shown steps keep g ps facts known made z line acts builtins ready held messages is =
     let s : RuleState = record { facts = facts; known = known; made = made } in
     (keep g (rules_of ps) s z acts builtins (well_rules g ps ready) (record { facts = stands_messages g facts held; known = messages }) (steps g (rules_of ps) s z acts line is)).0

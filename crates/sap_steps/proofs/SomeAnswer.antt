@@ -31,7 +31,7 @@ use Rattle.sap_runs.specs.declared.rule_step.RStep.{RStep}
 use Rattle.sap_runs.specs.declared.rule_step.RStep.TheVariants.{Fresh, Learn, Own, Public, Apply, Know, Rule as RuleLine}
 use Rattle.sap_steps.specs.Answers.{LinesHaveSomeAnswer, ReachedHaveSomeAnswer}
 use Rattle.sap_steps.specs.Faults.{FactFits, FactHolds, AreRight, IsFitting, IsLineFault}
-use Rattle.sap_steps.specs.Lines.{IsLine, IsSmall, rule_terms}
+use Rattle.sap_steps.specs.Lines.{IsLine, HasFewNodes, rule_terms}
 use Rattle.sap_steps.specs.declared.fault.RFault.{RFault}
 use Rattle.sap_steps.specs.declared.fault.RFault.TheVariants.{Mem, NoRule, FactCount, FactMissing, BadBinding, NoMatch, TermLarge, Unequal, UsedName, WrongFact, NoEntry, NotPublic, Arity}
 use Rattle.sap_steps.proofs.Decided.{Decided, both, bool_or_not, bytes_or_not, nat_or_not, tree_or_not, arity_or_not, contains_or_not, takes_or_missing, known_or_not, right_or_not, larges_or_not}
@@ -143,7 +143,7 @@ module _ (laws : Laws) (g : Sig) where
 
   module _ (rules : List Rule) (s : RuleState) (holds : HoldsMessages g s) where
     abbrev Answer : RStep → Type 0
-    Answer line = ((acts : List Fact) × (z : RuleState) × IsLine g rules IsSmall s line acts z) ⊎ ((e : RFault) × IsLineFault g rules s line e × (¬ (e ≡ Mem)))
+    Answer line = ((acts : List Fact) × (z : RuleState) × IsLine g rules HasFewNodes s line acts z) ⊎ ((e : RFault) × IsLineFault g rules s line e × (¬ (e ≡ Mem)))
 
     fresh_line : (n : ℕ) → Answer (Fresh n)
     fresh_line n = elim (contains_or_not s.made n) [

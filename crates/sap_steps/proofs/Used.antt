@@ -12,7 +12,7 @@ use Rattle.sap_runs.specs.declared.rule_step.RStep.TheVariants.{Rule as RuleLine
 use Rattle.sap_steps.specs.Faults.{IsLineFault, IsRuleFault}
 use Rattle.sap_facts.specs.Cited.{cited_at}
 use Rattle.sap_facts.specs.Cited.{left_of, AreTaken}
-use Rattle.sap_steps.specs.Lines.{IsLine, Fires, IsSmall}
+use Rattle.sap_steps.specs.Lines.{IsLine, Fires, HasFewNodes}
 use Rattle.sap_steps.specs.declared.fault.RFault.{RFault}
 use Rattle.sap_steps.specs.declared.fault.RFault.TheVariants.{Mem, NoRule, FactCount, FactMissing, BadBinding, NoMatch, TermLarge, Unequal, UsedName, WrongFact, NoEntry, NotPublic, Arity}
 
@@ -35,8 +35,8 @@ pub rule_fault : (g : Sig) (rules : List Rule) (s : RuleState) (name ks : List �
 rule_fault g rules s name ks b r e named (inl memory) = rw memory tt
 rule_fault g rules s name ks b r e named (inr fault) = fault_of_rule g rules s name ks b r e named fault
 
-pub rule_line : (g : Sig) (rules : List Rule) (facts after : Pile) (known : List Tree) (made name ks : List ℕ) (b : List Binding) (r : Rule) (acts right : List Fact) → rule_named rules name ≡ Some r → AreTaken facts ks → Fires g IsSmall r b (cited_at facts ks) acts right
-    → after ≡ adds (left_of facts ks) right → let s : RuleState = record { facts = facts; known = known; made = made } in let z : RuleState = record { facts = after; known = known; made = made } in IsLine g rules IsSmall s (RuleLine name ks b) acts z
+pub rule_line : (g : Sig) (rules : List Rule) (facts after : Pile) (known : List Tree) (made name ks : List ℕ) (b : List Binding) (r : Rule) (acts right : List Fact) → rule_named rules name ≡ Some r → AreTaken facts ks → Fires g HasFewNodes r b (cited_at facts ks) acts right
+    → after ≡ adds (left_of facts ks) right → let s : RuleState = record { facts = facts; known = known; made = made } in let z : RuleState = record { facts = after; known = known; made = made } in IsLine g rules HasFewNodes s (RuleLine name ks b) acts z
 rule_line g rules facts after known made name ks b r acts right named taken fires becomes = record {
   rule = r;
   named = named;

@@ -31,7 +31,7 @@ use Rattle.sap_sides.specs.Fitting.{ArgsFit, FactsFit}
 use Rattle.sap_sides.specs.Forms.{SomeLarge, args_of, HaveArgs}
 use Rattle.sap_sides.specs.Messages.{IsGroundFact}
 use Rattle.sap_sides.specs.Messages.{IsSmallMessage, IsSmallMessageFact}
-use Rattle.sap_steps.specs.Lines.{IsEvaluated, IsSmall, rule_terms}
+use Rattle.sap_steps.specs.Lines.{IsEvaluated, HasFewNodes, rule_terms}
 use Rattle.sap_steps.specs.code.Firing.{Laws}
 use Rattle.sap_steps.proofs.Vars.{nothing_in, item_cases, first_item, later_item}
 
@@ -133,7 +133,7 @@ form_large_within e most n ts l s = some_map_within (λ u. IsNormalForm e u n) (
 pub large_evaluated : (g : Sig) (r : Rule) (σ : Choice) → SomeLarge g (map (instance σ) (rule_terms r)) → (n : Tree) × IsEvaluated g r σ n × (MOST_TERM_NODES < node_count n)
 large_evaluated g r σ s = large_form_within (equations g) MOST_TERM_NODES _ (subst (SomeSubtermWithin (HasLargeForm (equations g) MOST_TERM_NODES)) (sym (instances-list σ (rule_terms r))) s)
 
-pub evaluated_small : (g : Sig) (r : Rule) (σ : Choice) → (SomeLarge g (map (instance σ) (rule_terms r)) → ⊥) → (n : Tree) → IsEvaluated g r σ n → IsSmall n
+pub evaluated_small : (g : Sig) (r : Rule) (σ : Choice) → (SomeLarge g (map (instance σ) (rule_terms r)) → ⊥) → (n : Tree) → IsEvaluated g r σ n → HasFewNodes n
 evaluated_small g r σ h n s = elim (cases_lt MOST_TERM_NODES (node_count n)) as (λ _. node_count n ≤ MOST_TERM_NODES) [
   | inl l ↦ absurd (h (subst (SomeSubtermWithin (HasLargeForm (equations g) MOST_TERM_NODES)) (instances-list σ (rule_terms r)) (form_large_within (equations g) MOST_TERM_NODES n _ l s)))
   | inr k ↦ k

@@ -10,19 +10,19 @@ use Rattle.sap_rule.specs.WellMade.{IsWellMade}
 use Rattle.sap_rule.specs.declared.rule.Rule.{Rule}
 use Rattle.sap_runs.specs.declared.rule_step.RStep.{RStep}
 use Rattle.sap_steps.specs.Faults.{IsLineFault}
-use Rattle.sap_steps.specs.Lines.{IsLine, IsSmall}
+use Rattle.sap_steps.specs.Lines.{IsLine, HasFewNodes}
 use Rattle.sap_steps.specs.declared.fault.RFault.{RFault}
 use Rattle.sap_steps.specs.declared.fault.RFault.TheVariants.{Mem}
 
 -- in a state that holds messages a line that is possible within the limit is refused for want of memory alone
 abbrev pub LinesHaveOneAnswer : Type 0
 LinesHaveOneAnswer =
-    (g : Sig) (rules : List Rule) (s z : RuleState) (acts : List Fact) (line : RStep) (e : RFault) → All (IsWellMade g) rules → HoldsMessages g s → IsLine g rules IsSmall s line acts z → IsLineFault g rules s line e → e ≡ Mem
+    (g : Sig) (rules : List Rule) (s z : RuleState) (acts : List Fact) (line : RStep) (e : RFault) → All (IsWellMade g) rules → HoldsMessages g s → IsLine g rules HasFewNodes s line acts z → IsLineFault g rules s line e → e ≡ Mem
 
 -- so in each state that a run of well-made rules reaches
 abbrev pub ReachedHaveOneAnswer : Type 0
 ReachedHaveOneAnswer =
-    (g : Sig) (rules : List Rule) (s z : RuleState) (full : Trace) (acts : List Fact) (line : RStep) (e : RFault) → HoldsBuiltins g → All (IsWellMade g) rules → RuleRun g rules s full → IsLine g rules IsSmall s line acts z → IsLineFault g rules s line e → e ≡ Mem
+    (g : Sig) (rules : List Rule) (s z : RuleState) (full : Trace) (acts : List Fact) (line : RStep) (e : RFault) → HoldsBuiltins g → All (IsWellMade g) rules → RuleRun g rules s full → IsLine g rules HasFewNodes s line acts z → IsLineFault g rules s line e → e ≡ Mem
 
 -- two causes for which a line of well-made rules is refused are one, but for want of memory
 abbrev pub RefusalsAreOne : Type 0
@@ -42,9 +42,9 @@ ReachedHaveOneOutcome W =
 -- in a state that holds messages a line is possible within the limit, or refused for another cause than want of memory
 abbrev pub LinesHaveSomeAnswer : Type 0
 LinesHaveSomeAnswer =
-    (g : Sig) (rules : List Rule) (s : RuleState) (line : RStep) → HoldsMessages g s → ((acts : List Fact) × (z : RuleState) × IsLine g rules IsSmall s line acts z) ⊎ ((e : RFault) × IsLineFault g rules s line e × (¬ (e ≡ Mem)))
+    (g : Sig) (rules : List Rule) (s : RuleState) (line : RStep) → HoldsMessages g s → ((acts : List Fact) × (z : RuleState) × IsLine g rules HasFewNodes s line acts z) ⊎ ((e : RFault) × IsLineFault g rules s line e × (¬ (e ≡ Mem)))
 
 -- so in each state that a run of well-made rules reaches
 abbrev pub ReachedHaveSomeAnswer : Type 0
 ReachedHaveSomeAnswer =
-    (g : Sig) (rules : List Rule) (s : RuleState) (full : Trace) (line : RStep) → HoldsBuiltins g → All (IsWellMade g) rules → RuleRun g rules s full → ((acts : List Fact) × (z : RuleState) × IsLine g rules IsSmall s line acts z) ⊎ ((e : RFault) × IsLineFault g rules s line e × (¬ (e ≡ Mem)))
+    (g : Sig) (rules : List Rule) (s : RuleState) (full : Trace) (line : RStep) → HoldsBuiltins g → All (IsWellMade g) rules → RuleRun g rules s full → ((acts : List Fact) × (z : RuleState) × IsLine g rules HasFewNodes s line acts z) ⊎ ((e : RFault) × IsLineFault g rules s line e × (¬ (e ≡ Mem)))

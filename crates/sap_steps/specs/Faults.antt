@@ -24,7 +24,7 @@ use Rattle.sap_rule.specs.Variables.{open_variables}
 use Rattle.sap_rule.specs.declared.rule.Rule.{Rule}
 use Rattle.sap_runs.specs.declared.rule_step.RStep.{RStep}
 use Rattle.sap_runs.specs.declared.rule_step.RStep.TheVariants.{Fresh, Learn, Own, Apply, Know, Rule as RuleLine}
-use Rattle.sap_steps.specs.Lines.{IsEvaluated, IsSmall}
+use Rattle.sap_steps.specs.Lines.{IsEvaluated, HasFewNodes}
 use Rattle.sap_steps.specs.declared.fault.RFault.{RFault}
 use Rattle.sap_steps.specs.declared.fault.RFault.TheVariants.{Mem, NoRule, FactCount, FactMissing, BadBinding, NoMatch, TermLarge, Unequal, UsedName, WrongFact, NoEntry, NotPublic, Arity}
 
@@ -62,7 +62,7 @@ pub record HoldsOther (g : Sig) (r : Rule) (b : List Binding) (cited : List Fact
   pub right : AreRight g r b
   pub choice : Choice
   pub fitting : IsFitting g r b cited choice
-  pub small : (n : Tree) → IsEvaluated g r choice n → IsSmall n
+  pub small : (n : Tree) → IsEvaluated g r choice n → HasFewNodes n
   pub other : ¬ AllZip (FactHolds g choice) r.left cited
 
 -- a rule is not used on the cited facts with these bindings, for this cause; each comes only where none before it does

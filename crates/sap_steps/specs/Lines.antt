@@ -16,7 +16,7 @@ use Rattle.sap_rule.specs.Named.{rule_named}
 use Rattle.sap_rule.specs.RuleSteps.{RuleState, makes, gains, leaves, IsUse}
 use Rattle.sap_rule.specs.Variables.{open_variables}
 use Rattle.sap_rule.specs.declared.rule.Rule.{Rule}
-pub use Rattle.sap_runs.specs.Limits.{AnySize, IsSmall}
+pub use Rattle.sap_runs.specs.Limits.{AnySize, HasFewNodes}
 use Rattle.sap_runs.specs.declared.rule_step.RStep.{RStep}
 use Rattle.sap_runs.specs.declared.rule_step.RStep.TheVariants.{Fresh, Learn, Own, Public, Apply, Know, Rule as RuleLine}
 

@@ -8,7 +8,7 @@ use Rattle.sap_rule.specs.Named.{HaveNamesOfTheirOwn}
 use Rattle.sap_rule.specs.RuleSteps.{RuleState, empty_state, RuleStep, RuleRun}
 use Rattle.sap_rule.specs.declared.rule.Rule.{Rule}
 use Rattle.sap_runs.specs.declared.rule_step.RStep.{RStep}
-use Rattle.sap_steps.specs.Lines.{IsLine, AnySize, IsSmall}
+use Rattle.sap_steps.specs.Lines.{IsLine, AnySize, HasFewNodes}
 
 -- each of these lines in turn is possible, from the empty state on, where each normal form that is evaluated is as W says; the
 -- last leads to this state, and this is the full trace
@@ -37,9 +37,9 @@ RunsCanBeWritten =
 -- a line that is possible within the limit is possible
 abbrev pub SmallLinesAreLines : Type 0
 SmallLinesAreLines =
-    (g : Sig) (rules : List Rule) (s z : RuleState) (acts : List Fact) (line : RStep) → IsLine g rules IsSmall s line acts z → IsLine g rules AnySize s line acts z
+    (g : Sig) (rules : List Rule) (s z : RuleState) (acts : List Fact) (line : RStep) → IsLine g rules HasFewNodes s line acts z → IsLine g rules AnySize s line acts z
 
 -- so what is legal within it is legal
 abbrev pub SmallRunsAreLegal : Type 0
 SmallRunsAreLegal =
-    (g : Sig) (rules : List Rule) (lines : List RStep) (s : RuleState) (full : Trace) → IsLegalRun g rules IsSmall lines s full → IsLegalRun g rules AnySize lines s full
+    (g : Sig) (rules : List Rule) (lines : List RStep) (s : RuleState) (full : Trace) → IsLegalRun g rules HasFewNodes lines s full → IsLegalRun g rules AnySize lines s full

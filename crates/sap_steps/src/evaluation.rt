@@ -5,7 +5,7 @@ ghost use Rattle.sap_sides.specs.Fitting.{FactsFit, IsOnlyChoice};
 ghost use Rattle.sap_sides.specs.Forms.{SomeLarge, args_of};
 ghost use Rattle.sap_sides.specs.Messages.{IsSmallMessageFact};
 ghost use Rattle.sap_steps.specs.Faults.{AreRight, IsRuleRefusal};
-ghost use Rattle.sap_steps.specs.Lines.{Fires, IsSmall};
+ghost use Rattle.sap_steps.specs.Lines.{Fires, HasFewNodes};
 ghost use Rattle.sap_steps.specs.code.Firing.{Evaluates, IsEvaluationFault, IsLeftSame};
 ghost use Rattle.sap_steps.specs.code.Ready.{IsReady};
 ghost use Rattle.sap_terms.specs.Subst.{bound_to, subst_tree};
@@ -40,7 +40,7 @@ pub(crate) fn fire_trees(
     requires count { length cited.now ≡ length rule.now.rule.left }
     requires held { All (IsSmallMessageFact sig.now) cited.now }
     requires found { IsOnlyChoice (FactsFit sig.now rule.now.rule.left cited.now) (facts_outer_vars sig.now rule.now.rule.left) b.now c.now }
-    ensures fires { IfOk result (λ x. Fires sig.now IsSmall rule.now.rule b.now cited.now x.acts x.right) }
+    ensures fires { IfOk result (λ x. Fires sig.now HasFewNodes rule.now.rule b.now cited.now x.acts x.right) }
     ensures held { IfOk result (λ x. All (IsSmallMessageFact sig.now) x.right) }
     ensures refused { IfErr result (IsRuleRefusal sig.now rule.now.rule b.now cited.now) }
 {

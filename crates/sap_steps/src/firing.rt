@@ -9,7 +9,7 @@ ghost use Rattle.sap_sides.specs.Fitting.{FactsFit, IsOnlyChoice};
 ghost use Rattle.sap_sides.specs.Messages.{HasNoDestructor, HoldsSmallMessages, IsSmallMessageFact};
 ghost use Rattle.sap_sides.specs.SharedFacts.{fact_seen, AreFactsBelow};
 ghost use Rattle.sap_steps.specs.Faults.{AreRight, IsRuleRefusal};
-ghost use Rattle.sap_steps.specs.Lines.{Fires, IsSmall};
+ghost use Rattle.sap_steps.specs.Lines.{Fires, HasFewNodes};
 ghost use Rattle.sap_steps.specs.code.Firing.{IsLeftSame, Laws};
 ghost use Rattle.sap_steps.specs.code.Piled.{table_of};
 ghost use Rattle.sap_steps.specs.code.Ready.{IsReady};
@@ -50,7 +50,7 @@ pub(crate) fn fire(
     requires count { length numbers.now ≡ length rule.now.rule.left }
     requires live { All (λ k. IsSome (fact_at facts.old.slots k)) numbers.now }
     requires held { HoldsSmallMessages sig.now facts.old.slots }
-    ensures fires { IfOk result (λ x. Fires sig.now IsSmall rule.now.rule b.now (cited_at facts.old.slots numbers.now) x.acts (map (fact_seen facts.new.trees) x.right.items)) }
+    ensures fires { IfOk result (λ x. Fires sig.now HasFewNodes rule.now.rule b.now (cited_at facts.old.slots numbers.now) x.acts (map (fact_seen facts.new.trees) x.right.items)) }
     ensures held { IfOk result (λ x. All (IsSmallMessageFact sig.now) (map (fact_seen facts.new.trees) x.right.items)) }
     ensures below { IfOk result (λ x. AreFactsBelow (length facts.new.trees) x.right.items) }
     ensures keeps { Keeps (table_of facts.old) (table_of facts.new) }
@@ -87,7 +87,7 @@ fn fire_built(
     requires count { length numbers.now ≡ length rule.now.rule.left }
     requires live { All (λ k. IsSome (fact_at facts.old.slots k)) numbers.now }
     requires held { HoldsSmallMessages sig.now facts.old.slots }
-    ensures fires { IfOk result (λ x. Fires sig.now IsSmall rule.now.rule b.now (cited_at facts.old.slots numbers.now) x.acts (map (fact_seen facts.new.trees) x.right.items)) }
+    ensures fires { IfOk result (λ x. Fires sig.now HasFewNodes rule.now.rule b.now (cited_at facts.old.slots numbers.now) x.acts (map (fact_seen facts.new.trees) x.right.items)) }
     ensures held { IfOk result (λ x. All (IsSmallMessageFact sig.now) (map (fact_seen facts.new.trees) x.right.items)) }
     ensures below { IfOk result (λ x. AreFactsBelow (length facts.new.trees) x.right.items) }
     ensures keeps { Keeps (table_of facts.old) (table_of facts.new) }
@@ -122,7 +122,7 @@ fn fire_matched(
     requires sig { facts.old.sig ≡ sig.now }
     requires count { length cited.now ≡ length rule.now.rule.left }
     requires held { HoldsSmallMessages sig.now facts.old.slots }
-    ensures fires { IfOk result (λ x. Fires sig.now IsSmall rule.now.rule b.now (cited_at facts.old.slots numbers.now) x.acts (map (fact_seen facts.new.trees) x.right.items)) }
+    ensures fires { IfOk result (λ x. Fires sig.now HasFewNodes rule.now.rule b.now (cited_at facts.old.slots numbers.now) x.acts (map (fact_seen facts.new.trees) x.right.items)) }
     ensures held { IfOk result (λ x. All (IsSmallMessageFact sig.now) (map (fact_seen facts.new.trees) x.right.items)) }
     ensures below { IfOk result (λ x. AreFactsBelow (length facts.new.trees) x.right.items) }
     ensures keeps { Keeps (table_of facts.old) (table_of facts.new) }
@@ -158,7 +158,7 @@ fn fire_on_trees(
     requires sig { facts.old.sig ≡ sig.now }
     requires count { length cited.now ≡ length rule.now.rule.left }
     requires held { HoldsSmallMessages sig.now facts.old.slots }
-    ensures fires { IfOk result (λ x. Fires sig.now IsSmall rule.now.rule b.now (cited_at facts.old.slots numbers.now) x.acts (map (fact_seen facts.new.trees) x.right.items)) }
+    ensures fires { IfOk result (λ x. Fires sig.now HasFewNodes rule.now.rule b.now (cited_at facts.old.slots numbers.now) x.acts (map (fact_seen facts.new.trees) x.right.items)) }
     ensures held { IfOk result (λ x. All (IsSmallMessageFact sig.now) (map (fact_seen facts.new.trees) x.right.items)) }
     ensures below { IfOk result (λ x. AreFactsBelow (length facts.new.trees) x.right.items) }
     ensures keeps { Keeps (table_of facts.old) (table_of facts.new) }
@@ -188,7 +188,7 @@ fn fire_plain(
     requires count { length numbers.now ≡ length rule.now.rule.left }
     requires live { All (λ k. IsSome (fact_at facts.old.slots k)) numbers.now }
     requires held { HoldsSmallMessages sig.now facts.old.slots }
-    ensures fires { IfOk result (λ x. Fires sig.now IsSmall rule.now.rule b.now (cited_at facts.old.slots numbers.now) x.acts (map (fact_seen facts.new.trees) x.right.items)) }
+    ensures fires { IfOk result (λ x. Fires sig.now HasFewNodes rule.now.rule b.now (cited_at facts.old.slots numbers.now) x.acts (map (fact_seen facts.new.trees) x.right.items)) }
     ensures held { IfOk result (λ x. All (IsSmallMessageFact sig.now) (map (fact_seen facts.new.trees) x.right.items)) }
     ensures below { IfOk result (λ x. AreFactsBelow (length facts.new.trees) x.right.items) }
     ensures keeps { Keeps (table_of facts.old) (table_of facts.new) }
@@ -221,7 +221,7 @@ fn fire_numbered(
     requires count { length numbers.now ≡ length rule.now.rule.left }
     requires live { All (λ k. IsSome (fact_at facts.old.slots k)) numbers.now }
     requires held { HoldsSmallMessages sig.now facts.old.slots }
-    ensures fires { IfOk result (λ x. Fires sig.now IsSmall rule.now.rule b.now (cited_at facts.old.slots numbers.now) x.acts (map (fact_seen facts.new.trees) x.right.items)) }
+    ensures fires { IfOk result (λ x. Fires sig.now HasFewNodes rule.now.rule b.now (cited_at facts.old.slots numbers.now) x.acts (map (fact_seen facts.new.trees) x.right.items)) }
     ensures held { IfOk result (λ x. All (IsSmallMessageFact sig.now) (map (fact_seen facts.new.trees) x.right.items)) }
     ensures below { IfOk result (λ x. AreFactsBelow (length facts.new.trees) x.right.items) }
     ensures keeps { Keeps (table_of facts.old) (table_of facts.new) }
@@ -258,7 +258,7 @@ fn fire_bound(
     requires same { IsLeftSame sig.now (bound_to (bindings_of facts.old.trees env.now)) rule.now.rule.left (cited_at facts.old.slots numbers.now) same }
     requires sig { facts.old.sig ≡ sig.now }
     requires held { HoldsSmallMessages sig.now facts.old.slots }
-    ensures fires { IfOk result (λ x. Fires sig.now IsSmall rule.now.rule b.now (cited_at facts.old.slots numbers.now) x.acts (map (fact_seen facts.new.trees) x.right.items)) }
+    ensures fires { IfOk result (λ x. Fires sig.now HasFewNodes rule.now.rule b.now (cited_at facts.old.slots numbers.now) x.acts (map (fact_seen facts.new.trees) x.right.items)) }
     ensures held { IfOk result (λ x. All (IsSmallMessageFact sig.now) (map (fact_seen facts.new.trees) x.right.items)) }
     ensures below { IfOk result (λ x. AreFactsBelow (length facts.new.trees) x.right.items) }
     ensures keeps { Keeps (table_of facts.old) (table_of facts.new) }

@@ -2,7 +2,7 @@
 ghost use Rattle.std.specs.Prelude.{◌≡◌};
 ghost use Rattle.sap_steps.specs.Answers.{LinesHaveOneAnswer, LinesHaveOneOutcome, LinesHaveSomeAnswer, ReachedHaveOneAnswer, ReachedHaveOneOutcome, ReachedHaveSomeAnswer, RefusalsAreOne};
 ghost use Rattle.sap_steps.specs.Inner.{inner_actions, shown_by_hand, inner_by_hand};
-ghost use Rattle.sap_steps.specs.Lines.{AnySize, IsSmall};
+ghost use Rattle.sap_steps.specs.Lines.{AnySize, HasFewNodes};
 ghost use Rattle.sap_steps.specs.Marks.{marks, marks_by_hand};
 ghost use Rattle.sap_steps.specs.Runs.{LinesAreSteps, StepsHaveLines, LinesAreRuns, RunsCanBeWritten, SmallLinesAreLines, SmallRunsAreLegal};
 
@@ -16,9 +16,9 @@ use sap_terms::names_are_messages;
 /// A line that is possible is a step, and legal lines are a run.
 pub fn lines_are_steps()
     ensures steps { LinesAreSteps AnySize }
-    ensures small_steps { LinesAreSteps IsSmall }
+    ensures small_steps { LinesAreSteps HasFewNodes }
     ensures runs { LinesAreRuns AnySize }
-    ensures small_runs { LinesAreRuns IsSmall }
+    ensures small_runs { LinesAreRuns HasFewNodes }
 {}
 
 /// Where rules have names of their own, each step has a line, and each run can be written.
@@ -64,9 +64,9 @@ pub fn lines_have_some_answer()
 /// A line is possible in one way: it shows the same and leads to the same.
 pub fn lines_have_one_outcome()
     ensures held { LinesHaveOneOutcome AnySize }
-    ensures small { LinesHaveOneOutcome IsSmall }
+    ensures small { LinesHaveOneOutcome HasFewNodes }
     ensures reached { ReachedHaveOneOutcome AnySize }
-    ensures small_reached { ReachedHaveOneOutcome IsSmall }
+    ensures small_reached { ReachedHaveOneOutcome HasFewNodes }
 {
     matching_around_is_modulo();
     normal_forms_are_unique();

@@ -5,7 +5,7 @@ ghost use Rattle.sap_rule.specs.RuleSteps.{empty_state};
 ghost use Rattle.sap_rule.specs.WellMade.{IsWellMade};
 ghost use Rattle.sap_runs.specs.declared.rule_step.RStep.TheVariants.{Fresh as FreshLine, Learn as LearnLine, Own as OwnLine, Public as PublicLine, Apply as ApplyLine, Know as KnowLine, Rule as RuleLine};
 ghost use Rattle.sap_steps.specs.Faults.{IsLineFault};
-ghost use Rattle.sap_steps.specs.Lines.{IsLine, IsSmall};
+ghost use Rattle.sap_steps.specs.Lines.{IsLine, HasFewNodes};
 ghost use Rattle.sap_steps.specs.code.Ready.{IsReady, rules_of};
 
 use crate::RFault;
@@ -102,7 +102,7 @@ impl RuleState {
     /// alone, however large the terms are; only a rule walks through terms, those of the rule and of the line's bindings,
     /// and those of the cited facts where a destructor stands in its left side. It recurses as deep as these terms.
     pub fn step(&mut self, alloc: Global, s: &RStep) -> Result<FactList, RFault>
-        ensures ok { IfOk result (λ acts. IsLine self.old.sig self.old.rules IsSmall self.old.at s.now acts self.new.at) }
+        ensures ok { IfOk result (λ acts. IsLine self.old.sig self.old.rules HasFewNodes self.old.at s.now acts self.new.at) }
         ensures refused { IfErr result (IsLineFault self.old.sig self.old.rules self.old.at s.now) }
         ensures err { OnErr result (self.new ≡ self.old) }
         ensures sig { self.new.sig ≡ self.old.sig }
@@ -118,7 +118,7 @@ impl RuleState {
 
     // Takes one step.
     fn advance(&mut self, alloc: Global, s: &RStep) -> Result<FactList, RFault>
-        ensures ok { IfOk result (λ acts. IsLine self.old.sig self.old.rules IsSmall self.old.at s.now acts self.new.at) }
+        ensures ok { IfOk result (λ acts. IsLine self.old.sig self.old.rules HasFewNodes self.old.at s.now acts self.new.at) }
         ensures refused { IfErr result (IsLineFault self.old.sig self.old.rules self.old.at s.now) }
         ensures err { OnErr result (self.new ≡ self.old) }
         ensures sig { self.new.sig ≡ self.old.sig }
@@ -137,7 +137,7 @@ impl RuleState {
 
     // Makes a fresh name.
     fn fresh(&mut self, alloc: Global, n: u64) -> Result<FactList, RFault>
-        ensures ok { IfOk result (λ acts. IsLine self.old.sig self.old.rules IsSmall self.old.at (FreshLine n) acts self.new.at) }
+        ensures ok { IfOk result (λ acts. IsLine self.old.sig self.old.rules HasFewNodes self.old.at (FreshLine n) acts self.new.at) }
         ensures refused { IfErr result (IsLineFault self.old.sig self.old.rules self.old.at (FreshLine n)) }
         ensures err { OnErr result (self.new ≡ self.old) }
         ensures sig { self.new.sig ≡ self.old.sig }
@@ -156,7 +156,7 @@ impl RuleState {
 
     // Lets the adversary know what a fact put out.
     fn learn(&mut self, alloc: Global, k: u64) -> Result<FactList, RFault>
-        ensures ok { IfOk result (λ acts. IsLine self.old.sig self.old.rules IsSmall self.old.at (LearnLine k) acts self.new.at) }
+        ensures ok { IfOk result (λ acts. IsLine self.old.sig self.old.rules HasFewNodes self.old.at (LearnLine k) acts self.new.at) }
         ensures refused { IfErr result (IsLineFault self.old.sig self.old.rules self.old.at (LearnLine k)) }
         ensures err { OnErr result (self.new ≡ self.old) }
         ensures sig { self.new.sig ≡ self.old.sig }
@@ -170,7 +170,7 @@ impl RuleState {
 
     // Lets the adversary have a fresh name.
     fn own(&mut self, alloc: Global, k: u64) -> Result<FactList, RFault>
-        ensures ok { IfOk result (λ acts. IsLine self.old.sig self.old.rules IsSmall self.old.at (OwnLine k) acts self.new.at) }
+        ensures ok { IfOk result (λ acts. IsLine self.old.sig self.old.rules HasFewNodes self.old.at (OwnLine k) acts self.new.at) }
         ensures refused { IfErr result (IsLineFault self.old.sig self.old.rules self.old.at (OwnLine k)) }
         ensures err { OnErr result (self.new ≡ self.old) }
         ensures sig { self.new.sig ≡ self.old.sig }
@@ -186,7 +186,7 @@ impl RuleState {
 
     // Lets the adversary know a public name.
     fn public(&mut self, alloc: Global, a: &Name) -> Result<FactList, RFault>
-        ensures ok { IfOk result (λ acts. IsLine self.old.sig self.old.rules IsSmall self.old.at (PublicLine a.now) acts self.new.at) }
+        ensures ok { IfOk result (λ acts. IsLine self.old.sig self.old.rules HasFewNodes self.old.at (PublicLine a.now) acts self.new.at) }
         ensures refused { IfErr result (IsLineFault self.old.sig self.old.rules self.old.at (PublicLine a.now)) }
         ensures err { OnErr result (self.new ≡ self.old) }
         ensures sig { self.new.sig ≡ self.old.sig }
@@ -199,7 +199,7 @@ impl RuleState {
 
     // Lets the adversary apply a symbol to entries.
     fn apply(&mut self, alloc: Global, f: &Name, entries: &Numbers) -> Result<FactList, RFault>
-        ensures ok { IfOk result (λ acts. IsLine self.old.sig self.old.rules IsSmall self.old.at (ApplyLine f.now entries.now) acts self.new.at) }
+        ensures ok { IfOk result (λ acts. IsLine self.old.sig self.old.rules HasFewNodes self.old.at (ApplyLine f.now entries.now) acts self.new.at) }
         ensures refused { IfErr result (IsLineFault self.old.sig self.old.rules self.old.at (ApplyLine f.now entries.now)) }
         ensures err { OnErr result (self.new ≡ self.old) }
         ensures sig { self.new.sig ≡ self.old.sig }
@@ -211,7 +211,7 @@ impl RuleState {
 
     // Lets the adversary give an entry.
     fn know(&mut self, alloc: Global, k: u64) -> Result<FactList, RFault>
-        ensures ok { IfOk result (λ acts. IsLine self.old.sig self.old.rules IsSmall self.old.at (KnowLine k) acts self.new.at) }
+        ensures ok { IfOk result (λ acts. IsLine self.old.sig self.old.rules HasFewNodes self.old.at (KnowLine k) acts self.new.at) }
         ensures refused { IfErr result (IsLineFault self.old.sig self.old.rules self.old.at (KnowLine k)) }
         ensures err { OnErr result (self.new ≡ self.old) }
         ensures sig { self.new.sig ≡ self.old.sig }
@@ -233,7 +233,7 @@ impl RuleState {
         numbers: &Numbers,
         b: &Bindings,
     ) -> Result<FactList, RFault>
-        ensures ok { IfOk result (λ acts. IsLine self.old.sig self.old.rules IsSmall self.old.at (RuleLine name.now numbers.now b.now) acts self.new.at) }
+        ensures ok { IfOk result (λ acts. IsLine self.old.sig self.old.rules HasFewNodes self.old.at (RuleLine name.now numbers.now b.now) acts self.new.at) }
         ensures refused { IfErr result (IsLineFault self.old.sig self.old.rules self.old.at (RuleLine name.now numbers.now b.now)) }
         ensures err { OnErr result (self.new ≡ self.old) }
         ensures sig { self.new.sig ≡ self.old.sig }

@@ -5,7 +5,7 @@ ghost use Rattle.sap_facts.specs.Cited.{cited_at, AreTaken};
 ghost use Rattle.sap_share.specs.Shared.{Keeps};
 ghost use Rattle.sap_sides.specs.Messages.{HoldsSmallMessages, IsSmallMessageFact};
 ghost use Rattle.sap_sides.specs.SharedFacts.{fact_seen, AreFactsBelow};
-ghost use Rattle.sap_steps.specs.Lines.{Fires, IsSmall};
+ghost use Rattle.sap_steps.specs.Lines.{Fires, HasFewNodes};
 ghost use Rattle.sap_steps.specs.code.Piled.{table_of};
 ghost use Rattle.sap_steps.specs.code.Ready.{IsReady};
 
@@ -32,7 +32,7 @@ pub(crate) fn use_rule(
     requires sig { facts.old.sig ≡ sig.now }
     requires held { HoldsSmallMessages sig.now facts.old.slots }
     ensures taken { IfOk result (λ _. AreTaken facts.old.slots numbers.now) }
-    ensures fires { IfOk result (λ x. Fires sig.now IsSmall rule.now.rule b.now (cited_at facts.old.slots numbers.now) x.acts (map (fact_seen facts.new.trees) x.right.items)) }
+    ensures fires { IfOk result (λ x. Fires sig.now HasFewNodes rule.now.rule b.now (cited_at facts.old.slots numbers.now) x.acts (map (fact_seen facts.new.trees) x.right.items)) }
     ensures held { IfOk result (λ x. All (IsSmallMessageFact sig.now) (map (fact_seen facts.new.trees) x.right.items)) }
     ensures below { IfOk result (λ x. AreFactsBelow (length facts.new.trees) x.right.items) }
     ensures keeps { Keeps (table_of facts.old) (table_of facts.new) }

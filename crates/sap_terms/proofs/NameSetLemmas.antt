@@ -8,9 +8,9 @@ use Rattle.std.proofs.lemmas.Slice.Eq.{bytes_eq-Decides}
 use Rattle.std.proofs.lemmas.Cmp.{nat_list_eq_equiv}
 use Rattle.std.proofs.lemmas.Grind.{common_steps}
 use Rattle.std.proofs.lemmas.Map.Keys.{IsDistinct-push}
-use Rattle.sap_terms.proofs.NamedLemmas.{place_of-below}
+use Rattle.sap_terms.proofs.NamedLemmas.{index_of-below}
 use Rattle.sap_terms.specs.NameSet.{with_name}
-use Rattle.sap_terms.specs.code.Places.{place_of}
+use Rattle.sap_terms.specs.code.Places.{index_of}
 
 -- the place, or the length where there is none
 abbrev or_length : Option ℕ → ℕ → ℕ
@@ -18,7 +18,7 @@ or_length None k = k
 or_length (Some j) k = j
 
 abbrev place : List (List ℕ) → List ℕ → Option ℕ
-place names n = place_of (λ (m : List ℕ). m) names n
+place names n = index_of (λ (m : List ℕ). m) names n
 
 -- a name has a place where it is there
 pub place-any : (names : List (List ℕ)) (n : List ℕ) → is_some (place names n) ≡ list_any (bytes_eq n) names
@@ -48,7 +48,7 @@ place-position names n = by (place names n) refl (place-length names n) where
 
   by : (o : Option ℕ) → place names n ≡ o → p ≡ or_length o (length names) → o ≡ position (bytes_eq n) names
   by None e at = grind (arith, common_steps)
-  by (Some k) e at = let below = place_of-below (λ (m : List ℕ). m) names n k e in grind (arith, common_steps)
+  by (Some k) e at = let below = index_of-below (λ (m : List ℕ). m) names n k e in grind (arith, common_steps)
 
 -- at its place the name is found
 place-there : (names : List (List ℕ)) (n : List ℕ) (k : ℕ) → place names n ≡ Some k → slice_get names k ≡ Some n
@@ -124,5 +124,5 @@ unfolding IsDistinct
 none_twice = tt
 
 -- nor among names with one more that isn't there
-pub one_new : (names after : List (List ℕ)) (n : List ℕ) → IsDistinct bytes_eq names → None ≡ place_of (λ (m : List ℕ). m) names n → after ≡ names ++ n ∷ [] → IsDistinct bytes_eq after
+pub one_new : (names after : List (List ℕ)) (n : List ℕ) → IsDistinct bytes_eq names → None ≡ index_of (λ (m : List ℕ). m) names n → after ≡ names ++ n ∷ [] → IsDistinct bytes_eq after
 one_new names after n once e last = rw last (IsDistinct-push nat_list_eq_equiv names n once (place-none names n (sym e)).any)

@@ -57,14 +57,14 @@ impl NameSet {
     pub fn contains(&self, name: &Name) -> bool
         ensures { result ≡ list_any (bytes_eq name.now) self.now }
     {
-        self.names.place_of(name).is_some()
+        self.names.index_of(name).is_some()
     }
 
     /// How many names came before this one; None where it hasn't come.
-    pub fn place_of(&self, name: &Name) -> Option<u64>
+    pub fn index_of(&self, name: &Name) -> Option<u64>
         ensures { result ≡ position (bytes_eq name.now) self.now }
     {
-        self.names.place_of(name)
+        self.names.index_of(name)
     }
 
     /// The names, in the order in which they came, of which no two are the same.
@@ -84,7 +84,7 @@ impl NameSet {
         ensures more { OnOk result ((n : List ℕ) → list_any (bytes_eq n) self.new ≡ (bytes_eq name.now n || list_any (bytes_eq n) self.old)) }
         ensures err { OnErr result (self.new ≡ self.old) }
     {
-        match self.names.place_of(name) {
+        match self.names.index_of(name) {
             Some(place) => Ok((place, false)),
             None => {
                 let place = self.names.len();

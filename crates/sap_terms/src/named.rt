@@ -3,7 +3,7 @@ ghost use Rattle.std.specs.Prelude.{◌≡◌, ℕ, ◌<◌, ◌-◌, ◌↔◌,
 ghost use Rattle.std.specs.Option.{option_copied};
 ghost use Rattle.sap_terms.specs.Named.{first_named};
 ghost use Rattle.sap_terms.specs.NameMap.{value_at};
-ghost use Rattle.sap_terms.specs.code.Places.{place_of};
+ghost use Rattle.sap_terms.specs.code.Places.{index_of};
 
 use crate::{Copied, Items, Mem, Name, NameMap};
 use std::alloc::Global;
@@ -29,13 +29,13 @@ pub struct Named<T: HasName> {
 impl<T: HasName> Model for Named<T> {
     ghost use Rattle.std.specs.Prelude.{◌≡◌, ℕ, List};
     ghost use Rattle.sap_terms.specs.NameMap.{value_at};
-    ghost use Rattle.sap_terms.specs.code.Places.{place_of};
+    ghost use Rattle.sap_terms.specs.code.Places.{index_of};
 
     ghost Value = { List T };
 
     ghost view = { λ a. a.items };
 
-    ghost invariant = { λ a. (n : List ℕ) → value_at a.places n ≡ place_of T.name_of a.items n };
+    ghost invariant = { λ a. (n : List ℕ) → value_at a.places n ≡ index_of T.name_of a.items n };
 }
 
 impl<T: HasName> Named<T> {
@@ -80,8 +80,8 @@ impl<T: HasName> Named<T> {
     }
 
     // The index of the first item of this name, from 0.
-    pub(crate) fn place_of(&self, name: &Name) -> Option<u64>
-        ensures { result ≡ place_of T.name_of self.now name.now }
+    pub(crate) fn index_of(&self, name: &Name) -> Option<u64>
+        ensures { result ≡ index_of T.name_of self.now name.now }
     {
         self.places.get(name).copied()
     }
@@ -132,7 +132,7 @@ impl<T: HasName + Drop> Named<T> {
 
     // Puts the item last, where no item has its name. Refused, the item is dropped, and the list is as it was.
     pub(crate) fn push_first(&mut self, item: T) -> Result<(), Mem>
-        requires { place_of T.name_of self.old (T.name_of item) ≡ None }
+        requires { index_of T.name_of self.old (T.name_of item) ≡ None }
         ensures ok { OnOk result (self.new ≡ self.old ++ item ∷ []) }
         ensures err { OnErr result (self.new ≡ self.old) }
     {

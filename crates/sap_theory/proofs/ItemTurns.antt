@@ -14,7 +14,7 @@ use Rattle.sap_statements.specs.declared.statement.Statement.{Statement}
 use Rattle.sap_statements.specs.Statements.{IsStatement, is_restriction, is_lemma}
 use Rattle.sap_theory.specs.declared.limits.TheConstants.{THEORY_LIMITS}
 use Rattle.sap_theory.specs.TheoryGrammar.{TheoryItem, builtins, functions, rule, statement, IsWrittenItem, item_builtins, item_functions, item_rule, item_statement, items_of, rules_in, statements_in}
-use Rattle.sap_theory.specs.WrittenItems.{AreWrittenItems, IsSomeWrittenItem, IsFaulty}
+use Rattle.sap_theory.specs.WrittenItems.{AreWrittenItems, IsSomeWrittenItem, IsFaultyTheory}
 use Rattle.sap_theory.specs.code.ItemLaws.{ItemLaws}
 use Rattle.sap_theory.specs.code.ItemView.{IsRuled, IsStated, IsAdding, IsAdded, AreSaid, IsGoodBehind}
 
@@ -125,7 +125,7 @@ stated_tried laws g z ts rs ss after (Err e) s none is = tt
 -- Turns of the loop over items, where `rules` and `statements` were read before the tokens `rest`.
 module _ (laws : ItemLaws) (g : Sig) (last : ℕ) (z : List ℕ) (ts rest item behind : List Token) (rules : List Rule) (statements : List Statement)
     (good : IsGoodBehind g z ts rest rules statements)
-    (faulty : (n : ℕ) → IsFaulty last (cut (placed z rest)) n → IsFaulty last (cut (placed z ts)) n)
+    (faulty : (n : ℕ) → IsFaultyTheory last (cut (placed z rest)) n → IsFaultyTheory last (cut (placed z ts)) n)
     (split : cut (placed z rest) ≡ placed z item ∷ cut (placed z behind)) where
   pub turn_end : IsEnd (placed z item) → behind ≡ [] → (pieces : List (List Placed)) → IsCut (placed z ts) pieces → AreSaid g pieces rules statements
   turn_end e none pieces r =
@@ -139,12 +139,12 @@ module _ (laws : ItemLaws) (g : Sig) (last : ℕ) (z : List ℕ) (ts rest item b
       }
 
   pub turn_bad : (IsEnd (placed z item) × (behind ≡ []) → ⊥) → (IsSomeWrittenItem (words_of z item) → ⊥) → (line : ℕ) → line ≡ first_line (placed z item)
-      → (pieces : List (List Placed)) → IsCut (placed z ts) pieces → IsFaulty last pieces line
+      → (pieces : List (List Placed)) → IsCut (placed z ts) pieces → IsFaultyTheory last pieces line
   turn_bad not_last none line l pieces r =
       let bad : IsSomeWrittenItem (words (placed z item)) → ⊥ = rw (words_placed z item) none in
-      let here : IsFaulty last (placed z item ∷ cut (placed z behind)) (first_line (placed z item)) = bad_item bad (λ e f. not_last (e, cut_nothing laws z behind f)) in
-      let there = faulty (first_line (placed z item)) (subst (λ (y : List (List Placed)). IsFaulty last y (first_line (placed z item))) (sym split) here) in
-      rw l (subst (λ (y : List (List Placed)). IsFaulty last y (first_line (placed z item))) (cut_is laws r) there)
+      let here : IsFaultyTheory last (placed z item ∷ cut (placed z behind)) (first_line (placed z item)) = bad_item bad (λ e f. not_last (e, cut_nothing laws z behind f)) in
+      let there = faulty (first_line (placed z item)) (subst (λ (y : List (List Placed)). IsFaultyTheory last y (first_line (placed z item))) (sym split) here) in
+      rw l (subst (λ (y : List (List Placed)). IsFaultyTheory last y (first_line (placed z item))) (cut_is laws r) there)
 
   module _ (after : List Rule) (later : List Statement) (it : IsAdding g z item rules after statements later) where
     spelled_here : IsWrittenItem g THEORY_LIMITS it.item (words (placed z item))
@@ -161,13 +161,13 @@ module _ (laws : ItemLaws) (g : Sig) (last : ℕ) (z : List ℕ) (ts rest item b
           joined_behind later statements (statements_in (it.item ∷ [])) (statements_in (items_of is)) (statements_in (it.item ∷ items_of is)) (statements_in (items_of all.0)) it.statements_are (statements_behind it.item (items_of is)) all.3,
         )
 
-    pub turn_later : (n : ℕ) → IsFaulty last (cut (placed z behind)) n → IsFaulty last (cut (placed z ts)) n
-    turn_later n r = faulty n (subst (λ (y : List (List Placed)). IsFaulty last y n) (sym split) (later_item (record { sig = g; item = it.item; is = spelled_here }) r))
+    pub turn_later : (n : ℕ) → IsFaultyTheory last (cut (placed z behind)) n → IsFaultyTheory last (cut (placed z ts)) n
+    turn_later n r = faulty n (subst (λ (y : List (List Placed)). IsFaultyTheory last y n) (sym split) (later_item (record { sig = g; item = it.item; is = spelled_here }) r))
 
 -- where `end` is missing
-pub turn_over : ItemLaws → (last : ℕ) (z : List ℕ) (ts rest : List Token) → ((n : ℕ) → IsFaulty last (cut (placed z rest)) n → IsFaulty last (cut (placed z ts)) n) → rest ≡ []
-    → (pieces : List (List Placed)) → IsCut (placed z ts) pieces → IsFaulty last pieces last
+pub turn_over : ItemLaws → (last : ℕ) (z : List ℕ) (ts rest : List Token) → ((n : ℕ) → IsFaultyTheory last (cut (placed z rest)) n → IsFaultyTheory last (cut (placed z ts)) n) → rest ≡ []
+    → (pieces : List (List Placed)) → IsCut (placed z ts) pieces → IsFaultyTheory last pieces last
 turn_over laws last z ts rest faulty none pieces r =
     let over : cut (placed z rest) ≡ [] = rw none refl in
-    let there = faulty last (subst (λ (y : List (List Placed)). IsFaulty last y last) (sym over) no_end) in
-    subst (λ (y : List (List Placed)). IsFaulty last y last) (cut_is laws r) there
+    let there = faulty last (subst (λ (y : List (List Placed)). IsFaultyTheory last y last) (sym over) no_end) in
+    subst (λ (y : List (List Placed)). IsFaultyTheory last y last) (cut_is laws r) there

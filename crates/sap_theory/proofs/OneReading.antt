@@ -21,7 +21,7 @@ use Rattle.sap_theory.specs.declared.fault.TheoryFault.{TheoryFault}
 use Rattle.sap_theory.specs.declared.fault.TheoryFault.TheVariants.{Lex as LexFault, Header, Syntax, BadFunction, BadRule, Formula}
 use Rattle.sap_theory.specs.TheoryGrammar.{TheoryItem, IsWrittenItem, item_builtins, item_functions, item_rule, item_statement, declarations, signature_of, items_of, rules_in, statements_in}
 use Rattle.sap_theory.specs.declared.limits.TheConstants.{THEORY_LIMITS}
-use Rattle.sap_theory.specs.WrittenItems.{AreWrittenItems, IsFaulty}
+use Rattle.sap_theory.specs.WrittenItems.{AreWrittenItems, IsFaultyTheory}
 use Rattle.sap_statements.specs.Stated.{AreFaultless, IsFirstFaulty}
 use Rattle.sap_theory.specs.TheoryCauses.{IsPlainRule, IsFirstWrong, this_rule, later_rule, IsRefused, of_names, of_clash, of_symbols, of_shapes, of_formulas, AreAccepted}
 use Rattle.sap_theory.specs.ReadTheory.{AreTokens, IsParted, theory_of, IsTheoryRead, no_tokens, no_header, no_item, refused, accepted}
@@ -100,13 +100,13 @@ never_end g i v e s =
     let no : true ≡ false = not_end (subst (λ (w : List Word). IsWrittenItem g THEORY_LIMITS v w) e s) in
     absurd (cc)
 
-good_or_faulty : (g : Sig) (last n : ℕ) (cut : List (List Placed)) (is : List (Standing TheoryItem)) → AreWrittenItems g cut is → IsFaulty last cut n → ⊥
+good_or_faulty : (g : Sig) (last n : ℕ) (cut : List (List Placed)) (is : List (Standing TheoryItem)) → AreWrittenItems g cut is → IsFaultyTheory last cut n → ⊥
 good_or_faulty g last n cut is (items_end e) (bad_item a b) = b e refl
 good_or_faulty g last n cut is (items_end {i = i} e) (later_item s r) = never_end s.sig i s.item e s.is
 good_or_faulty g last n cut is (items_more {v = v} s r) (bad_item a b) = a (record { sig = g; item = v; is = s })
 good_or_faulty g last n cut is (items_more {is = more} {vs = vs} s r) (later_item t k) = good_or_faulty g last n more vs r k
 
-one_fault : (last n k : ℕ) (cut : List (List Placed)) → IsFaulty last cut n → IsFaulty last cut k → n ≡ k
+one_fault : (last n k : ℕ) (cut : List (List Placed)) → IsFaultyTheory last cut n → IsFaultyTheory last cut k → n ≡ k
 one_fault last n k cut no_end no_end = refl
 one_fault last n k cut (bad_item a b) (bad_item c d) = refl
 one_fault last n k cut (bad_item a b) (later_item s r) = absurd (a s)
@@ -123,7 +123,7 @@ data AfterItems (x : List ℕ) (is : List (Standing TheoryItem)) : Answer → Ty
 
 -- what its parts make of it
 data AfterParts (x : List ℕ) (last : ℕ) (cut : List (List Placed)) : Answer → Type 0 where
-  is_faulty : (line : ℕ) → IsFaulty last cut line → AfterParts x last cut (Err (Syntax line))
+  is_faulty : (line : ℕ) → IsFaultyTheory last cut line → AfterParts x last cut (Err (Syntax line))
   has_items : {o : Answer} (is : List (Standing TheoryItem)) → AreWrittenItems (signature_of is) cut is → AfterItems x is o → AfterParts x last cut o
 
 -- what its tokens make of it

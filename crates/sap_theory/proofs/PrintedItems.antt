@@ -16,7 +16,7 @@ use Rattle.sap_grammar.specs.declared.limits.Limits.{Limits}
 use Rattle.sap_grammar.specs.Words.{Word, mark, name, number, is_lower}
 use Rattle.sap_grammar.specs.Sizes.{IsSmall, AreSmall}
 use Rattle.sap_grammar.specs.FactGrammar.{fact_levels, IsShortFact, AreSomeFacts, AreFacts, facts_last, facts_more, facts_none, facts_some}
-use Rattle.sap_grammar.specs.Cut.{Placed, words, is_item_word, IsFree, IsCut, cut_none, cut_one, NoItemWord, StartsItem, IsHeader, first_line}
+use Rattle.sap_grammar.specs.Cut.{Placed, words, is_item_word, AreNoItemWords, IsCut, cut_none, cut_one, NoItemWord, StartsItem, IsHeader, first_line}
 use Rattle.sap_grammar.specs.Declarations.{value, IsBuiltin, spells_hashing, spells_symmetric, spells_asymmetric, spells_signing, spells_revealing, AreBuiltins, builtins_last, builtins_more, IsSymbol, spells_public, spells_private, AreSymbols, symbols_last, symbols_more}
 use Rattle.sap_grammar.specs.Items.{Standing, AreItems, items_end, items_more}
 use Rattle.sap_grammar.specs.Printable.{IsTidyFact}
@@ -335,7 +335,7 @@ split_words (w ∷ a) k (p ∷ ps) e =
     let more = split_words a k ps tails in
     (p ∷ more.0, more.1, ap (λ (x : List Placed). p ∷ x) more.2, (λ i. heads i ∷ more.3 i), more.4)
 
-free_placed : (ps : List Placed) → IsFree (words ps) → NoItemWord ps
+free_placed : (ps : List Placed) → AreNoItemWords (words ps) → NoItemWord ps
 free_placed [] h = tt
 free_placed (p ∷ ps) h = (h.0, free_placed ps h.1)
 
@@ -392,7 +392,7 @@ items_cut printed free Spells g (v ∷ vs) h s ps e =
     finish [] rs whole is starts rest = absurd (let all : [] ≡ mark (first_word v) ∷ drop 1 (item_words v []) = is ∙ item_begins v [] in cc (all))
     finish (q ∷ qs) rs whole is starts rest =
         let item : IsAnyTheoryItem g v (words (q ∷ qs)) = subst (λ (a : List Word). IsAnyTheoryItem g v a) (sym is) (item_spelled printed g v h.0) in
-        let unbroken : IsFree (words qs) = item_free printed free item.is in
+        let unbroken : AreNoItemWords (words qs) = item_free printed free item.is in
         record {
           pieces = (q ∷ qs) ∷ rest.pieces;
           is_cut = subst (λ (x : List Placed). IsCut x ((q ∷ qs) ∷ rest.pieces)) (sym whole) (cut_one q qs rs (free_placed qs unbroken) starts rest.is_cut);

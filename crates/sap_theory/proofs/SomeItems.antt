@@ -13,7 +13,7 @@ use Rattle.sap_statements.specs.declared.statement.Statement.{Statement}
 use Rattle.sap_statements.specs.Statements.{IsStatement}
 use Rattle.sap_theory.specs.declared.limits.TheConstants.{THEORY_LIMITS}
 use Rattle.sap_theory.specs.TheoryGrammar.{TheoryItem, builtins, functions, rule, statement, IsWrittenItem, item_builtins, item_functions, item_statement}
-use Rattle.sap_theory.specs.WrittenItems.{AreWrittenItems, IsSomeWrittenItem, IsFaulty}
+use Rattle.sap_theory.specs.WrittenItems.{AreWrittenItems, IsSomeWrittenItem, IsFaultyTheory}
 use Rattle.sap_theory.specs.code.FactLaws.{FactLaws}
 use Rattle.sap_theory.specs.code.ItemLaws.{ItemLaws}
 use Rattle.sap_theory.specs.code.StatementLaws.{StatementLaws}
@@ -68,7 +68,7 @@ module _ (facts : FactLaws) (laws : ItemLaws) (stated : StatementLaws) where
 
   -- the pieces are items, or the first fault is on some line
   abbrev pub ItemsOrFault : Sig → ℕ → List (List Placed) → Type 0
-  ItemsOrFault g last cut = ((is : List (Standing TheoryItem)) × AreWrittenItems g cut is) ⊎ ((n : ℕ) × IsFaulty last cut n)
+  ItemsOrFault g last cut = ((is : List (Standing TheoryItem)) × AreWrittenItems g cut is) ⊎ ((n : ℕ) × IsFaultyTheory last cut n)
 
   last_or_fault : (g : Sig) (last : ℕ) (i : List Placed) (is : List (List Placed)) → (IsSomeWrittenItem (words i) → ⊥) → ItemsOrFault g last (i ∷ is)
   last_or_fault g last i (j ∷ is) never = inr (first_line i, bad_item never (λ e none. absurd (cc (none))))

@@ -7,7 +7,7 @@ use Rattle.sap_terms.specs.Tree.{Tree, variable, public, fresh, apply, Trees, no
 use Rattle.sap_terms.specs.declared.var.Sort.{Sort}
 use Rattle.sap_terms.specs.declared.var.Sort.TheVariants.{Msg, Fresh, Pub}
 use Rattle.sap_terms.specs.declared.var.Var.{Var}
-use Rattle.sap_formula.specs.Checked.{Stands, StandsIn, StandsInAny, binder_name, enter, find_binder, premise}
+use Rattle.sap_formula.specs.Checked.{StandsInAtom, StandsIn, StandsInAny, binder_name, enter, find_binder, premise}
 use Rattle.sap_formula.specs.Faults.{HasFault, HasNoFault, IsBound}
 use Rattle.sap_formula.specs.Form.{Form, truth, falsity, action, equal, same_time, earlier, negation, both, either, implies, equivalent, every, exists}
 use Rattle.sap_formula.specs.Parts.{Part, symbol, fact_name, message, time, bound, term_parts, terms_parts, form_parts}
@@ -35,7 +35,7 @@ args_stand scope n [] h = h
 args_stand scope n (t ∷ ts) (inl h) = inl (tree_stands scope n t h)
 args_stand scope n (t ∷ ts) (inr h) = inr (args_stand scope n ts h)
 
-stands : (scope : List Binder) (n : List ℕ) (f : Form) → Stands n (plainly_sorted scope f) → Stands n f
+stands : (scope : List Binder) (n : List ℕ) (f : Form) → StandsInAtom n (plainly_sorted scope f) → StandsInAtom n f
 stands scope n (both f k) (inl h) = inl (stands scope n f h)
 stands scope n (both f k) (inr h) = inr (stands scope n k h)
 stands scope n (action f i) (inl h) = inl h
@@ -52,7 +52,7 @@ stands scope n (equivalent f k) h = h
 stands scope n (every bs f) h = h
 stands scope n (exists bs f) h = h
 
-premise_stands : (scope : List Binder) (n : List ℕ) (f : Form) → Stands n (premise (plainly_sorted scope f)) → Stands n (premise f)
+premise_stands : (scope : List Binder) (n : List ℕ) (f : Form) → StandsInAtom n (premise (plainly_sorted scope f)) → StandsInAtom n (premise f)
 premise_stands scope n (implies f k) h = stands scope n f h
 premise_stands scope n truth h = h
 premise_stands scope n falsity h = h
@@ -85,7 +85,7 @@ args_stood scope n [] h = h
 args_stood scope n (t ∷ ts) (inl h) = inl (tree_stood scope n t h)
 args_stood scope n (t ∷ ts) (inr h) = inr (args_stood scope n ts h)
 
-stood : (scope : List Binder) (n : List ℕ) (f : Form) → Stands n f → Stands n (plainly_sorted scope f)
+stood : (scope : List Binder) (n : List ℕ) (f : Form) → StandsInAtom n f → StandsInAtom n (plainly_sorted scope f)
 stood scope n (both f k) (inl h) = inl (stood scope n f h)
 stood scope n (both f k) (inr h) = inr (stood scope n k h)
 stood scope n (action f i) (inl h) = inl h
@@ -102,7 +102,7 @@ stood scope n (equivalent f k) h = h
 stood scope n (every bs f) h = h
 stood scope n (exists bs f) h = h
 
-premise_stood : (scope : List Binder) (n : List ℕ) (f : Form) → Stands n (premise f) → Stands n (premise (plainly_sorted scope f))
+premise_stood : (scope : List Binder) (n : List ℕ) (f : Form) → StandsInAtom n (premise f) → StandsInAtom n (premise (plainly_sorted scope f))
 premise_stood scope n (implies f k) h = stood scope n f h
 premise_stood scope n truth h = h
 premise_stood scope n falsity h = h
@@ -166,14 +166,14 @@ module _ (g : Sig) (r : Bool) where
   message_alike scope v Reserved = ((λ h. h), (λ h. h))
   message_alike scope v Unguarded = ((λ h. h), (λ h. h))
 
-  bound_alike : (f k : Form) (b : Binder) → (Stands (binder_name b) k → Stands (binder_name b) f) → (Stands (binder_name b) f → Stands (binder_name b) k) → Alike (bound f b) (bound k b)
+  bound_alike : (f k : Form) (b : Binder) → (StandsInAtom (binder_name b) k → StandsInAtom (binder_name b) f) → (StandsInAtom (binder_name b) f → StandsInAtom (binder_name b) k) → Alike (bound f b) (bound k b)
   bound_alike f k b back forth Unguarded = ((λ h s. h (back s)), (λ h s. h (forth s)))
   bound_alike f k b back forth BadFunction = ((λ h. h), (λ h. h))
   bound_alike f k b back forth Destructor = ((λ h. h), (λ h. h))
   bound_alike f k b back forth Reserved = ((λ h. h), (λ h. h))
   bound_alike f k b back forth UnboundVar = ((λ h. h), (λ h. h))
 
-  bounds_alike : (f k : Form) (bs : List Binder) → ((n : List ℕ) → Stands n k → Stands n f) → ((n : List ℕ) → Stands n f → Stands n k) → AllAlike (map (bound f) bs) (map (bound k) bs)
+  bounds_alike : (f k : Form) (bs : List Binder) → ((n : List ℕ) → StandsInAtom n k → StandsInAtom n f) → ((n : List ℕ) → StandsInAtom n f → StandsInAtom n k) → AllAlike (map (bound f) bs) (map (bound k) bs)
   bounds_alike f k [] back forth = tt
   bounds_alike f k (b ∷ bs) back forth = (bound_alike f k b (back (binder_name b)) (forth (binder_name b)), bounds_alike f k bs back forth)
 

@@ -12,7 +12,7 @@ use Rattle.sap_grammar.specs.Signatures.{clash_from}
 use Rattle.sap_theory.specs.declared.fault.TheoryFault.{TheoryFault}
 use Rattle.sap_theory.specs.declared.fault.TheoryFault.TheVariants.{Lex as LexFault, Header, Syntax}
 use Rattle.sap_theory.specs.TheoryGrammar.{TheoryItem, declarations, signature_of, items_of, rules_in, statements_in}
-use Rattle.sap_theory.specs.WrittenItems.{AreWrittenItems, IsFaulty}
+use Rattle.sap_theory.specs.WrittenItems.{AreWrittenItems, IsFaultyTheory}
 use Rattle.sap_statements.specs.Stated.{restrictions_of, lemmas_of}
 use Rattle.sap_theory.specs.TheoryCauses.{IsRefused, AreAccepted}
 
@@ -43,7 +43,7 @@ pub data IsTheoryRead (z : List ℕ) : Result Theory TheoryFault → Type 0 wher
   no_header : {ts : List Token} → AreTokens z ts → ((x : List ℕ) (rest : List Placed) → IsHeader x (placed z ts) rest → ⊥)
       → IsTheoryRead z (Err Header)
   no_item : {ts : List Token} {x : List ℕ} {cut : List (List Placed)} {line : ℕ} → IsParted z ts x cut
-      → IsFaulty (last_line (placed z ts)) cut line → IsTheoryRead z (Err (Syntax line))
+      → IsFaultyTheory (last_line (placed z ts)) cut line → IsTheoryRead z (Err (Syntax line))
   refused : {ts : List Token} {x : List ℕ} {cut : List (List Placed)} {is : List (Standing TheoryItem)} {e : TheoryFault} → IsParted z ts x cut
       → AreWrittenItems (signature_of is) cut is
       → IsRefused (signature_of is) (clash_from pairs_alone (declarations is)) (rules_in (items_of is)) (statements_in (items_of is)) e

@@ -19,5 +19,5 @@ pub record IsSomeWrittenItem (a : List Word) : Type 0 where
 
 -- The first that is no item under any signature is on this line; where only `end` is missing, the line is that of the theory's
 -- last word.
-abbrev pub IsFaulty : ℕ → List (List Placed) → ℕ → Type 0
-IsFaulty = items.IsFaulty IsSomeWrittenItem
+abbrev pub IsFaultyTheory : ℕ → List (List Placed) → ℕ → Type 0
+IsFaultyTheory = items.IsFaulty IsSomeWrittenItem

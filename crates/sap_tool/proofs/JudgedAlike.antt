@@ -6,7 +6,7 @@ use Rattle.sap_read.specs.Files.{FileContent, IsRunnable}
 use Rattle.sap_restrict.specs.Standard.{IsAdmitted}
 use Rattle.sap_rule.specs.declared.theory.Theory.{Theory}
 use Rattle.sap_run_texts.specs.declared.run.Run.TheVariants as run
-use Rattle.sap_runs.specs.Limits.{IsSmall}
+use Rattle.sap_runs.specs.Limits.{HasFewNodes}
 use Rattle.sap_runs.specs.declared.process_step.PStep.{PStep}
 use Rattle.sap_runs.specs.declared.rule_step.RStep.{RStep}
 use Rattle.sap_steps.specs.Runs.{IsLegalRun}
@@ -19,10 +19,10 @@ use Rattle.sap_tool.proofs.ProcessRuns as process
 use Rattle.sap_tool.proofs.RuleRuns as rules
 
 module _ (laws : Laws) (f : FileContent) (runnable : IsRunnable f) (lines : List PStep) (rule_lines : List RStep) (o : AreOpposite f lines rule_lines) (text : List ℕ) where
-  legal_rules : IsLegalRun f.signature (rules_of f.process) IsSmall rule_lines o.state o.full
-  legal_rules = subst (λ (t : Theory). IsLegalRun t.signature t.rules IsSmall rule_lines o.state o.full) o.compiled o.legal_rules
+  legal_rules : IsLegalRun f.signature (rules_of f.process) HasFewNodes rule_lines o.state o.full
+  legal_rules = subst (λ (t : Theory). IsLegalRun t.signature t.rules HasFewNodes rule_lines o.state o.full) o.compiled o.legal_rules
 
-  counted : back.IsCounted f.signature f.process rule_lines o.state o.full
+  counted : back.IsAdmittedRun f.signature f.process rule_lines o.state o.full
   counted = record { legal = legal_rules; admitted = subst (λ (t : Theory). IsAdmitted t.signature o.full) o.compiled o.admitted }
 
   moved : (tr other : Trace) → tr ≡ other → AreVerdicts f.signature tr (all_judged f.restrictions f.lemmas) text

@@ -15,7 +15,7 @@ use Rattle.sap_rule.specs.declared.theory.Theory.{Theory}
 use Rattle.sap_read.specs.Files.{FileContent, IsRunnable}
 use Rattle.sap_run_texts.specs.declared.run.Run.{Run}
 use Rattle.sap_run_texts.specs.declared.run.Run.TheVariants as run
-use Rattle.sap_runs.specs.Limits.{IsSmall}
+use Rattle.sap_runs.specs.Limits.{HasFewNodes}
 use Rattle.sap_runs.specs.Marks.{Mark}
 use Rattle.sap_runs.specs.declared.process_step.PStep.{PStep}
 use Rattle.sap_runs.specs.declared.rule_step.RStep.{RStep}
@@ -28,11 +28,11 @@ use Rattle.sap_tool.specs.RunRefusals.{IsIllegal, IsIllegalOfTheory}
 use Rattle.sap_tool.proofs.ProcessRuns as process
 use Rattle.sap_tool.proofs.RuleRuns as rules
 
--- the run is legal within the limit; of rules, its full trace counts
+-- the run is legal within the limit; of rules, its full trace is admitted
 pub data IsLegal (f : FileContent) : Run → Type 0 where
-  a_process : {lines : List PStep} {c : Config} {es : List Tree} {tr : Trace} {ms : List Mark} → IsLegalProcessRun f.signature IsSmall f.process lines c es tr ms
+  a_process : {lines : List PStep} {c : Config} {es : List Tree} {tr : Trace} {ms : List Mark} → IsLegalProcessRun f.signature HasFewNodes f.process lines c es tr ms
       → IsLegal f (run.Process lines)
-  some_rules : {lines : List RStep} {s : RuleState} {full : Trace} → back.IsCounted f.signature f.process lines s full → IsLegal f (run.Rules lines)
+  some_rules : {lines : List RStep} {s : RuleState} {full : Trace} → back.IsAdmittedRun f.signature f.process lines s full → IsLegal f (run.Rules lines)
 
 pub seen_is_legal : (f : FileContent) (r : Run) (tr : Trace) → IsSeen f r tr → IsLegal f r
 seen_is_legal f _ tr (of_process shown) = a_process shown.legal

@@ -19,7 +19,7 @@ use Rattle.sap_forward.specs.Answers.{HasOneFirst}
 use Rattle.sap_back.specs.Answers.{HaveOneAnswer}
 use Rattle.sap_refusals.specs.RunFaultTexts.{at_step, process_fault_text, rule_fault_text, broken_text, run_refusal_text}
 use Rattle.sap_outside.specs.RunPieces.{most_run_bytes, IsRunAnswer, too_long, bad_head, bad_line, too_many_of_process, too_many_of_rules}
-use Rattle.sap_tool.specs.RunRefusals.{IsIllegal, of_process, of_rules, breaks, IsFirstRefused, IsIllegalOfTheory, of_theory, IsRunRefusedWith, no_run, illegal}
+use Rattle.sap_tool.specs.RunRefusals.{IsIllegal, of_process, of_rules, breaks, IsFirstRefusedOfTheory, IsIllegalOfTheory, of_theory, IsRunRefusedWith, no_run, illegal}
 use Rattle.sap_outside.specs.declared.run_refusal.RunRefusal.{RunRefusal}
 use Rattle.sap_outside.specs.declared.run_refusal.RunRefusal.TheVariants as refusal
 use Rattle.sap_tool.proofs.Parts.{OneRun, not_both, same_run}
@@ -113,7 +113,7 @@ two_cuts (v ∷ b) (w ∷ c) x y xs ys e =
 
 -- so is one of a theory's rules
 module _ (laws : rules.Laws) (causes : RefusalsAreOne) (t : Theory) (hold : HoldsBuiltins t.signature) (made : All (IsWellMade t.signature) t.rules) where
-  one_first : (lines : List RStep) (n m : ℕ) (e d : RFault) → IsFirstRefused t lines n e → IsFirstRefused t lines m d → (n ≡ m) × (e ≡ d)
+  one_first : (lines : List RStep) (n m : ℕ) (e d : RFault) → IsFirstRefusedOfTheory t lines n e → IsFirstRefusedOfTheory t lines m d → (n ≡ m) × (e ≡ d)
   one_first lines n m e d a b = elim (two_cuts a.before b.before a.line b.line a.after b.after (sym a.cut ∙ b.cut)) [
     | inl same ↦
         let states = rules.one_run laws t.signature t.rules hold made a.legal b.legal same.0 in

@@ -13,7 +13,7 @@ use Rattle.sap_process.specs.Ready.{IsReady}
 use Rattle.sap_read.specs.Files.{FileContent, IsRunnable}
 use Rattle.sap_rule.specs.RuleSteps.{IsFullTrace}
 use Rattle.sap_run_texts.specs.declared.run.Run.{Run}
-use Rattle.sap_runs.specs.Limits.{IsSmall}
+use Rattle.sap_runs.specs.Limits.{HasFewNodes}
 use Rattle.sap_steps.specs.Runs.{LinesAreRuns}
 use Rattle.sap_translate.specs.Faithful.{ShowsAll}
 use Rattle.sap_translate.specs.Templates.{rules_of}
@@ -40,7 +40,7 @@ hidden_messages g (fs ∷ tr) a =
     one_time_more g (visible fs) (hide tr) (visible_messages g fs (All-head (AreMessageFacts g) fs tr a)) (hidden_messages g tr (All-tail (AreMessageFacts g) fs tr a))
 
 -- so it is with what a run of a file shows
-module _ (runs : ProcessLinesAreRuns IsSmall) (rule_runs : LinesAreRuns IsSmall)
+module _ (runs : ProcessLinesAreRuns HasFewNodes) (rule_runs : LinesAreRuns HasFewNodes)
     (all : (g : Sig) (p q : Proc) → HoldsBuiltins g → IsReady g p → node_count p < 2 ^ 64 → IsAnnotation p q → ShowsAll g q (rules_of q)) (f : FileContent) (runnable : IsRunnable f)
     (messages : (full : Trace) → IsFullTrace f.signature (rules_of f.process) full → IsMessageTrace f.signature full) where
   pub seen_messages : (r : Run) (tr : Trace) → IsSeen f r tr → IsMessageTrace f.signature tr

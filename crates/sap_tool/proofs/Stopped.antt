@@ -30,7 +30,7 @@ use Rattle.sap_tool.specs.code.Refused.{IsAtLine, IsBackAtLine, IsCheckLine, IsL
 
 -- a line that says where a run of the process stops refuses it
 pub process_stops : (f : FileContent) (lines : List PStep) (at : At) (line : List ℕ) → IsAtLine at line
-    → ((step : ℕ) (fault : PFault) → at ≡ process.Step step fault → forward.IsFirstRefused f.signature f.process lines step fault)
+    → ((step : ℕ) (fault : PFault) → at ≡ process.Step step fault → forward.IsFirstRefusedOfProcess f.signature f.process lines step fault)
     → IsLineOf (IsIllegal f (run.Process lines)) line
 process_stops f lines process.Mem line is refused = absurd is
 process_stops f lines (process.Step step fault) line is refused =
@@ -38,7 +38,7 @@ process_stops f lines (process.Step step fault) line is refused =
 
 -- so does one that says where a run of rules stops
 pub rules_stop : (f : FileContent) (lines : List RStep) (at : BackAt) (line : List ℕ) → IsBackAtLine at line
-    → ((step : ℕ) (fault : RFault) → at ≡ rules.Step step fault → back.IsFirstRefused f.signature f.process lines step fault)
+    → ((step : ℕ) (fault : RFault) → at ≡ rules.Step step fault → back.IsFirstRefusedOfRules f.signature f.process lines step fault)
     → ((step : ℕ) (which : Which) → at ≡ rules.Broken step which → back.IsFirstBroken f.signature f.process lines step which)
     → IsLineOf (IsIllegal f (run.Rules lines)) line
 rules_stop f lines rules.Mem line is refused broken = absurd is

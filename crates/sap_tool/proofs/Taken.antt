@@ -11,7 +11,7 @@ use Rattle.sap_terms.specs.Trace.{Trace}
 use Rattle.sap_rule.specs.RuleSteps.{RuleState, empty_state}
 use Rattle.sap_rule.specs.declared.rule.Rule.{Rule}
 use Rattle.sap_rule.specs.declared.theory.Theory.{Theory}
-use Rattle.sap_runs.specs.Limits.{IsSmall}
+use Rattle.sap_runs.specs.Limits.{HasFewNodes}
 use Rattle.sap_runs.specs.declared.rule_step.RStep.{RStep}
 use Rattle.sap_steps.specs.Faults.{IsLineFault}
 use Rattle.sap_steps.specs.Lines.{IsLine}
@@ -25,7 +25,7 @@ use Rattle.sap_tool.specs.declared.checking.Stop.TheVariants as stop
 pub record AreTaken (t : Theory) (steps : List RStep) (k : ℕ) (s : State) (full : Trace) : Type 0 where
   pub sig : s.sig ≡ t.signature
   pub rules : s.rules ≡ t.rules
-  pub legal : IsLegalRun t.signature t.rules IsSmall (take k steps) s.at full
+  pub legal : IsLegalRun t.signature t.rules HasFewNodes (take k steps) s.at full
   pub messages : IsMessageTrace t.signature full
 
 -- none
@@ -34,7 +34,7 @@ pub none_taken : (t : Theory) (steps : List RStep) (s : State) (full : Trace) �
 none_taken t steps s full sig rules at none = record {
   sig = sig;
   rules = rules;
-  legal = subst (λ (x : RuleState). IsLegalRun t.signature t.rules IsSmall [] x full) (sym at) (subst (λ (x : Trace). IsLegalRun t.signature t.rules IsSmall [] empty_state x) (sym none) starts);
+  legal = subst (λ (x : RuleState). IsLegalRun t.signature t.rules HasFewNodes [] x full) (sym at) (subst (λ (x : Trace). IsLegalRun t.signature t.rules HasFewNodes [] empty_state x) (sym none) starts);
   messages = subst (IsMessageTrace t.signature) (sym none) (All-nil (AreMessageFacts t.signature));
 }
 
@@ -49,14 +49,14 @@ module _ (steps : List RStep) (k : ℕ) (line : RStep) (got : slice_get steps k 
   pub one_taken : (t : Theory) (s z : State) (full more : Trace) → AreTaken t steps k s full → Advances s line full z more → z.sig ≡ s.sig → z.rules ≡ s.rules
       → AreTaken t steps (k + 1) z more
   one_taken t s z full more b a sig rules =
-      let possible : IsLine t.signature t.rules IsSmall s.at line a.acts z.at =
-      subst (λ (g : Sig). IsLine g t.rules IsSmall s.at line a.acts z.at) b.sig (subst (λ (rs : List Rule). IsLine s.sig rs IsSmall s.at line a.acts z.at) b.rules a.possible) in
+      let possible : IsLine t.signature t.rules HasFewNodes s.at line a.acts z.at =
+      subst (λ (g : Sig). IsLine g t.rules HasFewNodes s.at line a.acts z.at) b.sig (subst (λ (rs : List Rule). IsLine s.sig rs HasFewNodes s.at line a.acts z.at) b.rules a.possible) in
       record {
         sig = sig ∙ b.sig;
         rules = rules ∙ b.rules;
         legal =
-            subst (λ (ls : List RStep). IsLegalRun t.signature t.rules IsSmall ls z.at more) (sym one_more_line)
-            (subst (λ (x : Trace). IsLegalRun t.signature t.rules IsSmall (take k steps ++ line ∷ []) z.at x) (sym a.shows) (further line a.acts b.legal possible));
+            subst (λ (ls : List RStep). IsLegalRun t.signature t.rules HasFewNodes ls z.at more) (sym one_more_line)
+            (subst (λ (x : Trace). IsLegalRun t.signature t.rules HasFewNodes (take k steps ++ line ∷ []) z.at x) (sym a.shows) (further line a.acts b.legal possible));
         messages =
             subst (IsMessageTrace t.signature) (sym a.shows)
             (All-append (AreMessageFacts t.signature) full (a.acts ∷ []) b.messages
@@ -88,6 +88,6 @@ module _ (steps : List RStep) (k : ℕ) (line : RStep) (got : slice_get steps k 
 pub all_taken : (t : Theory) (steps : List RStep) (k : ℕ) (s : State) (full : Trace) → length steps ≤ k → AreTaken t steps k s full → IsLegalTrace t steps full
 all_taken t steps k s full past b = record {
   state = s.at;
-  legal = subst (λ (ls : List RStep). IsLegalRun t.signature t.rules IsSmall ls s.at full) (take_all k steps past) b.legal;
+  legal = subst (λ (ls : List RStep). IsLegalRun t.signature t.rules HasFewNodes ls s.at full) (take_all k steps past) b.legal;
   messages = b.messages;
 }

@@ -32,7 +32,7 @@ use Rattle.sap_rule.specs.Named.{rule_named}
 use Rattle.sap_rule.specs.RuleSteps.{RuleState}
 use Rattle.sap_rule.specs.Variables.{rule_vars, facts_outer_vars}
 use Rattle.sap_rule.specs.declared.rule.Rule.{Rule}
-use Rattle.sap_runs.specs.Limits.{IsSmall}
+use Rattle.sap_runs.specs.Limits.{HasFewNodes}
 use Rattle.sap_runs.specs.declared.process_step.PStep.{PStep}
 use Rattle.sap_runs.specs.declared.rule_step.RStep.{RStep}
 use Rattle.sap_runs.specs.declared.rule_step.RStep.TheVariants as rstep
@@ -135,20 +135,20 @@ found_rule g (x ∷ rs) n r e h = at (bytes_eq x.name n) refl e (λ got. found_r
 
 module _ (g : Sig) (declarable : All (IsDeclarable MOST_FILE_NAME_BYTES) g.symbols) where
   -- what is bound, where the variables have names and stand for small messages of such names
-  bound_written : (b : List Binding) (σ : Choice) → Agrees b σ → IsMessageChoice g σ → ((v : Var) → Contains (bound_vars b) v → IsRunName v.name × IsSmall (σ v)) → BindingsPass spellable b → AreWritableWords (map bound_word b)
+  bound_written : (b : List Binding) (σ : Choice) → Agrees b σ → IsMessageChoice g σ → ((v : Var) → Contains (bound_vars b) v → IsRunName v.name × HasFewNodes (σ v)) → BindingsPass spellable b → AreWritableWords (map bound_word b)
   bound_written [] σ a m h p = tt
   bound_written (x ∷ b) σ a m h p =
       let own = h x.var (first_item x.var (bound_vars b)) in
       let message = m x.var in
       let written = term_written g declarable (tree x.term) (subst IsGround a.0 message.ground) (subst (IsOver g) a.0 message.over) p.0 in
-      ((own.0, written, subst IsSmall a.0 own.1), bound_written b σ a.1 m (λ v k. h v (later_item x.var (bound_vars b) v k)) p.1)
+      ((own.0, written, subst HasFewNodes a.0 own.1), bound_written b σ a.1 m (λ v k. h v (later_item x.var (bound_vars b) v k)) p.1)
 
   with_written : (b : List Binding) → AreWritableWords (map bound_word b) → AreWritableWords (with_words b)
   with_written [] h = tt
   with_written (x ∷ b) h = (ident refl refl, h)
 
   module _ (rules : List Rule) (printable : All (IsPrintableRule MOST_THEORY_NAME_BYTES g) rules) where
-    rule_written : (s z : RuleState) (name ks : List ℕ) (b : List Binding) (acts : List Fact) → IsRuleLine g rules IsSmall s name ks b acts z → BindingsPass spellable b → IsRunName name × AreWritableWords (with_words b)
+    rule_written : (s z : RuleState) (name ks : List ℕ) (b : List Binding) (acts : List Fact) → IsRuleLine g rules HasFewNodes s name ks b acts z → BindingsPass spellable b → IsRunName name × AreWritableWords (with_words b)
     rule_written s z name ks b acts line passes =
         let r = line.rule in
         let σ = line.fires.choice in
@@ -161,7 +161,7 @@ module _ (g : Sig) (declarable : All (IsDeclarable MOST_FILE_NAME_BYTES) g.symbo
         facts_vars-append r.left (r.acts ++ r.right) ∙ ap (λ (vs : List Var). facts_vars r.left ++ vs) (facts_vars-append r.acts r.right)
         in
         let named : (v : Var) → Contains (rule_vars r) v → IsRunName v.name = λ v m. vars_of_rule r found.0 v m in
-        let small : (v : Var) → Contains (rule_vars r) v → IsSmall (σ v) =
+        let small : (v : Var) → Contains (rule_vars r) v → HasFewNodes (σ v) =
         λ v m. line.fires.within (σ v) (part_of_facts {P = λ u. IsNormalForm (equations g) u (σ v)} σ v
         (record { equal = IsTheoryEqual.same; normal = (messages v).normal }) (r.left ++ (r.acts ++ r.right)) (subst (λ (vs : List Var). Contains vs v) (sym all) m))
         in (
@@ -179,7 +179,7 @@ module _ (g : Sig) (declarable : All (IsDeclarable MOST_FILE_NAME_BYTES) g.symbo
         ]
 
     -- what a line of rules that is possible names can be written
-    line_named : (s z : RuleState) (acts : List Fact) (line : RStep) → IsLine g rules IsSmall s line acts z → RuleLinePasses spellable line → RuleCanBeNamed line
+    line_named : (s z : RuleState) (acts : List Fact) (line : RStep) → IsLine g rules HasFewNodes s line acts z → RuleLinePasses spellable line → RuleCanBeNamed line
     line_named s z acts (rstep.Fresh n) is h = tt
     line_named s z acts (rstep.Learn f) is h = tt
     line_named s z acts (rstep.Own f) is h = tt
@@ -196,7 +196,7 @@ module _ (g : Sig) (declarable : All (IsDeclarable MOST_FILE_NAME_BYTES) g.symbo
     pass_parts [] x h = (tt, h.0)
     pass_parts (y ∷ xs) x h = let rest = pass_parts xs x h.1 in ((h.0, rest.0), rest.1)
 
-    lines_named : (lines : List RStep) (s : RuleState) (full : Trace) → IsLegalRun g rules IsSmall lines s full → RuleLinesPass spellable lines → Each RuleCanBeNamed lines
+    lines_named : (lines : List RStep) (s : RuleState) (full : Trace) → IsLegalRun g rules HasFewNodes lines s full → RuleLinesPass spellable lines → Each RuleCanBeNamed lines
     lines_named _ _ _ IsLegalRun.starts h = tt
     lines_named _ z _ (IsLegalRun.further {lines = lines} {s = s} {full = full} line acts run is) h =
         let parts = pass_parts lines line h in

@@ -18,7 +18,7 @@ use Rattle.sap_run_texts.specs.declared.run.Kinds.{Kinds}
 use Rattle.sap_run_texts.specs.declared.run.Kinds.TheVariants.{Rules, Either}
 use Rattle.sap_run_texts.specs.declared.run.Run.{Run}
 use Rattle.sap_run_texts.specs.declared.run.Run.TheVariants as run
-use Rattle.sap_runs.specs.Limits.{IsSmall}
+use Rattle.sap_runs.specs.Limits.{HasFewNodes}
 use Rattle.sap_runs.specs.Marks.{Mark}
 use Rattle.sap_runs.specs.declared.process_step.PStep.{PStep}
 use Rattle.sap_runs.specs.declared.rule_step.RStep.{RStep}
@@ -42,8 +42,8 @@ pub data IsConvertedText (f : FileContent) : Run → List ℕ → Type 0 where
 
 -- the run is legal within the limit, and this is its visible trace
 pub data IsSeen (f : FileContent) : Run → Trace → Type 0 where
-  of_process : {lines : List PStep} {tr : Trace} → forward.IsShownBy f.signature f.process lines tr → IsSeen f (run.Process lines) tr
-  of_rules : {lines : List RStep} (s : RuleState) (full : Trace) → back.IsCounted f.signature f.process lines s full
+  of_process : {lines : List PStep} {tr : Trace} → forward.IsShownByLines f.signature f.process lines tr → IsSeen f (run.Process lines) tr
+  of_rules : {lines : List RStep} (s : RuleState) (full : Trace) → back.IsAdmittedRun f.signature f.process lines s full
       → IsSeen f (run.Rules lines) (hide full)
 
 -- the text says of each restriction and lemma of the file whether it is true on the visible trace of the run
@@ -54,7 +54,7 @@ pub record IsJudgedText (f : FileContent) (r : Run) (text : List ℕ) : Type 0 w
 
 -- the run is one of the theory's rules, legal within the limit, and this is its full trace
 pub data IsFullOf (t : Theory) : Run → Trace → Type 0 where
-  of_theory : {lines : List RStep} {full : Trace} (s : RuleState) → IsLegalRun t.signature t.rules IsSmall lines s full → IsFullOf t (run.Rules lines) full
+  of_theory : {lines : List RStep} {full : Trace} (s : RuleState) → IsLegalRun t.signature t.rules HasFewNodes lines s full → IsFullOf t (run.Rules lines) full
 
 -- the text says of each restriction and lemma of the theory whether it is true on the full trace of the run
 pub record IsCheckedText (t : Theory) (r : Run) (text : List ℕ) : Type 0 where
@@ -79,7 +79,7 @@ pub record IsChecked (bytes z text : List ℕ) : Type 0 where
   pub written : IsCheckedText theory lines text
 
 -- the bytes are an accepted file, and those of the run a run of a kind that is asked for, which is legal within the limit; of rules, its
--- full trace counts
+-- full trace is admitted
 pub record IsLegalOfFile (kinds : Kinds) (bytes z : List ℕ) : Type 0 where
   pub told : FileContent
   pub file : IsAcceptedFile bytes told
@@ -107,10 +107,10 @@ pub record AreOpposite (f : FileContent) (lines : List PStep) (rule_lines : List
   pub entries : List Tree
   pub trace : Trace
   pub marks_of_both : List Mark
-  pub legal : IsLegalProcessRun f.signature IsSmall f.process lines config entries trace marks_of_both
+  pub legal : IsLegalProcessRun f.signature HasFewNodes f.process lines config entries trace marks_of_both
   pub state : RuleState
   pub full : Trace
-  pub legal_rules : IsLegalRun theory.signature theory.rules IsSmall rule_lines state full
+  pub legal_rules : IsLegalRun theory.signature theory.rules HasFewNodes rule_lines state full
   pub admitted : IsAdmitted theory.signature full
   pub shows : hide full ≡ trace
   pub marked : marks full ≡ marks_of_both

@@ -10,7 +10,7 @@ use Rattle.sap_rule.specs.declared.theory.Theory.{Theory}
 use Rattle.sap_run_texts.specs.declared.run.Kinds.{Kinds}
 use Rattle.sap_run_texts.specs.declared.run.Run.{Run}
 use Rattle.sap_run_texts.specs.declared.run.Run.TheVariants as run
-use Rattle.sap_runs.specs.Limits.{IsSmall}
+use Rattle.sap_runs.specs.Limits.{HasFewNodes}
 use Rattle.sap_runs.specs.declared.process_step.PStep.{PStep}
 use Rattle.sap_runs.specs.declared.rule_step.RStep.{RStep}
 use Rattle.sap_steps.specs.Faults.{IsLineFault}
@@ -25,16 +25,16 @@ use Rattle.sap_outside.specs.RunPieces.{IsRunAnswer}
 -- Of the lines of a run of the file this is the first that is illegal, for this cause: of a run of its process, one that is refused; of
 -- one of its rules, one that is refused, or behind which one of the seven restrictions is false.
 pub data IsIllegal (f : FileContent) : Run → List ℕ → Type 0 where
-  of_process : {lines : List PStep} (number : ℕ) (e : PFault) → forward.IsFirstRefused f.signature f.process lines number e
+  of_process : {lines : List PStep} (number : ℕ) (e : PFault) → forward.IsFirstRefusedOfProcess f.signature f.process lines number e
       → IsIllegal f (run.Process lines) (at_step number (process_fault_text e))
-  of_rules : {lines : List RStep} (number : ℕ) (e : RFault) → back.IsFirstRefused f.signature f.process lines number e
+  of_rules : {lines : List RStep} (number : ℕ) (e : RFault) → back.IsFirstRefusedOfRules f.signature f.process lines number e
       → IsIllegal f (run.Rules lines) (at_step number (rule_fault_text e))
   breaks : {lines : List RStep} (number : ℕ) (which : Which) → back.IsFirstBroken f.signature f.process lines number which
       → IsIllegal f (run.Rules lines) (at_step number (broken_text which))
 
 -- the lines before the one with this number, from 1, are a legal run of the theory's rules within the limit, and that one is refused for
 -- this cause
-pub record IsFirstRefused (t : Theory) (lines : List RStep) (number : ℕ) (e : RFault) : Type 0 where
+pub record IsFirstRefusedOfTheory (t : Theory) (lines : List RStep) (number : ℕ) (e : RFault) : Type 0 where
   pub before : List RStep
   pub line : RStep
   pub after : List RStep
@@ -42,13 +42,13 @@ pub record IsFirstRefused (t : Theory) (lines : List RStep) (number : ℕ) (e : 
   pub counts : number ≡ length before + 1
   pub state : RuleState
   pub full : Trace
-  pub legal : IsLegalRun t.signature t.rules IsSmall before state full
+  pub legal : IsLegalRun t.signature t.rules HasFewNodes before state full
   pub refused : IsLineFault t.signature t.rules state line e
   pub cause : ¬ (e ≡ Mem)
 
 -- of the lines of a run of the theory's rules the first that is illegal is refused for this cause; restrictions refuse none
 pub data IsIllegalOfTheory (t : Theory) : Run → List ℕ → Type 0 where
-  of_theory : {lines : List RStep} (number : ℕ) (e : RFault) → IsFirstRefused t lines number e
+  of_theory : {lines : List RStep} (number : ℕ) (e : RFault) → IsFirstRefusedOfTheory t lines number e
       → IsIllegalOfTheory t (run.Rules lines) (at_step number (rule_fault_text e))
 
 -- the bytes are refused for this cause: they are no run of a kind that is asked for; else a line of the run is the first that is illegal

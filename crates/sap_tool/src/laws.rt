@@ -5,7 +5,7 @@ ghost use Rattle.sap_lines.specs.Runs.{ProcessLinesAreRuns, SmallProcessLinesAre
 ghost use Rattle.sap_restrict.specs.Laws.{PrefixLaw};
 ghost use Rattle.sap_rule.specs.Messages.{RunsReachMessages};
 ghost use Rattle.sap_rule.specs.WellMade.{IsWellMade};
-ghost use Rattle.sap_runs.specs.Limits.{IsSmall};
+ghost use Rattle.sap_runs.specs.Limits.{HasFewNodes};
 ghost use Rattle.sap_steps.specs.Answers.{ReachedHaveOneAnswer, ReachedHaveOneOutcome, RefusalsAreOne};
 ghost use Rattle.sap_steps.specs.Runs.{LinesAreRuns};
 ghost use Rattle.sap_terms.specs.Signature.{HoldsBuiltins};
@@ -91,7 +91,7 @@ pub(crate) fn process_lines()
     ensures exactly { RunsMatchExactly }
     ensures small_lines { SmallProcessLinesAreLines }
     ensures small_runs { SmallProcessRunsAreLegal }
-    ensures runs { ProcessLinesAreRuns IsSmall }
+    ensures runs { ProcessLinesAreRuns HasFewNodes }
 {
     sap_lines::lines_have_one_answer();
     sap_lines::runs_match_exactly();
@@ -103,10 +103,10 @@ pub(crate) fn process_lines()
 /// refused; one that is refused is so for one cause. Legal lines are a run, such a run shows messages, and on its prefixes each of
 /// the seven formulas is true that is true on it.
 pub(crate) fn rule_lines()
-    ensures outcome { ReachedHaveOneOutcome IsSmall }
+    ensures outcome { ReachedHaveOneOutcome HasFewNodes }
     ensures answer { ReachedHaveOneAnswer }
     ensures causes { RefusalsAreOne }
-    ensures runs { LinesAreRuns IsSmall }
+    ensures runs { LinesAreRuns HasFewNodes }
     ensures messages { RunsReachMessages }
     ensures prefix { PrefixLaw }
 {

@@ -78,7 +78,7 @@ use sap_rewrite::{
 use sap_terms::leaves_are_normal;
 
 /// A law: wherever both sides rest, the rules answer each case of a step of the process by moves after which both sides rest
-/// again; the start is such a place, and where both rest they show the same and the full trace counts. Each clause says for its
+/// again; the start is such a place, and where both rest they show the same and the full trace is admitted. Each clause says for its
 /// case, from the number of the thread and that of its state fact, which rules are used on which facts under which choice, what
 /// they show, and which threads and facts there are behind. For a lock or a tag Fr may be made of any name of which it was not
 /// made. What the adversary can give, the rules first come to know (`deduces`). `every` holds these together: each step is
@@ -120,14 +120,14 @@ pub fn process_steps_are_answered()
     restrictions_say_sentences();
 }
 
-/// A law: wherever both sides are together, the process follows each case of a step of the rules after which the full trace counts:
+/// A law: wherever both sides are together, the process follows each case of a step of the rules after which the full trace is admitted:
 /// a use of a rule of each template, and each step of the adversary. Each clause says for its case, from the numbers of the thread
 /// and of the facts and from the choice of the rule, which moves the process makes, none or more, what they show, and which threads
 /// there are behind. The rules show K before its input, so a K event may be pending, which the process has not shown yet: a step
 /// that shows nothing that is seen keeps it pending, an input takes it, `Event()` and another K have the process show it first.
 /// So the run of the process grows step by step, as long as what an input may take is kept pending (`waits`); elsewhere, where the
 /// process has shown it as its last event, it can be taken back (`takes_back`). `follows_every` holds these together, by the
-/// lemmas of the second inclusion: each step whose full trace counts is followed from wherever both sides are together.
+/// lemmas of the second inclusion: each step whose full trace is admitted is followed from wherever both sides are together.
 pub fn rule_steps_are_followed()
     ensures begins { (g : Sig) (p q : Proc) → IsReady g p → node_count p < 2 ^ 64 → IsAnnotation p q → Begins g q }
     ensures takes_back { WhereTogether TakesBack }

@@ -7,7 +7,7 @@ use Rattle.sap_deduce.specs.Entries.{terms_of}
 use Rattle.sap_process.specs.Configuration.{Config, initial}
 use Rattle.sap_process.specs.Proc.{Proc}
 use Rattle.sap_rule.specs.RuleSteps.{RuleState}
-use Rattle.sap_runs.specs.Limits.{IsSmall}
+use Rattle.sap_runs.specs.Limits.{HasFewNodes}
 use Rattle.sap_runs.specs.Marks.{Mark}
 use Rattle.sap_runs.specs.declared.process_step.PStep.{PStep}
 use Rattle.sap_runs.specs.declared.rule_step.RStep.{RStep}
@@ -21,7 +21,7 @@ use Rattle.sap_translate.specs.LineCounts.{back_count}
 use Rattle.sap_translate.specs.relation.Agents.{Agent, running, copying}
 use Rattle.sap_translate.specs.relation.Envs.{no_env}
 use Rattle.sap_forward.specs.Answered.{Draws, first_tables}
-use Rattle.sap_forward.specs.Converted.{IsConverted, IsFirstRefused}
+use Rattle.sap_forward.specs.Converted.{IsConverted, IsFirstRefusedOfProcess}
 use Rattle.sap_forward.specs.Counted.{lines_for_all, all_copying}
 use Rattle.sap_forward.specs.Least.{is_among, names_drawn, not_drawn, numbers_below}
 use Rattle.sap_forward.specs.LinesFor.{AreLinesForAll}
@@ -70,8 +70,8 @@ pub record IsBegun (g : Sig) (q : Proc) (drawn : List ℕ) (lines : List PStep) 
   pub trace : Trace
   pub marks : List Mark
   pub sig : r.sig ≡ g
-  pub legal : IsLegalProcessRun g IsSmall q lines (configuration r) (terms_of r.known) trace marks
-  pub so_far : Converted g IsSmall q drawn lines (configuration r) (terms_of r.known) trace marks
+  pub legal : IsLegalProcessRun g HasFewNodes q lines (configuration r) (terms_of r.known) trace marks
+  pub so_far : Converted g HasFewNodes q drawn lines (configuration r) (terms_of r.known) trace marks
   pub stand : written ≡ init_line ∷ so_far.rest
   pub keeps : Keeps q drawn so_far.agents so_far.tables d
 
@@ -99,4 +99,4 @@ AreTaken run r z d e before after =
 
 -- one of them is the first that is refused
 abbrev pub AreTakenUntil : List PStep → Running → Desk → List RStep → ℕ → PFault → Type 0
-AreTakenUntil run r d before n fault = (g : Sig) (q : Proc) → GoesOn g q → IsBegun g q (names_drawn run) [] r d before → IsFirstRefused g q run n fault
+AreTakenUntil run r d before n fault = (g : Sig) (q : Proc) → GoesOn g q → IsBegun g q (names_drawn run) [] r d before → IsFirstRefusedOfProcess g q run n fault

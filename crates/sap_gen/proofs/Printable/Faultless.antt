@@ -3,7 +3,7 @@ use Rattle.std.proofs.Common.{◌≡◌, ℕ, zero, suc, inr, true, false, List,
 use Rattle.sap_terms.specs.Signature.{Sig, arity_of, is_destructor_of}
 use Rattle.sap_terms.specs.Tree.{Tree, variable, public, fresh, apply, Trees, none, more, list_of, trees_of}
 use Rattle.sap_terms.specs.declared.var.Var.{Var}
-use Rattle.sap_formula.specs.Checked.{AreCheckedTerms, AreGuarded, IsChecked, IsCheckedTerm, Stands, binder_name, enter, find_binder, premise}
+use Rattle.sap_formula.specs.Checked.{AreCheckedTerms, AreGuarded, IsChecked, IsCheckedTerm, StandsInAtom, binder_name, enter, find_binder, premise}
 use Rattle.sap_formula.specs.Faults.{HasFault, HasNoFault}
 use Rattle.sap_formula.specs.Form.{Form, action, both, earlier, either, equal, equivalent, every, exists, falsity, implies, negation, same_time, truth}
 use Rattle.sap_formula.specs.Laws.{Allowed, IsClosed}
@@ -57,7 +57,7 @@ module _ (g : Sig) where
   time_fine scope n e UnboundVar h = h e
   time_fine scope n e Unguarded h = h
 
-  bound_fine : (f : Form) (b : Binder) → Stands (binder_name b) f → IsFaultless (bound f b)
+  bound_fine : (f : Form) (b : Binder) → StandsInAtom (binder_name b) f → IsFaultless (bound f b)
   bound_fine f b s BadFunction h = h
   bound_fine f b s Destructor h = h
   bound_fine f b s Reserved h = h

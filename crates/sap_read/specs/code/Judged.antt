@@ -13,7 +13,7 @@ use Rattle.sap_read.specs.declared.fault.ReadFault.{ReadFault}
 use Rattle.sap_read.specs.declared.fault.ReadFault.TheVariants.{Syntax, Ill, Formula}
 use Rattle.sap_read.specs.Item.{Body, Standing, bodies, statements}
 use Rattle.sap_grammar.specs.Cut.{Placed}
-use Rattle.sap_read.specs.ItemGrammar.{AreItems, IsFaulty}
+use Rattle.sap_read.specs.ItemGrammar.{AreItems, IsFaultyFile}
 use Rattle.sap_read.specs.Replaced.{process_of, no_meaning}
 use Rattle.sap_read.specs.Causes.{cause, lock_fault}
 use Rattle.sap_statements.specs.Stated.{AreFaultless, IsFirstFaulty, restrictions_of, lemmas_of}
@@ -106,7 +106,7 @@ pub record AreRefused (g : Sig) (clash : Option (List ℕ)) (cut : List (List Pl
 pub record IsNoItem (last : ℕ) (cut : List (List Placed)) (e : ReadFault) : Type 0 where
   pub line : ℕ
   pub is : e ≡ Syntax line
-  pub faulty : IsFaulty last cut line
+  pub faulty : IsFaultyFile last cut line
 
 -- the pieces are refused for this
 abbrev pub IsRefusedCut : Sig → Option (List ℕ) → ℕ → List (List Placed) → ReadFault → Type 0

@@ -8,7 +8,7 @@ use Rattle.sap_theory.specs.declared.fault.TheoryFault.TheVariants.{Formula, Syn
 use Rattle.sap_grammar.specs.Cut.{Placed}
 use Rattle.sap_grammar.specs.Items.{Standing}
 use Rattle.sap_theory.specs.TheoryGrammar.{TheoryItem, items_of, rules_in, statements_in}
-use Rattle.sap_theory.specs.WrittenItems.{AreWrittenItems, IsFaulty}
+use Rattle.sap_theory.specs.WrittenItems.{AreWrittenItems, IsFaultyTheory}
 use Rattle.sap_formula.specs.declared.fault.FormulaFault.{FormulaFault}
 use Rattle.sap_statements.specs.declared.statement.Statement.{Statement}
 use Rattle.sap_statements.specs.Stated.{IsFirstFaulty, restrictions_of, lemmas_of}
@@ -45,7 +45,7 @@ pub record AreBad (g : Sig) (clash : Option (List ℕ)) (cut : List (List Placed
 pub record IsNoItem (last : ℕ) (cut : List (List Placed)) (e : TheoryFault) : Type 0 where
   pub line : ℕ
   pub is : e ≡ Syntax line
-  pub faulty : IsFaulty last cut line
+  pub faulty : IsFaultyTheory last cut line
 
 -- the pieces are refused for this
 abbrev pub IsRefusedCut : Sig → Option (List ℕ) → ℕ → List (List Placed) → TheoryFault → Type 0

@@ -1,7 +1,7 @@
 //! Reads the items of a theory.
 ghost use Rattle.std.specs.Prelude.{◌≡◌, ℕ, List, [], ◌∷◌, ◌++◌, IfOk, OnOk, IsErrOf};
 ghost use Rattle.sap_grammar.specs.Cut.{Placed, placed, IsCut};
-ghost use Rattle.sap_theory.specs.WrittenItems.{IsFaulty};
+ghost use Rattle.sap_theory.specs.WrittenItems.{IsFaultyTheory};
 ghost use Rattle.sap_theory.specs.code.ItemView.{AreSaid, IsAdded, IsRuled, IsStated};
 ghost use Rattle.sap_theory.specs.declared.fault.TheoryFault.{TheoryFault};
 ghost use Rattle.sap_theory.specs.declared.fault.TheoryFault.TheVariants.{Mem as OutOfMemory, Syntax};
@@ -104,7 +104,7 @@ pub(crate) fn read_items(
         → IsCut (placed bytes.now tokens.now) cut → AreSaid sig.now cut c.rules c.statements) }
     ensures faulty { (line : ℕ) → IsErrOf result (Syntax line) → (cut : List (List Placed))
         → IsCut (placed bytes.now tokens.now) cut
-        → IsFaulty last cut line }
+        → IsFaultyTheory last cut line }
     ensures other { (e : TheoryFault) → IsErrOf result e → (e ≡ OutOfMemory → ⊥) → (line : ℕ)
         × (e ≡ Syntax line) }
 {

@@ -6,7 +6,7 @@ use Rattle.sap_formula.specs.Truth.{EachIn}
 use Rattle.sap_rule.specs.WellMade.{IsWellMade}
 use Rattle.sap_rule.specs.RuleSteps.{RuleState}
 use Rattle.sap_rule.specs.declared.theory.Theory.{Theory}
-use Rattle.sap_runs.specs.Limits.{IsSmall}
+use Rattle.sap_runs.specs.Limits.{HasFewNodes}
 use Rattle.sap_runs.specs.declared.rule_step.RStep.{RStep}
 use Rattle.sap_steps.specs.Faults.{IsLineFault}
 use Rattle.sap_steps.specs.Lines.{IsLine}
@@ -17,7 +17,7 @@ use Rattle.sap_steps.specs.declared.fault.RFault.TheVariants as fault
 use Rattle.sap_terms.specs.Message.{AreMessageFacts, IsMessageTrace}
 use Rattle.sap_terms.specs.Trace.{Trace}
 use Rattle.sap_terms.specs.declared.fact.Fact.{Fact}
-use Rattle.sap_tool.specs.RunRefusals.{IsFirstRefused}
+use Rattle.sap_tool.specs.RunRefusals.{IsFirstRefusedOfTheory}
 use Rattle.sap_tool.specs.declared.checking.Stop.{Stop}
 use Rattle.sap_tool.specs.declared.checking.Stop.TheVariants as stop
 
@@ -30,13 +30,13 @@ pub record IsCheckable (t : Theory) : Type 0 where
 -- the lines are legal, with this full trace, which is one of messages
 pub record IsLegalTrace (t : Theory) (lines : List RStep) (full : Trace) : Type 0 where
   pub state : RuleState
-  pub legal : IsLegalRun t.signature t.rules IsSmall lines state full
+  pub legal : IsLegalRun t.signature t.rules HasFewNodes lines state full
   pub messages : IsMessageTrace t.signature full
 
 -- the line is possible, and what it shows comes last
 pub record Advances (old : State) (line : RStep) (before : Trace) (new : State) (after : Trace) : Type 0 where
   pub acts : List Fact
-  pub possible : IsLine old.sig old.rules IsSmall old.at line acts new.at
+  pub possible : IsLine old.sig old.rules HasFewNodes old.at line acts new.at
   pub shows : after ≡ before ++ acts ∷ []
   pub messages : AreMessageFacts old.sig acts
 
@@ -53,4 +53,4 @@ IsRefusedAt s k line (stop.Step step e) = (step ≡ min (k + 1) (2 ^ 64 - 1)) ×
 -- it is the first that is refused
 abbrev pub IsStopped : Theory → List RStep → Stop → Type 0
 IsStopped t lines stop.Mem = Unit {0}
-IsStopped t lines (stop.Step step e) = IsFirstRefused t lines step e
+IsStopped t lines (stop.Step step e) = IsFirstRefusedOfTheory t lines step e

@@ -10,7 +10,7 @@ use Rattle.sap_terms.specs.declared.var.Sort.TheVariants.{Fresh}
 use Rattle.sap_terms.specs.declared.var.Var.{Var}
 use Rattle.sap_process.specs.Scopes.{lock_var}
 use Rattle.sap_process.specs.Action.{event, lock, unlock, send, receive}
-use Rattle.sap_process.specs.Configuration.{Config, initial, becomes, spawns, makes, holds}
+use Rattle.sap_process.specs.Configuration.{Config, initial, becomes, spawns, makes, holding}
 use Rattle.sap_process.specs.Proc.{Proc, nil, parallel, act, test}
 use Rattle.sap_process.specs.ProcessSteps.{ProcessStep, ProcessRun, IsProcessTrace}
 use Rattle.sap_translate.specs.Examples.{term_a, term_m, term_s, x, g_fact, first_fact, second_fact, no_fact, locked_test, locked_twice, two_senders}
@@ -32,14 +32,14 @@ abbrev before_lock : Config
 before_lock = becomes (initial locked_test) 0 (Some (act (lock term_s 1) testing))
 
 abbrev locked : Config
-locked = holds (becomes before_lock 0 (Some testing)) term_s true
+locked = holding (becomes before_lock 0 (Some testing)) term_s true
 
 abbrev before_unlock : Config
 before_unlock = becomes locked 0 (Some (act (unlock term_s 1) nil))
 
 pub lock_taken : (laws : Laws) → (g : Sig) → IsProcessTrace g locked_test ((k_fact term_a ∷ []) ∷ [])
 lock_taken laws g = (
-  holds (becomes before_unlock 0 (Some nil)) term_s false,
+  holding (becomes before_unlock 0 (Some nil)) term_s false,
   ProcessRun.further {c = before_unlock}
       (ProcessRun.further {c = locked}
       (ProcessRun.further {c = before_lock}
@@ -76,16 +76,16 @@ abbrev waiting : Config
 waiting = becomes (initial locked_twice) 0 (Some (act (lock term_s 1) (testing_twice term_a)))
 
 abbrev taken : Config
-taken = holds (becomes waiting 0 (Some (testing_twice term_a))) term_s true
+taken = holding (becomes waiting 0 (Some (testing_twice term_a))) term_s true
 
 abbrev agreed : Config
 agreed = becomes taken 0 (Some given_back)
 
 abbrev free : Config
-free = holds (becomes agreed 0 (Some once_more)) term_s false
+free = holding (becomes agreed 0 (Some once_more)) term_s false
 
 abbrev taken_again : Config
-taken_again = holds (becomes free 0 (Some (act (event g_fact) nil))) term_s true
+taken_again = holding (becomes free 0 (Some (act (event g_fact) nil))) term_s true
 
 pub lock_taken_twice : (laws : Laws) → (g : Sig) → IsProcessTrace g locked_twice ((k_fact term_a ∷ []) ∷ (g_fact ∷ []) ∷ [])
 lock_taken_twice laws g = (

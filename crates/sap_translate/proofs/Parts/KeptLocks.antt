@@ -30,7 +30,7 @@ use Rattle.sap_translate.specs.Places.{root}
 use Rattle.sap_process.specs.Places.{place}
 use Rattle.sap_translate.specs.Templates.{first_of}
 use Rattle.sap_process.specs.Scopes.{lock_var}
-use Rattle.sap_process.specs.Configuration.{Config, becomes, holds, marked}
+use Rattle.sap_process.specs.Configuration.{Config, becomes, holding, marked}
 use Rattle.sap_process.specs.Instance.{process_instance}
 use Rattle.sap_process.specs.Proc.{Proc, act}
 use Rattle.sap_process.specs.ProcessSteps.{ProcessStep}
@@ -107,14 +107,14 @@ holder_self : (n : ℕ) (h : Holder) → h.name ≡ n → count_holder n h ≡ 1
 holder_self n h e = ap (λ k. count_name n k) e ∙ rw (eq_self n) refl
 
 module _ (laws : Laws) (sig : Sig) (start : Proc) (agents : List (Option Agent)) (pending : Option Tree) (c : Config) (tr : Trace) (s : RuleState) (full : Trace) (r : Related sig start agents pending c tr s full) where
-  pub kept_lock : (t n : ℕ) (ks : List ℕ) (path : List ℕ) (env : Env) (m : Tree) (l : ℕ) (p : Proc) (x : Tree) (rest : List (Option Fact)) → IsFree (lock_var l) (names env) → IsUnusedIn (lock_var l) p → Within (names env) m → IsNormalForm (equations sig) (instance (chosen env) m) x → c.held x ≡ false → slice_get agents t ≡ Some (Some (running path env (act (action.lock m l) p))) → Takes s.facts ks (state_fact path (values env) ∷ fresh_fact (fresh n) ∷ []) rest → ProcessStep sig c [] (holds (becomes c t (Some (process_instance (chosen env) p))) x true)
-      → Related sig start (slice_set agents t (Some (running (first_of path) (join env (just (lock_var l) (fresh n))) p))) pending (holds (becomes c t (Some (process_instance (chosen env) p))) x true) (tr ++ []) (record s { facts = adds rest (state_fact (first_of path) (values (join env (just (lock_var l) (fresh n)))) ∷ []) }) (full ++ (lock_fact (fresh n) x ∷ []) ∷ [])
+  pub kept_lock : (t n : ℕ) (ks : List ℕ) (path : List ℕ) (env : Env) (m : Tree) (l : ℕ) (p : Proc) (x : Tree) (rest : List (Option Fact)) → IsFree (lock_var l) (names env) → IsUnusedIn (lock_var l) p → Within (names env) m → IsNormalForm (equations sig) (instance (chosen env) m) x → c.held x ≡ false → slice_get agents t ≡ Some (Some (running path env (act (action.lock m l) p))) → Takes s.facts ks (state_fact path (values env) ∷ fresh_fact (fresh n) ∷ []) rest → ProcessStep sig c [] (holding (becomes c t (Some (process_instance (chosen env) p))) x true)
+      → Related sig start (slice_set agents t (Some (running (first_of path) (join env (just (lock_var l) (fresh n))) p))) pending (holding (becomes c t (Some (process_instance (chosen env) p))) x true) (tr ++ []) (record s { facts = adds rest (state_fact (first_of path) (values (join env (just (lock_var l) (fresh n)))) ∷ []) }) (full ++ (lock_fact (fresh n) x ∷ []) ∷ [])
   kept_lock t n ks path env m l p x rest absent unused within form free e takes step =
       let b : Proc = act (action.lock m l) p in
       let here : IsAt sig start path env b = r.placed t (running path env b) e in
       let τ : Env = just (lock_var l) (fresh n) in
       let new : Option Agent = Some (running (first_of path) (join env τ) p) in
-      let d : Config = holds (becomes c t (Some (process_instance (chosen env) p))) x true in
+      let d : Config = holding (becomes c t (Some (process_instance (chosen env) p))) x true in
       let up : Grows c d = record { own = λ n m. m; frame = λ x m. m } in
       let down : Grows d c = record { own = λ n m. m; frame = λ x m. m } in
       let same : process_instance (chosen env) p ≡ process_instance (chosen (join env τ)) p = sym (instance_same_on (λ y. bytes_eq (lock_var l).name y.name ≡ false) (chosen (join env τ)) (chosen env) (λ y h. same_but env (lock_var l) (fresh n) y h) p unused) in
@@ -139,13 +139,13 @@ module _ (laws : Laws) (sig : Sig) (start : Proc) (agents : List (Option Agent))
         };
       }
 
-  pub kept_unlock : (t : ℕ) (ks : List ℕ) (path : List ℕ) (env : Env) (m : Tree) (l : ℕ) (p : Proc) (x z : Tree) (rest : List (Option Fact)) → env.choice (lock_var l) ≡ z → IsNormalForm (equations sig) (instance (chosen env) m) x → slice_get agents t ≡ Some (Some (running path env (act (action.unlock m l) p))) → Takes s.facts ks (state_fact path (values env) ∷ []) rest → ProcessStep sig c [] (holds (becomes c t (Some (process_instance (chosen env) p))) x false)
-      → Related sig start (slice_set agents t (Some (running (first_of path) env p))) pending (holds (becomes c t (Some (process_instance (chosen env) p))) x false) (tr ++ []) (record s { facts = adds rest (state_fact (first_of path) (values env) ∷ []) }) (full ++ (unlock_fact z x ∷ []) ∷ [])
+  pub kept_unlock : (t : ℕ) (ks : List ℕ) (path : List ℕ) (env : Env) (m : Tree) (l : ℕ) (p : Proc) (x z : Tree) (rest : List (Option Fact)) → env.choice (lock_var l) ≡ z → IsNormalForm (equations sig) (instance (chosen env) m) x → slice_get agents t ≡ Some (Some (running path env (act (action.unlock m l) p))) → Takes s.facts ks (state_fact path (values env) ∷ []) rest → ProcessStep sig c [] (holding (becomes c t (Some (process_instance (chosen env) p))) x false)
+      → Related sig start (slice_set agents t (Some (running (first_of path) env p))) pending (holding (becomes c t (Some (process_instance (chosen env) p))) x false) (tr ++ []) (record s { facts = adds rest (state_fact (first_of path) (values env) ∷ []) }) (full ++ (unlock_fact z x ∷ []) ∷ [])
   kept_unlock t ks path env m l p x z rest z_is form e takes step =
       let b : Proc = act (action.unlock m l) p in
       let here : IsAt sig start path env b = r.placed t (running path env b) e in
       let new : Option Agent = Some (running (first_of path) env p) in
-      let d : Config = holds (becomes c t (Some (process_instance (chosen env) p))) x false in
+      let d : Config = holding (becomes c t (Some (process_instance (chosen env) p))) x false in
       let up : Grows c d = record { own = λ n m. m; frame = λ x m. m } in
       let down : Grows d c = record { own = λ n m. m; frame = λ x m. m } in
       let right : List Fact = state_fact (first_of path) (values env) ∷ [] in

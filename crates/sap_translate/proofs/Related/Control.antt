@@ -14,7 +14,7 @@ use Rattle.sap_translate.proofs.Traces.Visible.{get_last}
 use Rattle.sap_translate.specs.Sound.{SoundPlaces}
 use Rattle.sap_translate.specs.Templates.{first_of, second_of, rules_of, own_rules, nil_rule, parallel_rule, rep_start_rule, rep_copy_rule, out_rule, event_rule, then_rule, else_rule}
 use Rattle.sap_translate.specs.relation.Answered.{Ends, Splits, CopiesFirst, CopiesMore, Outputs, Agrees, Differs, Shows}
-use Rattle.sap_translate.specs.relation.Answers.{AtRest, Stands, term_under, under, at_first, at_second, trades, gets}
+use Rattle.sap_translate.specs.relation.Answers.{AtRest, StandsBefore, term_under, under, at_first, at_second, trades, gets}
 use Rattle.sap_translate.specs.relation.Envs.{Env, names, chosen, filled, values}
 use Rattle.sap_translate.specs.relation.Names.{vars}
 use Rattle.sap_translate.specs.relation.Agents.{Agent, running, copying, is_semi, is_unborn}
@@ -45,7 +45,7 @@ use Rattle.sap_translate.proofs.Related.Common.{zero_push, one_move, two_moves, 
 
 module _ (laws : Laws) (g : Sig) (start : Proc) (fine : SoundPlaces g start) (agents : List (Option Agent)) (c : Config) (tr : Trace) (s : RuleState) (full : Trace) (h : AtRest g start agents c tr s full) where
   -- the rule of a place is used, where it takes the state fact alone
-  pub plain_use : (t k : ℕ) (path : List ℕ) (env : Env) (b : Proc) → Stands agents s t k path env b → (r : Rule) → Member r (own_rules path (names env) b) → r.left ≡ state_fact path (vars (names env)) ∷ []
+  pub plain_use : (t k : ℕ) (path : List ℕ) (env : Env) (b : Proc) → StandsBefore agents s t k path env b → (r : Rule) → Member r (own_rules path (names env) b) → r.left ≡ state_fact path (vars (names env)) ∷ []
       → (acts right : List Fact) → (settled laws) (equations g) (filled env) r.acts ≡ acts → (settled laws) (equations g) (filled env) r.right ≡ right
       → IsRuleMove g (rules_of start) s (rules.uses r (k ∷ []) (filled env)) acts (trades s (k ∷ []) right)
   plain_use t k path env b w r m l acts right a t' =

@@ -13,14 +13,14 @@ use Rattle.sap_translate.proofs.Terms.Derive.{contains, member}
 use Rattle.sap_translate.specs.Scoped.{AreUnreserved}
 use Rattle.sap_translate.specs.Sound.{SoundPlaces}
 use Rattle.sap_translate.specs.relation.Answered.{Every}
-use Rattle.sap_translate.specs.relation.Answers.{AtRest, Answers, Stands, Copies, Learnt, IsAnswered, term_under, under, widened}
+use Rattle.sap_translate.specs.relation.Answers.{AtRest, Answers, StandsBefore, Copies, Learnt, IsAnswered, term_under, under, widened}
 use Rattle.sap_translate.specs.relation.Envs.{Env, chosen, names, values, just, join}
 use Rattle.sap_translate.specs.relation.ProcessMoves.{ProcessMove}
 use Rattle.sap_translate.specs.relation.Agents.{Agent, unborn, running, copying, awaiting, received, process_of, is_semi, is_unborn}
 use Rattle.sap_translate.specs.relation.Counts.{count_user, SamePile}
 use Rattle.sap_translate.specs.relation.RuleMoves.{RuleMove, RuleMoves, stays, further}
 use Rattle.sap_place.specs.StateFacts.{state_fact, copies_fact}
-use Rattle.sap_process.specs.Configuration.{Config, Runs, becomes, spawns, makes, owns, sends_out, stores, holds, leaves, IsUnused, CanGive}
+use Rattle.sap_process.specs.Configuration.{Config, Runs, becomes, spawns, makes, owns, sends_out, stores, holding, leaves, IsUnused, CanGive}
 use Rattle.sap_process.specs.Instance.{process_instance, without}
 use Rattle.sap_process.specs.Sites.{fresh_var, message_var}
 use Rattle.sap_process.specs.Places.{place}
@@ -81,7 +81,7 @@ module _ (g : Sig) (start : Proc) (c : Config) (tr : Trace) (s : RuleState) (ful
 module _ (laws : Laws) (g : Sig) (start : Proc) (hold : HoldsBuiltins g) (fine : SoundPlaces g start) (agents : List (Option Agent)) (c : Config) (tr : Trace) (s : RuleState) (full : Trace) (h : AtRest g start agents c tr s full) where
   -- where a thread stands
   data Seat (t : ℕ) (p : Proc) : Type 0 where
-    stands : (k : ℕ) (path : List ℕ) (env : Env) (b : Proc) → Stands agents s t k path env b → under env b ≡ p → Seat t p
+    stands : (k : ℕ) (path : List ℕ) (env : Env) (b : Proc) → StandsBefore agents s t k path env b → under env b ≡ p → Seat t p
     copying_there : (k : ℕ) (path : List ℕ) (env : Env) (b : Proc) → Copies agents s t k path env b → whole.replicated (under env b) ≡ p → Seat t p
 
   seat : (t : ℕ) (p : Proc) → Runs c t p → Seat t p
@@ -197,20 +197,20 @@ module _ (laws : Laws) (g : Sig) (start : Proc) (hold : HoldsBuiltins g) (fine :
       subst (λ i. Done [] (becomes c t (Some i)) ns) thread (answered g start c tr s full ns ((finds laws g start hold fine agents c tr s full h) t k path env u x v z a b w (subst (λ z. IsNormalForm (equations g) z x) (sym one') f) o) (λ n j. old_names s.made ns n j))
   by_finds t ns m x v y p q f o (stands k path env b w e) = absurd (cc)
 
-  by_locks : (t n : ℕ) (ns : List ℕ) (m x : Tree) (l : ℕ) (p : Proc) → IsNormalForm (equations g) m x → c.held x ≡ false → (Contains s.made n → ⊥) → Member n ns → Seat t (act (action.lock m l) p) → Done [] (holds (becomes c t (Some p)) x true) ns
+  by_locks : (t n : ℕ) (ns : List ℕ) (m x : Tree) (l : ℕ) (p : Proc) → IsNormalForm (equations g) m x → c.held x ≡ false → (Contains s.made n → ⊥) → Member n ns → Seat t (act (action.lock m l) p) → Done [] (holding (becomes c t (Some p)) x true) ns
   by_locks t n ns m x l p f o u i (copying_there k path env b w e) = absurd (cc)
   by_locks t n ns m x l p f o u i (stands k path env (act (action.lock v l') q) w e) =
       let one' : term_under env v ≡ m = cc in
       let three : under env q ≡ p = cc in
-      subst (λ z. Done [] z ns) (λ j. holds (becomes c t (Some (three j))) x true) (answered g start c tr s full ns ((locks laws g start hold fine agents c tr s full h) t k n path env v x l' q w (subst (λ z. IsNormalForm (equations g) z x) (sym one') f) o u) (λ m j. one_name s.made ns n i m j))
+      subst (λ z. Done [] z ns) (λ j. holding (becomes c t (Some (three j))) x true) (answered g start c tr s full ns ((locks laws g start hold fine agents c tr s full h) t k n path env v x l' q w (subst (λ z. IsNormalForm (equations g) z x) (sym one') f) o u) (λ m j. one_name s.made ns n i m j))
   by_locks t n ns m x l p f o u i (stands k path env b w e) = absurd (cc)
 
-  by_unlocks : (t : ℕ) (ns : List ℕ) (m x : Tree) (l : ℕ) (p : Proc) → IsNormalForm (equations g) m x → Seat t (act (action.unlock m l) p) → Done [] (holds (becomes c t (Some p)) x false) ns
+  by_unlocks : (t : ℕ) (ns : List ℕ) (m x : Tree) (l : ℕ) (p : Proc) → IsNormalForm (equations g) m x → Seat t (act (action.unlock m l) p) → Done [] (holding (becomes c t (Some p)) x false) ns
   by_unlocks t ns m x l p f (copying_there k path env b w e) = absurd (cc)
   by_unlocks t ns m x l p f (stands k path env (act (action.unlock v l') q) w e) =
       let one' : term_under env v ≡ m = cc in
       let three : under env q ≡ p = cc in
-      subst (λ z. Done [] z ns) (λ j. holds (becomes c t (Some (three j))) x false) (answered g start c tr s full ns ((unlocks laws g start hold fine agents c tr s full h) t k path env v x l' q w (subst (λ z. IsNormalForm (equations g) z x) (sym one') f)) (λ n j. old_names s.made ns n j))
+      subst (λ z. Done [] z ns) (λ j. holding (becomes c t (Some (three j))) x false) (answered g start c tr s full ns ((unlocks laws g start hold fine agents c tr s full h) t k path env v x l' q w (subst (λ z. IsNormalForm (equations g) z x) (sym one') f)) (λ n j. old_names s.made ns n j))
   by_unlocks t ns m x l p f (stands k path env b w e) = absurd (cc)
 
   by_makes_name : (t n : ℕ) (ns : List ℕ) (x : Var) (p : Proc) → IsUnused c n → (Contains s.made n → ⊥) → Member n ns → Seat t (act (action.new x) p) → Done [] (makes (becomes c t (Some (with_term x (fresh n) p))) n) ns
@@ -235,7 +235,7 @@ module _ (laws : Laws) (g : Sig) (start : Proc) (hold : HoldsBuiltins g) (fine :
     made = λ n i. old_names s.made ns n (subst (λ v. Contains v n) (same ∙ l.made) i);
   }
 
-  still_stands : (x : Tree) (l : Learnt g start agents c tr s full x) (t k : ℕ) (path : List ℕ) (env : Env) (b : Proc) → Stands agents s t k path env b → Stands agents l.state t k path env b
+  still_stands : (x : Tree) (l : Learnt g start agents c tr s full x) (t k : ℕ) (path : List ℕ) (env : Env) (b : Proc) → StandsBefore agents s t k path env b → StandsBefore agents l.state t k path env b
   still_stands x l t k path env b w = record { thread = w.thread; fact = l.stay k (state_fact path (values env)) w.fact (λ u e. state_no_out path (values env) (state_fact path (values env)) Member.here u e) }
 
   by_knows : (x : Tree) (ns : List ℕ) → CanGive g c x → Done (k_fact x ∷ []) c ns

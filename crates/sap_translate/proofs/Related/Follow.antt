@@ -10,7 +10,7 @@ use Rattle.sap_translate.proofs.Parts.Kept.{first_taken}
 use Rattle.sap_translate.proofs.Parts.Tidy.{tidy}
 use Rattle.sap_translate.proofs.Traces.Inputs.{free_quiet}
 use Rattle.sap_translate.specs.Templates.{rules_of}
-use Rattle.sap_translate.specs.relation.Answers.{Stands}
+use Rattle.sap_translate.specs.relation.Answers.{StandsBefore}
 use Rattle.sap_translate.specs.relation.Envs.{Env, names, values}
 use Rattle.sap_translate.specs.relation.Followed.{IsUsed}
 use Rattle.sap_translate.specs.relation.Follows.{Together, Follows, Waits}
@@ -85,7 +85,7 @@ module _ (laws : Laws) (g : Sig) (start : Proc) (agents : List (Option Agent)) (
   pub demands_of : (r : Rule) {ks : List ℕ} {σ : Choice} {left acts right : List Fact} {rest : Pile} → IsUsed g s full r ks σ left acts right rest → (a : List Fact) → (settled laws) (equations g) σ r.acts ≡ a → MeetsAll (equations g) (full ++ acts ∷ []) → MeetsSix (equations g) (full ++ a ∷ [])
   demands_of r {σ = σ} {acts = acts} u a a_is w = subst (λ fs. MeetsSix (equations g) (full ++ fs ∷ [])) ((forms_are_facts laws) (equations g) (instance_facts σ r.acts) acts u.fits.shows ∙ a_is) w.demands
 
-  pub under_env : (r : Rule) (more : List Fact) {t k : ℕ} {ks : List ℕ} {path : List ℕ} {env : Env} {b : Proc} {σ : Choice} {left acts right : List Fact} {rest : Pile} → Stands agents s t k path env b → IsUsed g s full r (k ∷ ks) σ left acts right rest → r.left ≡ state_fact path (vars (names env)) ∷ more → UnderEnv laws g s k ks path env σ more rest
+  pub under_env : (r : Rule) (more : List Fact) {t k : ℕ} {ks : List ℕ} {path : List ℕ} {env : Env} {b : Proc} {σ : Choice} {left acts right : List Fact} {rest : Pile} → StandsBefore agents s t k path env b → IsUsed g s full r (k ∷ ks) σ left acts right rest → r.left ≡ state_fact path (vars (names env)) ∷ more → UnderEnv laws g s k ks path env σ more rest
   under_env r more {k = k} {ks = ks} {path = path} {env = env} {σ = σ} {rest = rest} w u l =
       let args : List Tree = map ((nf laws) (equations g)) (map (instance σ) (vars (names env))) in
       let taken : Takes s.facts (k ∷ ks) (state_fact path args ∷ (settled laws) (equations g) σ more) rest = subst (λ fs. Takes s.facts (k ∷ ks) fs rest) (left_is r u ∙ ap ((settled laws) (equations g) σ) l) u.takes in

@@ -14,7 +14,7 @@ use Rattle.sap_translate.specs.relation.Shown.{MeetsAll}
 use Rattle.sap_translate.proofs.Terms.Choices.{settled_vars, good_bind, longer_choice, facts_match}
 use Rattle.sap_translate.proofs.Terms.Forms.{settled, forms_are_facts}
 use Rattle.sap_translate.specs.Templates.{rules_of, first_of, embedded_rule, embedded_acts}
-use Rattle.sap_translate.specs.relation.Answers.{Stands, under, widened, at_first, goes_on}
+use Rattle.sap_translate.specs.relation.Answers.{StandsBefore, under, widened, at_first, goes_on}
 use Rattle.sap_translate.specs.relation.Envs.{Env, names, values, join, bind, GoodEnv}
 use Rattle.sap_translate.specs.relation.Follows.{Together}
 use Rattle.sap_translate.specs.relation.ProcessMoves.{IsProcessMove}
@@ -58,7 +58,7 @@ module _ (laws : Laws) (g : Sig) (start : Proc) (fine : SoundPlaces g start) (ag
     ground : GoodEnv g (bind σ (new_vars (var_names (names env)) (facts_vars (l ++ (a ++ o)))))
     move : IsProcessMove g c (process.embeds t ks σ) shows (config.leaves (becomes c t (Some (under (widened env σ (facts_vars (l ++ (a ++ o)))) p))) (adds others gives))
 
-  shared : (t k : ℕ) (js ks : List ℕ) (path : List ℕ) (env : Env) (l a o : List Fact) (p : Proc) (σ : Choice) (taken shows gives acts right : List Fact) (rest others : Pile) → Stands agents s t k path env (act (action.embedded l a o) p) → IsUsed g s full (embedded_rule path (names env) l a o) (k ∷ js) σ (state_fact path (values env) ∷ taken) acts right rest
+  shared : (t k : ℕ) (js ks : List ℕ) (path : List ℕ) (env : Env) (l a o : List Fact) (p : Proc) (σ : Choice) (taken shows gives acts right : List Fact) (rest others : Pile) → StandsBefore agents s t k path env (act (action.embedded l a o) p) → IsUsed g s full (embedded_rule path (names env) l a o) (k ∷ js) σ (state_fact path (values env) ∷ taken) acts right rest
       → Takes c.facts ks taken others → AreFormsOfFacts (equations g) (instance_facts σ a) shows → AreFormsOfFacts (equations g) (instance_facts σ o) gives → Rule t k js ks path env l a o p σ taken shows gives others
   shared t k js ks path env l a o p σ taken shows gives acts right rest others w u ptakes a_form o_form =
       let e = equations g in

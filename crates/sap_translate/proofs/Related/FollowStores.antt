@@ -48,7 +48,7 @@ use Rattle.sap_translate.specs.Scoped.{IsFree}
 use Rattle.sap_translate.specs.relation.Followed.{FollowsNew, FollowsInsert, FollowsDelete, FollowsFound, FollowsMissing, FollowsLock, FollowsUnlock}
 use Rattle.sap_process.specs.Scopes.{lock_var}
 use Rattle.sap_process.specs.Configuration as config
-use Rattle.sap_process.specs.Configuration.{Config, becomes, stores, stored, holds}
+use Rattle.sap_process.specs.Configuration.{Config, becomes, stores, stored, holding}
 use Rattle.sap_process.specs.Instance.{process_instance, without}
 use Rattle.sap_process.specs.Sites.{fresh_var, message_var}
 use Rattle.sap_terms.specs.AdversaryFacts.{k_fact}
@@ -131,7 +131,7 @@ module _ (laws : Laws) (g : Sig) (start : Proc) (hold : HoldsBuiltins g) (fine :
       let name : Tree = env.choice (lock_var l) in
       let name_is : (nf laws) (equations g) (σ (lock_var l)) ≡ name = (nf-fixed laws) (equations g) (σ (lock_var l)) (u.fits.messages (lock_var l)).normal ∙ agree_of σ env.choice (names env) v.agrees (lock_var l) sound.1 in
       let shown : List Fact = unlock_fact name x ∷ [] in
-      let step : ProcessStep g c [] (holds (becomes c t (Some (under env p))) x false) = ProcessStep.unlocks t (runs_as h.related t (running path env b) w.thread) m_form in
+      let step : ProcessStep g c [] (holding (becomes c t (Some (under env p))) x false) = ProcessStep.unlocks t (runs_as h.related t (running path env b) w.thread) m_form in
       (follow_use laws g start agents pending c tr s full h) r σ (place_rule start path (names env) b r at.0 Member.here) u shown (at_first path env ∷ []) (λ i. unlock_fact (name_is i) (x_is i) ∷ []) (λ i. state_fact (first_of path) (args i) ∷ []) (one_step (record { step = step; chooses = refl }))
       ((kept_unlock laws) g start agents pending c tr s full h.related t (k ∷ []) path env m l p x name rest refl m_form w.thread v.takes step)
       (silent_waits pending full shown (λ i j. other (k_fact i) (unlock_fact name x) refl j))
@@ -154,7 +154,7 @@ module _ (laws : Laws) (g : Sig) (start : Proc) (hold : HoldsBuiltins g) (fine :
       let shown_is : (settled laws) (equations g) σ r.acts ≡ shown = λ i. lock_fact (n_is i) (x_is i) ∷ [] in
       let demands = (demands_of laws g start agents pending c tr s full h) r u shown shown_is ((met laws g start fine agents pending c tr s full h meets) r listed u) in
       let free : c.held x ≡ false = not_held h.related x (c.held x) refl (lock_now full (fresh n) x demands.lock) in
-      let step : ProcessStep g c [] (holds (becomes c t (Some (under env p))) x true) = ProcessStep.locks t (runs_as h.related t (running path env b) w.thread) m_form free in
+      let step : ProcessStep g c [] (holding (becomes c t (Some (under env p))) x true) = ProcessStep.locks t (runs_as h.related t (running path env b) w.thread) m_form free in
       (follow_use laws g start agents pending c tr s full h) r σ listed u shown (at_first path wider ∷ []) shown_is (λ i. state_fact (first_of path) (args i) ∷ []) (one_step (record { step = step; chooses = refl }))
       ((kept_lock laws) g start agents pending c tr s full h.related t n (k ∷ j ∷ []) path env m l p x rest absent sound.2 sound.0 m_form free w.thread takes step)
       (silent_waits pending full shown (λ i j. other (k_fact i) (lock_fact (fresh n) x) refl j))

@@ -24,7 +24,7 @@ use Rattle.sap_translate.specs.OpenLocks.{UnlocksAreOpen}
 use Rattle.sap_translate.specs.Places.{child}
 use Rattle.sap_translate.specs.Templates.{first_of, own_rules, rule, out_adv_rule}
 use Rattle.sap_translate.specs.relation.Answered.{OutputsOn, Inputs, InputsOn}
-use Rattle.sap_translate.specs.relation.Answers.{AtRest, Answers, Stands, term_under, under, widened, at_first, goes_on, trades, gets}
+use Rattle.sap_translate.specs.relation.Answers.{AtRest, Answers, StandsBefore, term_under, under, widened, at_first, goes_on, trades, gets}
 use Rattle.sap_translate.specs.relation.Envs.{Env, names, filled, values, bind, join, GoodEnv}
 use Rattle.sap_translate.specs.relation.ProcessMoves.{ProcessMove, IsProcessMove}
 use Rattle.sap_translate.specs.relation.ProcessMoves as process
@@ -70,7 +70,7 @@ module _ (laws : Laws) (g : Sig) (start : Proc) (fine : SoundPlaces g start) (ag
       (kept_out_adv g start agents x c tr y (full ++ (k_fact x ∷ []) ∷ []) first t (k ∷ length s.facts ∷ []) path env m u n p _ (know_free full x) w.thread takes))
 
   -- a thread takes what K shows, by a rule with the pattern m
-  takes_in : (t k : ℕ) (path : List ℕ) (env τ : Env) (b p : Proc) (v : List Var) (m x : Tree) (word : List ℕ) → Stands agents s t k path env b → CanGive g c x → Contains s.known x → ((o : List (ℕ × Tree)) → UnlocksAreOpen o b → UnlocksAreOpen o p) → child (place path (names env) b) 1 ≡ Some (place (first_of path) v p) → v ≡ names (join env τ) → GoodEnv g τ → ((y : Var) → Member y (names τ) → IsFree y (names env)) → IsTheoryEqual (equations g) (instance (filled (join env τ)) m) x
+  takes_in : (t k : ℕ) (path : List ℕ) (env τ : Env) (b p : Proc) (v : List Var) (m x : Tree) (word : List ℕ) → StandsBefore agents s t k path env b → CanGive g c x → Contains s.known x → ((o : List (ℕ × Tree)) → UnlocksAreOpen o b → UnlocksAreOpen o p) → child (place path (names env) b) 1 ≡ Some (place (first_of path) v p) → v ≡ names (join env τ) → GoodEnv g τ → ((y : Var) → Member y (names τ) → IsFree y (names env)) → IsTheoryEqual (equations g) (instance (filled (join env τ)) m) x
       → Member (rule word path (state_fact path (vars (names env)) ∷ in_fact m ∷ []) (input_fact m ∷ []) (state_fact (first_of path) (vars v) ∷ [])) (own_rules path (names env) b) → {move : ProcessMove} → IsProcessMove g c move (k_fact x ∷ []) (becomes c t (Some (under (join env τ) p)))
       → Answers g start c tr s full move (k_fact x ∷ []) (becomes c t (Some (under (join env τ) p))) (rules.gives x ∷ rules.uses (rule word path (state_fact path (vars (names env)) ∷ in_fact m ∷ []) (input_fact m ∷ []) (state_fact (first_of path) (vars v) ∷ [])) (k ∷ length s.facts ∷ []) (filled (join env τ)) ∷ []) ((k_fact x ∷ []) ∷ (input_fact x ∷ []) ∷ [])
       (trades (gets s (in_fact x ∷ [])) (k ∷ length s.facts ∷ []) (at_first path (join env τ) ∷ [])) (goes_on agents t path (join env τ) p)

@@ -20,7 +20,7 @@ use Rattle.sap_translate.specs.Places.{child}
 use Rattle.sap_translate.specs.Sound.{SoundPlaces}
 use Rattle.sap_translate.specs.Templates.{first_of, second_of, rules_of, own_rules, insert_rule, delete_rule, found_rule, missing_rule, lock_rule, unlock_rule}
 use Rattle.sap_translate.specs.relation.Answered.{Inserts, Deletes, Finds, Misses, Locks, Unlocks}
-use Rattle.sap_translate.specs.relation.Answers.{AtRest, Answers, Stands, term_under, under, at_first, at_second, goes_on, trades}
+use Rattle.sap_translate.specs.relation.Answers.{AtRest, Answers, StandsBefore, term_under, under, at_first, at_second, goes_on, trades}
 use Rattle.sap_translate.specs.relation.Envs.{Env, names, chosen, filled, values, just, join, GoodEnv}
 use Rattle.sap_translate.specs.relation.Names.{vars}
 use Rattle.sap_translate.specs.relation.ProcessMoves.{IsProcessMove}
@@ -33,7 +33,7 @@ use Rattle.sap_translate.specs.relation.RuleMoves as rules
 use Rattle.sap_formula.specs.Hide.{visible}
 use Rattle.sap_process.specs.Scopes.{lock_var}
 use Rattle.sap_place.specs.StateFacts.{state_fact}
-use Rattle.sap_process.specs.Configuration.{Config, becomes, stored, holds}
+use Rattle.sap_process.specs.Configuration.{Config, becomes, stored, holding}
 use Rattle.sap_process.specs.Instance.{process_instance, without}
 use Rattle.sap_process.specs.Places.{place}
 use Rattle.sap_process.specs.Proc.{Proc, act}
@@ -59,7 +59,7 @@ use Rattle.sap_translate.proofs.Related.Control.{plain_use}
 
 module _ (laws : Laws) (g : Sig) (start : Proc) (hold : HoldsBuiltins g) (fine : SoundPlaces g start) (agents : List (Option Agent)) (c : Config) (tr : Trace) (s : RuleState) (full : Trace) (h : AtRest g start agents c tr s full) where
   -- a thread goes on at its first child, what its rule shows is hidden, and the store is this later
-  at_store : (t k : ℕ) (path : List ℕ) (env : Env) (b p : Proc) → Stands agents s t k path env b → (r : Rule) → Member r (own_rules path (names env) b) → r.left ≡ state_fact path (vars (names env)) ∷ [] → r.right ≡ state_fact (first_of path) (vars (names env)) ∷ []
+  at_store : (t k : ℕ) (path : List ℕ) (env : Env) (b p : Proc) → StandsBefore agents s t k path env b → (r : Rule) → Member r (own_rules path (names env) b) → r.left ≡ state_fact path (vars (names env)) ∷ [] → r.right ≡ state_fact (first_of path) (vars (names env)) ∷ []
       → (acts : List Fact) (later : Tree → Option Tree) → (settled laws) (equations g) (filled env) r.acts ≡ acts → NoLock acts → ((o : List (ℕ × Tree)) → UnlocksAreOpen o b → UnlocksAreOpen o p) → child (place path (names env) b) 1 ≡ Some (place (first_of path) (names env) p)
       → visible acts ≡ [] → has_init acts ≡ 0 → ((y : Tree) → Member (k_fact y) acts → ⊥) → MeetsSix (equations g) (full ++ acts ∷ []) → StorePart g later (full ++ acts ∷ []) → {move : process.ProcessMove} → IsProcessMove g c move [] (record (becomes c t (Some (under env p))) { store = later })
       → Answers g start c tr s full move [] (record (becomes c t (Some (under env p))) { store = later }) (rules.uses r (k ∷ []) (filled env) ∷ []) (acts ∷ []) (trades s (k ∷ []) (at_first path env ∷ [])) (goes_on agents t path env p)
@@ -139,7 +139,7 @@ module _ (laws : Laws) (g : Sig) (start : Proc) (hold : HoldsBuiltins g) (fine :
       let name : Tree = env.choice (lock_var l) in
       let name_is : (nf laws) (equations g) (filled env (lock_var l)) ≡ name = ap ((nf laws) (equations g)) (filled_is env (lock_var l) sound.1) ∙ (nf-fixed laws) (equations g) name (at.1.messages (lock_var l) sound.1).normal in
       let acts : List Fact = unlock_fact name x ∷ [] in
-      let step : ProcessStep g c [] (holds (becomes c t (Some (under env p))) x false) = ProcessStep.unlocks t (runs_as h.related t (running path env b) w.thread) m_form in
+      let step : ProcessStep g c [] (holding (becomes c t (Some (under env p))) x false) = ProcessStep.unlocks t (runs_as h.related t (running path env b) w.thread) m_form in
       (answers_set g start agents c tr s full h) t (Some (running path env b)) (Some (running (first_of path) env p)) w.thread refl refl (record { step = step; chooses = refl })
       (one_move ((plain_use laws g start fine agents c tr s full h) t k path env b w (unlock_rule path (names env) m l) Member.here refl acts (at_first path env ∷ []) (λ i. unlock_fact (name_is i) (x_is i) ∷ []) (ap (λ ts. state_fact (first_of path) ts ∷ []) ((own_args laws) g env at.1))))
       ((kept_unlock laws) g start agents None c tr s full h.related t (k ∷ []) path env m l p x name (slice_set s.facts k None) refl m_form w.thread (one w.fact nothing) step)
@@ -161,11 +161,11 @@ module _ (laws : Laws) (g : Sig) (start : Proc) (hold : HoldsBuiltins g) (fine :
       let takes = takes_newest s.facts k f (fr_fact n) w.fact refl refl in
       let acts : List Fact = lock_fact (fresh n) x ∷ [] in
       let r : Rule = lock_rule path (names env) m l in
-      let step : ProcessStep g c [] (holds (becomes c t (Some (under env p))) x true) = ProcessStep.locks t (runs_as h.related t (running path env b) w.thread) m_form free in
+      let step : ProcessStep g c [] (holding (becomes c t (Some (under env p))) x true) = ProcessStep.locks t (runs_as h.related t (running path env b) w.thread) m_form free in
       let first = (kept_fresh laws) g start agents None c tr s full h.related n (λ i. unused (contains i)) in
       (answers_set g start agents c tr s full h) t (Some (running path env b)) (Some (running (first_of path) wider p)) w.thread refl refl (record { step = step; chooses = refl })
       (two_moves (record { step = RuleStep.makes_name n unused; chooses = refl })
       ((use_of laws) g start y r (filled wider) (f ∷ fr_fact n ∷ []) acts (at_first path wider ∷ []) (place_rule start path (names env) b r at.0 Member.here) good
       (λ i. state_fact path ((old_args laws) g env τ good_wider i) ∷ fresh_fact (n_is i) ∷ []) (λ i. lock_fact (n_is i) (x_is i) ∷ []) (ap (λ ts. state_fact (first_of path) ts ∷ []) ((own_args laws) g wider good_wider)) takes))
-      (subst (λ v. Related g start (goes_on agents t path wider p) None (holds (becomes c t (Some (under env p))) x true) (tr ++ []) (trades y (k ∷ length s.facts ∷ []) (at_first path wider ∷ [])) v) (append_assoc full ([] ∷ []) (acts ∷ []))
+      (subst (λ v. Related g start (goes_on agents t path wider p) None (holding (becomes c t (Some (under env p))) x true) (tr ++ []) (trades y (k ∷ length s.facts ∷ []) (at_first path wider ∷ [])) v) (append_assoc full ([] ∷ []) (acts ∷ []))
       ((kept_lock laws) g start agents None c tr y (full ++ [] ∷ []) first t n (k ∷ length s.facts ∷ []) path env m l p x _ absent sound.2 sound.0 m_form free w.thread takes step))

@@ -23,7 +23,7 @@ use Rattle.sap_process.specs.Places.{place}
 use Rattle.sap_translate.specs.Templates.{first_of, second_of}
 use Rattle.sap_process.specs.Scopes.{lock_var}
 use Rattle.sap_translate.specs.Sound.{SoundPlaces}
-use Rattle.sap_process.specs.Configuration.{becomes, stores, stored, holds}
+use Rattle.sap_process.specs.Configuration.{becomes, stores, stored, holding}
 use Rattle.sap_process.specs.Instance.{process_instance, without}
 use Rattle.sap_process.specs.Proc.{Proc, act}
 use Rattle.sap_process.specs.ProcessSteps.{ProcessStep, ProcessRun}
@@ -113,14 +113,14 @@ module _ (laws : Laws) (sig : Sig) (start : Proc) (hold : HoldsBuiltins sig) (fi
         let m_is = put_same σ y.env agrees m within in
         let m_form : IsNormalForm (equations sig) (instance (chosen y.env) m) x = subst (λ t. IsNormalForm (equations sig) t x) m_is (subst (λ u. IsNormalForm (equations sig) (instance σ m) u) x_is ((has_normal_form laws) (equations sig) (instance σ m))) in
         let free : w.c.held x ≡ false = not_held w.related x (w.c.held x) refl (lock_now full ((nf laws) (equations sig) (σ (lock_var l))) x demands.lock) in
-        let step : ProcessStep sig w.c [] (holds (becomes w.c y.thread (Some (process_instance (chosen y.env) p))) x true) = ProcessStep.locks y.thread run m_form free in
+        let step : ProcessStep sig w.c [] (holding (becomes w.c y.thread (Some (process_instance (chosen y.env) p))) x true) = ProcessStep.locks y.thread run m_form free in
         let args : map σ (v ++ lock_var l ∷ []) ≡ values (join y.env τ) = ap (λ u. map σ (u ++ lock_var l ∷ [])) (sym y.scope) ∙ one_more σ y.env agrees (lock_var l) (fresh n) absent drawn.is in
         subst (λ ts. (After laws sig start hold fine s full w clean ks rest σ good path v) (state_fact (first_of path) ts ∷ []) (lock_fact ((nf laws) (equations sig) (σ (lock_var l))) x ∷ [])) (sym args)
         (subst (λ z. (After laws sig start hold fine s full w clean ks rest σ good path v) (state_fact (first_of path) (values (join y.env τ)) ∷ []) (lock_fact z x ∷ [])) (sym given)
         (record {
           agents = slice_set w.agents y.thread (Some (running (first_of path) (join y.env τ) p));
           pending = w.pending;
-          c = holds (becomes w.c y.thread (Some (process_instance (chosen y.env) p))) x true;
+          c = holding (becomes w.c y.thread (Some (process_instance (chosen y.env) p))) x true;
           tr = w.tr ++ [];
           reached = ProcessRun.further w.reached step;
           related = (kept_lock laws) sig start w.agents w.pending w.c w.tr s full w.related y.thread n ks path y.env m l p x rest absent sound.2 within m_form free y.stands takes' step;
@@ -136,12 +136,12 @@ module _ (laws : Laws) (sig : Sig) (start : Proc) (hold : HoldsBuiltins sig) (fi
         let m_is = put_same σ y.env agrees m (subst (λ u. Within u m) (sym y.scope) sound.0) in
         let m_form : IsNormalForm (equations sig) (instance (chosen y.env) m) x = subst (λ t. IsNormalForm (equations sig) t x) m_is (subst (λ u. IsNormalForm (equations sig) (instance σ m) u) x_is ((has_normal_form laws) (equations sig) (instance σ m))) in
         let given : y.env.choice (lock_var l) ≡ (nf laws) (equations sig) (σ (lock_var l)) = sym (agree_of σ y.env.choice (names y.env) agrees (lock_var l) (subst (λ u. Member (lock_var l) u) (sym y.scope) sound.1)) ∙ sym ((nf-fixed laws) (equations sig) (σ (lock_var l)) (good (lock_var l)).normal) in
-        let step : ProcessStep sig w.c [] (holds (becomes w.c y.thread (Some (process_instance (chosen y.env) p))) x false) = ProcessStep.unlocks y.thread run m_form in
+        let step : ProcessStep sig w.c [] (holding (becomes w.c y.thread (Some (process_instance (chosen y.env) p))) x false) = ProcessStep.unlocks y.thread run m_form in
         subst (λ ts. (After laws sig start hold fine s full w clean ks rest σ good path v) (state_fact (first_of path) ts ∷ []) (unlock_fact ((nf laws) (equations sig) (σ (lock_var l))) x ∷ [])) (sym y.bound)
         (record {
           agents = slice_set w.agents y.thread (Some (running (first_of path) y.env p));
           pending = w.pending;
-          c = holds (becomes w.c y.thread (Some (process_instance (chosen y.env) p))) x false;
+          c = holding (becomes w.c y.thread (Some (process_instance (chosen y.env) p))) x false;
           tr = w.tr ++ [];
           reached = ProcessRun.further w.reached step;
           related = (kept_unlock laws) sig start w.agents w.pending w.c w.tr s full w.related y.thread ks path y.env m l p x ((nf laws) (equations sig) (σ (lock_var l))) rest given m_form y.stands takes' step;

@@ -17,7 +17,7 @@ use Rattle.sap_terms.specs.declared.fact.Fact.{Fact}
 use Rattle.sap_terms.specs.declared.var.Var.{Var}
 use Rattle.sap_process.specs.Action.{new, out, send, input, receive, event, insert, delete, lock, unlock, embedded}
 use Rattle.sap_process.specs.Configuration as config
-use Rattle.sap_process.specs.Configuration.{Config, initial, becomes, spawns, sends_out, stores, holds, IsUnused, CanGive}
+use Rattle.sap_process.specs.Configuration.{Config, initial, becomes, spawns, sends_out, stores, holding, IsUnused, CanGive}
 use Rattle.sap_process.specs.Proc.{Proc, nil, parallel, replicated, act, test, lookup, node_count}
 use Rattle.sap_process.specs.ProcessSteps.{ProcessStep, Fits}
 use Rattle.sap_process.specs.Ready.{IsReady}
@@ -32,7 +32,7 @@ use Rattle.sap_rule.specs.RuleSteps.{RuleState, empty_state, leaves, gains}
 use Rattle.sap_rule.specs.RuleSteps as state
 use Rattle.sap_translate.specs.ChannelFacts.{msg_fact, ack_fact}
 use Rattle.sap_translate.specs.Templates.{second_of, first_of, nil_rule, parallel_rule, rep_start_rule, rep_copy_rule, new_rule, out_rule, out_adv_rule, out_msg_rule, out_ack_rule, in_rule, in_adv_rule, in_msg_rule, event_rule, insert_rule, delete_rule, lock_rule, unlock_rule, embedded_rule, embedded_acts, then_rule, else_rule, found_rule, missing_rule}
-use Rattle.sap_translate.specs.relation.Answers.{AtRest, Stands, Copies, Answers, term_under, under, widened, at_first, at_second, goes_on, goes_aside, without_facts, trades, gets, Learnt, IsAnswered}
+use Rattle.sap_translate.specs.relation.Answers.{AtRest, StandsBefore, Copies, Answers, term_under, under, widened, at_first, at_second, goes_on, goes_aside, without_facts, trades, gets, Learnt, IsAnswered}
 use Rattle.sap_translate.specs.relation.Envs.{Env, no_env, names, chosen, values, filled, just, join}
 use Rattle.sap_translate.specs.relation.ProcessMoves as process
 use Rattle.sap_translate.specs.relation.Agents.{Agent, running, copying}
@@ -53,14 +53,14 @@ WhereAtRest P =
 -- a thread that has nothing left ends: `Nil_`
 abbrev pub Ends : Case
 Ends g start agents c tr s full =
-    (t k : ℕ) (path : List ℕ) (env : Env) → Stands agents s t k path env nil
+    (t k : ℕ) (path : List ℕ) (env : Env) → StandsBefore agents s t k path env nil
     → Answers g start c tr s full (process.ends t) [] (becomes c t None)
     (rules.uses (nil_rule path (names env)) (k ∷ []) (filled env) ∷ []) ([] ∷ []) (trades s (k ∷ []) []) (slice_set agents t None)
 
 -- a parallel splits: `Par_`
 abbrev pub Splits : Case
 Splits g start agents c tr s full =
-    (t k : ℕ) (path : List ℕ) (env : Env) (p q : Proc) → Stands agents s t k path env (parallel p q)
+    (t k : ℕ) (path : List ℕ) (env : Env) (p q : Proc) → StandsBefore agents s t k path env (parallel p q)
     → Answers g start c tr s full (process.splits t) [] (spawns (becomes c t (Some (under env p))) (under env q))
     (rules.uses (parallel_rule path (names env)) (k ∷ []) (filled env) ∷ []) ([] ∷ [])
     (trades s (k ∷ []) (at_first path env ∷ at_second path env ∷ [])) (goes_on agents t path env p ++ Some (running (second_of path) env q) ∷ [])
@@ -68,7 +68,7 @@ Splits g start agents c tr s full =
 -- a replication that has not started has its first copy: `RepStart_`, `RepCopy_`
 abbrev pub CopiesFirst : Case
 CopiesFirst g start agents c tr s full =
-    (t k : ℕ) (path : List ℕ) (env : Env) (p : Proc) → Stands agents s t k path env (replicated p)
+    (t k : ℕ) (path : List ℕ) (env : Env) (p : Proc) → StandsBefore agents s t k path env (replicated p)
     → Answers g start c tr s full (process.copies t) [] (spawns c (under env p))
     (rules.uses (rep_start_rule path (names env)) (k ∷ []) (filled env) ∷ rules.uses (rep_copy_rule path (names env)) (length s.facts ∷ []) (filled env) ∷ []) ([] ∷ [] ∷ [])
     (gets (trades s (k ∷ []) (copies_fact path (values env) ∷ [])) (at_first path env ∷ []))
@@ -85,7 +85,7 @@ CopiesMore g start agents c tr s full =
 -- a process makes a name, of which Fr was not made: Fr is made of it, `New_`
 abbrev pub MakesName : Case
 MakesName g start agents c tr s full =
-    (t k n : ℕ) (path : List ℕ) (env : Env) (x : Var) (p : Proc) → Stands agents s t k path env (act (new x) p) → IsUnused c n → ¬ Contains s.made n
+    (t k n : ℕ) (path : List ℕ) (env : Env) (x : Var) (p : Proc) → StandsBefore agents s t k path env (act (new x) p) → IsUnused c n → ¬ Contains s.made n
     → let wider : Env = join env (just (fresh_var x) (fresh n)) in
     Answers g start c tr s full (process.makes_name t n) [] (config.makes (becomes c t (Some (under wider p))) n)
     (rules.makes_name n ∷ rules.uses (new_rule path (names env) x) (k ∷ length s.facts ∷ []) (filled wider) ∷ []) ([] ∷ [] ∷ [])
@@ -94,7 +94,7 @@ MakesName g start agents c tr s full =
 -- the adversary gets a message: `Out_`
 abbrev pub Outputs : Case
 Outputs g start agents c tr s full =
-    (t k : ℕ) (path : List ℕ) (env : Env) (m n : Tree) (p : Proc) → Stands agents s t k path env (act (out m) p) → IsNormalForm (equations g) (term_under env m) n
+    (t k : ℕ) (path : List ℕ) (env : Env) (m n : Tree) (p : Proc) → StandsBefore agents s t k path env (act (out m) p) → IsNormalForm (equations g) (term_under env m) n
     → Answers g start c tr s full (process.outputs t) [] (sends_out (becomes c t (Some (under env p))) n)
     (rules.uses (out_rule path (names env) m) (k ∷ []) (filled env) ∷ []) ([] ∷ [])
     (trades s (k ∷ []) (out_fact n ∷ at_first path env ∷ [])) (goes_on agents t path env p)
@@ -102,7 +102,7 @@ Outputs g start agents c tr s full =
 -- it gets one on a channel that it can give, and that the rules know: K of the channel, `OutAdv_`
 abbrev pub OutputsOn : Case
 OutputsOn g start agents c tr s full =
-    (t k : ℕ) (path : List ℕ) (env : Env) (m u x n : Tree) (p : Proc) → Stands agents s t k path env (act (send m u) p)
+    (t k : ℕ) (path : List ℕ) (env : Env) (m u x n : Tree) (p : Proc) → StandsBefore agents s t k path env (act (send m u) p)
     → IsNormalForm (equations g) (term_under env m) x → CanGive g c x → IsNormalForm (equations g) (term_under env u) n → Contains s.known x
     → Answers g start c tr s full (process.outputs_on t) (k_fact x ∷ []) (sends_out (becomes c t (Some (under env p))) n)
     (rules.gives x ∷ rules.uses (out_adv_rule path (names env) m u) (k ∷ length s.facts ∷ []) (filled env) ∷ []) ((k_fact x ∷ []) ∷ (input_fact x ∷ []) ∷ [])
@@ -111,7 +111,7 @@ OutputsOn g start agents c tr s full =
 -- it gives a message that fits, and that the rules know: K of the message, `In_`
 abbrev pub Inputs : Case
 Inputs g start agents c tr s full =
-    (t k : ℕ) (path : List ℕ) (env : Env) (m x : Tree) (p : Proc) (σ : Choice) → Stands agents s t k path env (act (input m) p)
+    (t k : ℕ) (path : List ℕ) (env : Env) (m x : Tree) (p : Proc) (σ : Choice) → StandsBefore agents s t k path env (act (input m) p)
     → CanGive g c x → Fits g σ (term_under env m) x → Contains s.known x
     → let wider : Env = widened env σ (tree_vars m) in
     Answers g start c tr s full (process.inputs t σ) (k_fact x ∷ []) (becomes c t (Some (under wider p)))
@@ -121,7 +121,7 @@ Inputs g start agents c tr s full =
 -- it gives a channel and a message that fits as a pair, which the rules know: K of the pair, `InAdv_`
 abbrev pub InputsOn : Case
 InputsOn g start agents c tr s full =
-    (t k : ℕ) (path : List ℕ) (env : Env) (m u x : Tree) (p : Proc) (σ : Choice) → Stands agents s t k path env (act (receive m u) p)
+    (t k : ℕ) (path : List ℕ) (env : Env) (m u x : Tree) (p : Proc) (σ : Choice) → StandsBefore agents s t k path env (act (receive m u) p)
     → CanGive g c x → IsMessageChoice g σ → IsTheoryEqual (equations g) (app2 pair_name (term_under env m) (instance σ (term_under env u))) x → Contains s.known x
     → let wider : Env = widened env σ (tree_vars u) in
     Answers g start c tr s full (process.inputs_on t σ) (k_fact x ∷ []) (becomes c t (Some (under wider p)))
@@ -140,7 +140,7 @@ come s k m n path env = trades s (k ∷ m ∷ []) (ack_fact (fresh n) ∷ at_fir
 -- `OutAck_`.
 abbrev pub Meets : Case
 Meets g start agents c tr s full =
-    (a b j k n : ℕ) (path at : List ℕ) (env other : Env) (m u l r x v : Tree) (p q : Proc) (σ : Choice) → Stands agents s a j path env (act (send m u) p) → Stands agents s b k at other (act (receive l r) q)
+    (a b j k n : ℕ) (path at : List ℕ) (env other : Env) (m u l r x v : Tree) (p q : Proc) (σ : Choice) → StandsBefore agents s a j path env (act (send m u) p) → StandsBefore agents s b k at other (act (receive l r) q)
     → IsTheoryEqual (equations g) (term_under env m) (term_under other l) → Fits g σ (term_under other r) (term_under env u)
     → IsNormalForm (equations g) (term_under env m) x → IsNormalForm (equations g) (term_under env u) v → ¬ Contains s.made n
     → let wider : Env = widened other σ (tree_vars r) in let tagged : Env = just tag (fresh n) in let e : ℕ = length s.facts in
@@ -153,7 +153,7 @@ Meets g start agents c tr s full =
 -- two terms are equal: `Then_`
 abbrev pub Agrees : Case
 Agrees g start agents c tr s full =
-    (t k : ℕ) (path : List ℕ) (env : Env) (m n x y : Tree) (p q : Proc) → Stands agents s t k path env (test m n p q) → IsTheoryEqual (equations g) (term_under env m) (term_under env n)
+    (t k : ℕ) (path : List ℕ) (env : Env) (m n x y : Tree) (p q : Proc) → StandsBefore agents s t k path env (test m n p q) → IsTheoryEqual (equations g) (term_under env m) (term_under env n)
     → IsNormalForm (equations g) (term_under env m) x → IsNormalForm (equations g) (term_under env n) y
     → Answers g start c tr s full (process.agrees t) [] (becomes c t (Some (under env p)))
     (rules.uses (then_rule path (names env) m n) (k ∷ []) (filled env) ∷ []) ((eq_fact x y ∷ []) ∷ []) (trades s (k ∷ []) (at_first path env ∷ [])) (goes_on agents t path env p)
@@ -161,7 +161,7 @@ Agrees g start agents c tr s full =
 -- or differ: `Else_`
 abbrev pub Differs : Case
 Differs g start agents c tr s full =
-    (t k : ℕ) (path : List ℕ) (env : Env) (m n x y : Tree) (p q : Proc) → Stands agents s t k path env (test m n p q) → ¬ IsTheoryEqual (equations g) (term_under env m) (term_under env n)
+    (t k : ℕ) (path : List ℕ) (env : Env) (m n x y : Tree) (p q : Proc) → StandsBefore agents s t k path env (test m n p q) → ¬ IsTheoryEqual (equations g) (term_under env m) (term_under env n)
     → IsNormalForm (equations g) (term_under env m) x → IsNormalForm (equations g) (term_under env n) y
     → Answers g start c tr s full (process.differs t) [] (becomes c t (Some (under env q)))
     (rules.uses (else_rule path (names env) m n) (k ∷ []) (filled env) ∷ []) ((not_eq_fact x y ∷ []) ∷ []) (trades s (k ∷ []) (at_second path env ∷ [])) (goes_aside agents t path env q)
@@ -169,28 +169,28 @@ Differs g start agents c tr s full =
 -- an event shows its fact: `Event_`
 abbrev pub Shows : Case
 Shows g start agents c tr s full =
-    (t k : ℕ) (path : List ℕ) (env : Env) (f h : Fact) (p : Proc) → Stands agents s t k path env (act (event f) p) → IsFormOfFact (equations g) (instance_fact (chosen env) f) h
+    (t k : ℕ) (path : List ℕ) (env : Env) (f h : Fact) (p : Proc) → StandsBefore agents s t k path env (act (event f) p) → IsFormOfFact (equations g) (instance_fact (chosen env) f) h
     → Answers g start c tr s full (process.shows t) (h ∷ []) (becomes c t (Some (under env p)))
     (rules.uses (event_rule path (names env) f) (k ∷ []) (filled env) ∷ []) ((event_fact ∷ h ∷ []) ∷ []) (trades s (k ∷ []) (at_first path env ∷ [])) (goes_on agents t path env p)
 
 -- the store has a value at a key from now on: `Insert_`
 abbrev pub Inserts : Case
 Inserts g start agents c tr s full =
-    (t k : ℕ) (path : List ℕ) (env : Env) (m u x v : Tree) (p : Proc) → Stands agents s t k path env (act (insert m u) p) → IsNormalForm (equations g) (term_under env m) x → IsNormalForm (equations g) (term_under env u) v
+    (t k : ℕ) (path : List ℕ) (env : Env) (m u x v : Tree) (p : Proc) → StandsBefore agents s t k path env (act (insert m u) p) → IsNormalForm (equations g) (term_under env m) x → IsNormalForm (equations g) (term_under env u) v
     → Answers g start c tr s full (process.inserts t) [] (stores (becomes c t (Some (under env p))) x (Some v))
     (rules.uses (insert_rule path (names env) m u) (k ∷ []) (filled env) ∷ []) ((insert_fact x v ∷ []) ∷ []) (trades s (k ∷ []) (at_first path env ∷ [])) (goes_on agents t path env p)
 
 -- or nothing: `Delete_`
 abbrev pub Deletes : Case
 Deletes g start agents c tr s full =
-    (t k : ℕ) (path : List ℕ) (env : Env) (m x : Tree) (p : Proc) → Stands agents s t k path env (act (delete m) p) → IsNormalForm (equations g) (term_under env m) x
+    (t k : ℕ) (path : List ℕ) (env : Env) (m x : Tree) (p : Proc) → StandsBefore agents s t k path env (act (delete m) p) → IsNormalForm (equations g) (term_under env m) x
     → Answers g start c tr s full (process.deletes t) [] (stores (becomes c t (Some (under env p))) x None)
     (rules.uses (delete_rule path (names env) m) (k ∷ []) (filled env) ∷ []) ((delete_fact x ∷ []) ∷ []) (trades s (k ∷ []) (at_first path env ∷ [])) (goes_on agents t path env p)
 
 -- a process finds a value: `Found_`
 abbrev pub Finds : Case
 Finds g start agents c tr s full =
-    (t k : ℕ) (path : List ℕ) (env : Env) (m x v : Tree) (y : Var) (p q : Proc) → Stands agents s t k path env (lookup m y p q) → IsNormalForm (equations g) (term_under env m) x → c.store x ≡ Some v
+    (t k : ℕ) (path : List ℕ) (env : Env) (m x v : Tree) (y : Var) (p q : Proc) → StandsBefore agents s t k path env (lookup m y p q) → IsNormalForm (equations g) (term_under env m) x → c.store x ≡ Some v
     → let wider : Env = join env (just (message_var y) v) in
     Answers g start c tr s full (process.finds t) [] (becomes c t (Some (under wider p)))
     (rules.uses (found_rule path (names env) m y) (k ∷ []) (filled wider) ∷ []) ((is_in_fact x v ∷ []) ∷ []) (trades s (k ∷ []) (at_first path wider ∷ [])) (goes_on agents t path wider p)
@@ -198,31 +198,31 @@ Finds g start agents c tr s full =
 -- or none: `Missing_`
 abbrev pub Misses : Case
 Misses g start agents c tr s full =
-    (t k : ℕ) (path : List ℕ) (env : Env) (m x : Tree) (y : Var) (p q : Proc) → Stands agents s t k path env (lookup m y p q) → IsNormalForm (equations g) (term_under env m) x → c.store x ≡ None
+    (t k : ℕ) (path : List ℕ) (env : Env) (m x : Tree) (y : Var) (p q : Proc) → StandsBefore agents s t k path env (lookup m y p q) → IsNormalForm (equations g) (term_under env m) x → c.store x ≡ None
     → Answers g start c tr s full (process.misses t) [] (becomes c t (Some (under env q)))
     (rules.uses (missing_rule path (names env) m) (k ∷ []) (filled env) ∷ []) ((is_not_set_fact x ∷ []) ∷ []) (trades s (k ∷ []) (at_second path env ∷ [])) (goes_aside agents t path env q)
 
 -- a process holds a term: Fr is made of a name for the lock, which may be any of which it was not made; then `Lock_`
 abbrev pub Locks : Case
 Locks g start agents c tr s full =
-    (t k n : ℕ) (path : List ℕ) (env : Env) (m x : Tree) (l : ℕ) (p : Proc) → Stands agents s t k path env (act (lock m l) p) → IsNormalForm (equations g) (term_under env m) x → c.held x ≡ false → ¬ Contains s.made n
+    (t k n : ℕ) (path : List ℕ) (env : Env) (m x : Tree) (l : ℕ) (p : Proc) → StandsBefore agents s t k path env (act (lock m l) p) → IsNormalForm (equations g) (term_under env m) x → c.held x ≡ false → ¬ Contains s.made n
     → let wider : Env = join env (just (lock_var l) (fresh n)) in
-    Answers g start c tr s full (process.locks t) [] (holds (becomes c t (Some (under env p))) x true)
+    Answers g start c tr s full (process.locks t) [] (holding (becomes c t (Some (under env p))) x true)
     (rules.makes_name n ∷ rules.uses (lock_rule path (names env) m l) (k ∷ length s.facts ∷ []) (filled wider) ∷ []) ([] ∷ (lock_fact (fresh n) x ∷ []) ∷ [])
     (trades (state.makes s n) (k ∷ length s.facts ∷ []) (at_first path wider ∷ [])) (goes_on agents t path wider p)
 
 -- from now on a term isn't held: `Unlock_`
 abbrev pub Unlocks : Case
 Unlocks g start agents c tr s full =
-    (t k : ℕ) (path : List ℕ) (env : Env) (m x : Tree) (l : ℕ) (p : Proc) → Stands agents s t k path env (act (unlock m l) p) → IsNormalForm (equations g) (term_under env m) x
-    → Answers g start c tr s full (process.unlocks t) [] (holds (becomes c t (Some (under env p))) x false)
+    (t k : ℕ) (path : List ℕ) (env : Env) (m x : Tree) (l : ℕ) (p : Proc) → StandsBefore agents s t k path env (act (unlock m l) p) → IsNormalForm (equations g) (term_under env m) x
+    → Answers g start c tr s full (process.unlocks t) [] (holding (becomes c t (Some (under env p))) x false)
     (rules.uses (unlock_rule path (names env) m l) (k ∷ []) (filled env) ∷ []) ((unlock_fact (env.choice (lock_var l)) x ∷ []) ∷ []) (trades s (k ∷ []) (at_first path env ∷ [])) (goes_on agents t path env p)
 
 -- An embedded rule takes facts, shows facts and adds facts: `Rule_` takes the same, which may have any numbers among the facts of
 -- the state.
 abbrev pub Embeds : Case
 Embeds g start agents c tr s full =
-    (t k : ℕ) (path : List ℕ) (env : Env) (l a o : List Fact) (p : Proc) (ks js : List ℕ) (σ : Choice) (left acts right : List Fact) (rest others : Pile) → Stands agents s t k path env (act (embedded l a o) p)
+    (t k : ℕ) (path : List ℕ) (env : Env) (l a o : List Fact) (p : Proc) (ks js : List ℕ) (σ : Choice) (left acts right : List Fact) (rest others : Pile) → StandsBefore agents s t k path env (act (embedded l a o) p)
     → IsMessageChoice g σ → AreEqualFacts (equations g) (instance_facts σ (instance_facts (chosen env) l)) left → Takes c.facts ks left rest
     → AreFormsOfFacts (equations g) (instance_facts σ (instance_facts (chosen env) a)) acts → AreFormsOfFacts (equations g) (instance_facts σ (instance_facts (chosen env) o)) right
     → Takes (slice_set s.facts k None) js left others
@@ -253,7 +253,7 @@ Every g start agents c tr s full =
     (label : List Fact) (d : Config) (step : ProcessStep g c label d) (n : ℕ) → ((m : ℕ) → Contains (process.drawn_by (process.process_move step)) m → ¬ Contains s.made m) → ¬ Contains s.made n
     → IsAnswered g start c tr s full label d (process.drawn_by (process.process_move step) ++ n ∷ [])
 
--- Both sides show the same, and the full trace counts.
+-- Both sides show the same, and the full trace is admitted.
 abbrev pub ShowsTheSame : Case
 ShowsTheSame g start agents c tr s full = (hide full ≡ tr) × IsAdmitted g full
 

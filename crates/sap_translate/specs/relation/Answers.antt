@@ -35,7 +35,7 @@ pub record AtRest (g : Sig) (start : Proc) (agents : List (Option Agent)) (c : C
   pub calm : total is_semi agents ≡ 0
 
 -- thread t stands before b at this path, where the variables in scope stand for what env says, and fact k is its state fact
-pub record Stands (agents : List (Option Agent)) (s : RuleState) (t k : ℕ) (path : List ℕ) (env : Env) (b : Proc) : Type 0 where
+pub record StandsBefore (agents : List (Option Agent)) (s : RuleState) (t k : ℕ) (path : List ℕ) (env : Env) (b : Proc) : Type 0 where
   pub thread : slice_get agents t ≡ Some (Some (running path env b))
   pub fact : slice_get s.facts k ≡ Some (Some (state_fact path (values env)))
 

@@ -15,7 +15,7 @@ use Rattle.sap_terms.specs.declared.fact.Fact.{Fact}
 use Rattle.sap_terms.specs.declared.var.Var.{Var}
 use Rattle.sap_process.specs.Action.{new, out, send, input, receive, event, insert, delete, lock, unlock, embedded}
 use Rattle.sap_process.specs.Configuration as config
-use Rattle.sap_process.specs.Configuration.{Config, initial, becomes, spawns, sends_out, stores, holds}
+use Rattle.sap_process.specs.Configuration.{Config, initial, becomes, spawns, sends_out, stores, holding}
 use Rattle.sap_process.specs.Proc.{Proc, nil, parallel, replicated, act, test, lookup, node_count}
 use Rattle.sap_process.specs.Ready.{IsReady}
 use Rattle.sap_process.specs.Sites.{fresh_var, message_var}
@@ -28,7 +28,7 @@ use Rattle.sap_rule.specs.RuleSteps as state
 use Rattle.sap_rule.specs.declared.rule.Rule.{Rule}
 use Rattle.sap_translate.specs.ChannelFacts.{msg_fact}
 use Rattle.sap_translate.specs.Templates.{rules_of, init_rule, first_of, second_of, nil_rule, parallel_rule, rep_start_rule, rep_copy_rule, new_rule, out_rule, out_adv_rule, out_msg_rule, out_ack_rule, in_rule, in_adv_rule, in_msg_rule, event_rule, insert_rule, delete_rule, lock_rule, unlock_rule, embedded_rule, then_rule, else_rule, found_rule, missing_rule}
-use Rattle.sap_translate.specs.relation.Answers.{Stands, Copies, term_under, under, widened, goes_on, goes_aside, gets}
+use Rattle.sap_translate.specs.relation.Answers.{StandsBefore, Copies, term_under, under, widened, goes_on, goes_aside, gets}
 use Rattle.sap_translate.specs.relation.Envs.{Env, no_env, names, chosen, values, just, join}
 use Rattle.sap_translate.specs.relation.Follows.{Together, Follows, written}
 use Rattle.sap_translate.specs.relation.ProcessMoves.{ProcessMove}
@@ -72,21 +72,21 @@ FollowsInit g start agents pending c tr s full =
 abbrev pub FollowsNil : RuleCase
 FollowsNil g start agents pending c tr s full =
     (t k : ℕ) (path : List ℕ) (env : Env) (σ : Choice) (left acts right : List Fact) (rest : Pile)
-    → Stands agents s t k path env (nil) → IsUsed g s full (nil_rule path (names env)) (k ∷ []) σ left acts right rest
+    → StandsBefore agents s t k path env (nil) → IsUsed g s full (nil_rule path (names env)) (k ∷ []) σ left acts right rest
     → Follows g start pending c tr full (process.ends t ∷ []) [] (becomes c t None) pending (slice_set agents t None) (leaves s (adds rest right)) acts
 
 -- `Par_`: the parallel splits
 abbrev pub FollowsParallel : RuleCase
 FollowsParallel g start agents pending c tr s full =
     (t k : ℕ) (path : List ℕ) (env : Env) (p q : Proc) (σ : Choice) (left acts right : List Fact) (rest : Pile)
-    → Stands agents s t k path env (parallel p q) → IsUsed g s full (parallel_rule path (names env)) (k ∷ []) σ left acts right rest
+    → StandsBefore agents s t k path env (parallel p q) → IsUsed g s full (parallel_rule path (names env)) (k ∷ []) σ left acts right rest
     → Follows g start pending c tr full (process.splits t ∷ []) [] (spawns (becomes c t (Some (under env p))) (under env q)) pending (goes_on agents t path env p ++ Some (running (second_of path) env q) ∷ []) (leaves s (adds rest right)) acts
 
 -- `RepStart_`: the process stays; the replication has started
 abbrev pub FollowsRepStart : RuleCase
 FollowsRepStart g start agents pending c tr s full =
     (t k : ℕ) (path : List ℕ) (env : Env) (p : Proc) (σ : Choice) (left acts right : List Fact) (rest : Pile)
-    → Stands agents s t k path env (replicated p) → IsUsed g s full (rep_start_rule path (names env)) (k ∷ []) σ left acts right rest
+    → StandsBefore agents s t k path env (replicated p) → IsUsed g s full (rep_start_rule path (names env)) (k ∷ []) σ left acts right rest
     → Follows g start pending c tr full [] [] c pending (slice_set agents t (Some (copying path env p))) (leaves s (adds rest right)) acts
 
 -- `RepCopy_`: the replication has one copy more
@@ -100,7 +100,7 @@ FollowsRepCopy g start agents pending c tr s full =
 abbrev pub FollowsNew : RuleCase
 FollowsNew g start agents pending c tr s full =
     (t k j n : ℕ) (path : List ℕ) (env : Env) (x : Var) (p : Proc) (σ : Choice) (left acts right : List Fact) (rest : Pile)
-    → Stands agents s t k path env (act (new x) p) → IsUsed g s full (new_rule path (names env) x) (k ∷ j ∷ []) σ left acts right rest → σ (fresh_var x) ≡ fresh n
+    → StandsBefore agents s t k path env (act (new x) p) → IsUsed g s full (new_rule path (names env) x) (k ∷ j ∷ []) σ left acts right rest → σ (fresh_var x) ≡ fresh n
     → let wider : Env = join env (just (fresh_var x) (fresh n)) in
     Follows g start pending c tr full (process.makes_name t n ∷ []) [] (config.makes (becomes c t (Some (under wider p))) n) pending (goes_on agents t path wider p) (leaves s (adds rest right)) acts
 
@@ -108,21 +108,21 @@ FollowsNew g start agents pending c tr s full =
 abbrev pub FollowsOut : RuleCase
 FollowsOut g start agents pending c tr s full =
     (t k : ℕ) (path : List ℕ) (env : Env) (m n : Tree) (p : Proc) (σ : Choice) (left acts right : List Fact) (rest : Pile)
-    → Stands agents s t k path env (act (out m) p) → IsUsed g s full (out_rule path (names env) m) (k ∷ []) σ left acts right rest → IsNormalForm (equations g) (term_under env m) n
+    → StandsBefore agents s t k path env (act (out m) p) → IsUsed g s full (out_rule path (names env) m) (k ∷ []) σ left acts right rest → IsNormalForm (equations g) (term_under env m) n
     → Follows g start pending c tr full (process.outputs t ∷ []) [] (sends_out (becomes c t (Some (under env p))) n) pending (goes_on agents t path env p) (leaves s (adds rest right)) acts
 
 -- `OutAdv_`, where K of the channel is pending: the adversary gets the message, and the process shows K
 abbrev pub FollowsOutAdv : RuleCase
 FollowsOutAdv g start agents pending c tr s full =
     (t k j : ℕ) (path : List ℕ) (env : Env) (m u x n : Tree) (p : Proc) (σ : Choice) (left acts right : List Fact) (rest : Pile)
-    → Stands agents s t k path env (act (send m u) p) → IsUsed g s full (out_adv_rule path (names env) m u) (k ∷ j ∷ []) σ left acts right rest → IsNormalForm (equations g) (term_under env m) x → IsNormalForm (equations g) (term_under env u) n → pending ≡ Some x
+    → StandsBefore agents s t k path env (act (send m u) p) → IsUsed g s full (out_adv_rule path (names env) m u) (k ∷ j ∷ []) σ left acts right rest → IsNormalForm (equations g) (term_under env m) x → IsNormalForm (equations g) (term_under env u) n → pending ≡ Some x
     → Follows g start pending c tr full (process.outputs_on t ∷ []) ((k_fact x ∷ []) ∷ []) (sends_out (becomes c t (Some (under env p))) n) None (goes_on agents t path env p) (leaves s (adds rest right)) acts
 
 -- `OutMsg_`: the process stays; the message is under way
 abbrev pub FollowsOutMsg : RuleCase
 FollowsOutMsg g start agents pending c tr s full =
     (t k j n : ℕ) (path : List ℕ) (env : Env) (m u x v : Tree) (p : Proc) (σ : Choice) (left acts right : List Fact) (rest : Pile)
-    → Stands agents s t k path env (act (send m u) p) → IsUsed g s full (out_msg_rule path (names env) m u) (k ∷ j ∷ []) σ left acts right rest → IsNormalForm (equations g) (term_under env m) x → IsNormalForm (equations g) (term_under env u) v → σ tag ≡ fresh n
+    → StandsBefore agents s t k path env (act (send m u) p) → IsUsed g s full (out_msg_rule path (names env) m u) (k ∷ j ∷ []) σ left acts right rest → IsNormalForm (equations g) (term_under env m) x → IsNormalForm (equations g) (term_under env u) v → σ tag ≡ fresh n
     → Follows g start pending c tr full [] [] c pending (slice_set agents t (Some (awaiting path env m u x v p n))) (leaves s (adds rest right)) acts
 
 -- `OutAck_`: the process stays; the sender goes on
@@ -136,7 +136,7 @@ FollowsOutAck g start agents pending c tr s full =
 abbrev pub FollowsIn : RuleCase
 FollowsIn g start agents pending c tr s full =
     (t k j : ℕ) (path : List ℕ) (env : Env) (m x : Tree) (p : Proc) (σ : Choice) (left acts right : List Fact) (rest : Pile)
-    → Stands agents s t k path env (act (input m) p) → IsUsed g s full (in_rule path (names env) m) (k ∷ j ∷ []) σ left acts right rest → IsNormalForm (equations g) (instance σ m) x → pending ≡ Some x
+    → StandsBefore agents s t k path env (act (input m) p) → IsUsed g s full (in_rule path (names env) m) (k ∷ j ∷ []) σ left acts right rest → IsNormalForm (equations g) (instance σ m) x → pending ≡ Some x
     → let wider : Env = widened env σ (tree_vars m) in
     Follows g start pending c tr full (process.inputs t σ ∷ []) ((k_fact x ∷ []) ∷ []) (becomes c t (Some (under wider p))) None (goes_on agents t path wider p) (leaves s (adds rest right)) acts
 
@@ -144,7 +144,7 @@ FollowsIn g start agents pending c tr s full =
 abbrev pub FollowsInAdv : RuleCase
 FollowsInAdv g start agents pending c tr s full =
     (t k j : ℕ) (path : List ℕ) (env : Env) (m u x : Tree) (p : Proc) (σ : Choice) (left acts right : List Fact) (rest : Pile)
-    → Stands agents s t k path env (act (receive m u) p) → IsUsed g s full (in_adv_rule path (names env) m u) (k ∷ j ∷ []) σ left acts right rest → IsNormalForm (equations g) (instance σ (app2 pair_name m u)) x → pending ≡ Some x
+    → StandsBefore agents s t k path env (act (receive m u) p) → IsUsed g s full (in_adv_rule path (names env) m u) (k ∷ j ∷ []) σ left acts right rest → IsNormalForm (equations g) (instance σ (app2 pair_name m u)) x → pending ≡ Some x
     → let wider : Env = widened env σ (tree_vars u) in
     Follows g start pending c tr full (process.inputs_on t σ ∷ []) ((k_fact x ∷ []) ∷ []) (becomes c t (Some (under wider p))) None (goes_on agents t path wider p) (leaves s (adds rest right)) acts
 
@@ -152,7 +152,7 @@ FollowsInAdv g start agents pending c tr s full =
 abbrev pub FollowsInMsg : RuleCase
 FollowsInMsg g start agents pending c tr s full =
     (a t k j n : ℕ) (at path : List ℕ) (other env : Env) (m u x v l r : Tree) (p q : Proc) (σ : Choice) (left acts right : List Fact) (rest : Pile)
-    → slice_get agents a ≡ Some (Some (awaiting at other m u x v p n)) → slice_get s.facts j ≡ Some (Some (msg_fact (fresh n) x v)) → Stands agents s t k path env (act (receive l r) q) → IsUsed g s full (in_msg_rule path (names env) l r) (k ∷ j ∷ []) σ left acts right rest
+    → slice_get agents a ≡ Some (Some (awaiting at other m u x v p n)) → slice_get s.facts j ≡ Some (Some (msg_fact (fresh n) x v)) → StandsBefore agents s t k path env (act (receive l r) q) → IsUsed g s full (in_msg_rule path (names env) l r) (k ∷ j ∷ []) σ left acts right rest
     → let wider : Env = widened env σ (tree_vars r) in
     Follows g start pending c tr full (process.meets a t σ ∷ []) [] (becomes (becomes c a (Some (under other p))) t (Some (under wider q))) pending (goes_on (slice_set agents a (Some (received at other m u p n))) t path wider q) (leaves s (adds rest right)) acts
 
@@ -160,57 +160,57 @@ FollowsInMsg g start agents pending c tr s full =
 abbrev pub FollowsEvent : RuleCase
 FollowsEvent g start agents pending c tr s full =
     (t k : ℕ) (path : List ℕ) (env : Env) (f h : Fact) (p : Proc) (σ : Choice) (left acts right : List Fact) (rest : Pile)
-    → Stands agents s t k path env (act (event f) p) → IsUsed g s full (event_rule path (names env) f) (k ∷ []) σ left acts right rest → IsFormOfFact (equations g) (instance_fact (chosen env) f) h
+    → StandsBefore agents s t k path env (act (event f) p) → IsUsed g s full (event_rule path (names env) f) (k ∷ []) σ left acts right rest → IsFormOfFact (equations g) (instance_fact (chosen env) f) h
     → Follows g start pending c tr full (written pending ++ process.shows t ∷ []) (pending_place pending ++ (h ∷ []) ∷ []) (becomes c t (Some (under env p))) None (goes_on agents t path env p) (leaves s (adds rest right)) acts
 
 -- `Insert_`: the store has the value at the key
 abbrev pub FollowsInsert : RuleCase
 FollowsInsert g start agents pending c tr s full =
     (t k : ℕ) (path : List ℕ) (env : Env) (m u x v : Tree) (p : Proc) (σ : Choice) (left acts right : List Fact) (rest : Pile)
-    → Stands agents s t k path env (act (insert m u) p) → IsUsed g s full (insert_rule path (names env) m u) (k ∷ []) σ left acts right rest → IsNormalForm (equations g) (term_under env m) x → IsNormalForm (equations g) (term_under env u) v
+    → StandsBefore agents s t k path env (act (insert m u) p) → IsUsed g s full (insert_rule path (names env) m u) (k ∷ []) σ left acts right rest → IsNormalForm (equations g) (term_under env m) x → IsNormalForm (equations g) (term_under env u) v
     → Follows g start pending c tr full (process.inserts t ∷ []) [] (stores (becomes c t (Some (under env p))) x (Some v)) pending (goes_on agents t path env p) (leaves s (adds rest right)) acts
 
 -- `Delete_`: or nothing
 abbrev pub FollowsDelete : RuleCase
 FollowsDelete g start agents pending c tr s full =
     (t k : ℕ) (path : List ℕ) (env : Env) (m x : Tree) (p : Proc) (σ : Choice) (left acts right : List Fact) (rest : Pile)
-    → Stands agents s t k path env (act (delete m) p) → IsUsed g s full (delete_rule path (names env) m) (k ∷ []) σ left acts right rest → IsNormalForm (equations g) (term_under env m) x
+    → StandsBefore agents s t k path env (act (delete m) p) → IsUsed g s full (delete_rule path (names env) m) (k ∷ []) σ left acts right rest → IsNormalForm (equations g) (term_under env m) x
     → Follows g start pending c tr full (process.deletes t ∷ []) [] (stores (becomes c t (Some (under env p))) x None) pending (goes_on agents t path env p) (leaves s (adds rest right)) acts
 
 -- `Lock_`: the process holds the term, which nobody holds
 abbrev pub FollowsLock : RuleCase
 FollowsLock g start agents pending c tr s full =
     (t k j n : ℕ) (path : List ℕ) (env : Env) (m x : Tree) (l : ℕ) (p : Proc) (σ : Choice) (left acts right : List Fact) (rest : Pile)
-    → Stands agents s t k path env (act (lock m l) p) → IsUsed g s full (lock_rule path (names env) m l) (k ∷ j ∷ []) σ left acts right rest → IsNormalForm (equations g) (term_under env m) x → σ (lock_var l) ≡ fresh n
+    → StandsBefore agents s t k path env (act (lock m l) p) → IsUsed g s full (lock_rule path (names env) m l) (k ∷ j ∷ []) σ left acts right rest → IsNormalForm (equations g) (term_under env m) x → σ (lock_var l) ≡ fresh n
     → let wider : Env = join env (just (lock_var l) (fresh n)) in
-    Follows g start pending c tr full (process.locks t ∷ []) [] (holds (becomes c t (Some (under env p))) x true) pending (goes_on agents t path wider p) (leaves s (adds rest right)) acts
+    Follows g start pending c tr full (process.locks t ∷ []) [] (holding (becomes c t (Some (under env p))) x true) pending (goes_on agents t path wider p) (leaves s (adds rest right)) acts
 
 -- `Unlock_`: the term isn't held from now on
 abbrev pub FollowsUnlock : RuleCase
 FollowsUnlock g start agents pending c tr s full =
     (t k : ℕ) (path : List ℕ) (env : Env) (m x : Tree) (l : ℕ) (p : Proc) (σ : Choice) (left acts right : List Fact) (rest : Pile)
-    → Stands agents s t k path env (act (unlock m l) p) → IsUsed g s full (unlock_rule path (names env) m l) (k ∷ []) σ left acts right rest → IsNormalForm (equations g) (term_under env m) x
-    → Follows g start pending c tr full (process.unlocks t ∷ []) [] (holds (becomes c t (Some (under env p))) x false) pending (goes_on agents t path env p) (leaves s (adds rest right)) acts
+    → StandsBefore agents s t k path env (act (unlock m l) p) → IsUsed g s full (unlock_rule path (names env) m l) (k ∷ []) σ left acts right rest → IsNormalForm (equations g) (term_under env m) x
+    → Follows g start pending c tr full (process.unlocks t ∷ []) [] (holding (becomes c t (Some (under env p))) x false) pending (goes_on agents t path env p) (leaves s (adds rest right)) acts
 
 -- `Then_`: the terms are equal
 abbrev pub FollowsThen : RuleCase
 FollowsThen g start agents pending c tr s full =
     (t k : ℕ) (path : List ℕ) (env : Env) (m n : Tree) (p q : Proc) (σ : Choice) (left acts right : List Fact) (rest : Pile)
-    → Stands agents s t k path env (test m n p q) → IsUsed g s full (then_rule path (names env) m n) (k ∷ []) σ left acts right rest
+    → StandsBefore agents s t k path env (test m n p q) → IsUsed g s full (then_rule path (names env) m n) (k ∷ []) σ left acts right rest
     → Follows g start pending c tr full (process.agrees t ∷ []) [] (becomes c t (Some (under env p))) pending (goes_on agents t path env p) (leaves s (adds rest right)) acts
 
 -- `Else_`: they differ
 abbrev pub FollowsElse : RuleCase
 FollowsElse g start agents pending c tr s full =
     (t k : ℕ) (path : List ℕ) (env : Env) (m n : Tree) (p q : Proc) (σ : Choice) (left acts right : List Fact) (rest : Pile)
-    → Stands agents s t k path env (test m n p q) → IsUsed g s full (else_rule path (names env) m n) (k ∷ []) σ left acts right rest
+    → StandsBefore agents s t k path env (test m n p q) → IsUsed g s full (else_rule path (names env) m n) (k ∷ []) σ left acts right rest
     → Follows g start pending c tr full (process.differs t ∷ []) [] (becomes c t (Some (under env q))) pending (goes_aside agents t path env q) (leaves s (adds rest right)) acts
 
 -- `Found_`: the process finds the value
 abbrev pub FollowsFound : RuleCase
 FollowsFound g start agents pending c tr s full =
     (t k : ℕ) (path : List ℕ) (env : Env) (m v : Tree) (y : Var) (p q : Proc) (σ : Choice) (left acts right : List Fact) (rest : Pile)
-    → Stands agents s t k path env (lookup m y p q) → IsUsed g s full (found_rule path (names env) m y) (k ∷ []) σ left acts right rest → σ (message_var y) ≡ v
+    → StandsBefore agents s t k path env (lookup m y p q) → IsUsed g s full (found_rule path (names env) m y) (k ∷ []) σ left acts right rest → σ (message_var y) ≡ v
     → let wider : Env = join env (just (message_var y) v) in
     Follows g start pending c tr full (process.finds t ∷ []) [] (becomes c t (Some (under wider p))) pending (goes_on agents t path wider p) (leaves s (adds rest right)) acts
 
@@ -218,7 +218,7 @@ FollowsFound g start agents pending c tr s full =
 abbrev pub FollowsMissing : RuleCase
 FollowsMissing g start agents pending c tr s full =
     (t k : ℕ) (path : List ℕ) (env : Env) (m : Tree) (y : Var) (p q : Proc) (σ : Choice) (left acts right : List Fact) (rest : Pile)
-    → Stands agents s t k path env (lookup m y p q) → IsUsed g s full (missing_rule path (names env) m) (k ∷ []) σ left acts right rest
+    → StandsBefore agents s t k path env (lookup m y p q) → IsUsed g s full (missing_rule path (names env) m) (k ∷ []) σ left acts right rest
     → Follows g start pending c tr full (process.misses t ∷ []) [] (becomes c t (Some (under env q))) pending (goes_aside agents t path env q) (leaves s (adds rest right)) acts
 
 -- the moves by which the process shows what is pending before it shows this; none where this is nothing
@@ -241,7 +241,7 @@ stays_pending (f ∷ fs) pending = None
 abbrev pub FollowsRule : RuleCase
 FollowsRule g start agents pending c tr s full =
     (t k : ℕ) (js ks : List ℕ) (path : List ℕ) (env : Env) (l a o : List Fact) (p : Proc) (σ : Choice) (taken shows gives acts right : List Fact) (rest others : Pile)
-    → Stands agents s t k path env (act (embedded l a o) p) → IsUsed g s full (embedded_rule path (names env) l a o) (k ∷ js) σ (state_fact path (values env) ∷ taken) acts right rest
+    → StandsBefore agents s t k path env (act (embedded l a o) p) → IsUsed g s full (embedded_rule path (names env) l a o) (k ∷ js) σ (state_fact path (values env) ∷ taken) acts right rest
     → Takes c.facts ks taken others → AreFormsOfFacts (equations g) (instance_facts σ a) shows → AreFormsOfFacts (equations g) (instance_facts σ o) gives
     → let wider : Env = widened env σ (facts_vars (l ++ (a ++ o))) in let d : Config = config.leaves (becomes c t (Some (under wider p))) (adds others gives) in
     Follows g start pending c tr full (shows_first shows pending ++ process.embeds t ks σ ∷ []) (pending_first shows pending ++ shown shows) d (stays_pending shows pending) (goes_on agents t path wider p) (leaves s (adds rest right)) acts

@@ -4,7 +4,7 @@ use Rattle.sap_process.specs.Proc.{proc}
 use Rattle.sap_read.specs.Files.{told_by}
 use Rattle.sap_restrict.specs.View.{machine}
 use Rattle.sap_back.proofs.Cuts.{item_at, all_taken}
-use Rattle.sap_back.specs.Converted.{IsCounted}
+use Rattle.sap_back.specs.Converted.{IsAdmittedRun}
 use Rattle.sap_back.specs.code.Replayed.{IsReplayed, IsStopped, IsTakenUp, ShowOneReserved}
 use Rattle.sap_back.specs.declared.back_at.BackAt.TheVariants.{Step as StepOf, Broken as BrokenAt}
 use Rattle.sap_back.specs.declared.replay.Replay.{Replay}
@@ -56,4 +56,4 @@ loop-at-preserved c =
 pub returns-clause-ok : goal.returns-clause-ok
 returns-clause-ok c =
     let all = all_taken c.args.run.now c.as_slice-line-items.result.now c.loop-at.at c.as_slice-line-items.ensures (omega arith) (omega arith) in
-    (c.loop-at.replay.value.state.at, subst (λ b. IsCounted c.args.f.now.signature (proc c.args.f.now.process) b c.loop-at.replay.value.state.at c.loop-at.full) all c.loop-at.invariant.counted)
+    (c.loop-at.replay.value.state.at, subst (λ b. IsAdmittedRun c.args.f.now.signature (proc c.args.f.now.process) b c.loop-at.replay.value.state.at c.loop-at.full) all c.loop-at.invariant.counted)

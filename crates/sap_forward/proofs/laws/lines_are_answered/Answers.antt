@@ -2,7 +2,7 @@ use Rattle.sap_forward.proofs.Answer.{answer}
 use Rattle.sap_forward.proofs.Convert.{init_is, first_linked}
 use Rattle.sap_forward.proofs.Limited.{small_is_limit}
 use Rattle.sap_forward.proofs.Premises.{Laws}
-use Rattle.sap_runs.specs.Limits.{IsSmall}
+use Rattle.sap_runs.specs.Limits.{HasFewNodes}
 use Rattle.sap_forward.proofs.laws.lines_are_answered.Goals as goal
 
 pub returns : goal.returns
@@ -62,6 +62,6 @@ returns c =
       leaves = c.leaves_are_normal.ensures;
     } in
     record {
-      starts = λ g p q ready small annotated. record { line = init_is laws g IsSmall q; linked = λ drawn. first_linked laws g p q ready small annotated drawn };
-      lines = λ g p q hold ready small annotated drawn tables agents c d es fs tr s full step inner label lk can exact draws is. answer laws g IsSmall p q hold ready small annotated drawn agents c es tr s full tables lk (small_is_limit laws.one_form g) can exact step inner label d fs draws is;
+      starts = λ g p q ready small annotated. record { line = init_is laws g HasFewNodes q; linked = λ drawn. first_linked laws g p q ready small annotated drawn };
+      lines = λ g p q hold ready small annotated drawn tables agents c d es fs tr s full step inner label lk can exact draws is. answer laws g HasFewNodes p q hold ready small annotated drawn agents c es tr s full tables lk (small_is_limit laws.one_form g) can exact step inner label d fs draws is;
     }

@@ -3,7 +3,7 @@ use Rattle.sap_deduce.specs.Entries.{terms_of}
 use Rattle.sap_terms.specs.Message.{AreMessageFacts}
 use Rattle.sap_terms.specs.declared.fact.Fact.{Fact}
 use Rattle.sap_rule.specs.RuleSteps.{RuleState}
-use Rattle.sap_steps.specs.Lines.{IsLine, IsSmall}
+use Rattle.sap_steps.specs.Lines.{IsLine, HasFewNodes}
 use Rattle.sap_steps.specs.code.Ready.{rules_of}
 use Rattle.sap_steps.proofs.Fired.{if_ok}
 use Rattle.sap_steps.proofs.Shown.{shown}
@@ -19,5 +19,5 @@ returns-clause-shown c =
     let builtins = rw c.signature.ensures at c.builtins_are_held.ensures in
     let is = rw (← c.self.view_is) at c.advance.ensures.ok in
     rw (← c.self.view_is)
-    (if_ok (λ (acts : List Fact). IsLine g (rules_of ps) IsSmall s c.args.s.now acts z) (AreMessageFacts g) c.advance.result
+    (if_ok (λ (acts : List Fact). IsLine g (rules_of ps) HasFewNodes s c.args.s.now acts z) (AreMessageFacts g) c.advance.result
     (λ acts is. shown c.lines_are_steps.ensures.small_steps c.steps_keep_messages.ensures g ps s.facts known s.made z c.args.s.now acts builtins c.self.invariant.ready c.self.invariant.held c.each_is_deducible.ensures.messages is) is)

@@ -6,4 +6,4 @@ use Rattle.sap_terms.proofs.name_set.NameSet.contains.Goals as goal
 
 pub returns : goal.returns
 returns c =
-    c.is_some.ensures ∙ ap is_some c.place_of.ensures ∙ place-any c.self.inside.names c.args.name.now ∙ ap (list_any (bytes_eq c.args.name.now)) c.self.view_is
+    c.is_some.ensures ∙ ap is_some c.index_of.ensures ∙ place-any c.self.inside.names c.args.name.now ∙ ap (list_any (bytes_eq c.args.name.now)) c.self.view_is

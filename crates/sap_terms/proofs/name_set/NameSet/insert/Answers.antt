@@ -1,15 +1,15 @@
 use Rattle.std.proofs.Common.{◌≡◌, ◌++◌, ◌∷◌, [], List, ℕ, Some, None, length, not, ap, sym, ◌∙◌}
 use Rattle.std.specs.Prelude.{slice_get}
-use Rattle.sap_terms.specs.code.Places.{place_of}
+use Rattle.sap_terms.specs.code.Places.{index_of}
 use Rattle.sap_terms.proofs.NameSetLemmas.{IsThere, IsNew, place-some, place-none, more-there, got-last, one_new}
 use Rattle.sap_terms.proofs.name_set.NameSet.insert.Goals as goal
 
 -- the same of names that are equal to these
-there : (names now : List (List ℕ)) (n : List ℕ) (k : ℕ) → names ≡ now → Some k ≡ place_of (λ (m : List ℕ). m) names n → IsThere now n k
-there names now n k same e = place-some now n k (ap (λ ms. place_of (λ (m : List ℕ). m) ms n) (sym same) ∙ sym e)
+there : (names now : List (List ℕ)) (n : List ℕ) (k : ℕ) → names ≡ now → Some k ≡ index_of (λ (m : List ℕ). m) names n → IsThere now n k
+there names now n k same e = place-some now n k (ap (λ ms. index_of (λ (m : List ℕ). m) ms n) (sym same) ∙ sym e)
 
-fresh : (names now : List (List ℕ)) (n : List ℕ) → names ≡ now → None ≡ place_of (λ (m : List ℕ). m) names n → IsNew now n
-fresh names now n same e = place-none now n (ap (λ ms. place_of (λ (m : List ℕ). m) ms n) (sym same) ∙ sym e)
+fresh : (names now : List (List ℕ)) (n : List ℕ) → names ≡ now → None ≡ index_of (λ (m : List ℕ). m) names n → IsNew now n
+fresh names now n same e = place-none now n (ap (λ ms. index_of (λ (m : List ℕ). m) ms n) (sym same) ∙ sym e)
 
 put : (names after : List (List ℕ)) (copy n : List ℕ) → after ≡ names ++ copy ∷ [] → copy ≡ n → after ≡ names ++ n ∷ []
 put names after copy n e same = e ∙ ap (λ m. names ++ m ∷ []) same
