@@ -22,12 +22,14 @@ use Rattle.sap_back.specs.LinesFor.{StandInTurn}
 use Rattle.sap_back.specs.Opposite.{IsOpposite}
 
 -- the lines are a legal run of the rules of the process within the limit, which leads to the state, and its full trace is admitted
-pub record IsAdmittedRun (g : Sig) (start : Proc) (rule_lines : List RStep) (s : RuleState) (full : Trace) : Type 0 where
+pub record IsAdmittedRun (g : Sig) (start : Proc) (rule_lines : List RStep) (s : RuleState)
+    (full : Trace) : Type 0 where
   pub legal : IsLegalRun g (rules_of start) HasFewNodes rule_lines s full
   pub admitted : IsAdmitted g full
 
 -- the lines are such a run, and these of the process are opposite to them
-pub record IsConverted (g : Sig) (start : Proc) (rule_lines : List RStep) (lines : List PStep) : Type 0 where
+pub record IsConverted (g : Sig) (start : Proc) (rule_lines : List RStep)
+    (lines : List PStep) : Type 0 where
   pub state : RuleState
   pub full : Trace
   pub counted : IsAdmittedRun g start rule_lines state full
@@ -38,7 +40,8 @@ pub record IsConverted (g : Sig) (start : Proc) (rule_lines : List RStep) (lines
   pub turns : StandInTurn rule_lines full lines
 
 -- the lines before the one with this number, from 1, are such a run, and that one is refused for this cause
-pub record IsFirstRefusedOfRules (g : Sig) (start : Proc) (rule_lines : List RStep) (number : ℕ) (fault : RFault) : Type 0 where
+pub record IsFirstRefusedOfRules (g : Sig) (start : Proc) (rule_lines : List RStep) (number : ℕ)
+    (fault : RFault) : Type 0 where
   pub before : List RStep
   pub line : RStep
   pub after : List RStep
@@ -52,7 +55,8 @@ pub record IsFirstRefusedOfRules (g : Sig) (start : Proc) (rule_lines : List RSt
 
 -- the lines before the one with this number, from 1, are such a run, that one is possible, and behind it this restriction is false
 -- on the full trace, and no other
-pub record IsFirstBroken (g : Sig) (start : Proc) (rule_lines : List RStep) (number : ℕ) (which : Which) : Type 0 where
+pub record IsFirstBroken (g : Sig) (start : Proc) (rule_lines : List RStep) (number : ℕ)
+    (which : Which) : Type 0 where
   pub before : List RStep
   pub line : RStep
   pub after : List RStep

@@ -29,47 +29,77 @@ left_pending (f ∷ fs) k = None
 -- the bindings of an embedded rule, they name too.
 pub data AreLinesFor : Option ℕ → RStep → List Fact → List PStep → Option ℕ → Type 0 where
   -- the rules start, a replication starts, a message comes under way, its sender goes on: none
-  starts : {k : Option ℕ} {acts : List Fact} (b : List Binding) → AreLinesFor k (RuleLine (codes "Init") [] b) acts [] k
-  starts_copies : {k : Option ℕ} {acts : List Fact} (path ks : List ℕ) (b : List Binding) → AreLinesFor k (uses (codes "RepStart_") path ks b) acts [] k
-  sends : {k : Option ℕ} {acts : List Fact} (path ks : List ℕ) (b : List Binding) → AreLinesFor k (uses (codes "OutMsg_") path ks b) acts [] k
-  goes_on : {k : Option ℕ} {acts : List Fact} (path ks : List ℕ) (b : List Binding) → AreLinesFor k (uses (codes "OutAck_") path ks b) acts [] k
-  ends : {k : Option ℕ} {acts : List Fact} (t : ℕ) (path ks : List ℕ) (b : List Binding) → AreLinesFor k (uses (codes "Nil_") path ks b) acts (line.Nil t ∷ []) k
-  splits : {k : Option ℕ} {acts : List Fact} (t : ℕ) (path ks : List ℕ) (b : List Binding) → AreLinesFor k (uses (codes "Par_") path ks b) acts (line.Par t ∷ []) k
-  copies : {k : Option ℕ} {acts : List Fact} (t : ℕ) (path ks : List ℕ) (b : List Binding) → AreLinesFor k (uses (codes "RepCopy_") path ks b) acts (line.Rep t ∷ []) k
-  makes_name : {k : Option ℕ} {acts : List Fact} (t n : ℕ) (path ks : List ℕ) (b : List Binding) → AreLinesFor k (uses (codes "New_") path ks b) acts (line.New t n ∷ []) k
-  outputs : {k : Option ℕ} {acts : List Fact} (t : ℕ) (path ks : List ℕ) (b : List Binding) → AreLinesFor k (uses (codes "Out_") path ks b) acts (line.Out t ∷ []) k
+  starts : {k : Option ℕ} {acts : List Fact} (b : List Binding)
+      → AreLinesFor k (RuleLine (codes "Init") [] b) acts [] k
+  starts_copies : {k : Option ℕ} {acts : List Fact} (path ks : List ℕ) (b : List Binding)
+      → AreLinesFor k (uses (codes "RepStart_") path ks b) acts [] k
+  sends : {k : Option ℕ} {acts : List Fact} (path ks : List ℕ) (b : List Binding)
+      → AreLinesFor k (uses (codes "OutMsg_") path ks b) acts [] k
+  goes_on : {k : Option ℕ} {acts : List Fact} (path ks : List ℕ) (b : List Binding)
+      → AreLinesFor k (uses (codes "OutAck_") path ks b) acts [] k
+  ends : {k : Option ℕ} {acts : List Fact} (t : ℕ) (path ks : List ℕ) (b : List Binding)
+      → AreLinesFor k (uses (codes "Nil_") path ks b) acts (line.Nil t ∷ []) k
+  splits : {k : Option ℕ} {acts : List Fact} (t : ℕ) (path ks : List ℕ) (b : List Binding)
+      → AreLinesFor k (uses (codes "Par_") path ks b) acts (line.Par t ∷ []) k
+  copies : {k : Option ℕ} {acts : List Fact} (t : ℕ) (path ks : List ℕ) (b : List Binding)
+      → AreLinesFor k (uses (codes "RepCopy_") path ks b) acts (line.Rep t ∷ []) k
+  makes_name : {k : Option ℕ} {acts : List Fact} (t n : ℕ) (path ks : List ℕ) (b : List Binding)
+      → AreLinesFor k (uses (codes "New_") path ks b) acts (line.New t n ∷ []) k
+  outputs : {k : Option ℕ} {acts : List Fact} (t : ℕ) (path ks : List ℕ) (b : List Binding)
+      → AreLinesFor k (uses (codes "Out_") path ks b) acts (line.Out t ∷ []) k
   -- what is pending is the channel, or the message
-  outputs_on : {acts : List Fact} (t e : ℕ) (path ks : List ℕ) (b : List Binding) → AreLinesFor (Some e) (uses (codes "OutAdv_") path ks b) acts (line.Send t e ∷ []) None
-  inputs : {acts : List Fact} (t e : ℕ) (path ks : List ℕ) (b : List Binding) → AreLinesFor (Some e) (uses (codes "In_") path ks b) acts (line.In t e ∷ []) None
-  inputs_on : {acts : List Fact} (t e : ℕ) (path ks : List ℕ) (b : List Binding) → AreLinesFor (Some e) (uses (codes "InAdv_") path ks b) acts (line.In t e ∷ []) None
-  meets : {k : Option ℕ} {acts : List Fact} (a t : ℕ) (path ks : List ℕ) (b : List Binding) → AreLinesFor k (uses (codes "InMsg_") path ks b) acts (line.Sync a t ∷ []) k
-  shows : {k : Option ℕ} {acts : List Fact} (t : ℕ) (path ks : List ℕ) (b : List Binding) → AreLinesFor k (uses (codes "Event_") path ks b) acts (pending_lines k ++ line.Event t ∷ []) None
-  inserts : {k : Option ℕ} {acts : List Fact} (t : ℕ) (path ks : List ℕ) (b : List Binding) → AreLinesFor k (uses (codes "Insert_") path ks b) acts (line.Insert t ∷ []) k
-  deletes : {k : Option ℕ} {acts : List Fact} (t : ℕ) (path ks : List ℕ) (b : List Binding) → AreLinesFor k (uses (codes "Delete_") path ks b) acts (line.Delete t ∷ []) k
-  locks : {k : Option ℕ} {acts : List Fact} (t : ℕ) (path ks : List ℕ) (b : List Binding) → AreLinesFor k (uses (codes "Lock_") path ks b) acts (line.Lock t ∷ []) k
-  unlocks : {k : Option ℕ} {acts : List Fact} (t : ℕ) (path ks : List ℕ) (b : List Binding) → AreLinesFor k (uses (codes "Unlock_") path ks b) acts (line.Unlock t ∷ []) k
-  agrees : {k : Option ℕ} {acts : List Fact} (t : ℕ) (path ks : List ℕ) (b : List Binding) → AreLinesFor k (uses (codes "Then_") path ks b) acts (line.Then t ∷ []) k
-  differs : {k : Option ℕ} {acts : List Fact} (t : ℕ) (path ks : List ℕ) (b : List Binding) → AreLinesFor k (uses (codes "Else_") path ks b) acts (line.Else t ∷ []) k
-  finds : {k : Option ℕ} {acts : List Fact} (t : ℕ) (path ks : List ℕ) (b : List Binding) → AreLinesFor k (uses (codes "Found_") path ks b) acts (line.Found t ∷ []) k
-  misses : {k : Option ℕ} {acts : List Fact} (t : ℕ) (path ks : List ℕ) (b : List Binding) → AreLinesFor k (uses (codes "Missing_") path ks b) acts (line.Missing t ∷ []) k
+  outputs_on : {acts : List Fact} (t e : ℕ) (path ks : List ℕ) (b : List Binding)
+      → AreLinesFor (Some e) (uses (codes "OutAdv_") path ks b) acts (line.Send t e ∷ []) None
+  inputs : {acts : List Fact} (t e : ℕ) (path ks : List ℕ) (b : List Binding)
+      → AreLinesFor (Some e) (uses (codes "In_") path ks b) acts (line.In t e ∷ []) None
+  inputs_on : {acts : List Fact} (t e : ℕ) (path ks : List ℕ) (b : List Binding)
+      → AreLinesFor (Some e) (uses (codes "InAdv_") path ks b) acts (line.In t e ∷ []) None
+  meets : {k : Option ℕ} {acts : List Fact} (a t : ℕ) (path ks : List ℕ) (b : List Binding)
+      → AreLinesFor k (uses (codes "InMsg_") path ks b) acts (line.Sync a t ∷ []) k
+  shows : {k : Option ℕ} {acts : List Fact} (t : ℕ) (path ks : List ℕ) (b : List Binding)
+      → AreLinesFor k (uses (codes "Event_") path ks b) acts
+      (pending_lines k ++ line.Event t ∷ []) None
+  inserts : {k : Option ℕ} {acts : List Fact} (t : ℕ) (path ks : List ℕ) (b : List Binding)
+      → AreLinesFor k (uses (codes "Insert_") path ks b) acts (line.Insert t ∷ []) k
+  deletes : {k : Option ℕ} {acts : List Fact} (t : ℕ) (path ks : List ℕ) (b : List Binding)
+      → AreLinesFor k (uses (codes "Delete_") path ks b) acts (line.Delete t ∷ []) k
+  locks : {k : Option ℕ} {acts : List Fact} (t : ℕ) (path ks : List ℕ) (b : List Binding)
+      → AreLinesFor k (uses (codes "Lock_") path ks b) acts (line.Lock t ∷ []) k
+  unlocks : {k : Option ℕ} {acts : List Fact} (t : ℕ) (path ks : List ℕ) (b : List Binding)
+      → AreLinesFor k (uses (codes "Unlock_") path ks b) acts (line.Unlock t ∷ []) k
+  agrees : {k : Option ℕ} {acts : List Fact} (t : ℕ) (path ks : List ℕ) (b : List Binding)
+      → AreLinesFor k (uses (codes "Then_") path ks b) acts (line.Then t ∷ []) k
+  differs : {k : Option ℕ} {acts : List Fact} (t : ℕ) (path ks : List ℕ) (b : List Binding)
+      → AreLinesFor k (uses (codes "Else_") path ks b) acts (line.Else t ∷ []) k
+  finds : {k : Option ℕ} {acts : List Fact} (t : ℕ) (path ks : List ℕ) (b : List Binding)
+      → AreLinesFor k (uses (codes "Found_") path ks b) acts (line.Found t ∷ []) k
+  misses : {k : Option ℕ} {acts : List Fact} (t : ℕ) (path ks : List ℕ) (b : List Binding)
+      → AreLinesFor k (uses (codes "Missing_") path ks b) acts (line.Missing t ∷ []) k
   -- where it shows nothing, what is pending stays so
   embeds : {k : Option ℕ} {acts : List Fact} (t : ℕ) (taken path ks : List ℕ) (b : List Binding)
-      → AreLinesFor k (uses (codes "Rule_") path ks b) acts (lines_before acts k ++ line.Embedded t taken b ∷ []) (left_pending acts k)
+      → AreLinesFor k (uses (codes "Rule_") path ks b) acts
+      (lines_before acts k ++ line.Embedded t taken b ∷ []) (left_pending acts k)
   -- Fr is made, or the adversary learns what was put out: none
   makes : {k : Option ℕ} {acts : List Fact} (n : ℕ) → AreLinesFor k (Fresh n) acts [] k
   learns : {k : Option ℕ} {acts : List Fact} (j : ℕ) → AreLinesFor k (Learn j) acts [] k
-  owns : {k : Option ℕ} {acts : List Fact} (j n : ℕ) → AreLinesFor k (Own j) acts (line.Name n ∷ []) k
-  writes : {k : Option ℕ} {acts : List Fact} (a : List ℕ) → AreLinesFor k (Public a) acts (line.Public a ∷ []) k
-  applies : {k : Option ℕ} {acts : List Fact} (f ks js : List ℕ) → AreLinesFor k (Apply f ks) acts (line.Apply f js ∷ []) k
+  owns : {k : Option ℕ} {acts : List Fact} (j n : ℕ)
+      → AreLinesFor k (Own j) acts (line.Name n ∷ []) k
+  writes : {k : Option ℕ} {acts : List Fact} (a : List ℕ)
+      → AreLinesFor k (Public a) acts (line.Public a ∷ []) k
+  applies : {k : Option ℕ} {acts : List Fact} (f ks js : List ℕ)
+      → AreLinesFor k (Apply f ks) acts (line.Apply f js ∷ []) k
   -- what was pending is written; the entry that is given now is pending
-  knows : {k : Option ℕ} {acts : List Fact} (j e : ℕ) → AreLinesFor k (Know j) acts (pending_lines k) (Some e)
+  knows : {k : Option ℕ} {acts : List Fact} (j e : ℕ)
+      → AreLinesFor k (Know j) acts (pending_lines k) (Some e)
 
 -- For each line of rules in turn, with what it shows, its lines, from what is pending before the first on to what is pending behind the
 -- last.
 pub data AreLinesForAll : Option ℕ → List RStep → Trace → List PStep → Option ℕ → Type 0 where
   no_lines : {k : Option ℕ} → AreLinesForAll k [] [] [] k
-  more : {k next last : Option ℕ} {step : RStep} {acts : List Fact} {own : List PStep} {rule_lines : List RStep} {full : Trace} {rest : List PStep}
-      → AreLinesFor k step acts own next → AreLinesForAll next rule_lines full rest last → AreLinesForAll k (step ∷ rule_lines) (acts ∷ full) (own ++ rest) last
+  more : {k next last : Option ℕ} {step : RStep} {acts : List Fact} {own : List PStep}
+      {rule_lines : List RStep} {full : Trace} {rest : List PStep}
+      → AreLinesFor k step acts own next → AreLinesForAll next rule_lines full rest last
+      → AreLinesForAll k (step ∷ rule_lines) (acts ∷ full) (own ++ rest) last
 
 -- The lines stand in turn, those for each line of rules with its full trace, and behind them what is still pending. So a `know` stands
 -- where the next K is shown, before an event or an embedded rule that shows facts, or at the end, unless an input took it.

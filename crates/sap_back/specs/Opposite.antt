@@ -17,7 +17,8 @@ use Rattle.sap_steps.specs.Runs.{IsLegalRun}
 use Rattle.sap_translate.specs.Templates.{rules_of}
 
 -- These lines of the process are opposite to the lines of its rules, which lead to the state and have the full trace.
-pub record IsOpposite (g : Sig) (start : Proc) (rule_lines : List RStep) (s : RuleState) (full : Trace) (lines : List PStep) : Type 0 where
+pub record IsOpposite (g : Sig) (start : Proc) (rule_lines : List RStep) (s : RuleState)
+    (full : Trace) (lines : List PStep) : Type 0 where
   pub config : Config
   pub entries : List Tree
   -- they are legal within the limit, show what is seen of the full trace, and have its marks
@@ -30,5 +31,6 @@ pub record IsOpposite (g : Sig) (start : Proc) (rule_lines : List RStep) (s : Ru
 -- each legal run of the rules whose full trace is admitted has lines of the process opposite
 abbrev pub HasOpposites : Sig → Proc → Type 0
 HasOpposites g start =
-    (rule_lines : List RStep) (s : RuleState) (full : Trace) → IsLegalRun g (rules_of start) HasFewNodes rule_lines s full → IsAdmitted g full
+    (rule_lines : List RStep) (s : RuleState) (full : Trace)
+    → IsLegalRun g (rules_of start) HasFewNodes rule_lines s full → IsAdmitted g full
     → (lines : List PStep) × IsOpposite g start rule_lines s full lines

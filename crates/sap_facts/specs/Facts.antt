@@ -34,11 +34,14 @@ slots_without slots k = without (if_linear (fact_at slots k)) where
 -- a fact is stored as the tuple of its parts
 abbrev pub fact_code : Coded Fact
 fact_code =
-    code_by (List ℕ × (Bool × List Tree)) (coded× (coded_list coded_ℕ) (coded× coded_bool list_code)) (λ f. (f.name, (f.persistent, f.args)))
+    code_by (List ℕ × (Bool × List Tree))
+    (coded× (coded_list coded_ℕ) (coded× coded_bool list_code))
+    (λ f. (f.name, (f.persistent, f.args)))
     (λ p. record { name = p.0; persistent = p.1.0; args = p.1.1 }) (λ _. refl)
 
 -- and a pile as the pair of its parts
 abbrev pub facts_code : Coded Facts
 facts_code =
-    code_by (List (Option Fact) × ℕ) (coded× (coded_list (coded_option fact_code)) coded_ℕ) (λ p. (p.slots, p.spare))
+    code_by (List (Option Fact) × ℕ) (coded× (coded_list (coded_option fact_code)) coded_ℕ)
+    (λ p. (p.slots, p.spare))
     (λ p. record { slots = p.0; spare = p.1 }) (λ _. refl)

@@ -30,7 +30,8 @@ abbrev mutual
   IsCheckedTerm g scope (public n) = Unit {0}
   IsCheckedTerm g scope (fresh k) = Unit {0}
   IsCheckedTerm g scope (apply f ts) =
-      (arity_of g f ≡ Some (length (list_of ts))) × (is_destructor_of g f ≡ false) × AreCheckedTerms g scope ts
+      (arity_of g f ≡ Some (length (list_of ts))) × (is_destructor_of g f ≡ false)
+      × AreCheckedTerms g scope ts
 
   -- and so are these, one by one
   pub AreCheckedTerms : Sig → List Binder → Trees → Type 0
@@ -90,10 +91,13 @@ AreGuarded bs f = EachIn (λ b. StandsInAtom (binder_name b) f) bs
 abbrev pub IsChecked : Sig → (List ℕ → Type 0) → List Binder → Form → Type 0
 IsChecked g V scope truth = Unit {0}
 IsChecked g V scope falsity = Unit {0}
-IsChecked g V scope (action f i) = V f.name × AreCheckedTerms g scope (trees_of f.args) × (find_binder scope i ≡ Some (Time i))
+IsChecked g V scope (action f i) = V f.name × AreCheckedTerms g scope (trees_of f.args)
+    × (find_binder scope i ≡ Some (Time i))
 IsChecked g V scope (equal s t) = IsCheckedTerm g scope s × IsCheckedTerm g scope t
-IsChecked g V scope (same_time i j) = (find_binder scope i ≡ Some (Time i)) × (find_binder scope j ≡ Some (Time j))
-IsChecked g V scope (earlier i j) = (find_binder scope i ≡ Some (Time i)) × (find_binder scope j ≡ Some (Time j))
+IsChecked g V scope (same_time i j) = (find_binder scope i ≡ Some (Time i))
+    × (find_binder scope j ≡ Some (Time j))
+IsChecked g V scope (earlier i j) = (find_binder scope i ≡ Some (Time i))
+    × (find_binder scope j ≡ Some (Time j))
 IsChecked g V scope (negation f) = IsChecked g V scope f
 IsChecked g V scope (both f h) = IsChecked g V scope f × IsChecked g V scope h
 IsChecked g V scope (either f h) = IsChecked g V scope f × IsChecked g V scope h

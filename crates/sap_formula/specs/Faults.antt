@@ -57,7 +57,8 @@ abbrev pub HasNoFault : Sig → Bool → Form → Type 0
 HasNoFault g r f = (w : FormulaFlaw) (k : ℕ) → ¬ IsFaultAt g r f w k
 
 -- the fault counts: no part has one that counts before it, and the first part that has it has this name
-pub record IsFirstFault (g : Sig) (r : Bool) (f : Form) (w : FormulaFlaw) (name : List ℕ) : Type 0 where
+pub record IsFirstFault (g : Sig) (r : Bool) (f : Form) (w : FormulaFlaw)
+    (name : List ℕ) : Type 0 where
   pub at : ℕ
   pub here : IsFaultAt g r f w at
   pub name_is : part_name here.part ≡ name

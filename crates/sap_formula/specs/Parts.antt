@@ -44,7 +44,8 @@ abbrev mutual
 abbrev pub form_parts : List Binder → Form → List Part
 form_parts scope truth = []
 form_parts scope falsity = []
-form_parts scope (action f i) = fact_name f.name ∷ (terms_parts scope (trees_of f.args) ++ time scope i ∷ [])
+form_parts scope (action f i) = fact_name f.name
+    ∷ (terms_parts scope (trees_of f.args) ++ time scope i ∷ [])
 form_parts scope (equal s t) = term_parts scope s ++ term_parts scope t
 form_parts scope (same_time i j) = time scope i ∷ time scope j ∷ []
 form_parts scope (earlier i j) = time scope i ∷ time scope j ∷ []

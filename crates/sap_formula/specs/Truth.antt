@@ -50,20 +50,23 @@ abbrev pub Shows : Equations → Choice → Fact → Fact → Type 0
 Shows e σ f x = (f.name ≡ x.name) × AllZip (λ s t. IsTheoryEqual e (instance σ s) t) f.args x.args
 
 -- for each term of D and each time of P in turn
-abbrev pub Every : (Sort → Tree → Type 0) → (ℕ → Type 0) → List Binder → (Choice → Times → Type 0) → Choice → Times → Type 0
+abbrev pub Every : (Sort → Tree → Type 0) → (ℕ → Type 0) → List Binder → (Choice → Times → Type 0)
+    → Choice → Times → Type 0
 Every D P [] B σ τ = B σ τ
 Every D P (Message v ∷ bs) B σ τ = (t : Tree) → D v.sort t → Every D P bs B (bind v t σ) τ
 Every D P (Time n ∷ bs) B σ τ = (k : ℕ) → P k → Every D P bs B σ (stamp n k τ)
 
 -- for some term of D and some time of P in turn
-abbrev pub Exists : (Sort → Tree → Type 0) → (ℕ → Type 0) → List Binder → (Choice → Times → Type 0) → Choice → Times → Type 0
+abbrev pub Exists : (Sort → Tree → Type 0) → (ℕ → Type 0) → List Binder → (Choice → Times → Type 0)
+    → Choice → Times → Type 0
 Exists D P [] B σ τ = B σ τ
 Exists D P (Message v ∷ bs) B σ τ = (t : Tree) × D v.sort t × Exists D P bs B (bind v t σ) τ
 Exists D P (Time n ∷ bs) B σ τ = (k : ℕ) × P k × Exists D P bs B σ (stamp n k τ)
 
 -- truth on a trace, where message variables stand for what σ chooses and time variables for what τ says, and
 -- quantifiers range over the terms of D, by sort, and the times of P
-abbrev pub IsTrueUnder : Equations → Trace → (Sort → Tree → Type 0) → (ℕ → Type 0) → Form → Choice → Times → Type 0
+abbrev pub IsTrueUnder : Equations → Trace → (Sort → Tree → Type 0) → (ℕ → Type 0) → Form → Choice
+    → Times → Type 0
 IsTrueUnder e tr D P truth σ τ = Unit {0}
 IsTrueUnder e tr D P falsity σ τ = ⊥
 IsTrueUnder e tr D P (action f i) σ τ = AnyIn (Shows e σ f) (facts_at tr (τ i))
@@ -81,4 +84,5 @@ IsTrueUnder e tr D P (exists bs f) σ τ = Exists D P bs (IsTrueUnder e tr D P f
 -- a closed formula is true on a trace: message variables range over the ground normal terms of their sort over the
 -- signature, time variables over the times of the trace
 abbrev pub IsTrueOn : Sig → Form → Trace → Type 0
-IsTrueOn g f tr = IsTrueUnder (equations g) tr (IsMessage g) (IsTime tr) f (λ v. variable v) (λ n. 0)
+IsTrueOn g f tr =
+    IsTrueUnder (equations g) tr (IsMessage g) (IsTime tr) f (λ v. variable v) (λ n. 0)

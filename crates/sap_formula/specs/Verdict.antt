@@ -13,4 +13,5 @@ use Rattle.sap_terms.specs.Trace.{Trace}
 abbrev pub IsVerdict : Sig → Form → Trace → Verdict → Type 0
 IsVerdict g f tr Holds = (form_cost tr f ≤ MOST_COST) × IsTrueOn g f tr
 IsVerdict g f tr Fails = (form_cost tr f ≤ MOST_COST) × (IsTrueOn g f tr → ⊥)
-IsVerdict g f tr (TooCostly c) = (MOST_COST < form_cost tr f) × (c ≡ min (form_cost tr f) (2 ^ 64 - 1))
+IsVerdict g f tr (TooCostly c) = (MOST_COST < form_cost tr f)
+    × (c ≡ min (form_cost tr f) (2 ^ 64 - 1))

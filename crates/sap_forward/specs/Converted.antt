@@ -26,7 +26,8 @@ pub record IsShownByLines (g : Sig) (start : Proc) (lines : List PStep) (tr : Tr
   pub legal : IsLegalProcessRun g HasFewNodes start lines config entries tr marks
 
 -- the lines are a legal run of the process within the limit, and these of the rules are opposite to them
-pub record IsConverted (g : Sig) (start : Proc) (lines : List PStep) (rule_lines : List RStep) : Type 0 where
+pub record IsConverted (g : Sig) (start : Proc) (lines : List PStep)
+    (rule_lines : List RStep) : Type 0 where
   pub config : Config
   pub entries : List Tree
   pub trace : Trace
@@ -40,7 +41,8 @@ pub record IsConverted (g : Sig) (start : Proc) (lines : List PStep) (rule_lines
   pub names : BringNoName start lines rule_lines
 
 -- the lines before the one with this number, from 1, are such a run, and that one is refused for this cause
-pub record IsFirstRefusedOfProcess (g : Sig) (start : Proc) (lines : List PStep) (number : ℕ) (fault : PFault) : Type 0 where
+pub record IsFirstRefusedOfProcess (g : Sig) (start : Proc) (lines : List PStep) (number : ℕ)
+    (fault : PFault) : Type 0 where
   pub before : List PStep
   pub line : PStep
   pub after : List PStep

@@ -47,4 +47,5 @@ all_copying ts (step ∷ lines) = all_copying (copying_behind ts step) lines
 -- how many lines of rules there are: one for each replication that starts, and the first, besides
 abbrev pub rule_count : List PStep → ℕ
 rule_count [] = 0
-rule_count (step ∷ lines) = lines_for_all (step ∷ lines) + length (all_copying [] (step ∷ lines)) + 1
+rule_count (step ∷ lines) =
+    lines_for_all (step ∷ lines) + length (all_copying [] (step ∷ lines)) + 1

@@ -42,7 +42,8 @@ StandOpposite (line ∷ lines) rule_lines = StandInTurn (line ∷ lines) rule_li
 
 -- These lines of rules are opposite to the lines of the process, which leave the adversary with these entries and have this trace
 -- and these marks.
-pub record IsOpposite (g : Sig) (start : Proc) (lines : List PStep) (es : List Tree) (tr : Trace) (ms : List Mark) (rule_lines : List RStep) : Type 0 where
+pub record IsOpposite (g : Sig) (start : Proc) (lines : List PStep) (es : List Tree) (tr : Trace)
+    (ms : List Mark) (rule_lines : List RStep) : Type 0 where
   pub state : RuleState
   pub full : Trace
   -- they are legal within the limit, and their full trace is admitted
@@ -59,5 +60,7 @@ pub record IsOpposite (g : Sig) (start : Proc) (lines : List PStep) (es : List T
 -- each legal run of the process has lines opposite, exactly so many, and as many lines as there are stand opposite to these
 abbrev pub HasOpposites : Sig → Proc → Type 0
 HasOpposites g start =
-    (lines : List PStep) (c : Config) (es : List Tree) (tr : Trace) (ms : List Mark) → IsLegalProcessRun g HasFewNodes start lines c es tr ms
-    → (rule_lines : List RStep) × IsOpposite g start lines es tr ms rule_lines × (length rule_lines ≡ rule_count lines) × (back_count rule_lines ≡ length lines)
+    (lines : List PStep) (c : Config) (es : List Tree) (tr : Trace) (ms : List Mark)
+    → IsLegalProcessRun g HasFewNodes start lines c es tr ms
+    → (rule_lines : List RStep) × IsOpposite g start lines es tr ms rule_lines
+    × (length rule_lines ≡ rule_count lines) × (back_count rule_lines ≡ length lines)

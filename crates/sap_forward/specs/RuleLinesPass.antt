@@ -22,4 +22,5 @@ RuleLinesPass test (line ∷ lines) = RuleLinePasses test line × RuleLinesPass 
 -- a test that the names in the process pass, and those that its lines bring, the names in what these lines of rules write down and
 -- bind pass too: none comes from elsewhere
 abbrev pub BringNoName : Proc → List PStep → List RStep → Type 0
-BringNoName start lines rule_lines = (test : Tree → Bool) → ProcessPasses test start → LinesPass test lines → RuleLinesPass test rule_lines
+BringNoName start lines rule_lines = (test : Tree → Bool) → ProcessPasses test start
+    → LinesPass test lines → RuleLinesPass test rule_lines

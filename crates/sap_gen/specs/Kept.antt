@@ -17,15 +17,19 @@ use Rattle.sap_gen.specs.Theories.{inlined_lemma, inlined_theory_of, theory_of}
 
 -- the lemma holds of the file: of the traces of its process, among those on which its restrictions are true
 abbrev pub HoldsOfFile : FileContent → LemmaForm → Type 0
-HoldsOfFile f l = HoldsOf f.signature (IsProcessTrace f.signature f.process) (formulas f.restrictions) l.mode l.formula
+HoldsOfFile f l =
+    HoldsOf f.signature (IsProcessTrace f.signature f.process)
+    (formulas f.restrictions) l.mode l.formula
 
 -- the lemma holds of the theory: of the full traces of all finite runs of its rules, among those on which its restrictions are true
 abbrev pub HoldsOfTheory : Theory → LemmaForm → Type 0
-HoldsOfTheory t l = HoldsOf t.signature (IsFullTrace t.signature t.rules) (formulas t.restrictions) l.mode l.formula
+HoldsOfTheory t l =
+    HoldsOf t.signature (IsFullTrace t.signature t.rules) (formulas t.restrictions) l.mode l.formula
 
 -- m is what the theory has of the file's lemma l: its name, attributes and mode, with this formula; and m holds of the theory
 -- exactly where l holds of the file
-pub record IsKept (f : FileContent) (t : Theory) (formula_of : LemmaForm → Form) (l m : LemmaForm) : Type 0 where
+pub record IsKept (f : FileContent) (t : Theory) (formula_of : LemmaForm → Form)
+    (l m : LemmaForm) : Type 0 where
   pub name : m.name ≡ l.name
   pub attributes : m.attributes ≡ l.attributes
   pub mode : m.mode ≡ l.mode
@@ -34,11 +38,14 @@ pub record IsKept (f : FileContent) (t : Theory) (formula_of : LemmaForm → For
 
 -- admitted runs of the theory's rules show what the file's process shows, and nothing else
 abbrev pub ShowsFile : FileContent → Theory → Type 0
-ShowsFile f t = (tr : Trace) → IsProcessTrace f.signature f.process tr ↔ IsVisibleTrace t.signature t.rules tr
+ShowsFile f t = (tr : Trace) → IsProcessTrace f.signature f.process tr
+    ↔ IsVisibleTrace t.signature t.rules tr
 
 -- where all of its restrictions are true, they show the traces of the process on which the file's restrictions are
 abbrev pub ShowsRestricted : FileContent → Theory → Type 0
-ShowsRestricted f t = (tr : Trace) → (IsProcessTrace f.signature f.process tr × AreRestrictionsTrue f.signature f.restrictions tr) ↔ IsShownBy t tr
+ShowsRestricted f t = (tr : Trace)
+    → (IsProcessTrace f.signature f.process tr × AreRestrictionsTrue f.signature f.restrictions tr)
+    ↔ IsShownBy t tr
 
 -- the restrictions that the file's process needs, and then its own
 abbrev pub all_restrictions : FileContent → List RestrictionForm

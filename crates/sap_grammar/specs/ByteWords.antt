@@ -9,8 +9,10 @@ use Rattle.sap_grammar.specs.Words.{Word, mark, name, number, quoted, word_of_te
 -- the words of the tokens of the bytes, in order, where a name has at most so many bytes
 pub data AreWords (most : ℕ) : List ℕ → List Word → Type 0 where
   words_end : AreWords most [] []
-  words_skip : {p b : List ℕ} {ws : List Word} → IsSkip p b → AreWords most b ws → AreWords most (p ++ b) ws
-  words_token : {k : Kind} {p b : List ℕ} {ws : List Word} → IsLongest k p b → counted k (length p) ≤ most → AreWords most b ws
+  words_skip : {p b : List ℕ} {ws : List Word} → IsSkip p b → AreWords most b ws
+      → AreWords most (p ++ b) ws
+  words_token : {k : Kind} {p b : List ℕ} {ws : List Word} → IsLongest k p b
+      → counted k (length p) ≤ most → AreWords most b ws
       → AreWords most (p ++ b) (word_of_text k p ∷ ws)
 
 -- a name: an identifier of at most so many bytes that is no word of the grammar
@@ -42,11 +44,17 @@ Ends z = Stops is_word z
 
 -- before bytes that are known words, each word is what its token is
 pub record AreWritten (most : ℕ) : Type 0 where
-  pub names : (x z : List ℕ) (k : List Word) → IsName most x → Ends z → AreWords most z k → AreWords most (x ++ z) (name x ∷ k)
-  pub grammar_words : (x z : List ℕ) (k : List Word) → IsToken kind.Ident x → is_grammar_word x ≡ true → length x ≤ most → Ends z → AreWords most z k
+  pub names : (x z : List ℕ) (k : List Word) → IsName most x → Ends z → AreWords most z k
+      → AreWords most (x ++ z) (name x ∷ k)
+  pub grammar_words : (x z : List ℕ) (k : List Word) → IsToken kind.Ident x
+      → is_grammar_word x ≡ true → length x ≤ most → Ends z → AreWords most z k
       → AreWords most (x ++ z) (mark x ∷ k)
-  pub numbers : (n z : List ℕ) (k : List Word) → IsToken kind.Number n → length n ≤ most → Ends z → AreWords most z k
+  pub numbers : (n z : List ℕ) (k : List Word) → IsToken kind.Number n → length n ≤ most → Ends z
+      → AreWords most z k
       → AreWords most (n ++ z) (number n ∷ k)
-  pub contents : (s z : List ℕ) (k : List Word) → IsContent most s → AreWords most z k → AreWords most (39 ∷ (s ++ (39 ∷ z))) (quoted s ∷ k)
-  pub symbols : (s z : List ℕ) (k : List Word) → stands_alone s z ≡ true → AreWords most z k → AreWords most (s ++ z) (mark s ∷ k)
-  pub blanks : (b : ℕ) (z : List ℕ) (k : List Word) → is_blank b ≡ true → AreWords most z k → AreWords most (b ∷ z) k
+  pub contents : (s z : List ℕ) (k : List Word) → IsContent most s → AreWords most z k
+      → AreWords most (39 ∷ (s ++ (39 ∷ z))) (quoted s ∷ k)
+  pub symbols : (s z : List ℕ) (k : List Word) → stands_alone s z ≡ true → AreWords most z k
+      → AreWords most (s ++ z) (mark s ∷ k)
+  pub blanks : (b : ℕ) (z : List ℕ) (k : List Word) → is_blank b ≡ true → AreWords most z k
+      → AreWords most (b ∷ z) k

@@ -20,7 +20,8 @@ words ps = map (λ (p : Placed). p.word) ps
 -- the words that an item begins with
 abbrev pub cut_words : List (List ℕ)
 cut_words =
-    codes "builtins" ∷ codes "functions" ∷ codes "let" ∷ codes "process" ∷ codes "restriction" ∷ codes "lemma" ∷ codes "rule" ∷ codes "end" ∷ []
+    codes "builtins" ∷ codes "functions" ∷ codes "let" ∷ codes "process" ∷ codes "restriction"
+    ∷ codes "lemma" ∷ codes "rule" ∷ codes "end" ∷ []
 
 -- one of these
 abbrev pub is_item_word : Word → Bool
@@ -48,7 +49,8 @@ StartsItem (p ∷ ps) = begins_item p ≡ true
 -- the words behind the header are these items: each begins where its word stands, but for the first, which begins anyhow
 pub data IsCut : List Placed → List (List Placed) → Type 0 where
   cut_none : IsCut [] []
-  cut_one : (p : Placed) (ps rest : List Placed) {items : List (List Placed)} → NoItemWord ps → StartsItem rest → IsCut rest items
+  cut_one : (p : Placed) (ps rest : List Placed) {items : List (List Placed)} → NoItemWord ps
+      → StartsItem rest → IsCut rest items
       → IsCut (p ∷ (ps ++ rest)) ((p ∷ ps) ∷ items)
 
 -- the words begin with the header of this name, and go on with these
@@ -57,7 +59,8 @@ pub record IsHeader (x : List ℕ) (all rest : List Placed) : Type 0 where
   pub name_line : ℕ
   pub begin_line : ℕ
   pub spelled : all
-      ≡ record { word = mark (codes "theory"); line = theory_line } ∷ record { word = name x; line = name_line }
+      ≡ record { word = mark (codes "theory"); line = theory_line }
+      ∷ record { word = name x; line = name_line }
       ∷ record { word = mark (codes "begin"); line = begin_line } ∷ rest
 
 -- the line of the first word

@@ -6,7 +6,8 @@ use Rattle.sap_grammar.specs.TermText.{tree_text}
 
 -- its name and its arguments, behind ! where it is persistent
 abbrev pub fact_text : Fact → List ℕ
-fact_text f = (if f.persistent then codes "!" else []) ++ (f.name ++ (codes "(" ++ (joined (codes ",") (map tree_text f.args) ++ codes ")")))
+fact_text f = (if f.persistent then codes "!" else [])
+    ++ (f.name ++ (codes "(" ++ (joined (codes ",") (map tree_text f.args) ++ codes ")")))
 
 -- the facts with commas between them
 abbrev pub fact_list : List Fact → List ℕ

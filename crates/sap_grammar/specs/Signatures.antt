@@ -10,8 +10,10 @@ clash_with g (of_symbol s) = if is_held_otherwise g.symbols s then Some s.name e
 
 -- the signature with what the declaration adds, where it doesn't clash
 abbrev pub with_declaration : Sig → Declaration → Sig
-with_declaration g (of_builtin b) = if is_some (first_clash g.symbols (builtin_symbols b)) then g else added g b
-with_declaration g (of_symbol s) = record g { symbols = declared g.symbols s.name s.arity s.private }
+with_declaration g (of_builtin b) = if is_some (first_clash g.symbols (builtin_symbols b)) then g
+    else added g b
+with_declaration g (of_symbol s) =
+    record g { symbols = declared g.symbols s.name s.arity s.private }
 
 -- the signature with these, one after another
 abbrev pub signature_from : Sig → List Declaration → Sig
@@ -21,4 +23,5 @@ signature_from g (d ∷ ds) = signature_from (with_declaration g d) ds
 -- the name at which the first of these clashes with what stands before it
 abbrev pub clash_from : Sig → List Declaration → Option (List ℕ)
 clash_from g [] = None
-clash_from g (d ∷ ds) = if is_some (clash_with g d) then clash_with g d else clash_from (with_declaration g d) ds
+clash_from g (d ∷ ds) = if is_some (clash_with g d) then clash_with g d
+    else clash_from (with_declaration g d) ds

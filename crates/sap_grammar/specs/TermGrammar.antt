@@ -26,24 +26,33 @@ mutual
   -- variable for fresh or public names with its sign; a public name; a symbol on terms in parentheses, held or not; a
   -- tuple of two parts or more
   pub data IsTerm (g : Sig) : Tree → List Word → List Word → Type 0 where
-    term_constant : {x : List ℕ} {a : List Word} → IsConstant g x → IsTerm g (apply x none) (name x ∷ a) a
-    term_message : {x : List ℕ} {a : List Word} → (IsConstant g x → ⊥) → IsTerm g (sorted Msg x) (name x ∷ a) a
-    term_fresh : {x : List ℕ} {a : List Word} → IsTerm g (sorted Fresh x) (mark (codes "~") ∷ name x ∷ a) a
-    term_pub : {x : List ℕ} {a : List Word} → IsTerm g (sorted Pub x) (mark (codes "$") ∷ name x ∷ a) a
+    term_constant : {x : List ℕ} {a : List Word} → IsConstant g x
+        → IsTerm g (apply x none) (name x ∷ a) a
+    term_message : {x : List ℕ} {a : List Word} → (IsConstant g x → ⊥)
+        → IsTerm g (sorted Msg x) (name x ∷ a) a
+    term_fresh : {x : List ℕ} {a : List Word}
+        → IsTerm g (sorted Fresh x) (mark (codes "~") ∷ name x ∷ a) a
+    term_pub : {x : List ℕ} {a : List Word}
+        → IsTerm g (sorted Pub x) (mark (codes "$") ∷ name x ∷ a) a
     term_quoted : {s : List ℕ} {a : List Word} → IsTerm g (public s) (quoted s ∷ a) a
-    term_symbol : {f : List ℕ} {ts : List Tree} {a b : List Word} → is_lower f ≡ true → IsArgs g ts a b
+    term_symbol : {f : List ℕ} {ts : List Tree} {a b : List Word} → is_lower f ≡ true
+        → IsArgs g ts a b
         → IsTerm g (apply f (trees_of ts)) (name f ∷ mark (codes "(") ∷ a) b
-    term_tuple : {t u : Tree} {a b c : List Word} → IsTerm g t a (mark (codes ",") ∷ b) → IsRest g u b c → IsTerm g (pair t u) (mark (codes "<") ∷ a) c
+    term_tuple : {t u : Tree} {a b c : List Word} → IsTerm g t a (mark (codes ",") ∷ b)
+        → IsRest g u b c → IsTerm g (pair t u) (mark (codes "<") ∷ a) c
 
   -- the parts of a tuple behind a comma, paired to the right, and the tuple's end
   pub data IsRest (g : Sig) : Tree → List Word → List Word → Type 0 where
     rest_last : {t : Tree} {a b : List Word} → IsTerm g t a (mark (codes ">") ∷ b) → IsRest g t a b
-    rest_more : {t u : Tree} {a b c : List Word} → IsTerm g t a (mark (codes ",") ∷ b) → IsRest g u b c → IsRest g (pair t u) a c
+    rest_more : {t u : Tree} {a b c : List Word} → IsTerm g t a (mark (codes ",") ∷ b)
+        → IsRest g u b c → IsRest g (pair t u) a c
 
   -- terms, one or more, with commas between them and a closing parenthesis behind
   pub data IsList (g : Sig) : List Tree → List Word → List Word → Type 0 where
-    list_last : {t : Tree} {a b : List Word} → IsTerm g t a (mark (codes ")") ∷ b) → IsList g (t ∷ []) a b
-    list_more : {t : Tree} {ts : List Tree} {a b c : List Word} → IsTerm g t a (mark (codes ",") ∷ b) → IsList g ts b c → IsList g (t ∷ ts) a c
+    list_last : {t : Tree} {a b : List Word} → IsTerm g t a (mark (codes ")") ∷ b)
+        → IsList g (t ∷ []) a b
+    list_more : {t : Tree} {ts : List Tree} {a b c : List Word}
+        → IsTerm g t a (mark (codes ",") ∷ b) → IsList g ts b c → IsList g (t ∷ ts) a c
 
   -- terms, none or more, and the closing parenthesis
   pub data IsArgs (g : Sig) : List Tree → List Word → List Word → Type 0 where

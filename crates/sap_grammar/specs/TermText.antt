@@ -37,7 +37,8 @@ abbrev mutual
   term_text is_open (variable v) = variable_text v
   term_text is_open (public n) = codes "'" ++ (n ++ codes "'")
   term_text is_open (fresh k) = codes "~" ++ decimal k
-  term_text is_open (apply f ts) = if is_pair f ts then in_brackets is_open (pair_text ts) else applied f (term_texts ts)
+  term_text is_open (apply f ts) = if is_pair f ts then in_brackets is_open (pair_text ts)
+      else applied f (term_texts ts)
 
   -- the two parts of a pair, with a comma between them
   pub pair_text : Trees → List ℕ

@@ -17,18 +17,22 @@ pub data Word : Type 0 where
 -- the words that begin and end a theory and its parts
 abbrev pub item_words : List (List ℕ)
 item_words =
-    codes "theory" ∷ codes "begin" ∷ codes "end" ∷ codes "builtins" ∷ codes "functions" ∷ codes "let" ∷ codes "process" ∷ codes "restriction"
+    codes "theory" ∷ codes "begin" ∷ codes "end" ∷ codes "builtins" ∷ codes "functions"
+    ∷ codes "let" ∷ codes "process" ∷ codes "restriction"
     ∷ codes "lemma" ∷ codes "rule" ∷ []
 
 -- the words of processes and formulas
 abbrev pub process_words : List (List ℕ)
 process_words =
-    codes "new" ∷ codes "out" ∷ codes "in" ∷ codes "if" ∷ codes "then" ∷ codes "else" ∷ codes "event" ∷ codes "insert" ∷ codes "delete"
-    ∷ codes "lookup" ∷ codes "as" ∷ codes "lock" ∷ codes "unlock" ∷ codes "All" ∷ codes "Ex" ∷ codes "not" ∷ []
+    codes "new" ∷ codes "out" ∷ codes "in" ∷ codes "if" ∷ codes "then" ∷ codes "else"
+    ∷ codes "event" ∷ codes "insert" ∷ codes "delete"
+    ∷ codes "lookup" ∷ codes "as" ∷ codes "lock" ∷ codes "unlock" ∷ codes "All" ∷ codes "Ex"
+    ∷ codes "not" ∷ []
 
 -- the words that are no names
 abbrev pub is_grammar_word : List ℕ → Bool
-is_grammar_word text = list_any (λ word. bytes_eq text word) item_words || list_any (λ word. bytes_eq text word) process_words
+is_grammar_word text = list_any (λ word. bytes_eq text word) item_words
+    || list_any (λ word. bytes_eq text word) process_words
 
 -- the word of a token with these bytes
 abbrev pub word_of_text : Kind → List ℕ → Word

@@ -130,7 +130,8 @@ pub record AreRight (g : Sig) (vs : List Var) (b : List Binding) : Type 0 where
   pub terms : All (λ (e : Binding). IsMessage g e.var.sort (tree e.term)) b
 
 -- a choice of messages agrees with the bindings and makes the left side theory-equal to the cited facts
-pub record FitsFacts (g : Sig) (left : List Fact) (b : List Binding) (cited : List Fact) (σ : Choice) : Type 0 where
+pub record FitsFacts (g : Sig) (left : List Fact) (b : List Binding) (cited : List Fact)
+    (σ : Choice) : Type 0 where
   pub messages : IsMessageChoice g σ
   pub agrees : Agrees b σ
   pub equal : AreEqualFacts (equations g) (instance_facts σ left) cited
@@ -140,85 +141,119 @@ pub record FitsFacts (g : Sig) (left : List Fact) (b : List Binding) (cited : Li
 pub data IsRefused (g : Sig) (c : Config) (es : List Tree) : PStep → PFault → Type 0 where
   no_memory : (step : PStep) → IsRefused g c es step fault.Mem
   -- the thread that a line names alone isn't running, or has another form
-  unfit : {step : PStep} {f : PFault} (t : ℕ) → thread_of step ≡ Some t → IsUnfit c t (has_form step) f → IsRefused g c es step f
+  unfit : {step : PStep} {f : PFault} (t : ℕ) → thread_of step ≡ Some t
+      → IsUnfit c t (has_form step) f → IsRefused g c es step f
   -- of two threads the sender is first
   unfit_sender : {f : PFault} (s t : ℕ) → IsUnfit c s is_send f → IsRefused g c es (line.Sync s t) f
-  unfit_receiver : {f : PFault} {m n : Tree} {p : Proc} (s t : ℕ) → Runs c s (act (send m n) p) → IsUnfit c t is_receive f
+  unfit_receiver : {f : PFault} {m n : Tree} {p : Proc} (s t : ℕ) → Runs c s (act (send m n) p)
+      → IsUnfit c t is_receive f
       → IsRefused g c es (line.Sync s t) f
   -- the name was made before
   used_name : {p : Proc} (t n : ℕ) → Runs c t p → has_form (line.New t n) p ≡ true → IsUsed c n
       → IsRefused g c es (line.New t n) (fault.UsedName n)
   used_own : (n : ℕ) → IsUsed c n → IsRefused g c es (line.Name n) (fault.UsedName n)
   -- no entry has the number
-  unknown_channel : {p : Proc} (t k : ℕ) → Runs c t p → has_form (line.Send t k) p ≡ true → slice_get es k ≡ None
+  unknown_channel : {p : Proc} (t k : ℕ) → Runs c t p → has_form (line.Send t k) p ≡ true
+      → slice_get es k ≡ None
       → IsRefused g c es (line.Send t k) (fault.NoEntry k)
-  unknown_input : {p : Proc} (t k : ℕ) → Runs c t p → has_form (line.In t k) p ≡ true → slice_get es k ≡ None
+  unknown_input : {p : Proc} (t k : ℕ) → Runs c t p → has_form (line.In t k) p ≡ true
+      → slice_get es k ≡ None
       → IsRefused g c es (line.In t k) (fault.NoEntry k)
   unknown_shown : (k : ℕ) → slice_get es k ≡ None → IsRefused g c es (line.Know k) (fault.NoEntry k)
   -- what stands at the head is too large
-  large : {step : PStep} {p : Proc} → IsRunning c step p → HasEntry es step → EvaluateLarge g (evaluated p) → IsRefused g c es step fault.TermLarge
-  large_meeting : {m n l r : Tree} {p q : Proc} (s t : ℕ) → Runs c s (act (send m n) p) → Runs c t (act (receive l r) q)
+  large : {step : PStep} {p : Proc} → IsRunning c step p → HasEntry es step
+      → EvaluateLarge g (evaluated p) → IsRefused g c es step fault.TermLarge
+  large_meeting : {m n l r : Tree} {p q : Proc} (s t : ℕ) → Runs c s (act (send m n) p)
+      → Runs c t (act (receive l r) q)
       → EvaluateLarge g (m ∷ n ∷ l ∷ []) → IsRefused g c es (line.Sync s t) fault.TermLarge
   -- the entry isn't the channel that the thread sends on
-  other_channel : {m n x : Tree} {p : Proc} (t k : ℕ) → Runs c t (act (send m n) p) → slice_get es k ≡ Some x → EvaluateSmall g (m ∷ n ∷ [])
+  other_channel : {m n x : Tree} {p : Proc} (t k : ℕ) → Runs c t (act (send m n) p)
+      → slice_get es k ≡ Some x → EvaluateSmall g (m ∷ n ∷ [])
       → ¬ IsNormalForm (equations g) m x → IsRefused g c es (line.Send t k) fault.Unequal
   -- the entry doesn't fit the pattern
-  unfitting : {n x : Tree} {p : Proc} (t k : ℕ) → Runs c t (act (input n) p) → slice_get es k ≡ Some x → FitsNothing g n x
+  unfitting : {n x : Tree} {p : Proc} (t k : ℕ) → Runs c t (act (input n) p)
+      → slice_get es k ≡ Some x → FitsNothing g n x
       → IsRefused g c es (line.In t k) fault.NoMatch
   -- it is no pair whose second part fits the pattern
-  unfitting_part : {m n x : Tree} {p : Proc} (t k : ℕ) → Runs c t (act (receive m n) p) → slice_get es k ≡ Some x → EvaluateSmall g (m ∷ [])
-      → ((y z : Tree) → x ≡ app2 pair_name y z → FitsNothing g n z) → IsRefused g c es (line.In t k) fault.NoMatch
+  unfitting_part : {m n x : Tree} {p : Proc} (t k : ℕ) → Runs c t (act (receive m n) p)
+      → slice_get es k ≡ Some x → EvaluateSmall g (m ∷ [])
+      → ((y z : Tree) → x ≡ app2 pair_name y z → FitsNothing g n z)
+      → IsRefused g c es (line.In t k) fault.NoMatch
   -- it is, and its first part isn't the channel
-  other_part : {m n x y z : Tree} {p : Proc} (t k : ℕ) (σ : Choice) → Runs c t (act (receive m n) p) → slice_get es k ≡ Some x
-      → EvaluateSmall g (m ∷ []) → x ≡ app2 pair_name y z → Fits g σ n z → ¬ IsNormalForm (equations g) m y
+  other_part : {m n x y z : Tree} {p : Proc} (t k : ℕ) (σ : Choice) → Runs c t (act (receive m n) p)
+      → slice_get es k ≡ Some x
+      → EvaluateSmall g (m ∷ []) → x ≡ app2 pair_name y z → Fits g σ n z
+      → ¬ IsNormalForm (equations g) m y
       → IsRefused g c es (line.In t k) fault.Unequal
   -- what the first thread sends doesn't fit the pattern of the second
-  unfitting_message : {m n l r : Tree} {p q : Proc} (s t : ℕ) → Runs c s (act (send m n) p) → Runs c t (act (receive l r) q)
-      → EvaluateSmall g (m ∷ n ∷ l ∷ []) → FitsNothing g r n → IsRefused g c es (line.Sync s t) fault.NoMatch
+  unfitting_message : {m n l r : Tree} {p q : Proc} (s t : ℕ) → Runs c s (act (send m n) p)
+      → Runs c t (act (receive l r) q)
+      → EvaluateSmall g (m ∷ n ∷ l ∷ []) → FitsNothing g r n
+      → IsRefused g c es (line.Sync s t) fault.NoMatch
   -- it does, and their channels differ
-  channels_differ : {m n l r : Tree} {p q : Proc} (s t : ℕ) (σ : Choice) → Runs c s (act (send m n) p) → Runs c t (act (receive l r) q)
-      → EvaluateSmall g (m ∷ n ∷ l ∷ []) → Fits g σ r n → ¬ IsTheoryEqual (equations g) m l → IsRefused g c es (line.Sync s t) fault.Unequal
+  channels_differ : {m n l r : Tree} {p q : Proc} (s t : ℕ) (σ : Choice)
+      → Runs c s (act (send m n) p) → Runs c t (act (receive l r) q)
+      → EvaluateSmall g (m ∷ n ∷ l ∷ []) → Fits g σ r n → ¬ IsTheoryEqual (equations g) m l
+      → IsRefused g c es (line.Sync s t) fault.Unequal
   -- the terms of a branch differ
-  terms_differ : {m n : Tree} {p q : Proc} (t : ℕ) → Runs c t (test m n p q) → EvaluateSmall g (m ∷ n ∷ []) → ¬ IsTheoryEqual (equations g) m n
+  terms_differ : {m n : Tree} {p q : Proc} (t : ℕ) → Runs c t (test m n p q)
+      → EvaluateSmall g (m ∷ n ∷ []) → ¬ IsTheoryEqual (equations g) m n
       → IsRefused g c es (line.Then t) fault.Unequal
   -- or don't
-  terms_agree : {m n : Tree} {p q : Proc} (t : ℕ) → Runs c t (test m n p q) → EvaluateSmall g (m ∷ n ∷ []) → IsTheoryEqual (equations g) m n
+  terms_agree : {m n : Tree} {p q : Proc} (t : ℕ) → Runs c t (test m n p q)
+      → EvaluateSmall g (m ∷ n ∷ []) → IsTheoryEqual (equations g) m n
       → IsRefused g c es (line.Else t) fault.Equal
   -- the store has nothing at the key
-  unset : {m k : Tree} {x : Var} {p q : Proc} (t : ℕ) → Runs c t (lookup m x p q) → EvaluateSmall g (m ∷ []) → IsNormalForm (equations g) m k
+  unset : {m k : Tree} {x : Var} {p q : Proc} (t : ℕ) → Runs c t (lookup m x p q)
+      → EvaluateSmall g (m ∷ []) → IsNormalForm (equations g) m k
       → c.store k ≡ None → IsRefused g c es (line.Found t) fault.Unset
   -- or something
-  set : {m k v : Tree} {x : Var} {p q : Proc} (t : ℕ) → Runs c t (lookup m x p q) → EvaluateSmall g (m ∷ []) → IsNormalForm (equations g) m k
+  set : {m k v : Tree} {x : Var} {p q : Proc} (t : ℕ) → Runs c t (lookup m x p q)
+      → EvaluateSmall g (m ∷ []) → IsNormalForm (equations g) m k
       → c.store k ≡ Some v → IsRefused g c es (line.Missing t) fault.Set
   -- the term is held
-  held : {m k : Tree} {i : ℕ} {p : Proc} (t : ℕ) → Runs c t (act (lock m i) p) → EvaluateSmall g (m ∷ []) → IsNormalForm (equations g) m k
+  held : {m k : Tree} {i : ℕ} {p : Proc} (t : ℕ) → Runs c t (act (lock m i) p)
+      → EvaluateSmall g (m ∷ []) → IsNormalForm (equations g) m k
       → c.held k ≡ true → IsRefused g c es (line.Lock t) fault.Held
   -- another number of facts is cited than the left side has
-  fact_count : {l e r : List Fact} {p : Proc} (t : ℕ) (ks : List ℕ) (b : List Binding) → Runs c t (act (embedded l e r) p)
+  fact_count : {l e r : List Fact} {p : Proc} (t : ℕ) (ks : List ℕ) (b : List Binding)
+      → Runs c t (act (embedded l e r) p)
       → ¬ (length ks ≡ length l) → IsRefused g c es (line.Embedded t ks b) fault.FactCount
   -- as many, and one is missing
-  fact_missing : {l e r : List Fact} {p : Proc} (t : ℕ) (ks : List ℕ) (b : List Binding) (index : ℕ) → Runs c t (act (embedded l e r) p)
-      → length ks ≡ length l → IsFirstMissing c.facts ks index → IsRefused g c es (line.Embedded t ks b) (fault.FactMissing index)
+  fact_missing : {l e r : List Fact} {p : Proc} (t : ℕ) (ks : List ℕ) (b : List Binding) (index : ℕ)
+      → Runs c t (act (embedded l e r) p)
+      → length ks ≡ length l → IsFirstMissing c.facts ks index
+      → IsRefused g c es (line.Embedded t ks b) (fault.FactMissing index)
   -- none is, and the bindings aren't right
-  bad_binding : {l e r left : List Fact} {rest : Pile} {p : Proc} (t : ℕ) (ks : List ℕ) (b : List Binding) → Runs c t (act (embedded l e r) p)
+  bad_binding : {l e r left : List Fact} {rest : Pile} {p : Proc} (t : ℕ) (ks : List ℕ)
+      (b : List Binding) → Runs c t (act (embedded l e r) p)
       → length ks ≡ length l → Takes c.facts ks left rest → ¬ AreRight g (left_open l e r) b
       → IsRefused g c es (line.Embedded t ks b) fault.BadBinding
   -- they are, and no choice fits
-  unfitting_facts : {l e r left : List Fact} {rest : Pile} {p : Proc} (t : ℕ) (ks : List ℕ) (b : List Binding) → Runs c t (act (embedded l e r) p)
-      → length ks ≡ length l → Takes c.facts ks left rest → AreRight g (left_open l e r) b → ((σ : Choice) → ¬ FitsFacts g l b left σ)
+  unfitting_facts : {l e r left : List Fact} {rest : Pile} {p : Proc} (t : ℕ) (ks : List ℕ)
+      (b : List Binding) → Runs c t (act (embedded l e r) p)
+      → length ks ≡ length l → Takes c.facts ks left rest → AreRight g (left_open l e r) b
+      → ((σ : Choice) → ¬ FitsFacts g l b left σ)
       → IsRefused g c es (line.Embedded t ks b) fault.NoMatch
   -- one does, and what the rule holds under it is too large
-  large_rule : {l e r left : List Fact} {rest : Pile} {p : Proc} (t : ℕ) (ks : List ℕ) (b : List Binding) (σ : Choice) → Runs c t (act (embedded l e r) p)
+  large_rule : {l e r left : List Fact} {rest : Pile} {p : Proc} (t : ℕ) (ks : List ℕ)
+      (b : List Binding) (σ : Choice) → Runs c t (act (embedded l e r) p)
       → Takes c.facts ks left rest → AreRight g (left_open l e r) b → FitsFacts g l b left σ
-      → EvaluateLarge g (facts_terms (instance_facts σ (l ++ (e ++ r)))) → IsRefused g c es (line.Embedded t ks b) fault.TermLarge
+      → EvaluateLarge g (facts_terms (instance_facts σ (l ++ (e ++ r))))
+      → IsRefused g c es (line.Embedded t ks b) fault.TermLarge
   -- the symbol isn't held, or it is private
-  not_public : (f ks : List ℕ) → ¬ IsPublic g f → IsRefused g c es (line.Apply f ks) (fault.NotPublic f)
+  not_public : (f ks : List ℕ) → ¬ IsPublic g f
+      → IsRefused g c es (line.Apply f ks) (fault.NotPublic f)
   -- so many entries are not its arity
-  other_arity : (f ks : List ℕ) → IsPublic g f → ¬ (arity_of g f ≡ Some (length ks)) → IsRefused g c es (line.Apply f ks) (fault.Arity f)
+  other_arity : (f ks : List ℕ) → IsPublic g f → ¬ (arity_of g f ≡ Some (length ks))
+      → IsRefused g c es (line.Apply f ks) (fault.Arity f)
   -- the first number that isn't an entry
-  unknown_argument : (f ks : List ℕ) (k : ℕ) → IsPublic g f → arity_of g f ≡ Some (length ks) → IsFirstUnknown (length es) ks k
+  unknown_argument : (f ks : List ℕ) (k : ℕ) → IsPublic g f → arity_of g f ≡ Some (length ks)
+      → IsFirstUnknown (length es) ks k
       → IsRefused g c es (line.Apply f ks) (fault.NoEntry k)
   -- what the symbol gives is too large
-  large_application : (f ks : List ℕ) (ts : List Tree) (x : Tree) → IsPublic g f → arity_of g f ≡ Some (length ks)
-      → map (slice_get es) ks ≡ map Some ts → IsNormalForm (equations g) (apply f (trees_of ts)) x → MOST_TERM_NODES < node_count x
+  large_application : (f ks : List ℕ) (ts : List Tree) (x : Tree) → IsPublic g f
+      → arity_of g f ≡ Some (length ks)
+      → map (slice_get es) ks ≡ map Some ts → IsNormalForm (equations g) (apply f (trees_of ts)) x
+      → MOST_TERM_NODES < node_count x
       → IsRefused g c es (line.Apply f ks) fault.TermLarge

@@ -56,8 +56,10 @@ ProcessPasses test whole.nil = Unit {0}
 ProcessPasses test (whole.parallel p q) = ProcessPasses test p × ProcessPasses test q
 ProcessPasses test (whole.replicated p) = ProcessPasses test p
 ProcessPasses test (whole.act a p) = ActionPasses test a × ProcessPasses test p
-ProcessPasses test (whole.test t u p q) = NamesPass test t × NamesPass test u × ProcessPasses test p × ProcessPasses test q
-ProcessPasses test (whole.lookup t x p q) = NamesPass test t × ProcessPasses test p × ProcessPasses test q
+ProcessPasses test (whole.test t u p q) = NamesPass test t × NamesPass test u × ProcessPasses test p
+    × ProcessPasses test q
+ProcessPasses test (whole.lookup t x p q) = NamesPass test t × ProcessPasses test p
+    × ProcessPasses test q
 
 -- in the terms that are bound
 abbrev pub BindingsPass : (Tree → Bool) → List Binding → Type 0
@@ -81,12 +83,15 @@ LinesPass test (step ∷ lines) = LinePasses test step × LinesPass test lines
 pub record ConfigPasses (test : Tree → Bool) (c : Config) (es : List Tree) : Type 0 where
   pub threads : (t : ℕ) (p : Proc) → Runs c t p → ProcessPasses test p
   pub store : (k v : Tree) → c.store k ≡ Some v → NamesPass test v
-  pub facts : (k : ℕ) (f : Fact) → slice_get c.facts k ≡ Some (Some f) → AllNamesPass test (trees_of f.args)
+  pub facts : (k : ℕ) (f : Fact) → slice_get c.facts k ≡ Some (Some f)
+      → AllNamesPass test (trees_of f.args)
   pub entries : (x : Tree) → Contains es x → NamesPass test x
 
 -- A test that the names in the process pass, and those that the lines bring, the names pass in all that a legal run of these leads
 -- to: no name comes from elsewhere.
 abbrev pub NamesStandInRuns : Type 0
 NamesStandInRuns =
-    (test : Tree → Bool) (g : Sig) (p : Proc) (lines : List PStep) (c : Config) (es : List Tree) (tr : Trace) (marks : List Mark) → HoldsBuiltins g → IsReady g p → ProcessPasses test p → LinesPass test lines
+    (test : Tree → Bool) (g : Sig) (p : Proc) (lines : List PStep) (c : Config) (es : List Tree)
+    (tr : Trace) (marks : List Mark) → HoldsBuiltins g → IsReady g p → ProcessPasses test p
+    → LinesPass test lines
     → IsLegalProcessRun g HasFewNodes p lines c es tr marks → ConfigPasses test c es

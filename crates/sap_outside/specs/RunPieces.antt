@@ -52,7 +52,8 @@ pub record ArePieces (pieces : List (List ℕ)) : Type 0 where
 
 -- reading the run of this name may give these bytes, and behind the first of these requests the shelf was asked to open it, once, and
 -- for the pieces of these bytes, and for nothing else
-pub record WasRead (holds : Option Files) (name : List ℕ) (first : List Request) (asked_before asked_after : Option (List Request)) (z : List ℕ) : Type 0 where
+pub record WasRead (holds : Option Files) (name : List ℕ) (first : List Request)
+    (asked_before asked_after : Option (List Request)) (z : List ℕ) : Type 0 where
   pub joined : IsJoined holds name z
   pub pieces : List (List ℕ)
   pub are : ArePieces pieces
@@ -61,7 +62,8 @@ pub record WasRead (holds : Option Files) (name : List ℕ) (first : List Reques
 
 -- reading the run of this name was given up, and behind the first of these requests the shelf was asked to open it, once, for pieces, one
 -- more at most than bytes may have come, and for nothing else
-pub record WasGivenUp (holds : Option Files) (name : List ℕ) (first : List Request) (asked_before asked_after : Option (List Request)) : Type 0 where
+pub record WasGivenUp (holds : Option Files) (name : List ℕ) (first : List Request)
+    (asked_before asked_after : Option (List Request)) : Type 0 where
   pub nexts : ℕ
   pub few : nexts ≤ may_come holds name + 1
   pub asked : Requested (first ++ for_run name nexts) asked_before asked_after
@@ -69,12 +71,16 @@ pub record WasGivenUp (holds : Option Files) (name : List ℕ) (first : List Req
 -- what is answered of these bytes, where runs of this kind are asked for: the run; or why they are none, which is that they are
 -- too many, whatever else is wrong, or what their reader says, and for too many steps how many a run of its kind may have
 pub data IsRunAnswer (kinds : Kinds) (z : List ℕ) : Result Run RunRefusal → Type 0 where
-  is_run : {run : Run} → length z ≤ most_run_bytes → IsRunRead kinds z (Ok run) → IsRunAnswer kinds z (Ok run)
+  is_run : {run : Run} → length z ≤ most_run_bytes → IsRunRead kinds z (Ok run)
+      → IsRunAnswer kinds z (Ok run)
   too_long : most_run_bytes < length z → IsRunAnswer kinds z (Err refusal.TooLong)
-  bad_head : length z ≤ most_run_bytes → IsRunRead kinds z (Err fault.BadHead) → IsRunAnswer kinds z (Err refusal.BadHead)
+  bad_head : length z ≤ most_run_bytes → IsRunRead kinds z (Err fault.BadHead)
+      → IsRunAnswer kinds z (Err refusal.BadHead)
   bad_line : {line : ℕ} → length z ≤ most_run_bytes → IsRunRead kinds z (Err (fault.BadLine line))
       → IsRunAnswer kinds z (Err (refusal.BadLine line))
   too_many_of_process : {body : List ℕ} → length z ≤ most_run_bytes → IsHeaded process_head body z
-      → IsRunRead kinds z (Err fault.TooManySteps) → IsRunAnswer kinds z (Err (refusal.TooManySteps MOST_PROCESS_STEPS))
+      → IsRunRead kinds z (Err fault.TooManySteps)
+      → IsRunAnswer kinds z (Err (refusal.TooManySteps MOST_PROCESS_STEPS))
   too_many_of_rules : {body : List ℕ} → length z ≤ most_run_bytes → IsHeaded rule_head body z
-      → IsRunRead kinds z (Err fault.TooManySteps) → IsRunAnswer kinds z (Err (refusal.TooManySteps MOST_RULE_STEPS))
+      → IsRunRead kinds z (Err fault.TooManySteps)
+      → IsRunAnswer kinds z (Err (refusal.TooManySteps MOST_RULE_STEPS))

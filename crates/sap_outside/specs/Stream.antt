@@ -46,4 +46,5 @@ CutShort s = Failed s ⊎ Wanted s
 
 -- the two counts rose twice in all, as they do where two puts are cut short
 abbrev pub CutTwice : Stream → Type 0
-CutTwice s = RoseTwice s.faults_before s.faults_after ⊎ (Failed s × Wanted s) ⊎ RoseTwice s.wants_before s.wants_after
+CutTwice s = RoseTwice s.faults_before s.faults_after ⊎ (Failed s × Wanted s)
+    ⊎ RoseTwice s.wants_before s.wants_after

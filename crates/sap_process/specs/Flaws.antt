@@ -77,7 +77,8 @@ unbound_in scope ts = filter (λ (v : Var). not (is_known (var_names scope) v.na
 -- `$x`, which the rule binds itself
 abbrev pub unbound_at : List Var → Action → List Var
 unbound_at scope (embedded l e r) =
-    filter (λ (v : Var). not (same_sort v.sort Pub)) (new_vars (var_names (scope ++ facts_vars l)) (facts_vars (e ++ r)))
+    filter (λ (v : Var). not (same_sort v.sort Pub))
+    (new_vars (var_names (scope ++ facts_vars l)) (facts_vars (e ++ r)))
 unbound_at scope a = unbound_in scope (action_used a)
 
 -- those at the head of a process
@@ -119,8 +120,10 @@ HasFlaw g before s BadFunction = AppliesBadly g s ⊎ BindsConstant g s
 HasFlaw g before s ReservedVar = HasReservedVar s
 HasFlaw g before s ReservedFact = HasReservedFact s
 HasFlaw g before s FactClash =
-    HasClash HasOtherForm (flat_map (λ (b : Site). stored_facts b.body) before) (stored_facts s.body)
-    ⊎ HasClash HasOtherArity (flat_map (λ (b : Site). shown_facts b.body) before) (shown_facts s.body)
+    HasClash HasOtherForm (flat_map (λ (b : Site). stored_facts b.body) before)
+    (stored_facts s.body)
+    ⊎ HasClash HasOtherArity (flat_map (λ (b : Site). shown_facts b.body) before)
+    (shown_facts s.body)
 HasFlaw g before s PatternDestructor = HasPatternDestructor g s
 HasFlaw g before s Unbound = ¬ (unbound s.above.scope s.body ≡ [])
 HasFlaw g before s Rebound = Rebinds s
@@ -159,7 +162,8 @@ IsWellFormed g p = IsWellFormedIn g [] p
 
 -- the flaw counts, where these are in scope at the root: no place has one that counts before it, and this is the first place
 -- that has it
-pub record IsFirstFlawIn (g : Sig) (scope : List Var) (p : Proc) (w : Flaw) (path : List ℕ) : Type 0 where
+pub record IsFirstFlawIn (g : Sig) (scope : List Var) (p : Proc) (w : Flaw)
+    (path : List ℕ) : Type 0 where
   pub place : ℕ
   pub at : IsFlawedIn g scope p w place
   pub path_is : at.site.path ≡ path

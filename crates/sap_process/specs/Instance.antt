@@ -21,7 +21,8 @@ action_instance σ (insert t u) = insert (instance σ t) (instance σ u)
 action_instance σ (delete t) = delete (instance σ t)
 action_instance σ (lock t n) = lock (instance σ t) n
 action_instance σ (unlock t n) = unlock (instance σ t) n
-action_instance σ (embedded l e r) = embedded (instance_facts σ l) (instance_facts σ e) (instance_facts σ r)
+action_instance σ (embedded l e r) =
+    embedded (instance_facts σ l) (instance_facts σ e) (instance_facts σ r)
 
 -- the choice that leaves the variables of this name as they are
 abbrev pub without : Choice → Var → Choice
@@ -39,8 +40,10 @@ process_instance σ nil = nil
 process_instance σ (parallel p q) = parallel (process_instance σ p) (process_instance σ q)
 process_instance σ (replicated p) = replicated (process_instance σ p)
 process_instance σ (act a p) = act (action_instance σ a) (process_instance (behind σ a) p)
-process_instance σ (test t u p q) = test (instance σ t) (instance σ u) (process_instance σ p) (process_instance σ q)
-process_instance σ (lookup t x p q) = lookup (instance σ t) x (process_instance (without σ x) p) (process_instance σ q)
+process_instance σ (test t u p q) =
+    test (instance σ t) (instance σ u) (process_instance σ p) (process_instance σ q)
+process_instance σ (lookup t x p q) =
+    lookup (instance σ t) x (process_instance (without σ x) p) (process_instance σ q)
 
 -- each occurrence of a variable in the terms of the process
 abbrev pub process_vars : Proc → List Var

@@ -38,13 +38,16 @@ places_from d path s (lookup t x p q) =
 abbrev pub places_below : {S : Type 0} → Descent S → List ℕ → S → Proc → List (Place S)
 places_below d path s nil = []
 places_below d path s (parallel p q) =
-    places_from d (path ++ 1 ∷ []) (d s (parallel p q) 1) p ++ places_from d (path ++ 2 ∷ []) (d s (parallel p q) 2) q
+    places_from d (path ++ 1 ∷ []) (d s (parallel p q) 1) p
+    ++ places_from d (path ++ 2 ∷ []) (d s (parallel p q) 2) q
 places_below d path s (replicated p) = places_from d (path ++ 1 ∷ []) (d s (replicated p) 1) p
 places_below d path s (act a p) = places_from d (path ++ 1 ∷ []) (d s (act a p) 1) p
 places_below d path s (test t u p q) =
-    places_from d (path ++ 1 ∷ []) (d s (test t u p q) 1) p ++ places_from d (path ++ 2 ∷ []) (d s (test t u p q) 2) q
+    places_from d (path ++ 1 ∷ []) (d s (test t u p q) 1) p
+    ++ places_from d (path ++ 2 ∷ []) (d s (test t u p q) 2) q
 places_below d path s (lookup t x p q) =
-    places_from d (path ++ 1 ∷ []) (d s (lookup t x p q) 1) p ++ places_from d (path ++ 2 ∷ []) (d s (lookup t x p q) 2) q
+    places_from d (path ++ 1 ∷ []) (d s (lookup t x p q) 1) p
+    ++ places_from d (path ++ 2 ∷ []) (d s (lookup t x p q) 2) q
 
 -- all places, where this is handed down to the root
 abbrev pub places : {S : Type 0} → Descent S → S → Proc → List (Place S)

@@ -44,60 +44,83 @@ pub data ProcessStep (g : Sig) : Config → List Fact → Config → Type 0 wher
   -- a thread that has nothing left ends
   ends : {c : Config} (t : ℕ) → Runs c t nil → ProcessStep g c [] (becomes c t None)
   -- a parallel goes on as its left part, and its right part is a new thread
-  splits : {c : Config} {p q : Proc} (t : ℕ) → Runs c t (parallel p q) → ProcessStep g c [] (spawns (becomes c t (Some p)) q)
+  splits : {c : Config} {p q : Proc} (t : ℕ) → Runs c t (parallel p q)
+      → ProcessStep g c [] (spawns (becomes c t (Some p)) q)
   -- a replication stays, and has one more copy
-  copies : {c : Config} {p : Proc} (t : ℕ) → Runs c t (replicated p) → ProcessStep g c [] (spawns c p)
+  copies : {c : Config} {p : Proc} (t : ℕ) → Runs c t (replicated p)
+      → ProcessStep g c [] (spawns c p)
   -- a process makes a name that nobody has
   makes_name : {c : Config} {x : Var} {p : Proc} (t n : ℕ) → Runs c t (act (new x) p) → IsUnused c n
       → ProcessStep g c [] (makes (becomes c t (Some (with_term x (fresh n) p))) n)
   -- the adversary gets a message
-  outputs : {c : Config} {m n : Tree} {p : Proc} (t : ℕ) → Runs c t (act (out m) p) → IsNormalForm (equations g) m n
+  outputs : {c : Config} {m n : Tree} {p : Proc} (t : ℕ) → Runs c t (act (out m) p)
+      → IsNormalForm (equations g) m n
       → ProcessStep g c [] (sends_out (becomes c t (Some p)) n)
   -- it gets one on a channel that it can give
-  outputs_on : {c : Config} {m n k u : Tree} {p : Proc} (t : ℕ) → Runs c t (act (send m n) p) → IsNormalForm (equations g) m k → CanGive g c k
-      → IsNormalForm (equations g) n u → ProcessStep g c (k_fact k ∷ []) (sends_out (becomes c t (Some p)) u)
+  outputs_on : {c : Config} {m n k u : Tree} {p : Proc} (t : ℕ) → Runs c t (act (send m n) p)
+      → IsNormalForm (equations g) m k → CanGive g c k
+      → IsNormalForm (equations g) n u
+      → ProcessStep g c (k_fact k ∷ []) (sends_out (becomes c t (Some p)) u)
   -- it gives a message that fits
-  inputs : {c : Config} {n x : Tree} {p : Proc} (t : ℕ) (σ : Choice) → Runs c t (act (input n) p) → CanGive g c x → Fits g σ n x
+  inputs : {c : Config} {n x : Tree} {p : Proc} (t : ℕ) (σ : Choice) → Runs c t (act (input n) p)
+      → CanGive g c x → Fits g σ n x
       → ProcessStep g c (k_fact x ∷ []) (becomes c t (Some (with_choice σ (tree_vars n) p)))
   -- it gives a channel and a message that fits, as a pair
-  inputs_on : {c : Config} {m n x : Tree} {p : Proc} (t : ℕ) (σ : Choice) → Runs c t (act (receive m n) p) → CanGive g c x
+  inputs_on : {c : Config} {m n x : Tree} {p : Proc} (t : ℕ) (σ : Choice)
+      → Runs c t (act (receive m n) p) → CanGive g c x
       → IsMessageChoice g σ → IsTheoryEqual (equations g) (app2 pair_name m (instance σ n)) x
       → ProcessStep g c (k_fact x ∷ []) (becomes c t (Some (with_choice σ (tree_vars n) p)))
   -- two processes meet on a channel
-  meets : {c : Config} {m n l r : Tree} {p q : Proc} (s t : ℕ) (σ : Choice) → Runs c s (act (send m n) p) → Runs c t (act (receive l r) q)
-      → IsTheoryEqual (equations g) m l → Fits g σ r n → ProcessStep g c [] (becomes (becomes c s (Some p)) t (Some (with_choice σ (tree_vars r) q)))
+  meets : {c : Config} {m n l r : Tree} {p q : Proc} (s t : ℕ) (σ : Choice)
+      → Runs c s (act (send m n) p) → Runs c t (act (receive l r) q)
+      → IsTheoryEqual (equations g) m l → Fits g σ r n
+      → ProcessStep g c [] (becomes (becomes c s (Some p)) t (Some (with_choice σ (tree_vars r) q)))
   -- two terms are equal
-  agrees : {c : Config} {m n : Tree} {p q : Proc} (t : ℕ) → Runs c t (test m n p q) → IsTheoryEqual (equations g) m n
+  agrees : {c : Config} {m n : Tree} {p q : Proc} (t : ℕ) → Runs c t (test m n p q)
+      → IsTheoryEqual (equations g) m n
       → ProcessStep g c [] (becomes c t (Some p))
   -- or differ
-  differs : {c : Config} {m n : Tree} {p q : Proc} (t : ℕ) → Runs c t (test m n p q) → ¬ IsTheoryEqual (equations g) m n
+  differs : {c : Config} {m n : Tree} {p q : Proc} (t : ℕ) → Runs c t (test m n p q)
+      → ¬ IsTheoryEqual (equations g) m n
       → ProcessStep g c [] (becomes c t (Some q))
   -- an event shows its fact
-  shows : {c : Config} {f h : Fact} {p : Proc} (t : ℕ) → Runs c t (act (event f) p) → IsFormOfFact (equations g) f h
+  shows : {c : Config} {f h : Fact} {p : Proc} (t : ℕ) → Runs c t (act (event f) p)
+      → IsFormOfFact (equations g) f h
       → ProcessStep g c (h ∷ []) (becomes c t (Some p))
   -- the store has a value at a key from now on
-  inserts : {c : Config} {m n k v : Tree} {p : Proc} (t : ℕ) → Runs c t (act (insert m n) p) → IsNormalForm (equations g) m k
-      → IsNormalForm (equations g) n v → ProcessStep g c [] (stores (becomes c t (Some p)) k (Some v))
+  inserts : {c : Config} {m n k v : Tree} {p : Proc} (t : ℕ) → Runs c t (act (insert m n) p)
+      → IsNormalForm (equations g) m k
+      → IsNormalForm (equations g) n v
+      → ProcessStep g c [] (stores (becomes c t (Some p)) k (Some v))
   -- or nothing
-  deletes : {c : Config} {m k : Tree} {p : Proc} (t : ℕ) → Runs c t (act (delete m) p) → IsNormalForm (equations g) m k
+  deletes : {c : Config} {m k : Tree} {p : Proc} (t : ℕ) → Runs c t (act (delete m) p)
+      → IsNormalForm (equations g) m k
       → ProcessStep g c [] (stores (becomes c t (Some p)) k None)
   -- a process finds a value there
-  finds : {c : Config} {m k v : Tree} {x : Var} {p q : Proc} (t : ℕ) → Runs c t (lookup m x p q) → IsNormalForm (equations g) m k
+  finds : {c : Config} {m k v : Tree} {x : Var} {p q : Proc} (t : ℕ) → Runs c t (lookup m x p q)
+      → IsNormalForm (equations g) m k
       → c.store k ≡ Some v → ProcessStep g c [] (becomes c t (Some (with_term x v p)))
   -- or none
-  misses : {c : Config} {m k : Tree} {x : Var} {p q : Proc} (t : ℕ) → Runs c t (lookup m x p q) → IsNormalForm (equations g) m k
+  misses : {c : Config} {m k : Tree} {x : Var} {p q : Proc} (t : ℕ) → Runs c t (lookup m x p q)
+      → IsNormalForm (equations g) m k
       → c.store k ≡ None → ProcessStep g c [] (becomes c t (Some q))
   -- a process holds a term that isn't held
-  locks : {c : Config} {m k : Tree} {i : ℕ} {p : Proc} (t : ℕ) → Runs c t (act (lock m i) p) → IsNormalForm (equations g) m k
+  locks : {c : Config} {m k : Tree} {i : ℕ} {p : Proc} (t : ℕ) → Runs c t (act (lock m i) p)
+      → IsNormalForm (equations g) m k
       → c.held k ≡ false → ProcessStep g c [] (holding (becomes c t (Some p)) k true)
   -- from now on a term isn't held
-  unlocks : {c : Config} {m k : Tree} {i : ℕ} {p : Proc} (t : ℕ) → Runs c t (act (unlock m i) p) → IsNormalForm (equations g) m k
+  unlocks : {c : Config} {m k : Tree} {i : ℕ} {p : Proc} (t : ℕ) → Runs c t (act (unlock m i) p)
+      → IsNormalForm (equations g) m k
       → ProcessStep g c [] (holding (becomes c t (Some p)) k false)
   -- an embedded rule takes facts, shows facts and adds facts
-  embeds : {c : Config} {l e r : List Fact} {rest : Pile} {p : Proc} (t : ℕ) (ks : List ℕ) (σ : Choice) (left acts right : List Fact)
-      → Runs c t (act (embedded l e r) p) → IsMessageChoice g σ → AreEqualFacts (equations g) (instance_facts σ l) left
-      → Takes c.facts ks left rest → AreFormsOfFacts (equations g) (instance_facts σ e) acts → AreFormsOfFacts (equations g) (instance_facts σ r) right
-      → ProcessStep g c acts (leaves (becomes c t (Some (with_choice σ (facts_vars (l ++ (e ++ r))) p))) (adds rest right))
+  embeds : {c : Config} {l e r : List Fact} {rest : Pile} {p : Proc} (t : ℕ) (ks : List ℕ)
+      (σ : Choice) (left acts right : List Fact)
+      → Runs c t (act (embedded l e r) p) → IsMessageChoice g σ
+      → AreEqualFacts (equations g) (instance_facts σ l) left
+      → Takes c.facts ks left rest → AreFormsOfFacts (equations g) (instance_facts σ e) acts
+      → AreFormsOfFacts (equations g) (instance_facts σ r) right
+      → ProcessStep g c acts
+      (leaves (becomes c t (Some (with_choice σ (facts_vars (l ++ (e ++ r))) p))) (adds rest right))
   -- the adversary makes a name that nobody has
   adversary_makes : {c : Config} (n : ℕ) → IsUnused c n → ProcessStep g c [] (owns c n)
   -- the adversary shows a term that it can give
@@ -106,7 +129,8 @@ pub data ProcessStep (g : Sig) : Config → List Fact → Config → Type 0 wher
 -- from the origin a run leads to this configuration, and its labels that aren't empty are this trace
 pub data ProcessRun (g : Sig) (origin : Config) : Config → Trace → Type 0 where
   starts : ProcessRun g origin origin []
-  further : {c d : Config} {tr : Trace} {label : List Fact} → ProcessRun g origin c tr → ProcessStep g c label d
+  further : {c d : Config} {tr : Trace} {label : List Fact} → ProcessRun g origin c tr
+      → ProcessStep g c label d
       → ProcessRun g origin d (tr ++ shown label)
 
 -- some run of the process has this trace

@@ -50,7 +50,8 @@ lock_scope v ls = record { scope = v; open_locks = ls }
 -- what a place hands down to a child of that; `lookup` binds in its first branch only
 abbrev pub lock_scope_below : Descent LockScope
 lock_scope_below u (act a p) e = lock_scope (scope_behind u.scope a) (locks_behind u.open_locks a)
-lock_scope_below u (lookup t x p q) (suc zero) = lock_scope (u.scope ++ message_var x ∷ []) u.open_locks
+lock_scope_below u (lookup t x p q) (suc zero) =
+    lock_scope (u.scope ++ message_var x ∷ []) u.open_locks
 lock_scope_below u _ e = u
 
 -- a place with what is in scope there and the locks that are open

@@ -53,7 +53,8 @@ unknown_from known (b ∷ bs) =
 -- the first name that is reserved, or stands again behind it
 abbrev pub first_taken : (List ℕ → Bool) → List (List ℕ) → Option (List ℕ)
 first_taken is_reserved [] = None
-first_taken is_reserved (x ∷ xs) = if is_reserved x || is_among xs x then Some x else first_taken is_reserved xs
+first_taken is_reserved (x ∷ xs) = if is_reserved x || is_among xs x then Some x
+    else first_taken is_reserved xs
 
 -- the first name that stands again behind it
 abbrev pub first_repeated : List (List ℕ) → Option (List ℕ)

@@ -44,7 +44,8 @@ abbrev pub AreTokens : List ℕ → List Token → Type 0
 AreTokens z ts = IsLexed MOST_FILE_NAME_BYTES 0 1 z (Ok ts)
 
 -- the file has this header, and these items as they are cut
-pub record IsParted (z : List ℕ) (ts : List Token) (x : List ℕ) (cut : List (List Placed)) : Type 0 where
+pub record IsParted (z : List ℕ) (ts : List Token) (x : List ℕ)
+    (cut : List (List Placed)) : Type 0 where
   pub tokens : AreTokens z ts
   pub rest : List Placed
   pub header : IsHeader x (placed z ts) rest
@@ -53,22 +54,35 @@ pub record IsParted (z : List ℕ) (ts : List Token) (x : List ℕ) (cut : List 
 -- the file it is, or why it is refused
 pub data IsRead (z : List ℕ) : Result FileContent ReadFault → Type 0 where
   no_tokens : {f : Lex} → IsLexed MOST_FILE_NAME_BYTES 0 1 z (Err f) → IsRead z (Err (LexFault f))
-  no_header : {ts : List Token} → AreTokens z ts → ((x : List ℕ) (rest : List Placed) → IsHeader x (placed z ts) rest → ⊥) → IsRead z (Err Header)
-  no_item : {ts : List Token} {x : List ℕ} {cut : List (List Placed)} {line : ℕ} → IsParted z ts x cut → IsFaultyFile (last_line (placed z ts)) cut line
+  no_header : {ts : List Token} → AreTokens z ts
+      → ((x : List ℕ) (rest : List Placed) → IsHeader x (placed z ts) rest → ⊥)
+      → IsRead z (Err Header)
+  no_item : {ts : List Token} {x : List ℕ} {cut : List (List Placed)} {line : ℕ}
+      → IsParted z ts x cut → IsFaultyFile (last_line (placed z ts)) cut line
       → IsRead z (Err (Syntax line))
-  refused : {ts : List Token} {x : List ℕ} {cut : List (List Placed)} {is : List Standing} {e : ReadFault} → IsParted z ts x cut
+  refused : {ts : List Token} {x : List ℕ} {cut : List (List Placed)} {is : List Standing}
+      {e : ReadFault} → IsParted z ts x cut
       → AreItems (signature_of is) cut is → cause_of is ≡ Some e → IsRead z (Err e)
-  ill : {ts : List Token} {x : List ℕ} {cut : List (List Placed)} {is : List Standing} {p : Proc} {w : Flaw} {path : List ℕ} → IsParted z ts x cut
-      → AreItems (signature_of is) cut is → cause_of is ≡ None → process_of no_meaning (bodies is) ≡ Some p → IsFirstFlaw (signature_of is) p w path
+  ill : {ts : List Token} {x : List ℕ} {cut : List (List Placed)} {is : List Standing} {p : Proc}
+      {w : Flaw} {path : List ℕ} → IsParted z ts x cut
+      → AreItems (signature_of is) cut is → cause_of is ≡ None
+      → process_of no_meaning (bodies is) ≡ Some p → IsFirstFlaw (signature_of is) p w path
       → IsRead z (Err (Ill w path))
-  locked : {ts : List Token} {x : List ℕ} {cut : List (List Placed)} {is : List Standing} {p : Proc} {w : LockFlaw} {path : List ℕ} → IsParted z ts x cut
-      → AreItems (signature_of is) cut is → cause_of is ≡ None → process_of no_meaning (bodies is) ≡ Some p → IsWellFormed (signature_of is) p
+  locked : {ts : List Token} {x : List ℕ} {cut : List (List Placed)} {is : List Standing} {p : Proc}
+      {w : LockFlaw} {path : List ℕ} → IsParted z ts x cut
+      → AreItems (signature_of is) cut is → cause_of is ≡ None
+      → process_of no_meaning (bodies is) ≡ Some p → IsWellFormed (signature_of is) p
       → IsFirstLockFlaw (with_sorts [] p) w path → IsRead z (Err (lock_fault w path))
-  unchecked : {ts : List Token} {x : List ℕ} {cut : List (List Placed)} {is : List Standing} {p q : Proc} {y : List ℕ} {f : FormulaFault} → IsParted z ts x cut
-      → AreItems (signature_of is) cut is → cause_of is ≡ None → process_of no_meaning (bodies is) ≡ Some p → IsWellFormed (signature_of is) p
-      → IsAnnotation (with_sorts [] p) q → IsFirstFaulty (signature_of is) true (statements is) y f → IsRead z (Err (Formula y f))
-  accepted : {ts : List Token} {x : List ℕ} {cut : List (List Placed)} {is : List Standing} {p q : Proc} → IsParted z ts x cut
-      → AreItems (signature_of is) cut is → cause_of is ≡ None → process_of no_meaning (bodies is) ≡ Some p → IsWellFormed (signature_of is) p
+  unchecked : {ts : List Token} {x : List ℕ} {cut : List (List Placed)} {is : List Standing}
+      {p q : Proc} {y : List ℕ} {f : FormulaFault} → IsParted z ts x cut
+      → AreItems (signature_of is) cut is → cause_of is ≡ None
+      → process_of no_meaning (bodies is) ≡ Some p → IsWellFormed (signature_of is) p
+      → IsAnnotation (with_sorts [] p) q → IsFirstFaulty (signature_of is) true (statements is) y f
+      → IsRead z (Err (Formula y f))
+  accepted : {ts : List Token} {x : List ℕ} {cut : List (List Placed)} {is : List Standing}
+      {p q : Proc} → IsParted z ts x cut
+      → AreItems (signature_of is) cut is → cause_of is ≡ None
+      → process_of no_meaning (bodies is) ≡ Some p → IsWellFormed (signature_of is) p
       → IsAnnotation (with_sorts [] p) q → AreFaultless (signature_of is) true (statements is)
       → IsRead z (Ok (record { name = x; signature = signature_of is; process = q; restrictions = restrictions_of (statements is); lemmas = lemmas_of (statements is) }))
 
@@ -81,5 +95,6 @@ pub record IsRunnable (f : FileContent) : Type 0 where
   pub small : node_count process ≤ MOST_PROCESS_PLACES
   pub ready : IsReady f.signature process
   pub annotation : IsAnnotation process f.process
-  pub restrictions : EachIn (λ (r : RestrictionForm). IsCheckedVisible f.signature r.formula) f.restrictions
+  pub restrictions : EachIn
+      (λ (r : RestrictionForm). IsCheckedVisible f.signature r.formula) f.restrictions
   pub lemmas : EachIn (λ (l : LemmaForm). IsCheckedVisible f.signature l.formula) f.lemmas

@@ -16,12 +16,16 @@ use Rattle.sap_read.specs.Item.{Item, builtins, functions, definition, process, 
 
 -- the words are this item, whole
 pub data IsItem (g : Sig) : Item → List Word → Type 0 where
-  item_builtins : {bs : List Builtin} {a : List Word} → AreBuiltins bs a → IsItem g (builtins bs) (mark (codes "builtins") ∷ mark (codes ":") ∷ a)
-  item_functions : {ss : List Symbol} {a : List Word} → AreSymbols ss a → IsItem g (functions ss) (mark (codes "functions") ∷ mark (codes ":") ∷ a)
+  item_builtins : {bs : List Builtin} {a : List Word} → AreBuiltins bs a
+      → IsItem g (builtins bs) (mark (codes "builtins") ∷ mark (codes ":") ∷ a)
+  item_functions : {ss : List Symbol} {a : List Word} → AreSymbols ss a
+      → IsItem g (functions ss) (mark (codes "functions") ∷ mark (codes ":") ∷ a)
   item_definition : {x : List ℕ} {p : Written} {a : List Word} → IsProcess g p a
       → IsItem g (definition x p) (mark (codes "let") ∷ name x ∷ mark (codes "=") ∷ a)
-  item_process : {p : Written} {a : List Word} → IsProcess g p a → IsItem g (process p) (mark (codes "process") ∷ mark (codes ":") ∷ a)
-  item_statement : {s : Statement} {a : List Word} → IsStatement g FILE_LIMITS s a → IsItem g (statement s) a
+  item_process : {p : Written} {a : List Word} → IsProcess g p a
+      → IsItem g (process p) (mark (codes "process") ∷ mark (codes ":") ∷ a)
+  item_statement : {s : Statement} {a : List Word} → IsStatement g FILE_LIMITS s a
+      → IsItem g (statement s) a
 
 -- each of these is an item, but for the last, which is `end`
 abbrev pub AreItems : Sig → List (List Placed) → List Standing → Type 0

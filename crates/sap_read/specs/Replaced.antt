@@ -42,4 +42,5 @@ after_body means (Some x) p = with_meaning means x (replaced means p)
 -- the file's process, the first where there are several; a name means in it what the items before it say
 abbrev pub process_of : (List ℕ → Proc) → List Body → Option Proc
 process_of means [] = None
-process_of means (b ∷ bs) = if is_none b.label then Some (replaced means b.content) else process_of (after_body means b.label b.content) bs
+process_of means (b ∷ bs) = if is_none b.label then Some (replaced means b.content)
+    else process_of (after_body means b.label b.content) bs

@@ -41,8 +41,10 @@ flaw_text ScopeFull = codes "scope is full"
 abbrev pub lex_text : List ℕ → Lex → List ℕ
 lex_text long lex.Mem = codes "out of memory"
 lex_text long (lex.BadByte at) = between (codes "byte ") (decimal at) (codes " begins no token")
-lex_text long (lex.OpenComment at) = between (codes "comment at byte ") (decimal at) (codes " is not closed")
-lex_text long (lex.OpenQuote at) = between (codes "quote at byte ") (decimal at) (codes " is not closed")
+lex_text long (lex.OpenComment at) =
+    between (codes "comment at byte ") (decimal at) (codes " is not closed")
+lex_text long (lex.OpenQuote at) =
+    between (codes "quote at byte ") (decimal at) (codes " is not closed")
 lex_text long (lex.NameLong at) = between (codes "name at byte ") (decimal at) long
 
 -- why a process can't be annotated; that memory was wanting is no such cause
@@ -65,12 +67,15 @@ abbrev pub fault_text : ReadFault → List ℕ
 fault_text fault.Mem = codes "out of memory"
 fault_text (fault.Lex f) = lex_text (codes " is longer than 64 bytes") f
 fault_text fault.Header = codes "no theory header"
-fault_text (fault.Syntax line) = between (codes "line ") (decimal line) (codes ": not in the grammar")
+fault_text (fault.Syntax line) =
+    between (codes "line ") (decimal line) (codes ": not in the grammar")
 fault_text fault.NoProcess = codes "no process"
-fault_text (fault.TwoProcesses line) = between (codes "line ") (decimal line) (codes ": second process")
+fault_text (fault.TwoProcesses line) =
+    between (codes "line ") (decimal line) (codes ": second process")
 fault_text (fault.UnknownProcess name) = between (codes "process ") name (codes " is not defined")
 fault_text (fault.DuplicateName name) = between (codes "name ") name (codes " stands twice")
-fault_text (fault.FunctionClash name) = between (codes "function ") name (codes " is declared otherwise")
+fault_text (fault.FunctionClash name) =
+    between (codes "function ") name (codes " is declared otherwise")
 fault_text fault.TooMany = codes "more than 4000 nodes"
 fault_text fault.TooDeep = codes "more than 300 levels"
 fault_text (fault.Ill which path) = at_place path (flaw_text which)

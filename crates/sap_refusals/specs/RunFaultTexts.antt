@@ -14,8 +14,10 @@ use Rattle.sap_refusals.specs.Refusals.{between}
 abbrev pub run_refusal_text : RunRefusal → List ℕ
 run_refusal_text refusal.TooLong = codes "longer than 16777216 bytes"
 run_refusal_text refusal.BadHead = codes "wrong head"
-run_refusal_text (refusal.BadLine line) = between (codes "line ") (decimal line) (codes " is not a step")
-run_refusal_text (refusal.TooManySteps most) = between (codes "more than ") (decimal most) (codes " steps")
+run_refusal_text (refusal.BadLine line) =
+    between (codes "line ") (decimal line) (codes " is not a step")
+run_refusal_text (refusal.TooManySteps most) =
+    between (codes "more than ") (decimal most) (codes " steps")
 
 -- what is wrong with the step of this number
 abbrev pub at_step : ℕ → List ℕ → List ℕ
@@ -25,7 +27,8 @@ at_step number what = codes "step " ++ (decimal number ++ (codes ": " ++ what))
 abbrev pub process_fault_text : PFault → List ℕ
 process_fault_text process.Mem = codes "out of memory"
 process_fault_text (process.NoThread t) = codes "no thread " ++ decimal t
-process_fault_text (process.WrongForm t) = between (codes "thread ") (decimal t) (codes " has another form")
+process_fault_text (process.WrongForm t) =
+    between (codes "thread ") (decimal t) (codes " has another form")
 process_fault_text (process.NoEntry k) = codes "no entry " ++ decimal k
 process_fault_text (process.UsedName n) = between (codes "name ") (decimal n) (codes " is used")
 process_fault_text (process.NotPublic f) = between (codes "function ") f (codes " is not public")

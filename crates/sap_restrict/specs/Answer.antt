@@ -21,4 +21,5 @@ pub record IsOnlyFalse (g : Sig) (tr : Trace) (w : Which) : Type 0 where
 -- formula that it names is false
 abbrev pub Answers : Admit → Machine → Machine → List Fact → Type 0
 Answers Kept m n p = (tr : Trace) → KeepsTrace m tr → KeepsTrace n (tr ++ p ∷ [])
-Answers (Broken w) m n p = (n ≡ m) × ((g : Sig) (tr : Trace) → KeepsTrace m tr → IsMessageTrace g (tr ++ p ∷ []) → IsOnlyFalse g (tr ++ p ∷ []) w)
+Answers (Broken w) m n p = (n ≡ m)
+    × ((g : Sig) (tr : Trace) → KeepsTrace m tr → IsMessageTrace g (tr ++ p ∷ []) → IsOnlyFalse g (tr ++ p ∷ []) w)

@@ -32,7 +32,8 @@ abbrev mutual
   FitsAround g σ (variable v) t = σ v ≡ t
   FitsAround g σ (public n) t = public n ≡ t
   FitsAround g σ (fresh k) t = fresh k ≡ t
-  FitsAround g σ (apply f ps) t = (is_destructor_of g f ≡ true) ⊎ ((ts : Trees) × (t ≡ apply f ts) × FitAll g σ ps ts)
+  FitsAround g σ (apply f ps) t = (is_destructor_of g f ≡ true)
+      ⊎ ((ts : Trees) × (t ≡ apply f ts) × FitAll g σ ps ts)
 
   -- so it is with these, one by one
   pub FitAll : Sig → Choice → Trees → Trees → Type 0
@@ -47,7 +48,8 @@ abbrev mutual
   HoldsUnder g σ (public n) t = Unit {0}
   HoldsUnder g σ (fresh k) t = Unit {0}
   HoldsUnder g σ (apply f ps) t =
-      (is_destructor_of g f ≡ true → IsTheoryEqual (equations g) (instance σ (apply f ps)) t) × (is_destructor_of g f ≡ false → (ts : Trees) → t ≡ apply f ts → HoldAll g σ ps ts)
+      (is_destructor_of g f ≡ true → IsTheoryEqual (equations g) (instance σ (apply f ps)) t)
+      × (is_destructor_of g f ≡ false → (ts : Trees) → t ≡ apply f ts → HoldAll g σ ps ts)
 
   -- so it is with these, one by one
   pub HoldAll : Sig → Choice → Trees → Trees → Type 0
@@ -58,21 +60,26 @@ abbrev mutual
 -- and fits agrees with c, if no name has two sorts
 pub record IsOnlyFit (g : Sig) (p t : Tree) (b c : List Binding) : Type 0 where
   pub extends : Extends b (outer_vars g p) c
-  pub fits : HaveOneSort (bound_vars b ++ outer_vars g p) → (σ : Choice) → Agrees c σ → FitsAround g σ p t
-  pub only : HaveOneSort (bound_vars b ++ outer_vars g p) → (σ : Choice) → IsSorted σ → Agrees b σ → FitsAround g σ p t → Agrees c σ
+  pub fits : HaveOneSort (bound_vars b ++ outer_vars g p) → (σ : Choice) → Agrees c σ
+      → FitsAround g σ p t
+  pub only : HaveOneSort (bound_vars b ++ outer_vars g p) → (σ : Choice) → IsSorted σ → Agrees b σ
+      → FitsAround g σ p t → Agrees c σ
 
 -- nothing that is sorted and agrees with b fits, if no name has two sorts
 abbrev pub HasNoFit : Sig → Tree → Tree → List Binding → Type 0
 HasNoFit g p t b =
-    HaveOneSort (bound_vars b ++ outer_vars g p) → (σ : Choice) → IsSorted σ → Agrees b σ → FitsAround g σ p t → ⊥
+    HaveOneSort (bound_vars b ++ outer_vars g p) → (σ : Choice) → IsSorted σ → Agrees b σ
+    → FitsAround g σ p t → ⊥
 
 -- under a normal substitution the instance of a pattern is theory-equal to a normal term exactly where it fits around the
 -- destructors and each of these holds
 abbrev pub MatchingAroundIsModulo : Type 0
 MatchingAroundIsModulo =
-    (g : Sig) (σ : Choice) (p t : Tree) → IsNormalChoice (equations g) σ → IsNormal (equations g) t → IsTheoryEqual (equations g) (instance σ p) t ↔ (FitsAround g σ p t × HoldsUnder g σ p t)
+    (g : Sig) (σ : Choice) (p t : Tree) → IsNormalChoice (equations g) σ → IsNormal (equations g) t
+    → IsTheoryEqual (equations g) (instance σ p) t ↔ (FitsAround g σ p t × HoldsUnder g σ p t)
 
 -- what a choice that fits gives an outer variable is a message, where the tree is one and the variable's sort allows it
 abbrev pub FittingGivesMessages : Type 0
 FittingGivesMessages =
-    (g : Sig) (σ : Choice) (p t : Tree) → FitsAround g σ p t → IsMessage g Msg t → (v : Var) → Contains (outer_vars g p) v → IsTrue (fits_sort v.sort (σ v)) → IsMessage g v.sort (σ v)
+    (g : Sig) (σ : Choice) (p t : Tree) → FitsAround g σ p t → IsMessage g Msg t → (v : Var)
+    → Contains (outer_vars g p) v → IsTrue (fits_sort v.sort (σ v)) → IsMessage g v.sort (σ v)

@@ -51,22 +51,31 @@ pub data RuleStep (g : Sig) (rules : List Rule) : RuleState → List Fact → Ru
   -- Fr is made of a name that it was not made of
   makes_name : {s : RuleState} (n : ℕ) → ¬ Contains s.made n → RuleStep g rules s [] (makes s n)
   -- the adversary learns what was put out
-  learns : {s : RuleState} {rest : Pile} (k : ℕ) (t : Tree) → Takes s.facts (k ∷ []) (out_fact t ∷ []) rest → RuleStep g rules s [] (gains (leaves s rest) t)
+  learns : {s : RuleState} {rest : Pile} (k : ℕ) (t : Tree)
+      → Takes s.facts (k ∷ []) (out_fact t ∷ []) rest
+      → RuleStep g rules s [] (gains (leaves s rest) t)
   -- it takes a name that Fr was made of
-  owns : {s : RuleState} {rest : Pile} (k n : ℕ) → Takes s.facts (k ∷ []) (fr_fact n ∷ []) rest → RuleStep g rules s [] (gains (leaves s rest) (fresh n))
+  owns : {s : RuleState} {rest : Pile} (k n : ℕ) → Takes s.facts (k ∷ []) (fr_fact n ∷ []) rest
+      → RuleStep g rules s [] (gains (leaves s rest) (fresh n))
   -- it knows a public name
   knows_public : {s : RuleState} (a : List ℕ) → RuleStep g rules s [] (gains s (public a))
   -- it applies a public symbol to terms that it knows
-  applies : {s : RuleState} (f : List ℕ) (ts : List Tree) (t : Tree) → IsPublic g f → arity_of g f ≡ Some (length ts) → All (Contains s.known) ts → IsNormalForm (equations g) (apply f (trees_of ts)) t → RuleStep g rules s [] (gains s t)
+  applies : {s : RuleState} (f : List ℕ) (ts : List Tree) (t : Tree) → IsPublic g f
+      → arity_of g f ≡ Some (length ts) → All (Contains s.known) ts
+      → IsNormalForm (equations g) (apply f (trees_of ts)) t → RuleStep g rules s [] (gains s t)
   -- it gives a term that it knows
-  gives : {s : RuleState} (t : Tree) → Contains s.known t → RuleStep g rules s (k_fact t ∷ []) (leaves s (adds s.facts (in_fact t ∷ [])))
+  gives : {s : RuleState} (t : Tree) → Contains s.known t
+      → RuleStep g rules s (k_fact t ∷ []) (leaves s (adds s.facts (in_fact t ∷ [])))
   -- a rule takes its left side, shows its acts and adds its right side
-  uses : {s : RuleState} {rest : Pile} (r : Rule) (ks : List ℕ) (σ : Choice) (left acts right : List Fact) → Contains rules r → Takes s.facts ks left rest → IsUse g r σ left acts right → RuleStep g rules s acts (leaves s (adds rest right))
+  uses : {s : RuleState} {rest : Pile} (r : Rule) (ks : List ℕ) (σ : Choice)
+      (left acts right : List Fact) → Contains rules r → Takes s.facts ks left rest
+      → IsUse g r σ left acts right → RuleStep g rules s acts (leaves s (adds rest right))
 
 -- from the empty state a run leads to this state, and what its steps show, time by time, is this full trace
 pub data RuleRun (g : Sig) (rules : List Rule) : RuleState → Trace → Type 0 where
   starts : RuleRun g rules empty_state []
-  further : {s z : RuleState} {full : Trace} {acts : List Fact} → RuleRun g rules s full → RuleStep g rules s acts z → RuleRun g rules z (full ++ acts ∷ [])
+  further : {s z : RuleState} {full : Trace} {acts : List Fact} → RuleRun g rules s full
+      → RuleStep g rules s acts z → RuleRun g rules z (full ++ acts ∷ [])
 
 -- this is the full trace of some run of the rules
 abbrev pub IsFullTrace : Sig → List Rule → Trace → Type 0

@@ -21,12 +21,16 @@ pub data LineWord : Type 0 where
 pub data IsLineWord : LineWord → List ℕ → List ℕ → Type 0 where
   word_identifier : {x k : List ℕ} → IsToken kind.Ident x → IsLineWord (identifier x) (x ++ k) k
   word_number : {n : ℕ} {k : List ℕ} → IsNumber n → IsLineWord (number n) (decimal n ++ k) k
-  word_fresh : {n : ℕ} {k : List ℕ} → IsNumber n → IsLineWord (fresh_name n) (126 ∷ (decimal n ++ k)) k
-  word_public : {s k : List ℕ} → IsRunContent s → IsLineWord (public_name s) (39 ∷ (s ++ (39 ∷ k))) k
-  word_bound : {v : Var} {t : Tree} {z k : List ℕ} → IsRunName v.name → IsRunTerm t z k → HasFewNodes t
+  word_fresh : {n : ℕ} {k : List ℕ} → IsNumber n
+      → IsLineWord (fresh_name n) (126 ∷ (decimal n ++ k)) k
+  word_public : {s k : List ℕ} → IsRunContent s
+      → IsLineWord (public_name s) (39 ∷ (s ++ (39 ∷ k))) k
+  word_bound : {v : Var} {t : Tree} {z k : List ℕ} → IsRunName v.name → IsRunTerm t z k
+      → HasFewNodes t
       → IsLineWord (bound v t) (variable_text v ++ (61 ∷ z)) k
 
 -- all of the bytes are these words, one or more, with one blank between each two
 pub data AreLineWords : List LineWord → List ℕ → Type 0 where
   words_last : {w : LineWord} {z : List ℕ} → IsLineWord w z [] → AreLineWords (w ∷ []) z
-  words_more : {w : LineWord} {ws : List LineWord} {x z : List ℕ} → IsLineWord w x (32 ∷ z) → AreLineWords ws z → AreLineWords (w ∷ ws) x
+  words_more : {w : LineWord} {ws : List LineWord} {x z : List ℕ} → IsLineWord w x (32 ∷ z)
+      → AreLineWords ws z → AreLineWords (w ∷ ws) x

@@ -25,15 +25,19 @@ mutual
     term_public : {s k : List ℕ} → IsRunContent s → IsRunTerm (public s) (39 ∷ (s ++ (39 ∷ k))) k
     term_fresh : {n : ℕ} {k : List ℕ} → IsNumber n → IsRunTerm (fresh n) (126 ∷ (decimal n ++ k)) k
     term_constant : {f k : List ℕ} → IsRunName f → IsRunTerm (apply f none) (f ++ k) k
-    term_symbol : {f z k : List ℕ} {ts : Trees} → IsRunName f → AreRunTerms ts z k → IsRunTerm (apply f ts) (f ++ (40 ∷ z)) k
-    term_tuple : {t u : Tree} {x y k : List ℕ} → IsRunTerm t x (44 ∷ y) → IsRunRest u y k → IsRunTerm (pair t u) (60 ∷ x) k
+    term_symbol : {f z k : List ℕ} {ts : Trees} → IsRunName f → AreRunTerms ts z k
+        → IsRunTerm (apply f ts) (f ++ (40 ∷ z)) k
+    term_tuple : {t u : Tree} {x y k : List ℕ} → IsRunTerm t x (44 ∷ y) → IsRunRest u y k
+        → IsRunTerm (pair t u) (60 ∷ x) k
 
   -- the parts of a tuple behind a comma, paired to the right, and the tuple's end
   pub data IsRunRest : Tree → List ℕ → List ℕ → Type 0 where
     rest_last : {t : Tree} {z k : List ℕ} → IsRunTerm t z (62 ∷ k) → IsRunRest t z k
-    rest_more : {t u : Tree} {x y k : List ℕ} → IsRunTerm t x (44 ∷ y) → IsRunRest u y k → IsRunRest (pair t u) x k
+    rest_more : {t u : Tree} {x y k : List ℕ} → IsRunTerm t x (44 ∷ y) → IsRunRest u y k
+        → IsRunRest (pair t u) x k
 
   -- terms, one or more, with commas between them and a closing parenthesis behind
   pub data AreRunTerms : Trees → List ℕ → List ℕ → Type 0 where
     terms_last : {t : Tree} {z k : List ℕ} → IsRunTerm t z (41 ∷ k) → AreRunTerms (more t none) z k
-    terms_more : {t : Tree} {ts : Trees} {x y k : List ℕ} → IsRunTerm t x (44 ∷ y) → AreRunTerms ts y k → AreRunTerms (more t ts) x k
+    terms_more : {t : Tree} {ts : Trees} {x y k : List ℕ} → IsRunTerm t x (44 ∷ y)
+        → AreRunTerms ts y k → AreRunTerms (more t ts) x k

@@ -47,7 +47,8 @@ process_words (step.Found t) = plain (codes "found") (t ∷ [])
 process_words (step.Missing t) = plain (codes "missing") (t ∷ [])
 process_words (step.Lock t) = plain (codes "lock") (t ∷ [])
 process_words (step.Unlock t) = plain (codes "unlock") (t ∷ [])
-process_words (step.Embedded t facts bindings) = identifier (codes "rule") ∷ number t ∷ use_words facts bindings
+process_words (step.Embedded t facts bindings) = identifier (codes "rule") ∷ number t
+    ∷ use_words facts bindings
 process_words (step.Name n) = identifier (codes "name") ∷ fresh_name n ∷ []
 process_words (step.Public a) = identifier (codes "pub") ∷ public_name a ∷ []
 process_words (step.Apply f entries) = identifier (codes "app") ∷ identifier f ∷ map number entries
@@ -61,7 +62,8 @@ rule_words (rstep.Own f) = plain (codes "own") (f ∷ [])
 rule_words (rstep.Public a) = identifier (codes "pub") ∷ public_name a ∷ []
 rule_words (rstep.Apply f entries) = identifier (codes "app") ∷ identifier f ∷ map number entries
 rule_words (rstep.Know k) = plain (codes "know") (k ∷ [])
-rule_words (rstep.Rule name facts bindings) = identifier (codes "rule") ∷ identifier name ∷ use_words facts bindings
+rule_words (rstep.Rule name facts bindings) = identifier (codes "rule") ∷ identifier name
+    ∷ use_words facts bindings
 
 -- the symbol that it applies, if it applies one, is a name
 abbrev pub NamesSymbol : PStep → Type 0

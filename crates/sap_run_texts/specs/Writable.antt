@@ -34,5 +34,6 @@ CanBeNamed _ = Unit {0}
 abbrev pub RuleCanBeNamed : RStep → Type 0
 RuleCanBeNamed (rstep.Public a) = IsRunContent a
 RuleCanBeNamed (rstep.Apply f entries) = IsRunName f
-RuleCanBeNamed (rstep.Rule name facts bindings) = IsRunName name × AreWritableWords (with_words bindings)
+RuleCanBeNamed (rstep.Rule name facts bindings) = IsRunName name
+    × AreWritableWords (with_words bindings)
 RuleCanBeNamed _ = Unit {0}

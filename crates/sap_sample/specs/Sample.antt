@@ -14,7 +14,8 @@ most_sessions = 500
 
 -- the lines of the session behind so many others
 abbrev pub session : ℕ → List PStep
-session m = Rep 0 ∷ New (suc m) (suc m) ∷ Lock (suc m) ∷ Insert (suc m) ∷ Unlock (suc m) ∷ Out (suc m) ∷ In (suc m) m ∷ Event (suc m) ∷ Nil (suc m) ∷ []
+session m = Rep 0 ∷ New (suc m) (suc m) ∷ Lock (suc m) ∷ Insert (suc m) ∷ Unlock (suc m)
+    ∷ Out (suc m) ∷ In (suc m) m ∷ Event (suc m) ∷ Nil (suc m) ∷ []
 
 -- the run of so many sessions, one behind the other
 abbrev pub sample_lines : ℕ → List PStep
@@ -38,7 +39,8 @@ count_line what n = what ++ (decimal n ++ codes "\n")
 -- so many sessions, lines of the process, of rules, and of the process again, and times at which something is shown
 abbrev pub counts_text : ℕ → ℕ → ℕ → ℕ → ℕ → List ℕ
 counts_text n lines rule_lines back_lines shown =
-    count_line (codes "sample ") n ++ (count_line (codes "process steps ") lines ++ (count_line (codes "rule steps ") rule_lines
+    count_line (codes "sample ") n
+    ++ (count_line (codes "process steps ") lines ++ (count_line (codes "rule steps ") rule_lines
     ++ (count_line (codes "back steps ") back_lines ++ count_line (codes "visible events ") shown)))
 
 -- what is told of the sample of so many sessions

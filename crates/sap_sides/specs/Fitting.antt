@@ -37,8 +37,10 @@ FactsFit g fs hs σ = AllZip (FactFits g σ) fs hs
 pub record IsOnlyChoice (F : Choice → Type 0) (vs : List Var) (b c : List Binding) : Type 0 where
   pub extends : Extends b vs c
   pub is : HaveOneSort (bound_vars b ++ vs) → (σ : Choice) → Agrees c σ → F σ
-  pub only : HaveOneSort (bound_vars b ++ vs) → (σ : Choice) → IsSorted σ → Agrees b σ → F σ → Agrees c σ
+  pub only : HaveOneSort (bound_vars b ++ vs) → (σ : Choice) → IsSorted σ → Agrees b σ → F σ
+      → Agrees c σ
 
 -- nothing that is sorted and agrees with b is as F says, if no name has two sorts
 abbrev pub HasNoChoice : (Choice → Type 0) → List Var → List Binding → Type 0
-HasNoChoice F vs b = HaveOneSort (bound_vars b ++ vs) → (σ : Choice) → IsSorted σ → Agrees b σ → F σ → ⊥
+HasNoChoice F vs b = HaveOneSort (bound_vars b ++ vs) → (σ : Choice) → IsSorted σ → Agrees b σ → F σ
+    → ⊥

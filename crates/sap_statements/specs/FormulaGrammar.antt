@@ -44,28 +44,38 @@ pub data IsTime : List ℕ → List Word → List Word → Type 0 where
 
 -- a formula without parts; one that begins with `T` or `F` and no parenthesis behind is a truth value
 pub data IsAtom (g : Sig) : Form → List Word → List Word → Type 0 where
-  atom_true : {a : List Word} → starts (codes "(") a ≡ false → IsAtom g truth (name (codes "T") ∷ a) a
-  atom_false : {a : List Word} → starts (codes "(") a ≡ false → IsAtom g falsity (name (codes "F") ∷ a) a
-  atom_action : {f : Fact} {i : List ℕ} {a b c : List Word} → IsFact g f a (mark (codes "@") ∷ b) → f.persistent ≡ false → IsTime i b c
+  atom_true : {a : List Word} → starts (codes "(") a ≡ false
+      → IsAtom g truth (name (codes "T") ∷ a) a
+  atom_false : {a : List Word} → starts (codes "(") a ≡ false
+      → IsAtom g falsity (name (codes "F") ∷ a) a
+  atom_action : {f : Fact} {i : List ℕ} {a b c : List Word} → IsFact g f a (mark (codes "@") ∷ b)
+      → f.persistent ≡ false → IsTime i b c
       → IsAtom g (action f i) a c
-  atom_equal : {t u : Tree} {a b c : List Word} → begins_truth a ≡ false → IsTerm g t a (mark (codes "=") ∷ b) → IsTerm g u b c
+  atom_equal : {t u : Tree} {a b c : List Word} → begins_truth a ≡ false
+      → IsTerm g t a (mark (codes "=") ∷ b) → IsTerm g u b c
       → IsAtom g (equal t u) a c
   atom_same : {i j : List ℕ} {a : List Word}
-      → IsAtom g (same_time i j) (mark (codes "#") ∷ name i ∷ mark (codes "=") ∷ mark (codes "#") ∷ name j ∷ a) a
-  atom_earlier : {i j : List ℕ} {a b c : List Word} → begins_truth a ≡ false → IsTime i a (mark (codes "<") ∷ b) → IsTime j b c
+      → IsAtom g (same_time i j)
+      (mark (codes "#") ∷ name i ∷ mark (codes "=") ∷ mark (codes "#") ∷ name j ∷ a) a
+  atom_earlier : {i j : List ℕ} {a b c : List Word} → begins_truth a ≡ false
+      → IsTime i a (mark (codes "<") ∷ b) → IsTime j b c
       → IsAtom g (earlier i j) a c
 
 -- a bound variable with its sign
 pub data IsBinder : Binder → List Word → List Word → Type 0 where
   binds_message : {x : List ℕ} {a : List Word} → IsBinder (Message (var Msg x)) (name x ∷ a) a
-  binds_fresh : {x : List ℕ} {a : List Word} → IsBinder (Message (var Fresh x)) (mark (codes "~") ∷ name x ∷ a) a
-  binds_pub : {x : List ℕ} {a : List Word} → IsBinder (Message (var Pub x)) (mark (codes "$") ∷ name x ∷ a) a
+  binds_fresh : {x : List ℕ} {a : List Word}
+      → IsBinder (Message (var Fresh x)) (mark (codes "~") ∷ name x ∷ a) a
+  binds_pub : {x : List ℕ} {a : List Word}
+      → IsBinder (Message (var Pub x)) (mark (codes "$") ∷ name x ∷ a) a
   binds_time : {i : List ℕ} {a : List Word} → IsBinder (Time i) (mark (codes "#") ∷ name i ∷ a) a
 
 -- bound variables, one or more, and the dot behind them
 pub data AreBinders : List Binder → List Word → List Word → Type 0 where
-  binders_last : {v : Binder} {a b : List Word} → IsBinder v a (mark (codes ".") ∷ b) → AreBinders (v ∷ []) a b
-  binders_more : {v : Binder} {vs : List Binder} {a b c : List Word} → IsBinder v a b → AreBinders vs b c → AreBinders (v ∷ vs) a c
+  binders_last : {v : Binder} {a b : List Word} → IsBinder v a (mark (codes ".") ∷ b)
+      → AreBinders (v ∷ []) a b
+  binders_more : {v : Binder} {vs : List Binder} {a b c : List Word} → IsBinder v a b
+      → AreBinders vs b c → AreBinders (v ∷ vs) a c
 
 -- how the words of a formula end: in the body of a quantifier, which reaches as far as it can, or not
 pub data Reach : Type 0 where
@@ -76,36 +86,47 @@ mutual
   -- a formula that no connective without parentheses joins
   pub data IsUn (g : Sig) : Reach → Form → ℕ → List Word → List Word → Type 0 where
     un_atom : {f : Form} {a b : List Word} → IsAtom g f a b → IsUn g closed f 1 a b
-    un_not : {e : Reach} {f : Form} {n : ℕ} {a b : List Word} → IsUn g e f n a b → IsUn g e (negation f) (n + 1) (mark (codes "not") ∷ a) b
-    un_every : {e : Reach} {vs : List Binder} {f : Form} {n : ℕ} {a b c : List Word} → AreBinders vs a b → IsIff g e f n b c
+    un_not : {e : Reach} {f : Form} {n : ℕ} {a b : List Word} → IsUn g e f n a b
+        → IsUn g e (negation f) (n + 1) (mark (codes "not") ∷ a) b
+    un_every : {e : Reach} {vs : List Binder} {f : Form} {n : ℕ} {a b c : List Word}
+        → AreBinders vs a b → IsIff g e f n b c
         → IsUn g reaching (every vs f) (n + 1) (mark (codes "All") ∷ a) c
-    un_exists : {e : Reach} {vs : List Binder} {f : Form} {n : ℕ} {a b c : List Word} → AreBinders vs a b → IsIff g e f n b c
+    un_exists : {e : Reach} {vs : List Binder} {f : Form} {n : ℕ} {a b c : List Word}
+        → AreBinders vs a b → IsIff g e f n b c
         → IsUn g reaching (exists vs f) (n + 1) (mark (codes "Ex") ∷ a) c
-    un_parentheses : {e : Reach} {f : Form} {n : ℕ} {a b : List Word} → IsIff g e f n a (mark (codes ")") ∷ b)
+    un_parentheses : {e : Reach} {f : Form} {n : ℕ} {a b : List Word}
+        → IsIff g e f n a (mark (codes ")") ∷ b)
         → IsUn g closed f (n + 1) (mark (codes "(") ∷ a) b
 
   -- `&` groups to the left
   pub data IsAnd (g : Sig) : Reach → Form → ℕ → List Word → List Word → Type 0 where
-    and_one : {e : Reach} {f : Form} {n : ℕ} {a b : List Word} → IsUn g e f n a b → IsAnd g e f n a b
-    and_more : {e : Reach} {f h : Form} {n k : ℕ} {a b c : List Word} → IsAnd g closed f n a (mark (codes "&") ∷ b) → IsUn g e h k b c
+    and_one : {e : Reach} {f : Form} {n : ℕ} {a b : List Word} → IsUn g e f n a b
+        → IsAnd g e f n a b
+    and_more : {e : Reach} {f h : Form} {n k : ℕ} {a b c : List Word}
+        → IsAnd g closed f n a (mark (codes "&") ∷ b) → IsUn g e h k b c
         → IsAnd g e (both f h) (max n k + 1) a c
 
   -- so does `|`
   pub data IsOr (g : Sig) : Reach → Form → ℕ → List Word → List Word → Type 0 where
     or_one : {e : Reach} {f : Form} {n : ℕ} {a b : List Word} → IsAnd g e f n a b → IsOr g e f n a b
-    or_more : {e : Reach} {f h : Form} {n k : ℕ} {a b c : List Word} → IsOr g closed f n a (mark (codes "|") ∷ b) → IsAnd g e h k b c
+    or_more : {e : Reach} {f h : Form} {n k : ℕ} {a b c : List Word}
+        → IsOr g closed f n a (mark (codes "|") ∷ b) → IsAnd g e h k b c
         → IsOr g e (either f h) (max n k + 1) a c
 
   -- `==>` groups to the right
   pub data IsImp (g : Sig) : Reach → Form → ℕ → List Word → List Word → Type 0 where
-    imp_one : {e : Reach} {f : Form} {n : ℕ} {a b : List Word} → IsOr g e f n a b → IsImp g e f n a b
-    imp_more : {e : Reach} {f h : Form} {n k : ℕ} {a b c : List Word} → IsOr g closed f n a (mark (codes "==>") ∷ b) → IsImp g e h k b c
+    imp_one : {e : Reach} {f : Form} {n : ℕ} {a b : List Word} → IsOr g e f n a b
+        → IsImp g e f n a b
+    imp_more : {e : Reach} {f h : Form} {n k : ℕ} {a b c : List Word}
+        → IsOr g closed f n a (mark (codes "==>") ∷ b) → IsImp g e h k b c
         → IsImp g e (implies f h) (max n k + 1) a c
 
   -- a formula; `<=>` stands once at most
   pub data IsIff (g : Sig) : Reach → Form → ℕ → List Word → List Word → Type 0 where
-    iff_one : {e : Reach} {f : Form} {n : ℕ} {a b : List Word} → IsImp g e f n a b → IsIff g e f n a b
-    iff_more : {e : Reach} {f h : Form} {n k : ℕ} {a b c : List Word} → IsImp g closed f n a (mark (codes "<=>") ∷ b) → IsImp g e h k b c
+    iff_one : {e : Reach} {f : Form} {n : ℕ} {a b : List Word} → IsImp g e f n a b
+        → IsIff g e f n a b
+    iff_more : {e : Reach} {f h : Form} {n k : ℕ} {a b c : List Word}
+        → IsImp g closed f n a (mark (codes "<=>") ∷ b) → IsImp g e h k b c
         → IsIff g e (equivalent f h) (max n k + 1) a c
 
 -- each of its terms is within the limits
@@ -142,7 +163,8 @@ pub record EndsFormula (b : List Word) : Type 0 where
 
 -- the words from number `at` up to the one before number e spell the formula within the limits, and word e is a closing quotation
 -- mark
-pub record IsFormulaAt (m : Limits) (g : Sig) (ws : List Word) (at : ℕ) (f : Form) (e : ℕ) : Type 0 where
+pub record IsFormulaAt (m : Limits) (g : Sig) (ws : List Word) (at : ℕ) (f : Form)
+    (e : ℕ) : Type 0 where
   pub inside : e ≤ length ws
   pub short : IsShortFormula g m f (drop at ws) (drop e ws)
   pub ends : starts (codes "\"") (drop e ws) ≡ true

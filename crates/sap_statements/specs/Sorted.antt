@@ -21,14 +21,16 @@ sort_under Pub o = Pub
 
 -- each variable so under its innermost binder
 abbrev pub by_plain_binder : List Binder → Choice
-by_plain_binder scope v = variable (record { name = v.name; sort = sort_under v.sort (find_binder scope v.name) })
+by_plain_binder scope v =
+    variable (record { name = v.name; sort = sort_under v.sort (find_binder scope v.name) })
 
 -- inside these binders, the formula with those sorts
 abbrev pub plainly_sorted : List Binder → Form → Form
 plainly_sorted scope truth = truth
 plainly_sorted scope falsity = falsity
 plainly_sorted scope (action f i) = action (instance_fact (by_plain_binder scope) f) i
-plainly_sorted scope (equal s t) = equal (instance (by_plain_binder scope) s) (instance (by_plain_binder scope) t)
+plainly_sorted scope (equal s t) =
+    equal (instance (by_plain_binder scope) s) (instance (by_plain_binder scope) t)
 plainly_sorted scope (same_time i j) = same_time i j
 plainly_sorted scope (earlier i j) = earlier i j
 plainly_sorted scope (negation f) = negation (plainly_sorted scope f)
@@ -41,5 +43,7 @@ plainly_sorted scope (exists bs f) = exists bs (plainly_sorted (enter bs scope) 
 
 -- the statement whose formula has those sorts
 abbrev pub sorted_statement : Statement → Statement
-sorted_statement (restriction r) = restriction (record { name = r.name; formula = plainly_sorted [] r.formula })
-sorted_statement (lemma l) = lemma (record { name = l.name; attributes = l.attributes; mode = l.mode; formula = plainly_sorted [] l.formula })
+sorted_statement (restriction r) =
+    restriction (record { name = r.name; formula = plainly_sorted [] r.formula })
+sorted_statement (lemma l) =
+    lemma (record { name = l.name; attributes = l.attributes; mode = l.mode; formula = plainly_sorted [] l.formula })

@@ -11,7 +11,8 @@ use Rattle.sap_statements.specs.Statements.{Statement, restriction, lemma, name_
 -- the restrictions among them, in order, each variable with the sort of its binder
 abbrev pub restrictions_of : List Statement → List RestrictionForm
 restrictions_of [] = []
-restrictions_of (restriction r ∷ ss) = record { name = r.name; formula = with_sorts [] r.formula } ∷ restrictions_of ss
+restrictions_of (restriction r ∷ ss) = record { name = r.name; formula = with_sorts [] r.formula }
+    ∷ restrictions_of ss
 restrictions_of (lemma l ∷ ss) = restrictions_of ss
 
 -- the lemmas among them, in the same way
@@ -26,7 +27,9 @@ AreFaultless g r ss = All (λ s. HasNoFault g r (formula_of s)) ss
 
 -- the first of them whose formula has a fault has this name, and this is the fault that counts
 pub data IsFirstFaulty (g : Sig) (r : Bool) : List Statement → List ℕ → FormulaFault → Type 0 where
-  this_one : {s : Statement} {ss : List Statement} {w : FormulaFlaw} {n : List ℕ} → IsFirstFault g r (formula_of s) w n
+  this_one : {s : Statement} {ss : List Statement} {w : FormulaFlaw} {n : List ℕ}
+      → IsFirstFault g r (formula_of s) w n
       → IsFirstFaulty g r (s ∷ ss) (name_of s) (told w n)
-  later_one : {s : Statement} {ss : List Statement} {x : List ℕ} {f : FormulaFault} → HasNoFault g r (formula_of s) → IsFirstFaulty g r ss x f
+  later_one : {s : Statement} {ss : List Statement} {x : List ℕ} {f : FormulaFault}
+      → HasNoFault g r (formula_of s) → IsFirstFaulty g r ss x f
       → IsFirstFaulty g r (s ∷ ss) x f

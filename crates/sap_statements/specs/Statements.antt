@@ -29,20 +29,25 @@ pub data IsAttribute : List ℕ → Type 0 where
 
 -- such words, one or more, with commas between them and a closing bracket behind
 pub data AreAttributes : List (List ℕ) → List Word → List Word → Type 0 where
-  attributes_last : {x : List ℕ} {a : List Word} → IsAttribute x → AreAttributes (x ∷ []) (name x ∷ mark (codes "]") ∷ a) a
-  attributes_more : {x : List ℕ} {xs : List (List ℕ)} {a b : List Word} → IsAttribute x → AreAttributes xs a b
+  attributes_last : {x : List ℕ} {a : List Word} → IsAttribute x
+      → AreAttributes (x ∷ []) (name x ∷ mark (codes "]") ∷ a) a
+  attributes_more : {x : List ℕ} {xs : List (List ℕ)} {a b : List Word} → IsAttribute x
+      → AreAttributes xs a b
       → AreAttributes (x ∷ xs) (name x ∷ mark (codes ",") ∷ a) b
 
 -- such words in brackets, or nothing
 pub data HasAttributes : List (List ℕ) → List Word → List Word → Type 0 where
   without_attributes : {a : List Word} → HasAttributes [] a a
-  with_attributes : {xs : List (List ℕ)} {a b : List Word} → AreAttributes xs a b → HasAttributes xs (mark (codes "[") ∷ a) b
+  with_attributes : {xs : List (List ℕ)} {a b : List Word} → AreAttributes xs a b
+      → HasAttributes xs (mark (codes "[") ∷ a) b
 
 -- of which traces a lemma speaks; of all where nothing is said
 pub data IsMode : Mode → List Word → List Word → Type 0 where
   mode_missing : {a : List Word} → IsMode AllTraces a a
-  mode_all : {a : List Word} → IsMode AllTraces (name (codes "all") ∷ mark (codes "-") ∷ name (codes "traces") ∷ a) a
-  mode_exists : {a : List Word} → IsMode ExistsTrace (name (codes "exists") ∷ mark (codes "-") ∷ name (codes "trace") ∷ a) a
+  mode_all : {a : List Word}
+      → IsMode AllTraces (name (codes "all") ∷ mark (codes "-") ∷ name (codes "traces") ∷ a) a
+  mode_exists : {a : List Word}
+      → IsMode ExistsTrace (name (codes "exists") ∷ mark (codes "-") ∷ name (codes "trace") ∷ a) a
 
 -- all of the words are a formula within the limits, as it is written, and the closing quotation mark
 abbrev pub IsQuoted : Sig → Limits → Form → List Word → Type 0
@@ -51,7 +56,10 @@ IsQuoted g m f a = IsShortFormula g m f a (mark (codes "\"") ∷ [])
 -- all of the words are this statement, its formula as it is written: each variable with the sort of its sign
 pub data IsStatement (g : Sig) (m : Limits) : Statement → List Word → Type 0 where
   is_restriction : {x : List ℕ} {f : Form} {a : List Word} → IsQuoted g m f a
-      → IsStatement g m (restriction (record { name = x; formula = f })) (mark (codes "restriction") ∷ name x ∷ mark (codes ":") ∷ mark (codes "\"") ∷ a)
-  is_lemma : {x : List ℕ} {xs : List (List ℕ)} {d : Mode} {f : Form} {a b c : List Word} → HasAttributes xs a (mark (codes ":") ∷ b)
+      → IsStatement g m (restriction (record { name = x; formula = f }))
+      (mark (codes "restriction") ∷ name x ∷ mark (codes ":") ∷ mark (codes "\"") ∷ a)
+  is_lemma : {x : List ℕ} {xs : List (List ℕ)} {d : Mode} {f : Form} {a b c : List Word}
+      → HasAttributes xs a (mark (codes ":") ∷ b)
       → IsMode d b (mark (codes "\"") ∷ c) → IsQuoted g m f c
-      → IsStatement g m (lemma (record { name = x; attributes = xs; mode = d; formula = f })) (mark (codes "lemma") ∷ name x ∷ a)
+      → IsStatement g m (lemma (record { name = x; attributes = xs; mode = d; formula = f }))
+      (mark (codes "lemma") ∷ name x ∷ a)

@@ -38,7 +38,8 @@ abbrev pub FactHolds : Sig → Choice → Fact → Fact → Type 0
 FactHolds g σ f h = HoldAll g σ (trees_of f.args) (trees_of h.args)
 
 -- a choice of messages that agrees with the bindings and turns the rule's left side into the cited facts around destructors
-pub record IsFitting (g : Sig) (r : Rule) (b : List Binding) (cited : List Fact) (σ : Choice) : Type 0 where
+pub record IsFitting (g : Sig) (r : Rule) (b : List Binding) (cited : List Fact)
+    (σ : Choice) : Type 0 where
   pub messages : IsMessageChoice g σ
   pub agrees : Agrees b σ
   pub facts : AllZip (FactFits g σ) r.left cited
@@ -87,7 +88,8 @@ pub record LacksFact (r : Rule) (facts : Pile) (ks : List ℕ) (index : ℕ) : T
   pub first : IsFirstMissing facts ks index
 
 -- as many are cited and can be taken, and the rule is not used on them for this cause
-pub record IsRefusedUse (g : Sig) (r : Rule) (facts : Pile) (ks : List ℕ) (b : List Binding) (fault : RFault) : Type 0 where
+pub record IsRefusedUse (g : Sig) (r : Rule) (facts : Pile) (ks : List ℕ) (b : List Binding)
+    (fault : RFault) : Type 0 where
   pub count : length ks ≡ length r.left
   pub cited : List Fact
   pub rest : Pile
@@ -101,7 +103,8 @@ IsRuleFault g r facts ks b (FactMissing index) = LacksFact r facts ks index
 IsRuleFault g r facts ks b fault = IsRefusedUse g r facts ks b fault
 
 -- the rule of this name is found, and the line is refused for this cause
-pub record IsFaultOfNamed (g : Sig) (rules : List Rule) (facts : Pile) (name ks : List ℕ) (b : List Binding) (fault : RFault) : Type 0 where
+pub record IsFaultOfNamed (g : Sig) (rules : List Rule) (facts : Pile) (name ks : List ℕ)
+    (b : List Binding) (fault : RFault) : Type 0 where
   pub rule : Rule
   pub named : rule_named rules name ≡ Some rule
   pub cause : IsRuleFault g rule facts ks b fault
@@ -128,7 +131,8 @@ pub record AppliesLarge (g : Sig) (s : RuleState) (f ks : List ℕ) : Type 0 whe
 abbrev pub IsApplyFault : Sig → RuleState → List ℕ → List ℕ → RFault → Type 0
 IsApplyFault g s f ks (NotPublic n) = (n ≡ f) × ¬ IsPublic g f
 IsApplyFault g s f ks (Arity n) = (n ≡ f) × IsPublic g f × ¬ (arity_of g f ≡ Some (length ks))
-IsApplyFault g s f ks (NoEntry n) = IsPublic g f × (arity_of g f ≡ Some (length ks)) × IsFirstUnknownEntry s ks n
+IsApplyFault g s f ks (NoEntry n) = IsPublic g f × (arity_of g f ≡ Some (length ks))
+    × IsFirstUnknownEntry s ks n
 IsApplyFault g s f ks TermLarge = AppliesLarge g s f ks
 IsApplyFault g s f ks _ = ⊥
 
@@ -136,8 +140,10 @@ IsApplyFault g s f ks _ = ⊥
 abbrev pub IsLineFault : Sig → List Rule → RuleState → RStep → RFault → Type 0
 IsLineFault g rules s line Mem = ⊤
 IsLineFault g rules s (Fresh n) (UsedName m) = (m ≡ n) × Contains s.made n
-IsLineFault g rules s (Learn k) (WrongFact f) = (f ≡ k) × ((t : Tree) (rest : Pile) → ¬ Takes s.facts (k ∷ []) (out_fact t ∷ []) rest)
-IsLineFault g rules s (Own k) (WrongFact f) = (f ≡ k) × ((n : ℕ) (rest : Pile) → ¬ Takes s.facts (k ∷ []) (fr_fact n ∷ []) rest)
+IsLineFault g rules s (Learn k) (WrongFact f) = (f ≡ k)
+    × ((t : Tree) (rest : Pile) → ¬ Takes s.facts (k ∷ []) (out_fact t ∷ []) rest)
+IsLineFault g rules s (Own k) (WrongFact f) = (f ≡ k)
+    × ((n : ℕ) (rest : Pile) → ¬ Takes s.facts (k ∷ []) (fr_fact n ∷ []) rest)
 IsLineFault g rules s (Apply f ks) fault = IsApplyFault g s f ks fault
 IsLineFault g rules s (Know k) (NoEntry n) = (n ≡ k) × IsUnknownEntry s k
 IsLineFault g rules s (RuleLine name ks b) NoRule = rule_named rules name ≡ None

@@ -31,18 +31,21 @@ rule_terms r = flat_map (λ (f : Fact). f.args) (r.left ++ (r.acts ++ r.right))
 
 -- n is a normal form of a subterm of the rule's terms under the choice
 abbrev pub IsEvaluated : Sig → Rule → Choice → Tree → Type 0
-IsEvaluated g r σ n = SomeSubtermWithin (λ u. IsNormalForm (equations g) u n) (instances σ (trees_of (rule_terms r)))
+IsEvaluated g r σ n =
+    SomeSubtermWithin (λ u. IsNormalForm (equations g) u n) (instances σ (trees_of (rule_terms r)))
 
 -- under some choice, which the bindings name, the rule takes these facts, shows acts and adds right; each normal form that
 -- is evaluated is as W says
-pub record Fires (g : Sig) (W : Tree → Type 0) (r : Rule) (b : List Binding) (left acts right : List Fact) : Type 0 where
+pub record Fires (g : Sig) (W : Tree → Type 0) (r : Rule) (b : List Binding)
+    (left acts right : List Fact) : Type 0 where
   pub choice : Choice
   pub binds : Binds g r b choice
   pub use_ : IsUse g r choice left acts right
   pub within : (n : Tree) → IsEvaluated g r choice n → W n
 
 -- the rule of this name takes the facts with these numbers
-pub record IsRuleLine (g : Sig) (rules : List Rule) (W : Tree → Type 0) (s : RuleState) (name ks : List ℕ) (b : List Binding) (acts : List Fact) (z : RuleState) : Type 0 where
+pub record IsRuleLine (g : Sig) (rules : List Rule) (W : Tree → Type 0) (s : RuleState)
+    (name ks : List ℕ) (b : List Binding) (acts : List Fact) (z : RuleState) : Type 0 where
   pub rule : Rule
   pub named : rule_named rules name ≡ Some rule
   pub left : List Fact
@@ -66,14 +69,16 @@ pub record IsGiven (s : RuleState) (k : ℕ) (acts : List Fact) (z : RuleState) 
   pub becomes : z ≡ leaves s (adds s.facts (in_fact term ∷ []))
 
 -- the fact of this number is taken, and the adversary knows t
-pub record IsTaken (s : RuleState) (k : ℕ) (f : Fact) (t : Tree) (acts : List Fact) (z : RuleState) : Type 0 where
+pub record IsTaken (s : RuleState) (k : ℕ) (f : Fact) (t : Tree) (acts : List Fact)
+    (z : RuleState) : Type 0 where
   pub rest : Pile
   pub takes : Takes s.facts (k ∷ []) (f ∷ []) rest
   pub silent : acts ≡ []
   pub becomes : z ≡ gains (leaves s rest) t
 
 -- the symbol is applied to the entries with these numbers
-pub record IsApplied (g : Sig) (W : Tree → Type 0) (s : RuleState) (f ks : List ℕ) (acts : List Fact) (z : RuleState) : Type 0 where
+pub record IsApplied (g : Sig) (W : Tree → Type 0) (s : RuleState) (f ks : List ℕ)
+    (acts : List Fact) (z : RuleState) : Type 0 where
   pub terms : List Tree
   pub form : Tree
   pub public_symbol : IsPublic g f
@@ -85,7 +90,8 @@ pub record IsApplied (g : Sig) (W : Tree → Type 0) (s : RuleState) (f ks : Lis
   pub becomes : z ≡ gains s form
 
 -- the line leads from the state s to the state z and shows acts; each normal form that is evaluated is as W says
-abbrev pub IsLine : Sig → List Rule → (Tree → Type 0) → RuleState → RStep → List Fact → RuleState → Type 0
+abbrev pub IsLine : Sig → List Rule → (Tree → Type 0) → RuleState → RStep → List Fact → RuleState
+    → Type 0
 IsLine g rules W s (Fresh n) acts z = IsMade s n acts z
 IsLine g rules W s (Learn k) acts z = (t : Tree) × IsTaken s k (out_fact t) t acts z
 IsLine g rules W s (Own k) acts z = (n : ℕ) × IsTaken s k (fr_fact n) (fresh n) acts z

@@ -15,4 +15,6 @@ marks full = flat_map (λ acts. marks_of (filter_map inner_of acts) (visible act
 -- the marks of the full trace of the example
 abbrev pub marks_by_hand : List Mark
 marks_by_hand =
-    inside (inserted k v) ∷ inside (found k v) ∷ inside (equal k k) ∷ inside (different k v) ∷ showing (linear (codes "A") (k ∷ []) ∷ []) ∷ inside (locked k) ∷ inside (unlocked v) ∷ inside (deleted k) ∷ inside (missing v) ∷ []
+    inside (inserted k v) ∷ inside (found k v) ∷ inside (equal k k) ∷ inside (different k v)
+    ∷ showing (linear (codes "A") (k ∷ []) ∷ []) ∷ inside (locked k) ∷ inside (unlocked v)
+    ∷ inside (deleted k) ∷ inside (missing v) ∷ []

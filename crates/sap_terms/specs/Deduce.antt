@@ -10,7 +10,9 @@ pub data IsDerived (g : Sig) (names : List ℕ) (frame earlier : List Tree) (t :
   a_public : (n : List ℕ) → t ≡ public n → IsDerived g names frame earlier t
   a_name : (k : ℕ) → Contains names k → t ≡ fresh k → IsDerived g names frame earlier t
   given : Contains frame t → IsDerived g names frame earlier t
-  applied : (f : List ℕ) (ts : List Tree) → IsPublic g f → arity_of g f ≡ Some (length ts) → All (Contains earlier) ts → IsNormalForm (equations g) (apply f (trees_of ts)) t → IsDerived g names frame earlier t
+  applied : (f : List ℕ) (ts : List Tree) → IsPublic g f → arity_of g f ≡ Some (length ts)
+      → All (Contains earlier) ts → IsNormalForm (equations g) (apply f (trees_of ts)) t
+      → IsDerived g names frame earlier t
 
 -- a list of terms, the last one first, each of which comes so from those before it
 abbrev pub IsDerivation : Sig → List ℕ → List Tree → List Tree → Type 0

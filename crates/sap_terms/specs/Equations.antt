@@ -74,11 +74,17 @@ app3 f a b c = apply f (more a (more b (more c none)))
 pub data IsInstance (e : Equations) : Tree → Tree → Type 0 where
   first : {x y : Tree} → IsInstance e (app1 fst_name (app2 pair_name x y)) x
   second : {x y : Tree} → IsInstance e (app1 snd_name (app2 pair_name x y)) y
-  symmetric : {m k : Tree} → IsTrue e.symmetric → IsInstance e (app2 sdec_name (app2 senc_name m k) k) m
-  asymmetric : {m k : Tree} → IsTrue e.asymmetric → IsInstance e (app2 adec_name (app2 aenc_name m (app1 pk_name k)) k) m
-  signing : {m k : Tree} → IsTrue e.signing → IsInstance e (app3 verify_name (app2 sign_name m k) m (app1 pk_name k)) (app0 true_name)
-  revealing : {m k : Tree} → IsTrue e.revealing → IsInstance e (app3 reveal_verify_name (app2 reveal_sign_name m k) m (app1 pk_name k)) (app0 true_name)
-  revealed : {m k : Tree} → IsTrue e.revealing → IsInstance e (app1 get_message_name (app2 reveal_sign_name m k)) m
+  symmetric : {m k : Tree} → IsTrue e.symmetric
+      → IsInstance e (app2 sdec_name (app2 senc_name m k) k) m
+  asymmetric : {m k : Tree} → IsTrue e.asymmetric
+      → IsInstance e (app2 adec_name (app2 aenc_name m (app1 pk_name k)) k) m
+  signing : {m k : Tree} → IsTrue e.signing
+      → IsInstance e (app3 verify_name (app2 sign_name m k) m (app1 pk_name k)) (app0 true_name)
+  revealing : {m k : Tree} → IsTrue e.revealing
+      → IsInstance e (app3 reveal_verify_name (app2 reveal_sign_name m k) m (app1 pk_name k))
+      (app0 true_name)
+  revealed : {m k : Tree} → IsTrue e.revealing
+      → IsInstance e (app1 get_message_name (app2 reveal_sign_name m k)) m
 
 -- the symbol heads the left side of an equation
 pub record IsDestructor (e : Equations) (f : List ℕ) : Type 0 where

@@ -13,7 +13,9 @@ used facts k f = if f.persistent then facts else slice_set facts k None
 -- the facts with these numbers are live and are these, each used before the next is looked for, and this is left
 pub data Takes : Pile → List ℕ → List Fact → Pile → Type 0 where
   nothing : {facts : Pile} → Takes facts [] [] facts
-  one : {facts rest : Pile} {k : ℕ} {ks : List ℕ} {f : Fact} {fs : List Fact} → slice_get facts k ≡ Some (Some f) → Takes (used facts k f) ks fs rest → Takes facts (k ∷ ks) (f ∷ fs) rest
+  one : {facts rest : Pile} {k : ℕ} {ks : List ℕ} {f : Fact} {fs : List Fact}
+      → slice_get facts k ≡ Some (Some f) → Takes (used facts k f) ks fs rest
+      → Takes facts (k ∷ ks) (f ∷ fs) rest
 
 -- new facts, with the next numbers
 abbrev pub adds : Pile → List Fact → Pile

@@ -6,11 +6,14 @@ use Rattle.std.specs.Str.{bytes_eq}
 -- the words that are taken
 abbrev pub reserved_words : List (List ℕ)
 reserved_words =
-    codes "Init" ∷ codes "Event" ∷ codes "Eq" ∷ codes "NotEq" ∷ codes "Insert" ∷ codes "Delete" ∷ codes "IsIn" ∷ codes "IsNotSet"
-    ∷ codes "Lock" ∷ codes "Unlock" ∷ codes "InEvent" ∷ codes "Msg" ∷ codes "Ack" ∷ codes "Fr" ∷ codes "In" ∷ codes "Out"
+    codes "Init" ∷ codes "Event" ∷ codes "Eq" ∷ codes "NotEq" ∷ codes "Insert" ∷ codes "Delete"
+    ∷ codes "IsIn" ∷ codes "IsNotSet"
+    ∷ codes "Lock" ∷ codes "Unlock" ∷ codes "InEvent" ∷ codes "Msg" ∷ codes "Ack" ∷ codes "Fr"
+    ∷ codes "In" ∷ codes "Out"
     ∷ codes "K" ∷ codes "KU" ∷ codes "KD" ∷ []
 
 -- one of these words, or it begins as a state fact does
 abbrev pub is_reserved : List ℕ → Bool
 is_reserved name =
-    list_any (λ word. bytes_eq name word) reserved_words || starts_with nat_eq name (codes "State_") || starts_with nat_eq name (codes "Semi_")
+    list_any (λ word. bytes_eq name word) reserved_words || starts_with nat_eq name (codes "State_")
+    || starts_with nat_eq name (codes "Semi_")

@@ -44,16 +44,23 @@ IsPublic g n = MatchOption (find_symbol g.symbols n) ⊥ (λ (s : Symbol). s.pri
 
 -- the name was declared otherwise
 abbrev pub Clashes : List Symbol → List ℕ → ℕ → Bool → Type 0
-Clashes ss n a p = MatchOption (find_symbol ss n) ⊥ (λ (s : Symbol). ¬ ((s.arity ≡ a) × (s.private ≡ p)))
+Clashes ss n a p =
+    MatchOption (find_symbol ss n) ⊥ (λ (s : Symbol). ¬ ((s.arity ≡ a) × (s.private ≡ p)))
 
 -- the symbol, last, unless its name is held
 abbrev pub declared : List Symbol → List ℕ → ℕ → Bool → List Symbol
-declared ss n a p = if is_some (find_symbol ss n) then ss else ss ++ record { name = n; arity = a; private = p } ∷ []
+declared ss n a p = if is_some (find_symbol ss n) then ss
+    else ss ++ record { name = n; arity = a; private = p } ∷ []
 
 -- some equation of pairs or of an added builtin has this symbol at the head of its left side
 abbrev pub is_destructor_of : Sig → List ℕ → Bool
 is_destructor_of g n =
-    bytes_eq n (codes "fst") || bytes_eq n (codes "snd") || (bytes_eq n (codes "sdec") && g.builtins.symmetric) || (bytes_eq n (codes "adec") && g.builtins.asymmetric) || (bytes_eq n (codes "verify") && g.builtins.signing) || (bytes_eq n (codes "revealVerify") && g.builtins.revealing) || (bytes_eq n (codes "getMessage") && g.builtins.revealing)
+    bytes_eq n (codes "fst") || bytes_eq n (codes "snd")
+    || (bytes_eq n (codes "sdec") && g.builtins.symmetric)
+    || (bytes_eq n (codes "adec") && g.builtins.asymmetric)
+    || (bytes_eq n (codes "verify") && g.builtins.signing)
+    || (bytes_eq n (codes "revealVerify") && g.builtins.revealing)
+    || (bytes_eq n (codes "getMessage") && g.builtins.revealing)
 
 -- a public symbol of this name and arity
 abbrev pub public_symbol : List ℕ → ℕ → Symbol
@@ -63,11 +70,15 @@ public_symbol n a = record { name = n; arity = a; private = false }
 abbrev pub builtin_symbols : Builtin → List Symbol
 builtin_symbols Hashing = public_symbol (codes "h") 1 ∷ []
 builtin_symbols Symmetric = public_symbol (codes "senc") 2 ∷ public_symbol (codes "sdec") 2 ∷ []
-builtin_symbols Asymmetric = public_symbol (codes "aenc") 2 ∷ public_symbol (codes "adec") 2 ∷ public_symbol (codes "pk") 1 ∷ []
+builtin_symbols Asymmetric = public_symbol (codes "aenc") 2 ∷ public_symbol (codes "adec") 2
+    ∷ public_symbol (codes "pk") 1 ∷ []
 builtin_symbols Signing =
-    public_symbol (codes "sign") 2 ∷ public_symbol (codes "verify") 3 ∷ public_symbol (codes "pk") 1 ∷ public_symbol (codes "true") 0 ∷ []
+    public_symbol (codes "sign") 2 ∷ public_symbol (codes "verify") 3 ∷ public_symbol (codes "pk") 1
+    ∷ public_symbol (codes "true") 0 ∷ []
 builtin_symbols RevealingSigning =
-    public_symbol (codes "revealSign") 2 ∷ public_symbol (codes "revealVerify") 3 ∷ public_symbol (codes "getMessage") 1 ∷ public_symbol (codes "pk") 1 ∷ public_symbol (codes "true") 0 ∷ []
+    public_symbol (codes "revealSign") 2 ∷ public_symbol (codes "revealVerify") 3
+    ∷ public_symbol (codes "getMessage") 1 ∷ public_symbol (codes "pk") 1
+    ∷ public_symbol (codes "true") 0 ∷ []
 
 -- these symbols, one after another, each unless its name is held
 abbrev pub declared_all : List Symbol → List Symbol → List Symbol
@@ -81,7 +92,9 @@ same_bool false b = not b
 
 -- the symbol's name was declared otherwise
 abbrev pub is_held_otherwise : List Symbol → Symbol → Bool
-is_held_otherwise ss x = option_map_or (λ (s : Symbol). not (nat_eq s.arity x.arity && same_bool s.private x.private)) (find_symbol ss x.name) false
+is_held_otherwise ss x =
+    option_map_or (λ (s : Symbol). not (nat_eq s.arity x.arity && same_bool s.private x.private))
+    (find_symbol ss x.name) false
 
 -- the first of these names that is held otherwise
 abbrev pub first_clash : List Symbol → List Symbol → Option (List ℕ)
@@ -115,7 +128,8 @@ HoldsSymbols ss (x ∷ xs) = (find_symbol ss x.name ≡ Some x) × HoldsSymbols 
 
 -- the symbols of each builtin that was added are held
 abbrev pub HoldsBuiltins : Sig → Type 0
-HoldsBuiltins g = (b : Builtin) → has_builtin g b ≡ true → HoldsSymbols g.symbols (builtin_symbols b)
+HoldsBuiltins g = (b : Builtin) → has_builtin g b ≡ true
+    → HoldsSymbols g.symbols (builtin_symbols b)
 
 -- none of the builtins
 abbrev pub no_builtins : Builtins
@@ -124,6 +138,7 @@ no_builtins = record { hashing = false; symmetric = false; asymmetric = false; s
 -- pairs alone: what every signature begins with
 abbrev pub pairs_alone : Sig
 pairs_alone = record {
-  symbols = public_symbol (codes "pair") 2 ∷ public_symbol (codes "fst") 1 ∷ public_symbol (codes "snd") 1 ∷ [];
+  symbols = public_symbol (codes "pair") 2 ∷ public_symbol (codes "fst") 1
+      ∷ public_symbol (codes "snd") 1 ∷ [];
   builtins = no_builtins;
 }

@@ -31,4 +31,5 @@ is_known (m ∷ ms) n = bytes_eq m n || is_known ms n
 -- the first occurrences of variables whose names are not known
 abbrev pub new_vars : List (List ℕ) → List Var → List Var
 new_vars known [] = []
-new_vars known (v ∷ vs) = if is_known known v.name then new_vars known vs else v ∷ new_vars (known ++ v.name ∷ []) vs
+new_vars known (v ∷ vs) = if is_known known v.name then new_vars known vs
+    else v ∷ new_vars (known ++ v.name ∷ []) vs

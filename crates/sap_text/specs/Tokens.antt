@@ -33,8 +33,10 @@ is_inner b = not (b == 39) && not (b == 10)
 -- the symbols, 27 of them
 abbrev pub symbols : List (List ℕ)
 symbols =
-    codes "(" ∷ codes ")" ∷ codes "[" ∷ codes "]" ∷ codes "<" ∷ codes ">" ∷ codes "," ∷ codes ";" ∷ codes ":" ∷ codes "." ∷ codes "|" ∷ codes "||"
-    ∷ codes "&" ∷ codes "=" ∷ codes "==>" ∷ codes "<=>" ∷ codes "@" ∷ codes "#" ∷ codes "~" ∷ codes "$" ∷ codes "!" ∷ codes "/" ∷ codes "\"" ∷ codes "-"
+    codes "(" ∷ codes ")" ∷ codes "[" ∷ codes "]" ∷ codes "<" ∷ codes ">" ∷ codes "," ∷ codes ";"
+    ∷ codes ":" ∷ codes "." ∷ codes "|" ∷ codes "||"
+    ∷ codes "&" ∷ codes "=" ∷ codes "==>" ∷ codes "<=>" ∷ codes "@" ∷ codes "#" ∷ codes "~"
+    ∷ codes "$" ∷ codes "!" ∷ codes "/" ∷ codes "\"" ∷ codes "-"
     ∷ codes "--[" ∷ codes "]->" ∷ codes "-->" ∷ []
 
 -- one of these
@@ -43,8 +45,10 @@ is_symbol s = list_any (λ t. bytes_eq s t) symbols
 
 -- the bytes are a token of this kind
 pub data IsToken : Kind → List ℕ → Type 0 where
-  ident : {b : ℕ} {z : List ℕ} → is_ascii_alphabetic b ≡ true → list_all is_word z ≡ true → IsToken kind.Ident (b ∷ z)
-  number : {b : ℕ} {z : List ℕ} → is_ascii_digit b ≡ true → list_all is_ascii_digit z ≡ true → IsToken kind.Number (b ∷ z)
+  ident : {b : ℕ} {z : List ℕ} → is_ascii_alphabetic b ≡ true → list_all is_word z ≡ true
+      → IsToken kind.Ident (b ∷ z)
+  number : {b : ℕ} {z : List ℕ} → is_ascii_digit b ≡ true → list_all is_ascii_digit z ≡ true
+      → IsToken kind.Number (b ∷ z)
   quoted : (z : List ℕ) → list_all is_content z ≡ true → IsToken kind.Quoted (39 ∷ (z ++ (39 ∷ [])))
   symbol : {s : List ℕ} → is_symbol s ≡ true → IsToken kind.Symbol s
 
@@ -90,7 +94,8 @@ longest_symbol z =
 
 -- s is a symbol, and the token that is taken where it stands before b: neither a comment nor a longer symbol begins there
 abbrev pub stands_alone : List ℕ → List ℕ → Bool
-stands_alone s b = is_symbol s && (not (begins_comment (s ++ b)) && bytes_eq (longest_symbol (s ++ b)) s)
+stands_alone s b = is_symbol s
+    && (not (begins_comment (s ++ b)) && bytes_eq (longest_symbol (s ++ b)) s)
 
 -- the bytes end, or a line feed stands next
 abbrev pub EndsLine : List ℕ → Type 0
@@ -100,20 +105,26 @@ EndsLine (b ∷ z) = b ≡ 10
 -- p is one blank, one comment up to its line's end, or one comment up to the first `*/` behind its `/*`, and b follows it
 pub data IsSkip : List ℕ → List ℕ → Type 0 where
   blank : {c : ℕ} {b : List ℕ} → is_blank c ≡ true → IsSkip (c ∷ []) b
-  line_comment : {z b : List ℕ} → list_all is_not_feed z ≡ true → EndsLine b → IsSkip (47 ∷ 47 ∷ z) b
-  block_comment : (z : List ℕ) {b : List ℕ} → ((u v : List ℕ) → z ++ (42 ∷ 47 ∷ b) ≡ u ++ (42 ∷ 47 ∷ v) → length z ≤ length u)
+  line_comment : {z b : List ℕ} → list_all is_not_feed z ≡ true → EndsLine b
+      → IsSkip (47 ∷ 47 ∷ z) b
+  block_comment : (z : List ℕ) {b : List ℕ}
+      → ((u v : List ℕ) → z ++ (42 ∷ 47 ∷ b) ≡ u ++ (42 ∷ 47 ∷ v) → length z ≤ length u)
       → IsSkip (47 ∷ 42 ∷ (z ++ (42 ∷ 47 ∷ []))) b
 
 -- z, which stands at this offset, begins with neither blank nor comment nor token, for this cause: its first byte begins
 -- none of them; it opens a quote that is closed on its line, and this is the first byte inside that may not stand there;
 -- it opens a comment that no `*/` closes; it opens a quote that no `'` closes on its line
 pub data IsFault (at : ℕ) : List ℕ → Lex → Type 0 where
-  bad_byte : {c : ℕ} {z : List ℕ} → is_blank c ≡ false → (c ≡ 39 → ⊥) → ((k : Kind) (p b : List ℕ) → c ∷ z ≡ p ++ b → IsToken k p → ⊥)
+  bad_byte : {c : ℕ} {z : List ℕ} → is_blank c ≡ false → (c ≡ 39 → ⊥)
+      → ((k : Kind) (p b : List ℕ) → c ∷ z ≡ p ++ b → IsToken k p → ⊥)
       → IsFault at (c ∷ z) (fault.BadByte at)
-  bad_content : (z b v : List ℕ) (c : ℕ) → list_all is_content z ≡ true → is_content c ≡ false → list_all is_inner (c ∷ b) ≡ true
+  bad_content : (z b v : List ℕ) (c : ℕ) → list_all is_content z ≡ true → is_content c ≡ false
+      → list_all is_inner (c ∷ b) ≡ true
       → IsFault at (39 ∷ (z ++ (c ∷ (b ++ (39 ∷ v))))) (fault.BadByte (at + suc (length z)))
-  open_comment : {z : List ℕ} → ((u v : List ℕ) → z ≡ u ++ (42 ∷ 47 ∷ v) → ⊥) → IsFault at (47 ∷ 42 ∷ z) (fault.OpenComment at)
-  open_quote : {z : List ℕ} → ((u v : List ℕ) → z ≡ u ++ (39 ∷ v) → list_all is_inner u ≡ true → ⊥) → IsFault at (39 ∷ z) (fault.OpenQuote at)
+  open_comment : {z : List ℕ} → ((u v : List ℕ) → z ≡ u ++ (42 ∷ 47 ∷ v) → ⊥)
+      → IsFault at (47 ∷ 42 ∷ z) (fault.OpenComment at)
+  open_quote : {z : List ℕ} → ((u v : List ℕ) → z ≡ u ++ (39 ∷ v) → list_all is_inner u ≡ true → ⊥)
+      → IsFault at (39 ∷ z) (fault.OpenQuote at)
 
 -- the tokens, or the first fault
 abbrev pub Lexed : Type 0
@@ -129,8 +140,13 @@ before t (Err e) = Err e
 -- the token has more bytes or nothing begins.
 pub data IsLexed (most : ℕ) : ℕ → ℕ → List ℕ → Lexed → Type 0 where
   ended : {at line : ℕ} → IsLexed most at line [] (Ok [])
-  skipped : {at line : ℕ} {p b : List ℕ} {o : Lexed} → IsSkip p b → IsLexed most (at + length p) (line + line_feeds p) b o → IsLexed most at line (p ++ b) o
-  taken : {at line : ℕ} {k : Kind} {p b : List ℕ} {o : Lexed} → IsLongest k p b → counted k (length p) ≤ most
-      → IsLexed most (at + length p) line b o → IsLexed most at line (p ++ b) (before (record { kind = k; from = at; to = at + length p; line = line }) o)
-  long : {at line : ℕ} {k : Kind} {p b : List ℕ} → IsLongest k p b → most < counted k (length p) → IsLexed most at line (p ++ b) (Err (fault.NameLong at))
+  skipped : {at line : ℕ} {p b : List ℕ} {o : Lexed} → IsSkip p b
+      → IsLexed most (at + length p) (line + line_feeds p) b o → IsLexed most at line (p ++ b) o
+  taken : {at line : ℕ} {k : Kind} {p b : List ℕ} {o : Lexed} → IsLongest k p b
+      → counted k (length p) ≤ most
+      → IsLexed most (at + length p) line b o
+      → IsLexed most at line (p ++ b)
+      (before (record { kind = k; from = at; to = at + length p; line = line }) o)
+  long : {at line : ℕ} {k : Kind} {p b : List ℕ} → IsLongest k p b → most < counted k (length p)
+      → IsLexed most at line (p ++ b) (Err (fault.NameLong at))
   failed : {at line : ℕ} {z : List ℕ} {f : Lex} → IsFault at z f → IsLexed most at line z (Err f)

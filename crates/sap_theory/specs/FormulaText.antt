@@ -45,13 +45,22 @@ abbrev pub formula_text : ℕ → Form → List ℕ
 formula_text asked truth = in_place asked truth (codes "T")
 formula_text asked falsity = in_place asked falsity (codes "F")
 formula_text asked (action f i) = in_place asked (action f i) (fact_text f ++ (codes "@" ++ i))
-formula_text asked (equal s t) = in_place asked (equal s t) (tree_text s ++ (codes " = " ++ tree_text t))
+formula_text asked (equal s t) =
+    in_place asked (equal s t) (tree_text s ++ (codes " = " ++ tree_text t))
 formula_text asked (same_time i j) = in_place asked (same_time i j) (places_text i (codes " = ") j)
 formula_text asked (earlier i j) = in_place asked (earlier i j) (places_text i (codes " < ") j)
 formula_text asked (negation f) = in_place asked (negation f) (codes "not " ++ formula_text 6 f)
-formula_text asked (both f g) = in_place asked (both f g) (formula_text 4 f ++ (codes " & " ++ formula_text 5 g))
-formula_text asked (either f g) = in_place asked (either f g) (formula_text 3 f ++ (codes " | " ++ formula_text 4 g))
-formula_text asked (implies f g) = in_place asked (implies f g) (formula_text 3 f ++ (codes " ==> " ++ formula_text 2 g))
-formula_text asked (equivalent f g) = in_place asked (equivalent f g) (formula_text 2 f ++ (codes " <=> " ++ formula_text 2 g))
-formula_text asked (every bs f) = in_place asked (every bs f) (codes "All" ++ (binders_text bs ++ (codes ". " ++ formula_text 0 f)))
-formula_text asked (exists bs f) = in_place asked (exists bs f) (codes "Ex" ++ (binders_text bs ++ (codes ". " ++ formula_text 0 f)))
+formula_text asked (both f g) =
+    in_place asked (both f g) (formula_text 4 f ++ (codes " & " ++ formula_text 5 g))
+formula_text asked (either f g) =
+    in_place asked (either f g) (formula_text 3 f ++ (codes " | " ++ formula_text 4 g))
+formula_text asked (implies f g) =
+    in_place asked (implies f g) (formula_text 3 f ++ (codes " ==> " ++ formula_text 2 g))
+formula_text asked (equivalent f g) =
+    in_place asked (equivalent f g) (formula_text 2 f ++ (codes " <=> " ++ formula_text 2 g))
+formula_text asked (every bs f) =
+    in_place asked (every bs f)
+    (codes "All" ++ (binders_text bs ++ (codes ". " ++ formula_text 0 f)))
+formula_text asked (exists bs f) =
+    in_place asked (exists bs f)
+    (codes "Ex" ++ (binders_text bs ++ (codes ". " ++ formula_text 0 f)))

@@ -21,7 +21,8 @@ abbrev pub AreTokens : List ℕ → List Token → Type 0
 AreTokens z ts = IsLexed MOST_THEORY_NAME_BYTES 0 1 z (Ok ts)
 
 -- the theory has this header, and these items as they are cut
-pub record IsParted (z : List ℕ) (ts : List Token) (x : List ℕ) (cut : List (List Placed)) : Type 0 where
+pub record IsParted (z : List ℕ) (ts : List Token) (x : List ℕ)
+    (cut : List (List Placed)) : Type 0 where
   pub tokens : AreTokens z ts
   pub rest : List Placed
   pub header : IsHeader x (placed z ts) rest
@@ -39,16 +40,23 @@ theory_of x is = record {
 
 -- the theory it is, or why it is refused
 pub data IsTheoryRead (z : List ℕ) : Result Theory TheoryFault → Type 0 where
-  no_tokens : {f : Lex} → IsLexed MOST_THEORY_NAME_BYTES 0 1 z (Err f) → IsTheoryRead z (Err (LexFault f))
-  no_header : {ts : List Token} → AreTokens z ts → ((x : List ℕ) (rest : List Placed) → IsHeader x (placed z ts) rest → ⊥)
+  no_tokens : {f : Lex} → IsLexed MOST_THEORY_NAME_BYTES 0 1 z (Err f)
+      → IsTheoryRead z (Err (LexFault f))
+  no_header : {ts : List Token} → AreTokens z ts
+      → ((x : List ℕ) (rest : List Placed) → IsHeader x (placed z ts) rest → ⊥)
       → IsTheoryRead z (Err Header)
-  no_item : {ts : List Token} {x : List ℕ} {cut : List (List Placed)} {line : ℕ} → IsParted z ts x cut
+  no_item : {ts : List Token} {x : List ℕ} {cut : List (List Placed)} {line : ℕ}
+      → IsParted z ts x cut
       → IsFaultyTheory (last_line (placed z ts)) cut line → IsTheoryRead z (Err (Syntax line))
-  refused : {ts : List Token} {x : List ℕ} {cut : List (List Placed)} {is : List (Standing TheoryItem)} {e : TheoryFault} → IsParted z ts x cut
+  refused : {ts : List Token} {x : List ℕ} {cut : List (List Placed)}
+      {is : List (Standing TheoryItem)} {e : TheoryFault} → IsParted z ts x cut
       → AreWrittenItems (signature_of is) cut is
-      → IsRefused (signature_of is) (clash_from pairs_alone (declarations is)) (rules_in (items_of is)) (statements_in (items_of is)) e
+      → IsRefused (signature_of is) (clash_from pairs_alone (declarations is))
+      (rules_in (items_of is)) (statements_in (items_of is)) e
       → IsTheoryRead z (Err e)
-  accepted : {ts : List Token} {x : List ℕ} {cut : List (List Placed)} {is : List (Standing TheoryItem)} → IsParted z ts x cut
+  accepted : {ts : List Token} {x : List ℕ} {cut : List (List Placed)}
+      {is : List (Standing TheoryItem)} → IsParted z ts x cut
       → AreWrittenItems (signature_of is) cut is
-      → AreAccepted (signature_of is) (clash_from pairs_alone (declarations is)) (rules_in (items_of is)) (statements_in (items_of is))
+      → AreAccepted (signature_of is) (clash_from pairs_alone (declarations is))
+      (rules_in (items_of is)) (statements_in (items_of is))
       → IsTheoryRead z (Ok (theory_of x is))

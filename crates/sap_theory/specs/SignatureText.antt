@@ -30,7 +30,8 @@ is_among ss n = list_any (λ (s : Symbol). bytes_eq n s.name) ss
 
 -- the name is one of pairs, or a builtin that was added brings it
 abbrev pub is_brought : Sig → List ℕ → Bool
-is_brought g n = is_among pairs_alone.symbols n || list_any (λ (b : Builtin). is_among (builtin_symbols b) n) (builtins_of g)
+is_brought g n = is_among pairs_alone.symbols n
+    || list_any (λ (b : Builtin). is_among (builtin_symbols b) n) (builtins_of g)
 
 -- the symbols that have to be declared
 abbrev pub functions_of : Sig → List Symbol
@@ -38,7 +39,8 @@ functions_of g = filter (λ (s : Symbol). not (is_brought g s.name)) g.symbols
 
 -- a symbol's name and arity, with a mark where it is private
 abbrev pub symbol_text : Symbol → List ℕ
-symbol_text s = s.name ++ (codes "/" ++ (decimal s.arity ++ (if s.private then codes " [private]" else [])))
+symbol_text s = s.name
+    ++ (codes "/" ++ (decimal s.arity ++ (if s.private then codes " [private]" else [])))
 
 -- a blank line and the line of the builtins, where there are some
 abbrev pub builtins_text : Sig → List ℕ

@@ -31,7 +31,8 @@ mode_text ExistsTrace = codes "exists-trace"
 
 -- a blank line, the line of the name and the attributes, the line of the mode, and the line of the formula
 abbrev pub lemma_text : LemmaForm → List ℕ
-lemma_text l = codes "\nlemma " ++ (l.name ++ (attributes_text l.attributes ++ (codes ":\n  " ++ (mode_text l.mode ++ (codes "\n" ++ quoted l.formula)))))
+lemma_text l = codes "\nlemma "
+    ++ (l.name ++ (attributes_text l.attributes ++ (codes ":\n  " ++ (mode_text l.mode ++ (codes "\n" ++ quoted l.formula)))))
 
 -- one behind the other
 abbrev pub lemmas_text : List LemmaForm → List ℕ

@@ -43,23 +43,32 @@ pub record IsPlainRule (r : Rule) : Type 0 where
   pub acts : All IsLinear r.acts
 
 -- the first rule that isn't so is refused by its name
-pub data IsFirstWrong (Is : Rule → Type 0) (fault : List ℕ → TheoryFault) : List Rule → TheoryFault → Type 0 where
-  this_rule : {r : Rule} {rs : List Rule} → (Is r → ⊥) → IsFirstWrong Is fault (r ∷ rs) (fault r.name)
-  later_rule : {r : Rule} {rs : List Rule} {e : TheoryFault} → Is r → IsFirstWrong Is fault rs e → IsFirstWrong Is fault (r ∷ rs) e
+pub data IsFirstWrong (Is : Rule → Type 0) (fault : List ℕ → TheoryFault)
+    : List Rule → TheoryFault → Type 0 where
+  this_rule : {r : Rule} {rs : List Rule} → (Is r → ⊥)
+      → IsFirstWrong Is fault (r ∷ rs) (fault r.name)
+  later_rule : {r : Rule} {rs : List Rule} {e : TheoryFault} → Is r → IsFirstWrong Is fault rs e
+      → IsFirstWrong Is fault (r ∷ rs) e
 
 -- what rules, restrictions and lemmas are refused for, where their declarations make this signature and clash so; each cause where none
 -- before it holds
-pub data IsRefused (g : Sig) (clash : Option (List ℕ)) (rs : List Rule) (ss : List Statement) : TheoryFault → Type 0 where
+pub data IsRefused (g : Sig) (clash : Option (List ℕ)) (rs : List Rule) (ss : List Statement)
+    : TheoryFault → Type 0 where
   of_names : {x : List ℕ} → shared rs ss ≡ Some x → IsRefused g clash rs ss (DuplicateName x)
-  of_clash : {x : List ℕ} → shared rs ss ≡ None → clash ≡ Some x → IsRefused g clash rs ss (FunctionClash x)
-  of_symbols : {e : TheoryFault} → shared rs ss ≡ None → clash ≡ None → IsFirstWrong (IsRuleOver g) BadFunction rs e → IsRefused g clash rs ss e
-  of_shapes : {e : TheoryFault} → shared rs ss ≡ None → clash ≡ None → All (IsRuleOver g) rs → IsFirstWrong IsPlainRule BadRule rs e
+  of_clash : {x : List ℕ} → shared rs ss ≡ None → clash ≡ Some x
+      → IsRefused g clash rs ss (FunctionClash x)
+  of_symbols : {e : TheoryFault} → shared rs ss ≡ None → clash ≡ None
+      → IsFirstWrong (IsRuleOver g) BadFunction rs e → IsRefused g clash rs ss e
+  of_shapes : {e : TheoryFault} → shared rs ss ≡ None → clash ≡ None → All (IsRuleOver g) rs
+      → IsFirstWrong IsPlainRule BadRule rs e
       → IsRefused g clash rs ss e
-  of_formulas : {x : List ℕ} {f : FormulaFault} → shared rs ss ≡ None → clash ≡ None → All (IsRuleOver g) rs → All IsPlainRule rs
+  of_formulas : {x : List ℕ} {f : FormulaFault} → shared rs ss ≡ None → clash ≡ None
+      → All (IsRuleOver g) rs → All IsPlainRule rs
       → IsFirstFaulty g false ss x f → IsRefused g clash rs ss (Formula x f)
 
 -- none of these causes holds; names of facts are free
-pub record AreAccepted (g : Sig) (clash : Option (List ℕ)) (rs : List Rule) (ss : List Statement) : Type 0 where
+pub record AreAccepted (g : Sig) (clash : Option (List ℕ)) (rs : List Rule)
+    (ss : List Statement) : Type 0 where
   pub names : shared rs ss ≡ None
   pub no_clash : clash ≡ None
   pub over : All (IsRuleOver g) rs

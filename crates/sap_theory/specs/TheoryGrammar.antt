@@ -29,21 +29,28 @@ pub data TheoryItem : Type 0 where
   statement : Statement → TheoryItem
 
 -- the two sides of a rule, and what it shows between them, which may be left out; `!` may stand before each fact
-pub data IsRuleBody (g : Sig) (m : Limits) : List Fact → List Fact → List Fact → List Word → Type 0 where
-  body_silent : {l r : List Fact} {a b : List Word} → AreFacts g m true (codes "]") l a (mark (codes "-->") ∷ mark (codes "[") ∷ b)
+pub data IsRuleBody (g : Sig) (m : Limits)
+    : List Fact → List Fact → List Fact → List Word → Type 0 where
+  body_silent : {l r : List Fact} {a b : List Word}
+      → AreFacts g m true (codes "]") l a (mark (codes "-->") ∷ mark (codes "[") ∷ b)
       → AreFacts g m true (codes "]") r b [] → IsRuleBody g m l [] r (mark (codes "[") ∷ a)
-  body_acts : {l e r : List Fact} {a b c : List Word} → AreFacts g m true (codes "]") l a (mark (codes "--[") ∷ b)
-      → AreFacts g m true (codes "]->") e b (mark (codes "[") ∷ c) → AreFacts g m true (codes "]") r c [] → IsRuleBody g m l e r (mark (codes "[") ∷ a)
+  body_acts : {l e r : List Fact} {a b c : List Word}
+      → AreFacts g m true (codes "]") l a (mark (codes "--[") ∷ b)
+      → AreFacts g m true (codes "]->") e b (mark (codes "[") ∷ c)
+      → AreFacts g m true (codes "]") r c [] → IsRuleBody g m l e r (mark (codes "[") ∷ a)
 
 -- all of the words are this item, its terms and formulas within the limits; a restriction or lemma stands for what is made of it
-pub data IsItemBy (sorting : Statement → Statement) (g : Sig) (m : Limits) : TheoryItem → List Word → Type 0 where
+pub data IsItemBy (sorting : Statement → Statement) (g : Sig) (m : Limits)
+    : TheoryItem → List Word → Type 0 where
   item_builtins : {bs : List Builtin} {a : List Word} → AreBuiltins bs a
       → IsItemBy sorting g m (builtins bs) (mark (codes "builtins") ∷ mark (codes ":") ∷ a)
   item_functions : {ss : List Symbol} {a : List Word} → AreSymbols ss a
       → IsItemBy sorting g m (functions ss) (mark (codes "functions") ∷ mark (codes ":") ∷ a)
   item_rule : {x : List ℕ} {l e r : List Fact} {a : List Word} → IsRuleBody g m l e r a
-      → IsItemBy sorting g m (rule (record { name = x; left = l; acts = e; right = r })) (mark (codes "rule") ∷ name x ∷ mark (codes ":") ∷ a)
-  item_statement : {s : Statement} {a : List Word} → IsStatement g m s a → IsItemBy sorting g m (statement (sorting s)) a
+      → IsItemBy sorting g m (rule (record { name = x; left = l; acts = e; right = r }))
+      (mark (codes "rule") ∷ name x ∷ mark (codes ":") ∷ a)
+  item_statement : {s : Statement} {a : List Word} → IsStatement g m s a
+      → IsItemBy sorting g m (statement (sorting s)) a
 
 -- so that a plain variable of a formula has the sort of its binder
 abbrev pub IsTheoryItem : Sig → Limits → TheoryItem → List Word → Type 0

@@ -21,7 +21,8 @@ pub record IsAcceptedFile (bytes : List ℕ) (told : FileContent) : Type 0 where
 -- the bytes are refused for this cause: they are too many; else they are read as no file
 pub data IsRefusedWith (bytes : List ℕ) : List ℕ → Type 0 where
   too_long : most_bytes < length bytes → IsRefusedWith bytes (codes "longer than 1048576 bytes")
-  unread : {e : ReadFault} → length bytes ≤ most_bytes → IsRead bytes (Err e) → IsRefusedWith bytes (fault_text e)
+  unread : {e : ReadFault} → length bytes ≤ most_bytes → IsRead bytes (Err e)
+      → IsRefusedWith bytes (fault_text e)
 
 -- the line says why the bytes are refused
 pub record IsRefusal (bytes line : List ℕ) : Type 0 where

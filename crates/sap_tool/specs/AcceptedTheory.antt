@@ -16,5 +16,7 @@ pub record IsAcceptedTheory (bytes : List ℕ) (t : Theory) : Type 0 where
 
 -- the bytes are refused for this cause: they are too many; else they are read as no theory
 pub data IsTheoryRefusedWith (bytes : List ℕ) : List ℕ → Type 0 where
-  too_long : most_theory_bytes < length bytes → IsTheoryRefusedWith bytes (codes "longer than 16777216 bytes")
-  unread : {e : TheoryFault} → length bytes ≤ most_theory_bytes → IsTheoryRead bytes (Err e) → IsTheoryRefusedWith bytes (theory_fault_text e)
+  too_long : most_theory_bytes < length bytes
+      → IsTheoryRefusedWith bytes (codes "longer than 16777216 bytes")
+  unread : {e : TheoryFault} → length bytes ≤ most_theory_bytes → IsTheoryRead bytes (Err e)
+      → IsTheoryRefusedWith bytes (theory_fault_text e)

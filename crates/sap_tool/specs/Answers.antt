@@ -24,8 +24,10 @@ status_of (tells status text) = status
 -- a command's answers to what it read: a text that is allowed; a file that is refused, before a run is read; a run that is refused
 pub data IsAnswerTo (k : Command) : Input → Answer → Type 0 where
   allowed : {input : Input} {text : List ℕ} → Allows k input text → IsAnswerTo k input (gives text)
-  refused : {bytes : List ℕ} (why : List ℕ) → Refuses k bytes why → IsAnswerTo k (alone bytes) (tells 1 (refused_line why))
-  run_refused : {bytes z : List ℕ} (why : List ℕ) → RefusesRun k bytes z why → IsAnswerTo k (and_run bytes z) (tells 2 (run_refused_line why))
+  refused : {bytes : List ℕ} (why : List ℕ) → Refuses k bytes why
+      → IsAnswerTo k (alone bytes) (tells 1 (refused_line why))
+  run_refused : {bytes z : List ℕ} (why : List ℕ) → RefusesRun k bytes z why
+      → IsAnswerTo k (and_run bytes z) (tells 2 (run_refused_line why))
 
 -- the words ask for this command
 abbrev pub Asks : Call → Command → Type 0
@@ -38,9 +40,11 @@ for_file k = fetch (file_of k) (limit_of k) ∷ []
 -- these are bytes that a fetch of the command's file may answer, and then ones that reading its run may give, by what the shelf tells, and
 -- it was asked for the file, then for the run, and for nothing else
 abbrev pub Fetched : Call → Command → Input → Type 0
-Fetched c k (alone bytes) = IsFetched c.holds (file_of k) (limit_of k) bytes × AskedFor c (for_file k)
+Fetched c k (alone bytes) = IsFetched c.holds (file_of k) (limit_of k) bytes
+    × AskedFor c (for_file k)
 Fetched c k (and_run bytes z) =
-    IsFetched c.holds (file_of k) (limit_of k) bytes × ((run : List ℕ) × (run_of k ≡ Some run) × WasRead c.holds run (for_file k) c.asked_before c.asked_after z)
+    IsFetched c.holds (file_of k) (limit_of k) bytes
+    × ((run : List ℕ) × (run_of k ≡ Some run) × WasRead c.holds run (for_file k) c.asked_before c.asked_after z)
 
 -- these are bytes that a fetch of the command's file may answer, and it accepts them
 abbrev pub FetchedAccepted : Call → Command → List ℕ → Type 0
@@ -64,21 +68,28 @@ memory_text = codes "out of memory\n"
 
 -- the answers that a call may have, each with its cause
 pub data IsAnswer (c : Call) : Answer → Type 0 where
-  to_input : {a : Answer} (k : Command) (input : Input) → Asks c k → Fetched c k input → IsAnswerTo k input a → IsAnswer c a
-  sampled : (n : ℕ) → IsSample c.words n → c.asked_after ≡ c.asked_before → IsAnswer c (gives (sample_text n))
+  to_input : {a : Answer} (k : Command) (input : Input) → Asks c k → Fetched c k input
+      → IsAnswerTo k input a → IsAnswer c a
+  sampled : (n : ℕ) → IsSample c.words n → c.asked_after ≡ c.asked_before
+      → IsAnswer c (gives (sample_text n))
   usage : IsUnknown c.words → c.asked_after ≡ c.asked_before → IsAnswer c (tells 3 usage_text)
-  unread : (k : Command) → Asks c k → FailedOn c (file_of k) → AskedFor c (for_file k) → IsAnswer c (tells 4 read_fault_text)
-  unread_run : (k : Command) (bytes run : List ℕ) → Asks c k → FetchedAccepted c k bytes → run_of k ≡ Some run → FailedOn c run
-      → WasGivenUp c.holds run (for_file k) c.asked_before c.asked_after → IsAnswer c (tells 4 read_fault_text)
+  unread : (k : Command) → Asks c k → FailedOn c (file_of k) → AskedFor c (for_file k)
+      → IsAnswer c (tells 4 read_fault_text)
+  unread_run : (k : Command) (bytes run : List ℕ) → Asks c k → FetchedAccepted c k bytes
+      → run_of k ≡ Some run → FailedOn c run
+      → WasGivenUp c.holds run (for_file k) c.asked_before c.asked_after
+      → IsAnswer c (tells 4 read_fault_text)
 
 -- what the shelf was asked for where memory was wanting before there was an answer: nothing; or the file that the words ask for alone; or,
 -- behind a file that is accepted, its run too, up to where that was given up, or whole
 pub data IsBegun (c : Call) : Type 0 where
   asked_nothing : c.asked_after ≡ c.asked_before → IsBegun c
   asked_file : (k : Command) → Asks c k → AskedFor c (for_file k) → IsBegun c
-  asked_run : (k : Command) (bytes run : List ℕ) → Asks c k → FetchedAccepted c k bytes → run_of k ≡ Some run
+  asked_run : (k : Command) (bytes run : List ℕ) → Asks c k → FetchedAccepted c k bytes
+      → run_of k ≡ Some run
       → WasGivenUp c.holds run (for_file k) c.asked_before c.asked_after → IsBegun c
-  asked_both : (k : Command) (bytes z : List ℕ) → Asks c k → FetchedAccepted c k bytes → Fetched c k (and_run bytes z) → IsBegun c
+  asked_both : (k : Command) (bytes z : List ℕ) → Asks c k → FetchedAccepted c k bytes
+      → Fetched c k (and_run bytes z) → IsBegun c
 
 -- the answer's text is whole where it belongs, put in pieces on out and at once on err, and nothing was put elsewhere
 abbrev pub Whole : Answer → Stream → Stream → Type 0
@@ -89,7 +100,8 @@ Whole (tells status text) out err = Gained out 0 [] × Gained err 1 text
 -- which it has this
 abbrev pub Part : Answer → ℕ → List ℕ → Stream → Stream → Type 0
 Part (gives text) taken last out err = GainedPart out taken text × Gained err 1 last
-Part (tells status text) taken last out err = Gained out 0 [] × Gained err 2 (take taken text ++ last)
+Part (tells status text) taken last out err = Gained out 0 []
+    × Gained err 2 (take taken text ++ last)
 
 -- the sink failed that the answer's text was put on
 abbrev pub Broken : Answer → Stream → Stream → Type 0
@@ -115,12 +127,15 @@ pub data IsLast (Cut : Type 0) (word : List ℕ) : List ℕ → Type 0 where
 -- which says so
 pub data IsPut (a : Answer) (out err : Stream) (status : ℕ) : Type 0 where
   whole : status ≡ status_of a → Whole a out err → IsPut a out err status
-  broken : (taken : ℕ) (last : List ℕ) → status ≡ 5 → Broken a out err → Part a taken last out err → IsLast (CutLast a err) write_fault_text last
+  broken : (taken : ℕ) (last : List ℕ) → status ≡ 5 → Broken a out err → Part a taken last out err
+      → IsLast (CutLast a err) write_fault_text last
       → IsPut a out err status
-  wanting : (taken : ℕ) (last : List ℕ) → status ≡ 6 → Starved a out err → Part a taken last out err → IsLast (CutLast a err) memory_text last
+  wanting : (taken : ℕ) (last : List ℕ) → status ≡ 6 → Starved a out err → Part a taken last out err
+      → IsLast (CutLast a err) memory_text last
       → IsPut a out err status
 
 -- one of these answers was put; or memory was wanting before there was one, where this is so, and err has the last word
 pub data Ended (P : Answer → Type 0) (Begun : Type 0) (out err : Stream) (status : ℕ) : Type 0 where
   answered : (a : Answer) → P a → IsPut a out err status → Ended P Begun out err status
-  unanswered : Begun → (last : List ℕ) → status ≡ 6 → Gained out 0 [] → Gained err 1 last → IsLast (CutShort err) memory_text last → Ended P Begun out err status
+  unanswered : Begun → (last : List ℕ) → status ≡ 6 → Gained out 0 [] → Gained err 1 last
+      → IsLast (CutShort err) memory_text last → Ended P Begun out err status

@@ -23,7 +23,8 @@ abbrev pub bytes_of : List (String Global) → List (List ℕ)
 bytes_of words = map string_bytes words
 
 -- the call of words with these bytes
-abbrev pub call_of : List (List ℕ) → Option Files → (List ℕ → ℕ) → (List ℕ → ℕ) → Option (List Request) → Option (List Request) → Stream → Stream → Call
+abbrev pub call_of : List (List ℕ) → Option Files → (List ℕ → ℕ) → (List ℕ → ℕ)
+    → Option (List Request) → Option (List Request) → Stream → Stream → Call
 call_of words holds faults_before faults_after asked_before asked_after out err = record {
   words = words;
   holds = holds;
@@ -36,7 +37,8 @@ call_of words holds faults_before faults_after asked_before asked_after out err 
 }
 
 -- the call of these words
-abbrev pub call : List (String Global) → Option Files → (List ℕ → ℕ) → (List ℕ → ℕ) → Option (List Request) → Option (List Request) → Stream → Stream → Call
+abbrev pub call : List (String Global) → Option Files → (List ℕ → ℕ) → (List ℕ → ℕ)
+    → Option (List Request) → Option (List Request) → Stream → Stream → Call
 call words = call_of (bytes_of words)
 
 -- this name's count of faults rose in this call, as it does where a fetch of it fails

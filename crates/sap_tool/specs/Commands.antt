@@ -92,8 +92,10 @@ Accepts (check theory run) bytes = (t : Theory) × IsAcceptedTheory bytes t
 abbrev pub RefusesRun : Command → List ℕ → List ℕ → List ℕ → Type 0
 RefusesRun (compile way file) bytes z why = ⊥
 RefusesRun (replay task file run) bytes z why =
-    (told : FileContent) × IsAcceptedFile bytes told × IsRunRefusedWith (kinds_of task) (IsIllegal told) z why
-RefusesRun (check theory run) bytes z why = (t : Theory) × IsAcceptedTheory bytes t × IsRunRefusedWith Rules (IsIllegalOfTheory t) z why
+    (told : FileContent) × IsAcceptedFile bytes told
+    × IsRunRefusedWith (kinds_of task) (IsIllegal told) z why
+RefusesRun (check theory run) bytes z why = (t : Theory) × IsAcceptedTheory bytes t
+    × IsRunRefusedWith Rules (IsIllegalOfTheory t) z why
 
 -- it takes the run of those bytes: it accepts the file or theory of these, and the run is legal
 abbrev pub TakesRun : Command → List ℕ → List ℕ → Type 0
@@ -118,7 +120,8 @@ abbrev pub Allows : Command → Input → List ℕ → Type 0
 Allows (compile way file) (alone bytes) text = IsTheoryOf way bytes text
 Allows (compile way file) (and_run bytes z) text = ⊥
 Allows (replay task file run) (alone bytes) text = ⊥
-Allows (replay task file run) (and_run bytes z) text = IsReplayed (kinds_of task) (Writes task) bytes z text
+Allows (replay task file run) (and_run bytes z) text =
+    IsReplayed (kinds_of task) (Writes task) bytes z text
 Allows (check theory run) (alone bytes) text = ⊥
 Allows (check theory run) (and_run bytes z) text = IsChecked bytes z text
 
@@ -127,6 +130,7 @@ abbrev pub Means : Command → Input → List ℕ → Type 0
 Means (compile way file) (alone bytes) text = IsFaithfulText way bytes text
 Means (compile way file) (and_run bytes z) text = ⊥
 Means (replay task file run) (alone bytes) text = ⊥
-Means (replay task file run) (and_run bytes z) text = IsReplayed (kinds_of task) (Says task) bytes z text
+Means (replay task file run) (and_run bytes z) text =
+    IsReplayed (kinds_of task) (Says task) bytes z text
 Means (check theory run) (alone bytes) text = ⊥
 Means (check theory run) (and_run bytes z) text = IsChecked bytes z text

@@ -13,7 +13,8 @@ use Rattle.sap_tool.specs.declared.way.Way.{Way}
 -- the shelf tells that it holds what the command reads
 abbrev pub HoldsInput : Call → Command → Input → Type 0
 HoldsInput c k (alone bytes) = Holds c.holds (file_of k) bytes × (run_of k ≡ None)
-HoldsInput c k (and_run bytes z) = Holds c.holds (file_of k) bytes × ((run : List ℕ) × (run_of k ≡ Some run) × Holds c.holds run z)
+HoldsInput c k (and_run bytes z) = Holds c.holds (file_of k) bytes
+    × ((run : List ℕ) × (run_of k ≡ Some run) × Holds c.holds run z)
 
 -- a cause refuses the file, or the run
 abbrev pub RefusesInput : Command → Input → List ℕ → Type 0
@@ -22,7 +23,8 @@ RefusesInput k (and_run bytes z) why = Refuses k bytes why ⊎ RefusesRun k byte
 
 -- the count of faults rose of a name that the command reads
 abbrev pub FailedOnNamed : Call → Command → Type 0
-FailedOnNamed c k = FailedOn c (file_of k) ⊎ ((run : List ℕ) × (run_of k ≡ Some run) × FailedOn c run)
+FailedOnNamed c k = FailedOn c (file_of k)
+    ⊎ ((run : List ℕ) × (run_of k ≡ Some run) × FailedOn c run)
 
 -- out gained a text that the command allows for what was fetched, with what it means, and nothing was put on err
 pub record Given (c : Call) : Type 0 where
@@ -65,16 +67,20 @@ pub record Unwritten (c : Call) : Type 0 where
 -- err has the last word, whole unless its put was cut short, out has nothing, and the shelf was asked for no more than the call begins
 -- with, where there was no answer yet; or the sink that an answer belongs on counted a want of memory, and has a first part of it
 pub data Wanting (c : Call) : Type 0 where
-  before_all : (last : List ℕ) → IsBegun c → Gained c.out 0 [] → Gained c.err 1 last → IsLast (CutShort c.err) memory_text last → Wanting c
-  while_put : (a : Answer) (taken : ℕ) (last : List ℕ) → IsAnswer c a → Starved a c.out c.err → Part a taken last c.out c.err
+  before_all : (last : List ℕ) → IsBegun c → Gained c.out 0 [] → Gained c.err 1 last
+      → IsLast (CutShort c.err) memory_text last → Wanting c
+  while_put : (a : Answer) (taken : ℕ) (last : List ℕ) → IsAnswer c a → Starved a c.out c.err
+      → Part a taken last c.out c.err
       → IsLast (CutLast a c.err) memory_text last → Wanting c
 
 -- the words ask for nothing; or the shelf tells that it holds a file that a cause refuses; or a file that is accepted, and a run that
 -- a cause refuses
 pub data IsRefusedCall (c : Call) : Type 0 where
   unknown : IsUnknown c.words → IsRefusedCall c
-  of_file : (k : Command) (bytes why : List ℕ) → Asks c k → Holds c.holds (file_of k) bytes → Refuses k bytes why → IsRefusedCall c
-  of_run : (k : Command) (bytes z why : List ℕ) → Asks c k → HoldsInput c k (and_run bytes z) → RefusesRun k bytes z why → IsRefusedCall c
+  of_file : (k : Command) (bytes why : List ℕ) → Asks c k → Holds c.holds (file_of k) bytes
+      → Refuses k bytes why → IsRefusedCall c
+  of_run : (k : Command) (bytes z why : List ℕ) → Asks c k → HoldsInput c k (and_run bytes z)
+      → RefusesRun k bytes z why → IsRefusedCall c
 
 -- Each status comes only with its cause and with what it leaves on the two sinks, and the last fields say when 0, 1, 2 and 3 must
 -- come, and when out has nothing.
@@ -88,25 +94,36 @@ pub record Promises (c : Call) (status : ℕ) : Type 0 where
   pub unwritten : status ≡ 5 → Unwritten c
   pub wanting : status ≡ 6 → Wanting c
   -- where no put on err was cut short, 5 and 6 leave their word there, and nothing else
-  pub last_word : (CutShort c.err → ⊥) → (status ≡ 5 → Gained c.err 1 write_fault_text) × (status ≡ 6 → Gained c.err 1 memory_text)
+  pub last_word : (CutShort c.err → ⊥) → (status ≡ 5 → Gained c.err 1 write_fault_text)
+      × (status ≡ 6 → Gained c.err 1 memory_text)
   -- for words that ask for nothing
-  pub must_tell_usage : IsUnknown c.words → (status ≡ 3) ⊎ ((status ≡ 5) × Failed c.err) ⊎ (status ≡ 6)
+  pub must_tell_usage : IsUnknown c.words → (status ≡ 3) ⊎ ((status ≡ 5) × Failed c.err)
+      ⊎ (status ≡ 6)
   -- for a file that a cause refuses, whatever the run
-  pub must_refuse : (k : Command) (bytes why : List ℕ) → Asks c k → Holds c.holds (file_of k) bytes → Refuses k bytes why
-      → ((status ≡ 1) × Gained c.err 1 (refused_line why)) ⊎ ((status ≡ 4) × FailedOn c (file_of k)) ⊎ ((status ≡ 5) × Failed c.err) ⊎ (status ≡ 6)
+  pub must_refuse : (k : Command) (bytes why : List ℕ) → Asks c k → Holds c.holds (file_of k) bytes
+      → Refuses k bytes why
+      → ((status ≡ 1) × Gained c.err 1 (refused_line why)) ⊎ ((status ≡ 4) × FailedOn c (file_of k))
+      ⊎ ((status ≡ 5) × Failed c.err) ⊎ (status ≡ 6)
   -- for a run that a cause refuses, of a file that is accepted
-  pub must_refuse_run : (k : Command) (bytes z why : List ℕ) → Asks c k → HoldsInput c k (and_run bytes z) → RefusesRun k bytes z why
-      → ((status ≡ 2) × Gained c.err 1 (run_refused_line why)) ⊎ ((status ≡ 4) × FailedOnNamed c k) ⊎ ((status ≡ 5) × Failed c.err) ⊎ (status ≡ 6)
+  pub must_refuse_run : (k : Command) (bytes z why : List ℕ) → Asks c k
+      → HoldsInput c k (and_run bytes z) → RefusesRun k bytes z why
+      → ((status ≡ 2) × Gained c.err 1 (run_refused_line why)) ⊎ ((status ≡ 4) × FailedOnNamed c k)
+      ⊎ ((status ≡ 5) × Failed c.err) ⊎ (status ≡ 6)
   -- for a file, and a run, that no cause refuses
-  pub must_answer : (k : Command) (input : Input) → Asks c k → HoldsInput c k input → ((why : List ℕ) → RefusesInput k input why → ⊥)
+  pub must_answer : (k : Command) (input : Input) → Asks c k → HoldsInput c k input
+      → ((why : List ℕ) → RefusesInput k input why → ⊥)
       → (FailedOnNamed c k → ⊥) → (Failed c.out → ⊥) → (status ≡ 0) ⊎ (status ≡ 6)
   -- for a run that is legal, of a file that is accepted
-  pub must_take : (k : Command) (bytes z : List ℕ) → Asks c k → HoldsInput c k (and_run bytes z) → TakesRun k bytes z
+  pub must_take : (k : Command) (bytes z : List ℕ) → Asks c k → HoldsInput c k (and_run bytes z)
+      → TakesRun k bytes z
       → (FailedOnNamed c k → ⊥) → (Failed c.out → ⊥) → (status ≡ 0) ⊎ (status ≡ 6)
   -- for a file with a theory: it is its text
-  pub must_give : (way : Way) (file bytes text : List ℕ) → Asks c (compile way file) → Holds c.holds file bytes → Allows (compile way file) (alone bytes) text
-      → (FailedOn c file → ⊥) → (Failed c.out → ⊥) → ((status ≡ 0) × Gained c.out (pieces text) text) ⊎ (status ≡ 6)
+  pub must_give : (way : Way) (file bytes text : List ℕ) → Asks c (compile way file)
+      → Holds c.holds file bytes → Allows (compile way file) (alone bytes) text
+      → (FailedOn c file → ⊥) → (Failed c.out → ⊥)
+      → ((status ≡ 0) × Gained c.out (pieces text) text) ⊎ (status ≡ 6)
   -- for a sample: it is what is told of it
-  pub must_tell_sample : (n : ℕ) → IsSample c.words n → (Failed c.out → ⊥) → ((status ≡ 0) × Gained c.out (pieces (sample_text n)) (sample_text n)) ⊎ (status ≡ 6)
+  pub must_tell_sample : (n : ℕ) → IsSample c.words n → (Failed c.out → ⊥)
+      → ((status ≡ 0) × Gained c.out (pieces (sample_text n)) (sample_text n)) ⊎ (status ≡ 6)
   -- where the words, a file or a run are refused, out has nothing, whatever the status
   pub nothing_out : IsRefusedCall c → Gained c.out 0 []

@@ -35,15 +35,21 @@ use Rattle.sap_tool.specs.declared.way.Way.TheVariants.{Plain}
 -- the text is that of a run opposite, of the other kind
 pub data IsConvertedText (f : FileContent) : Run → List ℕ → Type 0 where
   -- of the lines that are written, the numbers that their words write are of 64 bits, those in the terms of bindings apart
-  to_rules : {lines : List PStep} (rule_lines : List RStep) → forward.IsConverted f.signature f.process lines rule_lines
-      → Each (λ line. AreNumbered (rule_words line)) rule_lines → IsConvertedText f (run.Process lines) (rule_run_text rule_lines)
-  to_process : {rule_lines : List RStep} (lines : List PStep) → back.IsConverted f.signature f.process rule_lines lines
-      → Each (λ line. AreNumbered (process_words line)) lines → IsConvertedText f (run.Rules rule_lines) (process_run_text lines)
+  to_rules : {lines : List PStep} (rule_lines : List RStep)
+      → forward.IsConverted f.signature f.process lines rule_lines
+      → Each (λ line. AreNumbered (rule_words line)) rule_lines
+      → IsConvertedText f (run.Process lines) (rule_run_text rule_lines)
+  to_process : {rule_lines : List RStep} (lines : List PStep)
+      → back.IsConverted f.signature f.process rule_lines lines
+      → Each (λ line. AreNumbered (process_words line)) lines
+      → IsConvertedText f (run.Rules rule_lines) (process_run_text lines)
 
 -- the run is legal within the limit, and this is its visible trace
 pub data IsSeen (f : FileContent) : Run → Trace → Type 0 where
-  of_process : {lines : List PStep} {tr : Trace} → forward.IsShownByLines f.signature f.process lines tr → IsSeen f (run.Process lines) tr
-  of_rules : {lines : List RStep} (s : RuleState) (full : Trace) → back.IsAdmittedRun f.signature f.process lines s full
+  of_process : {lines : List PStep} {tr : Trace}
+      → forward.IsShownByLines f.signature f.process lines tr → IsSeen f (run.Process lines) tr
+  of_rules : {lines : List RStep} (s : RuleState) (full : Trace)
+      → back.IsAdmittedRun f.signature f.process lines s full
       → IsSeen f (run.Rules lines) (hide full)
 
 -- the text says of each restriction and lemma of the file whether it is true on the visible trace of the run
@@ -54,7 +60,8 @@ pub record IsJudgedText (f : FileContent) (r : Run) (text : List ℕ) : Type 0 w
 
 -- the run is one of the theory's rules, legal within the limit, and this is its full trace
 pub data IsFullOf (t : Theory) : Run → Trace → Type 0 where
-  of_theory : {lines : List RStep} {full : Trace} (s : RuleState) → IsLegalRun t.signature t.rules HasFewNodes lines s full → IsFullOf t (run.Rules lines) full
+  of_theory : {lines : List RStep} {full : Trace} (s : RuleState)
+      → IsLegalRun t.signature t.rules HasFewNodes lines s full → IsFullOf t (run.Rules lines) full
 
 -- the text says of each restriction and lemma of the theory whether it is true on the full trace of the run
 pub record IsCheckedText (t : Theory) (r : Run) (text : List ℕ) : Type 0 where
@@ -63,7 +70,8 @@ pub record IsCheckedText (t : Theory) (r : Run) (text : List ℕ) : Type 0 where
   pub verdicts : AreVerdicts t.signature full (all_judged t.restrictions t.lemmas) text
 
 -- the bytes are an accepted file, and those of the run an accepted run of a kind that is asked for, of which such a text is written
-pub record IsReplayed (kinds : Kinds) (Is : FileContent → Run → List ℕ → Type 0) (bytes z text : List ℕ) : Type 0 where
+pub record IsReplayed (kinds : Kinds) (Is : FileContent → Run → List ℕ → Type 0)
+    (bytes z text : List ℕ) : Type 0 where
   pub told : FileContent
   pub file : IsAcceptedFile bytes told
   pub lines : Run
@@ -100,7 +108,8 @@ pub record IsLegalOfTheory (bytes z : List ℕ) : Type 0 where
 -- A run of the file's process and one of the rules of its theory are both legal within the limit on terms, and the full trace of the
 -- second counts. What the first shows is what is seen of the second, they have the same marks, which are the same inner actions and
 -- events in order, and what the adversary knows behind the second is among its entries behind the first.
-pub record AreOpposite (f : FileContent) (lines : List PStep) (rule_lines : List RStep) : Type 0 where
+pub record AreOpposite (f : FileContent) (lines : List PStep)
+    (rule_lines : List RStep) : Type 0 where
   pub theory : Theory
   pub compiled : theory ≡ compiled_theory Plain f
   pub config : Config

@@ -25,16 +25,20 @@ use Rattle.sap_outside.specs.RunPieces.{IsRunAnswer}
 -- Of the lines of a run of the file this is the first that is illegal, for this cause: of a run of its process, one that is refused; of
 -- one of its rules, one that is refused, or behind which one of the seven restrictions is false.
 pub data IsIllegal (f : FileContent) : Run → List ℕ → Type 0 where
-  of_process : {lines : List PStep} (number : ℕ) (e : PFault) → forward.IsFirstRefusedOfProcess f.signature f.process lines number e
+  of_process : {lines : List PStep} (number : ℕ) (e : PFault)
+      → forward.IsFirstRefusedOfProcess f.signature f.process lines number e
       → IsIllegal f (run.Process lines) (at_step number (process_fault_text e))
-  of_rules : {lines : List RStep} (number : ℕ) (e : RFault) → back.IsFirstRefusedOfRules f.signature f.process lines number e
+  of_rules : {lines : List RStep} (number : ℕ) (e : RFault)
+      → back.IsFirstRefusedOfRules f.signature f.process lines number e
       → IsIllegal f (run.Rules lines) (at_step number (rule_fault_text e))
-  breaks : {lines : List RStep} (number : ℕ) (which : Which) → back.IsFirstBroken f.signature f.process lines number which
+  breaks : {lines : List RStep} (number : ℕ) (which : Which)
+      → back.IsFirstBroken f.signature f.process lines number which
       → IsIllegal f (run.Rules lines) (at_step number (broken_text which))
 
 -- the lines before the one with this number, from 1, are a legal run of the theory's rules within the limit, and that one is refused for
 -- this cause
-pub record IsFirstRefusedOfTheory (t : Theory) (lines : List RStep) (number : ℕ) (e : RFault) : Type 0 where
+pub record IsFirstRefusedOfTheory (t : Theory) (lines : List RStep) (number : ℕ)
+    (e : RFault) : Type 0 where
   pub before : List RStep
   pub line : RStep
   pub after : List RStep
@@ -48,10 +52,14 @@ pub record IsFirstRefusedOfTheory (t : Theory) (lines : List RStep) (number : �
 
 -- of the lines of a run of the theory's rules the first that is illegal is refused for this cause; restrictions refuse none
 pub data IsIllegalOfTheory (t : Theory) : Run → List ℕ → Type 0 where
-  of_theory : {lines : List RStep} (number : ℕ) (e : RFault) → IsFirstRefusedOfTheory t lines number e
+  of_theory : {lines : List RStep} (number : ℕ) (e : RFault)
+      → IsFirstRefusedOfTheory t lines number e
       → IsIllegalOfTheory t (run.Rules lines) (at_step number (rule_fault_text e))
 
 -- the bytes are refused for this cause: they are no run of a kind that is asked for; else a line of the run is the first that is illegal
-pub data IsRunRefusedWith (kinds : Kinds) (Is : Run → List ℕ → Type 0) (bytes : List ℕ) : List ℕ → Type 0 where
-  no_run : {e : RunRefusal} → IsRunAnswer kinds bytes (Err e) → IsRunRefusedWith kinds Is bytes (run_refusal_text e)
-  illegal : {r : Run} {why : List ℕ} → IsRunAnswer kinds bytes (Ok r) → Is r why → IsRunRefusedWith kinds Is bytes why
+pub data IsRunRefusedWith (kinds : Kinds) (Is : Run → List ℕ → Type 0) (bytes : List ℕ)
+    : List ℕ → Type 0 where
+  no_run : {e : RunRefusal} → IsRunAnswer kinds bytes (Err e)
+      → IsRunRefusedWith kinds Is bytes (run_refusal_text e)
+  illegal : {r : Run} {why : List ℕ} → IsRunAnswer kinds bytes (Ok r) → Is r why
+      → IsRunRefusedWith kinds Is bytes why

@@ -14,7 +14,8 @@ pub record Judged : Type 0 where
 
 -- restrictions and lemmas as such
 abbrev pub judged_restrictions : List RestrictionForm → List Judged
-judged_restrictions rs = map (λ (r : RestrictionForm). record { name = r.name; formula = r.formula }) rs
+judged_restrictions rs =
+    map (λ (r : RestrictionForm). record { name = r.name; formula = r.formula }) rs
 
 -- and lemmas
 abbrev pub judged_lemmas : List LemmaForm → List Judged
@@ -37,5 +38,6 @@ verdict_line name v = name ++ (codes ": " ++ (verdict_text v ++ codes "\n"))
 -- a line for each, by the truth of its formula on the trace, unless that costs too much to say
 pub data AreVerdicts (g : Sig) (tr : Trace) : List Judged → List ℕ → Type 0 where
   no_line : AreVerdicts g tr [] []
-  line_more : {x : Judged} {xs : List Judged} {text : List ℕ} (v : Verdict) → IsVerdict g x.formula tr v → AreVerdicts g tr xs text
+  line_more : {x : Judged} {xs : List Judged} {text : List ℕ} (v : Verdict)
+      → IsVerdict g x.formula tr v → AreVerdicts g tr xs text
       → AreVerdicts g tr (x ∷ xs) (verdict_line x.name v ++ text)

@@ -14,7 +14,8 @@ use Rattle.sap_rule.specs.declared.theory.Theory.{Theory}
 
 -- this is seen of some run of the rules whose full trace is admitted
 abbrev pub IsVisibleTrace : Sig → List Rule → Trace → Type 0
-IsVisibleTrace g rules tr = (full : Trace) × IsFullTrace g rules full × IsAdmitted g full × (hide full ≡ tr)
+IsVisibleTrace g rules tr = (full : Trace) × IsFullTrace g rules full × IsAdmitted g full
+    × (hide full ≡ tr)
 
 -- each trace of the process is seen of an admitted run of the rules
 abbrev pub ShowsAll : Sig → Proc → List Rule → Type 0
@@ -30,4 +31,5 @@ AreRestrictionsTrue g rs tr = AreTrueOn g (map (λ (r : RestrictionForm). r.form
 
 -- this is seen of some run of the theory's rules on whose full trace the theory's restrictions are true
 abbrev pub IsShownBy : Theory → Trace → Type 0
-IsShownBy t tr = (full : Trace) × IsFullTrace t.signature t.rules full × AreRestrictionsTrue t.signature t.restrictions full × (hide full ≡ tr)
+IsShownBy t tr = (full : Trace) × IsFullTrace t.signature t.rules full
+    × AreRestrictionsTrue t.signature t.restrictions full × (hide full ≡ tr)

@@ -9,7 +9,8 @@ use Rattle.sap_runs.specs.declared.rule_step.RStep.TheVariants.{Fresh, Learn, Ow
 -- acknowledged, or it takes what a line `know` gave, which is counted there
 abbrev pub is_uncounted : List ℕ → Bool
 is_uncounted name =
-    bytes_eq name (codes "Init") || (starts_with nat_eq name (codes "RepStart_") || (starts_with nat_eq name (codes "OutMsg_") || (starts_with nat_eq name (codes "OutAck_")
+    bytes_eq name (codes "Init")
+    || (starts_with nat_eq name (codes "RepStart_") || (starts_with nat_eq name (codes "OutMsg_") || (starts_with nat_eq name (codes "OutAck_")
     || (starts_with nat_eq name (codes "In_") || (starts_with nat_eq name (codes "InAdv_") || starts_with nat_eq name (codes "OutAdv_"))))))
 
 -- the lines of the process for a line of rules

@@ -35,7 +35,8 @@ rule word path left acts right = record { name = word ++ digits path; left = lef
 -- the rule takes the fresh name that the process makes
 abbrev pub new_rule : List ℕ → List Var → Var → Rule
 new_rule path v x =
-    rule (codes "New_") path (state path v ∷ fresh_fact (variable (fresh_var x)) ∷ []) [] (state (first_of path) (v ++ fresh_var x ∷ []) ∷ [])
+    rule (codes "New_") path (state path v ∷ fresh_fact (variable (fresh_var x)) ∷ []) []
+    (state (first_of path) (v ++ fresh_var x ∷ []) ∷ [])
 
 -- the rules of a new name
 abbrev pub new_rules : List ℕ → List Var → Var → List Rule
@@ -43,7 +44,8 @@ new_rules path v x = new_rule path v x ∷ []
 
 -- the adversary is given the term
 abbrev pub out_rule : List ℕ → List Var → Tree → Rule
-out_rule path v t = rule (codes "Out_") path (state path v ∷ []) [] (out_fact t ∷ state (first_of path) v ∷ [])
+out_rule path v t =
+    rule (codes "Out_") path (state path v ∷ []) [] (out_fact t ∷ state (first_of path) v ∷ [])
 
 -- the rules of an output
 abbrev pub out_rules : List ℕ → List Var → Tree → List Rule
@@ -52,7 +54,8 @@ out_rules path v t = out_rule path v t ∷ []
 -- the adversary gives the channel, and is given the term
 abbrev pub out_adv_rule : List ℕ → List Var → Tree → Tree → Rule
 out_adv_rule path v t u =
-    rule (codes "OutAdv_") path (state path v ∷ in_fact t ∷ []) (input_fact t ∷ []) (out_fact u ∷ state (first_of path) v ∷ [])
+    rule (codes "OutAdv_") path (state path v ∷ in_fact t ∷ []) (input_fact t ∷ [])
+    (out_fact u ∷ state (first_of path) v ∷ [])
 
 -- the term is under way with a fresh tag, and the process waits with it
 abbrev pub out_msg_rule : List ℕ → List Var → Tree → Tree → Rule
@@ -63,7 +66,8 @@ out_msg_rule path v t u =
 -- it goes on once its tag is acknowledged
 abbrev pub out_ack_rule : List ℕ → List Var → Rule
 out_ack_rule path v =
-    rule (codes "OutAck_") path (waits_fact path (map variable v ++ variable tag ∷ []) ∷ ack_fact (variable tag) ∷ []) []
+    rule (codes "OutAck_") path
+    (waits_fact path (map variable v ++ variable tag ∷ []) ∷ ack_fact (variable tag) ∷ []) []
     (state (first_of path) v ∷ [])
 
 -- on a channel that the adversary gives, it is given the term; else the term is under way with a tag, and the process waits
@@ -74,7 +78,8 @@ send_rules path v t u = out_adv_rule path v t u ∷ out_msg_rule path v t u ∷ 
 -- the adversary gives an instance of the pattern
 abbrev pub in_rule : List ℕ → List Var → Tree → Rule
 in_rule path v t =
-    rule (codes "In_") path (state path v ∷ in_fact t ∷ []) (input_fact t ∷ []) (state (first_of path) (with_new v (tree_vars t)) ∷ [])
+    rule (codes "In_") path (state path v ∷ in_fact t ∷ []) (input_fact t ∷ [])
+    (state (first_of path) (with_new v (tree_vars t)) ∷ [])
 
 -- the rules of an input
 abbrev pub input_rules : List ℕ → List Var → Tree → List Rule
@@ -83,7 +88,8 @@ input_rules path v t = in_rule path v t ∷ []
 -- the adversary gives the channel and an instance of the pattern, as a pair
 abbrev pub in_adv_rule : List ℕ → List Var → Tree → Tree → Rule
 in_adv_rule path v t u =
-    rule (codes "InAdv_") path (state path v ∷ in_fact (app2 pair_name t u) ∷ []) (input_fact (app2 pair_name t u) ∷ [])
+    rule (codes "InAdv_") path (state path v ∷ in_fact (app2 pair_name t u) ∷ [])
+    (input_fact (app2 pair_name t u) ∷ [])
     (state (first_of path) (with_new v (tree_vars u)) ∷ [])
 
 -- an instance of the pattern is under way on the channel, and its tag is acknowledged
@@ -99,7 +105,9 @@ receive_rules path v t u = in_adv_rule path v t u ∷ in_msg_rule path v t u ∷
 
 -- the fact is shown beside `Event()`
 abbrev pub event_rule : List ℕ → List Var → Fact → Rule
-event_rule path v f = rule (codes "Event_") path (state path v ∷ []) (event_fact ∷ f ∷ []) (state (first_of path) v ∷ [])
+event_rule path v f =
+    rule (codes "Event_") path (state path v ∷ []) (event_fact ∷ f ∷ [])
+    (state (first_of path) v ∷ [])
 
 -- the rules of an event
 abbrev pub event_rules : List ℕ → List Var → Fact → List Rule
@@ -107,7 +115,9 @@ event_rules path v f = event_rule path v f ∷ []
 
 -- what is stored is shown
 abbrev pub insert_rule : List ℕ → List Var → Tree → Tree → Rule
-insert_rule path v t u = rule (codes "Insert_") path (state path v ∷ []) (insert_fact t u ∷ []) (state (first_of path) v ∷ [])
+insert_rule path v t u =
+    rule (codes "Insert_") path (state path v ∷ []) (insert_fact t u ∷ [])
+    (state (first_of path) v ∷ [])
 
 -- the rules of an insertion
 abbrev pub insert_rules : List ℕ → List Var → Tree → Tree → List Rule
@@ -115,7 +125,9 @@ insert_rules path v t u = insert_rule path v t u ∷ []
 
 -- the key at which nothing is stored from now on is shown
 abbrev pub delete_rule : List ℕ → List Var → Tree → Rule
-delete_rule path v t = rule (codes "Delete_") path (state path v ∷ []) (delete_fact t ∷ []) (state (first_of path) v ∷ [])
+delete_rule path v t =
+    rule (codes "Delete_") path (state path v ∷ []) (delete_fact t ∷ [])
+    (state (first_of path) v ∷ [])
 
 -- the rules of a deletion
 abbrev pub delete_rules : List ℕ → List Var → Tree → List Rule
@@ -124,7 +136,8 @@ delete_rules path v t = delete_rule path v t ∷ []
 -- the term is locked under a fresh name, for which the variable of the lock stands from here on
 abbrev pub lock_rule : List ℕ → List Var → Tree → ℕ → Rule
 lock_rule path v t l =
-    rule (codes "Lock_") path (state path v ∷ fresh_fact (variable (lock_var l)) ∷ []) (lock_fact (variable (lock_var l)) t ∷ [])
+    rule (codes "Lock_") path (state path v ∷ fresh_fact (variable (lock_var l)) ∷ [])
+    (lock_fact (variable (lock_var l)) t ∷ [])
     (state (first_of path) (v ++ lock_var l ∷ []) ∷ [])
 
 -- the rules of a lock
@@ -134,7 +147,8 @@ lock_rules path v t l = lock_rule path v t l ∷ []
 -- it is unlocked under the name of its lock, whose variable stays in scope
 abbrev pub unlock_rule : List ℕ → List Var → Tree → ℕ → Rule
 unlock_rule path v t l =
-    rule (codes "Unlock_") path (state path v ∷ []) (unlock_fact (variable (lock_var l)) t ∷ []) (state (first_of path) v ∷ [])
+    rule (codes "Unlock_") path (state path v ∷ []) (unlock_fact (variable (lock_var l)) t ∷ [])
+    (state (first_of path) v ∷ [])
 
 -- the rules of an unlock
 abbrev pub unlock_rules : List ℕ → List Var → Tree → ℕ → List Rule
@@ -179,7 +193,9 @@ nil_rules path v = nil_rule path v ∷ []
 
 -- both children start
 abbrev pub parallel_rule : List ℕ → List Var → Rule
-parallel_rule path v = rule (codes "Par_") path (state path v ∷ []) [] (state (first_of path) v ∷ state (second_of path) v ∷ [])
+parallel_rule path v =
+    rule (codes "Par_") path (state path v ∷ []) []
+    (state (first_of path) v ∷ state (second_of path) v ∷ [])
 
 -- the rules of a parallel
 abbrev pub parallel_rules : List ℕ → List Var → List Rule
@@ -187,11 +203,14 @@ parallel_rules path v = parallel_rule path v ∷ []
 
 -- the replication starts, and stays
 abbrev pub rep_start_rule : List ℕ → List Var → Rule
-rep_start_rule path v = rule (codes "RepStart_") path (state path v ∷ []) [] (copies_fact path (map variable v) ∷ [])
+rep_start_rule path v =
+    rule (codes "RepStart_") path (state path v ∷ []) [] (copies_fact path (map variable v) ∷ [])
 
 -- from then on a copy starts whenever one likes
 abbrev pub rep_copy_rule : List ℕ → List Var → Rule
-rep_copy_rule path v = rule (codes "RepCopy_") path (copies_fact path (map variable v) ∷ []) [] (state (first_of path) v ∷ [])
+rep_copy_rule path v =
+    rule (codes "RepCopy_") path (copies_fact path (map variable v) ∷ []) []
+    (state (first_of path) v ∷ [])
 
 -- the rules of a replication
 abbrev pub replicated_rules : List ℕ → List Var → List Rule
@@ -199,11 +218,14 @@ replicated_rules path v = rep_start_rule path v ∷ rep_copy_rule path v ∷ []
 
 -- the two terms are shown as equal
 abbrev pub then_rule : List ℕ → List Var → Tree → Tree → Rule
-then_rule path v t u = rule (codes "Then_") path (state path v ∷ []) (eq_fact t u ∷ []) (state (first_of path) v ∷ [])
+then_rule path v t u =
+    rule (codes "Then_") path (state path v ∷ []) (eq_fact t u ∷ []) (state (first_of path) v ∷ [])
 
 -- or as different
 abbrev pub else_rule : List ℕ → List Var → Tree → Tree → Rule
-else_rule path v t u = rule (codes "Else_") path (state path v ∷ []) (not_eq_fact t u ∷ []) (state (second_of path) v ∷ [])
+else_rule path v t u =
+    rule (codes "Else_") path (state path v ∷ []) (not_eq_fact t u ∷ [])
+    (state (second_of path) v ∷ [])
 
 -- the rules of a test
 abbrev pub test_rules : List ℕ → List Var → Tree → Tree → List Rule
@@ -212,11 +234,14 @@ test_rules path v t u = then_rule path v t u ∷ else_rule path v t u ∷ []
 -- a value is shown at the key
 abbrev pub found_rule : List ℕ → List Var → Tree → Var → Rule
 found_rule path v t x =
-    rule (codes "Found_") path (state path v ∷ []) (is_in_fact t (variable (message_var x)) ∷ []) (state (first_of path) (v ++ message_var x ∷ []) ∷ [])
+    rule (codes "Found_") path (state path v ∷ []) (is_in_fact t (variable (message_var x)) ∷ [])
+    (state (first_of path) (v ++ message_var x ∷ []) ∷ [])
 
 -- or none
 abbrev pub missing_rule : List ℕ → List Var → Tree → Rule
-missing_rule path v t = rule (codes "Missing_") path (state path v ∷ []) (is_not_set_fact t ∷ []) (state (second_of path) v ∷ [])
+missing_rule path v t =
+    rule (codes "Missing_") path (state path v ∷ []) (is_not_set_fact t ∷ [])
+    (state (second_of path) v ∷ [])
 
 -- the rules of a look-up
 abbrev pub lookup_rules : List ℕ → List Var → Tree → Var → List Rule
@@ -234,12 +259,17 @@ own_rules path v (lookup t x p q) = lookup_rules path v t x
 -- the rules of the places from this path on, in preorder
 abbrev pub place_rules : List ℕ → List Var → Proc → List Rule
 place_rules path v nil = own_rules path v nil
-place_rules path v (parallel p q) = own_rules path v (parallel p q) ++ (place_rules (first_of path) v p ++ place_rules (second_of path) v q)
-place_rules path v (replicated p) = own_rules path v (replicated p) ++ place_rules (first_of path) v p
-place_rules path v (act a p) = own_rules path v (act a p) ++ place_rules (first_of path) (scope_behind v a) p
-place_rules path v (test t u p q) = own_rules path v (test t u p q) ++ (place_rules (first_of path) v p ++ place_rules (second_of path) v q)
+place_rules path v (parallel p q) = own_rules path v (parallel p q)
+    ++ (place_rules (first_of path) v p ++ place_rules (second_of path) v q)
+place_rules path v (replicated p) = own_rules path v (replicated p)
+    ++ place_rules (first_of path) v p
+place_rules path v (act a p) = own_rules path v (act a p)
+    ++ place_rules (first_of path) (scope_behind v a) p
+place_rules path v (test t u p q) = own_rules path v (test t u p q)
+    ++ (place_rules (first_of path) v p ++ place_rules (second_of path) v q)
 place_rules path v (lookup t x p q) =
-    own_rules path v (lookup t x p q) ++ (place_rules (first_of path) (v ++ message_var x ∷ []) p ++ place_rules (second_of path) v q)
+    own_rules path v (lookup t x p q)
+    ++ (place_rules (first_of path) (v ++ message_var x ∷ []) p ++ place_rules (second_of path) v q)
 
 -- the rule that starts the process
 abbrev pub init_rule : Rule
