@@ -10,7 +10,7 @@ Pile = List (Option Fact)
 abbrev pub used : Pile → ℕ → Fact → Pile
 used facts k f = if f.persistent then facts else slice_set facts k None
 
--- the facts with these numbers are live and are these, each used before the next is looked for, and this is left
+-- used one after another, the facts with these numbers are these, and this pile is left
 pub data Takes : Pile → List ℕ → List Fact → Pile → Type 0 where
   nothing : {facts : Pile} → Takes facts [] [] facts
   one : {facts rest : Pile} {k : ℕ} {ks : List ℕ} {f : Fact} {fs : List Fact}

@@ -3,7 +3,7 @@ use Rattle.std.specs.Prelude.{ℕ, Bool, ◌||◌, nat_eq, codes, List, [], ◌�
 use Rattle.std.specs.List.{list_any, starts_with}
 use Rattle.std.specs.Str.{bytes_eq}
 
--- the words that are taken
+-- the names of facts that rules and runs use themselves
 abbrev pub reserved_words : List (List ℕ)
 reserved_words =
     codes "Init" ∷ codes "Event" ∷ codes "Eq" ∷ codes "NotEq" ∷ codes "Insert" ∷ codes "Delete"
@@ -12,7 +12,7 @@ reserved_words =
     ∷ codes "In" ∷ codes "Out"
     ∷ codes "K" ∷ codes "KU" ∷ codes "KD" ∷ []
 
--- one of these words, or it begins as a state fact does
+-- the name is one of these words, or begins as the name of a state fact does
 abbrev pub is_reserved : List ℕ → Bool
 is_reserved name =
     list_any (λ word. bytes_eq name word) reserved_words || starts_with nat_eq name (codes "State_")
