@@ -31,3 +31,4 @@ pub mod ExactSteps
 pub mod FlawsByHand
 pub mod PlacesOrdered
 pub mod RuleTraces
+pub mod Below

@@ -7,6 +7,7 @@ pub mod Heads
 pub mod Sites
 pub mod Scopes
 pub mod Places
+pub mod Children
 pub mod Flaws
 pub mod Instance
 pub mod Sorted

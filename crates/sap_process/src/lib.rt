@@ -30,6 +30,6 @@ pub use laws::{
     some_flaw, sorting_keeps, steps_by_hand, traces_by_hand,
 };
 pub use places::{HandsDown, ScopeBelow, places_are_by_path, places_are_ordered};
-pub use process::Process;
+pub use process::{Children, Process};
 pub use substituting::substitute;
 pub use trail::Trail;

@@ -1,6 +1,8 @@
 //! Processes.
 ghost use Rattle.std.specs.Prelude.{◌≡◌, min};
 ghost use Rattle.sap_process.specs.Proc.{proc, node_count, level_count};
+ghost use Rattle.sap_process.specs.Places.{first_child, second_child};
+ghost use Rattle.sap_process.specs.Children.{first_of_children, second_of_children, HaveFewerPlaces};
 
 use sap_terms::{Fact, FactList, Term, Var};
 
@@ -71,16 +73,28 @@ impl Drop for Process {
     }
 }
 
+/// What stands directly below a process.
+pub enum Children<'a> {
+    /// nothing: it is `Nil`
+    Nothing,
+    /// one process
+    One(&'a Process),
+    /// a first and a second: both sides of `|`, or both branches
+    Two(&'a Process, &'a Process),
+}
+
 impl Process {
-    /// The places of the process; from the greatest u64 on, that number. It takes no memory, and recurses as deep as the
-    /// process.
-    pub fn nodes(&self) -> u64
-        ensures { result ≡ min (node_count (proc self.now)) u64.MAX }
+    /// The processes directly below, in order. It takes no memory. Who walks through a process goes on by this, so that a form
+    /// more is told here alone.
+    pub fn children(&self) -> Children<'_>
+        ensures first { first_of_children result ≡ first_child (proc self.now) }
+        ensures second { second_of_children result ≡ second_child (proc self.now) }
+        ensures fewer { HaveFewerPlaces (node_count (proc self.now)) result }
     {
         match self {
-            Process::Nil => 1,
+            Process::Nil => Children::Nothing,
             Process::Par(p, q) | Process::If(_, _, p, q) | Process::Lookup(_, _, p, q) => {
-                p.nodes().saturating_add(q.nodes()).saturating_add(1)
+                Children::Two(p, q)
             }
             Process::Rep(p)
             | Process::New(_, p)
@@ -93,7 +107,19 @@ impl Process {
             | Process::Delete(_, p)
             | Process::Lock(_, _, p)
             | Process::Unlock(_, _, p)
-            | Process::Embedded(_, _, _, p) => p.nodes().saturating_add(1),
+            | Process::Embedded(_, _, _, p) => Children::One(p),
+        }
+    }
+
+    /// The places of the process; from the greatest u64 on, that number. It takes no memory, and recurses as deep as the
+    /// process.
+    pub fn nodes(&self) -> u64
+        ensures { result ≡ min (node_count (proc self.now)) u64.MAX }
+    {
+        match self.children() {
+            Children::Nothing => 1,
+            Children::One(p) => p.nodes().saturating_add(1),
+            Children::Two(p, q) => p.nodes().saturating_add(q.nodes()).saturating_add(1),
         }
     }
 
@@ -102,23 +128,10 @@ impl Process {
     pub fn levels(&self) -> u64
         ensures { result ≡ min (level_count (proc self.now)) u64.MAX }
     {
-        match self {
-            Process::Nil => 1,
-            Process::Par(p, q) | Process::If(_, _, p, q) | Process::Lookup(_, _, p, q) => {
-                p.levels().max(q.levels()).saturating_add(1)
-            }
-            Process::Rep(p)
-            | Process::New(_, p)
-            | Process::Out(_, p)
-            | Process::Send(_, _, p)
-            | Process::In(_, p)
-            | Process::Recv(_, _, p)
-            | Process::Event(_, p)
-            | Process::Insert(_, _, p)
-            | Process::Delete(_, p)
-            | Process::Lock(_, _, p)
-            | Process::Unlock(_, _, p)
-            | Process::Embedded(_, _, _, p) => p.levels().saturating_add(1),
+        match self.children() {
+            Children::Nothing => 1,
+            Children::One(p) => p.levels().saturating_add(1),
+            Children::Two(p, q) => p.levels().max(q.levels()).saturating_add(1),
         }
     }
 }

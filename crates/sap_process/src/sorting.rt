@@ -9,7 +9,7 @@ ghost use Rattle.sap_process.specs.Proc.{proc, lookup};
 ghost use Rattle.sap_process.specs.Sites.{fresh_var, message_var};
 ghost use Rattle.sap_process.specs.Sorted.{by_binder, with_sorts};
 
-use crate::Process;
+use crate::{Children, Process};
 use crate::naming::{bind, with_sort};
 use crate::replacing::{Replacing, ended, looking_up, over, over_both};
 use crate::scope::Scope;
@@ -37,21 +37,12 @@ pub(crate) fn sorted(alloc: Global, scope: &mut Scope, p: &Process) -> Result<Bo
     ensures same { OnOk result (scope.new ≡ scope.old) }
 {
     match p {
-        Process::Nil => ended(alloc),
-        Process::Par(q, r) | Process::If(_, _, q, r) => sorted_both(alloc, scope, p, q, r),
         Process::Lookup(t, x, q, r) => sorted_lookup(alloc, scope, t, x, q, r),
-        Process::Rep(q)
-        | Process::New(_, q)
-        | Process::Out(_, q)
-        | Process::Send(_, _, q)
-        | Process::In(_, q)
-        | Process::Recv(_, _, q)
-        | Process::Event(_, q)
-        | Process::Insert(_, _, q)
-        | Process::Delete(_, q)
-        | Process::Lock(_, _, q)
-        | Process::Unlock(_, _, q)
-        | Process::Embedded(_, _, _, q) => sorted_over(alloc, scope, p, q),
+        _ => match p.children() {
+            Children::Nothing => ended(alloc),
+            Children::One(q) => sorted_over(alloc, scope, p, q),
+            Children::Two(q, r) => sorted_both(alloc, scope, p, q, r),
+        },
     }
 }
 

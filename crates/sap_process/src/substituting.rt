@@ -6,7 +6,7 @@ ghost use Rattle.sap_process.specs.code.Headed.{headed, forked};
 ghost use Rattle.sap_process.specs.Instance.{process_instance, without};
 ghost use Rattle.sap_process.specs.Proc.{proc, lookup};
 
-use crate::Process;
+use crate::{Children, Process};
 use crate::replacing::{Replacing, ended, looking_up, over, over_both};
 use sap_terms::{Bindings, Copied, Mem, Term, Var, subst};
 use std::alloc::Global;
@@ -43,21 +43,13 @@ pub(crate) fn replaced(alloc: Global, p: &Process, b: &Bindings) -> Result<Box<P
     ensures { IfOk result (λ q. proc q.value ≡ process_instance (bound_to b.now) (proc p.now)) }
 {
     match p {
-        Process::Nil => ended(alloc),
-        Process::Par(q, r) | Process::If(_, _, q, r) => replaced_both(alloc, p, q, r, b),
-        Process::Lookup(t, x, p, q) => replaced_lookup(alloc, t, x, p, q, b),
+        Process::Lookup(t, x, q, r) => replaced_lookup(alloc, t, x, q, r, b),
         Process::New(x, q) => replaced_name(alloc, p, x, q, b),
-        Process::Rep(q)
-        | Process::Out(_, q)
-        | Process::Send(_, _, q)
-        | Process::In(_, q)
-        | Process::Recv(_, _, q)
-        | Process::Event(_, q)
-        | Process::Insert(_, _, q)
-        | Process::Delete(_, q)
-        | Process::Lock(_, _, q)
-        | Process::Unlock(_, _, q)
-        | Process::Embedded(_, _, _, q) => replaced_over(alloc, p, q, b),
+        _ => match p.children() {
+            Children::Nothing => ended(alloc),
+            Children::One(q) => replaced_over(alloc, p, q, b),
+            Children::Two(q, r) => replaced_both(alloc, p, q, r, b),
+        },
     }
 }
 

@@ -16,7 +16,7 @@ use crate::naming::{Tested, test, with_sort};
 use crate::occurrences::any_at_head;
 use crate::scope::Scope;
 use crate::trail::Trail;
-use crate::{Flaw, Process};
+use crate::{Children, Flaw, Process};
 use sap_terms::{Mem, Path, Signature, Sort, Var};
 use std::alloc::Global;
 
@@ -91,23 +91,12 @@ fn search_below(
         (sites_below walk.old.trail scope locks (proc p.now))) }
 {
     match p {
-        Process::Nil => Ok(()),
-        Process::Par(q, r) | Process::If(_, _, q, r) => {
-            search_both(alloc, sig, walk, locks, q, r)
-        }
         Process::Lookup(_, x, q, r) => search_branches(alloc, sig, walk, x, locks, q, r),
-        Process::Rep(q)
-        | Process::New(_, q)
-        | Process::Out(_, q)
-        | Process::Send(_, _, q)
-        | Process::In(_, q)
-        | Process::Recv(_, _, q)
-        | Process::Event(_, q)
-        | Process::Insert(_, _, q)
-        | Process::Delete(_, q)
-        | Process::Lock(_, _, q)
-        | Process::Unlock(_, _, q)
-        | Process::Embedded(_, _, _, q) => search_next(alloc, sig, walk, p, locks, q),
+        _ => match p.children() {
+            Children::Nothing => Ok(()),
+            Children::One(q) => search_next(alloc, sig, walk, p, locks, q),
+            Children::Two(q, r) => search_both(alloc, sig, walk, locks, q, r),
+        },
     }
 }
 
