@@ -1,3 +1,4 @@
+pub mod Kids
 pub mod Agreeing
 pub mod Given
 pub mod Runs

@@ -4,7 +4,7 @@ ghost use Rattle.sap_process.specs.Proc.{Proc, proc};
 ghost use Rattle.sap_lines.specs.Places.{form_proc, with_children, ArePlaces, AddsForm, AddsProcess, IsRooted};
 
 use crate::form::{Form, form_of};
-use sap_process::Process;
+use sap_process::{Children, Process};
 use sap_terms::{Copied, Items, Mem};
 use std::alloc::Global;
 
@@ -55,27 +55,16 @@ fn add_process(alloc: Global, places: &mut Places, p: &Process) -> Result<u64, M
     requires { ArePlaces places.old }
     ensures { IfOk result (λ k. AddsProcess places.old places.new k (proc p.now)) }
 {
-    match p {
-        Process::Nil => add_form(alloc, places, p, 0, 0),
-        Process::Par(q, r) | Process::If(_, _, q, r) | Process::Lookup(_, _, q, r) => {
+    match p.children() {
+        Children::Nothing => add_form(alloc, places, p, 0, 0),
+        Children::One(q) => {
+            let first = add_process(alloc, places, q)?;
+            add_form(alloc, places, p, first, first)
+        }
+        Children::Two(q, r) => {
             let first = add_process(alloc, places, q)?;
             let second = add_process(alloc, places, r)?;
             add_form(alloc, places, p, first, second)
-        }
-        Process::Rep(q)
-        | Process::New(_, q)
-        | Process::Out(_, q)
-        | Process::Send(_, _, q)
-        | Process::In(_, q)
-        | Process::Recv(_, _, q)
-        | Process::Event(_, q)
-        | Process::Insert(_, _, q)
-        | Process::Delete(_, q)
-        | Process::Lock(_, _, q)
-        | Process::Unlock(_, _, q)
-        | Process::Embedded(_, _, _, q) => {
-            let first = add_process(alloc, places, q)?;
-            add_form(alloc, places, p, first, first)
         }
     }
 }

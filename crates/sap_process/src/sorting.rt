@@ -9,10 +9,10 @@ ghost use Rattle.sap_process.specs.Proc.{proc, lookup};
 ghost use Rattle.sap_process.specs.Sites.{fresh_var, message_var};
 ghost use Rattle.sap_process.specs.Sorted.{by_binder, with_sorts};
 
-use crate::{Children, Process};
 use crate::naming::{bind, with_sort};
 use crate::replacing::{Replacing, ended, looking_up, over, over_both};
 use crate::scope::Scope;
+use crate::{Children, Process};
 use sap_terms::{Copied, Mem, Name, Sort, Term, TermList, Var};
 use std::alloc::Global;
 

@@ -6,8 +6,8 @@ ghost use Rattle.sap_process.specs.code.Headed.{headed, forked};
 ghost use Rattle.sap_process.specs.Instance.{process_instance, without};
 ghost use Rattle.sap_process.specs.Proc.{proc, lookup};
 
-use crate::{Children, Process};
 use crate::replacing::{Replacing, ended, looking_up, over, over_both};
+use crate::{Children, Process};
 use sap_terms::{Bindings, Copied, Mem, Term, Var, subst};
 use std::alloc::Global;
 

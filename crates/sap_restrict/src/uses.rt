@@ -3,7 +3,7 @@ ghost use Rattle.std.specs.Prelude.{◌≡◌, ◌||◌, true};
 ghost use Rattle.sap_process.specs.Proc.{proc};
 ghost use Rattle.sap_restrict.specs.Needed.{has, is_test, is_lookup, is_lock, is_input};
 
-use sap_process::Process;
+use sap_process::{Children, Process};
 
 /// The forms of which restrictions speak, each with whether it occurs.
 #[derive(Clone, Copy)]
@@ -29,22 +29,27 @@ pub(crate) fn uses_of(p: &Process) -> Uses
     ensures lock { result.lock ≡ has is_lock (proc p.now) }
     ensures input { result.input ≡ has is_input (proc p.now) }
 {
+    let below = match p.children() {
+        Children::Nothing => NONE,
+        Children::One(q) => uses_of(q),
+        Children::Two(q, r) => joined(uses_of(q), uses_of(r)),
+    };
+    with_head(p, below)
+}
+
+/// These, and what stands at the head of the process.
+fn with_head(p: &Process, uses: Uses) -> Uses
+    ensures test { result.test ≡ (is_test (proc p.now) || uses.test) }
+    ensures lookup { result.lookup ≡ (is_lookup (proc p.now) || uses.lookup) }
+    ensures lock { result.lock ≡ (is_lock (proc p.now) || uses.lock) }
+    ensures input { result.input ≡ (is_input (proc p.now) || uses.input) }
+{
     match p {
-        Process::Nil => NONE,
-        Process::Par(p, q) => joined(uses_of(p), uses_of(q)),
-        Process::If(_, _, p, q) => with_test(joined(uses_of(p), uses_of(q))),
-        Process::Lookup(_, _, p, q) => with_lookup(joined(uses_of(p), uses_of(q))),
-        Process::Lock(_, _, p) => with_lock(uses_of(p)),
-        Process::In(_, p) | Process::Recv(_, _, p) => with_input(uses_of(p)),
-        Process::Send(_, _, p) => with_input(uses_of(p)),
-        Process::Rep(p)
-        | Process::New(_, p)
-        | Process::Out(_, p)
-        | Process::Event(_, p)
-        | Process::Insert(_, _, p)
-        | Process::Delete(_, p)
-        | Process::Unlock(_, _, p)
-        | Process::Embedded(_, _, _, p) => uses_of(p),
+        Process::If(_, _, _, _) => with_test(uses),
+        Process::Lookup(_, _, _, _) => with_lookup(uses),
+        Process::Lock(_, _, _) => with_lock(uses),
+        Process::In(_, _) | Process::Recv(_, _, _) | Process::Send(_, _, _) => with_input(uses),
+        _ => uses,
     }
 }
 

@@ -1,6 +1,6 @@
 //! Values as texts. A term is its tree: each symbol stands before its parentheses, and a fresh name is `~` and its number.
 use crate::page::Page;
-use sap_process::Process;
+use sap_process::{Children, Process};
 use sap_rule::Rule;
 use sap_terms::{Binding, Fact, Items, Name, Sort, Term, TermList, Var};
 
@@ -182,29 +182,18 @@ fn show_head(page: &mut Page, p: &Process) {
 /// The head, and behind it what follows: in parentheses where there are two branches.
 pub fn show_process(page: &mut Page, p: &Process) {
     show_head(page, p);
-    match p {
-        Process::Nil => {}
-        Process::Par(q, r) | Process::If(_, _, q, r) | Process::Lookup(_, _, q, r) => {
+    match p.children() {
+        Children::Nothing => {}
+        Children::One(q) => {
+            page.word(";");
+            show_process(page, q);
+        }
+        Children::Two(q, r) => {
             page.word("(");
             show_process(page, q);
             page.word(")(");
             show_process(page, r);
             page.word(")");
-        }
-        Process::Rep(q)
-        | Process::New(_, q)
-        | Process::Out(_, q)
-        | Process::Send(_, _, q)
-        | Process::In(_, q)
-        | Process::Recv(_, _, q)
-        | Process::Event(_, q)
-        | Process::Insert(_, _, q)
-        | Process::Delete(_, q)
-        | Process::Lock(_, _, q)
-        | Process::Unlock(_, _, q)
-        | Process::Embedded(_, _, _, q) => {
-            page.word(";");
-            show_process(page, q);
         }
     }
 }

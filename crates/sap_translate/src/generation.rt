@@ -8,7 +8,7 @@ ghost use Rattle.sap_translate.specs.code.Inside.{rules_below};
 
 use crate::rules::{add_own, push_init};
 use sap_place::{path_below, with_lock, with_pattern, with_rule, with_var};
-use sap_process::Process;
+use sap_process::{Children, Process};
 use sap_rule::RuleList;
 use sap_terms::{Mem, Path, Signature, Sort, Vars};
 use std::alloc::Global;
@@ -82,24 +82,13 @@ fn add_below(
     ensures { OnOk result (rules.new
         ≡ rules.old ++ rules_below path.now scope.now inner.now (proc p.now)) }
 {
-    match p {
-        Process::Nil => Ok(()),
-        Process::Par(q, r) | Process::If(_, _, q, r) | Process::Lookup(_, _, q, r) => {
+    match p.children() {
+        Children::Nothing => Ok(()),
+        Children::One(q) => add_child(q, alloc, path, 1, inner, rules),
+        Children::Two(q, r) => {
             add_child(q, alloc, path, 1, inner, rules)?;
             add_child(r, alloc, path, 2, scope, rules)
         }
-        Process::Rep(q)
-        | Process::New(_, q)
-        | Process::Out(_, q)
-        | Process::Send(_, _, q)
-        | Process::In(_, q)
-        | Process::Recv(_, _, q)
-        | Process::Event(_, q)
-        | Process::Insert(_, _, q)
-        | Process::Delete(_, q)
-        | Process::Lock(_, _, q)
-        | Process::Unlock(_, _, q)
-        | Process::Embedded(_, _, _, q) => add_child(q, alloc, path, 1, inner, rules),
     }
 }
 
@@ -131,15 +120,6 @@ fn grown_scope(alloc: Global, scope: &Vars, p: &Process) -> Result<Option<Vars>,
         Process::Lookup(_, x, _, _) => Ok(Some(with_var(alloc, scope, x, Sort::Msg)?)),
         Process::Lock(_, l, _) => Ok(Some(with_lock(alloc, scope, *l)?)),
         Process::Embedded(l, a, r, _) => Ok(Some(with_rule(alloc, scope, l, a, r)?)),
-        Process::Nil
-        | Process::Par(_, _)
-        | Process::Rep(_)
-        | Process::Out(_, _)
-        | Process::Send(_, _, _)
-        | Process::If(_, _, _, _)
-        | Process::Event(_, _)
-        | Process::Insert(_, _, _)
-        | Process::Delete(_, _)
-        | Process::Unlock(_, _, _) => Ok(None),
+        _ => Ok(None),
     }
 }

@@ -1,10 +1,7 @@
-use Rattle.std.proofs.Common.{◌≡◌, IfOk, subst, sym, refl, inl, inr}
-use Rattle.sap_terms.specs.Choice.{Choice}
+use Rattle.std.proofs.Common.{◌≡◌, IfOk, subst, sym}
 use Rattle.sap_terms.specs.Subst.{bound_to}
-use Rattle.sap_process.specs.code.Headed.{headed}
-use Rattle.sap_process.specs.declared.process.Process.{Process}
 use Rattle.sap_process.specs.Instance.{process_instance}
-use Rattle.sap_process.specs.Proc.{Proc, proc}
+use Rattle.sap_process.specs.Proc.{proc}
 use Rattle.sap_process.proofs.Below.{over_next}
 use Rattle.sap_process.proofs.substituting.+replaced.Goals as goal
 
@@ -19,4 +16,4 @@ replaced_below-returns t c =
 pub replaced-returns-in-One : goal.replaced-returns-in-One
 replaced-returns-in-One t c =
     subst (λ z. IfOk c.replaced_over.result (λ q. proc q.value ≡ z))
-        (over_next (bound_to c.args.b.now) c.args.p.now (proc c.in-One.q.now) (sym c.in-One.ensures.first) (sym c.in-One.ensures.second) c.in_default.not-New) c.replaced_over.ensures
+    (over_next (bound_to c.args.b.now) c.args.p.now (proc c.in-One.q.now) (sym c.in-One.ensures.first) (sym c.in-One.ensures.second) c.in_default.not-New) c.replaced_over.ensures
