@@ -34,7 +34,7 @@ pub data AreSteps {A : Type 0} (IsArray : A → Data → Type 0) (most : ℕ) (d
   bad_step : (ss : List A) (good : List Data) (d : Data) (more : List Data) → ds ≡ good ++ d ∷ more → AreEach IsArray ss good → length ss < most
       → ((s : A) → IsArray s d → ⊥) → AreSteps IsArray most ds (Err (fault.BadStep (length ss + 1)))
   too_many : (ss : List A) (good : List Data) (d : Data) (more : List Data) → ds ≡ good ++ d ∷ more → AreEach IsArray ss good → length ss ≡ most
-      → AreSteps IsArray most ds (Err fault.TooManySteps)
+      → AreSteps IsArray most ds (Err (fault.TooManySteps most))
 
 -- the answer as one on runs of both kinds
 abbrev pub process_answer : Result (List PStep) JsonFault → Result Run JsonFault
