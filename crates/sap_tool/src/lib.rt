@@ -7,6 +7,7 @@ mod compile;
 mod ending;
 mod judged_laws;
 mod laws;
+pub mod probe;
 mod reading;
 mod replay;
 mod sessions;
