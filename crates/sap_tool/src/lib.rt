@@ -5,9 +5,9 @@ mod asking;
 mod checking;
 mod compile;
 mod ending;
+mod json;
 mod judged_laws;
 mod laws;
-pub mod probe;
 mod reading;
 mod replay;
 mod sessions;
@@ -16,6 +16,7 @@ mod theory_reading;
 mod top;
 mod verdicts;
 mod way;
+mod words;
 
 pub use judged_laws::one_judged_text;
 pub use laws::{unrestricted_files_are_shown, verdicts_are_kept, written_runs_are_judged_alike};
