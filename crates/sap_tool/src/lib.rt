@@ -6,6 +6,7 @@ mod checking;
 mod compile;
 mod ending;
 mod json;
+mod json_laws;
 mod judged_laws;
 mod laws;
 mod reading;
@@ -18,6 +19,7 @@ mod verdicts;
 mod way;
 mod words;
 
+pub use json_laws::{json_by_hand, json_comes_back};
 pub use judged_laws::one_judged_text;
 pub use laws::{unrestricted_files_are_shown, verdicts_are_kept, written_runs_are_judged_alike};
 pub use sap_outside::{
