@@ -4,9 +4,14 @@ use crate::desk::Desk;
 use crate::notation::{between, enclosed, part};
 use crate::page::Page;
 
+// The words of the two commands.
 const TO_JSON: &str = "to-json b.run";
+
 const FROM_JSON: &str = "from-json b.run";
+
+// What stands before the arrays of steps.
 const PROCESS: &str = "{\"kind\":\"process-run\",\"steps\":[";
+
 const RULES: &str = "{\"kind\":\"rule-run\",\"steps\":[";
 
 // What the command writes of the run, or the status and the line that refuses it.

@@ -1,5 +1,5 @@
 -- What is written as JSON, and of JSON, is read as the run that it is.
-use Rattle.std.proofs.Common.{◌≡◌, ◌≤◌, ℕ, List, [], length, Result, Ok, Err, refl, sym, subst}
+use Rattle.std.proofs.Common.{◌≡◌, ◌≤◌, ℕ, List, length, Result, Ok, refl, sym, subst}
 use Rattle.sap_runs.specs.declared.process_step.PStep.{PStep}
 use Rattle.sap_runs.specs.declared.rule_step.RStep.{RStep}
 use Rattle.sap_run_lines.specs.Spellable.{IsWritableProcess, IsWritableRule}
@@ -15,7 +15,7 @@ use Rattle.sap_json.specs.RunValues.{IsJsonRead, not_json, not_run, of_process, 
 use Rattle.sap_json.specs.Written.{json_text, CanBeWritten, HasFewSteps}
 use Rattle.sap_json.specs.declared.json_fault.JsonFault.{JsonFault}
 use Rattle.sap_outside.specs.RunPieces.{IsRunAnswer}
-use Rattle.sap_tool.specs.JsonRuns.{IsAcceptedJson, run_text, IsJsonOf, IsReadAsJson, IsRunOfJson, IsReadAsRun}
+use Rattle.sap_tool.specs.JsonRuns.{run_text, IsJsonOf, IsReadAsJson, IsRunOfJson, IsReadAsRun}
 use Rattle.sap_tool.proofs.Written.{process_text_of_answer, text_of_answer}
 
 -- what is so of runs as JSON and of their texts

@@ -3,8 +3,9 @@ use Rattle.std.proofs.Common.{◌≡◌, ◌≤◌, ◌<◌, ℕ, List, length, 
 use Rattle.std.specs.Prelude.{◌+◌}
 use Rattle.std.proofs.lemmas.Grind.{common_steps}
 use Rattle.sap_run_texts.specs.declared.run.Run.{Run}
-use Rattle.sap_json.specs.RunValues.{IsJsonRead}
+use Rattle.sap_json.specs.RunValues.{IsJsonRead, IsTold}
 use Rattle.sap_json.specs.declared.json_fault.JsonFault.{JsonFault}
+use Rattle.sap_json.specs.declared.json_fault.JsonFault.TheVariants as fault
 use Rattle.sap_outside.specs.RunPieces.{most_run_bytes}
 use Rattle.sap_refusals.specs.RunFaultTexts.{json_fault_text}
 use Rattle.sap_tool.specs.JsonRuns.{IsAcceptedJson, IsJsonRefusedWith, too_long, no_run}
@@ -12,6 +13,14 @@ use Rattle.sap_tool.specs.JsonRuns.{IsAcceptedJson, IsJsonRefusedWith, too_long,
 -- bytes are read as one run, or refused for one cause
 abbrev pub OneJson : Type 0
 OneJson = (z : List ℕ) (o u : Result Run JsonFault) → IsJsonRead z o → IsJsonRead z u → o ≡ u
+
+-- what is told of bytes that are no run, but for want of memory, is why they are none
+pub told_of : (z : List ℕ) (e : JsonFault) → IsTold (IsJsonRead z) (Err e) → (e ≡ fault.Mem → ⊥) → IsJsonRead z (Err e)
+told_of z fault.Mem told other = absurd (other refl)
+told_of z fault.NotJson told other = told
+told_of z fault.NotRun told other = told
+told_of z (fault.BadStep step) told other = told
+told_of z (fault.TooManySteps most) told other = told
 
 module _ (one : OneJson) (z : List ℕ) where
   same_fault : (e f : JsonFault) → IsJsonRead z (Err e) → IsJsonRead z (Err f) → e ≡ f

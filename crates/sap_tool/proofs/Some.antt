@@ -1,5 +1,5 @@
 -- What an optional value has, and that it is none.
-use Rattle.std.proofs.Common.{◌≡◌, Option, None, Some, sym, subst, ◌∙◌}
+use Rattle.std.proofs.Common.{◌≡◌, Option, None, Some, sym, subst}
 use Rattle.std.specs.Prelude.{IsSomeAnd}
 
 -- a value that is there, and what it has

@@ -2,6 +2,7 @@
 
 ghost use Rattle.std.specs.Prelude.{◌≡◌, ◌≤◌, ℕ, codes, List, [], ◌∷◌, length};
 ghost use Rattle.sap_json.specs.Written.{json_text};
+ghost use Rattle.sap_run_texts.specs.declared.run.Run.TheVariants as run;
 ghost use Rattle.sap_outside.specs.RunPieces.{most_run_bytes};
 ghost use Rattle.sap_tool.specs.Commands.{Allows, Refuses, RefusesRun, alone, and_run, from_json, run_alone, spelled, to_json};
 ghost use Rattle.sap_tool.specs.JsonRuns.{IsJsonOf, IsReadAsJson, IsReadAsRun, IsRunOfJson, run_text};
@@ -27,7 +28,7 @@ pub fn json_comes_back()
 pub fn json_by_hand()
     ensures to_words { spelled (to_json (codes "a")) ≡ codes "to-json" ∷ codes "a" ∷ [] }
     ensures from_words { spelled (from_json (codes "a")) ≡ codes "from-json" ∷ codes "a" ∷ [] }
-    ensures empty { IsJsonOf (codes "rule-run\n") (codes "{\"kind\":\"rule-run\",\"steps\":[]}\n") }
+    ensures empty { IsJsonOf (codes "rule-run\n") (json_text (run.Rules [])) }
     ensures headless { (run : List ℕ)
         → RefusesRun (to_json run) (run_alone (codes "x")) (codes "wrong head") }
     ensures no_file { (name bytes why : List ℕ) → Refuses (to_json name) bytes why → ⊥ }
