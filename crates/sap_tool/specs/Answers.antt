@@ -62,7 +62,8 @@ Fetched c k (run_alone z) = WasRunRead c k z
 -- it is the run's turn: the command fetches nothing, or it accepts bytes that this may give
 abbrev pub IsRunNext : Call → Command → Type 0
 IsRunNext c k =
-    IfSome (file_of k) (λ name. (bytes : List ℕ) × IsFetched c.holds name (limit_of k) bytes × Accepts k bytes)
+    IfSome (file_of k) (λ name.
+    (bytes : List ℕ) × IsFetched c.holds name (limit_of k) bytes × Accepts k bytes)
 
 -- the count of faults of what the command fetches rose
 abbrev pub FailedOnFile : Call → Command → Type 0
