@@ -11,6 +11,7 @@
 #   lists       lemmas of so many atoms bracketed in halves; nested quantifiers of 2,000 variables each; 40,000 restrictions; many
 #               arguments, facts and names, up to a mebibyte
 #   runs        chains of 256 nodes in each line that has terms, deep patterns, lines of 16 MiB
+#   json        arrays and objects in one another, up to 127 levels and beyond; terms of 256 nodes in strings; 16 MiB of each part
 #   repeated    a mebibyte of each opening word where a process, a term or a formula stands, closed or not; 16 MiB in a theory
 #   sample      500 sessions
 #
@@ -406,6 +407,7 @@ on_run() {
         both $command "$work/some.spthy" "$2"
     done
     both check-rules "$work/some_theory" "$2"
+    both to-json "$2"
     echo
 }
 
@@ -492,6 +494,58 @@ END
     done
 }
 
+# on_json NAME: tells of from-json on the JSON that stands there, and of to-json on the run that it is
+on_json() {
+    begin "$1"
+    both from-json "$work/json"
+    if (ulimit -s $large && "$program" from-json "$work/json" > "$work/run" 2> /dev/null); then
+        both to-json "$work/run"
+    fi
+    echo
+}
+
+json() {
+    for shape in '[|]' '{"a":|}' '[0,|,0]'; do
+        for size in 125 126 127 128 1000 100000; do
+            (
+                printf '{"kind":"process-run","steps":'
+                nested $size "${shape%|*}" 0 "${shape#*|}"
+                echo '}'
+            ) > "$work/json"
+            on_json "$size times $shape"
+        done
+    done
+    for shape in 'h(|)' "<'a',|>" "<|,'a'>"; do
+        for size in 127 128 255 256 100000; do
+            (
+                printf '{"kind":"process-run","steps":[["rule",0,[],[["x","'
+                nested $size "${shape%|*}" "'a'" "${shape#*|}"
+                echo '"]]]]}'
+            ) > "$work/json"
+            on_json "a term of $size times $shape"
+        done
+    done
+    while IFS='^' read -r front part back; do
+        (
+            printf '%s' "$front"
+            awk -v part="$part" 'BEGIN { for (k = 0; k < 16000000 / length(part); k++) printf "%s", part }'
+            echo "$back"
+        ) > "$work/json"
+        on_json "16 MB of $front$part$part.."
+    done << 'END'
+[^[^
+{"kind":"rule-run","steps":[["know",^0^]]}
+{"kind":"rule-run","steps":[["rule","R",[^0,^0],[]]]}
+{"kind":"rule-run","steps":[["rule","R",[],[^["x","'a'"],^["x","'a'"]]]]}
+{"kind":"rule-run","steps":[^["own",0],^["own",0]]}
+{"kind":"rule-run","steps":[["pub","'^a^'"]]}
+{"kind":"rule-run","steps":[["rule","R",[],[["x","^h(^"]]]]}
+^ ^
+"^a^
+{^"a":0,^"a":0}
+END
+}
+
 # tower COUNT FRONT OPEN CLOSE BACK: a file in which something is opened so often and then, where CLOSE isn't empty, closed
 tower() {
     awk -v n="$1" -v front="$2" -v open="$3" -v close_with="$4" -v back="$5" 'BEGIN {
@@ -555,7 +609,7 @@ sample() {
 
 printf 'process-run\nevent 0\n' > "$work/shown.prun"
 printf 'rule-run\nrule R\n' > "$work/shown.rrun"
-for kind in ${*:-processes formulas terms lists runs repeated sample}; do
+for kind in ${*:-processes formulas terms lists runs json repeated sample}; do
     "$kind"
 done
 echo "$calls calls, $different differ on $small and $large KiB of stack or end by a signal"

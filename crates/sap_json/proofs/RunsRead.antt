@@ -107,7 +107,7 @@ process_told z ds (Err fault.Mem) h v = tt
 process_told z ds (Err fault.NotJson) h v = of_process ds v h
 process_told z ds (Err fault.NotRun) h v = of_process ds v h
 process_told z ds (Err (fault.BadStep n)) h v = of_process ds v h
-process_told z ds (Err fault.TooManySteps) h v = of_process ds v h
+process_told z ds (Err (fault.TooManySteps most)) h v = of_process ds v h
 
 pub rule_told : (z : List ℕ) (ds : List Data) (r : Result (List RStep) JsonFault) → IsTold (AreSteps IsRuleArray MOST_RULE_STEPS ds) r
     → IsValueOf z (run_object rule_head ds) → IsTold (IsJsonRead z) (rule_answer r)
@@ -116,7 +116,7 @@ rule_told z ds (Err fault.Mem) h v = tt
 rule_told z ds (Err fault.NotJson) h v = of_rules ds v h
 rule_told z ds (Err fault.NotRun) h v = of_rules ds v h
 rule_told z ds (Err (fault.BadStep n)) h v = of_rules ds v h
-rule_told z ds (Err fault.TooManySteps) h v = of_rules ds v h
+rule_told z ds (Err (fault.TooManySteps most)) h v = of_rules ds v h
 
 -- ---- bytes have one answer at most
 

@@ -99,7 +99,7 @@ module _ {A : Type 0} (Is : A → Data → Type 0) (one : (d : Data) → Reads I
 
     at : ((ys : List A) → IsSoFar Is ys all rest → length ys ≤ most → (r : Result (List A) JsonFault) × AreSteps Is most all r) → (length xs < most) ⊎ (most ≤ length xs) → (r : Result (List A) JsonFault) × AreSteps Is most all r
     at further (inl low) = go further low (one d).0 (one d).1
-    at further (inr high) = (Err fault.TooManySteps, is_many Is most xs all d rest so_far few high)
+    at further (inr high) = (Err (fault.TooManySteps most), is_many Is most xs all d rest so_far few high)
 
   steps_read : (most : ℕ) (ds : List Data) → (o : Result (List A) JsonFault) × AreSteps Is most ds o
   steps_read most ds = steps_from most ds ds [] (begins Is ds) (omega arith)

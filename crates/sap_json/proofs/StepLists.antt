@@ -74,7 +74,7 @@ module _ {A : Type 0} (Is : A → Data → Type 0) where
   is_bad most xs all d rest h low none = bad_step xs h.good d rest h.apart h.are low none
 
   pub is_many : (most : ℕ) (xs : List A) (all : List Data) (d : Data) (rest : List Data) → IsSoFar Is xs all (d ∷ rest) → length xs ≤ most → most ≤ length xs
-      → AreSteps Is most all (Err fault.TooManySteps)
+      → AreSteps Is most all (Err (fault.TooManySteps most))
   is_many most xs all d rest h few full = too_many xs h.good d rest h.apart h.are (omega (arith, few, full))
 
   pub is_all : (most : ℕ) (xs : List A) (all : List Data) → IsSoFar Is xs all [] → length xs ≤ most → AreSteps Is most all (Ok xs)

@@ -22,15 +22,19 @@ pub data Cell : Type 0 where
 -- what stands in the array of a step: the words of its line, but that the numbers of entries and facts stand in an array of
 -- their own, and so do bindings, without `with`
 abbrev pub process_cells : PStep → List Cell
-process_cells (step.Apply f entries) = one (identifier (codes "app")) ∷ one (identifier f) ∷ many (map number entries) ∷ []
+process_cells (step.Apply f entries) = one (identifier (codes "app")) ∷ one (identifier f)
+    ∷ many (map number entries) ∷ []
 process_cells (step.Embedded t facts bindings) =
-    one (identifier (codes "rule")) ∷ one (number t) ∷ many (map number facts) ∷ many (map bound_word bindings) ∷ []
+    one (identifier (codes "rule")) ∷ one (number t) ∷ many (map number facts)
+    ∷ many (map bound_word bindings) ∷ []
 process_cells s = map one (process_words s)
 
 abbrev pub rule_cells : RStep → List Cell
-rule_cells (rstep.Apply f entries) = one (identifier (codes "app")) ∷ one (identifier f) ∷ many (map number entries) ∷ []
+rule_cells (rstep.Apply f entries) = one (identifier (codes "app")) ∷ one (identifier f)
+    ∷ many (map number entries) ∷ []
 rule_cells (rstep.Rule name facts bindings) =
-    one (identifier (codes "rule")) ∷ one (identifier name) ∷ many (map number facts) ∷ many (map bound_word bindings) ∷ []
+    one (identifier (codes "rule")) ∷ one (identifier name) ∷ many (map number facts)
+    ∷ many (map bound_word bindings) ∷ []
 rule_cells s = map one (rule_words s)
 
 -- these data are those of these things, in order
@@ -48,7 +52,8 @@ IsWordData (number n) d = IsNumber n × (d ≡ datum.number (unsigned n))
 IsWordData (fresh_name n) d = (z : List ℕ) × IsFreshName n z × (d ≡ string z)
 IsWordData (public_name s) d = (z : List ℕ) × IsPublicName s z × (d ≡ string z)
 IsWordData (bound v t) d =
-    (x : List ℕ) × (z : List ℕ) × IsRunVariable v x × IsWholeTerm t z × (d ≡ array (items_of (string x ∷ string z ∷ [])))
+    (x : List ℕ) × (z : List ℕ) × IsRunVariable v x × IsWholeTerm t z
+    × (d ≡ array (items_of (string x ∷ string z ∷ [])))
 
 -- the data of an item: those of its word, which is no binding; or the array of those of its words
 abbrev pub IsCellData : Cell → Data → Type 0

@@ -15,7 +15,8 @@ use Rattle.sap_json.specs.Arrays.{AreEach, IsProcessArray, IsRuleArray}
 
 -- the object of these two members, whatever their order in a text
 abbrev pub run_object : List ℕ → List Data → Data
-run_object kind steps = object (member (codes "kind") (string kind) (member (codes "steps") (array (items_of steps)) no_members))
+run_object kind steps =
+    object (member (codes "kind") (string kind) (member (codes "steps") (array (items_of steps)) no_members))
 
 -- the kinds of runs
 abbrev pub IsKind : List ℕ → Type 0
@@ -29,12 +30,16 @@ pub record IsValueOf (z : List ℕ) (d : Data) : Type 0 where
 -- What the items of a run are, of which each is to be a step's array: steps, at most so many; or an item stands behind fewer
 -- than so many that are steps', and is none's, and is told by its number, the first one's being 1; or an item stands behind so
 -- many.
-pub data AreSteps {A : Type 0} (IsArray : A → Data → Type 0) (most : ℕ) (ds : List Data) : Result (List A) JsonFault → Type 0 where
-  all_steps : {ss : List A} → AreEach IsArray ss ds → length ss ≤ most → AreSteps IsArray most ds (Ok ss)
-  bad_step : (ss : List A) (good : List Data) (d : Data) (more : List Data) → ds ≡ good ++ d ∷ more → AreEach IsArray ss good → length ss < most
+pub data AreSteps {A : Type 0} (IsArray : A → Data → Type 0) (most : ℕ) (ds : List Data)
+    : Result (List A) JsonFault → Type 0 where
+  all_steps : {ss : List A} → AreEach IsArray ss ds → length ss ≤ most
+      → AreSteps IsArray most ds (Ok ss)
+  bad_step : (ss : List A) (good : List Data) (d : Data) (more : List Data) → ds ≡ good ++ d ∷ more
+      → AreEach IsArray ss good → length ss < most
       → ((s : A) → IsArray s d → ⊥) → AreSteps IsArray most ds (Err (fault.BadStep (length ss + 1)))
-  too_many : (ss : List A) (good : List Data) (d : Data) (more : List Data) → ds ≡ good ++ d ∷ more → AreEach IsArray ss good → length ss ≡ most
-      → AreSteps IsArray most ds (Err fault.TooManySteps)
+  too_many : (ss : List A) (good : List Data) (d : Data) (more : List Data) → ds ≡ good ++ d ∷ more
+      → AreEach IsArray ss good → length ss ≡ most
+      → AreSteps IsArray most ds (Err (fault.TooManySteps most))
 
 -- the answer as one on runs of both kinds
 abbrev pub process_answer : Result (List PStep) JsonFault → Result Run JsonFault
@@ -49,11 +54,14 @@ rule_answer (Err e) = Err e
 -- isn't a step's array, or one is too many
 pub data IsJsonRead (z : List ℕ) : Result Run JsonFault → Type 0 where
   not_json : ((d : Data) → IsValueOf z d → ⊥) → IsJsonRead z (Err fault.NotJson)
-  not_run : (d : Data) → IsValueOf z d → ((kind : List ℕ) (steps : List Data) → IsKind kind → d ≡ run_object kind steps → ⊥)
+  not_run : (d : Data) → IsValueOf z d
+      → ((kind : List ℕ) (steps : List Data) → IsKind kind → d ≡ run_object kind steps → ⊥)
       → IsJsonRead z (Err fault.NotRun)
-  of_process : {o : Result (List PStep) JsonFault} (steps : List Data) → IsValueOf z (run_object process_head steps)
+  of_process : {o : Result (List PStep) JsonFault} (steps : List Data)
+      → IsValueOf z (run_object process_head steps)
       → AreSteps IsProcessArray MOST_PROCESS_STEPS steps o → IsJsonRead z (process_answer o)
-  of_rules : {o : Result (List RStep) JsonFault} (steps : List Data) → IsValueOf z (run_object rule_head steps)
+  of_rules : {o : Result (List RStep) JsonFault} (steps : List Data)
+      → IsValueOf z (run_object rule_head steps)
       → AreSteps IsRuleArray MOST_RULE_STEPS steps o → IsJsonRead z (rule_answer o)
 
 -- the answer is this; of want of memory nothing is said

@@ -14,8 +14,8 @@ pub enum JsonFault {
     NotRun,
     /// This item of the array is the first that is no step's, and few enough stand before it.
     BadStep { step: u64 },
-    /// An item stands behind as many steps as a run may have.
-    TooManySteps,
+    /// An item stands behind as many steps as a run of this kind may have.
+    TooManySteps { most: u64 },
 }
 
 impl From<Mem> for JsonFault {

@@ -79,7 +79,7 @@ pub(crate) fn read_steps<T: Listed + Drop>(
     let mut steps = Items::new(alloc);
     for value in values {
         if steps.len() >= most {
-            return Err(JsonFault::TooManySteps);
+            return Err(JsonFault::TooManySteps { most });
         }
         match T::read(alloc, value)? {
             None => {

@@ -6,6 +6,8 @@ use Rattle.sap_restrict.specs.Restrictions.{restriction_name}
 use Rattle.sap_restrict.specs.declared.which.Which.{Which}
 use Rattle.sap_steps.specs.declared.fault.RFault.{RFault}
 use Rattle.sap_steps.specs.declared.fault.RFault.TheVariants as rule
+use Rattle.sap_json.specs.declared.json_fault.JsonFault.{JsonFault}
+use Rattle.sap_json.specs.declared.json_fault.JsonFault.TheVariants as json
 use Rattle.sap_outside.specs.declared.run_refusal.RunRefusal.{RunRefusal}
 use Rattle.sap_outside.specs.declared.run_refusal.RunRefusal.TheVariants as refusal
 use Rattle.sap_refusals.specs.Refusals.{between}
@@ -17,6 +19,16 @@ run_refusal_text refusal.BadHead = codes "wrong head"
 run_refusal_text (refusal.BadLine line) =
     between (codes "line ") (decimal line) (codes " is not a step")
 run_refusal_text (refusal.TooManySteps most) =
+    between (codes "more than ") (decimal most) (codes " steps")
+
+-- why bytes of JSON are no run, in words; that memory was wanting is no such cause, and refuses no run
+abbrev pub json_fault_text : JsonFault → List ℕ
+json_fault_text json.Mem = codes "out of memory"
+json_fault_text json.NotJson = codes "not JSON"
+json_fault_text json.NotRun = codes "not a run"
+json_fault_text (json.BadStep step) =
+    between (codes "step ") (decimal step) (codes " is not a step")
+json_fault_text (json.TooManySteps most) =
     between (codes "more than ") (decimal most) (codes " steps")
 
 -- what is wrong with the step of this number

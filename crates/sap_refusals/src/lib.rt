@@ -9,5 +9,5 @@ mod theory_lines;
 
 pub use file_lines::{file_line, long_file_line};
 pub use refusal::{Refusal, told};
-pub use run_fault_text::{broken_line, no_run_line, process_line, rule_line};
+pub use run_fault_text::{broken_line, json_line, no_run_line, process_line, rule_line};
 pub use theory_lines::{long_theory_line, theory_line};

@@ -1,12 +1,14 @@
 //! Why a run is refused, in words.
 
 ghost use Rattle.std.specs.Prelude.{◌≡◌, ◌++◌, codes, decimal, IfOk, OnOk};
+ghost use Rattle.sap_json.specs.declared.json_fault.JsonFault.TheVariants as json_faults;
 ghost use Rattle.sap_lines.specs.declared.fault.PFault.TheVariants as process_faults;
 ghost use Rattle.sap_restrict.specs.Restrictions.{restriction_name};
 ghost use Rattle.sap_steps.specs.declared.fault.RFault.TheVariants as rule_faults;
-ghost use Rattle.sap_refusals.specs.RunFaultTexts.{at_step, broken_text, process_fault_text, rule_fault_text, run_refusal_text, run_refused_line};
+ghost use Rattle.sap_refusals.specs.RunFaultTexts.{at_step, broken_text, json_fault_text, process_fault_text, rule_fault_text, run_refusal_text, run_refused_line};
 
 use crate::fault_text::{push_named, push_numbered};
+use sap_json::JsonFault;
 use sap_lines::PFault;
 use sap_outside::RunRefusal;
 use sap_restrict::Which;
@@ -22,6 +24,18 @@ pub fn no_run_line(alloc: Global, refusal: RunRefusal) -> Result<Text, Mem>
     let mut line = Text::new(alloc);
     line.push_bytes(b"run refused: ")?;
     push_refusal(&mut line, refusal)?;
+    line.push_bytes(b"\n")?;
+    Ok(line)
+}
+
+/// The line that refuses bytes of JSON that are no run. Want of memory refuses none, and so has no line.
+pub fn json_line(alloc: Global, fault: JsonFault) -> Result<Text, Mem>
+    ensures { IfOk result (λ line. (fault ≡ json_faults.Mem → ⊥)
+        × (line ≡ run_refused_line (json_fault_text fault))) }
+{
+    let mut line = Text::new(alloc);
+    line.push_bytes(b"run refused: ")?;
+    push_json_fault(&mut line, fault)?;
     line.push_bytes(b"\n")?;
     Ok(line)
 }
@@ -93,6 +107,20 @@ fn push_refusal(text: &mut Text, refusal: RunRefusal) -> Result<(), Mem>
         RunRefusal::BadHead => text.push_bytes(b"wrong head"),
         RunRefusal::BadLine { line } => push_numbered(text, b"line ", line, b" is not a step"),
         RunRefusal::TooManySteps { most } => push_numbered(text, b"more than ", most, b" steps"),
+    }
+}
+
+// Puts last why bytes of JSON are no run. Want of memory is no such cause.
+fn push_json_fault(text: &mut Text, fault: JsonFault) -> Result<(), Mem>
+    ensures cause { OnOk result (fault ≡ json_faults.Mem → ⊥) }
+    ensures text { OnOk result (text.new ≡ text.old ++ json_fault_text fault) }
+{
+    match fault {
+        JsonFault::Mem => Err(Mem),
+        JsonFault::NotJson => text.push_bytes(b"not JSON"),
+        JsonFault::NotRun => text.push_bytes(b"not a run"),
+        JsonFault::BadStep { step } => push_numbered(text, b"step ", step, b" is not a step"),
+        JsonFault::TooManySteps { most } => push_numbered(text, b"more than ", most, b" steps"),
     }
 }
 

@@ -2,6 +2,7 @@
 ghost use Rattle.std.specs.Prelude.{◌<◌};
 
 use crate::desk::Desk;
+use crate::json::example_row;
 use crate::notation::{between, enclosed, file_bytes, number, part, parted};
 use crate::page::Page;
 use crate::theories::show_read;
@@ -272,10 +273,14 @@ pub fn conversions_row(page: &mut Page, row: &str) {
     }
 }
 
-/// The words of a command on example files, and the text that out takes, or `= NAME` where that is the text of the file of this name.
+/// The words of a command on example files, or `json` and the name of a run, and the text that out takes, for `json` where the run is
+/// written as JSON and that is read again; or `= NAME` where that is the text of the file of this name.
 pub fn examples_row(page: &mut Page, desk: &mut Desk, row: &str) {
     let mut text = Page::new(page.alloc);
-    call(&mut text, "text", part(row, 0), &mut desk.shelf, "", "");
+    match part(row, 0).strip_prefix("json ") {
+        Some(name) => example_row(&mut text, desk, name),
+        None => call(&mut text, "text", part(row, 0), &mut desk.shelf, "", ""),
+    }
     if !text.is_whole {
         page.fail();
     }

@@ -8,6 +8,7 @@ mod desk;
 mod files;
 mod formulas;
 mod guards;
+mod json;
 mod knowledge;
 mod known;
 mod notation;

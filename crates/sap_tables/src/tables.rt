@@ -4,8 +4,8 @@ use crate::desk::{Desk, empty_desk};
 use crate::notation::{number, part, written};
 use crate::page::Page;
 use crate::{
-    calls, copies, files, formulas, guards, knowledge, piles, processes, refused, run_texts, runs,
-    sharing, terms, theories, tokens,
+    calls, copies, files, formulas, guards, json, knowledge, piles, processes, refused, run_texts,
+    runs, sharing, terms, theories, tokens,
 };
 use std::collections::BTreeMap;
 
@@ -58,6 +58,7 @@ fn show_found_above(page: &mut Page, desk: &mut Desk, table: &str, row: &str) {
         "written-theories" => calls::command(page, "back", part(row, 0), part(row, 1)),
         "statements" => calls::statements_row(page, row),
         "calls" => calls::calls_row(page, row),
+        "json" => json::json_row(page, row),
         "failing" => refused::failing_row(page, row),
         "cut" => refused::cut_row(page, row),
         "prefixes" => refused::prefixes_row(page, row),

@@ -65,7 +65,7 @@ pub process_text_of_answer : (k : Kinds) (z : List ℕ) (ss : List PStep) → Is
 process_text_of_answer k z ss (is_run short r) = process_of_read k z (Ok (run.Process ss)) ss r refl
 
 -- lines of rules that were answered are those of their text
-text_of_answer : (k : Kinds) (z : List ℕ) (ls : List RStep) → IsRunAnswer k z (Ok (run.Rules ls)) → IsRuleRunText z (Ok ls)
+pub text_of_answer : (k : Kinds) (z : List ℕ) (ls : List RStep) → IsRunAnswer k z (Ok (run.Rules ls)) → IsRuleRunText z (Ok ls)
 text_of_answer k z ls (is_run short r) = of_read k z (Ok (run.Rules ls)) ls r refl
 
 -- each of these lines has what each has

@@ -1,10 +1,10 @@
 -- What there is to say of a call, and how that is put.
-use Rattle.std.specs.Prelude.{◌≡◌, ℕ, codes, List, [], ◌∷◌, ◌++◌, take, Some}
+use Rattle.std.specs.Prelude.{◌≡◌, ℕ, codes, List, [], ◌∷◌, ◌++◌, take, Option, None, Some, IsSomeAnd, IfSome}
 use Rattle.sap_outside.specs.Outside.{IsFetched}
 use Rattle.sap_outside.specs.Requests.{Request, fetch}
 use Rattle.sap_outside.specs.Stream.{Stream, Gained, Failed, Wanted, CutShort, CutTwice}
 use Rattle.sap_tool.specs.Call.{Call, FailedOn, AskedFor}
-use Rattle.sap_tool.specs.Commands.{Command, Input, alone, and_run, spelled, file_of, run_of, limit_of, IsUnknown, Accepts, Refuses, RefusesRun, Allows}
+use Rattle.sap_tool.specs.Commands.{Command, Input, alone, and_run, run_alone, spelled, file_of, run_of, limit_of, IsUnknown, Accepts, Refuses, RefusesRun, Allows}
 use Rattle.sap_outside.specs.Pieces.{pieces, GainedPart}
 use Rattle.sap_refusals.specs.Refusals.{refused_line}
 use Rattle.sap_outside.specs.RunPieces.{WasRead, WasGivenUp}
@@ -23,32 +23,61 @@ status_of (tells status text) = status
 
 -- a command's answers to what it read: a text that is allowed; a file that is refused, before a run is read; a run that is refused
 pub data IsAnswerTo (k : Command) : Input → Answer → Type 0 where
-  allowed : {input : Input} {text : List ℕ} → Allows k input text → IsAnswerTo k input (gives text)
+  allowed : {input : Input} {text : List ℕ} → Allows k input text
+      → IsAnswerTo k input (gives text)
   refused : {bytes : List ℕ} (why : List ℕ) → Refuses k bytes why
       → IsAnswerTo k (alone bytes) (tells 1 (refused_line why))
-  run_refused : {bytes z : List ℕ} (why : List ℕ) → RefusesRun k bytes z why
-      → IsAnswerTo k (and_run bytes z) (tells 2 (run_refused_line why))
+  run_refused : {input : Input} (why : List ℕ) → RefusesRun k input why
+      → IsAnswerTo k input (tells 2 (run_refused_line why))
 
 -- the words ask for this command
 abbrev pub Asks : Call → Command → Type 0
 Asks c k = c.words ≡ spelled k
 
--- to fetch the command's file, and nothing else
+-- to fetch what has this name, where there is one, under this limit
+abbrev pub for_name : Option (List ℕ) → ℕ → List Request
+for_name None limit = []
+for_name (Some name) limit = fetch name limit ∷ []
+
+-- to fetch what the command fetches, and nothing else
 abbrev pub for_file : Command → List Request
-for_file k = fetch (file_of k) (limit_of k) ∷ []
+for_file k = for_name (file_of k) (limit_of k)
 
--- these are bytes that a fetch of the command's file may answer, and then ones that reading its run may give, by what the shelf tells, and
--- it was asked for the file, then for the run, and for nothing else
+-- the command fetches, and these are bytes that this may give, by what the shelf tells
+abbrev pub IsFileFetched : Call → Command → List ℕ → Type 0
+IsFileFetched c k bytes = IsSomeAnd (file_of k) (λ name. IsFetched c.holds name (limit_of k) bytes)
+
+-- the command reads a run, and these are bytes that this may give, by what the shelf tells; the shelf was asked for the file, where
+-- the command has one, then for the run, and for nothing else
+abbrev pub WasRunRead : Call → Command → List ℕ → Type 0
+WasRunRead c k z =
+    IsSomeAnd (run_of k) (λ run. WasRead c.holds run (for_file k) c.asked_before c.asked_after z)
+
+-- this is what the command may have read, by what the shelf tells, and the shelf was asked for nothing else
 abbrev pub Fetched : Call → Command → Input → Type 0
-Fetched c k (alone bytes) = IsFetched c.holds (file_of k) (limit_of k) bytes
-    × AskedFor c (for_file k)
-Fetched c k (and_run bytes z) =
-    IsFetched c.holds (file_of k) (limit_of k) bytes
-    × ((run : List ℕ) × (run_of k ≡ Some run) × WasRead c.holds run (for_file k) c.asked_before c.asked_after z)
+Fetched c k (alone bytes) = IsFileFetched c k bytes × AskedFor c (for_file k)
+Fetched c k (and_run bytes z) = IsFileFetched c k bytes × WasRunRead c k z
+Fetched c k (run_alone z) = WasRunRead c k z
 
--- these are bytes that a fetch of the command's file may answer, and it accepts them
-abbrev pub FetchedAccepted : Call → Command → List ℕ → Type 0
-FetchedAccepted c k bytes = IsFetched c.holds (file_of k) (limit_of k) bytes × Accepts k bytes
+-- it is the run's turn: the command fetches nothing, or it accepts bytes that this may give
+abbrev pub IsRunNext : Call → Command → Type 0
+IsRunNext c k =
+    IfSome (file_of k) (λ name.
+    (bytes : List ℕ) × IsFetched c.holds name (limit_of k) bytes × Accepts k bytes)
+
+-- the count of faults of what the command fetches rose
+abbrev pub FailedOnFile : Call → Command → Type 0
+FailedOnFile c k = IsSomeAnd (file_of k) (λ name. FailedOn c name)
+
+-- so it is with the run
+abbrev pub FailedOnRun : Call → Command → Type 0
+FailedOnRun c k = IsSomeAnd (run_of k) (λ run. FailedOn c run)
+
+-- reading the run was given up, and the shelf was asked for the file, where the command has one, for pieces of the run, and for
+-- nothing else
+abbrev pub WasRunGivenUp : Call → Command → Type 0
+WasRunGivenUp c k =
+    IsSomeAnd (run_of k) (λ run. WasGivenUp c.holds run (for_file k) c.asked_before c.asked_after)
 
 -- what is told where words ask for nothing
 abbrev pub usage_text : List ℕ
@@ -73,23 +102,18 @@ pub data IsAnswer (c : Call) : Answer → Type 0 where
   sampled : (n : ℕ) → IsSample c.words n → c.asked_after ≡ c.asked_before
       → IsAnswer c (gives (sample_text n))
   usage : IsUnknown c.words → c.asked_after ≡ c.asked_before → IsAnswer c (tells 3 usage_text)
-  unread : (k : Command) → Asks c k → FailedOn c (file_of k) → AskedFor c (for_file k)
+  unread : (k : Command) → Asks c k → FailedOnFile c k → AskedFor c (for_file k)
       → IsAnswer c (tells 4 read_fault_text)
-  unread_run : (k : Command) (bytes run : List ℕ) → Asks c k → FetchedAccepted c k bytes
-      → run_of k ≡ Some run → FailedOn c run
-      → WasGivenUp c.holds run (for_file k) c.asked_before c.asked_after
+  unread_run : (k : Command) → Asks c k → IsRunNext c k → FailedOnRun c k → WasRunGivenUp c k
       → IsAnswer c (tells 4 read_fault_text)
 
--- what the shelf was asked for where memory was wanting before there was an answer: nothing; or the file that the words ask for alone; or,
--- behind a file that is accepted, its run too, up to where that was given up, or whole
+-- what the shelf was asked for where memory was wanting before there was an answer: nothing; or the file that the words ask for alone;
+-- or, behind a file that is accepted, where there is one, the run, up to where that was given up, or whole
 pub data IsBegun (c : Call) : Type 0 where
   asked_nothing : c.asked_after ≡ c.asked_before → IsBegun c
   asked_file : (k : Command) → Asks c k → AskedFor c (for_file k) → IsBegun c
-  asked_run : (k : Command) (bytes run : List ℕ) → Asks c k → FetchedAccepted c k bytes
-      → run_of k ≡ Some run
-      → WasGivenUp c.holds run (for_file k) c.asked_before c.asked_after → IsBegun c
-  asked_both : (k : Command) (bytes z : List ℕ) → Asks c k → FetchedAccepted c k bytes
-      → Fetched c k (and_run bytes z) → IsBegun c
+  asked_run : (k : Command) → Asks c k → IsRunNext c k → WasRunGivenUp c k → IsBegun c
+  asked_both : (k : Command) (z : List ℕ) → Asks c k → IsRunNext c k → WasRunRead c k z → IsBegun c
 
 -- the answer's text is whole where it belongs, put in pieces on out and at once on err, and nothing was put elsewhere
 abbrev pub Whole : Answer → Stream → Stream → Type 0

@@ -1,30 +1,42 @@
 -- What the program promises of each call.
-use Rattle.std.specs.Prelude.{◌≡◌, ◌⊎◌, ℕ, List, [], ◌∷◌, Contains, Some, None}
+use Rattle.std.specs.Prelude.{◌≡◌, ◌⊎◌, ℕ, List, [], ◌∷◌, Contains, None, IsSomeAnd}
 use Rattle.sap_outside.specs.Stream.{Gained, Failed, CutShort}
 use Rattle.sap_tool.specs.Call.{Call, FailedOn, Holds}
-use Rattle.sap_tool.specs.Commands.{Command, Input, alone, and_run, compile, file_of, run_of, IsUnknown, Refuses, RefusesRun, TakesRun, Allows, Means}
-use Rattle.sap_tool.specs.Answers.{Answer, tells, IsAnswer, Asks, Fetched, IsBegun, Part, Broken, Starved, CutLast, IsLast, write_fault_text, memory_text}
+use Rattle.sap_tool.specs.Commands.{Command, Input, alone, and_run, run_alone, compile, file_of, run_of, IsUnknown, Refuses, RefusesRun, TakesRun, Allows, Means}
+use Rattle.sap_tool.specs.Answers.{Answer, tells, IsAnswer, Asks, Fetched, FailedOnFile, FailedOnRun, IsBegun, Part, Broken, Starved, CutLast, IsLast, write_fault_text, memory_text}
 use Rattle.sap_outside.specs.Pieces.{pieces}
 use Rattle.sap_refusals.specs.Refusals.{refused_line}
 use Rattle.sap_refusals.specs.RunFaultTexts.{run_refused_line}
 use Rattle.sap_sample.specs.Sample.{IsSample, sample_text}
 use Rattle.sap_tool.specs.declared.way.Way.{Way}
 
+-- the shelf tells that it holds these bytes as what the command fetches
+abbrev pub HoldsFile : Call → Command → List ℕ → Type 0
+HoldsFile c k bytes = IsSomeAnd (file_of k) (λ name. Holds c.holds name bytes)
+
+-- it tells that it holds these as the run
+abbrev pub HoldsRun : Call → Command → List ℕ → Type 0
+HoldsRun c k z = IsSomeAnd (run_of k) (λ run. Holds c.holds run z)
+
 -- the shelf tells that it holds what the command reads
 abbrev pub HoldsInput : Call → Command → Input → Type 0
-HoldsInput c k (alone bytes) = Holds c.holds (file_of k) bytes × (run_of k ≡ None)
-HoldsInput c k (and_run bytes z) = Holds c.holds (file_of k) bytes
-    × ((run : List ℕ) × (run_of k ≡ Some run) × Holds c.holds run z)
+HoldsInput c k (alone bytes) = HoldsFile c k bytes × (run_of k ≡ None)
+HoldsInput c k (and_run bytes z) = HoldsFile c k bytes × HoldsRun c k z
+HoldsInput c k (run_alone z) = (file_of k ≡ None) × HoldsRun c k z
+
+-- a cause refuses the file that was read, where there is one
+abbrev pub RefusesFile : Command → Input → List ℕ → Type 0
+RefusesFile k (alone bytes) why = Refuses k bytes why
+RefusesFile k (and_run bytes z) why = Refuses k bytes why
+RefusesFile k (run_alone z) why = ⊥
 
 -- a cause refuses the file, or the run
 abbrev pub RefusesInput : Command → Input → List ℕ → Type 0
-RefusesInput k (alone bytes) why = Refuses k bytes why
-RefusesInput k (and_run bytes z) why = Refuses k bytes why ⊎ RefusesRun k bytes z why
+RefusesInput k input why = RefusesFile k input why ⊎ RefusesRun k input why
 
 -- the count of faults rose of a name that the command reads
 abbrev pub FailedOnNamed : Call → Command → Type 0
-FailedOnNamed c k = FailedOn c (file_of k)
-    ⊎ ((run : List ℕ) × (run_of k ≡ Some run) × FailedOn c run)
+FailedOnNamed c k = FailedOnFile c k ⊎ FailedOnRun c k
 
 -- out gained a text that the command allows for what was fetched, with what it means, and nothing was put on err
 pub record Given (c : Call) : Type 0 where
@@ -73,14 +85,14 @@ pub data Wanting (c : Call) : Type 0 where
       → Part a taken last c.out c.err
       → IsLast (CutLast a c.err) memory_text last → Wanting c
 
--- the words ask for nothing; or the shelf tells that it holds a file that a cause refuses; or a file that is accepted, and a run that
--- a cause refuses
+-- the words ask for nothing; or the shelf tells that it holds a file that a cause refuses; or a run that a cause refuses, and the file
+-- that belongs to it, where there is one, is accepted
 pub data IsRefusedCall (c : Call) : Type 0 where
   unknown : IsUnknown c.words → IsRefusedCall c
-  of_file : (k : Command) (bytes why : List ℕ) → Asks c k → Holds c.holds (file_of k) bytes
+  of_file : (k : Command) (bytes why : List ℕ) → Asks c k → HoldsFile c k bytes
       → Refuses k bytes why → IsRefusedCall c
-  of_run : (k : Command) (bytes z why : List ℕ) → Asks c k → HoldsInput c k (and_run bytes z)
-      → RefusesRun k bytes z why → IsRefusedCall c
+  of_run : (k : Command) (input : Input) (why : List ℕ) → Asks c k → HoldsInput c k input
+      → RefusesRun k input why → IsRefusedCall c
 
 -- Each status comes only with its cause and with what it leaves on the two sinks, and the last fields say when 0, 1, 2 and 3 must
 -- come, and when out has nothing.
@@ -100,22 +112,22 @@ pub record Promises (c : Call) (status : ℕ) : Type 0 where
   pub must_tell_usage : IsUnknown c.words → (status ≡ 3) ⊎ ((status ≡ 5) × Failed c.err)
       ⊎ (status ≡ 6)
   -- for a file that a cause refuses, whatever the run
-  pub must_refuse : (k : Command) (bytes why : List ℕ) → Asks c k → Holds c.holds (file_of k) bytes
+  pub must_refuse : (k : Command) (bytes why : List ℕ) → Asks c k → HoldsFile c k bytes
       → Refuses k bytes why
-      → ((status ≡ 1) × Gained c.err 1 (refused_line why)) ⊎ ((status ≡ 4) × FailedOn c (file_of k))
+      → ((status ≡ 1) × Gained c.err 1 (refused_line why)) ⊎ ((status ≡ 4) × FailedOnFile c k)
       ⊎ ((status ≡ 5) × Failed c.err) ⊎ (status ≡ 6)
-  -- for a run that a cause refuses, of a file that is accepted
-  pub must_refuse_run : (k : Command) (bytes z why : List ℕ) → Asks c k
-      → HoldsInput c k (and_run bytes z) → RefusesRun k bytes z why
-      → ((status ≡ 2) × Gained c.err 1 (run_refused_line why)) ⊎ ((status ≡ 4) × FailedOnNamed c k)
-      ⊎ ((status ≡ 5) × Failed c.err) ⊎ (status ≡ 6)
-  -- for a file, and a run, that no cause refuses
+  -- for a run that a cause refuses, where its file, if it has one, is accepted
+  pub must_refuse_run : (k : Command) (input : Input) (why : List ℕ) → Asks c k
+      → HoldsInput c k input → RefusesRun k input why
+      → ((status ≡ 2) × Gained c.err 1 (run_refused_line why))
+      ⊎ ((status ≡ 4) × FailedOnNamed c k) ⊎ ((status ≡ 5) × Failed c.err) ⊎ (status ≡ 6)
+  -- for what is read and no cause refuses
   pub must_answer : (k : Command) (input : Input) → Asks c k → HoldsInput c k input
       → ((why : List ℕ) → RefusesInput k input why → ⊥)
       → (FailedOnNamed c k → ⊥) → (Failed c.out → ⊥) → (status ≡ 0) ⊎ (status ≡ 6)
-  -- for a run that is legal, of a file that is accepted
-  pub must_take : (k : Command) (bytes z : List ℕ) → Asks c k → HoldsInput c k (and_run bytes z)
-      → TakesRun k bytes z
+  -- for a run that is legal, where its file, if it has one, is accepted
+  pub must_take : (k : Command) (input : Input) → Asks c k → HoldsInput c k input
+      → TakesRun k input
       → (FailedOnNamed c k → ⊥) → (Failed c.out → ⊥) → (status ≡ 0) ⊎ (status ≡ 6)
   -- for a file with a theory: it is its text
   pub must_give : (way : Way) (file bytes text : List ℕ) → Asks c (compile way file)

@@ -14,6 +14,7 @@ use Rattle.sap_run_texts.specs.RunPrinted.{Each, process_run_text, rule_run_text
 use Rattle.sap_run_texts.specs.RunTexts.{IsProcessRunText, IsRuleRunText}
 use Rattle.sap_run_texts.specs.Writable.{AreNumbered}
 use Rattle.sap_run_texts.specs.declared.limits.TheConstants.{MOST_PROCESS_STEPS, MOST_RULE_STEPS}
+use Rattle.sap_json.specs.Written.{HasFewSteps}
 use Rattle.sap_run_texts.specs.declared.run.Kinds.{Kinds}
 use Rattle.sap_run_texts.specs.declared.run.Kinds.TheVariants.{Rules, Either}
 use Rattle.sap_run_texts.specs.declared.run.Run.{Run}
@@ -140,11 +141,6 @@ pub data IsOppositeText (f : FileContent) : Run → List ℕ → Type 0 where
       → AreJudgedAlike f (run.Rules rule_lines) (run.Process lines)
       → (length lines ≤ MOST_PROCESS_STEPS → IsProcessRunText (process_run_text lines) (Ok lines))
       → IsOppositeText f (run.Rules rule_lines) (process_run_text lines)
-
--- it has no more steps than a run that is read may have
-abbrev pub HasFewSteps : Run → Type 0
-HasFewSteps (run.Process lines) = length lines ≤ MOST_PROCESS_STEPS
-HasFewSteps (run.Rules rule_lines) = length rule_lines ≤ MOST_RULE_STEPS
 
 -- The text is that of some run, of which is said what is said of this one, and where it has few enough steps and bytes, it is read as
 -- that run.

@@ -56,6 +56,10 @@ pub data IsIllegalOfTheory (t : Theory) : Run → List ℕ → Type 0 where
       → IsFirstRefusedOfTheory t lines number e
       → IsIllegalOfTheory t (run.Rules lines) (at_step number (rule_fault_text e))
 
+-- of no run a line is illegal, where neither a file nor a theory says what is
+abbrev pub IsNeverIllegal : Run → List ℕ → Type 0
+IsNeverIllegal r why = ⊥
+
 -- the bytes are refused for this cause: they are no run of a kind that is asked for; else a line of the run is the first that is illegal
 pub data IsRunRefusedWith (kinds : Kinds) (Is : Run → List ℕ → Type 0) (bytes : List ℕ)
     : List ℕ → Type 0 where

@@ -10,14 +10,15 @@ ghost use Rattle.sap_tool.specs.AcceptedTheory.{IsAcceptedTheory};
 ghost use Rattle.sap_outside.specs.Stream.{Stream};
 ghost use Rattle.sap_tool.specs.Call.{bytes_of, call, call_of};
 ghost use Rattle.sap_tool.specs.Commands.{check, compile, replay, spelled};
-ghost use Rattle.sap_tool.specs.code.Endings.{Ends, EndsBoth, EndsFile, ending_of, reading, refused_ending};
+ghost use Rattle.sap_tool.specs.code.Endings.{Ends, EndsBoth, EndsFile, reading};
 ghost use Rattle.sap_tool.specs.declared.task.Task.{Task as TaskOfWords};
 ghost use Rattle.sap_tool.specs.declared.way.Way.{Way as WayOfWords};
 ghost use Rattle.sap_tool.specs.code.Checked.{IsCheckable};
 
 use crate::checking::checked;
 use crate::compile::theory_text_of;
-use crate::ending::Ending;
+use crate::ending::{Ending, of_refused, of_run};
+use crate::json::{end_from_json, end_to_json};
 use crate::laws::read_theories_can_run;
 use crate::reading::{MOST_BYTES, accepted_file};
 use crate::replay::replayed;
@@ -25,12 +26,12 @@ use crate::sessions::end_sample;
 use crate::task::{Task, kinds_of, task_of};
 use crate::theory_reading::{MOST_THEORY_BYTES, accepted_theory};
 use crate::way::{Way, way_of};
+use crate::words::word_behind;
 use sap_outside::{Shelf, ShelfFault, read_run, requests_are_joined};
 use sap_read::{File, files_are_runnable};
 use sap_refusals::Refusal;
 use sap_rule::Theory;
 use sap_run_texts::Kinds;
-use sap_text::Text;
 use std::alloc::Global;
 
 /// What the call of these words ends with.
@@ -45,8 +46,14 @@ pub fn ending<S: Shelf>(alloc: Global, words: &Vec<String>, shelf: &mut S) -> En
     if let Some((task, file, run)) = run_to_replay(words) {
         return end_replay(alloc, task, shelf, file, run);
     }
-    match run_to_check(words) {
-        Some((theory, run)) => end_check(alloc, shelf, theory, run),
+    if let Some((theory, run)) = run_to_check(words) {
+        return end_check(alloc, shelf, theory, run);
+    }
+    if let Some(run) = word_behind(words, "to-json") {
+        return end_to_json(alloc, shelf, run);
+    }
+    match word_behind(words, "from-json") {
+        Some(json) => end_from_json(alloc, shelf, json),
         None => end_sample(alloc, words),
     }
 }
@@ -176,27 +183,6 @@ fn replay_run<S: Shelf>(alloc: Global, task: Task, shelf: &mut S, told: &File, r
         Ok(answer) => of_run(replayed(alloc, task, told, &answer)),
         Err(ShelfFault::Failed) => Ending::Unread,
         Err(ShelfFault::Mem) => Ending::Mem,
-    }
-}
-
-// Ends with the line that refuses a file or theory.
-fn of_refused(refusal: Refusal) -> Ending
-    ensures { result ≡ refused_ending refusal }
-{
-    match refusal {
-        Refusal::Told(line) => Ending::File(line),
-        Refusal::Mem => Ending::Mem,
-    }
-}
-
-// Ends with this text, or with the line that refuses a run.
-fn of_run(text: Result<Text, Refusal>) -> Ending
-    ensures { result ≡ ending_of text }
-{
-    match text {
-        Ok(text) => Ending::Given(text),
-        Err(Refusal::Told(line)) => Ending::Run(line),
-        Err(Refusal::Mem) => Ending::Mem,
     }
 }
 

@@ -1,4 +1,8 @@
 //! What a call ends with.
+ghost use Rattle.std.specs.Prelude.{◌≡◌};
+ghost use Rattle.sap_tool.specs.code.Endings.{ending_of, refused_ending};
+
+use sap_refusals::Refusal;
 use sap_text::Text;
 
 /// What is said at the end of a call.
@@ -16,4 +20,25 @@ pub enum Ending {
     Run(Text),
     /// Memory was wanting.
     Mem,
+}
+
+/// Ends with the line that refuses a file or theory.
+pub fn of_refused(refusal: Refusal) -> Ending
+    ensures { result ≡ refused_ending refusal }
+{
+    match refusal {
+        Refusal::Told(line) => Ending::File(line),
+        Refusal::Mem => Ending::Mem,
+    }
+}
+
+/// Ends with this text, or with the line that refuses a run.
+pub fn of_run(text: Result<Text, Refusal>) -> Ending
+    ensures { result ≡ ending_of text }
+{
+    match text {
+        Ok(text) => Ending::Given(text),
+        Err(Refusal::Told(line)) => Ending::Run(line),
+        Err(Refusal::Mem) => Ending::Mem,
+    }
 }

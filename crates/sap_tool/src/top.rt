@@ -17,6 +17,7 @@ use crate::laws::{
 };
 use sap_back::names_stand_in_lines;
 use sap_gen::{theories_are_printable, theories_keep_files};
+use sap_json::{json_runs_can_be_written, one_json_run, written_json_is_read};
 use sap_locks::annotations_are_ready;
 use sap_outside::{Shelf, Sink, SinkFault, put_pieces};
 use sap_read::{files_are_printable, files_are_runnable, one_file};
@@ -30,11 +31,11 @@ use std::alloc::Global;
 /// Runs the program on its words, those after its name, and answers its status.
 ///
 /// - 0: out gained the text that the words ask for, whole: the theory of a file, the run opposite to one, what is said of the
-///   restrictions and lemmas on one, or what is told of a sample.
+///   restrictions and lemmas on one, a run as JSON, the run that JSON is, or what is told of a sample.
 /// - 1: the file, or the theory, is refused.
-/// - 2: the run is refused.
+/// - 2: the run, or the JSON of one, is refused.
 /// - 3: the words are none of the program's.
-/// - 4: the file or the run couldn't be read.
+/// - 4: the file, the run or the JSON couldn't be read.
 /// - 5: out or err failed.
 /// - 6: memory was wanting.
 ///
@@ -74,6 +75,9 @@ pub fn sapic<S: Shelf, O: Sink, E: Sink>(
     verdicts_are_kept();
     annotations_are_ready();
     rules_are_well_made();
+    one_json_run();
+    json_runs_can_be_written();
+    written_json_is_read();
     run(alloc, words, shelf, out, err)
 }
 

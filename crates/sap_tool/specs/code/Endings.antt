@@ -40,15 +40,6 @@ EndsFile k bytes (ending.File line) = IsAnswerTo k (alone bytes) (tells 1 line)
 EndsFile k bytes (ending.Run line) = ⊥
 EndsFile k bytes ending.Mem = Unit {0}
 
--- what these bytes, and then those of a run, end with
-abbrev pub EndsRun : Command → List ℕ → List ℕ → Ending → Type 0
-EndsRun k bytes z (ending.Given text) = Allows k (and_run bytes z) text
-EndsRun k bytes z ending.Usage = ⊥
-EndsRun k bytes z ending.Unread = ⊥
-EndsRun k bytes z (ending.File line) = ⊥
-EndsRun k bytes z (ending.Run line) = IsAnswerTo k (and_run bytes z) (tells 2 line)
-EndsRun k bytes z ending.Mem = Unit {0}
-
 -- what the shelf tells of a run: what it holds, this name's count of faults before and after, and what it was asked for
 pub record Reading : Type 0 where
   pub holds : Option Files

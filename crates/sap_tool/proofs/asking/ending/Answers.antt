@@ -1,6 +1,7 @@
 use Rattle.std.proofs.Common.{refl}
 use Rattle.sap_tool.specs.Call.{bytes_of}
-use Rattle.sap_tool.proofs.SampleWords.{ends_of_sample, no_command_of}
+use Rattle.sap_tool.proofs.Asked.{no_command_of}
+use Rattle.sap_tool.proofs.SampleWords.{ends_of_sample}
 use Rattle.sap_tool.proofs.asking.ending.Goals as goal
 
 pub returns-in-Some : goal.returns-in-Some
@@ -12,7 +13,15 @@ returns-in-Some-run_to_replay g c = λ out err. c.end_replay.ensures (bytes_of c
 pub returns-in-Some-run_to_check : goal.returns-in-Some-run_to_check
 returns-in-Some-run_to_check g c = λ out err. c.end_check.ensures (bytes_of c.args.words.now.items) out err c.in-Some-run_to_check.ensures
 
+pub returns-in-Some-word_behind : goal.returns-in-Some-word_behind
+returns-in-Some-word_behind g c = λ out err. c.end_to_json.ensures (bytes_of c.args.words.now.items) out err c.in-Some-word_behind.ensures
+
+pub returns-in-Some-word_behind-2 : goal.returns-in-Some-word_behind-2
+returns-in-Some-word_behind-2 g c = λ out err. c.end_from_json.ensures (bytes_of c.args.words.now.items) out err c.in-Some-word_behind-2.ensures
+
 pub returns-in-None : goal.returns-in-None
 returns-in-None g c = λ out err.
-    ends_of_sample _ c.end_sample.result (no_command_of (bytes_of c.args.words.now.items) c.in_default.ensures c.in_default-run_to_replay.ensures c.in-None.ensures) refl
+    ends_of_sample _ c.end_sample.result
+    (no_command_of (bytes_of c.args.words.now.items) c.in_default.ensures c.in_default-run_to_replay.ensures c.in_default-run_to_check.ensures c.in_default-word_behind.ensures c.in-None.ensures)
+    refl
     c.end_sample.ensures

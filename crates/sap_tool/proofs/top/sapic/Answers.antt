@@ -53,6 +53,15 @@ returns g c =
         };
         alike = c.verdicts_are_kept.ensures;
       };
+      json = record {
+        written = c.written_json_is_read.ensures;
+        json_writable = c.json_runs_can_be_written.ensures;
+        process_writable = c.read_runs_can_be_written.ensures.process;
+        rule_writable = c.read_runs_can_be_written.ensures.rule;
+        process_printed = c.printed_runs_are_read.ensures.process;
+        rule_printed = c.printed_runs_are_read.ensures.rule;
+      };
+      one_json = c.one_json_run.ensures;
       one_illegal = c.illegal_runs_have_one_cause.ensures.file;
       one_illegal_of_theory = c.illegal_runs_have_one_cause.ensures.theory;
     })

@@ -1,0 +1,236 @@
+-- What a command allows, refuses and takes of what it read, and of what is held.
+use Rattle.std.proofs.Common.{◌≡◌, ◌+◌, ℕ, List, take, Option, Some, None, refl, sym, ap, subst, ◌∙◌}
+use Rattle.std.specs.Prelude.{Ok, All}
+use Rattle.std.specs.FinMap as files
+use Rattle.sap_terms.specs.Signature.{HoldsBuiltins}
+use Rattle.sap_read.specs.Files.{FileContent, IsRead, IsRunnable}
+use Rattle.sap_rule.specs.WellMade.{IsWellMade}
+use Rattle.sap_rule.specs.declared.theory.Theory.{Theory}
+use Rattle.sap_run_texts.specs.declared.run.Kinds.TheVariants.{Rules, Either}
+use Rattle.sap_run_texts.specs.declared.run.Run.{Run}
+use Rattle.sap_theory.specs.ReadTheory.{IsTheoryRead}
+use Rattle.sap_outside.specs.Outside.{Files, IsFetched, IsFirstPart}
+use Rattle.sap_outside.specs.RunPieces.{IsReadUp}
+use Rattle.sap_tool.specs.Call.{Holds}
+use Rattle.sap_tool.specs.declared.way.Way.{Way}
+use Rattle.sap_tool.specs.Commands.{Command, compile, replay, check, to_json, from_json, Input, alone, and_run, run_alone, limit_of, kinds_of, Accepts, Refuses, RefusesRun, TakesRun, Allows, Means}
+use Rattle.sap_tool.specs.AcceptedFile.{compiled_theory}
+use Rattle.sap_tool.specs.RunRefusals.{IsIllegal, IsIllegalOfTheory, IsNeverIllegal, IsRunRefusedWith, no_run, illegal}
+use Rattle.sap_tool.proofs.Legal as legal
+use Rattle.sap_tool.proofs.Legal.{seen_is_legal, never_illegal, never_illegal_of_theory}
+use Rattle.sap_tool.proofs.Takes.{allowed_takes}
+use Rattle.sap_tool.proofs.Meant as meant
+use Rattle.sap_tool.proofs.Meant.{CanBePrinted, written_says}
+use Rattle.sap_tool.proofs.JsonMeant as json
+use Rattle.sap_tool.proofs.JsonMeant.{json_is_read, run_is_read}
+use Rattle.sap_tool.proofs.JsonRefused.{OneJson, one_json_cause, json_not_refused, json_part_refused, json_refused_by_part}
+use Rattle.sap_tool.proofs.OneRefusal.{one_run_cause}
+use Rattle.sap_tool.proofs.Parts.{OneRun, not_both, same_run, read_up_refused, refused_by_read_up}
+use Rattle.sap_tool.proofs.Refused.{OneReading, Runnable, Keeping, Writing, file_kept, file_written, one_cause, one_theory, same_file, not_refused, part_refused, part_accepted, refused_by_part, accepted_by_part}
+use Rattle.sap_tool.proofs.TheoryRefused.{OneTheory, same_theory, one_theory_cause, theory_not_refused, theory_part_refused, theory_refused_by_part, theory_part_accepted, theory_accepted_by_part}
+
+-- what is so of a theory that is read
+pub record IsRunnableTheory (t : Theory) : Type 0 where
+  pub builtins : HoldsBuiltins t.signature
+  pub made : All (IsWellMade t.signature) t.rules
+
+-- the laws of the crates below
+pub record Laws : Type 0 where
+  pub keeping : Keeping
+  pub runnable : Runnable
+  pub printed : (z : List ℕ) (f : FileContent) → IsRead z (Ok f) → CanBePrinted f
+  pub writing : Writing
+  pub one : OneReading
+  pub one_theory : OneTheory
+  pub one_run : OneRun
+  pub theories : (z : List ℕ) (t : Theory) → IsTheoryRead z (Ok t) → IsRunnableTheory t
+  pub legal : legal.Laws
+  pub meant : meant.Laws
+  pub json : json.Laws
+  pub one_json : OneJson
+  pub one_illegal : (f : FileContent) (r : Run) (why other : List ℕ) → IsRunnable f → IsIllegal f r why → IsIllegal f r other → why ≡ other
+  pub one_illegal_of_theory : (t : Theory) (r : Run) (why other : List ℕ) → HoldsBuiltins t.signature → All (IsWellMade t.signature) t.rules → IsIllegalOfTheory t r why → IsIllegalOfTheory t r other
+      → why ≡ other
+
+-- what an allowed text means
+pub means : Laws → (k : Command) (input : Input) (text : List ℕ) → Allows k input text → Means k input text
+means laws (compile way file) (alone bytes) text t =
+    record {
+      told = t.told;
+      file = t.file;
+      theory = compiled_theory way t.told;
+      written = file_written laws.writing way bytes text t.told t.file t.layout;
+      layout = t.layout;
+      compiled = refl;
+      keeps = file_kept laws.runnable laws.keeping way bytes t.told t.file;
+    }
+means laws (replay task file run) (and_run bytes z) text t =
+    record {
+      told = t.told;
+      file = t.file;
+      lines = t.lines;
+      read = t.read;
+      written = written_says laws.meant (kinds_of task) z t.told (laws.runnable bytes t.told t.file.read) (laws.printed bytes t.told t.file.read) task t.lines text t.read t.written;
+    }
+means laws (check theory run) (and_run bytes z) text t = t
+means laws (to_json run) (run_alone z) text t = json_is_read laws.json z text t
+means laws (from_json json) (alone bytes) text t = run_is_read laws.json bytes text t
+means laws k input text t = absurd t
+
+-- what is accepted isn't refused
+pub accepted_never : Laws → (k : Command) (bytes why : List ℕ) → Accepts k bytes → Refuses k bytes why → ⊥
+accepted_never laws (compile way file) bytes why a r = not_refused laws.one bytes why a.0 r a.1
+accepted_never laws (replay task file run) bytes why a r = not_refused laws.one bytes why a.0 r a.1
+accepted_never laws (check theory run) bytes why a r = theory_not_refused laws.one_theory bytes why a.0 r a.1
+accepted_never laws (to_json run) bytes why a r = absurd r
+accepted_never laws (from_json json) bytes why a r = absurd r
+
+-- no run is both taken and refused
+pub never_taken : Laws → (k : Command) (input : Input) (why : List ℕ) → TakesRun k input → RefusesRun k input why → ⊥
+never_taken laws (replay task file run) (and_run bytes z) why t r =
+    at r.0 why (same_file laws.one bytes t.told r.0 t.file.read r.1.read) r.2
+  where
+    at : (f : FileContent) (w : List ℕ) → t.told ≡ f → IsRunRefusedWith (kinds_of task) (IsIllegal f) z w → ⊥
+    at f _ same (no_run {e = e} a) = not_both laws.one_run (kinds_of task) z t.lines e t.read a
+    at f w same (illegal {r = s} a bad) =
+        let lines : t.lines ≡ s = same_run laws.one_run (kinds_of task) z t.lines s t.read a in
+        never_illegal laws.legal t.told (laws.runnable bytes t.told t.file.read) t.lines w (seen_is_legal t.told t.lines t.trace t.seen)
+        (subst (λ (x : FileContent). IsIllegal x t.lines w) (sym same) (subst (λ (x : Run). IsIllegal f x w) (sym lines) bad))
+never_taken laws (check theory run) (and_run bytes z) why t r =
+    at r.0 why (same_theory laws.one_theory bytes t.theory r.0 t.file r.1) r.2
+  where
+    at : (u : Theory) (w : List ℕ) → t.theory ≡ u → IsRunRefusedWith Rules (IsIllegalOfTheory u) z w → ⊥
+    at u _ same (no_run {e = e} a) = not_both laws.one_run Rules z t.lines e t.read a
+    at u w same (illegal {r = s} a bad) =
+        let lines : t.lines ≡ s = same_run laws.one_run Rules z t.lines s t.read a in
+        let can = laws.theories bytes t.theory t.file.read in
+        never_illegal_of_theory laws.legal.rules t.theory can.builtins can.made t.lines t.full w t.shown
+        (subst (λ (x : Theory). IsIllegalOfTheory x t.lines w) (sym same) (subst (λ (x : Run). IsIllegalOfTheory u x w) (sym lines) bad))
+never_taken laws (to_json run) (run_alone z) why t r = at why r where
+  at : (w : List ℕ) → IsRunRefusedWith Either IsNeverIllegal z w → ⊥
+  at _ (no_run {e = e} a) = not_both laws.one_run Either z t.0 e t.1 a
+  at w (illegal a bad) = bad
+never_taken laws (from_json json) (alone bytes) why t r = json_not_refused laws.one_json bytes why t.0 r t.1
+never_taken laws k input why t r = absurd r
+
+-- so none is both allowed a text and refused
+pub never_run : Laws → (k : Command) (input : Input) (text why : List ℕ) → Allows k input text → RefusesRun k input why → ⊥
+never_run laws k input text why t r = never_taken laws k input why (allowed_takes k input text why t r) r
+
+-- and they are refused for one cause
+pub one_why : Laws → (k : Command) (bytes why other : List ℕ) → Refuses k bytes why → Refuses k bytes other → why ≡ other
+one_why laws (compile way file) bytes why other r s = one_cause laws.one bytes why other r s
+one_why laws (replay task file run) bytes why other r s = one_cause laws.one bytes why other r s
+one_why laws (check theory run) bytes why other r s = one_theory_cause laws.one_theory bytes why other r s
+one_why laws (to_json run) bytes why other r s = absurd r
+one_why laws (from_json json) bytes why other r s = absurd r
+
+-- so is a run
+pub one_run_why : Laws → (k : Command) (input : Input) (why other : List ℕ) → RefusesRun k input why → RefusesRun k input other → why ≡ other
+one_run_why laws (replay task file run) (and_run bytes z) why other r s =
+    let same : s.0 ≡ r.0 = same_file laws.one bytes s.0 r.0 s.1.read r.1.read in
+    one_run_cause laws.one_run (kinds_of task) z (IsIllegal r.0) (λ x w v. laws.one_illegal r.0 x w v (laws.runnable bytes r.0 r.1.read)) why other r.2
+    (subst (λ (f : FileContent). IsRunRefusedWith (kinds_of task) (IsIllegal f) z other) same s.2)
+one_run_why laws (check theory run) (and_run bytes z) why other r s =
+    let same : s.0 ≡ r.0 = same_theory laws.one_theory bytes s.0 r.0 s.1 r.1 in
+    let can = laws.theories bytes r.0 r.1.read in
+    one_run_cause laws.one_run Rules z (IsIllegalOfTheory r.0) (λ x w v. laws.one_illegal_of_theory r.0 x w v can.builtins can.made) why other r.2
+    (subst (λ (t : Theory). IsRunRefusedWith Rules (IsIllegalOfTheory t) z other) same s.2)
+one_run_why laws (to_json run) (run_alone z) why other r s = one_run_cause laws.one_run Either z IsNeverIllegal (λ x w v bad worse. absurd bad) why other r s
+one_run_why laws (from_json json) (alone bytes) why other r s = one_json_cause laws.one_json bytes why other r s
+one_run_why laws k input why other r s = absurd r
+
+-- a file has one theory in a way
+pub one_allowed : Laws → (way : Way) (file bytes text other : List ℕ) → Allows (compile way file) (alone bytes) text → Allows (compile way file) (alone bytes) other → text ≡ other
+one_allowed laws way file bytes text other t u = one_theory laws.one bytes way text other t u
+
+-- what is fetched of a file that is held is its first part
+pub fetched_part : (holds : Option Files) (limit : ℕ) (file bytes z : List ℕ) → Holds holds file bytes → IsFetched holds file limit z → z ≡ take (limit + 1) bytes
+fetched_part None limit file bytes z held part = absurd held
+fetched_part (Some all) limit file bytes z held part = at (files.get all file) held part where
+  at : (o : Option (List ℕ)) → o ≡ Some bytes → IsFirstPart o limit z → z ≡ take (limit + 1) bytes
+  at None h k = absurd k
+  at (Some other) h k = let e : other ≡ bytes = cc in k ∙ ap (λ y. take (limit + 1) y) e
+
+-- which is refused for the file's cause
+pub part_is_refused : (k : Command) (bytes why : List ℕ) → Refuses k bytes why → Refuses k (take (limit_of k + 1) bytes) why
+part_is_refused (compile way file) bytes why r = part_refused bytes why r
+part_is_refused (replay task file run) bytes why r = part_refused bytes why r
+part_is_refused (check theory run) bytes why r = theory_part_refused bytes why r
+part_is_refused (to_json run) bytes why r = absurd r
+part_is_refused (from_json json) bytes why r = absurd r
+
+-- and the other way about
+pub is_refused_by_part : (k : Command) (bytes why : List ℕ) → Refuses k (take (limit_of k + 1) bytes) why → Refuses k bytes why
+is_refused_by_part (compile way file) bytes why r = refused_by_part bytes why r
+is_refused_by_part (replay task file run) bytes why r = refused_by_part bytes why r
+is_refused_by_part (check theory run) bytes why r = theory_refused_by_part bytes why r
+is_refused_by_part (to_json run) bytes why r = absurd r
+is_refused_by_part (from_json json) bytes why r = absurd r
+
+-- it is accepted where the file is
+pub part_is_accepted : (k : Command) (bytes : List ℕ) → Accepts k bytes → Accepts k (take (limit_of k + 1) bytes)
+part_is_accepted (compile way file) bytes a = (a.0, part_accepted bytes a.0 a.1)
+part_is_accepted (replay task file run) bytes a = (a.0, part_accepted bytes a.0 a.1)
+part_is_accepted (check theory run) bytes a = (a.0, theory_part_accepted bytes a.0 a.1)
+part_is_accepted (to_json run) bytes a = tt
+part_is_accepted (from_json json) bytes a = tt
+
+-- and allows the file's text
+pub part_allows : (way : Way) (file bytes text : List ℕ) → Allows (compile way file) (alone bytes) text
+    → Allows (compile way file) (alone (take (limit_of (compile way file) + 1) bytes)) text
+part_allows way file bytes text t = record { told = t.told; file = part_accepted bytes t.told t.file; layout = t.layout }
+
+-- the second is what may be read of the first: the first bytes of what is fetched, and the run read up
+abbrev pub IsPartOf : Command → Input → Input → Type 0
+IsPartOf k (alone bytes) (alone x) = x ≡ take (limit_of k + 1) bytes
+IsPartOf k (and_run bytes z) (and_run x y) = (x ≡ take (limit_of k + 1) bytes) × IsReadUp z y
+IsPartOf k (run_alone z) (run_alone y) = IsReadUp z y
+IsPartOf k held read = ⊥
+
+-- a run that is refused is refused by what was read of it, and of its file
+alone_is_refused : (k : Command) (bytes why : List ℕ) → RefusesRun k (alone bytes) why → RefusesRun k (alone (take (limit_of k + 1) bytes)) why
+alone_is_refused (from_json json) bytes why r = json_part_refused bytes why r
+alone_is_refused k bytes why r = absurd r
+
+both_are_refused : (k : Command) (bytes z y why : List ℕ) → IsReadUp z y → RefusesRun k (and_run bytes z) why → RefusesRun k (and_run (take (limit_of k + 1) bytes) y) why
+both_are_refused (replay task file run) bytes z y why up r =
+    (r.0, part_accepted bytes r.0 r.1, read_up_refused (kinds_of task) (IsIllegal r.0) z y why up r.2)
+both_are_refused (check theory run) bytes z y why up r =
+    (r.0, theory_part_accepted bytes r.0 r.1, read_up_refused Rules (IsIllegalOfTheory r.0) z y why up r.2)
+both_are_refused k bytes z y why up r = absurd r
+
+run_is_refused : (k : Command) (z y why : List ℕ) → IsReadUp z y → RefusesRun k (run_alone z) why → RefusesRun k (run_alone y) why
+run_is_refused (to_json run) z y why up r = read_up_refused Either IsNeverIllegal z y why up r
+run_is_refused k z y why up r = absurd r
+
+pub refused_as_read : (k : Command) (held read : Input) (why : List ℕ) → IsPartOf k held read → RefusesRun k held why → RefusesRun k read why
+refused_as_read k (alone bytes) (alone x) why p r = subst (λ (y : List ℕ). RefusesRun k (alone y) why) (sym p) (alone_is_refused k bytes why r)
+refused_as_read k (and_run bytes z) (and_run x y) why p r =
+    subst (λ (w : List ℕ). RefusesRun k (and_run w y) why) (sym p.0) (both_are_refused k bytes z y why p.1 r)
+refused_as_read k (run_alone z) (run_alone y) why p r = run_is_refused k z y why p r
+refused_as_read k held read why p r = absurd p
+
+-- and the other way about, for some cause
+alone_refused_by_part : (k : Command) (bytes why : List ℕ) → RefusesRun k (alone (take (limit_of k + 1) bytes)) why → (other : List ℕ) × RefusesRun k (alone bytes) other
+alone_refused_by_part (from_json json) bytes why r = (why, json_refused_by_part bytes why r)
+alone_refused_by_part k bytes why r = absurd r
+
+both_refused_by_part : (k : Command) (bytes z y why : List ℕ) → IsReadUp z y → RefusesRun k (and_run (take (limit_of k + 1) bytes) y) why
+    → (other : List ℕ) × RefusesRun k (and_run bytes z) other
+both_refused_by_part (replay task file run) bytes z y why up r =
+    let read = refused_by_read_up (kinds_of task) (IsIllegal r.0) z y why up r.2 in (read.0, (r.0, accepted_by_part bytes r.0 r.1, read.1))
+both_refused_by_part (check theory run) bytes z y why up r =
+    let read = refused_by_read_up Rules (IsIllegalOfTheory r.0) z y why up r.2 in (read.0, (r.0, theory_accepted_by_part bytes r.0 r.1, read.1))
+both_refused_by_part k bytes z y why up r = absurd r
+
+run_refused_by_part : (k : Command) (z y why : List ℕ) → IsReadUp z y → RefusesRun k (run_alone y) why → (other : List ℕ) × RefusesRun k (run_alone z) other
+run_refused_by_part (to_json run) z y why up r = refused_by_read_up Either IsNeverIllegal z y why up r
+run_refused_by_part k z y why up r = absurd r
+
+pub refused_as_held : (k : Command) (held read : Input) (why : List ℕ) → IsPartOf k held read → RefusesRun k read why → (other : List ℕ) × RefusesRun k held other
+refused_as_held k (alone bytes) (alone x) why p r = alone_refused_by_part k bytes why (subst (λ (y : List ℕ). RefusesRun k (alone y) why) p r)
+refused_as_held k (and_run bytes z) (and_run x y) why p r =
+    both_refused_by_part k bytes z y why p.1 (subst (λ (w : List ℕ). RefusesRun k (and_run w y) why) p.0 r)
+refused_as_held k (run_alone z) (run_alone y) why p r = run_refused_by_part k z y why p r
+refused_as_held k held read why p r = absurd p
