@@ -129,7 +129,8 @@ impl<T: HasName + Drop> Named<T> {
 
     // Puts the item last: the index of the first item of its name. Refused, the item is dropped, and the list is as it was.
     fn push_found(&mut self, item: T) -> Result<u64, Mem>
-        ensures first { IfOk result (λ k. k ≡ unwrap_or (index_of T.name_of self.old (T.name_of item)) (length self.old)) }
+        ensures first { IfOk result (λ k. k
+            ≡ unwrap_or (index_of T.name_of self.old (T.name_of item)) (length self.old)) }
         ensures ok { OnOk result (self.new ≡ self.old ++ item ∷ []) }
         ensures err { OnErr result (self.new ≡ self.old) }
     {
@@ -149,7 +150,8 @@ impl<T: HasName + Drop> Named<T> {
     // item is dropped, and the list is as it was.
     pub(crate) fn push_new(&mut self, item: T) -> Result<Option<u64>, Mem>
         ensures first { IfOk result (λ o. o ≡ index_of T.name_of self.old (T.name_of item)) }
-        ensures ok { IfOk result (λ o. self.new ≡ (if is_some o then self.old else self.old ++ item ∷ [])) }
+        ensures ok { IfOk result (λ o. self.new
+            ≡ (if is_some o then self.old else self.old ++ item ∷ [])) }
         ensures err { OnErr result (self.new ≡ self.old) }
     {
         let last = self.items.len();
