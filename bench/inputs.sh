@@ -7,7 +7,8 @@
 #   know-large       an entry of 255 nodes that the adversary shows again and again; beside an entry of one node
 #   app-large        a symbol applied to entries, which makes an entry of 255 nodes each time; beside one of three nodes
 #   in-large         inputs of a term of 255 nodes, of a process and, in four times as many lines, of rules; beside one node
-#   look-up-large    look-ups of such a key, where such a term is stored; beside one node
+#   look-up-large    look-ups of such a key, where such a term is stored; beside a key of 19 nodes that is written in as many bytes,
+#                    since each line of rules shows the term that was found
 #   insert-large     inserts of it; beside one node
 #   act-large        events of it and, in four times as many lines, shown facts; beside one node
 #   symbols          so many symbols with long names, each applied once; beside one of them, applied as often
@@ -18,6 +19,8 @@
 #                    those of symbols; of definitions; of the variables of an embedded rule, which is refused; of the facts that an
 #                    embedded rule shows, which are judged in the second row; of the variables of a rule; of the facts that it
 #                    shows; of rules; and of lemmas
+#   alike            so many symbols whose names begin and end with the same eight bytes, which an order of names looks at first;
+#                    beside as many names of that length that differ in these
 #   words            a line of so many short words; beside the same words in lines of four hundred. Both are refused
 #   line             a line of so many bytes of one word, which is refused; beside as many bytes in lines that are steps
 #   behind-fault     so many lines behind one that is no step, which is refused; beside the same lines where it is one
@@ -68,6 +71,10 @@ HOLDS = " lemma l: \"T\""
 PAIRS = ["pub 'a'"] + ["app pair %d %d" % (k, k) for k in range(7)]
 
 
+# As many lines, of which entry 4 has 19 nodes: ten names, so long that it is written in as many bytes as those 255 nodes.
+NAMES = ["pub '%s'" % ("a" * 60)] + ["app pair %d %d" % (k, k) for k in range(3)] + ["app pair 3 1"] + ["app pair 0 0"] * 3
+
+
 # The entry that a run speaks of: that of 255 nodes, or that of one.
 def entry(plain):
     return 0 if plain else 7
@@ -98,17 +105,18 @@ def in_large(plain, n):
     write(plain, "lines", rule_run(lines))
 
 
-# A process that takes a term, does something first, and does the same again and again, by these lines each.
-def again(plain, n, first, body, begin, each):
+# A process that takes a term, does something first, and does the same again and again, by these lines each. Without what is large
+# it takes the term that these lines give it.
+def again(plain, n, first, body, begin, each, small=PAIRS + ["in 0 0"]):
     write(plain, "file", process("in(x); " + first + "! " + body, after=HOLDS))
-    lines = PAIRS + ["in 0 %d" % entry(plain)] + begin
+    lines = (small if plain else PAIRS + ["in 0 7"]) + begin
     for k in range((n - len(lines)) // (len(each) + 1)):
         lines += ["rep 0"] + [line % (k + 1) for line in each]
     write(plain, "run", process_run(lines))
 
 
 def look_up_large(plain, n):
-    again(plain, n, "insert x, x; ", "lookup x as y in 0", ["insert 0"], ["found %d"])
+    again(plain, n, "insert x, x; ", "lookup x as y in 0", ["insert 0"], ["found %d"], NAMES + ["in 0 4"])
 
 
 def insert_large(plain, n):
@@ -206,6 +214,11 @@ def collide_rules(plain, n):
 
 def collide_lemmas(plain, n):
     write(plain, "file", process("0", after="".join(' lemma %s: "T"' % name for name in named("n", plain, n))))
+
+
+def alike(plain, n):
+    form = "n%07d" + "n" * 14 if plain else "n" * 8 + "%06d" + "n" * 8
+    write(plain, "file", process("0", "functions: " + ", ".join(form % k + "/0" for k in range(n)) + " "))
 
 
 def words(plain, n):
@@ -443,6 +456,7 @@ collide_bound() {
         row "$size" compile file
     done
 }
+alike() { legal alike '2500 5000 10000' compile file; }
 words() {
     refused words '2000000 4000000 8000000' 'run refused: step 2: function pair has another arity' \
         'run refused: step 2: function pair has another arity'
@@ -470,7 +484,7 @@ unread() {
 
 [ "${1:-}" = --rows ] && shift
 [ $# -gt 0 ] || set -- know-large app-large in-large look-up-large insert-large act-large symbols wide-destructor variables \
-    embedded-wide collide words line behind-fault builtins let-embedded parentheses unread
+    embedded-wide collide alike words line behind-fault builtins let-embedded parentheses unread
 for name in "$@"; do
     "$(echo "$name" | tr - _)"
 done

@@ -1,10 +1,10 @@
 #!/bin/sh
 # Counts what judging costs beside the cost that is stated of a formula, and what the check of a formula costs. Each family doubles a
 # size, up to what a theory, a file or a run may have: in instructions, by valgrind, without those of the same command on the same
-# theory or file and run without its formulas. So the ratio is to be about 2, at most 2.2, but for nested up to 2.25, since the names
-# that it binds are looked up in order. The last line of a family tells the milliseconds of the whole command at the greatest size,
-# and, in brackets, those that a plain program without proofs took for the same. In terms nearly all of it is the run, whose rule is
-# evaluated at each line; in names and spread it is making the trace ready, which the same command without formulas does too.
+# theory or file and run without its formulas. So the ratio is to be about 2, at most 2.2. The last line of a family tells the
+# milliseconds of the whole command at the greatest size, and, in brackets, those that a plain program without proofs took for the
+# same. In terms nearly all of it is the run, whose rule is evaluated at each line; in names and spread it is making the trace
+# ready, which the same command without formulas does too.
 #
 #   lemmas       up to 4,000 lemmas, each with a guard, on a run that shows 2,500 facts
 #   terms        80 lemmas that look at nothing, on up to 2,000 facts of 255 nodes

@@ -5,13 +5,14 @@ use Rattle.std.specs.List.{list_any, position_or_len}
 use Rattle.std.specs.Option.{option_copied}
 use Rattle.std.specs.Str.{bytes_eq}
 use Prim.Native.Nat.compare
-use Rattle.std.proofs.lemmas.Bool.{lt-ltb}
+use Rattle.std.proofs.lemmas.Bool.{lt-ltb, false≢true}
 use Rattle.std.proofs.lemmas.Slice.Eq.{bytes_eq-Decides}
 use Rattle.sap_formula.specs.Checked.{binder_name}
 use Rattle.sap_formula.specs.declared.binder.Binder.{Binder}
-use Rattle.sap_formula.specs.code.Ready.{Action, Guard, Place, guards_of, marked, marked_all, seen_behind, seen_by, slot_at, slot_or}
+use Rattle.sap_formula.specs.code.Ready.{Action, Guard, Place, guards_of, marked, marked_all, noted, seen_behind, seen_by, slot_at, slot_count, slot_in, slot_or}
 use Rattle.sap_terms.proofs.PlainLaws.Lists.{drop_got}
 use Rattle.sap_terms.proofs.PlainLaws.Trees.{item_le-trees_count}
+use Rattle.sap_terms.specs.NameSet.{with_name}
 use Rattle.sap_terms.specs.Named.{first_named}
 use Rattle.sap_terms.specs.Trace.{Trace}
 use Rattle.sap_terms.specs.Tree.{Tree, more, trees_of}
@@ -58,6 +59,37 @@ no_slot (Some k) count other h = absurd (cc)
 
 pub unseen : (p : Place) (seen : List (List ℕ)) (n : List ℕ) → slot_at p seen n ≡ None → list_any (bytes_eq n) seen ≡ false
 unseen p seen n h = unplaced (bytes_eq n) seen (no_slot (position (bytes_eq n) seen) _ _ h)
+
+-- an occurrence of a name that the quantifier binds has a slot exactly where the name came before
+placed : {X : Type 0} (p : X → Bool) (xs : List X) → position p xs ≡ cond (list_any p xs) (Some (position_or_len p xs)) None
+placed p xs = ap (λ t. cond t (Some (position_or_len p xs)) None) (is_placed p xs)
+
+slot_bound : (p : Place) (seen : List (List ℕ)) (n : List ℕ) (there : Bool) → list_any (bytes_eq n) p.bound ≡ true → list_any (bytes_eq n) seen ≡ there
+    → slot_at p seen n ≡ slot_or (cond there (Some (position_or_len (bytes_eq n) seen)) None) (slot_count p.outer) None
+slot_bound p seen n there b t =
+    (λ i. slot_or ((placed (bytes_eq n) seen ∙ ap (λ c. cond c (Some (position_or_len (bytes_eq n) seen)) None) t) i) (slot_count p.outer) (if b i then None else slot_in p.outer n))
+
+came : (there new : Bool) → new ≡ not there → new ≡ false → there ≡ true
+came true new e f = refl
+came false new e f = absurd (false≢true (sym f ∙ e))
+
+came_not : (there new : Bool) → new ≡ not there → new ≡ true → there ≡ false
+came_not false new e f = refl
+came_not true new e f = absurd (false≢true (sym e ∙ f))
+
+pub bound_slot : (p : Place) (seen : List (List ℕ)) (n : List ℕ) (index slot : ℕ) (new : Bool) → list_any (bytes_eq n) p.bound ≡ true → new ≡ not (list_any (bytes_eq n) seen) → new ≡ false
+    → index ≡ position_or_len (bytes_eq n) seen → slot ≡ slot_count p.outer + index → Some slot ≡ slot_at p seen n
+bound_slot p seen n index slot new b e f at is =
+    ap Some (is ∙ ap (λ k. slot_count p.outer + k) at) ∙ sym (slot_bound p seen n true b (came (list_any (bytes_eq n) seen) new e f))
+
+pub bound_next : (p : Place) (seen : List (List ℕ)) (n : List ℕ) (new : Bool) → list_any (bytes_eq n) p.bound ≡ true → new ≡ not (list_any (bytes_eq n) seen) → new ≡ true → None ≡ slot_at p seen n
+bound_next p seen n new b e f = sym (slot_bound p seen n false b (came_not (list_any (bytes_eq n) seen) new e f))
+
+pub bound_noted : (p : Place) (seen after : List (List ℕ)) (n : List ℕ) → list_any (bytes_eq n) p.bound ≡ true → after ≡ with_name seen n → after ≡ noted (slot_at p seen n) seen n
+bound_noted p seen after n b e = e ∙ at (list_any (bytes_eq n) seen) refl where
+  at : (there : Bool) → list_any (bytes_eq n) seen ≡ there → with_name seen n ≡ noted (slot_at p seen n) seen n
+  at true t = ap (λ c. if c then seen else seen ++ n ∷ []) t ∙ sym (ap (λ o. noted o seen n) (slot_bound p seen n true b t))
+  at false t = ap (λ c. if c then seen else seen ++ n ∷ []) t ∙ sym (ap (λ o. noted o seen n) (slot_bound p seen n false b t))
 
 -- the terms from index k on
 trees_got : (ts : List Tree) (k : ℕ) (t : Tree) → slice_get ts k ≡ Some t → trees_of (drop k ts) ≡ more t (trees_of (drop (k + 1) ts))

@@ -1,5 +1,5 @@
 //! Slots of variables, and the marks of their occurrences.
-ghost use Rattle.std.specs.Prelude.{◌≡◌, ◌+◌, ◌++◌, ◌∷◌, [], None, IfOk, OnOk, map, false, if◌then◌else◌};
+ghost use Rattle.std.specs.Prelude.{◌≡◌, ◌+◌, ◌++◌, ◌∷◌, [], IfOk, OnOk, map, false, true};
 ghost use Rattle.std.specs.List.{list_any};
 ghost use Rattle.std.specs.Str.{bytes_eq};
 ghost use Rattle.sap_formula.specs.Checked.{binder_name};
@@ -80,18 +80,12 @@ fn slots_outside(spot: &Spot<'_>) -> Result<u64, Mem>
     }
 }
 
-// The slot that a name has outside of the quantifier, unless the quantifier binds it.
-fn slot_outside(spot: &Spot<'_>, n: &Name) -> Result<Option<u64>, Mem>
-    ensures { IfOk result (λ k. k ≡ (if list_any (bytes_eq n.now) (place spot.now).bound then None else slot_in (place spot.now).outer n.now)) }
+// The levels outside of the quantifier.
+fn levels_of<'a>(spot: &Spot<'a>) -> &'a Levels<'a>
+    ensures { layers result.now ≡ (place spot.now).outer }
 {
     match spot {
-        Spot::Anywhere(levels) => slot_in(levels, n),
-        Spot::Guards(bs, levels) => {
-            if binds(bs, n) {
-                return Ok(None);
-            }
-            slot_in(levels, n)
-        }
+        Spot::Anywhere(levels) | Spot::Guards(_, levels) => levels,
     }
 }
 
@@ -102,13 +96,24 @@ fn binds(bs: &Named<Binder>, n: &Name) -> bool
     bs.named(n).is_some()
 }
 
-// The slot of a name, where these names have slots already; none where it is to get the next.
-fn slot_at(spot: &Spot<'_>, seen: &NameSet, n: &Name) -> Result<Option<u64>, Mem>
+// Whether the quantifier binds the name.
+fn is_bound(spot: &Spot<'_>, n: &Name) -> bool
+    ensures { result ≡ list_any (bytes_eq n.now) (place spot.now).bound }
+{
+    match spot {
+        Spot::Anywhere(_) => false,
+        Spot::Guards(bs, _) => binds(bs, n),
+    }
+}
+
+// The slot of a name that the quantifier doesn't bind, where these names have slots already; none where it is to get the next.
+fn slot_free(spot: &Spot<'_>, seen: &NameSet, n: &Name) -> Result<Option<u64>, Mem>
+    requires { list_any (bytes_eq n.now) (place spot.now).bound ≡ false }
     ensures { IfOk result (λ k. k ≡ slot_at (place spot.now) seen.now n.now) }
 {
     match seen.index_of(n) {
         Some(k) => Ok(Some(added(slots_outside(spot)?, k)?)),
-        None => slot_outside(spot, n),
+        None => slot_in(levels_of(spot), n),
     }
 }
 
@@ -121,18 +126,43 @@ fn note(seen: &mut NameSet, n: &Name) -> Result<(), Mem>
     Ok(())
 }
 
-// The slot of an occurrence, none where it fills the next one, which is the name's from here on.
-pub(crate) fn mark(spot: &Spot<'_>, seen: &mut NameSet, n: &Name) -> Result<Option<u64>, Mem>
+// The slot of an occurrence that the quantifier doesn't bind, none where it fills the next one.
+fn mark_free(spot: &Spot<'_>, seen: &mut NameSet, n: &Name) -> Result<Option<u64>, Mem>
+    requires { list_any (bytes_eq n.now) (place spot.now).bound ≡ false }
     ensures slot { IfOk result (λ k. k ≡ slot_at (place spot.now) seen.old n.now) }
     ensures seen { OnOk result (seen.new ≡ noted (slot_at (place spot.now) seen.old n.now) seen.old n.now) }
 {
-    match slot_at(spot, seen, n)? {
+    match slot_free(spot, seen, n)? {
         Some(k) => Ok(Some(k)),
         None => {
             note(seen, n)?;
             Ok(None)
         }
     }
+}
+
+// The slot of an occurrence that the quantifier binds, none where it fills the next one: one search tells it and notes the name.
+fn mark_bound(spot: &Spot<'_>, seen: &mut NameSet, n: &Name) -> Result<Option<u64>, Mem>
+    requires { list_any (bytes_eq n.now) (place spot.now).bound ≡ true }
+    ensures slot { IfOk result (λ k. k ≡ slot_at (place spot.now) seen.old n.now) }
+    ensures seen { OnOk result (seen.new ≡ noted (slot_at (place spot.now) seen.old n.now) seen.old n.now) }
+{
+    let (index, new) = seen.insert(n)?;
+    if new {
+        return Ok(None);
+    }
+    Ok(Some(added(slots_outside(spot)?, index)?))
+}
+
+// The slot of an occurrence, none where it fills the next one, which is the name's from here on.
+pub(crate) fn mark(spot: &Spot<'_>, seen: &mut NameSet, n: &Name) -> Result<Option<u64>, Mem>
+    ensures slot { IfOk result (λ k. k ≡ slot_at (place spot.now) seen.old n.now) }
+    ensures seen { OnOk result (seen.new ≡ noted (slot_at (place spot.now) seen.old n.now) seen.old n.now) }
+{
+    if is_bound(spot, n) {
+        return mark_bound(spot, seen, n);
+    }
+    mark_free(spot, seen, n)
 }
 
 // Puts the slot of an occurrence behind the other marks.

@@ -1,7 +1,6 @@
 -- Items looked up by their places, one item more and one less.
-use Rattle.std.proofs.Common.{◌≡◌, ℕ, zero, suc, ◌<◌, arith, Bool, true, false, List, [], ◌∷◌, ◌++◌, length, Option, Some, None, option_map, is_some, if◌then◌else◌, cond, slice_get, refl, ap, sym, ◌∙◌}
+use Rattle.std.proofs.Common.{◌≡◌, ℕ, zero, suc, ◌<◌, arith, Bool, true, false, List, [], ◌∷◌, ◌++◌, length, Option, Some, None, option_map, if◌then◌else◌, cond, unwrap_or, slice_get, refl, ap, sym, ◌∙◌}
 use Rattle.std.specs.Str.{bytes_eq}
-use Rattle.std.proofs.lemmas.Bool.{false≢true}
 use Rattle.std.proofs.lemmas.Slice.Eq.{bytes_eq-Decides}
 use Rattle.sap_terms.specs.Named.{first_named}
 use Rattle.sap_terms.specs.code.Places.{index_of}
@@ -47,33 +46,24 @@ module _ {X : Type 0} (name : X → List ℕ) where
     by false false None later = rw later refl
     by false c (Some k) later = rw later refl
 
-  -- the places stay where the last item's name is there already
-  pub places-kept : (places : List ℕ → Option ℕ) (ss : List X) (s : X) → ((n : List ℕ) → places n ≡ index_of name ss n) → is_some (places (name s)) ≡ true
-      → (n : List ℕ) → places n ≡ index_of name (ss ++ s ∷ []) n
-  places-kept places ss s tied there n = by (bytes_eq (name s) n) refl (index_of name ss n) refl where
-    by : (b : Bool) → bytes_eq (name s) n ≡ b → (o : Option ℕ) → index_of name ss n ≡ o → places n ≡ index_of name (ss ++ s ∷ []) n
-    by b d (Some k) e = rw (index_of-push ss s n, e) (tied n ∙ e)
-    by false d None e = rw (index_of-push ss s n, e, d) (tied n ∙ e)
-    by true d None e =
-        let same : (name s) ≡ n = (bytes_eq-Decides (name s) n).0 d in
-        let gone : places (name s) ≡ None = rw same (tied n ∙ e) in
-        absurd (false≢true (rw gone at there))
+  -- with an item more its name has the place that it had, or else the last
+  pub places-push : (places after : List ℕ → Option ℕ) (ss : List X) (s : X) (called : List ℕ) (last first : ℕ) → ((n : List ℕ) → places n ≡ index_of name ss n)
+      → called ≡ name s → last ≡ length ss → first ≡ unwrap_or (places called) last
+      → ((n : List ℕ) → after n ≡ cond (bytes_eq called n) (Some first) (places n)) → (n : List ℕ) → after n ≡ index_of name (ss ++ s ∷ []) n
+  places-push places after ss s called last first tied e f is updates n = by (bytes_eq (name s) n) refl (index_of name ss n) refl where
+    put : after n ≡ cond (bytes_eq (name s) n) (Some first) (places n)
+    put = updates n ∙ ap (λ (m : List ℕ). cond (bytes_eq m n) (Some first) (places n)) e
 
-  -- a new name has the last place
-  pub places-more : (places after : List ℕ → Option ℕ) (ss : List X) (s : X) (called : List ℕ) (place : ℕ) → ((n : List ℕ) → places n ≡ index_of name ss n)
-      → index_of name ss (name s) ≡ None → called ≡ name s → place ≡ length ss
-      → ((n : List ℕ) → after n ≡ cond (bytes_eq called n) (Some place) (places n)) → (n : List ℕ) → after n ≡ index_of name (ss ++ s ∷ []) n
-  places-more places after ss s called place tied none e f updates n = by (bytes_eq (name s) n) refl (index_of name ss n) refl where
-    put : after n ≡ cond (bytes_eq (name s) n) (Some (length ss)) (places n)
-    put = rw (e, f) at (updates n)
+    found : bytes_eq (name s) n ≡ true → first ≡ unwrap_or (index_of name ss n) (length ss)
+    found d = is ∙ (λ i. unwrap_or (places (e i)) (f i)) ∙ ap (λ (o : Option ℕ). unwrap_or o (length ss)) (tied (name s) ∙ ap (index_of name ss) ((bytes_eq-Decides (name s) n).0 d))
+
+    had : (o : Option ℕ) → Some (unwrap_or o (length ss)) ≡ or_place o (Some (length ss))
+    had None = refl
+    had (Some k) = refl
 
     by : (b : Bool) → bytes_eq (name s) n ≡ b → (o : Option ℕ) → index_of name ss n ≡ o → after n ≡ index_of name (ss ++ s ∷ []) n
-    by true d None e = put ∙ rw (index_of-push ss s n, e, d) refl
-    by true d (Some k) e =
-        let same : (name s) ≡ n = (bytes_eq-Decides (name s) n).0 d in
-        let there : index_of name ss (name s) ≡ Some k = rw same e in
-        absurd (false≢true (ap is_some (sym none ∙ there)))
-    by false d o e = put ∙ rw (index_of-push ss s n, d, tied n) (or_none (index_of name ss n))
+    by true d o e = put ∙ rw (index_of-push ss s n, d, found d, e) (had o)
+    by false d o e = put ∙ rw (index_of-push ss s n, d, tied n, e) (or_none o)
 
   -- the place of each name is below the length
   pub index_of-below : (ss : List X) (n : List ℕ) (k : ℕ) → index_of name ss n ≡ Some k → k < length ss
@@ -85,6 +75,16 @@ module _ {X : Type 0} (name : X → List ℕ) where
     by false None k e later = cc
     by false (Some j) zero e later = cc
     by false (Some j) (suc k) e later = let same : j ≡ k = cc in let below : k < length ss = later k (ap Some same) in omega (arith, below)
+
+  -- the place of a name, or the length, tells whether it has one
+  pub no_place : (ss : List X) (n : List ℕ) (last first : ℕ) → first ≡ unwrap_or (index_of name ss n) (length ss) → last ≡ length ss → first ≡ last → None ≡ index_of name ss n
+  no_place ss n last first is f e = by (index_of name ss n) refl where
+    by : (o : Option ℕ) → index_of name ss n ≡ o → None ≡ index_of name ss n
+    by None p = sym p
+    by (Some k) p =
+        let below : k < length ss = index_of-below ss n k p in
+        let at : first ≡ k = is ∙ ap (λ (o : Option ℕ). unwrap_or o (length ss)) p in
+        absurd (omega arith)
 
   -- the last item's place is taken out where it is the first of its name
   pub places-less : (places after : List ℕ → Option ℕ) (ss rs : List X) (s : X) → ss ≡ rs ++ s ∷ [] → ((n : List ℕ) → places n ≡ index_of name ss n) → places (name s) ≡ Some (length rs)
@@ -119,3 +119,18 @@ module _ {X : Type 0} (name : X → List ℕ) where
         absurd (later (ap places same ∙ here))
     by b d (Some k) e = was ∙ rw e refl
     by false d None e = was ∙ rw (d, e) refl
+
+  -- so it is where the last item isn't the first of its name
+  pub places-again : (places : List ℕ → Option ℕ) (ss rs : List X) (s : X) (last first : ℕ) → ss ≡ rs ++ s ∷ [] → ((n : List ℕ) → places n ≡ index_of name ss n)
+      → first ≡ unwrap_or (index_of name rs (name s)) (length rs) → last ≡ length rs → ¬ (first ≡ last) → (n : List ℕ) → places n ≡ index_of name rs n
+  places-again places ss rs s last first whole tied is f ne = places-left places ss rs s whole tied (λ h. by (index_of name rs (name s)) refl h) where
+    here : places (name s) ≡ or_place (index_of name rs (name s)) (if bytes_eq (name s) (name s) then Some (length rs) else None)
+    here = tied (name s) ∙ ap (λ us. index_of name us (name s)) whole ∙ index_of-push rs s (name s)
+
+    by : (o : Option ℕ) → index_of name rs (name s) ≡ o → places (name s) ≡ Some (length rs) → ⊥
+    by None p h = ne (is ∙ ap (λ (o : Option ℕ). unwrap_or o (length rs)) p ∙ sym f)
+    by (Some k) p h =
+        let at : first ≡ k = is ∙ ap (λ (o : Option ℕ). unwrap_or o (length rs)) p in
+        let there : Some k ≡ Some (length rs) = sym (here ∙ rw p refl) ∙ h in
+        let same : k ≡ length rs = cc in
+        ne (at ∙ same ∙ sym f)

@@ -5,3 +5,4 @@ pub mod Places
 pub mod Hashed
 pub mod Keys
 pub mod Held
+pub mod NameOrder

@@ -84,14 +84,12 @@ impl NameSet {
         ensures more { OnOk result ((n : List ℕ) → list_any (bytes_eq n) self.new ≡ (bytes_eq name.now n || list_any (bytes_eq n) self.old)) }
         ensures err { OnErr result (self.new ≡ self.old) }
     {
-        match self.names.index_of(name) {
-            Some(place) => Ok((place, false)),
-            None => {
-                let place = self.names.len();
-                let copy = name.copy(self.names.allocator())?;
-                self.names.push_first(copy)?;
-                Ok((place, true))
-            }
+        let last = self.names.len();
+        let copy = name.copy(self.names.allocator())?;
+        match self.names.push_new(copy)? {
+            Some(place) => return Ok((place, false)),
+            None => {}
         }
+        Ok((last, true))
     }
 }

@@ -1,6 +1,6 @@
 //! Lists whose items are found by their names.
-ghost use Rattle.std.specs.Prelude.{◌≡◌, ℕ, ◌<◌, ◌-◌, ◌↔◌, List, [], ◌∷◌, ◌++◌, length, take, None, Some, IsTrue, OnOk, OnErr, slice_get};
-ghost use Rattle.std.specs.Option.{option_copied};
+ghost use Rattle.std.specs.Prelude.{◌≡◌, ℕ, ◌<◌, ◌-◌, ◌↔◌, List, [], ◌∷◌, ◌++◌, length, take, Some, IsTrue, IfOk, OnOk, OnErr, is_some, if◌then◌else◌, slice_get};
+ghost use Rattle.std.specs.Option.{option_copied, unwrap_or};
 ghost use Rattle.sap_terms.specs.Named.{first_named};
 ghost use Rattle.sap_terms.specs.NameMap.{value_at};
 ghost use Rattle.sap_terms.specs.code.Places.{index_of};
@@ -123,29 +123,44 @@ impl<T: HasName + Drop> Named<T> {
         ensures ok { OnOk result (self.new ≡ self.old ++ item ∷ []) }
         ensures err { OnErr result (self.new ≡ self.old) }
     {
-        if self.places.contains_key(item.name()) {
-            self.items.push(item)?;
-            return Ok(());
-        }
-        self.push_first(item)
+        self.push_found(item)?;
+        Ok(())
     }
 
-    // Puts the item last, where no item has its name. Refused, the item is dropped, and the list is as it was.
-    pub(crate) fn push_first(&mut self, item: T) -> Result<(), Mem>
-        requires { index_of T.name_of self.old (T.name_of item) ≡ None }
+    // Puts the item last: the index of the first item of its name. Refused, the item is dropped, and the list is as it was.
+    fn push_found(&mut self, item: T) -> Result<u64, Mem>
+        ensures first { IfOk result (λ k. k
+            ≡ unwrap_or (index_of T.name_of self.old (T.name_of item)) (length self.old)) }
         ensures ok { OnOk result (self.new ≡ self.old ++ item ∷ []) }
         ensures err { OnErr result (self.new ≡ self.old) }
     {
         let name = item.name().copy(self.items.allocator())?;
-        let place = self.items.len();
+        let last = self.items.len();
         self.items.push(item)?;
-        match self.places.insert(name, place) {
-            Ok(()) => Ok(()),
+        match self.places.keep(name, last) {
+            Ok(first) => Ok(first),
             Err(e) => {
-                self.items.cut(place);
+                self.items.cut(last);
                 Err(e)
             }
         }
+    }
+
+    // Puts the item last unless one has its name: the index of the first that has it, None where the item was put. Refused, the
+    // item is dropped, and the list is as it was.
+    pub(crate) fn push_new(&mut self, item: T) -> Result<Option<u64>, Mem>
+        ensures first { IfOk result (λ o. o ≡ index_of T.name_of self.old (T.name_of item)) }
+        ensures ok { IfOk result (λ o. self.new
+            ≡ (if is_some o then self.old else self.old ++ item ∷ [])) }
+        ensures err { OnErr result (self.new ≡ self.old) }
+    {
+        let last = self.items.len();
+        let first = self.push_found(item)?;
+        if first == last {
+            return Ok(None);
+        }
+        self.items.cut(last);
+        Ok(Some(first))
     }
 
     /// Leaves the first `len` items. It takes time in the number of the others.
