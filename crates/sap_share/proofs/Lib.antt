@@ -13,3 +13,4 @@ mod Kept
 mod Evaluated
 mod Fitting
 mod Indexed
+mod Ordered

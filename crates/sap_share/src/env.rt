@@ -1,11 +1,13 @@
 // Numbers that stand for variables.
-ghost use Rattle.std.specs.Prelude.{◌≡◌, ◌<◌, ◌++◌, ◌∷◌, [], length, map, Some, slice_get, IfOk, OnOk, OnErr};
+ghost use Rattle.std.specs.Prelude.{◌≡◌, ◌<◌, ◌++◌, ◌∷◌, [], length, map, Some, option_map, slice_get, IsTrue, IfOk, OnOk, OnErr};
 ghost use Rattle.sap_terms.specs.Variables.{is_known};
-ghost use Rattle.sap_share.specs.code.Found.{number_of_name};
+ghost use Rattle.sap_share.specs.code.Found.{number_of_name, IsIndexOf, IsInOrder, IsNextName, KeepsOrder};
 
 use crate::index::Index;
+use crate::order::Order;
 use sap_terms::{Copied, Items, MOST_SCOPE_NAMES, Mem, Name, Var};
 use std::alloc::Global;
+use std::cell::Cell;
 use std::marker::Model;
 
 /// A variable, and the number of what stands for the variables of its name.
@@ -22,13 +24,19 @@ impl Copied for Bound {
     }
 }
 
-/// What stands for variables, the first of each name. Contracts see it as the list of what is bound. Up to
-/// `MOST_SCOPE_NAMES` are looked through one by one, and take no memory beyond the list; of more, a name is looked up in
-/// time in proportion to the logarithm of how many there are.
+/// What stands for variables, the first of each name. Contracts see it as the list of what is bound. Where variables are
+/// bound in an order that was given, a name is looked up by one comparison, if it stands behind the one that was looked up
+/// last, and else in time in proportion to the logarithm of how many there are. In other orders, up to `MOST_SCOPE_NAMES`
+/// are looked through one by one, and take no memory beyond the list; of more, each takes time in proportion to that
+/// logarithm.
 #[derive(Drop)]
 pub struct Env {
     bound: Items<Bound>,
     index: Index,
+    // Where there is an order, the names that are bound are the first of it.
+    order: Option<Order>,
+    // Where in the order a name is looked for first.
+    next: Cell<u64>,
 }
 
 impl Model for Env {
@@ -37,11 +45,11 @@ impl Model for Env {
 
     ghost Value = { List Bound };
 
-    ghost use Rattle.sap_share.specs.code.Found.{IsIndexOf};
+    ghost use Rattle.sap_share.specs.code.Found.{IsIndexOf, IsInOrder};
 
     ghost view = { λ e. e.bound };
 
-    ghost invariant = { λ e. IsIndexOf e.index e.bound };
+    ghost invariant = { λ e. IsIndexOf e.index e.bound × IsInOrder e.order e.bound };
 }
 
 impl Env {
@@ -52,7 +60,24 @@ impl Env {
         Env {
             bound: Items::new(alloc),
             index: Index::new(alloc),
+            order: None,
+            next: Cell::new(0),
         }
+    }
+
+    /// Nothing is bound, and there is room for what is expected to be: variables of these names, in order. What is bound
+    /// otherwise is right too, and takes longer to be looked up.
+    pub fn along(alloc: Global, order: &Order) -> Result<Env, Mem>
+        ensures { IfOk result (λ e. e ≡ []) }
+    {
+        let bound = Items::with_room(alloc, order.len())?;
+        let order = order.copy(alloc)?;
+        Ok(Env {
+            bound,
+            index: Index::new(alloc),
+            order: Some(order),
+            next: Cell::new(0),
+        })
     }
 
     /// How many are bound.
@@ -78,23 +103,13 @@ impl Env {
         find_bound(self, name).is_some()
     }
 
-    // Indexes all that is bound, if that is more than a scope has.
-    fn index_many(&mut self) -> Result<(), Mem>
-        ensures { self.new ≡ self.old }
-    {
-        if self.bound.len() > MOST_SCOPE_NAMES {
-            let alloc = self.bound.allocator();
-            self.index.extend(alloc, self.bound.as_slice())?;
-        }
-        Ok(())
-    }
-
     /// Puts it last; what is refused is dropped, and all is bound as it was.
     pub fn push(&mut self, bound: Bound) -> Result<(), Mem>
         ensures ok { OnOk result (self.new ≡ self.old ++ bound ∷ []) }
         ensures err { OnErr result (self.new ≡ self.old) }
     {
-        self.index_many()?;
+        follow(&mut self.order, self.bound.len(), &bound.var.name);
+        index_many(&self.order, &mut self.index, &self.bound)?;
         self.bound.push(bound)
     }
 }
@@ -102,10 +117,65 @@ impl Env {
 impl Copied for Env {
     fn copy(&self, alloc: Global) -> Result<Env, Mem> {
         let bound = self.bound.copy(alloc)?;
-        let index = Index::new(alloc);
-        let mut env = Env { bound, index };
-        env.index_many()?;
-        Ok(env)
+        let mut index = Index::new(alloc);
+        index_many(&None, &mut index, &bound)?;
+        Ok(Env {
+            bound,
+            index,
+            order: None,
+            next: Cell::new(0),
+        })
+    }
+}
+
+// Whether the name is the order's at this index, if there is an order.
+fn is_next(order: &Option<Order>, k: u64, name: &Name) -> bool
+    ensures { IsTrue result → IsNextName order.now k name.now }
+{
+    match order {
+        Some(order) => order.has_at(k, name),
+        None => false,
+    }
+}
+
+// Lets the order go, where the name isn't its next one.
+fn follow(order: &mut Option<Order>, k: u64, name: &Name)
+    ensures { KeepsOrder order.old order.new k name.now }
+{
+    if !is_next(order, k, name) {
+        *order = None;
+    }
+}
+
+// Indexes all that is bound, if it stands in no order and is more than a scope has.
+fn index_many(order: &Option<Order>, index: &mut Index, bound: &Items<Bound>) -> Result<(), Mem>
+    requires { IsIndexOf index.old bound.now }
+    ensures { IsIndexOf index.new bound.now }
+{
+    if order.is_none() && bound.len() > MOST_SCOPE_NAMES {
+        index.extend(bound.allocator(), bound.as_slice())?;
+    }
+    Ok(())
+}
+
+// The number of what is bound at this index, if it is.
+fn number_at(bound: &[Bound], k: u64) -> Option<u64>
+    ensures { result ≡ option_map (λ e. e.id) (slice_get bound.now k) }
+{
+    match bound.get(k as usize) {
+        Some(e) => Some(e.id),
+        None => None,
+    }
+}
+
+// The number of the first that is bound to the name, where the names that are bound are the first of the order.
+fn number_along(order: &Order, next: &Cell<u64>, bound: &[Bound], name: &Name) -> Option<u64>
+    requires { IsInOrder (Some order.now) bound.now }
+    ensures { result ≡ number_of_name bound.now name.now }
+{
+    match order.index_of(next, name) {
+        Some(k) => number_at(bound, k),
+        None => None,
     }
 }
 
@@ -113,5 +183,8 @@ impl Copied for Env {
 pub(crate) fn find_bound(env: &Env, name: &Name) -> Option<u64>
     ensures { result ≡ number_of_name env.now name.now }
 {
-    env.index.number_of(env.bound.as_slice(), name)
+    match &env.order {
+        Some(order) => number_along(order, &env.next, env.bound.as_slice(), name),
+        None => env.index.number_of(env.bound.as_slice(), name),
+    }
 }

@@ -10,6 +10,7 @@ mod key;
 mod node;
 mod nodes;
 mod normal_on;
+mod order;
 mod put;
 mod row;
 mod shape;
@@ -18,4 +19,5 @@ mod table;
 
 pub use env::{Bound, Env};
 pub use node::Node;
+pub use order::Order;
 pub use table::Table;

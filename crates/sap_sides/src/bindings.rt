@@ -8,20 +8,25 @@ ghost use Rattle.sap_share.specs.Env.{AreBound, AreSmallForms, IsSmallForm, bind
 ghost use Rattle.sap_share.specs.Shared.{Keeps};
 
 use sap_rewrite::{is_message, normal_forms_are_unique};
-use sap_share::{Bound, Env, Table};
+use sap_share::{Bound, Env, Order, Table};
 use sap_terms::{Bindings, Copied, MOST_TERM_NODES, Mem, Signature, Vars};
 use std::alloc::Global;
 
-/// The bindings with numbers for their terms. Refused, the table may have more numbers than before.
-/// It recurses as deep as the terms that it is given.
+/// The bindings with numbers for their terms, in an environment in which variables are expected to be bound in this order.
+/// Refused, the table may have more numbers than before. It recurses as deep as the terms that it is given.
 #[tactic(auto, using(crate::proofs::Kept::kept_laws))]
-pub fn number_bindings(table: &mut Table, alloc: Global, b: &Bindings) -> Result<Env, Mem>
+pub fn number_bindings(
+    table: &mut Table,
+    alloc: Global,
+    order: &Order,
+    b: &Bindings,
+) -> Result<Env, Mem>
     requires { All (λ e. IsMessage table.old.sig e.var.sort (tree e.term)) b.now }
     ensures are { IfOk result (λ env. bindings_of table.new.trees env ≡ b.now) }
     ensures bound { IfOk result (AreBound (length table.new.trees)) }
     ensures keeps { Keeps table.old table.new }
 {
-    let mut env = Env::new(alloc);
+    let mut env = Env::along(alloc, order)?;
     for i in 0..b.len() {
         let e = b.at(i);
         let id = table.put(alloc, &e.term)?;

@@ -131,7 +131,7 @@ fn fire_matched(
     ensures slots { facts.new.slots ≡ facts.old.slots }
 {
     laws_below();
-    let env = facts.number(alloc, c)?;
+    let env = facts.number(alloc, &rule.order, c)?;
     if !facts.binds_small_forms(&env) {
         return fire_on_trees(alloc, sig, rule, facts, numbers, cited, b, c);
     }
@@ -196,7 +196,7 @@ fn fire_plain(
     ensures sig { facts.new.sig ≡ facts.old.sig }
     ensures slots { facts.new.slots ≡ facts.old.slots }
 {
-    let mut env = facts.number(alloc, b)?;
+    let mut env = facts.number(alloc, &rule.order, b)?;
     fire_numbered(alloc, sig, rule, facts, numbers, b, &mut env)
 }
 

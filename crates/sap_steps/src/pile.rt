@@ -27,7 +27,7 @@ use sap_deduce::{Deny, Knowledge};
 use sap_facts::HasFacts;
 use sap_rewrite::Cut;
 use sap_rule::Rule;
-use sap_share::{Env, Node, Table};
+use sap_share::{Env, Node, Order, Table};
 use sap_sides::{
     SharedFact, Sides, are_small_forms, built_fact, facts_fit_in_turn, fit_fact, form_sides,
     number_bindings, share_facts, shared_facts_stay,
@@ -128,8 +128,9 @@ impl SharedPile {
         share_facts(&mut self.table, alloc, fs)
     }
 
-    // The bindings with numbers for their terms. Refused, there may be more numbers than before.
-    pub(crate) fn number(&mut self, alloc: Global, b: &Bindings) -> Result<Env, Mem>
+    // The bindings with numbers for their terms, in an environment in which variables are expected to be bound in this order.
+    // Refused, there may be more numbers than before.
+    pub(crate) fn number(&mut self, alloc: Global, order: &Order, b: &Bindings) -> Result<Env, Mem>
         requires { All (λ e. IsMessage self.old.sig e.var.sort (tree e.term)) b.now }
         ensures are { IfOk result (λ env. bindings_of self.new.trees env ≡ b.now) }
         ensures bound { IfOk result (AreBound (length self.new.trees)) }
@@ -138,7 +139,7 @@ impl SharedPile {
         ensures slots { self.new.slots ≡ self.old.slots }
     {
         shared_facts_stay();
-        number_bindings(&mut self.table, alloc, b)
+        number_bindings(&mut self.table, alloc, order, b)
     }
 
     // What a rule with these acts and this right side shows and adds under what is bound; Large where the normal form of a

@@ -5,14 +5,19 @@ ghost use Rattle.sap_sides.specs.Messages.{HasNoDestructor};
 ghost use Rattle.sap_steps.specs.code.Ready.{IsReady};
 
 use sap_rule::{Rule, open_vars};
-use sap_terms::{Copied, Fact, FactList, HasName, Mem, Name, Signature, Vars};
+use sap_share::Order;
+use sap_terms::{
+    Copied, Fact, FactList, HasName, Mem, Name, NameSet, Signature, Vars, push_facts_vars,
+};
 use std::alloc::Global;
 
-// A rule, its open variables, and whether its left side is plain: no destructor stands in it.
+// A rule, its open variables, the names of its variables in the order in which a line binds them, and whether its left side
+// is plain: no destructor stands in it.
 #[derive(Drop)]
 pub(crate) struct Prepared {
     pub(crate) rule: Rule,
     pub(crate) open_vars: Vars,
+    pub(crate) order: Order,
     pub(crate) plain: bool,
 }
 
@@ -32,12 +37,26 @@ pub(crate) fn ready_rule(alloc: Global, sig: &Signature, r: &Rule) -> Result<Pre
 {
     let plain = have_no_destructor(sig, &r.left);
     let open_vars = open_vars(alloc, sig, r)?;
+    let order = order_of(alloc, &open_vars, &r.left)?;
     let rule = r.copy(alloc)?;
     Ok(Prepared {
         rule,
         open_vars,
+        order,
         plain,
     })
+}
+
+// The names of the open variables, which a line binds first, and then of those of the left side, which its facts bind. What a
+// line means doesn't depend on it.
+fn order_of(alloc: Global, open_vars: &Vars, left: &FactList) -> Result<Order, Mem> {
+    let mut vars = open_vars.copy(alloc)?;
+    push_facts_vars(alloc, left, &mut vars)?;
+    let mut names = NameSet::new(alloc);
+    for v in vars.as_slice() {
+        names.insert(&v.name)?;
+    }
+    Order::of(alloc, names)
 }
 
 // Whether no destructor stands in these facts.

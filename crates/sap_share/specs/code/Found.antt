@@ -1,5 +1,5 @@
 -- What a look-up among bound variables finds.
-use Rattle.std.specs.Prelude.{◌≡◌, ◌≤◌, ℕ, List, [], ◌∷◌, length, take, Option, Some, None, if◌then◌else◌}
+use Rattle.std.specs.Prelude.{◌≡◌, ◌≤◌, ℕ, List, [], ◌∷◌, length, map, take, slice_get, Option, Some, None, if◌then◌else◌}
 use Rattle.std.specs.BTreeMap.{BTreeMap, get}
 use Rattle.std.specs.Cmp.Lexicographic.{slice_cmp}
 use Rattle.std.specs.Ordering.{nat_cmp}
@@ -20,3 +20,18 @@ Tells m es = (n : List ℕ) → get (slice_cmp nat_cmp) m n ≡ number_of_name e
 pub record IsIndexOf (x : Index) (es : List Bound) : Type 0 where
   pub within : x.count ≤ length es
   pub tells : Tells x.numbers (take x.count es)
+
+-- the names that are bound are the first of these, if there are such
+abbrev pub IsInOrder : Option (List (List ℕ)) → List Bound → Type 0
+IsInOrder None es = Unit {0}
+IsInOrder (Some names) es = map (λ (e : Bound). e.var.name) es ≡ take (length es) names
+
+-- there are such, and the name is theirs at this index
+abbrev pub IsNextName : Option (List (List ℕ)) → ℕ → List ℕ → Type 0
+IsNextName None k n = ⊥
+IsNextName (Some names) k n = slice_get names k ≡ Some n
+
+-- either nothing is left of the order, or the name is the one at this index
+abbrev pub KeepsOrder : Option (List (List ℕ)) → Option (List (List ℕ)) → ℕ → List ℕ → Type 0
+KeepsOrder old None k n = Unit {0}
+KeepsOrder old (Some names) k n = (old ≡ Some names) × (slice_get names k ≡ Some n)
