@@ -58,6 +58,7 @@ fn show_found_above(page: &mut Page, desk: &mut Desk, table: &str, row: &str) {
         "written-theories" => calls::command(page, "back", part(row, 0), part(row, 1)),
         "statements" => calls::statements_row(page, row),
         "calls" => calls::calls_row(page, row),
+        "requests" => calls::requests_row(page, row),
         "failing" => refused::failing_row(page, row),
         "cut" => refused::cut_row(page, row),
         "prefixes" => refused::prefixes_row(page, row),
