@@ -1,4 +1,9 @@
+pub mod PieceTokens
 pub mod SampleCounts
+pub mod SampleLabelled
+pub mod SampleLegal
+pub mod SampleRead
 pub mod SampleShown
+pub mod SampleSound
 pub mod SampleTold
 pub mod SessionWords

@@ -1,15 +1,17 @@
 //! The sample that the program converts by itself.
-ghost use Rattle.std.specs.Prelude.{◌≡◌, ◌≤◌, ◌++◌, ◌+◌, ◌*◌, Ok, length, IfOk, OnOk};
+ghost use Rattle.std.specs.Prelude.{◌≡◌, ◌≤◌, ◌++◌, ◌+◌, ℕ, Ok, length, IfOk, OnOk};
 ghost use Rattle.sap_process.specs.Proc.{proc};
 ghost use Rattle.sap_read.specs.Files.{IsRead, IsRunnable, told_by};
+ghost use Rattle.sap_read.specs.declared.fault.ReadFault.TheVariants.{Mem as OutOfMemory};
 ghost use Rattle.sap_forward.specs.Converted.{IsConverted as IsForward, IsShownByLines};
 ghost use Rattle.sap_back.specs.Converted.{IsConverted as IsBack};
 ghost use Rattle.sap_terms.specs.Trace.{Trace as Seen};
-ghost use Rattle.sap_sample.specs.Sample.{count_line, counts_text, most_sessions, sample_file_text, sample_lines, sample_text, session};
+ghost use Rattle.sap_sample.specs.Sample.{count_line, counts_text, most_sessions, sample_file_text, sample_lines, sample_text, session, told_sample};
 
+use crate::laws::{sample_is_legal, sample_is_read};
 use sap_back::{BackAt, rule_runs_have_one_answer, to_process};
 use sap_forward::{At, process_runs_have_one_answer, process_trace, to_rules};
-use sap_read::{File, files_are_runnable, read_file_boxed};
+use sap_read::{File, ReadFault, files_are_runnable, one_file, read_file_boxed};
 use sap_runs::{PStep, PSteps, RSteps};
 use sap_terms::Mem;
 use sap_text::Text;
@@ -18,16 +20,26 @@ use std::alloc::Global;
 /// The file of the sample: sessions of one process, each of which makes a name, stores it under a lock, and shows what it takes.
 pub fn sample_file(alloc: Global) -> Result<Box<File>, Mem>
     ensures read { IfOk result (λ f. IsRead sample_file_text (Ok (told_by f.value))) }
+    ensures tells { IfOk result (λ f. told_by f.value ≡ told_sample) }
     ensures runnable { IfOk result (λ f. IsRunnable (told_by f.value)) }
 {
     files_are_runnable();
+    sample_is_read();
+    one_file();
     match read_file_boxed(
         alloc,
         b"theory Sample begin\nbuiltins: hashing\nprocess: ! (new ~k; lock 'r'; insert 'r', ~k; unlock 'r'; out(h(~k)); in(x); event Got(x))\nend\n",
     ) {
         Ok(file) => Ok(file),
-        Err(_) => Err(Mem),
+        Err(fault) => Err(want_of_memory(&fault)),
     }
+}
+
+// Want of memory, the one fault that the reader may have with the text of the sample.
+fn want_of_memory(_fault: &ReadFault) -> Mem
+    requires { _fault.now ≡ OutOfMemory }
+{
+    Mem
 }
 
 /// The run of so many sessions of the sample, one behind the other. Each takes what it has put out.
@@ -77,6 +89,7 @@ pub fn sample_text(alloc: Global, n: u64) -> Result<Text, Mem>
 fn converted(alloc: Global, n: u64, file: &File, run: &PSteps) -> Result<Text, Mem>
     requires some { 1 ≤ n }
     requires runnable { IsRunnable (told_by file.now) }
+    requires tells { told_by file.now ≡ told_sample }
     requires lines { run.now ≡ sample_lines n }
     ensures { IfOk result (λ text. text ≡ sample_text n) }
 {
@@ -88,14 +101,19 @@ fn converted(alloc: Global, n: u64, file: &File, run: &PSteps) -> Result<Text, M
     Ok(text)
 }
 
-// At how many times the run of the file's process shows something. No line of the sample is refused.
+// At how many times a run of so many sessions of the file shows something. No line of it is refused.
 fn shown_times(alloc: Global, file: &File, run: &PSteps) -> Result<u64, Mem>
     requires runnable { IsRunnable (told_by file.now) }
+    requires tells { told_by file.now ≡ told_sample }
+    requires lines { (n : ℕ) × (run.now ≡ sample_lines n) }
     ensures { IfOk result (λ times. (tr : Seen) × IsShownByLines file.now.signature (proc file.now.process) run.now tr × (times ≡ length tr)) }
 {
+    process_runs_have_one_answer();
+    sample_is_legal();
     match process_trace(alloc, file, run) {
         Ok(trace) => Ok(trace.len()),
-        Err(_) => Err(Mem),
+        Err(At::Mem) => Err(Mem),
+        Err(At::Step { .. }) => unreachable!(),
     }
 }
 

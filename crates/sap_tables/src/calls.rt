@@ -5,7 +5,9 @@ use crate::desk::Desk;
 use crate::json::example_row;
 use crate::notation::{between, enclosed, file_bytes, number, part, parted};
 use crate::page::Page;
+use crate::show::Show;
 use crate::theories::show_read;
+use sap_outside::Asked;
 use sap_tool::{MemShelf, MemSink, sapic};
 use std::collections::BTreeMap;
 use std::str;
@@ -204,6 +206,47 @@ pub fn calls_row(page: &mut Page, row: &str) {
         part(row, 5),
         part(row, 6),
     );
+}
+
+// With a semicolon behind it.
+impl Show for Asked {
+    fn show_on(&self, page: &mut Page) {
+        match self {
+            Asked::Fetch { name, limit } => {
+                page.word("fetch ");
+                page.word(name.as_str());
+                page.numbered(" ", *limit);
+            }
+            Asked::Begin { name } => {
+                page.word("begin ");
+                page.word(name.as_str());
+            }
+            Asked::Next { most } => page.numbered("next ", *most),
+        }
+        page.word(";");
+    }
+}
+
+/// The words; the bytes of a.spthy and of b.run; how many bytes of a run the shelf gives at once; and what it was asked for.
+pub fn requests_row(page: &mut Page, row: &str) {
+    let file = enclosed(page.alloc, "", part(row, 1), "");
+    let run = enclosed(page.alloc, "", part(row, 2), "");
+    let piece = number(page, part(row, 3));
+    if piece == 0 {
+        page.fail();
+        return;
+    }
+    let mut shelf = shelf_of(page, file.as_bytes(), run.as_bytes(), 0, piece);
+    let mut text = Page::new(page.alloc);
+    call(&mut text, "counts", part(row, 0), &mut shelf, "", "");
+    match &shelf.requests {
+        Some(requests) => {
+            for asked in requests {
+                asked.show_on(page);
+            }
+        }
+        None => page.fail(),
+    }
 }
 
 /// Calls a command on the file, and shows of it what the kind asks for.

@@ -2,6 +2,7 @@
 use crate::notation::{file_bytes, list, part};
 use crate::page::Page;
 use crate::show::show_process;
+use sap_place::places;
 use sap_process::{Process, substitute};
 use sap_read::{File, read_file_boxed};
 use sap_terms::{Bindings, Mem, Signature};
@@ -46,6 +47,7 @@ fn show_instance(page: &mut Page, sig: &Signature, p: &Process, bound: &str) {
 fn show_kind(page: &mut Page, sig: &Signature, file: &File, row: &str) {
     match (part(row, 0), &file.process) {
         ("process", _) => show_copy(page, file),
+        ("places", p) => page.show(places(page.alloc, p)),
         ("size", p) => {
             page.numbered("", p.nodes());
             page.numbered(" ", p.levels());
@@ -58,8 +60,9 @@ fn show_kind(page: &mut Page, sig: &Signature, file: &File, row: &str) {
     }
 }
 
-/// Of a file that isn't refused: `process`, its symbols behind those of pairs and a copy of its process; `size`, the nodes and
-/// levels of that; `whole` or `behind`, bindings, and the instance of the process or of what follows a first input or new name.
+/// Of a file that isn't refused: `process`, its symbols behind those of pairs and a copy of its process; `places`, the places of
+/// that, each by its facts of control, with the variables in scope, and by the labels of its open locks; `size`, its nodes and
+/// levels; `whole` or `behind`, bindings, and the instance of the process or of what follows a first input or new name.
 pub fn files_row(page: &mut Page, sig: &Signature, row: &str) {
     let bytes = file_bytes(page.alloc, part(row, 1));
     match &read_file_boxed(page.alloc, bytes.as_bytes()) {

@@ -1,5 +1,6 @@
 //! Values as texts. A term is its tree: each symbol stands before its parentheses, and a fresh name is `~` and its number.
 use crate::page::Page;
+use sap_place::{Form, Place, semi_fact, state_fact};
 use sap_process::{Children, Process};
 use sap_rule::Rule;
 use sap_terms::{Binding, Fact, Items, Name, Sort, Term, TermList, Var};
@@ -151,6 +152,18 @@ impl Show for Rule {
     fn show_on(&self, page: &mut Page) {
         show_two(page, "", &self.name, "", &self.left);
         show_two(page, "", &self.acts, "", &self.right);
+    }
+}
+
+// Its facts of control, and the labels of the open locks.
+impl Show for Place {
+    fn show_on(&self, page: &mut Page) {
+        page.show(state_fact(page.alloc, self));
+        match self.form {
+            Form::Rep | Form::Send => page.show(semi_fact(page.alloc, self)),
+            _ => {}
+        }
+        self.open_locks.show_on(page);
     }
 }
 

@@ -59,6 +59,7 @@ fn show_found_above(page: &mut Page, desk: &mut Desk, table: &str, row: &str) {
         "statements" => calls::statements_row(page, row),
         "calls" => calls::calls_row(page, row),
         "json" => json::json_row(page, row),
+        "requests" => calls::requests_row(page, row),
         "failing" => refused::failing_row(page, row),
         "cut" => refused::cut_row(page, row),
         "prefixes" => refused::prefixes_row(page, row),
