@@ -18,4 +18,5 @@ pub mod Named
 pub mod Written
 mod Leaf
 mod Placed
+pub mod OtherEntries
 pub mod MarksByHand

@@ -4,6 +4,8 @@ pub mod NamesPass
 pub mod Faults
 pub mod Answers
 pub mod Sorts
+pub mod OtherEntries
+pub mod Channels
 pub mod Places
 pub mod Heads
 pub mod ProcCode
