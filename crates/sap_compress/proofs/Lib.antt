@@ -1,0 +1,15 @@
+mod Same
+mod Weights
+mod Taking
+mod Following
+mod Choices
+mod Expanding
+mod OneOutcome
+mod Normals
+mod After
+mod Places
+mod Kept
+mod Traces
+mod ShortByHand
+mod Theories
+mod Printing
