@@ -13,3 +13,8 @@ mod Traces
 mod ShortByHand
 mod Theories
 mod Printing
+mod Walking
+mod Noting
+mod Telling
+mod Growing
+mod ShortOf

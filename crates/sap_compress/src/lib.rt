@@ -3,6 +3,10 @@
 
 mod by_hand;
 mod laws;
+mod settling;
+mod short_theory;
+mod shortening;
+mod takers;
 
 pub use by_hand::short_rules_by_hand;
 pub use laws::{
@@ -10,3 +14,4 @@ pub use laws::{
     short_theories_are_printable, short_theories_keep_files, short_theories_pass_checks,
     shortenings_show_the_same,
 };
+pub use short_theory::shorten;

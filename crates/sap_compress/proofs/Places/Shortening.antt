@@ -159,7 +159,7 @@ module _ (g : Sig) (p : Proc) (sound : SoundPlaces g p) where
     at (inr m) next = let t = next m in (t.0, later_item q rs t.0 t.1, t.2)
 
   module _ (origin : (r : Rule) → Contains (rules_of p) r → (r ≡ init_rule) ⊎ IsOfPlace p r) (placed : (r : Rule) → IsOfPlace p r → Contains (rules_of p) r) where
-    fitting : (r : Rule) → Contains (rules_of p) r → IsFitting g p sound r
+    pub fitting : (r : Rule) → Contains (rules_of p) r → IsFitting g p sound r
     fitting r c = at (origin r c) where
       at : (r ≡ init_rule) ⊎ IsOfPlace p r → IsFitting g p sound r
       at (inl e) = subst (IsFitting g p sound) (sym e) (init_fitting g p sound)
