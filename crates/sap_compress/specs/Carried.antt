@@ -45,45 +45,59 @@ HoldsNormal e s = (k : ℕ) (f : Fact) → slice_get s.facts k ≡ Some (Some f)
 
 -- the rule shows nothing, and what it adds will be what it took would have been
 abbrev pub IsSilent : Sig → (Fact → List Fact) → Rule → Type 0
-IsSilent g after r = (σ : Choice) (left acts right : List Fact) → AreNormalFacts (equations g) left → IsUse g r σ left acts right
-    → (acts ≡ []) × All (λ (f : Fact). f.persistent ≡ false) left × AreAlike (flat_map after left) (flat_map after right)
+IsSilent g after r =
+    (σ : Choice) (left acts right : List Fact) → AreNormalFacts (equations g) left
+    → IsUse g r σ left acts right
+    → (acts ≡ []) × All (λ (f : Fact). f.persistent ≡ false) left
+    × AreAlike (flat_map after left) (flat_map after right)
 
 -- s takes what r takes, all of which stays as it is; it shows what r shows, and adds what r's facts will be
 abbrev pub Carries : Sig → (Fact → List Fact) → Rule → Rule → Type 0
-Carries g after r s = (σ : Choice) (left acts right : List Fact) → AreNormalFacts (equations g) left → IsUse g r σ left acts right
-    → All (Stays after) left × ((added : List Fact) × IsUse g s σ left acts added × AreAlike (flat_map after right) (flat_map (λ f. f ∷ []) added))
+Carries g after r s =
+    (σ : Choice) (left acts right : List Fact) → AreNormalFacts (equations g) left
+    → IsUse g r σ left acts right
+    → All (Stays after) left × ((added : List Fact) × IsUse g s σ left acts added
+    × AreAlike (flat_map after right) (flat_map (λ f. f ∷ []) added))
 
 -- each rule is silent, or carried by one of the short ones; what the adversary makes and takes stays as it is
 pub record AreCarried (g : Sig) (after : Fact → List Fact) (rules shorts : List Rule) : Type 0 where
-  pub each : (r : Rule) → Contains rules r → IsSilent g after r ⊎ ((s : Rule) × Contains shorts s × Carries g after r s)
+  pub each : (r : Rule) → Contains rules r
+      → IsSilent g after r ⊎ ((s : Rule) × Contains shorts s × Carries g after r s)
   pub in_stays : (t : Tree) → Stays after (in_fact t)
   pub out_stays : (t : Tree) → Stays after (out_fact t)
   pub fr_stays : (n : ℕ) → Stays after (fr_fact n)
 
 -- the short state has what the other's facts will be, each as often; knowledge and names are the same
 pub record Follows (after : Fact → List Fact) (s z : RuleState) : Type 0 where
-  pub facts : (test : Fact → Bool) → total (count_after after test) s.facts ≡ total (count_after (λ f. f ∷ []) test) z.facts
+  pub facts : (test : Fact → Bool)
+      → total (count_after after test) s.facts ≡ total (count_after (λ f. f ∷ []) test) z.facts
   pub known : z.known ≡ s.known
   pub made : z.made ≡ s.made
 
 -- by silent rules, one after another, the facts become those, up to order
 pub data SettleTo (g : Sig) (rules : List Rule) : List Fact → List Fact → Type 0 where
   done : {fs hs : List Fact} → AreAlike fs hs → SettleTo g rules fs hs
-  step : {fs hs : List Fact} (rest : List Fact) (q : Rule) (τ : Choice) (f : Fact) (more : List Fact) → Contains rules q → IsUse g q τ (f ∷ []) [] more → f.persistent ≡ false
-      → AreAlike fs (f ∷ rest) → SettleTo g rules (more ++ rest) hs → SettleTo g rules fs hs
+  step : {fs hs : List Fact} (rest : List Fact) (q : Rule) (τ : Choice) (f : Fact)
+      (more : List Fact) → Contains rules q → IsUse g q τ (f ∷ []) [] more
+      → f.persistent ≡ false → AreAlike fs (f ∷ rest) → SettleTo g rules (more ++ rest) hs
+      → SettleTo g rules fs hs
 
 -- each use of a short rule is a use of a rule that takes and shows the same, and what this adds settles to what that adds
 pub record AreExpanded (g : Sig) (rules shorts : List Rule) : Type 0 where
   pub each : (s : Rule) → Contains shorts s → (r : Rule) × Contains rules r
-      × ((σ : Choice) (left acts added : List Fact) → IsUse g s σ left acts added → (right : List Fact) × IsUse g r σ left acts right × SettleTo g rules right added)
+      × ((σ : Choice) (left acts added : List Fact) → IsUse g s σ left acts added
+      → (right : List Fact) × IsUse g r σ left acts right × SettleTo g rules right added)
 
 -- this is the full trace of a run of the rules, but for empty times
 abbrev pub IsFilledTrace : Sig → List Rule → Trace → Type 0
-IsFilledTrace g rules tr = (s : RuleState) × (full : Trace) × RuleRun g rules s full × (filled full ≡ tr)
+IsFilledTrace g rules tr =
+    (s : RuleState) × (full : Trace) × RuleRun g rules s full × (filled full ≡ tr)
 
 -- where runs hold normal facts alone, rules and short rules that carry them, and whose uses they expand, show the same but for empty
 -- times
 abbrev pub CarriedRulesShowTheSame : Type 0
 CarriedRulesShowTheSame =
-    (g : Sig) (after : Fact → List Fact) (rules shorts : List Rule) → ((s : RuleState) (full : Trace) → RuleRun g rules s full → HoldsNormal (equations g) s)
-    → AreCarried g after rules shorts → AreExpanded g rules shorts → (tr : Trace) → IsFilledTrace g rules tr ↔ IsFilledTrace g shorts tr
+    (g : Sig) (after : Fact → List Fact) (rules shorts : List Rule)
+    → ((s : RuleState) (full : Trace) → RuleRun g rules s full → HoldsNormal (equations g) s)
+    → AreCarried g after rules shorts → AreExpanded g rules shorts
+    → (tr : Trace) → IsFilledTrace g rules tr ↔ IsFilledTrace g shorts tr

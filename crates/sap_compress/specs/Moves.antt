@@ -44,7 +44,8 @@ ArePlain moves (f ∷ fs) = IsPlain moves f × ArePlain moves fs
 
 -- the fact is what a move takes, as the rule has it, or no move takes facts of its name
 abbrev pub IsRight : {Q : Rule → Type 0} → Moves Q → Fact → Type 0
-IsRight {Q} moves f = IsPlain moves f ⊎ ((m : Move Q) × (moves f.name ≡ Some m) × (f ≡ m.shape.state))
+IsRight {Q} moves f =
+    IsPlain moves f ⊎ ((m : Move Q) × (moves f.name ≡ Some m) × (f ≡ m.shape.state))
 
 -- and with each of these
 abbrev pub AreRight : {Q : Rule → Type 0} → Moves Q → List Fact → Type 0
@@ -60,11 +61,13 @@ pub record IsShortened (Q : Rule → Type 0) (r s : Rule) : Type 0 where
 
 -- each silent rule is found among the moves by what it takes, and is one of the rules; each rule is silent, or takes plain facts and is
 -- shortened to one of the short rules, and these are all of them; and each adds facts as they should be
-pub record IsShortening (Q : Rule → Type 0) (moves : Moves Q) (rules shorts : List Rule) : Type 0 where
+pub record IsShortening (Q : Rule → Type 0) (moves : Moves Q)
+    (rules shorts : List Rule) : Type 0 where
   pub found : (q : Rule) → Q q → (m : Move Q) × (m.rule ≡ q) × (moves m.shape.state.name ≡ Some m)
   pub named : (n : List ℕ) (m : Move Q) → moves n ≡ Some m → Q m.rule × (m.shape.state.name ≡ n)
   pub among : (q : Rule) → Q q → Contains rules q
-  pub each : (r : Rule) → Contains rules r → Q r ⊎ (ArePlain moves r.left × ((s : Rule) × Contains shorts s × IsShortened Q r s))
+  pub each : (r : Rule) → Contains rules r
+      → Q r ⊎ (ArePlain moves r.left × ((s : Rule) × Contains shorts s × IsShortened Q r s))
   pub all_right : (r : Rule) → Contains rules r → AreRight moves r.right
   pub back : (s : Rule) → Contains shorts s → (r : Rule) × Contains rules r × IsShortened Q r s
   pub in_plain : moves in_name ≡ None
@@ -74,5 +77,7 @@ pub record IsShortening (Q : Rule → Type 0) (moves : Moves Q) (rules shorts : 
 -- well-made rules show the same as the short ones but for empty times, where the silent ones are these
 abbrev pub ShorteningsShowTheSame : Type 0
 ShorteningsShowTheSame =
-    (g : Sig) (silent rules shorts : List Rule) (moves : Moves (Contains silent)) → HoldsBuiltins g → All (IsWellMade g) rules
-    → IsShortening (Contains silent) moves rules shorts → (tr : Trace) → IsFilledTrace g rules tr ↔ IsFilledTrace g shorts tr
+    (g : Sig) (silent rules shorts : List Rule) (moves : Moves (Contains silent))
+    → HoldsBuiltins g → All (IsWellMade g) rules
+    → IsShortening (Contains silent) moves rules shorts
+    → (tr : Trace) → IsFilledTrace g rules tr ↔ IsFilledTrace g shorts tr

@@ -7,5 +7,7 @@ use Rattle.sap_rule.specs.declared.rule.Rule.{Rule}
 -- position, until none is left
 pub data IsSettled (Q : Rule → Type 0) : List Fact → List Fact → Type 0 where
   nothing_left : IsSettled Q [] []
-  stays : {fs hs : List Fact} (f : Fact) → ((q : Rule) → Q q → q.left ≡ f ∷ [] → ⊥) → IsSettled Q fs hs → IsSettled Q (f ∷ fs) (f ∷ hs)
-  goes_on : {fs hs : List Fact} (f : Fact) (q : Rule) → Q q → q.left ≡ f ∷ [] → IsSettled Q (q.right ++ fs) hs → IsSettled Q (f ∷ fs) hs
+  stays : {fs hs : List Fact} (f : Fact) → ((q : Rule) → Q q → q.left ≡ f ∷ [] → ⊥)
+      → IsSettled Q fs hs → IsSettled Q (f ∷ fs) (f ∷ hs)
+  goes_on : {fs hs : List Fact} (f : Fact) (q : Rule) → Q q → q.left ≡ f ∷ []
+      → IsSettled Q (q.right ++ fs) hs → IsSettled Q (f ∷ fs) hs

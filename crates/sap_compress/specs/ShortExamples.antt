@@ -53,7 +53,8 @@ told_one_step =
 abbrev pub told_kept : List Rule
 told_kept =
     init_adds (out_fact term_m ∷ [])
-    ∷ rule (codes "Out_") (at (codes "State_") [] ∷ []) [] (out_fact term_m ∷ at (codes "State_1") [] ∷ [])
+    ∷ rule (codes "Out_") (at (codes "State_") [] ∷ []) []
+    (out_fact term_m ∷ at (codes "State_1") [] ∷ [])
     ∷ rule (codes "Nil_1") (at (codes "State_1") [] ∷ []) [] [] ∷ []
 
 -- out('m'); in(x)
@@ -63,13 +64,15 @@ told_first = act (out term_m) (act (input (variable x)) nil)
 abbrev pub told_first_short : List Rule
 told_first_short =
     init_adds (out_fact term_m ∷ at (codes "State_1") [] ∷ [])
-    ∷ rule (codes "In_1") (at (codes "State_1") [] ∷ in_fact (variable x) ∷ []) (input_fact (variable x) ∷ []) [] ∷ []
+    ∷ rule (codes "In_1") (at (codes "State_1") [] ∷ in_fact (variable x) ∷ [])
+    (input_fact (variable x) ∷ []) [] ∷ []
 
 -- not so: `Out` is dropped
 abbrev pub told_first_dropped : List Rule
 told_first_dropped =
     init_adds (at (codes "State_1") [] ∷ [])
-    ∷ rule (codes "In_1") (at (codes "State_1") [] ∷ in_fact (variable x) ∷ []) (input_fact (variable x) ∷ []) [] ∷ []
+    ∷ rule (codes "In_1") (at (codes "State_1") [] ∷ in_fact (variable x) ∷ [])
+    (input_fact (variable x) ∷ []) [] ∷ []
 
 -- ! out('m')
 abbrev pub copied : Proc
@@ -95,9 +98,12 @@ copied_linear =
 abbrev pub copied_twice_short : List Rule
 copied_twice_short =
     init_adds (at_will (codes "Semi_") [] ∷ [])
-    ∷ rule (codes "RepCopy_") (at_will (codes "Semi_") [] ∷ []) [] (at_will (codes "Semi_1") [] ∷ [])
-    ∷ rule (codes "RepCopy_1") (at_will (codes "Semi_1") [] ∷ []) [] (at (codes "State_11") [] ∷ [])
-    ∷ rule (codes "Event_11") (at (codes "State_11") [] ∷ []) (event_fact ∷ plain_fact ∷ []) [] ∷ []
+    ∷ rule (codes "RepCopy_") (at_will (codes "Semi_") [] ∷ []) []
+    (at_will (codes "Semi_1") [] ∷ [])
+    ∷ rule (codes "RepCopy_1") (at_will (codes "Semi_1") [] ∷ []) []
+    (at (codes "State_11") [] ∷ [])
+    ∷ rule (codes "Event_11") (at (codes "State_11") [] ∷ [])
+    (event_fact ∷ plain_fact ∷ []) [] ∷ []
 
 -- 0 | ((0 | out('a')) | out('b')): what is put out stands in the order of the places
 abbrev pub in_order : Proc
@@ -120,14 +126,16 @@ two_events = act (event plain_fact) (act (event g_fact) nil)
 abbrev pub two_events_short : List Rule
 two_events_short =
     init_adds (at (codes "State_") [] ∷ [])
-    ∷ rule (codes "Event_") (at (codes "State_") [] ∷ []) (event_fact ∷ plain_fact ∷ []) (at (codes "State_1") [] ∷ [])
+    ∷ rule (codes "Event_") (at (codes "State_") [] ∷ []) (event_fact ∷ plain_fact ∷ [])
+    (at (codes "State_1") [] ∷ [])
     ∷ rule (codes "Event_1") (at (codes "State_1") [] ∷ []) (event_fact ∷ g_fact ∷ []) [] ∷ []
 
 -- not so: both in one rule
 abbrev pub events_at_once : List Rule
 events_at_once =
     init_adds (at (codes "State_") [] ∷ [])
-    ∷ rule (codes "Event_") (at (codes "State_") [] ∷ []) (event_fact ∷ plain_fact ∷ event_fact ∷ g_fact ∷ []) [] ∷ []
+    ∷ rule (codes "Event_") (at (codes "State_") [] ∷ [])
+    (event_fact ∷ plain_fact ∷ event_fact ∷ g_fact ∷ []) [] ∷ []
 
 -- [ ] --> [ ]; out('m'): the embedded rule stays, though it shows nothing and takes nothing else
 abbrev pub idle_rule : Proc
@@ -154,18 +162,21 @@ q_fact = linear (codes "Q") (variable z ∷ [])
 
 -- [ ] --[ P($z) ]-> [ Q($z) ]; (out($z) | 0): settled where the state fact stands, before the rule's own facts
 abbrev pub adding_rule : Proc
-adding_rule = act (embedded [] (p_fact ∷ []) (q_fact ∷ [])) (parallel (act (out (variable z)) nil) nil)
+adding_rule = act (embedded [] (p_fact ∷ []) (q_fact ∷ []))
+    (parallel (act (out (variable z)) nil) nil)
 
 abbrev pub adding_rule_short : List Rule
 adding_rule_short =
     init_adds (at (codes "State_") [] ∷ [])
-    ∷ rule (codes "Rule_") (at (codes "State_") [] ∷ []) (event_fact ∷ p_fact ∷ []) (out_fact (variable z) ∷ q_fact ∷ []) ∷ []
+    ∷ rule (codes "Rule_") (at (codes "State_") [] ∷ []) (event_fact ∷ p_fact ∷ [])
+    (out_fact (variable z) ∷ q_fact ∷ []) ∷ []
 
 -- not so: what stands for the state fact is put last
 abbrev pub adding_rule_last : List Rule
 adding_rule_last =
     init_adds (at (codes "State_") [] ∷ [])
-    ∷ rule (codes "Rule_") (at (codes "State_") [] ∷ []) (event_fact ∷ p_fact ∷ []) (q_fact ∷ out_fact (variable z) ∷ []) ∷ []
+    ∷ rule (codes "Rule_") (at (codes "State_") [] ∷ []) (event_fact ∷ p_fact ∷ [])
+    (q_fact ∷ out_fact (variable z) ∷ []) ∷ []
 
 -- ~a
 abbrev pub a : Var
@@ -173,19 +184,23 @@ a = record { name = codes "a"; sort = Fresh }
 
 -- new ~a; out(~a) | new ~a; out(~a): each draws its own name
 abbrev pub two_names : Proc
-two_names = parallel (act (new a) (act (out (variable a)) nil)) (act (new a) (act (out (variable a)) nil))
+two_names = parallel (act (new a) (act (out (variable a)) nil))
+    (act (new a) (act (out (variable a)) nil))
 
 abbrev pub two_names_short : List Rule
 two_names_short =
     init_adds (at (codes "State_1") [] ∷ at (codes "State_2") [] ∷ [])
-    ∷ rule (codes "New_1") (at (codes "State_1") [] ∷ fresh_fact (variable a) ∷ []) [] (out_fact (variable a) ∷ [])
-    ∷ rule (codes "New_2") (at (codes "State_2") [] ∷ fresh_fact (variable a) ∷ []) [] (out_fact (variable a) ∷ []) ∷ []
+    ∷ rule (codes "New_1") (at (codes "State_1") [] ∷ fresh_fact (variable a) ∷ []) []
+    (out_fact (variable a) ∷ [])
+    ∷ rule (codes "New_2") (at (codes "State_2") [] ∷ fresh_fact (variable a) ∷ []) []
+    (out_fact (variable a) ∷ []) ∷ []
 
 -- new ~c; (out(~c,'m'); out('a') | in(~c,y); (0 | ! out(y))): a right side may stand in two rules
 abbrev pub channel : Proc
 channel =
     act (new c) (parallel (act (send (variable c) term_m) (act (out term_a) nil))
-    (act (receive (variable c) (variable y)) (parallel nil (replicated (act (out (variable y)) nil)))))
+    (act (receive (variable c) (variable y))
+    (parallel nil (replicated (act (out (variable y)) nil)))))
 
 -- ~sapic_tag
 abbrev pub tag : Tree
@@ -196,17 +211,25 @@ channel_short =
     init_adds (at (codes "State_") [] ∷ [])
     ∷ rule (codes "New_") (at (codes "State_") [] ∷ fresh_fact (variable c) ∷ []) []
     (at (codes "State_11") (variable c ∷ []) ∷ at (codes "State_12") (variable c ∷ []) ∷ [])
-    ∷ rule (codes "OutAdv_11") (at (codes "State_11") (variable c ∷ []) ∷ in_fact (variable c) ∷ []) (input_fact (variable c) ∷ [])
+    ∷ rule (codes "OutAdv_11")
+    (at (codes "State_11") (variable c ∷ []) ∷ in_fact (variable c) ∷ [])
+    (input_fact (variable c) ∷ [])
     (out_fact term_m ∷ out_fact term_a ∷ [])
     ∷ rule (codes "OutMsg_11") (at (codes "State_11") (variable c ∷ []) ∷ fresh_fact tag ∷ []) []
     (msg_fact tag (variable c) term_m ∷ at (codes "Semi_11") (variable c ∷ tag ∷ []) ∷ [])
-    ∷ rule (codes "OutAck_11") (at (codes "Semi_11") (variable c ∷ tag ∷ []) ∷ ack_fact tag ∷ []) [] (out_fact term_a ∷ [])
+    ∷ rule (codes "OutAck_11")
+    (at (codes "Semi_11") (variable c ∷ tag ∷ []) ∷ ack_fact tag ∷ []) [] (out_fact term_a ∷ [])
     ∷ rule (codes "InAdv_12")
-    (at (codes "State_12") (variable c ∷ []) ∷ in_fact (app2 pair_name (variable c) (variable y)) ∷ [])
-    (input_fact (app2 pair_name (variable c) (variable y)) ∷ []) (at_will (codes "Semi_1212") (variable c ∷ variable y ∷ []) ∷ [])
-    ∷ rule (codes "InMsg_12") (at (codes "State_12") (variable c ∷ []) ∷ msg_fact tag (variable c) (variable y) ∷ []) []
+    (at (codes "State_12") (variable c ∷ []) ∷ in_fact
+    (app2 pair_name (variable c) (variable y)) ∷ [])
+    (input_fact (app2 pair_name (variable c) (variable y)) ∷ [])
+    (at_will (codes "Semi_1212") (variable c ∷ variable y ∷ []) ∷ [])
+    ∷ rule (codes "InMsg_12")
+    (at (codes "State_12") (variable c ∷ []) ∷ msg_fact tag (variable c) (variable y) ∷ []) []
     (ack_fact tag ∷ at_will (codes "Semi_1212") (variable c ∷ variable y ∷ []) ∷ [])
-    ∷ rule (codes "RepCopy_1212") (at_will (codes "Semi_1212") (variable c ∷ variable y ∷ []) ∷ []) [] (out_fact (variable y) ∷ []) ∷ []
+    ∷ rule (codes "RepCopy_1212")
+    (at_will (codes "Semi_1212") (variable c ∷ variable y ∷ []) ∷ []) []
+    (out_fact (variable y) ∷ []) ∷ []
 
 -- in(x); if x = 'a' then out(x) else (out('b') | event G())
 abbrev pub tested : Proc
@@ -217,11 +240,15 @@ tested =
 abbrev pub tested_short : List Rule
 tested_short =
     init_adds (at (codes "State_") [] ∷ [])
-    ∷ rule (codes "In_") (at (codes "State_") [] ∷ in_fact (variable x) ∷ []) (input_fact (variable x) ∷ []) (at (codes "State_1") (variable x ∷ []) ∷ [])
-    ∷ rule (codes "Then_1") (at (codes "State_1") (variable x ∷ []) ∷ []) (eq_fact (variable x) term_a ∷ []) (out_fact (variable x) ∷ [])
-    ∷ rule (codes "Else_1") (at (codes "State_1") (variable x ∷ []) ∷ []) (not_eq_fact (variable x) term_a ∷ [])
+    ∷ rule (codes "In_") (at (codes "State_") [] ∷ in_fact (variable x) ∷ [])
+    (input_fact (variable x) ∷ []) (at (codes "State_1") (variable x ∷ []) ∷ [])
+    ∷ rule (codes "Then_1") (at (codes "State_1") (variable x ∷ []) ∷ [])
+    (eq_fact (variable x) term_a ∷ []) (out_fact (variable x) ∷ [])
+    ∷ rule (codes "Else_1") (at (codes "State_1") (variable x ∷ []) ∷ [])
+    (not_eq_fact (variable x) term_a ∷ [])
     (out_fact term_b ∷ at (codes "State_122") (variable x ∷ []) ∷ [])
-    ∷ rule (codes "Event_122") (at (codes "State_122") (variable x ∷ []) ∷ []) (event_fact ∷ g_fact ∷ []) [] ∷ []
+    ∷ rule (codes "Event_122") (at (codes "State_122") (variable x ∷ []) ∷ [])
+    (event_fact ∷ g_fact ∷ []) [] ∷ []
 
 -- lookup 'k' as x in out(x) else 0
 abbrev pub looked_up : Proc
@@ -230,7 +257,8 @@ looked_up = lookup term_k x (act (out (variable x)) nil) nil
 abbrev pub looked_up_short : List Rule
 looked_up_short =
     init_adds (at (codes "State_") [] ∷ [])
-    ∷ rule (codes "Found_") (at (codes "State_") [] ∷ []) (is_in_fact term_k (variable x) ∷ []) (out_fact (variable x) ∷ [])
+    ∷ rule (codes "Found_") (at (codes "State_") [] ∷ []) (is_in_fact term_k (variable x) ∷ [])
+    (out_fact (variable x) ∷ [])
     ∷ rule (codes "Missing_") (at (codes "State_") [] ∷ []) (is_not_set_fact term_k ∷ []) [] ∷ []
 
 -- ~sapic_lock1
@@ -244,4 +272,5 @@ locked = act (lock term_s 1) (parallel (act (out term_a) nil) nil)
 abbrev pub locked_short : List Rule
 locked_short =
     init_adds (at (codes "State_") [] ∷ [])
-    ∷ rule (codes "Lock_") (at (codes "State_") [] ∷ fresh_fact held ∷ []) (lock_fact held term_s ∷ []) (out_fact term_a ∷ []) ∷ []
+    ∷ rule (codes "Lock_") (at (codes "State_") [] ∷ fresh_fact held ∷ [])
+    (lock_fact held term_s ∷ []) (out_fact term_a ∷ []) ∷ []

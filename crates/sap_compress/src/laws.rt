@@ -53,10 +53,12 @@ pub fn one_short_theory()
 /// A law: admitted runs of the short theory's rules show what those of the file's theory show, and nothing else; and so do the
 /// runs on whose full traces the restrictions of each are true.
 pub fn short_rules_show_the_same()
-    ensures admitted { (f : FileContent) (t : Theory) (tr : Trace) → IsRunnable f → IsShortTheory f t
-        → IsVisibleTrace f.signature (file_theory f).rules tr ↔ IsVisibleTrace t.signature t.rules tr }
-    ensures restricted { (f : FileContent) (t : Theory) (tr : Trace) → IsRunnable f → IsShortTheory f t
-        → IsShownBy (file_theory f) tr ↔ IsShownBy t tr }
+    ensures admitted { (f : FileContent) (t : Theory) (tr : Trace) → IsRunnable f
+        → IsShortTheory f t
+        → IsVisibleTrace f.signature (file_theory f).rules tr
+        ↔ IsVisibleTrace t.signature t.rules tr }
+    ensures restricted { (f : FileContent) (t : Theory) (tr : Trace) → IsRunnable f
+        → IsShortTheory f t → IsShownBy (file_theory f) tr ↔ IsShownBy t tr }
 {
     each_term_has_a_normal_form();
     normal_forms_are_unique();
@@ -90,7 +92,8 @@ pub fn short_theories_keep_files()
 /// A law: where a file can be run and printed, its short theory can be printed with names of at most MOST_THEORY_NAME_BYTES
 /// bytes.
 pub fn short_theories_are_printable()
-    ensures { (f : FileContent) (t : Theory) → IsRunnable f → IsPrintableFile MOST_FILE_NAME_BYTES f → IsShortTheory f t
+    ensures { (f : FileContent) (t : Theory) → IsRunnable f
+        → IsPrintableFile MOST_FILE_NAME_BYTES f → IsShortTheory f t
         → IsPrintable MOST_THEORY_NAME_BYTES t }
 {
     rules_show_the_process();
@@ -102,8 +105,9 @@ pub fn short_theories_are_printable()
 /// and no two restrictions or lemmas; each rule is over the signature, each of its facts stands where it may, and those that it
 /// shows are linear; no formula has a fault, where facts may have any names.
 pub fn short_theories_pass_checks()
-    ensures { (f : FileContent) (t : Theory) → IsRunnable f → IsPrintableFile MOST_FILE_NAME_BYTES f → IsNamedApart f
-        → IsShortTheory f t → PassesChecks t }
+    ensures { (f : FileContent) (t : Theory) → IsRunnable f
+        → IsPrintableFile MOST_FILE_NAME_BYTES f → IsNamedApart f → IsShortTheory f t
+        → PassesChecks t }
 {
     rules_show_the_process();
     rules_are_found_by_name();
