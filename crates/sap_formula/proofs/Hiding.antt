@@ -25,11 +25,11 @@ use Rattle.sap_terms.specs.Message.{IsMessageTrace}
 use Rattle.sap_formula.specs.Slim.{slim}
 
 -- the facts of a time whose names pass the test
-abbrev facts_with : (List ℕ → Bool) → List Fact → List Fact
+abbrev pub facts_with : (List ℕ → Bool) → List Fact → List Fact
 facts_with vis time = filter (λ f. vis f.name) time
 
 -- the times with those facts alone, but for times that have none
-abbrev keeps : (List ℕ → Bool) → Trace → Trace
+abbrev pub keeps : (List ℕ → Bool) → Trace → Trace
 keeps vis tr = flat_map (λ time. shown (facts_with vis time)) tr
 
 abbrev is_filled : List Fact → Bool
@@ -189,7 +189,7 @@ once_law w vis g f tr m c o =
     (λ h. a.0 (l.0 h), λ h. l.1 (a.1 h))
 
 -- leaving out facts of which a formula doesn't speak keeps its truth
-keep_law : NormalLaws → (vis : List ℕ → Bool) (g : Sig) (f : Form) (tr : Trace) → IsMessageTrace g tr → IsChecked g (λ n. vis n ≡ true) [] f → IsTrueOn g f tr ↔ IsTrueOn g f (keeps vis tr)
+pub keep_law : NormalLaws → (vis : List ℕ → Bool) (g : Sig) (f : Form) (tr : Trace) → IsMessageTrace g tr → IsChecked g (λ n. vis n ≡ true) [] f → IsTrueOn g f tr ↔ IsTrueOn g f (keeps vis tr)
 keep_law w vis g f tr m c =
     let V = λ (n : List ℕ). vis n ≡ true in
     let p = hidden_binder_law w g f tr (weaker g V f [] c) in

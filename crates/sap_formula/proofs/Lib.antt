@@ -10,6 +10,7 @@ pub mod Alike
 pub mod Subterms
 pub mod Slimmer
 pub mod Hiding
+mod EmptyTimes
 pub mod Layers
 pub mod Reading
 pub mod Members

@@ -2,6 +2,7 @@
 use Rattle.std.specs.Prelude.{◌≡◌, ℕ, Bool, true, false, ◌↔◌, ◌⊎◌, List, []}
 use Rattle.sap_formula.specs.Checked.{BindsOnce, IsChecked}
 use Rattle.sap_formula.specs.Faults.{HasNoFault, IsFirstFault}
+use Rattle.sap_formula.specs.Filled.{filled}
 use Rattle.sap_formula.specs.Form.{Form}
 use Rattle.sap_formula.specs.Hide.{hide, is_hidden}
 use Rattle.sap_formula.specs.Slim.{slim}
@@ -43,6 +44,14 @@ HiddenBinderLaw = (g : Sig) (f : Form) (tr : Trace) → IsClosed g f → IsTrueO
 -- hiding keeps the truth of a formula that doesn't speak of what is hidden
 abbrev pub HideLaw : Type 0
 HideLaw = (g : Sig) (f : Form) (tr : Trace) → IsMessageTrace g tr → IsCheckedVisible g f → IsTrueOn g f tr ↔ IsTrueOn g f (hide tr)
+
+-- empty times aren't seen: a closed formula, whatever names it has, is true with them exactly where it is without
+abbrev pub FilledLaw : Type 0
+FilledLaw = (g : Sig) (f : Form) (tr : Trace) → IsMessageTrace g tr → IsClosed g f → IsTrueOn g f tr ↔ IsTrueOn g f (filled tr)
+
+-- nor by hiding, which leaves none
+abbrev pub HideFilledLaw : Type 0
+HideFilledLaw = (tr : Trace) → hide (filled tr) ≡ hide tr
 
 -- a formula without a fault is checked once it has the sorts of its binders
 abbrev pub CheckLaw : Type 0

@@ -11,6 +11,7 @@ pub mod code
 pub mod Times
 pub mod Truth
 pub mod Hide
+pub mod Filled
 pub mod Checked
 pub mod Subterms
 pub mod Slim
@@ -24,3 +25,4 @@ pub mod HoldsOf
 pub mod Examples
 pub mod CheckExamples
 pub mod JudgeExamples
+pub mod FilledExamples

@@ -6,6 +6,7 @@ mod agreeing;
 mod binder;
 mod checking;
 mod digest;
+mod empty_times;
 mod extent;
 mod fault;
 mod folding;
@@ -32,6 +33,7 @@ mod visible;
 
 pub use binder::{Binder, Binders};
 pub use checking::check;
+pub use empty_times::{empty_times_are_not_seen, empty_times_by_hand};
 pub use fault::{FormulaFault, FormulaFlaw};
 pub use formula::Formula;
 pub use laws::{

@@ -20,7 +20,7 @@ ghost use Rattle.sap_terms.specs.declared.limits.TheConstants.{MOST_FILE_NAME_BY
 ghost use Rattle.sap_theory.specs.PrintableTheory.{IsPrintable};
 
 use sap_formula::{faultless_formulas_are_checked, hiding_keeps_truth};
-use sap_restrict::inlining_keeps_lemmas;
+use sap_restrict::{inlining_keeps_lemmas, restrictions_are_closed};
 use sap_terms::leaves_are_normal;
 use sap_translate::{
     annotations_are_settled, rules_are_well_made, rules_show_the_process, sound_processes_are_shown,
@@ -48,6 +48,7 @@ pub fn theories_are_closed()
     ensures plain { (f : FileContent) → IsRunnable f → IsClosedTheory (file_theory f) }
     ensures inlined { (f : FileContent) → IsRunnable f → IsClosedTheory (inlined_file_theory f) }
 {
+    restrictions_are_closed();
     faultless_formulas_are_checked();
 }
 
@@ -94,6 +95,7 @@ pub fn theories_pass_checks()
     ensures inlined { (f : FileContent) → IsRunnable f → IsPrintableFile MOST_FILE_NAME_BYTES f
         → IsNamedApart f → PassesChecks (inlined_file_theory f) }
 {
+    restrictions_are_closed();
     faultless_formulas_are_checked();
     annotations_are_settled();
     rules_are_well_made();

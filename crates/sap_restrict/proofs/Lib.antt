@@ -14,3 +14,4 @@ pub mod OneMore
 pub mod Maps
 pub mod Inlines
 pub mod Singles
+mod Closings

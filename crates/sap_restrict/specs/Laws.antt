@@ -1,7 +1,9 @@
 -- What holds of the seven restrictions.
 use Rattle.std.specs.Prelude.{◌≡◌, ◌↔◌, ◌⊎◌, ◌++◌, List, Contains, false}
+use Rattle.sap_formula.specs.Filled.{filled}
 use Rattle.sap_formula.specs.Form.{Form}
 use Rattle.sap_formula.specs.HoldsOf.{AreTrueOn}
+use Rattle.sap_formula.specs.Laws.{IsClosed}
 use Rattle.sap_formula.specs.Truth.{EachIn, IsTrueOn}
 use Rattle.sap_formula.specs.declared.lemma.Mode.TheVariants.{AllTraces, ExistsTrace}
 use Rattle.sap_process.specs.Proc.{Proc}
@@ -59,3 +61,11 @@ InlinedForAllLaw =
 abbrev pub InlinedForSomeLaw : Type 0
 InlinedForSomeLaw =
     (g : Sig) (us : List Form) (f : Form) (tr : Trace) → IsTrueOn g (inlined ExistsTrace us f) tr ↔ (AreTrueOn g us tr × IsTrueOn g f tr)
+
+-- each of the seven formulas is closed, over each signature
+abbrev pub StandardClosedLaw : Type 0
+StandardClosedLaw = (g : Sig) (w : Which) → IsClosed g (standard w)
+
+-- so a full trace of messages is admitted exactly where it is without its empty times
+abbrev pub AdmittedFilledLaw : Type 0
+AdmittedFilledLaw = (g : Sig) (tr : Trace) → IsMessageTrace g tr → IsAdmitted g tr ↔ IsAdmitted g (filled tr)

@@ -2,6 +2,7 @@
 #![tactic(auto)]
 
 mod choosing;
+mod closing_laws;
 mod formulas;
 mod guard;
 mod inlining;
@@ -14,6 +15,7 @@ mod uses;
 mod which;
 
 pub use choosing::needed;
+pub use closing_laws::restrictions_are_closed;
 pub use formulas::standard;
 pub use guard::{Admit, Guard};
 pub use inlining::inline;

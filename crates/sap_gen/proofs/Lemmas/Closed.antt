@@ -1,5 +1,5 @@
 -- The formulas of the theories of a file are checked.
-use Rattle.std.proofs.Common.{true, inl, inr, List, [], ◌∷◌, ◌++◌, map, refl}
+use Rattle.std.proofs.Common.{true, List, [], ◌∷◌, ◌++◌, map}
 use Rattle.sap_terms.specs.Signature.{Sig}
 use Rattle.sap_formula.specs.Form.{Form, LemmaForm, RestrictionForm, both}
 use Rattle.sap_formula.specs.Laws.{ClosedLaw, IsCheckedVisible, IsClosed}
@@ -8,69 +8,13 @@ use Rattle.sap_formula.specs.declared.lemma.Mode.{Mode}
 use Rattle.sap_formula.specs.declared.lemma.Mode.TheVariants.{AllTraces, ExistsTrace}
 use Rattle.sap_read.specs.Files.{FileContent, IsRunnable}
 use Rattle.sap_restrict.specs.Inline.{formulas, inlined, joined}
+use Rattle.sap_restrict.specs.Laws.{StandardClosedLaw}
 use Rattle.sap_restrict.specs.Needed.{needed}
 use Rattle.sap_restrict.specs.Restrictions.{named, needed_restrictions}
-use Rattle.sap_restrict.specs.Standard.{standard}
 use Rattle.sap_restrict.specs.declared.which.Which.{Which}
-use Rattle.sap_restrict.specs.declared.which.Which.TheVariants.{Eq, In, InEv, Init, Lock, NotEq, NotIn}
 use Rattle.sap_gen.specs.Kept.{IsClosedTheory, all_restrictions, file_theory, inlined_file_theory}
 use Rattle.sap_gen.specs.Theories.{inlined_lemma}
 use Rattle.sap_gen.proofs.Lemmas.Kept.{AreVisible}
-
--- the seven
-standard_closed : (g : Sig) (w : Which) → IsClosed g (standard w)
-standard_closed g Init = ((inl (inl refl), (inr (inl refl), tt)), (((tt, tt, refl), (tt, tt, refl)), (refl, refl)))
-standard_closed g Eq = ((inr (inl refl), (inr (inr (inl refl)), (inl refl, tt))), ((tt, (refl, (refl, tt)), refl), (refl, refl)))
-standard_closed g NotEq = ((inr (inl refl), (inr (inr (inl refl)), (inl refl, tt))), ((tt, (refl, (refl, tt)), refl), (refl, refl)))
-standard_closed g In = (
-  (inr (inl refl), (inr (inr (inl refl)), (inl refl, tt))),
-  (
-    (tt, (refl, (refl, tt)), refl),
-    (
-      (inl (inl (inl (inl refl))), tt),
-      (
-        (
-          ((tt, (refl, (refl, tt)), refl), (refl, refl)),
-          ((inl refl, tt), ((tt, (refl, tt), refl), ((refl, refl), (refl, refl)))),
-        ),
-        ((inr (inr (inl refl)), (inl refl, tt)), ((tt, (refl, (refl, tt)), refl), (((refl, refl), (refl, refl)), (refl, refl)))),
-      ),
-    ),
-  ),
-)
-standard_closed g NotIn = (
-  (inl (inl (inr (inl refl))), (inl (inr (inr (inr (inl refl)))), (inl (inl (inl refl)), (inl (inr (inl refl)), tt)))),
-  (
-    (((tt, (refl, tt), refl), (tt, (refl, (refl, tt)), refl)), (refl, refl)),
-    ((inl (inl (inl refl)), tt), (((tt, (refl, tt), refl), (refl, refl)), (refl, refl))),
-  ),
-)
-standard_closed g Lock = (
-  (inl (inl (inr (inl refl))), (inl (inr (inr (inl refl))), (inl (inl (inr (inr (inl refl)))), (inl (inl (inl refl)), (inl (inr (inl refl)), tt))))),
-  (
-    (((tt, (refl, (refl, tt)), refl), (tt, (refl, (refl, tt)), refl)), (refl, refl)),
-    ((inl (inl (inl refl)), tt), (((tt, (refl, (refl, tt)), refl), (refl, refl)), (refl, refl))),
-  ),
-)
-standard_closed g InEv = (
-  (inr (inl refl), (inl refl, tt)),
-  (
-    (tt, (refl, tt), refl),
-    (
-      (inl (inl (inl (inl (inl refl)))), tt),
-      (
-        (
-          (
-            ((tt, (refl, tt), refl), (refl, refl)),
-            ((inr (inl refl), (inl refl, tt)), ((tt, (refl, tt), refl), (((refl, refl), (refl, refl)), (refl, refl)))),
-          ),
-          ((inl refl, tt), ((tt, tt, refl), ((refl, refl), (refl, refl)))),
-        ),
-        ((inr (inl refl), (inl refl, tt)), ((tt, (refl, tt), refl), (((refl, refl), (refl, refl)), (refl, refl)))),
-      ),
-    ),
-  ),
-)
 
 -- lists
 
@@ -81,9 +25,9 @@ both_closed : (g : Sig) (rs ss : List RestrictionForm) → AreClosed g rs → Ar
 both_closed g [] ss h k = k
 both_closed g (r ∷ rs) ss h k = (h.0, both_closed g rs ss h.1 k)
 
-named_closed : (g : Sig) (ws : List Which) → AreClosed g (map named ws)
-named_closed g [] = tt
-named_closed g (w ∷ ws) = (standard_closed g w, named_closed g ws)
+named_closed : StandardClosedLaw → (g : Sig) (ws : List Which) → AreClosed g (map named ws)
+named_closed seven g [] = tt
+named_closed seven g (w ∷ ws) = (seven g w, named_closed seven g ws)
 
 joined_closed : (g : Sig) (r : Form) (rs : List RestrictionForm) → IsClosed g r → AreClosed g rs → IsClosed g (joined r (formulas rs))
 joined_closed g r [] h k = h
@@ -99,13 +43,13 @@ carrying_closed : (g : Sig) (rs : List RestrictionForm) → AreClosed g rs → (
 carrying_closed g rs k [] h = tt
 carrying_closed g rs k (l ∷ ls) h = (inlined_closed g l.mode rs l.formula k h.0, carrying_closed g rs k ls h.1)
 
-module _ (law : ClosedLaw) (f : FileContent) (run : IsRunnable f) where
+module _ (seven : StandardClosedLaw) (law : ClosedLaw) (f : FileContent) (run : IsRunnable f) where
   own_closed : (rs : List RestrictionForm) → AreVisible f.signature rs → AreClosed f.signature rs
   own_closed [] h = tt
   own_closed (r ∷ rs) h = (law f.signature true r.formula h.0, own_closed rs h.1)
 
   all_closed : AreClosed f.signature (all_restrictions f)
-  all_closed = both_closed f.signature (needed_restrictions f.process) f.restrictions (named_closed f.signature (needed f.process)) (own_closed f.restrictions run.restrictions)
+  all_closed = both_closed f.signature (needed_restrictions f.process) f.restrictions (named_closed seven f.signature (needed f.process)) (own_closed f.restrictions run.restrictions)
 
   lemmas_closed : (ls : List LemmaForm) → EachIn (λ (l : LemmaForm). IsCheckedVisible f.signature l.formula) ls → EachIn (λ (l : LemmaForm). IsClosed f.signature l.formula) ls
   lemmas_closed [] h = tt

@@ -22,6 +22,7 @@ use Rattle.sap_read.specs.Files.{FileContent, IsRunnable}
 use Rattle.sap_read.specs.Printable.{IsPrintableFile}
 use Rattle.sap_theory.specs.ReadAgain.{PassesChecks}
 use Rattle.sap_theory.specs.TheoryCauses.{IsLinear, IsPlainRule, first_repeated, rule_names}
+use Rattle.sap_restrict.specs.Laws.{StandardClosedLaw}
 use Rattle.sap_gen.specs.Kept.{IsClosedTheory, file_theory, inlined_file_theory}
 use Rattle.sap_read.specs.OwnNames.{HaveOwnNames, IsNamedApart, statement_names}
 use Rattle.sap_translate.specs.Templates.{rules_of}
@@ -72,6 +73,7 @@ plain_rules g (r ∷ rs) h k = (record { shape = h.0.shape; acts = k.0 }, plain_
 
 -- what is said of formulas and of rules
 pub record CheckLaws : Type 0 where
+  pub seven : StandardClosedLaw
   pub closed : ClosedLaw
   pub settled : SettledLaws
   pub made : (g : Sig) (p q : Proc) → arity_of g pair_name ≡ Some 2 → IsReady g p → node_count p < 2 ^ 64 → IsAnnotation p q → All (IsWellMade g) (rules_of q)
@@ -103,7 +105,7 @@ module _ (laws : CheckLaws) (f : FileContent) (run : IsRunnable f) (fine : IsPri
   }
 
   pub theory_passes : PassesChecks (file_theory f)
-  theory_passes = passes (file_theory f).restrictions (file_theory f).lemmas (theory_closed laws.closed f run) (theory_names f apart)
+  theory_passes = passes (file_theory f).restrictions (file_theory f).lemmas (theory_closed laws.seven laws.closed f run) (theory_names f apart)
 
   pub inlined_theory_passes : PassesChecks (inlined_file_theory f)
-  inlined_theory_passes = passes (inlined_file_theory f).restrictions (inlined_file_theory f).lemmas (inlined_theory_closed laws.closed f run) (inlined_theory_names f apart)
+  inlined_theory_passes = passes (inlined_file_theory f).restrictions (inlined_file_theory f).lemmas (inlined_theory_closed laws.seven laws.closed f run) (inlined_theory_names f apart)

@@ -1,0 +1,25 @@
+//! The short theory of a file.
+ghost use Rattle.std.specs.Prelude.{IfOk};
+ghost use Rattle.sap_read.specs.Files.{IsRunnable, told_by};
+ghost use Rattle.sap_compress.specs.ShortTheories.{IsShortTheory};
+
+use crate::shortening::with_short_rules;
+use sap_gen::theory_of;
+use sap_read::File;
+use sap_rule::Theory;
+use sap_terms::Mem;
+use sap_translate::{rules_are_found_by_name, rules_show_the_process};
+use std::alloc::Global;
+
+/// The short theory of a file that can be run: the theory that `theory_of` makes of it, but that silent rules are left out, those
+/// by which control moves on and nothing else happens; each other rule adds at once what they would have added behind it. Want
+/// of memory is the only error. It takes time in proportion to that theory's text, and to what it looks up by names, and recurses
+/// as deep as `theory_of`.
+pub fn shorten(alloc: Global, f: &File) -> Result<Theory, Mem>
+    requires { IsRunnable (told_by f.now) }
+    ensures { IfOk result (λ t. IsShortTheory (told_by f.now) t) }
+{
+    rules_show_the_process();
+    rules_are_found_by_name();
+    with_short_rules(alloc, theory_of(alloc, f, false)?)
+}
