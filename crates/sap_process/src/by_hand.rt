@@ -1,7 +1,7 @@
 // Flaws, scopes and instances of small processes, as laws.
 ghost use Rattle.std.specs.Prelude.{◌≡◌, [], ◌∷◌, Some, None};
 ghost use Rattle.sap_terms.specs.Tree.{variable};
-ghost use Rattle.sap_terms.specs.declared.var.Sort.TheVariants.{Msg, Fresh, Pub};
+ghost use Rattle.sap_terms.specs.declared.var.Sort.TheVariants.{Msg, Pub};
 ghost use Rattle.sap_process.specs.FlawExamples.{AreFlawed, AreWellFormed, flawed_ones, near_misses, later_but_first, twice_flawed, giving, naming, taking};
 ghost use Rattle.sap_process.specs.Instance.{process_instance};
 ghost use Rattle.sap_process.specs.Proc.{nil, lookup};

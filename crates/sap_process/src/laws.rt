@@ -29,7 +29,7 @@ ghost use Rattle.sap_process.specs.Places.{place_at, IsBefore};
 ghost use Rattle.sap_process.specs.Ready.{IsReady};
 ghost use Rattle.sap_process.specs.Sites.{Site, above_of, scope_below, sites};
 ghost use Rattle.sap_process.specs.Sorted.{with_sorts};
-ghost use Rattle.sap_process.specs.StepExamples.{a, b, c, x, var_x, pair, first_of_pair, shown_fact, left_fact, right_fact, showing, running, alone, only, just, input_shown, fresh_x, public_x, adding_public, taking_twice, new_shown, inputting, sending, receiving, ruling, lasting_fact, taking_lasting, using_left, used_twice, lasting_used_twice};
+ghost use Rattle.sap_process.specs.StepExamples.{a, b, c, x, var_x, pair, first_of_pair, shown_fact, left_fact, right_fact, showing, running, alone, only, just, input_shown, fresh_x, adding_public, taking_twice, new_shown, inputting, sending, receiving, ruling, lasting_fact, taking_lasting, using_left, used_twice, lasting_used_twice};
 
 use crate::places::{ScopeBelow, places_are_by_path};
 use sap_rewrite::{forms_are_messages, normal_forms_are_unique};

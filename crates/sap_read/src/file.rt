@@ -8,7 +8,7 @@ ghost use Rattle.sap_read.specs.code.Bodies.{body};
 ghost use Rattle.sap_read.specs.Files.{AreTokens};
 ghost use Rattle.sap_process.specs.Proc.{node_count, proc};
 ghost use Rattle.sap_locks.specs.Annotation.{IsAnnotation, IsFirstLockFlaw, LockFlaw};
-ghost use Rattle.sap_process.specs.Flaws.{IsFirstFlaw, IsWellFormed};
+ghost use Rattle.sap_process.specs.Flaws.{IsWellFormed};
 ghost use Rattle.sap_process.specs.Sorted.{with_sorts};
 ghost use Rattle.sap_read.specs.Causes.{lock_fault};
 ghost use Rattle.sap_read.specs.Files.{IsRead, told_by};

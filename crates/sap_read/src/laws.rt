@@ -1,5 +1,5 @@
 //! Laws of files, as contracts of functions that do nothing but call those below.
-ghost use Rattle.std.specs.Prelude.{◌≡◌, ◌⊎◌, ℕ, List, [], Result, Ok, Err};
+ghost use Rattle.std.specs.Prelude.{◌≡◌, ℕ, List, Result, Ok, Err};
 ghost use Rattle.sap_terms.specs.declared.fact.Fact.{Fact};
 ghost use Rattle.sap_terms.specs.Tree.{Tree, level_count};
 ghost use Rattle.sap_terms.specs.Signature.{Sig};
@@ -19,10 +19,7 @@ ghost use Rattle.sap_read.specs.Files.{FileContent, IsRead, IsRunnable};
 ghost use Rattle.sap_read.specs.Printable.{IsPrintableFile};
 ghost use Rattle.sap_read.specs.OwnNames.{IsNamedApart};
 ghost use Rattle.sap_terms.specs.declared.limits.TheConstants.{MOST_FILE_NAME_BYTES};
-ghost use Rattle.sap_process.specs.Proc.{Proc};
-ghost use Rattle.sap_process.specs.Flaws.{IsFirstFlaw, IsWellFormed};
 ghost use Rattle.sap_process.specs.Ready.{IsReady};
-ghost use Rattle.sap_process.specs.declared.flaw.Flaw.{Flaw};
 ghost use Rattle.sap_read.specs.declared.fault.ReadFault.{ReadFault};
 ghost use Rattle.sap_statements.specs.declared.statement.Statement.{Statement};
 ghost use Rattle.sap_statements.specs.Statements.{IsStatement};
