@@ -1,5 +1,5 @@
 -- The run of the sample is legal, whatever the number of its sessions.
-use Rattle.std.proofs.Common.{◌≡◌, ◌≤◌, ◌+◌, ◌⊎◌, inl, inr, ℕ, zero, suc, List, [], ◌∷◌, ◌++◌, length, true, false, Option, Some, None, refl, sym, ap, subst, ◌∙◌, arith, append_assoc, slice_get, slice_set, lit≤}
+use Rattle.std.proofs.Common.{◌≡◌, ◌≤◌, ◌⊎◌, inl, inr, ℕ, zero, suc, List, [], ◌∷◌, ◌++◌, length, true, false, Option, Some, None, refl, sym, ap, subst, ◌∙◌, arith, append_assoc, slice_get, slice_set, lit≤}
 use Rattle.std.specs.Prelude.{codes, Contains}
 use Rattle.std.proofs.lemmas.List.{length-append}
 use Rattle.std.proofs.lemmas.List.Elements.{Contains-append_cases}
@@ -170,14 +170,14 @@ module _ (leaves : LeavesAreNormal) (names : NamesAreMessages) (destructors : De
   in_hash n u (below (later h)) = elim h [ ]
 
   -- what a session evaluates is small
-  shelf_small : EvaluateWithin sig HasFewNodes (store_key ∷ [])
-  shelf_small u (here h) = in_public (codes "r") u h
-  shelf_small u (later h) = elim h [ ]
+  store_key_small : EvaluateWithin sig HasFewNodes (store_key ∷ [])
+  store_key_small u (here h) = in_public (codes "r") u h
+  store_key_small u (later h) = elim h [ ]
 
-  shelf_and_name_small : (n : ℕ) → EvaluateWithin sig HasFewNodes (store_key ∷ fresh n ∷ [])
-  shelf_and_name_small n u (here h) = in_public (codes "r") u h
-  shelf_and_name_small n u (later (here h)) = in_fresh n u h
-  shelf_and_name_small n u (later (later h)) = elim h [ ]
+  store_key_and_name_small : (n : ℕ) → EvaluateWithin sig HasFewNodes (store_key ∷ fresh n ∷ [])
+  store_key_and_name_small n u (here h) = in_public (codes "r") u h
+  store_key_and_name_small n u (later (here h)) = in_fresh n u h
+  store_key_and_name_small n u (later (later h)) = elim h [ ]
 
   hash_small : (n : ℕ) → EvaluateWithin sig HasFewNodes (hash_of (fresh n) ∷ [])
   hash_small n u (here h) = in_hash n u h
@@ -267,9 +267,9 @@ module _ (leaves : LeavesAreNormal) (names : NamesAreMessages) (destructors : De
     legal_nine =
         let first : IsLegalTo _ copied es = onwards (line.Rep 0) [] [] run (IsProcessLine.copies 0 at.runs) in
         let second : IsLegalTo _ with_name es = onwards (line.New (suc m) (suc m)) [] [] first (IsProcessLine.makes_name (suc m) (suc m) starts (unused m c es at)) in
-        let third : IsLegalTo _ in_lock es = onwards (line.Lock (suc m)) _ [] second (IsProcessLine.locks (suc m) runs_locking (public_form (codes "r")) at.free shelf_small) in
-        let fourth : IsLegalTo _ stored es = onwards (line.Insert (suc m)) _ [] third (IsProcessLine.inserts (suc m) runs_inserting (public_form (codes "r")) (fresh_form (suc m)) (shelf_and_name_small (suc m))) in
-        let fifth : IsLegalTo _ behind_lock es = onwards (line.Unlock (suc m)) _ [] fourth (IsProcessLine.unlocks (suc m) runs_unlocking (public_form (codes "r")) shelf_small) in
+        let third : IsLegalTo _ in_lock es = onwards (line.Lock (suc m)) _ [] second (IsProcessLine.locks (suc m) runs_locking (public_form (codes "r")) at.free store_key_small) in
+        let fourth : IsLegalTo _ stored es = onwards (line.Insert (suc m)) _ [] third (IsProcessLine.inserts (suc m) runs_inserting (public_form (codes "r")) (fresh_form (suc m)) (store_key_and_name_small (suc m))) in
+        let fifth : IsLegalTo _ behind_lock es = onwards (line.Unlock (suc m)) _ [] fourth (IsProcessLine.unlocks (suc m) runs_unlocking (public_form (codes "r")) store_key_small) in
         let sixth : IsLegalTo _ sent entries_behind = onwards (line.Out (suc m)) [] [] fifth (IsProcessLine.outputs (suc m) runs_sending (hash_form (suc m)) (hash_small (suc m))) in
         let seventh : IsLegalTo _ received entries_behind = onwards (line.In (suc m) m) [] _ sixth (IsProcessLine.inputs (suc m) m (hash_for_all (suc m)) runs_receiving (got_last es (hash_of (fresh (suc m))) m at.entries) (hash_fits (suc m))) in
         let eighth : IsLegalTo _ told entries_behind = onwards (line.Event (suc m)) [] (got_hash (suc m) ∷ []) seventh (IsProcessLine.shows (suc m) runs_showing (record { name = refl; persistent = refl; args = (hash_form (suc m), tt) }) (hash_small (suc m))) in

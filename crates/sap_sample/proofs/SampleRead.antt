@@ -1,5 +1,5 @@
 -- The text of the sample is read as a file.
-use Rattle.std.proofs.Common.{◌≡◌, ◌≤◌, ◌+◌, ℕ, List, [], ◌∷◌, ◌++◌, map, Bool, true, false, not, Result, Ok, Err, refl, sym, ap, arith, lit≤}
+use Rattle.std.proofs.Common.{◌≡◌, ℕ, List, [], ◌∷◌, ◌++◌, map, Bool, true, false, not, Result, Ok, Err, refl, sym, ap, arith, lit≤}
 use Rattle.std.specs.Prelude.{codes}
 use Rattle.std.specs.List.{list_all}
 use Rattle.std.proofs.lemmas.List.Elements.{All-nil, All-cons}
@@ -116,31 +116,31 @@ abbrev items : List Standing
 items = record { item = builtins (Hashing ∷ []); line = 2 } ∷ record { item = process written_process; line = 3 } ∷ []
 
 -- its terms
-shelf_is : (ws : List Word) → IsShort sig FILE_LIMITS store_key (quoted (codes "r") ∷ ws) ws
-shelf_is ws = record { spelled = term_quoted; small = record { few_levels = omega arith; few_nodes = tt } }
+store_key_is : (ws : List Word) → IsShort sig FILE_LIMITS store_key (quoted (codes "r") ∷ ws) ws
+store_key_is ws = record { spelled = term_quoted; small = record { few_levels = omega arith; few_nodes = tt } }
 
-key_is : (ws : List Word) → IsShort sig FILE_LIMITS (variable session_name) (mark (codes "~") ∷ name (codes "k") ∷ ws) ws
-key_is ws = record { spelled = term_fresh; small = record { few_levels = omega arith; few_nodes = tt } }
+name_is : (ws : List Word) → IsShort sig FILE_LIMITS (variable session_name) (mark (codes "~") ∷ name (codes "k") ∷ ws) ws
+name_is ws = record { spelled = term_fresh; small = record { few_levels = omega arith; few_nodes = tt } }
 
 hash_is : (ws : List Word) → IsShort sig FILE_LIMITS (hash_of (variable session_name)) (name (codes "h") ∷ mark (codes "(") ∷ mark (codes "~") ∷ name (codes "k") ∷ mark (codes ")") ∷ ws) ws
 hash_is ws = record { spelled = term_symbol refl (args_some (list_last term_fresh)); small = record { few_levels = omega arith; few_nodes = tt } }
 
 -- x is a variable, since the signature has no such constant
-taken_is : (ws : List Word) → IsShort sig FILE_LIMITS (variable session_message) (name (codes "x") ∷ ws) ws
-taken_is ws = record { spelled = term_message (λ e. absurd (cc (e))); small = record { few_levels = omega arith; few_nodes = tt } }
+message_is : (ws : List Word) → IsShort sig FILE_LIMITS (variable session_message) (name (codes "x") ∷ ws) ws
+message_is ws = record { spelled = term_message (λ e. absurd (cc (e))); small = record { few_levels = omega arith; few_nodes = tt } }
 
 got_is : (ws : List Word) → IsShortFact sig FILE_LIMITS false got_message (name (codes "Got") ∷ mark (codes "(") ∷ name (codes "x") ∷ mark (codes ")") ∷ ws) ws
 got_is ws = record {
-  spelled = fact_linear refl (args_some (list_last (taken_is _).spelled));
-  small = All-cons (IsSmall FILE_LIMITS) (variable session_message) [] (taken_is []).small (All-nil (IsSmall FILE_LIMITS));
+  spelled = fact_linear refl (args_some (list_last (message_is _).spelled));
+  small = All-cons (IsSmall FILE_LIMITS) (variable session_message) [] (message_is []).small (All-nil (IsSmall FILE_LIMITS));
   sign = λ e. absurd (cc (e));
 }
 
 process_is : IsPar sig FILE_LIMITS written_process 10 body_words []
 process_is =
-    par_one (seq_replicated (seq_parentheses (par_one (seq_then action_new_fresh (seq_then (action_lock (shelf_is _))
-    (seq_then (action_insert (shelf_is _) (key_is _)) (seq_then (action_unlock (shelf_is _)) (seq_then (action_out (hash_is _))
-    (seq_then (action_input (taken_is _)) (seq_action (action_event (got_is _))))))))))))
+    par_one (seq_replicated (seq_parentheses (par_one (seq_then action_new_fresh (seq_then (action_lock (store_key_is _))
+    (seq_then (action_insert (store_key_is _) (name_is _)) (seq_then (action_unlock (store_key_is _)) (seq_then (action_out (hash_is _))
+    (seq_then (action_input (message_is _)) (seq_action (action_event (got_is _))))))))))))
 
 module _ (longest : Longest) where
   lexed : IsLexed 64 0 1 sample_file_text (Ok (tokens 0 1 pieces))
