@@ -24,10 +24,10 @@ fn answered(page: &mut Page, words: &str, run: &[u8]) -> Page {
     text
 }
 
-// What stands between these two in the text, or why the run is refused, or all.
+// Why the run is refused, or what stands between these two in the text, or all.
 fn show_inside(page: &mut Page, text: &[u8], before: &str, behind: &str) {
     let cause = between(text, "2 err run refused: ", "\n");
-    match between(text, before, behind).or(cause) {
+    match cause.or(between(text, before, behind)) {
         Some(inside) => page.bytes(inside),
         None => page.bytes(text),
     }
