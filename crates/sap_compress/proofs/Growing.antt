@@ -23,7 +23,7 @@ module _ (p : Proc) where
   kept_last _ _ r right (drops {r = q} {rs} {ss} y h) n s = drops y (kept_last rs ss r right h n s)
   kept_last _ _ r right (keeps {r = q} {rs} {ss} m t h) n s = keeps m t (kept_last rs ss r right h n s)
 
-  -- behind rule k, the short rules of the first k and 1
+  -- behind rule k, these are the short rules of the first k + 1
   pub grown : (rules : List Rule) (takers : Takers) (k : ℕ) (r : Rule) (old new : List Rule) → NamesTell p rules → CanWalk rules takers r.right p → slice_get rules k ≡ Some r
       → IsAdded rules takers r old new → AreShort p (take k rules) old → AreShort p (take (k + 1) rules) new
   grown rules takers k r old new tell can at added short = subst (λ z. AreShort p z new) (sym (take_got rules k r at)) (go (is_silent_name r.name) refl) where

@@ -1,5 +1,5 @@
 -- The takers grow by one rule.
-use Rattle.std.proofs.Common.{◌≡◌, ◌<◌, ◌+◌, ℕ, Bool, true, false, List, [], Option, Some, None, MatchOption, if◌then◌else◌, bytes_eq, refl, slice_get, sym, ap, ◌∙◌, ◌⊎◌, inl, inr, arith}
+use Rattle.std.proofs.Common.{◌≡◌, ◌<◌, ◌+◌, ℕ, Bool, true, false, List, Option, Some, None, MatchOption, if◌then◌else◌, bytes_eq, refl, slice_get, sym, ap, ◌∙◌, ◌⊎◌, inl, inr, arith}
 use Rattle.std.proofs.lemmas.Bool.{cases_lt}
 use Rattle.std.proofs.lemmas.Option.{same_Some}
 use Rattle.std.proofs.lemmas.Slice.Eq.{bytes_eq-Decides}
@@ -8,16 +8,12 @@ use Rattle.sap_rule.specs.declared.rule.Rule.{Rule}
 use Rattle.sap_compress.specs.code.Takers.{AreTakers, Notes, taken_name}
 use Rattle.sap_compress.specs.code.Walks.{Takers}
 
--- none are the takers of no rules
-pub no_takers : (rules : List Rule) → AreTakers rules 0 []
-no_takers rules = record { sound = λ n j e. cc; complete = λ j r n l at t e. omega (arith, l) }
-
--- the last of the first rules, or one before
+-- one of k + 1 rules is one of the first k, or the last
 last_or : (j k : ℕ) → j < k + 1 → (j < k) ⊎ (j ≡ k)
 last_or j k l = elim (cases_lt j k) [ inl m ↦ inl m | inr m ↦ inr (omega arith) ]
 
 module _ (rules : List Rule) (k : ℕ) (old new : Takers) (r : Rule) (at : slice_get rules k ≡ Some r) (known : AreTakers rules k old) where
-  -- a rule that stands at this index is this one
+  -- what the rule at index k takes, whatever it is called there
   this_one : (j : ℕ) (q : Rule) (n : List ℕ) → j ≡ k → slice_get rules j ≡ Some q → taken_name q ≡ Some n → taken_name r ≡ Some n
   this_one j q n e there t = ap taken_name (same_Some r q (sym at ∙ ap (slice_get rules) (sym e) ∙ there)) ∙ t
 

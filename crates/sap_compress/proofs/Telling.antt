@@ -27,7 +27,7 @@ use Rattle.sap_translate.specs.relation.Totals.{total}
 use Rattle.sap_compress.specs.Moves.{AreRight, IsRight, Move}
 use Rattle.sap_compress.specs.Silent.{silent_rule, IsSilentRule}
 use Rattle.sap_compress.specs.code.Takers.{AreTakers, NamesTell, first_name, is_silent_name, taken_name}
-use Rattle.sap_compress.specs.code.Walks.{IsTakenBy, IsToldRight, Takers, TellRight, cost, cost_at, longest}
+use Rattle.sap_compress.specs.code.Walks.{IsTakenBy, IsToldRight, Takers, TellRight, cost, cost_at, name_bytes}
 use Rattle.sap_compress.proofs.Places.Finding.{OwnMove, moves_of, own_found}
 use Rattle.sap_compress.proofs.Places.Settling.{silent_left}
 use Rattle.sap_compress.proofs.Places.Shortening.{fitting, silent_placed}
@@ -70,7 +70,7 @@ module _ (p : Proc) where
   one : (r : Rule) → IsToldByName r → All IsToldByName (r ∷ [])
   one r f = All-cons IsToldByName r [] f (All-nil IsToldByName)
 
-  -- no rule has such a name
+  -- of a rule with another name there is nothing to show
   other : (r : Rule) → is_silent_name r.name ≡ false → IsToldByName r
   other r f t = cc
 
@@ -105,14 +105,14 @@ module _ (p : Proc) where
   place_told : (r : Rule) → IsOfPlace p r → IsToldByName r
   place_told r o = All-contains IsToldByName (own_rules o.path o.scope o.body) r (own_told o.path o.scope o.body o.stands) o.own
 
--- what has a taken name has a silent one
+-- a rule of which the code reads off what it takes has the name of a silent one
 named_silent : (r : Rule) (n : List ℕ) → taken_name r ≡ Some n → is_silent_name r.name ≡ true
 named_silent r n e = go (is_silent_name r.name) e where
   go : (b : Bool) → (if b then first_name r.left else None) ≡ Some n → b ≡ true
   go true e = refl
   go false e = cc
 
--- and a silent rule has both
+-- and a silent rule has such a name
 silent_yes : (p : Proc) (q : Rule) → IsSilentRule p q → is_silent_name q.name ≡ true
 silent_yes p q x = named_silent q (state_name x.path) (silent_name x.path x.scope x.body q x.is)
 
@@ -126,7 +126,7 @@ module _ (g : Sig) (p : Proc) (sound : SoundPlaces g p)
 
   module _ (takers : Takers) (known : AreTakers (rules_of p) (length (rules_of p)) takers) where
     abbrev most : ℕ
-    most = longest (rules_of p)
+    most = name_bytes (rules_of p)
 
     abbrev price : Fact → ℕ
     price f = cost (rules_of p) takers f

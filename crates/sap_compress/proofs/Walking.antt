@@ -12,9 +12,9 @@ use Rattle.sap_rule.specs.declared.rule.Rule.{Rule}
 use Rattle.sap_translate.specs.relation.Totals.{total}
 use Rattle.sap_compress.specs.Settled.{IsSettled, nothing_left, stays, goes_on}
 use Rattle.sap_compress.specs.Silent.{IsSilentRule}
-use Rattle.sap_compress.specs.code.Walks.{CanWalk, IsLookedAt, IsTakenBy, IsToldRight, IsUnderWay, Takers, ahead_of, cost, cost_at, longest}
+use Rattle.sap_compress.specs.code.Walks.{IsLookedAt, IsTakenBy, IsToldRight, IsUnderWay, Takers, ahead_of, cost, cost_at, name_bytes}
 
--- what is put last is ahead of all
+-- what is kept last is ahead of all others
 pub next_last : (fs : List (Bor Fact)) (f : Bor Fact) → ahead_of (fs ++ f ∷ []) ≡ f.now ∷ ahead_of fs
 next_last fs f = ap reverse (map_push (λ (f : Bor Fact). f.now) fs f) ∙ reverse-append (map (λ (f : Bor Fact). f.now) fs) (f.now ∷ [])
 
@@ -27,16 +27,12 @@ total_both w [] ys = omega arith
 total_both w (x ∷ xs) ys = let e = total_both w xs ys in omega arith
 
 module _ (rules : List Rule) (takers : Takers) (p : Proc) where
-  -- no process has a fact ahead at the start but these
-  pub starts : (facts : List Fact) → CanWalk rules takers facts p → IsUnderWay rules takers facts facts [] p
-  starts facts can = record { can = can; leads = λ rest s. s }
-
   -- where nothing is ahead, all have settled
   pub ends : (facts settled : List Fact) → IsUnderWay rules takers facts [] settled p → IsSettled (IsSilentRule p) facts settled
   ends facts settled w = subst (IsSettled (IsSilentRule p) facts) (append-nil settled) (w.leads [] nothing_left)
 
   module _ (f : Fact) (ahead more settled longer : List Fact) where
-    -- a fact that was looked at is ahead no more
+    -- once the first fact that is ahead was looked at, the walk is further on
     pub onward : (facts : List Fact) → IsLookedAt rules takers f ahead more settled longer → IsUnderWay rules takers facts (f ∷ ahead) settled p
         → IsUnderWay rules takers facts more longer p
     onward facts looked way = go (value_at takers f.name) looked way.can.told.0 where
@@ -65,7 +61,7 @@ module _ (rules : List Rule) (takers : Takers) (p : Proc) where
                 subst (λ z. IsSettled (IsSilentRule p) facts (z ++ rest)) (sym at.3) whole;
           }
 
-    -- and what is ahead costs less
+    -- and what is ahead costs less than before
     pub cheaper : IsLookedAt rules takers f ahead more settled longer → IsToldRight p rules takers f
         → total (cost rules takers) more < total (cost rules takers) (f ∷ ahead)
     cheaper looked told = go (value_at takers f.name) refl looked told where
@@ -74,7 +70,7 @@ module _ (rules : List Rule) (takers : Takers) (p : Proc) where
           → MatchOption o ((q : Rule) → IsSilentRule p q → q.left ≡ f ∷ [] → ⊥) (λ k. IsTakenBy p rules takers f k)
           → total (cost rules takers) more < total (cost rules takers) (f ∷ ahead)
       go None e at told =
-          let one : cost rules takers f ≡ 1 = ap (λ o. cost_at (longest rules) o f.name) e in
+          let one : cost rules takers f ≡ 1 = ap (λ o. cost_at (name_bytes rules) o f.name) e in
           let same = ap (total (cost rules takers)) at.0 in
           omega arith
       go (Some k) e at told =
@@ -85,12 +81,12 @@ module _ (rules : List Rule) (takers : Takers) (p : Proc) where
           let less = told.cheaper in
           omega arith
 
--- the fact that stands last is ahead of all, and the walk is where it was
+-- where the last fact that is kept is taken out, it is the first of those that are ahead
 pub popped : (rules : List Rule) (takers : Takers) (p : Proc) (facts settled : List Fact) (before rest : List (Bor Fact)) (f : Bor Fact) → before ≡ rest ++ f ∷ []
     → IsUnderWay rules takers facts (ahead_of before) settled p → IsUnderWay rules takers facts (f.now ∷ ahead_of rest) settled p
 popped rules takers p facts settled before rest f e way = subst (λ z. IsUnderWay rules takers facts z settled p) (ap ahead_of e ∙ next_last rest f) way
 
--- facts are put ahead from the last on
+-- facts are put ahead one by one, from the last on
 pub put_next : (facts start : List Fact) (k : ℕ) (items : List (Bor Fact)) (f : Bor Fact) → 0 < k → slice_get facts (k - 1) ≡ Some f.now
     → ahead_of items ≡ drop k facts ++ start → ahead_of (items ++ f ∷ []) ≡ drop (k - 1) facts ++ start
 put_next facts start k items f some at e =

@@ -1,14 +1,14 @@
 // The right sides of rules, with each fact that a silent rule takes replaced by what that rule adds.
 ghost use Rattle.std.specs.Prelude.{◌≡◌, ◌++◌, ◌<◌, IfOk, OnOk, length, slice_get, Some};
 ghost use Rattle.sap_process.specs.Proc.{Proc};
-ghost use Rattle.sap_compress.specs.code.Walks.{CanWalk, IsLookedAt, IsToldRight, SettleTo, ahead_of};
+ghost use Rattle.sap_compress.specs.code.Walks.{CanWalk, IsLookedAt, IsToldRight, IsSettlingOf, ahead_of};
 
 use sap_rule::RuleList;
 use sap_terms::{Copied, Fact, FactList, Mem, NameMap};
 use std::alloc::Global;
 
-// These facts, with each that one of the takers takes replaced by what that rule adds, at its position, until none is left. It
-// takes time in proportion to the facts that are looked at.
+// These facts, with each that one of the takers takes replaced by what that rule adds, at its
+// position, until none is left. It takes time in proportion to the facts that are looked at.
 pub(crate) fn settled_facts(
     alloc: Global,
     rules: &RuleList,
@@ -16,7 +16,7 @@ pub(crate) fn settled_facts(
     facts: &FactList,
 ) -> Result<FactList, Mem>
     requires { (p : Proc) × CanWalk rules.now takers.now facts.now p }
-    ensures { IfOk result (λ settled. SettleTo rules.now takers.now facts.now settled) }
+    ensures { IfOk result (λ settled. IsSettlingOf rules.now takers.now facts.now settled) }
 {
     let mut settled = FactList::new(alloc);
     let mut ahead: Vec<&Fact> = Vec::new(alloc);
@@ -37,7 +37,8 @@ fn look_at<'t>(
     settled: &mut FactList,
 ) -> Result<(), Mem>
     requires { (p : Proc) × IsToldRight p rules.now takers.now f.now }
-    ensures { OnOk result (IsLookedAt rules.now takers.now f.now (ahead_of ahead.old.items) (ahead_of ahead.new.items) settled.old settled.new) }
+    ensures { OnOk result (IsLookedAt rules.now takers.now f.now (ahead_of ahead.old.items)
+        (ahead_of ahead.new.items) settled.old settled.new) }
 {
     match takers.get(&f.name) {
         Some(k) => put_ahead(&rules.at(*k).right, ahead),

@@ -11,10 +11,11 @@ use sap_terms::Mem;
 use sap_translate::{rules_are_found_by_name, rules_show_the_process};
 use std::alloc::Global;
 
-/// The short theory of a file that can be run: the theory that `theory_of` makes of it, but that silent rules are left out, those
-/// by which control moves on and nothing else happens; each other rule adds at once what they would have added behind it. Want
-/// of memory is the only error. It takes time in proportion to that theory's text, and to what it looks up by names, and recurses
-/// as deep as `theory_of`.
+/// The short theory of a file that can be run: the theory that `theory_of` makes of it, without the
+/// silent rules, by which control moves on and nothing else happens; each other rule adds at once
+/// what they would have added behind it. Want of memory is the only error. It takes time in
+/// proportion to that theory's text, with one look-up by name for each fact that is looked at, and
+/// recurses as `theory_of` does.
 pub fn shorten(alloc: Global, f: &File) -> Result<Theory, Mem>
     requires { IsRunnable (told_by f.now) }
     ensures { IfOk result (λ t. IsShortTheory (told_by f.now) t) }

@@ -15,7 +15,8 @@ use std::alloc::Global;
 // The rules that aren't silent, in order, each with its right side settled.
 fn short_rules(alloc: Global, rules: &RuleList) -> Result<RuleList, Mem>
     requires { (p : Proc) × NamesTell p rules.now }
-    ensures { IfOk result (λ short. (p : Proc) → NamesTell p rules.now → AreShort p rules.now short) }
+    ensures { IfOk result (λ short.
+        (p : Proc) → NamesTell p rules.now → AreShort p rules.now short) }
 {
     let takers = takers_of(alloc, rules)?;
     let mut short = RuleList::new(alloc);
