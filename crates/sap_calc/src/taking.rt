@@ -1,5 +1,6 @@
 // Threads that take what fits their patterns.
-ghost use Rattle.std.specs.Prelude.{◌≡◌, IfOk, IfErr, OnErr, MatchOption, ⊤};
+ghost use Rattle.std.specs.Prelude.{◌≡◌, ◌<◌, [], ◌∷◌, length, IfOk, IfErr, OnErr, MatchOption, ⊤};
+ghost use Rattle.sap_terms.specs.AdversaryFacts.{k_fact};
 ghost use Rattle.sap_terms.specs.Destructors.{HasDestructor};
 ghost use Rattle.sap_terms.specs.Equations.{equations};
 ghost use Rattle.sap_terms.specs.Variables.{tree_vars};
@@ -10,6 +11,7 @@ ghost use Rattle.sap_share.specs.Env.{AreSmallForms};
 ghost use Rattle.sap_share.specs.Shared.{tree_at, Keeps};
 ghost use Rattle.sap_heads.specs.Taken.{IsTaken, IsUntaken, IsReceived, IsUnreceived};
 ghost use Rattle.sap_heads.specs.Values.{CanEvaluate, IsSmallNumber};
+ghost use Rattle.sap_lines.specs.declared.fault.PFault.TheVariants.{Mem as OutOfMemory};
 ghost use Rattle.sap_calc.specs.Running.{IsDone, IsDenied};
 
 use crate::Config;
@@ -45,6 +47,19 @@ fn taken(
     }
 }
 
+// What is bound, and beside it what a line shows that gives this term.
+fn labelled(alloc: Global, table: &Table, e: u64, env: Env) -> Result<(Env, FactList), PFault>
+    requires { e < length table.now.trees }
+    ensures bound { IfOk result (λ r. r.0 ≡ env) }
+    ensures label { IfOk result (λ r. r.1 ≡ k_fact (tree_at table.now.trees e) ∷ []) }
+    ensures refused { IfErr result (λ f. f ≡ OutOfMemory) }
+{
+    match shown_number(alloc, table, e) {
+        Err(_) => Err(PFault::Mem),
+        Ok(label) => Ok((env, label)),
+    }
+}
+
 impl Config {
     /// Lets a thread take entry k, which fits its pattern; on a channel, a pair of the channel and of what fits. Refused,
     /// nothing changes.
@@ -68,9 +83,9 @@ impl Config {
         self.table.each_is_ground();
         match taken(alloc, &mut self.table, &th.env, channel, n, e) {
             Err(fault) => Err(fault),
-            Ok(env) => match shown_number(alloc, &self.table, e) {
-                Err(_) => Err(PFault::Mem),
-                Ok(label) => {
+            Ok(env) => match labelled(alloc, &self.table, e, env) {
+                Err(fault) => Err(fault),
+                Ok((env, label)) => {
                     set(&mut self.threads, t, Thread { place: next, env });
                     Ok(label)
                 }

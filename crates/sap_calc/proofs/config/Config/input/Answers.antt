@@ -41,8 +41,8 @@ invariant_of-self c =
     let P : Parts = record { table = c.self.inside.table; places = c.self.inside.places; threads = c.self.inside.threads.items; store = c.self.inside.store.entries; held = c.self.inside.held.entries; facts = c.self.inside.facts; made = c.self.inside.made.keys; own = c.self.inside.own.keys; known = c.self.inside.knowledge } in
     keeps_tied P c.taken.new.table c.taken.ensures.keeps c.self.invariant
 
-pub invariant_of-self-in-Err-shown_number : goal.invariant_of-self-in-Err-shown_number
-invariant_of-self-in-Err-shown_number c =
+pub invariant_of-self-in-Err-labelled : goal.invariant_of-self-in-Err-labelled
+invariant_of-self-in-Err-labelled c =
     let P : Parts = record { table = c.self.inside.table; places = c.self.inside.places; threads = c.self.inside.threads.items; store = c.self.inside.store.entries; held = c.self.inside.held.entries; facts = c.self.inside.facts; made = c.self.inside.made.keys; own = c.self.inside.own.keys; known = c.self.inside.knowledge } in
     keeps_tied P c.taken.new.table c.taken.ensures.keeps c.self.invariant
 
@@ -51,10 +51,10 @@ set-requires c =
     let P : Parts = record { table = c.self.inside.table; places = c.self.inside.places; threads = c.self.inside.threads.items; store = c.self.inside.store.entries; held = c.self.inside.held.entries; facts = c.self.inside.facts; made = c.self.inside.made.keys; own = c.self.inside.own.keys; known = c.self.inside.knowledge } in
     number_below P c.args.t c.in-Some.th.now c.in-Some.ensures
 
-pub invariant_of-self-in-Ok-shown_number : goal.invariant_of-self-in-Ok-shown_number
-invariant_of-self-in-Ok-shown_number c =
+pub invariant_of-self-in-Ok-labelled : goal.invariant_of-self-in-Ok-labelled
+invariant_of-self-in-Ok-labelled c =
     let P : Parts = record { table = c.self.inside.table; places = c.self.inside.places; threads = c.self.inside.threads.items; store = c.self.inside.store.entries; held = c.self.inside.held.entries; facts = c.self.inside.facts; made = c.self.inside.made.keys; own = c.self.inside.own.keys; known = c.self.inside.knowledge } in
-    rw c.set.ensures (input_tied (record P { table = c.taken.new.table }) c.args.t c.in-Some.th.now c.at-place.result.now (keeps_tied P c.taken.new.table c.taken.ensures.keeps c.self.invariant) c.in-Some.ensures c.at-place.ensures c.args.k c.in-Some-entry_number.e (entry_there c.self.inside.table c.taken.new.table P.known c.args.k c.in-Some-entry_number.e c.taken.ensures.keeps c.in-Some-entry_number.ensures.some) (λ (m : Bor Term). m.now) c.in-Some-taking.n.now c.in-Some-taking.channel c.in-Some-taking.ensures c.in-Ok.env c.in-Ok.ensures.ok)
+    rw (c.set.ensures, c.in-Ok-labelled.ensures.bound) (input_tied (record P { table = c.taken.new.table }) c.args.t c.in-Some.th.now c.at-place.result.now (keeps_tied P c.taken.new.table c.taken.ensures.keeps c.self.invariant) c.in-Some.ensures c.at-place.ensures c.args.k c.in-Some-entry_number.e (entry_there c.self.inside.table c.taken.new.table P.known c.args.k c.in-Some-entry_number.e c.taken.ensures.keeps c.in-Some-entry_number.ensures.some) (λ (m : Bor Term). m.now) c.in-Some-taking.n.now c.in-Some-taking.channel c.in-Some-taking.ensures c.in-Ok.env c.in-Ok.ensures.ok)
 
 pub returns-in_default-entry_number-clause-refused : goal.returns-in_default-entry_number-clause-refused
 returns-in_default-entry_number-clause-refused c =
@@ -71,18 +71,18 @@ returns-in-Err-clause-err c =
     let P : Parts = record { table = c.self.inside.table; places = c.self.inside.places; threads = c.self.inside.threads.items; store = c.self.inside.store.entries; held = c.self.inside.held.entries; facts = c.self.inside.facts; made = c.self.inside.made.keys; own = c.self.inside.own.keys; known = c.self.inside.knowledge } in
     keeps_seen P c.taken.new.table c.taken.ensures.keeps c.self.invariant ∙ c.self.view_is
 
-pub returns-in-Err-shown_number-clause-refused : goal.returns-in-Err-shown_number-clause-refused
-returns-in-Err-shown_number-clause-refused c = no_memory (line.In c.args.t c.args.k)
+pub returns-in-Err-labelled-clause-refused : goal.returns-in-Err-labelled-clause-refused
+returns-in-Err-labelled-clause-refused c = rw c.in-Err-labelled.ensures.refused (no_memory (line.In c.args.t c.args.k))
 
-pub returns-in-Err-shown_number-clause-err : goal.returns-in-Err-shown_number-clause-err
-returns-in-Err-shown_number-clause-err c =
+pub returns-in-Err-labelled-clause-err : goal.returns-in-Err-labelled-clause-err
+returns-in-Err-labelled-clause-err c =
     let P : Parts = record { table = c.self.inside.table; places = c.self.inside.places; threads = c.self.inside.threads.items; store = c.self.inside.store.entries; held = c.self.inside.held.entries; facts = c.self.inside.facts; made = c.self.inside.made.keys; own = c.self.inside.own.keys; known = c.self.inside.knowledge } in
     keeps_seen P c.taken.new.table c.taken.ensures.keeps c.self.invariant ∙ c.self.view_is
 
-pub returns-in-Ok-shown_number-clause-ok : goal.returns-in-Ok-shown_number-clause-ok
-returns-in-Ok-shown_number-clause-ok c =
+pub returns-in-Ok-labelled-clause-ok : goal.returns-in-Ok-labelled-clause-ok
+returns-in-Ok-labelled-clause-ok c =
     let P : Parts = record { table = c.self.inside.table; places = c.self.inside.places; threads = c.self.inside.threads.items; store = c.self.inside.store.entries; held = c.self.inside.held.entries; facts = c.self.inside.facts; made = c.self.inside.made.keys; own = c.self.inside.own.keys; known = c.self.inside.knowledge } in
-    rw (← c.self.view_is, c.set.ensures) (done_back P c.taken.new.table c.taken.ensures.keeps c.self.invariant _ (line.In c.args.t c.args.k) c.in-Ok-shown_number.label (input_line (record P { table = c.taken.new.table }) c.args.t c.in-Some.th.now c.at-place.result.now (keeps_tied P c.taken.new.table c.taken.ensures.keeps c.self.invariant) c.in-Some.ensures c.at-place.ensures c.args.k c.in-Some-entry_number.e (entry_there c.self.inside.table c.taken.new.table P.known c.args.k c.in-Some-entry_number.e c.taken.ensures.keeps c.in-Some-entry_number.ensures.some) (λ (m : Bor Term). m.now) c.in-Some-taking.n.now c.in-Some-taking.channel c.in-Some-taking.ensures c.in-Ok.env c.in-Ok.ensures.ok c.in-Ok-shown_number.label c.in-Ok-shown_number.ensures))
+    rw (← c.self.view_is, c.set.ensures, c.in-Ok-labelled.ensures.bound) (done_back P c.taken.new.table c.taken.ensures.keeps c.self.invariant _ (line.In c.args.t c.args.k) c.in-Ok-labelled.label (input_line (record P { table = c.taken.new.table }) c.args.t c.in-Some.th.now c.at-place.result.now (keeps_tied P c.taken.new.table c.taken.ensures.keeps c.self.invariant) c.in-Some.ensures c.at-place.ensures c.args.k c.in-Some-entry_number.e (entry_there c.self.inside.table c.taken.new.table P.known c.args.k c.in-Some-entry_number.e c.taken.ensures.keeps c.in-Some-entry_number.ensures.some) (λ (m : Bor Term). m.now) c.in-Some-taking.n.now c.in-Some-taking.channel c.in-Some-taking.ensures c.in-Ok.env c.in-Ok.ensures.ok c.in-Ok-labelled.label c.in-Ok-labelled.ensures.label))
 
 pub taken-requires-clause-sorts : goal.taken-requires-clause-sorts
 taken-requires-clause-sorts c =
