@@ -18,6 +18,7 @@ mod refused;
 mod run_texts;
 mod runs;
 mod sharing;
+mod short;
 mod show;
 mod tables;
 mod terms;

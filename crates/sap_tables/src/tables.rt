@@ -5,7 +5,7 @@ use crate::notation::{number, part, written};
 use crate::page::Page;
 use crate::{
     calls, copies, files, formulas, guards, knowledge, piles, processes, refused, run_texts, runs,
-    sharing, terms, theories, tokens,
+    sharing, short, terms, theories, tokens,
 };
 use std::collections::BTreeMap;
 
@@ -55,6 +55,7 @@ fn show_found_above(page: &mut Page, desk: &mut Desk, table: &str, row: &str) {
         "files" => files::files_row(page, &desk.signature, row),
         "refusals" => calls::command(page, "refusal", "compile a.spthy", part(row, 0)),
         "generated" => calls::command(page, part(row, 0), "compile a.spthy", part(row, 1)),
+        "short-theories" => short::short_row(page, row),
         "written-theories" => calls::command(page, "back", part(row, 0), part(row, 1)),
         "statements" => calls::statements_row(page, row),
         "calls" => calls::calls_row(page, row),
