@@ -21,6 +21,7 @@ use Rattle.sap_tool.proofs.Takes.{allowed_takes}
 use Rattle.sap_tool.proofs.Meant as meant
 use Rattle.sap_tool.proofs.Meant.{CanBePrinted, written_says}
 use Rattle.sap_tool.proofs.JsonMeant as json
+use Rattle.sap_tool.specs.Meaning.{IsWritten}
 use Rattle.sap_tool.proofs.JsonMeant.{json_is_read, run_is_read}
 use Rattle.sap_tool.proofs.JsonRefused.{OneJson, one_json_cause, json_not_refused, json_part_refused, json_refused_by_part}
 use Rattle.sap_tool.proofs.OneRefusal.{one_run_cause}

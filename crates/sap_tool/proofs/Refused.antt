@@ -36,7 +36,7 @@ pub in_each_way : ((told : FileContent) → IsRunnable told → KeepsFile told (
     → ((told : FileContent) → IsRunnable told → KeepsFileInlined told (inlined_file_theory told)) → KeepingBy Short → Keeping
 in_each_way plain inlined short Plain told t can is = subst (KeepsFile told) (sym is) (plain told can)
 in_each_way plain inlined short Inlined told t can is = subst (KeepsFileInlined told) (sym is) (inlined told can)
-in_each_way plain inlined short Short = short
+in_each_way plain inlined short Short told t can is = short told t can is
 
 -- the text of the theory of a file that is read, written in this way, spells it and no other
 abbrev pub Writing : Type 0
@@ -52,7 +52,7 @@ pub printable_in_each_way : ((told : FileContent) → IsRunnable told → IsPrin
     → PrintableBy Short → (way : Way) → PrintableBy way
 printable_in_each_way plain inlined short Plain told t can print is = subst (IsPrintable MOST_THEORY_NAME_BYTES) (sym is) (plain told can print)
 printable_in_each_way plain inlined short Inlined told t can print is = subst (IsPrintable MOST_THEORY_NAME_BYTES) (sym is) (inlined told can print)
-printable_in_each_way plain inlined short Short = short
+printable_in_each_way plain inlined short Short told t can print is = short told t can print is
 
 -- there is one in each way
 abbrev pub OneCompiled : Type 0
