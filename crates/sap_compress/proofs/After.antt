@@ -24,7 +24,7 @@ use Rattle.sap_compress.specs.Carried.{count, counts, AreAlike, Stays, IsSilent,
 use Rattle.sap_compress.specs.Settled.{IsSettled, nothing_left, stays, goes_on}
 use Rattle.sap_translate.specs.Members.{Member, here, later}
 use Rattle.sap_translate.specs.Scoped.{AllWithin, FactsWithin}
-use Rattle.sap_compress.specs.Moves.{IsMove, Move, Moves, IsPlain, IsRight, AreRight, ArePlain, IsShortened, IsShortening}
+use Rattle.sap_compress.specs.Moves.{IsMove, Move, Moves, IsPlain, IsAsTaken, AreAsTaken, ArePlain, IsShortened, IsShortening}
 use Rattle.sap_translate.specs.relation.Names.{same_var}
 use Rattle.sap_compress.proofs.Same.{same_var-refl, same_var-sound}
 use Rattle.sap_compress.proofs.Weights.{total-append}
@@ -241,7 +241,7 @@ module _ (has : EachHasForm) (one : FormIsOne) (decide : NormalTermsDecide) (g :
         zip_normal (t ∷ ts) [] h = absurd h
         zip_normal (t ∷ ts) (n ∷ ns) h = All-cons (IsNormal (equations g)) n ns h.0.normal (zip_normal ts ns h.1)
 
-    apart : (zs hs : List Fact) → IsSettled Q zs hs → (xs ys : List Fact) → zs ≡ xs ++ ys → AreRight moves ys → Apart σ xs ys hs
+    apart : (zs hs : List Fact) → IsSettled Q zs hs → (xs ys : List Fact) → zs ≡ xs ++ ys → AreAsTaken moves ys → Apart σ xs ys hs
     apart _ _ nothing_left [] [] e r = record { before = []; behind = []; is = refl; first = nothing_left; alike = no_facts σ }
     apart _ _ nothing_left [] (y ∷ ys) e r = cc
     apart _ _ nothing_left (x ∷ xs) ys e r = cc
@@ -257,7 +257,7 @@ module _ (has : EachHasForm) (one : FormIsOne) (decide : NormalTermsDecide) (g :
         λ right added a d. in_front f ys b.behind p b.alike right added (subst (λ z. Forms (instance_facts σ (z ∷ ys)) right) head a) (subst (λ zs. Forms (instance_facts σ (f ∷ zs)) added) rest d) in
         record { before = []; behind = f ∷ hs; is = refl; first = nothing_left; alike = front }
       where
-        plain_of : IsRight moves y → y ≡ f → IsPlain moves f
+        plain_of : IsAsTaken moves y → y ≡ f → IsPlain moves f
         plain_of (inl p) h = subst (IsPlain moves) h p
         plain_of (inr m) h =
             absurd (unasked m.0.rule (short.named y.name m.0 m.1).0 (m.0.shape.left ∙ ap (λ z. z ∷ []) (sym m.2 ∙ h)))
@@ -293,7 +293,7 @@ module _ (has : EachHasForm) (one : FormIsOne) (decide : NormalTermsDecide) (g :
         }
 
     -- what a rule adds will be what its settled right side adds
-    settled-alike : (fs hs : List Fact) → IsSettled Q fs hs → AreRight moves fs → (right added : List Fact) → Forms (instance_facts σ fs) right → Forms (instance_facts σ hs) added → AreAlike (flat_map after right) added
+    settled-alike : (fs hs : List Fact) → IsSettled Q fs hs → AreAsTaken moves fs → (right added : List Fact) → Forms (instance_facts σ fs) right → Forms (instance_facts σ hs) added → AreAlike (flat_map after right) added
     settled-alike fs hs s r right added a b =
         let p = apart fs hs s [] fs refl r in
         let none : p.before ≡ [] = settled-one [] p.before [] p.first nothing_left in
@@ -309,7 +309,7 @@ module _ (has : EachHasForm) (one : FormIsOne) (decide : NormalTermsDecide) (g :
       All-cons (Stays after) h hs (plain-stays h (ap (λ n. moves n) e.0.name ∙ p.0)) (plain_left σ fs hs p.1 e.1)
 
   -- each rule that isn't silent is carried
-  carries : (r s : Rule) → ArePlain moves r.left → AreRight moves r.right → IsShortened Q r s → Carries g after r s
+  carries : (r s : Rule) → ArePlain moves r.left → AreAsTaken moves r.right → IsShortened Q r s → Carries g after r s
   carries r s p a h σ left acts right n u =
       let added = forms_of has (equations g) (instance_facts σ s.right) in
       let alike = settled-alike σ u.messages r.right s.right h.right a right added.0 u.adds added.1 in (

@@ -18,7 +18,7 @@ use Rattle.sap_rule.specs.RuleSteps.{RuleState, empty_state, makes, gains, leave
 use Rattle.sap_terms.specs.Trace.{Trace, shown}
 use Rattle.sap_formula.specs.Filled.{filled}
 use Rattle.sap_translate.specs.relation.Totals.{total}
-use Rattle.sap_compress.specs.Carried.{count, counts, count_after, AreAlike, Stays, IsSilent, Carries, AreCarried, Follows, SettleTo, done, step, AreExpanded, AreNormalFacts, HoldsNormal, IsFilledTrace, CarriedRulesShowTheSame}
+use Rattle.sap_compress.specs.Carried.{count, counts, count_after, AreAlike, Stays, IsSilent, Carries, AreCarried, IsMatchedBy, SettleTo, done, step, AreExpanded, AreNormalFacts, HoldsNormal, IsFilledTrace, CarriedRulesShowTheSame}
 use Rattle.sap_compress.proofs.Weights.{adds_total, takes_total, linear_spent, total-append, total_found}
 use Rattle.sap_translate.specs.relation.Names.{same_fact}
 use Rattle.sap_compress.proofs.Same.{same_fact-refl}
@@ -46,7 +46,7 @@ record Used (g : Sig) (rules : List Rule) (s : RuleState) (acts : List Fact) (s'
 -- the adversary did something, which it can do from the other state too, whatever the rules
 record Mirrored (g : Sig) (after : Fact → List Fact) (z : RuleState) (acts : List Fact) (s' : RuleState) : Type 0 where
   next : RuleState
-  follows : Follows after s' next
+  follows : IsMatchedBy after s' next
   done_too : (others : List Rule) → RuleStep g others z acts next
 
 -- what the adversary makes and takes stays as it is
@@ -85,7 +85,7 @@ module _ (after : Fact → List Fact) where
       let equal = m test in
       omega arith
 
-  mirror : (g : Sig) (rules : List Rule) → Plain after → (s s' z : RuleState) (acts : List Fact) → RuleStep g rules s acts s' → Follows after s z → Mirrored g after z acts s' ⊎ Used g rules s acts s'
+  mirror : (g : Sig) (rules : List Rule) → Plain after → (s s' z : RuleState) (acts : List Fact) → RuleStep g rules s acts s' → IsMatchedBy after s z → Mirrored g after z acts s' ⊎ Used g rules s acts s'
   mirror g rules p s _ z _ (makes_name n free) f = inl (record {
     next = makes z n;
     follows = record { facts = adds_one s.facts z.facts (fr_fact n) f.facts (p.fr_stays n); known = f.known; made = ap (λ (ns : List ℕ). ns ++ n ∷ []) f.made };
@@ -140,10 +140,10 @@ module _ (g : Sig) (after : Fact → List Fact) (rules shorts : List Rule) (runs
   -- the short state that follows: it shows the same by one step, or nothing is shown and it stays
   record Answer (z : RuleState) (acts : List Fact) (s' : RuleState) : Type 0 where
     next : RuleState
-    follows : Follows after s' next
+    follows : IsMatchedBy after s' next
     how : ((acts ≡ []) × (next ≡ z)) ⊎ RuleStep g shorts z acts next
 
-  follow_use : (s s' z : RuleState) (acts : List Fact) (u : Used g rules s acts s') → HoldsNormal (equations g) s → Follows after s z → Answer z acts s'
+  follow_use : (s s' z : RuleState) (acts : List Fact) (u : Used g rules s acts s') → HoldsNormal (equations g) s → IsMatchedBy after s z → Answer z acts s'
   follow_use s s' z acts u n f = at (carried.each u.rule u.among) where
     at : IsSilent g after u.rule ⊎ ((q : Rule) × Contains shorts q × Carries g after u.rule q) → Answer z acts s'
     at (inl silent) =
@@ -162,7 +162,7 @@ module _ (g : Sig) (after : Fact → List Fact) (rules shorts : List Rule) (runs
           how = inr (uses short.0 x.numbers u.choice u.left acts q.1.0 short.1 x.takes q.1.1);
         })
 
-  follow : (s s' z : RuleState) (acts : List Fact) → RuleStep g rules s acts s' → HoldsNormal (equations g) s → Follows after s z → Answer z acts s'
+  follow : (s s' z : RuleState) (acts : List Fact) → RuleStep g rules s acts s' → HoldsNormal (equations g) s → IsMatchedBy after s z → Answer z acts s'
   follow s s' z acts h n f = at (mirror after g rules plain s s' z acts h f) where
     at : Mirrored g after z acts s' ⊎ Used g rules s acts s' → Answer z acts s'
     at (inl m) = record { next = m.next; follows = m.follows; how = inr (m.done_too shorts) }
@@ -173,7 +173,7 @@ module _ (g : Sig) (after : Fact → List Fact) (rules shorts : List Rule) (runs
     state : RuleState
     full_too : Trace
     run : RuleRun g shorts state full_too
-    follows : Follows after s state
+    follows : IsMatchedBy after s state
     shows : filled full_too ≡ filled full
 
   follow_run : (s : RuleState) (full : Trace) → RuleRun g rules s full → RunAnswer s full
@@ -269,7 +269,7 @@ module _ (g : Sig) (rules shorts : List Rule) (expanded : AreExpanded g rules sh
     state : RuleState
     full_too : Trace
     run : RuleRun g rules state full_too
-    follows : Follows itself z state
+    follows : IsMatchedBy itself z state
     shows : filled full_too ≡ filled full
 
   all_stay : (fs : List Fact) → All (Stays itself) fs

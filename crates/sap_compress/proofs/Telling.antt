@@ -24,7 +24,7 @@ use Rattle.sap_translate.specs.Sound.{SoundPlaces}
 use Rattle.sap_translate.specs.Templates.{state, own_rules, init_rule, rules_of, nil_rule, out_rule, parallel_rule, rep_start_rule}
 use Rattle.sap_translate.specs.relation.Names.{state_name}
 use Rattle.sap_translate.specs.relation.Totals.{total}
-use Rattle.sap_compress.specs.Moves.{AreRight, IsRight, Move}
+use Rattle.sap_compress.specs.Moves.{AreAsTaken, IsAsTaken, Move}
 use Rattle.sap_compress.specs.Silent.{silent_rule, IsSilentRule}
 use Rattle.sap_compress.specs.code.Takers.{AreTakers, NamesTell, first_name, is_silent_name, taken_name}
 use Rattle.sap_compress.specs.code.Walks.{IsTakenBy, IsToldRight, Takers, TellRight, cost, cost_at, name_bytes}
@@ -201,7 +201,7 @@ module _ (g : Sig) (p : Proc) (sound : SoundPlaces g p)
       go _ e = cc
 
     -- the takers tell rightly of a fact as it stands on right sides
-    told : (f : Fact) → IsRight (moves_of g p sound) f → IsToldRight p (rules_of p) takers f
+    told : (f : Fact) → IsAsTaken (moves_of g p sound) f → IsToldRight p (rules_of p) takers f
     told f right = go (value_at takers f.name) refl where
       untaken : value_at takers f.name ≡ None → (q : Rule) → IsSilentRule p q → q.left ≡ f ∷ [] → ⊥
       untaken e q x l =
@@ -214,7 +214,7 @@ module _ (g : Sig) (p : Proc) (sound : SoundPlaces g p)
       -- the fact is what the rule takes
       is_state : (k : ℕ) (s : IsOfName f.name k) → f ≡ state s.silent.path s.silent.scope
       is_state k s = by (own_found g p sound s.silent.path s.silent.scope s.silent.body s.rule s.silent.stands s.silent.is) right where
-        by : OwnMove g p sound s.silent.path s.silent.scope s.rule → IsRight (moves_of g p sound) f → f ≡ state s.silent.path s.silent.scope
+        by : OwnMove g p sound s.silent.path s.silent.scope s.rule → IsAsTaken (moves_of g p sound) f → f ≡ state s.silent.path s.silent.scope
         by own (inl none) = let clash : Some own.own ≡ None = sym own.is ∙ ap (moves_of g p sound) s.name ∙ none in cc
         by own (inr m) =
             let same = same_Some m.0 own.own (sym m.1 ∙ ap (moves_of g p sound) (sym s.name) ∙ own.is) in
@@ -243,7 +243,7 @@ module _ (g : Sig) (p : Proc) (sound : SoundPlaces g p)
       go None e = untaken e
       go (Some k) e = taken k e
 
-    each_told : (fs : List Fact) → AreRight (moves_of g p sound) fs → EachIn (IsToldRight p (rules_of p) takers) fs
+    each_told : (fs : List Fact) → AreAsTaken (moves_of g p sound) fs → EachIn (IsToldRight p (rules_of p) takers) fs
     each_told [] a = tt
     each_told (f ∷ fs) a = (told f a.0, each_told fs a.1)
 

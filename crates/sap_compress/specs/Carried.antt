@@ -68,7 +68,7 @@ pub record AreCarried (g : Sig) (after : Fact → List Fact) (rules shorts : Lis
   pub fr_stays : (n : ℕ) → Stays after (fr_fact n)
 
 -- the short state has what the other's facts will be, each as often; knowledge and names are the same
-pub record Follows (after : Fact → List Fact) (s z : RuleState) : Type 0 where
+pub record IsMatchedBy (after : Fact → List Fact) (s z : RuleState) : Type 0 where
   pub facts : (test : Fact → Bool)
       → total (count_after after test) s.facts ≡ total (count_after (λ f. f ∷ []) test) z.facts
   pub known : z.known ≡ s.known

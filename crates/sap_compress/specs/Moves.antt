@@ -43,14 +43,14 @@ ArePlain moves [] = Unit {0}
 ArePlain moves (f ∷ fs) = IsPlain moves f × ArePlain moves fs
 
 -- the fact is what a move takes, as the rule has it, or no move takes facts of its name
-abbrev pub IsRight : {Q : Rule → Type 0} → Moves Q → Fact → Type 0
-IsRight {Q} moves f =
+abbrev pub IsAsTaken : {Q : Rule → Type 0} → Moves Q → Fact → Type 0
+IsAsTaken {Q} moves f =
     IsPlain moves f ⊎ ((m : Move Q) × (moves f.name ≡ Some m) × (f ≡ m.shape.state))
 
 -- and with each of these
-abbrev pub AreRight : {Q : Rule → Type 0} → Moves Q → List Fact → Type 0
-AreRight moves [] = Unit {0}
-AreRight moves (f ∷ fs) = IsRight moves f × AreRight moves fs
+abbrev pub AreAsTaken : {Q : Rule → Type 0} → Moves Q → List Fact → Type 0
+AreAsTaken moves [] = Unit {0}
+AreAsTaken moves (f ∷ fs) = IsAsTaken moves f × AreAsTaken moves fs
 
 -- s is r with its right side settled
 pub record IsShortened (Q : Rule → Type 0) (r s : Rule) : Type 0 where
@@ -68,7 +68,7 @@ pub record IsShortening (Q : Rule → Type 0) (moves : Moves Q)
   pub among : (q : Rule) → Q q → Contains rules q
   pub each : (r : Rule) → Contains rules r
       → Q r ⊎ (ArePlain moves r.left × ((s : Rule) × Contains shorts s × IsShortened Q r s))
-  pub all_right : (r : Rule) → Contains rules r → AreRight moves r.right
+  pub all_right : (r : Rule) → Contains rules r → AreAsTaken moves r.right
   pub back : (s : Rule) → Contains shorts s → (r : Rule) × Contains rules r × IsShortened Q r s
   pub in_plain : moves in_name ≡ None
   pub out_plain : moves out_name ≡ None

@@ -5,7 +5,7 @@ use Rattle.sap_formula.proofs.Plain.{NormalLaws}
 use Rattle.sap_formula.proofs.Slimmer.{renamed}
 use Rattle.sap_formula.specs.Filled.{filled}
 use Rattle.sap_formula.specs.FilledExamples.{filled_ones, some_time_at_all}
-use Rattle.sap_formula.specs.Hide.{hide, visible}
+use Rattle.sap_formula.specs.Hide.{visible}
 use Rattle.sap_formula.specs.Laws.{FilledLaw, HideFilledLaw}
 use Rattle.sap_formula.specs.Truth.{EachIn, IsTrueOn}
 use Rattle.sap_terms.specs.Signature.{Sig}

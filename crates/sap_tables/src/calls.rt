@@ -112,13 +112,14 @@ fn show_end(page: &mut Page, status: u8, out: &MemSink, err: &MemSink) {
 }
 
 // Of the text of a theory what the kind asks for. Of one without formulas, as `rules` its rules behind the first, as `restrictions`
-// its restrictions; of one of the process `0`, as `formula` that of the lemma l alone, as `inlined` what stands behind its rules, as
+// its restrictions; of any, as `short` its rules, as `short-theory` all behind its head; of one of the process `0`, as `formula` that of the lemma l alone, as `inlined` what stands behind its rules, as
 // `items` what stands behind the restriction that the process needs.
 fn cut<'a>(kind: &str, text: &'a str) -> Option<&'a str> {
     let (before, behind) = match kind {
         "formula" => ("\nlemma l:\n  all-traces\n  \"", "\"\n\nend\n"),
         "inlined" => ("\n  [ State_() ] --> [ ]\n", "\nend\n"),
         "items" => ("#i = #j\"\n", "\nend\n"),
+        "short" | "short-theory" => ("begin\n\n", "\nend\n"),
         _ => (
             "theory T\nbegin\n\nrule Init:\n  [ ] --[ Init() ]-> [ State_() ]\n",
             "\nend\n",
@@ -127,7 +128,7 @@ fn cut<'a>(kind: &str, text: &'a str) -> Option<&'a str> {
     let (_, rest) = text.split_once(before)?;
     let inside = rest.strip_suffix(behind)?;
     match kind {
-        "rules" => Some(inside.split_once("\nrestriction ")?.0),
+        "rules" | "short" => Some(inside.split_once("\nrestriction ")?.0),
         "restrictions" => Some(inside.split_once("\nrestriction ")?.1),
         _ => Some(inside),
     }

@@ -7,7 +7,7 @@ use Rattle.sap_tool.specs.Commands.{Command, compile, replay, check, to_json, fr
 use Rattle.sap_tool.specs.declared.task.Task.{Task}
 use Rattle.sap_tool.specs.declared.task.Task.TheVariants.{ToRules, ToProcess, Judge}
 use Rattle.sap_tool.specs.declared.way.Way.{Way}
-use Rattle.sap_tool.specs.declared.way.Way.TheVariants.{Plain, Inlined}
+use Rattle.sap_tool.specs.declared.way.Way.TheVariants.{Plain, Inlined, Short}
 use Rattle.sap_tool.proofs.Some.{one_some}
 
 -- the command that these words ask for, found by the first of them
@@ -15,6 +15,7 @@ abbrev of_two : List ℕ → List ℕ → Option Command
 of_two word name =
     if bytes_eq word (codes "compile") then Some (compile Plain name)
     else if bytes_eq word (codes "compile-inline") then Some (compile Inlined name)
+    else if bytes_eq word (codes "compile-short") then Some (compile Short name)
     else if bytes_eq word (codes "to-json") then Some (to_json name)
     else if bytes_eq word (codes "from-json") then Some (from_json name)
     else None
@@ -36,6 +37,7 @@ command_of words = None
 found : (k : Command) → command_of (spelled k) ≡ Some k
 found (compile Plain file) = refl
 found (compile Inlined file) = refl
+found (compile Short file) = refl
 found (replay ToRules file run) = refl
 found (replay ToProcess file run) = refl
 found (replay Judge file run) = refl

@@ -14,7 +14,6 @@ use Rattle.sap_outside.specs.RunPieces.{IsReadUp}
 use Rattle.sap_tool.specs.Call.{Holds}
 use Rattle.sap_tool.specs.declared.way.Way.{Way}
 use Rattle.sap_tool.specs.Commands.{Command, compile, replay, check, to_json, from_json, Input, alone, and_run, run_alone, limit_of, kinds_of, Accepts, Refuses, RefusesRun, TakesRun, Allows, Means}
-use Rattle.sap_tool.specs.AcceptedFile.{compiled_theory}
 use Rattle.sap_tool.specs.RunRefusals.{IsIllegal, IsIllegalOfTheory, IsNeverIllegal, IsRunRefusedWith, no_run, illegal}
 use Rattle.sap_tool.proofs.Legal as legal
 use Rattle.sap_tool.proofs.Legal.{seen_is_legal, never_illegal, never_illegal_of_theory}
@@ -22,11 +21,12 @@ use Rattle.sap_tool.proofs.Takes.{allowed_takes}
 use Rattle.sap_tool.proofs.Meant as meant
 use Rattle.sap_tool.proofs.Meant.{CanBePrinted, written_says}
 use Rattle.sap_tool.proofs.JsonMeant as json
+use Rattle.sap_tool.specs.Meaning.{IsWritten}
 use Rattle.sap_tool.proofs.JsonMeant.{json_is_read, run_is_read}
 use Rattle.sap_tool.proofs.JsonRefused.{OneJson, one_json_cause, json_not_refused, json_part_refused, json_refused_by_part}
 use Rattle.sap_tool.proofs.OneRefusal.{one_run_cause}
 use Rattle.sap_tool.proofs.Parts.{OneRun, not_both, same_run, read_up_refused, refused_by_read_up}
-use Rattle.sap_tool.proofs.Refused.{OneReading, Runnable, Keeping, Writing, file_kept, file_written, one_cause, one_theory, same_file, not_refused, part_refused, part_accepted, refused_by_part, accepted_by_part}
+use Rattle.sap_tool.proofs.Refused.{OneReading, OneCompiled, Runnable, Keeping, Writing, one_cause, one_theory, same_file, not_refused, part_refused, part_accepted, refused_by_part, accepted_by_part}
 use Rattle.sap_tool.proofs.TheoryRefused.{OneTheory, same_theory, one_theory_cause, theory_not_refused, theory_part_refused, theory_refused_by_part, theory_part_accepted, theory_accepted_by_part}
 
 -- what is so of a theory that is read
@@ -40,6 +40,7 @@ pub record Laws : Type 0 where
   pub runnable : Runnable
   pub printed : (z : List ℕ) (f : FileContent) → IsRead z (Ok f) → CanBePrinted f
   pub writing : Writing
+  pub one_compiled : OneCompiled
   pub one : OneReading
   pub one_theory : OneTheory
   pub one_run : OneRun
@@ -58,11 +59,11 @@ means laws (compile way file) (alone bytes) text t =
     record {
       told = t.told;
       file = t.file;
-      theory = compiled_theory way t.told;
-      written = file_written laws.writing way bytes text t.told t.file t.layout;
+      theory = t.theory;
+      written = subst (λ (y : List ℕ). IsWritten y t.theory) (sym t.layout) (laws.writing way bytes t.told t.theory t.file.read t.compiled);
       layout = t.layout;
-      compiled = refl;
-      keeps = file_kept laws.runnable laws.keeping way bytes t.told t.file;
+      compiled = t.compiled;
+      keeps = laws.keeping way t.told t.theory (laws.runnable bytes t.told t.file.read) t.compiled;
     }
 means laws (replay task file run) (and_run bytes z) text t =
     record {
@@ -142,7 +143,7 @@ one_run_why laws k input why other r s = absurd r
 
 -- a file has one theory in a way
 pub one_allowed : Laws → (way : Way) (file bytes text other : List ℕ) → Allows (compile way file) (alone bytes) text → Allows (compile way file) (alone bytes) other → text ≡ other
-one_allowed laws way file bytes text other t u = one_theory laws.one bytes way text other t u
+one_allowed laws way file bytes text other t u = one_theory laws.one bytes laws.one_compiled way text other t u
 
 -- what is fetched of a file that is held is its first part
 pub fetched_part : (holds : Option Files) (limit : ℕ) (file bytes z : List ℕ) → Holds holds file bytes → IsFetched holds file limit z → z ≡ take (limit + 1) bytes
@@ -179,7 +180,7 @@ part_is_accepted (from_json json) bytes a = tt
 -- and allows the file's text
 pub part_allows : (way : Way) (file bytes text : List ℕ) → Allows (compile way file) (alone bytes) text
     → Allows (compile way file) (alone (take (limit_of (compile way file) + 1) bytes)) text
-part_allows way file bytes text t = record { told = t.told; file = part_accepted bytes t.told t.file; layout = t.layout }
+part_allows way file bytes text t = record { told = t.told; file = part_accepted bytes t.told t.file; theory = t.theory; compiled = t.compiled; layout = t.layout }
 
 -- the second is what may be read of the first: the first bytes of what is fetched, and the run read up
 abbrev pub IsPartOf : Command → Input → Input → Type 0

@@ -17,12 +17,10 @@ use Rattle.sap_steps.specs.Marks.{marks}
 use Rattle.sap_outside.specs.RunPieces.{IsRunAnswer}
 use Rattle.sap_forward.specs.Converted as forward
 use Rattle.sap_back.specs.Converted as back
-use Rattle.sap_tool.specs.AcceptedFile.{compiled_theory}
 use Rattle.sap_tool.specs.Commands.{Writes, Says}
 use Rattle.sap_tool.specs.Replays.{IsConvertedText, to_rules, to_process, AreOpposite, IsJudgedText, IsOppositeText, rules_of_process, process_of_rules}
 use Rattle.sap_tool.specs.declared.task.Task.{Task}
 use Rattle.sap_tool.specs.declared.task.Task.TheVariants.{ToRules, ToProcess, Judge}
-use Rattle.sap_tool.specs.declared.way.Way.TheVariants.{Plain}
 use Rattle.sap_tool.proofs.Written as written
 use Rattle.sap_tool.proofs.Written.{opposite_is_read, process_text_of_answer}
 use Rattle.sap_tool.proofs.WrittenRules.{RuleLaws, rules_are_read}
@@ -42,7 +40,7 @@ pub record CanBePrinted (f : FileContent) : Type 0 where
 -- a run of the process and the one of rules that it is converted to are opposite, and the other way about
 forward_is_opposite : (f : FileContent) (lines : List PStep) (rule_lines : List RStep) → forward.IsConverted f.signature f.process lines rule_lines → AreOpposite f lines rule_lines
 forward_is_opposite f lines rule_lines c = record {
-  theory = compiled_theory Plain f;
+  theory = file_theory f;
   compiled = refl;
   config = c.config;
   entries = c.entries;
@@ -60,7 +58,7 @@ forward_is_opposite f lines rule_lines c = record {
 
 back_is_opposite : (f : FileContent) (rule_lines : List RStep) (lines : List PStep) → back.IsConverted f.signature f.process rule_lines lines → AreOpposite f lines rule_lines
 back_is_opposite f rule_lines lines c = record {
-  theory = compiled_theory Plain f;
+  theory = file_theory f;
   compiled = refl;
   config = c.opposite.config;
   entries = c.opposite.entries;

@@ -5,18 +5,21 @@ use Rattle.std.proofs.lemmas.Grind.{common_steps}
 use Rattle.sap_read.specs.Files.{FileContent, IsRead, IsRunnable}
 use Rattle.sap_read.specs.declared.fault.ReadFault.{ReadFault}
 use Rattle.sap_tool.specs.declared.way.Way.{Way}
-use Rattle.sap_tool.specs.declared.way.Way.TheVariants.{Plain, Inlined}
-use Rattle.sap_tool.specs.AcceptedFile.{most_bytes, IsAcceptedFile, IsRefusedWith, too_long, unread, compiled_text, compiled_theory, IsTheoryOf}
+use Rattle.sap_tool.specs.declared.way.Way.TheVariants.{Plain, Inlined, Short}
+use Rattle.sap_tool.specs.AcceptedFile.{most_bytes, IsAcceptedFile, IsRefusedWith, too_long, unread, IsCompiledTheory, IsTheoryOf}
 use Rattle.sap_tool.specs.Meaning.{Keeps, IsWritten}
+use Rattle.sap_compress.specs.ShortTheories.{IsShortTheory}
+use Rattle.sap_gen.specs.Kept.{KeepsFile, KeepsFileInlined, file_theory, inlined_file_theory}
+use Rattle.sap_read.specs.Printable.{IsPrintableFile}
+use Rattle.sap_rule.specs.declared.theory.Theory.{Theory}
+use Rattle.sap_terms.specs.declared.limits.TheConstants.{MOST_FILE_NAME_BYTES, MOST_THEORY_NAME_BYTES}
+use Rattle.sap_theory.specs.PrintableTheory.{IsPrintable}
+use Rattle.sap_theory.specs.TheoryText.{theory_text}
 use Rattle.sap_refusals.specs.Refusals.{fault_text}
 
 -- bytes are read as one file, or refused for one cause
 abbrev pub OneReading : Type 0
 OneReading = (z : List ℕ) (o u : Result FileContent ReadFault) → IsRead z o → IsRead z u → o ≡ u
-
--- and as some
-abbrev pub SomeReading : Type 0
-SomeReading = (z : List ℕ) → ((o : Result FileContent ReadFault) × IsRead z o)
 
 -- a file that is read can run
 abbrev pub Runnable : Type 0
@@ -24,35 +27,41 @@ Runnable = (z : List ℕ) (told : FileContent) → IsRead z (Ok told) → IsRunn
 
 -- the theory of a file that can run, written in this way, keeps it
 abbrev pub KeepingBy : Way → Type 0
-KeepingBy way = (told : FileContent) → IsRunnable told → Keeps way told (compiled_theory way told)
+KeepingBy way = (told : FileContent) (t : Theory) → IsRunnable told → IsCompiledTheory way told t → Keeps way told t
 
 abbrev pub Keeping : Type 0
 Keeping = (way : Way) → KeepingBy way
 
-pub both_ways : KeepingBy Plain → KeepingBy Inlined → Keeping
-both_ways plain inlined Plain = plain
-both_ways plain inlined Inlined = inlined
+pub in_each_way : ((told : FileContent) → IsRunnable told → KeepsFile told (file_theory told))
+    → ((told : FileContent) → IsRunnable told → KeepsFileInlined told (inlined_file_theory told)) → KeepingBy Short → Keeping
+in_each_way plain inlined short Plain told t can is = subst (KeepsFile told) (sym is) (plain told can)
+in_each_way plain inlined short Inlined told t can is = subst (KeepsFileInlined told) (sym is) (inlined told can)
+in_each_way plain inlined short Short told t can is = short told t can is
 
 -- the text of the theory of a file that is read, written in this way, spells it and no other
-abbrev pub WritingBy : Way → Type 0
-WritingBy way = (z : List ℕ) (told : FileContent) → IsRead z (Ok told) → IsWritten (compiled_text way told) (compiled_theory way told)
-
 abbrev pub Writing : Type 0
-Writing = (way : Way) → WritingBy way
+Writing = (way : Way) (z : List ℕ) (told : FileContent) (t : Theory) → IsRead z (Ok told) → IsCompiledTheory way told t → IsWritten (theory_text t) t
 
-pub in_both_ways : WritingBy Plain → WritingBy Inlined → Writing
-in_both_ways plain inlined Plain = plain
-in_both_ways plain inlined Inlined = inlined
+-- and so it is where these can be printed
+abbrev pub PrintableBy : Way → Type 0
+PrintableBy way = (told : FileContent) (t : Theory) → IsRunnable told → IsPrintableFile MOST_FILE_NAME_BYTES told → IsCompiledTheory way told t
+    → IsPrintable MOST_THEORY_NAME_BYTES t
 
--- and so do those of an accepted file
-pub file_kept : Runnable → Keeping → (way : Way) (z : List ℕ) (told : FileContent) → IsAcceptedFile z told → Keeps way told (compiled_theory way told)
-file_kept runnable keeping way z told file = keeping way told (runnable z told file.read)
+pub printable_in_each_way : ((told : FileContent) → IsRunnable told → IsPrintableFile MOST_FILE_NAME_BYTES told → IsPrintable MOST_THEORY_NAME_BYTES (file_theory told))
+    → ((told : FileContent) → IsRunnable told → IsPrintableFile MOST_FILE_NAME_BYTES told → IsPrintable MOST_THEORY_NAME_BYTES (inlined_file_theory told))
+    → PrintableBy Short → (way : Way) → PrintableBy way
+printable_in_each_way plain inlined short Plain told t can print is = subst (IsPrintable MOST_THEORY_NAME_BYTES) (sym is) (plain told can print)
+printable_in_each_way plain inlined short Inlined told t can print is = subst (IsPrintable MOST_THEORY_NAME_BYTES) (sym is) (inlined told can print)
+printable_in_each_way plain inlined short Short told t can print is = short told t can print is
 
--- and their texts are written
-pub file_written : Writing → (way : Way) (z text : List ℕ) (told : FileContent) → IsAcceptedFile z told → text ≡ compiled_text way told
-    → IsWritten text (compiled_theory way told)
-file_written writing way z text told file layout =
-    subst (λ (y : List ℕ). IsWritten y (compiled_theory way told)) (sym layout) (writing way z told file.read)
+-- there is one in each way
+abbrev pub OneCompiled : Type 0
+OneCompiled = (way : Way) (told : FileContent) (t u : Theory) → IsCompiledTheory way told t → IsCompiledTheory way told u → t ≡ u
+
+pub one_compiled : ((told : FileContent) (t u : Theory) → IsShortTheory told t → IsShortTheory told u → t ≡ u) → OneCompiled
+one_compiled short Plain told t u a b = a ∙ sym b
+one_compiled short Inlined told t u a b = a ∙ sym b
+one_compiled short Short told t u a b = short told t u a b
 
 module _ (one : OneReading) (z : List ℕ) where
   same_fault : (e f : ReadFault) → IsRead z (Err e) → IsRead z (Err f) → e ≡ f
@@ -77,21 +86,11 @@ module _ (one : OneReading) (z : List ℕ) where
   not_refused why told (unread {e = e} l r) file = not_both told e file.read r
 
   -- they have one theory in each way
-  pub one_theory : (way : Way) (text other : List ℕ) → IsTheoryOf way z text → IsTheoryOf way z other → text ≡ other
-  one_theory way text other t u = t.layout ∙ (ap (compiled_text way) (same_file t.told u.told t.file.read u.file.read) ∙ sym u.layout)
-
-at_most : (most : ℕ) (bytes : List ℕ) → (most < length bytes → ⊥) → length bytes ≤ most
-at_most most bytes h = omega (arith, h)
-
--- what no cause refuses has a theory
-pub some_theory : SomeReading → (way : Way) (z : List ℕ) → ((why : List ℕ) → IsRefusedWith z why → ⊥) → ((text : List ℕ) × IsTheoryOf way z text)
-some_theory some way z unrefused = at (some z) where
-  short : length z ≤ most_bytes
-  short = at_most most_bytes z (λ l. unrefused _ (too_long l))
-
-  at : ((o : Result FileContent ReadFault) × IsRead z o) → ((text : List ℕ) × IsTheoryOf way z text)
-  at (Ok told, read) = (compiled_text way told, record { told = told; file = record { short = short; read = read }; layout = refl })
-  at (Err e, read) = absurd (unrefused _ (unread short read))
+  pub one_theory : OneCompiled → (way : Way) (text other : List ℕ) → IsTheoryOf way z text → IsTheoryOf way z other → text ≡ other
+  one_theory only way text other t u =
+      let same : u.told ≡ t.told = same_file u.told t.told u.file.read t.file.read in
+      let theories : t.theory ≡ u.theory = only way t.told t.theory u.theory t.compiled (subst (λ (f : FileContent). IsCompiledTheory way f u.theory) same u.compiled) in
+      t.layout ∙ ap theory_text theories ∙ sym u.layout
 
 -- the first bytes of a file, one more than it may have, show what the file is
 abbrev part : List ℕ → List ℕ

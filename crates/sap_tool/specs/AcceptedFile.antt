@@ -1,5 +1,6 @@
 -- The files that are accepted, why other bytes are refused, and the texts of their theories.
 use Rattle.std.specs.Prelude.{◌≡◌, ◌<◌, ◌≤◌, ℕ, codes, List, length, Ok, Err}
+use Rattle.sap_compress.specs.ShortTheories.{IsShortTheory}
 use Rattle.sap_gen.specs.Kept.{file_theory, inlined_file_theory}
 use Rattle.sap_read.specs.Files.{FileContent, IsRead}
 use Rattle.sap_read.specs.declared.fault.ReadFault.{ReadFault}
@@ -7,7 +8,7 @@ use Rattle.sap_refusals.specs.Refusals.{fault_text, refused_line}
 use Rattle.sap_rule.specs.declared.theory.Theory.{Theory}
 use Rattle.sap_theory.specs.TheoryText.{theory_text}
 use Rattle.sap_tool.specs.declared.way.Way.{Way}
-use Rattle.sap_tool.specs.declared.way.Way.TheVariants.{Plain, Inlined}
+use Rattle.sap_tool.specs.declared.way.Way.TheVariants.{Plain, Inlined, Short}
 
 -- how many bytes a file may have
 abbrev pub most_bytes : ℕ
@@ -30,18 +31,18 @@ pub record IsRefusal (bytes line : List ℕ) : Type 0 where
   pub refused : IsRefusedWith bytes why
   pub layout : line ≡ refused_line why
 
--- the theory of what a file tells: its name and signature, the rules of its process, and its lemmas; the restrictions that the
--- process needs, and then the file's own, stand beside these lemmas, or in each of them
-abbrev pub compiled_theory : Way → FileContent → Theory
-compiled_theory Plain told = file_theory told
-compiled_theory Inlined told = inlined_file_theory told
-
--- its text
-abbrev pub compiled_text : Way → FileContent → List ℕ
-compiled_text way told = theory_text (compiled_theory way told)
+-- the theory is that of what a file tells: its name and signature, the rules of its process, and its lemmas; the restrictions that
+-- the process needs, and then the file's own, stand beside these lemmas, or in each of them; or they stand beside them, and the rules
+-- are short
+abbrev pub IsCompiledTheory : Way → FileContent → Theory → Type 0
+IsCompiledTheory Plain told t = t ≡ file_theory told
+IsCompiledTheory Inlined told t = t ≡ inlined_file_theory told
+IsCompiledTheory Short told t = IsShortTheory told t
 
 -- the bytes are an accepted file, and the text is that of its theory
 pub record IsTheoryOf (way : Way) (bytes text : List ℕ) : Type 0 where
   pub told : FileContent
   pub file : IsAcceptedFile bytes told
-  pub layout : text ≡ compiled_text way told
+  pub theory : Theory
+  pub compiled : IsCompiledTheory way told theory
+  pub layout : text ≡ theory_text theory

@@ -9,7 +9,7 @@ use Rattle.sap_outside.specs.RunPieces.{most_run_bytes, IsRunAnswer}
 use Rattle.sap_tool.specs.declared.task.Task.{Task}
 use Rattle.sap_tool.specs.declared.task.Task.TheVariants.{ToRules, ToProcess, Judge}
 use Rattle.sap_tool.specs.declared.way.Way.{Way}
-use Rattle.sap_tool.specs.declared.way.Way.TheVariants.{Plain, Inlined}
+use Rattle.sap_tool.specs.declared.way.Way.TheVariants.{Plain, Inlined, Short}
 use Rattle.sap_tool.specs.AcceptedFile.{most_bytes, IsAcceptedFile, IsRefusedWith, IsTheoryOf}
 use Rattle.sap_tool.specs.AcceptedTheory.{most_theory_bytes, IsAcceptedTheory, IsTheoryRefusedWith}
 use Rattle.sap_tool.specs.JsonRuns.{IsAcceptedJson, IsJsonRefusedWith, IsJsonOf, IsReadAsJson, IsRunOfJson, IsReadAsRun}
@@ -35,6 +35,7 @@ pub data Command : Type 0 where
 abbrev pub word_of_way : Way → List ℕ
 word_of_way Plain = codes "compile"
 word_of_way Inlined = codes "compile-inline"
+word_of_way Short = codes "compile-short"
 
 -- the word that asks for this task
 abbrev pub word_of_task : Task → List ℕ

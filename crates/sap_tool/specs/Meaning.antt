@@ -4,15 +4,16 @@ use Rattle.sap_gen.specs.Kept.{KeepsFile, KeepsFileInlined}
 use Rattle.sap_read.specs.Files.{FileContent}
 use Rattle.sap_rule.specs.declared.theory.Theory.{Theory}
 use Rattle.sap_tool.specs.declared.way.Way.{Way}
-use Rattle.sap_tool.specs.declared.way.Way.TheVariants.{Plain, Inlined}
+use Rattle.sap_tool.specs.declared.way.Way.TheVariants.{Plain, Inlined, Short}
 use Rattle.sap_theory.specs.TheoryGrammar.{SpellsTheory, AreSameTheories}
 use Rattle.sap_theory.specs.TheoryText.{theory_text}
-use Rattle.sap_tool.specs.AcceptedFile.{IsAcceptedFile, compiled_theory}
+use Rattle.sap_tool.specs.AcceptedFile.{IsAcceptedFile, IsCompiledTheory}
 
 -- what a theory that is written in this way keeps of its file
 abbrev pub Keeps : Way → FileContent → Theory → Type 0
 Keeps Plain told t = KeepsFile told t
 Keeps Inlined told t = KeepsFileInlined told t
+Keeps Short told t = KeepsFile told t
 
 -- the text spells the theory, and no other
 pub record IsWritten (text : List ℕ) (t : Theory) : Type 0 where
@@ -27,5 +28,5 @@ pub record IsFaithfulText (way : Way) (bytes text : List ℕ) : Type 0 where
   pub theory : Theory
   pub written : IsWritten text theory
   pub layout : text ≡ theory_text theory
-  pub compiled : theory ≡ compiled_theory way told
+  pub compiled : IsCompiledTheory way told theory
   pub keeps : Keeps way told theory

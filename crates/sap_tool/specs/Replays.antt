@@ -27,11 +27,11 @@ use Rattle.sap_steps.specs.Marks.{marks}
 use Rattle.sap_steps.specs.Runs.{IsLegalRun}
 use Rattle.sap_terms.specs.Trace.{Trace}
 use Rattle.sap_terms.specs.Tree.{Tree}
-use Rattle.sap_tool.specs.AcceptedFile.{IsAcceptedFile, compiled_theory}
+use Rattle.sap_gen.specs.Kept.{file_theory}
+use Rattle.sap_tool.specs.AcceptedFile.{IsAcceptedFile}
 use Rattle.sap_tool.specs.AcceptedTheory.{IsAcceptedTheory}
 use Rattle.sap_outside.specs.RunPieces.{IsRunAnswer, most_run_bytes}
 use Rattle.sap_tool.specs.Verdicts.{all_judged, AreVerdicts}
-use Rattle.sap_tool.specs.declared.way.Way.TheVariants.{Plain}
 
 -- the text is that of a run opposite, of the other kind
 pub data IsConvertedText (f : FileContent) : Run → List ℕ → Type 0 where
@@ -112,7 +112,7 @@ pub record IsLegalOfTheory (bytes z : List ℕ) : Type 0 where
 pub record AreOpposite (f : FileContent) (lines : List PStep)
     (rule_lines : List RStep) : Type 0 where
   pub theory : Theory
-  pub compiled : theory ≡ compiled_theory Plain f
+  pub compiled : theory ≡ file_theory f
   pub config : Config
   pub entries : List Tree
   pub trace : Trace

@@ -1,14 +1,17 @@
 //! From the bytes of a file to the text of its theory.
 
 ghost use Rattle.std.specs.Prelude.{◌≡◌, ℕ, List, IfOk, IsErrOf};
-ghost use Rattle.sap_read.specs.Files.{told_by};
+ghost use Rattle.sap_read.specs.Files.{IsRunnable, told_by};
+ghost use Rattle.sap_rule.specs.declared.theory.Theory.{Theory as TheoryOf};
+ghost use Rattle.sap_theory.specs.TheoryText.{theory_text};
 ghost use Rattle.sap_refusals.specs.declared.refusal.Refusal.TheVariants as refusals;
-ghost use Rattle.sap_tool.specs.AcceptedFile.{IsRefusal, compiled_theory, compiled_text, IsTheoryOf};
+ghost use Rattle.sap_tool.specs.AcceptedFile.{IsRefusal, IsCompiledTheory, IsTheoryOf};
 
 use crate::reading::accepted_file;
 use crate::way::Way;
+use sap_compress::shorten;
 use sap_gen::theory_of;
-use sap_read::File;
+use sap_read::{File, files_are_runnable};
 use sap_refusals::Refusal;
 use sap_rule::Theory;
 use sap_terms::Mem;
@@ -21,6 +24,7 @@ pub fn theory_text_of(alloc: Global, way: Way, bytes: &[u8]) -> Result<Text, Ref
     ensures given { IfOk result (IsTheoryOf way bytes.now) }
     ensures refused { (line : List ℕ) → IsErrOf result (refusals.Told line) → IsRefusal bytes.now line }
 {
+    files_are_runnable();
     let file = accepted_file(alloc, bytes)?;
     let text = text_of(alloc, way, &file)?;
     Ok(text)
@@ -28,7 +32,8 @@ pub fn theory_text_of(alloc: Global, way: Way, bytes: &[u8]) -> Result<Text, Ref
 
 /// The text of the theory of a file.
 fn text_of(alloc: Global, way: Way, file: &File) -> Result<Text, Mem>
-    ensures { IfOk result (λ text. text ≡ compiled_text way (told_by file.now)) }
+    requires { IsRunnable (told_by file.now) }
+    ensures { IfOk result (λ text. (t : TheoryOf) × IsCompiledTheory way (told_by file.now) t × (text ≡ theory_text t)) }
 {
     let theory = Box::new(alloc, theory_written(alloc, way, file)?)?;
     print(alloc, &theory)
@@ -36,10 +41,12 @@ fn text_of(alloc: Global, way: Way, file: &File) -> Result<Text, Mem>
 
 /// The theory of a file.
 fn theory_written(alloc: Global, way: Way, file: &File) -> Result<Theory, Mem>
-    ensures { IfOk result (λ theory. theory ≡ compiled_theory way (told_by file.now)) }
+    requires { IsRunnable (told_by file.now) }
+    ensures { IfOk result (IsCompiledTheory way (told_by file.now)) }
 {
     match way {
         Way::Plain => theory_of(alloc, file, false),
         Way::Inlined => theory_of(alloc, file, true),
+        Way::Short => shorten(alloc, file),
     }
 }

@@ -16,6 +16,7 @@ use crate::laws::{
     verdicts_are_kept,
 };
 use sap_back::names_stand_in_lines;
+use sap_compress::{one_short_theory, short_theories_are_printable, short_theories_keep_files};
 use sap_gen::{theories_are_printable, theories_keep_files};
 use sap_json::{json_runs_can_be_written, one_json_run, written_json_is_read};
 use sap_locks::annotations_are_ready;
@@ -58,6 +59,9 @@ pub fn sapic<S: Shelf, O: Sink, E: Sink>(
 {
     theories_keep_files();
     theories_are_printable();
+    one_short_theory();
+    short_theories_keep_files();
+    short_theories_are_printable();
     printed_theories();
     files_are_runnable();
     files_are_printable();

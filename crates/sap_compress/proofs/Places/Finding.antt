@@ -12,7 +12,7 @@ use Rattle.sap_translate.specs.Places.{ScopedPlace, root, scoped_place_at}
 use Rattle.sap_translate.specs.Sound.{SoundPlaces}
 use Rattle.sap_translate.specs.Templates.{state}
 use Rattle.sap_translate.specs.relation.Names.{state_name}
-use Rattle.sap_compress.specs.Moves.{Move, Moves, IsRight}
+use Rattle.sap_compress.specs.Moves.{Move, Moves, IsAsTaken}
 use Rattle.sap_compress.specs.Silent.{silent_rule, IsSilentRule}
 use Rattle.sap_compress.specs.code.SettledPlaces.{path_of, settled, settled_at, settled_by, settled_if, settled_named}
 use Rattle.sap_compress.proofs.Places.Settling.{silent_left, silent_acts, right_settles, settled_within}
@@ -125,9 +125,9 @@ module _ (g : Sig) (p : Proc) (sound : SoundPlaces g p) where
     go (Some a) e = none_if a.path a.above a.body (bytes_eq (state_name a.path) n) refl e (h a.path)
 
   -- the state fact of a place stands on right sides as its move takes it, if it has one
-  pub state_right : (path : List ℕ) (v : List Var) (b : Proc) → scoped_place_at (root p) path ≡ Some (place path v b) → IsRight moves_of (state path v)
+  pub state_right : (path : List ℕ) (v : List Var) (b : Proc) → scoped_place_at (root p) path ≡ Some (place path v b) → IsAsTaken moves_of (state path v)
   state_right path v b at = go (silent_rule path v b) refl where
-    go : (o : Option Rule) → silent_rule path v b ≡ o → IsRight moves_of (state path v)
+    go : (o : Option Rule) → silent_rule path v b ≡ o → IsAsTaken moves_of (state path v)
     go None e = inl (none_found path v b at e)
     go (Some q) e = let o = own_found path v b q at e in inr (o.own, o.is, sym o.state_is)
 

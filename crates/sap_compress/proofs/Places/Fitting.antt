@@ -26,7 +26,7 @@ use Rattle.sap_translate.specs.Sound.{SoundPlaces}
 use Rattle.sap_translate.specs.ChannelFacts.{ack_fact, fresh_fact, msg_fact}
 use Rattle.sap_translate.specs.Templates.{first_of, second_of, state, own_rules, init_rule, new_rule, out_rule, out_adv_rule, out_msg_rule, out_ack_rule, in_rule, in_adv_rule, in_msg_rule, event_rule, insert_rule, delete_rule, lock_rule, unlock_rule, embedded_rule, nil_rule, parallel_rule, rep_start_rule, rep_copy_rule, then_rule, else_rule, found_rule, missing_rule}
 use Rattle.sap_translate.specs.relation.Names.{state_name}
-use Rattle.sap_compress.specs.Moves.{IsPlain, ArePlain, IsRight, AreRight}
+use Rattle.sap_compress.specs.Moves.{IsPlain, ArePlain, IsAsTaken, AreAsTaken}
 use Rattle.sap_compress.specs.Silent.{IsSilentRule}
 use Rattle.sap_compress.proofs.Places.Finding.{moves_of, none_found, other_name, state_right}
 use Rattle.sap_compress.proofs.Places.Standing.{child_stands, name_same}
@@ -46,7 +46,7 @@ module _ (g : Sig) (p : Proc) (sound : SoundPlaces g p) where
   -- the rule is silent, or what it takes are plain facts; and what it adds stands as the moves take it
   pub record IsFitting (r : Rule) : Type 0 where
     pub left : IsSilentRule p r ⊎ ArePlain (moves_of g p sound) r.left
-    pub right : AreRight (moves_of g p sound) r.right
+    pub right : AreAsTaken (moves_of g p sound) r.right
 
   plain : (f : Fact) → ((path : List ℕ) → bytes_eq (state_name path) f.name ≡ false) → IsPlain (moves_of g p sound) f
   plain f h = other_name g p sound f.name h
@@ -55,7 +55,7 @@ module _ (g : Sig) (p : Proc) (sound : SoundPlaces g p) where
   plain_facts [] u = tt
   plain_facts (f ∷ fs) u = (other_name g p sound f.name (unreserved_name f.name (u f here)), plain_facts fs (λ h m. u h (later m)))
 
-  right_facts : (fs : List Fact) → AreUnreserved fs → AreRight (moves_of g p sound) fs
+  right_facts : (fs : List Fact) → AreUnreserved fs → AreAsTaken (moves_of g p sound) fs
   right_facts [] u = tt
   right_facts (f ∷ fs) u = (inl (other_name g p sound f.name (unreserved_name f.name (u f here))), right_facts fs (λ h m. u h (later m)))
 
@@ -70,10 +70,10 @@ module _ (g : Sig) (p : Proc) (sound : SoundPlaces g p) where
 
   module _ (path : List ℕ) (v : List Var) where
     -- a state fact of a child stands as its move takes it
-    first_right : (b c : Proc) (w : List Var) → scoped_place_at (root p) path ≡ Some (place path v b) → child (place path v b) 1 ≡ Some (place (first_of path) w c) → IsRight (moves_of g p sound) (state (first_of path) w)
+    first_right : (b c : Proc) (w : List Var) → scoped_place_at (root p) path ≡ Some (place path v b) → child (place path v b) 1 ≡ Some (place (first_of path) w c) → IsAsTaken (moves_of g p sound) (state (first_of path) w)
     first_right b c w at k = state_right g p sound (first_of path) w c (child_stands p path 1 (place path v b) (place (first_of path) w c) at k)
 
-    second_right : (b c : Proc) (w : List Var) → scoped_place_at (root p) path ≡ Some (place path v b) → child (place path v b) 2 ≡ Some (place (second_of path) w c) → IsRight (moves_of g p sound) (state (second_of path) w)
+    second_right : (b c : Proc) (w : List Var) → scoped_place_at (root p) path ≡ Some (place path v b) → child (place path v b) 2 ≡ Some (place (second_of path) w c) → IsAsTaken (moves_of g p sound) (state (second_of path) w)
     second_right b c w at k = state_right g p sound (second_of path) w c (child_stands p path 2 (place path v b) (place (second_of path) w c) at k)
 
     -- the rules of an action are fitting, where its place isn't silent

@@ -16,7 +16,7 @@ use Rattle.sap_translate.specs.Places.{ScopedPlace, root, scoped_place_at}
 use Rattle.sap_translate.specs.Sound.{SoundPlaces}
 use Rattle.sap_translate.specs.Templates.{state, own_rules, init_rule, rules_of, nil_rule, out_rule, parallel_rule, rep_start_rule, rep_copy_rule}
 use Rattle.sap_translate.specs.relation.Names.{state_name}
-use Rattle.sap_compress.specs.Moves.{IsPlain, ArePlain, IsRight, AreRight, IsShortened, IsShortening}
+use Rattle.sap_compress.specs.Moves.{IsPlain, ArePlain, IsAsTaken, AreAsTaken, IsShortened, IsShortening}
 use Rattle.sap_compress.specs.Settled.{IsSettled, nothing_left, stays, goes_on}
 use Rattle.sap_compress.specs.Short.{AreShort, no_rules, drops, keeps}
 use Rattle.sap_compress.specs.Silent.{silent_rule, IsSilentRule}
@@ -94,10 +94,10 @@ module _ (g : Sig) (p : Proc) (sound : SoundPlaces g p) where
         plain_untaken (state x.path x.scope) (subst (IsPlain (moves_of g p sound)) head n.0) r x (silent_left x.path x.scope x.body r x.is)
 
   -- facts as they stand on right sides settle to what the walk gives
-  pub facts_settle : (fs : List Fact) → AreRight (moves_of g p sound) fs → IsSettled (IsSilentRule p) fs (settled_facts p fs)
+  pub facts_settle : (fs : List Fact) → AreAsTaken (moves_of g p sound) fs → IsSettled (IsSilentRule p) fs (settled_facts p fs)
   facts_settle [] a = nothing_left
   facts_settle (f ∷ fs) a = at a.0 (facts_settle fs a.1) where
-    at : IsRight (moves_of g p sound) f → IsSettled (IsSilentRule p) fs (settled_facts p fs) → IsSettled (IsSilentRule p) (f ∷ fs) (settled_facts p (f ∷ fs))
+    at : IsAsTaken (moves_of g p sound) f → IsSettled (IsSilentRule p) fs (settled_facts p fs) → IsSettled (IsSilentRule p) (f ∷ fs) (settled_facts p (f ∷ fs))
     at (inl n) rest =
         subst (λ (o : Option (List Fact)). IsSettled (IsSilentRule p) (f ∷ fs) (settled_or o f ++ settled_facts p fs)) (sym (walk_none g p sound f.name n)) (stays f (plain_untaken f n) rest)
     at (inr m) rest =

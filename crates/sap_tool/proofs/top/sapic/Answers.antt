@@ -1,22 +1,22 @@
 use Rattle.sap_tool.proofs.Kept.{kept}
-use Rattle.sap_tool.proofs.Refused.{both_ways, in_both_ways}
+use Rattle.sap_tool.proofs.Refused.{in_each_way, one_compiled, printable_in_each_way}
 use Rattle.sap_tool.proofs.top.sapic.Goals as goal
 
 pub returns : goal.returns
 returns g c =
     kept
     (record {
-      keeping = both_ways c.theories_keep_files.ensures.plain c.theories_keep_files.ensures.inlined;
+      keeping = in_each_way c.theories_keep_files.ensures.plain c.theories_keep_files.ensures.inlined c.short_theories_keep_files.ensures;
       runnable = c.files_are_runnable.ensures;
       printed = λ z told read. record {
         file = c.files_are_printable.ensures z told read;
         theory = c.theories_are_printable.ensures.plain told (c.files_are_runnable.ensures z told read) (c.files_are_printable.ensures z told read);
       };
-      writing = in_both_ways
-          (λ z told read. let t = c.theories_are_printable.ensures.plain told (c.files_are_runnable.ensures z told read) (c.files_are_printable.ensures z told read) in
-          record { spelled = c.printed_theories.ensures.printable _ _ t; no_other = λ u. c.printed_theories.ensures.no_other _ _ u t })
-          (λ z told read. let t = c.theories_are_printable.ensures.inlined told (c.files_are_runnable.ensures z told read) (c.files_are_printable.ensures z told read) in
-          record { spelled = c.printed_theories.ensures.printable _ _ t; no_other = λ u. c.printed_theories.ensures.no_other _ _ u t });
+      writing = λ way z told t read is.
+          let can = printable_in_each_way c.theories_are_printable.ensures.plain c.theories_are_printable.ensures.inlined c.short_theories_are_printable.ensures
+              way told t (c.files_are_runnable.ensures z told read) (c.files_are_printable.ensures z told read) is in
+          record { spelled = c.printed_theories.ensures.printable _ _ can; no_other = λ u. c.printed_theories.ensures.no_other _ _ u can };
+      one_compiled = one_compiled c.one_short_theory.ensures.one;
       one = c.one_file.ensures;
       one_theory = c.one_answer_of_theories.ensures;
       one_run = c.one_run.ensures.either;
