@@ -7,7 +7,7 @@ use Rattle.sap_rule.specs.declared.rule.Rule.{Rule}
 use Rattle.sap_compress.specs.Settled.{IsSettled}
 use Rattle.sap_compress.specs.Short.{AreShort, no_rules, drops, keeps}
 use Rattle.sap_compress.specs.Silent.{IsSilentRule}
-use Rattle.sap_compress.specs.code.Shorter.{IsAdded}
+use Rattle.sap_compress.specs.code.Shorter.{IsAddedRule}
 use Rattle.sap_compress.specs.code.Takers.{NamesTell, is_silent_name}
 use Rattle.sap_compress.specs.code.Walks.{CanWalk, Takers}
 
@@ -25,7 +25,7 @@ module _ (p : Proc) where
 
   -- behind rule k, these are the short rules of the first k + 1
   pub grown : (rules : List Rule) (takers : Takers) (k : ℕ) (r : Rule) (old new : List Rule) → NamesTell p rules → CanWalk rules takers r.right p → slice_get rules k ≡ Some r
-      → IsAdded rules takers r old new → AreShort p (take k rules) old → AreShort p (take (k + 1) rules) new
+      → IsAddedRule rules takers r old new → AreShort p (take k rules) old → AreShort p (take (k + 1) rules) new
   grown rules takers k r old new tell can at added short = subst (λ z. AreShort p z new) (sym (take_got rules k r at)) (go (is_silent_name r.name) refl) where
     go : (b : Bool) → is_silent_name r.name ≡ b → AreShort p (take k rules ++ r ∷ []) new
     go true e = subst (AreShort p (take k rules ++ r ∷ [])) (sym (added.silent e)) (dropped_last (take k rules) old r short (tell.yes k r at e))

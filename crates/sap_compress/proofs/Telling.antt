@@ -26,7 +26,7 @@ use Rattle.sap_translate.specs.relation.Names.{state_name}
 use Rattle.sap_translate.specs.relation.Totals.{total}
 use Rattle.sap_compress.specs.Moves.{AreAsTaken, IsAsTaken, Move}
 use Rattle.sap_compress.specs.Silent.{silent_rule, IsSilentRule}
-use Rattle.sap_compress.specs.code.Takers.{AreTakers, NamesTell, first_name, is_silent_name, taken_name}
+use Rattle.sap_compress.specs.code.Takers.{AreTakers, NamesTell, taken_first, is_silent_name, taken_name}
 use Rattle.sap_compress.specs.code.Walks.{IsTakenBy, IsToldRight, Takers, TellRight, cost, cost_at, name_bytes}
 use Rattle.sap_compress.proofs.Places.Finding.{OwnMove, moves_of, own_found}
 use Rattle.sap_compress.proofs.Places.Settling.{silent_left}
@@ -108,7 +108,7 @@ module _ (p : Proc) where
 -- a rule of which the code reads off what it takes has the name of a silent one
 named_silent : (r : Rule) (n : List ℕ) → taken_name r ≡ Some n → is_silent_name r.name ≡ true
 named_silent r n e = go (is_silent_name r.name) e where
-  go : (b : Bool) → (if b then first_name r.left else None) ≡ Some n → b ≡ true
+  go : (b : Bool) → (if b then taken_first r.left else None) ≡ Some n → b ≡ true
   go true e = refl
   go false e = cc
 

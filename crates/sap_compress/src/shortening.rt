@@ -2,7 +2,7 @@
 ghost use Rattle.std.specs.Prelude.{◌≡◌, IfOk, OnOk};
 ghost use Rattle.sap_process.specs.Proc.{Proc};
 ghost use Rattle.sap_compress.specs.Short.{AreShort};
-ghost use Rattle.sap_compress.specs.code.Shorter.{HasShortRules, IsAdded, IsSettledRule};
+ghost use Rattle.sap_compress.specs.code.Shorter.{HasShortRules, IsAddedRule, IsSettledRule};
 ghost use Rattle.sap_compress.specs.code.Takers.{NamesTell};
 ghost use Rattle.sap_compress.specs.code.Walks.{CanWalk};
 
@@ -35,7 +35,7 @@ fn add_short(
     short: &mut RuleList,
 ) -> Result<(), Mem>
     requires { (p : Proc) × CanWalk rules.now takers.now r.now.right p }
-    ensures { OnOk result (IsAdded rules.now takers.now r.now short.old short.new) }
+    ensures { OnOk result (IsAddedRule rules.now takers.now r.now short.old short.new) }
 {
     if is_silent(&r.name) {
         return Ok(());

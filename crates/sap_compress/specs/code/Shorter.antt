@@ -15,7 +15,7 @@ pub record IsSettledRule (rules : List Rule) (takers : Takers) (r s : Rule) : Ty
   pub is : s ≡ record r { right = right }
 
 -- a rule with a silent one's name is left out, any other stands last with its right side settled
-pub record IsAdded (rules : List Rule) (takers : Takers) (r : Rule) (old new : List Rule)
+pub record IsAddedRule (rules : List Rule) (takers : Takers) (r : Rule) (old new : List Rule)
     : Type 0 where
   pub silent : is_silent_name r.name ≡ true → new ≡ old
   pub other : is_silent_name r.name ≡ false

@@ -15,13 +15,13 @@ is_silent_name n =
     || (starts_with nat_eq n (codes "Out_") || starts_with nat_eq n (codes "RepStart_")))
 
 -- the first fact's name
-abbrev pub first_name : List Fact → Option (List ℕ)
-first_name [] = None
-first_name (f ∷ fs) = Some f.name
+abbrev pub taken_first : List Fact → Option (List ℕ)
+taken_first [] = None
+taken_first (f ∷ fs) = Some f.name
 
 -- the name of what the rule takes, if it is silent
 abbrev pub taken_name : Rule → Option (List ℕ)
-taken_name r = if is_silent_name r.name then first_name r.left else None
+taken_name r = if is_silent_name r.name then taken_first r.left else None
 
 -- behind rule k, the takers tell of it too, if it is silent
 abbrev pub Notes : Takers → Takers → Rule → ℕ → Type 0
