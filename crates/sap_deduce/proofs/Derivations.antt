@@ -42,7 +42,7 @@ names_kept : (es : List Entry) (e : Entry) (n : ℕ) → Contains (names_given e
 names_kept es e n c =
     rw (filter_map-append (λ (x : Entry). name_of x.origin) es (e ∷ [])) (Contains-append_left (names_given es) (names_given (e ∷ [])) n c)
 
-outputs_given-push : (es : List Entry) (e : Entry) → outputs_given (es ++ e ∷ []) ≡ outputs_given es ++ outputs_given (e ∷ [])
+pub outputs_given-push : (es : List Entry) (e : Entry) → outputs_given (es ++ e ∷ []) ≡ outputs_given es ++ outputs_given (e ∷ [])
 outputs_given-push es e =
     ap terms_of (filter-append (λ (x : Entry). is_output x.origin) es (e ∷ []))
     ∙ map-append (λ (x : Entry). x.term) (filter (λ (x : Entry). is_output x.origin) es) (filter (λ (x : Entry). is_output x.origin) (e ∷ []))

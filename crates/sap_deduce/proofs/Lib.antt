@@ -8,3 +8,5 @@ pub mod Numbers
 pub mod Numbered
 pub mod Known
 pub mod OneAnswer
+pub mod Transitive
+pub mod Same

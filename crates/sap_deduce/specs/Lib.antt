@@ -1,6 +1,7 @@
 pub mod Entries
 pub mod code
 pub mod Laws
+pub mod Deducing
 pub mod Answers
 pub use Rattle.sap_terms.specs.Tree
 pub use Rattle.sap_terms.specs.View

@@ -11,5 +11,7 @@ mod way;
 
 pub use deny::Deny;
 pub use knowledge::Knowledge;
-pub use laws::{derivations_can_be_entered, numbers_stay, one_answer_of_applications};
+pub use laws::{
+    deducing_is_transitive, derivations_can_be_entered, numbers_stay, one_answer_of_applications,
+};
 pub use origin::Origin;

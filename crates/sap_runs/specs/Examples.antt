@@ -2,8 +2,9 @@
 use Rattle.std.specs.Prelude.{ℕ, zero, suc, codes, [], ◌∷◌}
 use Rattle.sap_terms.specs.AdversaryFacts.{linear}
 use Rattle.sap_terms.specs.Equations.{app1}
-use Rattle.sap_terms.specs.Tree.{Tree, public}
+use Rattle.sap_terms.specs.Tree.{Tree, variable, public}
 use Rattle.sap_terms.specs.declared.fact.Fact.{Fact}
+use Rattle.sap_terms.specs.declared.var.Sort.TheVariants.{Msg}
 
 -- 'k' and 'v'
 abbrev pub k : Tree
@@ -11,6 +12,10 @@ k = public (codes "k")
 
 abbrev pub v : Tree
 v = public (codes "v")
+
+-- the variable x
+abbrev pub x : Tree
+x = variable (record { name = codes "x"; sort = Msg })
 
 -- A('k') and B('k')
 abbrev pub a_fact : Fact

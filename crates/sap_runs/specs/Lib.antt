@@ -1,4 +1,5 @@
 pub mod Inner
 pub mod Marks
 pub mod Limits
+pub mod Short
 pub mod Examples
