@@ -17,4 +17,5 @@ pub mod Named
 pub mod Written
 mod Leaf
 mod Placed
+pub mod OtherEntries
 pub mod MarksByHand

@@ -4,6 +4,7 @@ pub mod NamesPass
 pub mod Faults
 pub mod Answers
 pub mod Sorts
+pub mod OtherEntries
 pub mod Places
 pub mod Heads
 pub mod ProcCode

@@ -1,6 +1,7 @@
 // Laws of written runs of processes, as contracts of functions that do nothing.
 ghost use Rattle.sap_lines.specs.Answers.{ProcessLinesHaveOneOutcome, ProcessLinesHaveOneAnswer, ProcessLinesHaveSomeAnswer, RefusalsAreOne, RunsMatchExactly};
 ghost use Rattle.sap_lines.specs.NamesPass.{NamesStandInRuns};
+ghost use Rattle.sap_lines.specs.OtherEntries.{LinesThatAskTheSameDoTheSame, LinesThatAskTheSameAreRefusedTheSame};
 ghost use Rattle.sap_lines.specs.Runs.{ProcessLinesAreSteps, ProcessLinesAreRuns, ProcessRunsCanBeWritten, GivenTermsCanBeEntered, SmallProcessLinesAreLines, SmallProcessRunsAreLegal};
 ghost use Rattle.sap_lines.specs.Sorts.{PatternsHaveOneSort, RulesHaveOneSort};
 ghost use Rattle.sap_runs.specs.Limits.{AnySize, HasFewNodes};
@@ -70,6 +71,15 @@ pub fn lines_have_some_answer()
     destructors_head_left_sides();
     matching_is_modulo();
 }
+
+/// What a line asks of the adversary's entries is one entry's term, or nothing. So where a line is possible, the same line is
+/// behind any other entries, if it may stand in a short run; and one that takes, is sent to or shows an entry is possible at any
+/// number where this term stands, behind any entries. Both do the same. A refused line is refused there for the same cause.
+pub fn lines_look_at_one_entry()
+    ensures lines { LinesThatAskTheSameDoTheSame AnySize }
+    ensures small_lines { LinesThatAskTheSameDoTheSame HasFewNodes }
+    ensures refused { LinesThatAskTheSameAreRefusedTheSame }
+{}
 
 /// Wherever written runs of a ready process lead to, what lines match, they match exactly.
 pub fn runs_match_exactly()

@@ -12,6 +12,7 @@ pub use fault::PFault;
 pub use form::{Form, form_of};
 pub use laws::{
     each_run_can_be_written, limit_excludes, lines_are_steps, lines_have_one_answer,
-    lines_have_some_answer, names_stand_in_runs, runs_match_exactly, sorts_are_one,
+    lines_have_some_answer, lines_look_at_one_entry, names_stand_in_runs, runs_match_exactly,
+    sorts_are_one,
 };
 pub use place::{Place, Places, places_of};

@@ -14,3 +14,5 @@ pub mod NoFeeds
 pub mod WholeWords
 pub mod Ascii
 pub mod Spelled
+pub mod ShortLines
+pub mod ShortByHand

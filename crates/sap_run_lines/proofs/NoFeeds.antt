@@ -62,7 +62,7 @@ sign_open Fresh = refl
 sign_open Pub = refl
 
 mutual
-  term_open : {t : Tree} {z k : List ℕ} → IsRunTerm t z k → IsOpenLine k → IsOpenLine z
+  pub term_open : {t : Tree} {z k : List ℕ} → IsRunTerm t z k → IsOpenLine k → IsOpenLine z
   term_open (term_public {s = s} {k = k} c) o = joins is_not_feed s (39 ∷ k) (content_open c) o
   term_open (term_fresh {n = n} {k = k} lt) o = joins is_not_feed (decimal n) k (number_open n lt) o
   term_open (term_constant {f = f} {k = k} n) o = joins is_not_feed f k (identifier_open n.is) o
@@ -77,7 +77,7 @@ mutual
   terms_open (terms_last t) o = term_open t o
   terms_open (terms_more t later) o = term_open t (terms_open later o)
 
-word_open : {w : LineWord} {z k : List ℕ} → IsLineWord w z k → IsOpenLine k → IsOpenLine z
+pub word_open : {w : LineWord} {z k : List ℕ} → IsLineWord w z k → IsOpenLine k → IsOpenLine z
 word_open (word_identifier {x = x} {k = k} is) o = joins is_not_feed x k (identifier_open is) o
 word_open (word_number {n = n} {k = k} lt) o = joins is_not_feed (decimal n) k (number_open n lt) o
 word_open (word_fresh {n = n} {k = k} lt) o = joins is_not_feed (decimal n) k (number_open n lt) o
@@ -85,7 +85,7 @@ word_open (word_public {s = s} {k = k} c) o = joins is_not_feed s (39 ∷ k) (co
 word_open (word_bound {v = v} {z = z} n t small) o =
     joins is_not_feed (sign_of v.sort ++ v.name) (61 ∷ z) (joins is_not_feed (sign_of v.sort) v.name (sign_open v.sort) (identifier_open n.is)) (term_open t o)
 
-words_open : {ws : List LineWord} {z : List ℕ} → AreLineWords ws z → IsOpenLine z
+pub words_open : {ws : List LineWord} {z : List ℕ} → AreLineWords ws z → IsOpenLine z
 words_open (words_last w) = word_open w refl
 words_open (words_more w later) = word_open w (words_open later)
 

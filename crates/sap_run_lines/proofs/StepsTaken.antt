@@ -123,8 +123,8 @@ fresh_on ws = given_on (λ n. ws ≡ fresh_name n ∷ []) (only ws) _ (λ w e. h
     at None f = tt
     at (Some n) f = e ∙ ap (λ y. y ∷ []) (fresh_is w n f)
 
-number_on : (ws : List LineWord) → OnSome (λ n. ws ≡ number n ∷ []) (number_of ws)
-number_on ws = given_on (λ n. ws ≡ number n ∷ []) (only ws) _ (λ w e. held w (only_is ws w e)) where
+pub one_number_on : (ws : List LineWord) → OnSome (λ n. ws ≡ number n ∷ []) (number_of ws)
+one_number_on ws = given_on (λ n. ws ≡ number n ∷ []) (only ws) _ (λ w e. held w (only_is ws w e)) where
   held : (w : LineWord) → ws ≡ w ∷ [] → OnSome (λ n. ws ≡ number n ∷ []) (as_number w)
   held w e = at (as_number w) refl where
     at : (o : Option ℕ) → as_number w ≡ o → OnSome (λ n. ws ≡ number n ∷ []) o
@@ -253,7 +253,7 @@ module _ (x : List ℕ) (ws : List LineWord) where
   behind_on : (t : ℕ) (us : List LineWord) → ws ≡ identifier x ∷ number t ∷ us → OnSome (IsProcess ws) (process_behind x t us)
   behind_on t [] e = one_on t e
   behind_on t (w ∷ us) e = given_on (IsProcess ws) (number_of (w ∷ us)) _ (λ b f.
-      two_on t b (e ∙ ap (λ y. identifier x ∷ number t ∷ y) (some_on (λ n. w ∷ us ≡ number n ∷ []) (number_of (w ∷ us)) b f (number_on (w ∷ us)))))
+      two_on t b (e ∙ ap (λ y. identifier x ∷ number t ∷ y) (some_on (λ n. w ∷ us ≡ number n ∷ []) (number_of (w ∷ us)) b f (one_number_on (w ∷ us)))))
 
   module _ (rest : List LineWord) (e : ws ≡ identifier x ∷ rest) where
     numbered_on : OnSome (IsProcess ws) (process_numbered x rest)
@@ -305,7 +305,7 @@ module _ (x : List ℕ) (ws : List LineWord) where
         if_on (IsRule ws) (bytes_eq x (codes "fresh")) _ _ (λ c. given_on (IsRule ws) (fresh_of rest) _ (λ n f.
         (e ∙ (λ i. identifier (word {y = codes "fresh"} c i) ∷ some_on (λ n. rest ≡ fresh_name n ∷ []) (fresh_of rest) n f (fresh_on rest) i), λ z r. tt))) (λ _.
         given_on (IsRule ws) (number_of rest) _ (λ n f.
-        let whole : ws ≡ identifier x ∷ number n ∷ [] = e ∙ ap (λ y. identifier x ∷ y) (some_on (λ n. rest ≡ number n ∷ []) (number_of rest) n f (number_on rest)) in
+        let whole : ws ≡ identifier x ∷ number n ∷ [] = e ∙ ap (λ y. identifier x ∷ y) (some_on (λ n. rest ≡ number n ∷ []) (number_of rest) n f (one_number_on rest)) in
         let is : (y : List ℕ) → bytes_eq x y ≡ true → ws ≡ plain y (n ∷ []) = λ y c. whole ∙ ap (λ u. plain u (n ∷ [])) (same_bytes c) in
         if_on (IsRule ws) (bytes_eq x (codes "learn")) _ _ (λ c. (is (codes "learn") c, λ z r. tt)) (λ _.
         if_on (IsRule ws) (bytes_eq x (codes "own")) _ _ (λ c. (is (codes "own") c, λ z r. tt)) (λ _.

@@ -123,10 +123,10 @@ variable_told z = both IsRunVariable z (variable_alone z) (variable_is z) (λ v 
 
 -- terms
 
-term_is : (z : List ℕ) → OnSome (λ t. IsWholeTerm t z) (term_alone z)
+pub term_is : (z : List ℕ) → OnSome (λ t. IsWholeTerm t z) (term_alone z)
 term_is z = whole_on (λ t k. IsRunTerm t z k × HasFewNodes t) (small_term z) (small_term_on z)
 
-term_back : (t : Tree) (z : List ℕ) → IsWholeTerm t z → term_alone z ≡ Some t
+pub term_back : (t : Tree) (z : List ℕ) → IsWholeTerm t z → term_alone z ≡ Some t
 unfolding after
 term_back t z h = rw (small_term_read h.0 h.1 (tt, refl)) refl
 

@@ -4,4 +4,5 @@ pub mod StepLines
 pub mod LineText
 pub mod Spellable
 pub mod WholeWords
+pub mod ShortLines
 pub mod code

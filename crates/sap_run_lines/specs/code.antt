@@ -4,3 +4,4 @@ pub mod TermTaking
 pub mod WordTaking
 pub mod StepTaking
 pub mod WholeTaking
+pub mod ShortTaking

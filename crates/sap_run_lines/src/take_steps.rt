@@ -63,7 +63,7 @@ fn word_behind<'a>(alloc: Global, bytes: &'a [u8]) -> Result<Option<(WrittenWord
     }
 }
 
-fn number_behind(bytes: &[u8]) -> Option<(u64, &[u8])>
+pub(crate) fn number_behind(bytes: &[u8]) -> Option<(u64, &[u8])>
     ensures { Finds (λ n. n) result (number_behind bytes.now) }
 {
     if starts(b' ', bytes) {
@@ -111,7 +111,7 @@ fn only_word(alloc: Global, bytes: &[u8]) -> Result<Option<WrittenWord>, Mem>
 }
 
 #[tactic(auto, using(crate::proofs::WordsOn::only_number), unfolding(crate::specs::code::Taking::given))]
-fn number_of(alloc: Global, bytes: &[u8]) -> Result<Option<u64>, Mem>
+pub(crate) fn number_of(alloc: Global, bytes: &[u8]) -> Result<Option<u64>, Mem>
     ensures { IfOk result (λ o. o ≡ on_words number_of bytes.now) }
 {
     match only_word(alloc, bytes)? {
@@ -258,7 +258,8 @@ fn take_named(alloc: Global, bytes: &[u8]) -> Result<Option<(Name, Numbers, Bind
     }
 }
 
-fn is(text: &[u8], word: &[u8]) -> bool
+/// Whether the text is this word.
+pub(crate) fn is(text: &[u8], word: &[u8]) -> bool
     ensures { result ≡ bytes_eq text.now word.now }
 {
     text == word

@@ -103,7 +103,7 @@ fn variable_alone(alloc: Global, bytes: &[u8]) -> Result<Option<Var>, Mem>
 }
 
 #[tactic(auto, unfolding(crate::specs::code::Taking::after))]
-fn term_alone(alloc: Global, bytes: &[u8]) -> Result<Option<Term>, Mem>
+pub(crate) fn term_alone(alloc: Global, bytes: &[u8]) -> Result<Option<Term>, Mem>
     ensures { IfOk result (λ o. option_map tree o ≡ term_alone bytes.now) }
 {
     match small_term(alloc, bytes)? {
