@@ -1,6 +1,6 @@
 -- The lines of short runs are read, and their answers are one.
 use Rattle.std.proofs.Common.{◌≡◌, ℕ, Bool, true, false, List, [], ◌∷◌, ◌++◌, drop, Option, Some, None, refl, sym, ap, subst, ◌∙◌, ◌⊎◌, inl, inr}
-use Rattle.std.specs.Prelude.{codes, map, decimal, ◌||◌}
+use Rattle.std.specs.Prelude.{codes, map, decimal, ◌||◌, ◌==◌, if◌then◌else◌}
 use Rattle.std.specs.Str.{bytes_eq}
 use Rattle.std.proofs.lemmas.Bool.{eqb-true}
 use Rattle.std.proofs.lemmas.Slice.Eq.{bytes_eq-Decides}
@@ -232,7 +232,7 @@ taken_as_it_is (step.Know k) r m = absurd m
 process_taken : (s : PStep) (z : List ℕ) → IsProcessStepLine s z → process_line_of z ≡ Some s
 process_taken s z h = at (process_line_of z) (process_read z) where
   at : (o : Option PStep) → IsLineRead IsProcessStepLine z o → o ≡ Some s
-  at None none = absurd (none s h)
+  at None never = absurd (never s h)
   at (Some u) is = ap Some (one_process u s z is h)
 
 -- what the bytes behind a first word give
@@ -325,7 +325,7 @@ short_decided z = at (short_line_of z) (short_read z) where
 
 words_and_term_open : {t : Tree} {ws : List LineWord} {z : List ℕ} → AreWordsAndTerm t ws z → IsOpenLine z
 words_and_term_open (term_last h) = term_open h.0 refl
-words_and_term_open (word_before w more) = word_open w (words_and_term_open more)
+words_and_term_open (word_before w later) = word_open w (words_and_term_open later)
 
 pub short_line_open : (s : SStep) (z : List ℕ) → IsShortStepLine s z → IsOpenLine z
 short_line_open (short.Act s) z h = process_line_open s z h.1
@@ -347,7 +347,7 @@ mutual
 
 words_and_term_last : {t : Tree} {ws : List LineWord} {z : List ℕ} → AreWordsAndTerm t ws z → (y : List ℕ) × IsWholeTerm t y
 words_and_term_last (term_last {z = z} h) = (z, h)
-words_and_term_last (word_before w rest) = words_and_term_last rest
+words_and_term_last (word_before w later) = words_and_term_last later
 
 pub short_stands : (s : SStep) (z : List ℕ) → IsShortStepLine s z → IsShortStep s
 short_stands (short.Act s) z h = h.0
