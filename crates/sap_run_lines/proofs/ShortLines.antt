@@ -251,20 +251,27 @@ as_it_is_back s z m h =
 term_taken : (t : Term) (y : List ℕ) → IsWholeTerm (tree t) y → term_behind (32 ∷ y) ≡ Some (tree t)
 term_taken t y h = term_back (tree t) y h
 
-knowing_back : (t : Term) (z : List ℕ) → AreWordsAndTerm (tree t) (plain (codes "know") []) z → short_line_of z ≡ Some (short.Know t)
+-- the step that a term makes, and a number and a term
+pub knowing_taken : (t : Term) (r : List ℕ) → term_behind r ≡ Some (tree t) → knowing_at r ≡ Some (short.Know t)
 unfolding given
+knowing_taken t r e = ap (λ (o : Option Tree). given o (λ u. Some (short.Know (term u)))) e ∙ ap (λ u. Some (short.Know u)) (term-tree t)
+
+pub input_taken : (n : ℕ) (t : Term) (r k : List ℕ) → number_behind r ≡ Some (n, k) → term_behind k ≡ Some (tree t) → input_at r ≡ Some (short.In n t)
+unfolding given after
+input_taken n t r k e f =
+    ap (λ (o : Option (ℕ × List ℕ)). after o (λ t r. given (term_behind r) (λ u. Some (short.In t (term u))))) e
+    ∙ (ap (λ (o : Option Tree). given o (λ u. Some (short.In n (term u)))) f ∙ ap (λ u. Some (short.In n u)) (term-tree t))
+
+knowing_back : (t : Term) (z : List ℕ) → AreWordsAndTerm (tree t) (plain (codes "know") []) z → short_line_of z ≡ Some (short.Know t)
 knowing_back t _ (word_before {z = y} (word_identifier is) (term_last h)) =
     of_first short_named_at (codes "know") (32 ∷ y) (codes "know" ++ (32 ∷ y)) (identifier_read (codes "know") (32 ∷ y) is refl)
-    ∙ (ap (λ (o : Option Tree). given o (λ u. Some (short.Know (term u)))) (term_taken t y h) ∙ ap (λ u. Some (short.Know u)) (term-tree t))
+    ∙ knowing_taken t (32 ∷ y) (term_taken t y h)
 
 input_back : (n : ℕ) (t : Term) (z : List ℕ) → AreWordsAndTerm (tree t) (plain (codes "in") (n ∷ [])) z → short_line_of z ≡ Some (short.In n t)
-unfolding given after
 input_back n t _ (word_before (word_identifier is) (word_before {z = y} (word_number fits) (term_last h))) =
     let rest : List ℕ = 32 ∷ (decimal n ++ (32 ∷ y)) in
-    let number : number_behind rest ≡ Some (n, 32 ∷ y) = number_read n (32 ∷ y) fits refl in
     of_first short_named_at (codes "in") rest (codes "in" ++ rest) (identifier_read (codes "in") rest is refl)
-    ∙ (ap (λ (o : Option (ℕ × List ℕ)). after o (λ t r. given (term_behind r) (λ u. Some (short.In t (term u))))) number
-      ∙ (ap (λ (o : Option Tree). given o (λ u. Some (short.In n (term u)))) (term_taken t y h) ∙ ap (λ u. Some (short.In n u)) (term-tree t)))
+    ∙ input_taken n t rest (32 ∷ y) (number_read n (32 ∷ y) fits refl) (term_taken t y h)
 
 sending_back : (n : ℕ) (z : List ℕ) → AreLineWords (plain (codes "send") (n ∷ [])) z → short_line_of z ≡ Some (short.Send n)
 unfolding on_words given
