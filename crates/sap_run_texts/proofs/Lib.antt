@@ -8,3 +8,4 @@ pub mod PrintedRuns
 pub mod NamedSteps
 pub mod ReadRuns
 pub mod Numbered
+pub mod ShortRuns

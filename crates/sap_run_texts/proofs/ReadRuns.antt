@@ -46,7 +46,7 @@ module _ {A : Type 0} (IsStepLine : A → List ℕ → Type 0) (Writable : A →
   body_back : (most : ℕ) (z : List ℕ) (ss : List A) → IsBody IsStepLine most z (Ok ss) → Each Writable ss
   body_back most _ ss (all_steps {lines = lines} steps few) = lines_back ss lines steps
 
-  text_back : (head : List ℕ) (most : ℕ) (z : List ℕ) (ss : List A) → IsText head IsStepLine most z (Ok ss) → Each Writable ss
+  pub text_back : (head : List ℕ) (most : ℕ) (z : List ℕ) (ss : List A) → IsText head IsStepLine most z (Ok ss) → Each Writable ss
   text_back head most z ss (headed {body = body} at is) = body_back most body ss is
 
 process_line_back : (s : PStep) (line : List ℕ) → IsProcessStepLine s line → IsWritableProcess s

@@ -1,4 +1,5 @@
 pub mod RunTexts
+pub mod ShortTexts
 pub mod RunPrinted
 pub mod RunReading
 pub mod Writable

@@ -7,9 +7,11 @@ mod limits;
 mod phase;
 mod print;
 mod read;
+mod read_short;
 mod reader;
 mod run;
 mod run_fault;
+mod short_laws;
 mod step_text;
 
 pub use laws::{
@@ -19,6 +21,8 @@ pub use laws::{
 pub use limits::{MOST_PROCESS_STEPS, MOST_RULE_STEPS};
 pub use print::{print_prun, print_rrun};
 pub use read::{read_prun, read_rrun};
+pub use read_short::read_srun;
 pub use reader::RunReader;
 pub use run::{Kinds, Run};
 pub use run_fault::RunFault;
+pub use short_laws::one_short_run;

@@ -1,8 +1,9 @@
 //! Short runs read from a whole text.
-ghost use Rattle.std.specs.Prelude.{◌≡◌, ◌<◌, ℕ, List, ◌∷◌, ◌++◌, length, Err, IfOk, IfErr, IfSome, IfNone};
+ghost use Rattle.std.specs.Prelude.{◌≡◌, ◌+◌, ◌<◌, ◌↔◌, ℕ, List, ◌∷◌, ◌++◌, length, Err, IfOk, IfErr, IfSome, IfNone, IsTrue};
 ghost use Rattle.sap_run_lines.specs.StepLines.{IsOpenLine};
 ghost use Rattle.sap_run_lines.specs.ShortLines.{IsShortStepLine};
 ghost use Rattle.sap_runs.specs.declared.limits.TheConstants.{MOST_SHORT_STEPS as MostShortSteps};
+ghost use Rattle.sap_run_texts.specs.declared.run_fault.RunFault.TheVariants as fault;
 ghost use Rattle.sap_run_texts.specs.RunTexts.{IsBody, IsHeaded, IsHeadless, IsTold};
 ghost use Rattle.sap_run_texts.specs.ShortTexts.{short_head, IsShortRunText};
 ghost use Rattle.sap_run_texts.specs.code.ShortReading.{IsBehind};
@@ -16,7 +17,7 @@ use std::alloc::Global;
 // The line that stands first, without its line feed, and the bytes behind that; None where no line feed stands.
 fn first_line(bytes: &[u8]) -> Option<(&[u8], &[u8])>
     ensures line { IfSome result (λ p. bytes.now ≡ p.0.now ++ (10 ∷ p.1.now)) }
-    ensures open { IfSome result (λ p. IsOpenLine p.0.now) }
+    ensures opened { IfSome result (λ p. IsOpenLine p.0.now) }
     ensures none { IfNone result (IsOpenLine bytes.now) }
 {
     let count = open_len(bytes);
@@ -27,13 +28,19 @@ fn first_line(bytes: &[u8]) -> Option<(&[u8], &[u8])>
     }
 }
 
+fn is_short_head(line: &[u8]) -> bool
+    ensures { IsTrue result ↔ (line.now ≡ short_head) }
+{
+    line == b"short-run".as_slice()
+}
+
 // The bytes behind the head; None where another line stands first.
 fn behind_head(bytes: &[u8]) -> Option<&[u8]>
     ensures some { IfSome result (λ r. IsHeaded short_head r.now bytes.now) }
     ensures none { IfNone result (IsHeadless short_head bytes.now) }
 {
     let (line, rest) = first_line(bytes)?;
-    if line == b"short-run".as_slice() { Some(rest) } else { None }
+    if is_short_head(line) { Some(rest) } else { None }
 }
 
 // The fault of the line behind so many steps.

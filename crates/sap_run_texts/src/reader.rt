@@ -256,7 +256,7 @@ fn next_phase(
 }
 
 // How many bytes stand before the first line feed.
-fn open_len(bytes: &[u8]) -> usize
+pub(crate) fn open_len(bytes: &[u8]) -> usize
     ensures is { result ≡ prefix_len is_not_feed bytes.now }
     ensures within { result ≤ length bytes.now }
 {
