@@ -18,3 +18,4 @@ mod Embeds
 mod Inputs
 pub mod Meets
 mod Replays
+pub mod Senders

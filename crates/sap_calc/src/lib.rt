@@ -2,6 +2,7 @@
 #![tactic(auto)]
 
 mod adversary;
+mod channel;
 mod citing;
 mod config;
 mod embedding;

@@ -1,14 +1,10 @@
 -- Choices that agree on variables, and what they make of terms, facts and processes.
-use Rattle.std.proofs.Common.{◌≡◌, ℕ, zero, suc, Bool, true, false, List, [], ◌∷◌, ◌++◌, Option, Some, None, map, if◌then◌else◌, refl, ap, subst, inl, inr, arith}
+use Rattle.std.proofs.Common.{◌≡◌, ℕ, Bool, true, false, List, [], ◌∷◌, Option, Some, None, if◌then◌else◌, refl, ap, subst}
 use Rattle.std.specs.Prelude.{Contains}
 use Rattle.std.specs.Option.{option_map_or}
 use Rattle.std.specs.Str.{bytes_eq}
-use Rattle.std.proofs.lemmas.List.Elements.{Contains-push, Contains-append_left, Contains-append_right, Contains-append_cases}
-use Rattle.sap_terms.specs.Choice.{Choice, instance, instances}
-use Rattle.sap_terms.specs.Modulo.{instance_facts}
-use Rattle.sap_terms.specs.Tree.{Tree, variable, public, fresh, apply, Trees, none, more, trees_of}
-use Rattle.sap_terms.specs.Variables.{tree_vars, trees_vars, facts_vars}
-use Rattle.sap_terms.specs.declared.fact.Fact.{Fact}
+use Rattle.sap_terms.specs.Choice.{Choice}
+use Rattle.sap_terms.specs.Tree.{variable}
 use Rattle.sap_terms.specs.declared.var.Var.{Var}
 use Rattle.sap_process.specs.Flaws.{binder_of}
 use Rattle.sap_process.specs.Instance.{process_instance}

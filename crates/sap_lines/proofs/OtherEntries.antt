@@ -1,18 +1,17 @@
 -- Lines that ask the same of their entries do the same, and are refused for the same causes.
 use Rattle.std.proofs.Common.{◌≡◌, ℕ, Bool, List, [], ◌∷◌, ◌++◌, Some, None, slice_get, refl, sym, ap, subst, ◌∙◌, append-nil}
-use Rattle.std.specs.Prelude.{⊤}
 use Rattle.sap_terms.specs.Signature.{Sig}
 use Rattle.sap_terms.specs.Tree.{Tree}
 use Rattle.sap_terms.specs.declared.fact.Fact.{Fact}
-use Rattle.sap_process.specs.Configuration.{Config, Runs}
+use Rattle.sap_process.specs.Configuration.{Config}
 use Rattle.sap_process.specs.Proc.{Proc}
 use Rattle.sap_runs.specs.Inner.{InnerAction}
 use Rattle.sap_runs.specs.Short.{MayStand}
 use Rattle.sap_runs.specs.declared.process_step.PStep.{PStep}
 use Rattle.sap_runs.specs.declared.process_step.PStep.TheVariants as line
-use Rattle.sap_lines.specs.Faults.{IsRefused, IsUnfit, not_running, other_form, IsRunning, HasEntry, has_form}
+use Rattle.sap_lines.specs.Faults.{IsRefused, IsUnfit, not_running, other_form, HasEntry, has_form}
 use Rattle.sap_lines.specs.Lines.{IsProcessLine}
-use Rattle.sap_lines.specs.OtherEntries.{AskTheSame, ask_nothing, send_on, take_in, show_known, IsDoneToo, LinesThatAskTheSameDoTheSame, LinesThatAskTheSameAreRefusedTheSame}
+use Rattle.sap_lines.specs.OtherEntries.{ask_nothing, send_on, take_in, show_known, IsDoneToo, LinesThatAskTheSameDoTheSame, LinesThatAskTheSameAreRefusedTheSame}
 use Rattle.sap_lines.specs.declared.fault.PFault.{PFault}
 use Rattle.sap_lines.proofs.Outcomes.{one_entry}
 

@@ -5,6 +5,7 @@ pub mod Faults
 pub mod Answers
 pub mod Sorts
 pub mod OtherEntries
+pub mod Channels
 pub mod Places
 pub mod Heads
 pub mod ProcCode

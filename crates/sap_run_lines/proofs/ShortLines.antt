@@ -1,6 +1,6 @@
 -- The lines of short runs are read, and their answers are one.
 use Rattle.std.proofs.Common.{◌≡◌, ℕ, Bool, true, false, List, [], ◌∷◌, ◌++◌, drop, Option, Some, None, refl, sym, ap, subst, ◌∙◌, ◌⊎◌, inl, inr}
-use Rattle.std.specs.Prelude.{codes, map, decimal, ◌||◌, ◌==◌, if◌then◌else◌}
+use Rattle.std.specs.Prelude.{codes, decimal, ◌||◌, ◌==◌, if◌then◌else◌}
 use Rattle.std.specs.Str.{bytes_eq}
 use Rattle.std.proofs.lemmas.Bool.{eqb-true}
 use Rattle.std.proofs.lemmas.Slice.Eq.{bytes_eq-Decides}
@@ -16,17 +16,17 @@ use Rattle.sap_runs.specs.declared.process_step.PStep.TheVariants as step
 use Rattle.sap_runs.specs.declared.short_step.SStep.{SStep}
 use Rattle.sap_runs.specs.declared.short_step.SStep.TheVariants as short
 use Rattle.sap_run_lines.specs.RunTerms.{IsNumber}
-use Rattle.sap_run_lines.specs.LineWords.{LineWord, identifier, number, fresh_name, public_name, IsLineWord, word_identifier, word_number, AreLineWords, words_last, words_more}
-use Rattle.sap_run_lines.specs.StepLines.{plain, use_words, process_words, IsProcessStepLine, IsLineRead, IsDecided, IsOpenLine}
+use Rattle.sap_run_lines.specs.LineWords.{LineWord, identifier, number, word_identifier, word_number, AreLineWords, words_last, words_more}
+use Rattle.sap_run_lines.specs.StepLines.{plain, process_words, IsProcessStepLine, IsLineRead, IsDecided, IsOpenLine}
 use Rattle.sap_run_lines.specs.ShortLines.{AreWordsAndTerm, term_last, word_before, IsShortStepLine}
 use Rattle.sap_run_lines.specs.Spellable.{IsWritable, AreWritable}
 use Rattle.sap_run_lines.specs.WholeWords.{IsWholeTerm}
 use Rattle.sap_run_lines.specs.code.Taking.{after, given, starts, identifier_at, number_at}
-use Rattle.sap_run_lines.specs.code.WordTaking.{words_of, more_words, on_words}
+use Rattle.sap_run_lines.specs.code.WordTaking.{words_of, on_words}
 use Rattle.sap_run_lines.specs.code.StepTaking.{number_of, number_behind, process_named_at, process_line_of}
 use Rattle.sap_run_lines.specs.code.WholeTaking.{term_alone}
 use Rattle.sap_run_lines.specs.code.ShortTaking.{term_behind, input_at, sending_at, knowing_at, is_left_out, as_it_is_at, short_named_at, short_line_of}
-use Rattle.sap_run_lines.proofs.OnTaken.{OnTaken, OnSome, after_on, given_on, if_on, some_on, taken_on}
+use Rattle.sap_run_lines.proofs.OnTaken.{OnTaken, OnSome, after_on, given_on, if_on, some_on}
 use Rattle.sap_run_lines.proofs.Names.{identifier_on, identifier_read}
 use Rattle.sap_run_lines.proofs.Digits.{number_on, number_read}
 use Rattle.sap_run_lines.proofs.TermsTaken.{first_is}

@@ -12,7 +12,7 @@ use Rattle.sap_run_lines.specs.StepLines.{IsOpenLine}
 use Rattle.sap_run_lines.specs.ShortLines.{IsShortStepLine}
 use Rattle.sap_run_texts.specs.declared.run_fault.RunFault.{RunFault}
 use Rattle.sap_run_texts.specs.declared.run_fault.RunFault.TheVariants as fault
-use Rattle.sap_run_texts.specs.RunTexts.{lines_text, AreStepLines, no_lines, no_step, not_ended, IsBody, all_steps, bad_line, too_many, IsHeaded, IsTold, headed}
+use Rattle.sap_run_texts.specs.RunTexts.{lines_text, no_lines, no_step, not_ended, IsBody, all_steps, bad_line, too_many, IsHeaded, IsTold, headed}
 use Rattle.sap_run_texts.specs.ShortTexts.{short_head, IsShortRunText}
 use Rattle.sap_run_texts.specs.code.ShortReading.{IsBehind}
 use Rattle.sap_run_texts.proofs.Begun.{one_line_more, one_step_more}

@@ -1,4 +1,4 @@
-use Rattle.std.proofs.Common.{◌≡◌, ◌∷◌, ◌++◌, true, refl, sym, subst, ◌∙◌}
+use Rattle.std.proofs.Common.{◌≡◌, true, refl, sym, ◌∙◌}
 use Rattle.sap_run_texts.specs.ShortTexts.{short_head}
 use Rattle.sap_run_texts.proofs.Begun.{other_head}
 use Rattle.sap_run_texts.proofs.read_short.behind_head.Goals as goal

@@ -1,4 +1,4 @@
-use Rattle.std.proofs.Common.{◌≡◌, ◌≤◌, ◌<◌, ◌+◌, List, [], ◌∷◌, ◌++◌, length, sym, subst, arith}
+use Rattle.std.proofs.Common.{◌≡◌, ◌≤◌, ◌<◌, List, [], ◌∷◌, ◌++◌, length, sym, subst, arith}
 use Rattle.std.specs.Prelude.{Option, Err}
 use Rattle.sap_runs.specs.declared.limits.TheConstants.{MOST_SHORT_STEPS}
 use Rattle.sap_runs.specs.declared.short_step.SStep.{SStep}
