@@ -18,4 +18,5 @@ pub mod Written
 mod Leaf
 mod Placed
 pub mod OtherEntries
+pub mod OneChannel
 pub mod MarksByHand

@@ -1,5 +1,5 @@
 -- The channel that a thread sends on, and why it has none.
-use Rattle.std.specs.Prelude.{ℕ, [], ◌∷◌}
+use Rattle.std.specs.Prelude.{◌≡◌, ◌⊎◌, ℕ, [], ◌∷◌}
 use Rattle.sap_terms.specs.Equations.{equations}
 use Rattle.sap_terms.specs.Normal.{IsNormalForm}
 use Rattle.sap_terms.specs.Signature.{Sig}
@@ -28,3 +28,20 @@ pub data HasNoChannel (g : Sig) (c : Config) (t : ℕ) : PFault → Type 0 where
   unfit : {f : PFault} → IsUnfit c t is_send f → HasNoChannel g c t f
   too_large : {m n : Tree} {p : Proc} → Runs c t (act (send m n) p) → EvaluateLarge g (m ∷ n ∷ [])
       → HasNoChannel g c t fault.TermLarge
+
+-- a thread sends on one channel
+abbrev pub ChannelsAreOne : Type 0
+ChannelsAreOne =
+    (g : Sig) (c : Config) (t : ℕ) (x y : Tree) → SendsOn g c t x → SendsOn g c t y → x ≡ y
+
+-- one that sends on a channel has none for want of memory alone
+abbrev pub ChannelsHaveOneAnswer : Type 0
+ChannelsHaveOneAnswer =
+    (g : Sig) (c : Config) (t : ℕ) (x : Tree) (e : PFault) → SendsOn g c t x
+    → HasNoChannel g c t e → e ≡ fault.Mem
+
+-- two causes for which it has none are one, but for want of memory
+abbrev pub MissingChannelsAreOne : Type 0
+MissingChannelsAreOne =
+    (g : Sig) (c : Config) (t : ℕ) (e f : PFault) → HasNoChannel g c t e → HasNoChannel g c t f
+    → (e ≡ fault.Mem) ⊎ ((f ≡ fault.Mem) ⊎ (e ≡ f))

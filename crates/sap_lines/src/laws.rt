@@ -1,5 +1,6 @@
 // Laws of written runs of processes, as contracts of functions that do nothing.
 ghost use Rattle.sap_lines.specs.Answers.{ProcessLinesHaveOneOutcome, ProcessLinesHaveOneAnswer, ProcessLinesHaveSomeAnswer, RefusalsAreOne, RunsMatchExactly};
+ghost use Rattle.sap_lines.specs.Channels.{ChannelsAreOne, ChannelsHaveOneAnswer, MissingChannelsAreOne};
 ghost use Rattle.sap_lines.specs.NamesPass.{NamesStandInRuns};
 ghost use Rattle.sap_lines.specs.OtherEntries.{LinesThatAskTheSameDoTheSame, LinesThatAskTheSameAreRefusedTheSame};
 ghost use Rattle.sap_lines.specs.Runs.{ProcessLinesAreSteps, ProcessLinesAreRuns, ProcessRunsCanBeWritten, GivenTermsCanBeEntered, SmallProcessLinesAreLines, SmallProcessRunsAreLegal};
@@ -70,6 +71,15 @@ pub fn lines_have_some_answer()
     names_are_messages();
     destructors_head_left_sides();
     matching_is_modulo();
+}
+
+/// A thread sends on one channel, or on none for one cause, want of memory aside.
+pub fn channels_are_one()
+    ensures one { ChannelsAreOne }
+    ensures answer { ChannelsHaveOneAnswer }
+    ensures cause { MissingChannelsAreOne }
+{
+    normal_forms_are_unique();
 }
 
 /// What a line asks of the adversary's entries is one entry's term, or nothing. So where a line is possible, the same line is

@@ -1,0 +1,3 @@
+pub mod Runs
+pub mod Filled
+pub mod Refused

@@ -1,0 +1,67 @@
+-- The runs of a process that a short run stands for.
+use Rattle.std.specs.Prelude.{◌≡◌, ℕ, List, [], ◌∷◌, ◌++◌, Some, slice_get}
+use Rattle.sap_terms.specs.Equations.{equations}
+use Rattle.sap_terms.specs.Message.{IsOver}
+use Rattle.sap_terms.specs.Normal.{IsNormalForm}
+use Rattle.sap_terms.specs.Signature.{Sig}
+use Rattle.sap_terms.specs.Trace.{Trace, shown}
+use Rattle.sap_terms.specs.Tree.{Tree}
+use Rattle.sap_terms.specs.View.{tree}
+use Rattle.sap_terms.specs.declared.fact.Fact.{Fact}
+use Rattle.sap_terms.specs.declared.term.Term.{Term}
+use Rattle.sap_process.specs.Configuration.{Config, initial}
+use Rattle.sap_process.specs.Proc.{Proc}
+use Rattle.sap_runs.specs.Inner.{InnerAction}
+use Rattle.sap_runs.specs.Marks.{Mark, marks_of}
+use Rattle.sap_runs.specs.Short.{MayStand}
+use Rattle.sap_runs.specs.declared.process_step.PStep.{PStep}
+use Rattle.sap_runs.specs.declared.process_step.PStep.TheVariants as line
+use Rattle.sap_runs.specs.declared.short_step.SStep.{SStep}
+use Rattle.sap_runs.specs.declared.short_step.SStep.TheVariants as short
+use Rattle.sap_lines.specs.Lines.{IsProcessLine}
+use Rattle.sap_lines.specs.Runs.{IsLegalProcessRun}
+use Rattle.sap_intruder.specs.ShortRuns.{IsLegalShortRun}
+
+-- the line cites the entry of this number, whose term is the normal form of the written term
+pub record Cites (g : Sig) (es : List Tree) (u : Term) (k : ℕ) : Type 0 where
+  pub term : Tree
+  pub entry : slice_get es k ≡ Some term
+  pub over : IsOver g (tree u)
+  pub form : IsNormalForm (equations g) (tree u) term
+
+-- behind these entries the line is what the step stands for
+pub data Fills (g : Sig) (es : List Tree) : SStep → PStep → Type 0 where
+  same : {s : PStep} → MayStand s → Fills g es (short.Act s) s
+  input : {t k : ℕ} {u : Term} → Cites g es u k → Fills g es (short.In t u) (line.In t k)
+  sending : {t k : ℕ} → Fills g es (short.Send t) (line.Send t k)
+  knowing : {u : Term} {k : ℕ} → Cites g es u k → Fills g es (short.Know u) (line.Know k)
+
+-- a line that a short run leaves out: it writes down a public name, or applies a symbol
+abbrev pub IsLeftOut : PStep → Type 0
+IsLeftOut (line.Public a) = Unit {0}
+IsLeftOut (line.Apply f entries) = Unit {0}
+IsLeftOut _ = ⊥
+
+-- The lines are possible in turn, from the start of the process on, and without those that write down
+-- public names and apply symbols they are the steps of the short run, line by line. The last leads to
+-- this configuration with these entries, and these are the trace and the marks.
+pub data IsFilledRun (g : Sig) (W : Tree → Type 0) (p : Proc)
+    : List SStep → List PStep → Config → List Tree → Trace → List Mark → Type 0 where
+  starts : IsFilledRun g W p [] [] (initial p) [] [] []
+  finds : {ss : List SStep} {lines : List PStep} {c : Config} {es fs : List Tree} {tr : Trace}
+      {marks : List Mark} (step : PStep) → IsFilledRun g W p ss lines c es tr marks → IsLeftOut step
+      → IsProcessLine g W c es step [] [] c fs
+      → IsFilledRun g W p ss (lines ++ step ∷ []) c fs tr marks
+  follows : {ss : List SStep} {lines : List PStep} {c d : Config} {es fs : List Tree} {tr : Trace}
+      {marks : List Mark} (s : SStep) (step : PStep) (inner : List InnerAction) (label : List Fact)
+      → IsFilledRun g W p ss lines c es tr marks → Fills g es s step
+      → IsProcessLine g W c es step inner label d fs
+      → IsFilledRun g W p (ss ++ s ∷ []) (lines ++ step ∷ []) d fs (tr ++ shown label)
+      (marks ++ marks_of inner label)
+
+-- so the run is legal, and the short run is
+abbrev pub FilledRunsAreLegal : (Tree → Type 0) → Type 0
+FilledRunsAreLegal W =
+    (g : Sig) (p : Proc) (ss : List SStep) (lines : List PStep) (c : Config) (es : List Tree)
+    (tr : Trace) (marks : List Mark) → IsFilledRun g W p ss lines c es tr marks
+    → IsLegalProcessRun g W p lines c es tr marks × IsLegalShortRun g W p ss c tr marks

@@ -1,0 +1,5 @@
+pub mod ShortLines
+pub mod ShortRuns
+pub mod Refusals
+pub mod FilledRuns
+pub mod OneAnswer

@@ -1,0 +1,35 @@
+//! What is so of short runs, as contracts of functions that do nothing.
+ghost use Rattle.sap_intruder.specs.FilledRuns.{FilledRunsAreLegal};
+ghost use Rattle.sap_intruder.specs.OneAnswer.{ShortLinesAreNotRefused, ShortRefusalsAreOne};
+ghost use Rattle.sap_intruder.specs.ShortRuns.{ShortRunsAreRuns};
+ghost use Rattle.sap_runs.specs.Limits.{AnySize, HasFewNodes};
+
+use sap_lines::{limit_excludes, lines_are_steps, lines_have_one_answer, lines_look_at_one_entry};
+use sap_rewrite::normal_forms_are_unique;
+
+/// What the steps of a legal short run lead to and show, a run of the process leads to and shows.
+pub fn short_runs_are_runs()
+    ensures runs { ShortRunsAreRuns AnySize }
+    ensures small_runs { ShortRunsAreRuns HasFewNodes }
+{
+    lines_are_steps();
+}
+
+/// A run that fills a short run is legal, and so is the short run; both lead to the same, show the same and have the same marks.
+pub fn filled_runs_are_legal()
+    ensures runs { FilledRunsAreLegal AnySize }
+    ensures small_runs { FilledRunsAreLegal HasFewNodes }
+{
+    lines_are_steps();
+    lines_look_at_one_entry();
+}
+
+/// Two causes for which a step of a short run is refused are one; and where what lines match is matched exactly, a step that is
+/// possible within the limit isn't refused.
+pub fn short_refusals_are_one()
+    ensures cause { ShortRefusalsAreOne }
+    ensures answer { ShortLinesAreNotRefused }
+{
+    normal_forms_are_unique();
+    lines_have_one_answer();
+}

@@ -1,0 +1,8 @@
+//! Short runs: what their steps mean, when one is refused, and the runs of processes that they stand for.
+#![tactic(auto)]
+
+mod fill_fault;
+mod laws;
+
+pub use fill_fault::FillFault;
+pub use laws::{filled_runs_are_legal, short_refusals_are_one, short_runs_are_runs};
