@@ -4,7 +4,9 @@ ghost use Rattle.sap_intruder.specs.OneAnswer.{ShortLinesAreNotRefused, ShortRef
 ghost use Rattle.sap_intruder.specs.ShortRuns.{ShortRunsAreRuns};
 ghost use Rattle.sap_runs.specs.Limits.{AnySize, HasFewNodes};
 
-use sap_lines::{limit_excludes, lines_are_steps, lines_have_one_answer, lines_look_at_one_entry};
+use sap_lines::{
+    channels_are_one, lines_are_steps, lines_have_one_answer, lines_look_at_one_entry,
+};
 use sap_rewrite::normal_forms_are_unique;
 
 /// What the steps of a legal short run lead to and show, a run of the process leads to and shows.
@@ -32,4 +34,5 @@ pub fn short_refusals_are_one()
 {
     normal_forms_are_unique();
     lines_have_one_answer();
+    channels_are_one();
 }
