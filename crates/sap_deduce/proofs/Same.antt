@@ -36,6 +36,7 @@ has_names g _ (one_more es t origin h a) n c =
   where
     e : Entry
     e = record { term = t; origin = origin }
+
     at : (Contains (names_given es) n → Contains (terms_of es) (fresh n)) → Contains (names_given es) n ⊎ Contains (names_given (e ∷ [])) n
         → Contains (terms_of es ++ t ∷ []) (fresh n)
     at had (inl before) = Contains-append_left (terms_of es) (t ∷ []) (fresh n) (had before)
@@ -56,14 +57,16 @@ has_outputs g _ (one_more es t origin h a) u c =
   where
     e : Entry
     e = record { term = t; origin = origin }
+
     at : (Contains (outputs_given es) u → Contains (terms_of es) u) → Contains (outputs_given es) u ⊎ Contains (outputs_given (e ∷ [])) u
         → Contains (terms_of es ++ t ∷ []) u
     at had (inl before) = Contains-append_left (terms_of es) (t ∷ []) u (had before)
     at had (inr here) = Contains-append_right (terms_of es) (t ∷ []) u (last_output t u origin here)
 
 pub entries_give_the_same : LeavesAreNormal → FormIsOne → EntriesGiveTheSame
-entries_give_the_same leaves one g es t h =
-    (λ d. deducible_from_all g (names_given es) (outputs_given es) (terms_of es) t
-        (record { has_names = has_names g es h; has_frame = λ k d below. has_outputs g es h (slice_index_or (outputs_given es) k d) (Contains-get_or (outputs_given es) k d below) }) d,
-      λ d. deduced_is_deducible one g (names_given es) (outputs_given es) (terms_of es) t (entered-normal leaves g es h)
-        (entered-deducible leaves (record { sig = g; entries = es; numbers = [] }) h) d)
+entries_give_the_same leaves one g es t h = (
+  λ d. deducible_from_all g (names_given es) (outputs_given es) (terms_of es) t
+      (record { has_names = has_names g es h; has_frame = λ k d below. has_outputs g es h (slice_index_or (outputs_given es) k d) (Contains-get_or (outputs_given es) k d below) }) d,
+  λ d. deduced_is_deducible one g (names_given es) (outputs_given es) (terms_of es) t (entered-normal leaves g es h)
+      (entered-deducible leaves (record { sig = g; entries = es; numbers = [] }) h) d,
+)

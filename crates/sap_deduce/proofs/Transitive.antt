@@ -68,6 +68,7 @@ module _ (one : FormIsOne) (g : Sig) (names : List ℕ) (frame : List Tree) wher
   goes_more fs ts t d h = at d where
     more_of : (us : List Tree) → All (Contains h.all) us → All (Contains (t ∷ h.all)) us
     more_of us c = All-weaker (Contains h.all) (Contains (t ∷ h.all)) (λ u i. Contains-append_right (t ∷ []) h.all u i) us c
+
     adds : IsDerived g names frame h.all t → Goes fs (t ∷ ts)
     adds e = record {
       all = t ∷ h.all;
@@ -75,6 +76,7 @@ module _ (one : FormIsOne) (g : Sig) (names : List ℕ) (frame : List Tree) wher
       has = more_of fs h.has;
       has_too = All-cons (Contains (t ∷ h.all)) t ts (first_contained h.all t) (more_of ts h.has_too);
     }
+
     at : IsDerived g [] fs ts t → Goes fs (t ∷ ts)
     at (a_public n e) = adds (a_public n e)
     at (a_name k c e) = absurd (let l = c.1 in omega arith)

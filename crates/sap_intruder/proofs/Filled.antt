@@ -1,17 +1,16 @@
 -- A run that fills a short run is legal, and the short run is.
-use Rattle.std.proofs.Common.{◌≡◌, ℕ, List, [], ◌∷◌, ◌++◌, Some, slice_get, refl, sym, ap, subst, ◌∙◌, append-nil, arith}
-use Rattle.std.specs.Prelude.{Contains}
+use Rattle.std.proofs.Common.{◌≡◌, ℕ, List, [], ◌∷◌, ◌++◌, Some, slice_get, refl, subst, append-nil}
 use Rattle.sap_terms.specs.AdversaryFacts.{k_fact}
 use Rattle.sap_terms.specs.Signature.{Sig}
-use Rattle.sap_terms.specs.Trace.{Trace, shown}
+use Rattle.sap_terms.specs.Trace.{Trace}
 use Rattle.sap_terms.specs.Tree.{Tree}
 use Rattle.sap_terms.specs.declared.fact.Fact.{Fact}
 use Rattle.sap_terms.specs.declared.term.Term.{Term}
 use Rattle.sap_terms.proofs.PlainLaws.Items.{contains_got}
-use Rattle.sap_process.specs.Configuration.{Config, initial, CanGive}
+use Rattle.sap_process.specs.Configuration.{Config}
 use Rattle.sap_process.specs.Proc.{Proc}
 use Rattle.sap_runs.specs.Inner.{InnerAction}
-use Rattle.sap_runs.specs.Marks.{Mark, marks_of}
+use Rattle.sap_runs.specs.Marks.{Mark}
 use Rattle.sap_runs.specs.declared.process_step.PStep.{PStep}
 use Rattle.sap_runs.specs.declared.process_step.PStep.TheVariants as line
 use Rattle.sap_runs.specs.declared.short_step.SStep.{SStep}
@@ -38,6 +37,7 @@ module _ (W : Tree → Type 0) (runs : ProcessLinesAreRuns W) (alike : LinesThat
   filled_sending c d es fs t k inner label gives h = go (entry_of d fs inner label h) where
     entry_of : (d : Config) (fs : List Tree) (inner : List InnerAction) (label : List Fact) → IsProcessLine g W c es (line.Send t k) inner label d fs → (x : Tree) × (slice_get es k ≡ Some x)
     entry_of d fs inner label (IsProcessLine.outputs_on {x = x} _ _ r here f n v) = (x, here)
+
     go : (x : Tree) × (slice_get es k ≡ Some x) → IsShortLine g W c (short.Send t) inner label d
     go e =
         let too = alike g c d es (e.0 ∷ []) fs (line.Send t k) (line.Send t 0) inner label (send_on t k 0 e.0 e.1 refl) h in

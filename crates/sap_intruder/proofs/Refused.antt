@@ -1,5 +1,5 @@
 -- A step of a short run is refused for one cause, and not where it is possible.
-use Rattle.std.proofs.Common.{◌≡◌, ℕ, Bool, true, false, List, [], ◌∷◌, Some, slice_get, refl, sym, ap, subst, ◌∙◌, ◌⊎◌, inl, inr}
+use Rattle.std.proofs.Common.{◌≡◌, ℕ, Bool, true, false, List, [], ◌∷◌, refl, ap, subst, ◌⊎◌, inl, inr}
 use Rattle.std.proofs.lemmas.List.Elements.{All-nil, All-cons}
 use Rattle.sap_terms.specs.Equations.{equations}
 use Rattle.sap_terms.specs.Normal.{IsNormal, IsNormalForm}
@@ -9,12 +9,10 @@ use Rattle.sap_terms.specs.View.{tree}
 use Rattle.sap_terms.specs.declared.fact.Fact.{Fact}
 use Rattle.sap_terms.specs.declared.term.Term.{Term}
 use Rattle.sap_rewrite.specs.Laws.{FormIsOne}
-use Rattle.sap_process.specs.Action as action
 use Rattle.sap_process.specs.Configuration.{Config, Runs, CanGive}
-use Rattle.sap_process.specs.Proc.{Proc, act}
+use Rattle.sap_process.specs.Proc.{Proc}
 use Rattle.sap_runs.specs.Inner.{InnerAction}
 use Rattle.sap_runs.specs.Limits.{HasFewNodes}
-use Rattle.sap_runs.specs.Short.{MayStand}
 use Rattle.sap_runs.specs.declared.process_step.PStep.{PStep}
 use Rattle.sap_runs.specs.declared.process_step.PStep.TheVariants as line
 use Rattle.sap_runs.specs.declared.short_step.SStep.{SStep}

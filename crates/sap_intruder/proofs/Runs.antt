@@ -1,13 +1,11 @@
 -- Steps of short runs are lines behind some entries, which the adversary can give; so a legal short run is a run.
-use Rattle.std.proofs.Common.{◌≡◌, ℕ, List, [], ◌∷◌, ◌++◌, Some, slice_get, refl, sym, ap, subst, ◌∙◌, append-nil, ◌⊎◌, inl, inr, arith}
+use Rattle.std.proofs.Common.{◌≡◌, List, [], ◌∷◌, subst, ◌⊎◌, inl, inr, arith}
 use Rattle.std.specs.Prelude.{Contains}
 use Rattle.std.proofs.lemmas.List.Elements.{Contains-push_cases}
-use Rattle.sap_terms.specs.AdversaryFacts.{k_fact}
 use Rattle.sap_terms.specs.Signature.{Sig}
-use Rattle.sap_terms.specs.Trace.{Trace, shown}
+use Rattle.sap_terms.specs.Trace.{Trace}
 use Rattle.sap_terms.specs.Tree.{Tree}
 use Rattle.sap_terms.specs.declared.fact.Fact.{Fact}
-use Rattle.sap_terms.specs.declared.term.Term.{Term}
 use Rattle.sap_process.specs.Configuration.{Config, initial, CanGive}
 use Rattle.sap_process.specs.Proc.{Proc}
 use Rattle.sap_process.specs.ProcessSteps.{ProcessStep, ProcessRun}
@@ -17,7 +15,6 @@ use Rattle.sap_runs.specs.Short.{MayStand}
 use Rattle.sap_runs.specs.declared.process_step.PStep.{PStep}
 use Rattle.sap_runs.specs.declared.process_step.PStep.TheVariants as line
 use Rattle.sap_runs.specs.declared.short_step.SStep.{SStep}
-use Rattle.sap_lines.specs.Lines.{IsProcessLine}
 use Rattle.sap_lines.specs.Runs.{IsStepOf, CanGiveEach, ProcessLinesAreSteps}
 use Rattle.sap_intruder.specs.ShortLines.{IsShortLine, acts, takes, sends, knows}
 use Rattle.sap_intruder.specs.ShortRuns.{IsLegalShortRun, starts, further, ShortRunsAreRuns}

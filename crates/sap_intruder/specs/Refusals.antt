@@ -1,5 +1,5 @@
 -- Why a step of a short run is refused: the first test that fails. Want of memory is no such cause.
-use Rattle.std.specs.Prelude.{◌≡◌, ℕ, true, List, [], ◌∷◌}
+use Rattle.std.specs.Prelude.{◌≡◌, ℕ, true, [], ◌∷◌}
 use Rattle.sap_terms.specs.Equations.{equations}
 use Rattle.sap_terms.specs.Message.{IsOver}
 use Rattle.sap_terms.specs.Normal.{IsNormalForm}

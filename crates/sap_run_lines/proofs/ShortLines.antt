@@ -64,6 +64,7 @@ number_behind_on : (r : List ℕ) → OnTaken (λ n k. IsNumber n × (r ≡ 32 �
 number_behind_on r = if_on Q (starts 32 r) _ _ (λ e. at (number_at (drop 1 r)) (number_on (drop 1 r)) e) (λ e. tt) where
   Q : ℕ × List ℕ → Type 0
   Q p = IsNumber p.0 × (r ≡ 32 ∷ (decimal p.0 ++ p.1))
+
   at : (o : Option (ℕ × List ℕ)) → OnTaken (λ n k. IsNumber n × (drop 1 r ≡ decimal n ++ k)) o → starts 32 r ≡ true → OnSome Q o
   at None h e = tt
   at (Some p) h e = (h.0, first_is 32 r e ∙ ap (λ y. 32 ∷ y) h.1)
@@ -81,7 +82,7 @@ module _ (z : List ℕ) where
           let is : IsToken kind.Ident (codes "in") = subst (λ (y : List ℕ). IsToken kind.Ident y) e b.is in
           let line : AreWordsAndTerm u (plain (codes "in") (t ∷ [])) (codes "in" ++ (32 ∷ (decimal t ++ (32 ∷ h.0)))) = word_before (word_identifier is) (word_before (word_number n.0) (term_last h.2)) in
           let spelled : AreWordsAndTerm u (plain (codes "in") (t ∷ [])) z =
-              from line (b.whole ∙ (ap (λ y. y ++ r) e ∙ ap (λ y. codes "in" ++ y) (n.1 ∙ ap (λ y. 32 ∷ (decimal t ++ y)) h.1)))
+          from line (b.whole ∙ (ap (λ y. y ++ r) e ∙ ap (λ y. codes "in" ++ y) (n.1 ∙ ap (λ y. 32 ∷ (decimal t ++ y)) h.1)))
           in
           subst (λ (v : Tree). AreWordsAndTerm v (plain (codes "in") (t ∷ [])) z) (sym (tree-term u)) spelled
 
@@ -102,13 +103,16 @@ module _ (z : List ℕ) where
   sending_on x r b e = at r refl where
     is : IsToken kind.Ident (codes "send")
     is = subst (λ (y : List ℕ). IsToken kind.Ident y) e b.is
+
     put : (y : List ℕ) → r ≡ 32 ∷ y → z ≡ codes "send" ++ (32 ∷ y)
     put y f = b.whole ∙ (ap (λ k. k ++ r) e ∙ ap (λ k. codes "send" ++ k) f)
+
     found : (y : List ℕ) → r ≡ 32 ∷ y → (ws : List LineWord) → AreLineWords ws y → Spelled (given (number_of ws) (λ t. Some (short.Send t)))
     found y f ws are = given_on (λ s. IsShortStepLine s z) (number_of ws) _ (λ t g.
         let words : ws ≡ number t ∷ [] = some_on (λ n. ws ≡ number n ∷ []) (number_of ws) t g (one_number_on ws) in
         let line : AreLineWords (plain (codes "send") (t ∷ [])) (codes "send" ++ (32 ∷ y)) = words_more (word_identifier is) (subst (λ (us : List LineWord). AreLineWords us y) words are) in
         subst (λ (k : List ℕ). AreLineWords (plain (codes "send") (t ∷ [])) k) (sym (put y f)) line)
+
     at : (k : List ℕ) → r ≡ k → Spelled (sending_at k)
     at [] f = tt
     at (c ∷ y) f = go (c == 32) refl where
@@ -308,6 +312,7 @@ short_on z = at (identifier_at z) refl (identifier_on z) where
       if_on (λ s. IsShortStepLine s z) (bytes_eq x (codes "send")) _ _ (λ d. sending_on z x r b (same_bytes d)) (λ d.
       if_on (λ s. IsShortStepLine s z) (bytes_eq x (codes "know")) _ _ (λ f. knowing_on z x r b (same_bytes f)) (λ f.
       if_on (λ s. IsShortStepLine s z) (is_left_out x) _ _ (λ g. tt) (λ g. as_it_is_on x r z e (rw (c, d, f, g) refl)))))
+
   at : (t : Option (List ℕ × List ℕ)) → identifier_at z ≡ t → OnTaken (λ x r. IsToken kind.Ident x × (z ≡ x ++ r)) t
       → OnSome (λ s. IsShortStepLine s z) (after t short_named_at)
   at None e h = tt

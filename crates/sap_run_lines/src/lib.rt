@@ -17,7 +17,7 @@ mod written_word;
 pub use laws::{lines_are_one, step_lines_are_lines, written_lines_are_read};
 pub use process_line::read_process_line;
 pub use rule_line::read_rule_line;
-pub use short_laws::{short_lines_by_hand, short_lines_are_one};
+pub use short_laws::{short_lines_are_one, short_lines_by_hand};
 pub use short_line::read_short_line;
 pub use whole_laws::{
     one_run_term, one_run_word, run_words_are_decided, spelled_terms_can_be_written,

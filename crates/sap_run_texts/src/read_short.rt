@@ -40,7 +40,11 @@ fn behind_head(bytes: &[u8]) -> Option<&[u8]>
     ensures none { IfNone result (IsHeadless short_head bytes.now) }
 {
     let (line, rest) = first_line(bytes)?;
-    if is_short_head(line) { Some(rest) } else { None }
+    if is_short_head(line) {
+        Some(rest)
+    } else {
+        None
+    }
 }
 
 // The fault of the line behind so many steps.
