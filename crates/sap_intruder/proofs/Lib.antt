@@ -1,3 +1,4 @@
 pub mod Runs
 pub mod Filled
 pub mod Refused
+pub mod OneRun

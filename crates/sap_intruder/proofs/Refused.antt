@@ -48,7 +48,7 @@ unfit_cause c t form _ (not_running never) = λ is. absurd (cc)
 unfit_cause c t form _ (other_form r f) = λ is. absurd (cc)
 
 module _ (one : FormIsOne) (g : Sig) (c : Config) where
-  given_same : (u : Term) (x y : Tree) → IsGiven g c u x → IsGiven g c u y → x ≡ y
+  pub given_same : (u : Term) (x y : Tree) → IsGiven g c u x → IsGiven g c u y → x ≡ y
   given_same u x y h k = one (equations g) (tree u) x y h.form k.form
 
   -- a term that is given isn't refused
@@ -112,8 +112,15 @@ module _ (one : FormIsOne) (g : Sig) (c : Config) where
 
   -- ---- possible and refused
 
+  -- a line that sends to the adversary sends on the entry's term
+  pub sends_on : (t : ℕ) (x : Tree) (d : Config) (inner : List InnerAction) (label : List Fact) (fs : List Tree) → IsProcessLine g HasFewNodes c (x ∷ []) (line.Send t 0) inner label d fs
+      → SendsOn g c t x
+  sends_on t x d inner label fs (IsProcessLine.outputs_on {m = ch} {n = n} {x = y} {p = p} _ _ r here f o v) =
+      let same : y ≡ x = cc (here) in
+      record { channel = ch; message = n; behind = p; runs = r; form = subst (IsNormalForm (equations g) ch) same f; small = v }
+
   -- entries that are normal, behind which lines match exactly as behind none
-  matches_one : MatchesExactly g c [] → (x : Tree) → CanGive g c x → MatchesExactly g c (x ∷ [])
+  pub matches_one : MatchesExactly g c [] → (x : Tree) → CanGive g c x → MatchesExactly g c (x ∷ [])
   matches_one m x h = record {
     patterns_are = m.patterns_are;
     sorts = m.sorts;
@@ -134,13 +141,6 @@ module _ (one : FormIsOne) (g : Sig) (c : Config) where
     not_in d t u x inner label fs _ given h (input_refused {x = y} {e = e} too k n) =
         let there : IsRefused g c (x ∷ []) (line.In t 0) e = subst (λ (v : Tree). IsRefused g c (v ∷ []) (line.In t 0) e) (given_same u y x too given) k in
         n (answer g c d (x ∷ []) fs (line.In t 0) inner label e (matches_one m x given.gives) h there)
-
-    -- a line that sends to the adversary sends on the entry's term
-    sends_on : (t : ℕ) (x : Tree) (d : Config) (inner : List InnerAction) (label : List Fact) (fs : List Tree) → IsProcessLine g HasFewNodes c (x ∷ []) (line.Send t 0) inner label d fs
-        → SendsOn g c t x
-    sends_on t x d inner label fs (IsProcessLine.outputs_on {m = ch} {n = n} {x = y} {p = p} _ _ r here f o v) =
-        let same : y ≡ x = cc (here) in
-        record { channel = ch; message = n; behind = p; runs = r; form = subst (IsNormalForm (equations g) ch) same f; small = v }
 
     not_send : (d : Config) (t : ℕ) (x : Tree) (inner : List InnerAction) (label : List Fact) (fs : List Tree) (e : FillFault) → CanGive g c x
         → IsProcessLine g HasFewNodes c (x ∷ []) (line.Send t 0) inner label d fs → IsShortRefused g c (short.Send t) e → ⊥

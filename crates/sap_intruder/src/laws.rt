@@ -1,11 +1,12 @@
 //! What is so of short runs, as contracts of functions that do nothing.
 ghost use Rattle.sap_intruder.specs.FilledRuns.{FilledRunsAreLegal};
-ghost use Rattle.sap_intruder.specs.OneAnswer.{ShortLinesAreNotRefused, ShortRefusalsAreOne};
+ghost use Rattle.sap_intruder.specs.OneAnswer.{FirstShortRefusalsAreOne, LegalShortRunsAreNotRefused, ShortLinesAreNotRefused, ShortRefusalsAreOne, ShortRunsHaveOneEnd};
 ghost use Rattle.sap_intruder.specs.ShortRuns.{ShortRunsAreRuns};
 ghost use Rattle.sap_runs.specs.Limits.{AnySize, HasFewNodes};
 
 use sap_lines::{
-    channels_are_one, lines_are_steps, lines_have_one_answer, lines_look_at_one_entry,
+    channels_are_one, each_run_can_be_written, limit_excludes, lines_are_steps,
+    lines_have_one_answer, lines_look_at_one_entry, runs_match_exactly,
 };
 use sap_rewrite::normal_forms_are_unique;
 
@@ -35,4 +36,21 @@ pub fn short_refusals_are_one()
     normal_forms_are_unique();
     lines_have_one_answer();
     channels_are_one();
+}
+
+/// A short run of a ready process, over a signature that holds its builtins' symbols, has one answer at most: it is legal within
+/// the limit, with one end, or one step of it is the first that is refused, for one cause.
+pub fn one_short_answer()
+    ensures end { ShortRunsHaveOneEnd }
+    ensures apart { LegalShortRunsAreNotRefused }
+    ensures first { FirstShortRefusalsAreOne }
+{
+    normal_forms_are_unique();
+    channels_are_one();
+    each_run_can_be_written();
+    limit_excludes();
+    lines_have_one_answer();
+    runs_match_exactly();
+    short_runs_are_runs();
+    short_refusals_are_one();
 }

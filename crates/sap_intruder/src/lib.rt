@@ -5,4 +5,6 @@ mod fill_fault;
 mod laws;
 
 pub use fill_fault::FillFault;
-pub use laws::{filled_runs_are_legal, short_refusals_are_one, short_runs_are_runs};
+pub use laws::{
+    filled_runs_are_legal, one_short_answer, short_refusals_are_one, short_runs_are_runs,
+};
