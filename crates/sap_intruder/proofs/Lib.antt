@@ -2,3 +2,4 @@ pub mod Runs
 pub mod Filled
 pub mod Refused
 pub mod OneRun
+pub mod ShortByHand
