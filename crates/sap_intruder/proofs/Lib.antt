@@ -3,3 +3,4 @@ pub mod Filled
 pub mod Refused
 pub mod OneRun
 pub mod ShortByHand
+pub mod Filling

@@ -5,7 +5,7 @@ ghost use Rattle.sap_process.specs.Configuration.{initial};
 ghost use Rattle.sap_process.specs.Proc.{nil};
 ghost use Rattle.sap_process.specs.StepExamples.{a};
 ghost use Rattle.sap_lines.specs.declared.fault.PFault.TheVariants as fault;
-ghost use Rattle.sap_intruder.specs.FilledRuns.{Fills, FilledRunsAreLegal, IsFilledRun, IsLeftOut};
+ghost use Rattle.sap_intruder.specs.FilledRuns.{Fills, FilledRunsAreLegal, IsFilledRun, IsLeftOut, LegalShortRunsCanBeFilled};
 ghost use Rattle.sap_intruder.specs.OneAnswer.{FirstShortRefusalsAreOne, LegalShortRunsAreNotRefused, ShortLinesAreNotRefused, ShortRefusalsAreOne, ShortRunsHaveOneEnd};
 ghost use Rattle.sap_intruder.specs.Refusals.{IsShortRefused};
 ghost use Rattle.sap_intruder.specs.ShortExamples.{bare, know_a, know_a_lines, know_a_trace, unheld};
@@ -36,6 +36,14 @@ pub fn filled_runs_are_legal()
     ensures small_runs { FilledRunsAreLegal HasFewNodes }
 {
     lines_are_steps();
+    lines_look_at_one_entry();
+}
+
+/// Each legal short run is filled by some run, limits aside: what the adversary gives in it, it can write down and apply first.
+pub fn short_runs_can_be_filled()
+    ensures { LegalShortRunsCanBeFilled }
+{
+    normal_forms_are_unique();
     lines_look_at_one_entry();
 }
 
