@@ -2,3 +2,5 @@ pub mod Runs
 pub mod Filled
 pub mod Refused
 pub mod OneRun
+pub mod ShortByHand
+pub mod Filling

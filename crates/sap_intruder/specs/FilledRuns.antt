@@ -12,6 +12,7 @@ use Rattle.sap_terms.specs.declared.term.Term.{Term}
 use Rattle.sap_process.specs.Configuration.{Config, initial}
 use Rattle.sap_process.specs.Proc.{Proc}
 use Rattle.sap_runs.specs.Inner.{InnerAction}
+use Rattle.sap_runs.specs.Limits.{AnySize}
 use Rattle.sap_runs.specs.Marks.{Mark, marks_of}
 use Rattle.sap_runs.specs.Short.{MayStand}
 use Rattle.sap_runs.specs.declared.process_step.PStep.{PStep}
@@ -65,3 +66,10 @@ FilledRunsAreLegal W =
     (g : Sig) (p : Proc) (ss : List SStep) (lines : List PStep) (c : Config) (es : List Tree)
     (tr : Trace) (marks : List Mark) → IsFilledRun g W p ss lines c es tr marks
     → IsLegalProcessRun g W p lines c es tr marks × IsLegalShortRun g W p ss c tr marks
+
+-- and each legal short run is filled by some run, limits aside
+abbrev pub LegalShortRunsCanBeFilled : Type 0
+LegalShortRunsCanBeFilled =
+    (g : Sig) (p : Proc) (ss : List SStep) (c : Config) (tr : Trace) (marks : List Mark)
+    → IsLegalShortRun g AnySize p ss c tr marks
+    → (lines : List PStep) × (es : List Tree) × IsFilledRun g AnySize p ss lines c es tr marks

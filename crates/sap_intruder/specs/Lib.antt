@@ -3,3 +3,4 @@ pub mod ShortRuns
 pub mod Refusals
 pub mod FilledRuns
 pub mod OneAnswer
+pub mod ShortExamples

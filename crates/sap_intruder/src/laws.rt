@@ -1,14 +1,26 @@
 //! What is so of short runs, as contracts of functions that do nothing.
-ghost use Rattle.sap_intruder.specs.FilledRuns.{FilledRunsAreLegal};
+ghost use Rattle.std.specs.Prelude.{[], ◌∷◌, codes};
+ghost use Rattle.sap_terms.specs.View.{term};
+ghost use Rattle.sap_process.specs.Configuration.{initial};
+ghost use Rattle.sap_process.specs.Proc.{nil};
+ghost use Rattle.sap_process.specs.StepExamples.{a};
+ghost use Rattle.sap_lines.specs.declared.fault.PFault.TheVariants as fault;
+ghost use Rattle.sap_intruder.specs.FilledRuns.{Fills, FilledRunsAreLegal, IsFilledRun, IsLeftOut, LegalShortRunsCanBeFilled};
 ghost use Rattle.sap_intruder.specs.OneAnswer.{FirstShortRefusalsAreOne, LegalShortRunsAreNotRefused, ShortLinesAreNotRefused, ShortRefusalsAreOne, ShortRunsHaveOneEnd};
-ghost use Rattle.sap_intruder.specs.ShortRuns.{ShortRunsAreRuns};
+ghost use Rattle.sap_intruder.specs.Refusals.{IsShortRefused};
+ghost use Rattle.sap_intruder.specs.ShortExamples.{bare, know_a, know_a_lines, know_a_trace, unheld};
+ghost use Rattle.sap_intruder.specs.ShortRuns.{IsLegalShortRun, ShortRunsAreRuns};
+ghost use Rattle.sap_intruder.specs.declared.fill_fault.FillFault.TheVariants as fill;
 ghost use Rattle.sap_runs.specs.Limits.{AnySize, HasFewNodes};
+ghost use Rattle.sap_runs.specs.declared.process_step.PStep.TheVariants as line;
+ghost use Rattle.sap_runs.specs.declared.short_step.SStep.TheVariants as short;
 
 use sap_lines::{
     channels_are_one, each_run_can_be_written, limit_excludes, lines_are_steps,
     lines_have_one_answer, lines_look_at_one_entry, runs_match_exactly,
 };
 use sap_rewrite::normal_forms_are_unique;
+use sap_terms::leaves_are_normal;
 
 /// What the steps of a legal short run lead to and show, a run of the process leads to and shows.
 pub fn short_runs_are_runs()
@@ -24,6 +36,14 @@ pub fn filled_runs_are_legal()
     ensures small_runs { FilledRunsAreLegal HasFewNodes }
 {
     lines_are_steps();
+    lines_look_at_one_entry();
+}
+
+/// Each legal short run is filled by some run, limits aside: what the adversary gives in it, it can write down and apply first.
+pub fn short_runs_can_be_filled()
+    ensures { LegalShortRunsCanBeFilled }
+{
+    normal_forms_are_unique();
     lines_look_at_one_entry();
 }
 
@@ -53,4 +73,20 @@ pub fn one_short_answer()
     runs_match_exactly();
     short_runs_are_runs();
     short_refusals_are_one();
+}
+
+/// A short run and steps by hand, of a process that is nothing, over a signature without symbols. `know 'a'` is a legal short run,
+/// which `pub 'a'` and `know 0` fill; no entry is cited where there is none. A term with a symbol that isn't held is bad, and `'a'`
+/// isn't; an input is refused for its thread, and then for the form of that, before its term is looked at.
+pub fn short_runs_by_hand()
+    ensures legal { IsLegalShortRun bare HasFewNodes nil know_a (initial nil) know_a_trace [] }
+    ensures filled { IsFilledRun bare HasFewNodes nil know_a know_a_lines (initial nil) (a ∷ []) know_a_trace [] }
+    ensures no_entry { ¬ Fills bare [] (short.Know (term a)) (line.Know 0) }
+    ensures left_out { IsLeftOut (line.Public (codes "a")) × ¬ IsLeftOut (line.Know 0) }
+    ensures bad_term { IsShortRefused bare (initial nil) (short.Know (term unheld)) fill.BadTerm }
+    ensures not_bad { ¬ IsShortRefused bare (initial nil) (short.Know (term a)) fill.BadTerm }
+    ensures thread_first { IsShortRefused bare (initial nil) (short.In 1 (term unheld)) (fill.Process (fault.NoThread 1)) }
+    ensures form_next { IsShortRefused bare (initial nil) (short.In 0 (term unheld)) (fill.Process (fault.WrongForm 0)) }
+{
+    leaves_are_normal();
 }
