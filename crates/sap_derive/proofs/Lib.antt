@@ -1,4 +1,9 @@
+mod Clausal
 mod Gets
+mod Joined
+mod Made
+mod Nearness
+mod Openings
 mod Options
 mod Places
 mod Pushed
