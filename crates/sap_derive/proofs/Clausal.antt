@@ -8,38 +8,38 @@ use Rattle.sap_terms.specs.Equations.{equations, IsInstance, first, second, symm
 use Rattle.sap_terms.specs.Normal.{IsNormal, AreNormal, IsNoLeftSide, IsNormalForm}
 use Rattle.sap_rewrite.specs.Laws.{FormIsOne, SymbolsReduceOnce}
 use Rattle.sap_derive.specs.code.Saturated.{IsSaturated}
-use Rattle.sap_derive.specs.code.Clauses.{CanApply, IsClauseOf, writes, composes, takes_first, takes_second, decrypts, decrypts_by_secret, reads_signed, IsClosedOver}
+use Rattle.sap_derive.specs.code.Clauses.{CanApply, IsMaking, IsOpening, writes, composes, takes_first, takes_second, decrypts, decrypts_by_secret, reads_signed, IsClosedOver}
 use Rattle.sap_derive.proofs.Openings.{truth_found, found-public, found-arity}
 
 module _ (one : FormIsOne) (once : SymbolsReduceOnce) (g : Sig) (A K : Tree → Type 0) (builtins : HoldsBuiltins g) (normal : (t : Tree) → A t → IsNormal (equations g) t) (closed : IsClosedOver g A K) where
   truth-known : (equations g).signing ≡ true ⊎ (equations g).revealing ≡ true → A (app0 true_name) → K (app0 true_name)
   truth-known on a =
       let found = truth_found g builtins on in
-      closed (app0 true_name) a [] (app0 true_name) (composes true_name [] (record { public_symbol = found-public g true_name 0 found; arity = found-arity g true_name 0 found })) (All-nil K)
+      closed.made [] (app0 true_name) a (composes true_name [] (record { public_symbol = found-public g true_name 0 found; arity = found-arity g true_name 0 found })) (All-nil K)
 
-  -- a clause that the term h brings gives what it gives, where f on these terms is the symbol d on those
-  by : (f d : List ℕ) (ts : List Tree) (us : Trees) (h r : Tree) → trees_of ts ≡ us → f ≡ d → CanApply g f (length ts) → All A ts → All K ts → (All A (list_of us) → A h)
-      → (CanApply g d (length (list_of us)) → IsClauseOf g h (list_of us) r) → K r
-  by f d ts us h r e q can a k head c =
-      let same_list : ts ≡ list_of us = sym (list_of-trees_of ts) ∙ ap list_of e in
-      let can_too : CanApply g d (length (list_of us)) = subst (λ (vs : List Tree). CanApply g d (length vs)) same_list (subst (λ (s : List ℕ). CanApply g s (length ts)) q can) in
-      closed h (head (subst (λ (vs : List Tree). All A vs) same_list a)) (list_of us) r (c can_too) (subst (λ (vs : List Tree). All K vs) same_list k)
+  -- what a term is opened to is known, where f on these terms is the symbol d on the term and others
+  by : (f d : List ℕ) (ts : List Tree) (h : Tree) (vs : Trees) (r : Tree) → trees_of ts ≡ more h vs → f ≡ d → CanApply g f (length ts) → All A ts → All K ts
+      → (CanApply g d (length (h ∷ list_of vs)) → IsOpening g h (list_of vs) r) → K r
+  by f d ts h vs r e q can a k c =
+      let same_list : ts ≡ h ∷ list_of vs = sym (list_of-trees_of ts) ∙ ap list_of e in
+      let can_too : CanApply g d (length (h ∷ list_of vs)) = subst (λ (ws : List Tree). CanApply g d (length ws)) same_list (subst (λ (s : List ℕ). CanApply g s (length ts)) q can) in
+      let among = subst (λ (ws : List Tree). All A ws) same_list a in
+      closed.opened h (list_of vs) r (All-head A h (list_of vs) among) (c can_too) (subst (λ (ws : List Tree). All K ws) same_list k)
 
   -- what an equation leaves of terms among A and K, by the equation
   left-known : (l r : Tree) → IsInstance (equations g) l r → (f : List ℕ) (ts : List Tree) → l ≡ apply f (trees_of ts) → CanApply g f (length ts) → All A ts → All K ts → A r → K r
   left-known _ _ (first {x} {y}) f ts e can a k h =
-      by f fst_name ts (more (app2 pair_name x y) none) (app2 pair_name x y) x (cc) (cc) can a k (All-head A (app2 pair_name x y) []) (takes_first x y)
+      by f fst_name ts (app2 pair_name x y) none x (cc) (cc) can a k (takes_first x y)
   left-known _ _ (second {x} {y}) f ts e can a k h =
-      by f snd_name ts (more (app2 pair_name x y) none) (app2 pair_name x y) y (cc) (cc) can a k (All-head A (app2 pair_name x y) []) (takes_second x y)
+      by f snd_name ts (app2 pair_name x y) none y (cc) (cc) can a k (takes_second x y)
   left-known _ _ (symmetric {m} {k = n} on) f ts e can a k h =
-      by f sdec_name ts (more (app2 senc_name m n) (more n none)) (app2 senc_name m n) m (cc) (cc) can a k (All-head A (app2 senc_name m n) (n ∷ [])) (decrypts m n on)
+      by f sdec_name ts (app2 senc_name m n) (more n none) m (cc) (cc) can a k (decrypts m n on)
   left-known _ _ (asymmetric {m} {k = n} on) f ts e can a k h =
-      by f adec_name ts (more (app2 aenc_name m (app1 pk_name n)) (more n none)) (app2 aenc_name m (app1 pk_name n)) m (cc) (cc) can a k
-      (All-head A (app2 aenc_name m (app1 pk_name n)) (n ∷ [])) (decrypts_by_secret m n on)
+      by f adec_name ts (app2 aenc_name m (app1 pk_name n)) (more n none) m (cc) (cc) can a k (decrypts_by_secret m n on)
   left-known _ _ (signing on) f ts e can a k h = truth-known (inl on) h
   left-known _ _ (revealing on) f ts e can a k h = truth-known (inr on) h
   left-known _ _ (revealed {m} {k = n} on) f ts e can a k h =
-      by f get_message_name ts (more (app2 reveal_sign_name m n) none) (app2 reveal_sign_name m n) m (cc) (cc) can a k (All-head A (app2 reveal_sign_name m n) []) (reads_signed m n on)
+      by f get_message_name ts (app2 reveal_sign_name m n) none m (cc) (cc) can a k (reads_signed m n on)
 
   -- so the normal form of a public symbol is known, where its terms are and all are among A
   pub applied-known : (f : List ℕ) (ts : List Tree) (t : Tree) → IsPublic g f → arity_of g f ≡ Some (length ts) → All K ts → All A ts → A t
@@ -57,12 +57,12 @@ module _ (one : FormIsOne) (once : SymbolsReduceOnce) (g : Sig) (A K : Tree → 
     at (inr own) =
         let itself = once.own_form (equations g) f (trees_of ts) args own in
         let here : t ≡ apply f (trees_of ts) = one (equations g) (apply f (trees_of ts)) t (apply f (trees_of ts)) form itself in
-        rw here (closed (apply f (trees_of ts)) (subst A here h) ts (apply f (trees_of ts)) (composes f ts can) k)
+        rw here (closed.made ts (apply f (trees_of ts)) (subst A here h) (composes f ts can) k)
 
   -- what is closed under the clauses, and has the frame, is saturated
   pub closed-saturated : (frame : List Tree) → All K frame → IsSaturated g [] frame A K
   closed-saturated frame f = record {
-    publics = λ n a. closed (public n) a [] (public n) (writes n) (All-nil K);
+    publics = λ n a. closed.made [] (public n) a (writes n) (All-nil K);
     names_too = λ k c a. absurd (let l = c.1 in omega arith);
     given = f;
     applied = applied-known;

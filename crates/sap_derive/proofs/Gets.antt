@@ -1,6 +1,8 @@
 -- Items of lists by their indexes.
 use Rattle.std.proofs.Common.{◌≡◌, ◌<◌, ◌≤◌, ◌+◌, ◌-◌, ℕ, zero, suc, List, [], ◌∷◌, ◌++◌, length, Some, refl, ap, ◌⊎◌, inl, inr, arith}
-use Rattle.std.specs.Prelude.{slice_get, slice_set, Option}
+use Rattle.std.specs.Prelude.{slice_get, slice_set, Option, All}
+use Rattle.std.proofs.lemmas.List.Elements.{All-contains}
+use Rattle.sap_terms.proofs.PlainLaws.Items.{contains_got}
 use Rattle.std.proofs.lemmas.Option.{slice_get_within}
 
 -- an item stays where more is put last
@@ -62,3 +64,19 @@ same-or_not (suc m) (suc n) = elim (same-or_not m n) [ inl e ↦ inl (ap suc e) 
 pub append-none : {X : Type 0} (xs : List X) → xs ≡ xs ++ []
 append-none [] = refl
 append-none (x ∷ xs) = ap (λ ys. x ∷ ys) (append-none xs)
+
+-- lists of one item and of two
+pub only-item : {X : Type 0} (xs : List X) (x : X) → length xs ≡ 1 → slice_get xs 0 ≡ Some x → xs ≡ x ∷ []
+only-item [] x l e = cc
+only-item (y ∷ []) x l e = let s : y ≡ x = cc in ap (λ z. z ∷ []) s
+only-item (y ∷ z ∷ xs) x l e = absurd (omega arith)
+
+pub two-items : {X : Type 0} (xs : List X) (x y : X) → length xs ≡ 2 → slice_get xs 0 ≡ Some x → slice_get xs 1 ≡ Some y → xs ≡ x ∷ y ∷ []
+two-items [] x y l e f = cc
+two-items (a ∷ []) x y l e f = absurd (omega arith)
+two-items (a ∷ b ∷ []) x y l e f = let s : a ≡ x = cc in let t : b ≡ y = cc in λ i. s i ∷ t i ∷ []
+two-items (a ∷ b ∷ c ∷ xs) x y l e f = absurd (omega arith)
+
+-- what holds of each item holds of one
+pub all-got : {X : Type 0} (P : X → Type 0) (xs : List X) (k : ℕ) (x : X) → All P xs → slice_get xs k ≡ Some x → P x
+all-got P xs k x all e = All-contains P xs x all (contains_got xs x k e)

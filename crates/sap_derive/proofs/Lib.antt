@@ -1,12 +1,16 @@
+mod Brought
 mod Clausal
+mod Completed
 mod Gets
 mod Joined
 mod Made
 mod Nearness
 mod Openings
 mod Options
+mod Parts
 mod Places
 mod Pushed
 mod Settled
+mod Shaped
 mod Sound
 mod Waits

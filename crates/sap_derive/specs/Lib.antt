@@ -1,3 +1,4 @@
 pub mod Near
 pub mod Lines
+pub mod Found
 pub mod code

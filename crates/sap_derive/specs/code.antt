@@ -4,3 +4,7 @@ pub mod Listed
 pub mod Closed
 pub mod Saturated
 pub mod Clauses
+pub mod Openers
+pub mod Brought
+pub mod Shapes
+pub mod States
