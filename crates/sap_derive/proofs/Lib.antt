@@ -13,4 +13,5 @@ mod Pushed
 mod Settled
 mod Shaped
 mod Sound
+mod States
 mod Waits

@@ -8,7 +8,7 @@ ghost use Rattle.sap_share.specs.Shared.{tree_at, Keeps};
 ghost use Rattle.sap_derive.specs.code.Clauses.{ArePartsListed};
 ghost use Rattle.sap_derive.specs.code.Closed.{IsClosedUnder};
 ghost use Rattle.sap_derive.specs.code.Listed.{IsListed, AreListed};
-ghost use Rattle.sap_derive.specs.code.States.{IsTerm, IsState, Stays, seen};
+ghost use Rattle.sap_derive.specs.code.States.{IsTerm, IsBrought, IsState, Stays, seen};
 
 use crate::bring::bring;
 use crate::closure::Closure;
@@ -66,5 +66,136 @@ fn list_parts(table: &Table, terms: &mut Listing, n: u64) -> Result<(), Mem>
     match table.node(n) {
         Node::App(_, ks) => list_all(terms, ks.as_slice()),
         Node::Public(_) | Node::Fresh(_) => Ok(()),
+    }
+}
+
+impl State {
+    // Nothing is known but a signature.
+    pub(crate) fn new(alloc: Global, sig: &Signature) -> Result<State, Mem>
+        ensures state { IfOk result IsState }
+        ensures sig { IfOk result (λ s. s.table.sig ≡ sig.now) }
+        ensures entries { IfOk result (λ s. s.entries ≡ []) }
+    {
+        let table = Table::new(alloc, sig)?;
+        let openers = Openers::of(alloc, sig)?;
+        Ok(State {
+            table,
+            entries: Listing::new(alloc),
+            terms: Listing::new(alloc),
+            brought: 0,
+            given: 0,
+            closure: Closure::new(alloc),
+            openers,
+        })
+    }
+
+    // The number of a term, which is among the terms then.
+    pub(crate) fn put(&mut self, alloc: Global, t: &Term) -> Result<u64, Mem>
+        requires state { IsState self.old }
+        requires message { IsMessage self.old.table.sig Msg (tree t.now) }
+        requires within { node_count (tree t.now) ≤ MOST_TERM_NODES }
+        ensures state { IsState self.new }
+        ensures stays { Stays self.old self.new }
+        ensures below { IfOk result (λ n. n < length self.new.table.trees) }
+        ensures tree { IfOk result (λ n. tree_at self.new.table.trees n ≡ tree t.now) }
+        ensures listed { IfOk result (IsListed self.new.terms) }
+    {
+        let n = self.table.put(alloc, t)?;
+        list(&mut self.terms, n)?;
+        Ok(n)
+    }
+
+    // Makes a term bring its parts and its clauses.
+    fn bring_one(&mut self, alloc: Global, n: u64) -> Result<(), Mem>
+        requires state { IsState self.old }
+        requires listed { IsListed self.old.terms n }
+        ensures state { IsState self.new }
+        ensures stays { Stays self.old self.new }
+        ensures places { (k m : ℕ) → slice_get self.old.terms k ≡ Some m → slice_get self.new.terms k ≡ Some m }
+        ensures brought { self.new.brought ≡ self.old.brought }
+        ensures ok { OnOk result (IsBrought self.new.table.sig self.new.table.trees self.new.terms self.new.closure n) }
+    {
+        list_parts(&self.table, &mut self.terms, n)?;
+        bring(&self.table, &self.openers, &mut self.closure, alloc, n)
+    }
+
+    // Makes the next term bring its parts and its clauses.
+    fn bring_next(&mut self, alloc: Global) -> Result<(), Mem>
+        requires state { IsState self.old }
+        requires next { self.old.brought < length self.old.terms }
+        requires count { self.old.brought < u64.MAX }
+        ensures state { IsState self.new }
+        ensures stays { Stays self.old self.new }
+        ensures ok { OnOk result (self.new.brought ≡ self.old.brought + 1) }
+    {
+        let brought = self.brought;
+        let n = self.terms.at(brought);
+        self.bring_one(alloc, n)?;
+        self.brought = brought + 1;
+        Ok(())
+    }
+
+    // Makes each term bring its parts and its clauses.
+    fn bring_all(&mut self, alloc: Global) -> Result<(), Mem>
+        requires { IsState self.old }
+        ensures state { IsState self.new }
+        ensures stays { Stays self.old self.new }
+        ensures ok { OnOk result (length self.new.terms ≤ self.new.brought) }
+    {
+        for _ in self.brought..u64::MAX {
+            if self.brought >= self.terms.len() {
+                return Ok(());
+            }
+            self.bring_next(alloc)?;
+        }
+        let _count = self.terms.len();
+        Ok(())
+    }
+
+    // Makes the next entry known.
+    fn give_next(&mut self) -> Result<(), Mem>
+        requires state { IsState self.old }
+        requires next { self.old.given < length self.old.entries }
+        requires count { self.old.given < u64.MAX }
+        ensures state { IsState self.new }
+        ensures stays { Stays self.old self.new }
+        ensures terms { self.new.terms ≡ self.old.terms }
+        ensures brought { self.new.brought ≡ self.old.brought }
+        ensures ok { OnOk result (self.new.given ≡ self.old.given + 1) }
+    {
+        let given = self.given;
+        let n = self.entries.at(given);
+        self.closure.give(n)?;
+        self.given = given + 1;
+        Ok(())
+    }
+
+    // Makes each entry known.
+    fn give_all(&mut self) -> Result<(), Mem>
+        requires { IsState self.old }
+        ensures state { IsState self.new }
+        ensures stays { Stays self.old self.new }
+        ensures terms { self.new.terms ≡ self.old.terms }
+        ensures brought { self.new.brought ≡ self.old.brought }
+        ensures ok { OnOk result (length self.new.entries ≤ self.new.given) }
+    {
+        for _ in self.given..self.entries.len() {
+            self.give_next()?;
+        }
+        Ok(())
+    }
+
+    // Makes known all that follows from the entries, of the terms.
+    pub(crate) fn settle(&mut self, alloc: Global) -> Result<(), Mem>
+        requires { IsState self.old }
+        ensures state { IsState self.new }
+        ensures stays { Stays self.old self.new }
+        ensures brought { OnOk result (length self.new.terms ≤ self.new.brought) }
+        ensures given { OnOk result (length self.new.entries ≤ self.new.given) }
+        ensures closed { OnOk result (IsClosedUnder self.new.closure.clauses self.new.closure.known) }
+    {
+        self.bring_all(alloc)?;
+        self.give_all()?;
+        self.closure.close(alloc)
     }
 }
