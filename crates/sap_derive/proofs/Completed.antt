@@ -34,7 +34,7 @@ got-at (x ∷ xs) zero l = (x, refl)
 got-at (x ∷ xs) (suc k) l = got-at xs k (omega arith)
 
 -- what holds of the trees of all these numbers
-all-trees : (P : Tree → Type 0) (trees : List Tree) (ks : List ℕ) → ((k n : ℕ) → slice_get ks k ≡ Some n → P (tree_at trees n)) → All P (trees_at trees ks)
+pub all-trees : (P : Tree → Type 0) (trees : List Tree) (ks : List ℕ) → ((k n : ℕ) → slice_get ks k ≡ Some n → P (tree_at trees n)) → All P (trees_at trees ks)
 all-trees P trees [] h = All-nil P
 all-trees P trees (n ∷ ks) h = All-cons P (tree_at trees n) (trees_at trees ks) (h 0 n refl) (all-trees P trees ks (λ k m e. h (suc k) m e))
 

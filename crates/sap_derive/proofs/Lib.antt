@@ -1,6 +1,7 @@
 mod Brought
 mod Clausal
 mod Completed
+mod Deduced
 mod Gets
 mod Joined
 mod Made

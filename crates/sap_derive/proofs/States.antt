@@ -1,20 +1,22 @@
 -- What a search holds, where the table grows, terms come, and clauses.
 use Rattle.std.proofs.Common.{◌≡◌, ◌<◌, ◌≤◌, ◌+◌, ℕ, zero, suc, List, [], ◌∷◌, ◌++◌, length, Some, None, refl, sym, ap, ◌∙◌, ◌⊎◌, inl, inr, arith, subst}
-use Rattle.std.specs.Prelude.{slice_get, All}
-use Rattle.std.proofs.lemmas.List.{length-append}
-use Rattle.std.proofs.lemmas.List.Elements.{All-head, All-tail, All-weaker}
+use Rattle.std.specs.Prelude.{slice_get, All, Result, Ok, Err, OnOk, OnErr}
+use Rattle.std.proofs.lemmas.List.{length-append, map_push}
+use Rattle.std.proofs.lemmas.List.Elements.{All-nil, All-cons, All-head, All-tail, All-weaker}
 use Rattle.std.proofs.lemmas.Option.{slice_get_within}
 use Rattle.sap_terms.specs.Tree.{Tree, Trees, apply, trees_of, node_count}
 use Rattle.sap_terms.specs.Equations.{equations}
 use Rattle.sap_terms.specs.Normal.{IsNormal, IsNormalForm}
 use Rattle.sap_terms.specs.Signature.{Sig}
 use Rattle.sap_share.specs.Shared.{Shared, tree_at, trees_at, AreBelow, Keeps}
+use Rattle.sap_derive.specs.Found.{Searched}
 use Rattle.sap_derive.specs.Lines.{premises_of}
 use Rattle.sap_derive.specs.code.Brought.{Adds}
 use Rattle.sap_derive.specs.code.Clauses.{IsMaking, IsOpening, IsLineOn, written, applied, IsOpeningClause, IsNumbered, AreNumbered, HasClause, HaveMakings, HaveOpenings, ArePartsListed}
 use Rattle.sap_derive.specs.code.Closed.{IsClosure, IsGiven, Grows}
 use Rattle.sap_derive.specs.code.Listed.{IsListed, AreListed}
-use Rattle.sap_derive.specs.code.States.{IsTerm, IsBrought, IsStateOf}
+use Rattle.sap_derive.specs.code.States.{IsTerm, IsBrought, IsStateOf, IsState, Stays, seen}
+use Rattle.sap_derive.specs.declared.state.State.{State}
 use Rattle.sap_derive.specs.declared.clause.Clause.{Clause}
 use Rattle.sap_derive.specs.declared.closure.Closure.{Closure}
 use Rattle.sap_derive.specs.declared.line.Line.{Line}
@@ -26,7 +28,7 @@ use Rattle.std.specs.Prelude.{Vec}
 use Rattle.std.specs.declared.alloc.Global.{Global}
 use Rattle.std.proofs.lemmas.List.{append_assoc}
 use Rattle.sap_derive.proofs.Completed.{got-at}
-use Rattle.sap_derive.proofs.Gets.{same-or_not, append-none}
+use Rattle.sap_derive.proofs.Gets.{same-or_not, append-none, get-more, get-last_cases}
 
 -- a tree keeps its number
 pub tree-more : (trees added : List Tree) (n : ℕ) → n < length trees → tree_at (trees ++ added) n ≡ tree_at trees n
@@ -120,6 +122,11 @@ module _ (g : Sig) (trees added : List Tree) where
             (has-more closure.clauses (tree_at trees n ∷ rest) t all (b.openings rest t (subst (λ (h : Tree). IsOpening g h rest t) e o)));
       }
 
+-- what holds of all these numbers
+pub all-numbers : (P : ℕ → Type 0) (ks : List ℕ) → ((k n : ℕ) → slice_get ks k ≡ Some n → P n) → All P ks
+all-numbers P [] h = All-nil P
+all-numbers P (n ∷ ks) h = All-cons P n ks (h 0 n refl) (all-numbers P ks (λ k m e. h (suc k) m e))
+
 module _ (s : Shared) (entries terms : List ℕ) (brought given : ℕ) (closure : Closure) (openers : Openers) (state : IsStateOf s entries terms brought given closure openers) where
   state_more : (added : List Tree) → IsStateOf (record { sig = s.sig; trees = s.trees ++ added }) entries terms brought given closure openers
   state_more added = record {
@@ -131,6 +138,7 @@ module _ (s : Shared) (entries terms : List ℕ) (brought given : ℕ) (closure 
     numbered = λ c k e. numbered-more s.sig s.trees added k (state.numbered c k e);
     closed = state.closed;
     given_are = state.given_are;
+    given_within = state.given_within;
     given_known = state.given_known;
     openers_are = state.openers_are;
   }
@@ -152,6 +160,7 @@ module _ (s : Shared) (entries terms : List ℕ) (brought given : ℕ) (closure 
     numbered = state.numbered;
     closed = state.closed;
     given_are = state.given_are;
+    given_within = state.given_within;
     given_known = state.given_known;
     openers_are = state.openers_are;
   } where
@@ -191,6 +200,7 @@ module _ (s : Shared) (entries terms : List ℕ) (brought given : ℕ) (closure 
     numbered = numbered;
     closed = closed;
     given_are = gives;
+    given_within = state.given_within;
     given_known = λ k n l e. known n (state.given_known k n l e);
     openers_are = state.openers_are;
   } where
@@ -229,6 +239,7 @@ module _ (s : Shared) (entries terms : List ℕ) (brought given : ℕ) (closure 
     numbered = state.numbered;
     closed = state.closed;
     given_are = state.given_are;
+    given_within = state.given_within;
     given_known = state.given_known;
     openers_are = state.openers_are;
   }
@@ -243,6 +254,7 @@ module _ (s : Shared) (entries terms : List ℕ) (brought given : ℕ) (closure 
     numbered = state.numbered;
     closed = state.closed;
     given_are = state.given_are;
+    given_within = (let l = slice_get_within entries given n at in omega arith);
     given_known = λ k m l e.
         elim (same-or_not k given)
         [ inl q ↦ let here = subst (λ (i : ℕ). slice_get entries i ≡ Some m) q e in
@@ -251,6 +263,28 @@ module _ (s : Shared) (entries terms : List ℕ) (brought given : ℕ) (closure 
         | inr q ↦ state.given_known k m (omega arith) e ];
     openers_are = state.openers_are;
   }
+
+  -- an entry has come
+  pub state-entered : (n : ℕ) → IsListed terms n → IsStateOf s (entries ++ n ∷ []) terms brought given closure openers
+  state-entered n listed = record {
+    terms_are = state.terms_are;
+    entries_are = λ k m e. elim (get-last_cases entries n k m e) [ inl x ↦ state.entries_are k m x | inr x ↦ subst (λ (i : ℕ). IsListed terms i) (sym x.1) listed ];
+    brought_within = state.brought_within;
+    brought_are = state.brought_are;
+    numbered = state.numbered;
+    closed = state.closed;
+    given_are = λ m x. let l = state.given_are m x in (l.0, get-more entries (n ∷ []) l.0 m l.1);
+    given_within = (let l = length-append entries (n ∷ []) in let w = state.given_within in omega arith);
+    given_known = λ k m l e.
+        elim (get-last_cases entries n k m e) [ inl x ↦ state.given_known k m l x | inr x ↦ (let w = state.given_within in absurd (omega (arith, x.0))) ];
+    openers_are = state.openers_are;
+  }
+
+  -- the entries' terms are as they were
+  pub entries-stay : (t : Shared) → Keeps s t → trees_at t.trees entries ≡ trees_at s.trees entries
+  entries-stay t k = ap (λ (ts : List Tree). trees_at ts entries) k.trees ∙ trees-more s.trees k.added entries below where
+    below : AreBelow (length s.trees) entries
+    below = all-numbers (λ (i : ℕ). i < length s.trees) entries (λ i n e. let l = state.entries_are i n e in (state.terms_are l.0 n l.1).below)
 
 -- nothing was written
 pub keeps-same : (s : Shared) → Keeps s s
@@ -262,3 +296,40 @@ keeps-then s t u a b = record {
   added = a.added ++ b.added;
   trees = b.trees ∙ ap (λ (ts : List Tree). ts ++ b.added) a.trees ∙ simp append_assoc;
 }
+
+-- what is seen of a search stays
+pub seen-stays : (old new : State) → IsState old → Stays old new → seen new ≡ seen old
+seen-stays old new state stays =
+    let trees = ap (λ (es : List ℕ). trees_at new.table.trees es) stays.entries ∙ entries-stay old.table old.entries old.terms old.brought old.given old.closure old.openers state new.table stays.table in
+    λ i. record { sig = stays.table.sig i; entries = trees i }
+
+-- where an entry was put last or refused, it is a state
+pub state-pushed : {T E : Type 0} (r : Result T E) (s : Shared) (entries more terms : List ℕ) (brought given : ℕ) (closure : Closure) (openers : Openers) (n : ℕ)
+    → IsStateOf s entries terms brought given closure openers → IsListed terms n → OnOk r (more ≡ entries ++ n ∷ []) → OnErr r (more ≡ entries) → IsStateOf s more terms brought given closure openers
+state-pushed (Ok t) s entries later terms brought given closure openers n state listed e f =
+    subst (λ (es : List ℕ). IsStateOf s es terms brought given closure openers) (sym e) (state-entered s entries terms brought given closure openers state n listed)
+state-pushed (Err t) s entries later terms brought given closure openers n state listed e f =
+    subst (λ (es : List ℕ). IsStateOf s es terms brought given closure openers) (sym f) state
+
+-- what is seen of a search that got an entry
+pub seen-entered : (old new : State) (n : ℕ) (t : Tree) (v : Searched) → new.table ≡ old.table → new.entries ≡ old.entries ++ n ∷ [] → tree_at old.table.trees n ≡ t → seen old ≡ v
+    → seen new ≡ record { sig = v.sig; entries = v.entries ++ t ∷ [] }
+seen-entered old new n t v table entries tree is =
+    let trees : trees_at new.table.trees new.entries ≡ trees_at old.table.trees (old.entries ++ n ∷ []) =
+        ap (λ (x : Shared). trees_at x.trees new.entries) table ∙ ap (λ (es : List ℕ). trees_at old.table.trees es) entries in
+    let pushed : trees_at old.table.trees (old.entries ++ n ∷ []) ≡ trees_at old.table.trees old.entries ++ tree_at old.table.trees n ∷ [] = rw map_push refl in
+    let whole : trees_at new.table.trees new.entries ≡ v.entries ++ t ∷ [] =
+        trees ∙ pushed ∙ ap (λ (u : Tree). trees_at old.table.trees old.entries ++ u ∷ []) tree ∙ ap (λ (x : Searched). x.entries ++ t ∷ []) is in
+    let sig : new.table.sig ≡ v.sig = ap (λ (x : Shared). x.sig) table ∙ ap (λ (x : Searched). x.sig) is in
+    λ i. record { sig = sig i; entries = whole i }
+
+-- of one that got none
+pub seen-same : (old new : State) (v : Searched) → new.table ≡ old.table → new.entries ≡ old.entries → seen old ≡ v → seen new ≡ v
+seen-same old new v table entries is =
+    let trees : trees_at new.table.trees new.entries ≡ trees_at old.table.trees old.entries = ap (λ (x : Shared). trees_at x.trees new.entries) table ∙ ap (λ (es : List ℕ). trees_at old.table.trees es) entries in
+    let same : seen new ≡ seen old = λ i. record { sig = ap (λ (x : Shared). x.sig) table i; entries = trees i } in
+    same ∙ is
+
+-- a number means what it meant
+pub tree-kept : (s t : Shared) (n : ℕ) → Keeps s t → n < length s.trees → tree_at t.trees n ≡ tree_at s.trees n
+tree-kept s t n k l = ap (λ (ts : List Tree). tree_at ts n) k.trees ∙ tree-more s.trees k.added n l

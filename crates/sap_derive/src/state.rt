@@ -1,5 +1,6 @@
 // What a search holds: terms with their numbers, entries, and what follows from these.
-ghost use Rattle.std.specs.Prelude.{◌≡◌, ◌<◌, ◌≤◌, ◌+◌, ◌⊎◌, ℕ, [], ◌∷◌, length, slice_get, Some, IfOk, OnOk};
+ghost use Rattle.std.specs.Prelude.{◌≡◌, ◌<◌, ◌≤◌, ◌+◌, ◌⊎◌, ◌↔◌, IsTrue, ℕ, [], ◌∷◌, ◌++◌, length, slice_get, Some, IfOk, OnOk, OnErr};
+ghost use Rattle.sap_terms.specs.Deduce.{IsDeducible};
 ghost use Rattle.sap_terms.specs.Message.{IsMessage};
 ghost use Rattle.sap_terms.specs.Tree.{node_count};
 ghost use Rattle.sap_terms.specs.View.{tree};
@@ -14,6 +15,7 @@ use crate::bring::bring;
 use crate::closure::Closure;
 use crate::listing::Listing;
 use crate::openers::Openers;
+use sap_rewrite::{normal_forms_are_unique, symbols_reduce_once};
 use sap_share::{Node, Table};
 use sap_terms::{MOST_TERM_NODES, Mem, Numbers, Signature, Term};
 use std::alloc::Global;
@@ -197,5 +199,35 @@ impl State {
         self.bring_all(alloc)?;
         self.give_all()?;
         self.closure.close(alloc)
+    }
+}
+
+impl State {
+    // Whether a term among the terms is deducible from the entries, once all that follows is known.
+    pub(crate) fn is_known(&self, n: u64) -> bool
+        requires state { IsState self.now }
+        requires brought { length self.now.terms ≤ self.now.brought }
+        requires given { length self.now.entries ≤ self.now.given }
+        requires closed { IsClosedUnder self.now.closure.clauses self.now.closure.known }
+        requires listed { IsListed self.now.terms n }
+        ensures { IsTrue result ↔ IsDeducible self.now.table.sig [] (seen self.now).entries (tree_at self.now.table.trees n) }
+    {
+        normal_forms_are_unique();
+        symbols_reduce_once();
+        self.table.signature().builtins_are_held();
+        self.table.each_has_one_number();
+        self.closure.known.place(n).is_some()
+    }
+
+    // Makes a term the last entry, which is among the terms.
+    pub(crate) fn enter(&mut self, n: u64) -> Result<(), Mem>
+        requires state { IsState self.old }
+        requires listed { IsListed self.old.terms n }
+        ensures state { IsState self.new }
+        ensures table { self.new.table ≡ self.old.table }
+        ensures ok { OnOk result (self.new.entries ≡ self.old.entries ++ n ∷ []) }
+        ensures err { OnErr result (self.new.entries ≡ self.old.entries) }
+    {
+        self.entries.push(n)
     }
 }

@@ -36,6 +36,7 @@ pub record IsStateOf (s : Shared) (entries terms : List ℕ) (brought given : �
   pub numbered : AreNumbered s.sig s.trees closure.clauses
   pub closed : IsClosure closure
   pub given_are : (n : ℕ) → IsGiven closure n → IsListed entries n
+  pub given_within : given ≤ length entries
   pub given_known : (k n : ℕ) → k < given → slice_get entries k ≡ Some n → IsListed closure.known n
   pub openers_are : AreOpeners s.sig openers
 
