@@ -1,18 +1,18 @@
 -- The clauses that terms bring.
-use Rattle.std.proofs.Common.{◌≡◌, ◌<◌, ℕ, Bool, true, List, [], ◌∷◌, ◌++◌, length, Some, None, refl, sym, ap, ◌∙◌, ◌⊎◌, inl, inr, arith, subst, IsTrue}
+use Rattle.std.proofs.Common.{◌≡◌, ◌<◌, ℕ, Bool, true, List, [], ◌∷◌, ◌++◌, length, Some, None, refl, sym, ap, ◌∙◌, inl, inr, subst, IsTrue}
 use Rattle.std.specs.Prelude.{slice_get, Result, Ok, Err, OnOk, OnErr, Option, All}
 use Rattle.std.proofs.lemmas.List.Elements.{All-nil, All-cons}
 use Rattle.std.proofs.lemmas.List.{length-map}
-use Rattle.sap_terms.specs.Tree.{Tree, public, fresh, apply, Trees, none, more, trees_of, list_of, list_of-trees_of}
+use Rattle.sap_terms.specs.Tree.{Tree, public, fresh, apply, trees_of, list_of, list_of-trees_of}
 use Rattle.sap_terms.specs.Signature.{Sig, IsPublic, arity_of}
 use Rattle.sap_terms.specs.Equal.{same}
 use Rattle.sap_terms.specs.Equations.{equations, IsInstance, first, second, symmetric, asymmetric, revealed, app1, app2, pair_name, fst_name, snd_name, senc_name, sdec_name, aenc_name, adec_name, pk_name, reveal_sign_name, get_message_name}
-use Rattle.sap_terms.specs.Normal.{IsNormal, AreNormal}
+use Rattle.sap_terms.specs.Normal.{IsNormal}
 use Rattle.sap_rewrite.specs.Laws.{SymbolsReduceOnce}
 use Rattle.sap_share.specs.Shared.{tree_at, trees_at, AreBelow}
-use Rattle.sap_derive.specs.Lines.{premises_of}
+use Rattle.sap_derive.specs.code.Lines.{premises_of}
 use Rattle.sap_derive.specs.code.Brought.{Adds}
-use Rattle.sap_derive.specs.code.Clauses.{CanApply, IsMaking, writes, composes, IsOpening, takes_first, takes_second, decrypts, decrypts_by_secret, reads_signed, IsLineOn, written, applied, IsNumbered, AreNumbered, HasClause, HaveMakings, HaveOpenings}
+use Rattle.sap_derive.specs.code.Clauses.{CanApply, IsMaking, writes, composes, IsOpening, takes_first, takes_second, decrypts, decrypts_by_secret, reads_signed, IsLineOn, written, applied, IsNumbered, AreNumbered, HasClause}
 use Rattle.sap_derive.specs.code.Openers.{IsOpener, AreOpeners}
 use Rattle.sap_derive.specs.declared.clause.Clause.{Clause}
 use Rattle.sap_derive.specs.declared.closure.Closure.{Closure}

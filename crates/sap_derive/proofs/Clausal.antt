@@ -1,14 +1,14 @@
 -- What is closed under the clauses is saturated.
 use Rattle.std.proofs.Common.{◌≡◌, ℕ, true, List, [], ◌∷◌, length, Some, refl, sym, ap, subst, ◌∙◌, ◌⊎◌, inl, inr, arith}
-use Rattle.std.specs.Prelude.{All, Contains}
+use Rattle.std.specs.Prelude.{All}
 use Rattle.std.proofs.lemmas.List.Elements.{All-nil, All-head}
-use Rattle.sap_terms.specs.Tree.{Tree, public, fresh, apply, Trees, none, more, trees_of, list_of, list_of-trees_of}
+use Rattle.sap_terms.specs.Tree.{Tree, public, apply, Trees, none, more, trees_of, list_of, list_of-trees_of}
 use Rattle.sap_terms.specs.Signature.{Sig, IsPublic, arity_of, HoldsBuiltins}
 use Rattle.sap_terms.specs.Equations.{equations, IsInstance, first, second, symmetric, asymmetric, signing, revealing, revealed, app0, app1, app2, pair_name, fst_name, snd_name, senc_name, sdec_name, aenc_name, adec_name, pk_name, reveal_sign_name, get_message_name, true_name}
 use Rattle.sap_terms.specs.Normal.{IsNormal, AreNormal, IsNoLeftSide, IsNormalForm}
 use Rattle.sap_rewrite.specs.Laws.{FormIsOne, SymbolsReduceOnce}
 use Rattle.sap_derive.specs.code.Saturated.{IsSaturated}
-use Rattle.sap_derive.specs.code.Clauses.{CanApply, IsMaking, IsOpening, writes, composes, takes_first, takes_second, decrypts, decrypts_by_secret, reads_signed, IsClosedOver}
+use Rattle.sap_derive.specs.code.Clauses.{CanApply, IsOpening, writes, composes, takes_first, takes_second, decrypts, decrypts_by_secret, reads_signed, IsClosedOver}
 use Rattle.sap_derive.proofs.Openings.{truth_found, found-public, found-arity}
 
 module _ (one : FormIsOne) (once : SymbolsReduceOnce) (g : Sig) (A K : Tree → Type 0) (builtins : HoldsBuiltins g) (normal : (t : Tree) → A t → IsNormal (equations g) t) (closed : IsClosedOver g A K) where
@@ -47,8 +47,10 @@ module _ (one : FormIsOne) (once : SymbolsReduceOnce) (g : Sig) (A K : Tree → 
   applied-known f ts t p n k a h form = at (once.side (equations g) f (trees_of ts)) where
     can : CanApply g f (length ts)
     can = record { public_symbol = p; arity = n }
+
     args : AreNormal (equations g) (trees_of ts)
     args = once.of_lists (equations g) ts (λ i d l. normal _ (a i d l))
+
     at : ((r : Tree) × IsInstance (equations g) (apply f (trees_of ts)) r) ⊎ IsNoLeftSide (equations g) (apply f (trees_of ts)) → K t
     at (inl left) =
         let reduced = once.right_side_is_form (equations g) f (trees_of ts) left.0 args left.1 in

@@ -1,23 +1,21 @@
 -- What is deducible from the entries is known, once all clauses are there and what is known is closed.
-use Rattle.std.proofs.Common.{◌≡◌, ◌<◌, ◌≤◌, ℕ, zero, suc, List, [], ◌∷◌, length, Some, None, refl, sym, ap, ◌∙◌, ◌⊎◌, inl, inr, arith, subst}
+use Rattle.std.proofs.Common.{◌≡◌, ◌<◌, ◌≤◌, ℕ, zero, suc, List, [], ◌∷◌, length, Some, refl, sym, arith, subst}
 use Rattle.std.specs.Prelude.{slice_get, All}
 use Rattle.std.proofs.lemmas.List.Elements.{All-nil, All-cons}
-use Rattle.std.proofs.lemmas.Option.{slice_get_within, slice_get-get_or}
-use Rattle.sap_terms.specs.Tree.{Tree, Trees, apply, trees_of}
+use Rattle.std.proofs.lemmas.Option.{slice_get_within}
+use Rattle.sap_terms.specs.Tree.{Tree}
 use Rattle.sap_terms.specs.Deduce.{IsDeducible}
 use Rattle.sap_terms.specs.Equations.{equations}
 use Rattle.sap_terms.specs.Normal.{IsNormal}
-use Rattle.sap_terms.specs.Signature.{Sig, HoldsBuiltins}
+use Rattle.sap_terms.specs.Signature.{HoldsBuiltins}
 use Rattle.sap_rewrite.specs.Laws.{FormIsOne, SymbolsReduceOnce}
 use Rattle.sap_share.specs.Shared.{Shared, tree_at, trees_at, AreBelow, HaveOneNumber}
-use Rattle.sap_derive.specs.Lines.{premises_of}
-use Rattle.sap_derive.specs.Near.{IsAmong}
+use Rattle.sap_derive.specs.code.Lines.{premises_of}
 use Rattle.sap_derive.specs.code.Clauses.{IsMaking, IsOpening, IsClosedOver, HasClause}
-use Rattle.sap_derive.specs.code.Closed.{IsClosedUnder, IsGiven}
+use Rattle.sap_derive.specs.code.Closed.{IsClosedUnder}
 use Rattle.sap_derive.specs.code.Listed.{IsListed, AreListed}
 use Rattle.sap_derive.specs.code.Saturated.{HaveParts}
 use Rattle.sap_derive.specs.code.States.{IsStateOf}
-use Rattle.sap_derive.specs.declared.clause.Clause.{Clause}
 use Rattle.sap_derive.specs.declared.closure.Closure.{Closure}
 use Rattle.sap_derive.specs.declared.openers.Openers.{Openers}
 use Rattle.sap_derive.specs.declared.way.Way.{Way}
@@ -44,6 +42,7 @@ module _ (s : Shared) (entries terms : List ℕ) (brought given : ℕ) (closure 
   known-below n l = at (got-at closure.ways.items l.0 within) where
     within : l.0 < length closure.ways.items
     within = (let b = slice_get_within closure.known l.0 n l.1 in let c = state.closed.sound.count in omega arith)
+
     at : (w : Way) × (slice_get closure.ways.items l.0 ≡ Some w) → n < length s.trees
     at (Given, e) =
         let there = state.given_are n (record { rank = l.0; is = l.1; way = e }) in
@@ -69,6 +68,7 @@ module _ (s : Shared) (entries terms : List ℕ) (brought given : ℕ) (closure 
     uses ts t h all = (h.clause.gives, closed h.index h.clause h.at listed, h.gives) where
       is : AreBelow (length s.trees) (premises_of h.clause.line)
       is = (state.numbered h.index h.clause h.at).below
+
       listed : AreListed closure.known (premises_of h.clause.line)
       listed k n e =
           let known = all-got K (trees_at s.trees (premises_of h.clause.line)) k (tree_at s.trees n) (subst (λ (us : List Tree). All K us) (sym h.asks) all) (tree-got s.trees (premises_of h.clause.line) k n e) in

@@ -1,19 +1,17 @@
 -- What is known is deducible from the entries.
-use Rattle.std.proofs.Common.{◌≡◌, ◌<◌, ◌≤◌, ℕ, zero, suc, List, [], ◌∷◌, length, get_or, Some, None, refl, sym, ap, ◌∙◌, ◌⊎◌, inl, inr, arith, subst}
-use Rattle.std.specs.Prelude.{slice_get, All, Contains}
+use Rattle.std.proofs.Common.{◌≡◌, ◌<◌, ◌≤◌, ℕ, zero, suc, List, [], ◌∷◌, length, get_or, Some, refl, sym, ap, ◌∙◌, ◌⊎◌, inl, inr, arith, subst}
+use Rattle.std.specs.Prelude.{slice_get, Contains}
 use Rattle.std.proofs.lemmas.List.{length-map}
 use Rattle.std.proofs.lemmas.Option.{slice_get_within, get_or_from_slice_get}
 use Rattle.sap_terms.proofs.PlainLaws.Items.{contains_got, first_item, later_item}
-use Rattle.sap_terms.specs.Tree.{Tree, public, apply, trees_of}
+use Rattle.sap_terms.specs.Tree.{Tree}
 use Rattle.sap_terms.specs.Deduce.{IsDerived, a_public, given, applied, IsDerivation, IsDeducible}
 use Rattle.sap_terms.specs.Equal.{same}
 use Rattle.sap_terms.specs.Equations.{equations}
 use Rattle.sap_terms.specs.Normal.{IsNormal}
-use Rattle.sap_terms.specs.Signature.{Sig}
 use Rattle.sap_share.specs.Shared.{Shared, tree_at, trees_at}
-use Rattle.sap_derive.specs.Lines.{premises_of}
+use Rattle.sap_derive.specs.code.Lines.{premises_of}
 use Rattle.sap_derive.specs.code.Clauses.{IsLineOn, written, applied as applied_on}
-use Rattle.sap_derive.specs.code.Closed.{IsStep}
 use Rattle.sap_derive.specs.code.Listed.{IsListed}
 use Rattle.sap_derive.specs.code.States.{IsStateOf}
 use Rattle.sap_derive.specs.declared.closure.Closure.{Closure}
@@ -55,6 +53,7 @@ module _ (s : Shared) (entries terms : List ℕ) (brought done : ℕ) (closure :
   derived k n e = at (got-at closure.ways.items k within) where
     within : k < length closure.ways.items
     within = (let b = slice_get_within closure.known k n e in let c = state.closed.sound.count in omega arith)
+
     at : (w : Way) × (slice_get closure.ways.items k ≡ Some w) → IsDerived s.sig [] frame (front k) (tree_at s.trees n)
     at (Given, w) =
         let there = state.given_are n (record { rank = k; is = e; way = w }) in

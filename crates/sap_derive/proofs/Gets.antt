@@ -1,9 +1,8 @@
 -- Items of lists by their indexes.
-use Rattle.std.proofs.Common.{◌≡◌, ◌<◌, ◌≤◌, ◌+◌, ◌-◌, ℕ, zero, suc, List, [], ◌∷◌, ◌++◌, length, Some, refl, ap, ◌⊎◌, inl, inr, arith}
-use Rattle.std.specs.Prelude.{slice_get, slice_set, Option, All}
+use Rattle.std.proofs.Common.{◌≡◌, ◌<◌, ◌+◌, ℕ, zero, suc, List, [], ◌∷◌, ◌++◌, length, Some, refl, ap, ◌⊎◌, inl, inr, arith}
+use Rattle.std.specs.Prelude.{slice_get, slice_set, All}
 use Rattle.std.proofs.lemmas.List.Elements.{All-contains}
 use Rattle.sap_terms.proofs.PlainLaws.Items.{contains_got}
-use Rattle.std.proofs.lemmas.Option.{slice_get_within}
 
 -- an item stays where more is put last
 pub get-more : {X : Type 0} (xs ys : List X) (k : ℕ) (x : X) → slice_get xs k ≡ Some x → slice_get (xs ++ ys) k ≡ Some x

@@ -1,4 +1,5 @@
 mod Brought
+mod ByHand
 mod Clausal
 mod Completed
 mod Deduced

@@ -115,16 +115,16 @@ module _ (one : FormIsOne) (once : SymbolsReduceOnce) (g : Sig) (names : List �
         let shape : trees_of ts ≡ more (apply c vs) us = cc in
         let list : ts ≡ apply c vs ∷ list_of us = sym (list_of-trees_of ts) ∙ ap list_of shape in
         go list (subst AllMade shape ms) where
-      go : ts ≡ apply c vs ∷ list_of us → AllMade (more (apply c vs) us) → Made r
-      go list (one_more m rest) = from (made-part (apply c vs) m c vs refl) where
-        from : A (apply c vs) × K (apply c vs) ⊎ AllMade vs → Made r
-        from (inr made) = among-made r vs a made
-        from (inl k) =
-            let others = standing-known (apply c vs) us k.0 s rest in
-            let here : A r = parts c vs r k.0 a in
-            let all_a : All A ts = rw list (All-cons A (apply c vs) (list_of us) k.0 others.0) in
-            let all_k : All K ts = rw list (All-cons K (apply c vs) (list_of us) k.1 others.1) in
-            known here (full.applied f ts r p n all_k all_a here form)
+          go : ts ≡ apply c vs ∷ list_of us → AllMade (more (apply c vs) us) → Made r
+          go list (one_more m rest) = from (made-part (apply c vs) m c vs refl) where
+            from : A (apply c vs) × K (apply c vs) ⊎ AllMade vs → Made r
+            from (inr made) = among-made r vs a made
+            from (inl k) =
+                let others = standing-known (apply c vs) us k.0 s rest in
+                let here : A r = parts c vs r k.0 a in
+                let all_a : All A ts = rw list (All-cons A (apply c vs) (list_of us) k.0 others.0) in
+                let all_k : All K ts = rw list (All-cons K (apply c vs) (list_of us) k.1 others.1) in
+                known here (full.applied f ts r p n all_k all_a here form)
 
   -- so is its normal form, whether an equation reduces it or not
   applied-made : (f : List ℕ) (ts : List Tree) (t : Tree) → IsPublic g f → arity_of g f ≡ Some (length ts) → All Made ts
@@ -132,6 +132,7 @@ module _ (one : FormIsOne) (once : SymbolsReduceOnce) (g : Sig) (names : List �
   applied-made f ts t p n m form = at (once.side (equations g) f (trees_of ts)) where
     ms : AllMade (trees_of ts)
     ms = all-made ts m
+
     at : ((r : Tree) × IsInstance (equations g) (apply f (trees_of ts)) r) ⊎ IsNoLeftSide (equations g) (apply f (trees_of ts)) → Made t
     at (inl left) =
         let reduced = once.right_side_is_form (equations g) f (trees_of ts) left.0 (all_made-normal (trees_of ts) ms) left.1 in

@@ -88,6 +88,6 @@ module _ (g : Sig) (names : List ℕ) (frame : List Tree) (goal : Tree) where
 pub derivations-stay-near : FormIsOne → SymbolsReduceOnce → DerivationsStayNear
 derivations-stay-near one once g names frame goal builtins sent normal d =
     let reached = deduced-known one once g names frame (IsNear frame goal) (Reached g names frame goal) builtins (near-parts g names frame goal)
-        (λ t a. stands-normal (equations g) t a.above a.stands (All-contains (IsNormal (equations g)) (goal ∷ frame) a.above (All-cons (IsNormal (equations g)) goal frame normal sent) a.among))
-        (near-frame g names frame goal) (reached-saturated g names frame goal) goal (near-goal g names frame goal) d in
+    (λ t a. stands-normal (equations g) t a.above a.stands (All-contains (IsNormal (equations g)) (goal ∷ frame) a.above (All-cons (IsNormal (equations g)) goal frame normal sent) a.among))
+    (near-frame g names frame goal) (reached-saturated g names frame goal) goal (near-goal g names frame goal) d in
     record { earlier = reached.earlier; derivation = reached.derivation; near = reached.near }

@@ -1,5 +1,5 @@
 -- What is known where an option has a value, or none.
-use Rattle.std.proofs.Common.{◌≡◌, ℕ, true, false, Some, None, refl}
+use Rattle.std.proofs.Common.{◌≡◌, true, false, Some, None, refl}
 use Rattle.std.specs.Prelude.{Option, IfSome, IfNone, is_some, Result, Ok, Err, OnErr}
 
 pub from-some : {X : Type 0} (o : Option X) (P : X → Type 0) → IfSome o P → is_some o ≡ true → (x : X) × P x

@@ -1,15 +1,14 @@
 -- The parts of terms, by their numbers.
-use Rattle.std.proofs.Common.{◌≡◌, ◌<◌, ◌≤◌, ◌+◌, ℕ, zero, suc, List, [], ◌∷◌, length, Some, None, refl, sym, ap, ◌∙◌, arith, subst}
-use Rattle.std.specs.Prelude.{slice_get, map}
-use Rattle.std.proofs.lemmas.Option.{slice_get_within}
-use Rattle.sap_terms.specs.Tree.{Tree, Trees, none, more, public, fresh, apply, trees_of, node_count, trees_count}
+use Rattle.std.proofs.Common.{◌≡◌, ◌<◌, ◌≤◌, ◌+◌, ℕ, zero, suc, List, [], ◌∷◌, Some, refl, sym, ap, ◌∙◌, arith, subst}
+use Rattle.std.specs.Prelude.{slice_get}
+use Rattle.sap_terms.specs.Tree.{Tree, Trees, apply, trees_of, node_count, trees_count}
 use Rattle.sap_terms.specs.Equations.{equations, Equations}
 use Rattle.sap_terms.specs.Normal.{IsNormal, AreNormal}
 use Rattle.sap_terms.specs.Signature.{Sig}
-use Rattle.sap_share.specs.Shared.{tree_at, trees_at, node_tree, AreBelow}
+use Rattle.sap_share.specs.Shared.{tree_at, trees_at, AreBelow}
 use Rattle.sap_derive.specs.Near.{IsAmong, first_one, other}
 use Rattle.sap_derive.specs.code.Clauses.{ArePartsListed}
-use Rattle.sap_derive.specs.code.Listed.{IsListed, AreListed}
+use Rattle.sap_derive.specs.code.Listed.{AreListed}
 use Rattle.sap_derive.specs.code.States.{IsTerm}
 use Rattle.sap_derive.proofs.Gets.{all-got}
 

@@ -1,6 +1,6 @@
 -- Places of numbers where a number is put last.
-use Rattle.std.proofs.Common.{◌≡◌, ◌<◌, ℕ, List, [], ◌∷◌, ◌++◌, length, Some, refl, sym, ◌∙◌, ◌⊎◌, inl, inr, arith, subst}
-use Rattle.std.specs.Prelude.{slice_get, slice_set, nat_eq}
+use Rattle.std.proofs.Common.{◌≡◌, ◌<◌, ℕ, List, [], ◌∷◌, ◌++◌, length, Some, sym, ◌∙◌, ◌⊎◌, inl, inr, subst}
+use Rattle.std.specs.Prelude.{slice_get, slice_set}
 use Rattle.sap_derive.specs.code.Listed.{IsListed, TellPlaces}
 use Rattle.sap_derive.proofs.Gets.{get-more, get-last, get-last_cases, get-set, get-set_other}
 
@@ -9,6 +9,7 @@ pub places-again : (places items : List ℕ) (n : ℕ) → TellPlaces places ite
 places-again places items n h l m k e = at (get-last_cases items n k m e) where
   there : (j : ℕ) → slice_get items j ≡ Some m → (p : ℕ) × (slice_get places m ≡ Some p) × (slice_get (items ++ n ∷ []) p ≡ Some m)
   there j g = let p = h m j g in (p.0, p.1, get-more items (n ∷ []) p.0 m p.2)
+
   at : (slice_get items k ≡ Some m) ⊎ ((k ≡ length items) × (m ≡ n)) → (p : ℕ) × (slice_get places m ≡ Some p) × (slice_get (items ++ n ∷ []) p ≡ Some m)
   at (inl g) = there k g
   at (inr r) = there l.0 (l.1 ∙ (cc))

@@ -1,11 +1,11 @@
 -- What clauses that were looked at have to do with what is known: they have given their numbers, or wait.
-use Rattle.std.proofs.Common.{◌≡◌, ◌<◌, ◌≤◌, ◌+◌, ℕ, zero, suc, List, [], ◌∷◌, ◌++◌, length, Some, refl, sym, ap, ◌∙◌, ◌⊎◌, inl, inr, arith, subst}
+use Rattle.std.proofs.Common.{◌≡◌, ◌<◌, ◌≤◌, ◌+◌, ℕ, List, length, Some, refl, sym, ap, ◌∙◌, ◌⊎◌, inl, inr, arith, subst}
 use Rattle.std.specs.Prelude.{slice_get, Vec}
 use Rattle.std.specs.declared.alloc.Global.{Global}
 use Rattle.std.proofs.lemmas.Option.{slice_get_within}
-use Rattle.sap_derive.specs.Lines.{premises_of}
-use Rattle.sap_derive.specs.code.Closed.{IsWaitAt, KeepsWaits, IsWait, IsSoundOf, IsSound, IsUsed, IsWaiting, IsAhead, AreSettled, IsClosure, IsGiven, KeepsKnown, Grows, Advances, IsClosedUnder}
-use Rattle.sap_derive.specs.code.Listed.{IsListed, AreListed}
+use Rattle.sap_derive.specs.code.Lines.{premises_of}
+use Rattle.sap_derive.specs.code.Closed.{IsWaitAt, KeepsWaits, IsSound, IsUsed, IsWaiting, IsAhead, AreSettled, IsClosure, KeepsKnown, Grows, Advances, IsClosedUnder}
+use Rattle.sap_derive.specs.code.Listed.{IsListed}
 use Rattle.sap_derive.specs.declared.clause.Clause.{Clause}
 use Rattle.sap_derive.specs.declared.closure.Closure.{Closure}
 use Rattle.sap_derive.specs.declared.way.Wait.{Wait}
@@ -25,12 +25,12 @@ settled-kept cs ds known new_known waiting new_waiting done looked clauses withi
     inl (record { clause = u.clause; is = clauses c u.clause u.is; gives = (u.gives.0, kept u.gives.0 u.clause.gives u.gives.1) })
 settled-kept cs ds known new_known waiting new_waiting done looked clauses within none kept later waits c (inr a) =
     inr (record { number = a.number; index = a.index; wait = a.wait; at = waits a.number a.index a.wait a.at; clause = a.clause; ahead = ahead }) where
-  ahead : (rank : ℕ) → slice_get new_known rank ≡ Some a.number → (done < rank) ⊎ ((done ≡ rank) × (looked ≤ a.index))
-  ahead rank e = go (later rank a.number e) (same-or_not done rank) where
-    go : (slice_get known rank ≡ Some a.number) ⊎ (length known ≤ rank) → (done ≡ rank) ⊎ ¬ (done ≡ rank) → (done < rank) ⊎ ((done ≡ rank) × (looked ≤ a.index))
-    go (inl old) _ = a.ahead rank old
-    go (inr behind) (inl same) = let none_yet = none (omega (arith, behind)) in inr (same, omega arith)
-    go (inr behind) (inr other) = inl (omega arith)
+      ahead : (rank : ℕ) → slice_get new_known rank ≡ Some a.number → (done < rank) ⊎ ((done ≡ rank) × (looked ≤ a.index))
+      ahead rank e = go (later rank a.number e) (same-or_not done rank) where
+        go : (slice_get known rank ≡ Some a.number) ⊎ (length known ≤ rank) → (done ≡ rank) ⊎ ¬ (done ≡ rank) → (done < rank) ⊎ ((done ≡ rank) × (looked ≤ a.index))
+        go (inl old) _ = a.ahead rank old
+        go (inr behind) (inl same) = let none_yet = none (omega (arith, behind)) in inr (same, omega arith)
+        go (inr behind) (inr other) = inl (omega arith)
 
 pub settled-advanced : (old new : Closure) → IsSound old → Advances old new → AreSettled old → AreSettled new
 settled-advanced old new sound adv settled c l =
@@ -71,8 +71,10 @@ module _ (cs : List Clause) (known : List ℕ) (waiting : List (Vec Wait Global)
           let number : a.number ≡ n = cc in
           absurd (other (number, same))
       by (inr r) (inr differ) = inr (r.0, omega (arith, r.1))
+
     still : ¬ ((a.number ≡ n) × (a.index ≡ looked)) → Settled cs known waiting done (looked + 1) c
     still other = inr (record { number = a.number; index = a.index; wait = a.wait; at = a.at; clause = a.clause; ahead = ahead_then other })
+
     go : (a.number ≡ n) ⊎ ¬ (a.number ≡ n) → (a.index ≡ looked) ⊎ ¬ (a.index ≡ looked) → Settled cs known waiting done (looked + 1) c
     go (inr other) _ = still (λ (h : (a.number ≡ n) × (a.index ≡ looked)). other h.0)
     go (inl number) (inr other) = still (λ (h : (a.number ≡ n) × (a.index ≡ looked)). other h.1)
@@ -102,6 +104,7 @@ pub closed : (s : Closure) → IsClosure s → s.placed ≡ length s.clauses →
 closed s is placed done c clause e all = go (is.settled c within) where
   within : c < s.placed
   within = (let l = slice_get_within s.clauses c clause e in omega arith)
+
   go : IsUsed s.clauses s.known c ⊎ IsAhead s.known s.waiting.items s.done s.looked c → IsListed s.known clause.gives
   go (inl u) =
       let g = u.is in

@@ -1,18 +1,17 @@
 -- What stays sound where a clause comes, a clause waits, and a number becomes known.
-use Rattle.std.proofs.Common.{◌≡◌, ◌<◌, ◌≤◌, ◌+◌, ℕ, List, [], ◌∷◌, ◌++◌, length, Some, refl, sym, ap, ◌∙◌, ◌⊎◌, inl, inr, arith, subst}
+use Rattle.std.proofs.Common.{◌≡◌, ◌≤◌, ℕ, List, [], ◌∷◌, ◌++◌, length, Some, sym, ap, ◌∙◌, ◌⊎◌, inl, inr, arith, subst}
 use Rattle.std.specs.Prelude.{slice_get, Vec}
 use Rattle.std.specs.declared.alloc.Global.{Global}
 use Rattle.std.proofs.lemmas.Option.{slice_get_within}
 use Rattle.std.proofs.lemmas.List.{length_push}
-use Rattle.sap_derive.specs.Lines.{premises_of}
-use Rattle.sap_derive.specs.code.Closed.{IsWaitAt, KeepsWaits, IsWait, IsStep, IsSoundOf, IsSound, IsUsed, IsWaiting, IsAhead, IsGiven, KeepsKnown, Learns, nothing, one, Grows, Advances}
-use Rattle.sap_derive.specs.code.Listed.{IsListed, AreListed, AreListedBefore, StandOnce}
+use Rattle.sap_derive.specs.code.Lines.{premises_of}
+use Rattle.sap_derive.specs.code.Closed.{IsWaitAt, IsWait, IsStep, IsSoundOf, KeepsKnown, Learns, nothing, one}
+use Rattle.sap_derive.specs.code.Listed.{IsListed, AreListed, StandOnce}
 use Rattle.sap_derive.specs.declared.clause.Clause.{Clause}
-use Rattle.sap_derive.specs.declared.closure.Closure.{Closure}
 use Rattle.sap_derive.specs.declared.way.Wait.{Wait}
 use Rattle.sap_derive.specs.declared.way.Way.{Way}
 use Rattle.sap_derive.specs.declared.way.Way.TheVariants.{Given, By}
-use Rattle.sap_derive.proofs.Gets.{get-more, get-last, get-last_cases, get-one}
+use Rattle.sap_derive.proofs.Gets.{get-more, get-last, get-last_cases}
 
 -- what stands in a list stands there where more is put last
 pub listed-more : (known : List ℕ) (n m : ℕ) → IsListed known m → IsListed (known ++ n ∷ []) m
@@ -69,6 +68,7 @@ module _ (cs : List Clause) (known : List ℕ) (ways : List Way) (waiting : List
       go (inl x) (inr y) = absurd (new (i, x ∙ ap Some y.1))
       go (inr x) (inl y) = absurd (new (j, y ∙ ap Some x.1))
       go (inr x) (inr y) = x.0 ∙ sym y.0
+
     steps : (rank c : ℕ) → slice_get (ways ++ way ∷ []) rank ≡ Some (By c) → IsStep cs (known ++ n ∷ []) rank c
     steps rank c e = go (get-last_cases ways way rank (By c) e) where
       go : (slice_get ways rank ≡ Some (By c)) ⊎ ((rank ≡ length ways) × (By c ≡ way)) → IsStep cs (known ++ n ∷ []) rank c
@@ -114,9 +114,9 @@ learned-given known _ ways _ n way count (nothing e f) rank m h g =
     inl (subst (λ (ks : List ℕ). slice_get ks rank ≡ Some m) e h, subst (λ (ws : List Way). slice_get ws rank ≡ Some Given) f g)
 learned-given known _ ways _ n way count (one e f) rank m h g =
     go (get-last_cases known n rank m (subst (λ (ks : List ℕ). slice_get ks rank ≡ Some m) e h)) (get-last_cases ways way rank Given (subst (λ (ws : List Way). slice_get ws rank ≡ Some Given) f g)) where
-  go : (slice_get known rank ≡ Some m) ⊎ ((rank ≡ length known) × (m ≡ n)) → (slice_get ways rank ≡ Some Given) ⊎ ((rank ≡ length ways) × (Given ≡ way))
-      → ((slice_get known rank ≡ Some m) × (slice_get ways rank ≡ Some Given)) ⊎ ((m ≡ n) × (way ≡ Given))
-  go (inl x) (inl y) = inl (x, y)
-  go (inl x) (inr y) = let w = slice_get_within known rank m x in absurd (omega (arith, y.0))
-  go (inr x) (inl y) = let w = slice_get_within ways rank Given y in absurd (omega (arith, x.0))
-  go (inr x) (inr y) = inr (x.1, sym y.1)
+      go : (slice_get known rank ≡ Some m) ⊎ ((rank ≡ length known) × (m ≡ n)) → (slice_get ways rank ≡ Some Given) ⊎ ((rank ≡ length ways) × (Given ≡ way))
+          → ((slice_get known rank ≡ Some m) × (slice_get ways rank ≡ Some Given)) ⊎ ((m ≡ n) × (way ≡ Given))
+      go (inl x) (inl y) = inl (x, y)
+      go (inl x) (inr y) = let w = slice_get_within known rank m x in absurd (omega (arith, y.0))
+      go (inr x) (inl y) = let w = slice_get_within ways rank Given y in absurd (omega (arith, x.0))
+      go (inr x) (inr y) = inr (x.1, sym y.1)

@@ -1,26 +1,25 @@
 -- What a search holds, where the table grows, terms come, and clauses.
-use Rattle.std.proofs.Common.{◌≡◌, ◌<◌, ◌≤◌, ◌+◌, ℕ, zero, suc, List, [], ◌∷◌, ◌++◌, length, Some, None, refl, sym, ap, ◌∙◌, ◌⊎◌, inl, inr, arith, subst}
+use Rattle.std.proofs.Common.{◌≡◌, ◌<◌, ◌≤◌, ◌+◌, ℕ, zero, suc, List, [], ◌∷◌, ◌++◌, length, Some, refl, sym, ap, ◌∙◌, ◌⊎◌, inl, inr, arith, subst}
 use Rattle.std.specs.Prelude.{slice_get, All, Result, Ok, Err, OnOk, OnErr}
 use Rattle.std.proofs.lemmas.List.{length-append, map_push}
 use Rattle.std.proofs.lemmas.List.Elements.{All-nil, All-cons, All-head, All-tail, All-weaker}
 use Rattle.std.proofs.lemmas.Option.{slice_get_within}
-use Rattle.sap_terms.specs.Tree.{Tree, Trees, apply, trees_of, node_count}
+use Rattle.sap_terms.specs.Tree.{Tree, apply, trees_of, node_count}
 use Rattle.sap_terms.specs.Equations.{equations}
 use Rattle.sap_terms.specs.Normal.{IsNormal, IsNormalForm}
 use Rattle.sap_terms.specs.Signature.{Sig}
 use Rattle.sap_share.specs.Shared.{Shared, tree_at, trees_at, AreBelow, Keeps}
-use Rattle.sap_derive.specs.Found.{Searched}
-use Rattle.sap_derive.specs.Lines.{premises_of}
+use Rattle.sap_derive.specs.Searched.{Searched}
+use Rattle.sap_derive.specs.code.Lines.{premises_of}
 use Rattle.sap_derive.specs.code.Brought.{Adds}
-use Rattle.sap_derive.specs.code.Clauses.{IsMaking, IsOpening, IsLineOn, written, applied, IsOpeningClause, IsNumbered, AreNumbered, HasClause, HaveMakings, HaveOpenings, ArePartsListed}
+use Rattle.sap_derive.specs.code.Clauses.{IsMaking, IsOpening, IsLineOn, written, applied, IsOpeningClause, IsNumbered, AreNumbered, HasClause}
 use Rattle.sap_derive.specs.code.Closed.{IsClosure, IsGiven, Grows}
-use Rattle.sap_derive.specs.code.Listed.{IsListed, AreListed}
+use Rattle.sap_derive.specs.code.Listed.{IsListed}
 use Rattle.sap_derive.specs.code.States.{IsTerm, IsBrought, IsStateOf, IsState, Stays, seen}
 use Rattle.sap_derive.specs.declared.state.State.{State}
 use Rattle.sap_derive.specs.declared.clause.Clause.{Clause}
 use Rattle.sap_derive.specs.declared.closure.Closure.{Closure}
 use Rattle.sap_derive.specs.declared.line.Line.{Line}
-use Rattle.sap_derive.specs.declared.line.Line.TheVariants.{Public, Apply}
 use Rattle.sap_derive.specs.declared.openers.Openers.{Openers}
 use Rattle.sap_derive.specs.declared.way.Way.{Way}
 use Rattle.sap_derive.specs.declared.way.Way.TheVariants.{Given}
@@ -88,6 +87,7 @@ module _ (g : Sig) (trees added : List Tree) where
   } where
     gives : tree_at trees clause.gives ≡ tree_at more clause.gives
     gives = sym (tree-more trees added clause.gives n.gives_below)
+
     kind : IsMaking g (trees_at trees (premises_of clause.line)) (tree_at trees clause.gives) ⊎ IsOpeningClause g trees clause
         → IsMaking g (trees_at more (premises_of clause.line)) (tree_at more clause.gives) ⊎ IsOpeningClause g more clause
     kind (inl m) =
@@ -169,6 +169,7 @@ module _ (s : Shared) (entries terms : List ℕ) (brought given : ℕ) (closure 
       go : (xs : List ℕ) → ((k m : ℕ) → slice_get xs k ≡ Some m → k < length later) → brought ≤ length xs → brought ≤ length later
       go [] h l = omega arith
       go (x ∷ xs) h l = let last = got-at (x ∷ xs) (length xs) (omega arith) in let q = h (length xs) last.0 last.1 in omega arith
+
     old : (k n : ℕ) → k < brought → slice_get later k ≡ Some n → slice_get terms k ≡ Some n
     old k n l e =
         let w = state.brought_within in
@@ -176,6 +177,7 @@ module _ (s : Shared) (entries terms : List ℕ) (brought given : ℕ) (closure 
         let there = places k here.0 here.1 in
         let same : here.0 ≡ n = cc in
         subst (λ (i : ℕ). slice_get terms k ≡ Some i) same here.1
+
     still : (n : ℕ) → IsBrought s.sig s.trees terms closure n → IsBrought s.sig s.trees later closure n
     still n b = record {
       parts = λ f us u q a. let p = b.parts f us u q a in (p.0, (p.1.0, places p.1.0 p.0 p.1.1), p.2);
@@ -231,11 +233,12 @@ module _ (s : Shared) (entries terms : List ℕ) (brought given : ℕ) (closure 
     entries_are = state.entries_are;
     brought_within = (let l = slice_get_within terms brought n at in omega arith);
     brought_are = λ k m l e.
-        elim (same-or_not k brought)
-        [ inl q ↦ let here = subst (λ (i : ℕ). slice_get terms i ≡ Some m) q e in
-            let same : n ≡ m = cc in
-            subst (λ (i : ℕ). IsBrought s.sig s.trees terms closure i) same b
-        | inr q ↦ state.brought_are k m (omega arith) e ];
+        elim (same-or_not k brought) [
+          | inl q ↦ let here = subst (λ (i : ℕ). slice_get terms i ≡ Some m) q e in
+              let same : n ≡ m = cc in
+              subst (λ (i : ℕ). IsBrought s.sig s.trees terms closure i) same b
+          | inr q ↦ state.brought_are k m (omega arith) e
+        ];
     numbered = state.numbered;
     closed = state.closed;
     given_are = state.given_are;
@@ -256,11 +259,12 @@ module _ (s : Shared) (entries terms : List ℕ) (brought given : ℕ) (closure 
     given_are = state.given_are;
     given_within = (let l = slice_get_within entries given n at in omega arith);
     given_known = λ k m l e.
-        elim (same-or_not k given)
-        [ inl q ↦ let here = subst (λ (i : ℕ). slice_get entries i ≡ Some m) q e in
-            let same : n ≡ m = cc in
-            subst (λ (i : ℕ). IsListed closure.known i) same known
-        | inr q ↦ state.given_known k m (omega arith) e ];
+        elim (same-or_not k given) [
+          | inl q ↦ let here = subst (λ (i : ℕ). slice_get entries i ≡ Some m) q e in
+              let same : n ≡ m = cc in
+              subst (λ (i : ℕ). IsListed closure.known i) same known
+          | inr q ↦ state.given_known k m (omega arith) e
+        ];
     openers_are = state.openers_are;
   }
 
@@ -316,10 +320,10 @@ pub seen-entered : (old new : State) (n : ℕ) (t : Tree) (v : Searched) → new
     → seen new ≡ record { sig = v.sig; entries = v.entries ++ t ∷ [] }
 seen-entered old new n t v table entries tree is =
     let trees : trees_at new.table.trees new.entries ≡ trees_at old.table.trees (old.entries ++ n ∷ []) =
-        ap (λ (x : Shared). trees_at x.trees new.entries) table ∙ ap (λ (es : List ℕ). trees_at old.table.trees es) entries in
+    ap (λ (x : Shared). trees_at x.trees new.entries) table ∙ ap (λ (es : List ℕ). trees_at old.table.trees es) entries in
     let pushed : trees_at old.table.trees (old.entries ++ n ∷ []) ≡ trees_at old.table.trees old.entries ++ tree_at old.table.trees n ∷ [] = rw map_push refl in
     let whole : trees_at new.table.trees new.entries ≡ v.entries ++ t ∷ [] =
-        trees ∙ pushed ∙ ap (λ (u : Tree). trees_at old.table.trees old.entries ++ u ∷ []) tree ∙ ap (λ (x : Searched). x.entries ++ t ∷ []) is in
+    trees ∙ pushed ∙ ap (λ (u : Tree). trees_at old.table.trees old.entries ++ u ∷ []) tree ∙ ap (λ (x : Searched). x.entries ++ t ∷ []) is in
     let sig : new.table.sig ≡ v.sig = ap (λ (x : Shared). x.sig) table ∙ ap (λ (x : Searched). x.sig) is in
     λ i. record { sig = sig i; entries = whole i }
 

@@ -57,12 +57,16 @@ module _ (waiting : List (Vec Wait Global)) (n : ℕ) (v u : Vec Wait Global) (h
     go (inl e_m) = further (get-last_cases v.items x k w in_items) where
       at_n : slice_get (slice_set waiting n u) n ≡ Some at.waits
       at_n = subst (λ (i : ℕ). slice_get (slice_set waiting n u) i ≡ Some at.waits) e_m at.at_number
+
       written : slice_get (slice_set waiting n u) n ≡ Some u
       written = at-number l
+
       e_u : at.waits ≡ u
       e_u = cc (at_n, written)
+
       in_items : slice_get (v.items ++ x ∷ []) k ≡ Some w
       in_items = subst (λ (ws : List Wait). slice_get ws k ≡ Some w) (ap (λ (y : Vec Wait Global). y.items) e_u ∙ e) at.at_index
+
       further : (slice_get v.items k ≡ Some w) ⊎ ((k ≡ length v.items) × (w ≡ x)) → IsWaitAt waiting m k w ⊎ ((m ≡ n) × (w ≡ x))
       further (inr r) = inr (e_m, r.1)
       further (inl g) = inl (record { waits = v; at_number = subst (λ (i : ℕ). slice_get waiting i ≡ Some v) (sym e_m) here; at_index = g })
@@ -76,10 +80,10 @@ pub wait-within : (waiting : List (Vec Wait Global)) (n : ℕ) (v : Vec Wait Glo
 wait-within waiting n v e k l =
     let w = got v.items k l in
     (w.0, record { waits = v; at_number = e; at_index = w.1 }) where
-  got : (ws : List Wait) (i : ℕ) → i < length ws → (w : Wait) × (slice_get ws i ≡ Some w)
-  got [] i l = absurd (omega arith)
-  got (w ∷ ws) zero l = (w, refl)
-  got (w ∷ ws) (suc i) l = got ws i (omega arith)
+      got : (ws : List Wait) (i : ℕ) → i < length ws → (w : Wait) × (slice_get ws i ≡ Some w)
+      got [] i l = absurd (omega arith)
+      got (w ∷ ws) zero l = (w, refl)
+      got (w ∷ ws) (suc i) l = got ws i (omega arith)
 
 pub no-wait : (waiting : List (Vec Wait Global)) (n k : ℕ) (w : Wait) → slice_get waiting n ≡ None → IsWaitAt waiting n k w → ⊥
 no-wait waiting n k w e a = let there = a.at_number in absurd (cc)

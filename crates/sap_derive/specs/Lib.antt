@@ -1,4 +1,4 @@
 pub mod Near
-pub mod Lines
-pub mod Found
+pub mod Examples
+pub mod Searched
 pub mod code

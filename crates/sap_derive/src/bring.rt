@@ -4,7 +4,7 @@ ghost use Rattle.sap_terms.specs.Equations.{equations};
 ghost use Rattle.sap_terms.specs.Normal.{IsNormal};
 ghost use Rattle.sap_terms.specs.Tree.{apply, trees_of};
 ghost use Rattle.sap_share.specs.Shared.{tree_at, trees_at, AreBelow};
-ghost use Rattle.sap_derive.specs.Lines.{premises_of};
+ghost use Rattle.sap_derive.specs.code.Lines.{premises_of};
 ghost use Rattle.sap_derive.specs.code.Closed.{IsClosure};
 ghost use Rattle.sap_derive.specs.code.Brought.{Adds};
 ghost use Rattle.sap_derive.specs.code.Clauses.{IsNumbered, AreNumbered, HasClause, HaveMakings, HaveOpenings};
@@ -13,9 +13,9 @@ ghost use Rattle.sap_derive.specs.code.Shapes.{IsShapeOf};
 ghost use Rattle.sap_derive.specs.declared.line.Line.TheVariants.{Apply as ApplyLine};
 ghost use Rattle.sap_derive.specs.declared.shape.Shape.TheVariants.{Pair as PairShape, Encrypted as EncryptedShape, EncryptedTo as EncryptedToShape, Signed as SignedShape};
 
-use crate::Line;
 use crate::clause::Clause;
 use crate::closure::Closure;
+use crate::line::Line;
 use crate::openers::Openers;
 use crate::shape::{Shape, shape_of};
 use sap_rewrite::symbols_reduce_once;
@@ -56,7 +56,14 @@ fn two(alloc: Global, a: u64, b: u64) -> Result<Numbers, Mem>
 }
 
 // Puts the clause of a symbol on these numbers last, where the symbol can be applied.
-fn apply_opener(table: &Table, closure: &mut Closure, alloc: Global, opener: &Option<Name>, premises: Numbers, gives: u64) -> Result<(), Mem>
+fn apply_opener(
+    table: &Table,
+    closure: &mut Closure,
+    alloc: Global,
+    opener: &Option<Name>,
+    premises: Numbers,
+    gives: u64,
+) -> Result<(), Mem>
     requires closure { IsClosure closure.old }
     requires numbered { AreNumbered table.now.sig table.now.trees closure.old.clauses }
     requires this { (n : List ℕ) → opener.now ≡ Some n → IsNumbered table.now.sig table.now.trees (record { line = ApplyLine n premises; gives = gives }) }
@@ -75,7 +82,14 @@ fn apply_opener(table: &Table, closure: &mut Closure, alloc: Global, opener: &Op
 }
 
 // The same on one number.
-fn open_alone(table: &Table, closure: &mut Closure, alloc: Global, opener: &Option<Name>, whole: u64, gives: u64) -> Result<(), Mem>
+fn open_alone(
+    table: &Table,
+    closure: &mut Closure,
+    alloc: Global,
+    opener: &Option<Name>,
+    whole: u64,
+    gives: u64,
+) -> Result<(), Mem>
     requires closure { IsClosure closure.old }
     requires numbered { AreNumbered table.now.sig table.now.trees closure.old.clauses }
     requires this { (n : List ℕ) → opener.now ≡ Some n → IsNumbered table.now.sig table.now.trees (record { line = ApplyLine n (whole ∷ []); gives = gives }) }
@@ -89,7 +103,15 @@ fn open_alone(table: &Table, closure: &mut Closure, alloc: Global, opener: &Opti
 }
 
 // The same on two.
-fn open_with(table: &Table, closure: &mut Closure, alloc: Global, opener: &Option<Name>, whole: u64, key: u64, gives: u64) -> Result<(), Mem>
+fn open_with(
+    table: &Table,
+    closure: &mut Closure,
+    alloc: Global,
+    opener: &Option<Name>,
+    whole: u64,
+    key: u64,
+    gives: u64,
+) -> Result<(), Mem>
     requires closure { IsClosure closure.old }
     requires numbered { AreNumbered table.now.sig table.now.trees closure.old.clauses }
     requires this { (n : List ℕ) → opener.now ≡ Some n → IsNumbered table.now.sig table.now.trees (record { line = ApplyLine n (whole ∷ key ∷ []); gives = gives }) }
@@ -103,7 +125,15 @@ fn open_with(table: &Table, closure: &mut Closure, alloc: Global, opener: &Optio
 }
 
 // The clauses that take a pair apart.
-fn open_pair(table: &Table, openers: &Openers, closure: &mut Closure, alloc: Global, n: u64, first: u64, second: u64) -> Result<(), Mem>
+fn open_pair(
+    table: &Table,
+    openers: &Openers,
+    closure: &mut Closure,
+    alloc: Global,
+    n: u64,
+    first: u64,
+    second: u64,
+) -> Result<(), Mem>
     requires closure { IsClosure closure.old }
     requires numbered { AreNumbered table.now.sig table.now.trees closure.old.clauses }
     requires openers { AreOpeners table.now.sig openers.now }
@@ -121,7 +151,15 @@ fn open_pair(table: &Table, openers: &Openers, closure: &mut Closure, alloc: Glo
 }
 
 // The clause that takes a message from under its key.
-fn open_encrypted(table: &Table, openers: &Openers, closure: &mut Closure, alloc: Global, n: u64, message: u64, key: u64) -> Result<(), Mem>
+fn open_encrypted(
+    table: &Table,
+    openers: &Openers,
+    closure: &mut Closure,
+    alloc: Global,
+    n: u64,
+    message: u64,
+    key: u64,
+) -> Result<(), Mem>
     requires closure { IsClosure closure.old }
     requires numbered { AreNumbered table.now.sig table.now.trees closure.old.clauses }
     requires openers { AreOpeners table.now.sig openers.now }
@@ -138,7 +176,15 @@ fn open_encrypted(table: &Table, openers: &Openers, closure: &mut Closure, alloc
 }
 
 // The clause that takes a message from under a public key.
-fn open_encrypted_to(table: &Table, openers: &Openers, closure: &mut Closure, alloc: Global, n: u64, message: u64, secret: u64) -> Result<(), Mem>
+fn open_encrypted_to(
+    table: &Table,
+    openers: &Openers,
+    closure: &mut Closure,
+    alloc: Global,
+    n: u64,
+    message: u64,
+    secret: u64,
+) -> Result<(), Mem>
     requires closure { IsClosure closure.old }
     requires numbered { AreNumbered table.now.sig table.now.trees closure.old.clauses }
     requires openers { AreOpeners table.now.sig openers.now }
@@ -151,11 +197,27 @@ fn open_encrypted_to(table: &Table, openers: &Openers, closure: &mut Closure, al
     ensures has { OnOk result (HaveOpenings table.now.sig table.now.trees closure.new.clauses (tree_at table.now.trees n)) }
 {
     symbols_reduce_once();
-    open_with(table, closure, alloc, &openers.decrypts_by_secret, n, secret, message)
+    open_with(
+        table,
+        closure,
+        alloc,
+        &openers.decrypts_by_secret,
+        n,
+        secret,
+        message,
+    )
 }
 
 // The clause that reads a message that is signed openly.
-fn open_signed(table: &Table, openers: &Openers, closure: &mut Closure, alloc: Global, n: u64, message: u64, key: u64) -> Result<(), Mem>
+fn open_signed(
+    table: &Table,
+    openers: &Openers,
+    closure: &mut Closure,
+    alloc: Global,
+    n: u64,
+    message: u64,
+    key: u64,
+) -> Result<(), Mem>
     requires closure { IsClosure closure.old }
     requires numbered { AreNumbered table.now.sig table.now.trees closure.old.clauses }
     requires openers { AreOpeners table.now.sig openers.now }
@@ -172,7 +234,13 @@ fn open_signed(table: &Table, openers: &Openers, closure: &mut Closure, alloc: G
 }
 
 // The clauses that take a term apart.
-fn open_all(table: &Table, openers: &Openers, closure: &mut Closure, alloc: Global, n: u64) -> Result<(), Mem>
+fn open_all(
+    table: &Table,
+    openers: &Openers,
+    closure: &mut Closure,
+    alloc: Global,
+    n: u64,
+) -> Result<(), Mem>
     requires closure { IsClosure closure.old }
     requires numbered { AreNumbered table.now.sig table.now.trees closure.old.clauses }
     requires openers { AreOpeners table.now.sig openers.now }
@@ -184,16 +252,31 @@ fn open_all(table: &Table, openers: &Openers, closure: &mut Closure, alloc: Glob
     ensures has { OnOk result (HaveOpenings table.now.sig table.now.trees closure.new.clauses (tree_at table.now.trees n)) }
 {
     match shape_of(table, n) {
-        Shape::Pair { first, second } => open_pair(table, openers, closure, alloc, n, first, second),
-        Shape::Encrypted { message, key } => open_encrypted(table, openers, closure, alloc, n, message, key),
-        Shape::EncryptedTo { message, secret } => open_encrypted_to(table, openers, closure, alloc, n, message, secret),
-        Shape::Signed { message, key } => open_signed(table, openers, closure, alloc, n, message, key),
+        Shape::Pair { first, second } => open_pair(
+            table, openers, closure, alloc, n, first, second,
+        ),
+        Shape::Encrypted { message, key } => open_encrypted(
+            table, openers, closure, alloc, n, message, key,
+        ),
+        Shape::EncryptedTo { message, secret } => open_encrypted_to(
+            table, openers, closure, alloc, n, message, secret,
+        ),
+        Shape::Signed { message, key } => open_signed(
+            table, openers, closure, alloc, n, message, key,
+        ),
         Shape::Other => Ok(()),
     }
 }
 
 // The clause that puts a symbol on its terms.
-fn make_applied(table: &Table, closure: &mut Closure, alloc: Global, n: u64, f: &Name, ks: &Numbers) -> Result<(), Mem>
+fn make_applied(
+    table: &Table,
+    closure: &mut Closure,
+    alloc: Global,
+    n: u64,
+    f: &Name,
+    ks: &Numbers,
+) -> Result<(), Mem>
     requires closure { IsClosure closure.old }
     requires numbered { AreNumbered table.now.sig table.now.trees closure.old.clauses }
     requires number { n < length table.now.trees }
@@ -233,7 +316,13 @@ fn make(table: &Table, closure: &mut Closure, alloc: Global, n: u64) -> Result<(
 }
 
 // All clauses that the term of a number brings.
-pub(crate) fn bring(table: &Table, openers: &Openers, closure: &mut Closure, alloc: Global, n: u64) -> Result<(), Mem>
+pub(crate) fn bring(
+    table: &Table,
+    openers: &Openers,
+    closure: &mut Closure,
+    alloc: Global,
+    n: u64,
+) -> Result<(), Mem>
     requires closure { IsClosure closure.old }
     requires numbered { AreNumbered table.now.sig table.now.trees closure.old.clauses }
     requires openers { AreOpeners table.now.sig openers.now }

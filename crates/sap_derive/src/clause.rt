@@ -1,5 +1,5 @@
 //! Clauses over numbers.
-use crate::Line;
+use crate::line::Line;
 
 // A line over numbers of terms, and the number of the term that it gives.
 #[derive(Drop)]

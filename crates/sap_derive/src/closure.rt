@@ -1,7 +1,7 @@
 // Clauses over numbers, and what follows from given numbers by them. Nothing here knows what the numbers stand for.
 ghost use Rattle.std.specs.Prelude.{◌≡◌, ◌<◌, ◌≤◌, ◌+◌, ◌⊎◌, ℕ, [], ◌∷◌, ◌++◌, length, slice_get, Some, IfSome, IfNone, OnOk, OnErr};
 ghost use Rattle.std.specs.Vec.{vec_len, vec_capacity};
-ghost use Rattle.sap_derive.specs.Lines.{premises_of};
+ghost use Rattle.sap_derive.specs.code.Lines.{premises_of};
 ghost use Rattle.sap_derive.specs.code.Listed.{IsListed, AreListed, AreListedBefore};
 ghost use Rattle.sap_derive.specs.code.Closed.{IsFirstUnlisted, IsWaitAt, IsWait, KeepsWaits, IsParked, IsSound, IsUsed, IsWaiting, IsClosure, IsGiven, KeepsKnown, Learns, Grows, Advances, IsClosedUnder};
 ghost use Rattle.sap_derive.specs.declared.way.Wait.{Wait as TheWait};

@@ -1,10 +1,9 @@
-//! Derivations found.
+//! What can be deduced from terms, decided.
 #![tactic(auto)]
 
 mod bring;
 mod clause;
 mod closure;
-mod derivation;
 mod laws;
 mod line;
 mod listing;
@@ -14,7 +13,5 @@ mod shape;
 mod state;
 mod way;
 
-pub use derivation::{Derivation, LineList};
-pub use laws::derivations_stay_near;
-pub use line::Line;
+pub use laws::{derivations_stay_near, near_by_hand};
 pub use search::Search;

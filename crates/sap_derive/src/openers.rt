@@ -17,7 +17,13 @@ pub(crate) struct Openers {
 }
 
 // The symbol of this name, if it is public, stands on so many terms, and is switched on.
-fn opener(alloc: Global, sig: &Signature, name: &[u8], count: u64, on: bool) -> Result<Option<Name>, Mem>
+fn opener(
+    alloc: Global,
+    sig: &Signature,
+    name: &[u8],
+    count: u64,
+    on: bool,
+) -> Result<Option<Name>, Mem>
     ensures { IfOk result (IsOpener sig.now name.now count on) }
 {
     if !on {
@@ -39,7 +45,13 @@ impl Openers {
         let second = opener(alloc, sig, b"snd", 1, true)?;
         let decrypts = opener(alloc, sig, b"sdec", 2, sig.has(Builtin::Symmetric))?;
         let decrypts_by_secret = opener(alloc, sig, b"adec", 2, sig.has(Builtin::Asymmetric))?;
-        let reads = opener(alloc, sig, b"getMessage", 1, sig.has(Builtin::RevealingSigning))?;
+        let reads = opener(
+            alloc,
+            sig,
+            b"getMessage",
+            1,
+            sig.has(Builtin::RevealingSigning),
+        )?;
         Ok(Openers {
             first,
             second,

@@ -21,7 +21,7 @@ pub struct Search {
 impl Model for Search {
     ghost use Rattle.std.specs.Coded.{codes};
     ghost use Rattle.sap_terms.specs.Codes.{tree_code};
-    ghost use Rattle.sap_derive.specs.Found.{Searched};
+    ghost use Rattle.sap_derive.specs.Searched.{Searched};
 
     ghost Value = { Searched };
 

@@ -51,7 +51,10 @@ fn shape_on(table: &Table, f: &Name, x: u64, y: u64) -> Shape
     ensures { IsShapeOf table.now.trees (app2 f.now (tree_at table.now.trees x) (tree_at table.now.trees y)) result }
 {
     if f.is(b"pair") {
-        return Shape::Pair { first: x, second: y };
+        return Shape::Pair {
+            first: x,
+            second: y,
+        };
     }
     if f.is(b"senc") {
         return Shape::Encrypted { message: x, key: y };

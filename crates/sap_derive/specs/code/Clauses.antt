@@ -5,7 +5,7 @@ use Rattle.sap_terms.specs.Signature.{Sig, IsPublic, arity_of}
 use Rattle.sap_terms.specs.Equations.{equations, app1, app2, pair_name, fst_name, snd_name, senc_name, sdec_name, aenc_name, adec_name, pk_name, reveal_sign_name, get_message_name}
 use Rattle.sap_terms.specs.Normal.{IsNormalForm}
 use Rattle.sap_share.specs.Shared.{tree_at, trees_at, AreBelow}
-use Rattle.sap_derive.specs.Lines.{premises_of}
+use Rattle.sap_derive.specs.code.Lines.{premises_of}
 use Rattle.sap_derive.specs.Near.{IsAmong}
 use Rattle.sap_derive.specs.code.Listed.{IsListed}
 use Rattle.sap_derive.specs.declared.clause.Clause.{Clause}

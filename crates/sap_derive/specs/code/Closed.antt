@@ -1,7 +1,7 @@
 -- The closure of clauses over numbers.
 use Rattle.std.specs.Prelude.{◌≡◌, ◌<◌, ◌≤◌, ◌⊎◌, ℕ, List, [], ◌∷◌, ◌++◌, length, slice_get, Some, Vec}
 use Rattle.std.specs.declared.alloc.Global.{Global}
-use Rattle.sap_derive.specs.Lines.{premises_of}
+use Rattle.sap_derive.specs.code.Lines.{premises_of}
 use Rattle.sap_derive.specs.code.Listed.{IsListed, AreListed, AreListedBefore, StandOnce}
 use Rattle.sap_derive.specs.declared.clause.Clause.{Clause}
 use Rattle.sap_derive.specs.declared.closure.Closure.{Closure}

@@ -1,5 +1,5 @@
 -- Which terms can be taken apart.
-use Rattle.std.specs.Prelude.{◌≡◌, ◌<◌, ℕ, List, length}
+use Rattle.std.specs.Prelude.{◌≡◌, ◌<◌, List, length}
 use Rattle.sap_terms.specs.Tree.{Tree}
 use Rattle.sap_terms.specs.Signature.{Sig}
 use Rattle.sap_terms.specs.Equations.{app1, app2, pair_name, senc_name, aenc_name, pk_name, reveal_sign_name}

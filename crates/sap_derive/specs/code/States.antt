@@ -6,7 +6,7 @@ use Rattle.sap_terms.specs.Normal.{IsNormal}
 use Rattle.sap_terms.specs.Signature.{Sig}
 use Rattle.sap_terms.specs.declared.limits.TheConstants.{MOST_TERM_NODES}
 use Rattle.sap_share.specs.Shared.{Shared, tree_at, trees_at, Keeps}
-use Rattle.sap_derive.specs.Found.{Searched}
+use Rattle.sap_derive.specs.Searched.{Searched}
 use Rattle.sap_derive.specs.code.Clauses.{AreNumbered, HaveMakings, HaveOpenings, ArePartsListed}
 use Rattle.sap_derive.specs.code.Closed.{IsClosure, IsGiven}
 use Rattle.sap_derive.specs.code.Listed.{IsListed, AreListed}

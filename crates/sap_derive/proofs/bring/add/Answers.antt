@@ -1,4 +1,3 @@
-use Rattle.std.proofs.Common.{◌≡◌}
 use Rattle.sap_derive.specs.declared.clause.Clause.{Clause}
 use Rattle.sap_derive.proofs.Brought.{added-numbered, added-has}
 use Rattle.sap_derive.proofs.Pushed.{pushed-keeps}

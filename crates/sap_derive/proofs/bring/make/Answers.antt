@@ -1,11 +1,10 @@
-use Rattle.std.proofs.Common.{◌≡◌, ◌<◌, ℕ, List, length, Some, refl, sym, ap, ◌∙◌, subst}
-use Rattle.std.specs.Prelude.{Result, OnOk}
-use Rattle.sap_terms.specs.Tree.{Tree, public}
+use Rattle.std.proofs.Common.{◌≡◌, ℕ, List, sym, subst}
+use Rattle.sap_terms.specs.Tree.{public}
 use Rattle.sap_share.specs.Shared.{tree_at, node_tree}
 use Rattle.sap_share.specs.declared.node.Node.{Node}
 use Rattle.sap_derive.specs.code.Clauses.{IsNumbered}
 use Rattle.sap_derive.specs.declared.line.Line.TheVariants.{Public}
-use Rattle.sap_derive.proofs.Brought.{written-numbered, makings-public, makings-fresh}
+use Rattle.sap_derive.proofs.Brought.{written-numbered}
 use Rattle.sap_derive.proofs.bring.make.Goals as goal
 
 pub add-requires-clause-this : goal.add-requires-clause-this

@@ -1,9 +1,8 @@
-use Rattle.std.proofs.Common.{◌≡◌, ◌<◌, ℕ, List, length, Some, true, false, refl, sym, ap, ◌∙◌, subst, arith, IsTrue}
-use Rattle.std.specs.Prelude.{All, Result, OnOk}
+use Rattle.std.proofs.Common.{◌≡◌, ◌<◌, ℕ, List, length, Some, refl, sym, ap, ◌∙◌, subst, arith}
 use Rattle.std.proofs.lemmas.List.{length-map}
 use Rattle.std.proofs.lemmas.List.Elements.{All-weaker}
 use Rattle.std.proofs.lemmas.Result.{on_ok_weaker}
-use Rattle.sap_terms.specs.Tree.{Tree, apply, trees_of, list_of, list_of-trees_of}
+use Rattle.sap_terms.specs.Tree.{Tree, apply, trees_of, list_of-trees_of}
 use Rattle.sap_terms.specs.Message.{IsOver}
 use Rattle.sap_terms.specs.Signature.{Sig, IsPublic, arity_of}
 use Rattle.sap_share.specs.Shared.{tree_at, trees_at, AreBelow}
@@ -35,6 +34,6 @@ returns-clause-has c =
     let ks = c.args.ks.now in
     let end = c.add.new.closure in
     let makes = λ (h : HasClause trees end.clauses (trees_at trees c.in_ok-numbers.numbers) (tree_at trees c.args.n)).
-        makings-applied g trees end.clauses f (trees_at trees ks) (tree_at trees c.args.n) c.requires.tree
-        (λ p. subst (λ (js : List ℕ). HasClause trees end.clauses (trees_at trees js) (tree_at trees c.args.n)) c.in_ok-numbers.ensures h) in
+    makings-applied g trees end.clauses f (trees_at trees ks) (tree_at trees c.args.n) c.requires.tree
+    (λ p. subst (λ (js : List ℕ). HasClause trees end.clauses (trees_at trees js) (tree_at trees c.args.n)) c.in_ok-numbers.ensures h) in
     on_ok_weaker c.add.result makes c.add.ensures.has

@@ -25,6 +25,6 @@ returns-clause-has c =
     let adds = c.open_alone-2.ensures.adds in
     let has_first = c.in_ok-open_alone.ensures.has in
     let opens = λ (h : (m : List ℕ) → c.args.openers.now.second ≡ Some m → HasClause trees end.clauses (tree_at trees c.args.n ∷ []) (tree_at trees c.args.second)).
-        pair-openings c.symbols_reduce_once.ensures g trees c.args.openers.now c.requires.openers end.clauses (tree_at trees c.args.first) (tree_at trees c.args.second) (tree_at trees c.args.n) s.2
-        (λ m e. has-kept trees mid end (tree_at trees c.args.n ∷ []) (tree_at trees c.args.first) adds (has_first m e)) h in
+    pair-openings c.symbols_reduce_once.ensures g trees c.args.openers.now c.requires.openers end.clauses (tree_at trees c.args.first) (tree_at trees c.args.second) (tree_at trees c.args.n) s.2
+    (λ m e. has-kept trees mid end (tree_at trees c.args.n ∷ []) (tree_at trees c.args.first) adds (has_first m e)) h in
     on_ok_weaker c.open_alone-2.result opens c.open_alone-2.ensures.has

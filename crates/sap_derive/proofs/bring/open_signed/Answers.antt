@@ -17,5 +17,5 @@ returns-clause-has c =
     let end = c.open_alone.new.closure in
     let s = c.requires.shape in
     let opens = λ (h : (m : List ℕ) → c.args.openers.now.reads ≡ Some m → HasClause trees end.clauses (tree_at trees c.args.n ∷ []) (tree_at trees c.args.message)).
-        signed-openings c.symbols_reduce_once.ensures g trees c.args.openers.now c.requires.openers end.clauses (tree_at trees c.args.message) (tree_at trees c.args.key) (tree_at trees c.args.n) s.2 h in
+    signed-openings c.symbols_reduce_once.ensures g trees c.args.openers.now c.requires.openers end.clauses (tree_at trees c.args.message) (tree_at trees c.args.key) (tree_at trees c.args.n) s.2 h in
     on_ok_weaker c.open_alone.result opens c.open_alone.ensures.has

@@ -1,4 +1,4 @@
-use Rattle.std.proofs.Common.{◌≡◌, ℕ, List, sym, subst}
+use Rattle.std.proofs.Common.{ℕ, List, sym, subst}
 use Rattle.sap_derive.specs.code.Clauses.{IsNumbered}
 use Rattle.sap_derive.specs.declared.line.Line.TheVariants.{Apply}
 use Rattle.sap_derive.proofs.bring.open_with.Goals as goal

@@ -1,4 +1,3 @@
-use Rattle.std.proofs.Common.{◌≤◌}
 use Rattle.sap_derive.specs.code.Listed.{AreListedBefore}
 use Rattle.sap_derive.proofs.closure.first_unlisted.Given as goal
 

@@ -1,7 +1,5 @@
-use Rattle.std.proofs.Common.{◌≡◌, ◌<◌, ℕ, List, [], ◌∷◌, length, Some, slice_get, get_or, refl, sym, ap, ◌∙◌, ◌⊎◌, inl, inr, arith}
-use Rattle.std.proofs.lemmas.Option.{slice_get-get_or, slice_get_read}
-use Rattle.sap_derive.specs.declared.way.Wait.{Wait}
-use Rattle.sap_derive.specs.code.Closed.{IsWaitAt}
+use Rattle.std.proofs.Common.{◌<◌, [], ◌∷◌, length, refl, ◌∙◌, inl, inr, arith}
+use Rattle.std.proofs.lemmas.Option.{slice_get_read}
 use Rattle.sap_derive.proofs.Gets.{append-none}
 use Rattle.sap_derive.proofs.Waits.{waits-behind, waits-same, waits-pushed, waits-parked}
 use Rattle.sap_derive.proofs.closure.park.Goals as goal

@@ -1,4 +1,3 @@
-use Rattle.std.proofs.Common.{rules, arith}
 use Rattle.sap_derive.proofs.Waits.{waits-more, waits-no_more}
 use Rattle.sap_derive.proofs.closure.reach.Goals as goal
 

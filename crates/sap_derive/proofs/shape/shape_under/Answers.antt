@@ -1,4 +1,4 @@
-use Rattle.std.proofs.Common.{◌≡◌, ◌<◌, length, rules, arith, sym, ap, ◌∙◌, subst, refl}
+use Rattle.std.proofs.Common.{◌≡◌, ◌<◌, length, arith, sym, ap, ◌∙◌, subst, refl}
 use Rattle.sap_terms.specs.Equations.{app2, aenc_name}
 use Rattle.sap_share.specs.Shared.{tree_at, node_tree, StandsBelow}
 use Rattle.sap_share.specs.declared.node.Node.{Node}

@@ -1,4 +1,4 @@
-use Rattle.std.proofs.Common.{◌≡◌, ◌<◌, ◌≤◌, ◌⊎◌, ℕ, length, Some}
+use Rattle.std.proofs.Common.{◌≡◌, ◌⊎◌, ℕ, Some}
 use Rattle.std.specs.Prelude.{slice_get}
 use Rattle.sap_derive.specs.code.Listed.{IsListed, AreListedBefore}
 use Rattle.sap_derive.proofs.state.list_all.Given as goal

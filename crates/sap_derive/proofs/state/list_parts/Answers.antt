@@ -1,6 +1,6 @@
-use Rattle.std.proofs.Common.{◌≡◌, ◌<◌, ℕ, List, Some, ◌⊎◌, inl, inr, sym, ap, ◌∙◌, arith, subst}
+use Rattle.std.proofs.Common.{◌≡◌, ℕ, List, inl, inr, subst}
 use Rattle.std.proofs.lemmas.Result.{on_ok_weaker}
-use Rattle.sap_terms.specs.Tree.{Tree, apply, trees_of, public, fresh}
+use Rattle.sap_terms.specs.Tree.{apply, trees_of}
 use Rattle.sap_share.specs.Shared.{tree_at, trees_at, node_tree, StandsBelow}
 use Rattle.sap_share.specs.declared.node.Node.{Node}
 use Rattle.sap_share.specs.declared.node.Node.TheVariants.{App}
@@ -26,5 +26,5 @@ returns-in-App-clause-ok c =
     let e : apply f (trees_of (trees_at trees ks)) ≡ tree_at trees c.args.n = subst (λ (n : Node). node_tree trees n ≡ tree_at trees c.args.n) c.in-App.is c.node.ensures.tree in
     let below : StandsBelow c.args.n (App f ks) = subst (λ (n : Node). StandsBelow c.args.n n) c.in-App.is c.node.ensures.below in
     let parts = λ (x : AreListed c.list_all.new.items c.as_slice.result.now).
-        parts-listed c.args.table.now.sig trees c.args.n c.requires f ks e below c.list_all.new.items (subst (λ (js : List ℕ). AreListed c.list_all.new.items js) c.as_slice.ensures x) in
+    parts-listed c.args.table.now.sig trees c.args.n c.requires f ks e below c.list_all.new.items (subst (λ (js : List ℕ). AreListed c.list_all.new.items js) c.as_slice.ensures x) in
     on_ok_weaker c.list_all.result parts c.list_all.ensures.ok

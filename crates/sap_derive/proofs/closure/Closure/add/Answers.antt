@@ -1,4 +1,4 @@
-use Rattle.std.proofs.Common.{◌≡◌, inl}
+use Rattle.std.proofs.Common.{inl}
 use Rattle.sap_derive.proofs.Pushed.{pushed-keeps}
 use Rattle.sap_derive.proofs.Settled.{settled-kept}
 use Rattle.sap_derive.proofs.Sound.{sound-more_clauses}

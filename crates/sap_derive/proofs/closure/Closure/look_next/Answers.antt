@@ -1,10 +1,10 @@
-use Rattle.std.proofs.Common.{◌≡◌, ◌<◌, ◌+◌, ℕ, length, Some, ◌⊎◌, inl, inr, arith, subst, sym, ap, ◌∙◌}
+use Rattle.std.proofs.Common.{◌≡◌, ◌+◌, ℕ, Some, arith, subst}
 use Rattle.std.specs.Prelude.{slice_get, List, Vec}
 use Rattle.std.specs.declared.alloc.Global.{Global}
 use Rattle.sap_derive.specs.declared.way.Wait.{Wait}
 use Rattle.std.proofs.lemmas.Option.{slice_get_within}
-use Rattle.sap_derive.specs.Lines.{premises_of}
-use Rattle.sap_derive.specs.code.Listed.{IsListed, AreListedBefore}
+use Rattle.sap_derive.specs.code.Lines.{premises_of}
+use Rattle.sap_derive.specs.code.Listed.{AreListedBefore}
 use Rattle.sap_derive.specs.code.Closed.{IsWaitAt}
 use Rattle.sap_derive.specs.declared.clause.Clause.{Clause}
 use Rattle.sap_derive.proofs.Settled.{Settled, settled-advanced, settled-looked}

@@ -1,4 +1,4 @@
-use Rattle.std.proofs.Common.{◌≡◌, ◌<◌, ◌+◌, ℕ, length, Some, arith, subst, sym, refl}
+use Rattle.std.proofs.Common.{◌≡◌, ℕ, Some, arith, subst, refl}
 use Rattle.std.specs.Prelude.{slice_get}
 use Rattle.std.proofs.lemmas.Option.{slice_get_within}
 use Rattle.sap_derive.proofs.Settled.{Settled, settled-done}

@@ -1,4 +1,4 @@
-use Rattle.std.proofs.Common.{◌≡◌, ◌<◌, ℕ, ◌⊎◌, inl, inr, arith, subst, sym}
+use Rattle.std.proofs.Common.{ℕ, inl, inr, arith, subst}
 use Rattle.sap_derive.proofs.Gets.{same-or_not}
 use Rattle.sap_derive.proofs.Settled.{Settled, settled-advanced, settled-now}
 use Rattle.sap_derive.proofs.closure.Closure.place_next.Goals as goal
@@ -29,7 +29,8 @@ returns-clause-closure c =
         none_looked = s.none_looked;
       };
       settled = λ i l.
-          elim (same-or_not old.placed i)
-          [ inl e ↦ subst (λ (j : ℕ). Settled new.clauses new.known new.waiting.items new.done new.looked j) e here
-          | inr n ↦ before i (let p = adv.placed in omega arith) ];
+          elim (same-or_not old.placed i) [
+            | inl e ↦ subst (λ (j : ℕ). Settled new.clauses new.known new.waiting.items new.done new.looked j) e here
+            | inr n ↦ before i (let p = adv.placed in omega arith)
+          ];
     }

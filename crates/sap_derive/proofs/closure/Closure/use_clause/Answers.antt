@@ -1,10 +1,9 @@
-use Rattle.std.proofs.Common.{◌≡◌, ℕ, Some, ◌⊎◌, inl, inr, sym, ap, refl, subst}
+use Rattle.std.proofs.Common.{◌≡◌, Some, inl, inr, sym, refl, subst}
 use Rattle.std.specs.Prelude.{slice_get}
-use Rattle.sap_derive.specs.Lines.{premises_of}
+use Rattle.sap_derive.specs.code.Lines.{premises_of}
 use Rattle.sap_derive.specs.declared.clause.Clause.{Clause}
-use Rattle.sap_derive.specs.code.Closed.{IsGiven}
 use Rattle.sap_derive.specs.code.Listed.{IsListed, AreListed}
-use Rattle.sap_derive.specs.declared.way.Way.TheVariants.{Given, By}
+use Rattle.sap_derive.specs.declared.way.Way.TheVariants.{By}
 use Rattle.sap_derive.proofs.Options.{from-none}
 use Rattle.sap_derive.proofs.Sound.{sound-learned, learned-kept, learned-later, learned-given}
 use Rattle.sap_derive.proofs.closure.Closure.use_clause.Goals as goal

@@ -1,9 +1,8 @@
-use Rattle.std.proofs.Common.{◌≡◌, ◌<◌, ℕ, Some, length, get_or, ◌⊎◌, inl, inr, sym, ap, ◌∙◌, refl, subst, arith}
-use Rattle.std.specs.Prelude.{slice_get, Result, Ok, Err, OnOk}
-use Rattle.std.proofs.lemmas.Option.{slice_get_within, get_or_from_slice_get}
+use Rattle.std.proofs.Common.{◌≡◌, ℕ, Some, get_or, inl, inr, ◌∙◌, refl, subst}
+use Rattle.std.specs.Prelude.{slice_get}
+use Rattle.std.proofs.lemmas.Option.{get_or_from_slice_get}
 use Rattle.std.proofs.lemmas.Result.{on_ok_weaker}
-use Rattle.sap_derive.specs.Lines.{premises_of}
-use Rattle.sap_derive.specs.code.Closed.{IsWait, IsWaitAt, IsParked, IsWaiting}
+use Rattle.sap_derive.specs.code.Closed.{IsParked, IsWaiting}
 use Rattle.sap_derive.specs.code.Listed.{IsListed}
 use Rattle.sap_derive.specs.declared.way.Wait.{Wait}
 use Rattle.sap_derive.proofs.Sound.{sound-parked}
@@ -48,12 +47,12 @@ returns-clause-waits c =
     let number = get_or_from_slice_get c.premises.result.now c.args.place first.number 0 at in
     let wait : Wait = record { clause = c.args.clause; place = c.args.place } in
     let waits = λ (p : IsParked c.park.new.waiting.items (get_or c.premises.result.now c.args.place 0) wait).
-        let w : IsWaiting s.known c.park.new.waiting.items c.args.clause = record {
-          number = get_or c.premises.result.now c.args.place 0;
-          index = p.0;
-          wait = wait;
-          at = p.1;
-          clause = refl;
-          unknown = λ (l : IsListed s.known (get_or c.premises.result.now c.args.place 0)). first.unlisted (subst (λ (n : ℕ). IsListed s.known n) number l);
-        } in w in
+    let w : IsWaiting s.known c.park.new.waiting.items c.args.clause = record {
+      number = get_or c.premises.result.now c.args.place 0;
+      index = p.0;
+      wait = wait;
+      at = p.1;
+      clause = refl;
+      unknown = λ (l : IsListed s.known (get_or c.premises.result.now c.args.place 0)). first.unlisted (subst (λ (n : ℕ). IsListed s.known n) number l);
+    } in w in
     on_ok_weaker c.park.result waits c.park.ensures.parked

@@ -1,6 +1,6 @@
-use Rattle.std.proofs.Common.{◌≡◌, length, slice_get, rules, arith, subst, sym, Some, ◌∙◌}
+use Rattle.std.proofs.Common.{◌≡◌, length, arith, sym}
 use Rattle.std.specs.Vec.{vec_len}
-use Rattle.sap_derive.specs.code.Listed.{IsListed, TellPlaces}
+use Rattle.sap_derive.specs.code.Listed.{IsListed}
 use Rattle.sap_derive.proofs.Options.{from-some, from-none}
 use Rattle.sap_derive.proofs.Places.{places-again, places-new}
 use Rattle.sap_derive.proofs.listing.Listing.push.Goals as goal

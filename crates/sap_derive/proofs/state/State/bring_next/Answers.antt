@@ -1,4 +1,4 @@
-use Rattle.std.proofs.Common.{◌≡◌, ◌<◌, ◌+◌, ℕ, Some, sym, subst}
+use Rattle.std.proofs.Common.{◌≡◌, ◌+◌, ℕ, Some, sym, subst}
 use Rattle.std.specs.Prelude.{slice_get}
 use Rattle.sap_derive.specs.code.States.{IsStateOf}
 use Rattle.sap_derive.proofs.States.{state-brought}

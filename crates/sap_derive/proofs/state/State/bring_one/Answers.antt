@@ -1,4 +1,3 @@
-use Rattle.std.proofs.Common.{◌≡◌, ◌<◌, ℕ, Some, sym, subst}
 use Rattle.sap_derive.proofs.States.{state-listed, state-added}
 use Rattle.sap_derive.proofs.state.State.bring_one.Goals as goal
 

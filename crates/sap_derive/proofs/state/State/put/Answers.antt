@@ -1,4 +1,4 @@
-use Rattle.std.proofs.Common.{◌≡◌, ◌<◌, ◌≤◌, ℕ, List, Some, ◌⊎◌, inl, inr, sym, ap, subst, arith}
+use Rattle.std.proofs.Common.{ℕ, inl, inr, sym, ap, subst, arith}
 use Rattle.sap_terms.specs.Tree.{Tree, node_count}
 use Rattle.sap_terms.specs.Equations.{equations}
 use Rattle.sap_terms.specs.Normal.{IsNormal}
