@@ -14,7 +14,8 @@ pub data IsAmong (t : Tree) : Trees → Type 0 where
 -- the first tree stands in the second, or is it
 pub data IsSubterm (t : Tree) : Tree → Type 0 where
   whole : IsSubterm t t
-  within : {f : List ℕ} {ts : Trees} {u : Tree} → IsAmong u ts → IsSubterm t u → IsSubterm t (apply f ts)
+  within : {f : List ℕ} {ts : Trees} {u : Tree} → IsAmong u ts → IsSubterm t u
+      → IsSubterm t (apply f ts)
 
 -- it stands in the goal, or in a term of the frame
 pub record IsNear (frame : List Tree) (goal t : Tree) : Type 0 where
@@ -31,5 +32,6 @@ pub record IsDerivedNear (g : Sig) (names : List ℕ) (frame : List Tree) (goal 
 -- what is deducible from names and a normal frame is derived near, if it is normal
 abbrev pub DerivationsStayNear : Type 0
 DerivationsStayNear =
-    (g : Sig) (names : List ℕ) (frame : List Tree) (goal : Tree) → HoldsBuiltins g → All (IsNormal (equations g)) frame
-    → IsNormal (equations g) goal → IsDeducible g names frame goal → IsDerivedNear g names frame goal
+    (g : Sig) (names : List ℕ) (frame : List Tree) (goal : Tree) → HoldsBuiltins g
+    → All (IsNormal (equations g)) frame → IsNormal (equations g) goal
+    → IsDeducible g names frame goal → IsDerivedNear g names frame goal
