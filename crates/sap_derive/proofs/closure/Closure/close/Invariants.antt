@@ -1,0 +1,11 @@
+use Rattle.std.proofs.Common.{◌≡◌, length}
+use Rattle.sap_derive.specs.code.Closed.{IsClosure, Grows}
+use Rattle.sap_derive.proofs.closure.Closure.close.Given as goal
+
+abbrev pub invariant-loop : goal.invariant-loop
+invariant-loop l = record {
+  closure : IsClosure l.self;
+  grows : Grows l.fn.self l.self;
+  placed : l.self.placed ≡ length l.self.clauses;
+  done : l.self.done ≡ l.counter;
+}

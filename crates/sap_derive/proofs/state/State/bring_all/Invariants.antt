@@ -1,0 +1,10 @@
+use Rattle.std.proofs.Common.{◌≡◌}
+use Rattle.sap_derive.specs.code.States.{IsState, Stays}
+use Rattle.sap_derive.proofs.state.State.bring_all.Given as goal
+
+abbrev pub invariant-loop : goal.invariant-loop
+invariant-loop l = record {
+  state : IsState l.self;
+  stays : Stays l.fn.self l.self;
+  brought : l.self.brought ≡ l.counter;
+}

@@ -1,0 +1,4 @@
+pub mod Near
+pub mod Examples
+pub mod Searched
+pub mod code

@@ -1,0 +1,339 @@
+// The clauses that terms bring.
+ghost use Rattle.std.specs.Prelude.{◌≡◌, ◌<◌, ℕ, List, [], ◌∷◌, length, Some, IfOk, OnOk};
+ghost use Rattle.sap_terms.specs.Equations.{equations};
+ghost use Rattle.sap_terms.specs.Normal.{IsNormal};
+ghost use Rattle.sap_terms.specs.Tree.{apply, trees_of};
+ghost use Rattle.sap_share.specs.Shared.{tree_at, trees_at, AreBelow};
+ghost use Rattle.sap_derive.specs.code.Lines.{premises_of};
+ghost use Rattle.sap_derive.specs.code.Closed.{IsClosure};
+ghost use Rattle.sap_derive.specs.code.Brought.{Adds};
+ghost use Rattle.sap_derive.specs.code.Clauses.{IsNumbered, AreNumbered, HasClause, HaveMakings, HaveOpenings};
+ghost use Rattle.sap_derive.specs.code.Openers.{AreOpeners};
+ghost use Rattle.sap_derive.specs.code.Shapes.{IsShapeOf};
+ghost use Rattle.sap_derive.specs.declared.line.Line.TheVariants.{Apply as ApplyLine};
+ghost use Rattle.sap_derive.specs.declared.shape.Shape.TheVariants.{Pair as PairShape, Encrypted as EncryptedShape, EncryptedTo as EncryptedToShape, Signed as SignedShape};
+
+use crate::clause::Clause;
+use crate::closure::Closure;
+use crate::line::Line;
+use crate::openers::Openers;
+use crate::shape::{Shape, shape_of};
+use sap_rewrite::symbols_reduce_once;
+use sap_share::{Node, Table};
+use sap_terms::{Copied, Mem, Name, Numbers};
+use std::alloc::Global;
+
+// Puts a clause last.
+fn add(table: &Table, closure: &mut Closure, line: Line, gives: u64) -> Result<(), Mem>
+    requires closure { IsClosure closure.old }
+    requires numbered { AreNumbered table.now.sig table.now.trees closure.old.clauses }
+    requires this { IsNumbered table.now.sig table.now.trees (record { line = line; gives = gives }) }
+    ensures closure { IsClosure closure.new }
+    ensures numbered { AreNumbered table.now.sig table.now.trees closure.new.clauses }
+    ensures adds { Adds closure.old closure.new }
+    ensures has { OnOk result (HasClause table.now.trees closure.new.clauses (trees_at table.now.trees (premises_of line)) (tree_at table.now.trees gives)) }
+{
+    closure.add(Clause { line, gives })
+}
+
+// A list of one number.
+fn one(alloc: Global, a: u64) -> Result<Numbers, Mem>
+    ensures { IfOk result (λ ks. ks ≡ a ∷ []) }
+{
+    let mut ks = Numbers::with_room(alloc, 1)?;
+    ks.push(a)?;
+    Ok(ks)
+}
+
+// A list of two.
+fn two(alloc: Global, a: u64, b: u64) -> Result<Numbers, Mem>
+    ensures { IfOk result (λ ks. ks ≡ a ∷ b ∷ []) }
+{
+    let mut ks = Numbers::with_room(alloc, 2)?;
+    ks.push(a)?;
+    ks.push(b)?;
+    Ok(ks)
+}
+
+// Puts the clause of a symbol on these numbers last, where the symbol can be applied.
+fn apply_opener(
+    table: &Table,
+    closure: &mut Closure,
+    alloc: Global,
+    opener: &Option<Name>,
+    premises: Numbers,
+    gives: u64,
+) -> Result<(), Mem>
+    requires closure { IsClosure closure.old }
+    requires numbered { AreNumbered table.now.sig table.now.trees closure.old.clauses }
+    requires this { (n : List ℕ) → opener.now ≡ Some n → IsNumbered table.now.sig table.now.trees (record { line = ApplyLine n premises; gives = gives }) }
+    ensures closure { IsClosure closure.new }
+    ensures numbered { AreNumbered table.now.sig table.now.trees closure.new.clauses }
+    ensures adds { Adds closure.old closure.new }
+    ensures has { OnOk result ((n : List ℕ) → opener.now ≡ Some n → HasClause table.now.trees closure.new.clauses (trees_at table.now.trees premises) (tree_at table.now.trees gives)) }
+{
+    match opener {
+        Some(name) => {
+            let name = name.copy(alloc)?;
+            add(table, closure, Line::Apply(name, premises), gives)
+        }
+        None => Ok(()),
+    }
+}
+
+// The same on one number.
+fn open_alone(
+    table: &Table,
+    closure: &mut Closure,
+    alloc: Global,
+    opener: &Option<Name>,
+    whole: u64,
+    gives: u64,
+) -> Result<(), Mem>
+    requires closure { IsClosure closure.old }
+    requires numbered { AreNumbered table.now.sig table.now.trees closure.old.clauses }
+    requires this { (n : List ℕ) → opener.now ≡ Some n → IsNumbered table.now.sig table.now.trees (record { line = ApplyLine n (whole ∷ []); gives = gives }) }
+    ensures closure { IsClosure closure.new }
+    ensures numbered { AreNumbered table.now.sig table.now.trees closure.new.clauses }
+    ensures adds { Adds closure.old closure.new }
+    ensures has { OnOk result ((n : List ℕ) → opener.now ≡ Some n → HasClause table.now.trees closure.new.clauses (tree_at table.now.trees whole ∷ []) (tree_at table.now.trees gives)) }
+{
+    let premises = one(alloc, whole)?;
+    apply_opener(table, closure, alloc, opener, premises, gives)
+}
+
+// The same on two.
+fn open_with(
+    table: &Table,
+    closure: &mut Closure,
+    alloc: Global,
+    opener: &Option<Name>,
+    whole: u64,
+    key: u64,
+    gives: u64,
+) -> Result<(), Mem>
+    requires closure { IsClosure closure.old }
+    requires numbered { AreNumbered table.now.sig table.now.trees closure.old.clauses }
+    requires this { (n : List ℕ) → opener.now ≡ Some n → IsNumbered table.now.sig table.now.trees (record { line = ApplyLine n (whole ∷ key ∷ []); gives = gives }) }
+    ensures closure { IsClosure closure.new }
+    ensures numbered { AreNumbered table.now.sig table.now.trees closure.new.clauses }
+    ensures adds { Adds closure.old closure.new }
+    ensures has { OnOk result ((n : List ℕ) → opener.now ≡ Some n → HasClause table.now.trees closure.new.clauses (tree_at table.now.trees whole ∷ tree_at table.now.trees key ∷ []) (tree_at table.now.trees gives)) }
+{
+    let premises = two(alloc, whole, key)?;
+    apply_opener(table, closure, alloc, opener, premises, gives)
+}
+
+// The clauses that take a pair apart.
+fn open_pair(
+    table: &Table,
+    openers: &Openers,
+    closure: &mut Closure,
+    alloc: Global,
+    n: u64,
+    first: u64,
+    second: u64,
+) -> Result<(), Mem>
+    requires closure { IsClosure closure.old }
+    requires numbered { AreNumbered table.now.sig table.now.trees closure.old.clauses }
+    requires openers { AreOpeners table.now.sig openers.now }
+    requires number { n < length table.now.trees }
+    requires normal { IsNormal (equations table.now.sig) (tree_at table.now.trees n) }
+    requires shape { IsShapeOf table.now.trees (tree_at table.now.trees n) (PairShape first second) }
+    ensures closure { IsClosure closure.new }
+    ensures numbered { AreNumbered table.now.sig table.now.trees closure.new.clauses }
+    ensures adds { Adds closure.old closure.new }
+    ensures has { OnOk result (HaveOpenings table.now.sig table.now.trees closure.new.clauses (tree_at table.now.trees n)) }
+{
+    symbols_reduce_once();
+    open_alone(table, closure, alloc, &openers.first, n, first)?;
+    open_alone(table, closure, alloc, &openers.second, n, second)
+}
+
+// The clause that takes a message from under its key.
+fn open_encrypted(
+    table: &Table,
+    openers: &Openers,
+    closure: &mut Closure,
+    alloc: Global,
+    n: u64,
+    message: u64,
+    key: u64,
+) -> Result<(), Mem>
+    requires closure { IsClosure closure.old }
+    requires numbered { AreNumbered table.now.sig table.now.trees closure.old.clauses }
+    requires openers { AreOpeners table.now.sig openers.now }
+    requires number { n < length table.now.trees }
+    requires normal { IsNormal (equations table.now.sig) (tree_at table.now.trees n) }
+    requires shape { IsShapeOf table.now.trees (tree_at table.now.trees n) (EncryptedShape message key) }
+    ensures closure { IsClosure closure.new }
+    ensures numbered { AreNumbered table.now.sig table.now.trees closure.new.clauses }
+    ensures adds { Adds closure.old closure.new }
+    ensures has { OnOk result (HaveOpenings table.now.sig table.now.trees closure.new.clauses (tree_at table.now.trees n)) }
+{
+    symbols_reduce_once();
+    open_with(table, closure, alloc, &openers.decrypts, n, key, message)
+}
+
+// The clause that takes a message from under a public key.
+fn open_encrypted_to(
+    table: &Table,
+    openers: &Openers,
+    closure: &mut Closure,
+    alloc: Global,
+    n: u64,
+    message: u64,
+    secret: u64,
+) -> Result<(), Mem>
+    requires closure { IsClosure closure.old }
+    requires numbered { AreNumbered table.now.sig table.now.trees closure.old.clauses }
+    requires openers { AreOpeners table.now.sig openers.now }
+    requires number { n < length table.now.trees }
+    requires normal { IsNormal (equations table.now.sig) (tree_at table.now.trees n) }
+    requires shape { IsShapeOf table.now.trees (tree_at table.now.trees n) (EncryptedToShape message secret) }
+    ensures closure { IsClosure closure.new }
+    ensures numbered { AreNumbered table.now.sig table.now.trees closure.new.clauses }
+    ensures adds { Adds closure.old closure.new }
+    ensures has { OnOk result (HaveOpenings table.now.sig table.now.trees closure.new.clauses (tree_at table.now.trees n)) }
+{
+    symbols_reduce_once();
+    open_with(
+        table,
+        closure,
+        alloc,
+        &openers.decrypts_by_secret,
+        n,
+        secret,
+        message,
+    )
+}
+
+// The clause that reads a message that is signed openly.
+fn open_signed(
+    table: &Table,
+    openers: &Openers,
+    closure: &mut Closure,
+    alloc: Global,
+    n: u64,
+    message: u64,
+    key: u64,
+) -> Result<(), Mem>
+    requires closure { IsClosure closure.old }
+    requires numbered { AreNumbered table.now.sig table.now.trees closure.old.clauses }
+    requires openers { AreOpeners table.now.sig openers.now }
+    requires number { n < length table.now.trees }
+    requires normal { IsNormal (equations table.now.sig) (tree_at table.now.trees n) }
+    requires shape { IsShapeOf table.now.trees (tree_at table.now.trees n) (SignedShape message key) }
+    ensures closure { IsClosure closure.new }
+    ensures numbered { AreNumbered table.now.sig table.now.trees closure.new.clauses }
+    ensures adds { Adds closure.old closure.new }
+    ensures has { OnOk result (HaveOpenings table.now.sig table.now.trees closure.new.clauses (tree_at table.now.trees n)) }
+{
+    symbols_reduce_once();
+    open_alone(table, closure, alloc, &openers.reads, n, message)
+}
+
+// The clauses that take a term apart.
+fn open_all(
+    table: &Table,
+    openers: &Openers,
+    closure: &mut Closure,
+    alloc: Global,
+    n: u64,
+) -> Result<(), Mem>
+    requires closure { IsClosure closure.old }
+    requires numbered { AreNumbered table.now.sig table.now.trees closure.old.clauses }
+    requires openers { AreOpeners table.now.sig openers.now }
+    requires number { n < length table.now.trees }
+    requires normal { IsNormal (equations table.now.sig) (tree_at table.now.trees n) }
+    ensures closure { IsClosure closure.new }
+    ensures numbered { AreNumbered table.now.sig table.now.trees closure.new.clauses }
+    ensures adds { Adds closure.old closure.new }
+    ensures has { OnOk result (HaveOpenings table.now.sig table.now.trees closure.new.clauses (tree_at table.now.trees n)) }
+{
+    match shape_of(table, n) {
+        Shape::Pair { first, second } => open_pair(
+            table, openers, closure, alloc, n, first, second,
+        ),
+        Shape::Encrypted { message, key } => open_encrypted(
+            table, openers, closure, alloc, n, message, key,
+        ),
+        Shape::EncryptedTo { message, secret } => open_encrypted_to(
+            table, openers, closure, alloc, n, message, secret,
+        ),
+        Shape::Signed { message, key } => open_signed(
+            table, openers, closure, alloc, n, message, key,
+        ),
+        Shape::Other => Ok(()),
+    }
+}
+
+// The clause that puts a symbol on its terms.
+fn make_applied(
+    table: &Table,
+    closure: &mut Closure,
+    alloc: Global,
+    n: u64,
+    f: &Name,
+    ks: &Numbers,
+) -> Result<(), Mem>
+    requires closure { IsClosure closure.old }
+    requires numbered { AreNumbered table.now.sig table.now.trees closure.old.clauses }
+    requires number { n < length table.now.trees }
+    requires normal { IsNormal (equations table.now.sig) (tree_at table.now.trees n) }
+    requires below { AreBelow n ks.now }
+    requires tree { apply f.now (trees_of (trees_at table.now.trees ks.now)) ≡ tree_at table.now.trees n }
+    ensures closure { IsClosure closure.new }
+    ensures numbered { AreNumbered table.now.sig table.now.trees closure.new.clauses }
+    ensures adds { Adds closure.old closure.new }
+    ensures has { OnOk result (HaveMakings table.now.sig table.now.trees closure.new.clauses (tree_at table.now.trees n)) }
+{
+    table.each_is_over();
+    if !table.signature().is_public(f) {
+        return Ok(());
+    }
+    let name = f.copy(alloc)?;
+    let numbers = ks.copy(alloc)?;
+    add(table, closure, Line::Apply(name, numbers), n)
+}
+
+// The clause that makes a term.
+fn make(table: &Table, closure: &mut Closure, alloc: Global, n: u64) -> Result<(), Mem>
+    requires closure { IsClosure closure.old }
+    requires numbered { AreNumbered table.now.sig table.now.trees closure.old.clauses }
+    requires number { n < length table.now.trees }
+    requires normal { IsNormal (equations table.now.sig) (tree_at table.now.trees n) }
+    ensures closure { IsClosure closure.new }
+    ensures numbered { AreNumbered table.now.sig table.now.trees closure.new.clauses }
+    ensures adds { Adds closure.old closure.new }
+    ensures has { OnOk result (HaveMakings table.now.sig table.now.trees closure.new.clauses (tree_at table.now.trees n)) }
+{
+    match table.node(n) {
+        Node::Public(name) => add(table, closure, Line::Public(name.copy(alloc)?), n),
+        Node::Fresh(_) => Ok(()),
+        Node::App(f, ks) => make_applied(table, closure, alloc, n, f, ks),
+    }
+}
+
+// All clauses that the term of a number brings.
+pub(crate) fn bring(
+    table: &Table,
+    openers: &Openers,
+    closure: &mut Closure,
+    alloc: Global,
+    n: u64,
+) -> Result<(), Mem>
+    requires closure { IsClosure closure.old }
+    requires numbered { AreNumbered table.now.sig table.now.trees closure.old.clauses }
+    requires openers { AreOpeners table.now.sig openers.now }
+    requires number { n < length table.now.trees }
+    requires normal { IsNormal (equations table.now.sig) (tree_at table.now.trees n) }
+    ensures closure { IsClosure closure.new }
+    ensures numbered { AreNumbered table.now.sig table.now.trees closure.new.clauses }
+    ensures adds { Adds closure.old closure.new }
+    ensures makings { OnOk result (HaveMakings table.now.sig table.now.trees closure.new.clauses (tree_at table.now.trees n)) }
+    ensures openings { OnOk result (HaveOpenings table.now.sig table.now.trees closure.new.clauses (tree_at table.now.trees n)) }
+{
+    make(table, closure, alloc, n)?;
+    open_all(table, openers, closure, alloc, n)
+}
