@@ -55,7 +55,12 @@ fn show_found_above(page: &mut Page, desk: &mut Desk, table: &str, row: &str) {
         "files" => files::files_row(page, &desk.signature, row),
         "refusals" => calls::command(page, "refusal", "compile a.spthy", part(row, 0)),
         "generated" => calls::command(page, part(row, 0), "compile a.spthy", part(row, 1)),
-        "short-theories" => calls::command(page, part(row, 0), "compile-short a.spthy", part(row, 1)),
+        "short-theories" => calls::command(
+            page,
+            part(row, 0),
+            "compile-short a.spthy",
+            part(row, 1),
+        ),
         "written-theories" => calls::command(page, "back", part(row, 0), part(row, 1)),
         "statements" => calls::statements_row(page, row),
         "calls" => calls::calls_row(page, row),

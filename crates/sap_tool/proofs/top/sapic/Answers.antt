@@ -14,7 +14,7 @@ returns g c =
       };
       writing = λ way z told t read is.
           let can = printable_in_each_way c.theories_are_printable.ensures.plain c.theories_are_printable.ensures.inlined c.short_theories_are_printable.ensures
-              way told t (c.files_are_runnable.ensures z told read) (c.files_are_printable.ensures z told read) is in
+          way told t (c.files_are_runnable.ensures z told read) (c.files_are_printable.ensures z told read) is in
           record { spelled = c.printed_theories.ensures.printable _ _ can; no_other = λ u. c.printed_theories.ensures.no_other _ _ u can };
       one_compiled = one_compiled c.one_short_theory.ensures.one;
       one = c.one_file.ensures;
