@@ -1,14 +1,11 @@
 -- What an index of bound variables tells.
 use Rattle.std.proofs.Common.{◌≡◌, ◌+◌, ◌-◌, ◌≤◌, ℕ, List, [], ◌∷◌, ◌++◌, length, take, drop, map, Option, Some, None, Bool, true, false, cond, ◌||◌, refl, sym, ap, subst, ◌∙◌, arith, length-append}
 use Rattle.std.specs.Prelude.{if◌then◌else◌, is_some, slice_get}
-use Rattle.std.specs.BTreeMap.{BTreeMap, get, Updates}
-use Rattle.std.specs.Cmp.Lexicographic.{slice_cmp}
-use Rattle.std.specs.Ordering.{nat_cmp}
 use Rattle.std.specs.Str.{bytes_eq}
 use Rattle.std.proofs.lemmas.List.{take-append-drop, take-append-le, length-drop}
-use Rattle.std.proofs.lemmas.Map.Text.{is_eq-slice_cmp}
 use Rattle.std.proofs.lemmas.Slice.Eq.{bytes_eq-Decides}
 use Rattle.sap_terms.proofs.PlainLaws.Lists.{take_got, front_self}
+use Rattle.sap_terms.specs.NameMap.{Puts, value_at}
 use Rattle.sap_terms.specs.Variables.{is_known}
 use Rattle.sap_share.specs.code.Found.{number_of_name, Tells, IsIndexOf}
 use Rattle.sap_share.specs.declared.env.Bound.{Bound}
@@ -40,15 +37,15 @@ bound_known (e ∷ es) n = by (bytes_eq e.var.name n) (bound_known es n) where
   by false rest = rest
 
 abbrev Map : Type 0
-Map = BTreeMap (List ℕ) ℕ
+Map = List (List ℕ × ℕ)
 
 abbrev told : Map → List ℕ → Option ℕ
-told m n = get (slice_cmp nat_cmp) m n
+told m n = value_at m n
 
 -- the number of a name that wasn't told of is told then
-pub told_new : (m w : Map) (b : Bound) (es : List Bound) → Updates (slice_cmp nat_cmp) m w b.var.name (Some b.id) → is_some (told m b.var.name) ≡ false → Tells m es → Tells w (es ++ b ∷ [])
+pub told_new : (m w : Map) (b : Bound) (es : List Bound) → Puts m w b.var.name (Some b.id) → is_some (told m b.var.name) ≡ false → Tells m es → Tells w (es ++ b ∷ [])
 told_new m w b es u new t n =
-    u.0 n ∙ ap (λ x. cond x (Some b.id) (told m n)) (is_eq-slice_cmp b.var.name n) ∙ by (bytes_eq b.var.name n) refl ∙ sym (found_in es (b ∷ []) n)
+    u n ∙ by (bytes_eq b.var.name n) refl ∙ sym (found_in es (b ∷ []) n)
   where
     none : (o : Option ℕ) → is_some o ≡ false → Some b.id ≡ first o (Some b.id)
     none None h = refl

@@ -4,14 +4,13 @@ ghost use Rattle.sap_share.specs.code.Found.{number_of_name, Tells, IsIndexOf};
 ghost use Rattle.sap_share.specs.declared.env.Bound.{Bound as BoundOf};
 
 use crate::env::Bound;
-use sap_terms::{Copied, Mem, Name};
+use sap_terms::{Copied, Mem, Name, NameMap};
 use std::alloc::Global;
-use std::collections::BTreeMap;
 
 /// The numbers of the first so many that are bound, by name.
 #[derive(Drop)]
 pub(crate) struct Index {
-    pub numbers: BTreeMap<Name, u64>,
+    pub numbers: NameMap<u64>,
     pub count: u64,
 }
 
@@ -21,7 +20,7 @@ impl Index {
         ensures { (es : List BoundOf) → IsIndexOf result es }
     {
         Index {
-            numbers: BTreeMap::new(alloc),
+            numbers: NameMap::new(alloc),
             count: 0,
         }
     }
@@ -64,7 +63,7 @@ fn first_number(bound: &[Bound], name: &Name) -> Option<u64>
 }
 
 // Adds the name, where it isn't there.
-fn add(alloc: Global, numbers: &mut BTreeMap<Name, u64>, e: &Bound) -> Result<(), Mem>
+fn add(alloc: Global, numbers: &mut NameMap<u64>, e: &Bound) -> Result<(), Mem>
     ensures ok { OnOk result ((es : List BoundOf) → Tells numbers.old es → Tells numbers.new (es ++ e.now ∷ [])) }
     ensures err { (es : List BoundOf) → OnErr result (Tells numbers.old es → Tells numbers.new es) }
 {

@@ -1,9 +1,7 @@
 -- What a look-up among bound variables finds.
 use Rattle.std.specs.Prelude.{◌≡◌, ◌≤◌, ℕ, List, [], ◌∷◌, length, take, Option, Some, None, if◌then◌else◌}
-use Rattle.std.specs.BTreeMap.{BTreeMap, get}
-use Rattle.std.specs.Cmp.Lexicographic.{slice_cmp}
-use Rattle.std.specs.Ordering.{nat_cmp}
 use Rattle.std.specs.Str.{bytes_eq}
+use Rattle.sap_terms.specs.NameMap.{value_at}
 use Rattle.sap_share.specs.declared.env.Bound.{Bound}
 use Rattle.sap_share.specs.declared.index.Index.{Index}
 
@@ -13,8 +11,8 @@ number_of_name [] n = None
 number_of_name (e ∷ es) n = if bytes_eq e.var.name n then Some e.id else number_of_name es n
 
 -- the map tells of each name what a look-up among these finds
-abbrev pub Tells : BTreeMap (List ℕ) ℕ → List Bound → Type 0
-Tells m es = (n : List ℕ) → get (slice_cmp nat_cmp) m n ≡ number_of_name es n
+abbrev pub Tells : List (List ℕ × ℕ) → List Bound → Type 0
+Tells m es = (n : List ℕ) → value_at m n ≡ number_of_name es n
 
 -- the index tells of the first so many of these
 pub record IsIndexOf (x : Index) (es : List Bound) : Type 0 where

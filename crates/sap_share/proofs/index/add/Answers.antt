@@ -1,7 +1,5 @@
 use Rattle.std.proofs.Common.{Some, sym, subst, ◌∙◌}
-use Rattle.std.specs.BTreeMap.{Updates}
-use Rattle.std.specs.Cmp.Lexicographic.{slice_cmp}
-use Rattle.std.specs.Ordering.{nat_cmp}
+use Rattle.sap_terms.specs.NameMap.{Puts}
 use Rattle.sap_share.proofs.Indexed.{told_old, told_new}
 use Rattle.sap_share.proofs.index.add.Goals as goal
 
@@ -10,5 +8,5 @@ returns-then-contains_key-clause-ok c = λ es t. told_old c.args.numbers.now c.a
 
 pub returns-clause-ok : goal.returns-clause-ok
 returns-clause-ok c =
-    let put = subst (λ k. Updates (slice_cmp nat_cmp) c.args.numbers.now c.insert.new.self k (Some c.args.e.now.id)) c.in_ok-name.ensures c.in_ok-insert.ensures.updates in
+    let put = subst (λ k. Puts c.args.numbers.now c.insert.new.self k (Some c.args.e.now.id)) c.in_ok-name.ensures c.in_ok-insert.ensures.ok in
     λ es t. told_new c.args.numbers.now c.insert.new.self c.args.e.now es put (sym c.contains_key.ensures ∙ c.if-contains_key.false) t
