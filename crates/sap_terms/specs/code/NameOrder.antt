@@ -27,14 +27,16 @@ mark n =
     else 0
 
 -- names by their numbers, and those of one number byte by byte
-abbrev pub name_cmp : List ℕ → List ℕ → Ordering
+unfoldable pub name_cmp : List ℕ → List ℕ → Ordering
 name_cmp a b = ordering_then (nat_cmp (mark a) (mark b)) (slice_cmp nat_cmp a b)
 
 pub name_cmp_total : IsTotalOrder name_cmp
+unfolding name_cmp
 name_cmp_total = then_total (on_total mark nat_cmp_total) nat_list_cmp_total
 
 -- names that it doesn't tell apart are the same
 pub name_ties : (a b : List ℕ) → pointwise nat_eq a b ≡ eq_by_cmp name_cmp a b
+unfolding name_cmp
 name_ties a b = by (pointwise nat_eq a b) refl (nat_cmp (mark a) (mark b)) refl (texts_ties a b) where
   bytes : Ordering
   bytes = slice_cmp nat_cmp a b
