@@ -8,8 +8,9 @@ use std::alloc::Global;
 use std::collections::BTreeMap;
 use std::marker::Model;
 
-/// A value for each of some names, which contracts see as these pairs. The names are held in their order, so a call takes
-/// time in the logarithm of their number, times the length of what two names have in common, whatever names they are.
+/// A value for each of some names, which contracts see as these pairs. The names are held in an order, which contracts don't
+/// speak of, so a call takes time in the logarithm of their number, times the length of what two names have in common at
+/// most, whatever names they are.
 #[derive(Drop)]
 pub struct NameMap<T> {
     pairs: BTreeMap<Name, T>,
