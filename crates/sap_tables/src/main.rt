@@ -4,6 +4,7 @@
 
 mod calls;
 mod copies;
+mod deductions;
 mod desk;
 mod files;
 mod formulas;
