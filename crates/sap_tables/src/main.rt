@@ -20,6 +20,7 @@ mod refused;
 mod run_texts;
 mod runs;
 mod sharing;
+mod short_runs;
 mod show;
 mod tables;
 mod terms;

@@ -38,15 +38,22 @@ fn printed(alloc: Global, run: &Run) -> Result<Text, Mem> {
     }
 }
 
+/// Why a text is no run.
+pub fn show_fault(page: &mut Page, fault: &RunFault) {
+    match fault {
+        RunFault::Mem => page.fail(),
+        RunFault::BadHead => page.word("bad head"),
+        RunFault::BadLine { line } => page.numbered("bad line ", *line),
+        RunFault::TooManySteps => page.word("too many steps"),
+    }
+}
+
 // The text of a run that is read, or why there is none.
 fn shown(alloc: Global, read: &Result<Run, RunFault>) -> Page {
     let mut page = Page::new(alloc);
     match read {
         Ok(run) => page.text(printed(alloc, run), "", ""),
-        Err(RunFault::Mem) => page.fail(),
-        Err(RunFault::BadHead) => page.word("bad head"),
-        Err(RunFault::BadLine { line }) => page.numbered("bad line ", *line),
-        Err(RunFault::TooManySteps) => page.word("too many steps"),
+        Err(fault) => show_fault(&mut page, fault),
     }
     page
 }

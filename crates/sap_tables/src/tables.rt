@@ -5,7 +5,7 @@ use crate::notation::{number, part, written};
 use crate::page::Page;
 use crate::{
     calls, copies, deductions, files, formulas, guards, json, knowledge, piles, processes, refused,
-    run_texts, runs, sharing, terms, theories, tokens,
+    run_texts, runs, sharing, short_runs, terms, theories, tokens,
 };
 use std::collections::BTreeMap;
 
@@ -40,6 +40,7 @@ pub fn show_found(page: &mut Page, desk: &mut Desk, table: &str, row: &str) {
 fn show_found_above(page: &mut Page, desk: &mut Desk, table: &str, row: &str) {
     match table {
         "rules" => theories::rules_row(page, &mut desk.theory, row),
+        "short-runs" => short_runs::short_runs_row(page, row),
         "run-texts" => run_texts::run_texts_row(page, row),
         "rule-runs" => runs::runs_row(page, desk, row),
         "process-runs" => processes::processes_row(page, desk, row),
