@@ -11,6 +11,7 @@ mod Places
 mod Kept
 mod Traces
 mod ShortByHand
+mod ShownByHand
 mod Theories
 mod Printing
 mod Walking

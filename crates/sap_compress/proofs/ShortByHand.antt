@@ -108,6 +108,9 @@ module _ (parts : (g : Sig) (p : Proc) → SoundParts g [] p → UnlocksAreOpen 
   counted : (p : Proc) (ss zs : List Rule) (count : List Rule → ℕ) → AreShort p (rules_of p) ss → (count ss ≡ count zs → ⊥) → AreShort p (rules_of p) zs → ⊥
   counted p ss zs count s n h = n (ap count (short_one p (rules_of p) ss zs s h))
 
+  pub ended_kept : AreShort example.ended (rules_of example.ended) example.ended_kept → ⊥
+  ended_kept = counted example.ended example.ended_short example.ended_kept length ended (λ e. cc)
+
   pub told_as_it_was : AreShort example.told (rules_of example.told) (rules_of example.told) → ⊥
   told_as_it_was = counted example.told example.told_short (rules_of example.told) length told (λ e. cc)
 
@@ -116,6 +119,9 @@ module _ (parts : (g : Sig) (p : Proc) → SoundParts g [] p → UnlocksAreOpen 
 
   pub told_kept : AreShort example.told (rules_of example.told) example.told_kept → ⊥
   told_kept = counted example.told example.told_short example.told_kept length told (λ e. cc)
+
+  pub told_left_out : AreShort example.told (rules_of example.told) example.told_left_out → ⊥
+  told_left_out = apart example.told example.told_short example.told_left_out (λ rs. is_named (codes "Out") (added rs)) told refl refl
 
   pub told_first_dropped : AreShort example.told_first (rules_of example.told_first) example.told_first_dropped → ⊥
   told_first_dropped = apart example.told_first example.told_first_short example.told_first_dropped (λ rs. is_named (codes "Out") (added rs)) told_first refl refl

@@ -5,4 +5,5 @@ pub mod ShortTheories
 pub mod Carried
 pub mod Moves
 pub mod ShortExamples
+pub mod TraceExamples
 pub mod code

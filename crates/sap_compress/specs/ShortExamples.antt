@@ -36,6 +36,11 @@ ended = nil
 abbrev pub ended_short : List Rule
 ended_short = init_adds [] ∷ []
 
+-- not so: the silent rule kept
+abbrev pub ended_kept : List Rule
+ended_kept =
+    init_adds [] ∷ rule (codes "Nil_") (at (codes "State_") [] ∷ []) [] [] ∷ []
+
 -- out('m')
 abbrev pub told : Proc
 told = act (out term_m) nil
@@ -56,6 +61,10 @@ told_kept =
     ∷ rule (codes "Out_") (at (codes "State_") [] ∷ []) []
     (out_fact term_m ∷ at (codes "State_1") [] ∷ [])
     ∷ rule (codes "Nil_1") (at (codes "State_1") [] ∷ []) [] [] ∷ []
+
+-- not so: the silent rules left out, with nothing in place of what they take
+abbrev pub told_left_out : List Rule
+told_left_out = init_adds (at (codes "State_") [] ∷ []) ∷ []
 
 -- out('m'); in(x)
 abbrev pub told_first : Proc

@@ -7,6 +7,7 @@ mod settling;
 mod short_theory;
 mod shortening;
 mod takers;
+mod trace_examples;
 
 pub use by_hand::short_rules_by_hand;
 pub use laws::{
@@ -15,3 +16,4 @@ pub use laws::{
     shortenings_show_the_same,
 };
 pub use short_theory::shorten;
+pub use trace_examples::short_traces_by_hand;
