@@ -1,0 +1,2 @@
+pub mod UpToNames
+pub mod NameExamples

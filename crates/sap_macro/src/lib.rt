@@ -1,0 +1,6 @@
+//! Definitions of processes with parameters: when two processes are equal up to names.
+#![tactic(auto)]
+
+mod by_hand;
+
+pub use by_hand::equal_up_to_names_by_hand;
