@@ -1,1 +1,7 @@
 pub mod ByHand
+pub mod Names
+pub mod Moving
+pub mod Choosing
+pub mod Swapped
+pub mod GroundForms
+pub mod Following

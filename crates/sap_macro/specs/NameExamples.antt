@@ -60,7 +60,10 @@ finds_y p q = lookup a (named (codes "y") Msg) p q
 -- [ L(t) ] --[ A(u) ]-> [ M(v) ], and then p
 abbrev pub ruled : Tree → Tree → Tree → Proc → Proc
 ruled t u v p =
-    act (embedded (linear (codes "L") (t ∷ []) ∷ []) (linear (codes "A") (u ∷ []) ∷ []) (linear (codes "M") (v ∷ []) ∷ [])) p
+    act
+    (embedded (linear (codes "L") (t ∷ []) ∷ []) (linear (codes "A") (u ∷ []) ∷ [])
+    (linear (codes "M") (v ∷ []) ∷ []))
+    p
 
 -- lock 'a'; unlock 'a', with this label
 abbrev pub locked : ℕ → Proc
@@ -71,7 +74,8 @@ locked n = act (lock a n) (act (unlock a n) nil)
 -- embedded rule binds on its left and on its right side; and the label of a lock
 abbrev pub equal_pairs : List (Proc × Proc)
 equal_pairs =
-    (parallel (new_x (gives fresh_x)) (new_x (gives fresh_x)), parallel (new_x (gives fresh_x)) (new_y (gives fresh_y)))
+    (parallel (new_x (gives fresh_x)) (new_x (gives fresh_x)),
+    parallel (new_x (gives fresh_x)) (new_y (gives fresh_y)))
     ∷ (new_x (new_x (gives fresh_x)), new_x (new_y (gives fresh_y)))
     ∷ (takes (both x y) (gives (both y x)), takes (both y x) (gives (both x y)))
     ∷ (takes (both x x) (gives x), takes (both y y) (gives y))

@@ -2,5 +2,7 @@
 #![tactic(auto)]
 
 mod by_hand;
+mod laws;
 
 pub use by_hand::equal_up_to_names_by_hand;
+pub use laws::same_up_to_names_show_the_same;

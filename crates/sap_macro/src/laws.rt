@@ -1,0 +1,17 @@
+//! Laws of the definitions, as contracts of functions that do nothing.
+ghost use Rattle.std.specs.Prelude.{◌↔◌};
+ghost use Rattle.sap_terms.specs.Signature.{Sig};
+ghost use Rattle.sap_terms.specs.Trace.{Trace};
+ghost use Rattle.sap_process.specs.Proc.{Proc};
+ghost use Rattle.sap_process.specs.ProcessSteps.{IsProcessTrace};
+ghost use Rattle.sap_macro.specs.UpToNames.{AreSameUpToNames};
+
+use sap_rewrite::{equality_is_kept, normal_forms_are_unique};
+
+/// A law: of processes that are equal up to names each trace of the one is one of the other.
+pub fn same_up_to_names_show_the_same()
+    ensures { (g : Sig) (p q : Proc) (tr : Trace) → AreSameUpToNames p q → IsProcessTrace g p tr ↔ IsProcessTrace g q tr }
+{
+    equality_is_kept();
+    normal_forms_are_unique();
+}
