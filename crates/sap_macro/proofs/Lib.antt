@@ -5,3 +5,4 @@ pub mod Choosing
 pub mod Swapped
 pub mod GroundForms
 pub mod Following
+pub mod NewNames
