@@ -21,21 +21,36 @@ x-z : ¬ (codes "x" ≡ codes "z")
 x-z = two_names (codes "x") (codes "z") refl refl
 
 pub equal : AreAllSame equal_pairs
-equal =
-    (both_parallel (both_act both_new (both_act (both_out (both_variable here)) both_nil)) (both_act both_new (both_act (both_out (both_variable here)) both_nil)),
-    (both_act both_new (both_act both_new (both_act (both_out (both_variable here)) both_nil)),
-    (both_act (both_input (one_symbol (row_goes_on (new_name refl refl) (row_goes_on (new_name refl refl) row_ends))))
-    (both_act (both_out (both_apply (both_more (both_variable here) (both_more (both_variable (above y-x x-y here)) both_none)))) both_nil),
-    (both_act (both_input (one_symbol (row_goes_on (new_name refl refl) (row_goes_on (old_name here) row_ends))))
-    (both_act (both_out (both_variable here)) both_nil),
-    (both_act (both_input (new_name refl refl)) (both_act (both_input (one_symbol (row_goes_on (old_name here) (row_goes_on (new_name refl refl) row_ends))))
-    (both_act (both_out (both_variable here)) both_nil)),
-    (both_act (both_input (new_name refl refl)) (both_lookup both_public both_nil (both_act (both_out (both_variable here)) both_nil)),
-    (both_act (both_embedded (facts_go_on (row_goes_on (new_name refl refl) row_ends) facts_end) (facts_go_on (row_goes_on (old_name here) row_ends) facts_end)
-    (facts_go_on (row_goes_on (new_name refl refl) row_ends) facts_end))
-    (both_act (both_out (both_apply (both_more (both_variable (above y-x x-y here)) (both_more (both_variable here) both_none)))) both_nil),
-    (both_act (both_lock both_public) (both_act (both_unlock both_public) both_nil),
-    tt))))))))
+equal = (
+  both_parallel (both_act both_new (both_act (both_out (both_variable here)) both_nil)) (both_act both_new (both_act (both_out (both_variable here)) both_nil)),
+  (
+    both_act both_new (both_act both_new (both_act (both_out (both_variable here)) both_nil)),
+    (
+      both_act (both_input (one_symbol (row_goes_on (new_name refl refl) (row_goes_on (new_name refl refl) row_ends))))
+          (both_act (both_out (both_apply (both_more (both_variable here) (both_more (both_variable (above y-x x-y here)) both_none)))) both_nil),
+      (
+        both_act (both_input (one_symbol (row_goes_on (new_name refl refl) (row_goes_on (old_name here) row_ends))))
+            (both_act (both_out (both_variable here)) both_nil),
+        (
+          both_act (both_input (new_name refl refl)) (both_act (both_input (one_symbol (row_goes_on (old_name here) (row_goes_on (new_name refl refl) row_ends))))
+              (both_act (both_out (both_variable here)) both_nil)),
+          (
+            both_act (both_input (new_name refl refl)) (both_lookup both_public both_nil (both_act (both_out (both_variable here)) both_nil)),
+            (
+              both_act (both_embedded (facts_go_on (row_goes_on (new_name refl refl) row_ends) facts_end) (facts_go_on (row_goes_on (old_name here) row_ends) facts_end)
+                  (facts_go_on (row_goes_on (new_name refl refl) row_ends) facts_end))
+                  (both_act (both_out (both_apply (both_more (both_variable (above y-x x-y here)) (both_more (both_variable here) both_none)))) both_nil),
+              (
+                both_act (both_lock both_public) (both_act (both_unlock both_public) both_nil),
+                tt,
+              ),
+            ),
+          ),
+        ),
+      ),
+    ),
+  ),
+)
 
 other_binder : ¬ AreAlike [] (takes x (takes y (gives x))) (takes x (takes y (gives y)))
 other_binder (both_act (both_input (old_name l)) _) = elim l [ ]

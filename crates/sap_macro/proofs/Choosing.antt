@@ -121,9 +121,9 @@ old_or_first _ ζ _ _ (new_var {ρ = ρ} {x = a} {y = b} {s = s} {vs = vs} {ws =
     ⊎_elim (λ e. inr (own_first a b x y s vs ws e.0 e.1))
     (λ e. ⊎_elim (λ k. inl (below a b x y ρ e.0 k)) (λ f. inr (later_first (named a s) (named b s) vs ws x y e.0 e.1 f)) (old_or_first (pair_of a b ∷ ρ) ζ vs ws l x y h))
     (both_or_none ζ a b x y (stay_bound (pair_of a b ∷ ρ) ζ vs ws l a b here) h) where
-  below : (a b x y : List ℕ) (ρ : List Pair) → bytes_eq a x ≡ false → HaveOneBinder (pair_of a b ∷ ρ) x y → HaveOneBinder ρ x y
-  below _ _ x y ρ e here = clash (bytes_eq x x) (own_name x) e
-  below _ _ x y ρ e (above h k l) = l
+      below : (a b x y : List ℕ) (ρ : List Pair) → bytes_eq a x ≡ false → HaveOneBinder (pair_of a b ∷ ρ) x y → HaveOneBinder ρ x y
+      below _ _ x y ρ e here = clash (bytes_eq x x) (own_name x) e
+      below _ _ x y ρ e (above h k l) = l
 
 -- ---- choices
 
@@ -149,8 +149,8 @@ pub chosen_move : (ζ : List Pair) (vs ws : List Var) (σ τ : Choice) → AreAl
     → Moves ζ [] (chosen σ vs) (chosen τ ws)
 chosen_move ζ vs ws σ τ l linked ground = record {
   moved = λ x y s h. ⊎_elim (λ k. elim k [ ])
-  (λ f. inr (chosen_first σ vs x f.0 s f.1 ∙ linked x y f.0 h ∙ sym (chosen_first τ ws y f.0 s f.2), subst IsGround (sym (chosen_first σ vs x f.0 s f.1)) (ground (named x f.0))))
-  (old_or_first [] ζ vs ws l x y h);
+      (λ f. inr (chosen_first σ vs x f.0 s f.1 ∙ linked x y f.0 h ∙ sym (chosen_first τ ws y f.0 s f.2), subst IsGround (sym (chosen_first σ vs x f.0 s f.1)) (ground (named x f.0))))
+      (old_or_first [] ζ vs ws l x y h);
   left = λ x s h. (refl, chosen_none σ vs x s (not_left [] ζ vs ws l x h));
   right = λ y s h. (refl, chosen_none τ ws y s (not_right [] ζ vs ws l y h));
 }

@@ -185,7 +185,7 @@ module _ (g : Sig) (ground_form : (t n : Tree) → IsGround t → IsNormalForm (
       record {
         threads = slice_set us t (Some (with_choice (taken_over ζ σ) (tree_vars z) a));
         step = inputs_on t (taken_over ζ σ) r (given x e) (λ y. messages _)
-        (subst (λ y. IsTheoryEqual (equations g) (app2 pair_name v y) x) right (subst (λ y. IsTheoryEqual (equations g) (app2 pair_name y (instance σ n)) x) left f));
+            (subst (λ y. IsTheoryEqual (equations g) (app2 pair_name v y) x) right (subst (λ y. IsTheoryEqual (equations g) (app2 pair_name y (instance σ n)) x) left f));
         alike = goes_on t (with_choice σ (tree_vars n) p) (with_choice (taken_over ζ σ) (tree_vars z) a) (bound σ ζ n z p a messages i k);
         ground = ground;
       }
@@ -197,10 +197,10 @@ module _ (g : Sig) (ground_form : (t n : Tree) → IsGround t → IsNormalForm (
       record {
         threads = slice_set (slice_set us s (Some a)) t (Some (with_choice (taken_over ζ σ) (tree_vars r') b));
         step = meets s t (taken_over ζ σ) i j
-        (subst (λ z. IsTheoryEqual (equations g) z l') (same_terms m m' hm) (subst (IsTheoryEqual (equations g) m) (same_terms l l' hl) e))
-        (subst (Fits g (taken_over ζ σ) r') (same_terms n n' hn) fits);
+            (subst (λ z. IsTheoryEqual (equations g) z l') (same_terms m m' hm) (subst (IsTheoryEqual (equations g) m) (same_terms l l' hl) e))
+            (subst (Fits g (taken_over ζ σ) r') (same_terms n n' hn) fits);
         alike = put (slice_set c.threads s (Some p)) (slice_set us s (Some a)) (goes_on s p a k) t (Some (with_choice σ (tree_vars r) q))
-        (Some (with_choice (taken_over ζ σ) (tree_vars r') b)) (both_run (bound σ ζ r r' q b f.messages hr o));
+            (Some (with_choice (taken_over ζ σ) (tree_vars r') b)) (both_run (bound σ ζ r r' q b f.messages hr o));
         ground = ground;
       }
 
@@ -292,11 +292,11 @@ module _ (g : Sig) (ground_form : (t n : Tree) → IsGround t → IsNormalForm (
       record {
         threads = slice_set us t (Some (with_choice τ (facts_vars (k ++ (d ++ q))) a));
         step = embeds t ks τ left acts right i (λ z. messages _)
-        (subst (λ z. AreEqualFacts (equations g) z left) (one_fact_list σ τ [] ξ l k hl linked_acts) fl) takes
-        (subst (λ z. AreFormsOfFacts (equations g) z acts) (one_fact_list σ τ ξ ζ e d he linked_right) fe)
-        (subst (λ z. AreFormsOfFacts (equations g) z right) (one_fact_list σ τ ζ η r q hr linked) fr);
+            (subst (λ z. AreEqualFacts (equations g) z left) (one_fact_list σ τ [] ξ l k hl linked_acts) fl) takes
+            (subst (λ z. AreFormsOfFacts (equations g) z acts) (one_fact_list σ τ ξ ζ e d he linked_right) fe)
+            (subst (λ z. AreFormsOfFacts (equations g) z right) (one_fact_list σ τ ζ η r q hr linked) fr);
         alike = goes_on t (with_choice σ (facts_vars (l ++ (e ++ r))) p) (with_choice τ (facts_vars (k ++ (d ++ q))) a)
-        (chosen_alike η (facts_vars (l ++ (e ++ r))) (facts_vars (k ++ (d ++ q))) σ τ (fact_vars [] η (l ++ (e ++ r)) (k ++ (d ++ q)) all) linked (λ z. (messages z).ground) p a o);
+            (chosen_alike η (facts_vars (l ++ (e ++ r))) (facts_vars (k ++ (d ++ q))) σ τ (fact_vars [] η (l ++ (e ++ r)) (k ++ (d ++ q)) all) linked (λ z. (messages z).ground) p a o);
         ground = ground;
       }
 

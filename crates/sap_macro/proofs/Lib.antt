@@ -6,3 +6,7 @@ pub mod Swapped
 pub mod GroundForms
 pub mod Following
 pub mod NewNames
+pub mod Scopes
+pub mod Commuting
+pub mod AlikeExpansions
+pub mod Uses

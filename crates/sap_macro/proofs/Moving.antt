@@ -33,7 +33,7 @@ mutual
   ground_alike ρ (fresh k) g = both_fresh
   ground_alike ρ (apply f ts) g = both_apply (all_ground ρ ts g)
 
-  all_ground : (ρ : List Pair) (ts : Trees) → AreGround ts → AreAlikeLists ρ ts ts
+  pub all_ground : (ρ : List Pair) (ts : Trees) → AreGround ts → AreAlikeLists ρ ts ts
   all_ground ρ none g = both_none
   all_ground ρ (more t ts) g = both_more (ground_alike ρ t g.0) (all_ground ρ ts g.1)
 
@@ -45,7 +45,7 @@ moved_variable ξ x y s t u (inr h) = subst (AreAlikeTerms ξ t) h.0 (ground_ali
 
 mutual
   -- terms whose names are bound are patterns that bind nothing
-  as_pattern : (ξ : List Pair) (t u : Tree) → AreAlikeTerms ξ t u → AreAlikePatterns ξ t u ξ
+  pub as_pattern : (ξ : List Pair) (t u : Tree) → AreAlikeTerms ξ t u → AreAlikePatterns ξ t u ξ
   as_pattern ξ _ _ (both_variable h) = old_name h
   as_pattern ξ _ _ both_public = one_public
   as_pattern ξ _ _ both_fresh = one_fresh
@@ -96,8 +96,8 @@ hidden : (ρ ξ : List Pair) (σ τ : Choice) (x y : List ℕ) (t : Sort) → Mo
     → Moves (pair_of x y ∷ ρ) (pair_of x y ∷ ξ) (without σ (named x t)) (without τ (named y t))
 hidden ρ ξ σ τ x y t m = record {
   moved = own ρ ξ (without σ (named x t)) (without τ (named y t)) x y (λ s. without_own σ x s t) (λ s. without_own τ y s t)
-  (λ a b s i j l. subst (λ z. IsMoved ξ a b s z (without τ (named y t) (named b s))) (sym (without_other σ x a s t (apart x a i)))
-  (subst (IsMoved ξ a b s (σ (named a s))) (sym (without_other τ y b s t (apart y b j))) (m.moved a b s l)));
+      (λ a b s i j l. subst (λ z. IsMoved ξ a b s z (without τ (named y t) (named b s))) (sym (without_other σ x a s t (apart x a i)))
+      (subst (IsMoved ξ a b s (σ (named a s))) (sym (without_other τ y b s t (apart y b j))) (m.moved a b s l)));
   left = λ a s n. let o = not_in a x (lefts ρ) n in (out_of a x (lefts ξ) o.0 (m.left a s o.1).0, without_other σ x a s t o.0 ∙ (m.left a s o.1).1);
   right = λ b s n. let o = not_in b y (rights ρ) n in (out_of b y (rights ξ) o.0 (m.right b s o.1).0, without_other τ y b s t o.0 ∙ (m.right b s o.1).1);
 }
@@ -117,7 +117,7 @@ mutual
       record {
         behind = pair_of x y ∷ ξ;
         alike = subst (λ t. AreAlikePatterns ξ t (τ (named y s)) (pair_of x y ∷ ξ)) (sym (m.left x s h).1)
-        (subst (λ t. AreAlikePatterns ξ (variable (named x s)) t (pair_of x y ∷ ξ)) (sym (m.right y s k).1) (new_name (m.left x s h).0 (m.right y s k).0));
+            (subst (λ t. AreAlikePatterns ξ (variable (named x s)) t (pair_of x y ∷ ξ)) (sym (m.right y s k).1) (new_name (m.left x s h).0 (m.right y s k).0));
         moves = more_names ρ ξ σ τ x y h k m;
       }
   pattern_moves _ ξ _ σ τ _ _ one_public m = record { behind = ξ; alike = one_public; moves = m }
@@ -147,7 +147,7 @@ facts_move _ ξ _ σ τ _ _ (facts_go_on {ρ = ρ} {ξ = η} {ζ = ζ} {ts = ts}
     record {
       behind = later.behind;
       alike = facts_go_on (subst (λ z. AreAlikeRows ξ z (trees_of (map (instance τ) us)) first.behind) (each_instance σ ts)
-      (subst (λ z. AreAlikeRows ξ (instances σ (trees_of ts)) z first.behind) (each_instance τ us) first.alike)) later.alike;
+          (subst (λ z. AreAlikeRows ξ (instances σ (trees_of ts)) z first.behind) (each_instance τ us) first.alike)) later.alike;
       moves = later.moves;
     }
 
@@ -165,7 +165,7 @@ action_moves _ ξ _ σ τ _ _ (both_event {ρ = ρ} {ts = ts} {us = us} h) m =
     record {
       behind = ξ;
       alike = both_event (subst (λ z. AreAlikeLists ξ z (trees_of (map (instance τ) us))) (each_instance σ ts)
-      (subst (AreAlikeLists ξ (instances σ (trees_of ts))) (each_instance τ us) (lists_move ρ ξ σ τ m (trees_of ts) (trees_of us) h)));
+          (subst (AreAlikeLists ξ (instances σ (trees_of ts))) (each_instance τ us) (lists_move ρ ξ σ τ m (trees_of ts) (trees_of us) h)));
       moves = m;
     }
 action_moves _ ξ _ σ τ _ _ (both_insert {ρ = ρ} {t = t} {u = u} {v = v} {w = w} h k) m =

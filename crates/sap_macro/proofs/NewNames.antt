@@ -59,8 +59,8 @@ candidate_one x m n p q e =
     (λ f. decimal_injective m n p q (behind_same x (decimal m) (decimal n) (sym (at m f) ∙ e ∙ at n f)))
     (λ f. decimal_injective m n p q (behind_same (codes "_") (decimal m) (decimal n) (behind_same x (codes "_" ++ decimal m) (codes "_" ++ decimal n) (sym (at m f) ∙ e ∙ at n f))))
     (cases_Bool (bytes_eq x (codes "sapic"))) where
-  at : (k : ℕ) {b : Bool} → bytes_eq x (codes "sapic") ≡ b → candidate x k ≡ (if b then x ++ decimal k else x ++ (codes "_" ++ decimal k))
-  at k f = ap (λ z. if z then x ++ decimal k else x ++ (codes "_" ++ decimal k)) f
+      at : (k : ℕ) {b : Bool} → bytes_eq x (codes "sapic") ≡ b → candidate x k ≡ (if b then x ++ decimal k else x ++ (codes "_" ++ decimal k))
+      at k f = ap (λ z. if z then x ++ decimal k else x ++ (codes "_" ++ decimal k)) f
 
 -- ---- the search
 
@@ -80,11 +80,11 @@ search (suc k) m taken x =
     (search k (m + 1) taken x))
     (λ e. inl (m, omega arith, ap (λ b. if b then first_free k (m + 1) taken x else candidate x m) e, e, λ j p q. absurd (omega (arith, p, q))))
     (cases_Bool (is_known taken (candidate x m))) where
-  step : is_known taken (candidate x m) ≡ true → first_free (suc k) m taken x ≡ first_free k (m + 1) taken x
-  step e = ap (λ b. if b then first_free k (m + 1) taken x else candidate x m) e
+      step : is_known taken (candidate x m) ≡ true → first_free (suc k) m taken x ≡ first_free k (m + 1) taken x
+      step e = ap (λ b. if b then first_free k (m + 1) taken x else candidate x m) e
 
-  from : is_known taken (candidate x m) ≡ true → (j : ℕ) → m ≤ j → (m + 1 ≤ j → is_known taken (candidate x j) ≡ true) → is_known taken (candidate x j) ≡ true
-  from e j p later = ⊎_elim (λ f. subst (λ z. is_known taken (candidate x z) ≡ true) (eqb-true m j f) e) (λ f. later (let d = eqb-false m j f in omega (arith, p, d))) (cases_Bool (m == j))
+      from : is_known taken (candidate x m) ≡ true → (j : ℕ) → m ≤ j → (m + 1 ≤ j → is_known taken (candidate x j) ≡ true) → is_known taken (candidate x j) ≡ true
+      from e j p later = ⊎_elim (λ f. subst (λ z. is_known taken (candidate x z) ≡ true) (eqb-true m j f) e) (λ f. later (let d = eqb-false m j f in omega (arith, p, d))) (cases_Bool (m == j))
 
 -- a known name is shorter
 shorter : (ys : List (List ℕ)) (x : List ℕ) → is_known ys x ≡ true → length x < length (longer_than ys)

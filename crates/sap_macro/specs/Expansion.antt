@@ -26,29 +26,27 @@ bound_in scope (v ∷ vs) =
     (if is_known scope v.name then [] else (v.name ∷ []))
     ++ bound_in (if is_known scope v.name then scope else (v.name ∷ scope)) vs
 
--- the variables of an action's patterns
-abbrev pub pattern_vars : Action → List Var
-pattern_vars (new x) = []
-pattern_vars (out t) = []
-pattern_vars (send t u) = []
-pattern_vars (input t) = tree_vars t
-pattern_vars (receive t u) = tree_vars u
-pattern_vars (event f) = []
-pattern_vars (insert t u) = []
-pattern_vars (delete t) = []
-pattern_vars (lock t n) = []
-pattern_vars (unlock t n) = []
-pattern_vars (embedded l e r) = facts_vars (l ++ (e ++ r))
+-- the variables that an action binds, but for those whose names are in scope
+abbrev pub binding_vars : Action → List Var
+binding_vars (new x) = x ∷ []
+binding_vars (out t) = []
+binding_vars (send t u) = []
+binding_vars (input t) = tree_vars t
+binding_vars (receive t u) = tree_vars u
+binding_vars (event f) = []
+binding_vars (insert t u) = []
+binding_vars (delete t) = []
+binding_vars (lock t n) = []
+binding_vars (unlock t n) = []
+binding_vars (embedded l e r) = facts_vars (l ++ (e ++ r))
 
 -- the names in scope behind an action
 abbrev pub behind : List (List ℕ) → Action → List (List ℕ)
-behind scope (new x) = x.name ∷ scope
-behind scope a = scope_behind scope (pattern_vars a)
+behind scope a = scope_behind scope (binding_vars a)
 
 -- the names that it binds
 abbrev pub bound_by : List (List ℕ) → Action → List (List ℕ)
-bound_by scope (new x) = x.name ∷ []
-bound_by scope a = bound_in scope (pattern_vars a)
+bound_by scope a = bound_in scope (binding_vars a)
 
 -- the names that a process binds, where these are in scope, binder by binder
 abbrev pub binders : List (List ℕ) → Written → List (List ℕ)

@@ -4,3 +4,4 @@ pub mod Written
 pub mod NewNames
 pub mod Expansion
 pub mod ExpansionExamples
+pub mod Instances

@@ -73,9 +73,10 @@ locked n = act (lock a n) (act (unlock a n) nil)
 -- compares with its own; a name compared in a pattern against one bound above; a name bound in one branch alone; what an
 -- embedded rule binds on its left and on its right side; and the label of a lock
 abbrev pub equal_pairs : List (Proc × Proc)
-equal_pairs =
-    (parallel (new_x (gives fresh_x)) (new_x (gives fresh_x)),
-    parallel (new_x (gives fresh_x)) (new_y (gives fresh_y)))
+equal_pairs = (
+  parallel (new_x (gives fresh_x)) (new_x (gives fresh_x)),
+  parallel (new_x (gives fresh_x)) (new_y (gives fresh_y)),
+)
     ∷ (new_x (new_x (gives fresh_x)), new_x (new_y (gives fresh_y)))
     ∷ (takes (both x y) (gives (both y x)), takes (both y x) (gives (both x y)))
     ∷ (takes (both x x) (gives x), takes (both y y) (gives y))
