@@ -1,0 +1,12 @@
+pub mod ByHand
+pub mod Names
+pub mod Moving
+pub mod Choosing
+pub mod Swapped
+pub mod GroundForms
+pub mod Following
+pub mod NewNames
+pub mod Scopes
+pub mod Commuting
+pub mod AlikeExpansions
+pub mod Uses

@@ -1,0 +1,33 @@
+//! Small processes by hand, as laws.
+ghost use Rattle.std.specs.Prelude.{◌≡◌, codes, [], ◌∷◌};
+ghost use Rattle.sap_process.specs.Proc as whole;
+ghost use Rattle.sap_macro.specs.Expansion.{expansion};
+ghost use Rattle.sap_macro.specs.ExpansionExamples.{a, b, of_name, fresh_of, news, taking, makes, takes, gives, making, making_twice, pairing, giving_y, using_plain, inner, outer};
+ghost use Rattle.sap_macro.specs.NameExamples.{both, AreAllSame, AreNoneSame, equal_pairs, other_pairs};
+ghost use Rattle.sap_macro.specs.NewNames.{new_name};
+ghost use Rattle.sap_macro.specs.Written.{call, parallel};
+
+/// A law: eight pairs of processes that are equal up to names, and eight that aren't.
+pub fn equal_up_to_names_by_hand()
+    ensures equal { AreAllSame equal_pairs }
+    ensures other { AreNoneSame other_pairs }
+{}
+
+/// A law: expansions of small files. What a use's body binds gets new names, the first that aren't taken, one for each name and use,
+/// in the order of their first binders, and uses inside of it later ones; the names of arguments stay what they are. Parameters are
+/// replaced all at once, and names without parameters before anything else.
+pub fn expansions_by_hand()
+    ensures renames { (expansion (making ∷ []) (codes "n" ∷ codes "x" ∷ []) (news (codes "n") (call (codes "A") (fresh_of (codes "n") ∷ [])))).process
+        ≡ makes (codes "n") (makes (codes "n_1") (gives (both (fresh_of (codes "n")) (fresh_of (codes "n_1"))))) }
+    ensures first_free { (expansion (making ∷ []) (codes "n" ∷ codes "n_1" ∷ []) (call (codes "A") (a ∷ []))).process
+        ≡ makes (codes "n_2") (gives (both a (fresh_of (codes "n_2")))) }
+    ensures once_a_use { (expansion (making_twice ∷ []) (codes "n" ∷ []) (parallel (call (codes "A") (a ∷ [])) (call (codes "A") (b ∷ [])))).process
+        ≡ whole.parallel (whole.parallel (makes (codes "n_1") (gives (fresh_of (codes "n_1")))) (makes (codes "n_1") (gives (both (fresh_of (codes "n_1")) a))))
+        (whole.parallel (makes (codes "n_2") (gives (fresh_of (codes "n_2")))) (makes (codes "n_2") (gives (both (fresh_of (codes "n_2")) b)))) }
+    ensures at_once { (expansion (pairing ∷ []) [] (taking (of_name (codes "y")) (call (codes "A") (of_name (codes "y") ∷ b ∷ [])))).process
+        ≡ takes (of_name (codes "y")) (gives (both (of_name (codes "y")) b)) }
+    ensures plain_first { (expansion (giving_y ∷ using_plain ∷ []) [] (call (codes "A") (a ∷ []))).process ≡ gives a }
+    ensures inner_later { (expansion (inner ∷ outer ∷ []) (codes "n" ∷ []) (call (codes "A") (a ∷ []))).process
+        ≡ takes (both a (of_name (codes "n_1"))) (whole.parallel (makes (codes "n_2") (gives (of_name (codes "n_1")))) (makes (codes "n_3") (gives a))) }
+    ensures sapic { new_name [] (codes "sapic") ≡ codes "sapic1" }
+{}

@@ -1,0 +1,50 @@
+//! Laws of the definitions, as contracts of functions that do nothing.
+ghost use Rattle.std.specs.Prelude.{◌≡◌, ◌≤◌, ◌↔◌, ◌+◌, ◌^◌, ℕ, false, List, [], length, map};
+ghost use Rattle.sap_terms.specs.Choice.{Choice, instance};
+ghost use Rattle.sap_terms.specs.Ground.{AreGround};
+ghost use Rattle.sap_terms.specs.Signature.{Sig};
+ghost use Rattle.sap_terms.specs.Trace.{Trace};
+ghost use Rattle.sap_terms.specs.Tree.{Tree, trees_of};
+ghost use Rattle.sap_terms.specs.Variables.{is_known};
+ghost use Rattle.sap_process.specs.Instance.{process_instance};
+ghost use Rattle.sap_process.specs.Proc.{Proc};
+ghost use Rattle.sap_process.specs.ProcessSteps.{IsProcessTrace};
+ghost use Rattle.sap_macro.specs.Expansion.{meaning_of, entered, expanded, unchanged, same_name};
+ghost use Rattle.sap_macro.specs.Instances.{instance_by, IsClosed, AreClosed, Keeps, AreTaken};
+ghost use Rattle.sap_macro.specs.NewNames.{IsNewName, new_name};
+ghost use Rattle.sap_macro.specs.UpToNames.{AreSameUpToNames};
+ghost use Rattle.sap_macro.specs.Written.{Written, Definition};
+
+use sap_rewrite::{equality_is_kept, normal_forms_are_unique};
+
+/// A law: of processes that are equal up to names each trace of the one is one of the other.
+pub fn same_up_to_names_show_the_same()
+    ensures { (g : Sig) (p q : Proc) (tr : Trace) → AreSameUpToNames p q → IsProcessTrace g p tr ↔ IsProcessTrace g q tr }
+{
+    equality_is_kept();
+    normal_forms_are_unique();
+}
+
+/// A law: a new name is the first candidate that isn't taken, where fewer than 2^64 - 1 names are taken. However many these are, it
+/// is none of them.
+pub fn new_names_are_least()
+    ensures least { (taken : List (List ℕ)) (x : List ℕ) → length taken + 2 ≤ 2 ^ 64 → IsNewName taken x (new_name taken x) }
+    ensures free { (taken : List (List ℕ)) (x : List ℕ) → is_known taken (new_name taken x) ≡ false }
+{}
+
+/// A law: take definitions that use what they bind and their parameters alone, and bind nothing again, and a use of one more. Under a
+/// choice that makes its arguments ground and replaces taken names alone, what the use means is, up to names, the expansion of the
+/// definition's instance by these terms, whatever names are taken then.
+pub fn uses_are_instances()
+    ensures { (ds : List Definition) (d : Definition) (ts : List Tree) (s : Choice) (taken other : List (List ℕ)) → AreClosed ds
+        → IsClosed d.params d.body → AreGround (trees_of (map (instance s) ts)) → Keeps s taken → AreTaken other d.params d.body
+        → AreSameUpToNames (process_instance s (entered (meaning_of ds) d ts taken).process)
+        (expanded (meaning_of ds) unchanged same_name (instance_by d (map (instance s) ts)) other).process }
+{}
+
+/// A law: with other names taken the expansion of a process is the same up to names.
+pub fn expansions_are_one()
+    ensures { (ds : List Definition) (p : Written) (taken other : List (List ℕ)) → AreClosed ds → IsClosed [] p → AreTaken taken [] p
+        → AreTaken other [] p → AreSameUpToNames (expanded (meaning_of ds) unchanged same_name p taken).process
+        (expanded (meaning_of ds) unchanged same_name p other).process }
+{}
