@@ -3,4 +3,5 @@ pub mod Filled
 pub mod Refused
 pub mod OneRun
 pub mod ShortByHand
+pub mod SomeAnswer
 pub mod Filling

@@ -10,16 +10,19 @@ ghost use Rattle.sap_intruder.specs.OneAnswer.{FirstShortRefusalsAreOne, LegalSh
 ghost use Rattle.sap_intruder.specs.Refusals.{IsShortRefused};
 ghost use Rattle.sap_intruder.specs.ShortExamples.{bare, know_a, know_a_lines, know_a_trace, unheld};
 ghost use Rattle.sap_intruder.specs.ShortRuns.{IsLegalShortRun, ShortRunsAreRuns};
+ghost use Rattle.sap_intruder.specs.SomeAnswer.{ShortLinesHaveSomeAnswer, ShortRunsHaveSomeAnswer};
 ghost use Rattle.sap_intruder.specs.declared.fill_fault.FillFault.TheVariants as fill;
 ghost use Rattle.sap_runs.specs.Limits.{AnySize, HasFewNodes};
 ghost use Rattle.sap_runs.specs.declared.process_step.PStep.TheVariants as line;
 ghost use Rattle.sap_runs.specs.declared.short_step.SStep.TheVariants as short;
 
+use sap_derive::deducibility_is_decided;
 use sap_lines::{
     channels_are_one, each_run_can_be_written, limit_excludes, lines_are_steps,
-    lines_have_one_answer, lines_look_at_one_entry, runs_match_exactly,
+    lines_have_one_answer, lines_have_some_answer, lines_look_at_one_entry, runs_match_exactly,
 };
-use sap_rewrite::normal_forms_are_unique;
+use sap_process::runs_stay_ground;
+use sap_rewrite::{each_term_has_a_normal_form, normal_forms_are_unique};
 use sap_terms::leaves_are_normal;
 
 /// What the steps of a legal short run lead to and show, a run of the process leads to and shows.
@@ -73,6 +76,23 @@ pub fn one_short_answer()
     runs_match_exactly();
     short_runs_are_runs();
     short_refusals_are_one();
+}
+
+/// And one at least. Where what lines match is matched exactly and what was sent is normal, each step that may stand in a short run
+/// is possible within the limit, or refused; so each short run of such steps, of a ready process, is legal within the limit, or one
+/// step of it is the first that is refused.
+pub fn some_short_answer()
+    ensures steps { ShortLinesHaveSomeAnswer }
+    ensures runs { ShortRunsHaveSomeAnswer }
+{
+    each_term_has_a_normal_form();
+    normal_forms_are_unique();
+    deducibility_is_decided();
+    runs_stay_ground();
+    lines_have_some_answer();
+    each_run_can_be_written();
+    runs_match_exactly();
+    short_runs_are_runs();
 }
 
 /// A short run and steps by hand, of a process that is nothing, over a signature without symbols. `know 'a'` is a legal short run,
