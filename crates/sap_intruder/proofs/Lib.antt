@@ -5,3 +5,4 @@ pub mod OneRun
 pub mod ShortByHand
 pub mod SomeAnswer
 pub mod Filling
+pub mod Sizes

@@ -5,7 +5,7 @@ ghost use Rattle.sap_process.specs.Configuration.{initial};
 ghost use Rattle.sap_process.specs.Proc.{nil};
 ghost use Rattle.sap_process.specs.StepExamples.{a};
 ghost use Rattle.sap_lines.specs.declared.fault.PFault.TheVariants as fault;
-ghost use Rattle.sap_intruder.specs.FilledRuns.{Fills, FilledRunsAreLegal, IsFilledRun, IsLeftOut, LegalShortRunsCanBeFilled};
+ghost use Rattle.sap_intruder.specs.FilledRuns.{Fills, FilledRunsAreLegal, IsFilledRun, IsLeftOut, LegalShortRunsCanBeFilled, SmallShortRunsCanBeFilled};
 ghost use Rattle.sap_intruder.specs.OneAnswer.{FirstShortRefusalsAreOne, LegalShortRunsAreNotRefused, ShortLinesAreNotRefused, ShortRefusalsAreOne, ShortRunsHaveOneEnd};
 ghost use Rattle.sap_intruder.specs.Refusals.{IsShortRefused};
 ghost use Rattle.sap_intruder.specs.ShortExamples.{bare, know_a, know_a_lines, know_a_trace, unheld};
@@ -16,13 +16,15 @@ ghost use Rattle.sap_runs.specs.Limits.{AnySize, HasFewNodes};
 ghost use Rattle.sap_runs.specs.declared.process_step.PStep.TheVariants as line;
 ghost use Rattle.sap_runs.specs.declared.short_step.SStep.TheVariants as short;
 
-use sap_derive::deducibility_is_decided;
+use sap_derive::{deducibility_is_decided, derivations_stay_near};
 use sap_lines::{
     channels_are_one, each_run_can_be_written, limit_excludes, lines_are_steps,
     lines_have_one_answer, lines_have_some_answer, lines_look_at_one_entry, runs_match_exactly,
 };
 use sap_process::runs_stay_ground;
-use sap_rewrite::{each_term_has_a_normal_form, normal_forms_are_unique};
+use sap_rewrite::{
+    each_term_has_a_normal_form, equality_is_kept, normal_forms_are_unique, symbols_reduce_once,
+};
 use sap_terms::leaves_are_normal;
 
 /// What the steps of a legal short run lead to and show, a run of the process leads to and shows.
@@ -42,11 +44,18 @@ pub fn filled_runs_are_legal()
     lines_look_at_one_entry();
 }
 
-/// Each legal short run is filled by some run, limits aside: what the adversary gives in it, it can write down and apply first.
+/// Each legal short run is filled by some run: what the adversary gives in it, it can write down and apply first. One that is legal
+/// within the limit, of steps that may stand in a short run, is filled by a run that is legal within it, over a signature that holds
+/// its builtins' symbols.
 pub fn short_runs_can_be_filled()
-    ensures { LegalShortRunsCanBeFilled }
+    ensures runs { LegalShortRunsCanBeFilled }
+    ensures small_runs { SmallShortRunsCanBeFilled }
 {
     normal_forms_are_unique();
+    equality_is_kept();
+    symbols_reduce_once();
+    leaves_are_normal();
+    derivations_stay_near();
     lines_look_at_one_entry();
 }
 
