@@ -217,13 +217,26 @@ module _ (each : EachHasForm) (one : FormIsOne) (some : ProcessLinesHaveSomeAnsw
   from [] before c tr ms legal all = inl (c, tr, ms, subst (λ (xs : List SStep). IsLegalShortRun g HasFewNodes p xs c tr ms) (sym (append-nil before)) legal)
   from (s ∷ rest) before c tr ms legal all =
       at (answered before s c tr ms legal (All-head IsShortStep s rest all)) (λ d tr2 ms2 run. from rest (before ++ s ∷ []) d tr2 ms2 run (All-tail IsShortStep s rest all)) where
-    at : IsAnswered g c s
-        → ((d : Config) (tr2 : Trace) (ms2 : List Mark) → IsLegalShortRun g HasFewNodes p (before ++ s ∷ []) d tr2 ms2 → Answer ((before ++ s ∷ []) ++ rest)) → Answer (before ++ s ∷ rest)
-    at (inr e) next = inr (length before + 1, e.0, record {
-      before = before; step = s; after = rest; cut = refl; counts = refl; config = c; trace = tr; marks = ms; legal = legal; refused = e.1
-    })
-    at (inl h) next =
-        subst Answer (append_assoc before (s ∷ []) rest) (next h.2 (tr ++ shown h.1) (ms ++ marks_of h.0 h.1) (further s h.0 h.1 legal h.3))
+        at : IsAnswered g c s
+            → ((d : Config) (tr2 : Trace) (ms2 : List Mark) → IsLegalShortRun g HasFewNodes p (before ++ s ∷ []) d tr2 ms2 → Answer ((before ++ s ∷ []) ++ rest)) → Answer (before ++ s ∷ rest)
+        at (inr e) next = inr (
+          length before + 1,
+          e.0,
+          record {
+            before = before;
+            step = s;
+            after = rest;
+            cut = refl;
+            counts = refl;
+            config = c;
+            trace = tr;
+            marks = ms;
+            legal = legal;
+            refused = e.1;
+          },
+        )
+        at (inl h) next =
+            subst Answer (append_assoc before (s ∷ []) rest) (next h.2 (tr ++ shown h.1) (ms ++ marks_of h.0 h.1) (further s h.0 h.1 legal h.3))
 
 pub short_runs_have_some_answer : EachHasForm → FormIsOne → ProcessLinesHaveSomeAnswer → DeducibilityIsDecided → RunsStayGround → ProcessRunsCanBeWritten → RunsMatchExactly → ShortRunsAreRuns HasFewNodes
     → ShortRunsHaveSomeAnswer
