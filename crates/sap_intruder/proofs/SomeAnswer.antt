@@ -1,5 +1,5 @@
 -- A step of a short run is possible or refused, and a short run is legal or has a first refused step.
-use Rattle.std.proofs.Common.{◌≡◌, ◌+◌, ℕ, Bool, true, false, List, [], ◌∷◌, ◌++◌, length, Option, Some, None, arith, refl, sym, ap, ◌∙◌, subst, append-nil, append_assoc, ◌⊎◌, inl, inr}
+use Rattle.std.proofs.Common.{◌≡◌, ◌+◌, ℕ, Bool, true, false, List, [], ◌∷◌, ◌++◌, length, Option, Some, None, arith, refl, sym, ap, subst, append-nil, append_assoc, ◌⊎◌, inl, inr}
 use Rattle.std.specs.Prelude.{All, Contains, slice_get}
 use Rattle.std.proofs.lemmas.Bool.{cases_lt}
 use Rattle.std.proofs.lemmas.List.Elements.{All-nil, All-cons, All-head, All-tail, All-weaker, All-contains_itself}
@@ -10,7 +10,6 @@ use Rattle.sap_terms.specs.Signature.{Sig, HoldsBuiltins, arity_of}
 use Rattle.sap_terms.specs.Trace.{Trace, shown}
 use Rattle.sap_terms.specs.Tree.{Tree, variable, public, fresh, apply, Trees, none, more, list_of}
 use Rattle.sap_terms.specs.View.{tree}
-use Rattle.sap_terms.specs.declared.fact.Fact.{Fact}
 use Rattle.sap_terms.specs.declared.term.Term.{Term}
 use Rattle.sap_rewrite.specs.Laws.{EachHasForm, FormIsOne}
 use Rattle.sap_derive.specs.Decided.{DeducibilityIsDecided}
@@ -21,7 +20,6 @@ use Rattle.sap_process.specs.GroundProcess.{IsGroundConfig}
 use Rattle.sap_process.specs.Proc.{Proc, act}
 use Rattle.sap_process.specs.ProcessSteps.{ProcessRun}
 use Rattle.sap_process.specs.Ready.{IsReady}
-use Rattle.sap_runs.specs.Inner.{InnerAction}
 use Rattle.sap_runs.specs.Limits.{HasFewNodes}
 use Rattle.sap_runs.specs.Marks.{Mark, marks_of}
 use Rattle.sap_runs.specs.Short.{MayStand, IsShortStep}
@@ -30,15 +28,14 @@ use Rattle.sap_runs.specs.declared.process_step.PStep.TheVariants as line
 use Rattle.sap_runs.specs.declared.short_step.SStep.{SStep}
 use Rattle.sap_runs.specs.declared.short_step.SStep.TheVariants as short
 use Rattle.sap_lines.specs.Answers.{MatchesExactly, ProcessLinesHaveSomeAnswer, RunsMatchExactly}
-use Rattle.sap_lines.specs.Channels.{SendsOn, HasNoChannel, unfit, too_large}
-use Rattle.sap_lines.specs.Faults.{IsRefused, IsRunning, IsUnfit, not_running, other_form, has_form, is_send, thread_of, evaluated, EvaluateLarge}
-use Rattle.sap_lines.specs.Lines.{IsProcessLine}
+use Rattle.sap_lines.specs.Channels.{HasNoChannel, unfit, too_large}
+use Rattle.sap_lines.specs.Faults.{IsRefused, IsUnfit, not_running, other_form, has_form, is_send, evaluated, EvaluateLarge}
 use Rattle.sap_lines.specs.Runs.{ProcessRunsCanBeWritten}
 use Rattle.sap_lines.specs.declared.fault.PFault.{PFault}
 use Rattle.sap_lines.specs.declared.fault.PFault.TheVariants as fault
 use Rattle.sap_intruder.specs.OneAnswer.{IsFirstRefusedOfShort}
-use Rattle.sap_intruder.specs.Refusals.{IsNotGiven, bad, not_deduced, IsShortRefused, line_refused, unfit_taker, input_not_given, input_refused, no_channel, channel_not_given, known_not_given}
-use Rattle.sap_intruder.specs.ShortLines.{IsGiven, IsShortLine, acts, takes, sends, knows}
+use Rattle.sap_intruder.specs.Refusals.{IsNotGiven, bad, not_deduced, line_refused, unfit_taker, input_not_given, input_refused, no_channel, channel_not_given, known_not_given}
+use Rattle.sap_intruder.specs.ShortLines.{IsGiven, acts, takes, sends, knows}
 use Rattle.sap_intruder.specs.ShortRuns.{IsLegalShortRun, starts, further, ShortRunsAreRuns}
 use Rattle.sap_intruder.specs.SomeAnswer.{IsAnswered, ShortLinesHaveSomeAnswer, ShortRunsHaveSomeAnswer}
 use Rattle.sap_intruder.specs.declared.fill_fault.FillFault.{FillFault}
