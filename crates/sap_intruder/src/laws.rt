@@ -1,5 +1,6 @@
 //! What is so of short runs, as contracts of functions that do nothing.
 ghost use Rattle.std.specs.Prelude.{[], ◌∷◌, codes};
+ghost use Rattle.sap_terms.specs.Tree.{fresh};
 ghost use Rattle.sap_terms.specs.View.{term};
 ghost use Rattle.sap_process.specs.Configuration.{initial};
 ghost use Rattle.sap_process.specs.Proc.{nil};
@@ -106,7 +107,8 @@ pub fn some_short_answer()
 
 /// A short run and steps by hand, of a process that is nothing, over a signature without symbols. `know 'a'` is a legal short run,
 /// which `pub 'a'` and `know 0` fill; no entry is cited where there is none. A term with a symbol that isn't held is bad, and `'a'`
-/// isn't; an input is refused for its thread, and then for the form of that, before its term is looked at.
+/// isn't; an input is refused for its thread, and then for the form of that, before its term is looked at. Of `~1` and `'a'` the
+/// adversary can give the second alone.
 pub fn short_runs_by_hand()
     ensures legal { IsLegalShortRun bare HasFewNodes nil know_a (initial nil) know_a_trace [] }
     ensures filled { IsFilledRun bare HasFewNodes nil know_a know_a_lines (initial nil) (a ∷ []) know_a_trace [] }
@@ -116,6 +118,9 @@ pub fn short_runs_by_hand()
     ensures not_bad { ¬ IsShortRefused bare (initial nil) (short.Know (term a)) fill.BadTerm }
     ensures thread_first { IsShortRefused bare (initial nil) (short.In 1 (term unheld)) (fill.Process (fault.NoThread 1)) }
     ensures form_next { IsShortRefused bare (initial nil) (short.In 0 (term unheld)) (fill.Process (fault.WrongForm 0)) }
+    ensures not_deduced { IsShortRefused bare (initial nil) (short.Know (term (fresh 1))) fill.NotDeduced }
+    ensures deduced { ¬ IsShortRefused bare (initial nil) (short.Know (term a)) fill.NotDeduced }
 {
     leaves_are_normal();
+    normal_forms_are_unique();
 }
