@@ -1,5 +1,5 @@
--- A step of a short run is possible or refused; and a short run is legal, or a step of it is the first that
--- is refused.
+-- A step of a short run is possible or refused; and a short run is legal, or a step of it is the
+-- first that is refused.
 use Rattle.std.specs.Prelude.{◌⊎◌, ℕ, List, [], All}
 use Rattle.sap_terms.specs.Equations.{equations}
 use Rattle.sap_terms.specs.Normal.{IsNormal}
@@ -33,7 +33,8 @@ ShortLinesHaveSomeAnswer =
     (g : Sig) (c : Config) (s : SStep) → HoldsBuiltins g → MatchesExactly g c []
     → All (IsNormal (equations g)) c.frame → IsShortStep s → IsAnswered g c s
 
--- a short run of a ready process is legal within the limit, or some step of it is the first that is refused
+-- a short run of a ready process is legal within the limit, or some step of it is the first that is
+-- refused
 abbrev pub ShortRunsHaveSomeAnswer : Type 0
 ShortRunsHaveSomeAnswer =
     (g : Sig) (p : Proc) (ss : List SStep) → HoldsBuiltins g → IsReady g p → All IsShortStep ss

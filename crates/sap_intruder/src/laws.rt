@@ -88,9 +88,9 @@ pub fn one_short_answer()
     short_refusals_are_one();
 }
 
-/// And one at least. Where what lines match is matched exactly and what was sent is normal, each step that may stand in a short run
-/// is possible within the limit, or refused; so each short run of such steps, of a ready process, is legal within the limit, or one
-/// step of it is the first that is refused.
+/// A short run has one answer at least. Where what lines match is matched exactly and what was sent is normal, each step that may
+/// stand in a short run is possible within the limit, or refused; so each short run of such steps, of a ready process, is legal within
+/// the limit, or one step of it is the first that is refused.
 pub fn some_short_answer()
     ensures steps { ShortLinesHaveSomeAnswer }
     ensures runs { ShortRunsHaveSomeAnswer }
