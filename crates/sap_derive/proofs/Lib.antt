@@ -2,6 +2,7 @@ mod Brought
 mod ByHand
 mod Clausal
 mod Completed
+mod Decided
 mod Deduced
 mod Gets
 mod Joined

@@ -23,7 +23,7 @@ among-normal : (e : _) (t : Tree) (ts : Trees) → IsAmong t ts → AreNormal e 
 among-normal e t _ first_one n = n.0
 among-normal e t _ (other i) n = among-normal e t _ i n.1
 
-stands-normal : (e : _) (t u : Tree) → IsSubterm t u → IsNormal e u → IsNormal e t
+pub stands-normal : (e : _) (t u : Tree) → IsSubterm t u → IsNormal e u → IsNormal e t
 stands-normal e t _ whole n = n
 stands-normal e t _ (within {u = u} i s) n = stands-normal e t u s (among-normal e u _ i n.1)
 
@@ -31,13 +31,13 @@ module _ (g : Sig) (names : List ℕ) (frame : List Tree) (goal : Tree) where
   abbrev Near : Tree → Type 0
   Near = IsNear frame goal
 
-  near-parts : HaveParts Near
+  pub near-parts : HaveParts Near
   near-parts f ts t a i = record { above = a.above; among = a.among; stands = part-stands f ts t (apply f ts) a.above refl i a.stands }
 
-  near-frame : All Near frame
+  pub near-frame : All Near frame
   near-frame = All-weaker (Contains frame) Near (λ u c. record { above = u; among = Contains-append_right (goal ∷ []) frame u c; stands = whole }) frame (All-contains_itself frame)
 
-  near-goal : Near goal
+  pub near-goal : Near goal
   near-goal = record { above = goal; among = Contains-append_left (goal ∷ []) frame goal (Contains-push [] goal); stands = whole }
 
   -- a derivation of near terms that ends in this one

@@ -13,5 +13,5 @@ mod shape;
 mod state;
 mod way;
 
-pub use laws::{derivations_stay_near, near_by_hand};
+pub use laws::{deducibility_is_decided, derivations_stay_near, near_by_hand};
 pub use search::Search;

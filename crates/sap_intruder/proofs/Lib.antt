@@ -3,4 +3,6 @@ pub mod Filled
 pub mod Refused
 pub mod OneRun
 pub mod ShortByHand
+pub mod SomeAnswer
 pub mod Filling
+pub mod Sizes

@@ -36,14 +36,14 @@ settled e f (inr (inl is)) n m = absurd (m is)
 settled e f (inr (inr same)) n m = same
 
 -- a thread that runs in the form isn't unfit, and being unfit is no want of memory
-unfit_runs : (c : Config) (t : ℕ) (form : Proc → Bool) (e : PFault) (p : Proc) → IsUnfit c t form e → Runs c t p → form p ≡ true → ⊥
+pub unfit_runs : (c : Config) (t : ℕ) (form : Proc → Bool) (e : PFault) (p : Proc) → IsUnfit c t form e → Runs c t p → form p ≡ true → ⊥
 unfit_runs c t form _ p (not_running never) r f = never p r
 unfit_runs c t form _ p (other_form {p = q} s is) r f =
     let same : q ≡ p = cc (s, r) in
     let there : form p ≡ false = subst (λ (u : Proc). form u ≡ false) same is in
     absurd (cc (f, there))
 
-unfit_cause : (c : Config) (t : ℕ) (form : Proc → Bool) (e : PFault) → IsUnfit c t form e → ¬ (e ≡ fault.Mem)
+pub unfit_cause : (c : Config) (t : ℕ) (form : Proc → Bool) (e : PFault) → IsUnfit c t form e → ¬ (e ≡ fault.Mem)
 unfit_cause c t form _ (not_running never) = λ is. absurd (cc)
 unfit_cause c t form _ (other_form r f) = λ is. absurd (cc)
 

@@ -1,14 +1,16 @@
 -- A small short run, the run that fills it, and steps that are refused.
-use Rattle.std.proofs.Common.{[], ◌∷◌, refl}
+use Rattle.std.proofs.Common.{◌≡◌, ℕ, List, [], ◌∷◌, refl, subst, arith}
 use Rattle.std.specs.Prelude.{codes}
 use Rattle.sap_terms.specs.AdversaryFacts.{k_fact}
-use Rattle.sap_terms.specs.Deduce.{a_public}
+use Rattle.sap_terms.specs.Deduce.{IsDerived, a_public, a_name, given, applied}
 use Rattle.sap_terms.specs.Equal.{same}
 use Rattle.sap_terms.specs.Equations.{equations}
 use Rattle.sap_terms.specs.Laws.{LeavesAreNormal}
 use Rattle.sap_terms.specs.Normal.{IsNormalForm}
+use Rattle.sap_terms.specs.Tree.{Tree, fresh}
 use Rattle.sap_terms.specs.View.{term}
-use Rattle.sap_process.specs.Configuration.{initial}
+use Rattle.sap_rewrite.specs.Laws.{FormIsOne}
+use Rattle.sap_process.specs.Configuration.{CanGive, initial}
 use Rattle.sap_process.specs.Proc as whole
 use Rattle.sap_process.specs.StepExamples.{a}
 use Rattle.sap_runs.specs.Limits.{HasFewNodes}
@@ -18,7 +20,7 @@ use Rattle.sap_lines.specs.Faults.{not_running, other_form}
 use Rattle.sap_lines.specs.Lines.{IsProcessLine}
 use Rattle.sap_lines.specs.declared.fault.PFault.TheVariants as fault
 use Rattle.sap_intruder.specs.FilledRuns.{Fills, knowing, IsFilledRun}
-use Rattle.sap_intruder.specs.Refusals.{IsShortRefused, known_not_given, unfit_taker, bad}
+use Rattle.sap_intruder.specs.Refusals.{IsShortRefused, known_not_given, unfit_taker, bad, not_deduced}
 use Rattle.sap_intruder.specs.ShortExamples.{bare, unheld, know_a, know_a_lines, know_a_trace}
 use Rattle.sap_intruder.specs.ShortLines.{IsGiven, knows}
 use Rattle.sap_intruder.specs.ShortRuns.{IsLegalShortRun}
@@ -46,6 +48,29 @@ module _ (leaves : LeavesAreNormal) where
       IsFilledRun.follows (short.Know (term a)) (line.Know 0) [] (k_fact a ∷ [])
       (IsFilledRun.finds (line.Public (codes "a")) IsFilledRun.starts tt (IsProcessLine.writes (codes "a")))
       (knowing (record { term = a; entry = refl; over = tt; form = own_form })) (IsProcessLine.knows 0 a refl)
+
+-- nothing is deduced by one step from nothing but public names, where no symbol is held
+no_fresh : (ts : List Tree) (t : Tree) (k : ℕ) → IsDerived bare [] [] ts t → t ≡ fresh k → ⊥
+no_fresh ts t k (a_public n e) is = cc
+no_fresh ts t k (a_name n m e) is = omega (arith, m.1)
+no_fresh ts t k (given m) is = omega (arith, m.1)
+no_fresh ts t k (applied f us free arity all form) is = absurd free
+
+module _ (leaves : LeavesAreNormal) (one : FormIsOne) where
+  fresh_form : IsNormalForm (equations bare) (fresh 1) (fresh 1)
+  fresh_form = record { equal = same; normal = leaves.of_fresh_name (equations bare) 1 }
+
+  not_given : CanGive bare (initial whole.nil) (fresh 1) → ⊥
+  not_given h =
+      let d = h.deducible in
+      no_fresh d.earlier d.form 1 d.derivation.0 (one (equations bare) (fresh 1) d.form (fresh 1) d.is_form fresh_form)
+
+  pub underivable : IsShortRefused bare (initial whole.nil) (short.Know (term (fresh 1))) fill.NotDeduced
+  underivable = known_not_given (not_deduced tt fresh_form not_given)
+
+  pub derivable : IsShortRefused bare (initial whole.nil) (short.Know (term a)) fill.NotDeduced → ⊥
+  derivable (known_not_given (not_deduced {x = x} over form never)) =
+      never (subst (CanGive bare (initial whole.nil)) (one (equations bare) a a x (own_form leaves) form) (given_a leaves).gives)
 
 pub bad_term : IsShortRefused bare (initial whole.nil) (short.Know (term unheld)) fill.BadTerm
 bad_term = known_not_given (bad (λ over. (let held = over.0 in absurd (cc))))

@@ -1,9 +1,9 @@
 -- The runs of a process that a short run stands for.
-use Rattle.std.specs.Prelude.{◌≡◌, ℕ, List, [], ◌∷◌, ◌++◌, Some, slice_get}
+use Rattle.std.specs.Prelude.{◌≡◌, ℕ, List, [], ◌∷◌, ◌++◌, Some, slice_get, All}
 use Rattle.sap_terms.specs.Equations.{equations}
 use Rattle.sap_terms.specs.Message.{IsOver}
 use Rattle.sap_terms.specs.Normal.{IsNormalForm}
-use Rattle.sap_terms.specs.Signature.{Sig}
+use Rattle.sap_terms.specs.Signature.{Sig, HoldsBuiltins}
 use Rattle.sap_terms.specs.Trace.{Trace, shown}
 use Rattle.sap_terms.specs.Tree.{Tree}
 use Rattle.sap_terms.specs.View.{tree}
@@ -12,9 +12,9 @@ use Rattle.sap_terms.specs.declared.term.Term.{Term}
 use Rattle.sap_process.specs.Configuration.{Config, initial}
 use Rattle.sap_process.specs.Proc.{Proc}
 use Rattle.sap_runs.specs.Inner.{InnerAction}
-use Rattle.sap_runs.specs.Limits.{AnySize}
+use Rattle.sap_runs.specs.Limits.{AnySize, HasFewNodes}
 use Rattle.sap_runs.specs.Marks.{Mark, marks_of}
-use Rattle.sap_runs.specs.Short.{MayStand}
+use Rattle.sap_runs.specs.Short.{MayStand, IsShortStep}
 use Rattle.sap_runs.specs.declared.process_step.PStep.{PStep}
 use Rattle.sap_runs.specs.declared.process_step.PStep.TheVariants as line
 use Rattle.sap_runs.specs.declared.short_step.SStep.{SStep}
@@ -73,3 +73,10 @@ LegalShortRunsCanBeFilled =
     (g : Sig) (p : Proc) (ss : List SStep) (c : Config) (tr : Trace) (marks : List Mark)
     → IsLegalShortRun g AnySize p ss c tr marks
     → (lines : List PStep) × (es : List Tree) × IsFilledRun g AnySize p ss lines c es tr marks
+
+-- and one within the limit by a run within it, if its steps may stand in a short run
+abbrev pub SmallShortRunsCanBeFilled : Type 0
+SmallShortRunsCanBeFilled =
+    (g : Sig) (p : Proc) (ss : List SStep) (c : Config) (tr : Trace) (marks : List Mark)
+    → HoldsBuiltins g → All IsShortStep ss → IsLegalShortRun g HasFewNodes p ss c tr marks
+    → (lines : List PStep) × (es : List Tree) × IsFilledRun g HasFewNodes p ss lines c es tr marks

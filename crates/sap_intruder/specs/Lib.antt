@@ -3,4 +3,5 @@ pub mod ShortRuns
 pub mod Refusals
 pub mod FilledRuns
 pub mod OneAnswer
+pub mod SomeAnswer
 pub mod ShortExamples

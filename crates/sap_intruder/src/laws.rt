@@ -1,25 +1,31 @@
 //! What is so of short runs, as contracts of functions that do nothing.
 ghost use Rattle.std.specs.Prelude.{[], ◌∷◌, codes};
+ghost use Rattle.sap_terms.specs.Tree.{fresh};
 ghost use Rattle.sap_terms.specs.View.{term};
 ghost use Rattle.sap_process.specs.Configuration.{initial};
 ghost use Rattle.sap_process.specs.Proc.{nil};
 ghost use Rattle.sap_process.specs.StepExamples.{a};
 ghost use Rattle.sap_lines.specs.declared.fault.PFault.TheVariants as fault;
-ghost use Rattle.sap_intruder.specs.FilledRuns.{Fills, FilledRunsAreLegal, IsFilledRun, IsLeftOut, LegalShortRunsCanBeFilled};
+ghost use Rattle.sap_intruder.specs.FilledRuns.{Fills, FilledRunsAreLegal, IsFilledRun, IsLeftOut, LegalShortRunsCanBeFilled, SmallShortRunsCanBeFilled};
 ghost use Rattle.sap_intruder.specs.OneAnswer.{FirstShortRefusalsAreOne, LegalShortRunsAreNotRefused, ShortLinesAreNotRefused, ShortRefusalsAreOne, ShortRunsHaveOneEnd};
 ghost use Rattle.sap_intruder.specs.Refusals.{IsShortRefused};
 ghost use Rattle.sap_intruder.specs.ShortExamples.{bare, know_a, know_a_lines, know_a_trace, unheld};
 ghost use Rattle.sap_intruder.specs.ShortRuns.{IsLegalShortRun, ShortRunsAreRuns};
+ghost use Rattle.sap_intruder.specs.SomeAnswer.{ShortLinesHaveSomeAnswer, ShortRunsHaveSomeAnswer};
 ghost use Rattle.sap_intruder.specs.declared.fill_fault.FillFault.TheVariants as fill;
 ghost use Rattle.sap_runs.specs.Limits.{AnySize, HasFewNodes};
 ghost use Rattle.sap_runs.specs.declared.process_step.PStep.TheVariants as line;
 ghost use Rattle.sap_runs.specs.declared.short_step.SStep.TheVariants as short;
 
+use sap_derive::{deducibility_is_decided, derivations_stay_near};
 use sap_lines::{
     channels_are_one, each_run_can_be_written, limit_excludes, lines_are_steps,
-    lines_have_one_answer, lines_look_at_one_entry, runs_match_exactly,
+    lines_have_one_answer, lines_have_some_answer, lines_look_at_one_entry, runs_match_exactly,
 };
-use sap_rewrite::normal_forms_are_unique;
+use sap_process::runs_stay_ground;
+use sap_rewrite::{
+    each_term_has_a_normal_form, equality_is_kept, normal_forms_are_unique, symbols_reduce_once,
+};
 use sap_terms::leaves_are_normal;
 
 /// What the steps of a legal short run lead to and show, a run of the process leads to and shows.
@@ -39,11 +45,18 @@ pub fn filled_runs_are_legal()
     lines_look_at_one_entry();
 }
 
-/// Each legal short run is filled by some run, limits aside: what the adversary gives in it, it can write down and apply first.
+/// Each legal short run is filled by some run: what the adversary gives in it, it can write down and apply first. One that is legal
+/// within the limit, of steps that may stand in a short run, is filled by a run that is legal within it, over a signature that holds
+/// its builtins' symbols.
 pub fn short_runs_can_be_filled()
-    ensures { LegalShortRunsCanBeFilled }
+    ensures runs { LegalShortRunsCanBeFilled }
+    ensures small_runs { SmallShortRunsCanBeFilled }
 {
     normal_forms_are_unique();
+    equality_is_kept();
+    symbols_reduce_once();
+    leaves_are_normal();
+    derivations_stay_near();
     lines_look_at_one_entry();
 }
 
@@ -75,9 +88,27 @@ pub fn one_short_answer()
     short_refusals_are_one();
 }
 
+/// A short run has one answer at least. Where what lines match is matched exactly and what was sent is normal, each step that may
+/// stand in a short run is possible within the limit, or refused; so each short run of such steps, of a ready process, is legal within
+/// the limit, or one step of it is the first that is refused.
+pub fn some_short_answer()
+    ensures steps { ShortLinesHaveSomeAnswer }
+    ensures runs { ShortRunsHaveSomeAnswer }
+{
+    each_term_has_a_normal_form();
+    normal_forms_are_unique();
+    deducibility_is_decided();
+    runs_stay_ground();
+    lines_have_some_answer();
+    each_run_can_be_written();
+    runs_match_exactly();
+    short_runs_are_runs();
+}
+
 /// A short run and steps by hand, of a process that is nothing, over a signature without symbols. `know 'a'` is a legal short run,
 /// which `pub 'a'` and `know 0` fill; no entry is cited where there is none. A term with a symbol that isn't held is bad, and `'a'`
-/// isn't; an input is refused for its thread, and then for the form of that, before its term is looked at.
+/// isn't; an input is refused for its thread, and then for the form of that, before its term is looked at. Of `~1` and `'a'` the
+/// adversary can give the second alone.
 pub fn short_runs_by_hand()
     ensures legal { IsLegalShortRun bare HasFewNodes nil know_a (initial nil) know_a_trace [] }
     ensures filled { IsFilledRun bare HasFewNodes nil know_a know_a_lines (initial nil) (a ∷ []) know_a_trace [] }
@@ -87,6 +118,9 @@ pub fn short_runs_by_hand()
     ensures not_bad { ¬ IsShortRefused bare (initial nil) (short.Know (term a)) fill.BadTerm }
     ensures thread_first { IsShortRefused bare (initial nil) (short.In 1 (term unheld)) (fill.Process (fault.NoThread 1)) }
     ensures form_next { IsShortRefused bare (initial nil) (short.In 0 (term unheld)) (fill.Process (fault.WrongForm 0)) }
+    ensures not_deduced { IsShortRefused bare (initial nil) (short.Know (term (fresh 1))) fill.NotDeduced }
+    ensures deduced { ¬ IsShortRefused bare (initial nil) (short.Know (term a)) fill.NotDeduced }
 {
     leaves_are_normal();
+    normal_forms_are_unique();
 }

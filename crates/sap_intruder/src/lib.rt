@@ -7,5 +7,5 @@ mod laws;
 pub use fill_fault::FillFault;
 pub use laws::{
     filled_runs_are_legal, one_short_answer, short_refusals_are_one, short_runs_are_runs,
-    short_runs_by_hand, short_runs_can_be_filled,
+    short_runs_by_hand, short_runs_can_be_filled, some_short_answer,
 };

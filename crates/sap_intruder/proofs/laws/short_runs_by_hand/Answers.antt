@@ -24,3 +24,9 @@ returns-clause-thread_first c = hand.thread_first
 
 pub returns-clause-form_next : goal.returns-clause-form_next
 returns-clause-form_next c = hand.form_next
+
+pub returns-clause-not_deduced : goal.returns-clause-not_deduced
+returns-clause-not_deduced c = hand.underivable c.leaves_are_normal.ensures c.normal_forms_are_unique.ensures
+
+pub returns-clause-deduced : goal.returns-clause-deduced
+returns-clause-deduced c = hand.derivable c.leaves_are_normal.ensures c.normal_forms_are_unique.ensures
