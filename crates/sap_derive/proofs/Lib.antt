@@ -3,9 +3,13 @@ mod ByHand
 mod Clausal
 mod Completed
 mod Deduced
+mod FoundOnce
 mod Gets
 mod Joined
+mod Lined
 mod Made
+mod Marks
+mod Nearby
 mod Nearness
 mod Openings
 mod Options
@@ -17,3 +21,4 @@ mod Shaped
 mod Sound
 mod States
 mod Waits
+mod Written

@@ -14,7 +14,7 @@ use Rattle.sap_derive.proofs.Made.{deduced-known}
 use Rattle.sap_derive.proofs.Joined.{derivation-append}
 
 -- a part of a subterm is a subterm
-part-stands : (f : List ℕ) (ts : Trees) (t v u : Tree) → v ≡ apply f ts → IsAmong t ts → IsSubterm v u → IsSubterm t u
+pub part-stands : (f : List ℕ) (ts : Trees) (t v u : Tree) → v ≡ apply f ts → IsAmong t ts → IsSubterm v u → IsSubterm t u
 part-stands f ts t v u e i whole = rw e (within i whole)
 part-stands f ts t v _ e i (within {u = w} j s) = within j (part-stands f ts t v w e i s)
 
@@ -31,13 +31,13 @@ module _ (g : Sig) (names : List ℕ) (frame : List Tree) (goal : Tree) where
   abbrev Near : Tree → Type 0
   Near = IsNear frame goal
 
-  near-parts : HaveParts Near
+  pub near-parts : HaveParts Near
   near-parts f ts t a i = record { above = a.above; among = a.among; stands = part-stands f ts t (apply f ts) a.above refl i a.stands }
 
   near-frame : All Near frame
   near-frame = All-weaker (Contains frame) Near (λ u c. record { above = u; among = Contains-append_right (goal ∷ []) frame u c; stands = whole }) frame (All-contains_itself frame)
 
-  near-goal : Near goal
+  pub near-goal : Near goal
   near-goal = record { above = goal; among = Contains-append_left (goal ∷ []) frame goal (Contains-push [] goal); stands = whole }
 
   -- a derivation of near terms that ends in this one

@@ -1,4 +1,6 @@
 pub mod Near
 pub mod Examples
 pub mod Searched
+pub mod Lines
+pub mod Found
 pub mod code
