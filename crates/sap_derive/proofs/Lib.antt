@@ -4,9 +4,13 @@ mod Clausal
 mod Completed
 mod Decided
 mod Deduced
+mod FoundOnce
 mod Gets
 mod Joined
+mod Lined
 mod Made
+mod Marks
+mod Nearby
 mod Nearness
 mod Openings
 mod Options
@@ -18,3 +22,4 @@ mod Shaped
 mod Sound
 mod States
 mod Waits
+mod Written

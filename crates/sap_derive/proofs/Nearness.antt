@@ -14,7 +14,7 @@ use Rattle.sap_derive.proofs.Made.{deduced-known}
 use Rattle.sap_derive.proofs.Joined.{derivation-append}
 
 -- a part of a subterm is a subterm
-part-stands : (f : List ℕ) (ts : Trees) (t v u : Tree) → v ≡ apply f ts → IsAmong t ts → IsSubterm v u → IsSubterm t u
+pub part-stands : (f : List ℕ) (ts : Trees) (t v u : Tree) → v ≡ apply f ts → IsAmong t ts → IsSubterm v u → IsSubterm t u
 part-stands f ts t v u e i whole = rw e (within i whole)
 part-stands f ts t v _ e i (within {u = w} j s) = within j (part-stands f ts t v w e i s)
 

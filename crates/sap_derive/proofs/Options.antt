@@ -1,6 +1,6 @@
 -- What is known where an option has a value, or none.
 use Rattle.std.proofs.Common.{◌≡◌, true, false, Some, None, refl}
-use Rattle.std.specs.Prelude.{Option, IfSome, IfNone, is_some, Result, Ok, Err, OnErr}
+use Rattle.std.specs.Prelude.{Option, IfSome, IfNone, is_some, Result, Ok, Err, OnOk, OnErr}
 
 pub from-some : {X : Type 0} (o : Option X) (P : X → Type 0) → IfSome o P → is_some o ≡ true → (x : X) × P x
 from-some None P h e = cc
@@ -18,3 +18,8 @@ is_some-decides (Some x) Q f h e = (λ t. f x h, λ q. refl)
 pub at-err : {T E P : Type 0} (r : Result T E) → P → OnErr r P
 at-err (Ok t) p = tt
 at-err (Err e) p = p
+
+-- where two things hold if all went well, so does what follows from both
+pub ok-both : {T E A B P : Type 0} (r : Result T E) → (A → B → P) → OnOk r A → OnOk r B → OnOk r P
+ok-both (Ok t) f a b = f a b
+ok-both (Err e) f a b = tt

@@ -9,3 +9,4 @@ pub mod Openers
 pub mod Brought
 pub mod Shapes
 pub mod States
+pub mod Needed

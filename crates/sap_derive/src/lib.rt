@@ -4,14 +4,21 @@
 mod bring;
 mod clause;
 mod closure;
+mod derivation;
+mod derived;
 mod laws;
 mod line;
 mod listing;
+mod needed;
 mod openers;
 mod search;
 mod shape;
 mod state;
 mod way;
+mod write;
 
+pub use derivation::Derivation;
+pub use derived::derive;
 pub use laws::{deducibility_is_decided, derivations_stay_near, near_by_hand};
+pub use line::{Line, LineList};
 pub use search::Search;

@@ -1,17 +1,20 @@
-// Lines of an adversary.
+//! Lines of an adversary.
 ghost use Rattle.std.specs.Prelude.{◌≡◌};
 ghost use Rattle.sap_derive.specs.code.Lines.{premises_of};
 
-use sap_terms::{Name, Numbers};
+use sap_terms::{Items, Name, Numbers};
 
-// A line by which an adversary comes to know a term.
+/// A line by which an adversary comes to know a term.
 #[derive(Drop)]
-pub(crate) enum Line {
-    // A public name is written down.
+pub enum Line {
+    /// A public name is written down.
     Public(Name),
-    // A symbol is applied to the terms of these numbers, and what it gives is made normal.
+    /// A symbol is applied to the terms of these entries, and what it gives is made normal.
     Apply(Name, Numbers),
 }
+
+/// Lines, in the order in which they come.
+pub type LineList = Items<Line>;
 
 impl Line {
     // The numbers of the terms that it stands on.

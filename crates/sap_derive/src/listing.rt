@@ -1,5 +1,5 @@
 // Numbers in a list, in which each is found at once.
-ghost use Rattle.std.specs.Prelude.{◌≡◌, ◌<◌, ◌≤◌, [], ◌∷◌, ◌++◌, length, slice_get, Some, IfSome, IfNone, OnOk, OnErr};
+ghost use Rattle.std.specs.Prelude.{◌≡◌, ◌<◌, ◌≤◌, [], ◌∷◌, ◌++◌, length, slice_get, take, Some, IfSome, IfNone, OnOk, OnErr};
 ghost use Rattle.std.specs.Vec.{vec_len};
 ghost use Rattle.sap_derive.specs.code.Listed.{IsListed, TellPlaces};
 
@@ -100,5 +100,12 @@ impl Listing {
             self.places[n as usize] = place;
         }
         Ok(())
+    }
+
+    // Leaves the first numbers, so many.
+    pub(crate) fn cut(&mut self, count: u64)
+        ensures { self.new ≡ take count self.old }
+    {
+        self.items.truncate(count as usize);
     }
 }

@@ -1,11 +1,13 @@
 //! Searches for derivations.
-ghost use Rattle.std.specs.Prelude.{◌≡◌, ◌≤◌, ◌↔◌, [], ◌∷◌, ◌++◌, IsTrue, IfOk, OnOk, OnErr};
+ghost use Rattle.std.specs.Prelude.{◌≡◌, ◌≤◌, ◌↔◌, [], ◌∷◌, ◌++◌, IsTrue, IfOk, IfSome, IfNone, OnOk, OnErr};
 ghost use Rattle.sap_terms.specs.Deduce.{IsDeducible};
 ghost use Rattle.sap_terms.specs.Message.{IsMessage};
 ghost use Rattle.sap_terms.specs.Tree.{node_count};
 ghost use Rattle.sap_terms.specs.View.{tree};
+ghost use Rattle.sap_derive.specs.Found.{IsFoundIn};
 ghost use Rattle.sap_terms.specs.declared.var.Sort.TheVariants.{Msg};
 
+use crate::derivation::Derivation;
 use crate::state::State;
 use sap_terms::{MOST_TERM_NODES, Mem, Signature, Term};
 use std::alloc::Global;
@@ -64,5 +66,24 @@ impl Search {
         let n = self.state.put(alloc, goal)?;
         self.state.settle(alloc)?;
         Ok(self.state.is_known(n))
+    }
+
+    /// Lines that lead from the entries to a message of at most 256 nodes, if it can be deduced from them; what they give is
+    /// entered. Otherwise, and refused, the search is as it was. It recurses as deep as the term.
+    pub fn find(&mut self, alloc: Global, goal: &Term) -> Result<Option<Derivation>, Mem>
+        requires message { IsMessage self.old.sig Msg (tree goal.now) }
+        requires within { node_count (tree goal.now) ≤ MOST_TERM_NODES }
+        ensures some { IfOk result (λ o. IfSome o (λ d. IsFoundIn self.old (tree goal.now) d self.new)) }
+        ensures none { IfOk result (λ o. IfNone o (¬ IsDeducible self.old.sig [] self.old.entries (tree goal.now))) }
+        ensures stays { IfOk result (λ o. IfNone o (self.new ≡ self.old)) }
+        ensures err { OnErr result (self.new ≡ self.old) }
+    {
+        let n = self.state.put(alloc, goal)?;
+        self.state.settle(alloc)?;
+        if !self.state.is_known(n) {
+            return Ok(None);
+        }
+        let found = self.state.write(alloc, n)?;
+        Ok(Some(found))
     }
 }

@@ -6,6 +6,7 @@ ghost use Rattle.sap_terms.specs.Tree.{node_count};
 ghost use Rattle.sap_terms.specs.View.{tree};
 ghost use Rattle.sap_terms.specs.declared.var.Sort.TheVariants.{Msg};
 ghost use Rattle.sap_share.specs.Shared.{tree_at, Keeps};
+ghost use Rattle.sap_derive.specs.Found.{IsFoundIn};
 ghost use Rattle.sap_derive.specs.code.Clauses.{ArePartsListed};
 ghost use Rattle.sap_derive.specs.code.Closed.{IsClosedUnder};
 ghost use Rattle.sap_derive.specs.code.Listed.{IsListed, AreListed};
@@ -13,8 +14,10 @@ ghost use Rattle.sap_derive.specs.code.States.{IsTerm, IsBrought, IsState, Stays
 
 use crate::bring::bring;
 use crate::closure::Closure;
+use crate::derivation::Derivation;
 use crate::listing::Listing;
 use crate::openers::Openers;
+use crate::write::{place_of, write};
 use sap_rewrite::{normal_forms_are_unique, symbols_reduce_once};
 use sap_share::{Node, Table};
 use sap_terms::{MOST_TERM_NODES, Mem, Numbers, Signature, Term};
@@ -210,7 +213,8 @@ impl State {
         requires given { length self.now.entries ≤ self.now.given }
         requires closed { IsClosedUnder self.now.closure.clauses self.now.closure.known }
         requires listed { IsListed self.now.terms n }
-        ensures { IsTrue result ↔ IsDeducible self.now.table.sig [] (seen self.now).entries (tree_at self.now.table.trees n) }
+        ensures deducible { IsTrue result ↔ IsDeducible self.now.table.sig [] (seen self.now).entries (tree_at self.now.table.trees n) }
+        ensures known { IsTrue result → IsListed self.now.closure.known n }
     {
         normal_forms_are_unique();
         symbols_reduce_once();
@@ -229,5 +233,31 @@ impl State {
         ensures err { OnErr result (self.new.entries ≡ self.old.entries) }
     {
         self.entries.push(n)
+    }
+
+    // The lines that lead from the entries to a known term, which is among the terms; what they give is entered. Refused, the
+    // entries are as they were.
+    pub(crate) fn write(&mut self, alloc: Global, n: u64) -> Result<Derivation, Mem>
+        requires state { IsState self.old }
+        requires brought { length self.old.terms ≤ self.old.brought }
+        requires listed { IsListed self.old.terms n }
+        requires known { IsListed self.old.closure.known n }
+        ensures state { IsState self.new }
+        ensures err { OnErr result (seen self.new ≡ seen self.old) }
+        ensures found { IfOk result (λ d. IsFoundIn (seen self.old) (tree_at self.old.table.trees n) d (seen self.new)) }
+    {
+        self.table.each_has_one_number();
+        let count = self.entries.len();
+        let rank = place_of(&self.closure.known, n);
+        match write(alloc, &self.closure, &mut self.entries, rank) {
+            Ok(lines) => {
+                let entry = place_of(&self.entries, n);
+                Ok(Derivation { lines, entry })
+            }
+            Err(e) => {
+                self.entries.cut(count);
+                Err(e)
+            }
+        }
     }
 }

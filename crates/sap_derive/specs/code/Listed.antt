@@ -1,5 +1,5 @@
 -- Numbers in a list.
-use Rattle.std.specs.Prelude.{◌≡◌, ◌<◌, ℕ, List, slice_get, Some}
+use Rattle.std.specs.Prelude.{◌≡◌, ◌<◌, ◌≤◌, ℕ, List, slice_get, Some}
 
 -- the number stands in the list
 abbrev pub IsListed : List ℕ → ℕ → Type 0
@@ -17,6 +17,7 @@ AreListed items ns = (k n : ℕ) → slice_get ns k ≡ Some n → IsListed item
 abbrev pub StandOnce : List ℕ → Type 0
 StandOnce items = (i j n : ℕ) → slice_get items i ≡ Some n → slice_get items j ≡ Some n → i ≡ j
 
--- each number that stands in the list has a place, where it stands
+-- each number that stands in the list has a place, the first where it stands
 abbrev pub TellPlaces : List ℕ → List ℕ → Type 0
-TellPlaces places items = (n k : ℕ) → slice_get items k ≡ Some n → (p : ℕ) × (slice_get places n ≡ Some p) × (slice_get items p ≡ Some n)
+TellPlaces places items =
+    (n k : ℕ) → slice_get items k ≡ Some n → (p : ℕ) × (p ≤ k) × (slice_get places n ≡ Some p) × (slice_get items p ≡ Some n)

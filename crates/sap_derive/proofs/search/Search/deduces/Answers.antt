@@ -27,4 +27,4 @@ returns-clause-answer c =
     seen-stays c.put.new.self s c.put.ensures.state c.settle.ensures.stays ∙ seen-stays c.self.inside.state c.put.new.self c.self.invariant c.put.ensures.stays ∙ c.self.view_is in
     let term : tree_at s.table.trees n ≡ tree c.args.goal.now = tree-kept c.put.new.self.table s.table n c.settle.ensures.stays.table c.in_ok-n.ensures.below ∙ c.in_ok-n.ensures.tree in
     subst (λ (t : Tree). (IsTrue c.is_known.result → IsDeducible c.args.self.now.sig [] c.args.self.now.entries t) × (IsDeducible c.args.self.now.sig [] c.args.self.now.entries t → IsTrue c.is_known.result)) term
-    (subst (λ (v : Searched). (IsTrue c.is_known.result → IsDeducible v.sig [] v.entries (tree_at s.table.trees n)) × (IsDeducible v.sig [] v.entries (tree_at s.table.trees n) → IsTrue c.is_known.result)) kept c.is_known.ensures)
+    (subst (λ (v : Searched). (IsTrue c.is_known.result → IsDeducible v.sig [] v.entries (tree_at s.table.trees n)) × (IsDeducible v.sig [] v.entries (tree_at s.table.trees n) → IsTrue c.is_known.result)) kept c.is_known.ensures.deducible)

@@ -7,8 +7,8 @@ use Rattle.sap_derive.proofs.Deduced.{deduced}
 use Rattle.sap_derive.proofs.Options.{is_some-decides}
 use Rattle.sap_derive.proofs.state.State.is_known.Goals as goal
 
-pub returns : goal.returns
-returns c =
+pub returns-clause-deducible : goal.returns-clause-deducible
+returns-clause-deducible c =
     let s = c.args.self.now in
     let state = c.requires.state in
     let n = c.args.n in
@@ -19,3 +19,11 @@ returns c =
       λ t. deduced s.table s.entries s.terms s.brought s.given s.closure s.openers state n (decides.0 (sym is ∙ t)) term.normal,
       λ d. is ∙ decides.1 (completed s.table s.entries s.terms s.brought s.given s.closure s.openers state c.normal_forms_are_unique.ensures c.symbols_reduce_once.ensures builtins c.each_has_one_number.ensures c.requires.brought c.requires.given c.requires.closed n c.requires.listed term.below d),
     )
+
+pub returns-clause-known : goal.returns-clause-known
+returns-clause-known c t =
+    let s = c.args.self.now in
+    let n = c.args.n in
+    let decides = is_some-decides c.place.result (IsListed s.closure.known n) (λ k e. (k, e)) c.place.ensures.some c.place.ensures.none in
+    let is : c.is_some.result ≡ is_some c.place.result = c.is_some.ensures in
+    decides.0 (sym is ∙ t)
