@@ -1,7 +1,7 @@
 #!/bin/sh
 # Counts what `sapic compile-short` costs beside `compile`, by the program itself, on files whose places double:
 #
-#   scopes  64 names in scope, and outputs of them, up to 4,000 places: nearly all rules are silent
+#   scopes  64 names in scope, and outputs of them, up to 3,200 places: nearly all rules are silent
 #   mixed   the same with an event behind each output: half of the rules are
 #   sends   64 names in scope, and messages on channels: a right side stands in two rules
 #   nodes   balanced parallels of outputs: one rule is left, which adds them all
@@ -13,14 +13,14 @@
 set -eu
 . "$(dirname "$0")/growth.sh"
 
-# under_names COUNT ACTION: so many places under 64 names, each the action with one of them in place of NAME
+# under_names COUNT ACTION EACH: so many times the action under 64 names, with one of them in place of NAME, EACH of them in a thread
 under_names() {
-    awk -v n="$1" -v action="$2" 'BEGIN {
+    awk -v n="$1" -v action="$2" -v each="$3" 'BEGIN {
         printf "theory Bench begin process: "
         for (k = 1; k <= 64; k++) printf "new ~n%d; ", k
         printf "("
-        for (k = 1; k < n / 200; k++) {
-            for (m = 0; m < 200; m++) {
+        for (k = 1; k <= n / each; k++) {
+            for (m = 0; m < each; m++) {
                 one = action
                 gsub(/NAME/, "~n" m % 64 + 1, one)
                 printf "%s; ", one
@@ -31,11 +31,11 @@ under_names() {
     }'
 }
 
-scopes() { under_names "$1" "out(NAME)"; }
+scopes() { under_names "$1" "out(NAME)" 200; }
 
-mixed() { under_names "$(($1 / 2))" "out(NAME); event E(NAME)"; }
+mixed() { under_names "$(($1 / 2))" "out(NAME); event E(NAME)" 100; }
 
-sends() { under_names "$1" "out(~n1, NAME)"; }
+sends() { under_names "$1" "out(~n1, NAME)" 200; }
 
 nodes() {
     awk -v leaves="$(($1 / 3))" '
@@ -69,7 +69,7 @@ kind() {
     done
 }
 
-kind scopes 500 1000 2000 3800
-kind mixed 1000 2000 3800
-kind sends 500 1000 2000 3800
-kind nodes 500 1000 2000 3900
+kind scopes 400 800 1600 3200
+kind mixed 400 800 1600 3200
+kind sends 400 800 1600 3200
+kind nodes 480 960 1920 3840
