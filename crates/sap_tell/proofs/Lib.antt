@@ -1,2 +1,4 @@
 pub mod WrittenBytes
 pub mod BytesByHand
+pub mod LegalTold
+pub mod LinesByHand
