@@ -2,3 +2,4 @@ pub mod WrittenBytes
 pub mod BytesByHand
 pub mod LegalTold
 pub mod LinesByHand
+pub mod Joined
