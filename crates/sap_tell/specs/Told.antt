@@ -41,13 +41,16 @@ pub data IsDoing (g : Sig) (c : Config) (es : List Tree)
     : PStep → List InnerAction → List Fact → List Tree → List ℕ → List (List ℕ) → Type 0 where
   ends : (t : ℕ) → IsDoing g c es (line.Nil t) [] [] es (codes "0") (ends_text t ∷ [])
   -- the thread that begins has the next number
-  splits : (t : ℕ) → IsDoing g c es (line.Par t) [] [] es (codes "|") (begins_text (length c.threads) ∷ [])
-  copies : (t : ℕ) → IsDoing g c es (line.Rep t) [] [] es (codes "!") (begins_text (length c.threads) ∷ [])
+  splits : (t : ℕ)
+      → IsDoing g c es (line.Par t) [] [] es (codes "|") (begins_text (length c.threads) ∷ [])
+  copies : (t : ℕ)
+      → IsDoing g c es (line.Rep t) [] [] es (codes "!") (begins_text (length c.threads) ∷ [])
   makes_name : {x : Var} {p : Proc} (t n : ℕ) → Runs c t (act (action.new x) p)
       → IsDoing g c es (line.New t n) [] [] es (codes "new " ++ variable_text x)
       (bound_text (x, fresh n) ∷ [])
   outputs : (t : ℕ) (n : Tree)
-      → IsDoing g c es (line.Out t) [] [] (es ++ n ∷ []) (call_text (codes "out") (tree_text n ∷ [])) []
+      → IsDoing g c es (line.Out t) [] [] (es ++ n ∷ [])
+      (call_text (codes "out") (tree_text n ∷ [])) []
   -- on the channel, which is an entry
   outputs_on : {x : Tree} {label : List Fact} (t k : ℕ) (u : Tree) → slice_get es k ≡ Some x
       → IsDoing g c es (line.Send t k) [] label (es ++ u ∷ [])
@@ -84,7 +87,8 @@ pub data IsDoing (g : Sig) (c : Config) (es : List Tree)
       (bound_text (x, v) ∷ [])
   misses : {m k : Tree} {x : Var} {p q : Proc} (t : ℕ) → Runs c t (whole.lookup m x p q)
       → IsDoing g c es (line.Missing t) (missing k ∷ []) [] es
-      (codes "lookup " ++ (tree_text k ++ (codes " as " ++ variable_text x))) (codes "nothing there" ∷ [])
+      (codes "lookup " ++ (tree_text k ++ (codes " as " ++ variable_text x)))
+      (codes "nothing there" ∷ [])
   locks : {k : Tree} (t : ℕ) → IsDoing g c es (line.Lock t) (locked k ∷ []) [] es
       (codes "lock " ++ tree_text k) (held_text k ∷ [])
   unlocks : {k : Tree} (t : ℕ) → IsDoing g c es (line.Unlock t) (unlocked k ∷ []) [] es
@@ -100,7 +104,8 @@ pub data IsDoing (g : Sig) (c : Config) (es : List Tree)
       (bound_texts σ (facts_vars (l ++ (e ++ r))))
   -- what the adversary makes, writes down, makes of entries, and shows
   names : (n : ℕ)
-      → IsDoing g c es (line.Name n) [] [] (es ++ fresh n ∷ []) (codes "new " ++ tree_text (fresh n)) []
+      → IsDoing g c es (line.Name n) [] [] (es ++ fresh n ∷ [])
+      (codes "new " ++ tree_text (fresh n)) []
   writes : (a : List ℕ)
       → IsDoing g c es (line.Public a) [] [] (es ++ public a ∷ []) (tree_text (public a)) []
   applies : (f ks : List ℕ) (x : Tree) → IsDoing g c es (line.Apply f ks) [] [] (es ++ x ∷ [])

@@ -21,7 +21,8 @@ pub fn paths_by_hand()
 /// Lines of the run of the key server, told; and what isn't told of them: the number of an entry one off, no outcome, another term
 /// than the one that is shown.
 pub fn lines_told_by_hand()
-    ensures event { (g : Sig) (c : Config) → IsToldLine g 4 first_paths c [] (line.Event 2) [] (made ∷ []) []
+    ensures event { (g : Sig) (c : Config)
+        → IsToldLine g 4 first_paths c [] (line.Event 2) [] (made ∷ []) []
         (codes "4. thread 2 at 111: event Made(pk(~1)) -- shows Made(pk(~1))") }
     ensures lock { (g : Sig) (c : Config)
         → IsToldLine g 5 first_paths c [] (line.Lock 2) (locked (public (codes "db")) ∷ []) [] []
@@ -29,7 +30,8 @@ pub fn lines_told_by_hand()
     ensures insert { (g : Sig) (c : Config)
         → IsToldLine g 6 first_paths c [] (line.Insert 2) (inserted key (public (codes "valid")) ∷ []) [] []
         (codes "6. thread 2 at 111: insert pk(~1), 'valid'") }
-    ensures out { (g : Sig) (c : Config) → IsToldLine g 8 first_paths c [] (line.Out 2) [] [] (key ∷ [])
+    ensures out { (g : Sig) (c : Config)
+        → IsToldLine g 8 first_paths c [] (line.Out 2) [] [] (key ∷ [])
         (codes "8. thread 2 at 111: out(pk(~1)) -- knows 0: pk(~1)") }
     ensures apply { (g : Sig) (c : Config)
         → IsToldLine g 14 first_paths c (key ∷ hi ∷ signed ∷ []) (line.Apply (codes "pair") (1 ∷ 2 ∷ [])) [] []
@@ -38,10 +40,13 @@ pub fn lines_told_by_hand()
     ensures branch { (g : Sig) (c : Config)
         → IsToldLine g 9 ([] ∷ []) c [] (line.Then 0) (equal hi hi ∷ []) [] []
         (codes "9. thread 0 at the root: if 'hi' = 'hi' -- then") }
-    ensures other_entry { (g : Sig) (c : Config) → ¬ IsToldLine g 8 first_paths c [] (line.Out 2) [] [] (key ∷ [])
+    ensures other_entry { (g : Sig) (c : Config)
+        → ¬ IsToldLine g 8 first_paths c [] (line.Out 2) [] [] (key ∷ [])
         (codes "8. thread 2 at 111: out(pk(~1)) -- knows 1: pk(~1)") }
-    ensures no_outcome { (g : Sig) (c : Config) → ¬ IsToldLine g 4 first_paths c [] (line.Event 2) [] (made ∷ []) []
+    ensures no_outcome { (g : Sig) (c : Config)
+        → ¬ IsToldLine g 4 first_paths c [] (line.Event 2) [] (made ∷ []) []
         (codes "4. thread 2 at 111: event Made(pk(~1))") }
-    ensures other_term { (g : Sig) (c : Config) → ¬ IsToldLine g 4 first_paths c [] (line.Event 2) [] (made ∷ []) []
+    ensures other_term { (g : Sig) (c : Config)
+        → ¬ IsToldLine g 4 first_paths c [] (line.Event 2) [] (made ∷ []) []
         (codes "4. thread 2 at 111: event Made(pk(~2)) -- shows Made(pk(~1))") }
 {}
