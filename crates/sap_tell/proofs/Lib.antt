@@ -1,0 +1,5 @@
+pub mod WrittenBytes
+pub mod BytesByHand
+pub mod LegalTold
+pub mod LinesByHand
+pub mod Joined

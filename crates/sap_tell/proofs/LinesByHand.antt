@@ -1,0 +1,54 @@
+-- What isn't told of a line, tried by hand.
+use Rattle.std.proofs.Common.{◌≡◌, ℕ, true, false, codes, List, [], ◌∷◌, ◌++◌, refl, ap, ◌∙◌}
+use Rattle.std.specs.Fmt.{digits}
+use Rattle.std.specs.Str.{bytes_eq}
+use Rattle.sap_process.specs.Configuration.{Config}
+use Rattle.sap_runs.specs.declared.process_step.PStep.TheVariants as line
+use Rattle.sap_terms.specs.Signature.{Sig}
+use Rattle.sap_terms.specs.Tree.{Tree}
+use Rattle.sap_terms.specs.declared.fact.Fact.{Fact}
+use Rattle.sap_grammar.specs.FactText.{fact_text}
+use Rattle.sap_grammar.specs.TermText.{tree_text}
+use Rattle.sap_tell.specs.Told as told
+use Rattle.sap_tell.specs.Told.{IsDoing, IsToldLine}
+use Rattle.sap_tell.specs.ToldExamples.{first_paths, key, made}
+use Rattle.sap_tell.specs.ToldText.{actor_text, call_text, seen_texts, line_text}
+
+-- an event is told in one way
+event_doing : {g : Sig} {c : Config} {es fs : List Tree} {t : ℕ} {f : Fact} {doing : List ℕ} {outcomes : List (List ℕ)}
+    → IsDoing g c es (line.Event t) [] (f ∷ []) fs doing outcomes → (doing ≡ codes "event " ++ fact_text f) × (outcomes ≡ [])
+event_doing (told.shows t) = (refl, refl)
+
+event_told : {g : Sig} {c : Config} {text : List ℕ} → IsToldLine g 4 first_paths c [] (line.Event 2) [] (made ∷ []) [] text
+    → text ≡ codes "4. thread 2 at 111: event Made(pk(~1)) -- shows Made(pk(~1))"
+unfolding digits
+event_told l =
+    let d = event_doing l.done in
+    l.written ∙ (λ i. line_text 4 (actor_text first_paths (line.Event 2)) (d.0 i) (seen_texts (made ∷ []) [] [] ++ d.1 i))
+
+out_doing : {g : Sig} {c : Config} {es : List Tree} {n : Tree} {t : ℕ} {doing : List ℕ} {outcomes : List (List ℕ)} {fs : List Tree}
+    → IsDoing g c es (line.Out t) [] [] fs doing outcomes → fs ≡ es ++ n ∷ [] → ((m : Tree) → es ++ m ∷ [] ≡ es ++ n ∷ [] → m ≡ n)
+    → (doing ≡ call_text (codes "out") (tree_text n ∷ [])) × (outcomes ≡ [])
+out_doing (told.outputs t m) e one = (ap (λ x. call_text (codes "out") (tree_text x ∷ [])) (one m e), refl)
+
+first_one : (m n : Tree) → m ∷ [] ≡ n ∷ [] → m ≡ n
+first_one m n e = cc
+
+out_told : {g : Sig} {c : Config} {text : List ℕ} → IsToldLine g 8 first_paths c [] (line.Out 2) [] [] (key ∷ []) text
+    → text ≡ codes "8. thread 2 at 111: out(pk(~1)) -- knows 0: pk(~1)"
+unfolding digits
+out_told l =
+    let d = out_doing {n = key} l.done refl (λ m. first_one m key) in
+    l.written ∙ (λ i. line_text 8 (actor_text first_paths (line.Out 2)) (d.0 i) (seen_texts [] [] (key ∷ []) ++ d.1 i))
+
+differ : {a b : List ℕ} → bytes_eq a b ≡ false → bytes_eq b b ≡ true → a ≡ b → ⊥
+differ {b = b} apart alike e = let same : bytes_eq b b ≡ false = rw e at apart in absurd (cc)
+
+pub other_entry : (g : Sig) (c : Config) → ¬ IsToldLine g 8 first_paths c [] (line.Out 2) [] [] (key ∷ []) (codes "8. thread 2 at 111: out(pk(~1)) -- knows 1: pk(~1)")
+other_entry g c l = differ refl refl (out_told l)
+
+pub no_outcome : (g : Sig) (c : Config) → ¬ IsToldLine g 4 first_paths c [] (line.Event 2) [] (made ∷ []) [] (codes "4. thread 2 at 111: event Made(pk(~1))")
+no_outcome g c l = differ refl refl (event_told l)
+
+pub other_term : (g : Sig) (c : Config) → ¬ IsToldLine g 4 first_paths c [] (line.Event 2) [] (made ∷ []) [] (codes "4. thread 2 at 111: event Made(pk(~2)) -- shows Made(pk(~1))")
+other_term g c l = differ refl refl (event_told l)

@@ -1,0 +1,137 @@
+-- What is told of a line of a run of a process, and of a whole run.
+use Rattle.std.specs.Prelude.{◌≡◌, ℕ, ◌+◌, codes, decimal, List, [], ◌∷◌, ◌++◌, true, length, map, Some, slice_get}
+use Rattle.sap_grammar.specs.FactText.{fact_text, facts_text, arrow_text}
+use Rattle.sap_grammar.specs.TermText.{term_text, tree_text, variable_text}
+use Rattle.sap_lines.specs.Lines.{IsProcessLine}
+use Rattle.sap_process.specs.Action as action
+use Rattle.sap_process.specs.Configuration.{Config, Runs, initial}
+use Rattle.sap_process.specs.Proc as whole
+use Rattle.sap_process.specs.Proc.{Proc, act}
+use Rattle.sap_process.specs.ProcessSteps.{Fits}
+use Rattle.sap_rewrite.specs.Match.{Agrees}
+use Rattle.sap_runs.specs.Inner.{InnerAction, equal, different, found, missing, inserted, deleted, locked, unlocked}
+use Rattle.sap_runs.specs.Limits.{HasFewNodes}
+use Rattle.sap_runs.specs.Marks.{Mark, marks_of}
+use Rattle.sap_runs.specs.declared.process_step.PStep.{PStep}
+use Rattle.sap_runs.specs.declared.process_step.PStep.TheVariants as line
+use Rattle.sap_terms.specs.Choice.{Choice, instance}
+use Rattle.sap_terms.specs.Equal.{IsTheoryEqual}
+use Rattle.sap_terms.specs.Equations.{equations, app2, pair_name}
+use Rattle.sap_terms.specs.Message.{IsMessageChoice}
+use Rattle.sap_terms.specs.Modulo.{instance_facts, AreEqualFacts, AreFormsOfFacts}
+use Rattle.sap_terms.specs.Normal.{IsNormalForm}
+use Rattle.sap_terms.specs.Piles.{Pile, Takes}
+use Rattle.sap_terms.specs.Signature.{Sig}
+use Rattle.sap_terms.specs.Trace.{Trace, shown}
+use Rattle.sap_terms.specs.Tree.{Tree, public, fresh}
+use Rattle.sap_terms.specs.Variables.{tree_vars, facts_vars, new_vars}
+use Rattle.sap_terms.specs.declared.binding.Binding.{Binding}
+use Rattle.sap_terms.specs.declared.fact.Fact.{Fact}
+use Rattle.sap_terms.specs.declared.var.Var.{Var}
+use Rattle.sap_tell.specs.ThreadPaths.{thread_paths}
+use Rattle.sap_tell.specs.ToldText.{actor_text, call_text, bound_text, begins_text, ends_text, held_text, free_text, seen_texts, line_text}
+
+-- each of these variables once, with what the choice gives it
+abbrev pub bound_texts : Choice → List Var → List (List ℕ)
+bound_texts σ vs = map (λ v. bound_text (v, σ v)) (new_vars [] vs)
+
+-- What a line does, with its terms evaluated, and what comes of it beside what is shown and known: from the configuration and the
+-- entries before, the line, what is done inside, the label, and the entries behind.
+pub data IsDoing (g : Sig) (c : Config) (es : List Tree)
+    : PStep → List InnerAction → List Fact → List Tree → List ℕ → List (List ℕ) → Type 0 where
+  ends : (t : ℕ) → IsDoing g c es (line.Nil t) [] [] es (codes "0") (ends_text t ∷ [])
+  -- the thread that begins has the next number
+  splits : (t : ℕ)
+      → IsDoing g c es (line.Par t) [] [] es (codes "|") (begins_text (length c.threads) ∷ [])
+  copies : (t : ℕ)
+      → IsDoing g c es (line.Rep t) [] [] es (codes "!") (begins_text (length c.threads) ∷ [])
+  makes_name : {x : Var} {p : Proc} (t n : ℕ) → Runs c t (act (action.new x) p)
+      → IsDoing g c es (line.New t n) [] [] es (codes "new " ++ variable_text x)
+      (bound_text (x, fresh n) ∷ [])
+  outputs : (t : ℕ) (n : Tree)
+      → IsDoing g c es (line.Out t) [] [] (es ++ n ∷ [])
+      (call_text (codes "out") (tree_text n ∷ [])) []
+  -- on the channel, which is an entry
+  outputs_on : {x : Tree} {label : List Fact} (t k : ℕ) (u : Tree) → slice_get es k ≡ Some x
+      → IsDoing g c es (line.Send t k) [] label (es ++ u ∷ [])
+      (call_text (codes "out") (tree_text x ∷ tree_text u ∷ [])) []
+  -- the entry, and what the variables of the pattern stand for
+  inputs : {n x : Tree} {p : Proc} {label : List Fact} (t k : ℕ) (σ : Choice)
+      → Runs c t (act (action.input n) p) → slice_get es k ≡ Some x → Fits g σ n x
+      → IsDoing g c es (line.In t k) [] label es (call_text (codes "in") (tree_text x ∷ []))
+      (bound_texts σ (tree_vars n))
+  -- a channel and what comes on it: the entry without its brackets
+  inputs_on : {m n x : Tree} {p : Proc} {label : List Fact} (t k : ℕ) (σ : Choice)
+      → Runs c t (act (action.receive m n) p) → slice_get es k ≡ Some x → IsMessageChoice g σ
+      → IsTheoryEqual (equations g) (app2 pair_name m (instance σ n)) x
+      → IsDoing g c es (line.In t k) [] label es (call_text (codes "in") (term_text true x ∷ []))
+      (bound_texts σ (tree_vars n))
+  meets : {m n l r x u : Tree} {p q : Proc} (s t : ℕ) (σ : Choice)
+      → Runs c s (act (action.send m n) p) → Runs c t (act (action.receive l r) q)
+      → IsNormalForm (equations g) m x → IsNormalForm (equations g) n u → Fits g σ r n
+      → IsDoing g c es (line.Sync s t) [] [] es
+      (call_text (codes "out") (tree_text x ∷ tree_text u ∷ [])) (bound_texts σ (tree_vars r))
+  agrees : {x y : Tree} (t : ℕ) → IsDoing g c es (line.Then t) (equal x y ∷ []) [] es
+      (codes "if " ++ (tree_text x ++ (codes " = " ++ tree_text y))) (codes "then" ∷ [])
+  differs : {x y : Tree} (t : ℕ) → IsDoing g c es (line.Else t) (different x y ∷ []) [] es
+      (codes "if " ++ (tree_text x ++ (codes " = " ++ tree_text y))) (codes "else" ∷ [])
+  shows : {f : Fact} (t : ℕ)
+      → IsDoing g c es (line.Event t) [] (f ∷ []) es (codes "event " ++ fact_text f) []
+  inserts : {k v : Tree} (t : ℕ) → IsDoing g c es (line.Insert t) (inserted k v ∷ []) [] es
+      (codes "insert " ++ (tree_text k ++ (codes ", " ++ tree_text v))) []
+  deletes : {k : Tree} (t : ℕ) → IsDoing g c es (line.Delete t) (deleted k ∷ []) [] es
+      (codes "delete " ++ tree_text k) []
+  finds : {m k v : Tree} {x : Var} {p q : Proc} (t : ℕ) → Runs c t (whole.lookup m x p q)
+      → IsDoing g c es (line.Found t) (found k v ∷ []) [] es
+      (codes "lookup " ++ (tree_text k ++ (codes " as " ++ variable_text x)))
+      (bound_text (x, v) ∷ [])
+  misses : {m k : Tree} {x : Var} {p q : Proc} (t : ℕ) → Runs c t (whole.lookup m x p q)
+      → IsDoing g c es (line.Missing t) (missing k ∷ []) [] es
+      (codes "lookup " ++ (tree_text k ++ (codes " as " ++ variable_text x)))
+      (codes "nothing there" ∷ [])
+  locks : {k : Tree} (t : ℕ) → IsDoing g c es (line.Lock t) (locked k ∷ []) [] es
+      (codes "lock " ++ tree_text k) (held_text k ∷ [])
+  unlocks : {k : Tree} (t : ℕ) → IsDoing g c es (line.Unlock t) (unlocked k ∷ []) [] es
+      (codes "unlock " ++ tree_text k) (free_text k ∷ [])
+  -- the facts that are taken, shown and added, and what the rule's variables stand for
+  embeds : {l e r : List Fact} {rest : Pile} {p : Proc} (t : ℕ) (ks : List ℕ) (b : List Binding)
+      (σ : Choice) (left acts right : List Fact) → Runs c t (act (action.embedded l e r) p)
+      → IsMessageChoice g σ → Agrees b σ → AreEqualFacts (equations g) (instance_facts σ l) left
+      → Takes c.facts ks left rest → AreFormsOfFacts (equations g) (instance_facts σ e) acts
+      → AreFormsOfFacts (equations g) (instance_facts σ r) right
+      → IsDoing g c es (line.Embedded t ks b) [] acts es
+      (facts_text left ++ (arrow_text acts ++ facts_text right))
+      (bound_texts σ (facts_vars (l ++ (e ++ r))))
+  -- what the adversary makes, writes down, makes of entries, and shows
+  names : (n : ℕ)
+      → IsDoing g c es (line.Name n) [] [] (es ++ fresh n ∷ [])
+      (codes "new " ++ tree_text (fresh n)) []
+  writes : (a : List ℕ)
+      → IsDoing g c es (line.Public a) [] [] (es ++ public a ∷ []) (tree_text (public a)) []
+  applies : (f ks : List ℕ) (x : Tree) → IsDoing g c es (line.Apply f ks) [] [] (es ++ x ∷ [])
+      (call_text f (map decimal ks) ++ (codes " = " ++ tree_text x)) []
+  knows : {label : List Fact} (k : ℕ) (x : Tree) → slice_get es k ≡ Some x
+      → IsDoing g c es (line.Know k) [] label es (tree_text x) []
+
+-- the text tells this line, which has this number, where threads stand at these paths
+pub record IsToldLine (g : Sig) (number : ℕ) (paths : List (List ℕ)) (c : Config) (es : List Tree)
+    (step : PStep) (inner : List InnerAction) (label : List Fact) (fs : List Tree)
+    (text : List ℕ) : Type 0 where
+  pub doing : List ℕ
+  pub outcomes : List (List ℕ)
+  pub done : IsDoing g c es step inner label fs doing outcomes
+  pub written : text
+      ≡ line_text number (actor_text paths step) doing (seen_texts label es fs ++ outcomes)
+
+-- The lines are a legal run of the process within the limit, which leads to this configuration with these entries and shows this, and
+-- the text tells each of them in turn, numbered from 1.
+pub data IsToldRun (g : Sig) (p : Proc)
+    : List PStep → Config → List Tree → Trace → List Mark → List ℕ → Type 0 where
+  starts : IsToldRun g p [] (initial p) [] [] [] []
+  further : {lines : List PStep} {c d : Config} {es fs : List Tree} {tr : Trace} {marks : List Mark}
+      {text : List ℕ} (step : PStep) (inner : List InnerAction) (label : List Fact)
+      (told : List ℕ) → IsToldRun g p lines c es tr marks text
+      → IsProcessLine g HasFewNodes c es step inner label d fs
+      → IsToldLine g (length lines + 1) (thread_paths lines) c es step inner label fs told
+      → IsToldRun g p (lines ++ step ∷ []) d fs (tr ++ shown label)
+      (marks ++ marks_of inner label) (text ++ (told ++ 10 ∷ []))

@@ -1,0 +1,26 @@
+-- What is so of told runs.
+use Rattle.std.specs.Prelude.{ℕ, List}
+use Rattle.sap_lines.specs.Runs.{IsLegalProcessRun}
+use Rattle.sap_process.specs.Configuration.{Config}
+use Rattle.sap_process.specs.Proc.{Proc}
+use Rattle.sap_runs.specs.Limits.{HasFewNodes}
+use Rattle.sap_runs.specs.Marks.{Mark}
+use Rattle.sap_runs.specs.declared.process_step.PStep.{PStep}
+use Rattle.sap_terms.specs.Signature.{Sig}
+use Rattle.sap_terms.specs.Trace.{Trace}
+use Rattle.sap_terms.specs.Tree.{Tree}
+use Rattle.sap_tell.specs.Told.{IsToldRun}
+
+-- what is told as a run of a process is a legal run of it within the limit, which leads there and shows this
+abbrev pub ToldRunsAreLegal : Type 0
+ToldRunsAreLegal =
+    (g : Sig) (p : Proc) (lines : List PStep) (c : Config) (es : List Tree) (tr : Trace)
+    (marks : List Mark) (text : List ℕ) → IsToldRun g p lines c es tr marks text
+    → IsLegalProcessRun g HasFewNodes p lines c es tr marks
+
+-- each legal run of a process within the limit is told by some text
+abbrev pub LegalRunsAreTold : Type 0
+LegalRunsAreTold =
+    (g : Sig) (p : Proc) (lines : List PStep) (c : Config) (es : List Tree) (tr : Trace)
+    (marks : List Mark) → IsLegalProcessRun g HasFewNodes p lines c es tr marks
+    → (text : List ℕ) × IsToldRun g p lines c es tr marks text

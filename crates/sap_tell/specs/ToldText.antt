@@ -1,0 +1,75 @@
+-- How a told line is written, from what it tells.
+use Rattle.std.specs.Prelude.{ℕ, ◌+◌, codes, decimal, List, [], ◌∷◌, ◌++◌, length, drop, map, flat_map, Option, Some, None}
+use Rattle.sap_grammar.specs.FactText.{fact_text}
+use Rattle.sap_grammar.specs.Pieces.{joined}
+use Rattle.sap_grammar.specs.TermText.{variable_text, tree_text}
+use Rattle.sap_lines.specs.Faults.{thread_of}
+use Rattle.sap_runs.specs.declared.process_step.PStep.{PStep}
+use Rattle.sap_runs.specs.declared.process_step.PStep.TheVariants as line
+use Rattle.sap_terms.specs.Tree.{Tree}
+use Rattle.sap_terms.specs.declared.fact.Fact.{Fact}
+use Rattle.sap_terms.specs.declared.var.Var.{Var}
+use Rattle.sap_tell.specs.ThreadPaths.{path_of}
+
+-- a place by its path
+abbrev pub place_text : List ℕ → List ℕ
+place_text [] = codes "the root"
+place_text (d ∷ ds) = flat_map decimal (d ∷ ds)
+
+-- a thread by its number, and where it stands
+abbrev pub thread_text : List (List ℕ) → ℕ → List ℕ
+thread_text paths t = codes "thread " ++ (decimal t ++ (codes " at " ++ place_text (path_of paths t)))
+
+abbrev pub one_actor_text : List (List ℕ) → Option ℕ → List ℕ
+one_actor_text paths (Some t) = thread_text paths t
+one_actor_text paths None = codes "adversary"
+
+-- who acts: a thread, two that meet, or the adversary
+abbrev pub actor_text : List (List ℕ) → PStep → List ℕ
+actor_text paths (line.Sync s t) = thread_text paths s ++ (codes " to " ++ thread_text paths t)
+actor_text paths step = one_actor_text paths (thread_of step)
+
+-- a word with terms in parentheses
+abbrev pub call_text : List ℕ → List (List ℕ) → List ℕ
+call_text word ts = word ++ (codes "(" ++ (joined (codes ",") ts ++ codes ")"))
+
+-- what comes of a line: a fact that it shows, an entry that is known from then on, what a variable stands for, that a thread begins
+-- or ends, that a term is held or isn't
+abbrev pub shows_text : Fact → List ℕ
+shows_text f = codes "shows " ++ fact_text f
+
+abbrev pub knows_text : ℕ → Tree → List ℕ
+knows_text k x = codes "knows " ++ (decimal k ++ (codes ": " ++ tree_text x))
+
+abbrev pub bound_text : Var × Tree → List ℕ
+bound_text b = variable_text b.0 ++ (codes " = " ++ tree_text b.1)
+
+abbrev pub begins_text : ℕ → List ℕ
+begins_text t = codes "thread " ++ (decimal t ++ codes " begins")
+
+abbrev pub ends_text : ℕ → List ℕ
+ends_text t = codes "thread " ++ (decimal t ++ codes " ends")
+
+abbrev pub held_text : Tree → List ℕ
+held_text k = tree_text k ++ codes " is held"
+
+abbrev pub free_text : Tree → List ℕ
+free_text k = tree_text k ++ codes " is free"
+
+-- these entries, the first with this number
+abbrev pub known_texts : ℕ → List Tree → List (List ℕ)
+known_texts k [] = []
+known_texts k (x ∷ xs) = knows_text k x ∷ known_texts (k + 1) xs
+
+-- the facts that a line shows, and the entries that there are behind it and weren't before
+abbrev pub seen_texts : List Fact → List Tree → List Tree → List (List ℕ)
+seen_texts label es fs = map shows_text label ++ known_texts (length es) (drop (length es) fs)
+
+-- nothing, or what comes of a line behind two hyphens
+abbrev pub outcomes_text : List (List ℕ) → List ℕ
+outcomes_text [] = []
+outcomes_text (o ∷ os) = codes " -- " ++ joined (codes ", ") (o ∷ os)
+
+-- a told line, without its line feed: its number, who acts, what is done, and what comes of it
+abbrev pub line_text : ℕ → List ℕ → List ℕ → List (List ℕ) → List ℕ
+line_text number actor action outcomes = decimal number ++ (codes ". " ++ (actor ++ (codes ": " ++ (action ++ outcomes_text outcomes))))

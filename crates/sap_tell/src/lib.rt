@@ -1,0 +1,16 @@
+//! Runs of processes as people read them.
+#![tactic(auto)]
+
+mod actor;
+mod escaped;
+mod laws;
+mod thread_paths;
+mod told_by_hand;
+mod told_laws;
+
+pub use actor::push_actor;
+pub use escaped::push_escaped;
+pub use laws::{escaped_by_hand, escaped_stands_for_one};
+pub use thread_paths::ThreadPaths;
+pub use told_by_hand::{lines_told_by_hand, paths_by_hand};
+pub use told_laws::legal_runs_are_told;
