@@ -1,3 +1,6 @@
 pub mod Words
 pub mod Headers
 pub mod Taken
+pub mod Faults
+pub mod Positions
+pub mod OnePlace

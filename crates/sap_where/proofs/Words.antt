@@ -3,6 +3,10 @@ use Rattle.std.proofs.Common.{◌≡◌, ◌-◌, ℕ, zero, suc, List, [], ◌�
 use Rattle.std.specs.Prelude.{slice_get}
 use Rattle.sap_text.specs.declared.token.Token.{Token}
 use Rattle.sap_grammar.specs.Words.{words_of}
+use Rattle.std.specs.List.{All}
+use Rattle.std.proofs.Common.{◌≤◌, ◌<◌, ◌+◌}
+use Rattle.std.proofs.lemmas.Grind.{common_steps}
+use Rattle.sap_text.specs.Spans.{IsWithin}
 use Rattle.sap_where.specs.Where.{end_of}
 
 pub dropped : (z : List ℕ) (n : ℕ) (ts : List Token) → words_of z (drop n ts) ≡ drop n (words_of z ts)
@@ -25,3 +29,11 @@ no_last (u ∷ v ∷ ts) e =
     no_last (v ∷ ts) (subst (λ k. None ≡ slice_get (u ∷ v ∷ ts) k) n e)
 
 pub ruleset last_ends = (last_is, no_last)
+
+behind : (size : ℕ) (t : Token) (ts : List Token) → All (IsWithin size) (t ∷ ts) → All (IsWithin size) ts
+behind size t ts all k d lt = all (suc k) d (omega (arith, lt))
+
+pub end_within : (size : ℕ) (ts : List Token) → All (IsWithin size) ts → end_of ts ≤ size
+end_within size [] all = omega arith
+end_within size (t ∷ []) all = (all 0 t (omega arith)).1
+end_within size (t ∷ u ∷ ts) all = end_within size (u ∷ ts) (behind size t (u ∷ ts) all)

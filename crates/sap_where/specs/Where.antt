@@ -103,10 +103,17 @@ pub record IsTakenNowhere (z : List ℕ) (ts : List Token) (x : List ℕ) : Type
 -- the stretch is where this cause stands in the bytes: the byte of a fault of bytes; the word with which what stands before it is no
 -- header's beginning any more; `process` where it stands a second time; the name that is taken, behind its item's first word
 pub data IsWhere (z : List ℕ) : ReadFault → Stretch → Type 0 where
-  at_byte : {f : Lex} {at : ℕ} → offset_of f ≡ Some at → IsWhere z (LexFault f) (one_byte at)
-  at_header : {ts : List Token} {k : ℕ} → AreTokens z ts
-      → IsFirstWrong StartsFile (words_of z ts) k → IsWhere z Header (stretch_at ts k)
-  at_process : {ts : List Token} {line k : ℕ} → AreTokens z ts
-      → IsSecond (BeginsAt z ts Process []) k → IsWhere z (TwoProcesses line) (stretch_at ts k)
-  at_name : {ts : List Token} {x : List ℕ} {k : ℕ} → AreTokens z ts
-      → IsTakenAt z ts x k → IsWhere z (DuplicateName x) (stretch_at ts (k + 1))
+  at_byte : {f : Lex} {at : ℕ} {s : Stretch} → offset_of f ≡ Some at → s ≡ one_byte at
+      → IsWhere z (LexFault f) s
+  at_header : {ts : List Token} {k : ℕ} {s : Stretch} → AreTokens z ts
+      → IsFirstWrong StartsFile (words_of z ts) k → s ≡ stretch_at ts k → IsWhere z Header s
+  at_process : {ts : List Token} {line k : ℕ} {s : Stretch} → AreTokens z ts
+      → IsSecond (BeginsAt z ts Process []) k → s ≡ stretch_at ts k
+      → IsWhere z (TwoProcesses line) s
+  at_name : {ts : List Token} {x : List ℕ} {k : ℕ} {s : Stretch} → AreTokens z ts
+      → IsTakenAt z ts x k → s ≡ stretch_at ts (k + 1) → IsWhere z (DuplicateName x) s
+
+-- these causes have a place in each file that is refused for them
+pub data HasPlace : ReadFault → Type 0 where
+  bytes_have : (f : Lex) → HasPlace (LexFault f)
+  header_has : HasPlace Header

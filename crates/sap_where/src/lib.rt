@@ -2,10 +2,13 @@
 #![tactic(auto)]
 
 mod find;
+mod laws;
 mod picture;
 mod place;
 mod walk;
 
 pub use find::Beginning;
+pub use laws::{one_place, one_place_text};
 pub use picture::push_place;
 pub use place::{Position, Stretch, position_of};
+pub use walk::place_of;
