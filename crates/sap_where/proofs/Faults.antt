@@ -1,6 +1,6 @@
 -- A fault of bytes stands in them; a header that is refused isn't there.
-use Rattle.std.proofs.Common.{◌≡◌, ◌≤◌, ◌<◌, ◌+◌, ◌-◌, ℕ, suc, List, [], ◌∷◌, ◌++◌, length, refl, arith, ap, sym, subst, Some, None}
-use Rattle.std.specs.Prelude.{Result, Ok, Err, codes, ⊤, Bool, true, false, Option, IfSome, MatchOption, option_map, if◌then◌else◌, is_some}
+use Rattle.std.proofs.Common.{◌≡◌, ◌≤◌, ◌<◌, ◌+◌, ℕ, suc, List, [], ◌∷◌, ◌++◌, length, refl, arith, ap, sym, subst, Some, None}
+use Rattle.std.specs.Prelude.{Result, Ok, Err, codes, ⊤, Bool, true, false, Option, IfSome, MatchOption, option_map, if◌then◌else◌}
 use Rattle.std.proofs.lemmas.Grind.{common_steps}
 use Rattle.sap_text.specs.declared.fault.Lex.{Lex}
 use Rattle.sap_text.specs.declared.token.Kind.{Kind}
@@ -104,13 +104,16 @@ header_words z (t ∷ u ∷ []) h = absurd (no_words _ _ (ap tail (ap tail h.spe
 header_words z (t ∷ u ∷ v ∷ ts) h =
     let first : word_of z t ≡ mark (codes "theory") = ap (λ (ws : List Word). head (word_of z t) ws) h.spelled in
     let second : word_of z u ≡ name h.name_of = ap (λ (ws : List Word). head (word_of z t) (tail ws)) h.spelled in
-    let third : word_of z v ≡ mark (codes "begin") = ap (λ (ws : List Word). head (word_of z t) (tail (tail ws))) h.spelled in
-    (h.name_of, placed z ts, record {
-      theory_line = t.line;
-      name_line = u.line;
-      begin_line = v.line;
-      spelled = λ i. record { word = first i; line = t.line } ∷ record { word = second i; line = u.line } ∷ record { word = third i; line = v.line } ∷ placed z ts;
-    })
+    let third : word_of z v ≡ mark (codes "begin") = ap (λ (ws : List Word). head (word_of z t) (tail (tail ws))) h.spelled in (
+      h.name_of,
+      placed z ts,
+      record {
+        theory_line = t.line;
+        name_line = u.line;
+        begin_line = v.line;
+        spelled = λ i. record { word = first i; line = t.line } ∷ record { word = second i; line = u.line } ∷ record { word = third i; line = v.line } ∷ placed z ts;
+      },
+    )
 
 -- neither a fault of bytes nor of a header
 abbrev is_later : ReadFault → Bool
@@ -156,15 +159,28 @@ later_above measure most e None h = tt
 later_above measure most e (Some p) h = later_if _ e h
 
 causes_later : (bs : List Body) (ss : List Statement) (o : Option (List ℕ)) → AreLater (causes bs ss o)
-causes_later bs ss o =
-    (later_if _ NoProcess refl,
-    (later_map (λ (b : Body). TwoProcesses b.line) _ (λ b. refl),
-    (later_map UnknownProcess _ (λ x. refl),
-    (later_map DuplicateName _ (λ x. refl),
-    (later_map DuplicateName _ (λ x. refl),
-    (later_map FunctionClash _ (λ x. refl),
-    (later_above node_count MOST_PROCESS_PLACES TooMany (process_of no_meaning bs) refl,
-    (later_above level_count MOST_PROCESS_LEVELS TooDeep (process_of no_meaning bs) refl, tt))))))))
+causes_later bs ss o = (
+  later_if _ NoProcess refl,
+  (
+    later_map (λ (b : Body). TwoProcesses b.line) _ (λ b. refl),
+    (
+      later_map UnknownProcess _ (λ x. refl),
+      (
+        later_map DuplicateName _ (λ x. refl),
+        (
+          later_map DuplicateName _ (λ x. refl),
+          (
+            later_map FunctionClash _ (λ x. refl),
+            (
+              later_above node_count MOST_PROCESS_PLACES TooMany (process_of no_meaning bs) refl,
+              (later_above level_count MOST_PROCESS_LEVELS TooDeep (process_of no_meaning bs) refl, tt),
+            ),
+          ),
+        ),
+      ),
+    ),
+  ),
+)
 
 -- what a refusal for a fault of bytes, or for a header, says of the bytes
 abbrev Tells : List ℕ → Result FileContent ReadFault → Type 0

@@ -4,3 +4,4 @@ pub mod Taken
 pub mod Faults
 pub mod Positions
 pub mod OnePlace
+pub mod PlacesByHand

@@ -1,13 +1,12 @@
 -- A cause stands at one place.
-use Rattle.std.proofs.Common.{◌≡◌, ◌≤◌, ◌<◌, ◌+◌, ℕ, zero, suc, List, [], ◌∷◌, ◌++◌, append_assoc, length, take, drop, refl, sym, ap, ◌∙◌, subst, arith, Some}
-use Rattle.std.proofs.lemmas.Grind.{common_steps}
+use Rattle.std.proofs.Common.{◌≡◌, ◌≤◌, ◌<◌, ◌+◌, ℕ, zero, suc, List, [], ◌∷◌, ◌++◌, append_assoc, take, drop, refl, sym, ap, ◌∙◌, subst, arith, Some}
 use Rattle.sap_text.specs.declared.token.Token.{Token}
 use Rattle.sap_grammar.specs.Words.{Word, words_of}
 use Rattle.sap_read.specs.Files.{AreTokens}
 use Rattle.sap_read.specs.declared.fault.ReadFault.{ReadFault}
-use Rattle.sap_where.specs.declared.find.Beginning.TheVariants.{Definition, Statement, Process}
+use Rattle.sap_where.specs.declared.find.Beginning.TheVariants.{Process}
 use Rattle.sap_where.specs.declared.place.Stretch.{Stretch}
-use Rattle.sap_where.specs.Where.{BeginsAt, GoOn, HoldsOnce, IsFirst, IsFirstWrong, IsSecond, IsTakenAt, IsWhere, StartsFile, at_byte, at_header, at_name, at_process, offset_of, one_byte, only_statement, second_definition, second_statement, stretch_at}
+use Rattle.sap_where.specs.Where.{BeginsAt, GoOn, HoldsOnce, IsFirst, IsFirstWrong, IsSecond, IsTakenAt, IsWhere, StartsFile, at_byte, at_header, at_name, at_process, one_byte, only_statement, second_definition, second_statement, stretch_at}
 
 between : (m n : ℕ) → (m < n → ⊥) → (n < m → ⊥) → m ≡ n
 between zero zero f g = refl
@@ -31,7 +30,7 @@ one_first P j k a b = between j k (λ lt. b.none_before j lt a.is) (λ lt. a.non
 not_once : {A : Type 0} (P : ℕ → Type 0) (k : ℕ) → HoldsOnce P → IsSecond P k → A
 not_once P k h a = absurd (h a.first k a.before a.is_first a.is)
 
-one_taken : (z : List ℕ) (ts : List Token) (x : List ℕ) (j k : ℕ) → IsTakenAt z ts x j → IsTakenAt z ts x k → j ≡ k
+pub one_taken : (z : List ℕ) (ts : List Token) (x : List ℕ) (j k : ℕ) → IsTakenAt z ts x j → IsTakenAt z ts x k → j ≡ k
 one_taken z ts x j k (second_definition a) (second_definition b) = one_second _ j k a b
 one_taken z ts x j k (second_definition a) (second_statement d b) = not_once _ j d a
 one_taken z ts x j k (second_definition a) (only_statement d s b) = not_once _ j d a
@@ -60,7 +59,7 @@ not_wrong Is ws j k a b lt =
     let most = b.inside in
     a.wrong (omega (arith, lt, most)) (fewer Is (j + 1) k ws (omega (arith, lt)) b.before)
 
-one_wrong : (Is : List Word → Type 0) (ws : List Word) (j k : ℕ) → IsFirstWrong Is ws j → IsFirstWrong Is ws k → j ≡ k
+pub one_wrong : (Is : List Word → Type 0) (ws : List Word) (j k : ℕ) → IsFirstWrong Is ws j → IsFirstWrong Is ws k → j ≡ k
 one_wrong Is ws j k a b = between j k (not_wrong Is ws j k a b) (not_wrong Is ws k j b a)
 
 some_same : {a b : ℕ} → Some a ≡ Some b → a ≡ b

@@ -1,10 +1,9 @@
 -- One text is what is shown of a stretch.
-use Rattle.std.proofs.Common.{◌≡◌, ◌≤◌, ◌<◌, ◌+◌, ◌-◌, ℕ, zero, suc, List, [], ◌∷◌, ◌++◌, length, take, drop, refl, sym, ap, ◌∙◌, subst, arith}
+use Rattle.std.proofs.Common.{◌≡◌, ◌<◌, ◌+◌, ◌-◌, ℕ, zero, suc, List, [], ◌∷◌, ◌++◌, refl, sym, ap, ◌∙◌, arith}
 use Rattle.std.specs.Prelude.{codes, decimal}
-use Rattle.sap_text.specs.Tokens.{line_feeds}
 use Rattle.sap_where.specs.declared.place.Position.{Position}
 use Rattle.sap_where.specs.declared.place.Stretch.{Stretch}
-use Rattle.sap_where.specs.Positions.{IsFeed, IsPlaceText, IsPosition, LineBegins, LineEnds, picture, shown_from, shown_to}
+use Rattle.sap_where.specs.Positions.{IsPlaceText, IsPosition, LineBegins, LineEnds, picture, shown_from, shown_to}
 
 -- a line can't begin twice
 not_later : (z : List ℕ) (at m n : ℕ) → LineBegins z at m → LineBegins z at n → m < n → ⊥

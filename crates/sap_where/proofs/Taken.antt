@@ -1,5 +1,5 @@
 -- Which item has a name that is taken.
-use Rattle.std.proofs.Common.{◌≡◌, ℕ, List, Option, Some, None, MatchOption}
+use Rattle.std.proofs.Common.{ℕ, List, Option, Some, None, MatchOption}
 use Rattle.sap_text.specs.declared.token.Token.{Token}
 use Rattle.sap_where.specs.declared.find.Beginning.TheVariants.{Definition, Statement}
 use Rattle.sap_where.specs.Where.{BeginsAt, HoldsOnce, IsFirst, IsTakenAt, IsTakenNowhere, only_statement}

@@ -4,8 +4,7 @@ use Rattle.std.specs.Prelude.{slice_get}
 use Rattle.sap_text.specs.declared.token.Token.{Token}
 use Rattle.sap_grammar.specs.Words.{words_of}
 use Rattle.std.specs.List.{All}
-use Rattle.std.proofs.Common.{◌≤◌, ◌<◌, ◌+◌}
-use Rattle.std.proofs.lemmas.Grind.{common_steps}
+use Rattle.std.proofs.Common.{◌≤◌}
 use Rattle.sap_text.specs.Spans.{IsWithin}
 use Rattle.sap_where.specs.Where.{end_of}
 

@@ -8,7 +8,7 @@ mod place;
 mod walk;
 
 pub use find::Beginning;
-pub use laws::{one_place, one_place_text};
+pub use laws::{one_place, one_place_text, places_by_hand};
 pub use picture::push_place;
 pub use place::{Position, Stretch, position_of};
 pub use walk::place_of;

@@ -1,4 +1,4 @@
-use Rattle.std.proofs.Common.{◌≡◌, List, ℕ, sym}
+use Rattle.std.proofs.Common.{◌≡◌, List}
 use Rattle.std.specs.Prelude.{Ok}
 use Rattle.sap_text.specs.declared.token.Token.{Token}
 use Rattle.sap_text.specs.Tokens.{Lexed}

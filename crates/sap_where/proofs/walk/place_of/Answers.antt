@@ -1,4 +1,4 @@
-use Rattle.std.proofs.Common.{◌≡◌, List, Option, None, sym, subst, ap, ◌∙◌}
+use Rattle.std.proofs.Common.{◌≡◌, None, sym, subst}
 use Rattle.std.specs.Prelude.{Err, IfSome}
 use Rattle.sap_read.specs.Files.{IsRead}
 use Rattle.sap_read.specs.declared.fault.ReadFault.{ReadFault}
