@@ -233,7 +233,7 @@ tells (accepted p a c q w n f) = tt
 -- the byte of a fault is where the fault stands
 pub byte_place : (z : List ℕ) (f : Lex) (o : Option Stretch) → MatchOption o ((at : ℕ) → offset_of f ≡ Some at → length z ≤ at) (λ s. (at : ℕ) × (offset_of f ≡ Some at) × (at < length z) × (s ≡ one_byte at)) → IfSome o (λ s. IsWhere z (LexFault f) s)
 byte_place z f None m = tt
-byte_place z f (Some s) m = at_byte m.1 m.3
+byte_place z f (Some s) m = at_byte m.1 m.2 m.3
 
 -- and there is one where the bytes are refused for it
 pub byte_told : (z : List ℕ) (f : Lex) (o : Option Stretch) → MatchOption o ((at : ℕ) → offset_of f ≡ Some at → length z ≤ at) (λ s. (at : ℕ) × (offset_of f ≡ Some at) × (at < length z) × (s ≡ one_byte at)) → IsRead z (Err (LexFault f)) → o ≡ None → ⊥

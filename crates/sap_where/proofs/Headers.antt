@@ -50,13 +50,25 @@ named w v x e f = (mark (codes "begin") ∷ [], record { name_of = x; rest = [];
 clash : (b : Bool) → b ≡ false → b ≡ true → ⊥
 clash b e f = absurd (cc)
 
+-- such words begin with no header
+not_first : (ws : List Word) → starts (codes "theory") ws ≡ false → StartsFile ws → ⊥
+not_first ws e h = clash _ e (subst (λ (vs : List Word). starts (codes "theory") vs ≡ true) (sym h.spelled) is_theory)
+
+not_second : (ws : List Word) → is_some (name_at (drop 1 ws)) ≡ false → StartsFile ws → ⊥
+not_second ws e h = clash _ e (subst (λ (vs : List Word). is_some (name_at (drop 1 vs)) ≡ true) (sym h.spelled) refl)
+
+not_third : (ws : List Word) → starts (codes "begin") (drop 2 ws) ≡ false → StartsFile ws → ⊥
+not_third ws e h = clash _ e (subst (λ (vs : List Word). starts (codes "begin") (drop 2 vs) ≡ true) (sym h.spelled) is_begin)
+
 pub wrong_first : (ws : List Word) → starts (codes "theory") ws ≡ false → IsFirstWrong StartsFile ws 0
 wrong_first [] e = record {
+  isnt = not_first [] e;
   inside = omega arith;
   before = (mark (codes "theory") ∷ name [] ∷ mark (codes "begin") ∷ [], record { name_of = []; rest = []; spelled = refl });
   wrong = λ lt g. absurd (omega arith);
 }
 wrong_first (w ∷ ws) e = record {
+  isnt = not_first (w ∷ ws) e;
   inside = omega arith;
   before = (mark (codes "theory") ∷ name [] ∷ mark (codes "begin") ∷ [], record { name_of = []; rest = []; spelled = refl });
   wrong = λ lt g.
@@ -67,11 +79,13 @@ wrong_first (w ∷ ws) e = record {
 pub wrong_second : (ws : List Word) → starts (codes "theory") ws ≡ true → is_some (name_at (drop 1 ws)) ≡ false → IsFirstWrong StartsFile ws 1
 wrong_second [] e f = absurd (cc)
 wrong_second (w ∷ []) e f = record {
+  isnt = not_second (w ∷ []) f;
   inside = omega arith;
   before = begun w (mark_is (codes "theory") w e);
   wrong = λ lt g. absurd (omega arith);
 }
 wrong_second (w ∷ v ∷ ws) e f = record {
+  isnt = not_second (w ∷ v ∷ ws) f;
   inside = omega arith;
   before = begun w (mark_is (codes "theory") w e);
   wrong = λ lt g.
@@ -85,6 +99,7 @@ wrong_third (w ∷ []) e f h = absurd (cc)
 wrong_third (w ∷ v ∷ []) e f h =
     let n = name_is v f in
     record {
+      isnt = not_third (w ∷ v ∷ []) h;
       inside = omega arith;
       before = named w v n.0 (mark_is (codes "theory") w e) n.1;
       wrong = λ lt g. absurd (omega arith);
@@ -92,6 +107,7 @@ wrong_third (w ∷ v ∷ []) e f h =
 wrong_third (w ∷ v ∷ u ∷ ws) e f h =
     let n = name_is v f in
     record {
+      isnt = not_third (w ∷ v ∷ u ∷ ws) h;
       inside = omega arith;
       before = named w v n.0 (mark_is (codes "theory") w e) n.1;
       wrong = λ lt g.

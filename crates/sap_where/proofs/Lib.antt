@@ -4,4 +4,5 @@ pub mod Taken
 pub mod Faults
 pub mod Positions
 pub mod OnePlace
+pub mod Nowhere
 pub mod PlacesByHand

@@ -66,7 +66,7 @@ some_same : {a b : ℕ} → Some a ≡ Some b → a ≡ b
 some_same e = cc
 
 pub one_place_is : (z : List ℕ) (e : ReadFault) (s t : Stretch) → ((ts us : List Token) → AreTokens z ts → AreTokens z us → us ≡ ts) → IsWhere z e s → IsWhere z e t → s ≡ t
-one_place_is z e s t only (at_byte a f) (at_byte b g) = f ∙ (ap one_byte (some_same (sym a ∙ b)) ∙ sym g)
+one_place_is z e s t only (at_byte a l f) (at_byte b m g) = f ∙ (ap one_byte (some_same (sym a ∙ b)) ∙ sym g)
 one_place_is z e s t only (at_header {ts = ts} {k = j} a w f) (at_header {ts = us} {k = k} b v g) =
     let same = only ts us a b in
     let v' = subst (λ (us : List Token). IsFirstWrong StartsFile (words_of z us) k) same v in

@@ -44,8 +44,9 @@ stretch_at ts k = stretch_of ts (slice_get ts k)
 abbrev pub GoOn : (List Word → Type 0) → List Word → Type 0
 GoOn Is ws = (rest : List Word) × Is (ws ++ rest)
 
--- the words before number k go on to something of this kind, and with that word they don't; or no word is left
+-- the words aren't something of this kind; those before number k go on to such, and with that word they don't, or no word is left
 pub record IsFirstWrong (Is : List Word → Type 0) (ws : List Word) (k : ℕ) : Type 0 where
+  pub isnt : Is ws → ⊥
   pub inside : k ≤ length ws
   pub before : GoOn Is (take k ws)
   pub wrong : k < length ws → GoOn Is (take (k + 1) ws) → ⊥
@@ -103,8 +104,8 @@ pub record IsTakenNowhere (z : List ℕ) (ts : List Token) (x : List ℕ) : Type
 -- the stretch is where this cause stands in the bytes: the byte of a fault of bytes; the word with which what stands before it is no
 -- header's beginning any more; `process` where it stands a second time; the name that is taken, behind its item's first word
 pub data IsWhere (z : List ℕ) : ReadFault → Stretch → Type 0 where
-  at_byte : {f : Lex} {at : ℕ} {s : Stretch} → offset_of f ≡ Some at → s ≡ one_byte at
-      → IsWhere z (LexFault f) s
+  at_byte : {f : Lex} {at : ℕ} {s : Stretch} → offset_of f ≡ Some at → at < length z
+      → s ≡ one_byte at → IsWhere z (LexFault f) s
   at_header : {ts : List Token} {k : ℕ} {s : Stretch} → AreTokens z ts
       → IsFirstWrong StartsFile (words_of z ts) k → s ≡ stretch_at ts k → IsWhere z Header s
   at_process : {ts : List Token} {line k : ℕ} {s : Stretch} → AreTokens z ts

@@ -6,7 +6,9 @@ ghost use Rattle.sap_text.specs.declared.token.Token.{Token};
 ghost use Rattle.sap_grammar.specs.Words.{starts, words_of};
 ghost use Rattle.sap_grammar.specs.Reading.{name_at};
 ghost use Rattle.sap_read.specs.Files.{AreTokens, IsRead};
-ghost use Rattle.sap_read.specs.declared.fault.ReadFault.TheVariants.{Header};
+ghost use Rattle.sap_read.specs.declared.fault.ReadFault.TheVariants.{Header, Lex as LexFault};
+ghost use Rattle.sap_text.specs.declared.fault.Lex.{Lex};
+ghost use Rattle.sap_where.specs.declared.place.Stretch.{Stretch};
 ghost use Rattle.sap_where.specs.Where.{BeginsAt, HoldsOnce, IsFirst, IsFirstWrong, IsSecond, IsTakenAt, IsTakenNowhere, IsWhere, HasPlace, StartsFile, end_of, offset_of, one_byte, stretch_at};
 
 use crate::find::{Beginning, first, second};
@@ -130,10 +132,13 @@ fn taken(bytes: &[u8], tokens: &[Token], name: &[u8]) -> Option<usize>
 fn place_among(bytes: &[u8], tokens: &[Token], fault: &ReadFault) -> Option<Stretch>
     requires are { AreTokens bytes.now tokens.now }
     requires within { All (IsWithin (length bytes.now)) tokens.now }
+    requires only { (ts : List Token) → AreTokens bytes.now ts → ts ≡ tokens.now }
+    requires no_byte { (f : Lex) → fault.now ≡ LexFault f → ⊥ }
     ensures place { IfSome result (λ s. IsWhere bytes.now fault.now s) }
     ensures inside { IfSome result (λ s. s.from ≤ length bytes.now) }
     ensures header { fault.now ≡ Header → result ≡ None
         → StartsFile (words_of bytes.now tokens.now) }
+    ensures none { result ≡ None → (s : Stretch) → IsWhere bytes.now fault.now s → ⊥ }
 {
     match fault {
         ReadFault::Header => match wrong_header(bytes, tokens) {
@@ -177,6 +182,7 @@ fn file_tokens(alloc: Global, bytes: &[u8]) -> Result<Option<Vec<Token>>, Mem>
 pub fn place_of(alloc: Global, bytes: &[u8], fault: &ReadFault) -> Result<Option<Stretch>, Mem>
     ensures place { IfOk result (λ o. IfSome o (λ s. IsWhere bytes.now fault.now s)) }
     ensures inside { IfOk result (λ o. IfSome o (λ s. s.from ≤ length bytes.now)) }
+    ensures none { IfOk result (λ o. o ≡ None → (s : Stretch) → IsWhere bytes.now fault.now s → ⊥) }
     ensures told { HasPlace fault.now → IsRead bytes.now (Err fault.now)
         → IfOk result (λ o. o ≡ None → ⊥) }
 {

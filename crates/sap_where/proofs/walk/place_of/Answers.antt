@@ -5,6 +5,7 @@ use Rattle.sap_read.specs.declared.fault.ReadFault.{ReadFault}
 use Rattle.sap_where.specs.declared.place.Stretch.{Stretch}
 use Rattle.sap_where.specs.Where.{IsWhere}
 use Rattle.sap_where.proofs.Faults.{byte_place, byte_told, header_told, tokens_told}
+use Rattle.sap_where.proofs.Nowhere.{tokens_nowhere}
 use Rattle.sap_where.proofs.walk.place_of.Goals as goal
 
 pub returns-in-Lex-clause-place : goal.returns-in-Lex-clause-place
@@ -23,6 +24,7 @@ returns-in-Some c =
     record {
       place = c.place_among.ensures.place;
       inside = c.place_among.ensures.inside;
+      none = c.place_among.ensures.none;
       told = header_told c.args.bytes.now c.in-Some.tokens.items c.args.fault.now c.place_among.result
           c.in_default.not-Lex only (rw c.as_slice.ensures.value at c.place_among.ensures.header);
     }
@@ -33,5 +35,6 @@ returns-in-None c =
     record {
       place = tt;
       inside = tt;
+      none = λ n s. tokens_nowhere c.args.bytes.now c.args.fault.now c.in_default.not-Lex none s;
       told = λ h r e. tokens_told c.args.bytes.now c.args.fault.now c.in_default.not-Lex none h r;
     }
