@@ -1,0 +1,14 @@
+use Rattle.std.proofs.Common.{refl}
+use Rattle.sap_where.proofs.PlacesByHand.{again, at_end, at_feed, at_second, no_begin, no_name, no_word, not_before, not_first_line, not_from_zero, not_last, text_of_second}
+use Rattle.sap_where.proofs.laws.places_by_hand.Goals as goal
+
+pub returns : goal.returns
+returns c = record {
+  lines = (at_second, at_feed, at_end);
+  not_there = (not_first_line, not_from_zero);
+  text = text_of_second;
+  long_lines = (refl, refl, refl, refl);
+  carets = (refl, refl);
+  headers = (no_begin, no_name, no_word, not_last);
+  names = (again, not_before);
+}

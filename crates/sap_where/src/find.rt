@@ -1,0 +1,100 @@
+//! Which tokens items begin with.
+ghost use Rattle.std.specs.Prelude.{◌≡◌, ◌≤◌, ◌<◌, ℕ, length, MatchOption};
+ghost use Rattle.std.specs.Str.{bytes_eq};
+ghost use Rattle.sap_grammar.specs.Words.{words_of};
+ghost use Rattle.sap_grammar.specs.Reading.{names};
+ghost use Rattle.sap_where.specs.Where.{BeginsAt, HoldsOnce, IsFirst, IsSecond, begins};
+
+use sap_grammar::{beyond, name_at, starts};
+use sap_text::Token;
+
+/// What an item that is looked for begins with.
+#[derive(Clone, Copy, Debug, PartialEq, Eq)]
+pub enum Beginning {
+    /// `process`.
+    Process,
+    /// `let` and a name.
+    Definition,
+    /// `restriction` or `lemma`, and a name.
+    Statement,
+}
+
+// Whether this name stands first.
+fn names(bytes: &[u8], tokens: &[Token], name: &[u8]) -> bool
+    ensures { result ≡ names name.now (words_of bytes.now tokens.now) }
+{
+    match name_at(bytes, tokens) {
+        Some(text) => text == name,
+        None => false,
+    }
+}
+
+// Whether such an item begins with the first of these tokens.
+fn begins(bytes: &[u8], tokens: &[Token], beginning: Beginning, name: &[u8]) -> bool
+    ensures { result ≡ begins beginning name.now (words_of bytes.now tokens.now) }
+{
+    match beginning {
+        Beginning::Process => starts(bytes, tokens, "process"),
+        Beginning::Definition => {
+            starts(bytes, tokens, "let") && names(bytes, beyond(1, tokens), name)
+        }
+        Beginning::Statement => {
+            (starts(bytes, tokens, "restriction") || starts(bytes, tokens, "lemma"))
+                && names(bytes, beyond(1, tokens), name)
+        }
+    }
+}
+
+// The number of the first token from this one on with which such an item begins.
+fn next(
+    bytes: &[u8],
+    tokens: &[Token],
+    beginning: Beginning,
+    name: &[u8],
+    from: usize,
+) -> Option<usize>
+    ensures { MatchOption result
+        ((i : ℕ) → from ≤ i → BeginsAt bytes.now tokens.now beginning name.now i → ⊥)
+        (λ k. (from ≤ k) × BeginsAt bytes.now tokens.now beginning name.now k
+        × ((i : ℕ) → from ≤ i → i < k → BeginsAt bytes.now tokens.now beginning name.now i → ⊥)) }
+{
+    let mut k = from;
+    while k < tokens.len() {
+        if begins(bytes, beyond(k, tokens), beginning, name) {
+            return Some(k);
+        }
+        k += 1;
+    }
+    None
+}
+
+// The number of the first token with which such an item begins.
+pub(crate) fn first(
+    bytes: &[u8],
+    tokens: &[Token],
+    beginning: Beginning,
+    name: &[u8],
+) -> Option<usize>
+    ensures { MatchOption result
+        ((i : ℕ) → BeginsAt bytes.now tokens.now beginning name.now i → ⊥)
+        (λ k. IsFirst (BeginsAt bytes.now tokens.now beginning name.now) k) }
+{
+    next(bytes, tokens, beginning, name, 0)
+}
+
+// The number of the second one.
+pub(crate) fn second(
+    bytes: &[u8],
+    tokens: &[Token],
+    beginning: Beginning,
+    name: &[u8],
+) -> Option<usize>
+    ensures { MatchOption result
+        (HoldsOnce (BeginsAt bytes.now tokens.now beginning name.now))
+        (λ k. IsSecond (BeginsAt bytes.now tokens.now beginning name.now) k) }
+{
+    match first(bytes, tokens, beginning, name) {
+        Some(k) => next(bytes, tokens, beginning, name, k + 1),
+        None => None,
+    }
+}

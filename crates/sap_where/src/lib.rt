@@ -1,0 +1,14 @@
+//! Where a file is wrong: the place in its bytes at which a cause stands, and what is shown of it.
+#![tactic(auto)]
+
+mod find;
+mod laws;
+mod picture;
+mod place;
+mod walk;
+
+pub use find::Beginning;
+pub use laws::{one_place, one_place_text, places_by_hand};
+pub use picture::push_place;
+pub use place::{Position, Stretch, position_of};
+pub use walk::place_of;

@@ -1,0 +1,196 @@
+//! Where in a file a cause stands.
+ghost use Rattle.std.specs.Prelude.{◌≡◌, ◌≤◌, ◌<◌, ◌+◌, ℕ, drop, is_some, length, List, Some, None, Err, IfOk, IfSome, MatchOption};
+ghost use Rattle.std.specs.List.{All};
+ghost use Rattle.sap_text.specs.Spans.{IsWithin};
+ghost use Rattle.sap_text.specs.declared.token.Token.{Token};
+ghost use Rattle.sap_grammar.specs.Words.{starts, words_of};
+ghost use Rattle.sap_grammar.specs.Reading.{name_at};
+ghost use Rattle.sap_read.specs.Files.{AreTokens, IsRead};
+ghost use Rattle.sap_read.specs.declared.fault.ReadFault.TheVariants.{Header, Lex as LexFault};
+ghost use Rattle.sap_text.specs.declared.fault.Lex.{Lex};
+ghost use Rattle.sap_where.specs.declared.place.Stretch.{Stretch};
+ghost use Rattle.sap_where.specs.Where.{BeginsAt, HoldsOnce, IsFirst, IsFirstWrong, IsSecond, IsTakenAt, IsTakenNowhere, IsWhere, HasPlace, StartsFile, end_of, offset_of, one_byte, stretch_at};
+
+use crate::find::{Beginning, first, second};
+use crate::place::Stretch;
+use sap_grammar::{beyond, name_at, starts};
+use sap_read::ReadFault;
+use sap_terms::{MOST_FILE_NAME_BYTES, Mem};
+use sap_text::{Lex, Token, one_answer, tokens};
+use std::alloc::Global;
+
+// The offset that a fault of bytes names.
+fn offset_of(fault: Lex) -> Option<u64>
+    ensures { result ≡ offset_of fault }
+{
+    match fault {
+        Lex::Mem => None,
+        Lex::BadByte { at } => Some(at),
+        Lex::OpenComment { at } => Some(at),
+        Lex::OpenQuote { at } => Some(at),
+        Lex::NameLong { at } => Some(at),
+    }
+}
+
+// The byte of a fault of bytes, where it is one of so many.
+fn byte_of(fault: Lex, size: u64) -> Option<Stretch>
+    ensures { MatchOption result ((at : ℕ) → offset_of fault ≡ Some at → size ≤ at)
+        (λ s. (at : ℕ) × (offset_of fault ≡ Some at) × (at < size) × (s ≡ one_byte at)) }
+{
+    match offset_of(fault) {
+        Some(at) => if at < size {
+            Some(Stretch {
+                from: at,
+                to: at + 1,
+            })
+        } else {
+            None
+        },
+        None => None,
+    }
+}
+
+// Where the last of the tokens ends.
+#[tactic(auto, using(crate::proofs::Words::last_ends))]
+fn end_of(tokens: &[Token]) -> u64
+    ensures { result ≡ end_of tokens.now }
+{
+    match tokens.last() {
+        Some(token) => token.to,
+        None => 0,
+    }
+}
+
+// The stretch of the token of this number, or what stands behind them all.
+#[tactic(auto, using(crate::proofs::Words::end_within))]
+fn stretch_at(tokens: &[Token], k: usize) -> Stretch
+    ensures is { result ≡ stretch_at tokens.now k }
+    ensures within { (size : ℕ) → All (IsWithin size) tokens.now → result.from ≤ size }
+{
+    if k < tokens.len() {
+        let token = tokens[k];
+        return Stretch {
+            from: token.from,
+            to: token.to,
+        };
+    }
+    let end = end_of(tokens);
+    Stretch { from: end, to: end }
+}
+
+// Whether this symbol or reserved word stands as word number k.
+#[tactic(auto, using(crate::proofs::Words::dropped))]
+fn stands_at(bytes: &[u8], tokens: &[Token], k: usize, mark: &str) -> bool
+    ensures { result ≡ starts mark.now (drop k (words_of bytes.now tokens.now)) }
+{
+    starts(bytes, beyond(k, tokens), mark)
+}
+
+// Whether a name stands there.
+#[tactic(auto, using(crate::proofs::Words::dropped))]
+fn is_named_at(bytes: &[u8], tokens: &[Token], k: usize) -> bool
+    ensures { result ≡ is_some (name_at (drop k (words_of bytes.now tokens.now))) }
+{
+    match name_at(bytes, beyond(k, tokens)) {
+        Some(_) => true,
+        None => false,
+    }
+}
+
+// The number of the first word that is wrong in a header, if one is.
+fn wrong_header(bytes: &[u8], tokens: &[Token]) -> Option<usize>
+    ensures { MatchOption result (StartsFile (words_of bytes.now tokens.now))
+        (λ k. IsFirstWrong StartsFile (words_of bytes.now tokens.now) k) }
+{
+    if !stands_at(bytes, tokens, 0, "theory") {
+        return Some(0);
+    }
+    if !is_named_at(bytes, tokens, 1) {
+        return Some(1);
+    }
+    if !stands_at(bytes, tokens, 2, "begin") {
+        return Some(2);
+    }
+    None
+}
+
+// The number of the token with which the item begins whose name is taken, if there is one.
+fn taken(bytes: &[u8], tokens: &[Token], name: &[u8]) -> Option<usize>
+    ensures { MatchOption result (IsTakenNowhere bytes.now tokens.now name.now)
+        (λ k. IsTakenAt bytes.now tokens.now name.now k) }
+{
+    if let Some(k) = second(bytes, tokens, Beginning::Definition, name) {
+        return Some(k);
+    }
+    if let Some(k) = second(bytes, tokens, Beginning::Statement, name) {
+        return Some(k);
+    }
+    first(bytes, tokens, Beginning::Statement, name)
+}
+
+// Where the cause stands, if it is told by a token.
+fn place_among(bytes: &[u8], tokens: &[Token], fault: &ReadFault) -> Option<Stretch>
+    requires are { AreTokens bytes.now tokens.now }
+    requires within { All (IsWithin (length bytes.now)) tokens.now }
+    requires only { (ts : List Token) → AreTokens bytes.now ts → ts ≡ tokens.now }
+    requires no_byte { (f : Lex) → fault.now ≡ LexFault f → ⊥ }
+    ensures place { IfSome result (λ s. IsWhere bytes.now fault.now s) }
+    ensures inside { IfSome result (λ s. s.from ≤ length bytes.now) }
+    ensures header { fault.now ≡ Header → result ≡ None
+        → StartsFile (words_of bytes.now tokens.now) }
+    ensures none { result ≡ None → (s : Stretch) → IsWhere bytes.now fault.now s → ⊥ }
+{
+    match fault {
+        ReadFault::Header => match wrong_header(bytes, tokens) {
+            Some(k) => Some(stretch_at(tokens, k)),
+            None => None,
+        },
+        ReadFault::TwoProcesses { .. } => match second(bytes, tokens, Beginning::Process, &[]) {
+            Some(k) => Some(stretch_at(tokens, k)),
+            None => None,
+        },
+        ReadFault::DuplicateName { name } => match taken(bytes, tokens, name.as_bytes()) {
+            Some(k) => Some(stretch_at(tokens, k + 1)),
+            None => None,
+        },
+        _ => None,
+    }
+}
+
+// The tokens of a file, if its bytes are tokens.
+fn file_tokens(alloc: Global, bytes: &[u8]) -> Result<Option<Vec<Token>>, Mem>
+    ensures are { IfOk result (λ o. MatchOption o
+        ((ts : List Token) → AreTokens bytes.now ts → ⊥)
+        (λ v. AreTokens bytes.now v.items)) }
+    ensures within { IfOk result (λ o. IfSome o
+        (λ v. All (IsWithin (length bytes.now)) v.items)) }
+    ensures only { IfOk result (λ o. IfSome o
+        (λ v. (ts : List Token) → AreTokens bytes.now ts → ts ≡ v.items)) }
+{
+    one_answer();
+    match tokens(alloc, bytes, MOST_FILE_NAME_BYTES) {
+        Ok(tokens) => Ok(Some(tokens)),
+        Err(Lex::Mem) => Err(Mem),
+        Err(_) => Ok(None),
+    }
+}
+
+/// Where in the bytes of a file the cause stands for which they are refused: of a fault of bytes the byte; without a header the
+/// first word that is wrong in one, or the end of the last word; of a second process its `process`; of a name that is taken the
+/// second definition's name, or that of the second restriction or lemma, or of the only one. `None`, where nothing of this is found
+/// in the bytes, and for all other causes. The time is linear in the bytes. Want of memory is the only error.
+pub fn place_of(alloc: Global, bytes: &[u8], fault: &ReadFault) -> Result<Option<Stretch>, Mem>
+    ensures place { IfOk result (λ o. IfSome o (λ s. IsWhere bytes.now fault.now s)) }
+    ensures inside { IfOk result (λ o. IfSome o (λ s. s.from ≤ length bytes.now)) }
+    ensures none { IfOk result (λ o. o ≡ None → (s : Stretch) → IsWhere bytes.now fault.now s → ⊥) }
+    ensures told { HasPlace fault.now → IsRead bytes.now (Err fault.now)
+        → IfOk result (λ o. o ≡ None → ⊥) }
+{
+    if let ReadFault::Lex(lex) = fault {
+        return Ok(byte_of(*lex, bytes.len() as u64));
+    }
+    match file_tokens(alloc, bytes)? {
+        Some(tokens) => Ok(place_among(bytes, tokens.as_slice(), fault)),
+        None => Ok(None),
+    }
+}
