@@ -45,7 +45,7 @@ not-in-secret f ts differs s = at (in-pair (apply f ts) (fresh 2) (fresh 3) senc
   at (inr (inl i)) = let e = in-fresh (apply f ts) (fresh 2) 2 refl i in absurd (cc)
   at (inr (inr i)) = let e = in-fresh (apply f ts) (fresh 3) 3 refl i in absurd (cc)
 
-not-fresh : (i j : ℕ) → ¬ (i ≡ j) → ¬ (fresh i ≡ fresh j)
+pub not-fresh : (i j : ℕ) → ¬ (i ≡ j) → ¬ (fresh i ≡ fresh j)
 not-fresh i j n e = n (cc)
 
 pub standing-by_hand : StandingByHand

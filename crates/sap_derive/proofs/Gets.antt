@@ -79,3 +79,9 @@ two-items (a ∷ b ∷ c ∷ xs) x y l e f = absurd (omega arith)
 -- what holds of each item holds of one
 pub all-got : {X : Type 0} (P : X → Type 0) (xs : List X) (k : ℕ) (x : X) → All P xs → slice_get xs k ≡ Some x → P x
 all-got P xs k x all e = All-contains P xs x all (contains_got xs x k e)
+
+-- there is an item below the length
+pub got-within : {X : Type 0} (xs : List X) (k : ℕ) → k < length xs → (x : X) × (slice_get xs k ≡ Some x)
+got-within [] k l = absurd (omega arith)
+got-within (x ∷ xs) zero l = (x, refl)
+got-within (x ∷ xs) (suc k) l = got-within xs k (omega arith)

@@ -8,8 +8,8 @@ mod FoundOnce
 mod Gets
 mod Joined
 mod Lined
+mod LinesByHand
 mod Made
-mod Marks
 mod Nearby
 mod Nearness
 mod Openings
@@ -17,8 +17,10 @@ mod Options
 mod Parts
 mod Places
 mod Pushed
+mod Ranks
 mod Settled
 mod Shaped
+mod Sorts
 mod Sound
 mod States
 mod Waits

@@ -1,6 +1,6 @@
 -- The lines that are written give what they say.
 use Rattle.std.proofs.Common.{◌≡◌, ◌<◌, ◌≤◌, ◌+◌, ℕ, zero, suc, List, [], ◌∷◌, ◌++◌, length, map, take, Some, refl, sym, ap, ◌∙◌, ◌⊎◌, inl, inr, arith, subst}
-use Rattle.std.specs.Prelude.{slice_get, All}
+use Rattle.std.specs.Prelude.{slice_get}
 use Rattle.std.proofs.lemmas.List.{length-append}
 use Rattle.sap_terms.specs.Tree.{Tree, public, node_count}
 use Rattle.sap_terms.specs.Signature.{Sig}
@@ -16,7 +16,6 @@ use Rattle.sap_derive.specs.code.States.{IsStateOf}
 use Rattle.sap_derive.specs.declared.closure.Closure.{Closure}
 use Rattle.sap_derive.specs.declared.derivation.Derivation.{Derivation}
 use Rattle.sap_derive.specs.declared.line.Line.{Line}
-use Rattle.sap_derive.specs.declared.line.Line.TheVariants.{Public, Apply}
 use Rattle.sap_derive.specs.declared.openers.Openers.{Openers}
 use Rattle.sap_derive.proofs.Completed.{all-trees, known-below}
 use Rattle.sap_derive.proofs.Gets.{get-more, get-behind, get-cases, get-last_cases}

@@ -1,10 +1,10 @@
 -- What a derivation needs stands in an entry or in the goal.
 use Rattle.std.proofs.Common.{◌≡◌, ◌<◌, ◌≤◌, ℕ, zero, suc, List, [], ◌∷◌, length, Some, refl, sym, ap, ◌∙◌, ◌⊎◌, inl, inr, arith, subst}
-use Rattle.std.specs.Prelude.{slice_get, All, Contains}
+use Rattle.std.specs.Prelude.{slice_get, Contains}
 use Rattle.std.proofs.lemmas.List.Elements.{All-contains}
 use Rattle.std.proofs.lemmas.Option.{slice_get_within}
 use Rattle.sap_terms.proofs.PlainLaws.Items.{contains_got, cons_cases, later_item}
-use Rattle.sap_terms.specs.Tree.{Tree, public, apply, Trees, none, more, trees_of}
+use Rattle.sap_terms.specs.Tree.{Tree, apply, Trees, none, more, trees_of}
 use Rattle.sap_terms.specs.Equations.{app1, app2, pair_name, senc_name, aenc_name, pk_name, reveal_sign_name}
 use Rattle.sap_terms.specs.Signature.{Sig}
 use Rattle.sap_share.specs.Shared.{Shared, tree_at, trees_at, HaveOneNumber}
@@ -12,7 +12,7 @@ use Rattle.sap_derive.specs.code.Lines.{premises_of}
 use Rattle.sap_derive.specs.code.Clauses.{IsMaking, writes, composes, IsOpening, takes_first, takes_second, decrypts, decrypts_by_secret, reads_signed, IsOpeningClause}
 use Rattle.sap_derive.specs.code.Closed.{IsStep}
 use Rattle.sap_derive.specs.code.Listed.{IsListed}
-use Rattle.sap_derive.specs.code.Needed.{IsNeeded, goal_itself, premise, StandsOn}
+use Rattle.sap_derive.specs.code.Needed.{IsNeeded, goal_itself, premise}
 use Rattle.sap_derive.specs.code.States.{IsStateOf}
 use Rattle.sap_derive.specs.declared.clause.Clause.{Clause}
 use Rattle.sap_derive.specs.declared.closure.Closure.{Closure}
@@ -21,7 +21,6 @@ use Rattle.sap_derive.specs.declared.way.Way.{Way}
 use Rattle.sap_derive.specs.declared.way.Way.TheVariants.{Given, By}
 use Rattle.sap_derive.specs.Near.{IsAmong, first_one, other, IsSubterm, whole, within, IsNear}
 use Rattle.sap_derive.proofs.Completed.{got-at, all-trees, known-below}
-use Rattle.sap_derive.proofs.Gets.{all-got}
 use Rattle.sap_derive.proofs.Nearness.{part-stands, near-parts, near-goal}
 use Rattle.sap_derive.proofs.Parts.{tree-got, among-got}
 

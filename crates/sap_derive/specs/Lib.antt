@@ -4,4 +4,5 @@ pub mod Examples
 pub mod Searched
 pub mod Lines
 pub mod Found
+pub mod LineExamples
 pub mod code

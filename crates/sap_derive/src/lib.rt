@@ -2,6 +2,7 @@
 #![tactic(auto)]
 
 mod bring;
+mod by_hand;
 mod clause;
 mod closure;
 mod derivation;
@@ -17,6 +18,7 @@ mod state;
 mod way;
 mod write;
 
+pub use by_hand::lines_by_hand;
 pub use derivation::Derivation;
 pub use derived::derive;
 pub use laws::{deducibility_is_decided, derivations_stay_near, near_by_hand};

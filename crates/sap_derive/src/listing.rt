@@ -1,7 +1,7 @@
 // Numbers in a list, in which each is found at once.
-ghost use Rattle.std.specs.Prelude.{◌≡◌, ◌<◌, ◌≤◌, [], ◌∷◌, ◌++◌, length, slice_get, take, Some, IfSome, IfNone, OnOk, OnErr};
+ghost use Rattle.std.specs.Prelude.{◌≡◌, ◌<◌, ◌≤◌, ◌⊎◌, ◌↔◌, ℕ, [], ◌∷◌, ◌++◌, length, slice_get, take, Some, IfOk, IfSome, IfNone, OnOk, OnErr};
 ghost use Rattle.std.specs.Vec.{vec_len};
-ghost use Rattle.sap_derive.specs.code.Listed.{IsListed, TellPlaces};
+ghost use Rattle.sap_derive.specs.code.Listed.{IsListed, TellPlaces, Ascend};
 
 use sap_terms::Mem;
 use std::alloc::Global;
@@ -108,4 +108,27 @@ impl Listing {
     {
         self.items.truncate(count as usize);
     }
+
+    // The numbers, from the least to the greatest.
+    pub(crate) fn sorted(&self) -> Result<Vec<u64>, Mem>
+        ensures same { IfOk result (λ v. (n : ℕ) → IsListed v.items n ↔ IsListed self.now n) }
+        ensures order { IfOk result (λ v. Ascend v.items) }
+    {
+        let mut sorted = self.items.clone()?;
+        sorted.sort()?;
+        Ok(sorted)
+    }
+}
+
+// Puts a number last that isn't in the list.
+pub(crate) fn list(items: &mut Listing, n: u64) -> Result<(), Mem>
+    ensures kept { (m : ℕ) → IsListed items.old m → IsListed items.new m }
+    ensures only { (m : ℕ) → IsListed items.new m → IsListed items.old m ⊎ (m ≡ n) }
+    ensures places { (k m : ℕ) → slice_get items.old k ≡ Some m → slice_get items.new k ≡ Some m }
+    ensures ok { OnOk result (IsListed items.new n) }
+{
+    if items.place(n).is_some() {
+        return Ok(());
+    }
+    items.push(n)
 }

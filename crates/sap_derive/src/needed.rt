@@ -1,103 +1,98 @@
 // What a derivation needs of what is known.
-ghost use Rattle.std.specs.Prelude.{◌≡◌, ◌<◌, ◌⊎◌, ℕ, length, slice_get, Some, IfOk};
-ghost use Rattle.std.specs.Vec.{vec_len};
+ghost use Rattle.std.specs.Prelude.{◌≡◌, ◌<◌, ◌⊎◌, ℕ, length, slice_get, Some, OnOk};
 ghost use Rattle.sap_derive.specs.code.Closed.{IsClosure};
-ghost use Rattle.sap_derive.specs.code.Listed.{StandOnce};
-ghost use Rattle.sap_derive.specs.code.Needed.{StandsOn, IsMarked, IsRankOf, AreMarked};
+ghost use Rattle.sap_derive.specs.code.Listed.{IsListed, AreListed, StandOnce};
+ghost use Rattle.sap_derive.specs.code.Needed.{StandsOn, IsNewRank, IsNewRankOf, IsCovered, AreCovered, AreNeeded};
 
 use crate::closure::Closure;
-use crate::listing::Listing;
+use crate::listing::{Listing, list};
 use crate::way::Way;
 use sap_terms::Mem;
-use std::alloc::Global;
 
-// Marks for so many ranks, none of which is marked.
-fn unmarked(alloc: Global, count: u64) -> Result<Vec<bool>, Mem>
-    ensures count { IfOk result (λ v. vec_len v ≡ count) }
-    ensures none { IfOk result (λ v. (rank : ℕ) → IsMarked v.items rank → ⊥) }
-{
-    let mut marks = Vec::new(alloc);
-    for _ in 0..count {
-        marks.push(false)?;
-    }
-    Ok(marks)
-}
-
-// Marks the rank of a number.
-fn mark(known: &Listing, marks: &mut Vec<bool>, n: u64)
+// Puts the rank of a number last that is no entry, unless it is there.
+fn need_number(known: &Listing, entries: &Listing, ranks: &mut Listing, n: u64) -> Result<(), Mem>
     requires once { StandOnce known.now }
-    requires rank { (j : ℕ) × (j < vec_len marks.old) × (slice_get known.now j ≡ Some n) }
-    ensures count { vec_len marks.new ≡ vec_len marks.old }
-    ensures kept { (rank : ℕ) → IsMarked marks.old.items rank → IsMarked marks.new.items rank }
-    ensures only { (rank : ℕ) → IsMarked marks.new.items rank → IsMarked marks.old.items rank ⊎ (slice_get known.now rank ≡ Some n) }
-    ensures each { (rank : ℕ) → slice_get known.now rank ≡ Some n → IsMarked marks.new.items rank }
+    requires known { IsListed known.now n }
+    ensures kept { (k j : ℕ) → slice_get ranks.old k ≡ Some j → slice_get ranks.new k ≡ Some j }
+    ensures only { (j : ℕ) → IsListed ranks.new j → IsListed ranks.old j ⊎ IsNewRank known.now entries.now n j }
+    ensures ok { OnOk result (IsCovered known.now entries.now ranks.new n) }
 {
+    if entries.place(n).is_some() {
+        return Ok(());
+    }
     match known.place(n) {
-        Some(rank) => marks[rank as usize] = true,
+        Some(rank) => list(ranks, rank),
         None => unreachable!(),
     }
 }
 
-// Marks the ranks of these numbers.
-fn mark_all(known: &Listing, marks: &mut Vec<bool>, numbers: &[u64])
+// Puts the ranks of those of these numbers last that are no entries, unless they are there.
+fn need_all(
+    known: &Listing,
+    entries: &Listing,
+    ranks: &mut Listing,
+    numbers: &[u64],
+) -> Result<(), Mem>
     requires once { StandOnce known.now }
-    requires ranks { (k n : ℕ) → slice_get numbers.now k ≡ Some n → (j : ℕ) × (j < vec_len marks.old) × (slice_get known.now j ≡ Some n) }
-    ensures count { vec_len marks.new ≡ vec_len marks.old }
-    ensures kept { (rank : ℕ) → IsMarked marks.old.items rank → IsMarked marks.new.items rank }
-    ensures only { (rank : ℕ) → IsMarked marks.new.items rank → IsMarked marks.old.items rank ⊎ IsRankOf known.now numbers.now rank }
-    ensures each { (rank : ℕ) → IsRankOf known.now numbers.now rank → IsMarked marks.new.items rank }
+    requires known { AreListed known.now numbers.now }
+    ensures kept { (k j : ℕ) → slice_get ranks.old k ≡ Some j → slice_get ranks.new k ≡ Some j }
+    ensures only { (j : ℕ) → IsListed ranks.new j → IsListed ranks.old j ⊎ IsNewRankOf known.now entries.now numbers.now j }
+    ensures ok { OnOk result (AreCovered known.now entries.now ranks.new numbers.now) }
 {
     for n in numbers {
-        mark(known, marks, *n);
+        need_number(known, entries, ranks, *n)?;
     }
+    Ok(())
 }
 
-// Marks what a rank stands on, if it is marked.
-fn mark_next(closure: &Closure, entries: &Listing, marks: &mut Vec<bool>, rank: u64)
+// Puts the ranks last that a rank stands on whose number is no entry.
+fn need_below(
+    closure: &Closure,
+    entries: &Listing,
+    ranks: &mut Listing,
+    rank: u64,
+) -> Result<(), Mem>
     requires closure { IsClosure closure.now }
     requires rank { rank < length closure.now.known }
-    requires count { vec_len marks.old ≡ length closure.now.known }
-    ensures count { vec_len marks.new ≡ vec_len marks.old }
-    ensures kept { (j : ℕ) → IsMarked marks.old.items j → IsMarked marks.new.items j }
-    ensures only { (j : ℕ) → IsMarked marks.new.items j → IsMarked marks.old.items j ⊎ (IsMarked marks.old.items rank × StandsOn closure.now entries.now rank j) }
-    ensures each { (j : ℕ) → IsMarked marks.old.items rank → StandsOn closure.now entries.now rank j → IsMarked marks.new.items j }
+    requires new { (n : ℕ) → slice_get closure.now.known rank ≡ Some n → ¬ IsListed entries.now n }
+    ensures kept { (k j : ℕ) → slice_get ranks.old k ≡ Some j → slice_get ranks.new k ≡ Some j }
+    ensures only { (j : ℕ) → IsListed ranks.new j → IsListed ranks.old j ⊎ (StandsOn closure.now entries.now rank j × ((n : ℕ) → slice_get closure.now.known j ≡ Some n → ¬ IsListed entries.now n)) }
+    ensures ok { OnOk result ((j n : ℕ) → StandsOn closure.now entries.now rank j → slice_get closure.now.known j ≡ Some n → IsCovered closure.now.known entries.now ranks.new n) }
 {
-    if !marks[rank as usize] {
-        return;
-    }
-    let n = closure.known.at(rank);
-    if entries.place(n).is_some() {
-        return;
-    }
     match closure.ways[rank as usize] {
-        Way::Given => {}
+        Way::Given => Ok(()),
         Way::By(clause) => {
-            mark_all(
+            need_all(
                 &closure.known,
-                marks,
+                entries,
+                ranks,
                 closure.clauses.at(clause).line.premises(),
             )
         }
     }
 }
 
-// Marks what the goal's rank needs: itself, and what is needed to give a needed number that is no entry.
-pub(crate) fn needed(
-    alloc: Global,
+// The ranks that the goal's rank needs and whose numbers are no entries, each once: itself, and what is needed to give a needed
+// number. It takes time in proportion to these, whatever else is known.
+pub(crate) fn need(
     closure: &Closure,
     entries: &Listing,
+    ranks: &mut Listing,
     goal: u64,
-) -> Result<Vec<bool>, Mem>
+) -> Result<(), Mem>
     requires closure { IsClosure closure.now }
     requires goal { goal < length closure.now.known }
-    ensures count { IfOk result (λ v. vec_len v ≡ length closure.now.known) }
-    ensures marked { IfOk result (λ v. AreMarked closure.now entries.now goal v.items) }
+    ensures needed { OnOk result (AreNeeded closure.now entries.now goal ranks.new) }
 {
-    let count = closure.known.len();
-    let mut marks = unmarked(alloc, count)?;
-    marks[goal as usize] = true;
-    for behind in 0..count {
-        mark_next(closure, entries, &mut marks, count - 1 - behind);
+    ranks.cut(0);
+    need_number(&closure.known, entries, ranks, closure.known.at(goal))?;
+    for k in 0..u64::MAX {
+        if k >= ranks.len() {
+            return Ok(());
+        }
+        let rank = ranks.at(k);
+        need_below(closure, entries, ranks, rank)?;
     }
-    Ok(marks)
+    let _count = ranks.len();
+    Ok(())
 }

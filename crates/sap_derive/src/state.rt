@@ -15,7 +15,7 @@ ghost use Rattle.sap_derive.specs.code.States.{IsTerm, IsBrought, IsState, Stays
 use crate::bring::bring;
 use crate::closure::Closure;
 use crate::derivation::Derivation;
-use crate::listing::Listing;
+use crate::listing::{Listing, list};
 use crate::openers::Openers;
 use crate::write::{place_of, write};
 use sap_rewrite::{normal_forms_are_unique, symbols_reduce_once};
@@ -34,19 +34,8 @@ pub(crate) struct State {
     pub(crate) given: u64,
     pub(crate) closure: Closure,
     pub(crate) openers: Openers,
-}
-
-// Puts a number last that isn't in the list.
-fn list(items: &mut Listing, n: u64) -> Result<(), Mem>
-    ensures kept { (m : ℕ) → IsListed items.old m → IsListed items.new m }
-    ensures only { (m : ℕ) → IsListed items.new m → IsListed items.old m ⊎ (m ≡ n) }
-    ensures places { (k m : ℕ) → slice_get items.old k ≡ Some m → slice_get items.new k ≡ Some m }
-    ensures ok { OnOk result (IsListed items.new n) }
-{
-    if items.place(n).is_some() {
-        return Ok(());
-    }
-    items.push(n)
+    // the ranks that the last goal needed; nothing holds of them between calls
+    ranks: Listing,
 }
 
 // Puts those of these numbers last that aren't in the list.
@@ -91,6 +80,7 @@ impl State {
             given: 0,
             closure: Closure::new(alloc),
             openers,
+            ranks: Listing::new(alloc),
         })
     }
 
@@ -249,7 +239,13 @@ impl State {
         self.table.each_has_one_number();
         let count = self.entries.len();
         let rank = place_of(&self.closure.known, n);
-        match write(alloc, &self.closure, &mut self.entries, rank) {
+        match write(
+            alloc,
+            &self.closure,
+            &mut self.entries,
+            &mut self.ranks,
+            rank,
+        ) {
             Ok(lines) => {
                 let entry = place_of(&self.entries, n);
                 Ok(Derivation { lines, entry })

@@ -3,7 +3,7 @@ ghost use Rattle.std.specs.Prelude.{◌≡◌, ◌<◌, ◌⊎◌, ℕ, List, []
 ghost use Rattle.sap_derive.specs.code.Lines.{premises_of};
 ghost use Rattle.sap_derive.specs.code.Closed.{IsClosure, IsGiven};
 ghost use Rattle.sap_derive.specs.code.Listed.{IsListed, AreListed};
-ghost use Rattle.sap_derive.specs.code.Needed.{IsMarked, ArePlaces, IsLineOver, IsWritten, Writes};
+ghost use Rattle.sap_derive.specs.code.Needed.{ArePlaces, IsLineOver, IsWritten, Writes};
 ghost use Rattle.sap_derive.specs.declared.clause.Clause.{Clause as TheClause};
 ghost use Rattle.sap_derive.specs.declared.line.Line.{Line as TheLine};
 ghost use Rattle.sap_derive.specs.declared.way.Way.TheVariants.{Given as IsGivenWay, By as IsByWay};
@@ -12,7 +12,7 @@ use crate::clause::Clause;
 use crate::closure::Closure;
 use crate::line::{Line, LineList};
 use crate::listing::Listing;
-use crate::needed::needed;
+use crate::needed::need;
 use crate::way::Way;
 use sap_terms::{Copied, Mem, Numbers};
 use std::alloc::Global;
@@ -75,26 +75,21 @@ fn write_line(
     items.push(clause.gives)
 }
 
-// Writes the line that gives what is known at a rank, if it is marked and its number doesn't stand in the list.
+// Writes the line that gives what is known at a rank, if its number doesn't stand in the list.
 fn write_next(
     alloc: Global,
     closure: &Closure,
-    marks: &[bool],
     items: &mut Listing,
     lines: &mut LineList,
     rank: u64,
 ) -> Result<(), Mem>
     requires closure { IsClosure closure.now }
     requires rank { rank < length closure.now.known }
-    requires count { length marks.now ≡ length closure.now.known }
     requires given { (n : ℕ) → IsGiven closure.now n → IsListed items.old n }
-    requires premises { (n c : ℕ) (clause : TheClause) → IsMarked marks.now rank → slice_get closure.now.known rank ≡ Some n → ¬ IsListed items.old n → slice_get closure.now.ways.items rank ≡ Some (IsByWay c) → slice_get closure.now.clauses c ≡ Some clause → AreListed items.old (premises_of clause.line) }
+    requires premises { (n c : ℕ) (clause : TheClause) → slice_get closure.now.known rank ≡ Some n → ¬ IsListed items.old n → slice_get closure.now.ways.items rank ≡ Some (IsByWay c) → slice_get closure.now.clauses c ≡ Some clause → AreListed items.old (premises_of clause.line) }
     ensures more { (ns : List ℕ) × (items.new ≡ items.old ++ ns) }
-    ensures ok { OnOk result (Writes closure.now marks.now rank items.old lines.old items.new lines.new) }
+    ensures ok { OnOk result (Writes closure.now rank items.old lines.old items.new lines.new) }
 {
-    if !marks[rank as usize] {
-        return Ok(());
-    }
     let n = closure.known.at(rank);
     if items.place(n).is_some() {
         return Ok(());
@@ -106,11 +101,12 @@ fn write_next(
 }
 
 // Writes the lines that lead from the entries to what is known at the goal's rank, in the order in which that became known, and
-// puts what they give behind the entries. Refused, some of it stands there.
+// puts what they give behind the entries; the ranks are those that it needs then. Refused, some of it stands there.
 pub(crate) fn write(
     alloc: Global,
     closure: &Closure,
     entries: &mut Listing,
+    ranks: &mut Listing,
     goal: u64,
 ) -> Result<LineList, Mem>
     requires closure { IsClosure closure.now }
@@ -120,10 +116,11 @@ pub(crate) fn write(
     ensures written { IfOk result (λ ls. (ns : List ℕ) × (entries.new ≡ entries.old ++ ns) × IsWritten closure.now entries.old goal ls ns) }
     ensures goal { IfOk result (λ ls. (n : ℕ) → slice_get closure.now.known goal ≡ Some n → IsListed entries.new n) }
 {
-    let marks = needed(alloc, closure, entries, goal)?;
+    need(closure, entries, ranks, goal)?;
+    let order = ranks.sorted()?;
     let mut lines = LineList::new(alloc);
-    for rank in 0..closure.known.len() {
-        write_next(alloc, closure, marks.as_slice(), entries, &mut lines, rank)?;
+    for k in 0..order.len() {
+        write_next(alloc, closure, entries, &mut lines, order[k])?;
     }
     Ok(lines)
 }

@@ -21,3 +21,7 @@ StandOnce items = (i j n : ℕ) → slice_get items i ≡ Some n → slice_get i
 abbrev pub TellPlaces : List ℕ → List ℕ → Type 0
 TellPlaces places items =
     (n k : ℕ) → slice_get items k ≡ Some n → (p : ℕ) × (p ≤ k) × (slice_get places n ≡ Some p) × (slice_get items p ≡ Some n)
+
+-- the numbers ascend
+abbrev pub Ascend : List ℕ → Type 0
+Ascend items = (i j m n : ℕ) → i ≤ j → slice_get items i ≡ Some m → slice_get items j ≡ Some n → m ≤ n

@@ -1,5 +1,5 @@
 -- What a derivation needs of what is known, and the lines that it has.
-use Rattle.std.specs.Prelude.{◌≡◌, ◌<◌, ℕ, Bool, true, List, [], ◌∷◌, ◌++◌, length, slice_get, Some}
+use Rattle.std.specs.Prelude.{◌≡◌, ◌<◌, ◌⊎◌, ℕ, List, [], ◌∷◌, ◌++◌, length, slice_get, Some}
 use Rattle.sap_derive.specs.code.Lines.{premises_of}
 use Rattle.sap_derive.specs.code.Listed.{IsListed}
 use Rattle.sap_derive.specs.declared.clause.Clause.{Clause}
@@ -31,19 +31,41 @@ pub data IsNeeded (s : Closure) (entries : List ℕ) (goal : ℕ) : ℕ → Type
   goal_itself : IsNeeded s entries goal goal
   premise : (rank j : ℕ) → IsNeeded s entries goal rank → StandsOn s entries rank j → IsNeeded s entries goal j
 
--- the rank is marked
-abbrev pub IsMarked : List Bool → ℕ → Type 0
-IsMarked marks rank = slice_get marks rank ≡ Some true
+-- at this rank the number is known, which is no entry
+pub record IsNewRank (known entries : List ℕ) (n rank : ℕ) : Type 0 where
+  pub at : slice_get known rank ≡ Some n
+  pub new : ¬ IsListed entries n
 
--- one of the numbers is known at this rank
-abbrev pub IsRankOf : List ℕ → List ℕ → ℕ → Type 0
-IsRankOf known numbers rank = (k n : ℕ) × (slice_get numbers k ≡ Some n) × (slice_get known rank ≡ Some n)
+-- so is one of these numbers
+abbrev pub IsNewRankOf : List ℕ → List ℕ → List ℕ → ℕ → Type 0
+IsNewRankOf known entries numbers rank = (k n : ℕ) × (slice_get numbers k ≡ Some n) × IsNewRank known entries n rank
 
--- what is marked is needed, and the goal is, and all that marked ranks stand on
-pub record AreMarked (s : Closure) (entries : List ℕ) (goal : ℕ) (marks : List Bool) : Type 0 where
-  pub itself : IsMarked marks goal
-  pub needed : (rank : ℕ) → IsMarked marks rank → IsNeeded s entries goal rank
-  pub closed : (rank j : ℕ) → IsMarked marks rank → StandsOn s entries rank j → IsMarked marks j
+-- the number is an entry, or its rank is one of these
+abbrev pub IsCovered : List ℕ → List ℕ → List ℕ → ℕ → Type 0
+IsCovered known entries ranks n = IsListed entries n ⊎ ((j : ℕ) → slice_get known j ≡ Some n → IsListed ranks j)
+
+-- so is each of these numbers
+abbrev pub AreCovered : List ℕ → List ℕ → List ℕ → List ℕ → Type 0
+AreCovered known entries ranks numbers = (k n : ℕ) → slice_get numbers k ≡ Some n → IsCovered known entries ranks n
+
+-- the rank is needed, and its number is no entry
+pub record IsNeededNew (s : Closure) (entries : List ℕ) (goal rank : ℕ) : Type 0 where
+  pub below : rank < length s.known
+  pub needed : IsNeeded s entries goal rank
+  pub new : (n : ℕ) → slice_get s.known rank ≡ Some n → ¬ IsListed entries n
+
+-- these are needed; the goal is an entry or its rank is one of them, and so is all that they stand on
+pub record AreNeeded (s : Closure) (entries : List ℕ) (goal : ℕ) (ranks : List ℕ) : Type 0 where
+  pub itself : (n : ℕ) → slice_get s.known goal ≡ Some n → IsCovered s.known entries ranks n
+  pub needed : (rank : ℕ) → IsListed ranks rank → IsNeededNew s entries goal rank
+  pub closed : (rank j n : ℕ) → IsListed ranks rank → StandsOn s entries rank j → slice_get s.known j ≡ Some n → IsCovered s.known entries ranks n
+
+-- so they are, as far as what the first of them, so many, stand on
+pub record AreNeededTo (s : Closure) (entries : List ℕ) (goal : ℕ) (ranks : List ℕ) (count : ℕ) : Type 0 where
+  pub itself : (n : ℕ) → slice_get s.known goal ≡ Some n → IsCovered s.known entries ranks n
+  pub needed : (rank : ℕ) → IsListed ranks rank → IsNeededNew s entries goal rank
+  pub closed : (k rank j n : ℕ) → k < count → slice_get ranks k ≡ Some rank → StandsOn s entries rank j → slice_get s.known j ≡ Some n
+      → IsCovered s.known entries ranks n
 
 -- at these places of the list stand these numbers
 pub record ArePlaces (items numbers places : List ℕ) : Type 0 where
@@ -63,18 +85,16 @@ pub data IsWritten (s : Closure) (entries : List ℕ) (goal : ℕ) : List Line �
       → ¬ IsListed (entries ++ found) clause.gives → IsLineOver (entries ++ found) clause.line line
       → IsWritten s entries goal (lines ++ line ∷ []) (found ++ clause.gives ∷ [])
 
--- at one rank nothing is written, since it isn't marked or its number stands in the list; or the line that gives it
-pub data Writes (s : Closure) (marks : List Bool) (rank : ℕ) (items : List ℕ) (lines : List Line) (new_items : List ℕ) (new_lines : List Line) : Type 0 where
-  not_marked : ¬ IsMarked marks rank → new_items ≡ items → new_lines ≡ lines → Writes s marks rank items lines new_items new_lines
-  there : (n : ℕ) → slice_get s.known rank ≡ Some n → IsListed items n → new_items ≡ items → new_lines ≡ lines
-      → Writes s marks rank items lines new_items new_lines
-  one_line : (c : ℕ) (clause : Clause) (line : Line) → IsMarked marks rank → slice_get s.known rank ≡ Some clause.gives
+-- at one rank nothing is written, since its number stands in the list; or the line that gives it
+pub data Writes (s : Closure) (rank : ℕ) (items : List ℕ) (lines : List Line) (new_items : List ℕ) (new_lines : List Line) : Type 0 where
+  there : (n : ℕ) → slice_get s.known rank ≡ Some n → IsListed items n → new_items ≡ items → new_lines ≡ lines → Writes s rank items lines new_items new_lines
+  one_line : (c : ℕ) (clause : Clause) (line : Line) → slice_get s.known rank ≡ Some clause.gives
       → slice_get s.clauses c ≡ Some clause → ¬ IsListed items clause.gives → IsLineOver items clause.line line
-      → new_items ≡ items ++ clause.gives ∷ [] → new_lines ≡ lines ++ line ∷ [] → Writes s marks rank items lines new_items new_lines
+      → new_items ≡ items ++ clause.gives ∷ [] → new_lines ≡ lines ++ line ∷ [] → Writes s rank items lines new_items new_lines
 
--- up to this rank all is written
-pub record IsWrittenTo (s : Closure) (entries : List ℕ) (goal : ℕ) (marks : List Bool) (rank : ℕ) (items : List ℕ) (lines : List Line) : Type 0 where
+-- at the first of these ranks, so many, all is written
+pub record IsWrittenTo (s : Closure) (entries : List ℕ) (goal : ℕ) (ranks : List ℕ) (count : ℕ) (items : List ℕ) (lines : List Line) : Type 0 where
   pub found : List ℕ
   pub are : items ≡ entries ++ found
   pub written : IsWritten s entries goal lines found
-  pub done : (j n : ℕ) → j < rank → IsMarked marks j → slice_get s.known j ≡ Some n → IsListed items n
+  pub done : (k j n : ℕ) → k < count → slice_get ranks k ≡ Some j → slice_get s.known j ≡ Some n → IsListed items n

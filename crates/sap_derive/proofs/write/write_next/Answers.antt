@@ -1,8 +1,8 @@
-use Rattle.std.proofs.Common.{◌≡◌, ◌<◌, ℕ, List, ◌∷◌, [], ◌++◌, Bool, true, false, get_or, length, Some, refl, sym, ap, ◌∙◌, arith, subst}
+use Rattle.std.proofs.Common.{◌≡◌, ℕ, ◌∷◌, [], ◌++◌, length, Some, refl, sym, ap, ◌∙◌, arith, subst}
 use Rattle.std.specs.Prelude.{slice_get}
-use Rattle.std.proofs.lemmas.Option.{slice_get_read, slice_get-get_or, slice_get_within}
+use Rattle.std.proofs.lemmas.Option.{slice_get_read, slice_get_within}
 use Rattle.sap_derive.specs.code.Listed.{IsListed}
-use Rattle.sap_derive.specs.code.Needed.{IsMarked, IsLineOver, Writes, there, one_line}
+use Rattle.sap_derive.specs.code.Needed.{IsLineOver, Writes, there, one_line}
 use Rattle.sap_derive.specs.declared.clause.Clause.{Clause}
 use Rattle.sap_derive.specs.declared.line.Line.{Line}
 use Rattle.sap_derive.specs.declared.way.Way.TheVariants.{Given, By}
@@ -27,11 +27,8 @@ write_line-requires c k p e =
     let s = c.args.closure.now in
     let count = c.requires.closure.sound.count in
     let w : slice_get s.ways.items c.args.rank ≡ Some (By c.in-By.clause) = slice_get_read s.ways.items (length s.ways.items) c.args.rank c.index.result.now refl (omega (arith, count)) c.index.ensures ∙ ap Some c.in-By.is in
-    let test = c.if-not-marks-rank.false in
-    let yes : get_or c.args.marks.now c.args.rank false ≡ true = cc in
-    let marked : IsMarked c.args.marks.now c.args.rank = slice_get-get_or c.args.marks.now c.args.rank false (let m = c.requires.count in omega arith) ∙ ap Some yes in
     let new : ¬ IsListed c.args.items.now c.at-n.result = from-none c.place.result (¬ IsListed c.args.items.now c.at-n.result) c.place.ensures.none (sym c.if-is_some.ensures) in
-    c.requires.premises c.at-n.result c.in-By.clause c.at.result.now marked c.at-n.ensures new w c.at.ensures k p e
+    c.requires.premises c.at-n.result c.in-By.clause c.at.result.now c.at-n.ensures new w c.at.ensures k p e
 
 pub returns-in-Given-clause-ok : goal.returns-in-Given-clause-ok
 returns-in-Given-clause-ok c =
@@ -45,9 +42,6 @@ returns-in-By-clause-ok c =
     let s = c.args.closure.now in
     let count = c.requires.closure.sound.count in
     let w : slice_get s.ways.items c.args.rank ≡ Some (By c.in-By.clause) = slice_get_read s.ways.items (length s.ways.items) c.args.rank c.index.result.now refl (omega (arith, count)) c.index.ensures ∙ ap Some c.in-By.is in
-    let test = c.if-not-marks-rank.false in
-    let yes : get_or c.args.marks.now c.args.rank false ≡ true = cc in
-    let marked : IsMarked c.args.marks.now c.args.rank = slice_get-get_or c.args.marks.now c.args.rank false (let m = c.requires.count in omega arith) ∙ ap Some yes in
     let new : ¬ IsListed c.args.items.now c.at-n.result = from-none c.place.result (¬ IsListed c.args.items.now c.at-n.result) c.place.ensures.none (sym c.if-is_some.ensures) in
     let step = c.requires.closure.sound.steps c.args.rank c.in-By.clause w in
     let k = c.at.result.now in
@@ -60,6 +54,6 @@ returns-in-By-clause-ok c =
     let number : c.at-n.result ≡ k.gives = cc in
     let fresh : ¬ IsListed c.args.items.now k.gives = subst (λ (i : ℕ). ¬ IsListed c.args.items.now i) number new in
     let both = λ (e : c.write_line.new.items ≡ c.args.items.now ++ k.gives ∷ []) (l : (x : Line) × (c.write_line.new.lines ≡ c.args.lines.now ++ x ∷ []) × IsLineOver c.args.items.now k.line x).
-    let done : Writes s c.args.marks.now c.args.rank c.args.items.now c.args.lines.now c.write_line.new.items c.write_line.new.lines =
-    one_line c.in-By.clause k l.0 marked known c.at.ensures fresh l.2 e l.1 in done in
+    let done : Writes s c.args.rank c.args.items.now c.args.lines.now c.write_line.new.items c.write_line.new.lines =
+    one_line c.in-By.clause k l.0 known c.at.ensures fresh l.2 e l.1 in done in
     ok-both c.write_line.result both c.write_line.ensures.items c.write_line.ensures.lines

@@ -1,4 +1,3 @@
-use Rattle.std.proofs.Common.{◌≡◌, take}
 use Rattle.sap_derive.proofs.Places.{places-cut}
 use Rattle.sap_derive.proofs.listing.Listing.cut.Goals as goal
 

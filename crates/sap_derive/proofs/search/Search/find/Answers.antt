@@ -1,4 +1,4 @@
-use Rattle.std.proofs.Common.{◌≡◌, [], ◌∙◌, sym, true, false, subst, IsTrue}
+use Rattle.std.proofs.Common.{◌≡◌, [], ◌∙◌, sym, true, subst}
 use Rattle.sap_terms.specs.Deduce.{IsDeducible}
 use Rattle.sap_terms.specs.Tree.{Tree}
 use Rattle.sap_terms.specs.View.{tree}

@@ -1,6 +1,5 @@
-use Rattle.std.proofs.Common.{◌≡◌, ℕ, List, ◌++◌, length, Some, refl, sym, ap, ◌∙◌, subst}
+use Rattle.std.proofs.Common.{◌≡◌, ℕ, List, Some, refl, sym, ap, ◌∙◌, subst}
 use Rattle.std.specs.Prelude.{slice_get}
-use Rattle.std.proofs.lemmas.Option.{slice_get_within}
 use Rattle.sap_share.specs.Shared.{trees_at}
 use Rattle.sap_derive.specs.code.States.{IsStateOf}
 use Rattle.sap_derive.proofs.Lined.{found-listed, found-by, state-gained, trees-append, cut-back}
