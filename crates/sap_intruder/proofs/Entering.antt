@@ -107,10 +107,8 @@ one_entered es fs x (inr (y, is)) some =
     let one : x ≡ y = cc (there, some) in
     ap (λ z. es ++ z ∷ []) one ∙ sym is
 
-pub all_at : {P : Tree → Type 0} (ts : List Tree) (k : ℕ) (t : Tree) → All P ts → slice_get ts k ≡ Some t → P t
-all_at {P = P} ts k t all at = let m = contains_got ts t k at in at_index m where
-  at_index : Contains ts t → P t
-  at_index (i, below, is) = subst P is (all i t below)
+pub all_at : (P : Tree → Type 0) (ts : List Tree) (k : ℕ) (t : Tree) → All P ts → slice_get ts k ≡ Some t → P t
+all_at P ts k t all at = let m = contains_got ts t k at in subst P m.2 (all m.0 t m.1)
 
 -- ---- the lines of a derivation
 
@@ -121,20 +119,21 @@ record DoesNothing (c d : Config) (es fs : List Tree) (inner : List InnerAction)
   stays : d ≡ c
   enters : fs ≡ es ++ u ∷ []
 
-module _ (one : FormIsOne) (g : Sig) (W : Tree → Type 0) (c d : Config) (es fs : List Tree) (inner : List InnerAction) (label : List Fact) where
-  public_does : (a : List ℕ) → IsProcessLine g W c es (line.Public a) inner label d fs → DoesNothing c d es fs inner label (public a)
-  public_does a (IsProcessLine.writes _) = record { inside = refl; shows = refl; stays = refl; enters = refl }
+public_does : (g : Sig) (W : Tree → Type 0) (c d : Config) (es fs : List Tree) (inner : List InnerAction) (label : List Fact) (a : List ℕ)
+    → IsProcessLine g W c es (line.Public a) inner label d fs → DoesNothing c d es fs inner label (public a)
+public_does g W c d es fs inner label a (IsProcessLine.writes _) = record { inside = refl; shows = refl; stays = refl; enters = refl }
 
-  apply_does : (f ks : List ℕ) (us : List Tree) (u : Tree) → map (slice_get es) ks ≡ map Some us → IsNormalForm (equations g) (apply f (trees_of us)) u
-      → IsProcessLine g W c es (line.Apply f ks) inner label d fs → DoesNothing c d es fs inner label u
-  apply_does f ks us u at form (IsProcessLine.applies _ _ ts x p a e n v) =
-      let args : ts ≡ us = some_one ts us (sym e ∙ at) in
-      let is : x ≡ u = one (equations g) (apply f (trees_of us)) x u (subst (λ (zs : List Tree). IsNormalForm (equations g) (apply f (trees_of zs)) x) args n) form in
-      record { inside = refl; shows = refl; stays = refl; enters = ap (λ z. es ++ z ∷ []) is }
+apply_does : FormIsOne → (g : Sig) (W : Tree → Type 0) (c d : Config) (es fs : List Tree) (inner : List InnerAction) (label : List Fact) (f ks : List ℕ) (us : List Tree) (u : Tree)
+    → map (slice_get es) ks ≡ map Some us → IsNormalForm (equations g) (apply f (trees_of us)) u → IsProcessLine g W c es (line.Apply f ks) inner label d fs → DoesNothing c d es fs inner label u
+apply_does one g W c d es fs inner label f ks us u at form (IsProcessLine.applies _ _ ts x p a e n v) =
+    let args : ts ≡ us = some_one ts us (sym e ∙ at) in
+    let is : x ≡ u = one (equations g) (apply f (trees_of us)) x u (subst (λ (zs : List Tree). IsNormalForm (equations g) (apply f (trees_of zs)) x) args n) form in
+    record { inside = refl; shows = refl; stays = refl; enters = ap (λ z. es ++ z ∷ []) is }
 
-  line_does : (l : Line) (u : Tree) → IsLine g es l u → IsProcessLine g W c es (line_step l) inner label d fs → DoesNothing c d es fs inner label u
-  line_does _ _ (writes a) h = public_does a h
-  line_does _ _ (applies f ks us u p a at form size) h = apply_does f ks us u at form h
+line_does : FormIsOne → (g : Sig) (W : Tree → Type 0) (c d : Config) (es fs : List Tree) (inner : List InnerAction) (label : List Fact) (l : Line) (u : Tree)
+    → IsLine g es l u → IsProcessLine g W c es (line_step l) inner label d fs → DoesNothing c d es fs inner label u
+line_does one g W c d es fs inner label _ _ (writes a) h = public_does g W c d es fs inner label a h
+line_does one g W c d es fs inner label _ _ (applies f ks us u p a at form size) h = apply_does one g W c d es fs inner label f ks us u at form h
 
 line_left_out : (l : Line) → IsLeftOut (line_step l)
 line_left_out (derived.Public a) = tt

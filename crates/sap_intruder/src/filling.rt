@@ -96,6 +96,7 @@ impl Filling {
     fn carry_out(&mut self, alloc: Global, lines: &LineList) -> Result<(), Mem>
         ensures { OnOk result (AreCarriedOut self.old self.new lines.now) }
     {
+        normal_forms_are_unique();
         for k in 0..lines.len() {
             self.write_line(alloc, lines.at(k))?;
         }
@@ -110,7 +111,6 @@ impl Filling {
         ensures some { IfOk result (λ o. IfSome o (HasEntered self.old self.new (tree goal.now))) }
         ensures none { IfOk result (λ o. IfNone o (¬ CanGive self.old.config.sig (configuration self.old.config) (tree goal.now))) }
     {
-        normal_forms_are_unique();
         deducing_is_transitive();
         self.config.each_entry_came();
         let Some(found) = self.search.find(alloc, goal)? else {

@@ -44,6 +44,10 @@ pub data IsBlamed : PFault → Unfilled → Type 0 where
   out_of_memory : IsBlamed fault.Mem unfilled.Mem
   other_fault : {e : PFault} → ¬ (e ≡ fault.Mem) → IsBlamed e (unfilled.Fault (fill.Process e))
 
+-- no entry has some number
+abbrev pub IsNoEntry : PFault → Type 0
+IsNoEntry e = (k : ℕ) × (e ≡ fault.NoEntry k)
+
 -- one signature; the search has the terms of the entries, and they are counted
 pub record IsTied (a : Filling) : Type 0 where
   pub sig : a.search.sig ≡ a.config.sig
