@@ -20,7 +20,7 @@ use Rattle.sap_runs.specs.declared.short_step.SStep.{SStep}
 use Rattle.sap_lines.specs.Faults.{IsUnfit, has_form}
 use Rattle.sap_lines.specs.declared.fault.PFault.{PFault}
 use Rattle.sap_lines.specs.declared.fault.PFault.TheVariants as fault
-use Rattle.sap_calc.specs.Running.{Running, configuration, IsDone, IsDenied}
+use Rattle.sap_calc.specs.Running.{configuration, IsDone, IsDenied}
 use Rattle.sap_intruder.specs.FilledRuns.{IsFilledRun}
 use Rattle.sap_intruder.specs.Refusals.{IsShortRefused}
 use Rattle.sap_intruder.specs.ShortLines.{IsGiven}

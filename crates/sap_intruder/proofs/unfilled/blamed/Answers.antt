@@ -1,6 +1,5 @@
 use Rattle.std.proofs.Common.{subst, sym}
 use Rattle.sap_lines.specs.declared.fault.PFault.{PFault}
-use Rattle.sap_lines.specs.declared.fault.PFault.TheVariants as fault
 use Rattle.sap_intruder.specs.code.Filled.{IsBlamed, out_of_memory, other_fault}
 use Rattle.sap_intruder.specs.declared.unfilled.Unfilled.TheVariants as unfilled
 use Rattle.sap_intruder.proofs.unfilled.blamed.Goals as goal
