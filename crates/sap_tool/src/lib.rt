@@ -5,6 +5,7 @@ mod asking;
 mod checking;
 mod compile;
 mod ending;
+mod fill;
 mod json;
 mod json_laws;
 mod judged_laws;
