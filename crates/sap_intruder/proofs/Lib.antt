@@ -6,3 +6,6 @@ pub mod ShortByHand
 pub mod SomeAnswer
 pub mod Filling
 pub mod Sizes
+pub mod Entering
+pub mod StepsFilled
+pub mod EachFilled

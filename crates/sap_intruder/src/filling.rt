@@ -92,14 +92,13 @@ impl Filling {
         }
     }
 
-    // Does the lines of a derivation.
+    // Does the lines of a derivation, whose terms the search has already.
     fn carry_out(&mut self, alloc: Global, lines: &LineList) -> Result<(), Mem>
         ensures { OnOk result (AreCarriedOut self.old self.new lines.now) }
     {
         for k in 0..lines.len() {
             self.write_line(alloc, lines.at(k))?;
         }
-        self.count = self.count.checked_add(lines.len()).ok_or(Mem)?;
         Ok(())
     }
 
@@ -118,6 +117,7 @@ impl Filling {
             return Ok(None);
         };
         self.carry_out(alloc, &found.lines)?;
+        self.count = self.count.checked_add(found.lines.len()).ok_or(Mem)?;
         self.config.each_entry_came();
         Ok(Some(found.entry))
     }

@@ -106,7 +106,7 @@ pub record IsCarriedOut (a b : Filling) (given : List Tree) : Type 0 where
 -- if the lines are possible behind the entries, what they give was entered; the search wasn't touched
 pub record AreCarriedOut (a b : Filling) (lines : List Line) : Type 0 where
   pub search : b.search ≡ a.search
-  pub count : b.count ≡ a.count + length lines
+  pub count : b.count ≡ a.count
   pub out : (given : List Tree) → Give a.config.sig (entries_of a) lines given → IsCarriedOut a b given
 
 -- lines came that a short run leaves out, this entry is the term, and the adversary can give that
