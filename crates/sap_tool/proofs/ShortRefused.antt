@@ -5,6 +5,8 @@ use Rattle.sap_process.specs.Ready.{IsReady}
 use Rattle.sap_intruder.specs.FilledRuns.{FilledRunsAreLegal}
 use Rattle.sap_intruder.specs.OneAnswer.{LegalShortRunsAreNotRefused, FirstShortRefusalsAreOne, IsFirstRefusedOfShort}
 use Rattle.sap_intruder.specs.ShortRuns.{IsLegalShortRun}
+use Rattle.sap_intruder.specs.declared.fill_at.FillAt.{FillAt}
+use Rattle.sap_intruder.specs.declared.fill_at.FillAt.TheVariants as at
 use Rattle.sap_intruder.specs.declared.fill_fault.FillFault.{FillFault}
 use Rattle.sap_outside.specs.RunPieces.{most_run_bytes, IsReadUp}
 use Rattle.sap_outside.specs.declared.run_refusal.RunRefusal.TheVariants as refusal
@@ -18,6 +20,8 @@ use Rattle.sap_run_texts.specs.declared.run_fault.RunFault.TheVariants as fault
 use Rattle.sap_runs.specs.Limits.{HasFewNodes}
 use Rattle.sap_runs.specs.declared.short_step.SStep.{SStep}
 use Rattle.sap_tool.specs.ShortRuns.{IsAcceptedShort, IsShortRefusedWith, too_long, no_run, illegal, IsFilledText, IsLegalShortOfFile, IsLegalFilling}
+use Rattle.sap_tool.specs.code.Filled.{IsFillLine, IsFirstRefusedWith, first}
+use Rattle.sap_tool.specs.code.Refused.{IsLineOf}
 use Rattle.sap_tool.proofs.Parts.{short_or_long, all_read, longer}
 
 -- what is so of short runs
@@ -107,3 +111,17 @@ short_refused_by_read_up f z y why up r = elim (short_or_long (length y) most_ru
   | inl short ↦ (why, subst (λ (x : List ℕ). IsShortRefusedWith f x why) (sym (all_read z y up short)) r)
   | inr long ↦ (_, too_long (subst (λ (x : List ℕ). most_run_bytes < length x) (sym up.part) (longer y up.left most_run_bytes long)))
 ]
+
+-- a step that is the first that is refused refuses the bytes that are the short run
+first_refuses : (f : FileContent) (z : List ℕ) (run : List SStep) (why : List ℕ) → IsAcceptedShort z run → IsFirstRefusedWith f run why → IsShortRefusedWith f z why
+first_refuses f z run _ read (first n e r) = illegal n e read r
+
+pub short_stops : (f : FileContent) (z : List ℕ) (run : List SStep) (line : List ℕ) → IsAcceptedShort z run → IsLineOf (IsFirstRefusedWith f run) line
+    → IsLineOf (IsShortRefusedWith f z) line
+short_stops f z run line read l = record { why = l.why; cause = first_refuses f z run l.why read l.cause; layout = l.layout }
+
+-- a line that says where a short run stops refuses it
+pub fill_stops : (f : FileContent) (run : List SStep) (x : FillAt) (line : List ℕ) → IsFillLine x line
+    → ((step : ℕ) (e : FillFault) → x ≡ at.Step step e → IsFirstRefusedOfShort f.signature f.process run step e) → IsLineOf (IsFirstRefusedWith f run) line
+fill_stops f run at.Mem line is refused = absurd is
+fill_stops f run (at.Step step e) line is refused = record { why = at_step step (fill_fault_text e); cause = first step e (refused step e refl); layout = is }

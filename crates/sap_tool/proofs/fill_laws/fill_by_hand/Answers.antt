@@ -1,4 +1,4 @@
-use Rattle.std.proofs.Common.{List, [], refl, lit≤, arith}
+use Rattle.std.proofs.Common.{◌≡◌, List, [], ◌∷◌, ◌++◌, refl, lit≤, arith, ap}
 use Rattle.std.specs.Prelude.{ℕ, codes}
 use Rattle.sap_intruder.specs.FilledRuns.{starts}
 use Rattle.sap_process.specs.Configuration.{initial}
@@ -27,8 +27,15 @@ returns-clause-empty c = λ bytes f accepted. record {
   layout = refl;
 }
 
+-- the first byte, or 0
+abbrev first_byte : List ℕ → ℕ
+first_byte [] = 0
+first_byte (b ∷ z) = b
+
 no_head : (body : List ℕ) → IsHeaded short_head body (codes "process-run\n") → ⊥
-no_head body e = cc (e)
+no_head body e =
+    let first : first_byte (codes "process-run\n") ≡ first_byte (short_head ++ (10 ∷ body)) = ap first_byte e in
+    omega (arith, first)
 
 pub returns-clause-headless : goal.returns-clause-headless
 returns-clause-headless c = λ f. no_run (lit≤ tt) (headless no_head)
