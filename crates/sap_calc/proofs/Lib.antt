@@ -19,3 +19,5 @@ mod Inputs
 pub mod Meets
 mod Replays
 pub mod Senders
+mod Replaced
+mod Standing

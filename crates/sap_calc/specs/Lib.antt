@@ -1,3 +1,4 @@
 pub mod Running
 pub mod Replays
+pub mod ThreadHeads
 pub mod code

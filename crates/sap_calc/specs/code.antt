@@ -7,3 +7,4 @@ pub mod Cited
 pub mod Given
 pub mod Denied
 pub mod HeadLines
+pub mod Under

@@ -8,6 +8,7 @@ mod config;
 mod embedding;
 mod entry;
 mod head_line;
+mod heads;
 mod laws;
 mod looking;
 mod making;
@@ -17,6 +18,7 @@ mod step;
 mod stored;
 mod taking;
 mod thread;
+mod under;
 
 pub use config::Config;
 pub use laws::replays_are_legal;
