@@ -123,7 +123,8 @@ impl Filling {
         requires message { IsMessage self.old.config.sig Msg (tree goal.now) }
         requires within { node_count (tree goal.now) ≤ MostTermNodes }
         ensures some { IfOk result (λ o. IfSome o (HasEntered self.old self.new (tree goal.now))) }
-        ensures none { IfOk result (λ o. IfNone o (¬ CanGive self.old.config.sig (configuration self.old.config) (tree goal.now))) }
+        ensures none { IfOk result (λ o. IfNone o
+            (¬ CanGive self.old.config.sig (configuration self.old.config) (tree goal.now))) }
     {
         deducing_is_transitive();
         self.config.each_entry_came();

@@ -101,7 +101,8 @@ AreLeading a lines = (given : List Tree) × Give a.config.sig (entries_of a) lin
 
 -- the lines so far fill these steps of a short run, within the limit
 abbrev pub HasFilled : Sig → Proc → List SStep → Filling → Trace → List Mark → Type 0
-HasFilled g p ss a tr ms = IsFilledRun g HasFewNodes p ss a.lines (configuration a.config) (entries_of a) tr ms
+HasFilled g p ss a tr ms =
+    IsFilledRun g HasFewNodes p ss a.lines (configuration a.config) (entries_of a) tr ms
 
 -- Lines came that a short run leaves out. So the configuration is the same, and what was filled still is.
 pub record IsGrown (a b : Filling) : Type 0 where
