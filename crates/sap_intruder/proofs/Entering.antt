@@ -33,7 +33,7 @@ use Rattle.sap_runs.specs.declared.short_step.SStep.{SStep}
 use Rattle.sap_lines.specs.Lines.{IsProcessLine}
 use Rattle.sap_calc.specs.Running.{Running, configuration, IsDone}
 use Rattle.sap_intruder.specs.FilledRuns.{IsFilledRun, finds, IsLeftOut}
-use Rattle.sap_intruder.specs.code.Filled.{AddsOne, AreCarriedOut, IsCarriedOut, IsGrown, IsLooselyTied, IsTied, IsWritten, HasEntered, HasFilled, entries_of, line_step}
+use Rattle.sap_intruder.specs.code.Filled.{AddsOne, AreCarriedOut, AreLeading, IsCarriedOut, IsGrown, IsLooselyTied, IsTied, IsWritten, HasEntered, HasFilled, entries_of, line_step}
 use Rattle.sap_intruder.specs.declared.filling.Filling.{Filling}
 use Rattle.sap_intruder.proofs.OneRun.{last_same, pushed}
 
@@ -46,7 +46,7 @@ got_last (y ∷ xs) x = got_last xs x
 pub none_behind : {A : Type 0} (xs : List A) → slice_get xs (length xs) ≡ None
 none_behind xs = slice_get_past xs (length xs) (omega arith)
 
-some_one : (xs ys : List Tree) → map Some xs ≡ map Some ys → xs ≡ ys
+pub some_one : (xs ys : List Tree) → map Some xs ≡ map Some ys → xs ≡ ys
 some_one [] [] e = refl
 some_one [] (y ∷ ys) e = absurd (cc)
 some_one (x ∷ xs) [] e = absurd (cc)
@@ -278,6 +278,13 @@ grown_behind a b d n is h = record {
       subst (λ (r : Running). IsFilledRun a.config.sig HasFewNodes p ss d.lines (configuration r) (terms_of r.known) tr ms) (sym is.config)
       (subst (λ (ls : List PStep). IsFilledRun a.config.sig HasFewNodes p ss ls (configuration b.config) (entries_of b) tr ms) (sym is.lines) (h.run p ss tr ms filled));
 }
+
+-- the lines that were found are possible behind the entries
+pub found_leads : (a b : Filling) (x : Tree) (found : Derivation) (s : Searched) → IsTied a → IsFoundIn a.search x found s → b.config ≡ a.config → AreLeading b found.lines
+found_leads a b x found s tied is config =
+    let lines_given : Give a.config.sig (entries_of a) found.lines is.given =
+    subst (λ (h : Sig). Give h (entries_of a) found.lines is.given) tied.sig (subst (λ (ts : List Tree). Give a.search.sig ts found.lines is.given) tied.entries is.found.lines) in
+    (is.given, subst (λ (r : Running). Give r.sig (terms_of r.known) found.lines is.given) (sym config) lines_given)
 
 pub found_entered : EntriesGiveTheSame → (a b c d : Filling) (x : Tree) (found : Derivation) (s : Searched) → IsTied a → IsFoundIn a.search x found s → IsSearched a b s
     → AreCarriedOut b c found.lines → IsCounted c d (length found.lines) → IsNormal (equations a.config.sig) x → AreEntered d.config.sig d.config.known → HasEntered a d x found.entry

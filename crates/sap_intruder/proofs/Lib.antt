@@ -7,5 +7,6 @@ pub mod SomeAnswer
 pub mod FilledWithin
 pub mod Sizes
 pub mod Entering
+pub mod Possible
 pub mod StepsFilled
 pub mod EachFilled

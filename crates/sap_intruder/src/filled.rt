@@ -100,7 +100,7 @@ fn fill_each(alloc: Global, f: &File, filling: &mut Filling, run: &SSteps) -> Re
 pub fn fill(alloc: Global, f: &File, run: &SSteps) -> Result<PSteps, FillAt>
     requires runnable { IsRunnable (told_by f.now) }
     requires stands { All IsShortStep run.now }
-    ensures filled { IfOk result (λ lines. IsFilled f.now.signature (proc f.now.process) run.now lines) }
+    ensures filled { IfOk result (IsFilled f.now.signature (proc f.now.process) run.now) }
     ensures refused { (step : ℕ) (fault : Fault) → result ≡ Err (StepOf step fault)
         → IsFirstRefusedOfShort f.now.signature (proc f.now.process) run.now step fault }
 {

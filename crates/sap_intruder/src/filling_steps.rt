@@ -27,7 +27,8 @@ impl Filling {
         requires tied { IsTied self.old }
         requires stands { MayStand s.now }
         ensures ok { OnOk result (IsFilledOn self.old self.new (short.Act s.now)) }
-        ensures refused { IfErr result (OrMem (IsShortRefused self.old.config.sig (configuration self.old.config) (short.Act s.now))) }
+        ensures refused { IfErr result (OrMem
+            (IsShortRefused self.old.config.sig (configuration self.old.config) (short.Act s.now))) }
     {
         lines_look_at_one_entry();
         let step = s.copy(alloc)?;
@@ -42,7 +43,8 @@ impl Filling {
         requires ground { IsGround (tree u.now) }
         requires few { HasFewNodes (tree u.now) }
         ensures ok { IfOk result (HasGiven self.old self.new u.now) }
-        ensures refused { IfErr result (OrMem (IsNotGiven self.old.config.sig (configuration self.old.config) u.now)) }
+        ensures refused { IfErr result (OrMem
+            (IsNotGiven self.old.config.sig (configuration self.old.config) u.now)) }
     {
         forms_are_messages();
         normal_forms_are_unique();
@@ -80,7 +82,8 @@ impl Filling {
         requires ground { IsGround (tree u.now) }
         requires few { HasFewNodes (tree u.now) }
         ensures ok { OnOk result (IsFilledOn self.old self.new (short.In t u.now)) }
-        ensures refused { IfErr result (OrMem (IsShortRefused self.old.config.sig (configuration self.old.config) (short.In t u.now))) }
+        ensures refused { IfErr result (OrMem
+            (IsShortRefused self.old.config.sig (configuration self.old.config) (short.In t u.now))) }
     {
         lines_look_at_one_entry();
         self.takes(alloc, t)?;
@@ -92,7 +95,8 @@ impl Filling {
     fn send(&mut self, alloc: Global, t: u64) -> Result<(), Unfilled>
         requires { IsTied self.old }
         ensures ok { OnOk result (IsFilledOn self.old self.new (short.Send t)) }
-        ensures refused { IfErr result (OrMem (IsShortRefused self.old.config.sig (configuration self.old.config) (short.Send t))) }
+        ensures refused { IfErr result (OrMem
+            (IsShortRefused self.old.config.sig (configuration self.old.config) (short.Send t))) }
     {
         channels_are_one();
         lines_look_at_one_entry();
@@ -115,7 +119,8 @@ impl Filling {
         requires ground { IsGround (tree u.now) }
         requires few { HasFewNodes (tree u.now) }
         ensures ok { OnOk result (IsFilledOn self.old self.new (short.Know u.now)) }
-        ensures refused { IfErr result (OrMem (IsShortRefused self.old.config.sig (configuration self.old.config) (short.Know u.now))) }
+        ensures refused { IfErr result (OrMem
+            (IsShortRefused self.old.config.sig (configuration self.old.config) (short.Know u.now))) }
     {
         let k = self.give(alloc, sig, u)?;
         self.follow(alloc, PStep::Know(k))
@@ -128,7 +133,8 @@ impl Filling {
         requires builtins { HoldsBuiltins sig.now }
         requires stands { IsShortStep s.now }
         ensures ok { OnOk result (IsFilledOn self.old self.new s.now) }
-        ensures refused { IfErr result (OrMem (IsShortRefused self.old.config.sig (configuration self.old.config) s.now)) }
+        ensures refused { IfErr result (OrMem
+            (IsShortRefused self.old.config.sig (configuration self.old.config) s.now)) }
     {
         match s {
             SStep::Act(line) => self.act(alloc, line),

@@ -1,4 +1,4 @@
-//! Short runs: what their steps mean, when one is refused, and the runs of processes that they stand for.
+//! Short runs: what their steps mean, when one is refused, and the runs of processes that they stand for, found.
 #![tactic(auto)]
 
 mod fill_at;

@@ -6,7 +6,7 @@ use Rattle.sap_terms.specs.Tree.{Tree}
 use Rattle.sap_terms.specs.declared.fact.Fact.{Fact}
 use Rattle.sap_terms.specs.declared.term.Term.{Term}
 use Rattle.sap_deduce.specs.Entries.{terms_of}
-use Rattle.sap_derive.specs.Lines.{Give}
+use Rattle.sap_derive.specs.Lines.{Give, IsLine}
 use Rattle.sap_derive.specs.declared.line.Line.{Line}
 use Rattle.sap_derive.specs.declared.line.Line.TheVariants.{Public, Apply}
 use Rattle.sap_process.specs.Configuration.{Config, Runs, CanGive}
@@ -91,9 +91,18 @@ abbrev pub line_step : Line → PStep
 line_step (Public a) = line.Public a
 line_step (Apply f ks) = line.Apply f ks
 
+-- the line is possible behind the entries
+abbrev pub IsPossible : Filling → Line → Type 0
+IsPossible a l = (u : Tree) × IsLine a.config.sig (entries_of a) l u
+
+-- so are these lines, one after the other
+abbrev pub AreLeading : Filling → List Line → Type 0
+AreLeading a lines = (given : List Tree) × Give a.config.sig (entries_of a) lines given
+
 -- the lines so far fill these steps of a short run, within the limit
 abbrev pub HasFilled : Sig → Proc → List SStep → Filling → Trace → List Mark → Type 0
-HasFilled g p ss a tr ms = IsFilledRun g HasFewNodes p ss a.lines (configuration a.config) (entries_of a) tr ms
+HasFilled g p ss a tr ms =
+    IsFilledRun g HasFewNodes p ss a.lines (configuration a.config) (entries_of a) tr ms
 
 -- Lines came that a short run leaves out. So the configuration is the same, and what was filled still is.
 pub record IsGrown (a b : Filling) : Type 0 where

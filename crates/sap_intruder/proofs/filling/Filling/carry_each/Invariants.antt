@@ -1,6 +1,6 @@
 use Rattle.std.proofs.Common.{take}
 use Rattle.sap_intruder.specs.code.Filled.{AreCarriedOut}
-use Rattle.sap_intruder.proofs.filling.Filling.carry_out.Given as goal
+use Rattle.sap_intruder.proofs.filling.Filling.carry_each.Given as goal
 
 -- the lines so far were done
 abbrev pub invariant-loop-k : goal.invariant-loop-k
