@@ -5,6 +5,7 @@
 mod calls;
 mod copies;
 mod deductions;
+mod derivations;
 mod desk;
 mod files;
 mod formulas;

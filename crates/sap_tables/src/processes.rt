@@ -6,7 +6,7 @@ use crate::desk::Desk;
 use crate::notation::{enclosed, file_bytes, list, number, part, signature};
 use crate::page::Page;
 use crate::show::Show;
-use sap_calc::Config;
+use sap_calc::{Config, PFault};
 use sap_process::Process;
 use sap_read::{files_are_ready, read_file_boxed};
 use sap_refusals::process_line;
@@ -52,20 +52,26 @@ fn line(page: &mut Page, sig: &Signature, text: &str, bound: &str) -> Option<Box
 
 fn take_line(page: &mut Page, sig: &Signature, config: &mut Config, row: &str) {
     match &line(page, sig, part(row, 1), part(row, 2)) {
-        Some(step) => match config.step(page.alloc, step) {
-            Ok(facts) => facts.show_on(page),
-            Err(fault) => {
-                let line = process_line(page.alloc, 0, &fault);
-                page.text(line, "run refused: step 0: ", "\n");
-            }
-        },
+        Some(step) => show_answer(page, &config.step(page.alloc, step)),
         None => page.fail(),
+    }
+}
+
+// What is answered, or why it is refused.
+fn show_answer<T: Show>(page: &mut Page, answer: &Result<T, PFault>) {
+    match answer {
+        Ok(value) => value.show_on(page),
+        Err(fault) => {
+            let line = process_line(page.alloc, 0, fault);
+            page.text(line, "run refused: step 0: ", "\n");
+        }
     }
 }
 
 /// `process`, a file, begins a run of its process; `symbols`, the symbols in which the bindings of its lines are written from then
 /// on; `line`, a line of the run, the bindings of its open variables, and the facts that it shows, or why it is refused; `stored`, a
-/// thread, and the value that its line `found` would bind, or `none`; `entry`, a number, and the adversary's entry, or `none`.
+/// thread, and the value that its line `found` would bind, or `none`; `channel`, a thread, and the channel that it sends on, or why
+/// there is none; `entry`, a number, and the adversary's entry, or `none`.
 pub fn processes_row(page: &mut Page, desk: &mut Desk, row: &str) {
     match (part(row, 0), &mut desk.config) {
         ("process", _) => start(page, desk, part(row, 1)),
@@ -78,6 +84,10 @@ pub fn processes_row(page: &mut Page, desk: &mut Desk, row: &str) {
         ("stored", Some(config)) => {
             let thread = number(page, part(row, 1));
             page.show(config.stored(page.alloc, thread));
+        }
+        ("channel", Some(config)) => {
+            let thread = number(page, part(row, 1));
+            show_answer(page, &config.channel(page.alloc, thread));
         }
         ("entry", Some(config)) => {
             let k = number(page, part(row, 1));

@@ -4,8 +4,8 @@ use crate::desk::{Desk, empty_desk};
 use crate::notation::{number, part, written};
 use crate::page::Page;
 use crate::{
-    calls, copies, deductions, files, formulas, guards, json, knowledge, piles, processes, refused,
-    run_texts, runs, sharing, short_runs, terms, theories, tokens,
+    calls, copies, deductions, derivations, files, formulas, guards, json, knowledge, piles,
+    processes, refused, run_texts, runs, sharing, short_runs, terms, theories, tokens,
 };
 use std::collections::BTreeMap;
 
@@ -31,6 +31,7 @@ pub fn show_found(page: &mut Page, desk: &mut Desk, table: &str, row: &str) {
         "sharing" => sharing::sharing_row(page, desk, row),
         "knowledge" => knowledge::knowledge_row(page, desk, row),
         "deductions" => deductions::deductions_row(page, desk, row),
+        "derivations" => derivations::derivations_row(page, desk, row),
         "piles" => piles::piles_row(page, &desk.signature, &mut desk.pile, row),
         _ => show_found_above(page, desk, table, row),
     }
