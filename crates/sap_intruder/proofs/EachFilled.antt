@@ -1,7 +1,6 @@
 -- Steps of a short run, filled one after the other.
 use Rattle.std.proofs.Common.{◌≡◌, ◌+◌, ◌≤◌, ℕ, zero, suc, List, [], ◌∷◌, ◌++◌, length, Some, slice_get, take, drop, take-append-drop, arith, refl, sym, ap, subst, ◌∙◌}
 use Rattle.sap_terms.specs.Signature.{Sig}
-use Rattle.sap_terms.specs.Tree.{Tree}
 use Rattle.sap_terms.specs.Trace.{shown}
 use Rattle.sap_terms.proofs.PlainLaws.Lists.{take_got, drop_got}
 use Rattle.sap_process.specs.Configuration.{Config, initial}
@@ -10,7 +9,7 @@ use Rattle.sap_runs.specs.Limits.{HasFewNodes}
 use Rattle.sap_runs.specs.Marks.{marks_of}
 use Rattle.sap_runs.specs.declared.process_step.PStep.{PStep}
 use Rattle.sap_runs.specs.declared.short_step.SStep.{SStep}
-use Rattle.sap_calc.specs.Running.{Running, configuration}
+use Rattle.sap_calc.specs.Running.{configuration}
 use Rattle.sap_deduce.specs.Entries.{Entry, terms_of}
 use Rattle.sap_intruder.specs.FilledRuns.{FilledRunsAreLegal, IsFilled, IsFilledRun, starts}
 use Rattle.sap_intruder.specs.OneAnswer.{IsFirstRefusedOfShort}

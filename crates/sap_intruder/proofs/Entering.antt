@@ -1,21 +1,21 @@
 -- Lines that a short run leaves out, and what they enter.
-use Rattle.std.proofs.Common.{◌≡◌, ◌+◌, ◌≤◌, ℕ, List, [], ◌∷◌, ◌++◌, length, map, Option, Some, None, slice_get, take, arith, refl, sym, ap, subst, ◌∙◌, append-nil, append_assoc, inl, inr}
-use Rattle.std.specs.Prelude.{All, Contains, slice_index_or}
+use Rattle.std.proofs.Common.{◌≡◌, ◌+◌, ℕ, List, [], ◌∷◌, ◌++◌, length, map, Some, None, slice_get, take, arith, refl, sym, ap, subst, ◌∙◌, append-nil, append_assoc, inl, inr}
+use Rattle.std.specs.Prelude.{All}
 use Rattle.std.proofs.lemmas.List.{length-append}
 use Rattle.std.proofs.lemmas.Option.{slice_get_past}
-use Rattle.sap_terms.specs.Deduce.{IsDerived, IsDerivation, IsDeducible, given}
+use Rattle.sap_terms.specs.Deduce.{IsDeducible, given}
 use Rattle.sap_terms.specs.Equal.{same}
 use Rattle.sap_terms.specs.Equations.{equations}
 use Rattle.sap_terms.specs.Normal.{IsNormal, IsNormalForm}
 use Rattle.sap_terms.specs.Signature.{Sig}
-use Rattle.sap_terms.specs.Trace.{Trace, shown}
+use Rattle.sap_terms.specs.Trace.{Trace}
 use Rattle.sap_terms.specs.Tree.{Tree, public, apply, trees_of}
 use Rattle.sap_terms.specs.declared.fact.Fact.{Fact}
 use Rattle.sap_terms.proofs.PlainLaws.Items.{contains_got}
 use Rattle.sap_terms.proofs.PlainLaws.Lists.{take_got}
 use Rattle.sap_rewrite.specs.Laws.{FormIsOne}
 use Rattle.sap_deduce.specs.Deducing.{EntriesGiveTheSame}
-use Rattle.sap_deduce.specs.Entries.{Entry, terms_of, AreEntered}
+use Rattle.sap_deduce.specs.Entries.{terms_of, AreEntered}
 use Rattle.sap_derive.specs.Found.{IsFoundIn}
 use Rattle.sap_derive.specs.Lines.{Give, no_lines, one_more, IsLine, writes, applies}
 use Rattle.sap_derive.specs.Searched.{Searched}
@@ -31,7 +31,7 @@ use Rattle.sap_runs.specs.declared.process_step.PStep.{PStep}
 use Rattle.sap_runs.specs.declared.process_step.PStep.TheVariants as line
 use Rattle.sap_runs.specs.declared.short_step.SStep.{SStep}
 use Rattle.sap_lines.specs.Lines.{IsProcessLine}
-use Rattle.sap_calc.specs.Running.{Running, configuration, IsDone}
+use Rattle.sap_calc.specs.Running.{Running, configuration}
 use Rattle.sap_intruder.specs.FilledRuns.{IsFilledRun, finds, IsLeftOut}
 use Rattle.sap_intruder.specs.code.Filled.{AddsOne, AreCarriedOut, AreLeading, IsCarriedOut, IsGrown, IsLooselyTied, IsTied, IsWritten, HasEntered, HasFilled, entries_of, line_step}
 use Rattle.sap_intruder.specs.declared.filling.Filling.{Filling}

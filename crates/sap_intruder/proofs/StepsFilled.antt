@@ -1,21 +1,20 @@
 -- One step of a short run, filled or refused.
-use Rattle.std.proofs.Common.{◌≡◌, ℕ, Bool, true, false, List, [], ◌∷◌, ◌++◌, Some, None, length, slice_get, refl, sym, ap, subst, ◌∙◌}
+use Rattle.std.proofs.Common.{◌≡◌, ℕ, Bool, List, [], ◌∷◌, ◌++◌, Some, None, length, slice_get, refl, sym, ap, subst, ◌∙◌}
 use Rattle.sap_terms.specs.Equations.{equations}
 use Rattle.sap_terms.specs.Message.{IsOver}
 use Rattle.sap_terms.specs.Normal.{IsNormalForm}
 use Rattle.sap_terms.specs.Signature.{Sig}
-use Rattle.sap_terms.specs.Trace.{Trace, shown}
-use Rattle.sap_terms.specs.Tree.{Tree, node_count}
+use Rattle.sap_terms.specs.Trace.{shown}
+use Rattle.sap_terms.specs.Tree.{Tree}
 use Rattle.sap_terms.specs.View.{tree}
-use Rattle.sap_terms.specs.declared.fact.Fact.{Fact}
 use Rattle.sap_terms.specs.declared.term.Term.{Term}
 use Rattle.sap_rewrite.specs.Large.{itself, here}
 use Rattle.sap_rewrite.specs.Laws.{FormIsOne}
 use Rattle.sap_process.specs.Action as action
-use Rattle.sap_process.specs.Configuration.{Config, Runs, CanGive}
+use Rattle.sap_process.specs.Configuration.{Config}
 use Rattle.sap_process.specs.Proc.{Proc, nil, parallel, replicated, act, test, lookup}
 use Rattle.sap_runs.specs.Limits.{HasFewNodes}
-use Rattle.sap_runs.specs.Marks.{Mark, marks_of}
+use Rattle.sap_runs.specs.Marks.{marks_of}
 use Rattle.sap_runs.specs.Short.{MayStand}
 use Rattle.sap_runs.specs.declared.process_step.PStep.{PStep}
 use Rattle.sap_runs.specs.declared.process_step.PStep.TheVariants as line
@@ -26,11 +25,10 @@ use Rattle.sap_lines.specs.Faults.{IsRefused, IsUnfit, not_running, other_form, 
 use Rattle.sap_lines.specs.OtherEntries.{ask_nothing, send_on, take_in, LinesThatAskTheSameAreRefusedTheSame}
 use Rattle.sap_lines.specs.declared.fault.PFault.{PFault}
 use Rattle.sap_lines.specs.declared.fault.PFault.TheVariants as fault
-use Rattle.sap_calc.specs.Running.{Running, configuration, IsDenied}
+use Rattle.sap_calc.specs.Running.{configuration, IsDenied}
 use Rattle.sap_intruder.specs.FilledRuns.{Cites, Fills, input, sending, knowing, IsFilledRun, follows}
 use Rattle.sap_intruder.specs.FilledRuns.{same as as_it_is}
-use Rattle.sap_intruder.specs.Refusals.{IsNotGiven, bad, not_deduced, IsShortRefused, line_refused, unfit_taker, input_not_given, input_refused, no_channel, channel_not_given, known_not_given}
-use Rattle.sap_intruder.specs.ShortLines.{IsGiven}
+use Rattle.sap_intruder.specs.Refusals.{IsNotGiven, IsShortRefused, line_refused, unfit_taker, input_not_given, input_refused, no_channel, known_not_given}
 use Rattle.sap_intruder.specs.code.Filled.{HasEntered, HasFilled, HasGiven, IsBlamed, out_of_memory, other_fault, IsBlamedFor, IsFilledOn, IsFollowed, IsGrown, IsNoEntry, IsTaker, IsTied, IsUnfitTaker, OrMem, entries_of}
 use Rattle.sap_intruder.specs.declared.fill_fault.FillFault.{FillFault}
 use Rattle.sap_intruder.specs.declared.fill_fault.FillFault.TheVariants as fill
@@ -38,7 +36,7 @@ use Rattle.sap_intruder.specs.declared.filling.Filling.{Filling}
 use Rattle.sap_intruder.specs.declared.unfilled.Unfilled.{Unfilled}
 use Rattle.sap_intruder.specs.declared.unfilled.Unfilled.TheVariants as unfilled
 use Rattle.sap_intruder.proofs.Entering.{grown_not, none_behind}
-use Rattle.sap_intruder.proofs.Refused.{missing, unfit_cause}
+use Rattle.sap_intruder.proofs.Refused.{missing}
 
 -- ---- causes
 

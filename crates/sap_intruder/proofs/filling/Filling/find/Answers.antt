@@ -1,5 +1,4 @@
-use Rattle.std.proofs.Common.{◌≡◌, ◌+◌, refl, rules, length, arith, subst, Option, Some, IfSome, IfOk}
-use Rattle.std.proofs.lemmas.Grind.{common_steps}
+use Rattle.std.proofs.Common.{◌≡◌, ◌+◌, refl, rules, length, subst, Option, IfSome}
 use Rattle.sap_terms.specs.View.{tree}
 use Rattle.sap_derive.specs.Found.{IsFoundIn}
 use Rattle.sap_derive.specs.declared.derivation.Derivation.{Derivation}

@@ -1,4 +1,4 @@
-use Rattle.std.proofs.Common.{◌≡◌, ◌≤◌, true, subst, sym, arith, Option, None, IfNone, ℕ}
+use Rattle.std.proofs.Common.{◌≡◌, true, subst, sym, arith, Option, IfNone, ℕ}
 use Rattle.sap_terms.specs.Message.{IsOver}
 use Rattle.sap_terms.specs.Equations.{equations}
 use Rattle.sap_terms.specs.Signature.{Sig}

@@ -1,4 +1,4 @@
-use Rattle.std.proofs.Common.{subst, Option, None, Some, IfNone, IfSome, ℕ}
+use Rattle.std.proofs.Common.{subst, Option, IfNone, IfSome, ℕ}
 use Rattle.std.proofs.lemmas.Result.{IfErr-weaker, on_ok_weaker}
 use Rattle.sap_terms.specs.View.{tree}
 use Rattle.sap_process.specs.Configuration.{CanGive}
