@@ -33,7 +33,7 @@ use Rattle.sap_runs.specs.declared.short_step.SStep.{SStep}
 use Rattle.sap_lines.specs.Lines.{IsProcessLine}
 use Rattle.sap_calc.specs.Running.{Running, configuration, IsDone}
 use Rattle.sap_intruder.specs.FilledRuns.{IsFilledRun, finds, IsLeftOut}
-use Rattle.sap_intruder.specs.code.Filled.{AddsOne, AreCarriedOut, IsCarriedOut, IsGrown, IsLooselyTied, IsTied, IsWritten, HasEntered, HasFilled, entries_of, line_step}
+use Rattle.sap_intruder.specs.code.Filled.{AddsOne, AreCarriedOut, AreLeading, IsCarriedOut, IsGrown, IsLooselyTied, IsTied, IsWritten, HasEntered, HasFilled, entries_of, line_step}
 use Rattle.sap_intruder.specs.declared.filling.Filling.{Filling}
 use Rattle.sap_intruder.proofs.OneRun.{last_same, pushed}
 
@@ -46,7 +46,7 @@ got_last (y ∷ xs) x = got_last xs x
 pub none_behind : {A : Type 0} (xs : List A) → slice_get xs (length xs) ≡ None
 none_behind xs = slice_get_past xs (length xs) (omega arith)
 
-some_one : (xs ys : List Tree) → map Some xs ≡ map Some ys → xs ≡ ys
+pub some_one : (xs ys : List Tree) → map Some xs ≡ map Some ys → xs ≡ ys
 some_one [] [] e = refl
 some_one [] (y ∷ ys) e = absurd (cc)
 some_one (x ∷ xs) [] e = absurd (cc)
@@ -107,10 +107,8 @@ one_entered es fs x (inr (y, is)) some =
     let one : x ≡ y = cc (there, some) in
     ap (λ z. es ++ z ∷ []) one ∙ sym is
 
-pub all_at : {P : Tree → Type 0} (ts : List Tree) (k : ℕ) (t : Tree) → All P ts → slice_get ts k ≡ Some t → P t
-all_at {P = P} ts k t all at = let m = contains_got ts t k at in at_index m where
-  at_index : Contains ts t → P t
-  at_index (i, below, is) = subst P is (all i t below)
+pub all_at : (P : Tree → Type 0) (ts : List Tree) (k : ℕ) (t : Tree) → All P ts → slice_get ts k ≡ Some t → P t
+all_at P ts k t all at = let m = contains_got ts t k at in subst P m.2 (all m.0 t m.1)
 
 -- ---- the lines of a derivation
 
@@ -121,20 +119,21 @@ record DoesNothing (c d : Config) (es fs : List Tree) (inner : List InnerAction)
   stays : d ≡ c
   enters : fs ≡ es ++ u ∷ []
 
-module _ (one : FormIsOne) (g : Sig) (W : Tree → Type 0) (c d : Config) (es fs : List Tree) (inner : List InnerAction) (label : List Fact) where
-  public_does : (a : List ℕ) → IsProcessLine g W c es (line.Public a) inner label d fs → DoesNothing c d es fs inner label (public a)
-  public_does a (IsProcessLine.writes _) = record { inside = refl; shows = refl; stays = refl; enters = refl }
+public_does : (g : Sig) (W : Tree → Type 0) (c d : Config) (es fs : List Tree) (inner : List InnerAction) (label : List Fact) (a : List ℕ)
+    → IsProcessLine g W c es (line.Public a) inner label d fs → DoesNothing c d es fs inner label (public a)
+public_does g W c d es fs inner label a (IsProcessLine.writes _) = record { inside = refl; shows = refl; stays = refl; enters = refl }
 
-  apply_does : (f ks : List ℕ) (us : List Tree) (u : Tree) → map (slice_get es) ks ≡ map Some us → IsNormalForm (equations g) (apply f (trees_of us)) u
-      → IsProcessLine g W c es (line.Apply f ks) inner label d fs → DoesNothing c d es fs inner label u
-  apply_does f ks us u at form (IsProcessLine.applies _ _ ts x p a e n v) =
-      let args : ts ≡ us = some_one ts us (sym e ∙ at) in
-      let is : x ≡ u = one (equations g) (apply f (trees_of us)) x u (subst (λ (zs : List Tree). IsNormalForm (equations g) (apply f (trees_of zs)) x) args n) form in
-      record { inside = refl; shows = refl; stays = refl; enters = ap (λ z. es ++ z ∷ []) is }
+apply_does : FormIsOne → (g : Sig) (W : Tree → Type 0) (c d : Config) (es fs : List Tree) (inner : List InnerAction) (label : List Fact) (f ks : List ℕ) (us : List Tree) (u : Tree)
+    → map (slice_get es) ks ≡ map Some us → IsNormalForm (equations g) (apply f (trees_of us)) u → IsProcessLine g W c es (line.Apply f ks) inner label d fs → DoesNothing c d es fs inner label u
+apply_does one g W c d es fs inner label f ks us u at form (IsProcessLine.applies _ _ ts x p a e n v) =
+    let args : ts ≡ us = some_one ts us (sym e ∙ at) in
+    let is : x ≡ u = one (equations g) (apply f (trees_of us)) x u (subst (λ (zs : List Tree). IsNormalForm (equations g) (apply f (trees_of zs)) x) args n) form in
+    record { inside = refl; shows = refl; stays = refl; enters = ap (λ z. es ++ z ∷ []) is }
 
-  line_does : (l : Line) (u : Tree) → IsLine g es l u → IsProcessLine g W c es (line_step l) inner label d fs → DoesNothing c d es fs inner label u
-  line_does _ _ (writes a) h = public_does a h
-  line_does _ _ (applies f ks us u p a at form size) h = apply_does f ks us u at form h
+line_does : FormIsOne → (g : Sig) (W : Tree → Type 0) (c d : Config) (es fs : List Tree) (inner : List InnerAction) (label : List Fact) (l : Line) (u : Tree)
+    → IsLine g es l u → IsProcessLine g W c es (line_step l) inner label d fs → DoesNothing c d es fs inner label u
+line_does one g W c d es fs inner label _ _ (writes a) h = public_does g W c d es fs inner label a h
+line_does one g W c d es fs inner label _ _ (applies f ks us u p a at form size) h = apply_does one g W c d es fs inner label f ks us u at form h
 
 line_left_out : (l : Line) → IsLeftOut (line_step l)
 line_left_out (derived.Public a) = tt
@@ -279,6 +278,13 @@ grown_behind a b d n is h = record {
       subst (λ (r : Running). IsFilledRun a.config.sig HasFewNodes p ss d.lines (configuration r) (terms_of r.known) tr ms) (sym is.config)
       (subst (λ (ls : List PStep). IsFilledRun a.config.sig HasFewNodes p ss ls (configuration b.config) (entries_of b) tr ms) (sym is.lines) (h.run p ss tr ms filled));
 }
+
+-- the lines that were found are possible behind the entries
+pub found_leads : (a b : Filling) (x : Tree) (found : Derivation) (s : Searched) → IsTied a → IsFoundIn a.search x found s → b.config ≡ a.config → AreLeading b found.lines
+found_leads a b x found s tied is config =
+    let lines_given : Give a.config.sig (entries_of a) found.lines is.given =
+    subst (λ (h : Sig). Give h (entries_of a) found.lines is.given) tied.sig (subst (λ (ts : List Tree). Give a.search.sig ts found.lines is.given) tied.entries is.found.lines) in
+    (is.given, subst (λ (r : Running). Give r.sig (terms_of r.known) found.lines is.given) (sym config) lines_given)
 
 pub found_entered : EntriesGiveTheSame → (a b c d : Filling) (x : Tree) (found : Derivation) (s : Searched) → IsTied a → IsFoundIn a.search x found s → IsSearched a b s
     → AreCarriedOut b c found.lines → IsCounted c d (length found.lines) → IsNormal (equations a.config.sig) x → AreEntered d.config.sig d.config.known → HasEntered a d x found.entry

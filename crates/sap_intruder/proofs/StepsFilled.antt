@@ -1,5 +1,5 @@
 -- One step of a short run, filled or refused.
-use Rattle.std.proofs.Common.{◌≡◌, ◌⊎◌, ℕ, Bool, true, false, List, [], ◌∷◌, ◌++◌, Some, None, slice_get, refl, sym, ap, subst, ◌∙◌, inl, inr}
+use Rattle.std.proofs.Common.{◌≡◌, ℕ, Bool, true, false, List, [], ◌∷◌, ◌++◌, Some, None, length, slice_get, refl, sym, ap, subst, ◌∙◌}
 use Rattle.sap_terms.specs.Equations.{equations}
 use Rattle.sap_terms.specs.Message.{IsOver}
 use Rattle.sap_terms.specs.Normal.{IsNormalForm}
@@ -31,28 +31,28 @@ use Rattle.sap_intruder.specs.FilledRuns.{Cites, Fills, input, sending, knowing,
 use Rattle.sap_intruder.specs.FilledRuns.{same as as_it_is}
 use Rattle.sap_intruder.specs.Refusals.{IsNotGiven, bad, not_deduced, IsShortRefused, line_refused, unfit_taker, input_not_given, input_refused, no_channel, channel_not_given, known_not_given}
 use Rattle.sap_intruder.specs.ShortLines.{IsGiven}
-use Rattle.sap_intruder.specs.code.Filled.{HasEntered, HasFilled, HasGiven, IsBlamed, out_of_memory, other_fault, IsBlamedFor, IsFilledOn, IsFollowed, IsGrown, IsTaker, IsUnfitTaker, OrMem, entries_of}
+use Rattle.sap_intruder.specs.code.Filled.{HasEntered, HasFilled, HasGiven, IsBlamed, out_of_memory, other_fault, IsBlamedFor, IsFilledOn, IsFollowed, IsGrown, IsNoEntry, IsTaker, IsTied, IsUnfitTaker, OrMem, entries_of}
 use Rattle.sap_intruder.specs.declared.fill_fault.FillFault.{FillFault}
 use Rattle.sap_intruder.specs.declared.fill_fault.FillFault.TheVariants as fill
 use Rattle.sap_intruder.specs.declared.filling.Filling.{Filling}
 use Rattle.sap_intruder.specs.declared.unfilled.Unfilled.{Unfilled}
 use Rattle.sap_intruder.specs.declared.unfilled.Unfilled.TheVariants as unfilled
-use Rattle.sap_intruder.proofs.Entering.{grown_not}
+use Rattle.sap_intruder.proofs.Entering.{grown_not, none_behind}
 use Rattle.sap_intruder.proofs.Refused.{missing, unfit_cause}
 
 -- ---- causes
 
-pub or_mem : {P Q : FillFault → Type 0} → ((f : FillFault) → P f → Q f) → (u : Unfilled) → OrMem P u → OrMem Q u
-or_mem h unfilled.Mem p = tt
-or_mem h (unfilled.Fault f) p = h f p
+pub or_mem : (P Q : FillFault → Type 0) → ((f : FillFault) → P f → Q f) → (u : Unfilled) → OrMem P u → OrMem Q u
+or_mem P Q h unfilled.Mem p = tt
+or_mem P Q h (unfilled.Fault f) p = h f p
 
 -- what a fault of a line is blamed for
-pub blame : {P : FillFault → Type 0} (e : PFault) (u : Unfilled) → IsBlamed e u → (¬ (e ≡ fault.Mem) → P (fill.Process e)) → OrMem P u
-blame _ _ out_of_memory h = tt
-blame e _ (other_fault n) h = h n
+pub blame : (P : FillFault → Type 0) (e : PFault) (u : Unfilled) → IsBlamed e u → (¬ (e ≡ fault.Mem) → P (fill.Process e)) → OrMem P u
+blame P _ _ out_of_memory h = tt
+blame P e _ (other_fault n) h = h n
 
 pub blamed_for : (a : Filling) (step : PStep) (e : PFault) (u : Unfilled) → IsDenied a.config step e → IsBlamed e u → OrMem (IsBlamedFor a step) u
-blamed_for a step e u denied is = blame e u is (λ other. record { cause = e; is = refl; denied = denied; other = other })
+blamed_for a step e u denied is = blame (IsBlamedFor a step) e u is (λ other. record { cause = e; is = refl; denied = denied; other = other })
 
 -- ---- a step and its own line
 
@@ -88,7 +88,7 @@ act_filled a d s stands h = filled_on a a d (short.Act s) s (grown_not a) h (as_
 pub act_refused : LinesThatAskTheSameAreRefusedTheSame → (a : Filling) (s : PStep) (u : Unfilled) → MayStand s → OrMem (IsBlamedFor a s) u
     → OrMem (IsShortRefused a.config.sig (configuration a.config) (short.Act s)) u
 act_refused alike a s u stands h =
-    or_mem
+    or_mem _ _
     (λ f b.
     let none : IsRefused a.config.sig (configuration a.config) [] s b.cause = alike a.config.sig (configuration a.config) (entries_of a) [] s s b.cause (ask_nothing s stands) b.denied in
     subst (IsShortRefused a.config.sig (configuration a.config) (short.Act s)) (sym b.is) (line_refused stands none b.other))
@@ -119,10 +119,10 @@ know_mem g c es k x _ at (IsRefused.large running has_entry big) = absurd (let n
 pub know_refused : (a b : Filling) (u : Term) (k : ℕ) (v : Unfilled) → HasGiven a b u k → OrMem (IsBlamedFor b (line.Know k)) v
     → OrMem (IsShortRefused a.config.sig (configuration a.config) (short.Know u)) v
 know_refused a b u k v h is =
-    or_mem (λ f blame. absurd (blame.other (know_mem b.config.sig (configuration b.config) (entries_of b) k h.term blame.cause h.entered.entry blame.denied))) v is
+    or_mem _ _ (λ f blame. absurd (blame.other (know_mem b.config.sig (configuration b.config) (entries_of b) k h.term blame.cause h.entered.entry blame.denied))) v is
 
 pub know_not_given : (g : Sig) (c : Config) (u : Term) (v : Unfilled) → OrMem (IsNotGiven g c u) v → OrMem (IsShortRefused g c (short.Know u)) v
-know_not_given g c u v h = or_mem (λ f n. known_not_given n) v h
+know_not_given g c u v h = or_mem _ _ (λ f n. known_not_given n) v h
 
 -- ---- a thread takes
 
@@ -132,7 +132,7 @@ input_filled a b d t u k h is = filled_on a b d (short.In t u) (line.In t k) h.e
 pub input_line_refused : LinesThatAskTheSameAreRefusedTheSame → (a b : Filling) (t : ℕ) (u : Term) (k : ℕ) (v : Unfilled) → HasGiven a b u k → OrMem (IsBlamedFor b (line.In t k)) v
     → OrMem (IsShortRefused a.config.sig (configuration a.config) (short.In t u)) v
 input_line_refused alike a b t u k v h is =
-    or_mem
+    or_mem _ _
     (λ f blame.
     let there = denied_before a b (line.In t k) blame.cause h.entered.grown blame.denied in
     let alone : IsRefused a.config.sig (configuration a.config) (h.term ∷ []) (line.In t 0) blame.cause =
@@ -141,10 +141,10 @@ input_line_refused alike a b t u k v h is =
     v is
 
 pub input_term_refused : (g : Sig) (c : Config) (t : ℕ) (u : Term) (v : Unfilled) → IsTaker c t → OrMem (IsNotGiven g c u) v → OrMem (IsShortRefused g c (short.In t u)) v
-input_term_refused g c t u v taker h = or_mem (λ f n. input_not_given taker.runs taker.form n) v h
+input_term_refused g c t u v taker h = or_mem _ _ (λ f n. input_not_given taker.runs taker.form n) v h
 
 pub taker_refused : (g : Sig) (c : Config) (t : ℕ) (u : Term) (v : Unfilled) → OrMem (IsUnfitTaker c t) v → OrMem (IsShortRefused g c (short.In t u)) v
-taker_refused g c t u v h = or_mem (λ f n. subst (IsShortRefused g c (short.In t u)) (sym n.is) (unfit_taker n.unfit)) v h
+taker_refused g c t u v h = or_mem _ _ (λ f n. subst (IsShortRefused g c (short.In t u)) (sym n.is) (unfit_taker n.unfit)) v h
 
 -- whether a thread takes something doesn't go by the entry
 in_form : (t k i : ℕ) (p : Proc) → has_form (line.In t k) p ≡ has_form (line.In t i) p
@@ -169,6 +169,11 @@ unfit_too : (c : Config) (t k i : ℕ) (e : PFault) → IsUnfit c t (has_form (l
 unfit_too c t k i _ (not_running never) = not_running never
 unfit_too c t k i _ (other_form {p = p} r f) = other_form r (sym (in_form t k i p) ∙ f)
 
+-- being unfit is no missing entry
+unfit_no_entry : (c : Config) (t : ℕ) (form : Proc → Bool) (e : PFault) → IsUnfit c t form e → IsNoEntry e → ⊥
+unfit_no_entry c t form _ (not_running never) (k, is) = absurd (cc (is))
+unfit_no_entry c t form _ (other_form r f) (k, is) = absurd (cc (is))
+
 -- what is said of a line that gives a thread an entry which isn't there
 pub data IsTakersFault (c : Config) (t k : ℕ) (e : PFault) : Type 0 where
   no_room : e ≡ fault.Mem → IsTakersFault c t k e
@@ -186,6 +191,24 @@ takers_fault g c es t k _ none (IsRefused.unfitting _ _ r at fits) = absurd (cc 
 takers_fault g c es t k _ none (IsRefused.unfitting_part _ _ r at small never) = absurd (cc (at, none))
 takers_fault g c es t k _ none (IsRefused.other_part _ _ σ r at small is fits differs) = absurd (cc (at, none))
 
+none_there : (a : Filling) → IsTied a → slice_get (entries_of a) a.count ≡ None
+none_there a tied =
+    subst (λ (n : ℕ). slice_get (entries_of a) n ≡ None) (sym (tied.count ∙ ap length tied.entries)) (none_behind (entries_of a))
+
+pub taker : (a : Filling) (t : ℕ) (e : PFault) → IsTied a → IsDenied a.config (line.In t a.count) e → IsNoEntry e → IsTaker (configuration a.config) t
+taker a t e tied denied missing_entry = at (takers_fault a.config.sig (configuration a.config) (entries_of a) t a.count e (none_there a tied) denied) where
+  at : IsTakersFault (configuration a.config) t a.count e → IsTaker (configuration a.config) t
+  at (no_room is) = absurd (let other : e ≡ fault.NoEntry missing_entry.0 = missing_entry.1 in cc (is, other))
+  at (not_fit h) = absurd (unfit_no_entry (configuration a.config) t (has_form (line.In t 0)) e h missing_entry)
+  at (no_entry is h) = h
+
+pub no_taker : (a : Filling) (t : ℕ) (e : PFault) (u : Unfilled) → IsTied a → IsDenied a.config (line.In t a.count) e → ¬ IsNoEntry e → IsBlamed e u → OrMem (IsUnfitTaker (configuration a.config) t) u
+no_taker a t e u tied denied other is = blame (IsUnfitTaker (configuration a.config) t) e u is (at (takers_fault a.config.sig (configuration a.config) (entries_of a) t a.count e (none_there a tied) denied)) where
+  at : IsTakersFault (configuration a.config) t a.count e → ¬ (e ≡ fault.Mem) → IsUnfitTaker (configuration a.config) t (fill.Process e)
+  at (no_room is_mem) n = absurd (n is_mem)
+  at (not_fit h) n = record { cause = e; is = refl; unfit = h }
+  at (no_entry is_none h) n = absurd (other (a.count, is_none))
+
 -- ---- a thread sends
 
 pub send_filled : (a b d : Filling) (t : ℕ) (x : Tree) (k : ℕ) → HasEntered a b x k → IsFollowed b d (line.Send t k) → IsFilledOn a d (short.Send t)
@@ -195,7 +218,7 @@ pub send_refused : FormIsOne → ChannelsHaveOneAnswer → LinesThatAskTheSameAr
     → SendsOn a.config.sig (configuration a.config) t x → OrMem (IsBlamedFor b (line.Send t k)) v
     → OrMem (IsShortRefused a.config.sig (configuration a.config) (short.Send t)) v
 send_refused one answer alike a b t x k v h on is =
-    or_mem
+    or_mem _ _
     (λ f blame.
     let there = denied_before a b (line.Send t k) blame.cause h.grown blame.denied in
     let alone : IsRefused a.config.sig (configuration a.config) (x ∷ []) (line.Send t 0) blame.cause =
@@ -205,7 +228,7 @@ send_refused one answer alike a b t x k v h on is =
     v is
 
 pub channel_refused : (g : Sig) (c : Config) (t : ℕ) (e : PFault) (v : Unfilled) → HasNoChannel g c t e → IsBlamed e v → OrMem (IsShortRefused g c (short.Send t)) v
-channel_refused g c t e v none is = blame e v is (λ other. no_channel none other)
+channel_refused g c t e v none is = blame (IsShortRefused g c (short.Send t)) e v is (λ other. no_channel none other)
 
 pub channel_few : (g : Sig) (c : Config) (t : ℕ) (x : Tree) → SendsOn g c t x → HasFewNodes x
 channel_few g c t x on = on.small x (here (itself on.form))

@@ -95,9 +95,8 @@ fn fill_each(alloc: Global, f: &File, filling: &mut Filling, run: &SSteps) -> Re
 ///   adversary can give the channel;
 /// - `Know`: whether the term is over the signature, and whether the adversary can give its normal form.
 ///
-/// Steps count from 1, entries and threads from 0. The file's own restrictions refuse no step. Of several entries with one term
-/// the first is cited. What was found once is kept over the run, so the time goes with the nodes of the run, of what was sent and of
-/// what is written. It recurses as deep as the file's process and the terms of file and run.
+/// Steps count from 1, entries and threads from 0. The file's own restrictions refuse no step. What was found once is kept over
+/// the run. It recurses as deep as the file's process and the terms of file and run.
 pub fn fill(alloc: Global, f: &File, run: &SSteps) -> Result<PSteps, FillAt>
     requires runnable { IsRunnable (told_by f.now) }
     requires stands { All IsShortStep run.now }

@@ -6,8 +6,9 @@ ghost use Rattle.sap_terms.specs.View.{tree};
 ghost use Rattle.sap_terms.specs.declared.limits.TheConstants.{MOST_TERM_NODES as MostTermNodes};
 ghost use Rattle.sap_terms.specs.declared.var.Sort.TheVariants.{Msg};
 ghost use Rattle.sap_process.specs.Configuration.{CanGive};
+ghost use Rattle.sap_lines.specs.declared.fault.PFault.TheVariants.{Mem as OutOfMemory};
 ghost use Rattle.sap_calc.specs.Running.{configuration, IsDenied};
-ghost use Rattle.sap_intruder.specs.code.Filled.{AreCarriedOut, HasEntered, IsBlamedFor, IsFollowed, IsLooselyTied, IsTied, IsWritten, line_step, OrMem};
+ghost use Rattle.sap_intruder.specs.code.Filled.{AreCarriedOut, AreLeading, HasEntered, IsBlamedFor, IsFollowed, IsLooselyTied, IsPossible, IsTied, IsWritten, line_step, OrMem};
 
 use crate::unfilled::{Unfilled, blamed};
 use sap_calc::Config;
@@ -81,25 +82,39 @@ impl Filling {
         }
     }
 
-    // Does a line of a derivation. It is possible, so that want of memory alone comes.
-    fn write_line(&mut self, alloc: Global, line: &Line) -> Result<(), Mem>
-        ensures { OnOk result (IsWritten self.old self.new (line_step line.now)) }
+    // Does a line of a derivation. It is possible, so want of memory alone refuses it.
+    fn write_line(&mut self, alloc: Global, line: &Line) -> Result<(), PFault>
+        requires { IsPossible self.old line.now }
+        ensures ok { OnOk result (IsWritten self.old self.new (line_step line.now)) }
+        ensures refused { IfErr result (λ e. e ≡ OutOfMemory) }
     {
+        normal_forms_are_unique();
         let step = step_of(alloc, line)?;
-        match self.write(alloc, step) {
-            Err(_) => Err(Mem),
-            Ok(()) => Ok(()),
-        }
+        self.write(alloc, step)
     }
 
-    // Does the lines of a derivation, whose terms the search has already.
-    fn carry_out(&mut self, alloc: Global, lines: &LineList) -> Result<(), Mem>
-        ensures { OnOk result (AreCarriedOut self.old self.new lines.now) }
+    // Does each line of a derivation, whose terms the search has already.
+    fn carry_each(&mut self, alloc: Global, lines: &LineList) -> Result<(), PFault>
+        requires { AreLeading self.old lines.now }
+        ensures ok { OnOk result (AreCarriedOut self.old self.new lines.now) }
+        ensures refused { IfErr result (λ e. e ≡ OutOfMemory) }
     {
+        normal_forms_are_unique();
         for k in 0..lines.len() {
             self.write_line(alloc, lines.at(k))?;
         }
         Ok(())
+    }
+
+    // Does the lines of a derivation.
+    fn carry_out(&mut self, alloc: Global, lines: &LineList) -> Result<(), Mem>
+        requires { AreLeading self.old lines.now }
+        ensures { OnOk result (AreCarriedOut self.old self.new lines.now) }
+    {
+        match self.carry_each(alloc, lines) {
+            Err(_) => Err(Mem),
+            Ok(()) => Ok(()),
+        }
     }
 
     // The number of the entry that the term is, behind lines that lead to it; None where the adversary can't give it.
@@ -110,7 +125,6 @@ impl Filling {
         ensures some { IfOk result (λ o. IfSome o (HasEntered self.old self.new (tree goal.now))) }
         ensures none { IfOk result (λ o. IfNone o (¬ CanGive self.old.config.sig (configuration self.old.config) (tree goal.now))) }
     {
-        normal_forms_are_unique();
         deducing_is_transitive();
         self.config.each_entry_came();
         let Some(found) = self.search.find(alloc, goal)? else {

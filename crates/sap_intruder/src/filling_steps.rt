@@ -12,8 +12,8 @@ ghost use Rattle.sap_intruder.specs.code.Filled.{HasGiven, IsFilledOn, IsTaker, 
 
 use crate::FillFault;
 use crate::filling::Filling;
-use crate::unfilled::{Unfilled, blamed};
-use sap_lines::{PFault, channels_are_one, lines_look_at_one_entry};
+use crate::unfilled::{Unfilled, blamed, told_of_thread};
+use sap_lines::{channels_are_one, lines_look_at_one_entry};
 use sap_rewrite::{
     equality_is_kept, forms_are_messages, normal, normal_forms_are_unique, symbols_reduce_once,
 };
@@ -68,8 +68,7 @@ impl Filling {
     {
         match self.config.step(alloc, &PStep::In(t, self.count)) {
             Ok(_) => Err(Unfilled::Mem),
-            Err(PFault::NoEntry { .. }) => Ok(()),
-            Err(fault) => Err(blamed(fault)),
+            Err(fault) => told_of_thread(fault),
         }
     }
 
@@ -96,6 +95,8 @@ impl Filling {
         ensures refused { IfErr result (OrMem (IsShortRefused self.old.config.sig (configuration self.old.config) (short.Send t))) }
     {
         channels_are_one();
+        lines_look_at_one_entry();
+        normal_forms_are_unique();
         let x = match self.config.channel(alloc, t) {
             Err(fault) => return Err(blamed(fault)),
             Ok(x) => x,

@@ -1,6 +1,6 @@
 // Why a step of a short run is not filled.
-ghost use Rattle.std.specs.Prelude.{◌≡◌};
-ghost use Rattle.sap_intruder.specs.code.Filled.{IsBlamed};
+ghost use Rattle.std.specs.Prelude.{◌≡◌, IfErr, OnOk};
+ghost use Rattle.sap_intruder.specs.code.Filled.{IsBlamed, IsNoEntry};
 ghost use Rattle.sap_intruder.specs.declared.unfilled.Unfilled.TheVariants.{Mem as OutOfMemory};
 
 use crate::FillFault;
@@ -29,5 +29,16 @@ pub(crate) fn blamed(fault: PFault) -> Unfilled
     match fault {
         PFault::Mem => Unfilled::Mem,
         other => Unfilled::Fault(FillFault::Process(other)),
+    }
+}
+
+// What a line tells of its thread that would give it an entry which isn't there: nothing, where it is refused for that entry.
+pub(crate) fn told_of_thread(fault: PFault) -> Result<(), Unfilled>
+    ensures entry { OnOk result (IsNoEntry fault) }
+    ensures other { IfErr result (λ u. IsBlamed fault u × (¬ IsNoEntry fault)) }
+{
+    match fault {
+        PFault::NoEntry { .. } => Ok(()),
+        other => Err(blamed(other)),
     }
 }

@@ -6,7 +6,7 @@ use Rattle.sap_terms.specs.Tree.{Tree}
 use Rattle.sap_terms.specs.declared.fact.Fact.{Fact}
 use Rattle.sap_terms.specs.declared.term.Term.{Term}
 use Rattle.sap_deduce.specs.Entries.{terms_of}
-use Rattle.sap_derive.specs.Lines.{Give}
+use Rattle.sap_derive.specs.Lines.{Give, IsLine}
 use Rattle.sap_derive.specs.declared.line.Line.{Line}
 use Rattle.sap_derive.specs.declared.line.Line.TheVariants.{Public, Apply}
 use Rattle.sap_process.specs.Configuration.{Config, Runs, CanGive}
@@ -20,7 +20,7 @@ use Rattle.sap_runs.specs.declared.short_step.SStep.{SStep}
 use Rattle.sap_lines.specs.Faults.{IsUnfit, has_form}
 use Rattle.sap_lines.specs.declared.fault.PFault.{PFault}
 use Rattle.sap_lines.specs.declared.fault.PFault.TheVariants as fault
-use Rattle.sap_calc.specs.Running.{Running, configuration, IsDone, IsDenied}
+use Rattle.sap_calc.specs.Running.{configuration, IsDone, IsDenied}
 use Rattle.sap_intruder.specs.FilledRuns.{IsFilledRun}
 use Rattle.sap_intruder.specs.Refusals.{IsShortRefused}
 use Rattle.sap_intruder.specs.ShortLines.{IsGiven}
@@ -43,6 +43,10 @@ OrMem P (unfilled.Fault f) = P f
 pub data IsBlamed : PFault → Unfilled → Type 0 where
   out_of_memory : IsBlamed fault.Mem unfilled.Mem
   other_fault : {e : PFault} → ¬ (e ≡ fault.Mem) → IsBlamed e (unfilled.Fault (fill.Process e))
+
+-- no entry has some number
+abbrev pub IsNoEntry : PFault → Type 0
+IsNoEntry e = (k : ℕ) × (e ≡ fault.NoEntry k)
 
 -- one signature; the search has the terms of the entries, and they are counted
 pub record IsTied (a : Filling) : Type 0 where
@@ -86,6 +90,14 @@ pub record IsBlamedFor (a : Filling) (step : PStep) (f : FillFault) : Type 0 whe
 abbrev pub line_step : Line → PStep
 line_step (Public a) = line.Public a
 line_step (Apply f ks) = line.Apply f ks
+
+-- the line is possible behind the entries
+abbrev pub IsPossible : Filling → Line → Type 0
+IsPossible a l = (u : Tree) × IsLine a.config.sig (entries_of a) l u
+
+-- so are these lines, one after the other
+abbrev pub AreLeading : Filling → List Line → Type 0
+AreLeading a lines = (given : List Tree) × Give a.config.sig (entries_of a) lines given
 
 -- the lines so far fill these steps of a short run, within the limit
 abbrev pub HasFilled : Sig → Proc → List SStep → Filling → Trace → List Mark → Type 0
