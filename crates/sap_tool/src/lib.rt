@@ -17,6 +17,8 @@ mod theory_reading;
 mod top;
 mod verdicts;
 mod way;
+mod why;
+mod why_laws;
 mod words;
 
 pub use json_laws::{json_by_hand, json_comes_back};
@@ -27,3 +29,4 @@ pub use sap_outside::{
 };
 pub use sap_sample::{sample_file, sample_run};
 pub use top::sapic;
+pub use why_laws::{one_why_text, why_by_hand};
