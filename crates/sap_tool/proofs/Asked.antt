@@ -3,7 +3,7 @@ use Rattle.std.proofs.Common.{◌≡◌, ◌≢◌, ℕ, List, [], ◌∷◌, Op
 use Rattle.std.specs.Prelude.{codes, if◌then◌else◌}
 use Rattle.std.specs.Str.{bytes_eq}
 use Rattle.sap_sample.specs.Sample.{IsSample, sample_words}
-use Rattle.sap_tool.specs.Commands.{Command, compile, replay, fill, check, to_json, from_json, spelled}
+use Rattle.sap_tool.specs.Commands.{Command, compile, replay, fill, check, to_json, from_json, explain, spelled}
 use Rattle.sap_tool.specs.declared.task.Task.{Task}
 use Rattle.sap_tool.specs.declared.task.Task.TheVariants.{ToRules, ToProcess, Judge}
 use Rattle.sap_tool.specs.declared.way.Way.{Way}
@@ -18,6 +18,7 @@ of_two word name =
     else if bytes_eq word (codes "compile-short") then Some (compile Short name)
     else if bytes_eq word (codes "to-json") then Some (to_json name)
     else if bytes_eq word (codes "from-json") then Some (from_json name)
+    else if bytes_eq word (codes "why") then Some (explain name)
     else None
 
 abbrev of_three : List ℕ → List ℕ → List ℕ → Option Command
@@ -46,6 +47,7 @@ found (fill file run) = refl
 found (check theory run) = refl
 found (to_json run) = refl
 found (from_json json) = refl
+found (explain file) = refl
 
 -- the words ask for one command
 pub one_command : (words : List (List ℕ)) (k l : Command) → words ≡ spelled k → words ≡ spelled l → k ≡ l
@@ -65,10 +67,11 @@ no_command_is_sample words k n asks sample =
 -- no command is asked for, where none of each kind is
 pub no_command_of : (words : List (List ℕ)) → ((way : Way) (file : List ℕ) → words ≢ spelled (compile way file)) → ((task : Task) (file run : List ℕ) → words ≢ spelled (replay task file run))
     → ((theory run : List ℕ) → words ≢ spelled (check theory run)) → ((file run : List ℕ) → words ≢ spelled (fill file run)) → ((run : List ℕ) → words ≢ spelled (to_json run)) → ((json : List ℕ) → words ≢ spelled (from_json json))
-    → (k : Command) → words ≡ spelled k → ⊥
-no_command_of words f r t s j i (compile way file) e = f way file e
-no_command_of words f r t s j i (replay task file run) e = r task file run e
-no_command_of words f r t s j i (fill file run) e = s file run e
-no_command_of words f r t s j i (check theory run) e = t theory run e
-no_command_of words f r t s j i (to_json run) e = j run e
-no_command_of words f r t s j i (from_json json) e = i json e
+    → ((file : List ℕ) → words ≢ spelled (explain file)) → (k : Command) → words ≡ spelled k → ⊥
+no_command_of words f r t s j i w (compile way file) e = f way file e
+no_command_of words f r t s j i w (replay task file run) e = r task file run e
+no_command_of words f r t s j i w (fill file run) e = s file run e
+no_command_of words f r t s j i w (check theory run) e = t theory run e
+no_command_of words f r t s j i w (to_json run) e = j run e
+no_command_of words f r t s j i w (from_json json) e = i json e
+no_command_of words f r t s j i w (explain file) e = w file e

@@ -13,7 +13,7 @@ use Rattle.sap_outside.specs.Outside.{Files, IsFetched, IsFirstPart}
 use Rattle.sap_outside.specs.RunPieces.{IsReadUp}
 use Rattle.sap_tool.specs.Call.{Holds}
 use Rattle.sap_tool.specs.declared.way.Way.{Way}
-use Rattle.sap_tool.specs.Commands.{Command, compile, replay, fill, check, to_json, from_json, Input, alone, and_run, run_alone, limit_of, kinds_of, Accepts, Refuses, RefusesRun, TakesRun, Allows, Means}
+use Rattle.sap_tool.specs.Commands.{Command, compile, replay, fill, check, to_json, from_json, explain, Input, alone, and_run, run_alone, limit_of, kinds_of, Accepts, Refuses, RefusesRun, TakesRun, Allows, Means}
 use Rattle.sap_tool.specs.ShortRuns.{IsShortRefusedWith}
 use Rattle.sap_tool.specs.RunRefusals.{IsIllegal, IsIllegalOfTheory, IsNeverIllegal, IsRunRefusedWith, no_run, illegal}
 use Rattle.sap_tool.proofs.Legal as legal
@@ -30,6 +30,7 @@ use Rattle.sap_tool.proofs.JsonRefused.{OneJson, one_json_cause, json_not_refuse
 use Rattle.sap_tool.proofs.OneRefusal.{one_run_cause}
 use Rattle.sap_tool.proofs.Parts.{OneRun, not_both, same_run, read_up_refused, refused_by_read_up}
 use Rattle.sap_tool.proofs.Refused.{OneReading, OneCompiled, Runnable, Keeping, Writing, one_cause, one_theory, same_file, not_refused, part_refused, part_accepted, refused_by_part, accepted_by_part}
+use Rattle.sap_tool.proofs.WhyMeant.{why_means}
 use Rattle.sap_tool.proofs.TheoryRefused.{OneTheory, same_theory, one_theory_cause, theory_not_refused, theory_part_refused, theory_refused_by_part, theory_part_accepted, theory_accepted_by_part}
 
 -- what is so of a theory that is read
@@ -81,6 +82,7 @@ means laws (fill file run) (and_run bytes z) text t = filled_is_legal laws.short
 means laws (check theory run) (and_run bytes z) text t = t
 means laws (to_json run) (run_alone z) text t = json_is_read laws.json z text t
 means laws (from_json json) (alone bytes) text t = run_is_read laws.json bytes text t
+means laws (explain file) (alone bytes) text t = why_means laws.one bytes text t
 means laws k input text t = absurd t
 
 -- what is accepted isn't refused
@@ -91,6 +93,7 @@ accepted_never laws (fill file run) bytes why a r = not_refused laws.one bytes w
 accepted_never laws (check theory run) bytes why a r = theory_not_refused laws.one_theory bytes why a.0 r a.1
 accepted_never laws (to_json run) bytes why a r = absurd r
 accepted_never laws (from_json json) bytes why a r = absurd r
+accepted_never laws (explain file) bytes why a r = absurd r
 
 -- no run is both taken and refused
 pub never_taken : Laws → (k : Command) (input : Input) (why : List ℕ) → TakesRun k input → RefusesRun k input why → ⊥
@@ -137,6 +140,7 @@ one_why laws (fill file run) bytes why other r s = one_cause laws.one bytes why 
 one_why laws (check theory run) bytes why other r s = one_theory_cause laws.one_theory bytes why other r s
 one_why laws (to_json run) bytes why other r s = absurd r
 one_why laws (from_json json) bytes why other r s = absurd r
+one_why laws (explain file) bytes why other r s = absurd r
 
 -- so is a run
 pub one_run_why : Laws → (k : Command) (input : Input) (why other : List ℕ) → RefusesRun k input why → RefusesRun k input other → why ≡ other
@@ -178,6 +182,7 @@ part_is_refused (fill file run) bytes why r = part_refused bytes why r
 part_is_refused (check theory run) bytes why r = theory_part_refused bytes why r
 part_is_refused (to_json run) bytes why r = absurd r
 part_is_refused (from_json json) bytes why r = absurd r
+part_is_refused (explain file) bytes why r = absurd r
 
 -- and the other way about
 pub is_refused_by_part : (k : Command) (bytes why : List ℕ) → Refuses k (take (limit_of k + 1) bytes) why → Refuses k bytes why
@@ -187,6 +192,7 @@ is_refused_by_part (fill file run) bytes why r = refused_by_part bytes why r
 is_refused_by_part (check theory run) bytes why r = theory_refused_by_part bytes why r
 is_refused_by_part (to_json run) bytes why r = absurd r
 is_refused_by_part (from_json json) bytes why r = absurd r
+is_refused_by_part (explain file) bytes why r = absurd r
 
 -- it is accepted where the file is
 pub part_is_accepted : (k : Command) (bytes : List ℕ) → Accepts k bytes → Accepts k (take (limit_of k + 1) bytes)
@@ -196,6 +202,7 @@ part_is_accepted (fill file run) bytes a = (a.0, part_accepted bytes a.0 a.1)
 part_is_accepted (check theory run) bytes a = (a.0, theory_part_accepted bytes a.0 a.1)
 part_is_accepted (to_json run) bytes a = tt
 part_is_accepted (from_json json) bytes a = tt
+part_is_accepted (explain file) bytes a = tt
 
 -- and allows the file's text
 pub part_allows : (way : Way) (file bytes text : List ℕ) → Allows (compile way file) (alone bytes) text

@@ -64,13 +64,13 @@ one_compiled short Inlined told t u a b = a ∙ sym b
 one_compiled short Short told t u a b = short told t u a b
 
 module _ (one : OneReading) (z : List ℕ) where
-  same_fault : (e f : ReadFault) → IsRead z (Err e) → IsRead z (Err f) → e ≡ f
+  pub same_fault : (e f : ReadFault) → IsRead z (Err e) → IsRead z (Err f) → e ≡ f
   same_fault e f r s = let same : ◌≡◌ {A = Result FileContent ReadFault} (Err e) (Err f) = one z (Err e) (Err f) r s in cc
 
   pub same_file : (t u : FileContent) → IsRead z (Ok t) → IsRead z (Ok u) → t ≡ u
   same_file t u r s = let same : ◌≡◌ {A = Result FileContent ReadFault} (Ok t) (Ok u) = one z (Ok t) (Ok u) r s in cc
 
-  not_both : (t : FileContent) (e : ReadFault) → IsRead z (Ok t) → IsRead z (Err e) → ⊥
+  pub not_both : (t : FileContent) (e : ReadFault) → IsRead z (Ok t) → IsRead z (Err e) → ⊥
   not_both t e r s = let same : ◌≡◌ {A = Result FileContent ReadFault} (Ok t) (Err e) = one z (Ok t) (Err e) r s in cc (same)
 
   -- one cause refuses them

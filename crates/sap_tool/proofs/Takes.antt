@@ -6,7 +6,7 @@ use Rattle.sap_read.specs.Files.{FileContent}
 use Rattle.sap_run_texts.specs.declared.run.Run.{Run}
 use Rattle.sap_tool.specs.declared.task.Task.{Task}
 use Rattle.sap_tool.specs.declared.task.Task.TheVariants.{ToRules, ToProcess, Judge}
-use Rattle.sap_tool.specs.Commands.{Command, compile, replay, fill, check, to_json, from_json, Input, alone, and_run, run_alone, file_of, run_of, Accepts, RefusesRun, TakesRun, Writes, Allows}
+use Rattle.sap_tool.specs.Commands.{Command, compile, replay, fill, check, to_json, from_json, explain, Input, alone, and_run, run_alone, file_of, run_of, Accepts, RefusesRun, TakesRun, Writes, Allows}
 use Rattle.sap_tool.proofs.ShortRefused as short
 use Rattle.sap_tool.proofs.ShortRefused.{filled_is_legal}
 use Rattle.sap_tool.specs.Replays.{IsConvertedText, to_rules, to_process, IsSeen, of_process, of_rules}
@@ -47,6 +47,7 @@ allowed_is_whole (fill file run) (and_run bytes z) text t = (t.told, t.file)
 allowed_is_whole (check theory run) (and_run bytes z) text t = (t.theory, t.file)
 allowed_is_whole (to_json run) (run_alone z) text t = refl
 allowed_is_whole (from_json json) (alone bytes) text t = (tt, refl)
+allowed_is_whole (explain file) (alone bytes) text t = (tt, refl)
 allowed_is_whole k input text t = absurd t
 
 pub refused_is_whole : (k : Command) (input : Input) (why : List ℕ) → RefusesRun k input why → IsWhole k input

@@ -14,6 +14,7 @@ use Rattle.sap_tool.specs.AcceptedFile.{most_bytes, IsAcceptedFile, IsRefusedWit
 use Rattle.sap_tool.specs.AcceptedTheory.{most_theory_bytes, IsAcceptedTheory, IsTheoryRefusedWith}
 use Rattle.sap_tool.specs.JsonRuns.{IsAcceptedJson, IsJsonRefusedWith, IsJsonOf, IsReadAsJson, IsRunOfJson, IsReadAsRun}
 use Rattle.sap_tool.specs.Meaning.{IsFaithfulText}
+use Rattle.sap_tool.specs.WhyTexts.{IsWhyText, IsToldWhy}
 use Rattle.sap_tool.specs.Replays.{IsReplayed, IsChecked, IsConvertedText, IsJudgedText, IsOppositeText, IsLegalOfFile, IsLegalOfTheory}
 use Rattle.sap_tool.specs.RunRefusals.{IsIllegal, IsIllegalOfTheory, IsNeverIllegal, IsRunRefusedWith}
 use Rattle.sap_tool.specs.ShortRuns.{IsShortRefusedWith, IsFilledText, IsLegalShortOfFile, IsLegalFilling}
@@ -33,6 +34,8 @@ pub data Command : Type 0 where
   to_json : (run : List ℕ) → Command
   -- the run that this JSON is
   from_json : (json : List ℕ) → Command
+  -- whether a file is accepted, or why not, where, and what to change
+  explain : (file : List ℕ) → Command
 
 -- the word that asks for a theory in this way
 abbrev pub word_of_way : Way → List ℕ
@@ -54,6 +57,7 @@ spelled (fill file run) = codes "fill" ∷ file ∷ run ∷ []
 spelled (check theory run) = codes "check-rules" ∷ theory ∷ run ∷ []
 spelled (to_json run) = codes "to-json" ∷ run ∷ []
 spelled (from_json json) = codes "from-json" ∷ json ∷ []
+spelled (explain file) = codes "why" ∷ file ∷ []
 
 -- the words ask for nothing that the program does
 pub record IsUnknown (words : List (List ℕ)) : Type 0 where
@@ -68,6 +72,7 @@ file_of (fill file run) = Some file
 file_of (check theory run) = Some theory
 file_of (to_json run) = None
 file_of (from_json json) = Some json
+file_of (explain file) = Some file
 
 -- the run that it reads then
 abbrev pub run_of : Command → Option (List ℕ)
@@ -77,6 +82,7 @@ run_of (fill file run) = Some run
 run_of (check theory run) = Some run
 run_of (to_json run) = Some run
 run_of (from_json json) = None
+run_of (explain file) = None
 
 -- how a run is read: piece by piece; or fetched at once, as a file is
 pub data HowRead : Type 0 where
@@ -96,6 +102,7 @@ limit_of (fill file run) = most_bytes
 limit_of (check theory run) = most_theory_bytes
 limit_of (to_json run) = 0
 limit_of (from_json json) = most_run_bytes
+limit_of (explain file) = most_bytes
 
 -- of which kind a run has to be for a task
 abbrev pub kinds_of : Task → Kinds
@@ -109,7 +116,7 @@ pub data Input : Type 0 where
   and_run : (bytes z : List ℕ) → Input
   run_alone : (z : List ℕ) → Input
 
--- it refuses a file or theory of these bytes for this cause; what has neither refuses none
+-- it refuses a file or theory of these bytes for this cause; what has neither refuses none, nor does what says why a file is refused
 abbrev pub Refuses : Command → List ℕ → List ℕ → Type 0
 Refuses (compile way file) bytes why = IsRefusedWith bytes why
 Refuses (replay task file run) bytes why = IsRefusedWith bytes why
@@ -117,6 +124,7 @@ Refuses (fill file run) bytes why = IsRefusedWith bytes why
 Refuses (check theory run) bytes why = IsTheoryRefusedWith bytes why
 Refuses (to_json run) bytes why = ⊥
 Refuses (from_json json) bytes why = ⊥
+Refuses (explain file) bytes why = ⊥
 
 -- it accepts them
 abbrev pub Accepts : Command → List ℕ → Type 0
@@ -126,6 +134,7 @@ Accepts (fill file run) bytes = (told : FileContent) × IsAcceptedFile bytes tol
 Accepts (check theory run) bytes = (t : Theory) × IsAcceptedTheory bytes t
 Accepts (to_json run) bytes = Unit {0}
 Accepts (from_json json) bytes = Unit {0}
+Accepts (explain file) bytes = Unit {0}
 
 -- it accepts the file or theory that it read, where it has one, and refuses the run for this cause
 abbrev pub RefusesRun : Command → Input → List ℕ → Type 0
@@ -170,6 +179,7 @@ Allows (fill file run) (and_run bytes z) text = IsFilledText bytes z text
 Allows (check theory run) (and_run bytes z) text = IsChecked bytes z text
 Allows (to_json run) (run_alone z) text = IsJsonOf z text
 Allows (from_json json) (alone bytes) text = IsRunOfJson bytes text
+Allows (explain file) (alone bytes) text = IsWhyText bytes text
 Allows k input text = ⊥
 
 -- what such a text means
@@ -181,4 +191,5 @@ Means (fill file run) (and_run bytes z) text = IsLegalFilling bytes z text
 Means (check theory run) (and_run bytes z) text = IsChecked bytes z text
 Means (to_json run) (run_alone z) text = IsReadAsJson z text
 Means (from_json json) (alone bytes) text = IsReadAsRun bytes text
+Means (explain file) (alone bytes) text = IsToldWhy bytes text
 Means k input text = ⊥

@@ -27,6 +27,7 @@ use crate::sessions::end_sample;
 use crate::task::{Task, kinds_of, task_of};
 use crate::theory_reading::{MOST_THEORY_BYTES, accepted_theory};
 use crate::way::{Way, way_of};
+use crate::why::end_why;
 use crate::words::{word_behind, words_behind};
 use sap_outside::{Shelf, ShelfFault, read_run, requests_are_joined};
 use sap_read::{File, files_are_runnable};
@@ -56,8 +57,11 @@ pub fn ending<S: Shelf>(alloc: Global, words: &Vec<String>, shelf: &mut S) -> En
     if let Some(run) = word_behind(words, "to-json") {
         return end_to_json(alloc, shelf, run);
     }
-    match word_behind(words, "from-json") {
-        Some(json) => end_from_json(alloc, shelf, json),
+    if let Some(json) = word_behind(words, "from-json") {
+        return end_from_json(alloc, shelf, json);
+    }
+    match word_behind(words, "why") {
+        Some(file) => end_why(alloc, shelf, file),
         None => end_sample(alloc, words),
     }
 }

@@ -19,6 +19,8 @@ mod theory_reading;
 mod top;
 mod verdicts;
 mod way;
+mod why;
+mod why_laws;
 mod words;
 
 pub use fill_laws::fill_by_hand;
@@ -30,3 +32,4 @@ pub use sap_outside::{
 };
 pub use sap_sample::{sample_file, sample_run};
 pub use top::sapic;
+pub use why_laws::{one_why_text, why_by_hand};

@@ -5,10 +5,11 @@ use Rattle.sap_text.specs.declared.token.Token.{Token}
 use Rattle.sap_grammar.specs.Words.{words_of}
 use Rattle.sap_read.specs.Files.{AreTokens}
 use Rattle.sap_read.specs.declared.fault.ReadFault.{ReadFault}
-use Rattle.sap_read.specs.declared.fault.ReadFault.TheVariants.{Lex as LexFault, Header, TwoProcesses, DuplicateName}
+use Rattle.sap_read.specs.declared.fault.ReadFault.TheVariants.{Lex as LexFault, Header, TwoProcesses, UnknownProcess, DuplicateName}
 use Rattle.sap_where.specs.declared.find.Beginning.TheVariants.{Process}
 use Rattle.sap_where.specs.declared.place.Stretch.{Stretch}
-use Rattle.sap_where.specs.Where.{BeginsAt, HoldsOnce, IsSecond, IsTakenAt, IsTakenNowhere, IsWhere, StartsFile, at_byte, at_header, at_name, at_process, offset_of, only_statement, second_definition, second_statement}
+use Rattle.sap_where.specs.Uses.{IsUse}
+use Rattle.sap_where.specs.Where.{BeginsAt, HoldsOnce, IsFirst, IsSecond, IsTakenAt, IsTakenNowhere, IsWhere, StartsFile, at_byte, at_header, at_name, at_process, at_use, offset_of, only_statement, second_definition, second_statement}
 
 -- the tokens of the bytes
 abbrev pub AreOnly : List ℕ → List Token → Type 0
@@ -35,14 +36,20 @@ pub name_nowhere : (z : List ℕ) (ts : List Token) (x : List ℕ) → AreOnly z
 name_nowhere z ts x only h s (at_name {ts = us} {k = k} a w e) =
     taken_nowhere z ts x k h (subst (λ (vs : List Token). IsTakenAt z vs x k) (only us a) w)
 
-pub other_nowhere : (z : List ℕ) (e : ReadFault) → ((f : Lex) → e ≡ LexFault f → ⊥) → (e ≡ Header → ⊥) → ((n : ℕ) → e ≡ TwoProcesses n → ⊥) → ((x : List ℕ) → e ≡ DuplicateName x → ⊥) → (s : Stretch) → IsWhere z e s → ⊥
-other_nowhere z e a b c d s (at_byte o lt f) = a _ refl
-other_nowhere z e a b c d s (at_header t w f) = b refl
-other_nowhere z e a b c d s (at_process t w f) = c _ refl
-other_nowhere z e a b c d s (at_name t w f) = d _ refl
+pub other_nowhere : (z : List ℕ) (e : ReadFault) → ((f : Lex) → e ≡ LexFault f → ⊥) → (e ≡ Header → ⊥) → ((n : ℕ) → e ≡ TwoProcesses n → ⊥) → ((x : List ℕ) → e ≡ UnknownProcess x → ⊥) → ((x : List ℕ) → e ≡ DuplicateName x → ⊥) → (s : Stretch) → IsWhere z e s → ⊥
+other_nowhere z e a b c u d s (at_byte o lt f) = a _ refl
+other_nowhere z e a b c u d s (at_header t w f) = b refl
+other_nowhere z e a b c u d s (at_process t w f) = c _ refl
+other_nowhere z e a b c u d s (at_name t w f) = d _ refl
+other_nowhere z e a b c u d s (at_use t w f) = u _ refl
+
+pub use_nowhere : (z : List ℕ) (ts : List Token) (x : List ℕ) → AreOnly z ts → ((i : ℕ) → IsUse z ts x i → ⊥) → (s : Stretch) → IsWhere z (UnknownProcess x) s → ⊥
+use_nowhere z ts x only h s (at_use {ts = us} {k = k} a w e) =
+    h k (subst (λ (vs : List Token). IsUse z vs x k) (only us a) w.is)
 
 pub tokens_nowhere : (z : List ℕ) (e : ReadFault) → ((f : Lex) → e ≡ LexFault f → ⊥) → ((us : List Token) → AreTokens z us → ⊥) → (s : Stretch) → IsWhere z e s → ⊥
 tokens_nowhere z e a none s (at_byte o lt f) = a _ refl
 tokens_nowhere z e a none s (at_header t w f) = none _ t
 tokens_nowhere z e a none s (at_process t w f) = none _ t
 tokens_nowhere z e a none s (at_name t w f) = none _ t
+tokens_nowhere z e a none s (at_use t w f) = none _ t

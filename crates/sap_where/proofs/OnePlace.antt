@@ -6,7 +6,8 @@ use Rattle.sap_read.specs.Files.{AreTokens}
 use Rattle.sap_read.specs.declared.fault.ReadFault.{ReadFault}
 use Rattle.sap_where.specs.declared.find.Beginning.TheVariants.{Process}
 use Rattle.sap_where.specs.declared.place.Stretch.{Stretch}
-use Rattle.sap_where.specs.Where.{BeginsAt, GoOn, HoldsOnce, IsFirst, IsFirstWrong, IsSecond, IsTakenAt, IsWhere, StartsFile, at_byte, at_header, at_name, at_process, one_byte, only_statement, second_definition, second_statement, stretch_at}
+use Rattle.sap_where.specs.Uses.{IsUse}
+use Rattle.sap_where.specs.Where.{BeginsAt, GoOn, HoldsOnce, IsFirst, IsFirstWrong, IsSecond, IsTakenAt, IsWhere, StartsFile, at_byte, at_header, at_name, at_process, at_use, one_byte, only_statement, second_definition, second_statement, stretch_at}
 
 between : (m n : ℕ) → (m < n → ⊥) → (n < m → ⊥) → m ≡ n
 between zero zero f g = refl
@@ -82,3 +83,8 @@ one_place_is z e s t only (at_name {ts = ts} {x = x} {k = j} a w f) (at_name {ts
     let v' = subst (λ (us : List Token). IsTakenAt z us x k) same v in
     let n = one_taken z ts x j k w v' in
     f ∙ (ap (λ (k : ℕ). stretch_at ts (k + 1)) n ∙ (ap (λ (us : List Token). stretch_at us (k + 1)) (sym same) ∙ sym g))
+one_place_is z e s t only (at_use {ts = ts} {x = x} {k = j} a w f) (at_use {ts = us} {k = k} b v g) =
+    let same = only ts us a b in
+    let v' = subst (λ (us : List Token). IsFirst (IsUse z us x) k) same v in
+    let n = one_first (IsUse z ts x) j k w v' in
+    f ∙ (ap (λ (k : ℕ). stretch_at ts k) n ∙ (ap (λ (us : List Token). stretch_at us k) (sym same) ∙ sym g))

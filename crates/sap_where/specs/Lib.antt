@@ -1,3 +1,5 @@
 pub mod Positions
+pub mod Uses
 pub mod Where
+pub mod Told
 pub mod PlaceExamples

@@ -7,10 +7,11 @@ use Rattle.sap_grammar.specs.Words.{Word, mark, name, words_of, starts}
 use Rattle.sap_grammar.specs.Reading.{names}
 use Rattle.sap_read.specs.Files.{AreTokens}
 use Rattle.sap_read.specs.declared.fault.ReadFault.{ReadFault}
-use Rattle.sap_read.specs.declared.fault.ReadFault.TheVariants.{Lex as LexFault, Header, TwoProcesses, DuplicateName}
+use Rattle.sap_read.specs.declared.fault.ReadFault.TheVariants.{Lex as LexFault, Header, TwoProcesses, UnknownProcess, DuplicateName}
 use Rattle.sap_where.specs.declared.place.Stretch.{Stretch}
 use Rattle.sap_where.specs.declared.find.Beginning.{Beginning}
 use Rattle.sap_where.specs.declared.find.Beginning.TheVariants.{Process, Definition, Statement}
+use Rattle.sap_where.specs.Uses.{IsUse}
 
 -- the offset that a fault of bytes names
 abbrev pub offset_of : Lex → Option ℕ
@@ -102,7 +103,8 @@ pub record IsTakenNowhere (z : List ℕ) (ts : List Token) (x : List ℕ) : Type
   pub statements : (i : ℕ) → BeginsAt z ts Statement x i → ⊥
 
 -- the stretch is where this cause stands in the bytes: the byte of a fault of bytes; the word with which what stands before it is no
--- header's beginning any more; `process` where it stands a second time; the name that is taken, behind its item's first word
+-- header's beginning any more; `process` where it stands a second time; a name of a process where it is used first; the name that is
+-- taken, behind its item's first word
 pub data IsWhere (z : List ℕ) : ReadFault → Stretch → Type 0 where
   at_byte : {f : Lex} {at : ℕ} {s : Stretch} → offset_of f ≡ Some at → at < length z
       → s ≡ one_byte at → IsWhere z (LexFault f) s
@@ -113,6 +115,8 @@ pub data IsWhere (z : List ℕ) : ReadFault → Stretch → Type 0 where
       → IsWhere z (TwoProcesses line) s
   at_name : {ts : List Token} {x : List ℕ} {k : ℕ} {s : Stretch} → AreTokens z ts
       → IsTakenAt z ts x k → s ≡ stretch_at ts (k + 1) → IsWhere z (DuplicateName x) s
+  at_use : {ts : List Token} {x : List ℕ} {k : ℕ} {s : Stretch} → AreTokens z ts
+      → IsFirst (IsUse z ts x) k → s ≡ stretch_at ts k → IsWhere z (UnknownProcess x) s
 
 -- these causes have a place in each file that is refused for them
 pub data HasPlace : ReadFault → Type 0 where

@@ -5,10 +5,12 @@ mod find;
 mod laws;
 mod picture;
 mod place;
+mod told;
+mod uses;
 mod walk;
 
 pub use find::Beginning;
 pub use laws::{one_place, one_place_text, places_by_hand};
 pub use picture::push_place;
 pub use place::{Position, Stretch, position_of};
-pub use walk::place_of;
+pub use told::{Told, place_of};

@@ -13,6 +13,7 @@ ghost use Rattle.sap_where.specs.Where.{BeginsAt, HoldsOnce, IsFirst, IsFirstWro
 
 use crate::find::{Beginning, first, second};
 use crate::place::Stretch;
+use crate::uses::first_use;
 use sap_grammar::{beyond, name_at, starts};
 use sap_read::ReadFault;
 use sap_terms::{MOST_FILE_NAME_BYTES, Mem};
@@ -63,9 +64,11 @@ fn end_of(tokens: &[Token]) -> u64
 
 // The stretch of the token of this number, or what stands behind them all.
 #[tactic(auto, using(crate::proofs::Words::end_within))]
-fn stretch_at(tokens: &[Token], k: usize) -> Stretch
+pub(crate) fn stretch_at(tokens: &[Token], k: usize) -> Stretch
     ensures is { result ≡ stretch_at tokens.now k }
     ensures within { (size : ℕ) → All (IsWithin size) tokens.now → result.from ≤ size }
+    ensures ends { (size : ℕ) → All (IsWithin size) tokens.now → result.to ≤ size }
+    ensures order { (size : ℕ) → All (IsWithin size) tokens.now → result.from ≤ result.to }
 {
     if k < tokens.len() {
         let token = tokens[k];
@@ -153,12 +156,16 @@ fn place_among(bytes: &[u8], tokens: &[Token], fault: &ReadFault) -> Option<Stre
             Some(k) => Some(stretch_at(tokens, k + 1)),
             None => None,
         },
+        ReadFault::UnknownProcess { name } => match first_use(bytes, tokens, name.as_bytes()) {
+            Some(k) => Some(stretch_at(tokens, k)),
+            None => None,
+        },
         _ => None,
     }
 }
 
 // The tokens of a file, if its bytes are tokens.
-fn file_tokens(alloc: Global, bytes: &[u8]) -> Result<Option<Vec<Token>>, Mem>
+pub(crate) fn file_tokens(alloc: Global, bytes: &[u8]) -> Result<Option<Vec<Token>>, Mem>
     ensures are { IfOk result (λ o. MatchOption o
         ((ts : List Token) → AreTokens bytes.now ts → ⊥)
         (λ v. AreTokens bytes.now v.items)) }
@@ -175,11 +182,12 @@ fn file_tokens(alloc: Global, bytes: &[u8]) -> Result<Option<Vec<Token>>, Mem>
     }
 }
 
-/// Where in the bytes of a file the cause stands for which they are refused: of a fault of bytes the byte; without a header the
-/// first word that is wrong in one, or the end of the last word; of a second process its `process`; of a name that is taken the
-/// second definition's name, or that of the second restriction or lemma, or of the only one. `None`, where nothing of this is found
-/// in the bytes, and for all other causes. The time is linear in the bytes. Want of memory is the only error.
-pub fn place_of(alloc: Global, bytes: &[u8], fault: &ReadFault) -> Result<Option<Stretch>, Mem>
+// Where the cause stands, if its place is defined: `place_of` says of which it is.
+pub(crate) fn settled_place(
+    alloc: Global,
+    bytes: &[u8],
+    fault: &ReadFault,
+) -> Result<Option<Stretch>, Mem>
     ensures place { IfOk result (λ o. IfSome o (λ s. IsWhere bytes.now fault.now s)) }
     ensures inside { IfOk result (λ o. IfSome o (λ s. s.from ≤ length bytes.now)) }
     ensures none { IfOk result (λ o. o ≡ None → (s : Stretch) → IsWhere bytes.now fault.now s → ⊥) }

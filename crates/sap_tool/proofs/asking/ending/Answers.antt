@@ -22,9 +22,12 @@ returns-in-Some-word_behind g c = λ out err. c.end_to_json.ensures (bytes_of c.
 pub returns-in-Some-word_behind-2 : goal.returns-in-Some-word_behind-2
 returns-in-Some-word_behind-2 g c = λ out err. c.end_from_json.ensures (bytes_of c.args.words.now.items) out err c.in-Some-word_behind-2.ensures
 
+pub returns-in-Some-word_behind-3 : goal.returns-in-Some-word_behind-3
+returns-in-Some-word_behind-3 g c = λ out err. c.end_why.ensures (bytes_of c.args.words.now.items) out err c.in-Some-word_behind-3.ensures
+
 pub returns-in-None : goal.returns-in-None
 returns-in-None g c = λ out err.
     ends_of_sample _ c.end_sample.result
-    (no_command_of (bytes_of c.args.words.now.items) c.in_default.ensures c.in_default-run_to_replay.ensures c.in_default-words_behind.ensures c.in_default-words_behind-2.ensures c.in_default-word_behind.ensures c.in-None.ensures)
+    (no_command_of (bytes_of c.args.words.now.items) c.in_default.ensures c.in_default-run_to_replay.ensures c.in_default-words_behind.ensures c.in_default-words_behind-2.ensures c.in_default-word_behind.ensures c.in_default-word_behind-2.ensures c.in-None.ensures)
     refl
     c.end_sample.ensures

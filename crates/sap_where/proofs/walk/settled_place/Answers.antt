@@ -6,7 +6,7 @@ use Rattle.sap_where.specs.declared.place.Stretch.{Stretch}
 use Rattle.sap_where.specs.Where.{IsWhere}
 use Rattle.sap_where.proofs.Faults.{byte_place, byte_told, header_told, tokens_told}
 use Rattle.sap_where.proofs.Nowhere.{tokens_nowhere}
-use Rattle.sap_where.proofs.walk.place_of.Goals as goal
+use Rattle.sap_where.proofs.walk.settled_place.Goals as goal
 
 pub returns-in-Lex-clause-place : goal.returns-in-Lex-clause-place
 returns-in-Lex-clause-place c =

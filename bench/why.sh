@@ -1,0 +1,91 @@
+#!/bin/sh
+# Counts what `sapic why` costs beside `compile`, by the program itself, on files that are refused and whose size doubles:
+#
+#   byte      so many definitions, and a byte that begins no token behind them
+#   item      the same with an item that is in no grammar
+#   line      the same without a line feed in the file
+#   twice     the same with a definition more of the first name
+#   unknown   the same with a process that isn't defined
+#   clash     the same with a declaration that disagrees with one before them
+#   unbound   the same with a variable that isn't bound, in a definition that the process uses behind all others
+#   lock      the same with an unlock without lock
+#   nodes     definitions that the process uses twice each, up to more nodes than there may be
+#   lemma     so many lemmas, of which the last has a variable that isn't guarded
+#
+# For each size it tells the instructions of both, by valgrind, their ratio, which is to be at most 1.2, and what `why` takes to the size
+# before, at most 2.2.
+#
+# usage: bench/why.sh [KIND..]
+set -eu
+. "$(dirname "$0")/growth.sh"
+
+# definitions COUNT FEED BEHIND: so many definitions, each with this behind it, and then these items
+definitions() {
+    awk -v n="$1" -v feed="$2" -v behind="$3" 'BEGIN {
+        printf "theory Bench begin functions: f/1%s", feed
+        for (k = 1; k <= n; k++) printf "let P%d = new ~k; in(<x, y>); event A(x, ~k); out(f(<x, ~k>))%s", k, feed
+        print behind " end"
+    }'
+}
+
+byte() { definitions "$1" '\n' 'process: 0 %'; }
+item() { definitions "$1" '\n' 'process: new ~k; out(~k;'; }
+line() { definitions "$1" ' ' 'process: new ~k; out(~k;'; }
+twice() { definitions "$1" '\n' 'let P1 = 0 process: 0'; }
+unknown() { definitions "$1" '\n' 'process: Q'; }
+clash() { definitions "$1" '\n' 'functions: f/2 process: 0'; }
+unbound() { definitions "$1" '\n' 'let Q = in(x); out(y) process: P1 | Q'; }
+lock() { definitions "$1" '\n' "process: lock 's'; if 'a' = 'b' then unlock 't'"; }
+
+nodes() {
+    awk -v n="$1" 'BEGIN {
+        printf "theory Bench begin let P0 = event A()\n"
+        for (k = 1; k <= n; k++) printf "let P%d = P%d | P%d\n", k, k - 1, k - 1
+        printf "process: P%d end\n", n
+    }'
+}
+
+lemma() {
+    awk -v n="$1" 'BEGIN {
+        printf "theory Bench begin process: 0\n"
+        for (k = 1; k <= n; k++) printf "lemma l%d: \"All x y #i. A(x, y)@i ==> (Ex #j. B(x)@j & #j < #i)\"\n", k
+        print "lemma last: \"All x #i. A()@i ==> B(x)@i\" end"
+    }'
+}
+
+wished=" $* "
+printf '%-8s %7s %14s %14s %6s %7s\n' kind size compile why ratio growth
+
+# kind KIND LINE SIZES..: a line for the file of each size, which the function of that name makes, and which is refused with this line,
+# where this kind is asked for
+kind() {
+    what=$1 refused=$2 old=0
+    shift 2
+    case $wished in *" $what "* | "  ") ;; *) return 0 ;; esac
+    for size in "$@"; do
+        "$what" "$size" > "$work/file.spthy"
+        at=$(($(wc -c < "$work/file.spthy") - 6))
+        row=$(wc -l < "$work/file.spthy")
+        line=$(echo "$refused" | sed "s/BYTE/$at/; s/LINE/$row/")
+        ends 1 "file refused: $line"
+        long=$(instructions compile "$work/file.spthy")
+        ends 0 ''
+        told=$(instructions why "$work/file.spthy")
+        awk -v kind="$what" -v size="$size" -v long="$long" -v told="$told" -v old="$old" 'BEGIN {
+            growth = old > 0 ? sprintf("%.2f", told / old) : "-"
+            printf "%-8s %7d %14.0f %14.0f %6.2f %7s\n", kind, size, long, told, told / long, growth
+        }'
+        old=$told
+    done
+}
+
+kind byte 'byte BYTE begins no token' 1000 2000 4000 8000
+kind item 'line LINE: not in the grammar' 1000 2000 4000 8000
+kind line 'line 1: not in the grammar' 1000 2000 4000 8000
+kind twice 'name P1 stands twice' 1000 2000 4000 8000
+kind unknown 'process Q is not defined' 1000 2000 4000 8000
+kind clash 'function f is declared otherwise' 1000 2000 4000 8000
+kind unbound 'place 211: unbound' 1000 2000 4000 8000
+kind lock 'place 11: unlock without lock' 1000 2000 4000 8000
+kind nodes 'more than 4000 nodes' 12 24 48 96
+kind lemma 'last: variable x is not guarded' 1000 2000 4000 8000

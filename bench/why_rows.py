@@ -1,0 +1,156 @@
+#!/usr/bin/env python3
+"""Writes the table `why` of crates/sap_tables/data from marks that stand by hand.
+
+usage: bench/why_rows.py
+
+`bench/why-marks` has a row for each file, written as the rows of the tables are, with what refuses it behind `%`. `bench/why/` has
+whole files, whose first line is `-- ` and what refuses them. In both `@@` stands before the word at which the mistake is, or behind
+the last word, and `&&` before the name by which the process uses the `let` in which it is; a file without `@@` has no place. What is
+counted here from the marks is line, column, and the bytes of the word, and N in a cause is the offset of the mark. Nothing is taken
+from what the program prints.
+"""
+import glob
+import os
+import re
+
+top = os.path.dirname(os.path.dirname(os.path.abspath(__file__)))
+
+# What to change, by the beginning and the end of what refuses a file.
+ADVICE = [
+    (r"byte N begins no token", "Take this byte away: no word begins with it here, and quotes hold printable ASCII alone."),
+    (r"comment at byte N is not closed", "Write the */ that closes this comment."),
+    (r"quote at byte N is not closed", "Write the ' that closes this name, on the same line."),
+    (r"name at byte N is longer than 64 bytes", "Shorten it: an identifier, a number or a name in quotes has 64 bytes at most."),
+    (r"no theory header", "Begin the file with theory, a name and begin."),
+    (r"line \d+: not in the grammar", "A word is missing, wrong or too many there, or what stands there is nested too deep."),
+    (r"no process", "Add an item process: and the process."),
+    (r"line \d+: second process", "Make one of the two a let, or both one process with | between them."),
+    (r"process \w+ is not defined", "Define the name by a let above this item, or write the action that was meant."),
+    (r"name \w+ stands twice", "Give this one another name."),
+    (r"function \w+ is declared otherwise", "Leave this declaration out, or give it another name."),
+    (r"more than 4000 nodes", "Use a let at fewer places: each use counts in full, with all that it uses itself."),
+    (r"more than 300 levels", "Nest it less deep: each use of a let counts in full, with all that it uses itself."),
+    (r"place \w+: bad function", "Declare the symbol with as many arguments as stand here; new and lookup bind no constant."),
+    (r"place \w+: reserved variable", "Begin no name of a variable with sapic_."),
+    (r"place \w+: reserved fact", "Give the fact another name: rules use this one themselves."),
+    (r"place \w+: fact clash", "Write a fact with as many arguments each time, and with ! always or never."),
+    (r"place \w+: destructor in a pattern", "Write no destructor in a pattern: bind a variable there, and apply it behind."),
+    (r"place \w+: unbound", "Bind the name above, or put a public name in quotes, or declare a constant."),
+    (r"place \w+: rebound", "Give one of the two another name."),
+    (r"place \w+: sort clash", "Write the variable without its sign, or with that of its binder."),
+    (r"place \w+: scope is full", "Bind fewer names above: 64 are in scope at most, and each lock above counts as one."),
+    (r"place \w+: unlock without lock", "Write the term as the lock above writes it, and unlock each lock once on each way down."),
+    (r"place \w+: lock over parallel or replication", "Unlock above it, or lock below it, in the thread that unlocks."),
+    (r"\w+: bad function \w+", "Declare the symbol with as many arguments as stand here."),
+    (r"\w+: destructor \w+", "Let an event of the process show what it gives, and speak of that."),
+    (r"\w+: fact \w+ is reserved", "Speak of an event of your own; of the reserved facts a formula has K alone."),
+    (r"\w+: variable \w+ is not bound", "Bind it by All or Ex, a time with #, and sign it as its binder does or not at all."),
+    (r"\w+: variable \w+ is not guarded", "Let an action have it: before ==> under All, joined by & under Ex."),
+    (r"longer than 1048576 bytes", "Leave out comments, or write once, as a let, what stands twice."),
+]
+
+SKIP = re.compile(rb"(?:[ \t\r\n]|//[^\n]*|/\*.*?\*/)*", re.S)
+WORD = re.compile(rb"[A-Za-z][A-Za-z0-9_]*|[0-9]+|'[ -&(-~]*'|==>|<=>|--\[|\]->|-->|\|\||.", re.S)
+
+
+def written(text):
+    """The bytes of a part of a row: line feeds, bytes, and repetitions."""
+    out = b""
+    i = 0
+    while i < len(text):
+        if text[i] == "^":
+            out += b"\n"
+            i += 1
+        elif text[i] == "{":
+            end = text.index("}", i)
+            inside = text[i + 1 : end]
+            if ":" in inside:
+                times, again = inside.split(":", 1)
+                for k in range(int(times)):
+                    out += again.replace("#", str(k)).replace("^", "\n").encode()
+            elif inside:
+                out += bytes([int(inside, 16)])
+            i = end + 1
+        else:
+            out += text[i].encode()
+            i += 1
+    return out
+
+
+def shown(data):
+    """Bytes as the last part of a row has them."""
+    marks = {10: "^", 94: "{5e}", 37: "{25}", 123: "{7b}", 125: "{7d}"}
+    return "".join(marks.get(b, chr(b)) for b in data)
+
+
+def place(data, at, cause):
+    """The stretch of the word at the mark: of a fault of bytes one byte, behind the last word none."""
+    if " at byte N" in cause or cause.startswith("byte N"):
+        return at, at + 1
+    start = SKIP.match(data, at).end()
+    if start == len(data):
+        return at, at
+    return start, WORD.match(data, start).end()
+
+
+def picture(data, start, end):
+    """Line and column, the line, and carets."""
+    begin = data.rfind(b"\n", 0, start) + 1
+    stop = data.find(b"\n", start)
+    stop = len(data) if stop < 0 else stop
+    left, right = begin, stop
+    if stop - begin > 120:
+        left, right = max(begin, start - 60), min(stop, start + 60)
+    line = "".join(chr(b) if 32 <= b <= 126 else " " for b in data[left:right])
+    carets = max(1, min(end, right) - start)
+    text = "line %d, column %d\n" % (data.count(b"\n", 0, start) + 1, start - begin + 1)
+    return text + line + "\n" + " " * (start - left) + "^" * carets + "\n"
+
+
+def expected(marked, cause):
+    """The file, and all that is told of it."""
+    if cause == "accepted":
+        return marked, "accepted\n"
+    bare = marked.replace(b"@@", b"", 1).replace(b"&&", b"", 1) if b"@@" in marked else marked
+    text = ""
+    if b"@@" in marked:
+        at = marked.replace(b"&&", b"", 1).index(b"@@")
+        text = picture(bare, *place(bare, at, cause))
+        if b"&&" in marked:
+            use = marked.replace(b"@@", b"", 1).index(b"&&")
+            name = WORD.match(bare, use).group().decode()
+            text += "in %s, used at line %d\n" % (name, bare.count(b"\n", 0, use) + 1)
+        told = cause.replace("byte N", "byte %d" % at)
+    else:
+        told = cause
+    advice = [sentence for form, sentence in ADVICE if re.fullmatch(form, cause)]
+    assert len(advice) == 1, cause
+    return bare, "file refused: " + told + "\n" + text + advice[0] + "\n"
+
+
+def of_marks(row):
+    """The row of a line of marks: the file as it is written there, and what is told of it."""
+    file, cause = (part.strip() for part in row.rsplit("%", 1))
+    bytes_ = written(file)
+    whole = bytes_[1:] if file.startswith("=") else b"theory T begin " + bytes_ + b" end"
+    _, told = expected(whole, written(cause).decode())
+    return file.replace("@@", "", 1).replace("&&", "", 1) + " % " + shown(told.encode("latin-1"))
+
+
+def of_file(path):
+    """The row of a whole file."""
+    text = open(path, "rb").read()
+    head, marked = text.split(b"\n", 1)
+    bare, told = expected(marked, head[3:].decode())
+    file = "".join(shown(bytes([b])) if b < 127 else "{%02x}" % b for b in bare)
+    return "=" + file + " % " + shown(told.encode("latin-1"))
+
+
+with open(os.path.join(top, "crates/sap_tables/data/why"), "w") as table:
+    table.write("-- a file % what `why` tells of it; both written by bench/why_rows.py from marks that stand by hand\n")
+    table.write("-- whole files\n")
+    for path in sorted(glob.glob(os.path.join(top, "bench/why/*"))):
+        table.write(of_file(path) + "\n")
+    for line in open(os.path.join(top, "bench/why-marks")):
+        line = line.rstrip("\n")
+        table.write(line + "\n" if not line or line.startswith("-- ") else of_marks(line) + "\n")

@@ -1,0 +1,160 @@
+//! Which word of a restriction or a lemma a fault names.
+use crate::flaws::{Sought, is_sought};
+use crate::heads::{Part, between, sign_of, variable_at};
+use crate::items::begins_statement;
+use crate::scope::Scope;
+use crate::words::Words;
+use sap_formula::FormulaFault;
+use sap_grammar::beyond;
+use sap_terms::{Mem, Name, Sort};
+
+// The words of the formula of this restriction or lemma, from its quotation mark on.
+fn formula_of(words: &Words, name: &[u8]) -> Part {
+    for k in 0..words.tokens.len() {
+        if begins_statement(words.bytes, beyond(k, words.tokens), name) {
+            let from = words.next(k, "\"");
+            return between(from, words.next(from.saturating_add(1), "\""));
+        }
+    }
+    between(0, 0)
+}
+
+fn is_quantifier(words: &Words, k: usize) -> bool {
+    words.is(k, "All") || words.is(k, "Ex")
+}
+
+// Whether the name here stands for a time: behind `#` or `@`, or beside `<` where that joins two names.
+fn is_time(words: &Words, k: usize) -> bool {
+    let before = k.saturating_sub(1);
+    words.is(before, "#")
+        || words.is(before, "@")
+        || words.is(k.saturating_add(1), "<")
+        || (words.is(before, "<") && words.name(k.saturating_sub(2)).is_some())
+}
+
+// Whether the variable here is bound by the binder that stands last among those and the parentheses that are open.
+fn is_bound(words: &Words, open: &[usize], k: usize) -> bool {
+    let sign = sign_of(words, k);
+    let mut bound = false;
+    for binder in open {
+        if !words.is(*binder, "(") {
+            let of_time = words.is(binder.saturating_sub(1), "#");
+            bound = is_time(words, k) == of_time
+                && (sign == Sort::Msg || sign == sign_of(words, *binder));
+        }
+    }
+    bound
+}
+
+// A parenthesis closes: what was bound behind the one that opened isn't any more.
+fn close(words: &Words, open: &mut Vec<usize>) {
+    for _ in 0..open.len() {
+        match open.pop() {
+            Some(k) => if words.is(k, "(") {
+                return;
+            },
+            None => return,
+        }
+    }
+}
+
+// The first variable of this name that isn't bound.
+fn first_unbound(words: &Words, part: Part, name: &[u8]) -> Result<Option<usize>, Mem> {
+    let mut open = Vec::new(words.alloc);
+    let mut binding = false;
+    for k in part.from..part.to {
+        if words.is(k, "(") || (binding && words.has_name(k, name)) {
+            open.push(k)?;
+        } else if words.is(k, ")") {
+            close(words, &mut open);
+        } else if is_quantifier(words, k) {
+            binding = true;
+        } else if words.is(k, ".") {
+            binding = false;
+        } else if words.has_name(k, name)
+            && !is_bound(words, open.as_slice(), k)
+            && (is_time(words, k) || variable_at(words, k)?.is_some())
+        {
+            return Ok(Some(k));
+        }
+    }
+    Ok(None)
+}
+
+// Whether the name, of which a binder of that quantifier stands here, is in a guard: in a fact, or as its time, before a connective
+// that is no `&`.
+fn is_guarded(words: &Words, quantifier: usize, binder: usize, name: &[u8]) -> bool {
+    let (mut in_fact, mut guarded) = (false, false);
+    let mut depth: usize = 0;
+    for k in words.next(binder, ".")..words.tokens.len() {
+        let (implies, ends) = (words.is(k, "==>"), words.is(k, ")") || words.is(k, "\""));
+        if depth == 0 && (implies || ends || words.is_bar(k) || words.is(k, "<=>")) {
+            return guarded
+                && if words.is(quantifier, "All") {
+                    implies
+                } else {
+                    ends
+                };
+        }
+        if words.is(k, "(") {
+            depth = depth.saturating_add(1);
+        } else if ends {
+            depth = depth.saturating_sub(1);
+        } else if words.is(k, "&") || words.is(k, "=") {
+            in_fact = false;
+        } else if words.applied(k, true).is_some() {
+            in_fact = !words.is(k.saturating_sub(1), "not");
+        }
+        guarded = guarded || (in_fact && words.has_name(k, name));
+    }
+    false
+}
+
+// The first binder of this name that has no guard.
+fn first_unguarded(words: &Words, part: Part, name: &[u8]) -> Option<usize> {
+    let mut quantifier = part.to;
+    for k in part.from..part.to {
+        if is_quantifier(words, k) {
+            quantifier = k;
+        } else if words.is(k, ".") {
+            quantifier = part.to;
+        } else if quantifier < k
+            && words.has_name(k, name)
+            && !is_guarded(words, quantifier, k, name)
+        {
+            return Some(k);
+        }
+    }
+    None
+}
+
+// The first symbol or fact of this name; where only a wrong number of terms counts, the first with such a number.
+fn first_applied(words: &Words, part: Part, name: &[u8], bad: bool) -> Result<Option<usize>, Mem> {
+    let scope = Scope::new(words.alloc);
+    for k in part.from..part.to {
+        if words.has_name(k, name)
+            && words.is_applied(k)
+            && (!bad || is_sought(words, &scope, Sought::BadSymbol, k)?)
+        {
+            return Ok(Some(k));
+        }
+    }
+    Ok(None)
+}
+
+/// The word that the fault names in the formula of this restriction or lemma.
+pub(crate) fn faulty_word(
+    words: &Words,
+    name: &Name,
+    fault: &FormulaFault,
+) -> Result<Option<usize>, Mem> {
+    let part = formula_of(words, name.as_bytes());
+    match fault {
+        FormulaFault::Mem => Ok(None),
+        FormulaFault::BadFunction { f } => first_applied(words, part, f.as_bytes(), true),
+        FormulaFault::Destructor { f } => first_applied(words, part, f.as_bytes(), false),
+        FormulaFault::Reserved { fact } => first_applied(words, part, fact.as_bytes(), false),
+        FormulaFault::UnboundVar { var } => first_unbound(words, part, var.as_bytes()),
+        FormulaFault::Unguarded { var } => Ok(first_unguarded(words, part, var.as_bytes())),
+    }
+}

@@ -1,0 +1,123 @@
+//! A word of which a cause can speak.
+ghost use Rattle.std.specs.Prelude.{◌≡◌, IfSome, is_some, option_map, drop, ℕ};
+ghost use Rattle.sap_grammar.specs.Words.{words_of};
+ghost use Rattle.sap_grammar.specs.Reading.{name_at};
+ghost use Rattle.sap_spot.specs.Found.{IsWordOf, begins_process, declares, flaw_fits, is_named, lock_fits, named_by, speaks};
+
+use crate::items::{begins_statement, has_name, item_of};
+use sap_formula::FormulaFault;
+use sap_grammar::{beyond, name_at, starts};
+use sap_locks::LockFault;
+use sap_process::Flaw;
+use sap_read::ReadFault;
+use sap_text::Token;
+
+/// A word by the number of its token, from 0, and, where it stands in the definition of a process, the name as which that is used
+/// there, by its token's.
+#[derive(Clone, Copy, Debug, PartialEq, Eq)]
+pub struct Found {
+    pub word: usize,
+    pub used: Option<usize>,
+}
+
+fn begins_process(bytes: &[u8], tokens: &[Token], used: Option<usize>, item: &[Token]) -> bool
+    ensures { result ≡ begins_process (option_map (λ (k : ℕ). words_of bytes.now
+        (drop k tokens.now)) used) (words_of bytes.now item.now) }
+{
+    match used {
+        None => starts(bytes, item, "process"),
+        Some(k) => match name_at(bytes, beyond(k, tokens)) {
+            Some(name) => starts(bytes, item, "let") && has_name(bytes, beyond(1, item), name),
+            None => false,
+        },
+    }
+}
+
+fn flaw_fits(bytes: &[u8], here: &[Token], flaw: Flaw) -> bool
+    ensures { result ≡ flaw_fits flaw (words_of bytes.now here.now) }
+{
+    if flaw == Flaw::ScopeFull {
+        name_at(bytes, here).is_some() || starts(bytes, here, "lock")
+    } else {
+        name_at(bytes, here).is_some()
+    }
+}
+
+fn lock_fits(bytes: &[u8], here: &[Token], fault: &LockFault) -> bool
+    ensures { result ≡ lock_fits fault.now (words_of bytes.now here.now) }
+{
+    match fault {
+        LockFault::Mem => false,
+        LockFault::UnlockWithoutLock { .. } => starts(bytes, here, "unlock"),
+        LockFault::LockOverParallel { .. } => {
+            starts(bytes, here, "|") || starts(bytes, here, "||") || starts(bytes, here, "!")
+        }
+    }
+}
+
+// Whether the word here is what the fault of a formula names.
+fn is_named_by(bytes: &[u8], here: &[Token], fault: &FormulaFault) -> bool
+    ensures { result ≡ is_named (named_by fault.now) (words_of bytes.now here.now) }
+{
+    match fault {
+        FormulaFault::Mem => false,
+        FormulaFault::BadFunction { f } => has_name(bytes, here, f.as_bytes()),
+        FormulaFault::Destructor { f } => has_name(bytes, here, f.as_bytes()),
+        FormulaFault::Reserved { fact } => has_name(bytes, here, fact.as_bytes()),
+        FormulaFault::UnboundVar { var } => has_name(bytes, here, var.as_bytes()),
+        FormulaFault::Unguarded { var } => has_name(bytes, here, var.as_bytes()),
+    }
+}
+
+fn is_declared(bytes: &[u8], here: &[Token], item: &[Token], name: &[u8]) -> bool
+    ensures { result ≡ declares name.now (words_of bytes.now here.now) (words_of bytes.now item.now) }
+{
+    (starts(bytes, item, "functions") && has_name(bytes, here, name))
+        || (starts(bytes, item, "builtins") && name_at(bytes, here).is_some())
+}
+
+// Whether the cause can speak of this word, which stands in the item that begins there.
+fn speaks(bytes: &[u8], tokens: &[Token], fault: &ReadFault, found: Found, item: &[Token]) -> bool
+    ensures { result ≡ speaks fault.now (words_of bytes.now (drop found.word tokens.now))
+        (words_of bytes.now item.now)
+        (option_map (λ (k : ℕ). words_of bytes.now (drop k tokens.now)) found.used) }
+{
+    let here = beyond(found.word, tokens);
+    match fault {
+        ReadFault::FunctionClash { name } => {
+            found.used.is_none() && is_declared(bytes, here, item, name.as_bytes())
+        }
+        ReadFault::TooMany | ReadFault::TooDeep => begins_process(bytes, tokens, found.used, item),
+        ReadFault::Ill { which, .. } => {
+            begins_process(bytes, tokens, found.used, item) && flaw_fits(bytes, here, *which)
+        }
+        ReadFault::Lock(lock) => {
+            begins_process(bytes, tokens, found.used, item) && lock_fits(bytes, here, lock)
+        }
+        ReadFault::Formula { name, fault } => {
+            found.used.is_none()
+                && begins_statement(bytes, item, name.as_bytes())
+                && is_named_by(bytes, here, fault)
+        }
+        _ => false,
+    }
+}
+
+/// The word, if the cause can speak of it.
+pub(crate) fn checked(
+    bytes: &[u8],
+    tokens: &[Token],
+    fault: &ReadFault,
+    found: Found,
+) -> Option<Found>
+    ensures { IfSome result (λ f. IsWordOf bytes.now tokens.now fault.now f) }
+{
+    match item_of(bytes, tokens, found.word) {
+        Some(item) => if speaks(bytes, tokens, fault, found, beyond(item, tokens)) {
+            Some(found)
+        } else {
+            None
+        },
+        None => None,
+    }
+}

@@ -1,0 +1,55 @@
+//! The places of a process in their order, names replaced by what they stand for.
+use crate::found::Found;
+use crate::spot::{Spot, below, head_word, root, settled};
+use crate::words::Words;
+use sap_terms::{MOST_PROCESS_LEVELS, MOST_PROCESS_PLACES, Mem};
+
+/// A place, and on which level it stands, where the root is on level 1.
+#[derive(Clone, Copy)]
+pub(crate) struct Visit {
+    pub(crate) spot: Spot,
+    pub(crate) level: u64,
+}
+
+/// The first place, as the only one that is still to be visited.
+pub(crate) fn start(words: &Words) -> Result<Vec<Visit>, Mem> {
+    let spot = root(words)?;
+    let mut pending = Vec::new(words.alloc);
+    pending.push(Visit { spot, level: 1 })?;
+    Ok(pending)
+}
+
+/// The next place, and puts those below it before what is still to be visited.
+pub(crate) fn next(words: &Words, pending: &mut Vec<Visit>) -> Result<Option<Visit>, Mem> {
+    let Some(visit) = pending.pop() else {
+        return Ok(None);
+    };
+    let spot = settled(words, visit.spot)?;
+    let (first, second) = below(words, spot);
+    let level = visit.level.saturating_add(1);
+    for child in [second, first] {
+        if let Some(spot) = child {
+            pending.push(Visit { spot, level })?;
+        }
+    }
+    Ok(Some(Visit { spot, ..visit }))
+}
+
+/// The first word of the first place beyond the limit of levels, or of places.
+pub(crate) fn first_beyond(words: &Words, of_levels: bool) -> Result<Option<Found>, Mem> {
+    let mut pending = start(words)?;
+    for k in 0..MOST_PROCESS_PLACES + 1 {
+        let Some(visit) = next(words, &mut pending)? else {
+            return Ok(None);
+        };
+        let is_beyond = if of_levels {
+            visit.level > MOST_PROCESS_LEVELS
+        } else {
+            k == MOST_PROCESS_PLACES
+        };
+        if is_beyond {
+            return Ok(Some(head_word(words, visit.spot)));
+        }
+    }
+    Ok(None)
+}

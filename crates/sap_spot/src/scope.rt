@@ -1,0 +1,98 @@
+//! Which variables the places above a place bind.
+use crate::found::Found;
+use crate::heads::{Part, binder_at, head_of, one, used_and_patterns, variable_at};
+use crate::spot::{Form, Spot};
+use crate::words::Words;
+use sap_terms::{MOST_SCOPE_NAMES, Mem, Name, NameMap, Sort, Var};
+use std::alloc::Global;
+
+/// The names that are bound above a place, with the sorts of their binders; how many there are, where each lock counts as one; and
+/// with which word they were more than may be.
+#[derive(Drop)]
+pub(crate) struct Scope {
+    sorts: NameMap<Sort>,
+    size: u64,
+    pub(crate) beyond: Option<Found>,
+}
+
+impl Scope {
+    pub(crate) fn new(alloc: Global) -> Scope {
+        Scope {
+            sorts: NameMap::new(alloc),
+            size: 0,
+            beyond: None,
+        }
+    }
+
+    /// The sort of the name's binder.
+    pub(crate) fn sort_of(&self, name: &Name) -> Option<Sort> {
+        self.sorts.get(name).copied()
+    }
+
+    fn count(&mut self, found: Found) {
+        self.size = self.size.saturating_add(1);
+        if self.size > MOST_SCOPE_NAMES && self.beyond.is_none() {
+            self.beyond = Some(found);
+        }
+    }
+
+    // Binds the variable where its name isn't bound, with its own sort or another.
+    fn bind(&mut self, var: Var, sort: Option<Sort>, found: Found) -> Result<(), Mem> {
+        if self.sorts.contains_key(&var.name) {
+            return Ok(());
+        }
+        self.sorts.insert(var.name, sort.unwrap_or(var.sort))?;
+        self.count(found);
+        Ok(())
+    }
+
+    /// Binds each variable that stands in this part and isn't bound, with its own sort or another.
+    pub(crate) fn bind_part(
+        &mut self,
+        words: &Words,
+        part: Part,
+        sort: Option<Sort>,
+        spot: Spot,
+    ) -> Result<(), Mem> {
+        for word in part.from..part.to {
+            if let Some(var) = variable_at(words, word)? {
+                self.bind(var, sort, spot.found(word))?;
+            }
+        }
+        Ok(())
+    }
+
+    // Binds what an action binds.
+    fn enter_action(&mut self, words: &Words, spot: Spot) -> Result<(), Mem> {
+        if words.is(spot.at, "lock") {
+            self.count(spot.found(spot.at));
+            return Ok(());
+        }
+        if words.is(spot.at, "[") {
+            return self.bind_part(words, head_of(words, spot.at), None, spot);
+        }
+        match binder_at(words, spot.at) {
+            Some(name) => self.bind_part(words, one(name), Some(Sort::Fresh), spot),
+            None => self.bind_part(words, used_and_patterns(words, spot.at).1, None, spot),
+        }
+    }
+
+    /// Goes on from a place of this form to the child of this digit: binds what the place binds for it.
+    pub(crate) fn enter(
+        &mut self,
+        words: &Words,
+        form: Form,
+        spot: Spot,
+        digit: u8,
+    ) -> Result<(), Mem> {
+        match (form, binder_at(words, spot.at)) {
+            (Form::Action, _) => self.enter_action(words, spot),
+            (Form::Lookup, Some(name)) => if digit == 1 {
+                self.bind_part(words, one(name), Some(Sort::Msg), spot)
+            } else {
+                Ok(())
+            },
+            _ => Ok(()),
+        }
+    }
+}

@@ -1,0 +1,70 @@
+//! The word of a file of which a cause speaks.
+ghost use Rattle.std.specs.Prelude.{IfOk, IfSome};
+ghost use Rattle.sap_spot.specs.Found.{IsWordOf};
+
+use crate::declarations::clashing_declaration;
+use crate::descent::found_at;
+use crate::formulas::faulty_word;
+use crate::found::{Found, checked};
+use crate::layout::{Layout, layout_of};
+use crate::preorder::first_beyond;
+use crate::words::Words;
+use sap_grammar::read_declarations;
+use sap_locks::LockFault;
+use sap_read::ReadFault;
+use sap_terms::Mem;
+use sap_text::Token;
+use std::alloc::Global;
+
+// A word that stands in no definition that is used.
+fn alone(word: Option<usize>) -> Option<Found> {
+    match word {
+        Some(word) => Some(Found { word, used: None }),
+        None => None,
+    }
+}
+
+fn sought(words: &Words, fault: &ReadFault) -> Result<Option<Found>, Mem> {
+    match fault {
+        ReadFault::FunctionClash { .. } => Ok(alone(clashing_declaration(words)?)),
+        ReadFault::TooMany => first_beyond(words, false),
+        ReadFault::TooDeep => first_beyond(words, true),
+        ReadFault::Ill { which, path } => found_at(words, Some(*which), path),
+        ReadFault::Lock(LockFault::UnlockWithoutLock { path }) => found_at(words, None, path),
+        ReadFault::Lock(LockFault::LockOverParallel { path }) => found_at(words, None, path),
+        ReadFault::Formula { name, fault } => Ok(alone(faulty_word(words, name, fault)?)),
+        _ => Ok(None),
+    }
+}
+
+/// The word of which the cause speaks for which a file of these tokens is refused: of a flaw of its process the variable, the symbol
+/// or the fact that has it, where it is written; of a lock the unlock, or the sign of the parallel or the replication; of a limit the
+/// first word beyond; the function, the fact or the variable of a declaration or a formula. `None` of other causes, and where no such
+/// word is found. The time is linear in the tokens, but for names, which are looked up. Want of memory is the only error.
+pub fn word_of(
+    alloc: Global,
+    bytes: &[u8],
+    tokens: &[Token],
+    fault: &ReadFault,
+) -> Result<Option<Found>, Mem>
+    ensures { IfOk result (λ o. IfSome o (λ f. IsWordOf bytes.now tokens.now fault.now f)) }
+{
+    let declared = read_declarations(alloc, bytes, tokens)?;
+    let nothing = Layout::new(alloc);
+    let bare = Words {
+        alloc,
+        bytes,
+        tokens,
+        sig: &declared.signature,
+        layout: &nothing,
+    };
+    let layout = layout_of(&bare)?;
+    let words = Words {
+        layout: &layout,
+        ..bare
+    };
+    match sought(&words, fault)? {
+        Some(found) => Ok(checked(bytes, tokens, fault, found)),
+        None => Ok(None),
+    }
+}

@@ -1,0 +1,201 @@
+//! Places of a process in the words that spell it.
+use crate::found::Found;
+use crate::words::Words;
+use sap_grammar::{beyond, starts_zero};
+use sap_terms::Mem;
+
+/// What is read from a word on: a process whole, a process that is no parallel, or a `0` that isn't written.
+#[derive(Clone, Copy, PartialEq, Eq)]
+pub(crate) enum Extent {
+    Whole,
+    Part,
+    Missing,
+}
+
+/// Where a process begins: the number of its first word, and of the name as which it is used last, if it is a name's.
+#[derive(Clone, Copy)]
+pub(crate) struct Spot {
+    pub(crate) at: usize,
+    pub(crate) extent: Extent,
+    pub(crate) used: Option<usize>,
+}
+
+/// What stands at the head of a process. A parallel has the number of its sign.
+#[derive(Clone, Copy)]
+pub(crate) enum Form {
+    Nil,
+    Parallel(usize),
+    Replicated,
+    Action,
+    If,
+    Lookup,
+}
+
+/// What stands below a place: the first or only process, and the second.
+pub(crate) type Below = (Option<Spot>, Option<Spot>);
+
+impl Spot {
+    /// A word that stands in the same definition.
+    pub(crate) fn found(self, word: usize) -> Found {
+        Found {
+            word,
+            used: self.used,
+        }
+    }
+
+    // A process of the same definition that begins here.
+    fn with(self, at: usize, extent: Extent) -> Spot {
+        Spot {
+            at,
+            extent,
+            used: self.used,
+        }
+    }
+
+    // Behind this word, or, where there is none, a `0` that is missing, which is told by the head of what it is missing behind.
+    fn behind(self, word: Option<usize>) -> Option<Spot> {
+        match word {
+            Some(k) => Some(self.with(k.saturating_add(1), Extent::Part)),
+            None => Some(self.with(self.at, Extent::Missing)),
+        }
+    }
+}
+
+// The sign of the parallel that a whole process is, if it is one.
+fn bar_of(words: &Words, spot: Spot) -> Option<usize> {
+    if spot.extent == Extent::Whole {
+        words.layout.partner(spot.at.saturating_sub(1))
+    } else {
+        None
+    }
+}
+
+// Behind an opening parenthesis, or in the process that a name stands for.
+fn further_in(words: &Words, spot: Spot) -> Result<Option<Spot>, Mem> {
+    if spot.extent == Extent::Missing || bar_of(words, spot).is_some() {
+        return Ok(None);
+    }
+    if words.is(spot.at, "(") {
+        return Ok(Some(spot.with(spot.at.saturating_add(1), Extent::Whole)));
+    }
+    let Some(name) = words.name(spot.at) else {
+        return Ok(None);
+    };
+    match words.layout.definition(words, name)? {
+        Some(at) => Ok(Some(Spot {
+            at,
+            extent: Extent::Whole,
+            used: Some(spot.at),
+        })),
+        None => Ok(None),
+    }
+}
+
+/// The same process where its head is written: neither in parentheses, nor a name that is defined.
+pub(crate) fn settled(words: &Words, from: Spot) -> Result<Spot, Mem> {
+    let mut spot = from;
+    for _ in 0..words.tokens.len() {
+        match further_in(words, spot)? {
+            Some(inner) => spot = inner,
+            None => return Ok(spot),
+        }
+    }
+    Ok(spot)
+}
+
+/// Where the file's process begins.
+pub(crate) fn root(words: &Words) -> Result<Spot, Mem> {
+    let spot = Spot {
+        at: words.layout.start,
+        extent: Extent::Whole,
+        used: None,
+    };
+    settled(words, spot)
+}
+
+/// What stands at a place whose head is written here.
+pub(crate) fn form_at(words: &Words, spot: Spot) -> Form {
+    if let Some(bar) = bar_of(words, spot) {
+        return Form::Parallel(bar);
+    }
+    let here = beyond(spot.at, words.tokens);
+    if spot.extent == Extent::Missing || starts_zero(words.bytes, here) {
+        return Form::Nil;
+    }
+    if words.is(spot.at, "!") {
+        Form::Replicated
+    } else if words.is(spot.at, "if") {
+        Form::If
+    } else if words.is(spot.at, "lookup") {
+        Form::Lookup
+    } else if words.name(spot.at).is_some() {
+        Form::Nil
+    } else {
+        Form::Action
+    }
+}
+
+/// The word by which a place is told: the sign of a parallel, or the first word.
+pub(crate) fn head_word(words: &Words, spot: Spot) -> Found {
+    match bar_of(words, spot) {
+        Some(bar) => spot.found(bar),
+        None => spot.found(spot.at),
+    }
+}
+
+// Whether nothing of a head stands from this word on, outside of parentheses.
+fn ends_head(words: &Words, k: usize) -> bool {
+    words.is(k, ";")
+        || words.is(k, ")")
+        || words.is_bar(k)
+        || words.is(k, "then")
+        || words.is(k, "else")
+        || words.is(k, "as")
+        || words.begins_item(k)
+}
+
+/// The word behind what an action, an `if` or a `lookup` has for terms and facts, which begins here.
+pub(crate) fn head_end(words: &Words, at: usize) -> usize {
+    let mut depth: usize = 0;
+    for k in at.saturating_add(1)..words.tokens.len() {
+        if depth == 0 && ends_head(words, k) {
+            return k;
+        }
+        if words.is(k, "(") {
+            depth = depth.saturating_add(1);
+        } else if words.is(k, ")") {
+            depth = depth.saturating_sub(1);
+        }
+    }
+    words.tokens.len()
+}
+
+// What stands below an action, or, behind so many words, below a choice.
+fn behind_terms(words: &Words, spot: Spot, between: Option<usize>) -> Below {
+    let end = head_end(words, spot.at);
+    match between {
+        Some(count) => {
+            let first = spot.behind(Some(end.saturating_add(count)));
+            (first, spot.behind(words.layout.partner(spot.at)))
+        }
+        None => {
+            let next = if words.is(end, ";") { Some(end) } else { None };
+            (spot.behind(next), None)
+        }
+    }
+}
+
+/// What stands below a place whose head is written here.
+pub(crate) fn below(words: &Words, spot: Spot) -> Below {
+    match form_at(words, spot) {
+        Form::Nil => (None, None),
+        Form::Parallel(bar) => {
+            let second = spot.with(bar.saturating_add(1), Extent::Whole);
+            (Some(spot.with(spot.at, Extent::Part)), Some(second))
+        }
+        Form::Replicated => (spot.behind(Some(spot.at)), None),
+        Form::Action => behind_terms(words, spot, None),
+        Form::If => behind_terms(words, spot, Some(0)),
+        Form::Lookup => behind_terms(words, spot, Some(2)),
+    }
+}

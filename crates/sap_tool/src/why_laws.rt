@@ -1,0 +1,32 @@
+//! Laws of what is told of files, and of the command that tells it.
+
+ghost use Rattle.std.specs.Prelude.{◌≡◌, ℕ, codes, List, [], ◌∷◌, Err};
+ghost use Rattle.sap_read.specs.Files.{IsRead};
+ghost use Rattle.sap_read.specs.declared.fault.ReadFault.{ReadFault};
+ghost use Rattle.sap_tool.specs.Commands.{Allows, Input, Refuses, RefusesRun, TakesRun, and_run, explain, run_alone, spelled};
+ghost use Rattle.sap_tool.specs.WhyTexts.{IsWhyText};
+ghost use Rattle.sap_why.specs.Explained.{IsSettled};
+
+use sap_read::one_file;
+use sap_why::one_explanation;
+
+/// A law: of some bytes one text is told, unless they are refused for a cause whose place isn't defined by the words of the file; then
+/// one line tells that cause.
+pub fn one_why_text()
+    ensures { (bytes text other : List ℕ) → IsWhyText bytes text → IsWhyText bytes other
+        → ((e : ReadFault) → IsRead bytes (Err e) → IsSettled e) → text ≡ other }
+{
+    one_file();
+    one_explanation();
+}
+
+/// A law: the command tried by hand. What words ask for it; that it refuses no file and no run, takes no run, and allows nothing where a
+/// run is read.
+pub fn why_by_hand()
+    ensures words { spelled (explain (codes "a")) ≡ codes "why" ∷ codes "a" ∷ [] }
+    ensures no_refusal { (file bytes why : List ℕ) → Refuses (explain file) bytes why → ⊥ }
+    ensures no_run_refusal { (file why : List ℕ) (input : Input) → RefusesRun (explain file) input why → ⊥ }
+    ensures no_run { (file : List ℕ) (input : Input) → TakesRun (explain file) input → ⊥ }
+    ensures no_pieces { (file z text : List ℕ) → Allows (explain file) (run_alone z) text → ⊥ }
+    ensures no_both { (file bytes z text : List ℕ) → Allows (explain file) (and_run bytes z) text → ⊥ }
+{}

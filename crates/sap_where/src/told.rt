@@ -1,0 +1,76 @@
+//! What is told of where a cause stands.
+ghost use Rattle.std.specs.Prelude.{◌≡◌, ◌≤◌, ◌×◌, None, Err, IfOk, IfSome, length, List, option_map};
+ghost use Rattle.std.specs.List.{All};
+ghost use Rattle.sap_text.specs.Spans.{IsWithin};
+ghost use Rattle.sap_text.specs.declared.token.Token.{Token};
+ghost use Rattle.sap_read.specs.Files.{AreTokens, IsRead};
+ghost use Rattle.sap_where.specs.Told.{IsTold};
+ghost use Rattle.sap_where.specs.Where.{HasPlace, IsWhere, stretch_at};
+ghost use Rattle.sap_where.specs.declared.place.Stretch.{Stretch};
+
+use crate::place::Stretch;
+use crate::walk::{file_tokens, settled_place, stretch_at};
+use sap_read::ReadFault;
+use sap_spot::{Found, word_of};
+use sap_terms::Mem;
+use sap_text::Token;
+use std::alloc::Global;
+
+/// Where a cause stands, and, where that is in the definition of a process, the name as which this is used.
+#[derive(Clone, Copy, Debug, PartialEq, Eq)]
+pub struct Told {
+    pub word: Stretch,
+    pub used: Option<Stretch>,
+}
+
+// The stretch of a word, if there is one.
+fn stretch_of(tokens: &[Token], word: Option<usize>) -> Option<Stretch>
+    ensures is { result ≡ option_map (stretch_at tokens.now) word }
+    ensures order { (size : ℕ) → All (IsWithin size) tokens.now → IfSome result (λ u. u.from ≤ u.to) }
+    ensures within { (size : ℕ) → All (IsWithin size) tokens.now → IfSome result (λ u. u.to ≤ size) }
+{
+    match word {
+        Some(k) => Some(stretch_at(tokens, k)),
+        None => None,
+    }
+}
+
+// The word of which the cause can speak, if one is found.
+fn word_told(alloc: Global, bytes: &[u8], fault: &ReadFault) -> Result<Option<Told>, Mem>
+    ensures place { IfOk result (λ o. IfSome o (λ t. IsTold bytes.now fault.now t)) }
+    ensures inside { IfOk result (λ o. IfSome o (λ t. t.word.from ≤ length bytes.now)) }
+    ensures order { IfOk result (λ o. IfSome o (λ t. IfSome t.used (λ u. u.from ≤ u.to))) }
+    ensures used { IfOk result (λ o. IfSome o (λ t. IfSome t.used (λ u. u.to ≤ length bytes.now))) }
+{
+    let Some(tokens) = file_tokens(alloc, bytes)? else {
+        return Ok(None);
+    };
+    match word_of(alloc, bytes, tokens.as_slice(), fault)? {
+        Some(found) => Ok(Some(Told {
+            word: stretch_at(tokens.as_slice(), found.word),
+            used: stretch_of(tokens.as_slice(), found.used),
+        })),
+        None => Ok(None),
+    }
+}
+
+/// Where in the bytes of a file the cause stands for which they are refused: of a fault of bytes the byte; without a header the
+/// first word that is wrong in one, or the end of the last word; of a second process its `process`; of a name that is taken the
+/// second definition's name, or that of the second restriction or lemma, or of the only one; of a flaw of the process, a lock, a fault
+/// of a formula, a limit, a name that isn't defined, a declaration that clashes the word that `sap_spot` finds. `None`, where nothing
+/// of this is found in the bytes, and for all other causes. The time is linear in the bytes, but for names, which are looked up. Want
+/// of memory is the only error.
+pub fn place_of(alloc: Global, bytes: &[u8], fault: &ReadFault) -> Result<Option<Told>, Mem>
+    ensures place { IfOk result (λ o. IfSome o (λ t. IsTold bytes.now fault.now t)) }
+    ensures inside { IfOk result (λ o. IfSome o (λ t. t.word.from ≤ length bytes.now)) }
+    ensures order { IfOk result (λ o. IfSome o (λ t. IfSome t.used (λ u. u.from ≤ u.to))) }
+    ensures used { IfOk result (λ o. IfSome o (λ t. IfSome t.used (λ u. u.to ≤ length bytes.now))) }
+    ensures none { IfOk result (λ o. o ≡ None → (s : Stretch) → IsWhere bytes.now fault.now s → ⊥) }
+    ensures told { HasPlace fault.now → IsRead bytes.now (Err fault.now)
+        → IfOk result (λ o. o ≡ None → ⊥) }
+{
+    match settled_place(alloc, bytes, fault)? {
+        Some(word) => Ok(Some(Told { word, used: None })),
+        None => word_told(alloc, bytes, fault),
+    }
+}

@@ -1,0 +1,98 @@
+//! Where a name of a process is used first.
+ghost use Rattle.std.specs.Prelude.{◌≡◌, ◌<◌, ◌+◌, ℕ, length, MatchOption};
+ghost use Rattle.sap_grammar.specs.Words.{words_of};
+ghost use Rattle.sap_grammar.specs.Reading.{names};
+ghost use Rattle.sap_where.specs.Where.{IsFirst};
+ghost use Rattle.sap_where.specs.Uses.{IsUse, ends_lookup, in_process, is_group, is_named, opens_process, stands, uses};
+
+use sap_grammar::{beyond, name_at, starts};
+use sap_spot::begins_item;
+use sap_text::Token;
+
+fn stands(bytes: &[u8], tokens: &[Token], mark: &str, k: usize) -> bool
+    ensures { result ≡ stands bytes.now tokens.now mark.now k }
+{
+    starts(bytes, beyond(k, tokens), mark)
+}
+
+fn is_named(bytes: &[u8], tokens: &[Token], k: usize) -> bool
+    ensures { result ≡ is_named bytes.now tokens.now k }
+{
+    name_at(bytes, beyond(k, tokens)).is_some()
+}
+
+// Whether the `in` of a look-up stands here.
+fn ends_lookup(bytes: &[u8], tokens: &[Token], k: usize) -> bool
+    ensures { result ≡ ends_lookup bytes.now tokens.now k }
+{
+    stands(bytes, tokens, "in", k) && stands(bytes, tokens, "as", k.saturating_sub(2))
+}
+
+// Whether a parenthesis opens here that has a process in it.
+fn is_group(bytes: &[u8], tokens: &[Token], k: usize) -> bool
+    ensures { result ≡ is_group bytes.now tokens.now k }
+{
+    let before = k.saturating_sub(1);
+    stands(bytes, tokens, "(", k)
+        && !is_named(bytes, tokens, before)
+        && !stands(bytes, tokens, "out", before)
+        && (!stands(bytes, tokens, "in", before) || ends_lookup(bytes, tokens, before))
+}
+
+// Whether a process begins behind this word of an item that is one.
+fn opens_process(bytes: &[u8], tokens: &[Token], k: usize) -> bool
+    ensures { result ≡ opens_process bytes.now tokens.now k }
+{
+    stands(bytes, tokens, ";", k)
+        || stands(bytes, tokens, "|", k)
+        || stands(bytes, tokens, "||", k)
+        || stands(bytes, tokens, "!", k)
+        || stands(bytes, tokens, "then", k)
+        || stands(bytes, tokens, "else", k)
+        || stands(bytes, tokens, ":", k)
+        || (stands(bytes, tokens, "=", k) && stands(bytes, tokens, "let", k.saturating_sub(2)))
+        || ends_lookup(bytes, tokens, k)
+        || is_group(bytes, tokens, k)
+}
+
+// Whether the name stands here by itself, where a process begins.
+fn uses(bytes: &[u8], tokens: &[Token], name: &[u8], k: usize) -> bool
+    requires { k < length tokens.now }
+    ensures { result ≡ uses bytes.now tokens.now name.now k }
+{
+    match name_at(bytes, beyond(k, tokens)) {
+        Some(text) => text == name
+            && !stands(bytes, tokens, "(", k + 1)
+            && opens_process(bytes, tokens, k.saturating_sub(1)),
+        None => false,
+    }
+}
+
+// Whether the item of a process goes on behind this word, where it does or doesn't before it.
+fn goes_on(bytes: &[u8], tokens: &[Token], k: usize, before: bool) -> bool
+    requires { before ≡ in_process bytes.now tokens.now k }
+    ensures { result ≡ in_process bytes.now tokens.now (k + 1) }
+{
+    if begins_item(bytes, beyond(k, tokens)) {
+        stands(bytes, tokens, "process", k) || stands(bytes, tokens, "let", k)
+    } else {
+        before
+    }
+}
+
+/// The number of the first token that uses this name for a process.
+pub(crate) fn first_use(bytes: &[u8], tokens: &[Token], name: &[u8]) -> Option<usize>
+    ensures { MatchOption result ((i : ℕ) → IsUse bytes.now tokens.now name.now i → ⊥)
+        (λ k. IsFirst (IsUse bytes.now tokens.now name.now) k) }
+{
+    let mut inside = false;
+    let mut k = 0;
+    while k < tokens.len() {
+        if inside && uses(bytes, tokens, name, k) {
+            return Some(k);
+        }
+        inside = goes_on(bytes, tokens, k, inside);
+        k += 1;
+    }
+    None
+}
