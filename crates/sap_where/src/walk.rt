@@ -6,12 +6,13 @@ ghost use Rattle.sap_text.specs.declared.token.Token.{Token};
 ghost use Rattle.sap_grammar.specs.Words.{starts, words_of};
 ghost use Rattle.sap_grammar.specs.Reading.{name_at};
 ghost use Rattle.sap_read.specs.Files.{AreTokens, IsRead};
-ghost use Rattle.sap_read.specs.declared.fault.ReadFault.TheVariants.{Header, Lex as LexFault};
+ghost use Rattle.sap_read.specs.declared.fault.ReadFault.TheVariants.{Header, Lex as LexFault, Syntax};
 ghost use Rattle.sap_text.specs.declared.fault.Lex.{Lex};
 ghost use Rattle.sap_where.specs.declared.place.Stretch.{Stretch};
 ghost use Rattle.sap_where.specs.Where.{BeginsAt, HoldsOnce, IsFirst, IsFirstWrong, IsSecond, IsTakenAt, IsTakenNowhere, IsWhere, HasPlace, StartsFile, end_of, offset_of, one_byte, stretch_at};
 
 use crate::find::{Beginning, first, second};
+use crate::item_place::wrong_item;
 use crate::place::Stretch;
 use sap_grammar::{beyond, name_at, starts};
 use sap_read::ReadFault;
@@ -63,7 +64,7 @@ fn end_of(tokens: &[Token]) -> u64
 
 // The stretch of the token of this number, or what stands behind them all.
 #[tactic(auto, using(crate::proofs::Words::end_within))]
-fn stretch_at(tokens: &[Token], k: usize) -> Stretch
+pub(crate) fn stretch_at(tokens: &[Token], k: usize) -> Stretch
     ensures is { result ≡ stretch_at tokens.now k }
     ensures within { (size : ℕ) → All (IsWithin size) tokens.now → result.from ≤ size }
 {
@@ -134,6 +135,7 @@ fn place_among(bytes: &[u8], tokens: &[Token], fault: &ReadFault) -> Option<Stre
     requires within { All (IsWithin (length bytes.now)) tokens.now }
     requires only { (ts : List Token) → AreTokens bytes.now ts → ts ≡ tokens.now }
     requires no_byte { (f : Lex) → fault.now ≡ LexFault f → ⊥ }
+    requires no_item { (line : ℕ) → fault.now ≡ Syntax line → ⊥ }
     ensures place { IfSome result (λ s. IsWhere bytes.now fault.now s) }
     ensures inside { IfSome result (λ s. s.from ≤ length bytes.now) }
     ensures header { fault.now ≡ Header → result ≡ None
@@ -157,6 +159,29 @@ fn place_among(bytes: &[u8], tokens: &[Token], fault: &ReadFault) -> Option<Stre
     }
 }
 
+// The same, and where a piece that is no item is wrong.
+fn place_in(
+    alloc: Global,
+    bytes: &[u8],
+    tokens: &[Token],
+    fault: &ReadFault,
+) -> Result<Option<Stretch>, Mem>
+    requires are { AreTokens bytes.now tokens.now }
+    requires within { All (IsWithin (length bytes.now)) tokens.now }
+    requires only { (ts : List Token) → AreTokens bytes.now ts → ts ≡ tokens.now }
+    requires no_byte { (f : Lex) → fault.now ≡ LexFault f → ⊥ }
+    ensures place { IfOk result (λ o. IfSome o (λ s. IsWhere bytes.now fault.now s)) }
+    ensures inside { IfOk result (λ o. IfSome o (λ s. s.from ≤ length bytes.now)) }
+    ensures header { IfOk result (λ o. fault.now ≡ Header → o ≡ None
+        → StartsFile (words_of bytes.now tokens.now)) }
+    ensures none { IfOk result (λ o. o ≡ None → (s : Stretch) → IsWhere bytes.now fault.now s → ⊥) }
+{
+    match fault {
+        ReadFault::Syntax { line } => wrong_item(alloc, bytes, tokens, *line),
+        _ => Ok(place_among(bytes, tokens, fault)),
+    }
+}
+
 // The tokens of a file, if its bytes are tokens.
 fn file_tokens(alloc: Global, bytes: &[u8]) -> Result<Option<Vec<Token>>, Mem>
     ensures are { IfOk result (λ o. MatchOption o
@@ -176,7 +201,8 @@ fn file_tokens(alloc: Global, bytes: &[u8]) -> Result<Option<Vec<Token>>, Mem>
 }
 
 /// Where in the bytes of a file the cause stands for which they are refused: of a fault of bytes the byte; without a header the
-/// first word that is wrong in one, or the end of the last word; of a second process its `process`; of a name that is taken the
+/// first word that is wrong in one, or the end of the last word; of a piece that is no item the first word that is wrong in the file, by
+/// the table of its words, or the end of the last word; of a second process its `process`; of a name that is taken the
 /// second definition's name, or that of the second restriction or lemma, or of the only one. `None`, where nothing of this is found
 /// in the bytes, and for all other causes. The time is linear in the bytes. Want of memory is the only error.
 pub fn place_of(alloc: Global, bytes: &[u8], fault: &ReadFault) -> Result<Option<Stretch>, Mem>
@@ -190,7 +216,7 @@ pub fn place_of(alloc: Global, bytes: &[u8], fault: &ReadFault) -> Result<Option
         return Ok(byte_of(*lex, bytes.len() as u64));
     }
     match file_tokens(alloc, bytes)? {
-        Some(tokens) => Ok(place_among(bytes, tokens.as_slice(), fault)),
+        Some(tokens) => place_in(alloc, bytes, tokens.as_slice(), fault),
         None => Ok(None),
     }
 }
