@@ -6,17 +6,5 @@ pub mod Positions
 pub mod OnePlace
 pub mod Nowhere
 pub mod PlacesByHand
-pub mod Takes
-pub mod Arities
-pub mod Endings
-pub mod Reaching
-pub mod Completed
-pub mod FirstWrong
-pub mod Turns
-pub mod ItemsByHand
 pub mod Pieces
-pub mod FollowTerms
-pub mod FollowProcess
-pub mod FollowFormula
-pub mod FollowItems
 pub mod ItemPlace

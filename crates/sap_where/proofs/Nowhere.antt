@@ -9,9 +9,10 @@ use Rattle.sap_read.specs.declared.fault.ReadFault.TheVariants.{Lex as LexFault,
 use Rattle.sap_where.proofs.OnePlace.{one_wrong}
 use Rattle.sap_where.specs.declared.find.Beginning.TheVariants.{Process}
 use Rattle.sap_where.specs.declared.place.Stretch.{Stretch}
-use Rattle.sap_where.specs.FileTable.{FollowsTable}
+use Rattle.sap_expect.specs.FileTable.{FollowsTable}
 use Rattle.sap_where.specs.Pieces.{CanBeOf}
-use Rattle.sap_where.specs.Where.{IsFirstWrong, BeginsAt, HoldsOnce, IsSecond, IsTakenAt, IsTakenNowhere, IsWhere, StartsFile, at_byte, at_header, at_item, at_name, at_process, offset_of, only_statement, second_definition, second_statement}
+use Rattle.sap_where.specs.Where.{BeginsAt, HoldsOnce, IsSecond, IsTakenAt, IsTakenNowhere, IsWhere, StartsFile, at_byte, at_header, at_item, at_name, at_process, offset_of, only_statement, second_definition, second_statement}
+use Rattle.sap_expect.specs.FirstWrong.{IsFirstWrong}
 
 -- the tokens of the bytes
 abbrev pub AreOnly : List ℕ → List Token → Type 0

@@ -6,8 +6,9 @@ use Rattle.sap_read.specs.Files.{AreTokens}
 use Rattle.sap_read.specs.declared.fault.ReadFault.{ReadFault}
 use Rattle.sap_where.specs.declared.find.Beginning.TheVariants.{Process}
 use Rattle.sap_where.specs.declared.place.Stretch.{Stretch}
-use Rattle.sap_where.specs.FileTable.{FollowsTable}
-use Rattle.sap_where.specs.Where.{BeginsAt, GoOn, HoldsOnce, IsFirst, IsFirstWrong, IsSecond, IsTakenAt, IsWhere, StartsFile, at_byte, at_header, at_item, at_name, at_process, one_byte, only_statement, second_definition, second_statement, stretch_at}
+use Rattle.sap_expect.specs.FileTable.{FollowsTable}
+use Rattle.sap_where.specs.Where.{BeginsAt, HoldsOnce, IsFirst, IsSecond, IsTakenAt, IsWhere, StartsFile, at_byte, at_header, at_item, at_name, at_process, one_byte, only_statement, second_definition, second_statement, stretch_at}
+use Rattle.sap_expect.specs.FirstWrong.{GoOn, IsFirstWrong}
 
 between : (m n : ℕ) → (m < n → ⊥) → (n < m → ⊥) → m ≡ n
 between zero zero f g = refl

@@ -1,7 +1,5 @@
 pub mod Positions
+pub mod Pieces
 pub mod Where
 pub mod PlaceExamples
-pub mod FileTable
-pub mod Pieces
-pub mod ItemExamples
 pub mod code

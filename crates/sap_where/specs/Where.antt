@@ -9,7 +9,8 @@ use Rattle.sap_read.specs.Files.{AreTokens}
 use Rattle.sap_read.specs.declared.fault.ReadFault.{ReadFault}
 use Rattle.sap_read.specs.declared.fault.ReadFault.TheVariants.{Lex as LexFault, Header, Syntax, TwoProcesses, DuplicateName}
 use Rattle.sap_where.specs.declared.place.Stretch.{Stretch}
-use Rattle.sap_where.specs.FileTable.{FollowsTable}
+use Rattle.sap_expect.specs.FileTable.{FollowsTable}
+use Rattle.sap_expect.specs.FirstWrong.{IsFirstWrong}
 use Rattle.sap_where.specs.Pieces.{CanBeOf}
 use Rattle.sap_where.specs.declared.find.Beginning.{Beginning}
 use Rattle.sap_where.specs.declared.find.Beginning.TheVariants.{Process, Definition, Statement}
@@ -41,17 +42,6 @@ stretch_of ts None = record { from = end_of ts; to = end_of ts }
 
 abbrev pub stretch_at : List Token → ℕ → Stretch
 stretch_at ts k = stretch_of ts (slice_get ts k)
-
--- the words go on to something of this kind
-abbrev pub GoOn : (List Word → Type 0) → List Word → Type 0
-GoOn Is ws = (rest : List Word) × Is (ws ++ rest)
-
--- the words aren't something of this kind; those before number k go on to such, and with that word they don't, or no word is left
-pub record IsFirstWrong (Is : List Word → Type 0) (ws : List Word) (k : ℕ) : Type 0 where
-  pub isnt : Is ws → ⊥
-  pub inside : k ≤ length ws
-  pub before : GoOn Is (take k ws)
-  pub wrong : k < length ws → GoOn Is (take (k + 1) ws) → ⊥
 
 -- the words begin with a header
 pub record StartsFile (ws : List Word) : Type 0 where

@@ -11,9 +11,9 @@ ghost use Rattle.sap_where.specs.declared.place.Stretch.{Stretch};
 ghost use Rattle.sap_where.specs.Where.{IsWhere};
 ghost use Rattle.sap_where.specs.code.Steps.{IsLastBefore};
 
-use crate::item::first_wrong;
 use crate::place::Stretch;
 use crate::walk::stretch_at;
+use sap_expect::first_wrong;
 use sap_grammar::{beyond, is_mark, last_line, line_of};
 use sap_terms::Mem;
 use sap_text::Token;

@@ -9,7 +9,8 @@ ghost use Rattle.sap_read.specs.Files.{AreTokens, IsRead};
 ghost use Rattle.sap_read.specs.declared.fault.ReadFault.TheVariants.{Header, Lex as LexFault, Syntax};
 ghost use Rattle.sap_text.specs.declared.fault.Lex.{Lex};
 ghost use Rattle.sap_where.specs.declared.place.Stretch.{Stretch};
-ghost use Rattle.sap_where.specs.Where.{BeginsAt, HoldsOnce, IsFirst, IsFirstWrong, IsSecond, IsTakenAt, IsTakenNowhere, IsWhere, HasPlace, StartsFile, end_of, offset_of, one_byte, stretch_at};
+ghost use Rattle.sap_where.specs.Where.{BeginsAt, HoldsOnce, IsFirst, IsSecond, IsTakenAt, IsTakenNowhere, IsWhere, HasPlace, StartsFile, end_of, offset_of, one_byte, stretch_at};
+ghost use Rattle.sap_expect.specs.FirstWrong.{IsFirstWrong};
 
 use crate::find::{Beginning, first, second};
 use crate::item_place::wrong_item;

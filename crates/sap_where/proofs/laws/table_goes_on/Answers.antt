@@ -1,6 +1,0 @@
-use Rattle.sap_where.proofs.Completed.{completed}
-use Rattle.sap_where.proofs.Takes.{one_next}
-use Rattle.sap_where.proofs.laws.table_goes_on.Goals as goal
-
-pub returns : goal.returns
-returns c = record { one_next = one_next; ends = completed }
