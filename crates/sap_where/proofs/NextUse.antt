@@ -14,6 +14,6 @@ the_last (suc i) zero lt n = absurd (omega (arith, lt))
 the_last (suc i) (suc k) lt n = ap suc (the_last i k (omega (arith, lt)) (λ l. n (omega (arith, l))))
 
 pub none_next : (z : List ℕ) (ts : List Token) (x : List ℕ) (k : ℕ) → is_use z ts x k ≡ false → ((i : ℕ) → i < k → IsUse z ts x i → ⊥) → (i : ℕ) → i < k + 1 → IsUse z ts x i → ⊥
-none_next z ts x k no none i lt u =
+none_next z ts x k never none i lt u =
     let same = the_last i k lt (λ l. none i l u) in
-    no_both (is_use z ts x k) (subst (λ (j : ℕ). is_use z ts x j ≡ true) same u.is) no
+    no_both (is_use z ts x k) (subst (λ (j : ℕ). is_use z ts x j ≡ true) same u.is) never
