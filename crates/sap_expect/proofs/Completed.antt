@@ -1,13 +1,13 @@
 -- What is wanted can always be completed, and what a part is otherwise weighs less.
-use Rattle.std.proofs.Common.{rules, ◌≡◌, ◌<◌, ◌+◌, ℕ, zero, suc, Bool, true, false, List, [], ◌∷◌, ◌++◌, Option, Some, None, refl, sym, ap, ◌∙◌, subst, arith}
-use Rattle.std.specs.Prelude.{codes, nat_lt}
+use Rattle.std.proofs.Common.{rules, ◌≡◌, ◌<◌, ◌+◌, ℕ, Bool, true, List, [], ◌∷◌, ◌++◌, Option, Some, None, refl, subst, arith}
+use Rattle.std.specs.Prelude.{nat_lt}
 use Rattle.std.proofs.lemmas.Slice.Eq.{bytes_eq-Decides}
 use Rattle.std.specs.Str.{bytes_eq}
-use Rattle.sap_grammar.specs.Words.{Word, mark, name, number, quoted}
+use Rattle.sap_grammar.specs.Words.{Word, mark, name}
 use Rattle.sap_expect.specs.declared.wanted.Part.{Part}
 use Rattle.sap_expect.specs.declared.wanted.Part.TheVariants.{File, Items, Builtin, MoreBuiltins, Function, Privacy, MoreFunctions, Lemma, Attribute, MoreAttributes, Mode, Sequence, Then, Else, Bars, InnerBars, NewName, Message, Facts, MoreFacts, Fact, Arrow, Shown, MoreShown, Term, Application, Terms, MoreTerms, MoreParts, Formula, Joined, Second, SecondJoined, InnerFormula, InnerJoined, InnerSecond, InnerSecondJoined, Truth, Atom, UpperAtom, LowerAtom, Times, Time, Binders, MoreBinders}
-use Rattle.sap_expect.specs.FileTable.{Reads, Takes, Wanted, any_name, arity, capital, in_quotes, nil, otherwise, part, reads_end, reads_word, sign, small, takes_word, word}
-use Rattle.sap_expect.specs.code.Steps.{part_weight, total, weight}
+use Rattle.sap_expect.specs.FileTable.{Reads, Wanted, any_name, arity, capital, in_quotes, nil, otherwise, part, reads_end, reads_word, sign, small, takes_word, word}
+use Rattle.sap_expect.specs.code.Steps.{part_weight, total}
 use Rattle.sap_expect.proofs.Endings as endings
 use Rattle.sap_expect.proofs.Endings.{a_capital, a_zero, an_empty, ending}
 use Rattle.sap_expect.proofs.Reaching.{reach, reach_goes}

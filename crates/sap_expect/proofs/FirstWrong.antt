@@ -1,5 +1,5 @@
 -- Which word is the first that is wrong by the table.
-use Rattle.std.proofs.Common.{◌≡◌, ◌≤◌, ◌<◌, ◌+◌, ℕ, zero, suc, List, [], ◌∷◌, ◌++◌, append_assoc, Option, Some, None, refl, sym, ap, ◌∙◌, subst, arith, length, get_or, take, drop}
+use Rattle.std.proofs.Common.{◌≡◌, ◌≤◌, ◌<◌, ◌+◌, ℕ, zero, suc, List, [], ◌∷◌, ◌++◌, append_assoc, refl, sym, ap, ◌∙◌, subst, arith, length, get_or, take, drop}
 use Rattle.std.proofs.lemmas.List.{append-nil}
 use Rattle.std.proofs.lemmas.List.{length-map, length-reverse}
 use Rattle.sap_text.specs.declared.token.Token.{Token}
@@ -8,7 +8,7 @@ use Rattle.sap_expect.specs.declared.wanted.Part.TheVariants.{File}
 use Rattle.sap_expect.specs.FileTable.{FollowsTable, Reads, Takes, Wanted, part, reads_end, reads_word}
 use Rattle.sap_expect.specs.declared.wanted.Wanted as code
 use Rattle.sap_expect.specs.code.WantedView.{all_wanted, stacked, wanted}
-use Rattle.sap_expect.specs.FirstWrong.{GoOn, IsFirstWrong}
+use Rattle.sap_expect.specs.FirstWrong.{IsFirstWrong}
 use Rattle.sap_expect.proofs.Completed.{completed}
 use Rattle.sap_expect.proofs.Takes.{Goes, goes_more, reads_none}
 

@@ -1,13 +1,12 @@
 -- The words of processes follow the table.
-use Rattle.std.proofs.Common.{◌≡◌, ℕ, Bool, true, false, List, [], ◌∷◌, ◌++◌, Option, Some, None, refl, sym, subst}
+use Rattle.std.proofs.Common.{ℕ, List, ◌∷◌, ◌++◌, refl}
 use Rattle.std.specs.Prelude.{codes}
 use Rattle.sap_terms.specs.Signature.{Sig}
-use Rattle.sap_grammar.specs.Words.{Word, mark, name}
+use Rattle.sap_grammar.specs.Words.{Word, mark}
 use Rattle.sap_grammar.specs.declared.limits.Limits.{Limits}
 use Rattle.sap_process.specs.Action.{Action}
 use Rattle.sap_draft.specs.Written.{Written}
 use Rattle.sap_draft.specs.ProcessGrammar.{Ending, IsAction, IsBar, IsPar, IsSeq, action_acts, action_delete, action_event, action_input, action_insert, action_lock, action_new, action_new_fresh, action_out, action_receive, action_rule, action_send, action_unlock, closed, dangling, one_bar, par_more, par_one, seq_action, seq_call, seq_if, seq_if_else, seq_lookup, seq_lookup_else, seq_nil, seq_parentheses, seq_replicated, seq_then, two_bars}
-use Rattle.sap_expect.specs.declared.wanted.Part.{Part}
 use Rattle.sap_expect.specs.declared.wanted.Part.TheVariants.{Application, Bars, Else, InnerBars, Sequence, Then}
 use Rattle.sap_expect.specs.FileTable.{Reads, Wanted, part}
 use Rattle.sap_expect.proofs.FollowTerms.{IsPlain, NoRow, args_follow, facts_follow, instead, on_row, on_word, plain, plain_of, shown_follow, term_follows}

@@ -1,16 +1,16 @@
 -- The words of terms and facts follow the table.
-use Rattle.std.proofs.Common.{◌≡◌, ℕ, Bool, true, false, List, [], ◌∷◌, ◌++◌, drop, Option, Some, None, refl, sym, ◌∙◌, subst}
+use Rattle.std.proofs.Common.{◌≡◌, ℕ, Bool, true, false, List, [], ◌∷◌, ◌++◌, drop, Some, None, refl, ◌∙◌}
 use Rattle.std.specs.Prelude.{codes, if◌then◌else◌}
 use Rattle.sap_terms.specs.declared.fact.Fact.{Fact}
 use Rattle.sap_terms.specs.Signature.{Sig}
 use Rattle.sap_terms.specs.Tree.{Tree}
-use Rattle.sap_grammar.specs.Words.{Word, is_lower, is_upper, mark, name, quoted}
+use Rattle.sap_grammar.specs.Words.{Word, is_lower, is_upper, mark, name}
 use Rattle.sap_grammar.specs.declared.limits.Limits.{Limits}
 use Rattle.sap_grammar.specs.TermGrammar.{IsArgs, IsList, IsRest, IsTerm, args_none, args_some, list_last, list_more, rest_last, rest_more, term_constant, term_fresh, term_message, term_pub, term_quoted, term_symbol, term_tuple}
 use Rattle.sap_grammar.specs.FactGrammar.{AreFacts, AreSomeFacts, IsFact, IsShortFact, fact_linear, fact_persistent, facts_last, facts_more, facts_none, facts_some}
 use Rattle.sap_expect.specs.declared.wanted.Part.{Part}
 use Rattle.sap_expect.specs.declared.wanted.Part.TheVariants.{Application, Fact as AFact, Facts, MoreFacts, MoreParts, MoreShown, MoreTerms, Shown, Term, Terms}
-use Rattle.sap_expect.specs.FileTable.{Reads, Row, Takes, Wanted, is_wanted, otherwise, part, reads_end, reads_word, row, row_among, rows, takes_other, takes_row, takes_word}
+use Rattle.sap_expect.specs.FileTable.{Reads, Row, Takes, Wanted, is_wanted, otherwise, part, reads_word, row, row_among, rows, takes_other, takes_row, takes_word}
 
 -- no row of the part begins with the next word
 abbrev pub NoRow : Part → List Word → Type 0

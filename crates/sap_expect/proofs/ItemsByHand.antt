@@ -1,5 +1,5 @@
 -- Where small files are wrong by the table.
-use Rattle.std.proofs.Common.{◌≡◌, ◌≤◌, ◌<◌, ◌+◌, ℕ, zero, suc, Bool, true, false, List, [], ◌∷◌, ◌++◌, Option, Some, None, append_assoc, refl, sym, ap, ◌∙◌, subst, arith, length, take, drop}
+use Rattle.std.proofs.Common.{◌≡◌, ◌≤◌, ◌<◌, ◌+◌, ℕ, zero, suc, Bool, true, false, List, [], ◌∷◌, ◌++◌, Option, Some, None, append_assoc, refl, ap, ◌∙◌, subst, arith, length, take, drop}
 use Rattle.std.proofs.lemmas.List.{append-nil}
 use Rattle.sap_grammar.specs.Words.{Word}
 use Rattle.sap_expect.specs.FileTable.{FollowsTable, Reads, Wanted, reads_end}

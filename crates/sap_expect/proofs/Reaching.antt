@@ -1,9 +1,8 @@
 -- What is wanted behind a word, computed.
-use Rattle.std.proofs.Common.{◌≡◌, ℕ, zero, suc, Bool, true, false, List, [], ◌∷◌, ◌++◌, Option, Some, None, refl, sym, subst}
-use Rattle.std.specs.Prelude.{if◌then◌else◌}
+use Rattle.std.proofs.Common.{◌≡◌, ℕ, zero, suc, Bool, true, false, List, [], ◌∷◌, ◌++◌, Option, Some, None, refl, subst}
 use Rattle.sap_grammar.specs.Words.{Word}
 use Rattle.sap_expect.specs.declared.wanted.Part.{Part}
-use Rattle.sap_expect.specs.FileTable.{Reads, Takes, Wanted, is_wanted, otherwise, part, reads_word, row, takes_other, takes_row, takes_word}
+use Rattle.sap_expect.specs.FileTable.{Takes, Wanted, is_wanted, otherwise, part, reads_word, row, takes_other, takes_row, takes_word}
 use Rattle.sap_expect.proofs.Takes.{Goes, goes_none, no_takes, part_back, part_no, plain_no, reads_next}
 
 -- an answer, if one is known: what is wanted behind the word, or that it is wrong

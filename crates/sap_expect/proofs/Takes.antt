@@ -1,12 +1,8 @@
 -- A word is taken in one way, and what is wanted can always be completed.
-use Rattle.std.proofs.Common.{◌≡◌, ◌<◌, ◌+◌, ℕ, zero, suc, Bool, true, false, List, [], ◌∷◌, ◌++◌, append_assoc, Option, Some, None, MatchOption, refl, sym, ap, ◌∙◌, subst, arith, length, take, drop}
-use Rattle.std.specs.Prelude.{codes, if◌then◌else◌}
-use Rattle.std.specs.Str.{bytes_eq}
-use Rattle.sap_grammar.specs.Words.{Word, mark, name, number, quoted}
+use Rattle.std.proofs.Common.{◌≡◌, false, List, [], ◌∷◌, ◌++◌, append_assoc, Some, None, refl, sym, ap, subst}
+use Rattle.sap_grammar.specs.Words.{Word}
 use Rattle.sap_expect.specs.declared.wanted.Part.{Part}
-use Rattle.sap_expect.specs.declared.wanted.Part.TheVariants.{File}
-use Rattle.sap_expect.specs.FileTable.{FollowsTable, Reads, Takes, Wanted, any_name, arity, capital, in_quotes, is_wanted, nil, otherwise, part, reads_end, reads_word, row, sign, small, takes_other, takes_row, takes_word, word}
-use Rattle.sap_expect.specs.FirstWrong.{GoOn, IsFirstWrong}
+use Rattle.sap_expect.specs.FileTable.{Reads, Takes, Wanted, is_wanted, otherwise, part, reads_word, row, takes_other, takes_row, takes_word}
 
 pub one_next : (vs : List Wanted) (w : Word) (a b : List Wanted) → Takes vs w a → Takes vs w b → a ≡ b
 one_next vs w a b (takes_word e) (takes_word f) = refl

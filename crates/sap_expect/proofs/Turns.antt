@@ -1,16 +1,16 @@
 -- Turns of the walk over what is wanted.
-use Rattle.std.proofs.Common.{◌≡◌, ◌<◌, ◌+◌, ℕ, Bool, true, false, List, [], ◌∷◌, ◌++◌, Option, Some, None, refl, sym, ◌∙◌, ap, subst, arith}
-use Rattle.std.specs.Prelude.{map, reverse}
+use Rattle.std.proofs.Common.{◌≡◌, Bool, true, false, List, [], ◌∷◌, ◌++◌, Option, Some, None, refl, sym, ◌∙◌, ap, subst}
+use Rattle.std.specs.Prelude.{reverse}
 use Rattle.std.proofs.lemmas.List.{map-append, reverse-append}
 use Rattle.sap_grammar.specs.Words.{Word}
 use Rattle.sap_expect.specs.declared.wanted.Wanted as code
 use Rattle.sap_expect.specs.declared.wanted.Wanted.TheVariants.{Mark, Named, Name, Lower, Upper, Quoted, Zero, Arity, A}
 use Rattle.sap_expect.specs.declared.wanted.Part.{Part}
 use Rattle.sap_expect.specs.FileTable.{Row, Takes, Wanted, is_wanted, otherwise, part, row, row_among, rows, takes_other, takes_row, takes_word}
-use Rattle.sap_expect.specs.code.Steps.{IsNothingYet, SameTakes, Taken, total}
+use Rattle.sap_expect.specs.code.Steps.{IsNothingYet, Taken}
 use Rattle.sap_expect.specs.code.WantedView.{all_wanted, stacked, wanted}
 use Rattle.sap_expect.proofs.Completed.{lighter}
-use Rattle.sap_expect.proofs.Takes.{no_takes, part_back, part_no, plain_no}
+use Rattle.sap_expect.proofs.Takes.{part_back, part_no, plain_no}
 
 pub row_is : (p : Part) (w : Word) (rs : List Row) (o : Option (List Wanted)) → rs ≡ rows p → o ≡ row_among rs w → row p w ≡ o
 row_is p w rs o e f = sym (f ∙ ap (λ (r : List Row). row_among r w) e)

@@ -53,7 +53,11 @@ rows Items =
     ∷ (sign (codes "functions"), sign (codes ":") ∷ part Function ∷ [])
     ∷ (sign (codes "let"), any_name ∷ sign (codes "=") ∷ part Sequence ∷ part Bars ∷ [])
     ∷ (sign (codes "process"), sign (codes ":") ∷ part Sequence ∷ part Bars ∷ [])
-    ∷ (sign (codes "restriction"), any_name ∷ sign (codes ":") ∷ sign (codes "\"") ∷ part Formula ∷ part Items ∷ [])
+    ∷ (
+      sign (codes "restriction"),
+      any_name ∷ sign (codes ":") ∷ sign (codes "\"")
+          ∷ part Formula ∷ part Items ∷ [],
+    )
     ∷ (sign (codes "lemma"), any_name ∷ part Lemma ∷ part Items ∷ [])
     ∷ (sign (codes "end"), []) ∷ []
 rows Builtin =
@@ -79,8 +83,16 @@ rows MoreAttributes =
     ∷ (sign (codes "]"), []) ∷ []
 rows Mode =
     (sign (codes "\""), part Formula ∷ [])
-    ∷ (word (codes "all"), sign (codes "-") ∷ word (codes "traces") ∷ sign (codes "\"") ∷ part Formula ∷ [])
-    ∷ (word (codes "exists"), sign (codes "-") ∷ word (codes "trace") ∷ sign (codes "\"") ∷ part Formula ∷ []) ∷ []
+    ∷ (
+      word (codes "all"),
+      sign (codes "-") ∷ word (codes "traces") ∷ sign (codes "\"")
+          ∷ part Formula ∷ [],
+    )
+    ∷ (
+      word (codes "exists"),
+      sign (codes "-") ∷ word (codes "trace") ∷ sign (codes "\"")
+          ∷ part Formula ∷ [],
+    ) ∷ []
 rows Sequence =
     (nil, [])
     ∷ (any_name, [])
@@ -95,8 +107,16 @@ rows Sequence =
     ∷ (sign (codes "lock"), part Term ∷ part Then ∷ [])
     ∷ (sign (codes "unlock"), part Term ∷ part Then ∷ [])
     ∷ (sign (codes "["), part Facts ∷ part Arrow ∷ part Then ∷ [])
-    ∷ (sign (codes "if"), part Term ∷ sign (codes "=") ∷ part Term ∷ sign (codes "then") ∷ part Sequence ∷ part Else ∷ [])
-    ∷ (sign (codes "lookup"), part Term ∷ sign (codes "as") ∷ any_name ∷ sign (codes "in") ∷ part Sequence ∷ part Else ∷ []) ∷ []
+    ∷ (
+      sign (codes "if"),
+      part Term ∷ sign (codes "=") ∷ part Term ∷ sign (codes "then")
+          ∷ part Sequence ∷ part Else ∷ [],
+    )
+    ∷ (
+      sign (codes "lookup"),
+      part Term ∷ sign (codes "as") ∷ any_name ∷ sign (codes "in")
+          ∷ part Sequence ∷ part Else ∷ [],
+    ) ∷ []
 rows Then = (sign (codes ";"), part Sequence ∷ []) ∷ []
 rows Else = (sign (codes "else"), part Sequence ∷ []) ∷ []
 rows Bars =
@@ -191,7 +211,11 @@ rows Atom =
     ∷ (in_quotes, sign (codes "=") ∷ part Term ∷ [])
     ∷ (sign (codes "~"), any_name ∷ sign (codes "=") ∷ part Term ∷ [])
     ∷ (sign (codes "$"), any_name ∷ sign (codes "=") ∷ part Term ∷ [])
-    ∷ (sign (codes "<"), part Term ∷ sign (codes ",") ∷ part Term ∷ part MoreParts ∷ sign (codes "=") ∷ part Term ∷ []) ∷ []
+    ∷ (
+      sign (codes "<"),
+      part Term ∷ sign (codes ",") ∷ part Term ∷ part MoreParts
+          ∷ sign (codes "=") ∷ part Term ∷ [],
+    ) ∷ []
 rows UpperAtom =
     (sign (codes "("), part Terms ∷ sign (codes "@") ∷ part Time ∷ [])
     ∷ (sign (codes "="), part Term ∷ [])

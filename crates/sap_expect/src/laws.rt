@@ -14,7 +14,8 @@ ghost use Rattle.sap_expect.specs.ItemExamples.{endless, large_arity, one_else, 
 /// A law: by the table of a file's words one thing at most is wanted behind a word, and whatever is wanted, some words are it. So
 /// words that were taken one by one go on to a file's words, and one that isn't taken is wrong.
 pub fn table_goes_on()
-    ensures one_next { (vs : List Wanted) (w : Word) (us ss : List Wanted) → Takes vs w us → Takes vs w ss → us ≡ ss }
+    ensures one_next { (vs : List Wanted) (w : Word) (us ss : List Wanted) → Takes vs w us
+        → Takes vs w ss → us ≡ ss }
     ensures ends { (vs : List Wanted) → (ws : List Word) × Reads vs ws }
 {}
 

@@ -161,7 +161,8 @@ fn otherwise(part: Part) -> Option<&'static [Wanted]>
 
 // Puts what is wanted on top, the first of it topmost.
 fn push_all(stack: &mut Vec<Wanted>, wanted: &[Wanted]) -> Result<(), Mem>
-    ensures { OnOk result (stacked stack.new.items ≡ all_wanted wanted.now ++ stacked stack.old.items) }
+    ensures { OnOk result (stacked stack.new.items ≡ all_wanted wanted.now
+        ++ stacked stack.old.items) }
 {
     let mut k = wanted.len();
     while k > 0 {

@@ -46,5 +46,6 @@ on_line line from to = record { kind = Ident; from = from; to = to; line = line 
 
 abbrev pub three_lines_tokens : List Token
 three_lines_tokens =
-    on_line 1 0 6 ∷ on_line 1 7 8 ∷ on_line 1 9 14 ∷ on_line 2 15 18 ∷ on_line 2 19 20 ∷ on_line 2 20 21
+    on_line 1 0 6 ∷ on_line 1 7 8 ∷ on_line 1 9 14 ∷ on_line 2 15 18 ∷ on_line 2 19 20
+    ∷ on_line 2 20 21
     ∷ on_line 2 21 22 ∷ on_line 2 22 23 ∷ on_line 3 24 27 ∷ []

@@ -1,5 +1,5 @@
 -- Where in a file the cause stands for which it is refused.
-use Rattle.std.specs.Prelude.{◌≡◌, ◌<◌, ◌≤◌, ◌+◌, ℕ, Bool, true, ◌&&◌, ◌||◌, codes, List, [], ◌∷◌, ◌++◌, length, take, drop, slice_get, Option, Some, None}
+use Rattle.std.specs.Prelude.{◌≡◌, ◌<◌, ◌+◌, ℕ, Bool, true, ◌&&◌, ◌||◌, codes, List, [], ◌∷◌, length, drop, slice_get, Option, Some, None}
 use Rattle.sap_text.specs.declared.fault.Lex.{Lex}
 use Rattle.sap_text.specs.declared.fault.Lex.TheVariants as lex
 use Rattle.sap_text.specs.declared.token.Token.{Token}

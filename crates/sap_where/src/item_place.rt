@@ -113,7 +113,8 @@ pub(crate) fn wrong_item(
     requires only { (ts : List Token) → AreTokens bytes.now ts → ts ≡ tokens.now }
     ensures place { IfOk result (λ o. IfSome o (λ s. IsWhere bytes.now (Syntax line) s)) }
     ensures inside { IfOk result (λ o. IfSome o (λ s. s.from ≤ length bytes.now)) }
-    ensures none { IfOk result (λ o. o ≡ None → (s : Stretch) → IsWhere bytes.now (Syntax line) s → ⊥) }
+    ensures none { IfOk result (λ o. o ≡ None → (s : Stretch)
+        → IsWhere bytes.now (Syntax line) s → ⊥) }
 {
     match first_wrong(alloc, bytes, tokens)? {
         Some(k) => {

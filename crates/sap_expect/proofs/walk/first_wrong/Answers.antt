@@ -1,7 +1,4 @@
-use Rattle.std.proofs.Common.{◌≡◌, ◌+◌, ◌<◌, ℕ, List, length, true, false, sym, refl, arith, subst}
-use Rattle.std.specs.Bool.{◌==◌}
-use Rattle.sap_grammar.specs.Words.{word_of, words_of}
-use Rattle.sap_expect.specs.code.Steps.{Taken}
+use Rattle.std.proofs.Common.{◌≡◌, length, arith}
 use Rattle.sap_expect.specs.code.WantedView.{stacked}
 use Rattle.sap_expect.proofs.FirstWrong.{ends_early, follows_all, next_token, wrong_token}
 use Rattle.sap_expect.proofs.walk.first_wrong.Goals as goal

@@ -1,7 +1,7 @@
 use Rattle.std.proofs.Common.{◌≡◌, ◌+◌, ◌*◌, drop, sym, arith}
 use Rattle.std.proofs.lemmas.Grind.{common_steps}
 use Rattle.sap_grammar.specs.Declarations.{value, value_from}
-use Rattle.sap_expect.proofs.Arities.{arity_end, arity_stop}
+use Rattle.sap_expect.proofs.Arities.{arity_stop}
 use Rattle.sap_expect.proofs.walk.is_arity.Goals as goal
 
 pub returns-then-arity-gt-MOST_ARITY : goal.returns-then-arity-gt-MOST_ARITY

@@ -1,4 +1,4 @@
-use Rattle.std.proofs.Common.{◌≡◌, ℕ, List, subst}
+use Rattle.std.proofs.Common.{ℕ, subst}
 use Rattle.sap_where.specs.Pieces.{BeginsPiece, IsOnLine}
 use Rattle.sap_where.proofs.Pieces.{one_last}
 use Rattle.sap_where.proofs.item_place.begins_before.Goals as goal
