@@ -57,7 +57,8 @@ flaw_fits ScopeFull ws = is_some (name_at ws) || starts (codes "lock") ws
 abbrev pub lock_fits : LockFault → List Word → Bool
 lock_fits lock.Mem ws = false
 lock_fits (lock.UnlockWithoutLock path) ws = starts (codes "unlock") ws
-lock_fits (lock.LockOverParallel path) ws = starts (codes "|") ws || starts (codes "||") ws || starts (codes "!") ws
+lock_fits (lock.LockOverParallel path) ws =
+    starts (codes "|") ws || starts (codes "||") ws || starts (codes "!") ws
 
 -- what a fault of a formula names
 abbrev pub named_by : FormulaFault → Option (List ℕ)

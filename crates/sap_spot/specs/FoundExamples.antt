@@ -47,5 +47,7 @@ abbrev pub token : (from to : ℕ) → Token
 token from to = record { kind = Ident; from = from; to = to; line = 1 }
 
 abbrev pub two_items_tokens : List Token
-two_items_tokens = token 0 3 ∷ token 4 5 ∷ record { kind = Symbol; from = 6; to = 7; line = 1 } ∷ token 8 9
-    ∷ token 10 17 ∷ record { kind = Symbol; from = 17; to = 18; line = 1 } ∷ token 19 20 ∷ []
+two_items_tokens =
+    token 0 3 ∷ token 4 5 ∷ record { kind = Symbol; from = 6; to = 7; line = 1 }
+    ∷ token 8 9 ∷ token 10 17 ∷ record { kind = Symbol; from = 17; to = 18; line = 1 }
+    ∷ token 19 20 ∷ []
