@@ -4,7 +4,8 @@ use Rattle.std.proofs.lemmas.Slice.Eq.{bytes_eq-Decides}
 use Rattle.std.specs.Prelude.{codes, is_some}
 use Rattle.sap_grammar.specs.Words.{Word, mark, name, number, quoted, is_mark, starts}
 use Rattle.sap_grammar.specs.Reading.{as_name, name_at}
-use Rattle.sap_where.specs.Where.{GoOn, IsFirstWrong, StartsFile}
+use Rattle.sap_where.specs.Where.{StartsFile}
+use Rattle.sap_expect.specs.FirstWrong.{GoOn, IsFirstWrong}
 
 mark_is : (m : List ℕ) (w : Word) → is_mark m w ≡ true → w ≡ mark m
 mark_is m (mark s) e = ap mark ((bytes_eq-Decides s m).0 e)

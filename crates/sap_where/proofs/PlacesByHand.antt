@@ -3,9 +3,11 @@ use Rattle.std.proofs.Common.{◌≡◌, ◌≤◌, ◌<◌, ◌+◌, ℕ, true,
 use Rattle.std.specs.Prelude.{codes}
 use Rattle.sap_where.specs.declared.find.Beginning.TheVariants.{Definition}
 use Rattle.sap_where.specs.declared.place.Position.{Position}
-use Rattle.sap_where.specs.PlaceExamples.{at, ended_header, nameless_header, second_line, stretch, twice, twice_tokens, two_lines}
+use Rattle.sap_where.specs.PlaceExamples.{at, ended_header, nameless_header, second_line, stretch, three_lines, three_lines_tokens, twice, twice_tokens, two_lines}
+use Rattle.sap_where.specs.Pieces.{BeginsPiece, IsOnLine, IsPieceOf}
 use Rattle.sap_where.specs.Positions.{IsFeed, IsPlaceText, IsPosition, LineBegins, LineEnds}
-use Rattle.sap_where.specs.Where.{BeginsAt, IsFirstWrong, IsTakenAt, StartsFile, second_definition}
+use Rattle.sap_where.specs.Where.{BeginsAt, IsTakenAt, StartsFile, second_definition}
+use Rattle.sap_expect.specs.FirstWrong.{IsFirstWrong}
 use Rattle.sap_where.proofs.Headers.{wrong_first, wrong_second, wrong_third}
 use Rattle.sap_where.proofs.OnePlace.{one_taken, one_wrong}
 use Rattle.sap_where.proofs.Positions.{one_position}
@@ -121,3 +123,53 @@ pub not_before : IsTakenAt twice twice_tokens (codes "P") 0 → ⊥
 not_before h =
     let e : 4 ≡ 0 = one_taken twice twice_tokens (codes "P") 4 0 again h in
     absurd (omega (arith, e))
+
+third : (i : ℕ) → BeginsPiece three_lines three_lines_tokens i → i < 8 → i ≡ 3
+third zero b lt = absurd (omega (arith, b.behind))
+third (suc zero) b lt = absurd (omega (arith, b.behind))
+third (suc (suc zero)) b lt = absurd (omega (arith, b.behind))
+third (suc (suc (suc zero))) b lt = refl
+third (suc (suc (suc (suc zero)))) b lt = absurd (never b.is)
+  where
+    never : false ≡ true → ⊥
+    never e = absurd (cc)
+third (suc (suc (suc (suc (suc zero))))) b lt = absurd (never b.is)
+  where
+    never : false ≡ true → ⊥
+    never e = absurd (cc)
+third (suc (suc (suc (suc (suc (suc zero)))))) b lt = absurd (never b.is)
+  where
+    never : false ≡ true → ⊥
+    never e = absurd (cc)
+third (suc (suc (suc (suc (suc (suc (suc zero))))))) b lt = absurd (never b.is)
+  where
+    never : false ≡ true → ⊥
+    never e = absurd (cc)
+third (suc (suc (suc (suc (suc (suc (suc (suc i)))))))) b lt = absurd (omega (arith, lt))
+
+pub of_second_line : IsPieceOf three_lines three_lines_tokens 2 8
+of_second_line = record {
+  first = 3;
+  order = omega arith;
+  begins = record { behind = omega arith; inside = omega arith; is = refl };
+  on_line = refl;
+  no_other = λ i low high b. none i low high (third i b high);
+}
+  where
+    none : (i : ℕ) → 3 < i → i < 8 → i ≡ 3 → ⊥
+    none i low high e = absurd (omega (arith, low, e))
+
+at_third_or_last : (k : ℕ) → k ≤ 8 → BeginsPiece three_lines three_lines_tokens k → IsOnLine three_lines three_lines_tokens 1 k → ⊥
+at_third_or_last zero le b e = absurd (omega (arith, b.behind))
+at_third_or_last (suc zero) le b e = absurd (omega (arith, b.behind))
+at_third_or_last (suc (suc zero)) le b e = absurd (omega (arith, b.behind))
+at_third_or_last (suc (suc (suc zero))) le b e = absurd (omega (arith, e))
+at_third_or_last (suc (suc (suc (suc zero)))) le b e = absurd (omega (arith, e))
+at_third_or_last (suc (suc (suc (suc (suc zero))))) le b e = absurd (omega (arith, e))
+at_third_or_last (suc (suc (suc (suc (suc (suc zero)))))) le b e = absurd (omega (arith, e))
+at_third_or_last (suc (suc (suc (suc (suc (suc (suc zero))))))) le b e = absurd (omega (arith, e))
+at_third_or_last (suc (suc (suc (suc (suc (suc (suc (suc zero)))))))) le b e = absurd (omega (arith, e))
+at_third_or_last (suc (suc (suc (suc (suc (suc (suc (suc (suc k))))))))) le b e = absurd (omega (arith, le))
+
+pub not_of_first_line : IsPieceOf three_lines three_lines_tokens 1 8 → ⊥
+not_of_first_line h = at_third_or_last h.first h.order h.begins h.on_line

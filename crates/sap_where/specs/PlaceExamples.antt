@@ -36,3 +36,16 @@ word from to = record { kind = Ident; from = from; to = to; line = 1 }
 
 abbrev pub twice_tokens : List Token
 twice_tokens = word 0 3 ∷ word 4 5 ∷ word 6 11 ∷ word 12 13 ∷ word 14 17 ∷ word 18 19 ∷ []
+
+-- a file of three lines, `theory T begin`, `let P=(0` and `end`, and its tokens
+abbrev pub three_lines : List ℕ
+three_lines = codes "theory T begin\nlet P=(0\nend"
+
+abbrev pub on_line : (line from to : ℕ) → Token
+on_line line from to = record { kind = Ident; from = from; to = to; line = line }
+
+abbrev pub three_lines_tokens : List Token
+three_lines_tokens =
+    on_line 1 0 6 ∷ on_line 1 7 8 ∷ on_line 1 9 14 ∷ on_line 2 15 18 ∷ on_line 2 19 20
+    ∷ on_line 2 20 21
+    ∷ on_line 2 21 22 ∷ on_line 2 22 23 ∷ on_line 3 24 27 ∷ []

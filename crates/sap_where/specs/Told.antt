@@ -1,11 +1,10 @@
 -- What is told of where a cause stands.
-use Rattle.std.specs.Prelude.{◌≡◌, ℕ, List, Option, None, option_map}
+use Rattle.std.specs.Prelude.{◌≡◌, ℕ, List, None, option_map}
 use Rattle.sap_text.specs.declared.token.Token.{Token}
 use Rattle.sap_read.specs.Files.{AreTokens}
 use Rattle.sap_read.specs.declared.fault.ReadFault.{ReadFault}
 use Rattle.sap_spot.specs.Found.{IsWordOf}
 use Rattle.sap_spot.specs.declared.found.Found.{Found}
-use Rattle.sap_where.specs.declared.place.Stretch.{Stretch}
 use Rattle.sap_where.specs.declared.told.Told.{Told}
 use Rattle.sap_where.specs.Where.{IsWhere, stretch_at}
 

@@ -42,8 +42,11 @@ abbrev pub uses : List ℕ → List Token → List ℕ → ℕ → Bool
 uses z ts x k = names x (words_of z (drop k ts)) && not (stands z ts (codes "(") (k + 1))
     && opens_process z ts (k - 1)
 
--- and it stands in the item of a process
+-- and it does so in the item of a process
+abbrev pub is_use : List ℕ → List Token → List ℕ → ℕ → Bool
+is_use z ts x k = in_process z ts k && uses z ts x k
+
+-- there is such a token
 pub record IsUse (z : List ℕ) (ts : List Token) (x : List ℕ) (k : ℕ) : Type 0 where
   pub inside : k < length ts
-  pub item : in_process z ts k ≡ true
-  pub is : uses z ts x k ≡ true
+  pub is : is_use z ts x k ≡ true

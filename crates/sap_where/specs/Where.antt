@@ -1,5 +1,5 @@
 -- Where in a file the cause stands for which it is refused.
-use Rattle.std.specs.Prelude.{◌≡◌, ◌<◌, ◌≤◌, ◌+◌, ℕ, Bool, true, ◌&&◌, ◌||◌, codes, List, [], ◌∷◌, ◌++◌, length, take, drop, slice_get, Option, Some, None}
+use Rattle.std.specs.Prelude.{◌≡◌, ◌<◌, ◌+◌, ℕ, Bool, true, ◌&&◌, ◌||◌, codes, List, [], ◌∷◌, length, drop, slice_get, Option, Some, None}
 use Rattle.sap_text.specs.declared.fault.Lex.{Lex}
 use Rattle.sap_text.specs.declared.fault.Lex.TheVariants as lex
 use Rattle.sap_text.specs.declared.token.Token.{Token}
@@ -7,8 +7,11 @@ use Rattle.sap_grammar.specs.Words.{Word, mark, name, words_of, starts}
 use Rattle.sap_grammar.specs.Reading.{names}
 use Rattle.sap_read.specs.Files.{AreTokens}
 use Rattle.sap_read.specs.declared.fault.ReadFault.{ReadFault}
-use Rattle.sap_read.specs.declared.fault.ReadFault.TheVariants.{Lex as LexFault, Header, TwoProcesses, UnknownProcess, DuplicateName}
+use Rattle.sap_read.specs.declared.fault.ReadFault.TheVariants.{Lex as LexFault, Header, Syntax, TwoProcesses, UnknownProcess, DuplicateName}
 use Rattle.sap_where.specs.declared.place.Stretch.{Stretch}
+use Rattle.sap_expect.specs.FileTable.{FollowsTable}
+use Rattle.sap_expect.specs.FirstWrong.{IsFirstWrong}
+use Rattle.sap_where.specs.Pieces.{CanBeOf}
 use Rattle.sap_where.specs.declared.find.Beginning.{Beginning}
 use Rattle.sap_where.specs.declared.find.Beginning.TheVariants.{Process, Definition, Statement}
 use Rattle.sap_where.specs.Uses.{IsUse}
@@ -40,17 +43,6 @@ stretch_of ts None = record { from = end_of ts; to = end_of ts }
 
 abbrev pub stretch_at : List Token → ℕ → Stretch
 stretch_at ts k = stretch_of ts (slice_get ts k)
-
--- the words go on to something of this kind
-abbrev pub GoOn : (List Word → Type 0) → List Word → Type 0
-GoOn Is ws = (rest : List Word) × Is (ws ++ rest)
-
--- the words aren't something of this kind; those before number k go on to such, and with that word they don't, or no word is left
-pub record IsFirstWrong (Is : List Word → Type 0) (ws : List Word) (k : ℕ) : Type 0 where
-  pub isnt : Is ws → ⊥
-  pub inside : k ≤ length ws
-  pub before : GoOn Is (take k ws)
-  pub wrong : k < length ws → GoOn Is (take (k + 1) ws) → ⊥
 
 -- the words begin with a header
 pub record StartsFile (ws : List Word) : Type 0 where
@@ -103,13 +95,17 @@ pub record IsTakenNowhere (z : List ℕ) (ts : List Token) (x : List ℕ) : Type
   pub statements : (i : ℕ) → BeginsAt z ts Statement x i → ⊥
 
 -- the stretch is where this cause stands in the bytes: the byte of a fault of bytes; the word with which what stands before it is no
--- header's beginning any more; `process` where it stands a second time; a name of a process where it is used first; the name that is
--- taken, behind its item's first word
+-- header's beginning any more; the word with which what stands before it is by the table no file's beginning any more, where the line
+-- that is told is that of the word's piece; `process` where it stands a second time; a name of a process where it is used first; the
+-- name that is taken, behind its item's first word
 pub data IsWhere (z : List ℕ) : ReadFault → Stretch → Type 0 where
   at_byte : {f : Lex} {at : ℕ} {s : Stretch} → offset_of f ≡ Some at → at < length z
       → s ≡ one_byte at → IsWhere z (LexFault f) s
   at_header : {ts : List Token} {k : ℕ} {s : Stretch} → AreTokens z ts
       → IsFirstWrong StartsFile (words_of z ts) k → s ≡ stretch_at ts k → IsWhere z Header s
+  at_item : {ts : List Token} {line k : ℕ} {s : Stretch} → AreTokens z ts
+      → IsFirstWrong FollowsTable (words_of z ts) k → CanBeOf z ts line k
+      → s ≡ stretch_at ts k → IsWhere z (Syntax line) s
   at_process : {ts : List Token} {line k : ℕ} {s : Stretch} → AreTokens z ts
       → IsSecond (BeginsAt z ts Process []) k → s ≡ stretch_at ts k
       → IsWhere z (TwoProcesses line) s

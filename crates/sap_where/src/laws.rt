@@ -1,11 +1,13 @@
 //! Laws of places, as contracts of functions that do nothing.
 ghost use Rattle.std.specs.Prelude.{◌≡◌, ℕ, List, [], codes};
 ghost use Rattle.sap_read.specs.declared.fault.ReadFault.{ReadFault};
-ghost use Rattle.sap_where.specs.Where.{IsFirstWrong, IsTakenAt, IsWhere, StartsFile};
+ghost use Rattle.sap_where.specs.Where.{IsTakenAt, IsWhere, StartsFile};
+ghost use Rattle.sap_expect.specs.FirstWrong.{IsFirstWrong};
 ghost use Rattle.sap_where.specs.Positions.{IsPlaceText, IsPosition, carets, shown_from, shown_to};
-ghost use Rattle.sap_where.specs.PlaceExamples.{at, ended_header, nameless_header, second_line, stretch, twice, twice_tokens, two_lines};
+ghost use Rattle.sap_where.specs.PlaceExamples.{at, ended_header, nameless_header, second_line, stretch, three_lines, three_lines_tokens, twice, twice_tokens, two_lines};
 ghost use Rattle.sap_where.specs.declared.place.Position.{Position};
 ghost use Rattle.sap_where.specs.declared.place.Stretch.{Stretch};
+ghost use Rattle.sap_where.specs.Pieces.{IsPieceOf};
 
 use sap_text::one_answer;
 
@@ -23,7 +25,7 @@ pub fn one_place()
 }
 
 /// A law: small files, where in them is what, and where it isn't: lines and columns, what is shown of a line, which word of a header
-/// is the first that is wrong, and where a name is defined again.
+/// is the first that is wrong, where a name is defined again, and in which piece a word stands.
 pub fn places_by_hand()
     ensures lines { IsPosition two_lines 3 (at 2 1) × IsPosition two_lines 2 (at 1 3)
         × IsPosition two_lines 5 (at 2 3) }
@@ -36,4 +38,6 @@ pub fn places_by_hand()
         × IsFirstWrong StartsFile [] 0 × (IsFirstWrong StartsFile nameless_header 2 → ⊥) }
     ensures names { IsTakenAt twice twice_tokens (codes "P") 4
         × (IsTakenAt twice twice_tokens (codes "P") 0 → ⊥) }
+    ensures pieces { IsPieceOf three_lines three_lines_tokens 2 8
+        × (IsPieceOf three_lines three_lines_tokens 1 8 → ⊥) }
 {}

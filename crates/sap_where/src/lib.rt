@@ -2,6 +2,7 @@
 #![tactic(auto)]
 
 mod find;
+mod item_place;
 mod laws;
 mod picture;
 mod place;

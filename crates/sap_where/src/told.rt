@@ -1,5 +1,5 @@
 //! What is told of where a cause stands.
-ghost use Rattle.std.specs.Prelude.{◌≡◌, ◌≤◌, ◌×◌, None, Err, IfOk, IfSome, length, List, option_map};
+ghost use Rattle.std.specs.Prelude.{◌≡◌, ◌≤◌, ℕ, None, Err, IfOk, IfSome, length, option_map};
 ghost use Rattle.std.specs.List.{All};
 ghost use Rattle.sap_text.specs.Spans.{IsWithin};
 ghost use Rattle.sap_text.specs.declared.token.Token.{Token};
@@ -11,7 +11,7 @@ ghost use Rattle.sap_where.specs.declared.place.Stretch.{Stretch};
 use crate::place::Stretch;
 use crate::walk::{file_tokens, settled_place, stretch_at};
 use sap_read::ReadFault;
-use sap_spot::{Found, word_of};
+use sap_spot::word_of;
 use sap_terms::Mem;
 use sap_text::Token;
 use std::alloc::Global;
@@ -35,29 +35,47 @@ fn stretch_of(tokens: &[Token], word: Option<usize>) -> Option<Stretch>
     }
 }
 
-// The word of which the cause can speak, if one is found.
+// The word of which the cause can speak, if one is found among these tokens.
+fn told_among(
+    alloc: Global,
+    bytes: &[u8],
+    tokens: &[Token],
+    fault: &ReadFault,
+) -> Result<Option<Told>, Mem>
+    requires are { AreTokens bytes.now tokens.now }
+    requires within { All (IsWithin (length bytes.now)) tokens.now }
+    ensures place { IfOk result (λ o. IfSome o (λ t. IsTold bytes.now fault.now t)) }
+    ensures inside { IfOk result (λ o. IfSome o (λ t. t.word.from ≤ length bytes.now)) }
+    ensures order { IfOk result (λ o. IfSome o (λ t. IfSome t.used (λ u. u.from ≤ u.to))) }
+    ensures used { IfOk result (λ o. IfSome o (λ t. IfSome t.used (λ u. u.to ≤ length bytes.now))) }
+{
+    match word_of(alloc, bytes, tokens, fault)? {
+        Some(found) => Ok(Some(Told {
+            word: stretch_at(tokens, found.word),
+            used: stretch_of(tokens, found.used),
+        })),
+        None => Ok(None),
+    }
+}
+
+// The same among those of the bytes.
 fn word_told(alloc: Global, bytes: &[u8], fault: &ReadFault) -> Result<Option<Told>, Mem>
     ensures place { IfOk result (λ o. IfSome o (λ t. IsTold bytes.now fault.now t)) }
     ensures inside { IfOk result (λ o. IfSome o (λ t. t.word.from ≤ length bytes.now)) }
     ensures order { IfOk result (λ o. IfSome o (λ t. IfSome t.used (λ u. u.from ≤ u.to))) }
     ensures used { IfOk result (λ o. IfSome o (λ t. IfSome t.used (λ u. u.to ≤ length bytes.now))) }
 {
-    let Some(tokens) = file_tokens(alloc, bytes)? else {
-        return Ok(None);
-    };
-    match word_of(alloc, bytes, tokens.as_slice(), fault)? {
-        Some(found) => Ok(Some(Told {
-            word: stretch_at(tokens.as_slice(), found.word),
-            used: stretch_of(tokens.as_slice(), found.used),
-        })),
+    match file_tokens(alloc, bytes)? {
+        Some(tokens) => told_among(alloc, bytes, tokens.as_slice(), fault),
         None => Ok(None),
     }
 }
 
 /// Where in the bytes of a file the cause stands for which they are refused: of a fault of bytes the byte; without a header the
-/// first word that is wrong in one, or the end of the last word; of a second process its `process`; of a name that is taken the
-/// second definition's name, or that of the second restriction or lemma, or of the only one; of a flaw of the process, a lock, a fault
-/// of a formula, a limit, a name that isn't defined, a declaration that clashes the word that `sap_spot` finds. `None`, where nothing
+/// first word that is wrong in one, or the end of the last word; of a piece that is no item the first word that is wrong in the file, by
+/// the table of its words, or the end of the last word; of a second process its `process`; of a name of a process that isn't defined its
+/// first use; of a name that is taken the second definition's name, or that of the second restriction or lemma, or of the only one; of a flaw of the process, a lock, a fault
+/// of a formula, a limit or a declaration that clashes the word that `sap_spot` finds. `None`, where nothing
 /// of this is found in the bytes, and for all other causes. The time is linear in the bytes, but for names, which are looked up. Want
 /// of memory is the only error.
 pub fn place_of(alloc: Global, bytes: &[u8], fault: &ReadFault) -> Result<Option<Told>, Mem>

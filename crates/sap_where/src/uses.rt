@@ -1,12 +1,21 @@
 //! Where a name of a process is used first.
-ghost use Rattle.std.specs.Prelude.{◌≡◌, ◌<◌, ◌+◌, ℕ, length, MatchOption};
+ghost use Rattle.std.specs.Prelude.{◌≡◌, ◌<◌, ◌≤◌, ◌+◌, ℕ, List, None, length, IfSome, MatchOption};
+ghost use Rattle.std.specs.List.{All};
+ghost use Rattle.sap_text.specs.Spans.{IsWithin};
+ghost use Rattle.sap_text.specs.declared.token.Token.{Token};
+ghost use Rattle.sap_read.specs.Files.{AreTokens};
+ghost use Rattle.sap_read.specs.declared.fault.ReadFault.TheVariants.{UnknownProcess};
 ghost use Rattle.sap_grammar.specs.Words.{words_of};
 ghost use Rattle.sap_grammar.specs.Reading.{names};
-ghost use Rattle.sap_where.specs.Where.{IsFirst};
-ghost use Rattle.sap_where.specs.Uses.{IsUse, ends_lookup, in_process, is_group, is_named, opens_process, stands, uses};
+ghost use Rattle.sap_where.specs.Where.{IsFirst, IsWhere};
+ghost use Rattle.sap_where.specs.declared.place.Stretch.{Stretch};
+ghost use Rattle.sap_where.specs.Uses.{IsUse, ends_lookup, in_process, is_group, is_named, is_use, opens_process, stands, uses};
 
+use crate::place::Stretch;
+use crate::walk::stretch_at;
 use sap_grammar::{beyond, name_at, starts};
 use sap_spot::begins_item;
+use sap_terms::Name;
 use sap_text::Token;
 
 fn stands(bytes: &[u8], tokens: &[Token], mark: &str, k: usize) -> bool
@@ -80,19 +89,43 @@ fn goes_on(bytes: &[u8], tokens: &[Token], k: usize, before: bool) -> bool
     }
 }
 
-/// The number of the first token that uses this name for a process.
-pub(crate) fn first_use(bytes: &[u8], tokens: &[Token], name: &[u8]) -> Option<usize>
+// Whether the name is used here, where the item of a process goes on or doesn't.
+fn is_use(bytes: &[u8], tokens: &[Token], name: &[u8], k: usize, item: bool) -> bool
+    requires inside { k < length tokens.now }
+    requires goes_on { item ≡ in_process bytes.now tokens.now k }
+    ensures { result ≡ is_use bytes.now tokens.now name.now k }
+{
+    item && uses(bytes, tokens, name, k)
+}
+
+// The number of the first token that uses this name for a process.
+fn first_use(bytes: &[u8], tokens: &[Token], name: &[u8]) -> Option<usize>
     ensures { MatchOption result ((i : ℕ) → IsUse bytes.now tokens.now name.now i → ⊥)
         (λ k. IsFirst (IsUse bytes.now tokens.now name.now) k) }
 {
-    let mut inside = false;
+    let mut item = false;
     let mut k = 0;
     while k < tokens.len() {
-        if inside && uses(bytes, tokens, name, k) {
+        if is_use(bytes, tokens, name, k, item) {
             return Some(k);
         }
-        inside = goes_on(bytes, tokens, k, inside);
+        item = goes_on(bytes, tokens, k, item);
         k += 1;
     }
     None
+}
+
+/// Where this name is used first for a process.
+pub(crate) fn use_place(bytes: &[u8], tokens: &[Token], name: &Name) -> Option<Stretch>
+    requires are { AreTokens bytes.now tokens.now }
+    requires within { All (IsWithin (length bytes.now)) tokens.now }
+    requires only { (ts : List Token) → AreTokens bytes.now ts → ts ≡ tokens.now }
+    ensures place { IfSome result (λ s. IsWhere bytes.now (UnknownProcess name.now) s) }
+    ensures inside { IfSome result (λ s. s.from ≤ length bytes.now) }
+    ensures none { result ≡ None → (s : Stretch) → IsWhere bytes.now (UnknownProcess name.now) s → ⊥ }
+{
+    match first_use(bytes, tokens, name.as_bytes()) {
+        Some(k) => Some(stretch_at(tokens, k)),
+        None => None,
+    }
 }

@@ -6,14 +6,16 @@ ghost use Rattle.sap_text.specs.declared.token.Token.{Token};
 ghost use Rattle.sap_grammar.specs.Words.{starts, words_of};
 ghost use Rattle.sap_grammar.specs.Reading.{name_at};
 ghost use Rattle.sap_read.specs.Files.{AreTokens, IsRead};
-ghost use Rattle.sap_read.specs.declared.fault.ReadFault.TheVariants.{Header, Lex as LexFault};
+ghost use Rattle.sap_read.specs.declared.fault.ReadFault.TheVariants.{Header, Lex as LexFault, Syntax, UnknownProcess};
 ghost use Rattle.sap_text.specs.declared.fault.Lex.{Lex};
 ghost use Rattle.sap_where.specs.declared.place.Stretch.{Stretch};
-ghost use Rattle.sap_where.specs.Where.{BeginsAt, HoldsOnce, IsFirst, IsFirstWrong, IsSecond, IsTakenAt, IsTakenNowhere, IsWhere, HasPlace, StartsFile, end_of, offset_of, one_byte, stretch_at};
+ghost use Rattle.sap_where.specs.Where.{BeginsAt, HoldsOnce, IsFirst, IsSecond, IsTakenAt, IsTakenNowhere, IsWhere, HasPlace, StartsFile, end_of, offset_of, one_byte, stretch_at};
+ghost use Rattle.sap_expect.specs.FirstWrong.{IsFirstWrong};
 
 use crate::find::{Beginning, first, second};
+use crate::item_place::wrong_item;
 use crate::place::Stretch;
-use crate::uses::first_use;
+use crate::uses::use_place;
 use sap_grammar::{beyond, name_at, starts};
 use sap_read::ReadFault;
 use sap_terms::{MOST_FILE_NAME_BYTES, Mem};
@@ -137,6 +139,8 @@ fn place_among(bytes: &[u8], tokens: &[Token], fault: &ReadFault) -> Option<Stre
     requires within { All (IsWithin (length bytes.now)) tokens.now }
     requires only { (ts : List Token) → AreTokens bytes.now ts → ts ≡ tokens.now }
     requires no_byte { (f : Lex) → fault.now ≡ LexFault f → ⊥ }
+    requires no_item { (line : ℕ) → fault.now ≡ Syntax line → ⊥ }
+    requires no_use { (x : List ℕ) → fault.now ≡ UnknownProcess x → ⊥ }
     ensures place { IfSome result (λ s. IsWhere bytes.now fault.now s) }
     ensures inside { IfSome result (λ s. s.from ≤ length bytes.now) }
     ensures header { fault.now ≡ Header → result ≡ None
@@ -156,11 +160,31 @@ fn place_among(bytes: &[u8], tokens: &[Token], fault: &ReadFault) -> Option<Stre
             Some(k) => Some(stretch_at(tokens, k + 1)),
             None => None,
         },
-        ReadFault::UnknownProcess { name } => match first_use(bytes, tokens, name.as_bytes()) {
-            Some(k) => Some(stretch_at(tokens, k)),
-            None => None,
-        },
         _ => None,
+    }
+}
+
+// The same, and where a piece that is no item is wrong, or a name that isn't defined is used.
+fn place_in(
+    alloc: Global,
+    bytes: &[u8],
+    tokens: &[Token],
+    fault: &ReadFault,
+) -> Result<Option<Stretch>, Mem>
+    requires are { AreTokens bytes.now tokens.now }
+    requires within { All (IsWithin (length bytes.now)) tokens.now }
+    requires only { (ts : List Token) → AreTokens bytes.now ts → ts ≡ tokens.now }
+    requires no_byte { (f : Lex) → fault.now ≡ LexFault f → ⊥ }
+    ensures place { IfOk result (λ o. IfSome o (λ s. IsWhere bytes.now fault.now s)) }
+    ensures inside { IfOk result (λ o. IfSome o (λ s. s.from ≤ length bytes.now)) }
+    ensures header { IfOk result (λ o. fault.now ≡ Header → o ≡ None
+        → StartsFile (words_of bytes.now tokens.now)) }
+    ensures none { IfOk result (λ o. o ≡ None → (s : Stretch) → IsWhere bytes.now fault.now s → ⊥) }
+{
+    match fault {
+        ReadFault::Syntax { line } => wrong_item(alloc, bytes, tokens, *line),
+        ReadFault::UnknownProcess { name } => Ok(use_place(bytes, tokens, name)),
+        _ => Ok(place_among(bytes, tokens, fault)),
     }
 }
 
@@ -198,7 +222,7 @@ pub(crate) fn settled_place(
         return Ok(byte_of(*lex, bytes.len() as u64));
     }
     match file_tokens(alloc, bytes)? {
-        Some(tokens) => Ok(place_among(bytes, tokens.as_slice(), fault)),
+        Some(tokens) => place_in(alloc, bytes, tokens.as_slice(), fault),
         None => Ok(None),
     }
 }

@@ -1,5 +1,5 @@
 use Rattle.std.proofs.Common.{refl}
-use Rattle.sap_where.proofs.PlacesByHand.{again, at_end, at_feed, at_second, no_begin, no_name, no_word, not_before, not_first_line, not_from_zero, not_last, text_of_second}
+use Rattle.sap_where.proofs.PlacesByHand.{again, at_end, at_feed, at_second, no_begin, no_name, no_word, not_before, not_first_line, not_from_zero, not_last, not_of_first_line, of_second_line, text_of_second}
 use Rattle.sap_where.proofs.laws.places_by_hand.Goals as goal
 
 pub returns : goal.returns
@@ -11,4 +11,5 @@ returns c = record {
   carets = (refl, refl);
   headers = (no_begin, no_name, no_word, not_last);
   names = (again, not_before);
+  pieces = (of_second_line, not_of_first_line);
 }

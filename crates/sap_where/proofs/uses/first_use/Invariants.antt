@@ -1,10 +1,10 @@
-use Rattle.std.proofs.Common.{◌≡◌, ◌≤◌, ◌<◌, ◌-◌, ℕ, length}
+use Rattle.std.proofs.Common.{◌≡◌, ◌<◌, ◌-◌, ℕ, length}
 use Rattle.sap_where.specs.Uses.{IsUse, in_process}
 use Rattle.sap_where.proofs.uses.first_use.Given as goal
 
 abbrev pub invariant-loop-k : goal.invariant-loop-k
 invariant-loop-k l = record {
-  item : l.inside ≡ in_process l.bytes l.tokens l.k;
+  goes_on : l.item ≡ in_process l.bytes l.tokens l.k;
   none : (i : ℕ) → i < l.k → IsUse l.bytes l.tokens l.name i → ⊥;
 }
 

@@ -4,7 +4,8 @@ use Rattle.sap_read.specs.Files.{IsRead}
 use Rattle.sap_read.specs.declared.fault.ReadFault.{ReadFault}
 use Rattle.sap_where.specs.declared.place.Stretch.{Stretch}
 use Rattle.sap_where.specs.Where.{IsWhere}
-use Rattle.sap_where.proofs.Faults.{byte_place, byte_told, header_told, tokens_told}
+use Rattle.sap_where.proofs.Faults.{byte_place, byte_told, tokens_told}
+use Rattle.sap_where.proofs.ItemPlace.{header_told_of}
 use Rattle.sap_where.proofs.Nowhere.{tokens_nowhere}
 use Rattle.sap_where.proofs.walk.settled_place.Goals as goal
 
@@ -22,11 +23,11 @@ pub returns-in-Some : goal.returns-in-Some
 returns-in-Some c =
     let only = rw c.in-Some.is at c.in_ok-tokens.ensures.only in
     record {
-      place = c.place_among.ensures.place;
-      inside = c.place_among.ensures.inside;
-      none = c.place_among.ensures.none;
-      told = header_told c.args.bytes.now c.in-Some.tokens.items c.args.fault.now c.place_among.result
-          c.in_default.not-Lex only (rw c.as_slice.ensures.value at c.place_among.ensures.header);
+      place = c.place_in.ensures.place;
+      inside = c.place_in.ensures.inside;
+      none = c.place_in.ensures.none;
+      told = header_told_of c.args.bytes.now c.in-Some.tokens.items c.args.fault.now c.place_in.result
+          c.in_default.not-Lex only (rw c.as_slice.ensures.value at c.place_in.ensures.header);
     }
 
 pub returns-in-None : goal.returns-in-None

@@ -1,0 +1,12 @@
+pub mod Arities
+pub mod Takes
+pub mod Endings
+pub mod Reaching
+pub mod Completed
+pub mod FirstWrong
+pub mod Turns
+pub mod FollowTerms
+pub mod FollowProcess
+pub mod FollowFormula
+pub mod FollowItems
+pub mod ItemsByHand

@@ -1,0 +1,4 @@
+pub mod FirstWrong
+pub mod FileTable
+pub mod ItemExamples
+pub mod code

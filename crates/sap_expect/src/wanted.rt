@@ -1,0 +1,105 @@
+//! What may stand next in a file.
+
+/// What is wanted of the words of a file.
+#[derive(Clone, Copy)]
+pub(crate) enum Wanted {
+    /// This symbol or word of the grammar.
+    Mark(&'static str),
+    /// This name.
+    Named(&'static str),
+    /// Any name.
+    Name,
+    /// A name with a small letter first.
+    Lower,
+    /// A name with a capital first.
+    Upper,
+    /// A name in quotes.
+    Quoted,
+    /// The number 0.
+    Zero,
+    /// A number that is no greater than `MOST_ARITY`.
+    Arity,
+    /// The words of this part.
+    A(Part),
+}
+
+/// A part of a file, for which the table has rows. `More..` is what is behind one of a list, or its end.
+#[derive(Clone, Copy)]
+pub(crate) enum Part {
+    /// All of it.
+    File,
+    /// The items from here on, and `end`.
+    Items,
+    /// A builtin's name.
+    Builtin,
+    MoreBuiltins,
+    /// A symbol, with its arity.
+    Function,
+    /// What is behind an arity.
+    Privacy,
+    MoreFunctions,
+    /// A lemma's words in brackets, if any, and what is behind them.
+    Lemma,
+    /// One of these words.
+    Attribute,
+    MoreAttributes,
+    /// A lemma's mode, if any, and its formula.
+    Mode,
+    /// A process that is no parallel without parentheses.
+    Sequence,
+    /// What is behind an action.
+    Then,
+    /// What is behind the first branch of a choice.
+    Else,
+    /// What is behind a sequence that is no part of another, in no parentheses.
+    Bars,
+    /// The same in parentheses.
+    InnerBars,
+    /// The variable that `new` binds.
+    NewName,
+    /// What is behind the first term of an output or input.
+    Message,
+    /// The facts behind `[`.
+    Facts,
+    MoreFacts,
+    /// A fact, persistent or not.
+    Fact,
+    /// What is behind the left side of a rule.
+    Arrow,
+    /// The facts behind `--[`.
+    Shown,
+    MoreShown,
+    /// A term.
+    Term,
+    /// What may be behind a symbol's name.
+    Application,
+    /// The terms behind `(`.
+    Terms,
+    MoreTerms,
+    MoreParts,
+    /// A formula that stands in no parentheses.
+    Formula,
+    /// What is behind its first part; its second side, behind `<=>`; what is behind the first part of that.
+    Joined,
+    Second,
+    SecondJoined,
+    /// The same of a formula in parentheses.
+    InnerFormula,
+    InnerJoined,
+    InnerSecond,
+    InnerSecondJoined,
+    /// What may be behind `T` or `F`.
+    Truth,
+    /// An atom that doesn't begin with `T` or `F`.
+    Atom,
+    /// What is behind a name that begins one, with a capital or not.
+    UpperAtom,
+    LowerAtom,
+    /// What is behind a time that begins an atom, with its sign.
+    Times,
+    /// A time variable.
+    Time,
+    /// The variables that a quantifier binds.
+    Binders,
+    MoreBinders,
+}

@@ -1,0 +1,129 @@
+//! Where a piece of a file that is no item is wrong.
+ghost use Rattle.std.specs.Prelude.{◌≡◌, ◌≤◌, ◌<◌, ◌↔◌, ℕ, length, List, IfOk, IfSome, IsTrue, MatchOption, None};
+ghost use Rattle.std.specs.List.{All};
+ghost use Rattle.sap_text.specs.Spans.{IsWithin};
+ghost use Rattle.sap_text.specs.declared.token.Token.{Token};
+ghost use Rattle.sap_grammar.specs.Words.{words_of};
+ghost use Rattle.sap_read.specs.Files.{AreTokens};
+ghost use Rattle.sap_read.specs.declared.fault.ReadFault.TheVariants.{Syntax};
+ghost use Rattle.sap_where.specs.Pieces.{BeginsPiece, CanBeOf, IsOnLine, IsPieceOf, starts_item};
+ghost use Rattle.sap_where.specs.declared.place.Stretch.{Stretch};
+ghost use Rattle.sap_where.specs.Where.{IsWhere};
+ghost use Rattle.sap_where.specs.code.Steps.{IsLastBefore};
+
+use crate::place::Stretch;
+use crate::walk::stretch_at;
+use sap_expect::first_wrong;
+use sap_grammar::{beyond, is_mark, last_line, line_of};
+use sap_terms::Mem;
+use sap_text::Token;
+use std::alloc::Global;
+
+// Whether the first word begins items.
+fn starts_item(bytes: &[u8], tokens: &[Token]) -> bool
+    ensures { result ≡ starts_item (words_of bytes.now tokens.now) }
+{
+    match tokens.split_first() {
+        Some((token, _)) => {
+            is_mark(bytes, *token, "builtins")
+                || is_mark(bytes, *token, "functions")
+                || is_mark(bytes, *token, "let")
+                || is_mark(bytes, *token, "process")
+                || is_mark(bytes, *token, "restriction")
+                || is_mark(bytes, *token, "lemma")
+                || is_mark(bytes, *token, "rule")
+                || is_mark(bytes, *token, "end")
+        }
+        None => false,
+    }
+}
+
+// Whether a piece begins with token k.
+fn begins_piece(bytes: &[u8], tokens: &[Token], k: usize) -> bool
+    ensures { IsTrue result ↔ BeginsPiece bytes.now tokens.now k }
+{
+    3 <= k && k < tokens.len() && (k == 3 || starts_item(bytes, beyond(k, tokens)))
+}
+
+// The last token before number k with which a piece begins.
+fn piece_before(bytes: &[u8], tokens: &[Token], k: usize) -> Option<usize>
+    ensures { MatchOption result ((i : ℕ) → i < k → BeginsPiece bytes.now tokens.now i → ⊥)
+        (λ j. IsLastBefore (BeginsPiece bytes.now tokens.now) k j) }
+{
+    let mut j = k;
+    while j > 0 {
+        j -= 1;
+        if begins_piece(bytes, tokens, j) {
+            return Some(j);
+        }
+    }
+    None
+}
+
+// Whether token k stands on this line.
+fn is_on_line(tokens: &[Token], line: u64, k: usize) -> bool
+    ensures { (z : List ℕ) → IsTrue result ↔ IsOnLine z tokens.now line k }
+{
+    line_of(beyond(k, tokens)) == line
+}
+
+// Whether a piece begins on this line with token k.
+fn begins_here(bytes: &[u8], tokens: &[Token], line: u64, k: usize) -> bool
+    ensures { IsTrue result ↔ (BeginsPiece bytes.now tokens.now k
+        × IsOnLine bytes.now tokens.now line k) }
+{
+    begins_piece(bytes, tokens, k) && is_on_line(tokens, line, k)
+}
+
+// Whether the last one that begins before token k begins on this line.
+fn begins_before(bytes: &[u8], tokens: &[Token], line: u64, k: usize) -> bool
+    ensures { IsTrue result ↔ ((j : ℕ) × IsLastBefore (BeginsPiece bytes.now tokens.now) k j
+        × IsOnLine bytes.now tokens.now line j) }
+{
+    match piece_before(bytes, tokens, k) {
+        Some(j) => is_on_line(tokens, line, j),
+        None => false,
+    }
+}
+
+// Whether a piece begins on this line in which word k stands, or behind which it stands next.
+fn is_piece_of(bytes: &[u8], tokens: &[Token], line: u64, k: usize) -> bool
+    ensures { IsTrue result ↔ IsPieceOf bytes.now tokens.now line k }
+{
+    begins_here(bytes, tokens, line, k) || begins_before(bytes, tokens, line, k)
+}
+
+// Whether a fault that is told by this line can stand at word k.
+fn can_be_of(bytes: &[u8], tokens: &[Token], line: u64, k: usize) -> bool
+    ensures { IsTrue result ↔ CanBeOf bytes.now tokens.now line k }
+{
+    is_piece_of(bytes, tokens, line, k) || (k == tokens.len() && last_line(tokens) == line)
+}
+
+/// Where a piece is wrong of which this line is told: at the first word that is wrong by the table, where that can be the fault.
+/// The time is linear in the tokens. Want of memory is the only error.
+pub(crate) fn wrong_item(
+    alloc: Global,
+    bytes: &[u8],
+    tokens: &[Token],
+    line: u64,
+) -> Result<Option<Stretch>, Mem>
+    requires are { AreTokens bytes.now tokens.now }
+    requires within { All (IsWithin (length bytes.now)) tokens.now }
+    requires only { (ts : List Token) → AreTokens bytes.now ts → ts ≡ tokens.now }
+    ensures place { IfOk result (λ o. IfSome o (λ s. IsWhere bytes.now (Syntax line) s)) }
+    ensures inside { IfOk result (λ o. IfSome o (λ s. s.from ≤ length bytes.now)) }
+    ensures none { IfOk result (λ o. o ≡ None → (s : Stretch)
+        → IsWhere bytes.now (Syntax line) s → ⊥) }
+{
+    match first_wrong(alloc, bytes, tokens)? {
+        Some(k) => {
+            if can_be_of(bytes, tokens, line, k) {
+                Ok(Some(stretch_at(tokens, k)))
+            } else {
+                Ok(None)
+            }
+        }
+        None => Ok(None),
+    }
+}
