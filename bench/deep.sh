@@ -10,7 +10,7 @@
 #   terms       symbols and pairs, in processes and in rules, up to 100 levels
 #   lists       lemmas of so many atoms bracketed in halves; nested quantifiers of 2,000 variables each; 40,000 restrictions; many
 #               arguments, facts and names, up to a mebibyte
-#   runs        chains of 256 nodes in each line that has terms, deep patterns, lines of 16 MiB
+#   runs        chains of 256 nodes in each line that has terms, of short runs too, deep patterns, lines of 16 MiB
 #   json        arrays and objects in one another, up to 127 levels and beyond; terms of 256 nodes in strings; 16 MiB of each part
 #   repeated    a mebibyte of each opening word where a process, a term or a formula stands, closed or not; 16 MiB in a theory
 #   sample      500 sessions
@@ -64,6 +64,7 @@ on_file() {
     done
     both to-process "$1" "$work/none.rrun"
     both judge "$1" "$work/none.rrun"
+    both fill "$1" "$work/none.srun"
     (ulimit -s $large && "$program" compile "$1" > "$work/theory" 2> /dev/null) || return 0
     both check-rules "$work/theory" "$work/none.rrun"
     if [ $# -gt 1 ] && (ulimit -s $large && "$program" to-rules "$1" "$2" > "$work/opposite" 2> /dev/null); then
@@ -83,6 +84,7 @@ on_theory() {
 
 printf 'process-run\n' > "$work/none.prun"
 printf 'rule-run\n' > "$work/none.rrun"
+printf 'short-run\n' > "$work/none.srun"
 
 # Words of awk that write a text with a number in place of each N.
 numbered='function put(text, number,    at) {
@@ -407,6 +409,7 @@ on_run() {
         both $command "$work/some.spthy" "$2"
     done
     both check-rules "$work/some_theory" "$2"
+    both fill "$work/some.spthy" "$2"
     both to-json "$2"
     echo
 }
@@ -444,6 +447,8 @@ END
     chains rule-run 'rule R with x=TERM' 'learn 1' 'know 0'
     chains rule-run 'rule R with x=TERM' 'rule S 0'
     chains rule-run 'rule Init with x=TERM'
+    chains short-run 'know TERM'
+    chains short-run 'rule 0' 'rule 0 0' 'out 0' 'in 0 TERM' 'event 0' 'insert 0' 'found 0' 'lock 0' 'unlock 0' 'then 0'
     for size in 254 255 256; do
         awk -v n=$size 'BEGIN {
             print "process-run"
@@ -467,7 +472,7 @@ END
         }' > "$work/run"
         on_run "facts of $size symbols" "$work/run"
     done
-    for head in process-run rule-run; do
+    for head in process-run rule-run short-run; do
         while IFS='^' read -r front part; do
             (
                 echo $head
@@ -487,6 +492,9 @@ rule 0 with x=f(^'a',
 rule 0 with x=<^'a',
 rule 0 with^ x='a'
 app h^ 0 0
+know ^h(h(
+know ^<<<<
+know f(^'a',
 ^((((
 ^    
 ^''''

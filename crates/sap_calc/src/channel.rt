@@ -38,6 +38,7 @@ impl Config {
     /// the head of the thread.
     pub fn channel(&mut self, alloc: Global, t: u64) -> Result<Term, PFault>
         ensures ok { IfOk result (λ x. SendsOn self.old.sig (configuration self.old) t (tree x)) }
+        ensures message { IfOk result (λ x. IsMessage self.old.sig Msg (tree x)) }
         ensures refused { IfErr result (HasNoChannel self.old.sig (configuration self.old) t) }
         ensures kept { self.new ≡ self.old }
     {
@@ -53,6 +54,8 @@ impl Config {
             Ok((number, _)) => number,
             Err(fault) => return Err(fault),
         };
+        self.table.each_is_ground();
+        self.table.each_is_over();
         term_of(alloc, &self.table, number)
     }
 

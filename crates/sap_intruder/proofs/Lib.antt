@@ -1,8 +1,12 @@
 pub mod Runs
-pub mod Filled
+pub mod LegalFilled
 pub mod Refused
 pub mod OneRun
 pub mod ShortByHand
 pub mod SomeAnswer
-pub mod Filling
+pub mod FilledWithin
 pub mod Sizes
+pub mod Entering
+pub mod Possible
+pub mod StepsFilled
+pub mod EachFilled

@@ -33,7 +33,7 @@ use Rattle.sap_intruder.proofs.Refused.{given_same, matches_one, sends_on}
 
 -- lists that are put together at the end
 
-pushed : {A : Type 0} (xs : List A) (x : A) → xs ++ x ∷ [] ≡ [] → ⊥
+pub pushed : {A : Type 0} (xs : List A) (x : A) → xs ++ x ∷ [] ≡ [] → ⊥
 pushed [] x e = absurd (cc)
 pushed (y ∷ xs) x e = absurd (cc)
 
@@ -42,7 +42,7 @@ no_cut [] ys x e = absurd (cc)
 no_cut (z ∷ xs) ys x e = absurd (cc)
 
 -- what stands last, and what stands before it
-last_same : {A : Type 0} (xs ys : List A) (x y : A) → xs ++ x ∷ [] ≡ ys ++ y ∷ [] → (xs ≡ ys) × (x ≡ y)
+pub last_same : {A : Type 0} (xs ys : List A) (x y : A) → xs ++ x ∷ [] ≡ ys ++ y ∷ [] → (xs ≡ ys) × (x ≡ y)
 last_same [] [] x y e = (refl, (let s : x ≡ y = cc in s))
 last_same [] (z ∷ ys) x y e = absurd (let t : ys ++ y ∷ [] ≡ [] = cc in pushed ys y t)
 last_same (w ∷ xs) [] x y e = absurd (let t : xs ++ x ∷ [] ≡ [] = cc in pushed xs x t)

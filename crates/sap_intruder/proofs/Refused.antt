@@ -1,5 +1,5 @@
 -- A step of a short run is refused for one cause, and not where it is possible.
-use Rattle.std.proofs.Common.{◌≡◌, ℕ, Bool, true, false, List, [], ◌∷◌, refl, ap, subst, ◌⊎◌, inl, inr}
+use Rattle.std.proofs.Common.{◌≡◌, ℕ, Bool, true, false, List, [], ◌∷◌, refl, sym, ap, subst, ◌⊎◌, inl, inr}
 use Rattle.std.proofs.lemmas.List.Elements.{All-nil, All-cons}
 use Rattle.sap_terms.specs.Equations.{equations}
 use Rattle.sap_terms.specs.Normal.{IsNormal, IsNormalForm}
@@ -9,8 +9,9 @@ use Rattle.sap_terms.specs.View.{tree}
 use Rattle.sap_terms.specs.declared.fact.Fact.{Fact}
 use Rattle.sap_terms.specs.declared.term.Term.{Term}
 use Rattle.sap_rewrite.specs.Laws.{FormIsOne}
+use Rattle.sap_process.specs.Action.{send}
 use Rattle.sap_process.specs.Configuration.{Config, Runs, CanGive}
-use Rattle.sap_process.specs.Proc.{Proc}
+use Rattle.sap_process.specs.Proc.{Proc, act}
 use Rattle.sap_runs.specs.Inner.{InnerAction}
 use Rattle.sap_runs.specs.Limits.{HasFewNodes}
 use Rattle.sap_runs.specs.declared.process_step.PStep.{PStep}
@@ -18,8 +19,8 @@ use Rattle.sap_runs.specs.declared.process_step.PStep.TheVariants as line
 use Rattle.sap_runs.specs.declared.short_step.SStep.{SStep}
 use Rattle.sap_runs.specs.declared.short_step.SStep.TheVariants as short
 use Rattle.sap_lines.specs.Answers.{MatchesExactly, RefusalsAreOne, ProcessLinesHaveOneAnswer}
-use Rattle.sap_lines.specs.Channels.{SendsOn, HasNoChannel, ChannelsAreOne, ChannelsHaveOneAnswer, MissingChannelsAreOne}
-use Rattle.sap_lines.specs.Faults.{IsRefused, IsUnfit, not_running, other_form, has_form}
+use Rattle.sap_lines.specs.Channels.{SendsOn, HasNoChannel, too_large, ChannelsAreOne, ChannelsHaveOneAnswer, MissingChannelsAreOne}
+use Rattle.sap_lines.specs.Faults.{IsRefused, IsUnfit, not_running, other_form, has_form, evaluated, EvaluateLarge}
 use Rattle.sap_lines.specs.Lines.{IsProcessLine}
 use Rattle.sap_lines.specs.declared.fault.PFault.{PFault}
 use Rattle.sap_lines.specs.declared.fault.PFault.TheVariants as fault
@@ -109,6 +110,25 @@ module _ (one : FormIsOne) (g : Sig) (c : Config) where
     one_cause _ _ f (no_channel {t = t} {e = e} h n) k = one_missing t e f h n k
     one_cause _ _ f (channel_not_given {t = t} {x = x} on never) k = one_sending t x f on k
     one_cause _ e f (known_not_given {u = u} h) k = one_known u e f h k
+
+  -- a line that sends on the thread's own channel is refused for the cause for which it has none
+  pub missing : (t : ℕ) (ch n x : Tree) (q : Proc) (e : PFault) → Runs c t (act (send ch n) q) → IsNormalForm (equations g) ch x → IsRefused g c (x ∷ []) (line.Send t 0) e → ¬ (e ≡ fault.Mem)
+      → HasNoChannel g c t e
+  missing t ch n x q _ r form (IsRefused.no_memory _) not_mem = absurd (not_mem refl)
+  missing t ch n x q e r form (IsRefused.unfit u named h) not_mem =
+      let same : t ≡ u = cc in
+      absurd (unfit_runs c t (has_form (line.Send t 0)) e (act (send ch n) q) (subst (λ (v : ℕ). IsUnfit c v (has_form (line.Send t 0)) e) (sym same) h) r refl)
+  missing t ch n x q _ r form (IsRefused.unknown_channel _ _ r2 f gone) not_mem = absurd (cc)
+  missing t ch n x q _ r form (IsRefused.large {p = p} running has_entry big) not_mem =
+      let named = running.named in
+      let same : t ≡ running.thread = cc in
+      let r2 : Runs c t p = subst (λ (v : ℕ). Runs c v p) (sym same) running.runs in
+      let is : p ≡ act (send ch n) q = cc (r, r2) in
+      too_large r (subst (λ (v : Proc). EvaluateLarge g (evaluated v)) is big)
+  missing t ch n x q _ r form (IsRefused.other_channel {m = ch2} {n = n2} {x = y} {p = p} _ _ r2 here small differs) not_mem =
+      let a : ch ≡ ch2 = cc (r, r2) in
+      let b : x ≡ y = cc (here) in
+      absurd (differs (subst (λ (v : Tree). IsNormalForm (equations g) ch2 v) b (subst (λ (v : Tree). IsNormalForm (equations g) v x) a form)))
 
   -- ---- possible and refused
 

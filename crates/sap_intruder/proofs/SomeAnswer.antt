@@ -28,8 +28,8 @@ use Rattle.sap_runs.specs.declared.process_step.PStep.TheVariants as line
 use Rattle.sap_runs.specs.declared.short_step.SStep.{SStep}
 use Rattle.sap_runs.specs.declared.short_step.SStep.TheVariants as short
 use Rattle.sap_lines.specs.Answers.{MatchesExactly, ProcessLinesHaveSomeAnswer, RunsMatchExactly}
-use Rattle.sap_lines.specs.Channels.{HasNoChannel, unfit, too_large}
-use Rattle.sap_lines.specs.Faults.{IsRefused, IsUnfit, not_running, other_form, has_form, is_send, evaluated, EvaluateLarge}
+use Rattle.sap_lines.specs.Channels.{unfit}
+use Rattle.sap_lines.specs.Faults.{IsUnfit, not_running, other_form, has_form, is_send}
 use Rattle.sap_lines.specs.Runs.{ProcessRunsCanBeWritten}
 use Rattle.sap_lines.specs.declared.fault.PFault.{PFault}
 use Rattle.sap_lines.specs.declared.fault.PFault.TheVariants as fault
@@ -40,7 +40,7 @@ use Rattle.sap_intruder.specs.ShortRuns.{IsLegalShortRun, starts, further, Short
 use Rattle.sap_intruder.specs.SomeAnswer.{IsAnswered, ShortLinesHaveSomeAnswer, ShortRunsHaveSomeAnswer}
 use Rattle.sap_intruder.specs.declared.fill_fault.FillFault.{FillFault}
 use Rattle.sap_intruder.specs.declared.fill_fault.FillFault.TheVariants as fill
-use Rattle.sap_intruder.proofs.Refused.{unfit_runs, unfit_cause, matches_one, sends_on}
+use Rattle.sap_intruder.proofs.Refused.{unfit_cause, matches_one, missing, sends_on}
 
 -- ---- whether a term is over the signature
 
@@ -128,25 +128,6 @@ module _ (each : EachHasForm) (one : FormIsOne) (some : ProcessLinesHaveSomeAnsw
     ]
   ]
 
-  -- a line that sends on the thread's own channel is refused for the cause for which it has none
-  missing : (t : ℕ) (ch n x : Tree) (q : Proc) (e : PFault) → Runs c t (act (send ch n) q) → IsNormalForm (equations g) ch x → IsRefused g c (x ∷ []) (line.Send t 0) e → ¬ (e ≡ fault.Mem)
-      → HasNoChannel g c t e
-  missing t ch n x q _ r form (IsRefused.no_memory _) not_mem = absurd (not_mem refl)
-  missing t ch n x q e r form (IsRefused.unfit u named h) not_mem =
-      let same : t ≡ u = cc in
-      absurd (unfit_runs c t (has_form (line.Send t 0)) e (act (send ch n) q) (subst (λ (v : ℕ). IsUnfit c v (has_form (line.Send t 0)) e) (sym same) h) r refl)
-  missing t ch n x q _ r form (IsRefused.unknown_channel _ _ r2 f gone) not_mem = absurd (cc)
-  missing t ch n x q _ r form (IsRefused.large {p = p} running has_entry big) not_mem =
-      let named = running.named in
-      let same : t ≡ running.thread = cc in
-      let r2 : Runs c t p = subst (λ (v : ℕ). Runs c v p) (sym same) running.runs in
-      let is : p ≡ act (send ch n) q = cc (r, r2) in
-      too_large r (subst (λ (v : Proc). EvaluateLarge g (evaluated v)) is big)
-  missing t ch n x q _ r form (IsRefused.other_channel {m = ch2} {n = n2} {x = y} {p = p} _ _ r2 here small differs) not_mem =
-      let a : ch ≡ ch2 = cc (r, r2) in
-      let b : x ≡ y = cc (here) in
-      absurd (differs (subst (λ (v : Tree). IsNormalForm (equations g) ch2 v) b (subst (λ (v : Tree). IsNormalForm (equations g) v x) a form)))
-
   sending : (t : ℕ) (p : Proc) → Runs c t p → is_send p ≡ true → IsAnswered g c (short.Send t)
   sending t (act (send ch n) q) r f =
       let x = each (equations g) ch in
@@ -157,7 +138,7 @@ module _ (each : EachHasForm) (one : FormIsOne) (some : ProcessLinesHaveSomeAnsw
         facts = m.facts;
       } in
       elim (some g c (x.0 ∷ []) (line.Send t 0) exactly) [
-        | inr h ↦ inr (fill.Process h.0, no_channel (missing t ch n x.0 q h.0 r x.1 h.1 h.2) h.2)
+        | inr h ↦ inr (fill.Process h.0, no_channel (missing one g c t ch n x.0 q h.0 r x.1 h.1 h.2) h.2)
         | inl h ↦ elim (give_or_not x.0 x.1.normal) [
           | inl gives ↦ inl (h.0, h.1, h.2, sends gives h.4)
           | inr never ↦ inr (fill.NotDeduced, channel_not_given (sends_on one g c t x.0 h.2 h.0 h.1 h.3 h.4) never)

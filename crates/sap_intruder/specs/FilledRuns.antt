@@ -80,3 +80,11 @@ SmallShortRunsCanBeFilled =
     (g : Sig) (p : Proc) (ss : List SStep) (c : Config) (tr : Trace) (marks : List Mark)
     → HoldsBuiltins g → All IsShortStep ss → IsLegalShortRun g HasFewNodes p ss c tr marks
     → (lines : List PStep) × (es : List Tree) × IsFilledRun g HasFewNodes p ss lines c es tr marks
+
+-- the lines are such a run, within the limit
+pub record IsFilled (g : Sig) (p : Proc) (ss : List SStep) (lines : List PStep) : Type 0 where
+  pub config : Config
+  pub entries : List Tree
+  pub trace : Trace
+  pub marks : List Mark
+  pub run : IsFilledRun g HasFewNodes p ss lines config entries trace marks

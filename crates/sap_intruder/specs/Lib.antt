@@ -5,3 +5,4 @@ pub mod FilledRuns
 pub mod OneAnswer
 pub mod SomeAnswer
 pub mod ShortExamples
+pub mod code

@@ -74,7 +74,7 @@ pub fn broken_line(alloc: Global, step: u64, which: Which) -> Result<Text, Mem>
 }
 
 /// The line that refuses a run at this step, as far as the cause.
-fn step_line(alloc: Global, step: u64) -> Result<Text, Mem>
+pub fn step_line(alloc: Global, step: u64) -> Result<Text, Mem>
     ensures { IfOk result (λ line. line ≡ codes "run refused: " ++ (codes "step " ++ (decimal step ++ codes ": "))) }
 {
     let mut line = Text::new(alloc);
@@ -124,8 +124,8 @@ fn push_json_fault(text: &mut Text, fault: JsonFault) -> Result<(), Mem>
     }
 }
 
-// Puts last why a line of a process is refused. Want of memory is no such cause.
-fn push_process_fault(text: &mut Text, fault: &PFault) -> Result<(), Mem>
+/// Puts last why a line of a process is refused. Want of memory is no such cause.
+pub fn push_process_fault(text: &mut Text, fault: &PFault) -> Result<(), Mem>
     ensures cause { OnOk result (fault.now ≡ process_faults.Mem → ⊥) }
     ensures text { OnOk result (text.new ≡ text.old ++ process_fault_text fault.now) }
 {

@@ -296,10 +296,12 @@ fn converted(page: &mut Page, words: &str, file: &[u8], run: &[u8]) -> Page {
 
 /// `process`, a file, the lines of a run of its process, and those of the run of its rules opposite, or the first illegal line with its
 /// fault; and where these don't convert back to the first, what they convert back to, behind a bar. `rules`, a file, the lines of a run of
-/// its rules, and those of the run of its process opposite, or the first line that is refused or breaks a restriction.
+/// its rules, and those of the run of its process opposite, or the first line that is refused or breaks a restriction. `fill`, a file, the
+/// lines of a short run of its process, and those of the run that it stands for, or the first step that is refused.
 pub fn conversions_row(page: &mut Page, row: &str) {
     let (head, words) = match part(row, 0) {
         "process" => ("process-run\n", "to-rules a.spthy b.run"),
+        "fill" => ("short-run\n", "fill a.spthy b.run"),
         _ => ("rule-run\n", "to-process a.spthy b.run"),
     };
     let behind = if part(row, 2).is_empty() { "" } else { "\n" };

@@ -44,7 +44,7 @@ fn show_found_above(page: &mut Page, desk: &mut Desk, table: &str, row: &str) {
         "run-texts" => run_texts::run_texts_row(page, row),
         "rule-runs" => runs::runs_row(page, desk, row),
         "process-runs" => processes::processes_row(page, desk, row),
-        "conversions" => calls::conversions_row(page, row),
+        "conversions" | "fillings" => calls::conversions_row(page, row),
         "runs-of-examples" => calls::examples_row(page, desk, row),
         "formulas" => formulas::formulas_row(page, &mut desk.theory, row),
         "checks" => formulas::checks_row(page, &mut desk.theory, row),

@@ -3,7 +3,7 @@ use Rattle.std.proofs.Common.{◌≡◌, ◌≢◌, ℕ, List, [], ◌∷◌, Op
 use Rattle.std.specs.Prelude.{codes, if◌then◌else◌}
 use Rattle.std.specs.Str.{bytes_eq}
 use Rattle.sap_sample.specs.Sample.{IsSample, sample_words}
-use Rattle.sap_tool.specs.Commands.{Command, compile, replay, check, to_json, from_json, explain, spelled}
+use Rattle.sap_tool.specs.Commands.{Command, compile, replay, fill, check, to_json, from_json, explain, spelled}
 use Rattle.sap_tool.specs.declared.task.Task.{Task}
 use Rattle.sap_tool.specs.declared.task.Task.TheVariants.{ToRules, ToProcess, Judge}
 use Rattle.sap_tool.specs.declared.way.Way.{Way}
@@ -27,6 +27,7 @@ of_three word name run =
     else if bytes_eq word (codes "to-process") then Some (replay ToProcess name run)
     else if bytes_eq word (codes "judge") then Some (replay Judge name run)
     else if bytes_eq word (codes "check-rules") then Some (check name run)
+    else if bytes_eq word (codes "fill") then Some (fill name run)
     else None
 
 abbrev command_of : List (List ℕ) → Option Command
@@ -42,6 +43,7 @@ found (compile Short file) = refl
 found (replay ToRules file run) = refl
 found (replay ToProcess file run) = refl
 found (replay Judge file run) = refl
+found (fill file run) = refl
 found (check theory run) = refl
 found (to_json run) = refl
 found (from_json json) = refl
@@ -64,11 +66,12 @@ no_command_is_sample words k n asks sample =
 
 -- no command is asked for, where none of each kind is
 pub no_command_of : (words : List (List ℕ)) → ((way : Way) (file : List ℕ) → words ≢ spelled (compile way file)) → ((task : Task) (file run : List ℕ) → words ≢ spelled (replay task file run))
-    → ((theory run : List ℕ) → words ≢ spelled (check theory run)) → ((run : List ℕ) → words ≢ spelled (to_json run)) → ((json : List ℕ) → words ≢ spelled (from_json json))
+    → ((theory run : List ℕ) → words ≢ spelled (check theory run)) → ((file run : List ℕ) → words ≢ spelled (fill file run)) → ((run : List ℕ) → words ≢ spelled (to_json run)) → ((json : List ℕ) → words ≢ spelled (from_json json))
     → ((file : List ℕ) → words ≢ spelled (explain file)) → (k : Command) → words ≡ spelled k → ⊥
-no_command_of words f r t j i w (compile way file) e = f way file e
-no_command_of words f r t j i w (replay task file run) e = r task file run e
-no_command_of words f r t j i w (check theory run) e = t theory run e
-no_command_of words f r t j i w (to_json run) e = j run e
-no_command_of words f r t j i w (from_json json) e = i json e
-no_command_of words f r t j i w (explain file) e = w file e
+no_command_of words f r t s j i w (compile way file) e = f way file e
+no_command_of words f r t s j i w (replay task file run) e = r task file run e
+no_command_of words f r t s j i w (fill file run) e = s file run e
+no_command_of words f r t s j i w (check theory run) e = t theory run e
+no_command_of words f r t s j i w (to_json run) e = j run e
+no_command_of words f r t s j i w (from_json json) e = i json e
+no_command_of words f r t s j i w (explain file) e = w file e

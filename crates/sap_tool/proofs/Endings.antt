@@ -12,13 +12,15 @@ use Rattle.sap_outside.specs.Outside.{Files, Rose, IsFetched}
 use Rattle.sap_outside.specs.Requests.{Request, Requested, fetch, for_run}
 use Rattle.sap_outside.specs.RunPieces.{IsJoined, may_come, WasRead, WasGivenUp, IsRunAnswer, most_run_bytes}
 use Rattle.sap_tool.specs.Call.{Call, FailedOn, AskedFor}
-use Rattle.sap_tool.specs.Commands.{Command, replay, check, to_json, from_json, Input, alone, and_run, run_alone, file_of, run_of, limit_of, kinds_of, Accepts, Refuses, RefusesRun, Writes}
-use Rattle.sap_tool.specs.Answers.{tells, IsAnswerTo, allowed, refused, run_refused, Asks, for_file, IsFileFetched, WasRunRead, WasRunGivenUp, IsRunNext, IsAnswer, to_input, usage, unread, unread_run, asked_file, asked_run, asked_both}
+use Rattle.sap_tool.specs.Commands.{Command, replay, fill, check, to_json, from_json, Input, alone, and_run, run_alone, file_of, run_of, HowRead, in_pieces, at_once, how_read, limit_of, kinds_of, Accepts, Refuses, RefusesRun, Writes}
+use Rattle.sap_tool.specs.Answers.{tells, IsAnswerTo, allowed, refused, run_refused, Asks, for_file, IsFileFetched, WasReadSo, WasGivenUpSo, WasRunRead, WasRunGivenUp, IsRunNext, IsAnswer, to_input, usage, unread, unread_run, asked_file, asked_run, asked_both}
 use Rattle.sap_refusals.specs.Refusals.{refused_line}
 use Rattle.sap_refusals.specs.RunFaultTexts.{run_refused_line}
 use Rattle.sap_tool.specs.JsonRuns.{IsJsonOf, IsRunOfJson, IsJsonRefusedWith}
 use Rattle.sap_tool.specs.RunRefusals.{IsIllegal, IsIllegalOfTheory, IsNeverIllegal}
 use Rattle.sap_tool.specs.code.Endings.{Ends, EndsFile, EndsBoth, HasRead, HasGivenUp, Reading, ending_of, refused_ending}
+use Rattle.sap_tool.specs.ShortRuns.{IsShortRefusedWith}
+use Rattle.sap_tool.specs.code.Filled.{IsFilledOf}
 use Rattle.sap_tool.specs.code.Refused.{IsLineOf, IsRunRefusal}
 use Rattle.sap_refusals.specs.declared.refusal.Refusal.{Refusal}
 use Rattle.sap_refusals.specs.declared.refusal.Refusal.TheVariants as refusal
@@ -70,25 +72,34 @@ module _ (joining : Joining) (c : Call) (k : Command) (bytes : List ℕ) (r : Re
   asked_once : r.asked_after ≡ r.asked_before → AskedFor c (for_file k)
   asked_once none = subst (λ (x : Option (List Request)). Requested (for_file k) c.asked_before x) (sym none ∙ asked_after) once
 
-  read_of : (z : List ℕ) → HasRead r z → WasRunRead c k z
-  read_of z was =
-      is_some_and (run_of k) r.run (λ (run : List ℕ). WasRead c.holds run (for_file k) c.asked_before c.asked_after z) named
-      (record {
-        joined = subst (λ (h : Option Files). IsJoined h r.run z) holds was.joined;
-        pieces = was.pieces;
-        are = was.are;
-        whole = was.whole;
-        asked = asked_all (for_run r.run (length was.pieces)) was.asked;
-      })
+  read_so : (h : HowRead) (z : List ℕ) → WasReadSo h r.holds r.run [] r.asked_before r.asked_after z → WasReadSo h c.holds r.run (for_file k) c.asked_before c.asked_after z
+  read_so in_pieces z was = record {
+    joined = subst (λ (h : Option Files). IsJoined h r.run z) holds was.joined;
+    pieces = was.pieces;
+    are = was.are;
+    whole = was.whole;
+    asked = asked_all (for_run r.run (length was.pieces)) was.asked;
+  }
+  read_so at_once z was =
+      (subst (λ (h : Option Files). IsFetched h r.run most_run_bytes z) holds was.0, asked_all (fetch r.run most_run_bytes ∷ []) was.1)
 
-  given_up_of : HasGivenUp r → WasRunGivenUp c k
+  read_of : (z : List ℕ) → HasRead k r z → WasRunRead c k z
+  read_of z was =
+      is_some_and (run_of k) r.run (λ (run : List ℕ). WasReadSo (how_read k) c.holds run (for_file k) c.asked_before c.asked_after z) named
+      (read_so (how_read k) z was)
+
+  given_up_so : (h : HowRead) → WasGivenUpSo h r.holds r.run [] r.asked_before r.asked_after → WasGivenUpSo h c.holds r.run (for_file k) c.asked_before c.asked_after
+  given_up_so in_pieces was = record {
+    nexts = was.nexts;
+    few = subst (λ (h : Option Files). was.nexts ≤ may_come h r.run + 1) holds was.few;
+    asked = asked_all (for_run r.run was.nexts) was.asked;
+  }
+  given_up_so at_once was = asked_all (fetch r.run most_run_bytes ∷ []) was
+
+  given_up_of : HasGivenUp k r → WasRunGivenUp c k
   given_up_of was =
-      is_some_and (run_of k) r.run (λ (run : List ℕ). WasGivenUp c.holds run (for_file k) c.asked_before c.asked_after) named
-      (record {
-        nexts = was.nexts;
-        few = subst (λ (h : Option Files). was.nexts ≤ may_come h r.run + 1) holds was.few;
-        asked = asked_all (for_run r.run was.nexts) was.asked;
-      })
+      is_some_and (run_of k) r.run (λ (run : List ℕ). WasGivenUpSo (how_read k) c.holds run (for_file k) c.asked_before c.asked_after) named
+      (given_up_so (how_read k) was)
 
   pub of_both : (e : Ending) → EndsBoth k bytes r e → Ends c e
   of_both (ending.Given text) t = to_input k (and_run bytes t.0) asks (fetched, read_of t.0 t.1) (allowed t.2)
@@ -112,7 +123,7 @@ told_is c n _ (unread k asks f a) e = read_fault_is e
 told_is c n _ (unread_run k asks next f a) e = read_fault_is e
 
 -- what a task writes of a run that was read, or the line that refuses it, ends both
-pub replay_ends : (task : Task) (file run bytes z : List ℕ) (f : FileContent) (r : Reading) (text : Result (List ℕ) Refusal) → IsAcceptedFile bytes f → HasRead r z
+pub replay_ends : (task : Task) (file run bytes z : List ℕ) (f : FileContent) (r : Reading) (text : Result (List ℕ) Refusal) → IsAcceptedFile bytes f → HasRead (replay task file run) r z
     → IfOk text (λ t. (lines : Run) × IsRunAnswer (kinds_of task) z (Ok lines) × Writes task f lines t)
     → ((line : List ℕ) → IsErrOf text (refusal.Told line) → IsRunRefusal (kinds_of task) (IsIllegal f) z line) → EndsBoth (replay task file run) bytes r (ending_of text)
 replay_ends task file run bytes z f r (Ok t) accepted read given told =
@@ -122,7 +133,7 @@ replay_ends task file run bytes z f r (Err (refusal.Told line)) accepted read gi
 replay_ends task file run bytes z f r (Err refusal.Mem) accepted read given told = inr ((f, accepted), inr (z, read))
 
 -- and where a theory was asked
-pub check_ends : (theory run bytes z : List ℕ) (t : Theory) (r : Reading) (text : Result (List ℕ) Refusal) → IsAcceptedTheory bytes t → HasRead r z
+pub check_ends : (theory run bytes z : List ℕ) (t : Theory) (r : Reading) (text : Result (List ℕ) Refusal) → IsAcceptedTheory bytes t → HasRead (check theory run) r z
     → IfOk text (λ x. (lines : Run) × IsRunAnswer kinds.Rules z (Ok lines) × IsCheckedText t lines x)
     → ((line : List ℕ) → IsErrOf text (refusal.Told line) → IsRunRefusal kinds.Rules (IsIllegalOfTheory t) z line) → EndsBoth (check theory run) bytes r (ending_of text)
 check_ends theory run bytes z t r (Ok x) accepted read given told =
@@ -130,6 +141,16 @@ check_ends theory run bytes z t r (Ok x) accepted read given told =
 check_ends theory run bytes z t r (Err (refusal.Told line)) accepted read given told =
     let l = told line refl in (z, read, run_line (check theory run) (and_run bytes z) l.why line (t, accepted, l.cause) l.layout)
 check_ends theory run bytes z t r (Err refusal.Mem) accepted read given told = inr ((t, accepted), inr (z, read))
+
+-- and of a short run
+pub fill_ends : (file run bytes z : List ℕ) (f : FileContent) (r : Reading) (text : Result (List ℕ) Refusal) → IsAcceptedFile bytes f → HasRead (fill file run) r z
+    → IfOk text (IsFilledOf f z) → ((line : List ℕ) → IsErrOf text (refusal.Told line) → IsLineOf (IsShortRefusedWith f z) line)
+    → EndsBoth (fill file run) bytes r (ending_of text)
+fill_ends file run bytes z f r (Ok t) accepted read given told =
+    (z, read, record { told = f; file = accepted; run = given.run; read = given.read; lines = given.written.lines; filled = given.written.filled; layout = given.written.layout })
+fill_ends file run bytes z f r (Err (refusal.Told line)) accepted read given told =
+    let l = told line refl in (z, read, run_line (fill file run) (and_run bytes z) l.why line (f, accepted, l.cause) l.layout)
+fill_ends file run bytes z f r (Err refusal.Mem) accepted read given told = inr ((f, accepted), inr (z, read))
 
 -- what is written of a run that was read alone, or the line that refuses it, ends the call
 pub to_json_ends : (c : Call) (run z : List ℕ) (text : Result (List ℕ) Refusal) → Asks c (to_json run) → WasRead c.holds run [] c.asked_before c.asked_after z

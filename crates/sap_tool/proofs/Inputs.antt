@@ -13,16 +13,19 @@ use Rattle.sap_outside.specs.Outside.{Files, IsFetched, IsFirstPart}
 use Rattle.sap_outside.specs.RunPieces.{IsReadUp}
 use Rattle.sap_tool.specs.Call.{Holds}
 use Rattle.sap_tool.specs.declared.way.Way.{Way}
-use Rattle.sap_tool.specs.Commands.{Command, compile, replay, check, to_json, from_json, explain, Input, alone, and_run, run_alone, limit_of, kinds_of, Accepts, Refuses, RefusesRun, TakesRun, Allows, Means}
+use Rattle.sap_tool.specs.Commands.{Command, compile, replay, fill, check, to_json, from_json, explain, Input, alone, and_run, run_alone, limit_of, kinds_of, Accepts, Refuses, RefusesRun, TakesRun, Allows, Means}
+use Rattle.sap_tool.specs.ShortRuns.{IsShortRefusedWith}
 use Rattle.sap_tool.specs.RunRefusals.{IsIllegal, IsIllegalOfTheory, IsNeverIllegal, IsRunRefusedWith, no_run, illegal}
 use Rattle.sap_tool.proofs.Legal as legal
-use Rattle.sap_tool.proofs.Legal.{seen_is_legal, never_illegal, never_illegal_of_theory}
+use Rattle.sap_tool.proofs.Legal.{file_ready, seen_is_legal, never_illegal, never_illegal_of_theory}
 use Rattle.sap_tool.proofs.Takes.{allowed_takes}
 use Rattle.sap_tool.proofs.Meant as meant
 use Rattle.sap_tool.proofs.Meant.{CanBePrinted, written_says}
 use Rattle.sap_tool.proofs.JsonMeant as json
 use Rattle.sap_tool.specs.Meaning.{IsWritten}
 use Rattle.sap_tool.proofs.JsonMeant.{json_is_read, run_is_read}
+use Rattle.sap_tool.proofs.ShortRefused as short
+use Rattle.sap_tool.proofs.ShortRefused.{filled_is_legal, legal_not_refused, one_short_cause, short_read_up_refused, short_refused_by_read_up}
 use Rattle.sap_tool.proofs.JsonRefused.{OneJson, one_json_cause, json_not_refused, json_part_refused, json_refused_by_part}
 use Rattle.sap_tool.proofs.OneRefusal.{one_run_cause}
 use Rattle.sap_tool.proofs.Parts.{OneRun, not_both, same_run, read_up_refused, refused_by_read_up}
@@ -50,6 +53,7 @@ pub record Laws : Type 0 where
   pub meant : meant.Laws
   pub json : json.Laws
   pub one_json : OneJson
+  pub short : short.Laws
   pub one_illegal : (f : FileContent) (r : Run) (why other : List ℕ) → IsRunnable f → IsIllegal f r why → IsIllegal f r other → why ≡ other
   pub one_illegal_of_theory : (t : Theory) (r : Run) (why other : List ℕ) → HoldsBuiltins t.signature → All (IsWellMade t.signature) t.rules → IsIllegalOfTheory t r why → IsIllegalOfTheory t r other
       → why ≡ other
@@ -74,6 +78,7 @@ means laws (replay task file run) (and_run bytes z) text t =
       read = t.read;
       written = written_says laws.meant (kinds_of task) z t.told (laws.runnable bytes t.told t.file.read) (laws.printed bytes t.told t.file.read) task t.lines text t.read t.written;
     }
+means laws (fill file run) (and_run bytes z) text t = filled_is_legal laws.short bytes z text t
 means laws (check theory run) (and_run bytes z) text t = t
 means laws (to_json run) (run_alone z) text t = json_is_read laws.json z text t
 means laws (from_json json) (alone bytes) text t = run_is_read laws.json bytes text t
@@ -84,6 +89,7 @@ means laws k input text t = absurd t
 pub accepted_never : Laws → (k : Command) (bytes why : List ℕ) → Accepts k bytes → Refuses k bytes why → ⊥
 accepted_never laws (compile way file) bytes why a r = not_refused laws.one bytes why a.0 r a.1
 accepted_never laws (replay task file run) bytes why a r = not_refused laws.one bytes why a.0 r a.1
+accepted_never laws (fill file run) bytes why a r = not_refused laws.one bytes why a.0 r a.1
 accepted_never laws (check theory run) bytes why a r = theory_not_refused laws.one_theory bytes why a.0 r a.1
 accepted_never laws (to_json run) bytes why a r = absurd r
 accepted_never laws (from_json json) bytes why a r = absurd r
@@ -100,6 +106,11 @@ never_taken laws (replay task file run) (and_run bytes z) why t r =
         let lines : t.lines ≡ s = same_run laws.one_run (kinds_of task) z t.lines s t.read a in
         never_illegal laws.legal t.told (laws.runnable bytes t.told t.file.read) t.lines w (seen_is_legal t.told t.lines t.trace t.seen)
         (subst (λ (x : FileContent). IsIllegal x t.lines w) (sym same) (subst (λ (x : Run). IsIllegal f x w) (sym lines) bad))
+never_taken laws (fill file run) (and_run bytes z) why t r =
+    let same : r.0 ≡ t.told = same_file laws.one bytes r.0 t.told r.1.read t.file.read in
+    let can = laws.runnable bytes t.told t.file.read in
+    legal_not_refused laws.short z t.told can.builtins (file_ready laws.legal t.told can) bytes why t refl
+    (subst (λ (f : FileContent). IsShortRefusedWith f z why) same r.2)
 never_taken laws (check theory run) (and_run bytes z) why t r =
     at r.0 why (same_theory laws.one_theory bytes t.theory r.0 t.file r.1) r.2
   where
@@ -119,12 +130,13 @@ never_taken laws k input why t r = absurd r
 
 -- so none is both allowed a text and refused
 pub never_run : Laws → (k : Command) (input : Input) (text why : List ℕ) → Allows k input text → RefusesRun k input why → ⊥
-never_run laws k input text why t r = never_taken laws k input why (allowed_takes k input text why t r) r
+never_run laws k input text why t r = never_taken laws k input why (allowed_takes laws.short k input text why t r) r
 
 -- and they are refused for one cause
 pub one_why : Laws → (k : Command) (bytes why other : List ℕ) → Refuses k bytes why → Refuses k bytes other → why ≡ other
 one_why laws (compile way file) bytes why other r s = one_cause laws.one bytes why other r s
 one_why laws (replay task file run) bytes why other r s = one_cause laws.one bytes why other r s
+one_why laws (fill file run) bytes why other r s = one_cause laws.one bytes why other r s
 one_why laws (check theory run) bytes why other r s = one_theory_cause laws.one_theory bytes why other r s
 one_why laws (to_json run) bytes why other r s = absurd r
 one_why laws (from_json json) bytes why other r s = absurd r
@@ -136,6 +148,11 @@ one_run_why laws (replay task file run) (and_run bytes z) why other r s =
     let same : s.0 ≡ r.0 = same_file laws.one bytes s.0 r.0 s.1.read r.1.read in
     one_run_cause laws.one_run (kinds_of task) z (IsIllegal r.0) (λ x w v. laws.one_illegal r.0 x w v (laws.runnable bytes r.0 r.1.read)) why other r.2
     (subst (λ (f : FileContent). IsRunRefusedWith (kinds_of task) (IsIllegal f) z other) same s.2)
+one_run_why laws (fill file run) (and_run bytes z) why other r s =
+    let same : s.0 ≡ r.0 = same_file laws.one bytes s.0 r.0 s.1.read r.1.read in
+    let can = laws.runnable bytes r.0 r.1.read in
+    one_short_cause laws.short z r.0 can.builtins (file_ready laws.legal r.0 can) why other r.2
+    (subst (λ (f : FileContent). IsShortRefusedWith f z other) same s.2)
 one_run_why laws (check theory run) (and_run bytes z) why other r s =
     let same : s.0 ≡ r.0 = same_theory laws.one_theory bytes s.0 r.0 s.1 r.1 in
     let can = laws.theories bytes r.0 r.1.read in
@@ -161,6 +178,7 @@ fetched_part (Some all) limit file bytes z held part = at (files.get all file) h
 pub part_is_refused : (k : Command) (bytes why : List ℕ) → Refuses k bytes why → Refuses k (take (limit_of k + 1) bytes) why
 part_is_refused (compile way file) bytes why r = part_refused bytes why r
 part_is_refused (replay task file run) bytes why r = part_refused bytes why r
+part_is_refused (fill file run) bytes why r = part_refused bytes why r
 part_is_refused (check theory run) bytes why r = theory_part_refused bytes why r
 part_is_refused (to_json run) bytes why r = absurd r
 part_is_refused (from_json json) bytes why r = absurd r
@@ -170,6 +188,7 @@ part_is_refused (explain file) bytes why r = absurd r
 pub is_refused_by_part : (k : Command) (bytes why : List ℕ) → Refuses k (take (limit_of k + 1) bytes) why → Refuses k bytes why
 is_refused_by_part (compile way file) bytes why r = refused_by_part bytes why r
 is_refused_by_part (replay task file run) bytes why r = refused_by_part bytes why r
+is_refused_by_part (fill file run) bytes why r = refused_by_part bytes why r
 is_refused_by_part (check theory run) bytes why r = theory_refused_by_part bytes why r
 is_refused_by_part (to_json run) bytes why r = absurd r
 is_refused_by_part (from_json json) bytes why r = absurd r
@@ -179,6 +198,7 @@ is_refused_by_part (explain file) bytes why r = absurd r
 pub part_is_accepted : (k : Command) (bytes : List ℕ) → Accepts k bytes → Accepts k (take (limit_of k + 1) bytes)
 part_is_accepted (compile way file) bytes a = (a.0, part_accepted bytes a.0 a.1)
 part_is_accepted (replay task file run) bytes a = (a.0, part_accepted bytes a.0 a.1)
+part_is_accepted (fill file run) bytes a = (a.0, part_accepted bytes a.0 a.1)
 part_is_accepted (check theory run) bytes a = (a.0, theory_part_accepted bytes a.0 a.1)
 part_is_accepted (to_json run) bytes a = tt
 part_is_accepted (from_json json) bytes a = tt
@@ -204,6 +224,8 @@ alone_is_refused k bytes why r = absurd r
 both_are_refused : (k : Command) (bytes z y why : List ℕ) → IsReadUp z y → RefusesRun k (and_run bytes z) why → RefusesRun k (and_run (take (limit_of k + 1) bytes) y) why
 both_are_refused (replay task file run) bytes z y why up r =
     (r.0, part_accepted bytes r.0 r.1, read_up_refused (kinds_of task) (IsIllegal r.0) z y why up r.2)
+both_are_refused (fill file run) bytes z y why up r =
+    (r.0, part_accepted bytes r.0 r.1, short_read_up_refused r.0 z y why up r.2)
 both_are_refused (check theory run) bytes z y why up r =
     (r.0, theory_part_accepted bytes r.0 r.1, read_up_refused Rules (IsIllegalOfTheory r.0) z y why up r.2)
 both_are_refused k bytes z y why up r = absurd r
@@ -228,6 +250,8 @@ both_refused_by_part : (k : Command) (bytes z y why : List ℕ) → IsReadUp z y
     → (other : List ℕ) × RefusesRun k (and_run bytes z) other
 both_refused_by_part (replay task file run) bytes z y why up r =
     let read = refused_by_read_up (kinds_of task) (IsIllegal r.0) z y why up r.2 in (read.0, (r.0, accepted_by_part bytes r.0 r.1, read.1))
+both_refused_by_part (fill file run) bytes z y why up r =
+    let read = short_refused_by_read_up r.0 z y why up r.2 in (read.0, (r.0, accepted_by_part bytes r.0 r.1, read.1))
 both_refused_by_part (check theory run) bytes z y why up r =
     let read = refused_by_read_up Rules (IsIllegalOfTheory r.0) z y why up r.2 in (read.0, (r.0, theory_accepted_by_part bytes r.0 r.1, read.1))
 both_refused_by_part k bytes z y why up r = absurd r

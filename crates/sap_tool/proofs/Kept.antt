@@ -3,19 +3,19 @@ use Rattle.std.proofs.Common.{◌≡◌, ◌+◌, ◌<◌, ℕ, List, [], ◌∷
 use Rattle.std.specs.Prelude.{Contains, IsSomeAnd, IfSome}
 use Rattle.sap_outside.specs.Outside.{IsFetched}
 use Rattle.sap_outside.specs.Pieces.{pieces}
-use Rattle.sap_outside.specs.RunPieces.{IsReadUp, WasRead}
+use Rattle.sap_outside.specs.RunPieces.{most_run_bytes, IsReadUp}
 use Rattle.sap_outside.specs.Stream.{Gained, Failed, CutShort}
 use Rattle.sap_refusals.specs.Refusals.{refused_line}
 use Rattle.sap_refusals.specs.RunFaultTexts.{run_refused_line}
 use Rattle.sap_sample.specs.Sample.{IsSample, sample_text}
 use Rattle.sap_tool.specs.Call.{Call, FailedOn, Holds}
 use Rattle.sap_tool.specs.declared.way.Way.{Way}
-use Rattle.sap_tool.specs.Commands.{Command, compile, Input, alone, and_run, run_alone, file_of, run_of, limit_of, IsUnknown, Accepts, Refuses, RefusesRun, TakesRun, Allows}
-use Rattle.sap_tool.specs.Answers.{Answer, gives, tells, status_of, IsAnswerTo, allowed, refused, run_refused, Asks, for_file, IsFileFetched, WasRunRead, Fetched, IsRunNext, FailedOnFile, FailedOnRun, IsAnswer, IsBegun, to_input, sampled, usage, unread, unread_run, read_fault_text, IsPut, whole, broken, wanting, IsLast, complete, cut, write_fault_text, memory_text, Ended, answered, unanswered}
+use Rattle.sap_tool.specs.Commands.{Command, compile, Input, alone, and_run, run_alone, file_of, run_of, HowRead, in_pieces, at_once, how_read, limit_of, IsUnknown, Accepts, Refuses, RefusesRun, TakesRun, Allows}
+use Rattle.sap_tool.specs.Answers.{Answer, gives, tells, status_of, IsAnswerTo, allowed, refused, run_refused, Asks, for_file, IsFileFetched, WasReadSo, WasRunRead, Fetched, IsRunNext, FailedOnFile, FailedOnRun, IsAnswer, IsBegun, to_input, sampled, usage, unread, unread_run, read_fault_text, IsPut, whole, broken, wanting, IsLast, complete, cut, write_fault_text, memory_text, Ended, answered, unanswered}
 use Rattle.sap_tool.specs.Promises as promised
 use Rattle.sap_tool.proofs.Asked.{one_command, no_command_is_sample}
 use Rattle.sap_tool.proofs.Inputs.{Laws, means, accepted_never, never_taken, never_run, one_why, one_run_why, one_allowed, fetched_part, part_is_refused, is_refused_by_part, part_is_accepted, part_allows, IsPartOf, refused_as_read, refused_as_held}
-use Rattle.sap_tool.proofs.Parts.{joined_part}
+use Rattle.sap_tool.proofs.Parts.{fetched_is_up, joined_part}
 use Rattle.sap_tool.proofs.SampleWords.{one_sample}
 use Rattle.sap_tool.proofs.Some.{of_both_some, none_has}
 use Rattle.sap_tool.proofs.Takes.{IsWhole, allowed_is_whole, refused_is_whole, taken_is_whole}
@@ -162,10 +162,15 @@ module _ (laws : Laws) (c : Call) where
         held fetched
 
     -- and the run that was read is what is held, read up
+    read_is_up : (way : HowRead) (run z y : List ℕ) → Holds c.holds run z → WasReadSo way c.holds run (for_file k) c.asked_before c.asked_after y → IsReadUp z y
+    read_is_up in_pieces run z y h w = joined_part c.holds run z y h w.joined
+    read_is_up at_once run z y h w = fetched_is_up z y (fetched_part c.holds most_run_bytes run z y h w.0)
+
     run_is_up : (z y : List ℕ) → promised.HoldsRun c k z → WasRunRead c k y → IsReadUp z y
     run_is_up z y held was =
-        of_both_some (run_of k) (λ (run : List ℕ). Holds c.holds run z) (λ (run : List ℕ). WasRead c.holds run (for_file k) c.asked_before c.asked_after y)
-        (λ (run : List ℕ) (h : Holds c.holds run z) (w : WasRead c.holds run (for_file k) c.asked_before c.asked_after y). joined_part c.holds run z y h w.joined)
+        of_both_some (run_of k) (λ (run : List ℕ). Holds c.holds run z) (λ (run : List ℕ). WasReadSo (how_read k) c.holds run (for_file k) c.asked_before c.asked_after y)
+        (λ (run : List ℕ) (h : Holds c.holds run z) (w : WasReadSo (how_read k) c.holds run (for_file k) c.asked_before c.asked_after y).
+        read_is_up (how_read k) run z y h w)
         held was
 
     -- so what was read, where it is whole, is a part of what is held

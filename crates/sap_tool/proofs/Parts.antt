@@ -1,15 +1,15 @@
 -- Bytes of a run that were read up, and the whole run.
-use Rattle.std.proofs.Common.{◌≡◌, ◌≤◌, ◌<◌, ℕ, zero, suc, List, ◌++◌, length, Option, Some, None, Result, Ok, Err, inl, inr, ◌⊎◌, refl, sym, ap, subst, ◌∙◌, arith}
+use Rattle.std.proofs.Common.{◌≡◌, ◌≤◌, ◌<◌, ℕ, zero, suc, List, [], ◌++◌, ◌+◌, length, take, drop, Option, Some, None, Result, Ok, Err, inl, inr, ◌⊎◌, refl, sym, ap, subst, ◌∙◌, arith}
 use Rattle.std.specs.Prelude.{IsSomeAnd}
 use Rattle.std.specs.FinMap as files
 use Rattle.std.proofs.lemmas.Grind.{common_steps}
-use Rattle.std.proofs.lemmas.List.{append-nil}
+use Rattle.std.proofs.lemmas.List.{append-nil, take-append-drop, drop_all}
 use Rattle.sap_run_texts.specs.RunTexts.{IsRunRead}
 use Rattle.sap_run_texts.specs.declared.run.Kinds.{Kinds}
 use Rattle.sap_run_texts.specs.declared.run.Run.{Run}
 use Rattle.sap_run_texts.specs.declared.run_fault.RunFault.{RunFault}
 use Rattle.sap_tool.specs.Call.{Holds}
-use Rattle.sap_outside.specs.Outside.{Files}
+use Rattle.sap_outside.specs.Outside.{Files, piece_bytes}
 use Rattle.sap_outside.specs.RunPieces.{most_run_bytes, IsReadUp, IsJoined, IsRunAnswer, is_run, too_long, bad_head, bad_line, too_many_of_process, too_many_of_rules}
 use Rattle.sap_refusals.specs.RunFaultTexts.{run_refusal_text}
 use Rattle.sap_tool.specs.RunRefusals.{IsRunRefusedWith, no_run, illegal}
@@ -36,16 +36,16 @@ module _ (one : OneRun) (k : Kinds) (z : List ℕ) where
   pub same_run : (r s : Run) → IsRunAnswer k z (Ok r) → IsRunAnswer k z (Ok s) → r ≡ s
   same_run r s (is_run l a) (is_run m b) = let same : ◌≡◌ {A = Result Run RunFault} (Ok r) (Ok s) = one k z (Ok r) (Ok s) a b in cc
 
-short_or_long : (n most : ℕ) → (n ≤ most) ⊎ (most < n)
+pub short_or_long : (n most : ℕ) → (n ≤ most) ⊎ (most < n)
 short_or_long zero most = inl (omega arith)
 short_or_long (suc n) zero = inr (omega arith)
 short_or_long (suc n) (suc most) = elim (short_or_long n most) [ inl h ↦ inl (omega (arith, h)) | inr h ↦ inr (omega (arith, h)) ]
 
 -- bytes that were read up, and aren't too many, are all
-all_read : (z y : List ℕ) → IsReadUp z y → length y ≤ most_run_bytes → z ≡ y
+pub all_read : (z y : List ℕ) → IsReadUp z y → length y ≤ most_run_bytes → z ≡ y
 all_read z y up short = up.part ∙ ap (λ (x : List ℕ). y ++ x) (up.whole short) ∙ append-nil y
 
-longer : (y left : List ℕ) (most : ℕ) → most < length y → most < length (y ++ left)
+pub longer : (y left : List ℕ) (most : ℕ) → most < length y → most < length (y ++ left)
 longer y left most h = grind (arith, common_steps)
 
 -- that they are too many is why too many bytes are refused
@@ -81,3 +81,18 @@ joined_part (Some all) name z y held joined = at (files.get all name) held joine
   at : (o : Option (List ℕ)) → o ≡ Some z → IsSomeAnd o (λ (file : List ℕ). IsReadUp file y) → IsReadUp z y
   at None h k = absurd k
   at (Some other) h k = let e : other ≡ z = cc in subst (λ (x : List ℕ). IsReadUp x y) e k
+
+-- so are the bytes of one that was fetched
+dropped : (most : ℕ) (z : List ℕ) → length (take (most + 1) z) ≤ most → drop (most + 1) z ≡ []
+dropped most z h = drop_all (most + 1) z (grind (arith, common_steps))
+
+few : (most : ℕ) (z : List ℕ) → length (take (most + 1) z) ≤ most + piece_bytes
+few most z = grind (arith, common_steps)
+
+pub fetched_is_up : (z y : List ℕ) → y ≡ take (most_run_bytes + 1) z → IsReadUp z y
+fetched_is_up z y is = subst (λ (x : List ℕ). IsReadUp z x) (sym is) (record {
+  left = drop (most_run_bytes + 1) z;
+  part = sym (take-append-drop (most_run_bytes + 1) z);
+  whole = dropped most_run_bytes z;
+  short = few most_run_bytes z;
+})

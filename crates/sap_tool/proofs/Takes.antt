@@ -6,7 +6,9 @@ use Rattle.sap_read.specs.Files.{FileContent}
 use Rattle.sap_run_texts.specs.declared.run.Run.{Run}
 use Rattle.sap_tool.specs.declared.task.Task.{Task}
 use Rattle.sap_tool.specs.declared.task.Task.TheVariants.{ToRules, ToProcess, Judge}
-use Rattle.sap_tool.specs.Commands.{Command, compile, replay, check, to_json, from_json, explain, Input, alone, and_run, run_alone, file_of, run_of, Accepts, RefusesRun, TakesRun, Writes, Allows}
+use Rattle.sap_tool.specs.Commands.{Command, compile, replay, fill, check, to_json, from_json, explain, Input, alone, and_run, run_alone, file_of, run_of, Accepts, RefusesRun, TakesRun, Writes, Allows}
+use Rattle.sap_tool.proofs.ShortRefused as short
+use Rattle.sap_tool.proofs.ShortRefused.{filled_is_legal}
 use Rattle.sap_tool.specs.Replays.{IsConvertedText, to_rules, to_process, IsSeen, of_process, of_rules}
 
 -- what is converted is seen
@@ -20,15 +22,16 @@ written_is_seen ToProcess f r text w = converted_is_seen f r text w
 written_is_seen Judge f r text w = (w.trace, w.seen)
 
 -- where a text is allowed, and what could be refused is a run, that run is taken
-pub allowed_takes : (k : Command) (input : Input) (text why : List ℕ) → Allows k input text → RefusesRun k input why → TakesRun k input
-allowed_takes (replay task file run) (and_run bytes z) text why t r =
+pub allowed_takes : short.Laws → (k : Command) (input : Input) (text why : List ℕ) → Allows k input text → RefusesRun k input why → TakesRun k input
+allowed_takes laws (replay task file run) (and_run bytes z) text why t r =
     let shown = written_is_seen task t.told t.lines text t.written in
     record { told = t.told; file = t.file; lines = t.lines; read = t.read; trace = shown.0; seen = shown.1 }
-allowed_takes (check theory run) (and_run bytes z) text why t r =
+allowed_takes laws (fill file run) (and_run bytes z) text why t r = (filled_is_legal laws bytes z text t).short
+allowed_takes laws (check theory run) (and_run bytes z) text why t r =
     record { theory = t.theory; file = t.file; lines = t.lines; read = t.read; full = t.written.full; shown = t.written.shown }
-allowed_takes (to_json run) (run_alone z) text why t r = (t.lines, t.read)
-allowed_takes (from_json json) (alone bytes) text why t r = (t.lines, t.accepted)
-allowed_takes k input text why t r = absurd r
+allowed_takes laws (to_json run) (run_alone z) text why t r = (t.lines, t.read)
+allowed_takes laws (from_json json) (alone bytes) text why t r = (t.lines, t.accepted)
+allowed_takes laws k input text why t r = absurd r
 
 -- What was read is what the command reads, and the file or theory in it is accepted.
 abbrev pub IsWhole : Command → Input → Type 0
@@ -40,6 +43,7 @@ IsWhole k (run_alone z) = file_of k ≡ None
 pub allowed_is_whole : (k : Command) (input : Input) (text : List ℕ) → Allows k input text → IsWhole k input
 allowed_is_whole (compile way file) (alone bytes) text t = ((t.told, t.file), refl)
 allowed_is_whole (replay task file run) (and_run bytes z) text t = (t.told, t.file)
+allowed_is_whole (fill file run) (and_run bytes z) text t = (t.told, t.file)
 allowed_is_whole (check theory run) (and_run bytes z) text t = (t.theory, t.file)
 allowed_is_whole (to_json run) (run_alone z) text t = refl
 allowed_is_whole (from_json json) (alone bytes) text t = (tt, refl)
@@ -48,6 +52,7 @@ allowed_is_whole k input text t = absurd t
 
 pub refused_is_whole : (k : Command) (input : Input) (why : List ℕ) → RefusesRun k input why → IsWhole k input
 refused_is_whole (replay task file run) (and_run bytes z) why r = (r.0, r.1)
+refused_is_whole (fill file run) (and_run bytes z) why r = (r.0, r.1)
 refused_is_whole (check theory run) (and_run bytes z) why r = (r.0, r.1)
 refused_is_whole (to_json run) (run_alone z) why r = refl
 refused_is_whole (from_json json) (alone bytes) why r = (tt, refl)
@@ -55,6 +60,7 @@ refused_is_whole k input why r = absurd r
 
 pub taken_is_whole : (k : Command) (input : Input) → TakesRun k input → IsWhole k input
 taken_is_whole (replay task file run) (and_run bytes z) t = (t.told, t.file)
+taken_is_whole (fill file run) (and_run bytes z) t = (t.told, t.file)
 taken_is_whole (check theory run) (and_run bytes z) t = (t.theory, t.file)
 taken_is_whole (to_json run) (run_alone z) t = refl
 taken_is_whole (from_json json) (alone bytes) t = (tt, refl)

@@ -1,13 +1,13 @@
 -- What there is to say of a call, and how that is put.
 use Rattle.std.specs.Prelude.{◌≡◌, ℕ, codes, List, [], ◌∷◌, ◌++◌, take, Option, None, Some, IsSomeAnd, IfSome}
-use Rattle.sap_outside.specs.Outside.{IsFetched}
-use Rattle.sap_outside.specs.Requests.{Request, fetch}
+use Rattle.sap_outside.specs.Outside.{Files, IsFetched}
+use Rattle.sap_outside.specs.Requests.{Request, Requested, fetch}
 use Rattle.sap_outside.specs.Stream.{Stream, Gained, Failed, Wanted, CutShort, CutTwice}
 use Rattle.sap_tool.specs.Call.{Call, FailedOn, AskedFor}
-use Rattle.sap_tool.specs.Commands.{Command, Input, alone, and_run, run_alone, spelled, file_of, run_of, limit_of, IsUnknown, Accepts, Refuses, RefusesRun, Allows}
+use Rattle.sap_tool.specs.Commands.{Command, Input, alone, and_run, run_alone, spelled, file_of, run_of, HowRead, in_pieces, at_once, how_read, limit_of, IsUnknown, Accepts, Refuses, RefusesRun, Allows}
 use Rattle.sap_outside.specs.Pieces.{pieces, GainedPart}
 use Rattle.sap_refusals.specs.Refusals.{refused_line}
-use Rattle.sap_outside.specs.RunPieces.{WasRead, WasGivenUp}
+use Rattle.sap_outside.specs.RunPieces.{most_run_bytes, WasRead, WasGivenUp}
 use Rattle.sap_refusals.specs.RunFaultTexts.{run_refused_line}
 use Rattle.sap_sample.specs.Sample.{IsSample, sample_text}
 
@@ -47,11 +47,28 @@ for_file k = for_name (file_of k) (limit_of k)
 abbrev pub IsFileFetched : Call → Command → List ℕ → Type 0
 IsFileFetched c k bytes = IsSomeAnd (file_of k) (λ name. IsFetched c.holds name (limit_of k) bytes)
 
+-- reading the run of this name so may give these bytes, by what the shelf tells, and behind the first of these requests the shelf was
+-- asked for it, and for nothing else
+abbrev pub WasReadSo : HowRead → Option Files → List ℕ → List Request → Option (List Request)
+    → Option (List Request) → List ℕ → Type 0
+WasReadSo in_pieces holds run first before after z = WasRead holds run first before after z
+WasReadSo at_once holds run first before after z =
+    IsFetched holds run most_run_bytes z
+    × Requested (first ++ fetch run most_run_bytes ∷ []) before after
+
+-- reading it so was given up, and the shelf was asked for it in the same way
+abbrev pub WasGivenUpSo : HowRead → Option Files → List ℕ → List Request → Option (List Request)
+    → Option (List Request) → Type 0
+WasGivenUpSo in_pieces holds run first before after = WasGivenUp holds run first before after
+WasGivenUpSo at_once holds run first before after =
+    Requested (first ++ fetch run most_run_bytes ∷ []) before after
+
 -- the command reads a run, and these are bytes that this may give, by what the shelf tells; the shelf was asked for the file, where
 -- the command has one, then for the run, and for nothing else
 abbrev pub WasRunRead : Call → Command → List ℕ → Type 0
 WasRunRead c k z =
-    IsSomeAnd (run_of k) (λ run. WasRead c.holds run (for_file k) c.asked_before c.asked_after z)
+    IsSomeAnd (run_of k) (λ run.
+    WasReadSo (how_read k) c.holds run (for_file k) c.asked_before c.asked_after z)
 
 -- this is what the command may have read, by what the shelf tells, and the shelf was asked for nothing else
 abbrev pub Fetched : Call → Command → Input → Type 0
@@ -73,11 +90,12 @@ FailedOnFile c k = IsSomeAnd (file_of k) (λ name. FailedOn c name)
 abbrev pub FailedOnRun : Call → Command → Type 0
 FailedOnRun c k = IsSomeAnd (run_of k) (λ run. FailedOn c run)
 
--- reading the run was given up, and the shelf was asked for the file, where the command has one, for pieces of the run, and for
--- nothing else
+-- reading the run was given up, and the shelf was asked for the file, where the command has one, for the run or pieces of it, and
+-- for nothing else
 abbrev pub WasRunGivenUp : Call → Command → Type 0
 WasRunGivenUp c k =
-    IsSomeAnd (run_of k) (λ run. WasGivenUp c.holds run (for_file k) c.asked_before c.asked_after)
+    IsSomeAnd (run_of k) (λ run.
+    WasGivenUpSo (how_read k) c.holds run (for_file k) c.asked_before c.asked_after)
 
 -- what is told where words ask for nothing
 abbrev pub usage_text : List ℕ

@@ -2,5 +2,6 @@
 pub mod Endings
 pub mod Checked
 pub mod Refused
+pub mod Filled
 pub mod Verdicts
 pub mod Sampled

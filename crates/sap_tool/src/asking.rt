@@ -18,6 +18,7 @@ ghost use Rattle.sap_tool.specs.code.Checked.{IsCheckable};
 use crate::checking::checked;
 use crate::compile::theory_text_of;
 use crate::ending::{Ending, of_refused, of_run};
+use crate::fill::end_fill;
 use crate::json::{end_from_json, end_to_json};
 use crate::laws::read_theories_can_run;
 use crate::reading::{MOST_BYTES, accepted_file};
@@ -27,7 +28,7 @@ use crate::task::{Task, kinds_of, task_of};
 use crate::theory_reading::{MOST_THEORY_BYTES, accepted_theory};
 use crate::way::{Way, way_of};
 use crate::why::end_why;
-use crate::words::word_behind;
+use crate::words::{word_behind, words_behind};
 use sap_outside::{Shelf, ShelfFault, read_run, requests_are_joined};
 use sap_read::{File, files_are_runnable};
 use sap_refusals::Refusal;
@@ -47,8 +48,11 @@ pub fn ending<S: Shelf>(alloc: Global, words: &Vec<String>, shelf: &mut S) -> En
     if let Some((task, file, run)) = run_to_replay(words) {
         return end_replay(alloc, task, shelf, file, run);
     }
-    if let Some((theory, run)) = run_to_check(words) {
+    if let Some((theory, run)) = words_behind(words, "check-rules") {
         return end_check(alloc, shelf, theory, run);
+    }
+    if let Some((file, run)) = words_behind(words, "fill") {
+        return end_fill(alloc, shelf, file, run);
     }
     if let Some(run) = word_behind(words, "to-json") {
         return end_to_json(alloc, shelf, run);
@@ -85,20 +89,6 @@ fn run_to_replay(words: &Vec<String>) -> Option<(Task, &str, &str)>
         [command, file, run] => match task_of(command.as_str()) {
             Some(task) => Some((task, file.as_str(), run.as_str())),
             None => None,
-        },
-        _ => None,
-    }
-}
-
-// The theory and the run that the words ask to check.
-fn run_to_check(words: &Vec<String>) -> Option<(&str, &str)>
-    ensures { MatchOption result ((theory run : List ℕ) → bytes_of words.now.items ≢ spelled (check theory run))
-        (λ asked. bytes_of words.now.items ≡ spelled (check asked.0.now asked.1.now)) }
-{
-    match words.as_slice() {
-        [command, theory, run] => match command.as_str() {
-            "check-rules" => Some((theory.as_str(), run.as_str())),
-            _ => None,
         },
         _ => None,
     }

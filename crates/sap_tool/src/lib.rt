@@ -5,6 +5,8 @@ mod asking;
 mod checking;
 mod compile;
 mod ending;
+mod fill;
+mod fill_laws;
 mod json;
 mod json_laws;
 mod judged_laws;
@@ -21,6 +23,7 @@ mod why;
 mod why_laws;
 mod words;
 
+pub use fill_laws::fill_by_hand;
 pub use json_laws::{json_by_hand, json_comes_back};
 pub use judged_laws::one_judged_text;
 pub use laws::{unrestricted_files_are_shown, verdicts_are_kept, written_runs_are_judged_alike};

@@ -18,12 +18,14 @@ use crate::laws::{
 use sap_back::names_stand_in_lines;
 use sap_compress::{one_short_theory, short_theories_are_printable, short_theories_keep_files};
 use sap_gen::{theories_are_printable, theories_keep_files};
+use sap_intruder::{filled_runs_are_legal, one_short_answer};
 use sap_json::{json_runs_can_be_written, one_json_run, written_json_is_read};
 use sap_locks::annotations_are_ready;
 use sap_outside::{Shelf, Sink, SinkFault, put_pieces};
 use sap_read::{files_are_printable, files_are_runnable, one_file};
 use sap_run_texts::{
-    named_steps_can_be_written, one_run, printed_runs_are_read, read_runs_can_be_written,
+    named_steps_can_be_written, one_run, one_short_run, printed_runs_are_read,
+    read_runs_can_be_written,
 };
 use sap_theory::{one_answer_of_theories, printed_theories};
 use sap_translate::rules_are_well_made;
@@ -31,8 +33,8 @@ use std::alloc::Global;
 
 /// Runs the program on its words, those after its name, and answers its status.
 ///
-/// - 0: out gained the text that the words ask for, whole: the theory of a file, the run opposite to one, what is said of the
-///   restrictions and lemmas on one, a run as JSON, the run that JSON is, or what is told of a sample.
+/// - 0: out gained the text that the words ask for, whole: the theory of a file, the run opposite to one, the run that a short one
+///   stands for, what is said of the restrictions and lemmas on one, a run as JSON, the run that JSON is, or what is told of a sample.
 /// - 1: the file, or the theory, is refused.
 /// - 2: the run, or the JSON of one, is refused.
 /// - 3: the words are none of the program's.
@@ -82,6 +84,9 @@ pub fn sapic<S: Shelf, O: Sink, E: Sink>(
     one_json_run();
     json_runs_can_be_written();
     written_json_is_read();
+    one_short_run();
+    filled_runs_are_legal();
+    one_short_answer();
     run(alloc, words, shelf, out, err)
 }
 

@@ -2,10 +2,9 @@
 use Rattle.std.specs.Prelude.{◌≡◌, ◌⊎◌, ℕ, List, [], Option, Result, Ok, Err}
 use Rattle.sap_outside.specs.Outside.{Files, Rose}
 use Rattle.sap_outside.specs.Requests.{Request}
-use Rattle.sap_outside.specs.RunPieces.{WasRead, WasGivenUp}
 use Rattle.sap_tool.specs.Call.{Call}
-use Rattle.sap_tool.specs.Commands.{Command, alone, and_run, Accepts, Allows}
-use Rattle.sap_tool.specs.Answers.{gives, tells, IsAnswer, IsAnswerTo, IsBegun, usage_text, read_fault_text}
+use Rattle.sap_tool.specs.Commands.{Command, alone, and_run, how_read, Accepts, Allows}
+use Rattle.sap_tool.specs.Answers.{gives, tells, IsAnswer, IsAnswerTo, IsBegun, WasReadSo, WasGivenUpSo, usage_text, read_fault_text}
 use Rattle.sap_refusals.specs.declared.refusal.Refusal.{Refusal}
 use Rattle.sap_refusals.specs.declared.refusal.Refusal.TheVariants as refusal
 use Rattle.sap_tool.specs.declared.ending.Ending.{Ending}
@@ -60,13 +59,13 @@ reading holds run faults_before faults_after asked_before asked_after = record {
   asked_after = asked_after;
 }
 
--- the run was read to these bytes
-abbrev pub HasRead : Reading → List ℕ → Type 0
-HasRead r z = WasRead r.holds r.run [] r.asked_before r.asked_after z
+-- the run was read to these bytes, in the way of this command
+abbrev pub HasRead : Command → Reading → List ℕ → Type 0
+HasRead k r z = WasReadSo (how_read k) r.holds r.run [] r.asked_before r.asked_after z
 
 -- reading it was given up
-abbrev pub HasGivenUp : Reading → Type 0
-HasGivenUp r = WasGivenUp r.holds r.run [] r.asked_before r.asked_after
+abbrev pub HasGivenUp : Command → Reading → Type 0
+HasGivenUp k r = WasGivenUpSo (how_read k) r.holds r.run [] r.asked_before r.asked_after
 
 -- nothing was asked for it
 abbrev pub HasNotAsked : Reading → Type 0
@@ -75,9 +74,9 @@ HasNotAsked r = r.asked_after ≡ r.asked_before
 -- What the bytes of a file or theory end with, where a run is read behind them, unless they are refused: with what they and the run end
 -- with, or with a fault of the run.
 abbrev pub EndsBoth : Command → List ℕ → Reading → Ending → Type 0
-EndsBoth k bytes r (ending.Given text) = (z : List ℕ) × HasRead r z × Allows k (and_run bytes z) text
+EndsBoth k bytes r (ending.Given text) = (z : List ℕ) × HasRead k r z × Allows k (and_run bytes z) text
 EndsBoth k bytes r ending.Usage = ⊥
-EndsBoth k bytes r ending.Unread = Accepts k bytes × Rose r.faults_before r.faults_after × HasGivenUp r
+EndsBoth k bytes r ending.Unread = Accepts k bytes × Rose r.faults_before r.faults_after × HasGivenUp k r
 EndsBoth k bytes r (ending.File line) = IsAnswerTo k (alone bytes) (tells 1 line) × HasNotAsked r
-EndsBoth k bytes r (ending.Run line) = (z : List ℕ) × HasRead r z × IsAnswerTo k (and_run bytes z) (tells 2 line)
-EndsBoth k bytes r ending.Mem = HasNotAsked r ⊎ (Accepts k bytes × (HasGivenUp r ⊎ ((z : List ℕ) × HasRead r z)))
+EndsBoth k bytes r (ending.Run line) = (z : List ℕ) × HasRead k r z × IsAnswerTo k (and_run bytes z) (tells 2 line)
+EndsBoth k bytes r ending.Mem = HasNotAsked r ⊎ (Accepts k bytes × (HasGivenUp k r ⊎ ((z : List ℕ) × HasRead k r z)))

@@ -1,5 +1,5 @@
 use Rattle.sap_runs.specs.Limits.{AnySize, HasFewNodes}
-use Rattle.sap_intruder.proofs.Filled.{filled_runs_are_legal}
+use Rattle.sap_intruder.proofs.LegalFilled.{filled_runs_are_legal}
 use Rattle.sap_intruder.proofs.laws.filled_runs_are_legal.Goals as goal
 
 pub returns-clause-runs : goal.returns-clause-runs

@@ -1,4 +1,4 @@
-use Rattle.sap_intruder.proofs.Filling.{short_runs_can_be_filled, small_runs_can_be_filled}
+use Rattle.sap_intruder.proofs.FilledWithin.{short_runs_can_be_filled, small_runs_can_be_filled}
 use Rattle.sap_intruder.proofs.laws.short_runs_can_be_filled.Goals as goal
 
 pub returns-clause-runs : goal.returns-clause-runs

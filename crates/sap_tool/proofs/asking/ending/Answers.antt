@@ -10,8 +10,11 @@ returns-in-Some g c = λ out err. c.end_compile.ensures (bytes_of c.args.words.n
 pub returns-in-Some-run_to_replay : goal.returns-in-Some-run_to_replay
 returns-in-Some-run_to_replay g c = λ out err. c.end_replay.ensures (bytes_of c.args.words.now.items) out err c.in-Some-run_to_replay.ensures
 
-pub returns-in-Some-run_to_check : goal.returns-in-Some-run_to_check
-returns-in-Some-run_to_check g c = λ out err. c.end_check.ensures (bytes_of c.args.words.now.items) out err c.in-Some-run_to_check.ensures
+pub returns-in-Some-words_behind : goal.returns-in-Some-words_behind
+returns-in-Some-words_behind g c = λ out err. c.end_check.ensures (bytes_of c.args.words.now.items) out err c.in-Some-words_behind.ensures
+
+pub returns-in-Some-words_behind-2 : goal.returns-in-Some-words_behind-2
+returns-in-Some-words_behind-2 g c = λ out err. c.end_fill.ensures (bytes_of c.args.words.now.items) out err c.in-Some-words_behind-2.ensures
 
 pub returns-in-Some-word_behind : goal.returns-in-Some-word_behind
 returns-in-Some-word_behind g c = λ out err. c.end_to_json.ensures (bytes_of c.args.words.now.items) out err c.in-Some-word_behind.ensures
@@ -25,6 +28,6 @@ returns-in-Some-word_behind-3 g c = λ out err. c.end_why.ensures (bytes_of c.ar
 pub returns-in-None : goal.returns-in-None
 returns-in-None g c = λ out err.
     ends_of_sample _ c.end_sample.result
-    (no_command_of (bytes_of c.args.words.now.items) c.in_default.ensures c.in_default-run_to_replay.ensures c.in_default-run_to_check.ensures c.in_default-word_behind.ensures c.in_default-word_behind-2.ensures c.in-None.ensures)
+    (no_command_of (bytes_of c.args.words.now.items) c.in_default.ensures c.in_default-run_to_replay.ensures c.in_default-words_behind.ensures c.in_default-words_behind-2.ensures c.in_default-word_behind.ensures c.in_default-word_behind-2.ensures c.in-None.ensures)
     refl
     c.end_sample.ensures

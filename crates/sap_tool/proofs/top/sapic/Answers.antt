@@ -62,6 +62,12 @@ returns g c =
         rule_printed = c.printed_runs_are_read.ensures.rule;
       };
       one_json = c.one_json_run.ensures;
+      short = record {
+        one = c.one_short_run.ensures.one;
+        legal = c.filled_runs_are_legal.ensures.small_runs;
+        apart = c.one_short_answer.ensures.apart;
+        first = c.one_short_answer.ensures.first;
+      };
       one_illegal = c.illegal_runs_have_one_cause.ensures.file;
       one_illegal_of_theory = c.illegal_runs_have_one_cause.ensures.theory;
     })
