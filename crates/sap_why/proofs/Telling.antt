@@ -7,7 +7,7 @@ use Rattle.sap_where.specs.declared.place.Position.{Position}
 use Rattle.sap_where.specs.declared.place.Stretch.{Stretch}
 use Rattle.sap_where.specs.declared.told.Told.{Told}
 use Rattle.sap_why.specs.Advice.{advice}
-use Rattle.sap_why.specs.Explained.{bytes_in, IsUseText, unused, used, IsPlaceTold, somewhere, nowhere, IsExplanation, IsSettled, wanting, bytes, header, syntax, no_process, second_process, taken_name}
+use Rattle.sap_why.specs.Explained.{bytes_in, IsUseText, unused, used, IsPlaceTold, somewhere, nowhere, IsExplanation, IsSettled, wanting, bytes, header, syntax, no_process, second_process, unknown_name, taken_name}
 use Rattle.sap_where.specs.Positions.{IsPosition, IsPlaceText}
 use Rattle.sap_where.specs.Told.{IsTold, at_its_place, at_a_word}
 use Rattle.sap_where.specs.Where.{IsWhere}
@@ -45,6 +45,7 @@ settled_place z _ t header (at_a_word ts word is said) = absurd (never_true word
 settled_place z _ t (syntax line) (at_a_word ts word is said) = absurd (never_true word.speaks_of)
 settled_place z _ t no_process (at_a_word ts word is said) = absurd (never_true word.speaks_of)
 settled_place z _ t (second_process line) (at_a_word ts word is said) = absurd (never_true word.speaks_of)
+settled_place z _ t (unknown_name name) (at_a_word ts word is said) = absurd (never_true word.speaks_of)
 settled_place z _ t (taken_name name) (at_a_word ts word is said) = absurd (never_true word.speaks_of)
 
 unused_text : (z : List ℕ) (o : Option Stretch) (x : List ℕ) → o ≡ None → IsUseText z o x → x ≡ []

@@ -2,7 +2,7 @@
 use Rattle.std.specs.Prelude.{◌≡◌, ◌-◌, ℕ, codes, decimal, List, [], ◌∷◌, ◌++◌, take, drop, Option, Some, None}
 use Rattle.sap_text.specs.declared.fault.Lex.{Lex as LexFault}
 use Rattle.sap_read.specs.declared.fault.ReadFault.{ReadFault}
-use Rattle.sap_read.specs.declared.fault.ReadFault.TheVariants.{Mem, Lex, Header, Syntax, NoProcess, TwoProcesses, DuplicateName}
+use Rattle.sap_read.specs.declared.fault.ReadFault.TheVariants.{Mem, Lex, Header, Syntax, NoProcess, TwoProcesses, UnknownProcess, DuplicateName}
 use Rattle.sap_where.specs.declared.place.Position.{Position}
 use Rattle.sap_where.specs.declared.place.Stretch.{Stretch}
 use Rattle.sap_where.specs.declared.told.Told.{Told}
@@ -43,4 +43,5 @@ pub data IsSettled : ReadFault → Type 0 where
   syntax : (line : ℕ) → IsSettled (Syntax line)
   no_process : IsSettled NoProcess
   second_process : (line : ℕ) → IsSettled (TwoProcesses line)
+  unknown_name : (name : List ℕ) → IsSettled (UnknownProcess name)
   taken_name : (name : List ℕ) → IsSettled (DuplicateName name)

@@ -1,4 +1,3 @@
-use Rattle.std.proofs.Common.{refl}
 use Rattle.sap_why.proofs.Telling.{none_told_is}
 use Rattle.sap_why.proofs.explain.push_place_told.Goals as goal
 

@@ -1,10 +1,9 @@
 use Rattle.std.proofs.Common.{◌≡◌, ◌≤◌, ◌<◌, ◌+◌, ℕ, zero, suc, [], refl, sym, subst, arith}
 use Rattle.sap_read.specs.declared.fault.ReadFault.TheVariants.{NoProcess}
-use Rattle.sap_where.specs.declared.place.Position.{Position}
 use Rattle.sap_where.specs.declared.place.Stretch.{Stretch}
-use Rattle.sap_where.specs.Positions.{IsFeed, IsPosition, LineBegins}
+use Rattle.sap_where.specs.Positions.{IsFeed, IsPosition}
 use Rattle.sap_where.specs.Where.{IsWhere}
-use Rattle.sap_why.specs.Explained.{IsUseText, unused, used, nowhere}
+use Rattle.sap_why.specs.Explained.{unused, used, nowhere}
 use Rattle.sap_why.specs.ExplainedExamples.{uses}
 use Rattle.sap_why.proofs.laws.explanations_by_hand.Goals as goal
 
