@@ -5,3 +5,6 @@ pub mod NewNames
 pub mod Expansion
 pub mod ExpansionExamples
 pub mod Instances
+pub mod Sources
+pub mod Order
+pub mod code

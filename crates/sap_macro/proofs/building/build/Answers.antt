@@ -1,0 +1,4 @@
+use Rattle.sap_macro.proofs.building.build.Goals as goal
+
+pub returns : goal.returns
+returns c = ?
