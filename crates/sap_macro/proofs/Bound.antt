@@ -204,19 +204,16 @@ other_push known (w ∷ vs) v =
       | false ↦ ap (λ ns. w.name ∷ ns) (other_push known vs v)
     ]
 
-pub names_skipped : (own first : List (List ℕ)) (known : List ℕ → Bool) (vs : List Var) (k : ℕ) (v : Var) → slice_get vs k ≡ Some v → own ≡ with_names first (other_names known (take k vs))
-    → known v.name ≡ true → own ≡ with_names first (other_names known (take (k + 1) vs))
-names_skipped own first known vs k v is h e =
-    h ∙ sym (ap (λ zs. with_names first (other_names known zs)) (take_got vs k v is)
-    ∙ ap (with_names first) (other_push known (take k vs) v)
-    ∙ with_names-append (other_names known (take k vs)) (others_if (known v.name) known v []) first
-    ∙ ap (λ b. with_names (with_names first (other_names known (take k vs))) (others_if b known v [])) e)
-
-pub names_added : (own later first : List (List ℕ)) (known : List ℕ → Bool) (vs : List Var) (k : ℕ) (v : Var) → slice_get vs k ≡ Some v → own ≡ with_names first (other_names known (take k vs))
-    → known v.name ≡ false → later ≡ with_name own v.name → later ≡ with_names first (other_names known (take (k + 1) vs))
-names_added own later first known vs k v is h e more =
-    more ∙ ap (λ ns. with_name ns v.name) h
+pub names_next : (own later first : List (List ℕ)) (known : List ℕ → Bool) (vs : List Var) (k : ℕ) (v : Var) → slice_get vs k ≡ Some v
+    → own ≡ with_names first (other_names known (take k vs)) → later ≡ (if known v.name then own else with_name own v.name)
+    → later ≡ with_names first (other_names known (take (k + 1) vs))
+names_next own later first known vs k v is h more =
+    more ∙ ap (λ ns. if known v.name then ns else with_name ns v.name) h
+    ∙ elim (known v.name) as (λ b. (if b then with_names first (other_names known (take k vs)) else with_name (with_names first (other_names known (take k vs))) v.name)
+    ≡ with_names (with_names first (other_names known (take k vs))) (others_if b known v [])) [
+      | true ↦ refl
+      | false ↦ refl
+    ]
     ∙ sym (ap (λ zs. with_names first (other_names known zs)) (take_got vs k v is)
     ∙ ap (with_names first) (other_push known (take k vs) v)
-    ∙ with_names-append (other_names known (take k vs)) (others_if (known v.name) known v []) first
-    ∙ ap (λ b. with_names (with_names first (other_names known (take k vs))) (others_if b known v [])) e)
+    ∙ with_names-append (other_names known (take k vs)) (others_if (known v.name) known v []) first)

@@ -176,3 +176,15 @@ all_named taken own chosen names h =
     beyond : (xs : List (List ℕ)) → drop (length xs) xs ≡ []
     beyond [] = refl
     beyond (x ∷ xs) = beyond xs
+
+-- a name that is chosen is kept
+pub kept_then : (identifiers known chosen self new : List (List ℕ)) (begins later : List (List ℕ × ℕ)) (x name : List ℕ) (m : ℕ) → IsKept identifiers known chosen begins
+    → latest_first chosen identifiers ≡ self → IsFirst self x name m → Puts begins later x (Some m) → new ≡ with_name chosen name
+    → IsKept identifiers known new later × (latest_first new identifiers ≡ name ∷ self)
+kept_then identifiers known chosen self new begins later x name m h view first puts is =
+    let free : is_known (latest_first chosen identifiers) name ≡ false = ap (λ ns. is_known ns name) view ∙ first.free in
+    let below : AreBelow (latest_first chosen identifiers) x m = subst (λ ns. AreBelow ns x m) (sym view) first.below in
+    let searched = begins_later identifiers known chosen begins h later x m puts first.from_one below in (
+      subst (λ ns. IsKept identifiers known ns later) (sym is) (still_kept identifiers known chosen later searched name free),
+      ap (λ ns. latest_first ns identifiers) is ∙ one_chosen identifiers known chosen later searched name free ∙ ap (λ ns. name ∷ ns) view,
+    )

@@ -1,5 +1,5 @@
 -- Definitions by their indices, and arguments by their parameters.
-use Rattle.std.proofs.Common.{◌≡◌, ◌<◌, ℕ, zero, suc, ◌+◌, Bool, true, false, List, [], ◌∷◌, ◌||◌, ◌⊎◌, Option, Some, None, inl, inr, length, drop, map, refl, sym, ap, ◌∙◌, subst, ⊎_elim, arith, is_some}
+use Rattle.std.proofs.Common.{◌≡◌, ◌<◌, ℕ, zero, suc, ◌+◌, ◌-◌, Bool, true, false, List, [], ◌∷◌, ◌++◌, ◌||◌, ◌⊎◌, Option, Some, None, inl, inr, length, take, drop, map, refl, sym, ap, ◌∙◌, subst, ⊎_elim, arith, is_some}
 use Rattle.std.proofs.lemmas.Bool.{cases_Bool, false≢true}
 use Rattle.std.proofs.lemmas.Option.{slice_get-map, slice_get_within}
 use Rattle.std.specs.Option.{option_map, unwrap_or}
@@ -12,17 +12,20 @@ use Rattle.sap_terms.specs.Variables.{is_known}
 use Rattle.sap_terms.specs.View.{tree}
 use Rattle.sap_terms.specs.declared.term.Term.{Term}
 use Rattle.sap_terms.specs.declared.var.Var.{Var}
-use Rattle.sap_terms.proofs.PlainLaws.Lists.{drop_got}
-use Rattle.sap_macro.specs.Expansion.{put}
+use Rattle.sap_terms.proofs.PlainLaws.Lists.{drop_got, take_got}
+use Rattle.sap_macro.specs.Expansion.{put, where_none, with_uses}
 use Rattle.sap_macro.specs.Order.{AreInOrder}
-use Rattle.sap_macro.specs.Sources.{definition_of, definitions}
-use Rattle.sap_macro.specs.Written.{Definition}
+use Rattle.sap_macro.specs.Sources.{definition_of, definitions, written}
+use Rattle.sap_macro.specs.Written.{Written, call, Definition}
 use Rattle.sap_macro.specs.code.Entering.{ArePut}
 use Rattle.sap_macro.specs.code.Indexed.{defined, IsIndex, AreIndexed}
 use Rattle.sap_macro.specs.code.Standings.{tree_or}
-use Rattle.sap_macro.specs.code.Steps.{IsResolved, IsUnknown}
+use Rattle.sap_macro.specs.code.Steps.{IsResolved, IsUnknown, plain_of, steps_in}
 use Rattle.sap_macro.specs.declared.definition.Definition as code
+use Rattle.sap_macro.specs.declared.source.Source.{Source}
+use Rattle.sap_macro.specs.declared.source.Source.TheVariants.{Call}
 use Rattle.sap_macro.proofs.Names.{one_name, clash, not_in}
+use Rattle.sap_macro.proofs.Built.{steps_use}
 use Rattle.sap_macro.proofs.Resolving.{resolved, unknown}
 
 -- ---- indices
@@ -145,3 +148,61 @@ one_put y ys args k t terms later h puts is =
         ∙ sym (ap (λ ts. put (y ∷ ys) ts other v) (no_more_args args k got).0)
     others other v e (Some u) got =
         sym (ap (λ b. if b then u else put ys (drop (k + 1) args) other v) e) ∙ sym (ap (λ ts. put (y ∷ ys) ts other v) (one_got args k u got))
+
+-- ---- bodies of names without parameters
+
+no_params : (xs : List (List ℕ)) → length xs ≡ 0 → xs ≡ []
+no_params [] h = refl
+no_params (x ∷ xs) h = absurd (omega (arith, h))
+
+pub plain_is : (ds : List Definition) (d : Definition) (f : List ℕ) → IsResolved ds d → d.name ≡ f → length d.params ≡ 0
+    → ((ts : List Tree) → plain_of ds f ts ≡ with_uses (plain_of ds) d.body) × (steps_in ds d.body < steps_in ds (call f []))
+plain_is ds d f r name none = (
+  λ ts. ap (λ x. plain_of ds x ts) (sym name) ∙ r.plain ts
+      ∙ ap (λ xs. where_none xs (with_uses (plain_of ds) d.body) (call d.name ts)) (no_params d.params none),
+  subst (λ x. steps_in ds d.body < steps_in ds (call x [])) name (steps_use ds d [] r),
+)
+
+some_params : (xs : List (List ℕ)) → ¬ (length xs ≡ 0) → (p q : Written) → where_none xs p q ≡ q
+some_params [] h p q = absurd (h refl)
+some_params (x ∷ xs) h p q = refl
+
+-- a name with parameters stays
+pub formed_is : (ds : List Definition) (d : Definition) (f : List ℕ) → IsResolved ds d → d.name ≡ f → ¬ (length d.params ≡ 0) → (ts : List Tree) → plain_of ds f ts ≡ call f ts
+formed_is ds d f r name some ts =
+    ap (λ x. plain_of ds x ts) (sym name) ∙ r.plain ts ∙ some_params d.params some (with_uses (plain_of ds) d.body) (call d.name ts) ∙ ap (λ x. call x ts) name
+
+known_push : (xs : List (List ℕ)) (n x : List ℕ) → is_known (xs ++ n ∷ []) x ≡ (bytes_eq n x || is_known xs x)
+known_push [] n x = refl
+known_push (y ∷ ys) n x = ap (λ b. bytes_eq y x || b) (known_push ys n x) ∙ swapped (bytes_eq y x) (bytes_eq n x) (is_known ys x) where
+  swapped : (a b c : Bool) → (a || (b || c)) ≡ (b || (a || c))
+  swapped true true c = refl
+  swapped true false c = refl
+  swapped false true c = refl
+  swapped false false c = refl
+
+-- one name more
+pub known_next : (names : List (List ℕ)) (k : ℕ) (n x : List ℕ) → slice_get names k ≡ Some n → is_known (take (k + 1) names) x ≡ (bytes_eq n x || is_known (take k names) x)
+known_next names k n x is = ap (λ ns. is_known ns x) (take_got names k n is) ∙ known_push (take k names) n x
+
+-- ---- chains of names without parameters
+
+pub chain_steps : (ds : List Definition) (form body : Source) (f : List ℕ) (us : List Tree) → form ≡ Call f us → steps_in ds (written body) < steps_in ds (call f [])
+    → steps_in ds (written body) < steps_in ds (written form)
+unfolding steps_in
+chain_steps ds form body f us e h = subst (λ s. steps_in ds (written body) < steps_in ds (written s)) (sym e) h
+
+pub chain_same : (ds : List Definition) (form body : Source) (source : Written) (f : List ℕ) (us : List Tree) → form ≡ Call f us
+    → ((ts : List Tree) → plain_of ds f ts ≡ with_uses (plain_of ds) (written body))
+    → with_uses (plain_of ds) (written form) ≡ with_uses (plain_of ds) source → with_uses (plain_of ds) (written body) ≡ with_uses (plain_of ds) source
+chain_same ds form body source f us e h same = sym (h us) ∙ sym (ap (λ s. with_uses (plain_of ds) (written s)) e) ∙ same
+
+-- one parameter more, from the last one on
+pub params_next : (params : List (List ℕ)) (args : List Tree) (k : ℕ) (name at : List ℕ) (t : Term) (terms later : List (List ℕ × Term)) → 0 < k → slice_get params (k - 1) ≡ Some at
+    → name ≡ at → ArePut (drop k params) (drop k args) terms → Puts terms later name (Some t) → tree t ≡ unwrap_or (slice_get args (k - 1)) (public [])
+    → ArePut (drop (k - 1) params) (drop (k - 1) args) later
+params_next params args k name at t terms later some is same h puts value =
+    let whole : k ≡ k - 1 + 1 = omega (arith, some) in
+    let before : ArePut (drop (k - 1 + 1) params) (drop (k - 1 + 1) args) terms = subst (λ n. ArePut (drop n params) (drop n args) terms) whole h in
+    let now = one_put at (drop (k - 1 + 1) params) args (k - 1) t terms later before (subst (λ n. Puts terms later n (Some t)) same puts) value in
+    subst (λ ns. ArePut ns (drop (k - 1) args) later) (sym (drop_got params (k - 1) at is)) now

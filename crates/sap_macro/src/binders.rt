@@ -1,6 +1,7 @@
 //! The names that bodies of definitions bind.
-ghost use Rattle.std.specs.Prelude.{◌≡◌, ◌++◌, ◌∷◌, [], IfOk, OnOk, is_some};
+ghost use Rattle.std.specs.Prelude.{◌≡◌, ◌++◌, ◌∷◌, [], IfOk, OnOk, is_some, if◌then◌else◌};
 ghost use Rattle.sap_terms.specs.NameMap.{value_at};
+ghost use Rattle.sap_terms.specs.NameSet.{with_name};
 ghost use Rattle.sap_terms.specs.Variables.{facts_vars, tree_vars};
 ghost use Rattle.sap_terms.specs.View.{tree};
 ghost use Rattle.sap_macro.specs.Expansion.{binding_vars};
@@ -15,7 +16,7 @@ use crate::definition::DefinitionList;
 use crate::index::{Index, form_of};
 use crate::source::{Below, Doing, Source};
 use sap_terms::{
-    Copied, FactList, Mem, NameMap, NameSet, Term, Var, Vars, push_facts_vars, push_vars,
+    Copied, FactList, Mem, Name, NameMap, NameSet, Term, Var, Vars, push_facts_vars, push_vars,
 };
 use std::alloc::Global;
 
@@ -59,15 +60,23 @@ fn vars_of(alloc: Global, first: &Doing) -> Result<Vars, Mem>
     }
 }
 
+// Adds the name unless it is a parameter.
+fn add_name(terms: &NameMap<Term>, own: &mut NameSet, name: &Name) -> Result<(), Mem>
+    ensures { OnOk result (own.new ≡ (if is_some (value_at terms.now name.now) then own.old else with_name own.old name.now)) }
+{
+    if terms.contains_key(name) {
+        return Ok(());
+    }
+    own.insert(name)?;
+    Ok(())
+}
+
 // Adds the names of these, but for parameters.
 fn add_vars(terms: &NameMap<Term>, own: &mut NameSet, vars: &Vars) -> Result<(), Mem>
     ensures { OnOk result (own.new ≡ with_names own.old (other_names (λ x. is_some (value_at terms.now x)) vars.now)) }
 {
     for k in 0..vars.len() {
-        let name = &vars.at(k).name;
-        if !terms.contains_key(name) {
-            own.insert(name)?;
-        }
+        add_name(terms, own, &vars.at(k).name)?;
     }
     Ok(())
 }
@@ -122,11 +131,16 @@ pub(crate) fn add_names(
     let form = form_of(defs, index, source);
     add_head(alloc, terms, own, form)?;
     match below(form) {
-        Below::Nothing | Below::Use(_, _) => Ok(()),
-        Below::One(p) => add_names(alloc, defs, index, terms, own, p),
+        Below::Nothing => Ok(()),
+        Below::Use(_, _) => Ok(()),
+        Below::One(p) => {
+            add_names(alloc, defs, index, terms, own, p)?;
+            Ok(())
+        }
         Below::Two(p, q) => {
             add_names(alloc, defs, index, terms, own, p)?;
-            add_names(alloc, defs, index, terms, own, q)
+            add_names(alloc, defs, index, terms, own, q)?;
+            Ok(())
         }
     }
 }
