@@ -17,3 +17,4 @@ pub mod Choices
 pub mod Entries
 pub mod Built
 pub mod Forms
+pub mod Counted

@@ -7,4 +7,5 @@ pub mod ExpansionExamples
 pub mod Instances
 pub mod Sources
 pub mod Order
+pub mod MacroCauses
 pub mod code

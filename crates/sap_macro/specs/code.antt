@@ -7,3 +7,4 @@ pub mod Indexed
 pub mod Taking
 pub mod Names
 pub mod Entering
+pub mod Noted

@@ -1,4 +1,4 @@
-use Rattle.std.proofs.Common.{sym, ap, ◌∙◌, subst, ◌<◌, ℕ, List, ◌≡◌}
+use Rattle.std.proofs.Common.{arith}
 use Rattle.sap_macro.specs.Sources.{definition_of, definitions}
 use Rattle.sap_macro.proofs.Entries.{plain_is}
 use Rattle.sap_macro.proofs.index.plain_body.Goals as goal
@@ -8,5 +8,5 @@ returns-in-Some c = record {
   body =
       rw c.deref.ensures
       (plain_is (definitions c.args.defs.now) (definition_of c.in-Some.d.now) c.args.name.now c.in-Some.ensures.unknown.0 c.in-Some.ensures.unknown.1
-      (sym c.len.ensures ∙ c.if-len-eq0.true));
+      (omega arith));
 }
