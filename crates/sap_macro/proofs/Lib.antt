@@ -18,3 +18,4 @@ pub mod Entries
 pub mod Built
 pub mod Forms
 pub mod Counted
+pub mod Sized

@@ -29,7 +29,7 @@ plain_stays (d ∷ ds) p f ts h =
     plain_stays ds (with_plain p d) f ts other.1
     ∙ ap (λ b. if b then where_none d.params (with_uses p d.body) (call f ts) else p f ts) other.0
 
-abbrev with_body : Plain → Definition → Definition
+abbrev pub with_body : Plain → Definition → Definition
 with_body p d = record d { body = with_uses p d.body }
 
 meaning_stays : (ds : List Definition) (p : Plain) (m : Meaning) (f : List ℕ) (ts : List Tree) (taken : List (List ℕ)) → is_known (defined ds) f ≡ false
@@ -73,7 +73,7 @@ joined c e f = expanded_as (c e.process (f e.taken).process) (f e.taken).taken
 abbrev under : (Proc → Proc) → Expanded → Expanded
 under c e = expanded_as (c e.process) e.taken
 
-expanded_agree : (known : List (List ℕ)) (w : Written) (m n : Meaning) → UsesOnly known w
+pub expanded_agree : (known : List (List ℕ)) (w : Written) (m n : Meaning) → UsesOnly known w
     → ((f : List ℕ) (ts : List Tree) (taken : List (List ℕ)) → is_known known f ≡ true → m f ts taken ≡ n f ts taken)
     → (r : Choice) (b : List ℕ → List ℕ) (taken : List (List ℕ)) → expanded m r b w taken ≡ expanded n r b w taken
 expanded_agree known nil m n h e r b taken = refl
@@ -110,10 +110,10 @@ more_known x known (test t u p q) h = (more_known x known p h.0, more_known x kn
 more_known x known (lookup t y p q) h = (more_known x known p h.0, more_known x known q h.1)
 
 -- a name stands for what uses known names alone
-abbrev AreClosedUses : List (List ℕ) → Plain → Type 0
+abbrev pub AreClosedUses : List (List ℕ) → Plain → Type 0
 AreClosedUses known p = (f : List ℕ) (ts : List Tree) → is_known known f ≡ true → UsesOnly known (p f ts)
 
-uses_known : (known : List (List ℕ)) (w : Written) (p : Plain) → UsesOnly known w → AreClosedUses known p → UsesOnly known (with_uses p w)
+pub uses_known : (known : List (List ℕ)) (w : Written) (p : Plain) → UsesOnly known w → AreClosedUses known p → UsesOnly known (with_uses p w)
 uses_known known nil p h e = tt
 uses_known known (call f ts) p h e = e f ts h
 uses_known known (parallel a b) p h e = (uses_known known a p h.0 e, uses_known known b p h.1 e)
@@ -126,7 +126,7 @@ where_none_known : (known : List (List ℕ)) (xs : List (List ℕ)) (p q : Writt
 where_none_known known [] p q h k = h
 where_none_known known (x ∷ xs) p q h k = k
 
-closed_more : (known : List (List ℕ)) (p : Plain) (d : Definition) → UsesOnly known d.body → AreClosedUses known p → AreClosedUses (d.name ∷ known) (with_plain p d)
+pub closed_more : (known : List (List ℕ)) (p : Plain) (d : Definition) → UsesOnly known d.body → AreClosedUses known p → AreClosedUses (d.name ∷ known) (with_plain p d)
 closed_more known p d h e f ts k =
     ⊎_elim
     (λ s. subst (λ b. UsesOnly (d.name ∷ known) (if b then where_none d.params (with_uses p d.body) (call f ts) else p f ts)) (sym s)

@@ -8,3 +8,4 @@ pub mod Taking
 pub mod Names
 pub mod Entering
 pub mod Noted
+pub mod Sizes

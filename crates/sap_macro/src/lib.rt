@@ -11,6 +11,7 @@ mod definition;
 mod heads;
 mod index;
 mod laws;
+mod sizes;
 mod source;
 mod standing;
 
@@ -21,4 +22,5 @@ pub use definition::{Definition, DefinitionList};
 pub use laws::{
     expansions_are_one, new_names_are_least, same_up_to_names_show_the_same, uses_are_instances,
 };
+pub use sizes::{Size, expanded_size};
 pub use source::{Doing, Source};
