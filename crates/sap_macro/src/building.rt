@@ -220,6 +220,25 @@ fn build_in(
     }
 }
 
+// The expansion of the process, where nothing stands for its names.
+fn build_first(
+    alloc: Global,
+    defs: &DefinitionList,
+    index: &Index,
+    main: &Source,
+    identifiers: &NameList,
+) -> Result<Box<Process>, Mem>
+    requires order { AreInOrder [] (definitions defs.now) }
+    requires index { AreIndexed (definitions defs.now) index.now }
+    ensures { IfOk result (λ p. proc p.value
+        ≡ (expansion (definitions defs.now) identifiers.now (written main.now)).process) }
+{
+    let first = nothing_put(alloc);
+    let mut chosen = Chosen::new(alloc, identifiers)?;
+    let made = build_in(alloc, defs, index, &first, &mut chosen, main)?;
+    Ok(made)
+}
+
 /// The expansion of the process behind these definitions, where these are the names of the file. Want of memory is the only error.
 /// It takes time in proportion to the expansion and to the definitions as they are written, where each name is looked for by its
 /// order; a chain of definitions that are mere uses is gone through at each place that it stands for. It recurses as deep as the
@@ -235,8 +254,5 @@ pub fn build(
         ≡ (expansion (definitions defs.now) identifiers.now (written main.now)).process) }
 {
     let index = index_of(alloc, defs)?;
-    let mut chosen = Chosen::new(alloc, identifiers)?;
-    let first = nothing_put(alloc);
-    let made = build_in(alloc, defs, &index, &first, &mut chosen, main)?;
-    Ok(made)
+    build_first(alloc, defs, &index, main, identifiers)
 }

@@ -3,7 +3,7 @@ use Rattle.sap_macro.specs.Expansion.{Expanded}
 use Rattle.sap_macro.specs.Sources.{definitions, written}
 use Rattle.sap_macro.specs.code.Steps.{built}
 use Rattle.sap_macro.proofs.Built.{built_first}
-use Rattle.sap_macro.proofs.building.build.Goals as goal
+use Rattle.sap_macro.proofs.building.build_first.Goals as goal
 
 pub returns : goal.returns
 returns c =
