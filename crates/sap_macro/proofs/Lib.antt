@@ -10,3 +10,12 @@ pub mod Scopes
 pub mod Commuting
 pub mod AlikeExpansions
 pub mod Uses
+pub mod Putting
+pub mod Resolving
+pub mod Bound
+pub mod Choices
+pub mod Entries
+pub mod Built
+pub mod Forms
+pub mod Counted
+pub mod Sized

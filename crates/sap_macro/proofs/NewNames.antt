@@ -34,7 +34,7 @@ still_known (y ∷ ys) x z d h =
     (cases_Bool (bytes_eq y x))
 
 -- so many different names are as many as the list has, or fewer
-no_more : (f : ℕ → List ℕ) (k m : ℕ) (ys : List (List ℕ)) → ((i j : ℕ) → i < m + k → j < m + k → f i ≡ f j → i ≡ j)
+pub no_more : (f : ℕ → List ℕ) (k m : ℕ) (ys : List (List ℕ)) → ((i j : ℕ) → i < m + k → j < m + k → f i ≡ f j → i ≡ j)
     → ((j : ℕ) → m ≤ j → j < m + k → is_known ys (f j) ≡ true) → k ≤ length ys
 no_more f zero m ys one all = omega arith
 no_more f (suc k) m ys one all =
@@ -53,7 +53,7 @@ behind_same : (x a b : List ℕ) → x ++ a ≡ x ++ b → a ≡ b
 behind_same [] a b h = h
 behind_same (y ∷ ys) a b h = behind_same ys a b (ap tail h)
 
-candidate_one : (x : List ℕ) (m n : ℕ) → m < 2 ^ 64 → n < 2 ^ 64 → candidate x m ≡ candidate x n → m ≡ n
+pub candidate_one : (x : List ℕ) (m n : ℕ) → m < 2 ^ 64 → n < 2 ^ 64 → candidate x m ≡ candidate x n → m ≡ n
 candidate_one x m n p q e =
     ⊎_elim
     (λ f. decimal_injective m n p q (behind_same x (decimal m) (decimal n) (sym (at m f) ∙ e ∙ at n f)))
@@ -65,12 +65,12 @@ candidate_one x m n p q e =
 -- ---- the search
 
 -- it ends at the first that isn't taken, or all are taken
-abbrev Search : ℕ → ℕ → List (List ℕ) → List ℕ → Type 0
+abbrev pub Search : ℕ → ℕ → List (List ℕ) → List ℕ → Type 0
 Search k m taken x =
     ((n : ℕ) × (m ≤ n) × (first_free k m taken x ≡ candidate x n) × (is_known taken (candidate x n) ≡ false) × ((j : ℕ) → m ≤ j → j < n → is_known taken (candidate x j) ≡ true))
     ⊎ ((first_free k m taken x ≡ longer_than taken) × ((j : ℕ) → m ≤ j → j < m + k → is_known taken (candidate x j) ≡ true))
 
-search : (k m : ℕ) (taken : List (List ℕ)) (x : List ℕ) → Search k m taken x
+pub search : (k m : ℕ) (taken : List (List ℕ)) (x : List ℕ) → Search k m taken x
 search zero m taken x = inr (refl, λ j p q. absurd (omega (arith, p, q)))
 search (suc k) m taken x =
     ⊎_elim

@@ -89,3 +89,15 @@ a = public (codes "a")
 
 abbrev pub b : Tree
 b = public (codes "b")
+
+-- let A(x,y,y,x) = out('a')
+abbrev pub twice_two : Definition
+twice_two = record {
+  name = codes "A";
+  params = codes "x" ∷ codes "y" ∷ codes "y" ∷ codes "x" ∷ [];
+  body = giving a;
+}
+
+-- let A(x) = C('a')
+abbrev pub using_wrongly : Definition
+using_wrongly = with_x (call (codes "C") (a ∷ []))

@@ -5,3 +5,7 @@ pub mod NewNames
 pub mod Expansion
 pub mod ExpansionExamples
 pub mod Instances
+pub mod Sources
+pub mod Order
+pub mod MacroCauses
+pub mod code

@@ -1,8 +1,9 @@
 //! Small processes by hand, as laws.
-ghost use Rattle.std.specs.Prelude.{◌≡◌, codes, [], ◌∷◌};
+ghost use Rattle.std.specs.Prelude.{◌≡◌, codes, [], ◌∷◌, None, Some};
 ghost use Rattle.sap_process.specs.Proc as whole;
 ghost use Rattle.sap_macro.specs.Expansion.{expansion};
-ghost use Rattle.sap_macro.specs.ExpansionExamples.{a, b, of_name, fresh_of, news, taking, makes, takes, gives, making, making_twice, pairing, giving_y, using_plain, inner, outer};
+ghost use Rattle.sap_macro.specs.ExpansionExamples.{a, b, of_name, fresh_of, news, taking, makes, takes, gives, making, making_twice, pairing, giving_y, using_plain, inner, outer, twice_two, using_wrongly};
+ghost use Rattle.sap_macro.specs.MacroCauses.{first_other_count, first_parameter_twice};
 ghost use Rattle.sap_macro.specs.NameExamples.{both, AreAllSame, AreNoneSame, equal_pairs, other_pairs};
 ghost use Rattle.sap_macro.specs.NewNames.{new_name};
 ghost use Rattle.sap_macro.specs.Written.{call, parallel};
@@ -30,4 +31,16 @@ pub fn expansions_by_hand()
     ensures inner_later { (expansion (inner ∷ outer ∷ []) (codes "n" ∷ []) (call (codes "A") (a ∷ []))).process
         ≡ takes (both a (of_name (codes "n_1"))) (whole.parallel (makes (codes "n_2") (gives (of_name (codes "n_1")))) (makes (codes "n_3") (gives a))) }
     ensures sapic { new_name [] (codes "sapic") ≡ codes "sapic1" }
+{}
+
+/// A law: why small definitions can't be used as they are written. Of parameters that stand twice the first in order counts; one name
+/// in two definitions is none. Uses count in the bodies first, and a definition without parameters takes no arguments.
+pub fn macro_causes_by_hand()
+    ensures twice { first_parameter_twice (making ∷ twice_two ∷ []) ≡ Some (codes "x") }
+    ensures once { first_parameter_twice (making ∷ pairing ∷ []) ≡ None }
+    ensures more { first_other_count (making ∷ []) (parallel (call (codes "A") (a ∷ [])) (call (codes "A") (a ∷ b ∷ []))) ≡ Some (codes "A") }
+    ensures fewer { first_other_count (pairing ∷ []) (call (codes "A") (a ∷ [])) ≡ Some (codes "A") }
+    ensures plain { first_other_count (giving_y ∷ []) (call (codes "C") (a ∷ [])) ≡ Some (codes "C") }
+    ensures body_first { first_other_count (giving_y ∷ using_wrongly ∷ []) (call (codes "A") []) ≡ Some (codes "C") }
+    ensures right { first_other_count (giving_y ∷ using_plain ∷ []) (parallel (call (codes "A") (a ∷ [])) (call (codes "C") [])) ≡ None }
 {}

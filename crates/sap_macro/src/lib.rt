@@ -1,10 +1,26 @@
 //! Definitions of processes with parameters: which processes are equal up to names, new names, and expansions.
 #![tactic(auto)]
 
+mod below;
+mod binders;
+mod building;
 mod by_hand;
+mod causes;
+mod chosen;
+mod definition;
+mod heads;
+mod index;
 mod laws;
+mod sizes;
+mod source;
+mod standing;
 
-pub use by_hand::{equal_up_to_names_by_hand, expansions_by_hand};
+pub use building::build;
+pub use by_hand::{equal_up_to_names_by_hand, expansions_by_hand, macro_causes_by_hand};
+pub use causes::{first_other_count, first_parameter_twice};
+pub use definition::{Definition, DefinitionList};
 pub use laws::{
     expansions_are_one, new_names_are_least, same_up_to_names_show_the_same, uses_are_instances,
 };
+pub use sizes::{Size, expanded_size};
+pub use source::{Doing, Source};

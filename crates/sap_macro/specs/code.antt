@@ -1,0 +1,11 @@
+-- What the code does, step by step: no public contract cites what stands below.
+pub mod Standings
+pub mod Deeds
+pub mod Steps
+pub mod Heads
+pub mod Indexed
+pub mod Taking
+pub mod Names
+pub mod Entering
+pub mod Noted
+pub mod Sizes

@@ -1,0 +1,19 @@
+-- What is done with one term or two before a process goes on.
+use Rattle.sap_terms.specs.Tree.{Tree}
+use Rattle.sap_process.specs.Action.{Action, out, send, input, receive, insert, delete, lock, unlock}
+use Rattle.sap_macro.specs.declared.heads.Deed.{Deed}
+use Rattle.sap_macro.specs.declared.heads.Deed.TheVariants.{Out, In, Delete, Lock, Unlock}
+use Rattle.sap_macro.specs.declared.heads.Transfer.{Transfer}
+use Rattle.sap_macro.specs.declared.heads.Transfer.TheVariants.{Send, Recv, Insert}
+
+abbrev pub on_term : Deed → Tree → Action
+on_term Out t = out t
+on_term In t = input t
+on_term Delete t = delete t
+on_term Lock t = lock t 0
+on_term Unlock t = unlock t 0
+
+abbrev pub on_terms : Transfer → Tree → Tree → Action
+on_terms Send t u = send t u
+on_terms Recv t u = receive t u
+on_terms Insert t u = insert t u

@@ -1,0 +1,89 @@
+//! How large expansions are.
+ghost use Rattle.std.specs.Prelude.{◌≡◌, ℕ, List, [], min, IfOk, OnOk};
+ghost use Rattle.sap_terms.specs.NameMap.{value_at};
+ghost use Rattle.sap_process.specs.Proc.{node_count, level_count};
+ghost use Rattle.sap_macro.specs.Expansion.{expansion};
+ghost use Rattle.sap_macro.specs.Order.{AreInOrder};
+ghost use Rattle.sap_macro.specs.Sources.{definition_of, definitions, written};
+ghost use Rattle.sap_macro.specs.code.Sizes.{levels_kept, levels_in, nodes_kept, nodes_in, levels_of, nodes_of, with_levels, with_nodes};
+
+use crate::definition::{Definition, DefinitionList};
+use crate::source::Source;
+use sap_terms::{Copied, Mem, NameMap};
+use std::alloc::Global;
+
+/// How many places an expansion has, and how many levels; from the greatest u64 on, that number.
+#[derive(Clone, Copy)]
+pub struct Size {
+    pub nodes: u64,
+    pub levels: u64,
+}
+
+// The places, where the names have as many as is kept of them. It recurses as deep as the process.
+fn nodes(sizes: &NameMap<Size>, source: &Source) -> u64
+    ensures { result ≡ min (nodes_in sizes.now (written source.now)) u64.MAX }
+{
+    match source {
+        Source::Nil => 1,
+        Source::Call(f, _) => sizes.get(f).map_or(1, |s| s.nodes),
+        Source::Par(p, q) | Source::If(_, _, p, q) | Source::Lookup(_, _, p, q) => nodes(sizes, p)
+            .saturating_add(nodes(sizes, q))
+            .saturating_add(1),
+        Source::Rep(p) | Source::Act(_, p) => nodes(sizes, p).saturating_add(1),
+    }
+}
+
+// The levels, where the names have as many as is kept of them. It recurses as deep as the process.
+fn levels(sizes: &NameMap<Size>, source: &Source) -> u64
+    ensures { result ≡ min (levels_in sizes.now (written source.now)) u64.MAX }
+{
+    match source {
+        Source::Nil => 1,
+        Source::Call(f, _) => sizes.get(f).map_or(1, |s| s.levels),
+        Source::Par(p, q) | Source::If(_, _, p, q) | Source::Lookup(_, _, p, q) => {
+            levels(sizes, p).max(levels(sizes, q)).saturating_add(1)
+        }
+        Source::Rep(p) | Source::Act(_, p) => levels(sizes, p).saturating_add(1),
+    }
+}
+
+// Keeps the size of the definition's body.
+fn keep(alloc: Global, sizes: &mut NameMap<Size>, d: &Definition) -> Result<(), Mem>
+    ensures nodes { OnOk result ((f : List ℕ) → nodes_kept (value_at sizes.new f) ≡ with_nodes (λ g. nodes_kept (value_at sizes.old g)) (definition_of d.now) f) }
+    ensures levels { OnOk result ((f : List ℕ) → levels_kept (value_at sizes.new f) ≡ with_levels (λ g. levels_kept (value_at sizes.old g)) (definition_of d.now) f) }
+{
+    let size = Size {
+        nodes: nodes(sizes, &d.body),
+        levels: levels(sizes, &d.body),
+    };
+    let name = d.name.copy(alloc)?;
+    sizes.insert(name, size)?;
+    Ok(())
+}
+
+// The size of each definition's body, by its name.
+fn sizes_of(alloc: Global, defs: &DefinitionList) -> Result<NameMap<Size>, Mem>
+    ensures nodes { IfOk result (λ m. (f : List ℕ) → nodes_kept (value_at m f) ≡ nodes_of (definitions defs.now) f) }
+    ensures levels { IfOk result (λ m. (f : List ℕ) → levels_kept (value_at m f) ≡ levels_of (definitions defs.now) f) }
+{
+    let mut sizes = NameMap::new(alloc);
+    for k in 0..defs.len() {
+        keep(alloc, &mut sizes, defs.at(k))?;
+    }
+    Ok(sizes)
+}
+
+/// How large the expansion of the process is behind these definitions, whatever names are taken. Want of memory is the only error. It
+/// takes time in proportion to what is written, where each name is looked for by its order, and recurses as deep as that.
+pub fn expanded_size(alloc: Global, defs: &DefinitionList, main: &Source) -> Result<Size, Mem>
+    requires { AreInOrder [] (definitions defs.now) }
+    ensures nodes { IfOk result (λ z. (identifiers : List (List ℕ)) → z.nodes
+        ≡ min (node_count (expansion (definitions defs.now) identifiers (written main.now)).process) u64.MAX) }
+    ensures levels { IfOk result (λ z. (identifiers : List (List ℕ)) → z.levels
+        ≡ min (level_count (expansion (definitions defs.now) identifiers (written main.now)).process) u64.MAX) }
+{
+    let sizes = sizes_of(alloc, defs)?;
+    let nodes = nodes(&sizes, main);
+    let levels = levels(&sizes, main);
+    Ok(Size { nodes, levels })
+}
