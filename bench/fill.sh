@@ -98,8 +98,8 @@ kind() {
         beside=0
         [ "$what" != back ] || beside=$(costs chain "$size")
         awk -v kind="$what" -v size="$size" -v now="$now" -v old="$old" -v beside="$beside" 'BEGIN {
-            growth = old > 0 ? sprintf("%.2f", now / old) : "-"
-            printf "%-7s %7d %14.0f %7s %9s\n", kind, size, now, growth, beside > 0 ? sprintf("%.2f", now / beside) : "-"
+            growth = (old > 0) ? sprintf("%.2f", now / old) : "-"
+            printf "%-7s %7d %14.0f %7s %9s\n", kind, size, now, growth, (beside > 0 ? sprintf("%.2f", now / beside) : "-")
         }'
         old=$now
     done
