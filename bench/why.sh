@@ -12,10 +12,11 @@
 #   nodes     definitions that the process uses twice each, up to more nodes than there may be
 #   lemma     so many lemmas, of which the last has a variable that isn't guarded
 #
-# For each size it tells the instructions of both, by valgrind, their ratio, which is to be at most 1.2, and what `why` takes to the size
-# before, at most 2.2.
+# For each size it tells the instructions of both, by valgrind, their ratio, which is to be at most 1.7, and what `why` takes to the size
+# before, at most 2.2. And of each file of examples/ it tells the instructions of `compile`, and of `why` on it with a lemma that is in no
+# grammar, which are to be fewer.
 #
-# usage: bench/why.sh [KIND..]
+# usage: bench/why.sh [KIND..]     `examples` is a kind too
 set -eu
 . "$(dirname "$0")/growth.sh"
 
@@ -89,3 +90,14 @@ kind unbound 'place 211: unbound' 1000 2000 4000 8000
 kind lock 'place 11: unlock without lock' 1000 2000 4000 8000
 kind nodes 'more than 4000 nodes' 12 24 48 96
 kind lemma 'last: variable x is not guarded' 1000 2000 4000 8000
+
+case $wished in *" examples "* | "  ") ;; *) exit 0 ;; esac
+for file in "$(dirname "$0")"/../examples/*.spthy; do
+    ends 0 ''
+    long=$(instructions compile "$file")
+    sed '$s/end$/lemma broken: T end/' "$file" > "$work/file.spthy"
+    told=$(instructions why "$work/file.spthy")
+    awk -v kind="$(basename "$file" .spthy)" -v long="$long" -v told="$told" 'BEGIN {
+        printf "%-16s %14.0f %14.0f %6.2f\n", kind, long, told, told / long
+    }'
+done
