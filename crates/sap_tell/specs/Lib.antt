@@ -4,3 +4,5 @@ pub mod ToldText
 pub mod Told
 pub mod ToldLaws
 pub mod ToldExamples
+pub mod Telling
+pub mod code
