@@ -3,14 +3,3 @@ pub mod BytesByHand
 pub mod LegalTold
 pub mod LinesByHand
 pub mod Joined
-pub mod Pieces
-pub mod Inverted
-pub mod Does
-pub mod Embeds
-pub mod Headed
-pub mod Found
-pub mod OneLine
-pub mod ToldRuns
-pub mod Joins
-pub mod Seconds
-pub mod Kept

@@ -4,5 +4,3 @@ pub mod ToldText
 pub mod Told
 pub mod ToldLaws
 pub mod ToldExamples
-pub mod Telling
-pub mod code

@@ -1,7 +1,0 @@
-use Rattle.std.proofs.Common.{◌≡◌, ◌++◌, take}
-use Rattle.sap_tell.specs.code.Doings.{binding_texts}
-use Rattle.sap_tell.specs.code.Outcomes.{outcomes_from}
-use Rattle.sap_tell.proofs.outcomes.push_bindings.Given as goal
-
-abbrev pub invariant-loop-k : goal.invariant-loop-k
-invariant-loop-k l = l.text ≡ l.initial.text ++ outcomes_from l.first (binding_texts (take l.k l.b))
