@@ -1,0 +1,11 @@
+mod Inverted
+mod Does
+mod Embeds
+mod Headed
+mod Found
+mod Kept
+mod Pieces
+mod Joins
+mod Seconds
+mod OneLine
+mod ToldRuns

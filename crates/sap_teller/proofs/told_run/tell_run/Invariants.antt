@@ -1,0 +1,8 @@
+use Rattle.std.proofs.Common.{take}
+use Rattle.sap_process.specs.Proc.{proc}
+use Rattle.sap_teller.specs.code.Runs.{IsToldSoFar}
+use Rattle.sap_teller.proofs.told_run.tell_run.Given as goal
+
+-- the lines so far are told
+abbrev pub invariant-loop-k : goal.invariant-loop-k
+invariant-loop-k l = IsToldSoFar l.sig (proc l.p) (take l.k l.run) l.config l.at l.told

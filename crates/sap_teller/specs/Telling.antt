@@ -1,0 +1,61 @@
+-- One line that is done and told, and a run that is.
+use Rattle.std.specs.Prelude.{◌≡◌, ◌+◌, ℕ, List, [], ◌∷◌, ◌++◌, length}
+use Rattle.sap_calc.specs.Running.{Running, configuration}
+use Rattle.sap_deduce.specs.Entries.{terms_of}
+use Rattle.sap_lines.specs.Faults.{IsRefused}
+use Rattle.sap_lines.specs.Lines.{IsProcessLine}
+use Rattle.sap_lines.specs.Runs.{IsLegalProcessRun}
+use Rattle.sap_lines.specs.declared.fault.PFault.{PFault}
+use Rattle.sap_lines.specs.declared.fault.PFault.TheVariants.{Mem}
+use Rattle.sap_process.specs.Configuration.{Config}
+use Rattle.sap_process.specs.Proc.{Proc}
+use Rattle.sap_runs.specs.Inner.{InnerAction}
+use Rattle.sap_runs.specs.Limits.{HasFewNodes}
+use Rattle.sap_runs.specs.Marks.{Mark}
+use Rattle.sap_runs.specs.declared.process_step.PStep.{PStep}
+use Rattle.sap_terms.specs.Signature.{Sig}
+use Rattle.sap_terms.specs.Trace.{Trace}
+use Rattle.sap_terms.specs.Tree.{Tree}
+use Rattle.sap_terms.specs.declared.fact.Fact.{Fact}
+use Rattle.sap_tell.specs.ThreadPaths.{paths_after}
+use Rattle.sap_tell.specs.Told.{IsToldLine, IsToldRun}
+use Rattle.sap_teller.specs.declared.telling.Along.{Along}
+
+-- the line is possible within the limit, leads from one to the other and shows this, and the text tells it, where it has this number and
+-- threads stand at these paths
+pub record IsDoneAndTold (r z : Running) (number : ℕ) (paths : List (List ℕ)) (step : PStep) (label : List Fact) (text : List ℕ) : Type 0 where
+  pub inner : List InnerAction
+  pub line : IsProcessLine r.sig HasFewNodes (configuration r) (terms_of r.known) step inner label (configuration z) (terms_of z.known)
+  pub sig : z.sig ≡ r.sig
+  pub told : IsToldLine r.sig number paths (configuration r) (terms_of r.known) step inner label (terms_of z.known) text
+
+-- It is told behind the lines before it, with a line feed; and so far the run is told then.
+pub record IsToldOn (r z : Running) (a b : Along) (before after : List ℕ) (step : PStep) (label : List Fact) : Type 0 where
+  pub told : List ℕ
+  pub done : IsDoneAndTold r z (a.lines + 1) a.paths step label told
+  pub text : after ≡ before ++ (told ++ 10 ∷ [])
+  pub paths : b.paths ≡ paths_after a.paths step
+  pub lines : b.lines ≡ a.lines + 1
+  pub facts : b.facts ≡ length z.facts
+
+-- the lines are a legal run of the process within the limit, and it is told by the text
+pub record IsToldAs (g : Sig) (p : Proc) (lines : List PStep) (trace : Trace) (text : List ℕ) : Type 0 where
+  pub config : Config
+  pub entries : List Tree
+  pub marks : List Mark
+  pub run : IsToldRun g p lines config entries trace marks text
+
+-- the lines before the one with this number, from 1, are such a run, and that one is refused for this cause
+pub record IsFirstRefusedLine (g : Sig) (p : Proc) (lines : List PStep) (number : ℕ) (fault : PFault) : Type 0 where
+  pub before : List PStep
+  pub line : PStep
+  pub after : List PStep
+  pub cut : lines ≡ before ++ line ∷ after
+  pub counts : number ≡ length before + 1
+  pub config : Config
+  pub entries : List Tree
+  pub trace : Trace
+  pub marks : List Mark
+  pub legal : IsLegalProcessRun g HasFewNodes p before config entries trace marks
+  pub refused : IsRefused g config entries line fault
+  pub cause : ¬ (fault ≡ Mem)

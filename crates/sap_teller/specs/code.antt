@@ -1,0 +1,7 @@
+-- What the code of this crate speaks of: what it keeps of a line before it is done, and what it finds that the line does.
+-- No theorem speaks of it.
+pub mod Outcomes
+pub mod Doings
+pub mod Heads
+pub mod Lines
+pub mod Runs

@@ -1,0 +1,28 @@
+-- A told line, part by part.
+use Rattle.std.specs.Prelude.{◌≡◌, ℕ, codes, decimal, true, List, ◌++◌, Option}
+use Rattle.sap_calc.specs.Running.{Running, configuration, IsDone}
+use Rattle.sap_deduce.specs.Entries.{terms_of}
+use Rattle.sap_lines.specs.Answers.{MatchesExactly}
+use Rattle.sap_runs.specs.declared.process_step.PStep.{PStep}
+use Rattle.sap_terms.specs.Tree.{Tree}
+use Rattle.sap_terms.specs.declared.fact.Fact.{Fact}
+use Rattle.sap_teller.specs.Telling.{IsToldOn}
+use Rattle.sap_teller.specs.code.Doings.{action_of, outcomes_of}
+use Rattle.sap_teller.specs.code.Heads.{IsBefore}
+use Rattle.sap_teller.specs.code.Outcomes.{outcomes_from, shown_texts}
+use Rattle.sap_teller.specs.declared.before.Before.{Before}
+use Rattle.sap_teller.specs.declared.doing.Doing.{Doing}
+use Rattle.sap_teller.specs.declared.telling.Along.{Along}
+
+-- its number and who acts
+abbrev pub numbered_text : ℕ → List ℕ → List ℕ
+numbered_text number actor = decimal number ++ (codes ". " ++ (actor ++ codes ": "))
+
+-- what is done and what comes of it
+abbrev pub body_text : List Fact → ℕ → Option Tree → Doing → List ℕ
+body_text label k o x = action_of label x ++ outcomes_from true (shown_texts label k o ++ outcomes_of x)
+
+-- from wherever this was kept and the line was done, it is told
+abbrev pub IsToldFrom : Before → Running → PStep → List Fact → Along → Along → List ℕ → List ℕ → Type 0
+IsToldFrom kept z step label a b before after =
+    (r : Running) → MatchesExactly r.sig (configuration r) (terms_of r.known) → IsBefore r step kept → IsDone r z step label → IsToldOn r z a b before after step label

@@ -1,0 +1,165 @@
+//! What is kept of a line before it is done.
+ghost use Rattle.std.specs.Prelude.{◌≡◌, length, IfOk};
+ghost use Rattle.sap_calc.specs.Running.{configuration};
+ghost use Rattle.sap_facts.specs.Cited.{cited_at};
+ghost use Rattle.sap_teller.specs.code.Heads.{cited_of, head_of, sender_of, IsBefore, IsHead, IsKept, IsStored};
+
+use sap_calc::Config;
+use sap_lines::Form;
+use sap_runs::PStep;
+use sap_terms::{FactList, Mem, Term};
+use std::alloc::Global;
+
+/// What is kept of a line before it is done: how many threads, entries and facts there are, what stands at the heads of its threads,
+/// what its key has, and the facts that it cites.
+#[derive(Drop)]
+pub(crate) struct Before {
+    pub threads: u64,
+    pub entries: u64,
+    pub facts: u64,
+    pub head: Form,
+    pub sender: Form,
+    pub stored: Option<Term>,
+    pub cited: FactList,
+}
+
+// The thread whose head tells what the line does.
+fn head_of(step: &PStep) -> Option<u64>
+    ensures { result ≡ head_of step.now }
+{
+    match step {
+        PStep::New(t, _) | PStep::In(t, _) | PStep::Sync(_, t) => Some(*t),
+        PStep::Embedded(t, _, _) => Some(*t),
+        PStep::Then(t)
+        | PStep::Else(t)
+        | PStep::Insert(t)
+        | PStep::Delete(t)
+        | PStep::Found(t)
+        | PStep::Missing(t)
+        | PStep::Lock(t)
+        | PStep::Unlock(t) => Some(*t),
+        _ => None,
+    }
+}
+
+// The thread that sends to it.
+fn sender_of(step: &PStep) -> Option<u64>
+    ensures { result ≡ sender_of step.now }
+{
+    match step {
+        PStep::Sync(s, _) => Some(*s),
+        _ => None,
+    }
+}
+
+// What stands for the head of a thread that doesn't run.
+fn nobody(alloc: Global) -> Result<Box<Form>, Mem> {
+    Ok(Box::new(alloc, Form::Nil)?)
+}
+
+// What stands at the head of a thread, if one is asked for.
+fn head_at(alloc: Global, config: &Config, asked: Option<u64>) -> Result<Box<Form>, Mem>
+    ensures { IfOk result (λ f. IsHead (configuration config.now) asked f.value) }
+{
+    match asked {
+        Some(t) => match config.head(alloc, t)? {
+            Some(form) => Ok(form),
+            None => nobody(alloc),
+        },
+        None => nobody(alloc),
+    }
+}
+
+// What the line's key has, if it looks.
+fn stored_at(alloc: Global, config: &mut Config, step: &PStep) -> Result<Option<Term>, Mem>
+    ensures ok { IfOk result (IsStored config.old step.now) }
+    ensures kept { config.new ≡ config.old }
+{
+    match step {
+        PStep::Found(t) => config.stored(alloc, *t),
+        _ => Ok(None),
+    }
+}
+
+// The facts that the line cites.
+fn cited_by(alloc: Global, config: &Config, step: &PStep) -> Result<FactList, Mem>
+    ensures { IfOk result (λ fs. fs ≡ cited_at config.now.facts (cited_of step.now)) }
+{
+    match step {
+        PStep::Embedded(_, numbers, _) => config.cited(alloc, numbers),
+        _ => Ok(FactList::new(alloc)),
+    }
+}
+
+// All that is kept, where what the key has and the heads are found.
+fn with_cited(
+    alloc: Global,
+    config: &Config,
+    facts: u64,
+    step: &PStep,
+    stored: Option<Term>,
+    head: Box<Form>,
+    sender: Box<Form>,
+) -> Result<Before, Mem>
+    ensures { IfOk result (IsKept config.now facts step.now stored head.value sender.value) }
+{
+    let cited = cited_by(alloc, config, step)?;
+    Ok(Before {
+        threads: config.thread_count(),
+        entries: config.entry_count(),
+        facts,
+        head: Box::into_inner(head),
+        sender: Box::into_inner(sender),
+        stored,
+        cited,
+    })
+}
+
+// All that is kept, where what the key has and the first head are found.
+fn with_sender(
+    alloc: Global,
+    config: &Config,
+    facts: u64,
+    step: &PStep,
+    stored: Option<Term>,
+    head: Box<Form>,
+) -> Result<Before, Mem>
+    requires facts { facts ≡ length config.now.facts }
+    requires stored { IsStored config.now step.now stored }
+    requires head { IsHead (configuration config.now) (head_of step.now) head.value }
+    ensures { IfOk result (IsBefore config.now step.now) }
+{
+    let sender = head_at(alloc, config, sender_of(step))?;
+    with_cited(alloc, config, facts, step, stored, head, sender)
+}
+
+// All that is kept, where what the key has is found.
+fn with_heads(
+    alloc: Global,
+    config: &Config,
+    facts: u64,
+    step: &PStep,
+    stored: Option<Term>,
+) -> Result<Before, Mem>
+    requires facts { facts ≡ length config.now.facts }
+    requires stored { IsStored config.now step.now stored }
+    ensures { IfOk result (IsBefore config.now step.now) }
+{
+    let head = head_at(alloc, config, head_of(step))?;
+    with_sender(alloc, config, facts, step, stored, head)
+}
+
+/// What is kept of a line, where so many facts ever were. Nothing changes.
+pub(crate) fn kept_before(
+    alloc: Global,
+    config: &mut Config,
+    facts: u64,
+    step: &PStep,
+) -> Result<Before, Mem>
+    requires { facts ≡ length config.old.facts }
+    ensures ok { IfOk result (IsBefore config.old step.now) }
+    ensures kept { config.new ≡ config.old }
+{
+    let stored = stored_at(alloc, config, step)?;
+    with_heads(alloc, config, facts, step, stored)
+}

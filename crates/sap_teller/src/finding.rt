@@ -1,0 +1,271 @@
+//! What lines do, found from what was kept of them.
+ghost use Rattle.std.specs.Prelude.{◌≡◌, ◌++◌, [], IfOk, IfSome, IfNone, OnOk, MatchOption, true, false};
+ghost use Rattle.sap_process.specs.Heads.{facts_terms};
+ghost use Rattle.sap_rewrite.specs.Match.{IsOnlyMatch, HasNoMatch};
+ghost use Rattle.sap_terms.specs.Equations.{equations, app2, pair_name};
+ghost use Rattle.sap_terms.specs.Normal.{IsNormalForm};
+ghost use Rattle.sap_terms.specs.Tree.{Tree};
+ghost use Rattle.sap_terms.specs.View.{tree};
+ghost use Rattle.sap_teller.specs.code.Heads.{IsCompared, IsDeleted, IsFitted, IsInserted, IsLocked, IsLooked, IsMade, IsMetBy, IsTakenBy, IsUnlocked, IsUsedBy, together};
+ghost use Rattle.sap_teller.specs.declared.doing.Doing.TheVariants as does;
+
+use crate::doing::Doing;
+use sap_lines::Form;
+use sap_rewrite::{match_pattern, normal};
+use sap_terms::{Bindings, Copied, FactList, Mem, Name, Signature, Term, TermList};
+use std::alloc::Global;
+
+// What a line does, in a box.
+pub(crate) fn boxed(alloc: Global, doing: Doing) -> Result<Box<Doing>, Mem>
+    ensures { IfOk result (λ x. x.value ≡ doing) }
+{
+    Ok(Box::new(alloc, doing)?)
+}
+
+// What stands for a line that isn't possible.
+pub(crate) fn nothing(alloc: Global) -> Result<Box<Doing>, Mem> {
+    boxed(alloc, Doing::Shows)
+}
+
+// The normal forms of two terms.
+fn two_forms(alloc: Global, sig: &Signature, m: &Term, n: &Term) -> Result<(Term, Term), Mem>
+    ensures first { IfOk result (λ r. IsNormalForm (equations sig.now) (tree m.now) (tree r.0)) }
+    ensures second { IfOk result (λ r. IsNormalForm (equations sig.now) (tree n.now) (tree r.1)) }
+{
+    let first = normal(alloc, sig, m)?;
+    let second = normal(alloc, sig, n)?;
+    Ok((first, second))
+}
+
+// A name is made for the variable at the head.
+pub(crate) fn made(alloc: Global, n: u64, form: &Form) -> Result<Box<Doing>, Mem>
+    ensures { IfOk result (λ x. IsMade n form.now x.value) }
+{
+    match form {
+        Form::New(v) => boxed(alloc, Doing::Makes(v.copy(alloc)?, n)),
+        _ => nothing(alloc),
+    }
+}
+
+// The terms at the head are compared, and are one or aren't.
+pub(crate) fn compared(
+    alloc: Global,
+    sig: &Signature,
+    form: &Form,
+    same: bool,
+) -> Result<Box<Doing>, Mem>
+    ensures { IfOk result (λ x. IsCompared (equations sig.now) same form.now x.value) }
+{
+    match form {
+        Form::If(m, n) => {
+            let (a, b) = two_forms(alloc, sig, m, n)?;
+            boxed(alloc, Doing::Compares(a, b, same))
+        }
+        _ => nothing(alloc),
+    }
+}
+
+// The value at the head is stored at the key.
+pub(crate) fn inserted(alloc: Global, sig: &Signature, form: &Form) -> Result<Box<Doing>, Mem>
+    ensures { IfOk result (λ x. IsInserted (equations sig.now) form.now x.value) }
+{
+    match form {
+        Form::Insert(m, n) => {
+            let (a, b) = two_forms(alloc, sig, m, n)?;
+            boxed(alloc, Doing::Inserts(a, b))
+        }
+        _ => nothing(alloc),
+    }
+}
+
+// The key at the head is cleared.
+pub(crate) fn deleted(alloc: Global, sig: &Signature, form: &Form) -> Result<Box<Doing>, Mem>
+    ensures { IfOk result (λ x. IsDeleted (equations sig.now) form.now x.value) }
+{
+    match form {
+        Form::Delete(m) => boxed(alloc, Doing::Deletes(normal(alloc, sig, m)?)),
+        _ => nothing(alloc),
+    }
+}
+
+// The key at the head is looked up, and this is found.
+pub(crate) fn looked(
+    alloc: Global,
+    sig: &Signature,
+    form: &Form,
+    found: Option<Term>,
+) -> Result<Box<Doing>, Mem>
+    ensures { IfOk result (λ x. IsLooked (equations sig.now) found form.now x.value) }
+{
+    match form {
+        Form::Lookup(m, v) => {
+            let key = normal(alloc, sig, m)?;
+            let var = v.copy(alloc)?;
+            boxed(alloc, Doing::Looks(key, var, found))
+        }
+        _ => nothing(alloc),
+    }
+}
+
+// The term at the head is locked.
+pub(crate) fn locked(alloc: Global, sig: &Signature, form: &Form) -> Result<Box<Doing>, Mem>
+    ensures { IfOk result (λ x. IsLocked (equations sig.now) form.now x.value) }
+{
+    match form {
+        Form::Lock(m, _) => boxed(alloc, Doing::Holds(normal(alloc, sig, m)?, true)),
+        _ => nothing(alloc),
+    }
+}
+
+// It is unlocked.
+pub(crate) fn unlocked(alloc: Global, sig: &Signature, form: &Form) -> Result<Box<Doing>, Mem>
+    ensures { IfOk result (λ x. IsUnlocked (equations sig.now) form.now x.value) }
+{
+    match form {
+        Form::Unlock(m, _) => boxed(alloc, Doing::Holds(normal(alloc, sig, m)?, false)),
+        _ => nothing(alloc),
+    }
+}
+
+// An entry is taken, which fits the pattern.
+fn taken_alone(alloc: Global, n: &Term, x: &Term) -> Result<Box<Doing>, Mem>
+    ensures { IfOk result (λ r. IsFitted (tree n.now) (tree x.now) (does.Takes x.now false) r.value) }
+{
+    match match_pattern(alloc, n, x, &Bindings::new(alloc))? {
+        None => nothing(alloc),
+        Some(b) => boxed(alloc, Doing::Takes(x.copy(alloc)?, false, b)),
+    }
+}
+
+// A pair is taken, whose second part fits the pattern.
+fn taken_second(alloc: Global, n: &Term, x: &Term, second: &Term) -> Result<Box<Doing>, Mem>
+    ensures { IfOk result (λ r. IsFitted (tree n.now) (tree second.now) (does.Takes x.now true) r.value) }
+{
+    match match_pattern(alloc, n, second, &Bindings::new(alloc))? {
+        None => nothing(alloc),
+        Some(b) => boxed(alloc, Doing::Takes(x.copy(alloc)?, true, b)),
+    }
+}
+
+// The second part of a pair.
+fn second_of(x: &Term) -> Option<&Term>
+    ensures some { IfSome result (λ b. (a : Tree) × (tree x.now ≡ app2 pair_name a (tree b.now))) }
+    ensures none { IfNone result ((a b : Tree) → tree x.now ≡ app2 pair_name a b → ⊥) }
+{
+    match x {
+        Term::App(f, args) => if f.is(b"pair") && args.len() == 2 {
+            Some(args.at(1))
+        } else {
+            None
+        },
+        _ => None,
+    }
+}
+
+// An entry is taken, and this is what it binds.
+pub(crate) fn taken(alloc: Global, form: &Form, x: &Term) -> Result<Box<Doing>, Mem>
+    ensures { IfOk result (λ r. IsTakenBy x.now form.now r.value) }
+{
+    match form {
+        Form::In(n) => taken_alone(alloc, n, x),
+        Form::Recv(_, n) => match second_of(x) {
+            None => nothing(alloc),
+            Some(second) => taken_second(alloc, n, x, second),
+        },
+        _ => nothing(alloc),
+    }
+}
+
+// What is sent on a channel, and what binds who takes it by the pattern.
+fn met_by(alloc: Global, p: &Term, channel: Term, message: Term) -> Result<Box<Doing>, Mem>
+    ensures { IfOk result (λ r. IsFitted (tree p.now) (tree message) (does.Meets channel message) r.value) }
+{
+    match match_pattern(alloc, p, &message, &Bindings::new(alloc))? {
+        None => nothing(alloc),
+        Some(b) => boxed(alloc, Doing::Meets(channel, message, b)),
+    }
+}
+
+// One thread sends to another.
+pub(crate) fn met(
+    alloc: Global,
+    sig: &Signature,
+    sender: &Form,
+    form: &Form,
+) -> Result<Box<Doing>, Mem>
+    ensures { IfOk result (λ r. IsMetBy (equations sig.now) sender.now form.now r.value) }
+{
+    match sender {
+        Form::Send(m, n) => match form {
+            Form::Recv(_, p) => {
+                let (a, u) = two_forms(alloc, sig, m, n)?;
+                met_by(alloc, p, a, u)
+            }
+            _ => nothing(alloc),
+        },
+        _ => nothing(alloc),
+    }
+}
+
+// Puts terms last.
+fn push_terms(alloc: Global, ts: &TermList, out: &mut TermList) -> Result<(), Mem>
+    ensures { OnOk result (out.new ≡ out.old ++ ts.now) }
+{
+    for k in 0..ts.len() {
+        out.push(ts.at(k).copy(alloc)?)?;
+    }
+    Ok(())
+}
+
+// The arguments of facts, one fact after another.
+fn args_of(alloc: Global, fs: &FactList) -> Result<TermList, Mem>
+    ensures { IfOk result (λ ts. ts ≡ facts_terms fs.now) }
+{
+    let mut out = TermList::new(alloc);
+    for f in fs.as_slice() {
+        push_terms(alloc, &f.args, &mut out)?;
+    }
+    Ok(out)
+}
+
+// The arguments of facts, as one term.
+fn term_of(alloc: Global, fs: &FactList) -> Result<Term, Mem>
+    ensures { IfOk result (λ t. tree t ≡ together fs.now) }
+{
+    let args = args_of(alloc, fs)?;
+    let name = Name::from_bytes(alloc, b"")?;
+    Ok(Term::App(name, args))
+}
+
+// What the left side of a rule binds by the facts that are cited.
+fn bound_by(alloc: Global, l: &FactList, left: &FactList) -> Result<Option<Bindings>, Mem>
+    ensures { IfOk result (λ o. MatchOption o (HasNoMatch (together l.now) (together left.now) [])
+        (λ b. IsOnlyMatch (together l.now) (together left.now) [] b)) }
+{
+    let pattern = term_of(alloc, l)?;
+    let term = term_of(alloc, left)?;
+    match_pattern(alloc, &pattern, &term, &Bindings::new(alloc))
+}
+
+// A rule is used on the facts that are cited, adds these, and leaves variables open that stand for these terms.
+pub(crate) fn used(
+    alloc: Global,
+    form: &Form,
+    left: &FactList,
+    right: FactList,
+    open: &Bindings,
+) -> Result<Box<Doing>, Mem>
+    ensures { IfOk result (λ r. IsUsedBy left.now right open.now form.now r.value) }
+{
+    match form {
+        Form::Embedded(l, _, _) => match bound_by(alloc, l, left)? {
+            None => nothing(alloc),
+            Some(b) => {
+                let left = left.copy(alloc)?;
+                let open = open.copy(alloc)?;
+                boxed(alloc, Doing::Uses(left, right, b, open))
+            }
+        },
+        _ => nothing(alloc),
+    }
+}

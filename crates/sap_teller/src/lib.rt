@@ -1,0 +1,13 @@
+//! Runs of processes, done and told line by line.
+#![tactic(auto)]
+
+mod before;
+mod doing;
+mod finding;
+mod found_out;
+mod outcomes;
+mod telling;
+mod told_run;
+
+pub use telling::{Along, tell_line};
+pub use told_run::{ToldRun, Untold, tell_run};

@@ -1,0 +1,189 @@
+//! What comes of a line.
+ghost use Rattle.std.specs.Prelude.{◌≡◌, ◌&&◌, ◌++◌, IfOk, OnOk, map, nat_eq, true, slice_get};
+ghost use Rattle.sap_deduce.specs.Entries.{terms_of};
+ghost use Rattle.sap_grammar.specs.TermText.{tree_text};
+ghost use Rattle.sap_terms.specs.View.{tree};
+ghost use Rattle.sap_terms.specs.Tree.{fresh};
+ghost use Rattle.sap_tell.specs.ToldText.{shows_text, knows_text, bound_text, begins_text, ends_text};
+ghost use Rattle.sap_teller.specs.code.Doings.{binding_texts, outcomes_of};
+ghost use Rattle.sap_teller.specs.code.Outcomes.{before_outcome, outcomes_from, still_first, shown_texts};
+
+use crate::doing::Doing;
+use sap_calc::Config;
+use sap_grammar::{push_fact, push_variable, push_whole_term};
+use sap_terms::{Bindings, Fact, FactList, Mem, Term, Var};
+use sap_text::Text;
+
+// What stands before an outcome.
+fn push_before(text: &mut Text, first: bool) -> Result<(), Mem>
+    ensures { OnOk result (text.new ≡ text.old ++ before_outcome first) }
+{
+    if first {
+        text.push_bytes(b" -- ")
+    } else {
+        text.push_bytes(b", ")
+    }
+}
+
+// Whether an outcome is the first of the line, where so many are before it in a list.
+fn is_first(first: bool, k: u64) -> bool
+    ensures { result ≡ (first && nat_eq k 0) }
+{
+    first && k == 0
+}
+
+// A fact that is shown.
+fn push_show(text: &mut Text, first: bool, f: &Fact) -> Result<(), Mem>
+    ensures { OnOk result (text.new ≡ text.old ++ (before_outcome first ++ shows_text f.now)) }
+{
+    push_before(text, first)?;
+    text.push_bytes(b"shows ")?;
+    push_fact(text, f)
+}
+
+// The facts that are shown.
+fn push_shows(text: &mut Text, label: &FactList) -> Result<(), Mem>
+    ensures { OnOk result (text.new ≡ text.old ++ outcomes_from true (map shows_text label.now)) }
+{
+    for k in 0..label.len() {
+        push_show(text, k == 0, label.at(k))?;
+    }
+    Ok(())
+}
+
+// An entry that is known from now on.
+fn push_known(text: &mut Text, first: bool, k: u64, x: &Term) -> Result<(), Mem>
+    ensures { OnOk result (text.new ≡ text.old ++ (before_outcome first ++ knows_text k (tree x.now))) }
+{
+    push_before(text, first)?;
+    text.push_bytes(b"knows ")?;
+    text.push_number(k)?;
+    text.push_bytes(b": ")?;
+    push_whole_term(text, x)
+}
+
+/// Puts last what is shown, and the entry of this number, if there is one; gives whether nothing was.
+pub(crate) fn push_seen(
+    text: &mut Text,
+    label: &FactList,
+    config: &Config,
+    number: u64,
+) -> Result<bool, Mem>
+    ensures text { OnOk result (text.new ≡ text.old
+        ++ outcomes_from true (shown_texts label.now number (slice_get (terms_of config.now.known) number))) }
+    ensures first { IfOk result (λ b. b
+        ≡ still_first true (shown_texts label.now number (slice_get (terms_of config.now.known) number))) }
+{
+    let none = label.len() == 0;
+    push_shows(text, label)?;
+    match config.entry(number) {
+        None => Ok(none),
+        Some(x) => {
+            push_known(text, none, number, x)?;
+            Ok(false)
+        }
+    }
+}
+
+// What a variable stands for.
+fn push_bound(text: &mut Text, first: bool, x: &Var, v: &Term) -> Result<(), Mem>
+    ensures { OnOk result (text.new ≡ text.old ++ (before_outcome first ++ bound_text (x.now, tree v.now))) }
+{
+    push_before(text, first)?;
+    push_variable(text, x)?;
+    text.push_bytes(b" = ")?;
+    push_whole_term(text, v)
+}
+
+// What each variable of the bindings stands for.
+fn push_bindings(text: &mut Text, first: bool, b: &Bindings) -> Result<(), Mem>
+    ensures { OnOk result (text.new ≡ text.old ++ outcomes_from first (binding_texts b.now)) }
+{
+    for k in 0..b.len() {
+        let e = b.at(k);
+        push_bound(text, is_first(first, k), &e.var, &e.term)?;
+    }
+    Ok(())
+}
+
+// The same of bindings, and then of others.
+fn push_all_bindings(text: &mut Text, first: bool, b: &Bindings, d: &Bindings) -> Result<(), Mem>
+    ensures { OnOk result (text.new ≡ text.old ++ outcomes_from first (binding_texts b.now ++ binding_texts d.now)) }
+{
+    push_bindings(text, first, b)?;
+    push_bindings(text, is_first(first, b.len()), d)
+}
+
+// The name that a variable stands for.
+fn push_made(text: &mut Text, first: bool, x: &Var, n: u64) -> Result<(), Mem>
+    ensures { OnOk result (text.new ≡ text.old ++ (before_outcome first ++ bound_text (x.now, fresh n))) }
+{
+    push_before(text, first)?;
+    push_variable(text, x)?;
+    text.push_bytes(b" = ~")?;
+    text.push_number(n)
+}
+
+// A thread that begins.
+fn push_begins(text: &mut Text, first: bool, t: u64) -> Result<(), Mem>
+    ensures { OnOk result (text.new ≡ text.old ++ (before_outcome first ++ begins_text t)) }
+{
+    push_before(text, first)?;
+    text.push_bytes(b"thread ")?;
+    text.push_number(t)?;
+    text.push_bytes(b" begins")
+}
+
+// A thread that ends.
+fn push_ends(text: &mut Text, first: bool, t: u64) -> Result<(), Mem>
+    ensures { OnOk result (text.new ≡ text.old ++ (before_outcome first ++ ends_text t)) }
+{
+    push_before(text, first)?;
+    text.push_bytes(b"thread ")?;
+    text.push_number(t)?;
+    text.push_bytes(b" ends")
+}
+
+// An outcome in words.
+fn push_words(text: &mut Text, first: bool, words: &[u8]) -> Result<(), Mem>
+    ensures { OnOk result (text.new ≡ text.old ++ (before_outcome first ++ words.now)) }
+{
+    push_before(text, first)?;
+    text.push_bytes(words)
+}
+
+// What a term is from now on.
+fn push_state(text: &mut Text, first: bool, k: &Term, words: &[u8]) -> Result<(), Mem>
+    ensures { OnOk result (text.new ≡ text.old ++ (before_outcome first ++ (tree_text (tree k.now) ++ words.now))) }
+{
+    push_before(text, first)?;
+    push_whole_term(text, k)?;
+    text.push_bytes(words)
+}
+
+/// Puts what comes of it last, beside what is shown and known.
+#[tactic(auto, using(crate::proofs::Pieces::one_outcome))]
+pub(crate) fn push_outcomes(text: &mut Text, first: bool, doing: &Doing) -> Result<(), Mem>
+    ensures { OnOk result (text.new ≡ text.old ++ outcomes_from first (outcomes_of doing.now)) }
+{
+    match doing {
+        Doing::Ends(t) => push_ends(text, first, *t),
+        Doing::Splits(t) | Doing::Copies(t) => push_begins(text, first, *t),
+        Doing::Makes(x, n) => push_made(text, first, x, *n),
+        Doing::Meets(_, _, b) | Doing::Takes(_, _, b) => push_bindings(text, first, b),
+        Doing::Compares(_, _, true) => push_words(text, first, b"then"),
+        Doing::Compares(_, _, false) => push_words(text, first, b"else"),
+        Doing::Looks(_, _, None) => push_words(text, first, b"nothing there"),
+        Doing::Looks(_, x, Some(v)) => push_bound(text, first, x, v),
+        Doing::Holds(k, true) => push_state(text, first, k, b" is held"),
+        Doing::Holds(k, false) => push_state(text, first, k, b" is free"),
+        Doing::Uses(_, _, b, d) => push_all_bindings(text, first, b, d),
+        Doing::Sends(_)
+        | Doing::Shows
+        | Doing::Inserts(_, _)
+        | Doing::Deletes(_)
+        | Doing::Names(_)
+        | Doing::Gives(_)
+        | Doing::Applies(_, _, _) => Ok(()),
+    }
+}

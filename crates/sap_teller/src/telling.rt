@@ -1,0 +1,137 @@
+//! Lines that are done and told.
+ghost use Rattle.std.specs.Prelude.{◌≡◌, ◌+◌, ◌<◌, ◌++◌, ℕ, IfOk, IfErr, OnOk, length, slice_get};
+ghost use Rattle.sap_calc.specs.Running.{configuration, IsDenied};
+ghost use Rattle.sap_deduce.specs.Entries.{terms_of};
+ghost use Rattle.sap_lines.specs.Answers.{MatchesExactly};
+ghost use Rattle.sap_teller.specs.Telling.{IsToldOn};
+ghost use Rattle.sap_tell.specs.ThreadPaths.{paths_after};
+ghost use Rattle.sap_tell.specs.ToldText.{actor_text};
+ghost use Rattle.sap_teller.specs.code.Heads.{added_by};
+ghost use Rattle.sap_teller.specs.code.Lines.{body_text, numbered_text, IsToldFrom};
+
+use crate::before::{Before, kept_before};
+use crate::doing::{Doing, push_action};
+use crate::found_out::{added_count, found_out};
+use crate::outcomes::{push_outcomes, push_seen};
+use sap_calc::Config;
+use sap_lines::PFault;
+use sap_runs::PStep;
+use sap_tell::{ThreadPaths, push_actor};
+use sap_terms::{FactList, Mem, Signature};
+use sap_text::Text;
+use std::alloc::Global;
+
+/// How far a run is told: where its threads stand, how many lines it has, and how many facts there ever were.
+#[derive(Drop)]
+pub struct Along {
+    pub paths: ThreadPaths,
+    pub lines: u64,
+    pub facts: u64,
+}
+
+// What is done, and what comes of it, where so many entries were before.
+fn push_body(
+    text: &mut Text,
+    config: &Config,
+    entries: u64,
+    label: &FactList,
+    doing: &Doing,
+) -> Result<(), Mem>
+    ensures { OnOk result (text.new
+        ≡ text.old ++ body_text label.now entries (slice_get (terms_of config.now.known) entries) doing.now) }
+{
+    push_action(text, label, doing)?;
+    let first = push_seen(text, label, config, entries)?;
+    push_outcomes(text, first, doing)
+}
+
+// The number of a line, and who acts.
+fn push_start(text: &mut Text, paths: &ThreadPaths, number: u64, step: &PStep) -> Result<(), Mem>
+    ensures { OnOk result (text.new ≡ text.old ++ numbered_text number (actor_text paths.now step.now)) }
+{
+    text.push_number(number)?;
+    text.push_bytes(b". ")?;
+    push_actor(text, paths, step)?;
+    text.push_bytes(b": ")
+}
+
+// How many facts the line adds.
+fn added_by(step: &PStep, kept: &Before) -> u64
+    ensures { result ≡ added_by step.now kept.now.head }
+{
+    match step {
+        PStep::Embedded(_, _, _) => added_count(&kept.head),
+        _ => 0,
+    }
+}
+
+impl Along {
+    // Goes on by a line.
+    fn go_on(&mut self, alloc: Global, step: &PStep, kept: &Before) -> Result<(), Mem>
+        requires { self.old.lines < u64.MAX }
+        ensures paths { OnOk result (self.new.paths ≡ paths_after self.old.paths step.now) }
+        ensures lines { OnOk result (self.new.lines ≡ self.old.lines + 1) }
+        ensures facts { OnOk result (self.new.facts ≡ kept.now.facts + added_by step.now kept.now.head) }
+    {
+        match kept.facts.checked_add(added_by(step, kept)) {
+            None => Err(Mem),
+            Some(facts) => {
+                self.paths.follow(alloc, step)?;
+                self.facts = facts;
+                self.lines += 1;
+                Ok(())
+            }
+        }
+    }
+}
+
+// Tells a line that was done, and goes on.
+fn tell(
+    alloc: Global,
+    sig: &Signature,
+    config: &Config,
+    at: &mut Along,
+    kept: &Before,
+    step: &PStep,
+    label: &FactList,
+    text: &mut Text,
+) -> Result<(), Mem>
+    requires sig { config.now.sig ≡ sig.now }
+    requires lines { at.old.lines < u64.MAX }
+    ensures { OnOk result (IsToldFrom kept.now config.now step.now label.now at.old at.new text.old text.new) }
+{
+    let doing = found_out(alloc, sig, config, kept, step)?;
+    push_start(text, &at.paths, at.lines + 1, step)?;
+    push_body(text, config, kept.entries, label, &doing)?;
+    text.push_bytes(b"\n")?;
+    at.go_on(alloc, step, kept)
+}
+
+/// Does one line, and puts last what is told of it, with a line feed; gives its label. Refused, the configuration is as it was; the
+/// fault is want of memory, where nothing is said of text and progress, or the first test of the line that fails.
+pub fn tell_line(
+    alloc: Global,
+    sig: &Signature,
+    config: &mut Config,
+    at: &mut Along,
+    step: &PStep,
+    text: &mut Text,
+) -> Result<FactList, PFault>
+    requires sig { config.old.sig ≡ sig.now }
+    requires exact { MatchesExactly sig.now (configuration config.old) (terms_of config.old.known) }
+    requires facts { at.old.facts ≡ length config.old.facts }
+    requires lines { at.old.lines < u64.MAX }
+    ensures ok { IfOk result (λ label. IsToldOn config.old config.new at.old at.new text.old text.new step.now label) }
+    ensures refused { IfErr result (IsDenied config.old step.now) }
+{
+    match kept_before(alloc, config, at.facts, step) {
+        Err(_) => Err(PFault::Mem),
+        Ok(kept) => match config.step(alloc, step) {
+            Err(fault) => Err(fault),
+            Ok(label) => match tell(alloc, sig, config, at, &kept, step, &label, text) {
+                Err(_) => Err(PFault::Mem),
+                Ok(()) => Ok(label),
+            },
+        },
+    }
+}

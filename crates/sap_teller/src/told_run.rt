@@ -1,0 +1,140 @@
+//! Runs that are told.
+ghost use Rattle.std.specs.Prelude.{◌≡◌, ◌+◌, ◌<◌, ◌∷◌, ◌++◌, [], ℕ, Err, IfOk, OnOk, length};
+ghost use Rattle.sap_calc.specs.Running.{configuration, IsDenied};
+ghost use Rattle.sap_deduce.specs.Entries.{terms_of};
+ghost use Rattle.sap_lines.specs.Answers.{MatchesExactly};
+ghost use Rattle.sap_lines.specs.declared.fault.PFault.{PFault as Fault};
+ghost use Rattle.sap_lines.specs.declared.fault.PFault.TheVariants.{Mem as OutOfMemory};
+ghost use Rattle.sap_process.specs.Configuration.{initial};
+ghost use Rattle.sap_process.specs.Proc.{Proc, proc};
+ghost use Rattle.sap_process.specs.Ready.{IsReady};
+ghost use Rattle.sap_terms.specs.Signature.{HoldsBuiltins};
+ghost use Rattle.sap_terms.specs.Trace.{shown};
+ghost use Rattle.sap_teller.specs.Telling.{IsFirstRefusedLine, IsToldAs};
+ghost use Rattle.sap_teller.specs.code.Runs.{IsDeniedAt, IsNextTold};
+ghost use Rattle.sap_teller.specs.declared.told_run.Untold.TheVariants as untold;
+
+use crate::telling::{Along, tell_line};
+use sap_calc::Config;
+use sap_lines::{PFault, limit_excludes, runs_match_exactly};
+use sap_process::Process;
+use sap_runs::{PStep, PSteps};
+use sap_tell::{ThreadPaths, legal_runs_are_told};
+use sap_terms::{FactList, Mem, Signature, Trace};
+use sap_text::Text;
+use std::alloc::Global;
+
+/// Why a run isn't told.
+#[derive(Drop)]
+pub enum Untold {
+    /// Want of memory.
+    Mem,
+    /// The line with this number, from 1, is the first illegal one, for this cause, which isn't want of memory.
+    Line { number: u64, fault: PFault },
+}
+
+impl From<Mem> for Untold {
+    ghost from_gives = { λ _ e. e ≡ untold.Mem };
+
+    fn from(_e: Mem) -> Untold {
+        Untold::Mem
+    }
+}
+
+/// What is told of a run, and what it shows.
+#[derive(Drop)]
+pub struct ToldRun {
+    pub text: Text,
+    pub trace: Trace,
+}
+
+// The cause at the line with this number.
+fn at_line(number: u64, fault: PFault) -> Untold
+    ensures { (n : ℕ) (e : Fault) → result ≡ untold.Line n e → (n ≡ number) × (e ≡ fault) × ¬ (e ≡ OutOfMemory) }
+{
+    match fault {
+        PFault::Mem => Untold::Mem,
+        other => Untold::Line {
+            number,
+            fault: other,
+        },
+    }
+}
+
+// Puts a label last, unless it is empty.
+fn show(trace: &mut Trace, label: FactList) -> Result<(), Mem>
+    ensures { OnOk result (trace.new ≡ trace.old ++ shown label) }
+{
+    if label.len() > 0 {
+        trace.push(label)?;
+    }
+    Ok(())
+}
+
+// Does one line, tells it, and puts its label last, unless it is empty.
+fn tell_next(
+    alloc: Global,
+    sig: &Signature,
+    config: &mut Config,
+    at: &mut Along,
+    step: &PStep,
+    told: &mut ToldRun,
+) -> Result<(), Untold>
+    requires sig { config.old.sig ≡ sig.now }
+    requires exact { MatchesExactly sig.now (configuration config.old) (terms_of config.old.known) }
+    requires facts { at.old.facts ≡ length config.old.facts }
+    requires lines { at.old.lines < u64.MAX }
+    ensures ok { OnOk result (IsNextTold config.old config.new at.old at.new told.old told.new step.now) }
+    ensures refused { (n : ℕ) (fault : Fault) → result ≡ Err (untold.Line n fault)
+        → IsDeniedAt config.old step.now (at.old.lines + 1) n fault }
+{
+    let number = at.lines + 1;
+    match tell_line(alloc, sig, config, at, step, &mut told.text) {
+        Err(fault) => Err(at_line(number, fault)),
+        Ok(label) => Ok(show(&mut told.trace, label)?),
+    }
+}
+
+// Before the first line.
+fn beginning(alloc: Global) -> Result<Along, Mem>
+    ensures paths { IfOk result (λ a. a.paths ≡ [] ∷ []) }
+    ensures lines { IfOk result (λ a. a.lines ≡ 0) }
+    ensures facts { IfOk result (λ a. a.facts ≡ 0) }
+{
+    let paths = ThreadPaths::first(alloc)?;
+    Ok(Along {
+        paths,
+        lines: 0,
+        facts: 0,
+    })
+}
+
+/// What is told of a run of a process, each line done once, and what it shows. `Line` names the first illegal line. Its time goes with
+/// the process's heads, the lines and the text, not with those of what was known and stored before. It recurses as deep as the process
+/// and the terms of process and run.
+pub fn tell_run(
+    alloc: Global,
+    sig: &Signature,
+    p: &Process,
+    run: &PSteps,
+) -> Result<ToldRun, Untold>
+    requires builtins { HoldsBuiltins sig.now }
+    requires ready { IsReady sig.now (proc p.now) }
+    ensures told { IfOk result (λ t. IsToldAs sig.now (proc p.now) run.now t.trace t.text) }
+    ensures refused { (n : ℕ) (fault : Fault) → result ≡ Err (untold.Line n fault)
+        → IsFirstRefusedLine sig.now (proc p.now) run.now n fault }
+{
+    limit_excludes();
+    runs_match_exactly();
+    legal_runs_are_told();
+    let mut config = Config::start(alloc, sig, p)?;
+    let mut at = beginning(alloc)?;
+    let mut told = ToldRun {
+        text: Text::new(alloc),
+        trace: Trace::new(alloc),
+    };
+    for k in 0..run.len() {
+        tell_next(alloc, sig, &mut config, &mut at, run.at(k), &mut told)?;
+    }
+    Ok(told)
+}
