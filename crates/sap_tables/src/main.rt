@@ -27,6 +27,7 @@ mod tables;
 mod terms;
 mod theories;
 mod tokens;
+mod told;
 
 use calls::put_file;
 use page::Page;

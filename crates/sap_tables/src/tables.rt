@@ -5,7 +5,7 @@ use crate::notation::{number, part, written};
 use crate::page::Page;
 use crate::{
     calls, copies, deductions, derivations, files, formulas, guards, json, knowledge, piles,
-    processes, refused, run_texts, runs, sharing, short_runs, terms, theories, tokens,
+    processes, refused, run_texts, runs, sharing, short_runs, terms, theories, tokens, told,
 };
 use std::collections::BTreeMap;
 
@@ -46,6 +46,7 @@ fn show_found_above(page: &mut Page, desk: &mut Desk, table: &str, row: &str) {
         "rule-runs" => runs::runs_row(page, desk, row),
         "process-runs" => processes::processes_row(page, desk, row),
         "conversions" | "fillings" => calls::conversions_row(page, row),
+        "told" => told::told_row(page, row),
         "runs-of-examples" => calls::examples_row(page, desk, row),
         "formulas" => formulas::formulas_row(page, &mut desk.theory, row),
         "checks" => formulas::checks_row(page, &mut desk.theory, row),
