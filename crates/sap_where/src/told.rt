@@ -61,12 +61,7 @@ fn told_among(
 }
 
 // A word with which a piece that begins on this line is nested too deep, if one is found among these tokens.
-fn deep_among(
-    alloc: Global,
-    bytes: &[u8],
-    tokens: &[Token],
-    line: u64,
-) -> Result<Option<Told>, Mem>
+fn deep_among(alloc: Global, bytes: &[u8], tokens: &[Token], line: u64) -> Result<Option<Told>, Mem>
     requires are { AreTokens bytes.now tokens.now }
     requires within { All (IsWithin (length bytes.now)) tokens.now }
     ensures place { IfOk result (λ o. IfSome o (λ t. IsTold bytes.now (Syntax line) t)) }
