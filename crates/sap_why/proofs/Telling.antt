@@ -47,14 +47,14 @@ settled_place z _ t no_process (at_a_word ts word is said) = absurd (never_true 
 settled_place z _ t (second_process line) (at_a_word ts word is said) = absurd (never_true word.speaks_of)
 settled_place z _ t (unknown_name name) (at_a_word ts word is said) = absurd (never_true word.speaks_of)
 settled_place z _ t (taken_name name) (at_a_word ts word is said) = absurd (never_true word.speaks_of)
-settled_place z _ t wanting (too_deep kind ts follows k can is unused) = cc (kind)
-settled_place z _ t (bytes f) (too_deep kind ts follows k can is unused) = cc (kind)
-settled_place z _ t header (too_deep kind ts follows k can is unused) = cc (kind)
-settled_place z _ t (syntax line other) (too_deep kind ts follows k can is unused) = absurd (other (record { tokens = _; are = ts; follow = follows }))
-settled_place z _ t no_process (too_deep kind ts follows k can is unused) = cc (kind)
-settled_place z _ t (second_process line) (too_deep kind ts follows k can is unused) = cc (kind)
-settled_place z _ t (unknown_name name) (too_deep kind ts follows k can is unused) = cc (kind)
-settled_place z _ t (taken_name name) (too_deep kind ts follows k can is unused) = cc (kind)
+settled_place z _ t wanting (too_deep kind ts follows k can is said) = cc (kind)
+settled_place z _ t (bytes f) (too_deep kind ts follows k can is said) = cc (kind)
+settled_place z _ t header (too_deep kind ts follows k can is said) = cc (kind)
+settled_place z _ t (syntax line other) (too_deep kind ts follows k can is said) = absurd (other (record { tokens = _; are = ts; follow = follows }))
+settled_place z _ t no_process (too_deep kind ts follows k can is said) = cc (kind)
+settled_place z _ t (second_process line) (too_deep kind ts follows k can is said) = cc (kind)
+settled_place z _ t (unknown_name name) (too_deep kind ts follows k can is said) = cc (kind)
+settled_place z _ t (taken_name name) (too_deep kind ts follows k can is said) = cc (kind)
 
 unused_text : (z : List ℕ) (o : Option Stretch) (x : List ℕ) → o ≡ None → IsUseText z o x → x ≡ []
 unused_text z None _ n unused = refl
