@@ -1,10 +1,14 @@
 //! What may stand next in a file, and which word is the first that may not, by a table of a file's words.
 #![tactic(auto)]
 
+mod deep;
+mod frame;
 mod laws;
 mod table;
 mod walk;
 mod wanted;
+mod words;
 
+pub use deep::too_deep;
 pub use laws::{files_follow_the_table, items_by_hand, table_goes_on};
 pub use walk::first_wrong;

@@ -35,7 +35,7 @@ module _ (one : OneReading) (bytes : List ℕ) where
   why_means _ (of_fault {e = e} {t = t} short read explained) = refused_says (fault_text e) t (unread short read)
 
   -- where the place of the cause is defined, or there is none, there is one such text
-  pub same_why_text : ((z : List ℕ) (e : ReadFault) (t u : List ℕ) → IsSettled e → IsExplanation z e t → IsExplanation z e u → t ≡ u) → ((e : ReadFault) → IsRead bytes (Err e) → IsSettled e)
+  pub same_why_text : ((z : List ℕ) (e : ReadFault) (t u : List ℕ) → IsSettled z e → IsExplanation z e t → IsExplanation z e u → t ≡ u) → ((e : ReadFault) → IsRead bytes (Err e) → IsSettled bytes e)
       → (text other : List ℕ) → IsWhyText bytes text → IsWhyText bytes other → text ≡ other
   same_why_text only settled _ _ (of_file f) (of_file g) = refl
   same_why_text only settled _ _ (of_file {told = told} f) (of_length long) = absurd (not_refused one bytes _ told (too_long long) f)

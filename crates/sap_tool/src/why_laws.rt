@@ -10,11 +10,11 @@ ghost use Rattle.sap_why.specs.Explained.{IsSettled};
 use sap_read::one_file;
 use sap_why::one_explanation;
 
-/// A law: of some bytes one text is told, unless they are refused for a cause whose place isn't defined by the words of the file; then
+/// A law: of some bytes one text is told, unless they are refused for a cause whose place isn't defined by the words of the file (`IsSettled`); then
 /// one line tells that cause.
 pub fn one_why_text()
     ensures { (bytes text other : List ℕ) → IsWhyText bytes text → IsWhyText bytes other
-        → ((e : ReadFault) → IsRead bytes (Err e) → IsSettled e) → text ≡ other }
+        → ((e : ReadFault) → IsRead bytes (Err e) → IsSettled bytes e) → text ≡ other }
 {
     one_file();
     one_explanation();

@@ -6,6 +6,7 @@ ghost use Rattle.sap_text.specs.declared.token.Token.{Token};
 ghost use Rattle.sap_grammar.specs.Words.{words_of};
 ghost use Rattle.sap_read.specs.Files.{AreTokens};
 ghost use Rattle.sap_read.specs.declared.fault.ReadFault.TheVariants.{Syntax};
+ghost use Rattle.sap_expect.specs.FileTable.{FollowsTable};
 ghost use Rattle.sap_where.specs.Pieces.{BeginsPiece, CanBeOf, IsOnLine, IsPieceOf, starts_item};
 ghost use Rattle.sap_where.specs.declared.place.Stretch.{Stretch};
 ghost use Rattle.sap_where.specs.Where.{IsWhere};
@@ -13,7 +14,7 @@ ghost use Rattle.sap_where.specs.code.Steps.{IsLastBefore};
 
 use crate::place::Stretch;
 use crate::walk::stretch_at;
-use sap_expect::first_wrong;
+use sap_expect::{first_wrong, too_deep};
 use sap_grammar::{beyond, is_mark, last_line, line_of};
 use sap_terms::Mem;
 use sap_text::Token;
@@ -125,5 +126,45 @@ pub(crate) fn wrong_item(
             }
         }
         None => Ok(None),
+    }
+}
+
+// The word with which the text is nested too deep, where a fault that is told by this line can stand there.
+fn deep_word_on(
+    alloc: Global,
+    bytes: &[u8],
+    tokens: &[Token],
+    line: u64,
+) -> Result<Option<usize>, Mem>
+    ensures inside { IfOk result (λ o. IfSome o (λ k. k < length tokens.now)) }
+    ensures can { IfOk result (λ o. IfSome o (λ k. CanBeOf bytes.now tokens.now line k)) }
+{
+    match too_deep(alloc, bytes, tokens)? {
+        Some(k) => {
+            if can_be_of(bytes, tokens, line, k) {
+                Ok(Some(k))
+            } else {
+                Ok(None)
+            }
+        }
+        None => Ok(None),
+    }
+}
+
+/// The word of a piece that is no item, though the words of the file follow the table: the one with which it is nested too deep. The time
+/// is linear in the tokens. Want of memory is the only error.
+pub(crate) fn deep_item(
+    alloc: Global,
+    bytes: &[u8],
+    tokens: &[Token],
+    line: u64,
+) -> Result<Option<usize>, Mem>
+    ensures follows { IfOk result (λ o. IfSome o (λ k. FollowsTable (words_of bytes.now tokens.now))) }
+    ensures inside { IfOk result (λ o. IfSome o (λ k. k < length tokens.now)) }
+    ensures can { IfOk result (λ o. IfSome o (λ k. CanBeOf bytes.now tokens.now line k)) }
+{
+    match first_wrong(alloc, bytes, tokens)? {
+        Some(_) => Ok(None),
+        None => deep_word_on(alloc, bytes, tokens, line),
     }
 }

@@ -3,11 +3,13 @@ ghost use Rattle.std.specs.Prelude.{◌≡◌, ◌≤◌, ℕ, None, Err, IfOk, 
 ghost use Rattle.std.specs.List.{All};
 ghost use Rattle.sap_text.specs.Spans.{IsWithin};
 ghost use Rattle.sap_text.specs.declared.token.Token.{Token};
+ghost use Rattle.sap_read.specs.declared.fault.ReadFault.TheVariants.{Syntax};
 ghost use Rattle.sap_read.specs.Files.{AreTokens, IsRead};
 ghost use Rattle.sap_where.specs.Told.{IsTold};
 ghost use Rattle.sap_where.specs.Where.{HasPlace, IsWhere, stretch_at};
 ghost use Rattle.sap_where.specs.declared.place.Stretch.{Stretch};
 
+use crate::item_place::deep_item;
 use crate::place::Stretch;
 use crate::walk::{file_tokens, settled_place, stretch_at};
 use sap_read::ReadFault;
@@ -58,6 +60,43 @@ fn told_among(
     }
 }
 
+// A word with which a piece that begins on this line is nested too deep, if one is found among these tokens.
+fn deep_among(alloc: Global, bytes: &[u8], tokens: &[Token], line: u64) -> Result<Option<Told>, Mem>
+    requires are { AreTokens bytes.now tokens.now }
+    requires within { All (IsWithin (length bytes.now)) tokens.now }
+    ensures place { IfOk result (λ o. IfSome o (λ t. IsTold bytes.now (Syntax line) t)) }
+    ensures inside { IfOk result (λ o. IfSome o (λ t. t.word.from ≤ length bytes.now)) }
+    ensures unused { IfOk result (λ o. IfSome o (λ t. t.used ≡ None)) }
+{
+    match deep_item(alloc, bytes, tokens, line)? {
+        Some(k) => Ok(Some(Told {
+            word: stretch_at(tokens, k),
+            used: None,
+        })),
+        None => Ok(None),
+    }
+}
+
+// Either of these.
+fn told_or_deep(
+    alloc: Global,
+    bytes: &[u8],
+    tokens: &[Token],
+    fault: &ReadFault,
+) -> Result<Option<Told>, Mem>
+    requires are { AreTokens bytes.now tokens.now }
+    requires within { All (IsWithin (length bytes.now)) tokens.now }
+    ensures place { IfOk result (λ o. IfSome o (λ t. IsTold bytes.now fault.now t)) }
+    ensures inside { IfOk result (λ o. IfSome o (λ t. t.word.from ≤ length bytes.now)) }
+    ensures order { IfOk result (λ o. IfSome o (λ t. IfSome t.used (λ u. u.from ≤ u.to))) }
+    ensures used { IfOk result (λ o. IfSome o (λ t. IfSome t.used (λ u. u.to ≤ length bytes.now))) }
+{
+    match fault {
+        ReadFault::Syntax { line } => deep_among(alloc, bytes, tokens, *line),
+        _ => told_among(alloc, bytes, tokens, fault),
+    }
+}
+
 // The same among those of the bytes.
 fn word_told(alloc: Global, bytes: &[u8], fault: &ReadFault) -> Result<Option<Told>, Mem>
     ensures place { IfOk result (λ o. IfSome o (λ t. IsTold bytes.now fault.now t)) }
@@ -66,7 +105,7 @@ fn word_told(alloc: Global, bytes: &[u8], fault: &ReadFault) -> Result<Option<To
     ensures used { IfOk result (λ o. IfSome o (λ t. IfSome t.used (λ u. u.to ≤ length bytes.now))) }
 {
     match file_tokens(alloc, bytes)? {
-        Some(tokens) => told_among(alloc, bytes, tokens.as_slice(), fault),
+        Some(tokens) => told_or_deep(alloc, bytes, tokens.as_slice(), fault),
         None => Ok(None),
     }
 }

@@ -9,7 +9,7 @@ use Rattle.sap_where.specs.declared.told.Told.{Told}
 use Rattle.sap_why.specs.Advice.{advice}
 use Rattle.sap_why.specs.Explained.{bytes_in, IsUseText, unused, used, IsPlaceTold, somewhere, nowhere, IsExplanation, IsSettled, wanting, bytes, header, syntax, no_process, second_process, unknown_name, taken_name}
 use Rattle.sap_where.specs.Positions.{IsPosition, IsPlaceText}
-use Rattle.sap_where.specs.Told.{IsTold, at_its_place, at_a_word}
+use Rattle.sap_where.specs.Told.{IsTold, at_its_place, at_a_word, too_deep}
 use Rattle.sap_where.specs.Where.{IsWhere}
 
 -- what is told of a use, and of none
@@ -37,16 +37,24 @@ never_true : ◌≡◌ {A = Bool} false true → ⊥
 never_true e = cc (e)
 
 -- such a cause is told where it stands, and as used nowhere
-settled_place : (z : List ℕ) (e : ReadFault) (t : Told) → IsSettled e → IsTold z e t → IsWhere z e t.word × (t.used ≡ None)
+settled_place : (z : List ℕ) (e : ReadFault) (t : Told) → IsSettled z e → IsTold z e t → IsWhere z e t.word × (t.used ≡ None)
 settled_place z e t s (at_its_place w n) = (w, n)
 settled_place z _ t wanting (at_a_word ts word is said) = absurd (never_true word.speaks_of)
 settled_place z _ t (bytes f) (at_a_word ts word is said) = absurd (never_true word.speaks_of)
 settled_place z _ t header (at_a_word ts word is said) = absurd (never_true word.speaks_of)
-settled_place z _ t (syntax line) (at_a_word ts word is said) = absurd (never_true word.speaks_of)
+settled_place z _ t (syntax line other) (at_a_word ts word is said) = absurd (never_true word.speaks_of)
 settled_place z _ t no_process (at_a_word ts word is said) = absurd (never_true word.speaks_of)
 settled_place z _ t (second_process line) (at_a_word ts word is said) = absurd (never_true word.speaks_of)
 settled_place z _ t (unknown_name name) (at_a_word ts word is said) = absurd (never_true word.speaks_of)
 settled_place z _ t (taken_name name) (at_a_word ts word is said) = absurd (never_true word.speaks_of)
+settled_place z _ t wanting (too_deep kind ts follows k can is said) = cc (kind)
+settled_place z _ t (bytes f) (too_deep kind ts follows k can is said) = cc (kind)
+settled_place z _ t header (too_deep kind ts follows k can is said) = cc (kind)
+settled_place z _ t (syntax line other) (too_deep kind ts follows k can is said) = absurd (other (record { tokens = _; are = ts; follow = follows }))
+settled_place z _ t no_process (too_deep kind ts follows k can is said) = cc (kind)
+settled_place z _ t (second_process line) (too_deep kind ts follows k can is said) = cc (kind)
+settled_place z _ t (unknown_name name) (too_deep kind ts follows k can is said) = cc (kind)
+settled_place z _ t (taken_name name) (too_deep kind ts follows k can is said) = cc (kind)
 
 unused_text : (z : List ℕ) (o : Option Stretch) (x : List ℕ) → o ≡ None → IsUseText z o x → x ≡ []
 unused_text z None _ n unused = refl
@@ -58,7 +66,7 @@ OnePlace = (z : List ℕ) (e : ReadFault) (s t : Stretch) → IsWhere z e s → 
 abbrev pub OneText : Type 0
 OneText = (z : List ℕ) (s : Stretch) (t u : List ℕ) → IsPlaceText z s t → IsPlaceText z s u → t ≡ u
 
-module _ (one : OnePlace) (one_text : OneText) (z : List ℕ) (e : ReadFault) (settled : IsSettled e) where
+module _ (one : OnePlace) (one_text : OneText) (z : List ℕ) (e : ReadFault) (settled : IsSettled z e) where
   same_told : (x y : List ℕ) → IsPlaceTold z e x → IsPlaceTold z e y → x ≡ y
   same_told _ _ (somewhere {t = t} {place = a} {user = b} told text said) (somewhere {t = u} {place = c} {user = d} other text' said') =
       let at = settled_place z e t settled told in

@@ -9,7 +9,7 @@ use sap_where::{one_place, one_place_text};
 
 /// A law: of a cause whose place is defined by the words of the file one text is told.
 pub fn one_explanation()
-    ensures { (z : List ℕ) (e : ReadFault) (t u : List ℕ) → IsSettled e → IsExplanation z e t
+    ensures { (z : List ℕ) (e : ReadFault) (t u : List ℕ) → IsSettled z e → IsExplanation z e t
         → IsExplanation z e u → t ≡ u }
 {
     one_place();
