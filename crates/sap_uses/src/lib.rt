@@ -1,0 +1,13 @@
+//! Why uses of definitions can't be expanded: which argument is too large, and the causes in their order.
+#![tactic(auto)]
+
+mod by_hand;
+mod fault;
+mod index;
+mod large;
+mod met;
+mod sizes;
+
+pub use by_hand::{flawed_by_hand, large_by_hand};
+pub use fault::MacroFault;
+pub use large::first_large;
