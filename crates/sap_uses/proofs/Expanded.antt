@@ -1,5 +1,5 @@
 -- The walk finds what stands first in the expansion.
-use Rattle.std.proofs.Common.{◌≡◌, ℕ, Bool, true, false, List, [], ◌∷◌, ◌⊎◌, inl, inr, Option, Some, None, map, refl, sym, ap, ◌∙◌, subst, ⊎_elim}
+use Rattle.std.proofs.Common.{◌≡◌, ℕ, true, false, List, [], ◌∷◌, ◌⊎◌, inl, inr, Some, map, refl, sym, ap, ◌∙◌, subst, ⊎_elim}
 use Rattle.std.proofs.lemmas.Bool.{cases_Bool, false≢true}
 use Rattle.std.specs.Option.{option_or}
 use Rattle.std.specs.Prelude.{if◌then◌else◌}
@@ -10,8 +10,8 @@ use Rattle.sap_terms.specs.Variables.{is_known}
 use Rattle.sap_macro.specs.Expansion.{Plain, plain_after, plain_bodies, put, unchanged, where_none, with_plain, with_uses}
 use Rattle.sap_macro.specs.Order.{AreInOrder, UsesOnly}
 use Rattle.sap_macro.specs.Written.{Written, nil, call, parallel, replicated, act, test, lookup, Definition}
-use Rattle.sap_uses.specs.UseCauses.{Large, first_large, has_large, large_after, large_at, large_in, none_large, with_large}
-use Rattle.sap_uses.specs.code.Walks.{Heavy, Sizes, has_heavy, heavy, heavy_after, heavy_at, heavy_in, none_heavy, put_sizes, size_in, sizes_of, with_heavy}
+use Rattle.sap_uses.specs.UseCauses.{Large, first_large, large_after, large_at, large_in, none_large, with_large}
+use Rattle.sap_uses.specs.code.Walks.{Heavy, Sizes, heavy, heavy_after, heavy_at, heavy_in, none_heavy, put_sizes, size_in, sizes_of, with_heavy}
 use Rattle.sap_uses.proofs.Fitting.{Fits, large_fits, put_fits}
 use Rattle.sap_uses.proofs.Names.{one_name, own_name, clash, in_cases, in_tail, not_in}
 

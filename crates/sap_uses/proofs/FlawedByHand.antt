@@ -1,5 +1,5 @@
 -- The flaws of small definitions, place by place.
-use Rattle.std.proofs.Common.{◌≡◌, ◌<◌, ℕ, zero, suc, false, List, [], ◌∷◌, Option, Some, None, length, take, refl, sym, ap, ◌∙◌, subst, arith}
+use Rattle.std.proofs.Common.{◌≡◌, ◌<◌, ℕ, zero, suc, List, [], ◌∷◌, Some, None, take, refl, sym, ap, ◌∙◌, subst, arith}
 use Rattle.std.specs.Prelude.{codes, slice_get, Contains}
 use Rattle.sap_terms.specs.Signature.{Sig}
 use Rattle.sap_terms.specs.Tree.{Tree}
@@ -12,13 +12,13 @@ use Rattle.sap_process.specs.Proc.{Proc, nil}
 use Rattle.sap_process.specs.Sites.{Site, above_of, sites_in}
 use Rattle.sap_process.specs.declared.flaw.Flaw.{Flaw}
 use Rattle.sap_process.specs.declared.flaw.Flaw.TheVariants.{BadFunction, ReservedVar, ReservedFact, FactClash, PatternDestructor, Unbound, Rebound, SortClash, ScopeFull}
-use Rattle.sap_macro.specs.ExpansionExamples.{a, fresh_of, giving}
+use Rattle.sap_macro.specs.ExpansionExamples.{a, fresh_of, giving, giving_y}
 use Rattle.sap_macro.specs.Expansion.{plain, plain_bodies}
 use Rattle.sap_macro.specs.MacroCauses.{uses}
 use Rattle.sap_macro.specs.UpToNames.{named}
 use Rattle.sap_macro.specs.Written.{Written, call, Definition}
 use Rattle.sap_uses.specs.ScopeFlaws.{IsFirstFlawedBehind, IsFirstScopeFlaw, IsOfScope, LeadsTo, at_once, further, params_in_scope, seen}
-use Rattle.sap_uses.specs.UseExamples.{apart, binding_again, empty_one, open_one, right_one, signing, use_of, using_open, x}
+use Rattle.sap_uses.specs.UseExamples.{apart, binding_again, empty_one, open_below, open_one, open_other, right_one, signing, use_of, using_c, using_open, x, y}
 
 -- ---- a process of two places
 
@@ -272,3 +272,79 @@ right_none g f w path h =
       only : (k : ℕ) (d : Definition) → slice_get (plain_bodies call (right_one ∷ [])) k ≡ Some d → d ≡ right_one
       only zero d is = let same : d ≡ right_one = cc in same
       only (suc k) d is = absurd (cc)
+
+-- ---- below the root, the first in order, and by a name without parameters
+
+pub unbound_below : (g : Sig) → IsFirstFlawedBehind g (open_below ∷ []) (use_of 0 a) (codes "A") Unbound (1 ∷ [])
+unbound_below g = record {
+  at = 0;
+  definition = open_below;
+  stands = refl;
+  name_is = refl;
+  flawed = record {
+    parameters = λ h. absurd (cc);
+    reached = at_once {u = (codes "A", a ∷ [])} (0, omega arith, refl);
+    flaw = record {
+      of_scope = tt;
+      place = 1;
+      at = record { site = place (1 ∷ []) (above_of (named (codes "x") Msg ∷ named (codes "n") Fresh ∷ []) 0) (seen (giving y)); stands = refl; flaw = λ h. absurd (cc) };
+      path_is = refl;
+      first = root_none;
+      least = λ u o h. absurd (before_unbound u o h);
+    };
+  };
+  first = λ k h. absurd (omega (arith, h));
+} where
+  root_none : (k : ℕ) → k < 1 → ¬ IsFlawedIn g x_there (seen open_below.body) Unbound k
+  root_none zero h at =
+      let got : Some (root_of (seen open_below.body)) ≡ Some at.site = at.stands in
+      let same : root_of (seen open_below.body) ≡ at.site = cc in
+      at.flaw (subst (λ (s : Site). unbound s.above.scope s.body ≡ []) same refl)
+  root_none (suc k) h at = omega (arith, h)
+
+pub first_in_order : (g : Sig) → IsFirstFlawedBehind g (open_other ∷ using_open ∷ []) (use_of 0 a) (codes "B") Unbound []
+first_in_order g = record {
+  at = 0;
+  definition = open_other;
+  stands = refl;
+  name_is = refl;
+  flawed = record {
+    parameters = λ h. absurd (cc);
+    reached = further {d = using_open} {u = (codes "B", y ∷ [])} (at_once {u = (codes "A", a ∷ [])} (0, omega arith, refl)) (1, omega arith, refl) (0, omega arith, refl);
+    flaw = record {
+      of_scope = tt;
+      place = 0;
+      at = record { site = root_of (seen open_other.body); stands = refl; flaw = λ h. absurd (cc) };
+      path_is = refl;
+      first = λ k h. absurd (omega (arith, h));
+      least = λ u o h. absurd (before_unbound u o h);
+    };
+  };
+  first = λ k h. absurd (omega (arith, h));
+}
+
+pub by_plain : (g : Sig) → IsFirstFlawedBehind g (giving_y ∷ using_c ∷ []) (use_of 0 a) (codes "A") Unbound []
+by_plain g = record {
+  at = 1;
+  definition = open_one;
+  stands = refl;
+  name_is = refl;
+  flawed = record {
+    parameters = λ h. absurd (cc);
+    reached = at_once {u = (codes "A", a ∷ [])} (0, omega arith, refl);
+    flaw = record {
+      of_scope = tt;
+      place = 0;
+      at = record { site = root_of (seen open_one.body); stands = refl; flaw = λ h. absurd (cc) };
+      path_is = refl;
+      first = λ k h. absurd (omega (arith, h));
+      least = λ u o h. absurd (before_unbound u o h);
+    };
+  };
+  first = λ k h d is u q z. earlier k h d is z.parameters;
+} where
+  earlier : (k : ℕ) → k < 1 → (d : Definition) → slice_get (plain_bodies call (giving_y ∷ using_c ∷ [])) k ≡ Some d → ¬ (d.params ≡ []) → ⊥
+  earlier zero h d is some =
+      let same : giving_y ≡ d = cc in
+      some (sym (ap (λ (e : Definition). e.params) same))
+  earlier (suc k) h d is some = omega (arith, h)

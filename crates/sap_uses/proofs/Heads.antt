@@ -1,6 +1,5 @@
 -- What is met at each form.
-use Rattle.std.proofs.Common.{◌≡◌, ◌<◌, ◌≤◌, ℕ, ◌+◌, false, List, [], ◌∷◌, None, Some, length, refl, sym, ap, ◌∙◌, subst, arith}
-use Rattle.std.specs.Option.{option_or}
+use Rattle.std.proofs.Common.{◌≡◌, ◌<◌, ℕ, ◌+◌, false, List, [], ◌∷◌, Some, length, refl, sym, ap, ◌∙◌, subst, arith}
 use Rattle.std.specs.Prelude.{if◌then◌else◌}
 use Rattle.sap_process.specs.Action.{Action}
 use Rattle.sap_terms.specs.Tree.{Tree}
@@ -8,7 +7,7 @@ use Rattle.sap_terms.specs.declared.var.Var.{Var}
 use Rattle.sap_macro.specs.Written.{Written, nil, call, parallel, replicated, act, test, lookup, Definition}
 use Rattle.sap_macro.specs.Sources.{written}
 use Rattle.sap_macro.specs.declared.source.Source.{Source}
-use Rattle.sap_uses.specs.code.Met.{IsBehind, IsMet, IsNothing, IsOne, IsReached, IsTwo, IsUse, used}
+use Rattle.sap_uses.specs.code.Met.{IsBehind, IsMet, IsNothing, IsOne, IsReached, IsTwo, IsUse}
 use Rattle.sap_uses.specs.declared.large.Reached.{Reached}
 use Rattle.sap_uses.specs.declared.large.Reached.TheVariants.{Large, Body}
 use Rattle.sap_uses.specs.declared.met.Met.{Met}

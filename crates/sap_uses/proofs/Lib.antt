@@ -5,3 +5,5 @@ pub mod Heads
 pub mod Fitting
 pub mod Expanded
 pub mod FlawedByHand
+pub mod OneCause
+pub mod CausesByHand

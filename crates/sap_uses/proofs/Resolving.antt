@@ -1,16 +1,14 @@
 -- The name of a definition stands for its body, where each name stands for what it does behind all definitions.
-use Rattle.std.proofs.Common.{◌≡◌, ◌<◌, ℕ, zero, suc, ◌+◌, Bool, true, false, List, [], ◌∷◌, ◌⊎◌, inl, inr, Some, None, Option, refl, sym, ap, ◌∙◌, subst, ⊎_elim, arith}
-use Rattle.std.proofs.lemmas.Bool.{cases_Bool, false≢true}
+use Rattle.std.proofs.Common.{◌≡◌, ℕ, zero, suc, ◌+◌, true, false, List, [], ◌∷◌, Some, refl, sym, ap, ◌∙◌, subst}
 use Rattle.std.specs.Option.{option_or}
 use Rattle.std.specs.Prelude.{if◌then◌else◌, slice_get}
-use Rattle.std.specs.Str.{bytes_eq}
 use Rattle.sap_terms.specs.Tree.{Tree}
 use Rattle.sap_terms.specs.Variables.{is_known}
 use Rattle.sap_macro.specs.Order.{AreInOrder, UsesOnly}
 use Rattle.sap_macro.specs.Written.{Written, nil, call, parallel, replicated, act, test, lookup, Definition}
 use Rattle.sap_uses.specs.code.Indices.{defined}
-use Rattle.sap_uses.specs.code.Walks.{Sizes, Heavy, heavy_in, heavy_use, heavy_at, with_heavy, none_heavy, heavy_after, heavy_of, has_heavy, put_sizes, sizes_of, Cost, steps, with_cost, cost_after, cost_of, steps_in, IsResolved, IsResolvedBy, IsUnknown}
-use Rattle.sap_uses.proofs.Names.{own_name, one_name, apart, clash, in_head, in_tail, not_in, out_of}
+use Rattle.sap_uses.specs.code.Walks.{Sizes, Heavy, heavy_in, heavy_at, with_heavy, none_heavy, heavy_after, has_heavy, put_sizes, sizes_of, Cost, steps, with_cost, cost_after, IsResolved, IsResolvedBy, IsUnknown}
+use Rattle.sap_uses.proofs.Names.{own_name, apart, clash, in_head, in_tail, not_in, out_of}
 
 -- ---- a name that these don't define stands for what it did before them
 

@@ -1,5 +1,5 @@
 -- Definitions whose bodies don't bind what they use, or bind it again, or sign it otherwise.
-use Rattle.std.specs.Prelude.{◌≡◌, ◌<◌, ℕ, false, List, [], ◌∷◌, map, slice_get, Some, Contains}
+use Rattle.std.specs.Prelude.{◌≡◌, ◌<◌, ℕ, false, List, [], map, slice_get, Some, Contains}
 use Rattle.sap_terms.specs.Signature.{Sig}
 use Rattle.sap_terms.specs.declared.var.Sort.TheVariants.{Msg}
 use Rattle.sap_terms.specs.declared.var.Var.{Var}
@@ -21,8 +21,8 @@ IsOfScope Rebound = Unit {0}
 IsOfScope SortClash = Unit {0}
 IsOfScope _ = ⊥
 
--- of these three the flaw counts, where these variables are in scope at the root: no place has one that counts before it, and this
--- is the first place that has it
+-- of these three the flaw counts, where these variables are in scope at the root: no place has one that counts
+-- before it, and this is the first place that has it
 pub record IsFirstScopeFlaw (g : Sig) (scope : List Var) (p : Proc) (w : Flaw) (path : List ℕ)
     : Type 0 where
   pub of_scope : IsOfScope w
@@ -32,7 +32,8 @@ pub record IsFirstScopeFlaw (g : Sig) (scope : List Var) (p : Proc) (w : Flaw) (
   pub first : (k : ℕ) → k < place → ¬ IsFlawedIn g scope p w k
   pub least : (u : Flaw) → IsOfScope u → rank u < rank w → (k : ℕ) → ¬ IsFlawedIn g scope p u k
 
--- the process as flaws see it: a use is a place that uses the names of its arguments, binds none, and has nothing that counts below
+-- the process as flaws see it: a use is a place that uses the names of its arguments, binds none, and has nothing
+-- that counts below
 abbrev pub seen : Written → Proc
 seen nil = whole.nil
 seen (call f ts) = whole.act (event (fact f false ts)) whole.nil

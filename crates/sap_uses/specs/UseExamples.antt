@@ -2,9 +2,9 @@
 use Rattle.std.specs.Prelude.{ℕ, zero, suc, codes, List, [], ◌∷◌, ◌++◌}
 use Rattle.sap_terms.specs.Equations.{app1}
 use Rattle.sap_terms.specs.Tree.{Tree}
-use Rattle.sap_macro.specs.ExpansionExamples.{a, fresh_of, giving, giving_y, news, of_name, with_x}
+use Rattle.sap_macro.specs.ExpansionExamples.{a, fresh_of, giving, news, of_name, with_x}
 use Rattle.sap_macro.specs.NameExamples.{both}
-use Rattle.sap_macro.specs.Written.{Written, nil, call, parallel, Definition}
+use Rattle.sap_macro.specs.Written.{Written, nil, call, Definition}
 
 -- x and y
 abbrev pub x : Tree
@@ -86,6 +86,18 @@ empty_one = record { name = codes "B"; params = codes "x" ∷ []; body = nil }
 
 abbrev pub using_open : Definition
 using_open = with_x (call (codes "B") (y ∷ []))
+
+-- let B(x) = out(y)
+abbrev pub open_other : Definition
+open_other = record { name = codes "B"; params = codes "x" ∷ []; body = giving y }
+
+-- let A(x) = new ~n; out(y)
+abbrev pub open_below : Definition
+open_below = with_x (news (codes "n") (giving y))
+
+-- let A(x) = C
+abbrev pub using_c : Definition
+using_c = with_x (call (codes "C") [])
 
 -- out('a')
 abbrev pub apart : Written

@@ -1,4 +1,4 @@
-use Rattle.sap_uses.proofs.FlawedByHand.{unbound_root, rebound_root, signed_root, used_root, unreached_none, right_none}
+use Rattle.sap_uses.proofs.FlawedByHand.{by_plain, first_in_order, unbound_below, unbound_root, rebound_root, signed_root, used_root, unreached_none, right_none}
 use Rattle.sap_uses.proofs.by_hand.flawed_by_hand.Goals as goal
 
 pub returns-clause-unbound : goal.returns-clause-unbound
@@ -18,3 +18,12 @@ returns-clause-unreached c = unreached_none
 
 pub returns-clause-right : goal.returns-clause-right
 returns-clause-right c = right_none
+
+pub returns-clause-below : goal.returns-clause-below
+returns-clause-below c = unbound_below
+
+pub returns-clause-first : goal.returns-clause-first
+returns-clause-first c = first_in_order
+
+pub returns-clause-plain : goal.returns-clause-plain
+returns-clause-plain c = by_plain

@@ -1,4 +1,4 @@
-use Rattle.sap_macro.specs.Sources.{definition_of, definitions, written}
+use Rattle.sap_macro.specs.Sources.{definition_of, definitions}
 use Rattle.sap_uses.specs.code.Met.{IsReached}
 use Rattle.sap_uses.specs.code.Walks.{size_in}
 use Rattle.sap_uses.proofs.Heads.{steps_reached}

@@ -1,4 +1,4 @@
-use Rattle.std.proofs.Common.{◌≤◌, ◌-◌, length, arith, sym, ap, ◌∙◌}
+use Rattle.std.proofs.Common.{arith}
 use Rattle.sap_terms.specs.View.{tree}
 use Rattle.sap_uses.specs.code.Walks.{size_in}
 use Rattle.sap_uses.proofs.Fitting.{first_sizes, next_sizes}
