@@ -1,0 +1,19 @@
+use Rattle.std.proofs.Common.{sym, ap, ◌∙◌}
+use Rattle.std.specs.Option.{option_copied}
+use Rattle.sap_uses.proofs.Entries.{found_none, found_one, index_within}
+use Rattle.sap_uses.proofs.index.found.Goals as goal
+
+pub returns-in-None : goal.returns-in-None
+returns-in-None c = record {
+  unknown = found_none c.args.defs.now c.args.index.now c.args.name.now c.requires.index (sym c.get.ensures ∙ ap option_copied c.in-None.is);
+}
+
+pub at-requires : goal.at-requires
+at-requires c = index_within c.args.defs.now c.args.index.now c.args.name.now c.in-Some.k.now c.requires.index (sym c.get.ensures ∙ ap option_copied c.in-Some.is)
+
+pub returns-in-Some : goal.returns-in-Some
+returns-in-Some c = record {
+  unknown =
+      found_one c.args.defs.now c.args.index.now c.args.name.now c.in-Some.k.now c.at.result.now c.requires.order c.requires.index
+      (sym c.get.ensures ∙ ap option_copied c.in-Some.is) c.at.ensures;
+}

@@ -1,0 +1,5 @@
+pub mod UseCauses
+pub mod ScopeFlaws
+pub mod FaultCauses
+pub mod UseExamples
+pub mod code

@@ -1,0 +1,4 @@
+-- What the code does, step by step: no public contract cites what stands below.
+pub mod Indices
+pub mod Walks
+pub mod Met

@@ -1,0 +1,11 @@
+//! Laws of the causes, as contracts of functions that do nothing.
+ghost use Rattle.std.specs.Prelude.{◌≡◌, List};
+ghost use Rattle.sap_terms.specs.Signature.{Sig};
+ghost use Rattle.sap_macro.specs.Written.{Definition, Written};
+ghost use Rattle.sap_uses.specs.FaultCauses.{IsMacroCause};
+ghost use Rattle.sap_uses.specs.declared.fault.MacroFault.{MacroFault};
+
+/// A law: of definitions and a process at most one cause counts, with what it tells.
+pub fn one_macro_cause()
+    ensures { (g : Sig) (ds : List Definition) (p : Written) (e f : MacroFault) → IsMacroCause g ds p e → IsMacroCause g ds p f → e ≡ f }
+{}

@@ -1,0 +1,15 @@
+//! Why uses of definitions can't be expanded: which argument is too large, and the causes in their order.
+#![tactic(auto)]
+
+mod by_hand;
+mod fault;
+mod index;
+mod large;
+mod laws;
+mod met;
+mod sizes;
+
+pub use by_hand::{causes_by_hand, flawed_by_hand, large_by_hand};
+pub use fault::MacroFault;
+pub use large::first_large;
+pub use laws::one_macro_cause;
