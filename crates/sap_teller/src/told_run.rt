@@ -109,6 +109,16 @@ fn beginning(alloc: Global) -> Result<Along, Mem>
     })
 }
 
+// Where the process runs, and nothing else is there.
+fn started(alloc: Global, sig: &Signature, p: &Process) -> Result<Box<Config>, Mem>
+    requires { IsReady sig.now (proc p.now) }
+    ensures sig { IfOk result (λ c. c.value.sig ≡ sig.now) }
+    ensures known { IfOk result (λ c. c.value.known ≡ []) }
+    ensures configuration { IfOk result (λ c. configuration c.value ≡ initial (proc p.now)) }
+{
+    Ok(Box::new(alloc, Config::start(alloc, sig, p)?)?)
+}
+
 /// What is told of a run of a process, each line done once, and what it shows. `Line` names the first illegal line. Its time goes with
 /// the process's heads, the lines and the text, not with those of what was known and stored before. It recurses as deep as the process
 /// and the terms of process and run.
@@ -127,7 +137,7 @@ pub fn tell_run(
     limit_excludes();
     runs_match_exactly();
     legal_runs_are_told();
-    let mut config = Config::start(alloc, sig, p)?;
+    let mut config = started(alloc, sig, p)?;
     let mut at = beginning(alloc)?;
     let mut told = ToldRun {
         text: Text::new(alloc),

@@ -5,4 +5,4 @@ use Rattle.sap_teller.proofs.told_run.tell_run.Given as goal
 
 -- the lines so far are told
 abbrev pub invariant-loop-k : goal.invariant-loop-k
-invariant-loop-k l = IsToldSoFar l.sig (proc l.p) (take l.k l.run) l.config l.at l.told
+invariant-loop-k l = IsToldSoFar l.sig (proc l.p) (take l.k l.run) l.config.value l.at l.told
