@@ -67,7 +67,7 @@ def written(text):
             if ":" in inside:
                 times, again = inside.split(":", 1)
                 for k in range(int(times)):
-                    out += again.replace("#", str(k)).replace("^", "\n").encode()
+                    out += again.replace("#", str(k)).replace("?", str(k + 1)).replace("^", "\n").encode()
             elif inside:
                 out += bytes([int(inside, 16)])
             i = end + 1

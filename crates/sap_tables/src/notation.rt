@@ -48,12 +48,13 @@ pub fn number(page: &mut Page, text: &str) -> u64 {
     }
 }
 
-// The text with line feeds where `^` stands, and with the number, if there is one, where `#` stands.
+// The text with line feeds where `^` stands; and, if there is a number, with it where `#` stands, and the next one where `?` does.
 fn push_text(page: &mut Page, text: &str, number: Option<u64>) {
     for byte in text.as_bytes() {
         match (*byte, number) {
             (b'^', _) => page.byte(b'\n'),
             (b'#', Some(k)) => page.numbered("", k),
+            (b'?', Some(k)) => page.numbered("", k.saturating_add(1)),
             (byte, _) => page.byte(byte),
         }
     }
@@ -67,7 +68,8 @@ fn digit(c: u8) -> u8 {
     }
 }
 
-// What stands between braces: a number of times and a text, with the number of each where `#` stands, or two hexadecimal digits.
+// What stands between braces: a number of times and a text, with the number of each where `#` stands and the next one where `?`
+// does, or two hexadecimal digits.
 fn push_braced(page: &mut Page, inside: &str) {
     match (inside.split_once(':'), inside.as_bytes()) {
         (Some((times, text)), _) => {
@@ -81,7 +83,7 @@ fn push_braced(page: &mut Page, inside: &str) {
 }
 
 /// The bytes that a part stands for, with others before and behind: `^` is a line feed, `{0a}` the byte of two hexadecimal digits,
-/// `{3:a#}` is `a0a1a2`, and `{}` is nothing.
+/// `{3:a#}` is `a0a1a2`, `{3:a?}` is `a1a2a3`, and `{}` is nothing.
 pub fn enclosed(alloc: Global, before: &str, text: &str, behind: &str) -> Page {
     let mut page = Page::new(alloc);
     page.word(before);

@@ -59,7 +59,9 @@ fn show_found_above(page: &mut Page, desk: &mut Desk, table: &str, row: &str) {
         "files" => files::files_row(page, &desk.signature, row),
         "refusals" => calls::command(page, "refusal", "compile a.spthy", part(row, 0)),
         "why" => calls::command(page, "text", "why a.spthy", part(row, 0)),
-        "generated" => calls::command(page, part(row, 0), "compile a.spthy", part(row, 1)),
+        "generated" | "parameters" => {
+            calls::command(page, part(row, 0), "compile a.spthy", part(row, 1));
+        }
         "short-theories" => calls::command(
             page,
             part(row, 0),
