@@ -12,6 +12,10 @@
 #   facts   a name that stands 1,333 times for an embedded rule of so many facts
 #   vars    one embedded rule with so many occurrences of one variable
 #   names   so many doubling `let` items, of which the process uses the last; counted, and refused
+#   uses    so many definitions with a parameter, each of which uses the one before it twice, and a use of the last: the places double
+#   chain   so many definitions with a parameter, each a mere use of the one before it, and a use of the last
+#   twice   definitions as in `uses`, but too many places; counted, and refused
+#           Of these three the instructions grow 2.2 times at most
 #   items   so many functions that are declared, up to a file of 1 MiB
 #   lemmas  so many lemmas, up to 12,000 in 0.9 MB
 #   binders a lemma with so many variables of one quantifier, all in one guard
@@ -92,6 +96,25 @@ names() {
         printf "process: N%d end", n
     }'
 }
+
+# So many definitions behind the first, each with this body, in which USE is a use of the one before it, and a use of the last.
+definitions() {
+    awk -v n="$1" -v body="$2" 'BEGIN {
+        printf "theory Bench begin let D0(x) = new n; event Shown(x, n) "
+        for (k = 1; k <= n; k++) {
+            one = body
+            gsub(/USE/, "D" k - 1 "(x)", one)
+            printf "let D%d(x) = %s ", k, one
+        }
+        printf "process: D%d(\047a\047) end", n
+    }'
+}
+
+uses() { definitions "$1" "USE | USE"; }
+
+chain() { definitions "$1" "USE"; }
+
+twice() { definitions "$1" "USE | USE"; }
 
 items() {
     awk -v n="$1" 'BEGIN {
@@ -176,7 +199,10 @@ kind facts 250 500 1000 2000
 kind vars 65000 130000 260000 520000
 ends 1 'file refused: more than 4000 nodes'
 kind names 500 1000 2000 4000 8000 16000
+kind twice 500 1000 2000 4000 8000 16000
 ends 0 ''
+kind uses 5 6 7 8 9
+kind chain 2500 5000 10000 20000
 kind items 4000 8000 16000 32000
 kind lemmas 1500 3000 6000 12000
 kind binders 4000 8000 16000 32000
