@@ -1,4 +1,4 @@
--- What words of tokens spell can be printed, where it is over the signature.
+-- Whatever words of tokens spell can be printed, where it is over the signature.
 use Rattle.std.proofs.Common.{◌≡◌, ℕ, Bool, true, false, List, [], refl}
 use Rattle.std.specs.Prelude.{All}
 use Rattle.std.proofs.lemmas.List.Elements.{All-nil, All-cons, All-head, All-tail}
@@ -8,21 +8,31 @@ use Rattle.sap_terms.specs.Signature.{Sig}
 use Rattle.sap_terms.specs.Tree.{Tree}
 use Rattle.sap_grammar.specs.Words.{Word}
 use Rattle.sap_grammar.specs.declared.limits.Limits.{Limits}
-use Rattle.sap_grammar.specs.TermGrammar.{IsShort}
+use Rattle.sap_grammar.specs.TermGrammar.{IsTerm, IsShort, IsList, list_last, list_more}
 use Rattle.sap_grammar.specs.FactGrammar.{IsShortFact, AreSomeFacts, AreFacts, facts_last, facts_more, facts_none, facts_some}
 use Rattle.sap_grammar.specs.ByteWords.{AreTokenWords}
 use Rattle.sap_grammar.specs.Printed.{ArePrinted}
 use Rattle.sap_grammar.specs.Printable.{IsPrintableTerm, IsPrintableFact}
 use Rattle.sap_process.specs.Action.{Action}
-use Rattle.sap_draft.specs.Written.{Written}
-use Rattle.sap_draft.specs.ProcessGrammar.{IsAction, action_new, action_new_fresh, action_out, action_send, action_input, action_receive, action_event, action_insert, action_delete, action_lock, action_unlock, action_rule, action_acts, Ending, IsSeq, seq_nil, seq_call, seq_parentheses, seq_replicated, seq_action, seq_then, seq_if, seq_if_else, seq_lookup, seq_lookup_else, IsPar, par_one, par_more}
-use Rattle.sap_draft.specs.Printable.{IsFactOver, IsActionOver, IsWrittenOver, IsPrintableAct, IsPrintableAction, IsPrintableWritten}
+use Rattle.sap_macro.specs.Written.{Written}
+use Rattle.sap_draft.specs.ProcessGrammar.{IsAction, action_new, action_new_fresh, action_out, action_send, action_input, action_receive, action_event, action_insert, action_delete, action_lock, action_unlock, action_rule, action_acts, Ending, IsSeq, seq_nil, seq_call, seq_use, seq_parentheses, seq_replicated, seq_action, seq_then, seq_if, seq_if_else, seq_lookup, seq_lookup_else, IsPar, par_one, par_more}
+use Rattle.sap_draft.specs.Printable.{IsFactOver, IsPrintableAct, CanBePrinted, ActionCanBePrinted, WrittenCanBePrinted}
 
 module _ (printed : ArePrinted) (most : ℕ) (g : Sig) (m : Limits) where
   -- what is spelled by words of tokens, which stand behind it too
-  term_printable : {t : Tree} {a b : List Word} → IsShort g m t a b → AreTokenWords most a → (IsOver g t → IsPrintableTerm most g t) × AreTokenWords most b
-  term_printable {t = t} {a = a} {b = b} s h =
-      let n = printed.term_names most g t a b s.spelled h in (λ o. record { tidy = printed.term_tidy g t a b s.spelled o; names = n.0 }, n.1)
+  spelled_printable : {t : Tree} {a b : List Word} → IsTerm g t a b → AreTokenWords most a → CanBePrinted most g t × AreTokenWords most b
+  spelled_printable {t = t} {a = a} {b = b} s h =
+      let n = printed.term_names most g t a b s h in (λ o. record { tidy = printed.term_tidy g t a b s o; names = n.0 }, n.1)
+
+  term_printable : {t : Tree} {a b : List Word} → IsShort g m t a b → AreTokenWords most a → CanBePrinted most g t × AreTokenWords most b
+  term_printable s h = spelled_printable s.spelled h
+
+  -- each of the terms in parentheses
+  list_printable : {ts : List Tree} {a b : List Word} → IsList g ts a b → AreTokenWords most a → All (CanBePrinted most g) ts × AreTokenWords most b
+  list_printable (list_last {t = t} r) h =
+      let n = spelled_printable r h in (All-cons (CanBePrinted most g) t [] n.0 (All-nil (CanBePrinted most g)), n.1.1)
+  list_printable (list_more {t = t} {ts = ts} r s) h =
+      let n = spelled_printable r h in let k = list_printable s n.1.1 in (All-cons (CanBePrinted most g) t ts n.0 k.0, k.1)
 
   fact_printable : {allowed : Bool} {f : Fact} {a b : List Word} → IsShortFact g m allowed f a b → AreTokenWords most a
       → (IsFactOver g f → IsPrintableFact most g f) × AreTokenWords most b
@@ -63,19 +73,15 @@ module _ (printed : ArePrinted) (most : ℕ) (g : Sig) (m : Limits) where
       → (All (IsFactOver g) fs → All (IsPrintableAct most g) fs) × AreTokenWords most b
   acts_printable {closing = closing} r h = facts false closing (IsPrintableAct most g) (λ f a b s k. act_printable s k) r h
 
-  action_printable : {x : Action} {a b : List Word} → IsAction g m x a b → AreTokenWords most a
-      → (IsActionOver g x → IsPrintableAction most g x) × AreTokenWords most b
-  action_printable action_new h = (λ o. record { tidy = o; names = h.1.0 }, h.1.1)
-  action_printable action_new_fresh h = (λ o. record { tidy = o; names = h.1.1.0 }, h.1.1.1)
+  action_printable : {x : Action} {a b : List Word} → IsAction g m x a b → AreTokenWords most a → ActionCanBePrinted most g x × AreTokenWords most b
+  action_printable action_new h = (h.1.0, h.1.1)
+  action_printable action_new_fresh h = (h.1.1.0, h.1.1.1)
   action_printable (action_out r) h = let t = term_printable r h.1.1 in (t.0, t.1.1)
-  action_printable (action_send r s) h =
-      let t = term_printable r h.1.1 in let u = term_printable s t.1.1 in (λ o. (t.0 o.0, u.0 o.1), u.1.1)
+  action_printable (action_send r s) h = let t = term_printable r h.1.1 in let u = term_printable s t.1.1 in ((t.0, u.0), u.1.1)
   action_printable (action_input r) h = let t = term_printable r h.1.1 in (t.0, t.1.1)
-  action_printable (action_receive r s) h =
-      let t = term_printable r h.1.1 in let u = term_printable s t.1.1 in (λ o. (t.0 o.0, u.0 o.1), u.1.1)
+  action_printable (action_receive r s) h = let t = term_printable r h.1.1 in let u = term_printable s t.1.1 in ((t.0, u.0), u.1.1)
   action_printable (action_event r) h = act_printable r h.1
-  action_printable (action_insert r s) h =
-      let t = term_printable r h.1 in let u = term_printable s t.1.1 in (λ o. (t.0 o.0, u.0 o.1), u.1)
+  action_printable (action_insert r s) h = let t = term_printable r h.1 in let u = term_printable s t.1.1 in ((t.0, u.0), u.1)
   action_printable (action_delete r) h = term_printable r h.1
   action_printable (action_lock r) h = term_printable r h.1
   action_printable (action_unlock r) h = term_printable r h.1
@@ -88,38 +94,35 @@ module _ (printed : ArePrinted) (most : ℕ) (g : Sig) (m : Limits) where
       (λ o. (l.0 o.0, e.0 o.1, k.0 o.2), k.1)
 
   mutual
-    seq_printable : {e : Ending} {p : Written} {n : ℕ} {a b : List Word} → IsSeq g m e p n a b → AreTokenWords most a
-        → (IsWrittenOver g p → IsPrintableWritten most g p) × AreTokenWords most b
-    seq_printable seq_nil h = (λ o. tt, h.1)
-    seq_printable seq_call h = (λ o. h.0, h.1)
+    seq_printable : {e : Ending} {p : Written} {n : ℕ} {a b : List Word} → IsSeq g m e p n a b → AreTokenWords most a → WrittenCanBePrinted most g p × AreTokenWords most b
+    seq_printable seq_nil h = (tt, h.1)
+    seq_printable seq_call h = ((h.0, All-nil (CanBePrinted most g)), h.1)
+    seq_printable (seq_use r small) h = let ts = list_printable r h.1.1 in ((h.0, ts.0), ts.1)
     seq_printable (seq_parentheses r) h = let p = par_printable r h.1 in (p.0, p.1.1)
     seq_printable (seq_replicated r) h = seq_printable r h.1
-    seq_printable (seq_action r) h = let x = action_printable r h in (λ o. (x.0 o.0, tt), x.1)
-    seq_printable (seq_then r s) h =
-        let x = action_printable r h in let p = seq_printable s x.1.1 in (λ o. (x.0 o.0, p.0 o.1), p.1)
+    seq_printable (seq_action r) h = let x = action_printable r h in ((x.0, tt), x.1)
+    seq_printable (seq_then r s) h = let x = action_printable r h in let p = seq_printable s x.1.1 in ((x.0, p.0), p.1)
     seq_printable (seq_if r s w) h =
         let t = term_printable r h.1 in
         let u = term_printable s t.1.1 in
         let p = seq_printable w u.1.1 in
-        (λ o. (t.0 o.0, u.0 o.1, p.0 o.2, tt), p.1)
+        ((t.0, u.0, p.0, tt), p.1)
     seq_printable (seq_if_else r s w v) h =
         let t = term_printable r h.1 in
         let u = term_printable s t.1.1 in
         let p = seq_printable w u.1.1 in
         let q = seq_printable v p.1.1 in
-        (λ o. (t.0 o.0, u.0 o.1, p.0 o.2, q.0 o.3), q.1)
+        ((t.0, u.0, p.0, q.0), q.1)
     seq_printable (seq_lookup r w) h =
         let t = term_printable r h.1 in
         let p = seq_printable w t.1.1.1.1 in
-        (λ o. (t.0 o.0, record { tidy = o.1; names = t.1.1.0 }, p.0 o.2, tt), p.1)
+        ((t.0, t.1.1.0, p.0, tt), p.1)
     seq_printable (seq_lookup_else r w v) h =
         let t = term_printable r h.1 in
         let p = seq_printable w t.1.1.1.1 in
         let q = seq_printable v p.1.1 in
-        (λ o. (t.0 o.0, record { tidy = o.1; names = t.1.1.0 }, p.0 o.2, q.0 o.3), q.1)
+        ((t.0, t.1.1.0, p.0, q.0), q.1)
 
-    pub par_printable : {p : Written} {n : ℕ} {a b : List Word} → IsPar g m p n a b → AreTokenWords most a
-        → (IsWrittenOver g p → IsPrintableWritten most g p) × AreTokenWords most b
+    pub par_printable : {p : Written} {n : ℕ} {a b : List Word} → IsPar g m p n a b → AreTokenWords most a → WrittenCanBePrinted most g p × AreTokenWords most b
     par_printable (par_one r) h = seq_printable r h
-    par_printable (par_more w r s) h =
-        let p = seq_printable r h in let q = par_printable s p.1.1 in (λ o. (p.0 o.0, q.0 o.1), q.1)
+    par_printable (par_more w r s) h = let p = seq_printable r h in let q = par_printable s p.1.1 in ((p.0, q.0), q.1)

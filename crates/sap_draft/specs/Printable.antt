@@ -3,11 +3,11 @@ use Rattle.std.specs.Prelude.{◌≡◌, ℕ, false, All}
 use Rattle.sap_terms.specs.declared.fact.Fact.{Fact}
 use Rattle.sap_terms.specs.Message.{IsOver, AreOver}
 use Rattle.sap_terms.specs.Signature.{Sig}
-use Rattle.sap_terms.specs.Tree.{variable, trees_of}
+use Rattle.sap_terms.specs.Tree.{Tree, variable, trees_of}
 use Rattle.sap_grammar.specs.ByteWords.{IsName}
 use Rattle.sap_grammar.specs.Printable.{IsTidyVariable, IsPrintableTerm, IsPrintableFact}
 use Rattle.sap_process.specs.Action.{Action, new, out, send, input, receive, event, insert, delete, lock, unlock, embedded}
-use Rattle.sap_draft.specs.Written.{Written, nil, call, parallel, replicated, act, test, lookup}
+use Rattle.sap_macro.specs.Written.{Written, nil, call, parallel, replicated, act, test, lookup}
 
 -- the signature holds each symbol of the fact with its arity
 abbrev pub IsFactOver : Sig → Fact → Type 0
@@ -26,16 +26,6 @@ IsActionOver g (delete t) = IsOver g t
 IsActionOver g (lock t n) = IsOver g t
 IsActionOver g (unlock t n) = IsOver g t
 IsActionOver g (embedded l e r) = All (IsFactOver g) l × All (IsFactOver g) e × All (IsFactOver g) r
-
--- so it is with each action, comparison and lookup of the process; names of processes are no symbols
-abbrev pub IsWrittenOver : Sig → Written → Type 0
-IsWrittenOver g nil = Unit {0}
-IsWrittenOver g (call x) = Unit {0}
-IsWrittenOver g (parallel p q) = IsWrittenOver g p × IsWrittenOver g q
-IsWrittenOver g (replicated p) = IsWrittenOver g p
-IsWrittenOver g (act a p) = IsActionOver g a × IsWrittenOver g p
-IsWrittenOver g (test t u p q) = IsOver g t × IsOver g u × IsWrittenOver g p × IsWrittenOver g q
-IsWrittenOver g (lookup t x p q) = IsOver g t × IsTidyVariable g x.sort x.name × IsWrittenOver g p × IsWrittenOver g q
 
 -- the fact can be printed, and is linear
 pub record IsPrintableAct (most : ℕ) (g : Sig) (f : Fact) : Type 0 where
@@ -57,14 +47,34 @@ IsPrintableAction most g (unlock t n) = IsPrintableTerm most g t
 IsPrintableAction most g (embedded l e r) =
     All (IsPrintableFact most g) l × All (IsPrintableAct most g) e × All (IsPrintableFact most g) r
 
--- so it is with each action, comparison and lookup of the process, and what stands for a process is a name
-abbrev pub IsPrintableWritten : ℕ → Sig → Written → Type 0
-IsPrintableWritten most g nil = Unit {0}
-IsPrintableWritten most g (call x) = IsName most x
-IsPrintableWritten most g (parallel p q) = IsPrintableWritten most g p × IsPrintableWritten most g q
-IsPrintableWritten most g (replicated p) = IsPrintableWritten most g p
-IsPrintableWritten most g (act a p) = IsPrintableAction most g a × IsPrintableWritten most g p
-IsPrintableWritten most g (test t u p q) =
-    IsPrintableTerm most g t × IsPrintableTerm most g u × IsPrintableWritten most g p × IsPrintableWritten most g q
-IsPrintableWritten most g (lookup t x p q) =
-    IsPrintableTerm most g t × IsPrintableTerm most g (variable x) × IsPrintableWritten most g p × IsPrintableWritten most g q
+-- the term can be printed, where it is over the signature
+abbrev pub CanBePrinted : ℕ → Sig → Tree → Type 0
+CanBePrinted most g t = IsOver g t → IsPrintableTerm most g t
+
+-- so it is with the action; what `new` binds is a name, whether it is a constant or not
+abbrev pub ActionCanBePrinted : ℕ → Sig → Action → Type 0
+ActionCanBePrinted most g (new x) = IsName most x.name
+ActionCanBePrinted most g (out t) = CanBePrinted most g t
+ActionCanBePrinted most g (send t u) = CanBePrinted most g t × CanBePrinted most g u
+ActionCanBePrinted most g (input t) = CanBePrinted most g t
+ActionCanBePrinted most g (receive t u) = CanBePrinted most g t × CanBePrinted most g u
+ActionCanBePrinted most g (event f) = IsFactOver g f → IsPrintableAct most g f
+ActionCanBePrinted most g (insert t u) = CanBePrinted most g t × CanBePrinted most g u
+ActionCanBePrinted most g (delete t) = CanBePrinted most g t
+ActionCanBePrinted most g (lock t n) = CanBePrinted most g t
+ActionCanBePrinted most g (unlock t n) = CanBePrinted most g t
+ActionCanBePrinted most g (embedded l e r) =
+    IsActionOver g (embedded l e r) → IsPrintableAction most g (embedded l e r)
+
+-- so it is with each action, argument, comparison and lookup of the process; what stands for a process is a name, and so is what
+-- a lookup binds
+abbrev pub WrittenCanBePrinted : ℕ → Sig → Written → Type 0
+WrittenCanBePrinted most g nil = Unit {0}
+WrittenCanBePrinted most g (call x ts) = IsName most x × All (CanBePrinted most g) ts
+WrittenCanBePrinted most g (parallel p q) = WrittenCanBePrinted most g p × WrittenCanBePrinted most g q
+WrittenCanBePrinted most g (replicated p) = WrittenCanBePrinted most g p
+WrittenCanBePrinted most g (act a p) = ActionCanBePrinted most g a × WrittenCanBePrinted most g p
+WrittenCanBePrinted most g (test t u p q) =
+    CanBePrinted most g t × CanBePrinted most g u × WrittenCanBePrinted most g p × WrittenCanBePrinted most g q
+WrittenCanBePrinted most g (lookup t x p q) =
+    CanBePrinted most g t × IsName most x.name × WrittenCanBePrinted most g p × WrittenCanBePrinted most g q

@@ -19,3 +19,4 @@ pub mod Built
 pub mod Forms
 pub mod Counted
 pub mod Sized
+pub mod Replacing

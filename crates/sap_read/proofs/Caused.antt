@@ -7,14 +7,14 @@ use Rattle.sap_process.specs.Proc.{Proc, node_count, level_count}
 use Rattle.sap_restrict.specs.Restrictions.{is_generated}
 use Rattle.sap_statements.specs.declared.statement.Statement.{Statement}
 use Rattle.sap_statements.specs.Statements.{name_of}
-use Rattle.sap_read.specs.declared.definition.Definition.{Definition}
+use Rattle.sap_read.specs.declared.entry.Entry.{Entry}
 use Rattle.sap_read.specs.declared.fault.ReadFault.{ReadFault}
 use Rattle.sap_read.specs.declared.fault.ReadFault.TheVariants.{NoProcess, TwoProcesses, DuplicateName, FunctionClash, TooMany, TooDeep}
 use Rattle.sap_read.specs.declared.names.Meant.{Meant}
 use Rattle.sap_read.specs.Item.{Body}
 use Rattle.sap_read.specs.Replaced.{replaced, process_of, no_meaning}
 use Rattle.sap_read.specs.Causes.{first_of, unlabelled, labels, unknown_from, first_repeated, first_taken, cause}
-use Rattle.sap_draft.specs.Drafts.{written}
+use Rattle.sap_macro.specs.Sources.{written}
 use Rattle.sap_read.specs.code.Bodies.{body}
 use Rattle.sap_read.specs.code.Meaning.{KeptNames, meaning_of, AreMeant, nodes_in, levels_in, IsCounted, AreCounted, AreTargets, IsExpanded, AreExpanded, size_fault}
 use Rattle.sap_read.proofs.Kept.{nodes_counted, levels_counted}
@@ -30,16 +30,16 @@ nothing_known : (bs : List Body) → AreFresh [] bs
 nothing_known bs x h = absurd (cc)
 
 -- each name means its process
-pub all_meant : (es : List Definition) → unknown_from [] (map body es) ≡ None → first_repeated (labels (map body es)) ≡ None → AreMeant (meaning_of es) (map body es)
+pub all_meant : (es : List Entry) → unknown_from [] (map body es) ≡ None → first_repeated (labels (map body es)) ≡ None → AreMeant (meaning_of es) (map body es)
 all_meant es known distinct = fixed (map body es) [] no_meaning known distinct (nothing_known (map body es))
 
 -- the file's process, by what names mean behind all of them
-pub process_is : (es : List Definition) (e : Definition) → unlabelled (map body es) ≡ body e ∷ [] → unknown_from [] (map body es) ≡ None → first_repeated (labels (map body es)) ≡ None → process_of no_meaning (map body es) ≡ Some (replaced (meaning_of es) (written e.draft.value))
+pub process_is : (es : List Entry) (e : Entry) → unlabelled (map body es) ≡ body e ∷ [] → unknown_from [] (map body es) ≡ None → first_repeated (labels (map body es)) ≡ None → process_of no_meaning (map body es) ≡ Some (replaced (meaning_of es) (written e.draft.value))
 process_is es e one known distinct =
     process_fixed (map body es) [] no_meaning (body e) [] known distinct (nothing_known (map body es)) one
 
 -- what is kept of names tells what they mean
-pub all_expanded : (es : List Definition) (names : KeptNames) → unknown_from [] (map body es) ≡ None → first_repeated (labels (map body es)) ≡ None → AreCounted names (meaning_of es) → AreTargets es names → AreExpanded es names
+pub all_expanded : (es : List Entry) (names : KeptNames) → unknown_from [] (map body es) ≡ None → first_repeated (labels (map body es)) ≡ None → AreCounted names (meaning_of es) → AreTargets es names → AreExpanded es names
 all_expanded es names known distinct counted targets x = by (value_at names x) refl (counted x) where
   by : (o : Option Meant) → value_at names x ≡ o → IsCounted o (meaning_of es x) → IsExpanded es x o
   by None q h = h
@@ -68,7 +68,7 @@ same_above limit n m most below e = by (nat_lt limit m) refl where
   by false q = le-ltb _ _ (omega (arith, below, e, ltb-false limit m q))
 
 -- and the numbers that are kept decide it
-pub by_kept_size : (es : List Definition) (ss : List Statement) (e : Definition) (names : KeptNames) → unlabelled (map body es) ≡ body e ∷ [] → unknown_from [] (map body es) ≡ None → first_repeated (labels (map body es)) ≡ None → first_taken is_generated (map name_of ss) ≡ None
+pub by_kept_size : (es : List Entry) (ss : List Statement) (e : Entry) (names : KeptNames) → unlabelled (map body es) ≡ body e ∷ [] → unknown_from [] (map body es) ≡ None → first_repeated (labels (map body es)) ≡ None → first_taken is_generated (map name_of ss) ≡ None
     → AreCounted names (meaning_of es) → cause (map body es) ss None ≡ size_fault (min (nodes_in names (written e.draft.value)) (2 ^ 64 - 1)) (min (levels_in names (written e.draft.value)) (2 ^ 64 - 1))
 by_kept_size es ss e names one known distinct free counted =
     let p = replaced (meaning_of es) (written e.draft.value) in
@@ -85,7 +85,7 @@ low_enough n l h = by (nat_lt MOST_PROCESS_PLACES n) (nat_lt MOST_PROCESS_LEVELS
   by false false q h = ltb-false MOST_PROCESS_LEVELS l q
 
 -- and how deep the process is
-pub few_levels : (es : List Definition) (e : Definition) (names : KeptNames) → AreCounted names (meaning_of es) → size_fault (min (nodes_in names (written e.draft.value)) (2 ^ 64 - 1)) (min (levels_in names (written e.draft.value)) (2 ^ 64 - 1)) ≡ None → level_count (replaced (meaning_of es) (written e.draft.value)) ≤ MOST_PROCESS_LEVELS
+pub few_levels : (es : List Entry) (e : Entry) (names : KeptNames) → AreCounted names (meaning_of es) → size_fault (min (nodes_in names (written e.draft.value)) (2 ^ 64 - 1)) (min (levels_in names (written e.draft.value)) (2 ^ 64 - 1)) ≡ None → level_count (replaced (meaning_of es) (written e.draft.value)) ≤ MOST_PROCESS_LEVELS
 few_levels es e names counted h =
     let cut : min (levels_in names (written e.draft.value)) (2 ^ 64 - 1) ≤ MOST_PROCESS_LEVELS = low_enough _ _ h in
     uncut _ (2 ^ 64 - 1) MOST_PROCESS_LEVELS (rw (← levels_counted names (meaning_of es) counted (written e.draft.value)) cut) (omega arith)
@@ -97,7 +97,7 @@ few_enough n l h = by (nat_lt MOST_PROCESS_PLACES n) (nat_lt MOST_PROCESS_LEVELS
   by false t q h = ltb-false MOST_PROCESS_PLACES n q
 
 -- and how many places it has
-pub few_nodes : (es : List Definition) (e : Definition) (names : KeptNames) → AreCounted names (meaning_of es) → size_fault (min (nodes_in names (written e.draft.value)) (2 ^ 64 - 1)) (min (levels_in names (written e.draft.value)) (2 ^ 64 - 1)) ≡ None → node_count (replaced (meaning_of es) (written e.draft.value)) ≤ MOST_PROCESS_PLACES
+pub few_nodes : (es : List Entry) (e : Entry) (names : KeptNames) → AreCounted names (meaning_of es) → size_fault (min (nodes_in names (written e.draft.value)) (2 ^ 64 - 1)) (min (levels_in names (written e.draft.value)) (2 ^ 64 - 1)) ≡ None → node_count (replaced (meaning_of es) (written e.draft.value)) ≤ MOST_PROCESS_PLACES
 few_nodes es e names counted h =
     let cut : min (nodes_in names (written e.draft.value)) (2 ^ 64 - 1) ≤ MOST_PROCESS_PLACES = few_enough _ _ h in
     uncut _ (2 ^ 64 - 1) MOST_PROCESS_PLACES (rw (← nodes_counted names (meaning_of es) counted (written e.draft.value)) cut) (omega arith)

@@ -11,14 +11,14 @@ use Rattle.sap_grammar.specs.Cut.{Placed, placed, words, first_line, IsCut, cut_
 use Rattle.sap_grammar.specs.Declarations.{Declaration, declares_builtins, declares_functions}
 use Rattle.sap_grammar.specs.Items.{IsEnd, items_end, items_more, no_end, bad_item, later_item}
 use Rattle.sap_grammar.specs.ItemReading.{cut, declared_in}
-use Rattle.sap_draft.specs.Written.{Written}
+use Rattle.sap_macro.specs.Written.{Written}
 use Rattle.sap_statements.specs.declared.statement.Statement.{Statement}
 use Rattle.sap_statements.specs.Statements.{IsStatement, is_restriction, is_lemma}
 use Rattle.sap_draft.specs.declared.limits.TheConstants.{FILE_LIMITS}
 use Rattle.sap_read.specs.Item.{Item, definition, process, statement, bodies, statements}
 use Rattle.sap_draft.specs.ProcessGrammar.{IsProcess}
 use Rattle.sap_read.specs.ItemGrammar.{IsItem, AreItems, IsSomeItem, IsFaultyFile, item_builtins, item_functions, item_definition, item_process, item_statement}
-use Rattle.sap_read.specs.declared.definition.Definition.{Definition}
+use Rattle.sap_read.specs.declared.entry.Entry.{Entry}
 use Rattle.sap_read.specs.code.Bodies.{body}
 use Rattle.sap_read.specs.code.ItemView.{IsItemOf, IsAdded, IsAdding, IsGoodBehind, IsPushed, IsStated, SaysProcess, AreSaid}
 use Rattle.sap_read.specs.code.ItemLaws.{ItemLaws}
@@ -149,7 +149,7 @@ no_other laws ws l p none never it = go l p none never it.is
     go {g = g} l p none never (item_statement {s = s} r) = never g s r
 
 -- an item that says of a process, which stands last
-pub said_added : (g : Sig) (z : List ℕ) (ts : List Token) (before after : List Definition) (ss : List Statement) (b : Bool) (o : Option Definition) → SaysProcess g z ts (Ok o) → IsPushed b o before after → IsAdded g z ts before after ss ss b
+pub said_added : (g : Sig) (z : List ℕ) (ts : List Token) (before after : List Entry) (ss : List Statement) (b : Bool) (o : Option Entry) → SaysProcess g z ts (Ok o) → IsPushed b o before after → IsAdded g z ts before after ss ss b
 said_added g z ts before after ss true None none p = let no : true ≡ false = p.0 in absurd (cc)
 said_added g z ts before after ss false None none p = none
 said_added g z ts before after ss false (Some e) is p = let no : false ≡ true = p.0 in absurd (cc)
@@ -162,7 +162,7 @@ said_added g z ts before after ss true (Some e) is p = record {
 }
 
 -- an item that declares something
-pub declaration_added : ItemLaws → (g : Sig) (z : List ℕ) (ts : List Token) (es : List Definition) (ss : List Statement) → is_some (declared_in (words_of z ts)) ≡ true → IsAdded g z ts es es ss ss true
+pub declaration_added : ItemLaws → (g : Sig) (z : List ℕ) (ts : List Token) (es : List Entry) (ss : List Statement) → is_some (declared_in (words_of z ts)) ≡ true → IsAdded g z ts es es ss ss true
 declaration_added laws g z ts es ss e = go (declared_in (words_of z ts)) refl e
   where
     go : (o : Option (List Declaration)) → declared_in (words_of z ts) ≡ o → is_some o ≡ true → IsAdded g z ts es es ss ss true
@@ -178,7 +178,7 @@ declaration_added laws g z ts es ss e = go (declared_in (words_of z ts)) refl e
         }
 
 -- where the tokens declare nothing, and are asked whether they are a restriction or a lemma
-stated_added : ItemLaws → (g : Sig) (z : List ℕ) (ts : List Token) (es : List Definition) (ss after : List Statement) (b : Bool) → starts (codes "let") (words_of z ts) ≡ false
+stated_added : ItemLaws → (g : Sig) (z : List ℕ) (ts : List Token) (es : List Entry) (ss after : List Statement) (b : Bool) → starts (codes "let") (words_of z ts) ≡ false
     → starts (codes "process") (words_of z ts) ≡ false → is_some (declared_in (words_of z ts)) ≡ false → IsStated g z ts ss after b → IsAdded g z ts es es ss after b
 stated_added laws g z ts es ss after true l p none is = record {
   said = [];
@@ -194,13 +194,13 @@ stated_added laws g z ts es ss after false l p none never = no_other laws (words
     nothing (Some ds) e = absurd (cc)
 
 -- the same, where asking may fail
-pub stated_tried : ItemLaws → (g : Sig) (z : List ℕ) (ts : List Token) (es : List Definition) (ss after : List Statement) (r : Result Bool Mem) → starts (codes "let") (words_of z ts) ≡ false
+pub stated_tried : ItemLaws → (g : Sig) (z : List ℕ) (ts : List Token) (es : List Entry) (ss after : List Statement) (r : Result Bool Mem) → starts (codes "let") (words_of z ts) ≡ false
     → starts (codes "process") (words_of z ts) ≡ false → is_some (declared_in (words_of z ts)) ≡ false → IfOk r (λ b. IsStated g z ts ss after b) → IfOk r (λ b. IsAdded g z ts es es ss after b)
 stated_tried laws g z ts es ss after (Ok b) l p none is = stated_added laws g z ts es ss after b l p none is
 stated_tried laws g z ts es ss after (Err e) l p none is = tt
 
 -- Turns of the loop over items, where `entries` and `earlier` were read before the tokens `rest`.
-module _ (laws : ItemLaws) (g : Sig) (last : ℕ) (z : List ℕ) (ts rest item behind : List Token) (entries : List Definition) (earlier : List Statement)
+module _ (laws : ItemLaws) (g : Sig) (last : ℕ) (z : List ℕ) (ts rest item behind : List Token) (entries : List Entry) (earlier : List Statement)
     (good : IsGoodBehind g z ts rest entries earlier)
     (faulty : (n : ℕ) → IsFaultyFile last (cut (placed z rest)) n → IsFaultyFile last (cut (placed z ts)) n)
     (split : cut (placed z rest) ≡ placed z item ∷ cut (placed z behind)) where
@@ -222,7 +222,7 @@ module _ (laws : ItemLaws) (g : Sig) (last : ℕ) (z : List ℕ) (ts rest item b
       let there = faulty (first_line (placed z item)) (subst (λ (y : List (List Placed)). IsFaultyFile last y (first_line (placed z item))) (sym split) here) in
       rw l (subst (λ (y : List (List Placed)). IsFaultyFile last y (first_line (placed z item))) (cut_is laws r) there)
 
-  module _ (after : List Definition) (later : List Statement) (it : IsAdding g z item entries after earlier later) where
+  module _ (after : List Entry) (later : List Statement) (it : IsAdding g z item entries after earlier later) where
     pub turn_good : IsGoodBehind g z ts behind after later
     turn_good is r =
         let spelled : IsItem g it.is.item (words (placed z item)) = rw (words_placed z item) it.is.spelled in

@@ -8,7 +8,7 @@ use Rattle.sap_grammar.specs.Declarations.{Declaration, Declares, declares_built
 use Rattle.sap_grammar.specs.Items.{IsEnd, items_end, items_more, no_end, bad_item, later_item}
 use Rattle.sap_grammar.specs.ItemReading.{declared_in, told, declared_in_all}
 use Rattle.sap_draft.specs.declared.limits.TheConstants.{FILE_LIMITS}
-use Rattle.sap_draft.specs.Written.{Written}
+use Rattle.sap_macro.specs.Written.{Written}
 use Rattle.sap_read.specs.Item.{Item, builtins, functions, definition, process, statement, Standing, declared_by, declarations, body_of, stated_by}
 use Rattle.sap_read.specs.ItemGrammar.{IsItem, AreItems, IsFaultyFile, item_builtins, item_functions, item_definition, item_process, item_statement}
 use Rattle.sap_statements.specs.declared.statement.Statement.{Statement}

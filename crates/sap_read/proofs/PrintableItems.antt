@@ -19,7 +19,7 @@ use Rattle.sap_statements.specs.declared.statement.Statement.{Statement}
 use Rattle.sap_statements.specs.FormulaGrammar.{Reach, IsIff}
 use Rattle.sap_statements.specs.Statements.{IsAttribute, AreAttributes, attributes_last, attributes_more, HasAttributes, without_attributes, with_attributes, IsMode, mode_missing, mode_all, mode_exists, IsStatement, is_restriction, is_lemma}
 use Rattle.sap_statements.specs.Printable.{IsTidyForm, IsFormOver, FormHasNames}
-use Rattle.sap_draft.specs.Written.{Written}
+use Rattle.sap_macro.specs.Written.{Written}
 use Rattle.sap_draft.specs.ProcessGrammar.{IsPar}
 use Rattle.sap_draft.specs.Printable.{IsWrittenOver, IsPrintableWritten}
 use Rattle.sap_draft.specs.declared.limits.TheConstants.{FILE_LIMITS}

@@ -9,7 +9,7 @@ use Rattle.sap_terms.specs.Signature.{Sig}
 use Rattle.sap_grammar.specs.TermGrammar.{IsConstant}
 use Rattle.sap_grammar.specs.Printable.{IsTidyVariable}
 use Rattle.sap_process.specs.Proc.{Proc}
-use Rattle.sap_draft.specs.Written.{Written, nil, call, parallel, replicated, act, test, lookup}
+use Rattle.sap_macro.specs.Written.{Written, nil, call, parallel, replicated, act, test, lookup}
 use Rattle.sap_draft.specs.Printable.{IsWrittenOver, IsPrintableWritten}
 use Rattle.sap_read.specs.Item.{Body}
 use Rattle.sap_read.specs.Printable.{IsPrintableProcess}

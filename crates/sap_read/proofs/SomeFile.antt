@@ -15,7 +15,7 @@ use Rattle.sap_terms.specs.declared.limits.TheConstants.{MOST_FILE_NAME_BYTES}
 use Rattle.sap_draft.specs.declared.limits.TheConstants.{FILE_LIMITS}
 use Rattle.sap_grammar.specs.Words.{Word, mark, starts, words_of}
 use Rattle.sap_grammar.specs.Reading.{name_at}
-use Rattle.sap_draft.specs.Written.{Written}
+use Rattle.sap_macro.specs.Written.{Written}
 use Rattle.sap_read.specs.Item.{Item, definition, process, statement, Standing, declarations, Body, bodies, statements}
 use Rattle.sap_grammar.specs.Declarations.{Declaration}
 use Rattle.sap_grammar.specs.Cut.{Placed, placed, words, first_line, last_line}

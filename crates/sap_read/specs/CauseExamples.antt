@@ -10,7 +10,7 @@ use Rattle.sap_statements.specs.declared.statement.Statement.TheVariants.{Restri
 use Rattle.sap_process.specs.Action.{out}
 use Rattle.sap_process.specs.Proc as whole
 use Rattle.sap_process.specs.Proc.{Proc}
-use Rattle.sap_draft.specs.Written.{Written, nil, call, parallel, replicated, act, test, lookup}
+use Rattle.sap_macro.specs.Written.{Written, nil, call, parallel, replicated, act, test, lookup}
 use Rattle.sap_read.specs.Causes.{cause_of}
 use Rattle.sap_read.specs.Item.{Item, builtins, functions, definition, process, statement, Standing, bodies}
 use Rattle.sap_read.specs.Replaced.{process_of, no_meaning}

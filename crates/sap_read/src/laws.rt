@@ -9,7 +9,7 @@ ghost use Rattle.sap_grammar.specs.FactGrammar.{IsFact, fact_levels};
 ghost use Rattle.sap_read.specs.code.ItemLaws.{ItemLaws};
 ghost use Rattle.sap_read.specs.code.StatementLaws.{StatementLaws};
 ghost use Rattle.sap_read.specs.code.ProcessLaws.{ProcessLaws};
-ghost use Rattle.sap_draft.specs.Written.{Written};
+ghost use Rattle.sap_macro.specs.Written.{Written};
 ghost use Rattle.sap_draft.specs.ProcessGrammar.{IsPar};
 ghost use Rattle.sap_grammar.specs.Cut.{Placed, IsCut};
 ghost use Rattle.sap_read.specs.Item.{Standing};

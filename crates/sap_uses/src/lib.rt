@@ -2,6 +2,7 @@
 #![tactic(auto)]
 
 mod by_hand;
+mod expand;
 mod fault;
 mod index;
 mod large;
@@ -10,6 +11,7 @@ mod met;
 mod sizes;
 
 pub use by_hand::{causes_by_hand, flawed_by_hand, large_by_hand};
+pub use expand::expand;
 pub use fault::MacroFault;
 pub use large::first_large;
 pub use laws::one_macro_cause;

@@ -3,9 +3,9 @@ use Rattle.std.specs.Prelude.{codes}
 use Rattle.sap_terms.specs.Signature.{Sig}
 use Rattle.sap_grammar.specs.Words.{words_of, starts}
 use Rattle.sap_grammar.specs.Reading.{name_at}
-use Rattle.sap_draft.specs.Written.{Written}
+use Rattle.sap_macro.specs.Written.{Written}
 use Rattle.sap_draft.specs.ProcessGrammar.{IsProcess}
-use Rattle.sap_draft.specs.Drafts.{written}
+use Rattle.sap_macro.specs.Sources.{written}
 use Rattle.sap_read.proofs.ItemTurns.{words-beyond, definition_read, no_definition, no_equals}
 use Rattle.sap_read.proofs.items.read_definition.Goals as goal
 

@@ -2,9 +2,9 @@ use Rattle.std.proofs.Common.{◌≡◌, drop, true}
 use Rattle.std.specs.Prelude.{codes}
 use Rattle.sap_terms.specs.Signature.{Sig}
 use Rattle.sap_grammar.specs.Words.{words_of, starts}
-use Rattle.sap_draft.specs.Written.{Written}
+use Rattle.sap_macro.specs.Written.{Written}
 use Rattle.sap_draft.specs.ProcessGrammar.{IsProcess}
-use Rattle.sap_draft.specs.Drafts.{written}
+use Rattle.sap_macro.specs.Sources.{written}
 use Rattle.sap_read.proofs.ItemTurns.{words-beyond, process_read, no_process}
 use Rattle.sap_read.proofs.items.read_main.Goals as goal
 

@@ -1,13 +1,13 @@
 use Rattle.std.proofs.Common.{◌≡◌, List, ℕ, Some, [], ◌∷◌, map, subst}
 use Rattle.std.specs.Prelude.{slice_get}
-use Rattle.sap_read.specs.declared.definition.Definition.{Definition}
+use Rattle.sap_read.specs.declared.entry.Entry.{Entry}
 use Rattle.sap_read.specs.Causes.{unlabelled}
 use Rattle.sap_read.specs.code.Bodies.{body}
 use Rattle.sap_read.proofs.whole.whole_process.Goals as goal
 
 -- the entry at the index of the file's process
-one_there : (es : List Definition) (k : ℕ) (e f : Definition) → slice_get es k ≡ Some e → slice_get es k ≡ Some f → unlabelled (map body es) ≡ body e ∷ [] → unlabelled (map body es) ≡ body f ∷ []
-one_there es k e f a b one = let same : e ≡ f = cc in subst (λ (z : Definition). unlabelled (map body es) ≡ body z ∷ []) same one
+one_there : (es : List Entry) (k : ℕ) (e f : Entry) → slice_get es k ≡ Some e → slice_get es k ≡ Some f → unlabelled (map body es) ≡ body e ∷ [] → unlabelled (map body es) ≡ body f ∷ []
+one_there es k e f a b one = let same : e ≡ f = cc in subst (λ (z : Entry). unlabelled (map body es) ≡ body z ∷ []) same one
 
 pub known_process-requires-clause-one : goal.known_process-requires-clause-one
 known_process-requires-clause-one c =
