@@ -4,6 +4,7 @@ ghost use Rattle.sap_gen.specs.Kept.{KeepsFile, file_theory};
 ghost use Rattle.sap_read.specs.Files.{FileContent, IsRunnable};
 ghost use Rattle.sap_read.specs.OwnNames.{IsNamedApart};
 ghost use Rattle.sap_read.specs.Printable.{IsPrintableFile};
+ghost use Rattle.sap_read.specs.declared.limits.TheConstants.{MOST_NEW_NAME_BYTES};
 ghost use Rattle.sap_rule.specs.declared.theory.Theory.{Theory};
 ghost use Rattle.sap_terms.specs.Trace.{Trace};
 ghost use Rattle.sap_terms.specs.declared.limits.TheConstants.{MOST_FILE_NAME_BYTES, MOST_THEORY_NAME_BYTES};
@@ -93,7 +94,7 @@ pub fn short_theories_keep_files()
 /// bytes.
 pub fn short_theories_are_printable()
     ensures { (f : FileContent) (t : Theory) → IsRunnable f
-        → IsPrintableFile MOST_FILE_NAME_BYTES f → IsShortTheory f t
+        → IsPrintableFile MOST_FILE_NAME_BYTES MOST_NEW_NAME_BYTES f → IsShortTheory f t
         → IsPrintable MOST_THEORY_NAME_BYTES t }
 {
     rules_show_the_process();
@@ -106,7 +107,7 @@ pub fn short_theories_are_printable()
 /// shows are linear; no formula has a fault, where facts may have any names.
 pub fn short_theories_pass_checks()
     ensures { (f : FileContent) (t : Theory) → IsRunnable f
-        → IsPrintableFile MOST_FILE_NAME_BYTES f → IsNamedApart f → IsShortTheory f t
+        → IsPrintableFile MOST_FILE_NAME_BYTES MOST_NEW_NAME_BYTES f → IsNamedApart f → IsShortTheory f t
         → PassesChecks t }
 {
     rules_show_the_process();

@@ -13,6 +13,7 @@ ghost use Rattle.sap_gen.specs.Kept.{IsClosedTheory, KeepsFile, KeepsFileInlined
 ghost use Rattle.sap_read.specs.OwnNames.{HaveOwnNames, IsNamedApart};
 ghost use Rattle.sap_read.specs.Files.{FileContent, IsRunnable};
 ghost use Rattle.sap_read.specs.Printable.{IsPrintableFile};
+ghost use Rattle.sap_read.specs.declared.limits.TheConstants.{MOST_NEW_NAME_BYTES};
 ghost use Rattle.sap_translate.specs.Templates.{rules_of};
 ghost use Rattle.sap_rule.specs.declared.rule.Rule.{Rule};
 ghost use Rattle.sap_terms.specs.declared.fact.Fact.{Fact};
@@ -56,11 +57,11 @@ pub fn theories_are_closed()
 /// MOST_THEORY_NAME_BYTES bytes, no plain variable is a constant of the signature, and each formula has the sorts of its binders.
 /// The rules show linear facts alone.
 pub fn theories_are_printable()
-    ensures plain { (f : FileContent) → IsRunnable f → IsPrintableFile MOST_FILE_NAME_BYTES f
+    ensures plain { (f : FileContent) → IsRunnable f → IsPrintableFile MOST_FILE_NAME_BYTES MOST_NEW_NAME_BYTES f
         → IsPrintable MOST_THEORY_NAME_BYTES (file_theory f) }
-    ensures inlined { (f : FileContent) → IsRunnable f → IsPrintableFile MOST_FILE_NAME_BYTES f
+    ensures inlined { (f : FileContent) → IsRunnable f → IsPrintableFile MOST_FILE_NAME_BYTES MOST_NEW_NAME_BYTES f
         → IsPrintable MOST_THEORY_NAME_BYTES (inlined_file_theory f) }
-    ensures linear { (f : FileContent) → IsRunnable f → IsPrintableFile MOST_FILE_NAME_BYTES f
+    ensures linear { (f : FileContent) → IsRunnable f → IsPrintableFile MOST_FILE_NAME_BYTES MOST_NEW_NAME_BYTES f
         → All (λ (r : Rule). All (λ (h : Fact). h.persistent ≡ false) r.acts) (rules_of f.process) }
 {
     annotations_are_settled();
@@ -90,9 +91,9 @@ pub fn theories_are_named_apart()
 /// or lemmas; each rule is over the signature, each of its facts stands where it may, and those that it shows are linear; no
 /// formula has a fault, where facts may have any names.
 pub fn theories_pass_checks()
-    ensures plain { (f : FileContent) → IsRunnable f → IsPrintableFile MOST_FILE_NAME_BYTES f
+    ensures plain { (f : FileContent) → IsRunnable f → IsPrintableFile MOST_FILE_NAME_BYTES MOST_NEW_NAME_BYTES f
         → IsNamedApart f → PassesChecks (file_theory f) }
-    ensures inlined { (f : FileContent) → IsRunnable f → IsPrintableFile MOST_FILE_NAME_BYTES f
+    ensures inlined { (f : FileContent) → IsRunnable f → IsPrintableFile MOST_FILE_NAME_BYTES MOST_NEW_NAME_BYTES f
         → IsNamedApart f → PassesChecks (inlined_file_theory f) }
 {
     restrictions_are_closed();

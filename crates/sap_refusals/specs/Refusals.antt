@@ -76,8 +76,14 @@ fault_text (fault.UnknownProcess name) = between (codes "process ") name (codes 
 fault_text (fault.DuplicateName name) = between (codes "name ") name (codes " stands twice")
 fault_text (fault.FunctionClash name) =
     between (codes "function ") name (codes " is declared otherwise")
+fault_text (fault.Parameters name) = between (codes "parameter ") name (codes " stands twice")
+fault_text (fault.Arguments name) =
+    between (codes "process ") name (codes " has another number of arguments")
 fault_text fault.TooMany = codes "more than 4000 nodes"
 fault_text fault.TooDeep = codes "more than 300 levels"
+fault_text (fault.Large name) = between (codes "process ") name (codes ": argument is too large")
+fault_text (fault.Flawed name which path) =
+    between (codes "process ") name (codes ": " ++ at_place path (flaw_text which))
 fault_text (fault.Ill which path) = at_place path (flaw_text which)
 fault_text (fault.Lock f) = lock_text f
 fault_text (fault.Formula name f) = name ++ (codes ": " ++ formula_text f)

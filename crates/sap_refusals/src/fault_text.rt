@@ -42,8 +42,22 @@ pub fn push_fault(text: &mut Text, fault: &ReadFault) -> Result<(), Mem>
             name,
             b" is declared otherwise",
         ),
+        ReadFault::Parameters { name } => push_named(text, b"parameter ", name, b" stands twice"),
+        ReadFault::Arguments { name } => push_named(
+            text,
+            b"process ",
+            name,
+            b" has another number of arguments",
+        ),
         ReadFault::TooMany => text.push_bytes(b"more than 4000 nodes"),
         ReadFault::TooDeep => text.push_bytes(b"more than 300 levels"),
+        ReadFault::Large { name } => push_named(
+            text,
+            b"process ",
+            name,
+            b": argument is too large",
+        ),
+        ReadFault::Flawed { name, which, path } => push_flawed(text, name, *which, path),
         ReadFault::Ill { which, path } => push_placed(text, path, flaw_words(*which)),
         ReadFault::Lock(fault) => push_lock(text, fault),
         ReadFault::Formula { name, fault } => push_of_formula(text, name, fault),
@@ -116,6 +130,14 @@ fn flaw_words(flaw: Flaw) -> &'static [u8]
         Flaw::SortClash => b"sort clash",
         Flaw::ScopeFull => b"scope is full",
     }
+}
+
+/// Puts last what is wrong in the definition of this name.
+fn push_flawed(text: &mut Text, name: &Name, which: Flaw, path: &Path) -> Result<(), Mem>
+    ensures { OnOk result (text.new ≡ text.old ++ between (codes "process ") name.now (codes ": " ++ at_place path.now (flaw_text which))) }
+{
+    push_named(text, b"process ", name, b": ")?;
+    push_placed(text, path, flaw_words(which))
 }
 
 /// Puts last a number between two texts.

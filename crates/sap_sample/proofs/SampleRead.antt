@@ -16,10 +16,13 @@ use Rattle.sap_grammar.specs.Sizes.{IsSmall}
 use Rattle.sap_grammar.specs.TermGrammar.{IsShort, args_some, list_last, term_fresh, term_message, term_quoted, term_symbol}
 use Rattle.sap_grammar.specs.Words.{Word, mark, name, quoted}
 use Rattle.sap_draft.specs.ProcessGrammar.{IsPar, action_event, action_input, action_insert, action_lock, action_new_fresh, action_out, action_unlock, par_one, seq_action, seq_parentheses, seq_replicated, seq_then}
-use Rattle.sap_draft.specs.Written as written
 use Rattle.sap_draft.specs.declared.limits.TheConstants.{FILE_LIMITS}
 use Rattle.sap_process.specs.Action.{new, out, input, event, insert, lock, unlock}
 use Rattle.sap_process.specs.Proc.{replicated}
+use Rattle.sap_macro.specs.Written as written
+use Rattle.sap_uses.specs.FaultCauses.{Holds}
+use Rattle.sap_uses.specs.declared.fault.MacroFault.{MacroFault}
+use Rattle.sap_uses.specs.declared.fault.MacroFault.TheVariants as uses
 use Rattle.sap_formula.specs.Faults.{HasNoFault}
 use Rattle.sap_statements.specs.Statements.{formula_of}
 use Rattle.sap_statements.specs.declared.statement.Statement.{Statement}
@@ -142,6 +145,16 @@ process_is =
     (seq_then (action_insert (store_key_is _) (name_is _)) (seq_then (action_unlock (store_key_is _)) (seq_then (action_out (hash_is _))
     (seq_then (action_input (message_is _)) (seq_action (action_event (got_is _))))))))))))
 
+-- it can be expanded: nothing is defined, and it is small
+no_cause : (f : MacroFault) → Holds sig [] written_process f → ⊥
+no_cause uses.Mem h = h
+no_cause (uses.Parameters x) h = cc (h)
+no_cause (uses.Arguments x) h = cc (h)
+no_cause uses.TooMany h = let few = h [] in omega (arith, few)
+no_cause uses.TooDeep h = let few = h [] in omega (arith, few)
+no_cause (uses.Large x) h = cc (h)
+no_cause (uses.Flawed x w path) h = let none = h.stands in cc (none)
+
 module _ (longest : Longest) where
   lexed : IsLexed 64 0 1 sample_file_text (Ok (tokens 0 1 pieces))
   lexed = pieces_lexed longest pieces 0 1 refl
@@ -160,7 +173,7 @@ module _ (longest : Longest) where
       accepted {is = items} {p = replicated (session_process 0)} {q = replicated (session_process 1)} parted
       (items_more (item_builtins (builtins_last spells_hashing))
       (items_more (item_process (record { levels = 10; spelled = process_is; few_levels = lit≤ tt })) (items_end refl)))
-      refl refl sample_well_formed sample_annotated (All-nil (λ (s : Statement). HasNoFault sig true (formula_of s)))
+      refl (record { main = written_process; is_main = refl; no_cause = no_cause; whole = refl }) sample_well_formed sample_annotated (All-nil (λ (s : Statement). HasNoFault sig true (formula_of s)))
 
 -- whose file is told, where there is one
 abbrev told_or : Result FileContent ReadFault → FileContent

@@ -3,6 +3,7 @@ use Rattle.std.proofs.Common.{◌≡◌, ◌+◌, ℕ, List, take, Option, Some,
 use Rattle.std.specs.Prelude.{Ok, All}
 use Rattle.std.specs.FinMap as files
 use Rattle.sap_terms.specs.Signature.{HoldsBuiltins}
+use Rattle.sap_macro.specs.UsesAreInstances.{UsesAreInstances}
 use Rattle.sap_read.specs.Files.{FileContent, IsRead, IsRunnable}
 use Rattle.sap_rule.specs.WellMade.{IsWellMade}
 use Rattle.sap_rule.specs.declared.theory.Theory.{Theory}
@@ -11,6 +12,7 @@ use Rattle.sap_run_texts.specs.declared.run.Run.{Run}
 use Rattle.sap_theory.specs.ReadTheory.{IsTheoryRead}
 use Rattle.sap_outside.specs.Outside.{Files, IsFetched, IsFirstPart}
 use Rattle.sap_outside.specs.RunPieces.{IsReadUp}
+use Rattle.sap_tool.specs.AcceptedFile.{IsAcceptedFile}
 use Rattle.sap_tool.specs.Call.{Holds}
 use Rattle.sap_tool.specs.declared.way.Way.{Way}
 use Rattle.sap_tool.specs.Commands.{Command, compile, replay, fill, check, to_json, from_json, explain, Input, alone, and_run, run_alone, limit_of, kinds_of, Accepts, Refuses, RefusesRun, TakesRun, Allows, Means}
@@ -42,8 +44,9 @@ pub record IsRunnableTheory (t : Theory) : Type 0 where
 pub record Laws : Type 0 where
   pub keeping : Keeping
   pub runnable : Runnable
-  pub printed : (z : List ℕ) (f : FileContent) → IsRead z (Ok f) → CanBePrinted f
+  pub printed : (z : List ℕ) (f : FileContent) → IsAcceptedFile z f → CanBePrinted f
   pub writing : Writing
+  pub instances : UsesAreInstances
   pub one_compiled : OneCompiled
   pub one : OneReading
   pub one_theory : OneTheory
@@ -65,10 +68,11 @@ means laws (compile way file) (alone bytes) text t =
       told = t.told;
       file = t.file;
       theory = t.theory;
-      written = subst (λ (y : List ℕ). IsWritten y t.theory) (sym t.layout) (laws.writing way bytes t.told t.theory t.file.read t.compiled);
+      written = subst (λ (y : List ℕ). IsWritten y t.theory) (sym t.layout) (laws.writing way bytes t.told t.theory t.file t.compiled);
       layout = t.layout;
       compiled = t.compiled;
       keeps = laws.keeping way t.told t.theory (laws.runnable bytes t.told t.file.read) t.compiled;
+      instances = laws.instances;
     }
 means laws (replay task file run) (and_run bytes z) text t =
     record {
@@ -76,7 +80,7 @@ means laws (replay task file run) (and_run bytes z) text t =
       file = t.file;
       lines = t.lines;
       read = t.read;
-      written = written_says laws.meant (kinds_of task) z t.told (laws.runnable bytes t.told t.file.read) (laws.printed bytes t.told t.file.read) task t.lines text t.read t.written;
+      written = written_says laws.meant (kinds_of task) z t.told (laws.runnable bytes t.told t.file.read) (laws.printed bytes t.told t.file) task t.lines text t.read t.written;
     }
 means laws (fill file run) (and_run bytes z) text t = filled_is_legal laws.short bytes z text t
 means laws (check theory run) (and_run bytes z) text t = t

@@ -6,6 +6,7 @@ use Rattle.sap_formula.specs.Hide.{hide}
 use Rattle.sap_terms.specs.declared.limits.TheConstants.{MOST_FILE_NAME_BYTES, MOST_THEORY_NAME_BYTES}
 use Rattle.sap_read.specs.Files.{FileContent, IsRunnable}
 use Rattle.sap_read.specs.Printable.{IsPrintableFile}
+use Rattle.sap_read.specs.declared.limits.TheConstants.{MOST_NEW_NAME_BYTES}
 use Rattle.sap_theory.specs.PrintableTheory.{IsPrintable}
 use Rattle.sap_gen.specs.Kept.{file_theory}
 use Rattle.sap_run_texts.specs.declared.run.Kinds.{Kinds}
@@ -34,7 +35,7 @@ pub record Laws : Type 0 where
 
 -- the file can be printed, and its theory
 pub record CanBePrinted (f : FileContent) : Type 0 where
-  pub file : IsPrintableFile MOST_FILE_NAME_BYTES f
+  pub file : IsPrintableFile MOST_FILE_NAME_BYTES MOST_NEW_NAME_BYTES f
   pub theory : IsPrintable MOST_THEORY_NAME_BYTES (file_theory f)
 
 -- a run of the process and the one of rules that it is converted to are opposite, and the other way about

@@ -1,5 +1,5 @@
 -- Bytes are refused for one cause, or have one theory in each way, which keeps their file.
-use Rattle.std.proofs.Common.{◌≡◌, ◌≤◌, ◌<◌, ℕ, List, length, take, Result, Ok, Err, refl, sym, ap, subst, ◌∙◌, arith}
+use Rattle.std.proofs.Common.{◌≡◌, ◌≤◌, ◌<◌, ◌^◌, ℕ, List, length, take, Result, Ok, Err, refl, sym, ap, subst, ◌∙◌, arith}
 use Rattle.std.specs.Prelude.{◌+◌}
 use Rattle.std.proofs.lemmas.Grind.{common_steps}
 use Rattle.sap_read.specs.Files.{FileContent, IsRead, IsRunnable}
@@ -11,6 +11,7 @@ use Rattle.sap_tool.specs.Meaning.{Keeps, IsWritten}
 use Rattle.sap_compress.specs.ShortTheories.{IsShortTheory}
 use Rattle.sap_gen.specs.Kept.{KeepsFile, KeepsFileInlined, file_theory, inlined_file_theory}
 use Rattle.sap_read.specs.Printable.{IsPrintableFile}
+use Rattle.sap_read.specs.declared.limits.TheConstants.{MOST_NEW_NAME_BYTES}
 use Rattle.sap_rule.specs.declared.theory.Theory.{Theory}
 use Rattle.sap_terms.specs.declared.limits.TheConstants.{MOST_FILE_NAME_BYTES, MOST_THEORY_NAME_BYTES}
 use Rattle.sap_theory.specs.PrintableTheory.{IsPrintable}
@@ -40,15 +41,20 @@ in_each_way plain inlined short Short told t can is = short told t can is
 
 -- the text of the theory of a file that is read, written in this way, spells it and no other
 abbrev pub Writing : Type 0
-Writing = (way : Way) (z : List ℕ) (told : FileContent) (t : Theory) → IsRead z (Ok told) → IsCompiledTheory way told t → IsWritten (theory_text t) t
+Writing = (way : Way) (z : List ℕ) (told : FileContent) (t : Theory) → IsAcceptedFile z told → IsCompiledTheory way told t → IsWritten (theory_text t) t
+
+-- an accepted file can be printed, since it isn't too long
+pub printable_file : ((z : List ℕ) (told : FileContent) → length z ≤ 2 ^ 52 → IsRead z (Ok told) → IsPrintableFile MOST_FILE_NAME_BYTES MOST_NEW_NAME_BYTES told) → (z : List ℕ) (told : FileContent) → IsAcceptedFile z told
+    → IsPrintableFile MOST_FILE_NAME_BYTES MOST_NEW_NAME_BYTES told
+printable_file law z told file = law z told (omega (arith, file.short)) file.read
 
 -- and so it is where these can be printed
 abbrev pub PrintableBy : Way → Type 0
-PrintableBy way = (told : FileContent) (t : Theory) → IsRunnable told → IsPrintableFile MOST_FILE_NAME_BYTES told → IsCompiledTheory way told t
+PrintableBy way = (told : FileContent) (t : Theory) → IsRunnable told → IsPrintableFile MOST_FILE_NAME_BYTES MOST_NEW_NAME_BYTES told → IsCompiledTheory way told t
     → IsPrintable MOST_THEORY_NAME_BYTES t
 
-pub printable_in_each_way : ((told : FileContent) → IsRunnable told → IsPrintableFile MOST_FILE_NAME_BYTES told → IsPrintable MOST_THEORY_NAME_BYTES (file_theory told))
-    → ((told : FileContent) → IsRunnable told → IsPrintableFile MOST_FILE_NAME_BYTES told → IsPrintable MOST_THEORY_NAME_BYTES (inlined_file_theory told))
+pub printable_in_each_way : ((told : FileContent) → IsRunnable told → IsPrintableFile MOST_FILE_NAME_BYTES MOST_NEW_NAME_BYTES told → IsPrintable MOST_THEORY_NAME_BYTES (file_theory told))
+    → ((told : FileContent) → IsRunnable told → IsPrintableFile MOST_FILE_NAME_BYTES MOST_NEW_NAME_BYTES told → IsPrintable MOST_THEORY_NAME_BYTES (inlined_file_theory told))
     → PrintableBy Short → (way : Way) → PrintableBy way
 printable_in_each_way plain inlined short Plain told t can print is = subst (IsPrintable MOST_THEORY_NAME_BYTES) (sym is) (plain told can print)
 printable_in_each_way plain inlined short Inlined told t can print is = subst (IsPrintable MOST_THEORY_NAME_BYTES) (sym is) (inlined told can print)

@@ -21,6 +21,7 @@ use sap_gen::{theories_are_printable, theories_keep_files};
 use sap_intruder::{filled_runs_are_legal, one_short_answer};
 use sap_json::{json_runs_can_be_written, one_json_run, written_json_is_read};
 use sap_locks::annotations_are_ready;
+use sap_macro::uses_show_their_instances;
 use sap_outside::{Shelf, Sink, SinkFault, put_pieces};
 use sap_read::{files_are_printable, files_are_runnable, one_file};
 use sap_run_texts::{
@@ -67,6 +68,7 @@ pub fn sapic<S: Shelf, O: Sink, E: Sink>(
     printed_theories();
     files_are_runnable();
     files_are_printable();
+    uses_show_their_instances();
     one_file();
     one_answer_of_theories();
     one_run();

@@ -20,6 +20,7 @@ use Rattle.sap_rule.specs.declared.rule.Rule.{Rule}
 use Rattle.sap_rule.specs.declared.theory.Theory.{Theory}
 use Rattle.sap_read.specs.Files.{FileContent, IsRunnable}
 use Rattle.sap_read.specs.Printable.{IsPrintableFile}
+use Rattle.sap_read.specs.declared.limits.TheConstants.{MOST_NEW_NAME_BYTES}
 use Rattle.sap_theory.specs.ReadAgain.{PassesChecks}
 use Rattle.sap_theory.specs.TheoryCauses.{IsLinear, IsPlainRule, first_repeated, rule_names}
 use Rattle.sap_restrict.specs.Laws.{StandardClosedLaw}
@@ -79,7 +80,7 @@ pub record CheckLaws : Type 0 where
   pub made : (g : Sig) (p q : Proc) → arity_of g pair_name ≡ Some 2 → IsReady g p → node_count p < 2 ^ 64 → IsAnnotation p q → All (IsWellMade g) (rules_of q)
   pub names : (p : Proc) → HaveNamesOfTheirOwn (rules_of p)
 
-module _ (laws : CheckLaws) (f : FileContent) (run : IsRunnable f) (fine : IsPrintableFile MOST_FILE_NAME_BYTES f) (apart : IsNamedApart f) where
+module _ (laws : CheckLaws) (f : FileContent) (run : IsRunnable f) (fine : IsPrintableFile MOST_FILE_NAME_BYTES MOST_NEW_NAME_BYTES f) (apart : IsNamedApart f) where
   made : All (IsWellMade f.signature) (rules_of f.process)
   made =
       let small : node_count run.process < 2 ^ 64 = omega (arith, run.small) in

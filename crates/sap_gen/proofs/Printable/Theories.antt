@@ -18,6 +18,7 @@ use Rattle.sap_rule.specs.declared.rule.Rule.{Rule}
 use Rattle.sap_read.specs.Files.{FileContent, IsRunnable}
 use Rattle.sap_read.specs.Printable as file
 use Rattle.sap_read.specs.Printable.{IsPrintableAct, IsPrintableFile}
+use Rattle.sap_read.specs.declared.limits.TheConstants.{MOST_NEW_NAME_BYTES}
 use Rattle.sap_grammar.specs.Printable.{IsPrintableFact}
 use Rattle.sap_theory.specs.PrintableTheory.{IsPrintable, IsPrintableLemma, IsPrintableRestriction, IsPrintableRule, IsPrintableSymbol}
 use Rattle.sap_theory.specs.SignatureText.{is_brought}
@@ -35,11 +36,17 @@ use Rattle.sap_gen.proofs.Printable.Wider.{lemma_wider, name_wider, process_wide
 abbrev short : ℕ
 short = MOST_FILE_NAME_BYTES
 
+abbrev wide : ℕ
+wide = MOST_NEW_NAME_BYTES
+
 abbrev long : ℕ
 long = MOST_THEORY_NAME_BYTES
 
 le : short ≤ long
 le = omega arith
+
+within : wide ≤ long
+within = omega arith
 
 room : 330 ≤ long
 room = omega arith
@@ -49,11 +56,11 @@ pub record SettledLaws : Type 0 where
   pub labels : (p q : Proc) → node_count p < 2 ^ 64 → IsAnnotation p q → HasSmallLabels q
   pub lookups : (g : Sig) (p q : Proc) → IsReady g p → IsAnnotation p q → HasPlainLookups q
 
-module _ (laws : SettledLaws) (f : FileContent) (run : IsRunnable f) (fine : IsPrintableFile short f) where
+module _ (laws : SettledLaws) (f : FileContent) (run : IsRunnable f) (fine : IsPrintableFile short wide f) where
   printed : ArePrinted long room f.signature (rules_of f.process)
   printed =
       let small : node_count run.process < 2 ^ 64 = omega (arith, run.small) in
-      rules_printed long room f.signature f.process fine.levels (process_wider short long le f.signature f.process fine.process) (laws.labels run.process f.process small run.annotation)
+      rules_printed long room f.signature f.process fine.levels (process_wider wide long within f.signature f.process fine.process) (laws.labels run.process f.process small run.annotation)
       (laws.lookups f.signature run.process f.process run.ready run.annotation)
 
   printable_rule : (r : Rule) → IsPrintedRule long f.signature r → IsPrintableRule long f.signature r

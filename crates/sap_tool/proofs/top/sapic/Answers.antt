@@ -1,5 +1,5 @@
 use Rattle.sap_tool.proofs.Kept.{kept}
-use Rattle.sap_tool.proofs.Refused.{in_each_way, one_compiled, printable_in_each_way}
+use Rattle.sap_tool.proofs.Refused.{in_each_way, one_compiled, printable_file, printable_in_each_way}
 use Rattle.sap_tool.proofs.top.sapic.Goals as goal
 
 pub returns : goal.returns
@@ -8,14 +8,14 @@ returns g c =
     (record {
       keeping = in_each_way c.theories_keep_files.ensures.plain c.theories_keep_files.ensures.inlined c.short_theories_keep_files.ensures;
       runnable = c.files_are_runnable.ensures;
-      printed = λ z told read. record {
-        file = c.files_are_printable.ensures z told read;
-        theory = c.theories_are_printable.ensures.plain told (c.files_are_runnable.ensures z told read) (c.files_are_printable.ensures z told read);
-      };
-      writing = λ way z told t read is.
+      printed = λ z told file.
+          let fine = printable_file c.files_are_printable.ensures z told file in
+          record { file = fine; theory = c.theories_are_printable.ensures.plain told (c.files_are_runnable.ensures z told file.read) fine };
+      writing = λ way z told t file is.
           let can = printable_in_each_way c.theories_are_printable.ensures.plain c.theories_are_printable.ensures.inlined c.short_theories_are_printable.ensures
-          way told t (c.files_are_runnable.ensures z told read) (c.files_are_printable.ensures z told read) is in
+          way told t (c.files_are_runnable.ensures z told file.read) (printable_file c.files_are_printable.ensures z told file) is in
           record { spelled = c.printed_theories.ensures.printable _ _ can; no_other = λ u. c.printed_theories.ensures.no_other _ _ u can };
+      instances = c.uses_show_their_instances.ensures;
       one_compiled = one_compiled c.one_short_theory.ensures.one;
       one = c.one_file.ensures;
       one_theory = c.one_answer_of_theories.ensures;
