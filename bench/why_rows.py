@@ -55,7 +55,7 @@ WORD = re.compile(rb"[A-Za-z][A-Za-z0-9_]*|[0-9]+|'[ -&(-~]*'|==>|<=>|--\[|\]->|
 
 def written(text):
     """The bytes of a part of a row: line feeds, bytes, and repetitions."""
-    out = b""
+    out = bytearray()
     i = 0
     while i < len(text):
         if text[i] == "^":
@@ -74,7 +74,7 @@ def written(text):
         else:
             out += text[i].encode()
             i += 1
-    return out
+    return bytes(out)
 
 
 def shown(data):
