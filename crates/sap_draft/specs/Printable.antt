@@ -48,33 +48,40 @@ IsPrintableAction most g (embedded l e r) =
     All (IsPrintableFact most g) l × All (IsPrintableAct most g) e × All (IsPrintableFact most g) r
 
 -- the term can be printed, where it is over the signature
-abbrev pub CanBePrinted : ℕ → Sig → Tree → Type 0
-CanBePrinted most g t = IsOver g t → IsPrintableTerm most g t
+abbrev pub IsSpelledTerm : ℕ → Sig → Tree → Type 0
+IsSpelledTerm most g t = IsOver g t → IsPrintableTerm most g t
 
--- so it is with the action; what `new` binds is a name, whether it is a constant or not
-abbrev pub ActionCanBePrinted : ℕ → Sig → Action → Type 0
-ActionCanBePrinted most g (new x) = IsName most x.name
-ActionCanBePrinted most g (out t) = CanBePrinted most g t
-ActionCanBePrinted most g (send t u) = CanBePrinted most g t × CanBePrinted most g u
-ActionCanBePrinted most g (input t) = CanBePrinted most g t
-ActionCanBePrinted most g (receive t u) = CanBePrinted most g t × CanBePrinted most g u
-ActionCanBePrinted most g (event f) = IsFactOver g f → IsPrintableAct most g f
-ActionCanBePrinted most g (insert t u) = CanBePrinted most g t × CanBePrinted most g u
-ActionCanBePrinted most g (delete t) = CanBePrinted most g t
-ActionCanBePrinted most g (lock t n) = CanBePrinted most g t
-ActionCanBePrinted most g (unlock t n) = CanBePrinted most g t
-ActionCanBePrinted most g (embedded l e r) =
-    IsActionOver g (embedded l e r) → IsPrintableAction most g (embedded l e r)
+-- so it is with the fact, and with one that is shown
+abbrev pub IsSpelledFact : ℕ → Sig → Fact → Type 0
+IsSpelledFact most g f = IsFactOver g f → IsPrintableFact most g f
+
+abbrev pub IsSpelledAct : ℕ → Sig → Fact → Type 0
+IsSpelledAct most g f = IsFactOver g f → IsPrintableAct most g f
+
+-- so it is with the terms and facts of the action; what `new` binds is a name, whether it is a constant or not
+abbrev pub IsSpelledAction : ℕ → Sig → Action → Type 0
+IsSpelledAction most g (new x) = IsName most x.name
+IsSpelledAction most g (out t) = IsSpelledTerm most g t
+IsSpelledAction most g (send t u) = IsSpelledTerm most g t × IsSpelledTerm most g u
+IsSpelledAction most g (input t) = IsSpelledTerm most g t
+IsSpelledAction most g (receive t u) = IsSpelledTerm most g t × IsSpelledTerm most g u
+IsSpelledAction most g (event f) = IsSpelledAct most g f
+IsSpelledAction most g (insert t u) = IsSpelledTerm most g t × IsSpelledTerm most g u
+IsSpelledAction most g (delete t) = IsSpelledTerm most g t
+IsSpelledAction most g (lock t n) = IsSpelledTerm most g t
+IsSpelledAction most g (unlock t n) = IsSpelledTerm most g t
+IsSpelledAction most g (embedded l e r) =
+    All (IsSpelledFact most g) l × All (IsSpelledAct most g) e × All (IsSpelledFact most g) r
 
 -- so it is with each action, argument, comparison and lookup of the process; what stands for a process is a name, and so is what
 -- a lookup binds
-abbrev pub WrittenCanBePrinted : ℕ → Sig → Written → Type 0
-WrittenCanBePrinted most g nil = Unit {0}
-WrittenCanBePrinted most g (call x ts) = IsName most x × All (CanBePrinted most g) ts
-WrittenCanBePrinted most g (parallel p q) = WrittenCanBePrinted most g p × WrittenCanBePrinted most g q
-WrittenCanBePrinted most g (replicated p) = WrittenCanBePrinted most g p
-WrittenCanBePrinted most g (act a p) = ActionCanBePrinted most g a × WrittenCanBePrinted most g p
-WrittenCanBePrinted most g (test t u p q) =
-    CanBePrinted most g t × CanBePrinted most g u × WrittenCanBePrinted most g p × WrittenCanBePrinted most g q
-WrittenCanBePrinted most g (lookup t x p q) =
-    CanBePrinted most g t × IsName most x.name × WrittenCanBePrinted most g p × WrittenCanBePrinted most g q
+abbrev pub IsSpelledWritten : ℕ → Sig → Written → Type 0
+IsSpelledWritten most g nil = Unit {0}
+IsSpelledWritten most g (call x ts) = IsName most x × All (IsSpelledTerm most g) ts
+IsSpelledWritten most g (parallel p q) = IsSpelledWritten most g p × IsSpelledWritten most g q
+IsSpelledWritten most g (replicated p) = IsSpelledWritten most g p
+IsSpelledWritten most g (act a p) = IsSpelledAction most g a × IsSpelledWritten most g p
+IsSpelledWritten most g (test t u p q) =
+    IsSpelledTerm most g t × IsSpelledTerm most g u × IsSpelledWritten most g p × IsSpelledWritten most g q
+IsSpelledWritten most g (lookup t x p q) =
+    IsSpelledTerm most g t × IsName most x.name × IsSpelledWritten most g p × IsSpelledWritten most g q

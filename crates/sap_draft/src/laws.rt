@@ -7,7 +7,7 @@ ghost use Rattle.sap_grammar.specs.declared.limits.Limits.{Limits};
 ghost use Rattle.sap_draft.specs.code.TermLaws.{AreRead, AreSpelled};
 ghost use Rattle.sap_macro.specs.Written.{Written};
 ghost use Rattle.sap_draft.specs.ProcessGrammar.{IsPar, IsProcess, EndsProcess};
-ghost use Rattle.sap_draft.specs.Printable.{WrittenCanBePrinted};
+ghost use Rattle.sap_draft.specs.Printable.{IsSpelledWritten};
 ghost use Rattle.sap_draft.specs.ProcessExamples.{dangling_words, dangling_process, parted_words, parted_process, parallel_words, parallel_process, action_words, action_process, rule_words, rule_process, lookup_words, lookup_process, use_words, use_process, empty_use_words, comma_use_words, parted_use_words};
 ghost use Rattle.sap_draft.specs.declared.limits.TheConstants.{FILE_LIMITS};
 
@@ -58,7 +58,7 @@ pub fn some_process()
 /// looked at by itself, since it may be put nowhere.
 pub fn processes_are_printable()
     ensures { (most : ℕ) (g : Sig) (m : Limits) (p : Written) (n : ℕ) (a b : List Word)
-        → IsPar g m p n a b → AreTokenWords most a → WrittenCanBePrinted most g p }
+        → IsPar g m p n a b → AreTokenWords most a → IsSpelledWritten most g p }
 {
     printed_words();
 }

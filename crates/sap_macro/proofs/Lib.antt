@@ -20,3 +20,4 @@ pub mod Forms
 pub mod Counted
 pub mod Sized
 pub mod Replacing
+pub mod SameSizes

@@ -17,7 +17,7 @@ use Rattle.sap_macro.specs.Order.{AreInOrder, UsesOnly}
 use Rattle.sap_macro.specs.Replaced.{AreWithoutParameters, Stands, nothing_stands, process_of, replaced, with_standing}
 use Rattle.sap_macro.specs.Written.{Written, nil, call, parallel, replicated, act, test, lookup, Definition}
 use Rattle.sap_macro.specs.code.Indexed.{defined}
-use Rattle.sap_macro.proofs.Names.{clash, in_head, not_in, one_name, out_of}
+use Rattle.sap_macro.proofs.Names.{not_in, out_of, two_names}
 use Rattle.sap_macro.proofs.NewNames.{in_cases}
 use Rattle.sap_macro.proofs.Resolving.{apart_from, meaning_stays, plain_stays, resolved, uses_agree, with_body}
 use Rattle.sap_macro.proofs.Uses.{action_kept, kept}
@@ -114,7 +114,7 @@ module _ (known : List (List ℕ)) (p : Plain) (s : Stands) (d : Definition) (on
       ∙ h.known_said f ts (later e) m taken ∙ sym (ap (λ b. if b then replaced s d.body else s f) e))
       (cases_Bool (bytes_eq d.name f)) where
         later : bytes_eq d.name f ≡ false → is_known known f ≡ true
-        later e = ⊎_elim (λ o. clash (bytes_eq d.name f) o e) (λ o. o) (in_cases f d.name known k)
+        later e = ⊎_elim (λ o. absurd (two_names d.name f e o)) (λ o. o) (in_cases f d.name known k)
 
   replaced_with : AreReplaced (d.name ∷ known) (with_plain p d) (with_standing s d)
   replaced_with = record {

@@ -1,8 +1,9 @@
 pub mod WordsRead
 pub mod Parts
-pub mod Meaning
-pub mod Expanded
-pub mod Kept
+pub mod Known
+pub mod InOrder
+pub mod Parting
+pub mod Parameters
 pub mod Labelled
 pub mod Caused
 pub mod Checked
@@ -11,6 +12,7 @@ pub mod ItemTurns
 pub mod OneFile
 pub mod SomeFile
 pub mod Sizes
+pub mod Small
 pub mod Unrefused
 pub mod EachOf
 pub mod DeclaredSymbols

@@ -22,6 +22,7 @@ pub mod Identifiers
 pub mod FileProcess
 pub mod Causes
 pub mod Files
+pub mod Occurring
 pub mod Printable
 pub mod OwnNames
 pub mod CauseExamples

@@ -19,7 +19,10 @@ fn read_parameters<'a>(
 {
     let mut params = NameList::new(alloc);
     let mut rest = tokens;
-    while let Some(name) = name_at(bytes, rest) {
+    while !rest.is_empty() {
+        let Some(name) = name_at(bytes, rest) else {
+            return Ok(None);
+        };
         params.push(Name::from_bytes(alloc, name)?)?;
         let behind = beyond(1, rest);
         if starts(bytes, behind, ")") {

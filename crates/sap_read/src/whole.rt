@@ -1,17 +1,17 @@
 //! From what is written to the process of the file.
-ghost use Rattle.std.specs.Prelude.{◌≡◌, ◌≤◌, [], ◌∷◌, ◌++◌, Some, None, map, ℕ, List, IfOk, OnOk, IsErrOf};
+ghost use Rattle.std.specs.Prelude.{◌≡◌, ◌≤◌, [], ◌∷◌, ◌++◌, Some, None, map, IfOk, OnOk, IsErrOf};
 ghost use Rattle.std.specs.Option.{option_or};
 ghost use Rattle.sap_terms.specs.Signature.{Sig};
 ghost use Rattle.sap_process.specs.Proc.{node_count, proc};
 ghost use Rattle.sap_restrict.specs.Restrictions.{is_generated};
 ghost use Rattle.sap_statements.specs.Statements.{name_of};
 ghost use Rattle.sap_macro.specs.Sources.{definitions, written};
-ghost use Rattle.sap_read.specs.FileProcess.{definitions_of, main_of, defined_as, IsExpanded};
+ghost use Rattle.sap_read.specs.FileProcess.{definitions_of, main_of, defined_as};
 ghost use Rattle.sap_read.specs.Item.{Body};
 ghost use Rattle.sap_read.specs.Causes.{cause, unlabelled, labels, unknown_from, first_repeated, first_taken};
 ghost use Rattle.sap_read.specs.code.Bodies.{body};
 ghost use Rattle.sap_read.specs.code.Judged.{IsRefusedBefore, IsWhole};
-ghost use Rattle.sap_read.specs.code.Parting.{ArePartsOf, written_main};
+ghost use Rattle.sap_read.specs.code.Parting.{written_main};
 ghost use Rattle.sap_read.specs.declared.fault.ReadFault.{ReadFault};
 ghost use Rattle.sap_read.specs.declared.fault.ReadFault.TheVariants.{Mem as OutOfMemory};
 
@@ -112,6 +112,7 @@ fn put(parted: &mut Parted, entry: Entry) -> Result<(), Mem>
 }
 
 // The definitions and the file's own process.
+#[tactic(auto, using(crate::proofs::Parting::parts_more))]
 fn parted(alloc: Global, entries: Items<Entry>) -> Result<Parted, Mem>
     ensures definitions { IfOk result (λ p. definitions p.defs ≡ definitions_of (map body entries)) }
     ensures main { IfOk result (λ p. written_main p.main ≡ main_of (map body entries)) }

@@ -15,7 +15,7 @@ use Rattle.sap_read.specs.Causes.{above}
 use Rattle.sap_read.specs.Item.{bodies, declarations, signature_of, statements}
 use Rattle.sap_read.specs.declared.fault.ReadFault.{ReadFault}
 use Rattle.sap_read.specs.declared.fault.ReadFault.TheVariants.{TooDeep}
-use Rattle.sap_read.specs.Files.{FileContent, IsRead, no_tokens, no_header, no_item, refused, ill, locked, unchecked, accepted}
+use Rattle.sap_read.specs.Files.{FileContent, IsRead, no_tokens, no_header, no_item, refused, unexpanded, ill, locked, unchecked, accepted}
 use Rattle.sap_read.specs.Printable.{IsDeclarable, IsPrintableRestriction, IsPrintableLemma, IsPrintableFile}
 use Rattle.sap_statements.specs.Stated.{restrictions_of, lemmas_of}
 use Rattle.sap_read.proofs.DeclaredSymbols.{declared_map, declared_can, pairs_map}
@@ -40,6 +40,7 @@ module _ (bytes : WordLaws) (spelled : SpelledLaws) (sorts : SortLaws) where
   printable z o f e (no_header l h) = absurd (cc (e))
   printable z o f e (no_item l h) = absurd (cc (e))
   printable z o f e (refused l h c) = absurd (cc (e))
+  printable z o f e (unexpanded l h c u) = absurd (cc (e))
   printable z o f e (ill l h c m w) = absurd (cc (e))
   printable z o f e (locked l h c m w k) = absurd (cc (e))
   printable z o f e (unchecked l h c m w a u) = absurd (cc (e))
