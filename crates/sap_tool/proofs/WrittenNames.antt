@@ -18,11 +18,14 @@ use Rattle.sap_terms.specs.declared.binding.Binding.{Binding}
 use Rattle.sap_terms.specs.declared.fact.Fact.{Fact}
 use Rattle.sap_terms.specs.declared.limits.TheConstants.{MOST_FILE_NAME_BYTES}
 use Rattle.sap_terms.specs.declared.signature.Symbol.{Symbol}
+use Rattle.sap_grammar.specs.ByteWords.{IsName}
 use Rattle.sap_grammar.specs.Printable.{HasNames, HaveNames, IsPrintableFact}
 use Rattle.sap_process.specs.Action as action
 use Rattle.sap_process.specs.Action.{Action}
 use Rattle.sap_process.specs.Proc as whole
 use Rattle.sap_process.specs.Proc.{Proc}
+use Rattle.sap_read.specs.Occurring.{NamesAre, AllNamesAre, FactsNamesAre, ActionNamesAre, ProcessNamesAre}
+use Rattle.sap_read.specs.declared.limits.TheConstants.{MOST_NEW_NAME_BYTES}
 use Rattle.sap_read.specs.Printable.{IsDeclarable, IsPrintableAct, IsPrintableAction, IsPrintableProcess}
 use Rattle.sap_runs.specs.declared.process_step.PStep.{PStep}
 use Rattle.sap_runs.specs.declared.process_step.PStep.TheVariants as step
@@ -50,54 +53,57 @@ passing_content a h =
 number_passes : (n : ℕ) → IsNumber n → spellable (fresh n) ≡ true
 number_passes n h = lt-ltb n (2 ^ 64) h
 
--- in what can be printed
+-- in what can be printed, whose public names are short
+
+abbrev pub Named : Tree → Type 0
+Named = NamesAre (IsName MOST_NEW_NAME_BYTES) IsRunContent
 
 mutual
-  named_passes : (t : Tree) → HasNames MOST_FILE_NAME_BYTES t → NamesPass spellable t
-  named_passes (variable v) h = tt
-  named_passes (public a) h = content_passes a h
-  named_passes (fresh n) h = absurd h
-  named_passes (apply f ts) h = all_named_pass ts h.1
+  named_passes : (t : Tree) → HasNames MOST_NEW_NAME_BYTES t → Named t → NamesPass spellable t
+  named_passes (variable v) h k = tt
+  named_passes (public a) h k = content_passes a k
+  named_passes (fresh n) h k = absurd h
+  named_passes (apply f ts) h k = all_named_pass ts h.1 k
 
-  all_named_pass : (ts : Trees) → HaveNames MOST_FILE_NAME_BYTES ts → AllNamesPass spellable ts
-  all_named_pass trees.none h = tt
-  all_named_pass (trees.more t ts) h = (named_passes t h.0, all_named_pass ts h.1)
+  all_named_pass : (ts : Trees) → HaveNames MOST_NEW_NAME_BYTES ts → AllNamesAre (IsName MOST_NEW_NAME_BYTES) IsRunContent ts → AllNamesPass spellable ts
+  all_named_pass trees.none h k = tt
+  all_named_pass (trees.more t ts) h k = (named_passes t h.0 k.0, all_named_pass ts h.1 k.1)
 
 module _ (g : Sig) where
-  facts_pass : (fs : List Fact) → All (IsPrintableFact MOST_FILE_NAME_BYTES g) fs → FactsPass spellable fs
-  facts_pass [] h = tt
-  facts_pass (f ∷ fs) h = (
-    all_named_pass (trees_of f.args) (All-head (IsPrintableFact MOST_FILE_NAME_BYTES g) f fs h).names.1,
-    facts_pass fs (All-tail (IsPrintableFact MOST_FILE_NAME_BYTES g) f fs h),
+  facts_pass : (fs : List Fact) → All (IsPrintableFact MOST_NEW_NAME_BYTES g) fs → FactsNamesAre (IsName MOST_NEW_NAME_BYTES) IsRunContent fs → FactsPass spellable fs
+  facts_pass [] h k = tt
+  facts_pass (f ∷ fs) h k = (
+    all_named_pass (trees_of f.args) (All-head (IsPrintableFact MOST_NEW_NAME_BYTES g) f fs h).names.1 k.0,
+    facts_pass fs (All-tail (IsPrintableFact MOST_NEW_NAME_BYTES g) f fs h) k.1,
   )
 
-  acts_pass : (fs : List Fact) → All (IsPrintableAct MOST_FILE_NAME_BYTES g) fs → FactsPass spellable fs
-  acts_pass [] h = tt
-  acts_pass (f ∷ fs) h = (
-    all_named_pass (trees_of f.args) (All-head (IsPrintableAct MOST_FILE_NAME_BYTES g) f fs h).printable.names.1,
-    acts_pass fs (All-tail (IsPrintableAct MOST_FILE_NAME_BYTES g) f fs h),
+  acts_pass : (fs : List Fact) → All (IsPrintableAct MOST_NEW_NAME_BYTES g) fs → FactsNamesAre (IsName MOST_NEW_NAME_BYTES) IsRunContent fs → FactsPass spellable fs
+  acts_pass [] h k = tt
+  acts_pass (f ∷ fs) h k = (
+    all_named_pass (trees_of f.args) (All-head (IsPrintableAct MOST_NEW_NAME_BYTES g) f fs h).printable.names.1 k.0,
+    acts_pass fs (All-tail (IsPrintableAct MOST_NEW_NAME_BYTES g) f fs h) k.1,
   )
 
-  action_passes : (a : Action) → IsPrintableAction MOST_FILE_NAME_BYTES g a → ActionPasses spellable a
-  action_passes (action.new x) h = tt
-  action_passes (action.out t) h = named_passes t h.names
-  action_passes (action.send t u) h = (named_passes t h.0.names, named_passes u h.1.names)
-  action_passes (action.input t) h = named_passes t h.names
-  action_passes (action.receive t u) h = (named_passes t h.0.names, named_passes u h.1.names)
-  action_passes (action.event f) h = all_named_pass (trees_of f.args) h.printable.names.1
-  action_passes (action.insert t u) h = (named_passes t h.0.names, named_passes u h.1.names)
-  action_passes (action.delete t) h = named_passes t h.names
-  action_passes (action.lock t l) h = named_passes t h.names
-  action_passes (action.unlock t l) h = named_passes t h.names
-  action_passes (action.embedded l e r) h = (facts_pass l h.0, acts_pass e h.1, facts_pass r h.2)
+  action_passes : (a : Action) → IsPrintableAction MOST_NEW_NAME_BYTES g a → ActionNamesAre (IsName MOST_NEW_NAME_BYTES) IsRunContent a → ActionPasses spellable a
+  action_passes (action.new x) h k = tt
+  action_passes (action.out t) h k = named_passes t h.names k
+  action_passes (action.send t u) h k = (named_passes t h.0.names k.0, named_passes u h.1.names k.1)
+  action_passes (action.input t) h k = named_passes t h.names k
+  action_passes (action.receive t u) h k = (named_passes t h.0.names k.0, named_passes u h.1.names k.1)
+  action_passes (action.event f) h k = all_named_pass (trees_of f.args) h.printable.names.1 k
+  action_passes (action.insert t u) h k = (named_passes t h.0.names k.0, named_passes u h.1.names k.1)
+  action_passes (action.delete t) h k = named_passes t h.names k
+  action_passes (action.lock t l) h k = named_passes t h.names k
+  action_passes (action.unlock t l) h k = named_passes t h.names k
+  action_passes (action.embedded l e r) h k = (facts_pass l h.0 k.0, acts_pass e h.1 k.1, facts_pass r h.2 k.2)
 
-  pub process_passes : (p : Proc) → IsPrintableProcess MOST_FILE_NAME_BYTES g p → ProcessPasses spellable p
-  process_passes whole.nil h = tt
-  process_passes (whole.parallel p q) h = (process_passes p h.0, process_passes q h.1)
-  process_passes (whole.replicated p) h = process_passes p h
-  process_passes (whole.act a p) h = (action_passes a h.0, process_passes p h.1)
-  process_passes (whole.test t u p q) h = (named_passes t h.0.names, named_passes u h.1.names, process_passes p h.2, process_passes q h.3)
-  process_passes (whole.lookup t x p q) h = (named_passes t h.0.names, process_passes p h.2, process_passes q h.3)
+  pub process_passes : (p : Proc) → IsPrintableProcess MOST_NEW_NAME_BYTES g p → ProcessNamesAre (IsName MOST_NEW_NAME_BYTES) IsRunContent p → ProcessPasses spellable p
+  process_passes whole.nil h k = tt
+  process_passes (whole.parallel p q) h k = (process_passes p h.0 k.0, process_passes q h.1 k.1)
+  process_passes (whole.replicated p) h k = process_passes p h k
+  process_passes (whole.act a p) h k = (action_passes a h.0 k.0, process_passes p h.1 k.1)
+  process_passes (whole.test t u p q) h k = (named_passes t h.0.names k.0, named_passes u h.1.names k.1, process_passes p h.2 k.2, process_passes q h.3 k.3)
+  process_passes (whole.lookup t x p q) h k = (named_passes t h.0.names k.0, process_passes p h.2 k.2, process_passes q h.3 k.3)
 
 -- in lines that can be written
 
