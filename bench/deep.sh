@@ -3,7 +3,7 @@
 # of 64 MiB, and compares how it ends and what it writes. A line tells an input with the status of each command, and those that
 # differ; the last line how many calls there were, and how many differ. The status is 1 where one differs, or is a signal's.
 #
-#   processes   each construct nested in itself, in either branch; parentheses; all in turn; names that stand for one another;
+#   processes   each construct nested in itself, in either branch; parentheses; all in turn; names that stand for one another, with arguments and without;
 #               terms of 100 levels at the deepest place. Where a file is accepted, with a run that goes as deep as the process
 #               does, with the run of its rules that is opposite, and with its theory
 #   formulas    each connective nested in itself, on either side; quantifiers; terms: as a restriction, as a lemma, in a theory
@@ -179,6 +179,27 @@ processes() {
             printf "process: N%d end", n
         }' > "$work/file.spthy"
         begin "names for one another, $size times"
+        on_file "$work/file.spthy" "$work/none.prun"
+        echo
+    done
+    deeper=$(nested 98 'h(' x ')')
+    uses 'uses below replications' 'out(x)' '! USE(x)' 298 299 16000
+    uses 'mere uses' 'out(x)' 'USE(x)' 300 20000
+    uses 'uses with deeper arguments' "out($deeper)" 'USE(h(x))' 100 255 256 16000
+}
+
+# uses NAME FIRST BODY SIZE..: definitions with a parameter, the first with its body and so many with this one, in which USE is the one
+# before, and a use of the last
+uses() {
+    name=$1 first=$2 body=$3
+    shift 3
+    for size in "$@"; do
+        awk -v n=$size -v first="$first" -v body="$body" 'BEGIN {
+            printf "theory D begin functions: h/1 let N0(x) = %s ", first
+            for (k = 1; k <= n; k++) { one = body; sub(/USE/, "N" k - 1, one); printf "let N%d(x) = %s ", k, one }
+            printf "process: N%d(\047a\047) end", n
+        }' > "$work/file.spthy"
+        begin "$name, $size times"
         on_file "$work/file.spthy" "$work/none.prun"
         echo
     done
