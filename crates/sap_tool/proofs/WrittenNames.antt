@@ -18,13 +18,12 @@ use Rattle.sap_terms.specs.declared.binding.Binding.{Binding}
 use Rattle.sap_terms.specs.declared.fact.Fact.{Fact}
 use Rattle.sap_terms.specs.declared.limits.TheConstants.{MOST_FILE_NAME_BYTES}
 use Rattle.sap_terms.specs.declared.signature.Symbol.{Symbol}
-use Rattle.sap_grammar.specs.ByteWords.{IsName}
 use Rattle.sap_grammar.specs.Printable.{HasNames, HaveNames, IsPrintableFact}
 use Rattle.sap_process.specs.Action as action
 use Rattle.sap_process.specs.Action.{Action}
 use Rattle.sap_process.specs.Proc as whole
 use Rattle.sap_process.specs.Proc.{Proc}
-use Rattle.sap_read.specs.Occurring.{NamesAre, AllNamesAre, FactsNamesAre, ActionNamesAre, ProcessNamesAre}
+use Rattle.sap_read.specs.Occurring.{Any, NamesAre, AllNamesAre, FactsNamesAre, ActionNamesAre, ProcessNamesAre}
 use Rattle.sap_read.specs.declared.limits.TheConstants.{MOST_NEW_NAME_BYTES}
 use Rattle.sap_read.specs.Printable.{IsDeclarable, IsPrintableAct, IsPrintableAction, IsPrintableProcess}
 use Rattle.sap_runs.specs.declared.process_step.PStep.{PStep}
@@ -56,7 +55,7 @@ number_passes n h = lt-ltb n (2 ^ 64) h
 -- in what can be printed, whose public names are short
 
 abbrev pub Named : Tree → Type 0
-Named = NamesAre (IsName MOST_NEW_NAME_BYTES) IsRunContent
+Named = NamesAre Any IsRunContent
 
 mutual
   named_passes : (t : Tree) → HasNames MOST_NEW_NAME_BYTES t → Named t → NamesPass spellable t
@@ -65,26 +64,26 @@ mutual
   named_passes (fresh n) h k = absurd h
   named_passes (apply f ts) h k = all_named_pass ts h.1 k
 
-  all_named_pass : (ts : Trees) → HaveNames MOST_NEW_NAME_BYTES ts → AllNamesAre (IsName MOST_NEW_NAME_BYTES) IsRunContent ts → AllNamesPass spellable ts
+  all_named_pass : (ts : Trees) → HaveNames MOST_NEW_NAME_BYTES ts → AllNamesAre Any IsRunContent ts → AllNamesPass spellable ts
   all_named_pass trees.none h k = tt
   all_named_pass (trees.more t ts) h k = (named_passes t h.0 k.0, all_named_pass ts h.1 k.1)
 
 module _ (g : Sig) where
-  facts_pass : (fs : List Fact) → All (IsPrintableFact MOST_NEW_NAME_BYTES g) fs → FactsNamesAre (IsName MOST_NEW_NAME_BYTES) IsRunContent fs → FactsPass spellable fs
+  facts_pass : (fs : List Fact) → All (IsPrintableFact MOST_NEW_NAME_BYTES g) fs → FactsNamesAre Any IsRunContent fs → FactsPass spellable fs
   facts_pass [] h k = tt
   facts_pass (f ∷ fs) h k = (
     all_named_pass (trees_of f.args) (All-head (IsPrintableFact MOST_NEW_NAME_BYTES g) f fs h).names.1 k.0,
     facts_pass fs (All-tail (IsPrintableFact MOST_NEW_NAME_BYTES g) f fs h) k.1,
   )
 
-  acts_pass : (fs : List Fact) → All (IsPrintableAct MOST_NEW_NAME_BYTES g) fs → FactsNamesAre (IsName MOST_NEW_NAME_BYTES) IsRunContent fs → FactsPass spellable fs
+  acts_pass : (fs : List Fact) → All (IsPrintableAct MOST_NEW_NAME_BYTES g) fs → FactsNamesAre Any IsRunContent fs → FactsPass spellable fs
   acts_pass [] h k = tt
   acts_pass (f ∷ fs) h k = (
     all_named_pass (trees_of f.args) (All-head (IsPrintableAct MOST_NEW_NAME_BYTES g) f fs h).printable.names.1 k.0,
     acts_pass fs (All-tail (IsPrintableAct MOST_NEW_NAME_BYTES g) f fs h) k.1,
   )
 
-  action_passes : (a : Action) → IsPrintableAction MOST_NEW_NAME_BYTES g a → ActionNamesAre (IsName MOST_NEW_NAME_BYTES) IsRunContent a → ActionPasses spellable a
+  action_passes : (a : Action) → IsPrintableAction MOST_NEW_NAME_BYTES g a → ActionNamesAre Any IsRunContent a → ActionPasses spellable a
   action_passes (action.new x) h k = tt
   action_passes (action.out t) h k = named_passes t h.names k
   action_passes (action.send t u) h k = (named_passes t h.0.names k.0, named_passes u h.1.names k.1)
@@ -97,7 +96,7 @@ module _ (g : Sig) where
   action_passes (action.unlock t l) h k = named_passes t h.names k
   action_passes (action.embedded l e r) h k = (facts_pass l h.0 k.0, acts_pass e h.1 k.1, facts_pass r h.2 k.2)
 
-  pub process_passes : (p : Proc) → IsPrintableProcess MOST_NEW_NAME_BYTES g p → ProcessNamesAre (IsName MOST_NEW_NAME_BYTES) IsRunContent p → ProcessPasses spellable p
+  pub process_passes : (p : Proc) → IsPrintableProcess MOST_NEW_NAME_BYTES g p → ProcessNamesAre Any IsRunContent p → ProcessPasses spellable p
   process_passes whole.nil h k = tt
   process_passes (whole.parallel p q) h k = (process_passes p h.0 k.0, process_passes q h.1 k.1)
   process_passes (whole.replicated p) h k = process_passes p h k

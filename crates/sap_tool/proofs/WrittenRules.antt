@@ -218,6 +218,6 @@ each_written laws (s ∷ ss) named numbered = (laws.named s named.0 numbered.0, 
 pub rules_are_read : RuleLaws → (f : FileContent) → IsPrintableFile MOST_FILE_NAME_BYTES MOST_NEW_NAME_BYTES f → IsPrintable MOST_THEORY_NAME_BYTES (file_theory f) → (z : List ℕ) (lines : List PStep) (rule_lines : List RStep) → IsProcessRunText z (Ok lines)
     → forward.IsConverted f.signature f.process lines rule_lines → Each (λ s. AreNumbered (rule_words s)) rule_lines → length rule_lines ≤ MOST_RULE_STEPS → IsRuleRunText (rule_run_text rule_lines) (Ok rule_lines)
 rules_are_read laws f file theory z lines rule_lines read c numbered short =
-    let passes = c.names spellable (process_passes f.signature f.process file.process file.names) (lines_pass lines (laws.read z lines read)) in
+    let passes = c.names spellable (process_passes f.signature f.process file.process file.contents) (lines_pass lines (laws.read z lines read)) in
     let named = lines_named f.signature file.symbols (rules_of f.process) theory.rules rule_lines c.opposite.state c.opposite.full c.opposite.legal passes in
     laws.printed rule_lines (each_written laws rule_lines named numbered) short
