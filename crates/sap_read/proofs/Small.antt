@@ -13,8 +13,8 @@ use Rattle.sap_read.specs.Item.{Body}
 
 -- expansions are equally large, whatever names are taken
 pub record AreOneSize : Type 0 where
-  pub nodes : (ds : List Definition) (names other : List (List ℕ)) (p : Written) → node_count (expansion ds names p).process ≡ node_count (expansion ds other p).process
-  pub levels : (ds : List Definition) (names other : List (List ℕ)) (p : Written) → level_count (expansion ds names p).process ≡ level_count (expansion ds other p).process
+  pub nodes : (ds : List Definition) (p : Written) (names other : List (List ℕ)) → node_count (expansion ds names p).process ≡ node_count (expansion ds other p).process
+  pub levels : (ds : List Definition) (p : Written) (names other : List (List ℕ)) → level_count (expansion ds names p).process ≡ level_count (expansion ds other p).process
 
 -- what isn't above for all names isn't for one
 not_above : (measure : List (List ℕ) → ℕ) (most : ℕ) (names : List (List ℕ)) → ((other : List (List ℕ)) → measure names ≡ measure other) → (((other : List (List ℕ)) → most < measure other) → ⊥) → measure names ≤ most
@@ -28,10 +28,10 @@ module _ (sizes : AreOneSize) (g : Sig) (names : List (List ℕ)) (bs : List Bod
   few_places =
       let ds = definitions_of bs in
       subst (λ (q : Proc). node_count q ≤ MOST_PROCESS_PLACES) e.whole
-      (not_above (λ other. node_count (expansion ds other e.main).process) MOST_PROCESS_PLACES names (λ other. sizes.nodes ds names other e.main) (e.no_cause TooMany))
+      (not_above (λ other. node_count (expansion ds other e.main).process) MOST_PROCESS_PLACES names (λ other. sizes.nodes ds e.main names other) (e.no_cause TooMany))
 
   pub few_levels : level_count p ≤ MOST_PROCESS_LEVELS
   few_levels =
       let ds = definitions_of bs in
       subst (λ (q : Proc). level_count q ≤ MOST_PROCESS_LEVELS) e.whole
-      (not_above (λ other. level_count (expansion ds other e.main).process) MOST_PROCESS_LEVELS names (λ other. sizes.levels ds names other e.main) (e.no_cause TooDeep))
+      (not_above (λ other. level_count (expansion ds other e.main).process) MOST_PROCESS_LEVELS names (λ other. sizes.levels ds e.main names other) (e.no_cause TooDeep))

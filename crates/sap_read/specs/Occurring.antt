@@ -10,6 +10,10 @@ use Rattle.sap_process.specs.Proc.{Proc, nil, parallel, replicated, act, test, l
 abbrev pub OfNames : Type 1
 OfNames = List ℕ → Type 0
 
+-- nothing
+abbrev pub Any : OfNames
+Any x = Unit {0}
+
 abbrev mutual
   -- the first is so of the name of each variable in the term, and the second of each public name
   pub NamesAre : OfNames → OfNames → Tree → Type 0

@@ -1,11 +1,10 @@
 //! Flaws of bodies.
 ghost use Rattle.std.specs.Prelude.{[], IfOk, IfNone, IfSome};
 ghost use Rattle.sap_terms.specs.Signature.{Sig};
-ghost use Rattle.sap_process.specs.Flaws.{HasNoScopeFlaw, IsFirstScopeFlaw};
 ghost use Rattle.sap_macro.specs.Expansion.{plain};
 ghost use Rattle.sap_macro.specs.Order.{AreInOrder};
-ghost use Rattle.sap_macro.specs.Sources.{definition_of, definitions, written};
-ghost use Rattle.sap_uses.specs.ScopeFlaws.{params_in_scope, seen};
+ghost use Rattle.sap_macro.specs.Sources.{definition_of, definitions};
+ghost use Rattle.sap_uses.specs.ScopeFlaws.{HasNoScopeFlaw, IsFirstScopeFlaw, params_in_scope, seen};
 ghost use Rattle.sap_uses.specs.code.Indices.{AreIndexed};
 
 use crate::index::Index;
@@ -24,9 +23,9 @@ pub(crate) fn body_flaw(
     requires order { AreInOrder [] (definitions defs.now) }
     requires index { AreIndexed (definitions defs.now) index.now }
     ensures found { (g : Sig) → IfOk result (λ o. IfSome o (λ f. IsFirstScopeFlaw g (params_in_scope (definition_of d.now))
-        (seen (plain (definitions defs.now) (written d.now.body.value))) f.0 f.1)) }
+        (seen (plain (definitions defs.now) (definition_of d.now).body)) f.0 f.1)) }
     ensures none { (g : Sig) → IfOk result (λ o. IfNone o (HasNoScopeFlaw g (params_in_scope (definition_of d.now))
-        (seen (plain (definitions defs.now) (written d.now.body.value))))) }
+        (seen (plain (definitions defs.now) (definition_of d.now).body)))) }
 {
     Err(Mem)
 }
