@@ -1,5 +1,5 @@
 -- The identifiers of a file are its names, and no more than its bytes; what is so of bodies is so of definitions and of the process.
-use Rattle.std.proofs.Common.{◌≡◌, ◌≤◌, ℕ, Bool, true, false, ◌||◌, List, [], ◌∷◌, ◌++◌, map, length, Option, Some, None, Ok, Err, refl, sym, ap, subst, ◌∙◌, arith}
+use Rattle.std.proofs.Common.{◌≡◌, ◌≤◌, ◌+◌, ℕ, Bool, true, false, ◌||◌, List, [], ◌∷◌, ◌++◌, map, length, Option, Some, None, Ok, Err, refl, sym, ap, subst, ◌∙◌, arith}
 use Rattle.std.specs.Prelude.{if◌then◌else◌, is_none, Result}
 use Rattle.std.specs.List.{AllByRecursion}
 use Rattle.std.specs.Str.{bytes_eq}
@@ -18,7 +18,7 @@ use Rattle.sap_read.specs.FileProcess.{defined_as, definitions_of, main_of}
 use Rattle.sap_read.specs.Identifiers.{identifiers_of}
 use Rattle.sap_read.specs.Item.{Body}
 use Rattle.sap_read.proofs.OccurringWords.{WordsNamesAre}
-use Rattle.sap_read.proofs.Taken.{IsAmong, Stays, or_true}
+use Rattle.sap_read.proofs.TakenNames.{IsAmong, Stays, or_true}
 
 -- no token is empty
 no_empty : {k : Kind} → IsToken k [] → ⊥
@@ -54,7 +54,7 @@ few (failed f) = tt
 
 few_words : (z : List ℕ) (ts : List Token) → length (words_of z ts) ≡ length ts
 few_words z [] = refl
-few_words z (t ∷ ts) = ap (λ n. n + 1) (few_words z ts)
+few_words z (t ∷ ts) = let e = few_words z ts in omega (arith, e)
 
 few_identifiers : (ws : List Word) → length (identifiers_of ws) ≤ length ws
 few_identifiers [] = omega arith
@@ -97,14 +97,14 @@ module _ (P : Written → Type 0) where
 
   pub definitions_so : (bs : List Body) → AllByRecursion IsBodySo bs → AllByRecursion IsDefinitionSo (definitions_of bs)
   definitions_so [] h = tt
-  definitions_so (b ∷ bs) h = by b.label where
-    by : (o : Option (List ℕ)) → AllByRecursion IsDefinitionSo (defined_as o b ++ definitions_of bs)
-    by None = definitions_so bs h.1
-    by (Some x) = (h.0, definitions_so bs h.1)
+  definitions_so (b ∷ bs) h = by b.label (definitions_so bs h.1) where
+    by : (o : Option (List ℕ)) → AllByRecursion IsDefinitionSo (definitions_of bs) → AllByRecursion IsDefinitionSo (defined_as o b ++ definitions_of bs)
+    by None later = later
+    by (Some x) later = (h.0, later)
 
   pub main_so : (bs : List Body) (p : Written) → AllByRecursion IsBodySo bs → main_of bs ≡ Some p → P p
   main_so [] p h e = absurd (cc (e))
-  main_so (b ∷ bs) p h e = by (is_none b.label) e where
-    by : (t : Bool) → (if t then Some b.content else main_of bs) ≡ Some p → P p
-    by true e = let same : b.content ≡ p = cc (e) in subst P same h.0
-    by false e = main_so bs p h.1 e
+  main_so (b ∷ bs) p h e = by (is_none b.label) e (main_so bs p h.1) where
+    by : (t : Bool) → (if t then Some b.content else main_of bs) ≡ Some p → (main_of bs ≡ Some p → P p) → P p
+    by true e later = let same : b.content ≡ p = cc (e) in subst P same h.0
+    by false e later = later e

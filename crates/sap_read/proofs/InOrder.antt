@@ -82,24 +82,28 @@ more_new ns xs x other new y h = by (bytes_eq x y) refl where
 
 pub in_order : (bs : List Body) (ks ns : List (List ℕ)) → AreSame ks ns → unknown_from ks bs ≡ None → first_repeated (labels bs) ≡ None → AreNew ns (labels bs) → AreInOrder ns (definitions_of bs)
 in_order [] ks ns same known distinct new = tt
-in_order (b ∷ bs) ks ns same known distinct new = by b.label refl where
+in_order (b ∷ bs) ks ns same known distinct new = by b.label refl (in_order bs) where
   parts : (find (λ x. not (is_among ks x)) (calls b.content) ≡ None) × (unknown_from (ks ++ listed b.label) bs ≡ None)
   parts = both_none (find (λ x. not (is_among ks x)) (calls b.content)) (unknown_from (ks ++ listed b.label) bs) known
 
   grown : (l : Option (List ℕ)) (x : List ℕ) → is_among (ks ++ listed l) x ≡ (is_among ks x || is_among (listed l) x)
   grown l x = list_any-append (λ y. bytes_eq y x) ks (listed l)
 
-  by : (l : Option (List ℕ)) → b.label ≡ l → AreInOrder ns (defined_as l b ++ definitions_of bs)
-  by None e =
-      in_order bs (ks ++ listed None) ns (λ x. grown None x ∙ false_or (is_among ks x) ∙ same x) (rw e at parts.1) (rw e at distinct) (rw e at new)
-  by (Some y) e =
+  by : (l : Option (List ℕ)) → b.label ≡ l
+      → ((js ms : List (List ℕ)) → AreSame js ms → unknown_from js bs ≡ None → first_repeated (labels bs) ≡ None → AreNew ms (labels bs) → AreInOrder ms (definitions_of bs))
+      → AreInOrder ns (defined_as l b ++ definitions_of bs)
+  by None e later =
+      later (ks ++ listed None) ns (λ x. grown None x ∙ false_or (is_among ks x) ∙ same x) (rw e at parts.1) (rw e at distinct) (rw e at new)
+  by (Some y) e later =
       let fresh : first_repeated (y ∷ labels bs) ≡ None = rw e at distinct in
       let unused : AreNew ns (y ∷ labels bs) = rw e at new in
-      let later = once y (labels bs) fresh in (
+      let rest = once y (labels bs) fresh in (
         unused y (itself y (labels bs)),
-        uses_only ks ns same b.content parts.0,
-        in_order bs (ks ++ listed (Some y)) (y ∷ ns) (λ x. grown (Some y) x ∙ or_swaps (is_among ks x) (bytes_eq y x) ∙ ap (λ t. bytes_eq y x || t) (same x)) (rw e at parts.1) later.1
-        (more_new ns (labels bs) y later.0 unused),
+        (
+          uses_only ks ns same b.content parts.0,
+          later (ks ++ listed (Some y)) (y ∷ ns) (λ x. grown (Some y) x ∙ or_swaps (is_among ks x) (bytes_eq y x) ∙ ap (λ t. bytes_eq y x || t) (same x)) (rw e at parts.1) rest.1
+              (more_new ns (labels bs) y rest.0 unused),
+        ),
       )
 
 -- nothing is known before the first

@@ -24,7 +24,7 @@ use Rattle.sap_read.specs.code.ItemView.{IsItemOf, IsAdded, IsAdding, IsGoodBehi
 use Rattle.sap_read.specs.code.ItemLaws.{ItemLaws}
 use Rattle.sap_read.proofs.WordsRead.{starts_is, name_is, words-drop}
 use Rattle.sap_read.proofs.ItemsRead.{declared_sound}
-use Rattle.sap_read.proofs.Parameters.{one_head}
+use Rattle.sap_read.proofs.ReadParameters.{one_head}
 
 pub words_placed : (z : List ℕ) (ts : List Token) → words (placed z ts) ≡ words_of z ts
 words_placed z [] = refl

@@ -16,7 +16,7 @@ use Rattle.sap_statements.specs.Statements.{is_restriction, is_lemma}
 use Rattle.sap_read.specs.code.ItemLaws.{ItemLaws}
 use Rattle.sap_read.specs.code.ProcessLaws.{ProcessLaws}
 use Rattle.sap_draft.specs.ProcessGrammar.{IsProcess}
-use Rattle.sap_read.proofs.Parameters.{one_head}
+use Rattle.sap_read.proofs.ReadParameters.{one_head}
 use Rattle.sap_read.specs.code.StatementLaws.{StatementLaws}
 
 -- what an item declares is read in its words

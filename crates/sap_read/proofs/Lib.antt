@@ -3,7 +3,8 @@ pub mod Parts
 pub mod Known
 pub mod InOrder
 pub mod Parting
-pub mod Parameters
+pub mod ReadParameters
+pub mod FromParts
 pub mod Labelled
 pub mod Caused
 pub mod Checked
@@ -20,7 +21,7 @@ pub mod ProcessOver
 pub mod PrintableSorts
 pub mod OccurringWords
 pub mod NewNames
-pub mod Taken
+pub mod TakenNames
 pub mod FewNames
 pub mod OccurringMeaning
 pub mod OccurringSorts

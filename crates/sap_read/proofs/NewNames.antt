@@ -62,14 +62,14 @@ AllEndOtherwise ws = list_all (λ w. not (ends_in_digit w)) ws
 
 other_words : (x : List ℕ) (ws : List (List ℕ)) → ends_in_digit x ≡ true → AllEndOtherwise ws ≡ true → list_any (λ w. bytes_eq x w) ws ≡ false
 other_words x [] e h = refl
-other_words x (w ∷ ws) e h = by (bytes_eq x w) refl where
-  by : (t : Bool) → bytes_eq x w ≡ t → (t || list_any (λ v. bytes_eq x v) ws) ≡ false
-  by true q =
+other_words x (w ∷ ws) e h = by (bytes_eq x w) refl (other_words x ws e) where
+  by : (t : Bool) → bytes_eq x w ≡ t → (AllEndOtherwise ws ≡ true → list_any (λ v. bytes_eq x v) ws ≡ false) → (t || list_any (λ v. bytes_eq x v) ws) ≡ false
+  by true q later =
       let same : x ≡ w = (bytes_eq-Decides x w).0 q in
       let ends : ends_in_digit w ≡ true = subst (λ z. ends_in_digit z ≡ true) same e in
       let other : not (ends_in_digit w) ≡ true = and_left (not (ends_in_digit w)) (AllEndOtherwise ws) h in
       absurd (let no : not true ≡ true = subst (λ b. not b ≡ true) ends other in cc)
-  by false q = other_words x ws e (and_right (not (ends_in_digit w)) (AllEndOtherwise ws) h)
+  by false q later = later (and_right (not (ends_in_digit w)) (AllEndOtherwise ws) h)
 
 no_word : (x : List ℕ) → ends_in_digit x ≡ true → is_grammar_word x ≡ false
 no_word x e =
@@ -170,10 +170,10 @@ module _ (N M : List ℕ → Type 0) where
 
   found_so : (ss : List Symbol) (y : List ℕ) (s : Symbol) → AreDeclaredOrOther ss → find_symbol ss y ≡ Some s → N y ⊎ (ends_in_digit y ≡ false)
   found_so [] y s h e = absurd (cc)
-  found_so (t ∷ ss) y s h e = by (bytes_eq t.name y) refl e where
-    by : (c : Bool) → bytes_eq t.name y ≡ c → (if c then Some t else find_symbol ss y) ≡ Some s → N y ⊎ (ends_in_digit y ≡ false)
-    by true q e = subst (λ z. N z ⊎ (ends_in_digit z ≡ false)) ((bytes_eq-Decides t.name y).0 q) h.0
-    by false q e = found_so ss y s h.1 e
+  found_so (t ∷ ss) y s h e = by (bytes_eq t.name y) refl e (found_so ss y s h.1) where
+    by : (c : Bool) → bytes_eq t.name y ≡ c → (if c then Some t else find_symbol ss y) ≡ Some s → (find_symbol ss y ≡ Some s → N y ⊎ (ends_in_digit y ≡ false)) → N y ⊎ (ends_in_digit y ≡ false)
+    by true q e later = subst (λ z. N z ⊎ (ends_in_digit z ≡ false)) ((bytes_eq-Decides t.name y).0 q) h.0
+    by false q e later = later e
 
   -- a constant was declared, or its name doesn't end in a digit
   constant_so : (ds : List Declaration) (y : List ℕ) → AllByRecursion (DeclaredNameIs N M) ds → IsConstant (signature_from pairs_alone ds) y → N y ⊎ (ends_in_digit y ≡ false)

@@ -38,10 +38,10 @@ module _ (N K M : OfNames) where
     pub args_names : (ts : List Tree) → TermsNamesAre N M ts → TermsNamesAre K M (map (instance r) ts)
     args_names ts h = subst (AllNamesAre K M) (sym (args_instances r ts)) (instances_names (trees_of ts) h)
 
-    fact_names : (f : Fact) → FactNamesAre N M f → FactNamesAre K M (instance_fact r f)
+    pub fact_names : (f : Fact) → FactNamesAre N M f → FactNamesAre K M (instance_fact r f)
     fact_names f h = args_names f.args h
 
-    facts_names : (fs : List Fact) → FactsNamesAre N M fs → FactsNamesAre K M (instance_facts r fs)
+    pub facts_names : (fs : List Fact) → FactsNamesAre N M fs → FactsNamesAre K M (instance_facts r fs)
     facts_names [] h = tt
     facts_names (f ∷ fs) h = (fact_names f h.0, facts_names fs h.1)
 
@@ -87,14 +87,14 @@ module _ (N M : OfNames) (empty : M []) where
   -- arguments for parameters, and '' where one is missing
   put_names : (ys : List (List ℕ)) (ts : List Tree) (other : Choice) → TermsNamesAre Any M ts → PutsNames N Any M other → PutsNames N Any M (put ys ts other)
   put_names [] ts other h k v n = k v n
-  put_names (y ∷ ys) [] other h k v n = by (bytes_eq y v.name) where
-    by : (t : Bool) → NamesAre Any M (if t then public [] else put ys [] other v)
-    by true = empty
-    by false = put_names ys [] other h k v n
-  put_names (y ∷ ys) (t ∷ ts) other h k v n = by (bytes_eq y v.name) where
-    by : (c : Bool) → NamesAre Any M (if c then t else put ys ts other v)
-    by true = h.0
-    by false = put_names ys ts other h.1 k v n
+  put_names (y ∷ ys) [] other h k v n = by (bytes_eq y v.name) (put_names ys [] other h k v n) where
+    by : (t : Bool) → NamesAre Any M (put ys [] other v) → NamesAre Any M (if t then public [] else put ys [] other v)
+    by true later = empty
+    by false later = later
+  put_names (y ∷ ys) (t ∷ ts) other h k v n = by (bytes_eq y v.name) (put_names ys ts other h.1 k v n) where
+    by : (c : Bool) → NamesAre Any M (put ys ts other v) → NamesAre Any M (if c then t else put ys ts other v)
+    by true later = h.0
+    by false later = later
 
   abbrev DefinitionNames : Definition → Type 0
   DefinitionNames d = WrittenNamesAre N M d.body

@@ -60,12 +60,12 @@ module _ (N M : OfNames) where
       term_names term_quoted h = (h.0, h.1)
       term_names (term_symbol low r) h = args_names r h.1.1
       term_names (term_tuple r s) h =
-          let t = term_names r h.1 in let u = rest_names s t.1.1 in ((t.0, u.0, tt), u.1)
+          let t = term_names r h.1 in let u = rest_names s t.1.1 in ((t.0, (u.0, tt)), u.1)
 
       rest_names : {t : Tree} {a b : List Word} → IsRest g t a b → WordsNamesAre a → NamesAre N M t × WordsNamesAre b
       rest_names (rest_last r) h = let t = term_names r h in (t.0, t.1.1)
       rest_names (rest_more r s) h =
-          let t = term_names r h in let u = rest_names s t.1.1 in ((t.0, u.0, tt), u.1)
+          let t = term_names r h in let u = rest_names s t.1.1 in ((t.0, (u.0, tt)), u.1)
 
       list_names : {ts : List Tree} {a b : List Word} → IsList g ts a b → WordsNamesAre a → TermsNamesAre ts × WordsNamesAre b
       list_names (list_last r) h = let t = term_names r h in ((t.0, tt), t.1.1)

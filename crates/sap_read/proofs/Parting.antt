@@ -14,9 +14,10 @@ definitions_more (f ∷ es) e =
 
 pub main_more : (es : List Entry) (e : Entry) → main_of (map body (es ++ e ∷ [])) ≡ option_or (main_of (map body es)) (main_of (body e ∷ []))
 main_more [] e = refl
-main_more (f ∷ es) e = by (is_none f.label) where
-  by : (t : Bool) → (if t then Some (body f).content else main_of (map body (es ++ e ∷ []))) ≡ option_or (if t then Some (body f).content else main_of (map body es)) (main_of (body e ∷ []))
-  by true = refl
-  by false = main_more es e
+main_more (f ∷ es) e = by (is_none f.label) (main_more es e) where
+  by : (t : Bool) → main_of (map body (es ++ e ∷ [])) ≡ option_or (main_of (map body es)) (main_of (body e ∷ []))
+      → (if t then Some (body f).content else main_of (map body (es ++ e ∷ []))) ≡ option_or (if t then Some (body f).content else main_of (map body es)) (main_of (body e ∷ []))
+  by true h = refl
+  by false h = h
 
 pub ruleset parts_more = (definitions_more, main_more)

@@ -1,5 +1,5 @@
 -- The expansion of a file's process can be printed, where it is over the signature.
-use Rattle.std.proofs.Common.{◌≡◌, ◌≤◌, ◌<◌, ◌^◌, ◌+◌, ℕ, Bool, true, false, List, [], ◌∷◌, ◌++◌, map, length, Some, refl, sym, ap, subst, ◌∙◌, arith}
+use Rattle.std.proofs.Common.{◌≡◌, ◌≤◌, ◌<◌, ◌^◌, ◌+◌, ℕ, suc, Bool, true, false, List, [], ◌∷◌, ◌++◌, map, length, Some, refl, sym, ap, subst, ◌∙◌, arith}
 use Rattle.std.specs.Prelude.{All, if◌then◌else◌}
 use Rattle.std.specs.List.{AllByRecursion}
 use Rattle.std.specs.Str.{bytes_eq}
@@ -30,12 +30,12 @@ use Rattle.sap_read.specs.Item.{Body}
 use Rattle.sap_read.specs.Printable.{IsPrintableProcess}
 use Rattle.sap_read.proofs.PrintableSorts.{args_instances, pair_kept}
 use Rattle.sap_read.proofs.ProcessOver.{IsProcessOver}
-use Rattle.sap_read.proofs.Taken.{MeaningGrows, Stays, chosen_length, chosen_stays, expanded_grows, meaning_grows, nothing_grows, or_true, with_grows}
+use Rattle.sap_read.proofs.TakenNames.{MeaningGrows, Stays, chosen_length, chosen_stays, expanded_grows, meaning_grows, nothing_grows, or_true, with_grows}
 
 -- as many arguments as before
 as_many : (σ : Choice) (ts : Trees) → length (list_of (instances σ ts)) ≡ length (list_of ts)
 as_many σ none = refl
-as_many σ (more t ts) = ap (λ n. n + 1) (as_many σ ts)
+as_many σ (more t ts) = ap suc (as_many σ ts)
 
 name_wider : (most wide : ℕ) (x : List ℕ) → most ≤ wide → IsName most x → IsName wide x
 name_wider most wide x le h = let s = h.short in record { is = h.is; no_grammar_word = h.no_grammar_word; short = omega (arith, le, s) }
@@ -167,16 +167,17 @@ module _ (most wide : ℕ) (le : most ≤ wide) (g : Sig) where
 
       names_renamed : (ys taken : List (List ℕ)) (x : List ℕ) → Stays ids taken → HasRoom (taken_after taken ys) → IsName most x → IsRenamed x (renamed taken ys x)
       names_renamed [] taken x stays room h = record { name = name_wider most wide x le h; tidy = λ s t. t }
-      names_renamed (y ∷ ys) taken x stays room h = by (bytes_eq y x) refl where
+      names_renamed (y ∷ ys) taken x stays room h =
+          by (bytes_eq y x) refl (names_renamed ys (new_name taken y ∷ taken) x (λ z k. or_true (bytes_eq (new_name taken y) z) (is_known taken z) (stays z k)) room h) where
         long : HasRoom taken
         long = let n = chosen_length taken (y ∷ ys) in omega (arith, n, room)
 
-        by : (t : Bool) → bytes_eq y x ≡ t → IsRenamed x (if t then new_name taken y else renamed (new_name taken y ∷ taken) ys x)
-        by true e =
+        by : (t : Bool) → bytes_eq y x ≡ t → IsRenamed x (renamed (new_name taken y ∷ taken) ys x) → IsRenamed x (if t then new_name taken y else renamed (new_name taken y ∷ taken) ys x)
+        by true e later =
             let same : y ≡ x = (bytes_eq-Decides y x).0 e in
             let is = fresh_names taken y stays long (subst (IsName most) (sym same) h) in
             record { name = is.0; tidy = λ s t. not_constant s (new_name taken y) is.1 }
-        by false e = names_renamed ys (new_name taken y ∷ taken) x (λ z k. or_true (bytes_eq (new_name taken y) z) (is_known taken z) (stays z k)) room h
+        by false e later = later
 
       puts_names : (ys taken : List (List ℕ)) → Stays ids taken → HasRoom (taken_after taken ys) → Puts (by_names (renamed taken ys))
       puts_names ys taken stays room v h o =
@@ -187,14 +188,14 @@ module _ (most wide : ℕ) (le : most ≤ wide) (g : Sig) where
 
       puts_args : (ys : List (List ℕ)) (ts : List Tree) (other : Choice) → AllByRecursion (IsSpelledTerm wide g) ts → Puts other → Puts (put ys ts other)
       puts_args [] ts other h k v w = k v w
-      puts_args (y ∷ ys) [] other h k v w = by (bytes_eq y v.name) where
-        by : (t : Bool) → IsSpelledTerm wide g (if t then public [] else put ys [] other v)
-        by true = nothing
-        by false = puts_args ys [] other h k v w
-      puts_args (y ∷ ys) (t ∷ ts) other h k v w = by (bytes_eq y v.name) where
-        by : (c : Bool) → IsSpelledTerm wide g (if c then t else put ys ts other v)
-        by true = h.0
-        by false = puts_args ys ts other h.1 k v w
+      puts_args (y ∷ ys) [] other h k v w = by (bytes_eq y v.name) (puts_args ys [] other h k v w) where
+        by : (t : Bool) → IsSpelledTerm wide g (put ys [] other v) → IsSpelledTerm wide g (if t then public [] else put ys [] other v)
+        by true later = nothing
+        by false later = later
+      puts_args (y ∷ ys) (t ∷ ts) other h k v w = by (bytes_eq y v.name) (puts_args ys ts other h.1 k v w) where
+        by : (c : Bool) → IsSpelledTerm wide g (put ys ts other v) → IsSpelledTerm wide g (if c then t else put ys ts other v)
+        by true later = h.0
+        by false later = later
 
       -- a use on arguments that can be printed can be, where there is room and it is over the signature
       abbrev Prints : Meaning → Type 0

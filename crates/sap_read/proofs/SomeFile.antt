@@ -46,7 +46,7 @@ use Rattle.sap_read.proofs.Caused as caused
 use Rattle.sap_read.proofs.Parts.{items_of, parted}
 use Rattle.sap_read.proofs.ItemsRead.{declared_are, declared_sound}
 use Rattle.sap_read.proofs.ItemTurns.{definition_spelled, process_spelled, no_name, no_head, no_colon, no_definition, no_process, no_other}
-use Rattle.sap_read.proofs.Parameters.{HeadOrNone, head_or_none}
+use Rattle.sap_read.proofs.ReadParameters.{HeadOrNone, head_or_none}
 use Rattle.sap_read.proofs.InOrder.{all_in_order}
 use Rattle.sap_read.proofs.Unrefused as unrefused
 
@@ -149,12 +149,12 @@ HasMain bs = (p : Written) × (main_of bs ≡ Some p)
 
 has_main : (bs : List Body) → is_none (slice_get (unlabelled bs) 0) ≡ false → HasMain bs
 has_main [] h = absurd (cc (h))
-has_main (b ∷ bs) h = by (is_none b.label) refl where
-  by : (t : Bool) → is_none b.label ≡ t → HasMain (b ∷ bs)
-  by true q = (b.content, rw q refl)
-  by false q =
+has_main (b ∷ bs) h = by (is_none b.label) refl (has_main bs) where
+  by : (t : Bool) → is_none b.label ≡ t → (is_none (slice_get (unlabelled bs) 0) ≡ false → HasMain bs) → HasMain (b ∷ bs)
+  by true q later = (b.content, rw q refl)
+  by false q later =
       let k : is_none (slice_get (unlabelled bs) 0) ≡ false = rw q at h in
-      let r = has_main bs k in
+      let r = later k in
       (r.0, rw q r.1)
 
 no_cause : (bs : List Body) (ss : List Statement) (clash : Option (List ℕ)) → cause bs ss clash ≡ None → is_none (slice_get (unlabelled bs) 0) ≡ false

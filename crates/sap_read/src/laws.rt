@@ -40,7 +40,7 @@ use sap_statements::{
 use sap_terms::builtins_stay_held;
 use sap_macro::{new_names_are_least, new_names_are_short, sizes_are_one};
 use sap_text::{one_answer, some_answer};
-use sap_uses::{one_macro_cause, some_macro_cause};
+use sap_uses::one_macro_cause;
 
 /// What the laws of processes say, as the proofs on files need it.
 pub(crate) fn process_laws()
@@ -109,7 +109,6 @@ pub fn some_file()
     process_laws();
     statement_laws();
     some_answer();
-    some_macro_cause();
     some_flaw();
     one_faulty_statement();
     annotations_of_processes();

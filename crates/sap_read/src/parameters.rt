@@ -1,8 +1,9 @@
 //! Reads the parameters of a definition.
-ghost use Rattle.std.specs.Prelude.{◌≡◌, ℕ, List, IfNone, IfOk, IfSome};
+ghost use Rattle.std.specs.Prelude.{ℕ, List, IfNone, IfOk, IfSome};
+ghost use Rattle.sap_grammar.specs.Reading.{Gives};
 ghost use Rattle.sap_grammar.specs.Words.{Word, words_of};
 ghost use Rattle.sap_read.specs.ItemGrammar.{HasParameters};
-ghost use Rattle.sap_read.specs.code.Parameters.{GivesParameters, params_in};
+ghost use Rattle.sap_read.specs.code.Parameters.{params_in};
 
 use sap_grammar::{beyond, name_at, starts};
 use sap_terms::{Mem, Name, NameList};
@@ -15,7 +16,7 @@ fn read_parameters<'a>(
     bytes: &[u8],
     tokens: &'a [Token],
 ) -> Result<Option<(NameList, &'a [Token])>, Mem>
-    ensures { IfOk result (λ o. GivesParameters bytes.now o (params_in (words_of bytes.now tokens.now))) }
+    ensures { Gives bytes.now (λ xs. xs) result (params_in (words_of bytes.now tokens.now)) }
 {
     let mut params = NameList::new(alloc);
     let mut rest = tokens;

@@ -78,17 +78,17 @@ fn check_before(
 
 /// The definitions of a file, and its own process, if it has one: the first.
 #[derive(Drop)]
-pub(crate) struct Parted {
+pub(crate) struct FileParts {
     pub(crate) defs: DefinitionList,
     pub(crate) main: Option<Box<Source>>,
 }
 
 // Puts the process where it belongs.
-fn put(parted: &mut Parted, entry: Entry) -> Result<(), Mem>
-    ensures definitions { OnOk result (definitions parted.new.defs
-        ≡ definitions parted.old.defs ++ defined_as entry.label (body entry)) }
-    ensures main { OnOk result (written_main parted.new.main
-        ≡ option_or (written_main parted.old.main) (main_of (body entry ∷ []))) }
+fn put(parts: &mut FileParts, entry: Entry) -> Result<(), Mem>
+    ensures definitions { OnOk result (definitions parts.new.defs
+        ≡ definitions parts.old.defs ++ defined_as entry.label (body entry)) }
+    ensures main { OnOk result (written_main parts.new.main
+        ≡ option_or (written_main parts.old.main) (main_of (body entry ∷ []))) }
 {
     let Entry {
         label,
@@ -97,14 +97,14 @@ fn put(parted: &mut Parted, entry: Entry) -> Result<(), Mem>
         ..
     } = entry;
     match label {
-        Some(name) => parted.defs.push(Definition {
+        Some(name) => parts.defs.push(Definition {
             name,
             params,
             body: source,
         }),
         None => {
-            if parted.main.is_none() {
-                parted.main = Some(source);
+            if parts.main.is_none() {
+                parts.main = Some(source);
             }
             Ok(())
         }
@@ -112,12 +112,11 @@ fn put(parted: &mut Parted, entry: Entry) -> Result<(), Mem>
 }
 
 // The definitions and the file's own process.
-#[tactic(auto, using(crate::proofs::Parting::parts_more))]
-fn parted(alloc: Global, entries: Items<Entry>) -> Result<Parted, Mem>
+fn parted(alloc: Global, entries: Items<Entry>) -> Result<FileParts, Mem>
     ensures definitions { IfOk result (λ p. definitions p.defs ≡ definitions_of (map body entries)) }
     ensures main { IfOk result (λ p. written_main p.main ≡ main_of (map body entries)) }
 {
-    let mut all = Parted {
+    let mut all = FileParts {
         defs: DefinitionList::new(alloc),
         main: None,
     };
@@ -143,7 +142,7 @@ pub(crate) fn whole_process(
         → IsRefusedBefore g clash.now (map body entries) statements.now e }
 {
     check_before(alloc, &entries, statements, clash)?;
-    let Parted { defs, main } = parted(alloc, entries)?;
+    let FileParts { defs, main } = parted(alloc, entries)?;
     match main {
         None => Err(ReadFault::NoProcess),
         Some(main) => Ok(expand(alloc, &defs, &main, identifiers)?),

@@ -1,5 +1,5 @@
 -- Names of processes that are defined, as the program keeps them.
-use Rattle.std.specs.Prelude.{◌≡◌, ℕ, ◌×◌, List, [], ◌∷◌, Option, Some, None, if◌then◌else◌, map, drop}
+use Rattle.std.specs.Prelude.{◌≡◌, ℕ, List, [], ◌∷◌, Option, Some, None, if◌then◌else◌, map, drop}
 use Rattle.std.specs.List.{list_any}
 use Rattle.std.specs.Str.{bytes_eq}
 use Rattle.sap_read.specs.declared.entry.Entry.{Entry}

@@ -1,8 +1,7 @@
 -- Parameters, as they are read.
-use Rattle.std.specs.Prelude.{◌≡◌, ◌×◌, ℕ, codes, List, [], ◌∷◌, ◌++◌, Option, Some, None, if◌then◌else◌}
+use Rattle.std.specs.Prelude.{ℕ, codes, List, [], ◌∷◌, ◌++◌, Option, Some, None, if◌then◌else◌}
 use Rattle.std.specs.Str.{bytes_eq}
-use Rattle.sap_text.specs.declared.token.Token.{Token}
-use Rattle.sap_grammar.specs.Words.{Word, mark, name, number, quoted, words_of}
+use Rattle.sap_grammar.specs.Words.{Word, mark, name, number, quoted}
 
 -- parameters, and the words behind them
 abbrev pub Params : Type 0
@@ -21,8 +20,3 @@ params_in (name x ∷ mark m ∷ ws) =
     if bytes_eq m (codes ")") then Some (x ∷ [], ws)
     else (if bytes_eq m (codes ",") then in_front (x ∷ []) (params_in ws) else None)
 params_in (w ∷ v ∷ ws) = None
-
--- what the program answers is this
-abbrev pub GivesParameters : List ℕ → Option (List (List ℕ) × List Token) → Params → Type 0
-GivesParameters bytes None found = found ≡ None
-GivesParameters bytes (Some r) found = found ≡ Some (r.0, words_of bytes r.1)

@@ -42,7 +42,7 @@ use Rattle.sap_read.proofs.PrintableStatements.{SortLaws, restrictions_printable
 use Rattle.sap_read.proofs.ProcessOver.{IsProcessOver, well_formed_over}
 use Rattle.sap_read.proofs.Sizes.{sorts_keep_levels}
 use Rattle.sap_read.proofs.Small.{AreOneSize, few_levels, few_places}
-use Rattle.sap_read.proofs.Taken.{BindsFew, IsAmong, binds_few, room_left, taken_at_most}
+use Rattle.sap_read.proofs.TakenNames.{BindsFew, IsAmong, binds_few, room_left, taken_at_most}
 use Rattle.sap_read.proofs.Unrefused.{pairs_stay}
 use Rattle.sap_read.proofs.laws.files_are_printable.Goals as goal
 

@@ -3,7 +3,7 @@ use Rattle.std.proofs.Common.{◌≡◌, ◌≤◌, ◌<◌, ◌^◌, ◌+◌, �
 use Rattle.std.specs.Prelude.{if◌then◌else◌}
 use Rattle.std.specs.List.{AllByRecursion}
 use Rattle.std.specs.Str.{bytes_eq}
-use Rattle.std.proofs.lemmas.Bool.{cases_Bool, or_cases}
+use Rattle.std.proofs.Math.Nat.{suc-mul}
 use Rattle.std.proofs.lemmas.Slice.Eq.{bytes_eq-Decides}
 use Rattle.sap_terms.specs.Choice.{Choice, instance}
 use Rattle.sap_terms.specs.Tree.{Tree, variable, public, fresh, apply, Trees, none, more, trees_of}
@@ -26,11 +26,18 @@ times k zero = 0
 times k (suc n) = k + times k n
 
 times_plus : (k a b : ℕ) → times k (a + b) ≡ times k a + times k b
-times_plus k zero b = refl
-times_plus k (suc a) b = let e = times_plus k a b in omega (arith, e)
+times_plus k zero b =
+    let s : 0 + b ≡ b = omega arith in ap (times k) s ∙ (omega arith)
+times_plus k (suc a) b =
+    let s : suc a + b ≡ suc (a + b) = omega arith in
+    let e = times_plus k a b in
+    ap (times k) s ∙ (omega (arith, e))
+
+times_one : (k : ℕ) → times k 1 ≡ k
+times_one k = omega arith
 
 times_next : (k a : ℕ) → times k (a + 1) ≡ times k a + k
-times_next k a = let e = times_plus k a 1 in omega (arith, e)
+times_next k a = let e = times_plus k a 1 in let o = times_one k in omega (arith, e, o)
 
 times_both : (k a b : ℕ) → times k (a + b + 1) ≡ times k a + times k b + k
 times_both k a b =
@@ -79,26 +86,27 @@ then_grows : (taken middle : List (List ℕ)) (e : Expanded) → length taken �
 then_grows taken middle e longer stays g =
     let l = g.longer in record { longer = omega (arith, longer, l); stays = λ x h. g.stays x (stays x h) }
 
+same_names : (taken : List (List ℕ)) (e inner : Expanded) → e.taken ≡ inner.taken → Grows taken inner → Grows taken e
+same_names taken e inner same g = record {
+  longer = subst (λ (z : List (List ℕ)). length taken ≤ length z) (sym same) g.longer;
+  stays = λ x h. subst (λ (z : List (List ℕ)). is_known z x ≡ true) (sym same) (g.stays x h);
+}
+
+two_grow : (taken : List (List ℕ)) (e first second : Expanded) → e.taken ≡ second.taken → Grows taken first → Grows first.taken second → Grows taken e
+two_grow taken e first second same g h = same_names taken e second same (then_grows taken first.taken second g.longer g.stays h)
+
 module _ (m : Meaning) (grows : MeaningGrows m) (r : Choice) (b : List ℕ → List ℕ) where
-  mutual
-    pub expanded_grows : (p : Written) (taken : List (List ℕ)) → Grows taken (expanded m r b p taken)
-    expanded_grows nil taken = same_taken taken whole.nil
-    expanded_grows (call f ts) taken = grows f (map (instance r) ts) taken
-    expanded_grows (parallel p q) taken = two_grow p q taken _ refl
-    expanded_grows (replicated p) taken = one_grows p taken _ refl
-    expanded_grows (act a p) taken = one_grows p taken _ refl
-    expanded_grows (test t u p q) taken = two_grow p q taken _ refl
-    expanded_grows (lookup t x p q) taken = two_grow p q taken _ refl
-
-    one_grows : (p : Written) (taken : List (List ℕ)) (e : Expanded) → e.taken ≡ (expanded m r b p taken).taken → Grows taken e
-    one_grows p taken e same =
-        let g = expanded_grows p taken in record { longer = subst (λ (z : List (List ℕ)). length taken ≤ length z) (sym same) g.longer; stays = λ x h. subst (λ (z : List (List ℕ)). is_known z x ≡ true) (sym same) (g.stays x h) }
-
-    two_grow : (p q : Written) (taken : List (List ℕ)) (e : Expanded) → e.taken ≡ (expanded m r b q (expanded m r b p taken).taken).taken → Grows taken e
-    two_grow p q taken e same =
-        let first = expanded_grows p taken in
-        let g = then_grows taken (expanded m r b p taken).taken (expanded m r b q (expanded m r b p taken).taken) first.longer first.stays (expanded_grows q (expanded m r b p taken).taken) in
-        record { longer = subst (λ (z : List (List ℕ)). length taken ≤ length z) (sym same) g.longer; stays = λ x h. subst (λ (z : List (List ℕ)). is_known z x ≡ true) (sym same) (g.stays x h) }
+  pub expanded_grows : (p : Written) (taken : List (List ℕ)) → Grows taken (expanded m r b p taken)
+  expanded_grows nil taken = same_taken taken whole.nil
+  expanded_grows (call f ts) taken = grows f (map (instance r) ts) taken
+  expanded_grows (parallel p q) taken =
+      two_grow taken (expanded m r b (parallel p q) taken) (expanded m r b p taken) (expanded m r b q (expanded m r b p taken).taken) refl (expanded_grows p taken) (expanded_grows q (expanded m r b p taken).taken)
+  expanded_grows (replicated p) taken = same_names taken (expanded m r b (replicated p) taken) (expanded m r b p taken) refl (expanded_grows p taken)
+  expanded_grows (act a p) taken = same_names taken (expanded m r b (act a p) taken) (expanded m r b p taken) refl (expanded_grows p taken)
+  expanded_grows (test t u p q) taken =
+      two_grow taken (expanded m r b (test t u p q) taken) (expanded m r b p taken) (expanded m r b q (expanded m r b p taken).taken) refl (expanded_grows p taken) (expanded_grows q (expanded m r b p taken).taken)
+  expanded_grows (lookup t x p q) taken =
+      two_grow taken (expanded m r b (lookup t x p q) taken) (expanded m r b p taken) (expanded m r b q (expanded m r b p taken).taken) refl (expanded_grows p taken) (expanded_grows q (expanded m r b p taken).taken)
 
 pub entered_grows : (m : Meaning) → MeaningGrows m → (d : Definition) (ts : List Tree) (taken : List (List ℕ)) → Grows taken (entered m d ts taken)
 entered_grows m grows d ts taken =
@@ -169,27 +177,27 @@ module _ (most : ℕ) where
         → length (expanded m r b p taken).taken + times most (places p) ≤ length taken + times most (node_count (expanded m r b p taken).process)
     expanded_takes nil taken = omega arith
     expanded_takes (call f ts) taken = let e = takes f (map (instance r) ts) taken in omega (arith, e)
-    expanded_takes (parallel p q) taken = two p q taken
+    expanded_takes (parallel p q) taken =
+        let first = expanded_takes p taken in
+        let second = expanded_takes q (expanded m r b p taken).taken in
+        let all = times_both most (node_count (expanded m r b p taken).process) (node_count (expanded m r b q (expanded m r b p taken).taken).process) in
+        let own = times_plus most (places p) (places q) in
+        omega (arith, first, second, all, own)
     expanded_takes (replicated p) taken =
         let e = expanded_takes p taken in let n = times_next most (node_count (expanded m r b p taken).process) in omega (arith, e, n)
     expanded_takes (act a p) taken =
         let e = expanded_takes p taken in let n = times_next most (node_count (expanded m r b p taken).process) in let k = times_next most (places p) in omega (arith, e, n, k)
-    expanded_takes (test t u p q) taken = two p q taken
+    expanded_takes (test t u p q) taken =
+        let first = expanded_takes p taken in
+        let second = expanded_takes q (expanded m r b p taken).taken in
+        let all = times_both most (node_count (expanded m r b p taken).process) (node_count (expanded m r b q (expanded m r b p taken).taken).process) in
+        let own = times_plus most (places p) (places q) in
+        omega (arith, first, second, all, own)
     expanded_takes (lookup t x p q) taken =
         let first = expanded_takes p taken in
         let second = expanded_takes q (expanded m r b p taken).taken in
         let all = times_both most (node_count (expanded m r b p taken).process) (node_count (expanded m r b q (expanded m r b p taken).taken).process) in
         let own = times_both most (places p) (places q) in
-        omega (arith, first, second, all, own)
-
-    two : (p q : Written) (taken : List (List ℕ))
-        → length (expanded m r b q (expanded m r b p taken).taken).taken + times most (places p + places q)
-        ≤ length taken + times most (node_count (expanded m r b p taken).process + node_count (expanded m r b q (expanded m r b p taken).taken).process + 1)
-    two p q taken =
-        let first = expanded_takes p taken in
-        let second = expanded_takes q (expanded m r b p taken).taken in
-        let all = times_both most (node_count (expanded m r b p taken).process) (node_count (expanded m r b q (expanded m r b p taken).taken).process) in
-        let own = times_plus most (places p) (places q) in
         omega (arith, first, second, all, own)
 
   entered_takes : (m : Meaning) → MeaningTakes m → (d : Definition) → BindsFew d → (ts : List Tree) (taken : List (List ℕ))
@@ -224,33 +232,33 @@ removed (y ∷ ys) x = if bytes_eq y x then ys else (y ∷ removed ys x)
 
 one_less : (ys : List (List ℕ)) (x : List ℕ) → is_known ys x ≡ true → length ys ≡ suc (length (removed ys x))
 one_less [] x h = absurd (cc)
-one_less (y ∷ ys) x h = by (bytes_eq y x) h where
-  by : (t : Bool) → (t || is_known ys x) ≡ true → suc (length ys) ≡ suc (length (if t then ys else (y ∷ removed ys x)))
-  by true k = refl
-  by false k = ap suc (one_less ys x k)
+one_less (y ∷ ys) x h = by (bytes_eq y x) h (one_less ys x) where
+  by : (t : Bool) → (t || is_known ys x) ≡ true → (is_known ys x ≡ true → length ys ≡ suc (length (removed ys x))) → suc (length ys) ≡ suc (length (if t then ys else (y ∷ removed ys x)))
+  by true k later = refl
+  by false k later = ap suc (later k)
 
 still_known : (ys : List (List ℕ)) (x z : List ℕ) → ¬ (x ≡ z) → is_known ys z ≡ true → is_known (removed ys x) z ≡ true
 still_known [] x z d h = absurd (cc)
-still_known (y ∷ ys) x z d h = by (bytes_eq y x) refl where
+still_known (y ∷ ys) x z d h = by (bytes_eq y x) refl (still_known ys x z d) where
   at : (t : Bool) → bytes_eq y z ≡ t → (t || is_known ys z) ≡ true → bytes_eq y x ≡ true → is_known ys z ≡ true
   at true e k same = absurd (d (sym (one_name y x same) ∙ one_name y z e))
   at false e k same = k
 
-  by : (t : Bool) → bytes_eq y x ≡ t → is_known (if t then ys else (y ∷ removed ys x)) z ≡ true
-  by true e = at (bytes_eq y z) refl h e
-  by false e = inside (bytes_eq y z) h where
-    inside : (t : Bool) → (t || is_known ys z) ≡ true → (t || is_known (removed ys x) z) ≡ true
-    inside true k = refl
-    inside false k = still_known ys x z d k
+  inside : (t : Bool) → (is_known ys z ≡ true → is_known (removed ys x) z ≡ true) → (t || is_known ys z) ≡ true → (t || is_known (removed ys x) z) ≡ true
+  inside true later k = refl
+  inside false later k = later k
 
-module _ (ids : List (List ℕ)) where
-  abbrev IsAmong : OfNames
-  IsAmong x = is_known ids x ≡ true
+  by : (t : Bool) → bytes_eq y x ≡ t → (is_known ys z ≡ true → is_known (removed ys x) z ≡ true) → is_known (if t then ys else (y ∷ removed ys x)) z ≡ true
+  by true e later = at (bytes_eq y z) refl h e
+  by false e later = inside (bytes_eq y z) later h
+
+abbrev pub IsAmong : List (List ℕ) → OfNames
+IsAmong ids x = is_known ids x ≡ true
 
 -- of names each of which is known already or among these there are no more than these, once each
 once_few : (ns known ids : List (List ℕ)) → AllByRecursion (λ n. ¬ (is_known known n ≡ true) → is_known ids n ≡ true) ns → length (once known ns) ≤ length ids
 once_few [] known ids h = omega arith
-once_few (n ∷ ns) known ids h = by (is_known known n) refl where
+once_few (n ∷ ns) known ids h = by (is_known known n) refl (once_few ns) where
   others : (ms : List (List ℕ)) → AllByRecursion (λ z. ¬ (is_known known z ≡ true) → is_known ids z ≡ true) ms
       → AllByRecursion (λ z. ¬ (is_known (n ∷ known) z ≡ true) → is_known (removed ids n) z ≡ true) ms
   others [] k = tt
@@ -258,12 +266,14 @@ once_few (n ∷ ns) known ids h = by (is_known known n) refl where
       ((λ new. still_known ids n z (λ same. new (ap (λ t. t || is_known known z) ((bytes_eq-Decides n z).1 same)))
       (k.0 (λ old. new (or_true (bytes_eq n z) (is_known known z) old)))), others ms k.1)
 
-  by : (t : Bool) → is_known known n ≡ t → length (if t then once known ns else n ∷ once (n ∷ known) ns) ≤ length ids
-  by true e = once_few ns known ids h.1
-  by false e =
+  by : (t : Bool) → is_known known n ≡ t
+      → ((old ms : List (List ℕ)) → AllByRecursion (λ z. ¬ (is_known old z ≡ true) → is_known ms z ≡ true) ns → length (once old ns) ≤ length ms)
+      → length (if t then once known ns else n ∷ once (n ∷ known) ns) ≤ length ids
+  by true e later = later known ids h.1
+  by false e later =
       let here : is_known ids n ≡ true = h.0 (λ old. let no : true ≡ false = sym old ∙ e in absurd (cc)) in
       let less = one_less ids n here in
-      let rest = once_few ns (n ∷ known) (removed ids n) (others ns h.1) in
+      let rest = later (n ∷ known) (removed ids n) (others ns h.1) in
       omega (arith, less, rest)
 
 module _ (N M : OfNames) where
@@ -302,10 +312,10 @@ module _ (N M : OfNames) where
 
   bound_names : (vs : List Var) (scope : List (List ℕ)) → AllByRecursion VarNameIs vs → AllByRecursion N (bound_in scope vs)
   bound_names [] scope h = tt
-  bound_names (v ∷ vs) scope h = by (is_known scope v.name) where
-    by : (t : Bool) → AllByRecursion N ((if t then [] else (v.name ∷ [])) ++ bound_in (if t then scope else (v.name ∷ scope)) vs)
-    by true = bound_names vs scope h.1
-    by false = (h.0, bound_names vs (v.name ∷ scope) h.1)
+  bound_names (v ∷ vs) scope h = by (is_known scope v.name) (λ s. bound_names vs s h.1) where
+    by : (t : Bool) → ((s : List (List ℕ)) → AllByRecursion N (bound_in s vs)) → AllByRecursion N ((if t then [] else (v.name ∷ [])) ++ bound_in (if t then scope else (v.name ∷ scope)) vs)
+    by true later = later scope
+    by false later = (h.0, later (v.name ∷ scope))
 
   binders_names : (p : Written) (scope : List (List ℕ)) → WrittenNamesAre N M p → AllByRecursion N (binders scope p)
   binders_names nil scope h = tt
@@ -333,8 +343,8 @@ taken_at_most ids ds r b p few =
 
 -- where these are few, there is room for one more
 product : (k m : ℕ) → times k m ≡ m * k
-product k zero = refl
-product k (suc m) = let e = product k m in omega (arith, e)
+product k zero = omega arith
+product k (suc m) = let e = product k m in let f = suc-mul m k in omega (arith, e, f)
 
 pub room_left : (ids n : ℕ) → ids ≤ 2 ^ 52 → n ≤ 4000 → ids + times ids n + 2 ≤ 2 ^ 64
 room_left ids n few small = at 4000 (2 ^ 52) refl refl where
