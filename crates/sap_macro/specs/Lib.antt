@@ -7,5 +7,7 @@ pub mod ExpansionExamples
 pub mod Instances
 pub mod Sources
 pub mod Order
+pub mod Indexed
+pub mod Seen
 pub mod MacroCauses
 pub mod code
