@@ -21,3 +21,5 @@ pub mod Forms
 pub mod Counted
 pub mod Sized
 pub mod Watched
+pub mod Replacing
+pub mod SameSizes

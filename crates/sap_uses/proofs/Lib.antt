@@ -7,3 +7,6 @@ pub mod Expanded
 pub mod FlawedByHand
 pub mod OneCause
 pub mod CausesByHand
+pub mod Marked
+pub mod Leading
+pub mod Causes

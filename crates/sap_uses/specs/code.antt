@@ -2,3 +2,4 @@
 pub mod Indices
 pub mod Walks
 pub mod Met
+pub mod Marks
