@@ -311,10 +311,10 @@ ranked-ascending n (w ∷ ws) at = (
 -- and each stands there
 ranked-all : (n : ℕ) (ws : List Flaw) → AreRanked n ws → (w : Flaw) → n ≤ rank w → (i : ℕ) × (slice_get ws i ≡ Some w)
 ranked-all n [] at w l = absurd (let low = rank-low w in omega (arith, at, l, low))
-ranked-all n (x ∷ ws) at w l = by (cases_lt n (rank w)) where
-  by : (n < rank w) ⊎ (rank w ≤ n) → (i : ℕ) × (slice_get (x ∷ ws) i ≡ Some w)
-  by (inl low) = let later = ranked-all (suc n) ws at.1 w (omega (arith, low)) in (suc later.0, later.1)
-  by (inr high) = (0, ap Some (one_rank x w (let e = at.0 in omega (arith, e, l, high))))
+ranked-all n (x ∷ ws) at w l = by (cases_lt n (rank w)) (λ low. ranked-all (suc n) ws at.1 w low) where
+  by : (n < rank w) ⊎ (rank w ≤ n) → (suc n ≤ rank w → (i : ℕ) × (slice_get ws i ≡ Some w)) → (i : ℕ) × (slice_get (x ∷ ws) i ≡ Some w)
+  by (inl low) later = let found = later (omega (arith, low)) in (suc found.0, found.1)
+  by (inr high) later = (0, ap Some (one_rank x w (let e = at.0 in omega (arith, e, l, high))))
 
 rank-one : (w : Flaw) → 1 ≤ rank w
 rank-one BadFunction = omega arith
