@@ -85,8 +85,8 @@ scope-untold h g scope p None e = scope-none h g scope p (sym e)
 scope-untold h g scope p (Some f) e = tt
 
 -- either is so
-pub some-scope-flaw : (g : Sig) (scope : List Var) (p : Proc) → ((w : Flaw) × (path : List ℕ) × IsFirstScopeFlaw g scope p w path) ⊎ HasNoScopeFlaw g scope p
+pub some-scope-flaw : (g : Sig) (scope : List Var) (p : Proc) → HasNoScopeFlaw g scope p ⊎ ((w : Flaw) × (path : List ℕ) × IsFirstScopeFlaw g scope p w path)
 some-scope-flaw g scope p = by (first_flaw g scope_flaws (sites_in scope p)) refl where
-  by : (o : Option (Flaw × List ℕ)) → first_flaw g scope_flaws (sites_in scope p) ≡ o → ((w : Flaw) × (path : List ℕ) × IsFirstScopeFlaw g scope p w path) ⊎ HasNoScopeFlaw g scope p
-  by None e = inr (scope-none g g scope p e)
-  by (Some found) e = inl (found.0, found.1, scope-found g g scope p found.0 found.1 e)
+  by : (o : Option (Flaw × List ℕ)) → first_flaw g scope_flaws (sites_in scope p) ≡ o → HasNoScopeFlaw g scope p ⊎ ((w : Flaw) × (path : List ℕ) × IsFirstScopeFlaw g scope p w path)
+  by None e = inl (scope-none g g scope p e)
+  by (Some found) e = inr (found.0, found.1, scope-found g g scope p found.0 found.1 e)

@@ -32,10 +32,10 @@ pub fn first_scope_flaw(
     Ok(found)
 }
 
-/// A law: whatever is in scope at its root, one of the three flaws of a process counts, or no place has one.
+/// A law: whatever is in scope at its root, no place of a process has one of the three flaws, or one of them counts.
 pub fn some_scope_flaw()
-    ensures { (g : Sig) (scope : List Var) (p : Proc) → ((w : Flaw) × (path : List ℕ) × IsFirstScopeFlaw g scope p w path)
-        ⊎ HasNoScopeFlaw g scope p }
+    ensures { (g : Sig) (scope : List Var) (p : Proc) → HasNoScopeFlaw g scope p
+        ⊎ ((w : Flaw) × (path : List ℕ) × IsFirstScopeFlaw g scope p w path) }
 {}
 
 /// A law: small processes where x is in scope as a plain variable, which binds it: a `new` or a look-up of that name binds it again,
