@@ -19,7 +19,7 @@ use Rattle.sap_macro.specs.declared.standing.Standing.{Standing}
 use Rattle.sap_macro.proofs.Kept.{action_kept, kept}
 
 pub put_name : (s : Standing) → PutsNothing s → (x : List ℕ) → name_of s x ≡ x
-put_name s n x = ap (λ (names : List (List ℕ × List ℕ)). unwrap_or (value_at names x) x) n.1
+put_name s n x = λ i. unwrap_or (value_at (n.1 i) x) x
 
 put_choice : (s : Standing) → PutsNothing s → choice_of s ≡ unchanged
 put_choice s n = λ i v. tree_or (value_at (n.0 i) v.name) (variable (named (put_name s n v.name i) v.sort))

@@ -37,12 +37,14 @@ pub(crate) fn ended(alloc: Global) -> Result<Box<Process>, Mem>
 pub(crate) fn told(alloc: Global, name: &Name, args: &TermList) -> Result<Box<Process>, Mem>
     ensures { IfOk result (λ p. proc p.value ≡ act (event (fact name.now false args.now)) nil) }
 {
-    let f = Fact {
-        name: name.copy(alloc)?,
-        persistent: false,
-        args: args.copy(alloc)?,
-    };
     let next = ended(alloc)?;
+    let args = args.copy(alloc)?;
+    let name = name.copy(alloc)?;
+    let f = Fact {
+        name,
+        persistent: false,
+        args,
+    };
     boxed(alloc, Process::Event(f, next))
 }
 
