@@ -9,4 +9,6 @@ pub mod OneCause
 pub mod CausesByHand
 pub mod Marked
 pub mod Leading
+pub mod FirstFlawed
 pub mod Causes
+pub mod SomeCause

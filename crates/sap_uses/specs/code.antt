@@ -3,3 +3,4 @@ pub mod Indices
 pub mod Walks
 pub mod Met
 pub mod Marks
+pub mod Checked

@@ -44,9 +44,9 @@ pub(crate) fn body_flaw(
     requires order { AreInOrder [] (definitions defs.now) }
     requires index { AreIndexed (definitions defs.now) index.now }
     ensures found { (g : Sig) → IfOk result (λ o. IfSome o (λ f. IsFirstScopeFlaw g (params_in_scope (definition_of d.now))
-        (seen (plain (definitions defs.now) (written d.now.body.value))) f.0 f.1)) }
+        (seen (plain (definitions defs.now) (definition_of d.now).body)) f.0 f.1)) }
     ensures none { (g : Sig) → IfOk result (λ o. IfNone o (HasNoScopeFlaw g (params_in_scope (definition_of d.now))
-        (seen (plain (definitions defs.now) (written d.now.body.value))))) }
+        (seen (plain (definitions defs.now) (definition_of d.now).body)))) }
 {
     let scope = params_of(alloc, &d.params)?;
     let body = seen(alloc, defs, index, &d.body)?;
