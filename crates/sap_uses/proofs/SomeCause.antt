@@ -9,6 +9,7 @@ use Rattle.sap_terms.specs.Signature.{Sig}
 use Rattle.sap_terms.specs.Tree.{Tree}
 use Rattle.sap_terms.specs.declared.limits.TheConstants.{MOST_PROCESS_LEVELS, MOST_PROCESS_PLACES}
 use Rattle.sap_terms.specs.declared.var.Var.{Var}
+use Rattle.sap_process.specs.Flaws.{HasNoScopeFlaw, IsFirstScopeFlaw}
 use Rattle.sap_process.specs.Proc.{Proc, level_count, node_count}
 use Rattle.sap_process.specs.declared.flaw.Flaw.{Flaw}
 use Rattle.sap_macro.specs.Expansion.{expansion, plain, plain_after, plain_bodies, where_none, with_plain_body}
@@ -16,7 +17,8 @@ use Rattle.sap_macro.specs.MacroCauses.{first_other_count, first_parameter_twice
 use Rattle.sap_macro.specs.Order.{AreInOrder}
 use Rattle.sap_macro.specs.Written.{Written, nil, call, Definition}
 use Rattle.sap_uses.specs.FaultCauses.{Holds, IsMacroCause}
-use Rattle.sap_uses.specs.ScopeFlaws.{HasNoScopeFlaw, IsFirstFlawedBehind, IsFirstScopeFlaw, params_in_scope, seen}
+use Rattle.sap_macro.specs.Seen.{seen}
+use Rattle.sap_uses.specs.ScopeFlaws.{IsFirstFlawedBehind, params_in_scope}
 use Rattle.sap_uses.specs.UseCauses.{first_large}
 use Rattle.sap_uses.specs.code.Checked.{AreAbsent, IsCauseFrom}
 use Rattle.sap_uses.specs.code.Marks.{AreReached, IsFlawedThere, marked, marked_behind}
