@@ -12,7 +12,7 @@ use Rattle.sap_terms.specs.declared.fact.Fact.{Fact}
 use Rattle.sap_terms.specs.declared.var.Var.{Var}
 use Rattle.sap_terms.proofs.PlainLaws.Items.{first_item, got_contained, later_item}
 use Rattle.sap_process.specs.Action.{Action, new, out, send, input, receive, event, insert, delete, lock, unlock, embedded}
-use Rattle.sap_process.specs.Flaws.{HasFlaw, IsFlawedIn, Rebinds, unbound, unbound_in}
+use Rattle.sap_process.specs.Flaws.{HasNoScopeFlaw, Rebinds, unbound}
 use Rattle.sap_process.specs.Heads.{binder, locks_set, terms_vars}
 use Rattle.sap_process.specs.Places.{place, places_from}
 use Rattle.sap_process.specs.Proc as whole
@@ -22,9 +22,8 @@ use Rattle.sap_process.specs.declared.flaw.Flaw.{Flaw}
 use Rattle.sap_process.specs.declared.flaw.Flaw.TheVariants.{Unbound, Rebound}
 use Rattle.sap_macro.specs.Expansion.{behind, binding_vars, scope_behind}
 use Rattle.sap_macro.specs.Instances.{BindsNew, IsClosed, IsOverScope, used_vars}
-use Rattle.sap_macro.specs.UpToNames.{fact}
+use Rattle.sap_macro.specs.Seen.{seen}
 use Rattle.sap_macro.specs.Written.{Written, nil, call, parallel, replicated, act, test, lookup}
-use Rattle.sap_uses.specs.ScopeFlaws.{HasNoScopeFlaw, seen}
 use Rattle.sap_uses.proofs.Names.{one_name}
 
 -- ---- which names are known

@@ -9,10 +9,12 @@ use Rattle.std.specs.Str.{bytes_eq}
 use Rattle.sap_terms.specs.Signature.{Sig}
 use Rattle.sap_terms.specs.Tree.{Tree}
 use Rattle.sap_terms.proofs.PlainLaws.Items.{contains_got}
+use Rattle.sap_process.specs.Flaws.{HasNoScopeFlaw, IsFirstScopeFlaw}
 use Rattle.sap_process.specs.declared.flaw.Flaw.{Flaw}
 use Rattle.sap_macro.specs.Expansion.{plain, plain_after, plain_bodies, where_none, with_plain_body}
+use Rattle.sap_macro.specs.Seen.{seen}
 use Rattle.sap_macro.specs.Written.{Written, call, Definition}
-use Rattle.sap_uses.specs.ScopeFlaws.{HasNoScopeFlaw, IsFirstFlawed, IsFirstFlawedBehind, IsFirstScopeFlaw, IsFlawed, params_in_scope, seen}
+use Rattle.sap_uses.specs.ScopeFlaws.{IsFirstFlawed, IsFirstFlawedBehind, IsFlawed, params_in_scope}
 use Rattle.sap_uses.specs.code.Marks.{AreReached, IsFlawedThere}
 use Rattle.sap_uses.proofs.Leading.{plain_leads, written_leads}
 use Rattle.sap_uses.proofs.Names.{clash}

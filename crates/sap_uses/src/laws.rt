@@ -2,11 +2,12 @@
 ghost use Rattle.std.specs.Prelude.{◌≡◌, List};
 ghost use Rattle.sap_terms.specs.Signature.{Sig};
 ghost use Rattle.sap_terms.specs.declared.var.Var.{Var};
+ghost use Rattle.sap_process.specs.Flaws.{HasNoScopeFlaw};
 ghost use Rattle.sap_process.specs.Sites.{var_names};
 ghost use Rattle.sap_macro.specs.Instances.{IsClosed};
+ghost use Rattle.sap_macro.specs.Seen.{seen};
 ghost use Rattle.sap_macro.specs.Written.{Definition, Written};
 ghost use Rattle.sap_uses.specs.FaultCauses.{IsMacroCause};
-ghost use Rattle.sap_uses.specs.ScopeFlaws.{HasNoScopeFlaw, seen};
 ghost use Rattle.sap_uses.specs.declared.fault.MacroFault.{MacroFault};
 
 /// A law: of definitions and a process at most one cause counts, with what it tells.
