@@ -42,7 +42,10 @@ reached_from ds p order zero names h = (names, all_marked ds p 0 names (omega ar
 reached_from ds p order (suc k) names h =
     let most = h.within in
     let at = there_is ds k (omega (arith, most)) in
-    reached_from ds p order k (marked_behind names at.0) (one_marked ds p (suc k) at.0 names order (omega arith) at.1 h (marked_behind names at.0) refl)
+    let back : suc k - 1 ≡ k = omega arith in
+    let there : slice_get ds (suc k - 1) ≡ Some at.0 = ap (slice_get ds) back ∙ at.1 in
+    reached_from ds p order k (marked_behind names at.0)
+    (subst (λ j. AreMarked ds p j (marked_behind names at.0)) back (one_marked ds p (suc k) at.0 names order (omega arith) there h (marked_behind names at.0) refl))
 
 all_reached : (ds : List Definition) (p : Written) → AreInOrder [] ds → (all : List (List ℕ)) × AreReached ds p all
 all_reached ds p order = reached_from ds p order (length ds) (marked [] p) (none_marked ds p (length ds) [] (marked [] p) refl refl refl)
@@ -81,7 +84,8 @@ module _ (g : Sig) (flaws : ScopeFlawOrNone g) (ds : List Definition) (p : Writt
     next : NoneBefore g ds p n → NoneBefore g ds p (suc n) ⊎ IsFirst
     next before =
         let at = there_is ds n (omega (arith, l)) in
-        ⊎_elim (λ none. inl (one_before g ds p n at.0 at.1 none before)) (λ f. inr (n, at.0, f.0, f.1, at.1, f.2, before)) (one_or_not at.0)
+        let more : n + 1 ≡ suc n = omega arith in
+        ⊎_elim (λ none. inl (subst (NoneBefore g ds p) more (one_before g ds p n at.0 at.1 none before))) (λ f. inr (n, at.0, f.0, f.1, at.1, f.2, before)) (one_or_not at.0)
 
 -- ---- the causes in order
 

@@ -18,4 +18,4 @@ pub use expanding::expand;
 pub use fault::MacroFault;
 pub use flawed::first_flawed;
 pub use large::first_large;
-pub use laws::{one_macro_cause, unflawed_bodies_are_closed};
+pub use laws::{one_macro_cause, some_macro_cause, unflawed_bodies_are_closed};
