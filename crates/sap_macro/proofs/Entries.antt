@@ -18,7 +18,7 @@ use Rattle.sap_macro.specs.Order.{AreInOrder}
 use Rattle.sap_macro.specs.Sources.{definition_of, definitions, written}
 use Rattle.sap_macro.specs.Written.{Written, call, Definition}
 use Rattle.sap_macro.specs.code.Entering.{ArePut}
-use Rattle.sap_macro.specs.code.Indexed.{defined, IsIndex, AreIndexed}
+use Rattle.sap_macro.specs.Indexed.{defined, IsIndex, AreIndexed}
 use Rattle.sap_macro.specs.code.Standings.{tree_or}
 use Rattle.sap_macro.specs.code.Steps.{IsResolved, IsUnknown, plain_of, steps_in}
 use Rattle.sap_macro.specs.declared.definition.Definition as code

@@ -1,5 +1,5 @@
 -- Heads over what stands below them.
-use Rattle.std.proofs.Common.{◌≡◌, ◌<◌, ℕ, ◌+◌, Bool, List, [], ◌∷◌, ◌++◌, refl, arith, ap, sym, subst, ◌∙◌}
+use Rattle.std.proofs.Common.{◌≡◌, ◌<◌, ℕ, ◌+◌, Bool, List, [], ◌∷◌, ◌++◌, refl, arith, ap, ap₂, sym, subst, ◌∙◌}
 use Rattle.sap_process.specs.Action.{Action}
 use Rattle.sap_process.specs.Proc as whole
 use Rattle.sap_process.specs.Proc.{Proc}
@@ -7,12 +7,14 @@ use Rattle.sap_terms.specs.Tree.{Tree}
 use Rattle.sap_terms.specs.declared.var.Var.{Var}
 use Rattle.sap_macro.specs.Expansion.{Expanded, with_uses}
 use Rattle.sap_macro.specs.Written.{Written, nil, call, parallel, replicated, act, test, lookup, Definition}
-use Rattle.sap_macro.specs.code.Heads.{IsOver, IsOverBoth, forked, head_names, headed, met_names, names_in}
+use Rattle.sap_macro.specs.code.Heads.{IsOver, IsOverBoth, forked, head_names, headed, met_names, names_in, seen_in}
 use Rattle.sap_macro.specs.code.Names.{with_names}
 use Rattle.sap_macro.specs.code.Steps.{built, plain_of, steps_in, steps, cost_of, IsFormed}
 use Rattle.sap_macro.specs.declared.standing.Standing.{Standing}
 use Rattle.sap_macro.proofs.Bound.{with_names-append}
+use Rattle.sap_macro.specs.UpToNames.{named}
 use Rattle.sap_macro.proofs.Built.{built_same}
+use Rattle.sap_macro.proofs.Watched.{put_action, put_name, put_term}
 
 positive : (c : List ℕ → ℕ) (w : Written) → 0 < steps c w
 positive c nil = omega arith
@@ -24,39 +26,48 @@ positive c (test t u p q) = omega arith
 positive c (lookup t x p q) = omega arith
 
 pub over_replicated : (p : Written) → IsOver (replicated p) p
-unfolding built met_names steps_in
-over_replicated p = record { process = λ ds s taken. refl; taken = λ ds s taken. refl; names = λ ds known. refl; further = λ ds. omega arith }
+unfolding built met_names seen_in steps_in
+over_replicated p = record { process = λ ds s taken. refl; taken = λ ds s taken. refl; names = λ ds known. refl; seen = λ ds s n. refl; further = λ ds. omega arith }
 
 pub over_act : (a : Action) (p : Written) → IsOver (act a p) p
-unfolding built met_names steps_in
-over_act a p = record { process = λ ds s taken. refl; taken = λ ds s taken. refl; names = λ ds known. refl; further = λ ds. omega arith }
+unfolding built met_names seen_in steps_in
+over_act a p = record {
+  process = λ ds s taken. refl;
+  taken = λ ds s taken. refl;
+  names = λ ds known. refl;
+  seen = λ ds s n. ap (λ b. whole.act b (seen_in ds p)) (sym (put_action s n a));
+  further = λ ds. omega arith;
+}
 
 pub over_parallel : (p q : Written) → IsOverBoth (parallel p q) p q
-unfolding built met_names steps_in
+unfolding built met_names seen_in steps_in
 over_parallel p q = record {
   process = λ ds s taken. refl;
   taken = λ ds s taken. refl;
   names = λ ds known. refl;
+  seen = λ ds s n. refl;
   first = λ ds. omega arith;
   second = λ ds. omega arith;
 }
 
 pub over_test : (t u : Tree) (p q : Written) → IsOverBoth (test t u p q) p q
-unfolding built met_names steps_in
+unfolding built met_names seen_in steps_in
 over_test t u p q = record {
   process = λ ds s taken. refl;
   taken = λ ds s taken. refl;
   names = λ ds known. refl;
+  seen = λ ds s n. ap₂ (λ a b. whole.test a b (seen_in ds p) (seen_in ds q)) (sym (put_term s n t)) (sym (put_term s n u));
   first = λ ds. omega arith;
   second = λ ds. omega arith;
 }
 
 pub over_lookup : (t : Tree) (x : Var) (p q : Written) → IsOverBoth (lookup t x p q) p q
-unfolding built met_names steps_in
+unfolding built met_names seen_in steps_in
 over_lookup t x p q = record {
   process = λ ds s taken. refl;
   taken = λ ds s taken. refl;
   names = λ ds known. refl;
+  seen = λ ds s n. ap₂ (λ a y. whole.lookup a (named y x.sort) (seen_in ds p) (seen_in ds q)) (sym (put_term s n t)) (sym (put_name s n x.name));
   first = λ ds. omega arith;
   second = λ ds. omega arith;
 }

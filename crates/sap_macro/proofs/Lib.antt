@@ -9,6 +9,7 @@ pub mod NewNames
 pub mod Scopes
 pub mod Commuting
 pub mod AlikeExpansions
+pub mod Kept
 pub mod Uses
 pub mod Putting
 pub mod Resolving
@@ -19,5 +20,6 @@ pub mod Built
 pub mod Forms
 pub mod Counted
 pub mod Sized
+pub mod Watched
 pub mod Replacing
 pub mod SameSizes

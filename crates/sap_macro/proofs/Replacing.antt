@@ -20,7 +20,7 @@ use Rattle.sap_macro.specs.code.Indexed.{defined}
 use Rattle.sap_macro.proofs.Names.{not_in, out_of, two_names}
 use Rattle.sap_macro.proofs.NewNames.{in_cases}
 use Rattle.sap_macro.proofs.Resolving.{apart_from, meaning_stays, plain_stays, resolved, uses_agree, with_body}
-use Rattle.sap_macro.proofs.Uses.{action_kept, kept}
+use Rattle.sap_macro.proofs.Kept.{action_kept, kept}
 
 none_contained : {X : Type 0} {x : X} → Contains [] x → ⊥
 none_contained c = let few = c.1 in omega (arith, few)

@@ -15,7 +15,7 @@ use Rattle.sap_macro.specs.NewNames.{renamed, taken_after}
 use Rattle.sap_macro.specs.Order.{AreInOrder, UsesOnly}
 use Rattle.sap_macro.specs.UpToNames.{named}
 use Rattle.sap_macro.specs.Written.{Written, nil, call, parallel, replicated, act, test, lookup, Definition}
-use Rattle.sap_macro.specs.code.Indexed.{defined}
+use Rattle.sap_macro.specs.Indexed.{defined}
 use Rattle.sap_macro.specs.code.Steps.{Cost, steps, with_cost, cost_after, cost_of, plain_of, meaning_in, IsResolved, IsResolvedBy, IsUnknown}
 use Rattle.sap_macro.proofs.Names.{own_name, one_name, apart, clash, in_head, in_tail, not_in, out_of}
 use Rattle.sap_macro.proofs.NewNames.{in_cases}

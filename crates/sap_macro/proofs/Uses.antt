@@ -3,20 +3,18 @@ use Rattle.std.proofs.Common.{◌≡◌, ℕ, Bool, true, false, List, [], ◌�
 use Rattle.std.proofs.lemmas.Bool.{cases_Bool, false≢true}
 use Rattle.std.specs.Prelude.{if◌then◌else◌}
 use Rattle.std.specs.Str.{bytes_eq}
-use Rattle.sap_terms.specs.Choice.{Choice, instance, instances}
+use Rattle.sap_terms.specs.Choice.{Choice, instance}
 use Rattle.sap_terms.specs.Ground.{AreGround}
-use Rattle.sap_terms.specs.Modulo.{instance_facts}
-use Rattle.sap_terms.specs.Tree.{Tree, variable, public, fresh, apply, Trees, none, more, trees_of}
+use Rattle.sap_terms.specs.Tree.{Tree, public, trees_of}
 use Rattle.sap_terms.specs.Variables.{is_known}
-use Rattle.sap_terms.specs.declared.fact.Fact.{Fact}
 use Rattle.sap_terms.specs.declared.var.Var.{Var}
-use Rattle.sap_process.specs.Action.{Action, new, out, send, input, receive, event, insert, delete, lock, unlock, embedded}
+use Rattle.sap_process.specs.Action.{Action}
 use Rattle.sap_process.specs.Instance.{action_instance, process_instance}
 use Rattle.sap_process.specs.Proc as whole
 use Rattle.sap_macro.specs.Expansion.{binders, own_names, Expanded, expanded_as, Meaning, same_name, by_names, unchanged, put, binding, expanded, entered, with_definition, no_meaning, meaning_after, meaning_of}
 use Rattle.sap_macro.specs.Instances.{written_instance, instance_by, IsClosed, AreClosed, Keeps, AreTaken}
 use Rattle.sap_macro.specs.NewNames.{renamed, taken_after}
-use Rattle.sap_macro.specs.UpToNames.{fact, Pair, lefts, rights, AreAlikeTerms, both_public, AreAlikeLists, both_more, AreAlike, both_nil}
+use Rattle.sap_macro.specs.UpToNames.{Pair, lefts, rights, AreAlikeTerms, both_public, AreAlikeLists, both_more, AreAlike, both_nil}
 use Rattle.sap_macro.specs.Written.{Written, nil, call, parallel, replicated, act, test, lookup, Definition}
 use Rattle.sap_macro.proofs.Names.{clash, two_names, not_in}
 use Rattle.sap_macro.proofs.NewNames.{in_cases}
@@ -24,6 +22,7 @@ use Rattle.sap_macro.proofs.Moving.{all_ground}
 use Rattle.sap_macro.proofs.Scopes.{Among, binder_is_new, is_once, once_is, grown, renamed_is_new, renamed_is_taken, renamed_one}
 use Rattle.sap_macro.proofs.Commuting.{IsSteady, same_taken, taken_grows, keeps_more, Commutes, commuted}
 use Rattle.sap_macro.proofs.AlikeExpansions.{Respects, alike}
+use Rattle.sap_macro.proofs.Kept.{action_kept, each_kept, kept}
 
 -- a name that is no parameter
 put_other : (ys : List (List ℕ)) (ts : List Tree) (o : Choice) (v : Var) → is_known ys v.name ≡ false → put ys ts o v ≡ o v
@@ -179,38 +178,6 @@ all_hold ds closed =
     })
 
 -- ---- the instance as a process that is written
-
-mutual
-  pub kept : (t : Tree) → instance unchanged t ≡ t
-  kept (variable v) = refl
-  kept (public n) = refl
-  kept (fresh k) = refl
-  kept (apply f ts) = ap (apply f) (all_kept ts)
-
-  all_kept : (ts : Trees) → instances unchanged ts ≡ ts
-  all_kept none = refl
-  all_kept (more t ts) = λ i. more (kept t i) (all_kept ts i)
-
-each_kept : (ts : List Tree) → map (instance unchanged) ts ≡ ts
-each_kept [] = refl
-each_kept (t ∷ ts) = λ i. kept t i ∷ each_kept ts i
-
-facts_kept : (fs : List Fact) → instance_facts unchanged fs ≡ fs
-facts_kept [] = refl
-facts_kept (f ∷ fs) = λ i. fact f.name f.persistent (each_kept f.args i) ∷ facts_kept fs i
-
-pub action_kept : (a : Action) → action_instance unchanged a ≡ a
-action_kept (new x) = refl
-action_kept (out t) = ap out (kept t)
-action_kept (send t u) = λ i. send (kept t i) (kept u i)
-action_kept (input t) = ap input (kept t)
-action_kept (receive t u) = λ i. receive (kept t i) (kept u i)
-action_kept (event f) = ap (λ ts. event (fact f.name f.persistent ts)) (each_kept f.args)
-action_kept (insert t u) = λ i. insert (kept t i) (kept u i)
-action_kept (delete t) = ap delete (kept t)
-action_kept (lock t n) = ap (λ u. lock u n) (kept t)
-action_kept (unlock t n) = ap (λ u. unlock u n) (kept t)
-action_kept (embedded l e r) = λ i. embedded (facts_kept l i) (facts_kept e i) (facts_kept r i)
 
 -- to put terms and to expand is to expand with the terms
 at_once : (m : Meaning) (σ : Choice) (p : Written) (taken : List (List ℕ)) → expanded m unchanged same_name (written_instance σ p) taken ≡ expanded m σ same_name p taken

@@ -9,5 +9,7 @@ pub mod Instances
 pub mod UsesAreInstances
 pub mod Sources
 pub mod Order
+pub mod Indexed
+pub mod Seen
 pub mod MacroCauses
 pub mod code

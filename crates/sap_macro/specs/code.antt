@@ -3,7 +3,6 @@ pub mod Standings
 pub mod Deeds
 pub mod Steps
 pub mod Heads
-pub mod Indexed
 pub mod Taking
 pub mod Names
 pub mod Entering

@@ -8,7 +8,7 @@ ghost use Rattle.sap_macro.specs.Expansion.{binding_vars};
 ghost use Rattle.sap_macro.specs.Order.{AreInOrder};
 ghost use Rattle.sap_macro.specs.Sources.{definitions, doing, written};
 ghost use Rattle.sap_macro.specs.code.Heads.{head_names, names_in, other_names};
-ghost use Rattle.sap_macro.specs.code.Indexed.{AreIndexed};
+ghost use Rattle.sap_macro.specs.Indexed.{AreIndexed};
 ghost use Rattle.sap_macro.specs.code.Names.{with_names};
 
 use crate::below::below;

@@ -13,7 +13,7 @@ ghost use Rattle.sap_macro.specs.Order.{AreInOrder};
 ghost use Rattle.sap_macro.specs.Sources.{definition_of, definitions, written};
 ghost use Rattle.sap_macro.specs.Written.{call};
 ghost use Rattle.sap_macro.specs.code.Entering.{ArePut, IsEntered, own_names_in};
-ghost use Rattle.sap_macro.specs.code.Indexed.{AreIndexed};
+ghost use Rattle.sap_macro.specs.Indexed.{AreIndexed};
 ghost use Rattle.sap_macro.specs.code.Standings.{choice_of};
 ghost use Rattle.sap_macro.specs.code.Steps.{built, plain_of, steps_in, IsFormed, IsResolved};
 

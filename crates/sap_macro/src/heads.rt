@@ -1,5 +1,5 @@
 //! Heads of processes as they are written, with what stands for their names put in, over what follows them.
-ghost use Rattle.std.specs.Prelude.{◌≡◌, IfOk};
+ghost use Rattle.std.specs.Prelude.{◌≡◌, false, IfOk};
 ghost use Rattle.sap_terms.specs.Choice.{instance};
 ghost use Rattle.sap_terms.specs.Modulo.{instance_fact, instance_facts};
 ghost use Rattle.sap_terms.specs.View.{tree};
@@ -8,7 +8,7 @@ ghost use Rattle.sap_process.specs.Instance.{action_instance};
 ghost use Rattle.sap_process.specs.Proc.{proc, nil, act, test, lookup};
 ghost use Rattle.sap_macro.specs.Expansion.{binding};
 ghost use Rattle.sap_macro.specs.Sources.{doing, written};
-ghost use Rattle.sap_macro.specs.UpToNames.{named};
+ghost use Rattle.sap_macro.specs.UpToNames.{fact, named};
 ghost use Rattle.sap_macro.specs.code.Deeds.{on_term, on_terms};
 ghost use Rattle.sap_macro.specs.code.Heads.{headed, forked};
 ghost use Rattle.sap_macro.specs.code.Standings.{choice_of, name_of};
@@ -16,7 +16,7 @@ ghost use Rattle.sap_macro.specs.code.Standings.{choice_of, name_of};
 use crate::source::{Doing, Source};
 use crate::standing::{Standing, bound_in, fact_in, facts_in, term_in};
 use sap_process::Process;
-use sap_terms::{Fact, FactList, Mem, Term, Var};
+use sap_terms::{Copied, Fact, FactList, Mem, Name, Term, TermList, Var};
 use std::alloc::Global;
 
 // The process in a box.
@@ -31,6 +31,21 @@ pub(crate) fn ended(alloc: Global) -> Result<Box<Process>, Mem>
     ensures { IfOk result (λ p. proc p.value ≡ nil) }
 {
     boxed(alloc, Process::Nil)
+}
+
+/// The event of this name with these arguments, and `0`.
+pub(crate) fn told(alloc: Global, name: &Name, args: &TermList) -> Result<Box<Process>, Mem>
+    ensures { IfOk result (λ p. proc p.value ≡ act (event (fact name.now false args.now)) nil) }
+{
+    let next = ended(alloc)?;
+    let args = args.copy(alloc)?;
+    let name = name.copy(alloc)?;
+    let f = Fact {
+        name,
+        persistent: false,
+        args,
+    };
+    boxed(alloc, Process::Event(f, next))
 }
 
 // What is done with one term.

@@ -5,7 +5,7 @@ ghost use Rattle.sap_macro.specs.Expansion.{with_uses};
 ghost use Rattle.sap_macro.specs.Order.{AreInOrder};
 ghost use Rattle.sap_macro.specs.Sources.{definition_of, definitions, written};
 ghost use Rattle.sap_macro.specs.Written.{call};
-ghost use Rattle.sap_macro.specs.code.Indexed.{AreIndexed};
+ghost use Rattle.sap_macro.specs.Indexed.{AreIndexed};
 ghost use Rattle.sap_macro.specs.code.Steps.{IsFormed, IsResolved, IsUnknown, plain_of, steps_in};
 
 use crate::definition::{Definition, DefinitionList};
@@ -14,10 +14,11 @@ use sap_terms::{Copied, Mem, Name, NameMap};
 use std::alloc::Global;
 
 /// The index of each definition, by its name.
-pub(crate) type Index = NameMap<u64>;
+pub type Index = NameMap<u64>;
 
-/// The index of each of the definitions. It takes time in proportion to their number, where each is put in by the order of names.
-pub(crate) fn index_of(alloc: Global, defs: &DefinitionList) -> Result<Index, Mem>
+/// The index of each of the definitions. Want of memory is the only error. It takes time in proportion to their number, where each
+/// is put in by the order of names.
+pub fn index_of(alloc: Global, defs: &DefinitionList) -> Result<Index, Mem>
     ensures { IfOk result (λ index. AreIndexed (definitions defs.now) index) }
 {
     let mut index = NameMap::new(alloc);

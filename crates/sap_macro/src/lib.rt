@@ -11,6 +11,7 @@ mod definition;
 mod heads;
 mod index;
 mod laws;
+mod seen;
 mod sizes;
 mod source;
 mod standing;
@@ -19,10 +20,12 @@ pub use building::build;
 pub use by_hand::{equal_up_to_names_by_hand, expansions_by_hand, macro_causes_by_hand};
 pub use causes::{first_other_count, first_parameter_twice};
 pub use definition::{Definition, DefinitionList};
+pub use index::{Index, index_of};
 pub use laws::{
     expansions_are_one, new_names_are_least, new_names_are_short, plain_files_stay,
     plain_names_stand_for_bodies, same_up_to_names_show_the_same, sizes_are_one,
     uses_are_instances, uses_show_their_instances,
 };
+pub use seen::seen;
 pub use sizes::{Size, expanded_size};
 pub use source::{Doing, Source};

@@ -7,8 +7,8 @@ use Rattle.std.proofs.lemmas.Option.{slice_get_within, slice_get-get_or}
 use Rattle.sap_terms.specs.Signature.{Sig}
 use Rattle.sap_terms.specs.declared.var.Var.{Var}
 use Rattle.sap_process.specs.Proc.{Proc}
-use Rattle.sap_process.specs.Sites.{Site, sites}
-use Rattle.sap_process.specs.Flaws.{HasFlaw, IsFlawedAt, IsFirstFlaw, IsWellFormed, rank}
+use Rattle.sap_process.specs.Sites.{Site, sites, sites_in}
+use Rattle.sap_process.specs.Flaws.{HasFlaw, IsFlawedIn, IsFirstFlaw, IsWellFormed, rank}
 use Rattle.sap_process.specs.code.Tests.{has_flaw, lacking}
 use Rattle.sap_process.specs.code.Walks.{clashes, lacked, found_at, found_after, unmet, first_flaw, AreRanked, IsCounted}
 use Rattle.sap_process.specs.declared.flaw.Flaw.{Flaw}
@@ -18,6 +18,7 @@ use Rattle.sap_process.specs.declared.flaw.Ill.TheVariants.{Mem, At}
 use Rattle.sap_process.specs.declared.found.Found.{Found}
 use Rattle.sap_process.specs.declared.met.Seen.{Seen}
 use Rattle.sap_process.proofs.Flawed.{Kept, flaw-tells, kept-on, kept-none}
+use Rattle.sap_process.proofs.OneFlaw.{one_rank}
 
 -- the test of a flaw at a site
 abbrev tested : Sig → Seen → Site → Flaw → Bool
@@ -196,81 +197,56 @@ finds g ws before [] f begins kept = record {
 finds g ws before (s ∷ ss) f begins kept =
     finds-more g ws before s ss f begins kept (finds g ws (before ++ s ∷ []) ss (found_at g f s) (begins-here g ws f s begins) (kept-here g ws f before s begins kept))
 
-abbrev flaws : List Flaw
-flaws = BadFunction ∷ ReservedVar ∷ ReservedFact ∷ FactClash ∷ PatternDestructor ∷ Unbound ∷ Rebound ∷ SortClash ∷ ScopeFull ∷ []
+-- the flaws stand in the order in which they count, none twice, from this rank on
+abbrev AreAscending : ℕ → List Flaw → Type 0
+AreAscending n [] = Unit {0}
+AreAscending n (w ∷ ws) = (n ≤ rank w) × AreAscending (suc (rank w)) ws
 
--- where each flaw stands
-abbrev index : Flaw → ℕ
-index BadFunction = 0
-index ReservedVar = 1
-index ReservedFact = 2
-index FactClash = 3
-index PatternDestructor = 4
-index Unbound = 5
-index Rebound = 6
-index SortClash = 7
-index ScopeFull = 8
+rank-from : (n : ℕ) (ws : List Flaw) → AreAscending n ws → (k : ℕ) (w : Flaw) → slice_get ws k ≡ Some w → n ≤ rank w
+rank-from n [] up k w e = cc
+rank-from n (x ∷ ws) up zero w e = let same : x ≡ w = cc in subst (λ (v : Flaw). n ≤ rank v) same up.0
+rank-from n (x ∷ ws) up (suc k) w e =
+    let above = rank-from (suc (rank x)) ws up.1 k w e in
+    let here = up.0 in
+    omega (arith, above, here)
 
-index-rank : (w : Flaw) → rank w ≡ suc (index w)
-index-rank BadFunction = refl
-index-rank ReservedVar = refl
-index-rank ReservedFact = refl
-index-rank FactClash = refl
-index-rank PatternDestructor = refl
-index-rank Unbound = refl
-index-rank Rebound = refl
-index-rank SortClash = refl
-index-rank ScopeFull = refl
-
-index-at : (w : Flaw) → slice_get flaws (index w) ≡ Some w
-index-at BadFunction = refl
-index-at ReservedVar = refl
-index-at ReservedFact = refl
-index-at FactClash = refl
-index-at PatternDestructor = refl
-index-at Unbound = refl
-index-at Rebound = refl
-index-at SortClash = refl
-index-at ScopeFull = refl
-
--- no flaw stands twice
-index-of : (k : ℕ) (w : Flaw) → slice_get flaws k ≡ Some w → k ≡ index w
-index-of zero w e = let same : BadFunction ≡ w = cc in ap index same
-index-of (suc zero) w e = let same : ReservedVar ≡ w = cc in ap index same
-index-of (suc (suc zero)) w e = let same : ReservedFact ≡ w = cc in ap index same
-index-of (suc (suc (suc zero))) w e = let same : FactClash ≡ w = cc in ap index same
-index-of (suc (suc (suc (suc zero)))) w e = let same : PatternDestructor ≡ w = cc in ap index same
-index-of (suc (suc (suc (suc (suc zero))))) w e = let same : Unbound ≡ w = cc in ap index same
-index-of (suc (suc (suc (suc (suc (suc zero)))))) w e = let same : Rebound ≡ w = cc in ap index same
-index-of (suc (suc (suc (suc (suc (suc (suc zero))))))) w e = let same : SortClash ≡ w = cc in ap index same
-index-of (suc (suc (suc (suc (suc (suc (suc (suc zero)))))))) w e = let same : ScopeFull ≡ w = cc in ap index same
-index-of (suc (suc (suc (suc (suc (suc (suc (suc (suc k))))))))) w e = cc
+-- what counts before another stands before it
+stands-before : (n : ℕ) (ws : List Flaw) → AreAscending n ws → (i j : ℕ) (u w : Flaw) → slice_get ws i ≡ Some u → slice_get ws j ≡ Some w → rank u < rank w → i < j
+stands-before n [] up i j u w d e l = cc
+stands-before n (x ∷ ws) up zero zero u w d e l = let same : u ≡ w = cc in let r = ap rank same in absurd (omega (arith, l, r))
+stands-before n (x ∷ ws) up zero (suc j) u w d e l = omega arith
+stands-before n (x ∷ ws) up (suc i) zero u w d e l =
+    let same : x ≡ w = cc in
+    let r = ap rank same in
+    let above = rank-from (suc (rank x)) ws up.1 i u d in
+    absurd (omega (arith, l, r, above))
+stands-before n (x ∷ ws) up (suc i) (suc j) u w d e l = let less = stands-before (suc (rank x)) ws up.1 i j u w d e l in omega (arith, less)
 
 -- what a walk over all places finds
-whole : (g : Sig) (p : Proc) → Finds g flaws [] (sites p) (unmet flaws) (found_after g (unmet flaws) (sites p))
-whole g p = finds g flaws [] (sites p) (unmet flaws) (λ j l. refl) (λ j u l e. kept-none u)
+whole : (g : Sig) (ws : List Flaw) (scope : List Var) (p : Proc) → Finds g ws [] (sites_in scope p) (unmet ws) (found_after g (unmet ws) (sites_in scope p))
+whole g ws scope p = finds g ws [] (sites_in scope p) (unmet ws) (λ j l. refl) (λ j u l e. kept-none u)
 
-abbrev found_in : Sig → Proc → Found
-found_in g p = found_after g (unmet flaws) (sites p)
+abbrev found_in : Sig → List Flaw → List Var → Proc → Found
+found_in g ws scope p = found_after g (unmet ws) (sites_in scope p)
 
-no-flaw : (g : Sig) (p : Proc) (u : Flaw) → index u < length (found_in g p).sought → (k : ℕ) → ¬ IsFlawedAt g p u k
-no-flaw g p u l k f = (whole g p).none (index u) u l (index-at u) k f.site f.stands f.flaw
+no-flaw : (g : Sig) (ws : List Flaw) (scope : List Var) (p : Proc) (i : ℕ) (u : Flaw) → i < length (found_in g ws scope p).sought → slice_get ws i ≡ Some u → (k : ℕ)
+    → ¬ IsFlawedIn g scope p u k
+no-flaw g ws scope p i u l e k f = (whole g ws scope p).none i u l e k f.site f.stands f.flaw
 
-inside : (k : ℕ) → k < 9 → slice_get flaws k ≡ None → ⊥
-inside k l e = let some : slice_get flaws k ≡ Some (get_or flaws k BadFunction) = slice_get-get_or flaws k BadFunction l in cc
+-- where no flaw is found, no place has one of these
+pub none-found : (g : Sig) (ws : List Flaw) (scope : List Var) (p : Proc) → first_flaw g ws (sites_in scope p) ≡ None → (i : ℕ) (u : Flaw) → slice_get ws i ≡ Some u → (k : ℕ)
+    → ¬ IsFlawedIn g scope p u k
+none-found g ws scope p h i u e k = by (slice_get ws (length (found_in g ws scope p).sought)) refl h where
+  past : slice_get ws (length (found_in g ws scope p).sought) ≡ None → ¬ IsFlawedIn g scope p u k
+  past d = no-flaw g ws scope p i u (all (cases_lt (length (found_in g ws scope p).sought) (length ws))) e k where
+    all : (length (found_in g ws scope p).sought < length ws) ⊎ (length ws ≤ length (found_in g ws scope p).sought) → i < length (found_in g ws scope p).sought
+    all (inl low) = absurd (let some : slice_get ws (length (found_in g ws scope p).sought) ≡ Some (get_or ws (length (found_in g ws scope p).sought) u) = slice_get-get_or ws (length (found_in g ws scope p).sought) u low in cc)
+    all (inr high) = let l : i < length ws = slice_get_within ws i u e in omega (arith, high, l)
 
--- where no flaw is found, the process is well-formed
-well-formed : (g : Sig) (p : Proc) → first_flaw g flaws (sites p) ≡ None → IsWellFormed g p
-well-formed g p h u k = by (cases_lt (index u) (length (found_in g p).sought)) k where
-  by : (index u < length (found_in g p).sought) ⊎ (length (found_in g p).sought ≤ index u) → (k : ℕ) → ¬ IsFlawedAt g p u k
-  by (inl low) k = no-flaw g p u low k
-  by (inr high) k = absurd (past (slice_get flaws (length (found_in g p).sought)) refl h) where
-    below : length (found_in g p).sought < 9
-    below = let l : index u < 9 = slice_get_within flaws (index u) u (index-at u) in omega (arith, high, l)
-
-    past : (o : Option Flaw) → slice_get flaws (length (found_in g p).sought) ≡ o → option_map {U = Flaw × List ℕ} (λ (w : Flaw). (w, (found_in g p).path)) o ≡ None → ⊥
-    past None e d = inside (length (found_in g p).sought) below e
-    past (Some w) e d = cc
+  by : (o : Option Flaw) → slice_get ws (length (found_in g ws scope p).sought) ≡ o → option_map {U = Flaw × List ℕ} (λ (w : Flaw). (w, (found_in g ws scope p).path)) o ≡ None
+      → ¬ IsFlawedIn g scope p u k
+  by None d n = past d
+  by (Some w) d n = cc
 
 abbrev flaw_in : Flaw → Option (Flaw × List ℕ) → Flaw
 flaw_in w None = w
@@ -280,55 +256,100 @@ abbrev path_in : Option (Flaw × List ℕ) → List ℕ
 path_in None = []
 path_in (Some found) = found.1
 
--- the flaw that is found counts
-counts : (g : Sig) (p : Proc) (u : Flaw) (path : List ℕ) → first_flaw g flaws (sites p) ≡ Some (u, path) → IsFirstFlaw g p u path
-counts g p u path h = by (slice_get flaws (length (found_in g p).sought)) refl h where
-  at : slice_get flaws (length (found_in g p).sought) ≡ Some u → (found_in g p).path ≡ path → IsFirstFlaw g p u path
+-- of these flaws it counts, and this is the path of its first place
+pub record IsFirstOf (g : Sig) (ws : List Flaw) (scope : List Var) (p : Proc) (w : Flaw) (path : List ℕ) : Type 0 where
+  pub index : ℕ
+  pub among : slice_get ws index ≡ Some w
+  pub place : ℕ
+  pub at : IsFlawedIn g scope p w place
+  pub path_is : at.site.path ≡ path
+  pub first : (k : ℕ) → k < place → ¬ IsFlawedIn g scope p w k
+  pub least : (i : ℕ) (u : Flaw) → slice_get ws i ≡ Some u → rank u < rank w → (k : ℕ) → ¬ IsFlawedIn g scope p u k
+
+-- the flaw that is found among some that stand in the order in which they count is that one
+pub some-found : (g : Sig) (n : ℕ) (ws : List Flaw) → AreAscending n ws → (scope : List Var) (p : Proc) (w : Flaw) (path : List ℕ) → first_flaw g ws (sites_in scope p) ≡ Some (w, path)
+    → IsFirstOf g ws scope p w path
+some-found g n ws up scope p w path h = by (slice_get ws (length (found_in g ws scope p).sought)) refl h where
+  at : slice_get ws (length (found_in g ws scope p).sought) ≡ Some w → (found_in g ws scope p).path ≡ path → IsFirstOf g ws scope p w path
   at e same =
-      let below : length (found_in g p).sought < 9 = slice_get_within flaws (length (found_in g p).sought) u e in
-      let of = (whole g p).some u below e in
+      let below : length (found_in g ws scope p).sought < length ws = slice_get_within ws (length (found_in g ws scope p).sought) w e in
+      let of = (whole g ws scope p).some w below e in
       record {
+        index = length (found_in g ws scope p).sought;
+        among = e;
         place = of.place;
         at = record { site = of.site; stands = of.stands; flaw = of.flaw };
         path_is = of.path_is ∙ same;
         first = λ k l f. of.first k f.site l f.stands f.flaw;
-        least = λ w l. no-flaw g p w (
-            let here = index-of (length (found_in g p).sought) u e in
-            let first = index-rank w in
-            let second = index-rank u in
-            omega (arith, l, here, first, second));
+        least = λ i u d l. no-flaw g ws scope p i u (stands-before n ws up i (length (found_in g ws scope p).sought) u w d e l) d;
       }
 
-  by : (o : Option Flaw) → slice_get flaws (length (found_in g p).sought) ≡ o → option_map {U = Flaw × List ℕ} (λ (w : Flaw). (w, (found_in g p).path)) o ≡ Some (u, path) → IsFirstFlaw g p u path
+  by : (o : Option Flaw) → slice_get ws (length (found_in g ws scope p).sought) ≡ o → option_map {U = Flaw × List ℕ} (λ (v : Flaw). (v, (found_in g ws scope p).path)) o ≡ Some (w, path)
+      → IsFirstOf g ws scope p w path
   by None e d = cc
-  by (Some w) e d = at (e ∙ ap Some (ap (flaw_in w) d)) (ap path_in d)
-
--- flaws of one rank are one
-same-rank : (u w : Flaw) → rank u ≡ rank w → u ≡ w
-same-rank u w e =
-    let i : index u ≡ index w = (let first = index-rank u in let second = index-rank w in omega (arith, e, first, second)) in
-    let s : Some u ≡ Some w = sym (index-at u) ∙ ap (slice_get flaws) i ∙ index-at w in
-    cc
+  by (Some v) e d = at (e ∙ ap Some (ap (flaw_in v) d)) (ap path_in d)
 
 rank-low : (w : Flaw) → rank w < 10
-rank-low w = let l : index w < 9 = slice_get_within flaws (index w) w (index-at w) in let e = index-rank w in omega (arith, l, e)
+rank-low BadFunction = omega arith
+rank-low ReservedVar = omega arith
+rank-low ReservedFact = omega arith
+rank-low FactClash = omega arith
+rank-low PatternDestructor = omega arith
+rank-low Unbound = omega arith
+rank-low Rebound = omega arith
+rank-low SortClash = omega arith
+rank-low ScopeFull = omega arith
 
--- flaws in the order in which they count, from one rank on, are one list
-ranked-same : (n : ℕ) (us ws : List Flaw) → AreRanked n us → AreRanked n ws → us ≡ ws
-ranked-same n [] [] a b = refl
-ranked-same n [] (w ∷ ws) a b = absurd (let l = rank-low w in let e = b.0 in omega (arith, a, e, l))
-ranked-same n (u ∷ us) [] a b = absurd (let l = rank-low u in let e = a.0 in omega (arith, e, b, l))
-ranked-same n (u ∷ us) (w ∷ ws) a b = λ i. same-rank u w (a.0 ∙ sym b.0) i ∷ ranked-same (suc n) us ws a.1 b.1 i
+-- all flaws from one rank on stand in ascending order
+ranked-ascending : (n : ℕ) (ws : List Flaw) → AreRanked n ws → AreAscending n ws
+ranked-ascending n [] at = tt
+ranked-ascending n (w ∷ ws) at = (
+  (let e = at.0 in omega (arith, e)),
+  subst (λ k. AreAscending (suc k) ws) (sym at.0) (ranked-ascending (suc n) ws at.1),
+)
 
-ascending : AreRanked 1 flaws
-ascending = (refl, (refl, (refl, (refl, (refl, (refl, (refl, (refl, (refl, refl)))))))))
+-- and each stands there
+ranked-all : (n : ℕ) (ws : List Flaw) → AreRanked n ws → (w : Flaw) → n ≤ rank w → (i : ℕ) × (slice_get ws i ≡ Some w)
+ranked-all n [] at w l = absurd (let low = rank-low w in omega (arith, at, l, low))
+ranked-all n (x ∷ ws) at w l = by (cases_lt n (rank w)) (λ low. ranked-all (suc n) ws at.1 w low) where
+  by : (n < rank w) ⊎ (rank w ≤ n) → (suc n ≤ rank w → (i : ℕ) × (slice_get ws i ≡ Some w)) → (i : ℕ) × (slice_get (x ∷ ws) i ≡ Some w)
+  by (inl low) later = let found = later (omega (arith, low)) in (suc found.0, found.1)
+  by (inr high) later = (0, ap Some (one_rank x w (let e = at.0 in omega (arith, e, l, high))))
+
+rank-one : (w : Flaw) → 1 ≤ rank w
+rank-one BadFunction = omega arith
+rank-one ReservedVar = omega arith
+rank-one ReservedFact = omega arith
+rank-one FactClash = omega arith
+rank-one PatternDestructor = omega arith
+rank-one Unbound = omega arith
+rank-one Rebound = omega arith
+rank-one SortClash = omega arith
+rank-one ScopeFull = omega arith
 
 -- a search for the flaws in the order in which they count finds the one that counts
 pub counted : (g : Sig) (p : Proc) (ws : List Flaw) → AreRanked 1 ws → IsCounted g p (first_flaw g ws (sites p))
-counted g p ws at = subst (λ (us : List Flaw). IsCounted g p (first_flaw g us (sites p))) (ranked-same 1 flaws ws ascending at) (by (first_flaw g flaws (sites p)) refl) where
-  by : (o : Option (Flaw × List ℕ)) → first_flaw g flaws (sites p) ≡ o → IsCounted g p o
-  by None h = well-formed g p h
-  by (Some found) h = counts g p found.0 found.1 h
+counted g p ws at = by (first_flaw g ws (sites p)) refl where
+  each : (w : Flaw) → (i : ℕ) × (slice_get ws i ≡ Some w)
+  each w = ranked-all 1 ws at w (rank-one w)
+
+  by : (o : Option (Flaw × List ℕ)) → first_flaw g ws (sites p) ≡ o → IsCounted g p o
+  by None h = λ w k. none-found g ws [] p h (each w).0 w (each w).1 k
+  by (Some found) h =
+      let of = some-found g 1 ws (ranked-ascending 1 ws at) [] p found.0 found.1 h in
+      record {
+        place = of.place;
+        at = of.at;
+        path_is = of.path_is;
+        first = of.first;
+        least = λ u l k. of.least (each u).0 u (each u).1 l k;
+      }
+
+abbrev flaws : List Flaw
+flaws = BadFunction ∷ ReservedVar ∷ ReservedFact ∷ FactClash ∷ PatternDestructor ∷ Unbound ∷ Rebound ∷ SortClash ∷ ScopeFull ∷ []
+
+ascending : AreRanked 1 flaws
+ascending = (refl, (refl, (refl, (refl, (refl, (refl, (refl, (refl, (refl, refl)))))))))
 
 abbrev flaw_told : Flaw → Ill → Flaw
 flaw_told w Mem = w

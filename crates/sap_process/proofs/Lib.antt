@@ -12,6 +12,8 @@ pub mod Instances
 pub mod Searching
 pub mod Flawed
 pub mod Firsts
+pub mod ScopeFirsts
+pub mod ScopeFlawsByHand
 pub mod Names
 pub mod SortedVars
 pub mod SortedTwice

@@ -38,7 +38,8 @@ flaw_of_rank Rebound = refl
 flaw_of_rank SortClash = refl
 flaw_of_rank ScopeFull = refl
 
-one_rank : (w v : Flaw) → rank w ≡ rank v → w ≡ v
+-- flaws of one rank are one
+pub one_rank : (w v : Flaw) → rank w ≡ rank v → w ≡ v
 one_rank w v e = sym (flaw_of_rank w) ∙ ap flaw_at e ∙ flaw_of_rank v
 
 -- one flaw, at one place

@@ -9,7 +9,7 @@ use Rattle.sap_terms.specs.declared.signature.Builtin.TheVariants.{Signing}
 use Rattle.sap_terms.specs.declared.var.Sort.TheVariants.{Msg, Fresh}
 use Rattle.sap_terms.specs.declared.var.Var.{Var}
 use Rattle.sap_process.specs.Action.{new, out, input, receive, event, lock, unlock, embedded}
-use Rattle.sap_process.specs.Flaws.{IsFirstFlaw, IsWellFormed}
+use Rattle.sap_process.specs.Flaws.{HasNoScopeFlaw, IsFirstFlaw, IsFirstScopeFlaw, IsWellFormed}
 use Rattle.sap_process.specs.Proc.{Proc, nil, parallel, replicated, act, test, lookup}
 use Rattle.sap_process.specs.StepExamples.{a, b, c, x, var_x, fresh_x, public_x, pair, first_of_pair, left_fact, right_fact, lasting_fact, shown_fact, adding_public}
 use Rattle.sap_process.specs.declared.flaw.Flaw.{Flaw}
@@ -184,3 +184,37 @@ abbrev pub twice_flawed : List (Proc × List ℕ)
 twice_flawed =
     (giving var_x (giving var_x nil), []) ∷ (parallel (giving var_x nil) (giving var_x nil), 1 ∷ [])
     ∷ (test a b (replicated (giving var_x nil)) (giving var_x nil), 1 ∷ 1 ∷ []) ∷ []
+
+-- of each of these processes this flaw of scope counts, at its path, where these variables are in scope
+abbrev pub AreScopeFlawed : Sig → List Var → Flaw → List (Proc × List ℕ) → Type 0
+AreScopeFlawed g scope w [] = Unit {0}
+AreScopeFlawed g scope w (e ∷ es) = IsFirstScopeFlaw g scope e.0 w e.1 × AreScopeFlawed g scope w es
+
+-- none of these has one
+abbrev pub HaveNoScopeFlaw : Sig → List Var → List Proc → Type 0
+HaveNoScopeFlaw g scope [] = Unit {0}
+HaveNoScopeFlaw g scope (p ∷ ps) = HasNoScopeFlaw g scope p × HaveNoScopeFlaw g scope ps
+
+-- y
+abbrev pub var_y : Tree
+var_y = variable (plain (codes "y"))
+
+-- flaws of scope where x is in scope, with the paths of their places
+abbrev pub scope_flawed : Flaw → List (Proc × List ℕ)
+-- beside x; below a `new` that binds x again, and a sign that clashes; in a second branch; at the first of two places
+scope_flawed Unbound =
+    (giving (pair var_x var_y) nil, []) ∷ (naming x (giving (variable public_x) (giving var_y nil)), 1 ∷ 1 ∷ [])
+    ∷ (lookup var_x (plain (codes "y")) (giving var_y nil) (giving var_y nil), 2 ∷ []) ∷ (parallel (giving var_y nil) (giving var_y nil), 1 ∷ []) ∷ []
+-- by `new`, by a look-up, whatever the sign; behind a sign that clashes
+scope_flawed Rebound =
+    (naming x nil, []) ∷ (naming fresh_x nil, []) ∷ (lookup a x nil nil, []) ∷ (giving (variable fresh_x) (naming x nil), 1 ∷ []) ∷ []
+scope_flawed SortClash =
+    (giving (variable fresh_x) nil, []) ∷ (taking (variable public_x) nil, []) ∷ (parallel (giving var_x nil) (giving (variable fresh_x) nil), 2 ∷ []) ∷ []
+scope_flawed _ = []
+
+-- none: x is taken up; y is bound; other flaws
+abbrev pub scope_right : List Proc
+scope_right =
+    nil ∷ giving var_x (taking var_x nil) ∷ taking (pair var_x var_y) (giving var_y nil) ∷ naming (plain (codes "y")) (giving (pair var_x var_y) nil)
+    ∷ giving unknown nil ∷ naming reserved_x nil ∷ telling (named (codes "Init")) nil ∷ telling (shown_fact a) (telling shown_two nil) ∷ taking first_of_x nil
+    ∷ locking 64 nil ∷ []

@@ -13,7 +13,7 @@ use crate::flaw::{Flaw, Ill};
 use crate::scope::Scope;
 use crate::sorting::sorted;
 use crate::walk::first_flaw;
-use sap_terms::{Mem, Path, Signature};
+use sap_terms::{Mem, Path, Signature, Vars};
 use std::alloc::Global;
 
 /// The process with each variable carrying the sort of its binder, where it has no flaw; else the flaw that counts, with
@@ -74,6 +74,7 @@ fn flaw_that_counts(
     requires in_order { AreRanked 1 flaws.now }
     ensures { IfOk result (λ o. IsCounted sig.now (proc p.now) o) }
 {
-    let found = first_flaw(alloc, sig, p, flaws)?;
+    let nothing = Vars::new(alloc);
+    let found = first_flaw(alloc, sig, &nothing, p, flaws)?;
     Ok(found)
 }

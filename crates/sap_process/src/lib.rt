@@ -32,6 +32,6 @@ pub use laws::{
 };
 pub use places::{HandsDown, ScopeBelow, places_are_by_path, places_are_ordered};
 pub use process::{Children, Process};
-pub use scope_flaw::first_scope_flaw;
+pub use scope_flaw::{first_scope_flaw, scope_flaws_by_hand, some_scope_flaw};
 pub use substituting::substitute;
 pub use trail::Trail;

@@ -8,7 +8,7 @@ ghost use Rattle.sap_process.specs.code.Binders.{with_new};
 ghost use Rattle.sap_process.specs.Flaws.{binder_of};
 ghost use Rattle.sap_process.specs.Sites.{var_names};
 
-use sap_terms::{Copied, Mem, Name, Named, Sort, Var};
+use sap_terms::{Copied, Mem, Name, Named, Sort, Var, Vars};
 use std::alloc::Global;
 use std::marker::Model;
 
@@ -89,6 +89,16 @@ impl Scope {
             return Ok(());
         }
         self.push(v.copy(alloc)?)
+    }
+
+    // Binds the variables.
+    pub(crate) fn push_all(&mut self, alloc: Global, vars: &Vars) -> Result<(), Mem>
+        ensures { OnOk result (self.new ≡ self.old ++ vars.now) }
+    {
+        for v in vars.as_slice() {
+            self.push(v.copy(alloc)?)?;
+        }
+        Ok(())
     }
 
     // Leaves the first `len` variables in scope.

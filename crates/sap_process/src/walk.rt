@@ -6,7 +6,7 @@ ghost use Rattle.sap_process.specs.Proc.{proc};
 ghost use Rattle.sap_process.specs.Flaws.{scope_at};
 ghost use Rattle.sap_process.specs.code.Places.{head_locks, site, sites_below};
 ghost use Rattle.sap_process.specs.code.Searches.{searched};
-ghost use Rattle.sap_process.specs.Sites.{sites, sites_from, message_var};
+ghost use Rattle.sap_process.specs.Sites.{sites_in, sites_from, message_var};
 ghost use Rattle.sap_process.specs.code.Tests.{free_of, is_told};
 ghost use Rattle.sap_process.specs.code.Walks.{first_flaw, found_at, unmet};
 
@@ -17,7 +17,7 @@ use crate::occurrences::any_at_head;
 use crate::scope::Scope;
 use crate::trail::Trail;
 use crate::{Children, Flaw, Process};
-use sap_terms::{Mem, Path, Signature, Sort, Var};
+use sap_terms::{Mem, Path, Signature, Sort, Var, Vars};
 use std::alloc::Global;
 
 // Where a walk in preorder stands: the path of the place, what is in scope there, and what was found before.
@@ -28,22 +28,24 @@ struct Walk {
     found: Found,
 }
 
-// The first of the flaws that a place has, with the path of the first place that has it. One walk tests each place for the
-// flaws that would count before the one found so far.
+// The first of the flaws that a place has, with the path of the first place that has it, where these variables are in scope at the
+// root. One walk tests each place for the flaws that would count before the one found so far.
 pub(crate) fn first_flaw(
     alloc: Global,
     sig: &Signature,
+    scope: &Vars,
     p: &Process,
     flaws: &[Flaw],
 ) -> Result<Option<(Flaw, Path)>, Mem>
-    ensures { IfOk result (λ o. o ≡ first_flaw sig.now flaws.now (sites (proc p.now))) }
+    ensures { IfOk result (λ o. o ≡ first_flaw sig.now flaws.now (sites_in scope.now (proc p.now))) }
 {
     let mut walk = at_the_root(alloc, flaws)?;
+    walk.scope.push_all(alloc, scope)?;
     search(alloc, sig, &mut walk, 0, p)?;
     walk.found.answer(alloc, flaws)
 }
 
-// A walk that has met no place.
+// A walk that has met no place, where nothing is in scope.
 fn at_the_root(alloc: Global, flaws: &[Flaw]) -> Result<Box<Walk>, Mem>
     ensures { IfOk result (λ w. w.value ≡ record { trail = []; scope = []; found = unmet flaws.now }) }
 {

@@ -17,7 +17,8 @@ use Rattle.sap_macro.specs.Expansion.{plain, plain_bodies}
 use Rattle.sap_macro.specs.MacroCauses.{uses}
 use Rattle.sap_macro.specs.UpToNames.{named}
 use Rattle.sap_macro.specs.Written.{Written, call, Definition}
-use Rattle.sap_uses.specs.ScopeFlaws.{IsFirstFlawedBehind, LeadsTo, at_once, further, params_in_scope, seen}
+use Rattle.sap_macro.specs.Seen.{seen}
+use Rattle.sap_uses.specs.ScopeFlaws.{IsFirstFlawedBehind, LeadsTo, at_once, further, params_in_scope}
 use Rattle.sap_uses.specs.UseExamples.{apart, binding_again, empty_one, open_below, open_one, open_other, right_one, signing, use_of, using_c, using_open, x, y}
 
 -- ---- a process of two places

@@ -12,7 +12,8 @@ use Rattle.sap_process.specs.Sites.{Site, sites_in}
 use Rattle.sap_macro.specs.Expansion.{plain, plain_bodies}
 use Rattle.sap_macro.specs.Written.{Written, call, Definition}
 use Rattle.sap_uses.specs.FaultCauses.{Holds, IsMacroCause, cause_rank}
-use Rattle.sap_uses.specs.ScopeFlaws.{IsFirstFlawed, params_in_scope, seen}
+use Rattle.sap_macro.specs.Seen.{seen}
+use Rattle.sap_uses.specs.ScopeFlaws.{IsFirstFlawed, params_in_scope}
 use Rattle.sap_uses.specs.declared.fault.MacroFault.{MacroFault}
 use Rattle.sap_uses.specs.declared.fault.MacroFault.TheVariants.{Mem, Parameters, Arguments, TooMany, TooDeep, Large, Flawed}
 

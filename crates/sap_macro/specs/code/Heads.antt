@@ -7,6 +7,7 @@ use Rattle.sap_process.specs.Proc as whole
 use Rattle.sap_process.specs.Proc.{Proc}
 use Rattle.sap_macro.specs.Expansion.{Plain, binding, binding_vars, expanded_as, with_uses}
 use Rattle.sap_macro.specs.Sources.{written}
+use Rattle.sap_macro.specs.Seen.{seen}
 use Rattle.sap_macro.specs.UpToNames.{named}
 use Rattle.sap_macro.specs.Written.{Written, nil, call, parallel, replicated, act, test, lookup, Definition}
 use Rattle.sap_macro.specs.code.Standings.{choice_of, name_of}
@@ -54,6 +55,14 @@ met_names known (lookup t x p q) = (x.name ∷ []) ++ (met_names known p ++ met_
 abbrev pub names_in : List Definition → (List ℕ → Bool) → Written → List (List ℕ)
 names_in ds known w = met_names known (with_uses (plain_of ds) w)
 
+-- such a process as flaws of scope see it
+unfoldable pub seen_in : List Definition → Written → Proc
+seen_in ds w = seen (with_uses (plain_of ds) w)
+
+-- nothing is put in
+abbrev pub PutsNothing : Standing → Type 0
+PutsNothing s = (s.terms ≡ []) × (s.names ≡ [])
+
 -- what is built of a process that has one below
 pub record IsOver (w p : Written) : Type 0 where
   pub process : (ds : List Definition) (s : Standing) (taken : List (List ℕ))
@@ -62,6 +71,8 @@ pub record IsOver (w p : Written) : Type 0 where
       → (built ds s w taken).taken ≡ (built ds s p taken).taken
   pub names : (ds : List Definition) (known : List ℕ → Bool)
       → names_in ds known w ≡ head_names known w ++ names_in ds known p
+  pub seen : (ds : List Definition) (s : Standing) → PutsNothing s
+      → seen_in ds w ≡ headed s w (seen_in ds p)
   pub further : (ds : List Definition) → steps_in ds p < steps_in ds w
 
 -- and of one that has two
@@ -73,6 +84,8 @@ pub record IsOverBoth (w p q : Written) : Type 0 where
       → (built ds s w taken).taken ≡ (built ds s q (built ds s p taken).taken).taken
   pub names : (ds : List Definition) (known : List ℕ → Bool) → names_in ds known w
       ≡ head_names known w ++ (names_in ds known p ++ names_in ds known q)
+  pub seen : (ds : List Definition) (s : Standing) → PutsNothing s
+      → seen_in ds w ≡ forked s w (seen_in ds p) (seen_in ds q)
   pub first : (ds : List Definition) → steps_in ds p < steps_in ds w
   pub second : (ds : List Definition) → steps_in ds q < steps_in ds w
 

@@ -4,10 +4,12 @@ use Rattle.std.specs.List.{list_any}
 use Rattle.std.specs.Str.{bytes_eq}
 use Rattle.sap_terms.specs.NameSet.{with_name}
 use Rattle.sap_terms.specs.Signature.{Sig}
+use Rattle.sap_process.specs.Flaws.{IsFirstScopeFlaw}
 use Rattle.sap_process.specs.declared.flaw.Flaw.{Flaw}
 use Rattle.sap_macro.specs.Expansion.{plain}
+use Rattle.sap_macro.specs.Seen.{seen}
 use Rattle.sap_macro.specs.Written.{Written, nil, call, parallel, replicated, act, test, lookup, Definition}
-use Rattle.sap_uses.specs.ScopeFlaws.{IsFirstScopeFlaw, LeadsTo, params_in_scope, seen}
+use Rattle.sap_uses.specs.ScopeFlaws.{LeadsTo, params_in_scope}
 
 -- the names with those that the process uses
 abbrev pub marked : List (List ℕ) → Written → List (List ℕ)

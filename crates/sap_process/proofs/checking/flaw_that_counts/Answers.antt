@@ -1,6 +1,8 @@
-use Rattle.std.proofs.Common.{sym, subst}
+use Rattle.std.proofs.Common.{List, sym, subst, ap, ◌∙◌}
+use Rattle.sap_terms.specs.declared.var.Var.{Var}
 use Rattle.sap_process.specs.Proc.{proc}
-use Rattle.sap_process.specs.code.Walks.{IsCounted}
+use Rattle.sap_process.specs.Sites.{sites_in}
+use Rattle.sap_process.specs.code.Walks.{first_flaw, IsCounted}
 use Rattle.sap_process.proofs.Firsts.{counted}
 use Rattle.sap_process.proofs.checking.flaw_that_counts.Goals as goal
 
@@ -8,4 +10,5 @@ pub returns : goal.returns
 returns c =
     let g = c.args.sig.now in
     let p = proc c.args.p.now in
-    subst (IsCounted g p) (sym c.in_ok-found.ensures) (counted g p c.args.flaws.now c.requires.in_order)
+    let none = ap (λ (scope : List Var). first_flaw g c.args.flaws.now (sites_in scope p)) c.new-nothing.ensures in
+    subst (IsCounted g p) (sym (c.in_ok-found.ensures ∙ none)) (counted g p c.args.flaws.now c.requires.in_order)
