@@ -61,11 +61,11 @@ module _ (g : Sig) (ds : List Definition) (p : Written) where
   uses_absent e k (Flawed n w q) l h x = k n w q x
 
   -- the first of two holds, or the second alone
-  none_between : (n : ℕ) → AreAbsent g ds p n n
-  none_between n u l h x = omega (arith, l, h)
+  pub none_below : (n : ℕ) → AreAbsent g ds p n n
+  none_below n u l h x = omega (arith, l, h)
 
   pub parameters_hold : (x : List ℕ) → first_parameter_twice ds ≡ Some x → IsCauseFrom g ds p 1 (Parameters x)
-  parameters_hold x is = record { holds = is; first = none_between 1 }
+  parameters_hold x is = record { holds = is; first = none_below 1 }
 
   pub arguments_hold : (x : List ℕ) → first_parameter_twice ds ≡ None → first_other_count ds p ≡ Some x → IsCauseFrom g ds p 1 (Arguments x)
   arguments_hold x e is = record { holds = is; first = before } where
@@ -79,7 +79,7 @@ module _ (g : Sig) (ds : List Definition) (p : Written) where
     before (Flawed n w q) l h y = omega (arith, h)
 
   pub places_hold : Holds g ds p TooMany → IsCauseFrom g ds p 3 TooMany
-  places_hold h = record { holds = h; first = none_between 3 }
+  places_hold h = record { holds = h; first = none_below 3 }
 
   pub levels_hold : ((identifiers : List (List ℕ)) → node_count (expansion ds identifiers p).process ≤ MOST_PROCESS_PLACES) → Holds g ds p TooDeep → IsCauseFrom g ds p 3 TooDeep
   levels_hold s is = record { holds = is; first = before } where
@@ -93,7 +93,7 @@ module _ (g : Sig) (ds : List Definition) (p : Written) where
     before (Flawed n w q) l h y = omega (arith, h)
 
   pub large_holds : (x : List ℕ) → first_large ds p ≡ Some x → IsCauseFrom g ds p 5 (Large x)
-  large_holds x is = record { holds = is; first = none_between 5 }
+  large_holds x is = record { holds = is; first = none_below 5 }
 
   pub flawed_holds : (n : List ℕ) (w : Flaw) (q : List ℕ) → first_large ds p ≡ None → IsFirstFlawedBehind g ds p n w q → IsCauseFrom g ds p 5 (Flawed n w q)
   flawed_holds n w q e is = record { holds = is; first = before } where

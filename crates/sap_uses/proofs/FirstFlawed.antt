@@ -1,18 +1,23 @@
 -- The first definition that is flawed.
-use Rattle.std.proofs.Common.{◌≡◌, ◌<◌, ◌≤◌, ℕ, zero, suc, ◌+◌, ◌⊎◌, List, [], ◌∷◌, Option, Some, None, length, map, refl, sym, ap, ◌∙◌, subst, ⊎_elim, arith}
+use Rattle.std.proofs.Common.{◌≡◌, ◌<◌, ◌≤◌, ℕ, zero, suc, ◌+◌, Bool, true, false, ◌⊎◌, List, [], ◌∷◌, Option, Some, None, length, map, refl, sym, ap, ◌∙◌, subst, ⊎_elim, arith}
 use Rattle.std.proofs.lemmas.Bool.{cases_lt}
 use Rattle.std.proofs.lemmas.Option.{slice_get-map, slice_get_within}
-use Rattle.std.specs.Option.{option_map}
+use Rattle.std.specs.List.{list_any}
+use Rattle.std.specs.Option.{IfNone, IfSome, option_map}
 use Rattle.std.specs.Prelude.{Contains, slice_get}
+use Rattle.std.specs.Str.{bytes_eq}
 use Rattle.sap_terms.specs.Signature.{Sig}
 use Rattle.sap_terms.specs.Tree.{Tree}
 use Rattle.sap_terms.proofs.PlainLaws.Items.{contains_got}
+use Rattle.sap_process.specs.Flaws.{HasNoScopeFlaw, IsFirstScopeFlaw}
 use Rattle.sap_process.specs.declared.flaw.Flaw.{Flaw}
 use Rattle.sap_macro.specs.Expansion.{plain, plain_after, plain_bodies, where_none, with_plain_body}
+use Rattle.sap_macro.specs.Seen.{seen}
 use Rattle.sap_macro.specs.Written.{Written, call, Definition}
-use Rattle.sap_uses.specs.ScopeFlaws.{IsFirstFlawed, IsFirstFlawedBehind, IsFlawed}
-use Rattle.sap_uses.specs.code.Marks.{IsFlawedThere}
+use Rattle.sap_uses.specs.ScopeFlaws.{IsFirstFlawed, IsFirstFlawedBehind, IsFlawed, params_in_scope}
+use Rattle.sap_uses.specs.code.Marks.{AreReached, IsFlawedThere}
 use Rattle.sap_uses.proofs.Leading.{plain_leads, written_leads}
+use Rattle.sap_uses.proofs.Names.{clash}
 
 -- none of the first definitions is flawed
 abbrev pub NoneBefore : Sig → List Definition → Written → ℕ → Type 0
@@ -76,8 +81,42 @@ module _ (ds : List Definition) (p : Written) (bodies : plain_bodies call ds ≡
   }
 
   -- and where none is
-  pub none_is : (n : ℕ) → n ≡ length ds → NoneBefore g ds p n → (name : List ℕ) (w : Flaw) (path : List ℕ) → ¬ IsFirstFlawedBehind g ds p name w path
+  pub none_is : (n : ℕ) → length ds ≤ n → NoneBefore g ds p n → (name : List ℕ) (w : Flaw) (path : List ℕ) → ¬ IsFirstFlawedBehind g ds p name w path
   none_is n all before name w path h =
       let from = from_plain h.at h.definition h.stands in
       let below = slice_get_within ds h.at from.0 from.1 in
       none_plain h.at h.definition w path n (omega (arith, below, all)) h.stands before h.flawed
+
+-- ---- one definition
+
+-- what follows from what a clause says of no value
+pub IfNone_then : {T : Type 0} {P Q : Type 0} (o : Option T) → IfNone o P → (P → Q) → IfNone o Q
+IfNone_then None h k = k h
+IfNone_then (Some x) h k = tt
+
+-- what a clause says of the value that is there, and of no value
+pub value_there : {T : Type 0} (P : T → Type 0) (o : Option T) (x : T) → o ≡ Some x → IfSome o P → P x
+value_there P o x e h = subst (λ z. IfSome z P) e h
+
+pub none_there : {T P : Type 0} (o : Option T) → o ≡ None → IfNone o P → P
+none_there {P = P} o e h = subst (λ z. IfNone z P) e h
+
+some_params : (xs : List (List ℕ)) (n : ℕ) → n ≡ length xs → ¬ (n ≡ 0) → ¬ (xs ≡ [])
+some_params xs n is some none = some (is ∙ ap length none)
+
+module _ (g : Sig) (ds : List Definition) (p : Written) (d : Definition) (n : ℕ) (names : List (List ℕ)) (b : Bool) (long : n ≡ length d.params) (there : b ≡ list_any (bytes_eq d.name) names)
+    (reached : AreReached ds p names) where
+  pub flaw_there : ¬ (n ≡ 0) → b ≡ true → (w : Flaw) (path : List ℕ) → IsFirstScopeFlaw g (params_in_scope d) (seen (plain ds d.body)) w path → IsFlawedThere g ds p d w path
+  flaw_there some met w path f = record { parameters = some_params d.params n long some; reached = reached.sound d.name (sym there ∙ met); flaw = f }
+
+  pub none_in_body : HasNoScopeFlaw g (params_in_scope d) (seen (plain ds d.body)) → (w : Flaw) (path : List ℕ) → ¬ IsFlawedThere g ds p d w path
+  none_in_body none w path h = none w h.flaw.of_scope h.flaw.place h.flaw.at
+
+  pub none_without : n ≡ 0 → (w : Flaw) (path : List ℕ) → ¬ IsFlawedThere g ds p d w path
+  none_without none w path h = h.parameters (empty d.params (sym long ∙ none)) where
+    empty : (xs : List (List ℕ)) → length xs ≡ 0 → xs ≡ []
+    empty [] e = refl
+    empty (x ∷ xs) e = absurd (omega (arith, e))
+
+  pub none_unreached : b ≡ false → (w : Flaw) (path : List ℕ) → ¬ IsFlawedThere g ds p d w path
+  none_unreached missed w path h = clash (list_any (bytes_eq d.name) names) (reached.all d.name h.reached) (sym there ∙ missed)

@@ -27,34 +27,35 @@ module _ (m : Plain) (u : Use) where
   inside_right : (a b : List Use) → IsInside b → IsInside (a ++ b)
   inside_right a b (v, c, h) = (v, Contains-append_right a b v c, h)
 
-  mutual
-    pub inner_use : (w : Written) → Contains (uses (with_uses m w)) u → IsInside (uses w)
-    inner_use nil c = absurd (none_contained c)
-    inner_use (call f ts) c = ((f, ts), first_item (f, ts) [], c)
-    inner_use (parallel p q) c = inner_two p q (Contains-append_cases (uses (with_uses m p)) (uses (with_uses m q)) u c)
-    inner_use (replicated p) c = inner_use p c
-    inner_use (act a p) c = inner_use p c
-    inner_use (test t z p q) c = inner_two p q (Contains-append_cases (uses (with_uses m p)) (uses (with_uses m q)) u c)
-    inner_use (lookup t x p q) c = inner_two p q (Contains-append_cases (uses (with_uses m p)) (uses (with_uses m q)) u c)
+  inner_two : (a b : List Use) (p q : Written) → (Contains (uses (with_uses m p)) u → IsInside a) → (Contains (uses (with_uses m q)) u → IsInside b)
+      → Contains (uses (with_uses m p) ++ uses (with_uses m q)) u → IsInside (a ++ b)
+  inner_two a b p q h k c =
+      ⊎_elim (λ l. inside_left a b (h l)) (λ r. inside_right a b (k r)) (Contains-append_cases (uses (with_uses m p)) (uses (with_uses m q)) u c)
 
-    inner_two : (p q : Written) → Contains (uses (with_uses m p)) u ⊎ Contains (uses (with_uses m q)) u → IsInside (uses p ++ uses q)
-    inner_two p q (inl c) = inside_left (uses p) (uses q) (inner_use p c)
-    inner_two p q (inr c) = inside_right (uses p) (uses q) (inner_use q c)
+  pub inner_use : (w : Written) → Contains (uses (with_uses m w)) u → IsInside (uses w)
+  inner_use nil c = absurd (none_contained c)
+  inner_use (call f ts) c = ((f, ts), first_item (f, ts) [], c)
+  inner_use (parallel p q) c = inner_two (uses p) (uses q) p q (inner_use p) (inner_use q) c
+  inner_use (replicated p) c = inner_use p c
+  inner_use (act a p) c = inner_use p c
+  inner_use (test t z p q) c = inner_two (uses p) (uses q) p q (inner_use p) (inner_use q) c
+  inner_use (lookup t x p q) c = inner_two (uses p) (uses q) p q (inner_use p) (inner_use q) c
 
   module _ (v : Use) (h : Contains (uses (m v.0 v.1)) u) where
-    mutual
-      pub outer_use : (w : Written) → Contains (uses w) v → Contains (uses (with_uses m w)) u
-      outer_use nil c = absurd (none_contained c)
-      outer_use (call f ts) c = subst (λ (z : Use). Contains (uses (m z.0 z.1)) u) (sym (item_cases (f, ts) v c)) h
-      outer_use (parallel p q) c = outer_two p q (Contains-append_cases (uses p) (uses q) v c)
-      outer_use (replicated p) c = outer_use p c
-      outer_use (act a p) c = outer_use p c
-      outer_use (test t z p q) c = outer_two p q (Contains-append_cases (uses p) (uses q) v c)
-      outer_use (lookup t x p q) c = outer_two p q (Contains-append_cases (uses p) (uses q) v c)
+    outer_two : (p q : Written) → (Contains (uses p) v → Contains (uses (with_uses m p)) u) → (Contains (uses q) v → Contains (uses (with_uses m q)) u)
+        → Contains (uses p ++ uses q) v → Contains (uses (with_uses m p) ++ uses (with_uses m q)) u
+    outer_two p q l r c =
+        ⊎_elim (λ a. Contains-append_left (uses (with_uses m p)) (uses (with_uses m q)) u (l a))
+        (λ a. Contains-append_right (uses (with_uses m p)) (uses (with_uses m q)) u (r a)) (Contains-append_cases (uses p) (uses q) v c)
 
-      outer_two : (p q : Written) → Contains (uses p) v ⊎ Contains (uses q) v → Contains (uses (with_uses m p) ++ uses (with_uses m q)) u
-      outer_two p q (inl c) = Contains-append_left (uses (with_uses m p)) (uses (with_uses m q)) u (outer_use p c)
-      outer_two p q (inr c) = Contains-append_right (uses (with_uses m p)) (uses (with_uses m q)) u (outer_use q c)
+    pub outer_use : (w : Written) → Contains (uses w) v → Contains (uses (with_uses m w)) u
+    outer_use nil c = absurd (none_contained c)
+    outer_use (call f ts) c = subst (λ (z : Use). Contains (uses (m z.0 z.1)) u) (sym (item_cases (f, ts) v c)) h
+    outer_use (parallel p q) c = outer_two p q (outer_use p) (outer_use q) c
+    outer_use (replicated p) c = outer_use p c
+    outer_use (act a p) c = outer_use p c
+    outer_use (test t z p q) c = outer_two p q (outer_use p) (outer_use q) c
+    outer_use (lookup t x p q) c = outer_two p q (outer_use p) (outer_use q) c
 
 -- ---- names lead where they led
 
@@ -115,18 +116,17 @@ module _ (ds : List Definition) (p : Written) (bodies : plain_bodies call ds ≡
   with_parameters : (d : Definition) → Contains ds d → ¬ (d.params ≡ []) → Leads d.name → LeadsTo (plain_bodies call ds) (plain ds p) d.name
   with_parameters d at some (ts, h) = h (d.name, ts) (subst (λ w. Contains (uses w) (d.name, ts)) (sym (defined d ts at ∙ stays d.params some)) (first_item (d.name, ts) [])) where
     stays : (xs : List (List ℕ)) → ¬ (xs ≡ []) → where_none xs (plain ds d.body) (call d.name ts) ≡ call d.name ts
-    stays [] no = absurd (no refl)
-    stays (x ∷ xs) no = refl
+    stays [] some = absurd (some refl)
+    stays (x ∷ xs) some = refl
 
   all_lead : (f : List ℕ) → LeadsTo ds p f → Leads f
   all_lead f (at_once {u = u} c) = (u.1, λ w cw. at_once {u = w} (outer_use becomes w u cw p c))
-  all_lead f (further {d = d} {u = u} l at c) = (u.1, λ w cw. by d.params refl w cw) where
-    by : (xs : List (List ℕ)) → d.params ≡ xs → (w : Use) → Contains (uses (becomes u.0 u.1)) w → LeadsTo (plain_bodies call ds) (plain ds p) w.0
-    by [] e w cw =
-        let before = all_lead d.name l in
+  all_lead f (further {d = d} {u = u} l at c) = (u.1, λ w cw. by (all_lead d.name l) d.params refl w cw) where
+    by : Leads d.name → (xs : List (List ℕ)) → d.params ≡ xs → (w : Use) → Contains (uses (becomes u.0 u.1)) w → LeadsTo (plain_bodies call ds) (plain ds p) w.0
+    by before [] e w cw =
         before.1 w (subst (λ z. Contains (uses z) w) (sym (defined d before.0 at ∙ ap (λ ys. where_none ys (plain ds d.body) (call d.name before.0)) e)) (outer_use becomes w u cw d.body c))
-    by (x ∷ xs) e w cw =
-        further {d = with_plain_body ds d} {u = w} (with_parameters d at (λ n. let some : x ∷ xs ≡ [] = sym e ∙ n in absurd (cc)) (all_lead d.name l))
+    by before (x ∷ xs) e w cw =
+        further {d = with_plain_body ds d} {u = w} (with_parameters d at (λ n. let some : x ∷ xs ≡ [] = sym e ∙ n in absurd (cc)) before)
         (subst (λ (es : List Definition). Contains es (with_plain_body ds d)) (sym bodies) (item_mapped (with_plain_body ds) ds d at)) (outer_use becomes w u cw d.body c)
 
   -- and back, of definitions with parameters

@@ -12,3 +12,4 @@ pub mod Leading
 pub mod FirstFlawed
 pub mod Causes
 pub mod SomeCause
+pub mod Closed

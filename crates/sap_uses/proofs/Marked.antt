@@ -36,7 +36,7 @@ one_there names n = by (list_any (bytes_eq n) names) refl where
 one_only : (names : List (List ℕ)) (n f : List ℕ) → IsMarked (with_name names n) f → IsMarked names f ⊎ (n ≡ f)
 one_only names n f h = by (list_any (bytes_eq n) names) h where
   last : (bytes_eq f n || false) ≡ true → IsMarked names f ⊎ (n ≡ f)
-  last e = ⊎_elim (λ is. inr (sym (one_name f n is))) (λ no. absurd (false≢true no)) (or_cases (bytes_eq f n) false e)
+  last e = ⊎_elim (λ is. inr (sym (one_name f n is))) (λ n. absurd (false≢true n)) (or_cases (bytes_eq f n) false e)
 
   by : (b : Bool) → list_any (bytes_eq f) (if b then names else names ++ n ∷ []) ≡ true → IsMarked names f ⊎ (n ≡ f)
   by true e = inl e
@@ -58,21 +58,20 @@ kept names (lookup t x p q) f h = kept (marked names p) q f (kept names p f h)
 none_contained : {X : Type 0} {x : X} → Contains [] x → ⊥
 none_contained c = let few = c.1 in omega (arith, few)
 
-pub uses_marked : (names : List (List ℕ)) (w : Written) (u : Use) → Contains (uses w) u → IsMarked (marked names w) u.0
-uses_marked names w u c = by names w c where
-  mutual
-    by : (names : List (List ℕ)) (w : Written) → Contains (uses w) u → IsMarked (marked names w) u.0
-    by names nil c = absurd (none_contained c)
-    by names (call f ts) c = subst (λ (v : Use). IsMarked (with_name names f) v.0) (item_cases (f, ts) u c) (one_there names f)
-    by names (parallel p q) c = both names p q (Contains-append_cases (uses p) (uses q) u c)
-    by names (replicated p) c = by names p c
-    by names (act a p) c = by names p c
-    by names (test t v p q) c = both names p q (Contains-append_cases (uses p) (uses q) u c)
-    by names (lookup t x p q) c = both names p q (Contains-append_cases (uses p) (uses q) u c)
+module _ (u : Use) where
+  -- of two processes, the second behind the first
+  marked_two : (names : List (List ℕ)) (p q : Written) → (Contains (uses p) u → IsMarked (marked names p) u.0)
+      → (Contains (uses q) u → IsMarked (marked (marked names p) q) u.0) → Contains (uses p ++ uses q) u → IsMarked (marked (marked names p) q) u.0
+  marked_two names p q h k c = ⊎_elim (λ l. kept (marked names p) q u.0 (h l)) k (Contains-append_cases (uses p) (uses q) u c)
 
-    both : (names : List (List ℕ)) (p q : Written) → Contains (uses p) u ⊎ Contains (uses q) u → IsMarked (marked (marked names p) q) u.0
-    both names p q (inl c) = kept (marked names p) q u.0 (by names p c)
-    both names p q (inr c) = by (marked names p) q c
+  pub uses_marked : (names : List (List ℕ)) (w : Written) → Contains (uses w) u → IsMarked (marked names w) u.0
+  uses_marked names nil c = absurd (none_contained c)
+  uses_marked names (call f ts) c = subst (λ (v : Use). IsMarked (with_name names f) v.0) (item_cases (f, ts) u c) (one_there names f)
+  uses_marked names (parallel p q) c = marked_two names p q (uses_marked names p) (uses_marked (marked names p) q) c
+  uses_marked names (replicated p) c = uses_marked names p c
+  uses_marked names (act a p) c = uses_marked names p c
+  uses_marked names (test t v p q) c = marked_two names p q (uses_marked names p) (uses_marked (marked names p) q) c
+  uses_marked names (lookup t x p q) c = marked_two names p q (uses_marked names p) (uses_marked (marked names p) q) c
 
 -- the process uses the name
 abbrev pub IsUsed : Written → List ℕ → Type 0
@@ -84,38 +83,36 @@ left_used a b f (u, c, e) = (u, Contains-append_left a b u c, e)
 right_used : (a b : List Use) (f : List ℕ) → (u : Use) × Contains b u × (u.0 ≡ f) → (u : Use) × Contains (a ++ b) u × (u.0 ≡ f)
 right_used a b f (u, c, e) = (u, Contains-append_right a b u c, e)
 
-mutual
-  pub only_marked : (names : List (List ℕ)) (w : Written) (f : List ℕ) → IsMarked (marked names w) f → IsMarked names f ⊎ IsUsed w f
-  only_marked names nil f h = inl h
-  only_marked names (call g ts) f h = ⊎_elim (λ o. inl o) (λ e. inr ((g, ts), first_item (g, ts) [], e)) (one_only names g f h)
-  only_marked names (parallel p q) f h = only_two names p q f h
-  only_marked names (replicated p) f h = only_marked names p f h
-  only_marked names (act a p) f h = only_marked names p f h
-  only_marked names (test t v p q) f h = only_two names p q f h
-  only_marked names (lookup t x p q) f h = only_two names p q f h
+only_two : (names : List (List ℕ)) (p q : Written) (f : List ℕ) → (IsMarked (marked names p) f → IsMarked names f ⊎ IsUsed p f)
+    → (IsMarked (marked (marked names p) q) f → IsMarked (marked names p) f ⊎ IsUsed q f) → IsMarked (marked (marked names p) q) f
+    → IsMarked names f ⊎ ((u : Use) × Contains (uses p ++ uses q) u × (u.0 ≡ f))
+only_two names p q f h k m =
+    ⊎_elim (λ o. ⊎_elim (λ n. inl n) (λ l. inr (left_used (uses p) (uses q) f l)) (h o)) (λ r. inr (right_used (uses p) (uses q) f r)) (k m)
 
-  only_two : (names : List (List ℕ)) (p q : Written) (f : List ℕ) → IsMarked (marked (marked names p) q) f
-      → IsMarked names f ⊎ ((u : Use) × Contains (uses p ++ uses q) u × (u.0 ≡ f))
-  only_two names p q f h =
-      ⊎_elim (λ o. ⊎_elim (λ m. inl m) (λ l. inr (left_used (uses p) (uses q) f l)) (only_marked names p f o)) (λ r. inr (right_used (uses p) (uses q) f r))
-      (only_marked (marked names p) q f h)
+pub only_marked : (names : List (List ℕ)) (w : Written) (f : List ℕ) → IsMarked (marked names w) f → IsMarked names f ⊎ IsUsed w f
+only_marked names nil f h = inl h
+only_marked names (call g ts) f h = ⊎_elim (λ o. inl o) (λ e. inr ((g, ts), first_item (g, ts) [], e)) (one_only names g f h)
+only_marked names (parallel p q) f h = only_two names p q f (only_marked names p f) (only_marked (marked names p) q f) h
+only_marked names (replicated p) f h = only_marked names p f h
+only_marked names (act a p) f h = only_marked names p f h
+only_marked names (test t v p q) f h = only_two names p q f (only_marked names p f) (only_marked (marked names p) q f) h
+only_marked names (lookup t x p q) f h = only_two names p q f (only_marked names p f) (only_marked (marked names p) q f) h
 
 -- ---- no body uses a definition that stands behind it, or itself
 
 module _ (u : Use) where
-  mutual
-    used_known : (known : List (List ℕ)) (w : Written) → UsesOnly known w → Contains (uses w) u → is_known known u.0 ≡ true
-    used_known known nil h c = absurd (none_contained c)
-    used_known known (call f ts) h c = subst (λ (v : Use). is_known known v.0 ≡ true) (item_cases (f, ts) u c) h
-    used_known known (parallel p q) h c = known_two known p q h (Contains-append_cases (uses p) (uses q) u c)
-    used_known known (replicated p) h c = used_known known p h c
-    used_known known (act a p) h c = used_known known p h c
-    used_known known (test t v p q) h c = known_two known p q h (Contains-append_cases (uses p) (uses q) u c)
-    used_known known (lookup t x p q) h c = known_two known p q h (Contains-append_cases (uses p) (uses q) u c)
+  known_two : (known : List (List ℕ)) (a b : List Use) → (Contains a u → is_known known u.0 ≡ true) → (Contains b u → is_known known u.0 ≡ true) → Contains (a ++ b) u
+      → is_known known u.0 ≡ true
+  known_two known a b h k c = ⊎_elim h k (Contains-append_cases a b u c)
 
-    known_two : (known : List (List ℕ)) (p q : Written) → UsesOnly known p × UsesOnly known q → Contains (uses p) u ⊎ Contains (uses q) u → is_known known u.0 ≡ true
-    known_two known p q h (inl c) = used_known known p h.0 c
-    known_two known p q h (inr c) = used_known known q h.1 c
+  used_known : (known : List (List ℕ)) (w : Written) → UsesOnly known w → Contains (uses w) u → is_known known u.0 ≡ true
+  used_known known nil h c = absurd (none_contained c)
+  used_known known (call f ts) h c = subst (λ (v : Use). is_known known v.0 ≡ true) (item_cases (f, ts) u c) h
+  used_known known (parallel p q) h c = known_two known (uses p) (uses q) (used_known known p h.0) (used_known known q h.1) c
+  used_known known (replicated p) h c = used_known known p h c
+  used_known known (act a p) h c = used_known known p h c
+  used_known known (test t v p q) h c = known_two known (uses p) (uses q) (used_known known p h.0) (used_known known q h.1) c
+  used_known known (lookup t x p q) h c = known_two known (uses p) (uses q) (used_known known p h.0) (used_known known q h.1) c
 
 -- what is defined wasn't known before
 new_at : (ds : List Definition) (known : List (List ℕ)) (k : ℕ) (e : Definition) → AreInOrder known ds → slice_get ds k ≡ Some e → is_known known e.name ≡ true → ⊥
@@ -155,7 +152,7 @@ none_marked ds p k first names empty is same = record {
   within = omega (arith, same);
   sound = λ f h. ⊎_elim (λ o. absurd (false≢true (subst (λ (m : List (List ℕ)). IsMarked m f) empty o))) (used_sound ds p f)
       (only_marked first p f (subst (λ (m : List (List ℕ)). IsMarked m f) is h));
-  main = λ u c. subst (λ (m : List (List ℕ)). IsMarked m u.0) (sym is) (uses_marked first p u c);
+  main = λ u c. subst (λ (m : List (List ℕ)). IsMarked m u.0) (sym is) (uses_marked u first p c);
   bodies = λ j d l at m u c. let below = slice_get_within ds j d at in absurd (omega (arith, l, below, same));
 }
 
@@ -171,22 +168,22 @@ module _ (ds : List Definition) (p : Written) (k : ℕ) (d : Definition) (names 
 
   -- where it isn't reached
   passed_over : list_any (bytes_eq d.name) names ≡ false → AreMarked ds p (k - 1) names
-  passed_over no = record {
+  passed_over missed = record {
     within = let most = h.within in omega (arith, most);
     sound = h.sound;
     main = h.main;
-    bodies = λ j e l there m u c. ⊎_elim (λ same. clash (list_any (bytes_eq e.name) names) m (subst (λ (x : Definition). list_any (bytes_eq x.name) names ≡ false) same no))
+    bodies = λ j e l there m u c. ⊎_elim (λ same. clash (list_any (bytes_eq e.name) names) m (subst (λ (x : Definition). list_any (bytes_eq x.name) names ≡ false) same missed))
         (λ later. h.bodies j e later there m u c) (here_or_later j e l there);
   }
 
   -- where it is
   gone_into : IsMarked names d.name → AreMarked ds p (k - 1) (marked names d.body)
-  gone_into yes = record {
+  gone_into met = record {
     within = let most = h.within in omega (arith, most);
-    sound = λ f m. ⊎_elim (h.sound f) (body_sound ds p d f (h.sound d.name yes) (contains_got ds d (k - 1) at)) (only_marked names d.body f m);
+    sound = λ f m. ⊎_elim (h.sound f) (body_sound ds p d f (h.sound d.name met) (contains_got ds d (k - 1) at)) (only_marked names d.body f m);
     main = λ u c. kept names d.body u.0 (h.main u c);
     bodies = λ j e l there m u c. ⊎_elim
-        (λ same. uses_marked names d.body u (subst (λ (x : Definition). Contains (uses x.body) u) (sym same) c))
+        (λ same. uses_marked u names d.body (subst (λ (x : Definition). Contains (uses x.body) u) (sym same) c))
         (λ later. kept names d.body u.0 (h.bodies j e later there (marked_before j e l there m) u c)) (here_or_later j e l there);
   } where
     marked_before : (j : ℕ) (e : Definition) → k - 1 ≤ j → slice_get ds j ≡ Some e → IsMarked (marked names d.body) e.name → IsMarked names e.name
@@ -201,7 +198,7 @@ module _ (ds : List Definition) (p : Written) (k : ℕ) (d : Definition) (names 
     by false e = passed_over e
 
 -- all of them were
-pub all_marked : (ds : List Definition) (p : Written) (k : ℕ) (names : List (List ℕ)) → ¬ (0 < k) → AreMarked ds p k names → AreReached ds p names
+pub all_marked : (ds : List Definition) (p : Written) (k : ℕ) (names : List (List ℕ)) → k ≤ 0 → AreMarked ds p k names → AreReached ds p names
 all_marked ds p k names end h = record { sound = h.sound; all = all } where
   all : (f : List ℕ) → LeadsTo ds p f → IsMarked names f
   all f (at_once {u = u} c) = h.main u c

@@ -38,11 +38,14 @@ there_is ds k l = (get_or ds k some_definition, slice_get-get_or ds k some_defin
 
 reached_from : (ds : List Definition) (p : Written) (order : AreInOrder [] ds) (k : ℕ) (names : List (List ℕ)) → AreMarked ds p k names
     → (all : List (List ℕ)) × AreReached ds p all
-reached_from ds p order zero names h = (names, all_marked ds p 0 names (λ l. omega (arith, l)) h)
+reached_from ds p order zero names h = (names, all_marked ds p 0 names (omega arith) h)
 reached_from ds p order (suc k) names h =
     let most = h.within in
     let at = there_is ds k (omega (arith, most)) in
-    reached_from ds p order k (marked_behind names at.0) (one_marked ds p (suc k) at.0 names order (omega arith) at.1 h (marked_behind names at.0) refl)
+    let back : suc k - 1 ≡ k = omega arith in
+    let there : slice_get ds (suc k - 1) ≡ Some at.0 = ap (slice_get ds) back ∙ at.1 in
+    reached_from ds p order k (marked_behind names at.0)
+    (subst (λ j. AreMarked ds p j (marked_behind names at.0)) back (one_marked ds p (suc k) at.0 names order (omega arith) there h (marked_behind names at.0) refl))
 
 all_reached : (ds : List Definition) (p : Written) → AreInOrder [] ds → (all : List (List ℕ)) × AreReached ds p all
 all_reached ds p order = reached_from ds p order (length ds) (marked [] p) (none_marked ds p (length ds) [] (marked [] p) refl refl refl)
@@ -69,7 +72,7 @@ module _ (g : Sig) (flaws : ScopeFlawOrNone g) (ds : List Definition) (p : Writt
     by [] e = inl (λ w path h. h.parameters e)
     by (x ∷ xs) e =
         ⊎_elim (λ there. body (λ n. let some : x ∷ xs ≡ [] = sym e ∙ n in absurd (cc)) there)
-        (λ no. inl (λ w path h. clash (list_any (bytes_eq d.name) names) (reached.all d.name h.reached) no)) (cases_Bool (list_any (bytes_eq d.name) names))
+        (λ missed. inl (λ w path h. clash (list_any (bytes_eq d.name) names) (reached.all d.name h.reached) missed)) (cases_Bool (list_any (bytes_eq d.name) names))
 
   -- the first of so many
   abbrev IsFirst : Type 0
@@ -81,7 +84,8 @@ module _ (g : Sig) (flaws : ScopeFlawOrNone g) (ds : List Definition) (p : Writt
     next : NoneBefore g ds p n → NoneBefore g ds p (suc n) ⊎ IsFirst
     next before =
         let at = there_is ds n (omega (arith, l)) in
-        ⊎_elim (λ none. inl (one_before g ds p n at.0 at.1 none before)) (λ f. inr (n, at.0, f.0, f.1, at.1, f.2, before)) (one_or_not at.0)
+        let more : n + 1 ≡ suc n = omega arith in
+        ⊎_elim (λ none. inl (subst (NoneBefore g ds p) more (one_before g ds p n at.0 at.1 none before))) (λ f. inr (n, at.0, f.0, f.1, at.1, f.2, before)) (one_or_not at.0)
 
 -- ---- the causes in order
 
@@ -95,7 +99,7 @@ module _ (g : Sig) (flaws : ScopeFlawOrNone g) (ds : List Definition) (p : Writt
   by_flaws : AreAbsent g ds p 1 3 → AreAbsent g ds p 3 5 → first_large ds p ≡ None → CauseOrNone g ds p
   by_flaws a b e =
       let all = all_reached ds p order in
-      ⊎_elim (λ none. inr (none_holds g ds p a b (uses_absent g ds p e (none_is ds p bodies defined g (length ds) refl none))))
+      ⊎_elim (λ none. inr (none_holds g ds p a b (uses_absent g ds p e (none_is ds p bodies defined g (length ds) (omega arith) none))))
       (λ (f : IsFirst g flaws ds p all.0 all.1). inl (_, cause_is g ds p 5 _ (joined g ds p 1 3 5 a b)
       (flawed_holds g ds p f.1.name f.2 f.3 e (first_is ds p bodies defined g f.0 f.1 f.1.name f.2 f.3 f.4 refl f.5 f.6))))
       (first_or_none g flaws ds p all.0 all.1 (length ds) (omega arith))

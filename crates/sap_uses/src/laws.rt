@@ -1,11 +1,35 @@
 //! Laws of the causes, as contracts of functions that do nothing.
-ghost use Rattle.std.specs.Prelude.{◌≡◌, List};
+ghost use Rattle.std.specs.Prelude.{◌≡◌, ◌⊎◌, List, []};
 ghost use Rattle.sap_terms.specs.Signature.{Sig};
+ghost use Rattle.sap_terms.specs.declared.var.Var.{Var};
+ghost use Rattle.sap_process.specs.Flaws.{HasNoScopeFlaw};
+ghost use Rattle.sap_process.specs.Sites.{var_names};
+ghost use Rattle.sap_macro.specs.Instances.{IsClosed};
+ghost use Rattle.sap_macro.specs.Order.{AreInOrder};
+ghost use Rattle.sap_macro.specs.Seen.{seen};
 ghost use Rattle.sap_macro.specs.Written.{Definition, Written};
-ghost use Rattle.sap_uses.specs.FaultCauses.{IsMacroCause};
+ghost use Rattle.sap_uses.specs.FaultCauses.{Holds, IsMacroCause};
 ghost use Rattle.sap_uses.specs.declared.fault.MacroFault.{MacroFault};
+
+use sap_macro::{plain_names_stand_for_bodies, sizes_are_one};
+use sap_process::some_scope_flaw;
 
 /// A law: of definitions and a process at most one cause counts, with what it tells.
 pub fn one_macro_cause()
     ensures { (g : Sig) (ds : List Definition) (p : Written) (e f : MacroFault) → IsMacroCause g ds p e → IsMacroCause g ds p f → e ≡ f }
+{}
+
+/// A law: of definitions in order and a process a cause counts, or none holds.
+pub fn some_macro_cause()
+    ensures { (g : Sig) (ds : List Definition) (p : Written) → AreInOrder [] ds
+        → ((e : MacroFault) × IsMacroCause g ds p e) ⊎ ((e : MacroFault) → ¬ Holds g ds p e) }
+{
+    plain_names_stand_for_bodies();
+    sizes_are_one();
+    some_scope_flaw();
+}
+
+/// A law: what has no flaw of scope, where these variables are in scope, is closed there.
+pub fn unflawed_bodies_are_closed()
+    ensures { (g : Sig) (scope : List Var) (p : Written) → HasNoScopeFlaw g scope (seen p) → IsClosed (var_names scope) p }
 {}

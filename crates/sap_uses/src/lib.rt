@@ -3,7 +3,7 @@
 
 mod body_flaw;
 mod by_hand;
-mod expand;
+mod expanding;
 mod fault;
 mod flawed;
 mod index;
@@ -14,8 +14,8 @@ mod reached;
 mod sizes;
 
 pub use by_hand::{causes_by_hand, flawed_by_hand, large_by_hand};
-pub use expand::expand;
+pub use expanding::expand;
 pub use fault::MacroFault;
 pub use flawed::first_flawed;
 pub use large::first_large;
-pub use laws::one_macro_cause;
+pub use laws::{one_macro_cause, some_macro_cause, unflawed_bodies_are_closed};
