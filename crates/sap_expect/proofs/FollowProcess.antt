@@ -1,5 +1,5 @@
 -- The words of processes follow the table.
-use Rattle.std.proofs.Common.{◌≡◌, ℕ, Bool, true, false, List, [], ◌∷◌, ◌++◌, Option, Some, None, refl}
+use Rattle.std.proofs.Common.{◌≡◌, ℕ, Bool, true, false, List, [], ◌∷◌, ◌++◌, Some, None, refl}
 use Rattle.std.specs.Prelude.{codes, if◌then◌else◌}
 use Rattle.sap_terms.specs.Signature.{Sig}
 use Rattle.sap_grammar.specs.Words.{Word, is_mark, mark}
