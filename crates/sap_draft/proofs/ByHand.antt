@@ -52,8 +52,8 @@ lookup_is g = par_one (seq_lookup_else (short_a g _) (seq_action (action_lock (s
 pub use_is : (g : Sig) → IsPar g FILE_LIMITS use_process 2 use_words []
 use_is g =
     let small : AreSmall FILE_LIMITS (a ∷ sorted Fresh (codes "x") ∷ []) =
-        All-cons (IsSmall FILE_LIMITS) a (sorted Fresh (codes "x") ∷ []) (record { few_levels = omega arith; few_nodes = tt })
-        (All-cons (IsSmall FILE_LIMITS) (sorted Fresh (codes "x")) [] (record { few_levels = omega arith; few_nodes = tt }) (All-nil (IsSmall FILE_LIMITS))) in
+    All-cons (IsSmall FILE_LIMITS) a (sorted Fresh (codes "x") ∷ []) (record { few_levels = omega arith; few_nodes = tt })
+    (All-cons (IsSmall FILE_LIMITS) (sorted Fresh (codes "x")) [] (record { few_levels = omega arith; few_nodes = tt }) (All-nil (IsSmall FILE_LIMITS))) in
     par_more one_bar (seq_use (list_more term_quoted (list_last term_fresh)) small) (par_one seq_call)
 
 -- what isn't read is no process

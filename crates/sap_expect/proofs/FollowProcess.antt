@@ -1,5 +1,5 @@
 -- The words of processes follow the table.
-use Rattle.std.proofs.Common.{◌≡◌, ℕ, Bool, true, false, List, [], ◌∷◌, ◌++◌, Option, Some, None, refl}
+use Rattle.std.proofs.Common.{◌≡◌, ℕ, Bool, true, false, List, [], ◌∷◌, ◌++◌, Some, None, refl}
 use Rattle.std.specs.Prelude.{codes, if◌then◌else◌}
 use Rattle.sap_terms.specs.Signature.{Sig}
 use Rattle.sap_grammar.specs.Words.{Word, is_mark, mark}
@@ -7,7 +7,7 @@ use Rattle.sap_grammar.specs.declared.limits.Limits.{Limits}
 use Rattle.sap_process.specs.Action.{Action}
 use Rattle.sap_macro.specs.Written.{Written}
 use Rattle.sap_draft.specs.ProcessGrammar.{Ending, IsAction, IsBar, IsPar, IsSeq, action_acts, action_delete, action_event, action_input, action_insert, action_lock, action_new, action_new_fresh, action_out, action_receive, action_rule, action_send, action_unlock, closed, dangling, one_bar, par_more, par_one, seq_action, seq_call, seq_if, seq_if_else, seq_lookup, seq_lookup_else, seq_nil, seq_parentheses, seq_replicated, seq_then, seq_use, two_bars}
-use Rattle.sap_expect.specs.declared.wanted.Part.TheVariants.{Application, Arguments, Bars, Else, InnerBars, Sequence, Then}
+use Rattle.sap_expect.specs.declared.wanted.Part.TheVariants.{Application, Arguments, Bars, Else, InnerBars, MoreTerms, Sequence, Term, Terms, Then}
 use Rattle.sap_expect.specs.FileTable.{Reads, Wanted, part}
 use Rattle.sap_expect.proofs.FollowTerms.{IsPlain, NoRow, args_follow, facts_follow, instead, list_follows, on_row, on_word, plain, plain_of, shown_follow, term_follows}
 
@@ -25,11 +25,11 @@ pub record Behind (e : Ending) (ws : List Word) : Type 0 where
 -- where no parenthesis stands, no arguments do
 no_arguments : (ws : List Word) → NoRow Application ws → NoRow Arguments ws
 no_arguments [] n = n
-no_arguments (w ∷ ws) n = by (is_mark (codes "(") w) n
+no_arguments (w ∷ ws) n = by (part Terms ∷ []) (part Term ∷ part MoreTerms ∷ []) (is_mark (codes "(") w) n
   where
-    by : {xs ys : List Wanted} (c : Bool) → (if c then Some xs else None) ≡ None → (if c then Some ys else None) ≡ None
-    by true e = absurd (cc (e))
-    by false e = refl
+    by : (xs ys : List Wanted) (c : Bool) → (if c then Some xs else None) ≡ None → (if c then Some ys else None) ≡ None
+    by xs ys true e = absurd (cc (e))
+    by xs ys false e = refl
 
 module _ (r : List Word) where
   event_follows : {g : Sig} {a b : List Word} {vs : List Wanted} → IsPlain g a b → Reads (part Then ∷ vs) (b ++ r) → Reads (part Sequence ∷ vs) (mark (codes "event") ∷ (a ++ r))

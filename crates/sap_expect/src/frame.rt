@@ -6,7 +6,7 @@ use sap_terms::{MOST_PROCESS_LEVELS, MOST_TERM_LEVELS};
 pub(crate) enum Kind {
     /// No process and no formula.
     Outside,
-    /// What stands before a process: `process` or `let`, and a name.
+    /// What stands before a process: `process`, or `let`, a name and its parameters.
     Heading,
     /// A process that is all of an item, or stands in parentheses.
     Process,

@@ -1,11 +1,11 @@
 //! A table of the words of a file: for each part the words that it may begin with, and what has to stand behind each.
 
 use crate::wanted::Part::{
-    Application, Arguments, Arrow, Atom, Attribute, Bars, Binders, Builtin, Else, Fact, Facts, Formula,
-    Function, InnerBars, InnerFormula, InnerJoined, InnerSecond, InnerSecondJoined, Items, Joined,
-    Lemma, LowerAtom, Message, Mode, MoreAttributes, MoreBinders, MoreBuiltins, MoreFacts,
-    MoreFunctions, MoreParameters, MoreParts, MoreShown, MoreTerms, NewName, Parameters, Privacy, Second, SecondJoined,
-    Sequence, Shown, Term, Terms, Then, Time, Times, Truth, UpperAtom,
+    Application, Arguments, Arrow, Atom, Attribute, Bars, Binders, Builtin, Else, Fact, Facts,
+    Formula, Function, InnerBars, InnerFormula, InnerJoined, InnerSecond, InnerSecondJoined, Items,
+    Joined, Lemma, LowerAtom, Message, Mode, MoreAttributes, MoreBinders, MoreBuiltins, MoreFacts,
+    MoreFunctions, MoreParameters, MoreParts, MoreShown, MoreTerms, NewName, Parameters, Privacy,
+    Second, SecondJoined, Sequence, Shown, Term, Terms, Then, Time, Times, Truth, UpperAtom,
 };
 use crate::wanted::Wanted;
 use crate::wanted::Wanted::{A, Arity, Lower, Mark, Name, Named, Quoted, Upper, Zero};
@@ -49,8 +49,10 @@ pub(crate) const PARAMETERS: &[Row] = &[
     (Mark("("), &[Name, A(MoreParameters), Mark("=")]),
 ];
 
-pub(crate) const MORE_PARAMETERS: &[Row] =
-    &[(Mark(")"), &[]), (Mark(","), &[Name, A(MoreParameters)])];
+pub(crate) const MORE_PARAMETERS: &[Row] = &[
+    (Mark(")"), &[]),
+    (Mark(","), &[Name, A(MoreParameters)]),
+];
 
 pub(crate) const LEMMA: &[Row] = &[
     (

@@ -16,7 +16,7 @@ use Rattle.sap_macro.specs.MacroCauses.{Use, uses}
 use Rattle.sap_macro.specs.Order.{AreInOrder, UsesOnly}
 use Rattle.sap_macro.specs.Replaced.{AreWithoutParameters, Stands, nothing_stands, process_of, replaced, with_standing}
 use Rattle.sap_macro.specs.Written.{Written, nil, call, parallel, replicated, act, test, lookup, Definition}
-use Rattle.sap_macro.specs.code.Indexed.{defined}
+use Rattle.sap_macro.specs.Indexed.{defined}
 use Rattle.sap_macro.proofs.Names.{not_in, out_of, two_names}
 use Rattle.sap_macro.proofs.NewNames.{in_cases}
 use Rattle.sap_macro.proofs.Resolving.{apart_from, meaning_stays, plain_stays, resolved, uses_agree, with_body}

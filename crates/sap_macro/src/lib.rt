@@ -11,7 +11,7 @@ mod definition;
 mod heads;
 mod index;
 mod laws;
-mod seen;
+mod seeing;
 mod sizes;
 mod source;
 mod standing;
@@ -26,6 +26,6 @@ pub use laws::{
     plain_names_stand_for_bodies, same_up_to_names_show_the_same, sizes_are_one,
     uses_are_instances, uses_show_their_instances,
 };
-pub use seen::seen;
+pub use seeing::seen;
 pub use sizes::{Size, expanded_size};
 pub use source::{Doing, Source};

@@ -169,15 +169,15 @@ module _ (most wide : ℕ) (le : most ≤ wide) (g : Sig) where
       names_renamed [] taken x stays room h = record { name = name_wider most wide x le h; tidy = λ s t. t }
       names_renamed (y ∷ ys) taken x stays room h =
           by (bytes_eq y x) refl (names_renamed ys (new_name taken y ∷ taken) x (λ z k. or_true (bytes_eq (new_name taken y) z) (is_known taken z) (stays z k)) room h) where
-        long : HasRoom taken
-        long = let n = chosen_length taken (y ∷ ys) in omega (arith, n, room)
+            long : HasRoom taken
+            long = let n = chosen_length taken (y ∷ ys) in omega (arith, n, room)
 
-        by : (t : Bool) → bytes_eq y x ≡ t → IsRenamed x (renamed (new_name taken y ∷ taken) ys x) → IsRenamed x (if t then new_name taken y else renamed (new_name taken y ∷ taken) ys x)
-        by true e later =
-            let same : y ≡ x = (bytes_eq-Decides y x).0 e in
-            let is = fresh_names taken y stays long (subst (IsName most) (sym same) h) in
-            record { name = is.0; tidy = λ s t. not_constant s (new_name taken y) is.1 }
-        by false e later = later
+            by : (t : Bool) → bytes_eq y x ≡ t → IsRenamed x (renamed (new_name taken y ∷ taken) ys x) → IsRenamed x (if t then new_name taken y else renamed (new_name taken y ∷ taken) ys x)
+            by true e later =
+                let same : y ≡ x = (bytes_eq-Decides y x).0 e in
+                let is = fresh_names taken y stays long (subst (IsName most) (sym same) h) in
+                record { name = is.0; tidy = λ s t. not_constant s (new_name taken y) is.1 }
+            by false e later = later
 
       puts_names : (ys taken : List (List ℕ)) → Stays ids taken → HasRoom (taken_after taken ys) → Puts (by_names (renamed taken ys))
       puts_names ys taken stays room v h o =

@@ -262,9 +262,11 @@ once_few (n ∷ ns) known ids h = by (is_known known n) refl (once_few ns) where
   others : (ms : List (List ℕ)) → AllByRecursion (λ z. ¬ (is_known known z ≡ true) → is_known ids z ≡ true) ms
       → AllByRecursion (λ z. ¬ (is_known (n ∷ known) z ≡ true) → is_known (removed ids n) z ≡ true) ms
   others [] k = tt
-  others (z ∷ ms) k =
-      ((λ new. still_known ids n z (λ same. new (ap (λ t. t || is_known known z) ((bytes_eq-Decides n z).1 same)))
-      (k.0 (λ old. new (or_true (bytes_eq n z) (is_known known z) old)))), others ms k.1)
+  others (z ∷ ms) k = (
+    (λ new. still_known ids n z (λ same. new (ap (λ t. t || is_known known z) ((bytes_eq-Decides n z).1 same)))
+        (k.0 (λ old. new (or_true (bytes_eq n z) (is_known known z) old)))),
+    others ms k.1,
+  )
 
   by : (t : Bool) → is_known known n ≡ t
       → ((old ms : List (List ℕ)) → AllByRecursion (λ z. ¬ (is_known old z ≡ true) → is_known ms z ≡ true) ns → length (once old ns) ≤ length ms)

@@ -1,5 +1,5 @@
 -- Small files by their items, to try by hand why they are refused, and what their processes are.
-use Rattle.std.specs.Prelude.{◌≡◌, ℕ, zero, suc, codes, List, [], ◌∷◌, Option, Some, None}
+use Rattle.std.specs.Prelude.{◌≡◌, ℕ, zero, suc, true, false, codes, List, [], ◌∷◌, Option, Some, None}
 use Rattle.sap_terms.specs.declared.signature.Builtin.TheVariants.{Hashing, Asymmetric, Signing}
 use Rattle.sap_terms.specs.declared.var.Sort.TheVariants.{Msg, Fresh}
 use Rattle.sap_terms.specs.declared.var.Var.{Var}

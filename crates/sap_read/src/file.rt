@@ -28,8 +28,8 @@ use sap_grammar::{Declared, beyond, boxed, header_name, last_line, read_declarat
 use sap_locks::annotate_boxed;
 use sap_process::{Process, well_formed_boxed};
 use sap_statements::{Checked, Statement, check_statements};
-use sap_terms::{Copied, Items, MOST_FILE_NAME_BYTES, MOST_PROCESS_PLACES, Mem, Name,
-    NameList, Signature,
+use sap_terms::{
+    Copied, Items, MOST_FILE_NAME_BYTES, MOST_PROCESS_PLACES, Mem, Name, NameList, Signature,
 };
 use sap_text::{Lex, Token, tokens};
 use std::alloc::Global;

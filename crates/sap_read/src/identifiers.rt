@@ -11,12 +11,7 @@ use sap_text::Token;
 use std::alloc::Global;
 
 // Puts the identifier that stands first last, if there is one.
-fn put_first(
-    alloc: Global,
-    bytes: &[u8],
-    tokens: &[Token],
-    names: &mut NameList,
-) -> Result<(), Mem>
+fn put_first(alloc: Global, bytes: &[u8], tokens: &[Token], names: &mut NameList) -> Result<(), Mem>
     ensures { OnOk result (names.new ≡ names.old ++ option_to_list (name_at (words_of bytes.now tokens.now))) }
 {
     let Some(name) = name_at(bytes, tokens) else {

@@ -32,15 +32,15 @@ use sap_grammar::{
     declarations_are_read, headers_are_read, same_grammar, words_are_cut, words_of_bytes,
 };
 use sap_locks::{annotations_are_ready, annotations_of_processes};
+use sap_macro::{new_names_are_least, new_names_are_short, sizes_are_one};
 use sap_process::{one_flaw, some_flaw, sorting_keeps};
 use sap_statements::{
     faultless_formulas_keep_signs, formulas_are_printable, one_faulty_statement, one_statement,
     same_statements, some_statement, sorts_are_kept,
 };
 use sap_terms::builtins_stay_held;
-use sap_macro::{new_names_are_least, new_names_are_short, sizes_are_one};
 use sap_text::{one_answer, some_answer};
-use sap_uses::one_macro_cause;
+use sap_uses::{one_macro_cause, some_macro_cause};
 
 /// What the laws of processes say, as the proofs on files need it.
 pub(crate) fn process_laws()
@@ -109,6 +109,7 @@ pub fn some_file()
     process_laws();
     statement_laws();
     some_answer();
+    some_macro_cause();
     some_flaw();
     one_faulty_statement();
     annotations_of_processes();

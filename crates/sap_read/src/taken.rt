@@ -92,10 +92,7 @@ fn first_taken(alloc: Global, names: &NameList, generated: bool) -> Result<Optio
 
 /// The first name that another process behind it has too. It takes time in proportion to the list, where each name is looked for
 /// among those behind it by its order.
-pub(crate) fn first_repeated(
-    alloc: Global,
-    entries: &Items<Entry>,
-) -> Result<Option<Name>, Mem>
+pub(crate) fn first_repeated(alloc: Global, entries: &Items<Entry>) -> Result<Option<Name>, Mem>
     ensures { IfOk result (λ name. name ≡ first_repeated (labels (map body entries.now))) }
 {
     let names = labels(alloc, entries)?;

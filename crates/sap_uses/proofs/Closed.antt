@@ -71,23 +71,23 @@ known_behind (v ∷ vs) names known h x =
     by (known_behind vs names known h x) (known_behind vs (v.name ∷ names) (known ++ v.name ∷ []) (known_more names known v.name h) x) (is_known names v.name) (is_known known v.name)
     (h v.name)
   where
-  last : (a : List (List ℕ)) → is_known ((known ++ v.name ∷ []) ++ a) x ≡ is_known (known ++ (v.name ∷ a)) x
-  last a =
-      known_two (known ++ v.name ∷ []) a x ∙ ap (λ z. z || is_known a x) (known_two known (v.name ∷ []) x) ∙ turned (is_known known x) (bytes_eq v.name x) (is_known a x)
-      ∙ sym (known_two known (v.name ∷ a) x)
-    where
-      turned : (p q r : Bool) → ((p || (q || false)) || r) ≡ (p || (q || r))
-      turned true q r = refl
-      turned false true r = refl
-      turned false false r = refl
+    last : (a : List (List ℕ)) → is_known ((known ++ v.name ∷ []) ++ a) x ≡ is_known (known ++ (v.name ∷ a)) x
+    last a =
+        known_two (known ++ v.name ∷ []) a x ∙ ap (λ z. z || is_known a x) (known_two known (v.name ∷ []) x) ∙ turned (is_known known x) (bytes_eq v.name x) (is_known a x)
+        ∙ sym (known_two known (v.name ∷ a) x)
+      where
+        turned : (p q r : Bool) → ((p || (q || false)) || r) ≡ (p || (q || r))
+        turned true q r = refl
+        turned false true r = refl
+        turned false false r = refl
 
-  by : is_known (scope_behind names vs) x ≡ is_known (known ++ var_names (new_vars known vs)) x
-      → is_known (scope_behind (v.name ∷ names) vs) x ≡ is_known ((known ++ v.name ∷ []) ++ var_names (new_vars (known ++ v.name ∷ []) vs)) x → (p q : Bool) → p ≡ q → is_known (scope_behind (if p then names else (v.name ∷ names)) vs) x
-      ≡ is_known (known ++ var_names (if q then new_vars known vs else v ∷ new_vars (known ++ v.name ∷ []) vs)) x
-  by old more true true e = old
-  by old more true false e = absurd (false≢true (sym e))
-  by old more false true e = absurd (false≢true e)
-  by old more false false e = more ∙ last (var_names (new_vars (known ++ v.name ∷ []) vs))
+    by : is_known (scope_behind names vs) x ≡ is_known (known ++ var_names (new_vars known vs)) x
+        → is_known (scope_behind (v.name ∷ names) vs) x ≡ is_known ((known ++ v.name ∷ []) ++ var_names (new_vars (known ++ v.name ∷ []) vs)) x → (p q : Bool) → p ≡ q → is_known (scope_behind (if p then names else (v.name ∷ names)) vs) x
+        ≡ is_known (known ++ var_names (if q then new_vars known vs else v ∷ new_vars (known ++ v.name ∷ []) vs)) x
+    by old more true true e = old
+    by old more true false e = absurd (false≢true (sym e))
+    by old more false true e = absurd (false≢true e)
+    by old more false false e = more ∙ last (var_names (new_vars (known ++ v.name ∷ []) vs))
 
 names_two : (a b : List Var) → var_names (a ++ b) ≡ var_names a ++ var_names b
 names_two [] b = refl

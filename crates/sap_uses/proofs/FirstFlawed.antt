@@ -1,10 +1,10 @@
 -- The first definition that is flawed.
 use Rattle.std.proofs.Common.{◌≡◌, ◌<◌, ◌≤◌, ℕ, zero, suc, ◌+◌, Bool, true, false, ◌⊎◌, List, [], ◌∷◌, Option, Some, None, length, map, refl, sym, ap, ◌∙◌, subst, ⊎_elim, arith}
-use Rattle.std.proofs.lemmas.Bool.{cases_lt}
+use Rattle.std.proofs.lemmas.Bool.{and_cases, and_parts, cases_lt, false≢true, ltb-false}
 use Rattle.std.proofs.lemmas.Option.{slice_get-map, slice_get_within}
 use Rattle.std.specs.List.{list_any}
 use Rattle.std.specs.Option.{IfNone, IfSome, option_map}
-use Rattle.std.specs.Prelude.{Contains, slice_get}
+use Rattle.std.specs.Prelude.{◌&&◌, Contains, nat_lt, slice_get}
 use Rattle.std.specs.Str.{bytes_eq}
 use Rattle.sap_terms.specs.Signature.{Sig}
 use Rattle.sap_terms.specs.Tree.{Tree}
@@ -101,22 +101,24 @@ value_there P o x e h = subst (λ z. IfSome z P) e h
 pub none_there : {T P : Type 0} (o : Option T) → o ≡ None → IfNone o P → P
 none_there {P = P} o e h = subst (λ z. IfNone z P) e h
 
-some_params : (xs : List (List ℕ)) (n : ℕ) → n ≡ length xs → ¬ (n ≡ 0) → ¬ (xs ≡ [])
-some_params xs n is some none = some (is ∙ ap length none)
+some_params : (xs : List (List ℕ)) → nat_lt 0 (length xs) ≡ true → ¬ (xs ≡ [])
+some_params xs is none = false≢true (sym (ap (λ ys. nat_lt 0 (length ys)) none) ∙ is)
 
-module _ (g : Sig) (ds : List Definition) (p : Written) (d : Definition) (n : ℕ) (names : List (List ℕ)) (b : Bool) (long : n ≡ length d.params) (there : b ≡ list_any (bytes_eq d.name) names)
-    (reached : AreReached ds p names) where
-  pub flaw_there : ¬ (n ≡ 0) → b ≡ true → (w : Flaw) (path : List ℕ) → IsFirstScopeFlaw g (params_in_scope d) (seen (plain ds d.body)) w path → IsFlawedThere g ds p d w path
-  flaw_there some met w path f = record { parameters = some_params d.params n long some; reached = reached.sound d.name (sym there ∙ met); flaw = f }
+no_params : (xs : List (List ℕ)) → nat_lt 0 (length xs) ≡ false → xs ≡ []
+no_params [] is = refl
+no_params (x ∷ xs) is = let none = ltb-false 0 (length (x ∷ xs)) is in absurd (omega (arith, none))
+
+module _ (g : Sig) (ds : List Definition) (p : Written) (d : Definition) (names : List (List ℕ)) (b : Bool)
+    (is : b ≡ (nat_lt 0 (length d.params) && list_any (bytes_eq d.name) names)) (reached : AreReached ds p names) where
+  pub flaw_there : b ≡ true → (w : Flaw) (path : List ℕ) → IsFirstScopeFlaw g (params_in_scope d) (seen (plain ds d.body)) w path → IsFlawedThere g ds p d w path
+  flaw_there wanted w path f =
+      let both = and_parts (nat_lt 0 (length d.params)) (list_any (bytes_eq d.name) names) (sym is ∙ wanted) in
+      record { parameters = some_params d.params both.0; reached = reached.sound d.name both.1; flaw = f }
 
   pub none_in_body : HasNoScopeFlaw g (params_in_scope d) (seen (plain ds d.body)) → (w : Flaw) (path : List ℕ) → ¬ IsFlawedThere g ds p d w path
   none_in_body none w path h = none w h.flaw.of_scope h.flaw.place h.flaw.at
 
-  pub none_without : n ≡ 0 → (w : Flaw) (path : List ℕ) → ¬ IsFlawedThere g ds p d w path
-  none_without none w path h = h.parameters (empty d.params (sym long ∙ none)) where
-    empty : (xs : List (List ℕ)) → length xs ≡ 0 → xs ≡ []
-    empty [] e = refl
-    empty (x ∷ xs) e = absurd (omega (arith, e))
-
-  pub none_unreached : b ≡ false → (w : Flaw) (path : List ℕ) → ¬ IsFlawedThere g ds p d w path
-  none_unreached missed w path h = clash (list_any (bytes_eq d.name) names) (reached.all d.name h.reached) (sym there ∙ missed)
+  pub none_unwanted : b ≡ false → (w : Flaw) (path : List ℕ) → ¬ IsFlawedThere g ds p d w path
+  none_unwanted unwanted w path h =
+      ⊎_elim (λ none. h.parameters (no_params d.params none)) (λ missed. clash (list_any (bytes_eq d.name) names) (reached.all d.name h.reached) missed)
+      (and_cases (nat_lt 0 (length d.params)) (list_any (bytes_eq d.name) names) (sym is ∙ unwanted))

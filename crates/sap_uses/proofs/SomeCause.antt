@@ -100,8 +100,11 @@ module _ (g : Sig) (flaws : ScopeFlawOrNone g) (ds : List Definition) (p : Writt
   by_flaws a b e =
       let all = all_reached ds p order in
       ⊎_elim (λ none. inr (none_holds g ds p a b (uses_absent g ds p e (none_is ds p bodies defined g (length ds) (omega arith) none))))
-      (λ (f : IsFirst g flaws ds p all.0 all.1). inl (_, cause_is g ds p 5 _ (joined g ds p 1 3 5 a b)
-      (flawed_holds g ds p f.1.name f.2 f.3 e (first_is ds p bodies defined g f.0 f.1 f.1.name f.2 f.3 f.4 refl f.5 f.6))))
+      (λ (f : IsFirst g flaws ds p all.0 all.1). inl (
+        _,
+        cause_is g ds p 5 _ (joined g ds p 1 3 5 a b)
+            (flawed_holds g ds p f.1.name f.2 f.3 e (first_is ds p bodies defined g f.0 f.1 f.1.name f.2 f.3 f.4 refl f.5 f.6)),
+      ))
       (first_or_none g flaws ds p all.0 all.1 (length ds) (omega arith))
 
   by_large : AreAbsent g ds p 1 3 → AreAbsent g ds p 3 5 → CauseOrNone g ds p

@@ -1,5 +1,7 @@
 //! Definitions whose bodies are flawed.
-ghost use Rattle.std.specs.Prelude.{◌≡◌, ℕ, List, [], IfOk, IfNone, IfSome};
+ghost use Rattle.std.specs.Prelude.{◌≡◌, ◌&&◌, ℕ, List, [], IfOk, IfNone, IfSome, length, nat_lt};
+ghost use Rattle.std.specs.List.{list_any};
+ghost use Rattle.std.specs.Str.{bytes_eq};
 ghost use Rattle.sap_terms.specs.Signature.{Sig};
 ghost use Rattle.sap_process.specs.declared.flaw.Flaw.{Flaw as Flawed};
 ghost use Rattle.sap_macro.specs.Order.{AreInOrder};
@@ -17,6 +19,13 @@ use sap_process::Flaw;
 use sap_terms::{Copied, Mem, Name, NameSet, Path};
 use std::alloc::Global;
 
+// Whether the definition has parameters, and its name is one of these.
+fn is_wanted(names: &NameSet, d: &Definition) -> bool
+    ensures { result ≡ (nat_lt 0 (length d.now.params) && list_any (bytes_eq d.now.name) names.now) }
+{
+    0 < d.params.len() && names.contains(&d.name)
+}
+
 // The flaw of the definition, where it has parameters and its name is one of these.
 fn flaw_of(
     alloc: Global,
@@ -32,7 +41,7 @@ fn flaw_of(
     ensures none { (g : Sig) (p : Written) → AreReached (definitions defs.now) p names.now
         → IfOk result (λ o. IfNone o ((w : Flawed) (path : List ℕ) → ¬ IsFlawedThere g (definitions defs.now) p (definition_of d.now) w path)) }
 {
-    if d.params.len() == 0 || !names.contains(&d.name) {
+    if !is_wanted(names, d) {
         return Ok(None);
     }
     body_flaw(alloc, defs, index, d)

@@ -39,11 +39,7 @@ fn add_body(names: &mut NameSet, d: &Definition) -> Result<(), Mem>
 /// The names that the process leads to: those that it uses, and those that the bodies of the definitions use that it leads to. A body
 /// uses earlier definitions alone, so they are gone through once, from the last to the first. Want of memory is the only error. It
 /// takes time in proportion to what is written, where each name is looked for by its order, and recurses as deep as that.
-pub(crate) fn reached(
-    alloc: Global,
-    defs: &DefinitionList,
-    main: &Source,
-) -> Result<NameSet, Mem>
+pub(crate) fn reached(alloc: Global, defs: &DefinitionList, main: &Source) -> Result<NameSet, Mem>
     requires { AreInOrder [] (definitions defs.now) }
     ensures { IfOk result (λ names. AreReached (definitions defs.now) (written main.now) names) }
 {

@@ -83,7 +83,15 @@ fn read_branches<'a>(
 {
     match read_seq(alloc, sig, bytes, depth, tokens)? {
         None => Ok(None),
-        Some((Measured { source: yes, levels }, rest)) => {
+        Some(
+            (
+                Measured {
+                    source: yes,
+                    levels,
+                },
+                rest,
+            ),
+        ) => {
             if starts(bytes, rest, "else") {
                 let rest = beyond(1, rest);
                 read_second_branch(alloc, sig, bytes, depth, choice, yes, levels, rest)

@@ -3,6 +3,7 @@ ghost use Rattle.std.specs.Prelude.{◌≡◌, ◌≤◌, codes, length, IfOk, I
 ghost use Rattle.sap_grammar.specs.Words.{words_of};
 ghost use Rattle.sap_grammar.specs.Reading.{Gives, list_of};
 ghost use Rattle.sap_grammar.specs.TermReading.{short_term};
+ghost use Rattle.sap_macro.specs.Written.{call};
 ghost use Rattle.sap_draft.specs.code.ProcessReading.{used};
 ghost use Rattle.sap_draft.specs.code.ProcessView.{levelled};
 ghost use Rattle.sap_draft.specs.declared.limits.TheConstants.{FILE_LIMITS};
@@ -46,7 +47,7 @@ fn read_arguments<'a>(
 }
 
 // The use with these arguments.
-fn using(alloc: Global, name: &[u8], arguments: TermList) -> Result<Measured, Mem>
+fn use_of(alloc: Global, name: &[u8], arguments: TermList) -> Result<Measured, Mem>
     ensures { IfOk result (λ m. levelled m ≡ (call name.now arguments, 1)) }
 {
     Ok(Measured {
@@ -70,13 +71,13 @@ pub fn read_use<'a>(
     ensures within { IfOk result (λ o. IfSome o (λ r. r.0.levels ≡ 1)) }
 {
     if !starts(bytes, tokens, "(") {
-        let used = using(alloc, name, TermList::new(alloc))?;
+        let used = use_of(alloc, name, TermList::new(alloc))?;
         return Ok(Some((used, tokens)));
     }
     match read_arguments(alloc, sig, bytes, beyond(1, tokens))? {
         None => Ok(None),
         Some((arguments, rest)) => {
-            let used = using(alloc, name, arguments)?;
+            let used = use_of(alloc, name, arguments)?;
             Ok(Some((used, rest)))
         }
     }

@@ -1,4 +1,5 @@
 use Rattle.std.proofs.Common.{◌≡◌, Bool, true, false, Option, Some, ap, refl}
+use Rattle.std.specs.Fmt.{digits}
 use Rattle.std.specs.Str.{bytes_eq}
 use Rattle.std.specs.Prelude.{codes}
 use Rattle.sap_terms.specs.Same.{same_tree}
@@ -8,6 +9,7 @@ use Rattle.sap_read.specs.CauseExamples.{a}
 use Rattle.sap_read.proofs.by_hand.file_processes_by_hand.Goals as goal
 
 pub returns-clause-are : goal.returns-clause-are
+unfolding digits
 returns-clause-are c = (refl, (refl, (refl, (refl, (refl, (refl, (refl, (refl, (refl, (refl, (refl, tt)))))))))))
 
 -- it gives 'a' first
@@ -25,6 +27,7 @@ binds_second (Some (act (new x) p)) = bytes_eq x.name (codes "n_2")
 binds_second _ = false
 
 pub returns-clause-are_not : goal.returns-clause-are_not
+unfolding digits
 returns-clause-are_not c = (
   λ e. cc,
   (

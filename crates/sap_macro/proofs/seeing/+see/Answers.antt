@@ -1,7 +1,7 @@
 use Rattle.sap_process.specs.Proc.{proc}
 use Rattle.sap_macro.specs.Sources.{definitions, written}
 use Rattle.sap_macro.proofs.Watched.{watched_nothing, watched_one, watched_two, watched_use}
-use Rattle.sap_macro.proofs.seen.+see.Goals as goal
+use Rattle.sap_macro.proofs.seeing.+see.Goals as goal
 
 pub returns-in_ok-made-in-Nothing : goal.returns-in_ok-made-in-Nothing
 returns-in_ok-made-in-Nothing t c =
