@@ -4,7 +4,7 @@ use Rattle.std.specs.Prelude.{Ok, All}
 use Rattle.std.specs.FinMap as files
 use Rattle.sap_terms.specs.Signature.{HoldsBuiltins}
 use Rattle.sap_macro.specs.UsesAreInstances.{UsesAreInstances}
-use Rattle.sap_read.specs.Files.{FileContent, IsRead, IsRunnable}
+use Rattle.sap_read.specs.Files.{FileContent, IsRunnable}
 use Rattle.sap_rule.specs.WellMade.{IsWellMade}
 use Rattle.sap_rule.specs.declared.theory.Theory.{Theory}
 use Rattle.sap_run_texts.specs.declared.run.Kinds.TheVariants.{Rules, Either}
