@@ -10,6 +10,8 @@
 #   unbound   the same with a variable that isn't bound, in a definition that the process uses behind all others
 #   lock      the same with an unlock without lock
 #   nodes     definitions that the process uses twice each, up to more nodes than there may be
+#   facts     the same, where the one action has so many facts
+#   names     so many definitions, each of which is the one before, and the last of which the process uses up to more nodes than there may be
 #   lemma     so many lemmas, of which the last has a variable that isn't guarded
 #
 # For each size it tells the instructions of both, by valgrind, their ratio, which is to be at most 2.5, and what `why` takes to the size
@@ -43,6 +45,26 @@ nodes() {
         printf "theory Bench begin let P0 = event A()\n"
         for (k = 1; k <= n; k++) printf "let P%d = P%d | P%d\n", k, k - 1, k - 1
         printf "process: P%d end\n", n
+    }'
+}
+
+facts() {
+    awk -v n="$1" 'BEGIN {
+        printf "theory Bench begin let P0 = [ ] --[ A(\x27a\x27)"
+        for (k = 1; k <= n; k++) printf ", A(\x27a\x27)"
+        printf " ]-> [ ]\n"
+        for (k = 1; k <= 12; k++) printf "let P%d = P%d | P%d\n", k, k - 1, k - 1
+        print "process: P12 end"
+    }'
+}
+
+names() {
+    awk -v n="$1" 'BEGIN {
+        printf "theory Bench begin let P0 = event A()\n"
+        for (k = 1; k <= n; k++) printf "let P%d = P%d\n", k, k - 1
+        printf "let Q0 = P%d\n", n
+        for (k = 1; k <= 12; k++) printf "let Q%d = Q%d | Q%d\n", k, k - 1, k - 1
+        print "process: Q12 end"
     }'
 }
 
@@ -89,6 +111,8 @@ kind clash 'function f is declared otherwise' 1000 2000 4000 8000
 kind unbound 'place 21: unbound' 1000 2000 4000 8000
 kind lock 'place 11: unlock without lock' 1000 2000 4000 8000
 kind nodes 'more than 4000 nodes' 12 24 48 96
+kind facts 'more than 4000 nodes' 8000 16000 32000 64000
+kind names 'more than 4000 nodes' 1000 2000 4000 8000
 kind lemma 'last: variable x is not guarded' 1000 2000 4000 8000
 
 case $wished in *" examples "* | "  ") ;; *) exit 0 ;; esac

@@ -13,11 +13,12 @@ struct Shape {
     persistent: bool,
 }
 
-/// The facts that were met: those that are stored, those that are shown.
+/// The facts that were met: those that are stored, those that are shown; and of which words the heads were.
 #[derive(Drop)]
 struct Met {
     stored: NameMap<Shape>,
     shown: NameMap<Shape>,
+    heads: Vec<bool>,
 }
 
 // Keeps the shape of the name, unless it has one; whether that is another.
@@ -49,8 +50,12 @@ impl Met {
         }
     }
 
-    // The first fact of a head that is otherwise than one before it.
+    // The first fact of a head that is otherwise than one before it. A head that was met has none.
     fn meet_head(&mut self, words: &Words, at: usize) -> Result<Option<usize>, Mem> {
+        if at >= self.heads.len() || self.heads[at] {
+            return Ok(None);
+        }
+        self.heads[at] = true;
         let head = head_of(words, at);
         let mut shown = words.is(at, "event");
         for k in head.from..head.to {
@@ -72,6 +77,7 @@ pub(crate) fn clashing_fact(words: &Words) -> Result<Option<Found>, Mem> {
     let mut met = Met {
         stored: NameMap::new(words.alloc),
         shown: NameMap::new(words.alloc),
+        heads: Vec::from_elem(words.alloc, false, words.tokens.len())?,
     };
     let mut pending = start(words)?;
     for _ in 0..MOST_PROCESS_PLACES {

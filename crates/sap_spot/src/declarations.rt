@@ -1,60 +1,48 @@
 //! The first declaration that disagrees with one before it.
 use crate::words::Words;
-use sap_grammar::{beyond, names, number_at};
+use sap_grammar::{beyond, number_at};
 use sap_terms::{Builtin, Mem, Name, SigFault, Signature};
 
 // The number that stands here, or one above all that are allowed.
 fn number(words: &Words, k: usize) -> u64 {
     let mut value: u64 = 0;
-    if let Some(digits) = number_at(words.bytes, beyond(k, words.tokens)) {
-        for digit in digits {
-            value = value
-                .saturating_mul(10)
-                .saturating_add((*digit).saturating_sub(b'0') as u64);
-        }
+    for digit in number_at(words.bytes, beyond(k, words.tokens)).unwrap_or(b"") {
+        value = value
+            .saturating_mul(10)
+            .saturating_add((*digit).saturating_sub(b'0') as u64);
     }
     value
 }
 
-// The builtin whose name begins with this word.
-fn builtin(words: &Words, k: usize) -> Option<Builtin> {
-    let here = beyond(k, words.tokens);
-    if names(words.bytes, here, "hashing") {
-        Some(Builtin::Hashing)
-    } else if names(words.bytes, here, "symmetric") {
-        Some(Builtin::Symmetric)
-    } else if names(words.bytes, here, "asymmetric") {
-        Some(Builtin::Asymmetric)
-    } else if names(words.bytes, here, "signing") {
-        Some(Builtin::Signing)
-    } else if names(words.bytes, here, "revealing") {
-        Some(Builtin::RevealingSigning)
-    } else {
-        None
+// The builtin whose name begins with this word, which is one's: its first bytes say which.
+fn builtin(text: &[u8]) -> Option<Builtin> {
+    match text {
+        [b'h', ..] => Some(Builtin::Hashing),
+        [b'a', ..] => Some(Builtin::Asymmetric),
+        [b'r', ..] => Some(Builtin::RevealingSigning),
+        [b's', b'y', ..] => Some(Builtin::Symmetric),
+        [b's', ..] => Some(Builtin::Signing),
+        _ => None,
     }
 }
 
 // Adds what is declared with this word in the item that begins there.
 fn add(words: &Words, item: usize, k: usize, sig: &mut Signature) -> Result<(), SigFault> {
     let before = k.saturating_sub(1);
-    let Some(text) = words.name(k) else {
-        return Ok(());
-    };
     if !words.is(before, ":") && !words.is(before, ",") {
         return Ok(());
     }
+    let Some(text) = words.name(k) else {
+        return Ok(());
+    };
     if words.is(item, "functions") {
         let name = Name::from_bytes(words.alloc, text)?;
         let private = words.is(k.saturating_add(3), "[");
         return sig.declare(name, number(words, k.saturating_add(2)), private);
     }
-    match builtin(words, k) {
-        Some(added) => if words.is(item, "builtins") {
-            sig.add_builtin(added)
-        } else {
-            Ok(())
-        },
-        None => Ok(()),
+    match builtin(text) {
+        Some(added) if words.is(item, "builtins") => sig.add_builtin(added),
+        _ => Ok(()),
     }
 }
 

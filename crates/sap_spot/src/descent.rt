@@ -3,27 +3,19 @@ use crate::clash::clashing_fact;
 use crate::flaws::flawed_word;
 use crate::found::Found;
 use crate::scope::Scope;
-use crate::spot::{Spot, below, form_at, head_word, root, settled};
+use crate::spot::{Spot, below, form_at, head_word, process_at, settled};
 use crate::words::Words;
 use sap_process::Flaw;
 use sap_terms::{Mem, Path};
 
-// The child of this digit, and what is in its scope.
-fn child(words: &Words, scope: &mut Scope, spot: Spot, digit: u8) -> Result<Option<Spot>, Mem> {
-    scope.enter(words, form_at(words, spot), spot, digit)?;
-    let (first, second) = below(words, spot);
-    match if digit == 1 { first } else { second } {
-        Some(from) => Ok(Some(settled(words, from)?)),
-        None => Ok(None),
-    }
-}
-
 // The place of this path, and what is in its scope.
 fn descended(words: &Words, scope: &mut Scope, path: &[u8]) -> Result<Option<Spot>, Mem> {
-    let mut spot = root(words)?;
+    let mut spot = process_at(words, words.layout.start)?;
     for digit in path {
-        match child(words, scope, spot, *digit)? {
-            Some(next) => spot = next,
+        scope.enter(words, form_at(words, spot), spot, *digit)?;
+        let (first, second) = below(words, spot);
+        match if *digit == 1 { first } else { second } {
+            Some(from) => spot = settled(words, from)?,
             None => return Ok(None),
         }
     }

@@ -6,11 +6,11 @@ use crate::words::{Words, terms_behind};
 use sap_process::Flaw;
 use sap_terms::{Mem, Name, Sort, is_reserved};
 
-/// What is looked for: a symbol that isn't held with so many terms, or is a destructor; a fact with a reserved name; a name without
-/// terms that is a constant; a variable with a reserved name, one that isn't bound, where `$x` may be so or not, one with a sign that
-/// isn't the sort of its binder.
+// What is looked for: a symbol that isn't held with so many terms, or is a destructor; a fact with a reserved name; a name without
+// terms that is a constant; a variable with a reserved name, one that isn't bound, where `$x` may be so or not, one with a sign that
+// isn't the sort of its binder.
 #[derive(Clone, Copy)]
-pub(crate) enum Sought {
+enum Sought {
     BadSymbol,
     Destructor,
     ReservedFact,
@@ -51,8 +51,8 @@ fn is_such(words: &Words, scope: &Scope, what: Sought, k: usize, name: &Name) ->
     }
 }
 
-/// Whether what is looked for stands here, where these are bound.
-pub(crate) fn is_sought(words: &Words, scope: &Scope, what: Sought, k: usize) -> Result<bool, Mem> {
+// Whether what is looked for stands here, where these are bound.
+fn is_sought(words: &Words, scope: &Scope, what: Sought, k: usize) -> Result<bool, Mem> {
     match name_of(words, what, k) {
         Some(text) => {
             let name = Name::from_bytes(words.alloc, text)?;
@@ -81,13 +81,8 @@ fn first_in_head(
 ) -> Result<Option<usize>, Mem> {
     let found = first_in(words, scope, what, head_of(words, at))?;
     match (found, binder_at(words, at), what) {
-        (None, Some(name), Sought::BadSymbol) => first_in(
-            words,
-            scope,
-            Sought::Constant,
-            one(name),
-        ),
-        (None, Some(name), _) => first_in(words, scope, what, one(name)),
+        (None, Some(k), Sought::BadSymbol) => first_in(words, scope, Sought::Constant, one(k)),
+        (None, Some(k), _) => first_in(words, scope, what, one(k)),
         _ => Ok(found),
     }
 }

@@ -1,9 +1,7 @@
 //! Which word of a restriction or a lemma a fault names.
-use crate::flaws::{Sought, is_sought};
 use crate::heads::{Part, between, sign_of, variable_at};
 use crate::items::begins_statement;
-use crate::scope::Scope;
-use crate::words::Words;
+use crate::words::{Words, terms_behind};
 use sap_formula::FormulaFault;
 use sap_grammar::beyond;
 use sap_terms::{Mem, Name, Sort};
@@ -129,17 +127,16 @@ fn first_unguarded(words: &Words, part: Part, name: &[u8]) -> Option<usize> {
 }
 
 // The first symbol or fact of this name; where only a wrong number of terms counts, the first with such a number.
-fn first_applied(words: &Words, part: Part, name: &[u8], bad: bool) -> Result<Option<usize>, Mem> {
-    let scope = Scope::new(words.alloc);
+fn first_applied(words: &Words, part: Part, name: &Name, bad: bool) -> Option<usize> {
     for k in part.from..part.to {
-        if words.has_name(k, name)
+        if words.has_name(k, name.as_bytes())
             && words.is_applied(k)
-            && (!bad || is_sought(words, &scope, Sought::BadSymbol, k)?)
+            && (!bad || words.sig.arity(name) != Some(terms_behind(words, k)))
         {
-            return Ok(Some(k));
+            return Some(k);
         }
     }
-    Ok(None)
+    None
 }
 
 /// The word that the fault names in the formula of this restriction or lemma.
@@ -151,9 +148,9 @@ pub(crate) fn faulty_word(
     let part = formula_of(words, name.as_bytes());
     match fault {
         FormulaFault::Mem => Ok(None),
-        FormulaFault::BadFunction { f } => first_applied(words, part, f.as_bytes(), true),
-        FormulaFault::Destructor { f } => first_applied(words, part, f.as_bytes(), false),
-        FormulaFault::Reserved { fact } => first_applied(words, part, fact.as_bytes(), false),
+        FormulaFault::BadFunction { f } => Ok(first_applied(words, part, f, true)),
+        FormulaFault::Destructor { f } => Ok(first_applied(words, part, f, false)),
+        FormulaFault::Reserved { fact } => Ok(first_applied(words, part, fact, false)),
         FormulaFault::UnboundVar { var } => first_unbound(words, part, var.as_bytes()),
         FormulaFault::Unguarded { var } => Ok(first_unguarded(words, part, var.as_bytes())),
     }

@@ -36,11 +36,7 @@ fn begins_process(bytes: &[u8], tokens: &[Token], used: Option<usize>, item: &[T
 fn flaw_fits(bytes: &[u8], here: &[Token], flaw: Flaw) -> bool
     ensures { result ≡ flaw_fits flaw (words_of bytes.now here.now) }
 {
-    if flaw == Flaw::ScopeFull {
-        name_at(bytes, here).is_some() || starts(bytes, here, "lock")
-    } else {
-        name_at(bytes, here).is_some()
-    }
+    name_at(bytes, here).is_some() || (flaw == Flaw::ScopeFull && starts(bytes, here, "lock"))
 }
 
 fn lock_fits(bytes: &[u8], here: &[Token], fault: &LockFault) -> bool

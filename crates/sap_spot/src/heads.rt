@@ -1,5 +1,4 @@
 //! Which words of a head are its terms, its patterns, its variables and its binder.
-use crate::spot::head_end;
 use crate::words::{Words, term_end};
 use sap_terms::{Mem, Name, Sort, Var};
 
@@ -22,19 +21,16 @@ pub(crate) fn one(word: usize) -> Part {
 
 /// The words of the terms and facts of a head.
 pub(crate) fn head_of(words: &Words, at: usize) -> Part {
-    between(at.saturating_add(1), head_end(words, at))
+    between(at.saturating_add(1), words.layout.end(at))
 }
 
 /// The name that `new` or `lookup` binds, if one of them stands here.
 pub(crate) fn binder_at(words: &Words, at: usize) -> Option<usize> {
-    if words.is(at, "lookup") {
-        Some(head_end(words, at).saturating_add(1))
-    } else if !words.is(at, "new") {
-        None
-    } else if words.is(at.saturating_add(1), "~") {
-        Some(at.saturating_add(2))
-    } else {
-        Some(at.saturating_add(1))
+    match words.text(at) {
+        b"lookup" => Some(words.layout.end(at).saturating_add(1)),
+        b"new" if words.is(at.saturating_add(1), "~") => Some(at.saturating_add(2)),
+        b"new" => Some(at.saturating_add(1)),
+        _ => None,
     }
 }
 
@@ -70,13 +66,10 @@ pub(crate) fn used_and_patterns(words: &Words, at: usize) -> (Part, Part) {
 
 /// The sign of the name that stands here.
 pub(crate) fn sign_of(words: &Words, k: usize) -> Sort {
-    let before = k.saturating_sub(1);
-    if words.is(before, "~") {
-        Sort::Fresh
-    } else if words.is(before, "$") {
-        Sort::Pub
-    } else {
-        Sort::Msg
+    match words.text(k.saturating_sub(1)) {
+        b"~" => Sort::Fresh,
+        b"$" => Sort::Pub,
+        _ => Sort::Msg,
     }
 }
 

@@ -1,15 +1,18 @@
-//! Where in a file its processes stand, and how their branches belong together.
+//! Where in a file its processes stand, where their heads end, and how their branches belong together.
+use crate::spot::{Spot, process_at};
 use crate::words::Words;
 use sap_terms::{Mem, Name, NameMap};
 use std::alloc::Global;
 
-/// The process of a file and those that names are defined as, by the numbers of their first words. The partner of an `if` or a
-/// `lookup` is its `else`; that of what stands before a parallel is the sign of the parallel. Others have the partner 0.
+/// The process of a file by the number of its first word; those that names are defined as, where their heads are written. The partner of
+/// an `if` or a `lookup` is its `else`; that of what stands before a parallel is the sign of the parallel. Others have the partner 0. A
+/// word of a head has the end of that.
 #[derive(Drop)]
 pub(crate) struct Layout {
     pub(crate) start: usize,
-    definitions: NameMap<usize>,
+    definitions: NameMap<Spot>,
     partners: Vec<usize>,
+    ends: Vec<usize>,
 }
 
 impl Layout {
@@ -19,6 +22,7 @@ impl Layout {
             start: 0,
             definitions: NameMap::new(alloc),
             partners: Vec::new(alloc),
+            ends: Vec::new(alloc),
         }
     }
 
@@ -30,28 +34,50 @@ impl Layout {
         }
     }
 
-    /// The first word of the process that this name is defined as.
-    pub(crate) fn definition(&self, words: &Words, name: &[u8]) -> Result<Option<usize>, Mem> {
+    /// The word behind the head in which this word stands: behind the terms and facts of an action, an `if` or a `lookup`.
+    pub(crate) fn end(&self, k: usize) -> usize {
+        self.ends.get(k).copied().unwrap_or(0)
+    }
+
+    /// The process that this name is defined as.
+    pub(crate) fn definition(&self, words: &Words, name: &[u8]) -> Result<Option<Spot>, Mem> {
         let name = Name::from_bytes(words.alloc, name)?;
         Ok(self.definitions.get(&name).copied())
     }
 
-    // Keeps where the process begins of the item that begins with this word, if it has one.
+    // Keeps where the process begins of the item that begins with this word, when all of that was met.
     fn enter(&mut self, words: &Words, k: usize) -> Result<(), Mem> {
         if words.is(k, "process") {
             self.start = k.saturating_add(2);
-        }
-        if !words.is(k, "let") {
-            return Ok(());
-        }
-        match words.name(k.saturating_add(1)) {
-            Some(text) => {
+        } else if words.is(k, "let") {
+            if let Some(text) = words.name(k.saturating_add(1)) {
+                let here = Words {
+                    layout: self,
+                    ..*words
+                };
+                let spot = process_at(&here, k.saturating_add(3))?;
                 let name = Name::from_bytes(words.alloc, text)?;
-                self.definitions.insert(name, k.saturating_add(3))
+                self.definitions.insert(name, spot)?;
             }
-            None => Ok(()),
+        }
+        Ok(())
+    }
+}
+
+// The word behind the head that begins here.
+fn head_end(words: &Words, at: usize) -> usize {
+    let mut depth: usize = 0;
+    for k in at.saturating_add(1)..words.tokens.len() {
+        if depth == 0 && words.ends_head(k) {
+            return k;
+        }
+        if words.is(k, "(") {
+            depth = depth.saturating_add(1);
+        } else if words.is(k, ")") {
+            depth = depth.saturating_sub(1);
         }
     }
+    words.tokens.len()
 }
 
 // Takes away the choices that stand last: nothing of them stands behind.
@@ -86,33 +112,40 @@ fn join(words: &Words, k: usize, open: &mut Vec<usize>, layout: &mut Layout) -> 
 
 // What is open before this word, and what behind it.
 fn meet(words: &Words, k: usize, open: &mut Vec<usize>, layout: &mut Layout) -> Result<(), Mem> {
-    if words.is_bar(k) || words.is(k, "else") {
-        return join(words, k, open, layout);
-    }
-    if words.is(k, ")") {
-        end_choices(words, open);
-        let _ = open.pop();
-        return Ok(());
-    }
-    let begins = open.is_empty() && (words.is(k, ":") || words.is(k, "="));
-    if begins || words.is(k, "(") || words.is_choice(k) {
-        open.push(k)?;
+    match words.text(k) {
+        b"|" | b"||" | b"else" => return join(words, k, open, layout),
+        b")" => {
+            end_choices(words, open);
+            let _ = open.pop();
+        }
+        b"(" | b"if" | b"lookup" => open.push(k)?,
+        b":" | b"=" if open.is_empty() => open.push(k)?,
+        _ => {}
     }
     Ok(())
 }
 
-/// How the processes lie of a file that is made of items. The time is linear in its words.
+/// How the processes lie of a file that is made of items. The time is linear in its words, but for names, which are looked up.
 pub(crate) fn layout_of(words: &Words) -> Result<Layout, Mem> {
     let mut layout = Layout::new(words.alloc);
     let mut open = Vec::new(words.alloc);
+    let (mut item, mut has_process, mut behind) = (0, false, 0);
     for k in 0..words.tokens.len() {
+        let in_head = k < behind;
+        if has_process && !in_head && words.begins_head(k) {
+            behind = head_end(words, k);
+        }
         layout.partners.push(0)?;
-        if words.begins_item(k) {
+        layout.ends.push(behind)?;
+        if !in_head && words.begins_item(k) {
+            layout.enter(words, item)?;
             open.clear();
-            layout.enter(words, k)?;
-        } else {
+            item = k;
+            has_process = words.is(k, "process") || words.is(k, "let");
+        } else if !in_head && has_process {
             meet(words, k, &mut open, &mut layout)?;
         }
     }
+    layout.enter(words, item)?;
     Ok(layout)
 }

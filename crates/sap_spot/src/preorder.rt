@@ -1,6 +1,6 @@
 //! The places of a process in their order, names replaced by what they stand for.
 use crate::found::Found;
-use crate::spot::{Spot, below, head_word, root, settled};
+use crate::spot::{Spot, below, head_word, process_at, settled};
 use crate::words::Words;
 use sap_terms::{MOST_PROCESS_LEVELS, MOST_PROCESS_PLACES, Mem};
 
@@ -13,7 +13,7 @@ pub(crate) struct Visit {
 
 /// The first place, as the only one that is still to be visited.
 pub(crate) fn start(words: &Words) -> Result<Vec<Visit>, Mem> {
-    let spot = root(words)?;
+    let spot = process_at(words, words.layout.start)?;
     let mut pending = Vec::new(words.alloc);
     pending.push(Visit { spot, level: 1 })?;
     Ok(pending)

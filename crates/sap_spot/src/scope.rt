@@ -87,11 +87,9 @@ impl Scope {
     ) -> Result<(), Mem> {
         match (form, binder_at(words, spot.at)) {
             (Form::Action, _) => self.enter_action(words, spot),
-            (Form::Lookup, Some(name)) => if digit == 1 {
+            (Form::Lookup, Some(name)) if digit == 1 => {
                 self.bind_part(words, one(name), Some(Sort::Msg), spot)
-            } else {
-                Ok(())
-            },
+            }
             _ => Ok(()),
         }
     }

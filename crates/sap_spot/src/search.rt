@@ -24,16 +24,29 @@ fn alone(word: Option<usize>) -> Option<Found> {
     }
 }
 
-fn sought(words: &Words, fault: &ReadFault) -> Result<Option<Found>, Mem> {
+// The word of a process.
+fn in_process(bare: Words, fault: &ReadFault) -> Result<Option<Found>, Mem> {
+    let layout = layout_of(&bare)?;
+    let words = Words {
+        layout: &layout,
+        ..bare
+    };
     match fault {
-        ReadFault::FunctionClash { .. } => Ok(alone(clashing_declaration(words)?)),
-        ReadFault::TooMany => first_beyond(words, false),
-        ReadFault::TooDeep => first_beyond(words, true),
-        ReadFault::Ill { which, path } => found_at(words, Some(*which), path),
-        ReadFault::Lock(LockFault::UnlockWithoutLock { path }) => found_at(words, None, path),
-        ReadFault::Lock(LockFault::LockOverParallel { path }) => found_at(words, None, path),
-        ReadFault::Formula { name, fault } => Ok(alone(faulty_word(words, name, fault)?)),
+        ReadFault::TooMany => first_beyond(&words, false),
+        ReadFault::TooDeep => first_beyond(&words, true),
+        ReadFault::Ill { which, path } => found_at(&words, Some(*which), path),
+        ReadFault::Lock(LockFault::UnlockWithoutLock { path }) => found_at(&words, None, path),
+        ReadFault::Lock(LockFault::LockOverParallel { path }) => found_at(&words, None, path),
         _ => Ok(None),
+    }
+}
+
+// The word, which nothing is said of yet.
+fn sought(words: Words, fault: &ReadFault) -> Result<Option<Found>, Mem> {
+    match fault {
+        ReadFault::FunctionClash { .. } => Ok(alone(clashing_declaration(&words)?)),
+        ReadFault::Formula { name, fault } => Ok(alone(faulty_word(&words, name, fault)?)),
+        _ => in_process(words, fault),
     }
 }
 
@@ -51,19 +64,14 @@ pub fn word_of(
 {
     let declared = read_declarations(alloc, bytes, tokens)?;
     let nothing = Layout::new(alloc);
-    let bare = Words {
+    let words = Words {
         alloc,
         bytes,
         tokens,
         sig: &declared.signature,
         layout: &nothing,
     };
-    let layout = layout_of(&bare)?;
-    let words = Words {
-        layout: &layout,
-        ..bare
-    };
-    match sought(&words, fault)? {
+    match sought(words, fault)? {
         Some(found) => Ok(checked(bytes, tokens, fault, found)),
         None => Ok(None),
     }

@@ -82,10 +82,9 @@ fn further_in(words: &Words, spot: Spot) -> Result<Option<Spot>, Mem> {
         return Ok(None);
     };
     match words.layout.definition(words, name)? {
-        Some(at) => Ok(Some(Spot {
-            at,
-            extent: Extent::Whole,
-            used: Some(spot.at),
+        Some(inner) => Ok(Some(Spot {
+            used: Some(inner.used.unwrap_or(spot.at)),
+            ..inner
         })),
         None => Ok(None),
     }
@@ -103,10 +102,10 @@ pub(crate) fn settled(words: &Words, from: Spot) -> Result<Spot, Mem> {
     Ok(spot)
 }
 
-/// Where the file's process begins.
-pub(crate) fn root(words: &Words) -> Result<Spot, Mem> {
+/// The whole process that begins with this word, where its head is written.
+pub(crate) fn process_at(words: &Words, at: usize) -> Result<Spot, Mem> {
     let spot = Spot {
-        at: words.layout.start,
+        at,
         extent: Extent::Whole,
         used: None,
     };
@@ -122,16 +121,12 @@ pub(crate) fn form_at(words: &Words, spot: Spot) -> Form {
     if spot.extent == Extent::Missing || starts_zero(words.bytes, here) {
         return Form::Nil;
     }
-    if words.is(spot.at, "!") {
-        Form::Replicated
-    } else if words.is(spot.at, "if") {
-        Form::If
-    } else if words.is(spot.at, "lookup") {
-        Form::Lookup
-    } else if words.name(spot.at).is_some() {
-        Form::Nil
-    } else {
-        Form::Action
+    match words.text(spot.at) {
+        b"!" => Form::Replicated,
+        b"if" => Form::If,
+        b"lookup" => Form::Lookup,
+        _ if words.name(spot.at).is_some() => Form::Nil,
+        _ => Form::Action,
     }
 }
 
@@ -143,50 +138,10 @@ pub(crate) fn head_word(words: &Words, spot: Spot) -> Found {
     }
 }
 
-// Whether nothing of a head stands from this word on, outside of parentheses.
-fn ends_head(words: &Words, k: usize) -> bool {
-    words.is(k, ";")
-        || words.is(k, ")")
-        || words.is_bar(k)
-        || words.is(k, "then")
-        || words.is(k, "else")
-        || words.is(k, "as")
-        || words.begins_item(k)
-}
-
-/// The word behind what an action, an `if` or a `lookup` has for terms and facts, which begins here.
-pub(crate) fn head_end(words: &Words, at: usize) -> usize {
-    let mut depth: usize = 0;
-    for k in at.saturating_add(1)..words.tokens.len() {
-        if depth == 0 && ends_head(words, k) {
-            return k;
-        }
-        if words.is(k, "(") {
-            depth = depth.saturating_add(1);
-        } else if words.is(k, ")") {
-            depth = depth.saturating_sub(1);
-        }
-    }
-    words.tokens.len()
-}
-
-// What stands below an action, or, behind so many words, below a choice.
-fn behind_terms(words: &Words, spot: Spot, between: Option<usize>) -> Below {
-    let end = head_end(words, spot.at);
-    match between {
-        Some(count) => {
-            let first = spot.behind(Some(end.saturating_add(count)));
-            (first, spot.behind(words.layout.partner(spot.at)))
-        }
-        None => {
-            let next = if words.is(end, ";") { Some(end) } else { None };
-            (spot.behind(next), None)
-        }
-    }
-}
-
 /// What stands below a place whose head is written here.
 pub(crate) fn below(words: &Words, spot: Spot) -> Below {
+    let end = words.layout.end(spot.at);
+    let other = spot.behind(words.layout.partner(spot.at));
     match form_at(words, spot) {
         Form::Nil => (None, None),
         Form::Parallel(bar) => {
@@ -194,8 +149,9 @@ pub(crate) fn below(words: &Words, spot: Spot) -> Below {
             (Some(spot.with(spot.at, Extent::Part)), Some(second))
         }
         Form::Replicated => (spot.behind(Some(spot.at)), None),
-        Form::Action => behind_terms(words, spot, None),
-        Form::If => behind_terms(words, spot, Some(0)),
-        Form::Lookup => behind_terms(words, spot, Some(2)),
+        Form::Action if words.is(end, ";") => (spot.behind(Some(end)), None),
+        Form::Action => (spot.behind(None), None),
+        Form::If => (spot.behind(Some(end)), other),
+        Form::Lookup => (spot.behind(Some(end.saturating_add(2))), other),
     }
 }

@@ -1,13 +1,13 @@
 //! The words of a file by their numbers.
 use crate::items::{begins_item, has_name};
 use crate::layout::Layout;
-use sap_grammar::{beyond, is_lower, name_at, starts};
+use sap_grammar::{beyond, is_lower, name_at};
 use sap_terms::Signature;
 use sap_text::Token;
 use std::alloc::Global;
 
 /// The tokens of some bytes, the signature that they declare, and how their processes lie. Behind the last token nothing stands.
-#[derive(Drop)]
+#[derive(Clone, Copy)]
 pub(crate) struct Words<'a> {
     pub(crate) alloc: Global,
     pub(crate) bytes: &'a [u8],
@@ -17,9 +17,20 @@ pub(crate) struct Words<'a> {
 }
 
 impl<'a> Words<'a> {
+    /// The bytes of word number k.
+    pub(crate) fn text(&self, k: usize) -> &'a [u8] {
+        match self.tokens.get(k) {
+            Some(token) => {
+                let to = (token.to as usize).min(self.bytes.len());
+                &self.bytes[(token.from as usize).min(to)..to]
+            }
+            None => b"",
+        }
+    }
+
     /// Whether word number k is this symbol or reserved word.
     pub(crate) fn is(&self, k: usize, mark: &str) -> bool {
-        starts(self.bytes, beyond(k, self.tokens), mark)
+        self.text(k) == mark.as_bytes()
     }
 
     /// The name that stands there.
@@ -32,9 +43,31 @@ impl<'a> Words<'a> {
         has_name(self.bytes, beyond(k, self.tokens), name)
     }
 
-    /// Whether an item begins with it.
+    /// Whether an item begins with it. Most words differ from those of items in the first byte.
     pub(crate) fn begins_item(&self, k: usize) -> bool {
-        begins_item(self.bytes, beyond(k, self.tokens))
+        match self.text(k) {
+            [b'b' | b'e' | b'f' | b'l' | b'p' | b'r', ..] => {
+                begins_item(self.bytes, beyond(k, self.tokens))
+            }
+            _ => false,
+        }
+    }
+
+    /// Whether it begins the head of an action or a choice: the `in` of a look-up doesn't.
+    pub(crate) fn begins_head(&self, k: usize) -> bool {
+        match self.text(k) {
+            b"new" | b"out" | b"event" | b"insert" | b"delete" | b"lock" | b"unlock" | b"[" => true,
+            b"in" => !self.is(k.saturating_sub(2), "as"),
+            _ => self.is_choice(k),
+        }
+    }
+
+    /// Whether nothing of a head stands from this word on, outside of parentheses.
+    pub(crate) fn ends_head(&self, k: usize) -> bool {
+        match self.text(k) {
+            b";" | b")" | b"|" | b"||" | b"then" | b"else" | b"as" => true,
+            _ => self.begins_item(k),
+        }
     }
 
     /// Whether a parenthesis opens behind word number k.
