@@ -28,8 +28,8 @@ fn push_place(text: &mut Text, path: &[u8]) -> Result<(), Mem>
     }
 }
 
-// The thread by its number, and where it stands.
-fn push_thread(text: &mut Text, paths: &ThreadPaths, t: u64) -> Result<(), Mem>
+/// Puts a thread last, by its number and where it stands. Where memory is wanting, the first of it may stand there.
+pub fn push_thread(text: &mut Text, paths: &ThreadPaths, t: u64) -> Result<(), Mem>
     ensures { OnOk result (text.new ≡ text.old ++ thread_text paths.now t) }
 {
     text.push_bytes(b"thread ")?;

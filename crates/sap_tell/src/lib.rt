@@ -8,7 +8,7 @@ mod thread_paths;
 mod told_by_hand;
 mod told_laws;
 
-pub use actor::push_actor;
+pub use actor::{push_actor, push_thread};
 pub use escaped::push_escaped;
 pub use laws::{escaped_by_hand, escaped_stands_for_one};
 pub use thread_paths::ThreadPaths;

@@ -19,6 +19,7 @@ use Rattle.sap_terms.specs.Tree.{Tree}
 use Rattle.sap_terms.specs.declared.fact.Fact.{Fact}
 use Rattle.sap_tell.specs.ThreadPaths.{paths_after}
 use Rattle.sap_tell.specs.Told.{IsToldLine, IsToldRun}
+use Rattle.sap_tell.specs.ToldText.{outcomes_text}
 use Rattle.sap_teller.specs.declared.telling.Along.{Along}
 
 -- the line is possible within the limit, leads from one to the other and shows this, and the text tells it, where it has this number and
@@ -34,6 +35,16 @@ pub record IsToldOn (r z : Running) (a b : Along) (before after : List ℕ) (ste
   pub told : List ℕ
   pub done : IsDoneAndTold r z (a.lines + 1) a.paths step label told
   pub text : after ≡ before ++ (told ++ 10 ∷ [])
+  pub paths : b.paths ≡ paths_after a.paths step
+  pub lines : b.lines ≡ a.lines + 1
+  pub facts : b.facts ≡ length z.facts
+
+-- The same without the line feed; and what is done comes last of another text, with what comes of it beside what is shown and known.
+pub record IsToldApart (r z : Running) (a b : Along) (before after apart_before apart_after : List ℕ) (step : PStep) (label : List Fact) : Type 0 where
+  pub told : List ℕ
+  pub done : IsDoneAndTold r z (a.lines + 1) a.paths step label told
+  pub text : after ≡ before ++ told
+  pub apart : apart_after ≡ apart_before ++ (done.told.doing ++ outcomes_text done.told.outcomes)
   pub paths : b.paths ≡ paths_after a.paths step
   pub lines : b.lines ≡ a.lines + 1
   pub facts : b.facts ≡ length z.facts

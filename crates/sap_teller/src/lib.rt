@@ -9,5 +9,5 @@ mod outcomes;
 mod telling;
 mod told_run;
 
-pub use telling::{Along, tell_line};
-pub use told_run::{ToldRun, Untold, tell_run};
+pub use telling::{Along, tell_line, tell_line_apart};
+pub use told_run::{ToldRun, Untold, at_line, started, tell_run};

@@ -1,13 +1,13 @@
 //! Lines that are done and told.
-ghost use Rattle.std.specs.Prelude.{◌≡◌, ◌+◌, ◌<◌, ◌++◌, ℕ, IfOk, IfErr, OnOk, length, slice_get};
+ghost use Rattle.std.specs.Prelude.{◌≡◌, ◌+◌, ◌<◌, [], ◌∷◌, ◌++◌, ℕ, IfOk, IfErr, OnOk, length, slice_get};
 ghost use Rattle.sap_calc.specs.Running.{configuration, IsDenied};
 ghost use Rattle.sap_deduce.specs.Entries.{terms_of};
 ghost use Rattle.sap_lines.specs.Answers.{MatchesExactly};
-ghost use Rattle.sap_teller.specs.Telling.{IsToldOn};
+ghost use Rattle.sap_teller.specs.Telling.{IsToldApart, IsToldOn};
 ghost use Rattle.sap_tell.specs.ThreadPaths.{paths_after};
 ghost use Rattle.sap_tell.specs.ToldText.{actor_text};
 ghost use Rattle.sap_teller.specs.code.Heads.{added_by};
-ghost use Rattle.sap_teller.specs.code.Lines.{body_text, numbered_text, IsToldFrom};
+ghost use Rattle.sap_teller.specs.code.Lines.{apart_text, body_text, numbered_text, IsToldApartFrom, IsToldFrom};
 
 use crate::before::{Before, kept_before};
 use crate::doing::{Doing, push_action};
@@ -66,6 +66,20 @@ fn added_by(step: &PStep, kept: &Before) -> u64
 }
 
 impl Along {
+    /// Before the first line.
+    pub fn start(alloc: Global) -> Result<Along, Mem>
+        ensures paths { IfOk result (λ a. a.paths ≡ [] ∷ []) }
+        ensures lines { IfOk result (λ a. a.lines ≡ 0) }
+        ensures facts { IfOk result (λ a. a.facts ≡ 0) }
+    {
+        let paths = ThreadPaths::first(alloc)?;
+        Ok(Along {
+            paths,
+            lines: 0,
+            facts: 0,
+        })
+    }
+
     // Goes on by a line.
     fn go_on(&mut self, alloc: Global, step: &PStep, kept: &Before) -> Result<(), Mem>
         requires { self.old.lines < u64.MAX }
@@ -129,6 +143,69 @@ pub fn tell_line(
         Ok(kept) => match config.step(alloc, step) {
             Err(fault) => Err(fault),
             Ok(label) => match tell(alloc, sig, config, at, &kept, step, &label, text) {
+                Err(_) => Err(PFault::Mem),
+                Ok(()) => Ok(label),
+            },
+        },
+    }
+}
+
+// What is done, and what comes of it beside what is shown and known.
+fn push_apart(text: &mut Text, label: &FactList, doing: &Doing) -> Result<(), Mem>
+    ensures { OnOk result (text.new ≡ text.old ++ apart_text label.now doing.now) }
+{
+    push_action(text, label, doing)?;
+    push_outcomes(text, true, doing)
+}
+
+// Tells a line that was done, and apart from it what it does, and goes on.
+fn tell_apart(
+    alloc: Global,
+    sig: &Signature,
+    config: &Config,
+    at: &mut Along,
+    kept: &Before,
+    step: &PStep,
+    label: &FactList,
+    text: &mut Text,
+    apart: &mut Text,
+) -> Result<(), Mem>
+    requires sig { config.now.sig ≡ sig.now }
+    requires lines { at.old.lines < u64.MAX }
+    ensures { OnOk result (IsToldApartFrom kept.now config.now step.now label.now at.old at.new text.old text.new apart.old apart.new) }
+{
+    let doing = found_out(alloc, sig, config, kept, step)?;
+    push_start(text, &at.paths, at.lines + 1, step)?;
+    push_body(text, config, kept.entries, label, &doing)?;
+    push_apart(apart, label, &doing)?;
+    at.go_on(alloc, step, kept)
+}
+
+/// Does one line, and puts last what is told of it, without a line feed, and last of the other text what it does, with what comes of
+/// it beside what is shown and known; gives its label. All else is as `tell_line` has it.
+pub fn tell_line_apart(
+    alloc: Global,
+    sig: &Signature,
+    config: &mut Config,
+    at: &mut Along,
+    step: &PStep,
+    text: &mut Text,
+    apart: &mut Text,
+) -> Result<FactList, PFault>
+    requires sig { config.old.sig ≡ sig.now }
+    requires exact { MatchesExactly sig.now (configuration config.old) (terms_of config.old.known) }
+    requires facts { at.old.facts ≡ length config.old.facts }
+    requires lines { at.old.lines < u64.MAX }
+    ensures ok { IfOk result (λ label. IsToldApart config.old config.new at.old at.new text.old text.new apart.old apart.new step.now label) }
+    ensures refused { IfErr result (IsDenied config.old step.now) }
+{
+    match kept_before(alloc, config, at.facts, step) {
+        Err(_) => Err(PFault::Mem),
+        Ok(kept) => match config.step(alloc, step) {
+            Err(fault) => Err(fault),
+            Ok(label) => match tell_apart(
+                alloc, sig, config, at, &kept, step, &label, text, apart,
+            ) {
                 Err(_) => Err(PFault::Mem),
                 Ok(()) => Ok(label),
             },

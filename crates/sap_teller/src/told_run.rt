@@ -19,7 +19,7 @@ use sap_calc::Config;
 use sap_lines::{PFault, limit_excludes, runs_match_exactly};
 use sap_process::Process;
 use sap_runs::{PStep, PSteps};
-use sap_tell::{ThreadPaths, legal_runs_are_told};
+use sap_tell::legal_runs_are_told;
 use sap_terms::{FactList, Mem, Signature, Trace};
 use sap_text::Text;
 use std::alloc::Global;
@@ -48,8 +48,8 @@ pub struct ToldRun {
     pub trace: Trace,
 }
 
-// The cause at the line with this number.
-fn at_line(number: u64, fault: PFault) -> Untold
+/// The cause at the line with this number.
+pub fn at_line(number: u64, fault: PFault) -> Untold
     ensures { (n : ℕ) (e : Fault) → result ≡ untold.Line n e → (n ≡ number) × (e ≡ fault) × ¬ (e ≡ OutOfMemory) }
 {
     match fault {
@@ -95,22 +95,8 @@ fn tell_next(
     }
 }
 
-// Before the first line.
-fn beginning(alloc: Global) -> Result<Along, Mem>
-    ensures paths { IfOk result (λ a. a.paths ≡ [] ∷ []) }
-    ensures lines { IfOk result (λ a. a.lines ≡ 0) }
-    ensures facts { IfOk result (λ a. a.facts ≡ 0) }
-{
-    let paths = ThreadPaths::first(alloc)?;
-    Ok(Along {
-        paths,
-        lines: 0,
-        facts: 0,
-    })
-}
-
-// Where the process runs, and nothing else is there.
-fn started(alloc: Global, sig: &Signature, p: &Process) -> Result<Box<Config>, Mem>
+/// Where the process runs as thread 0, and nothing else is there. It recurses as deep as the process and its terms.
+pub fn started(alloc: Global, sig: &Signature, p: &Process) -> Result<Box<Config>, Mem>
     requires { IsReady sig.now (proc p.now) }
     ensures sig { IfOk result (λ c. c.value.sig ≡ sig.now) }
     ensures known { IfOk result (λ c. c.value.known ≡ []) }
@@ -138,7 +124,7 @@ pub fn tell_run(
     runs_match_exactly();
     legal_runs_are_told();
     let mut config = started(alloc, sig, p)?;
-    let mut at = beginning(alloc)?;
+    let mut at = Along::start(alloc)?;
     let mut told = ToldRun {
         text: Text::new(alloc),
         trace: Trace::new(alloc),

@@ -6,7 +6,7 @@ use Rattle.sap_lines.specs.Answers.{MatchesExactly}
 use Rattle.sap_runs.specs.declared.process_step.PStep.{PStep}
 use Rattle.sap_terms.specs.Tree.{Tree}
 use Rattle.sap_terms.specs.declared.fact.Fact.{Fact}
-use Rattle.sap_teller.specs.Telling.{IsToldOn}
+use Rattle.sap_teller.specs.Telling.{IsToldApart, IsToldOn}
 use Rattle.sap_teller.specs.code.Doings.{action_of, outcomes_of}
 use Rattle.sap_teller.specs.code.Heads.{IsBefore}
 use Rattle.sap_teller.specs.code.Outcomes.{outcomes_from, shown_texts}
@@ -26,3 +26,12 @@ body_text label k o x = action_of label x ++ outcomes_from true (shown_texts lab
 abbrev pub IsToldFrom : Before → Running → PStep → List Fact → Along → Along → List ℕ → List ℕ → Type 0
 IsToldFrom kept z step label a b before after =
     (r : Running) → MatchesExactly r.sig (configuration r) (terms_of r.known) → IsBefore r step kept → IsDone r z step label → IsToldOn r z a b before after step label
+
+-- what is done, with what comes of it beside what is shown and known
+abbrev pub apart_text : List Fact → Doing → List ℕ
+apart_text label x = action_of label x ++ outcomes_from true (outcomes_of x)
+
+-- from wherever this was kept and the line was done, it is told, and told apart
+abbrev pub IsToldApartFrom : Before → Running → PStep → List Fact → Along → Along → List ℕ → List ℕ → List ℕ → List ℕ → Type 0
+IsToldApartFrom kept z step label a b before after apart_before apart_after =
+    (r : Running) → MatchesExactly r.sig (configuration r) (terms_of r.known) → IsBefore r step kept → IsDone r z step label → IsToldApart r z a b before after apart_before apart_after step label

@@ -1,0 +1,51 @@
+-- What isn't a chart, tried by hand.
+use Rattle.std.proofs.Common.{◌≡◌, ℕ, true, false, true≢false, codes, List, [], ◌∷◌, ◌++◌, length, get_or, nat_eq, refl, sym, ap, ◌∙◌, arith}
+use Rattle.std.proofs.Common.{length-append}
+use Rattle.std.specs.Fmt.{digits}
+use Rattle.std.specs.Str.{bytes_eq}
+use Rattle.sap_process.specs.Configuration.{Config}
+use Rattle.sap_process.specs.Proc.{Proc}
+use Rattle.sap_runs.specs.Marks.{Mark}
+use Rattle.sap_runs.specs.declared.process_step.PStep.{PStep}
+use Rattle.sap_terms.specs.Signature.{Sig}
+use Rattle.sap_terms.specs.Trace.{Trace}
+use Rattle.sap_terms.specs.Tree.{Tree}
+use Rattle.sap_tell.specs.Escaped.{escaped_byte}
+use Rattle.sap_chart.specs.Chart as drawn
+use Rattle.sap_chart.specs.Chart.{IsChart, IsDrawnRun}
+use Rattle.sap_chart.specs.ChartExamples.{empty_chart, out_row, two_lifelines}
+use Rattle.sap_chart.specs.ChartText.{chart_text, row_text}
+use Rattle.sap_chart.specs.Rows.{Row}
+use Rattle.sap_chart.specs.WellFormed.{IsDocument, document}
+
+-- the run with no line has no row
+no_rows : {g : Sig} {p : Proc} {lines : List PStep} {c : Config} {es : List Tree} {tr : Trace} {marks : List Mark} {rows : List Row}
+    → IsDrawnRun g p lines c es tr marks rows → lines ≡ [] → rows ≡ []
+no_rows drawn.starts e = refl
+no_rows (drawn.further {lines = before} step inner label told h l t) e = let n : length (before ++ step ∷ []) ≡ length {A = PStep} [] = ap length e in absurd (omega (arith, length-append before (step ∷ [])))
+
+-- its chart isn't nothing
+begins_so : chart_text [] ≡ empty_chart
+unfolding digits escaped_byte
+begins_so = refl
+
+pub not_nothing : (g : Sig) (p : Proc) (tr : Trace) → ¬ IsChart g p [] tr []
+not_nothing g p tr h =
+    let e : [] ≡ empty_chart = h.written ∙ ap chart_text (no_rows h.drawn refl) ∙ begins_so in
+    absurd (true≢false (ap (λ (t : List ℕ). bytes_eq [] t) e))
+
+-- an arrow isn't drawn the wrong way round
+abbrev turned : List ℕ
+turned = codes "<g transform='translate(0,100)'><title>8. thread 2 at 111: out(pk(~1)) -- knows 0: pk(~1)</title><text x='10' y='4'>8. thread 2</text><text x='212' y='4' text-anchor='end'>knows 0</text><line x1='220' x2='380' stroke='black' marker-end='url(#arrow)'/><g transform='translate(220,0)'><rect x='8' y='-16' height='13' fill='white' width='85'/><text x='12' y='-5'>out(pk(~1))</text></g></g>\n"
+
+pub not_turned : ¬ (row_text two_lifelines 1 out_row ≡ turned)
+unfolding digits escaped_byte
+not_turned e = absurd (true≢false (sym (ap (λ (t : List ℕ). bytes_eq t turned) e)))
+
+no_document : {t : List ℕ} → IsDocument t → t ≡ codes "a" → ⊥
+no_document (document name ok a c) e =
+    let h : 60 ≡ 97 = ap (λ (t : List ℕ). get_or t 0 0) e in
+    absurd (true≢false (ap (λ n. nat_eq n 60) h))
+
+pub no_mark : ¬ IsDocument (codes "a")
+no_mark h = no_document h refl

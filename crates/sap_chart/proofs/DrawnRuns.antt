@@ -1,0 +1,130 @@
+-- Runs that are drawn line by line.
+use Rattle.std.proofs.Common.{◌≡◌, ◌≤◌, ◌+◌, ℕ, List, [], ◌∷◌, ◌++◌, fold, length, take, drop, Some, refl, sym, ap, subst, ◌∙◌, slice_get, zero, suc, add-one, arith}
+use Rattle.std.proofs.Common.{length-append}
+use Rattle.sap_calc.specs.Running.{Running, configuration, IsDenied}
+use Rattle.sap_deduce.specs.Entries.{terms_of}
+use Rattle.sap_lines.specs.Answers.{MatchesExactly, RunsMatchExactly}
+use Rattle.sap_lines.specs.Runs.{SmallProcessRunsAreLegal}
+use Rattle.sap_lines.specs.declared.fault.PFault.{PFault}
+use Rattle.sap_process.specs.Configuration.{Config, initial}
+use Rattle.sap_process.specs.Proc.{Proc}
+use Rattle.sap_process.specs.Ready.{IsReady}
+use Rattle.sap_runs.specs.Limits.{HasFewNodes}
+use Rattle.sap_runs.specs.Marks.{Mark, marks_of}
+use Rattle.sap_runs.specs.declared.process_step.PStep.{PStep}
+use Rattle.sap_terms.specs.Signature.{Sig, HoldsBuiltins}
+use Rattle.sap_terms.specs.Trace.{Trace}
+use Rattle.sap_terms.specs.Tree.{Tree}
+use Rattle.sap_tell.specs.ThreadPaths.{paths_from, paths_after, thread_paths}
+use Rattle.sap_tell.specs.Told.{IsToldLine}
+use Rattle.sap_tell.specs.ToldLaws.{ToldRunsAreLegal}
+use Rattle.sap_tell.specs.ToldText.{actor_text, line_text, outcomes_text, seen_texts}
+use Rattle.sap_teller.specs.Telling.{IsFirstRefusedLine}
+use Rattle.sap_teller.specs.declared.telling.Along.{Along}
+use Rattle.sap_chart.specs.Chart as drawn
+use Rattle.sap_chart.specs.Chart.{IsChart, IsCharted, IsDrawnRun}
+use Rattle.sap_chart.specs.ChartText.{chart_text, rows_text, with_lifeline}
+use Rattle.sap_chart.specs.Rows.{Row, figure_of, new_entry, rows_of, rows_with}
+use Rattle.sap_chart.specs.code.Drawing.{IsNextDrawn, IsDeniedAt, drawn_text, threads_in}
+use Rattle.sap_chart.specs.declared.chart.Drawing.{Drawing}
+use Rattle.sap_chart.proofs.LegalDrawn.{legal_too}
+use Rattle.sap_chart.proofs.Columns.{IsDrawing, no_drawing, next_drawing, all_drawing}
+
+-- so far the lines are a run that is drawn
+pub record IsDrawnSoFar (g : Sig) (p : Proc) (lines : List PStep) (z : Running) (a : Along) (d : Drawing) : Type 0 where
+  pub marks : List Mark
+  pub rows : List Row
+  pub run : IsDrawnRun g p lines (configuration z) (terms_of z.known) d.trace marks rows
+  pub sig : z.sig ≡ g
+  pub count : a.lines ≡ length lines
+  pub paths : a.paths ≡ thread_paths lines
+  pub facts : a.facts ≡ length z.facts
+  pub drawing : IsDrawing d.lifelines.entries d.body d.rows rows
+
+paths_more : (paths : List (List ℕ)) (lines : List PStep) (step : PStep) → paths_from paths (lines ++ step ∷ []) ≡ paths_after (paths_from paths lines) step
+paths_more paths [] step = refl
+paths_more paths (s ∷ ss) step = paths_more (paths_after paths s) ss step
+
+module _ (legal : ToldRunsAreLegal) (g : Sig) (p : Proc) where
+  -- before the first line
+  pub none_drawn : (z : Running) (a : Along) (d : Drawing) → z.sig ≡ g → z.known ≡ [] → configuration z ≡ initial p → a.paths ≡ [] ∷ [] → a.lines ≡ 0 → a.facts ≡ 0 → d.lifelines.entries ≡ [] → d.body ≡ [] → d.rows ≡ 0 → d.trace ≡ [] → IsDrawnSoFar g p [] z a d
+  none_drawn z a d sig known start paths lines facts lifelines body rows trace = record {
+    marks = [];
+    rows = [];
+    run = rw (start, known, trace) drawn.starts;
+    sig = sig;
+    count = lines;
+    paths = paths;
+    facts = facts ∙ sym (ap (λ c. length c.facts) start);
+    drawing = rw (lifelines, body, rows) no_drawing;
+  }
+
+  -- one more
+  pub more_drawn : (lines : List PStep) (y z : Running) (a b : Along) (d e : Drawing) (step : PStep) → IsDrawnSoFar g p lines y a d → IsNextDrawn y z a b d e step → IsDrawnSoFar g p (lines ++ step ∷ []) z b e
+  more_drawn lines y z a b d e step h n =
+      let done = n.done.done in
+      let t = done.told in
+      let entry = new_entry (terms_of y.known) (terms_of z.known) in
+      let here = t.doing ++ outcomes_text t.outcomes in
+      let number : a.lines + 1 ≡ length lines + 1 = ap (λ k. k + 1) h.count in
+      let line : IsToldLine g (length lines + 1) (thread_paths lines) (configuration y) (terms_of y.known) step done.inner n.label (terms_of z.known) n.told = record {
+        doing = t.doing;
+        outcomes = t.outcomes;
+        done = rw (← h.sig) t.done;
+        written = n.done.text ∙ t.written ∙ (λ i. line_text (number i) (actor_text (h.paths i) step) t.doing (seen_texts n.label (terms_of y.known) (terms_of z.known) ++ t.outcomes));
+      } in
+      let row : rows_with (a.lines + 1) [] entry n.told n.apart (figure_of step) ≡ rows_with (length lines + 1) [] entry n.told here (figure_of step) = (λ i. rows_with (number i) [] entry n.told (n.done.apart i) (figure_of step)) in
+      record {
+        marks = h.marks ++ marks_of done.inner n.label;
+        rows = h.rows ++ rows_of (length lines + 1) (thread_paths lines) entry step n.told here;
+        run = rw n.trace (drawn.further {d = configuration z} {fs = terms_of z.known} step done.inner n.label n.told h.run (rw (← h.sig) done.line) line);
+        sig = done.sig ∙ h.sig;
+        count = n.done.lines ∙ number ∙ sym (length-append lines (step ∷ []));
+        paths = n.done.paths ∙ ap (λ ps. paths_after ps step) h.paths ∙ sym (paths_more ([] ∷ []) lines step);
+        facts = n.done.facts;
+        drawing = next_drawing d.lifelines.entries e.lifelines.entries d.body e.body d.rows e.rows h.rows (length lines + 1) (thread_paths lines) entry n.told here (figure_of step) h.drawing
+            (n.lifelines ∙ ap (λ ps. fold with_lifeline d.lifelines.entries (threads_in ps (figure_of step))) h.paths)
+            (n.body ∙ ap (λ rs. d.body ++ rows_text e.lifelines.entries d.rows rs) row)
+            (n.rows ∙ ap (λ rs. d.rows + length rs) row);
+      }
+
+  -- what lines match there is matched exactly
+  pub drawn_exactly : RunsMatchExactly → SmallProcessRunsAreLegal → HoldsBuiltins g → IsReady g p → (lines : List PStep) (z : Running) (a : Along) (d : Drawing) → IsDrawnSoFar g p lines z a d → MatchesExactly g (configuration z) (terms_of z.known)
+  drawn_exactly exact small builtins ready lines z a d h =
+      exact g p lines (configuration z) (terms_of z.known) d.trace h.marks builtins ready (small g p lines (configuration z) (terms_of z.known) d.trace h.marks (legal_too legal h.run))
+
+  -- all lines are drawn
+  pub all_charted : (lines : List PStep) (z : Running) (a : Along) (d : Drawing) (before after : List ℕ) → IsDrawnSoFar g p lines z a d → after ≡ before ++ drawn_text d.lifelines.entries d.rows d.body → IsCharted g p lines d.trace before after
+  all_charted lines z a d before after h same = record {
+    chart = chart_text h.rows;
+    is = record { config = configuration z; entries = terms_of z.known; marks = h.marks; rows = h.rows; drawn = h.run; written = refl };
+    grows = same ∙ ap (λ t. before ++ t) (all_drawing d.lifelines.entries d.body d.rows h.rows h.drawing);
+  }
+
+  cut_at : {X : Type 0} (xs : List X) (k : ℕ) (x : X) → slice_get xs k ≡ Some x → xs ≡ take k xs ++ x ∷ drop (k + 1) xs
+  cut_at [] k x h = cc
+  cut_at (y ∷ ys) zero x h = let same : y ≡ x = cc in ap (λ z. z ∷ ys) same
+  cut_at (y ∷ ys) (suc k) x h = let rest = rw (add-one k) at (cut_at ys k x h) in rw (add-one (suc k)) (ap (λ zs. y ∷ zs) rest)
+
+  -- the first line that is refused
+  pub first_refused : (run : List PStep) (k : ℕ) (step : PStep) → slice_get run k ≡ Some step → (z : Running) (a : Along) (d : Drawing) → IsDrawnSoFar g p (take k run) z a d → (n : ℕ) (fault : PFault) → IsDeniedAt z step (a.lines + 1) n fault → IsFirstRefusedLine g p run n fault
+  first_refused run k step at z a d h n fault r = record {
+    before = take k run;
+    line = step;
+    after = drop (k + 1) run;
+    cut = cut_at run k step at;
+    counts = r.same ∙ ap (λ i. i + 1) h.count;
+    config = configuration z;
+    entries = terms_of z.known;
+    trace = d.trace;
+    marks = h.marks;
+    legal = legal_too legal h.run;
+    refused = rw (← h.sig) r.denied;
+    cause = r.cause;
+  }
+
+pub take_all : {X : Type 0} (xs : List X) (k : ℕ) → length xs ≤ k → take k xs ≡ xs
+take_all [] zero h = refl
+take_all [] (suc k) h = refl
+take_all (x ∷ xs) zero h = absurd (omega arith)
+take_all (x ∷ xs) (suc k) h = ap (λ zs. x ∷ zs) (take_all xs k (omega arith))

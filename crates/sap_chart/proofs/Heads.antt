@@ -1,0 +1,32 @@
+-- Lifelines are written one behind the other.
+use Rattle.std.proofs.Common.{◌≡◌, ◌<◌, ◌+◌, ℕ, length, List, [], ◌∷◌, ◌++◌, zero, suc, take, Some, slice_get, refl, sym, ap, ◌∙◌, append_assoc, add-one, arith}
+use Rattle.std.proofs.lemmas.List.{append-nil}
+use Rattle.sap_chart.specs.ChartText.{Lifeline, head_text, heads_text}
+use Rattle.sap_chart.specs.code.Drawing.{IsHeadPushed}
+
+-- one more of them
+heads_next : (column : ℕ) (ls : List Lifeline) (k : ℕ) (l : Lifeline) → slice_get ls k ≡ Some l
+    → heads_text column (take (k + 1) ls) ≡ heads_text column (take k ls) ++ head_text (column + k) l.1
+heads_next column [] k l h = cc
+heads_next column (m ∷ ms) zero l h =
+    let e : m ≡ l = cc in
+    let c : column ≡ column + zero = omega arith in
+    append-nil (head_text column m.1) ∙ (λ i. head_text (c i) ((e i).1))
+heads_next column (m ∷ ms) (suc k) l h =
+    let rest = rw (add-one k) at (heads_next (column + 1) ms k l h) in
+    let c : column + 1 + k ≡ column + suc k = omega arith in
+    rw (add-one (suc k)) (ap (λ z. head_text column m.1 ++ z) rest ∙ sym (append_assoc (head_text column m.1) (heads_text (column + 1) (take k ms)) (head_text (column + 1 + k) l.1))
+    ∙ ap (λ n. (head_text column m.1 ++ heads_text (column + 1) (take k ms)) ++ head_text n l.1) c)
+
+got : (ls : List Lifeline) (k : ℕ) → k < length ls → (l : Lifeline) × (slice_get ls k ≡ Some l)
+got [] k h = absurd (omega arith)
+got (l ∷ ls) zero h = (l, refl)
+got (l ∷ ls) (suc k) h = got ls k (omega arith)
+
+pub heads_pushed : (ls : List Lifeline) (k : ℕ) (start text new : List ℕ) → k < length ls
+    → text ≡ start ++ heads_text 1 (take k ls) → IsHeadPushed ls k text new → new ≡ start ++ heads_text 1 (take (k + 1) ls)
+heads_pushed ls k start text new within e n =
+    let g = got ls k within in
+    let l = g.0 in
+    let c : k + 1 ≡ 1 + k = omega arith in
+    n l g.1 ∙ (λ i. e i ++ head_text (c i) l.1) ∙ append_assoc start (heads_text 1 (take k ls)) (head_text (1 + k) l.1) ∙ ap (λ z. start ++ z) (sym (heads_next 1 ls k l g.1))

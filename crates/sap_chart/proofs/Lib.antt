@@ -1,0 +1,9 @@
+mod Pushed
+mod Found
+mod Heads
+mod Columns
+mod LegalDrawn
+mod DrawnRuns
+mod NextDrawn
+mod Formed
+mod ChartsByHand

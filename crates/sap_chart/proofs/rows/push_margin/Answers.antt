@@ -1,0 +1,15 @@
+use Rattle.std.proofs.Common.{◌≡◌, ◌+◌, ◌*◌, ℕ, codes, decimal, length, min, List, [], ◌∷◌, ◌++◌, ap, ◌∙◌, sym}
+use Rattle.sap_tell.specs.Escaped.{escaped}
+use Rattle.sap_chart.proofs.Pushed.{ok_along, behind, behind_two}
+use Rattle.sap_chart.specs.ChartText.{who_text}
+use Rattle.sap_chart.proofs.rows.push_margin.Goals as goal
+
+pub returns : goal.returns
+returns c =
+    let who = who_text c.args.figure in
+    let end = codes "</text>" in
+    ok_along c.push_bytes-2.result c.push_bytes-2.new.self _ _
+    (behind c.push_bytes.new.self c.push_who.new.text who end c.in_ok-push_who.ensures
+    ∙ behind c.push_numbered.new.text c.push_bytes.new.self (codes ". ") (who ++ end) c.in_ok-push_bytes.ensures.ok
+    ∙ behind_two c.args.text.now c.push_numbered.new.text (codes "<text x='10' y='4'>") (decimal c.args.number) (codes ". " ++ (who ++ end)) c.in_ok-push_numbered.ensures)
+    c.push_bytes-2.ensures.ok

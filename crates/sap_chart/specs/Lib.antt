@@ -1,0 +1,7 @@
+pub mod Rows
+pub mod ChartText
+pub mod Chart
+pub mod ChartLaws
+pub mod WellFormed
+pub mod ChartExamples
+pub mod code

@@ -1,0 +1,70 @@
+-- What a chart shows of a line: which figure, who is in it, and which texts stand at it.
+use Rattle.std.specs.Prelude.{◌≡◌, ℕ, ◌+◌, ◌<◌, ◌≤◌, nat_le, nat_lt, codes, List, [], ◌∷◌, ◌++◌, length, take, Option, Some, None, if◌then◌else◌}
+use Rattle.sap_runs.specs.declared.process_step.PStep.{PStep}
+use Rattle.sap_runs.specs.declared.process_step.PStep.TheVariants as line
+use Rattle.sap_terms.specs.Tree.{Tree}
+use Rattle.sap_tell.specs.ToldText.{outcomes_text}
+use Rattle.sap_chart.specs.declared.figure.Figure.{Figure}
+use Rattle.sap_chart.specs.declared.figure.Figure.TheVariants as figure
+
+-- the figure of a line; none where threads only begin or end
+abbrev pub figure_of : PStep → Option Figure
+figure_of (line.Nil t) = None
+figure_of (line.Par t) = None
+figure_of (line.Rep t) = None
+figure_of (line.New t n) = Some (figure.Does t)
+figure_of (line.Out t) = Some (figure.Puts t)
+figure_of (line.Send t k) = Some (figure.Puts t)
+figure_of (line.In t k) = Some (figure.Takes t)
+figure_of (line.Sync s t) = Some (figure.Meets s t)
+figure_of (line.Then t) = Some (figure.Does t)
+figure_of (line.Else t) = Some (figure.Does t)
+figure_of (line.Event t) = Some (figure.Shows t)
+figure_of (line.Insert t) = Some (figure.Stores t)
+figure_of (line.Delete t) = Some (figure.Stores t)
+figure_of (line.Found t) = Some (figure.Stores t)
+figure_of (line.Missing t) = Some (figure.Stores t)
+figure_of (line.Lock t) = Some (figure.Locks t)
+figure_of (line.Unlock t) = Some (figure.Locks t)
+figure_of (line.Embedded t ks b) = Some (figure.Does t)
+figure_of (line.Name n) = Some figure.Makes
+figure_of (line.Public a) = Some figure.Makes
+figure_of (line.Apply f ks) = Some figure.Makes
+figure_of (line.Know k) = Some figure.Makes
+
+-- the threads in it
+abbrev pub threads_of : Figure → List ℕ
+threads_of (figure.Puts t) = t ∷ []
+threads_of (figure.Takes t) = t ∷ []
+threads_of (figure.Meets s t) = s ∷ t ∷ []
+threads_of (figure.Shows t) = t ∷ []
+threads_of (figure.Stores t) = t ∷ []
+threads_of (figure.Locks t) = t ∷ []
+threads_of (figure.Does t) = t ∷ []
+threads_of figure.Makes = []
+
+-- A line that is drawn: its number, where threads stand, its figure, the entry that is known from then on, if there is one, the told
+-- line, and what is done with what comes of it beside what is shown and known.
+pub record Row : Type 0 where
+  pub number : ℕ
+  pub paths : List (List ℕ)
+  pub figure : Figure
+  pub entry : Option ℕ
+  pub told : List ℕ
+  pub label : List ℕ
+
+-- the number of the entry that is there behind a line and wasn't before
+abbrev pub new_entry : List Tree → List Tree → Option ℕ
+new_entry es fs = if nat_lt (length es) (length fs) then Some (length es) else None
+
+-- the row of a line, if it has a figure
+abbrev pub rows_with : ℕ → List (List ℕ) → Option ℕ → List ℕ → List ℕ → Option Figure → List Row
+rows_with number paths entry told label None = []
+rows_with number paths entry told label (Some f) = record { number = number; paths = paths; figure = f; entry = entry; told = told; label = label } ∷ []
+
+abbrev pub rows_of : ℕ → List (List ℕ) → Option ℕ → PStep → List ℕ → List ℕ → List Row
+rows_of number paths entry step told label = rows_with number paths entry told label (figure_of step)
+
+-- at most so many bytes of a text: of a longer one the first, and two full stops
+abbrev pub shortened : ℕ → List ℕ → List ℕ
+shortened most text = if nat_le (length text) (most + 2) then text else take most text ++ codes ".."

@@ -1,0 +1,3 @@
+-- What the code of this crate speaks of: how far a chart is drawn.
+-- No theorem speaks of it.
+pub mod Drawing

@@ -1,0 +1,103 @@
+//! Runs that are drawn.
+ghost use Rattle.std.specs.Prelude.{◌≡◌, ◌+◌, ◌<◌, ℕ, Err, IfOk, OnOk, if◌then◌else◌, length, nat_lt};
+ghost use Rattle.sap_calc.specs.Running.{configuration};
+ghost use Rattle.sap_deduce.specs.Entries.{terms_of};
+ghost use Rattle.sap_lines.specs.Answers.{MatchesExactly};
+ghost use Rattle.sap_lines.specs.declared.fault.PFault.{PFault as Fault};
+ghost use Rattle.sap_process.specs.Proc.{proc};
+ghost use Rattle.sap_process.specs.Ready.{IsReady};
+ghost use Rattle.sap_terms.specs.Signature.{HoldsBuiltins};
+ghost use Rattle.sap_teller.specs.Telling.{IsFirstRefusedLine};
+ghost use Rattle.sap_teller.specs.declared.told_run.Untold.TheVariants as untold;
+ghost use Rattle.sap_chart.specs.Chart.{IsCharted};
+ghost use Rattle.sap_chart.specs.code.Drawing.{IsDeniedAt, IsNextDrawn};
+
+use crate::chart::Drawing;
+use crate::figure::figure_of;
+use sap_calc::Config;
+use sap_lines::{limit_excludes, runs_match_exactly};
+use sap_process::Process;
+use sap_runs::{PStep, PSteps};
+use sap_tell::legal_runs_are_told;
+use sap_teller::{Along, Untold, at_line, started, tell_line_apart};
+use sap_terms::{Mem, Signature, Trace};
+use sap_text::Text;
+use std::alloc::Global;
+
+// The number of the entry that is there behind a line and wasn't before.
+fn new_entry(before: u64, after: u64) -> Option<u64>
+    ensures { result ≡ (if nat_lt before after then Some before else None) }
+{
+    if before < after { Some(before) } else { None }
+}
+
+// Does one line, and draws it.
+fn draw_next(
+    alloc: Global,
+    sig: &Signature,
+    config: &mut Config,
+    at: &mut Along,
+    step: &PStep,
+    drawing: &mut Drawing,
+) -> Result<(), Untold>
+    requires sig { config.old.sig ≡ sig.now }
+    requires exact { MatchesExactly sig.now (configuration config.old) (terms_of config.old.known) }
+    requires facts { at.old.facts ≡ length config.old.facts }
+    requires lines { at.old.lines < u64.MAX }
+    ensures ok { OnOk result (IsNextDrawn config.old config.new at.old at.new drawing.old drawing.new step.now) }
+    ensures refused { (n : ℕ) (fault : Fault) → result ≡ Err (untold.Line n fault)
+        → IsDeniedAt config.old step.now (at.old.lines + 1) n fault }
+{
+    let number = at.lines + 1;
+    let figure = figure_of(step);
+    let known = config.entry_count();
+    let mut told = Text::new(alloc);
+    let mut apart = Text::new(alloc);
+    drawing.add_threads(alloc, &at.paths, figure)?;
+    match tell_line_apart(alloc, sig, config, at, step, &mut told, &mut apart) {
+        Err(fault) => Err(at_line(number, fault)),
+        Ok(label) => {
+            let entry = new_entry(known, config.entry_count());
+            drawing.add_line(
+                alloc,
+                number,
+                figure,
+                entry,
+                told.as_bytes(),
+                apart.as_bytes(),
+                label,
+            )?;
+            Ok(())
+        }
+    }
+}
+
+/// Puts the chart of a run of a process last, each line done once; gives what the run shows. `Line` names the first illegal line, and
+/// then the text is as it was. Its time goes with the process's heads, the lines and the text. It recurses as deep as the process and
+/// the terms of process and run.
+pub fn chart_run(
+    alloc: Global,
+    sig: &Signature,
+    p: &Process,
+    run: &PSteps,
+    text: &mut Text,
+) -> Result<Trace, Untold>
+    requires builtins { HoldsBuiltins sig.now }
+    requires ready { IsReady sig.now (proc p.now) }
+    ensures charted { IfOk result (λ trace. IsCharted sig.now (proc p.now) run.now trace text.old text.new) }
+    ensures refused { (n : ℕ) (fault : Fault) → result ≡ Err (untold.Line n fault)
+        → IsFirstRefusedLine sig.now (proc p.now) run.now n fault }
+    ensures kept { (n : ℕ) (fault : Fault) → result ≡ Err (untold.Line n fault) → text.new ≡ text.old }
+{
+    limit_excludes();
+    runs_match_exactly();
+    legal_runs_are_told();
+    let mut config = started(alloc, sig, p)?;
+    let mut at = Along::start(alloc)?;
+    let mut drawing = Drawing::new(alloc);
+    for k in 0..run.len() {
+        draw_next(alloc, sig, &mut config, &mut at, run.at(k), &mut drawing)?;
+    }
+    drawing.push(alloc, text)?;
+    Ok(drawing.trace)
+}
