@@ -1,12 +1,13 @@
 -- What is so of told runs.
-use Rattle.std.specs.Prelude.{ℕ, List}
+use Rattle.std.specs.Prelude.{◌≡◌, ℕ, List}
 use Rattle.sap_lines.specs.Runs.{IsLegalProcessRun}
 use Rattle.sap_process.specs.Configuration.{Config}
 use Rattle.sap_process.specs.Proc.{Proc}
+use Rattle.sap_process.specs.Ready.{IsReady}
 use Rattle.sap_runs.specs.Limits.{HasFewNodes}
 use Rattle.sap_runs.specs.Marks.{Mark}
 use Rattle.sap_runs.specs.declared.process_step.PStep.{PStep}
-use Rattle.sap_terms.specs.Signature.{Sig}
+use Rattle.sap_terms.specs.Signature.{Sig, HoldsBuiltins}
 use Rattle.sap_terms.specs.Trace.{Trace}
 use Rattle.sap_terms.specs.Tree.{Tree}
 use Rattle.sap_tell.specs.Told.{IsToldRun}
@@ -24,3 +25,11 @@ LegalRunsAreTold =
     (g : Sig) (p : Proc) (lines : List PStep) (c : Config) (es : List Tree) (tr : Trace)
     (marks : List Mark) → IsLegalProcessRun g HasFewNodes p lines c es tr marks
     → (text : List ℕ) × IsToldRun g p lines c es tr marks text
+
+-- lines of a ready process are told by one text, wherever they are said to lead and whatever to show
+abbrev pub RunsAreToldByOneText : Type 0
+RunsAreToldByOneText =
+    (g : Sig) (p : Proc) (lines : List PStep) (c d : Config) (es fs : List Tree) (tr ur : Trace)
+    (marks others : List Mark) (text other : List ℕ) → HoldsBuiltins g → IsReady g p
+    → IsToldRun g p lines c es tr marks text → IsToldRun g p lines d fs ur others other
+    → text ≡ other

@@ -13,4 +13,4 @@ pub use escaped::push_escaped;
 pub use laws::{escaped_by_hand, escaped_stands_for_one};
 pub use thread_paths::ThreadPaths;
 pub use told_by_hand::{lines_told_by_hand, paths_by_hand};
-pub use told_laws::legal_runs_are_told;
+pub use told_laws::{legal_runs_are_told, one_told_text};

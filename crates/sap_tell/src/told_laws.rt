@@ -1,8 +1,9 @@
 //! Laws of told runs, as contracts of functions that do nothing.
 ghost use Rattle.std.specs.Prelude.{◌≡◌, codes, List, [], ◌∷◌};
-ghost use Rattle.sap_tell.specs.ToldLaws.{ToldRunsAreLegal, LegalRunsAreTold};
+ghost use Rattle.sap_tell.specs.ToldLaws.{ToldRunsAreLegal, LegalRunsAreTold, RunsAreToldByOneText};
 
-use sap_rewrite::each_term_has_a_normal_form;
+use sap_lines::{limit_excludes, lines_have_one_answer, runs_match_exactly};
+use sap_rewrite::{each_term_has_a_normal_form, equality_is_kept, normal_forms_are_unique};
 
 /// A law: what is told as a run is a legal run of the process within the limit, and each such run is told by some text.
 pub fn legal_runs_are_told()
@@ -10,4 +11,16 @@ pub fn legal_runs_are_told()
     ensures told { LegalRunsAreTold }
 {
     each_term_has_a_normal_form();
+}
+
+/// A law: lines of a process that is ready are told by one text. So a reader who takes another choice for an input or an embedded rule
+/// tells the same.
+pub fn one_told_text()
+    ensures { RunsAreToldByOneText }
+{
+    lines_have_one_answer();
+    runs_match_exactly();
+    limit_excludes();
+    normal_forms_are_unique();
+    equality_is_kept();
 }
