@@ -74,8 +74,8 @@ entry_text (Some k) = codes "<text x='212' y='4' text-anchor='end'>knows " ++ (d
 -- A label on a ground of its own, so far right; what stands between its place and the width of the ground, and between this width and
 -- its text, tells how.
 abbrev pub label_text : ℕ → List ℕ → List ℕ → List ℕ → List ℕ
-label_text x ground behind label =
-    codes "<g transform='translate(" ++ (decimal x ++ (ground ++ (decimal (7 * length label + 8) ++ (behind ++ (escaped label ++ codes "</text></g>")))))
+label_text x backing behind label =
+    codes "<g transform='translate(" ++ (decimal x ++ (backing ++ (decimal (7 * length label + 8) ++ (behind ++ (escaped label ++ codes "</text></g>")))))
 
 -- an arrow from the one to the other, with a label above it
 abbrev pub arrow_text : ℕ → ℕ → List ℕ → List ℕ

@@ -77,15 +77,15 @@ fn wide(label: &[u8]) -> u64
 pub(crate) fn push_label(
     text: &mut Text,
     x: u64,
-    ground: &[u8],
+    backing: &[u8],
     behind: &[u8],
     label: &[u8],
 ) -> Result<(), Mem>
     requires { length label.now ≤ 100 }
-    ensures { OnOk result (text.new ≡ text.old ++ label_text x ground.now behind.now label.now) }
+    ensures { OnOk result (text.new ≡ text.old ++ label_text x backing.now behind.now label.now) }
 {
     push_numbered(text, b"<g transform='translate(", x)?;
-    push_numbered(text, ground, wide(label))?;
+    push_numbered(text, backing, wide(label))?;
     push_spelled(text, behind, label)?;
     text.push_bytes(b"</text></g>")
 }
