@@ -11,10 +11,10 @@ use Rattle.sap_outside.specs.RunPieces.{IsRunAnswer}
 use Rattle.sap_tool.specs.Commands.{Writes, Says}
 use Rattle.sap_tool.specs.Replays.{IsConvertedText, to_rules, to_process, IsOppositeText, rules_of_process, process_of_rules}
 use Rattle.sap_tool.specs.declared.task.Task.{Task}
-use Rattle.sap_tool.specs.declared.task.Task.TheVariants.{ToRules, ToProcess, Judge, Tell}
+use Rattle.sap_tool.specs.declared.task.Task.TheVariants.{ToRules, ToProcess, Judge, Tell, Chart}
 use Rattle.sap_tool.proofs.Opposites.{forward_is_opposite, back_is_opposite}
 use Rattle.sap_tool.proofs.ToldMeant as told
-use Rattle.sap_tool.proofs.ToldMeant.{AreAlike, told_says}
+use Rattle.sap_tool.proofs.ToldMeant.{AreAlike, told_says, drawn_says}
 use Rattle.sap_tool.proofs.Written as written
 use Rattle.sap_tool.proofs.Written.{opposite_is_read, process_text_of_answer}
 use Rattle.sap_tool.proofs.WrittenRules.{RuleLaws, rules_are_read}
@@ -48,3 +48,4 @@ module _ (laws : Laws) (k : Kinds) (z : List ℕ) (f : FileContent) (runnable : 
   written_says ToProcess r text answer w = converted_is_opposite r text answer w
   written_says Judge r text answer w = w
   written_says Tell r text answer w = told_says laws.told laws.alike f r text runnable w
+  written_says Chart r text answer w = drawn_says laws.told f r text w

@@ -5,12 +5,12 @@ use Rattle.sap_formula.specs.Hide.{hide}
 use Rattle.sap_read.specs.Files.{FileContent}
 use Rattle.sap_run_texts.specs.declared.run.Run.{Run}
 use Rattle.sap_tool.specs.declared.task.Task.{Task}
-use Rattle.sap_tool.specs.declared.task.Task.TheVariants.{ToRules, ToProcess, Judge, Tell}
+use Rattle.sap_tool.specs.declared.task.Task.TheVariants.{ToRules, ToProcess, Judge, Tell, Chart}
 use Rattle.sap_tool.specs.Commands.{Command, compile, replay, fill, check, to_json, from_json, explain, Input, alone, and_run, run_alone, file_of, run_of, Accepts, RefusesRun, TakesRun, Writes, Allows}
 use Rattle.sap_tool.proofs.ShortRefused as short
 use Rattle.sap_tool.proofs.ShortRefused.{filled_is_legal}
 use Rattle.sap_tool.proofs.ToldMeant as told
-use Rattle.sap_tool.proofs.ToldMeant.{told_is_seen}
+use Rattle.sap_tool.proofs.ToldMeant.{told_is_seen, drawn_is_seen}
 use Rattle.sap_tool.specs.Replays.{IsConvertedText, to_rules, to_process, IsSeen, of_process, of_rules}
 
 -- what is converted is seen
@@ -23,6 +23,7 @@ written_is_seen law ToRules f r text w = converted_is_seen f r text w
 written_is_seen law ToProcess f r text w = converted_is_seen f r text w
 written_is_seen law Judge f r text w = (w.trace, w.seen)
 written_is_seen law Tell f r text w = told_is_seen law f r text w
+written_is_seen law Chart f r text w = drawn_is_seen law f r text w
 
 -- where a text is allowed, and what could be refused is a run, that run is taken
 pub allowed_takes : short.Laws → told.Laws → (k : Command) (input : Input) (text why : List ℕ) → Allows k input text → RefusesRun k input why → TakesRun k input

@@ -1,6 +1,7 @@
--- What is told of a run, and what that means.
+-- What is told and drawn of a run, and what that means.
 use Rattle.std.specs.Prelude.{◌≡◌, ℕ, List, ◌∷◌, ◌++◌}
 use Rattle.sap_back.specs.Converted as back
+use Rattle.sap_chart.specs.Chart.{IsChart}
 use Rattle.sap_read.specs.Files.{FileContent}
 use Rattle.sap_run_texts.specs.declared.run.Run.{Run}
 use Rattle.sap_run_texts.specs.declared.run.Run.TheVariants as run
@@ -28,6 +29,11 @@ pub record IsToldAndJudged (f : FileContent) (lines : List PStep) (text : List �
   pub judged : AreVerdicts f.signature trace (all_judged f.restrictions f.lemmas) verdicts
   pub layout : text ≡ told ++ 10 ∷ verdicts
 
+-- the lines are legal, and the text is their chart
+pub record IsDrawn (f : FileContent) (lines : List PStep) (text : List ℕ) : Type 0 where
+  pub trace : Trace
+  pub chart : IsChart f.signature f.process lines trace text
+
 -- such a text is written of the lines of the run
 pub record IsTextOfLines (f : FileContent) (Is : List PStep → List ℕ → Type 0) (r : Run)
     (text : List ℕ) : Type 0 where
@@ -49,3 +55,10 @@ pub record IsToldOf (f : FileContent) (r : Run) (text : List ℕ) : Type 0 where
   pub written : IsToldAndJudged f lines text
   pub seen : IsSeen f (run.Process lines) written.trace
   pub judged : IsJudgedText f r written.verdicts
+
+-- The text is the chart of the run itself, or of one opposite to it, which is legal within the limit and shows this.
+pub record IsDrawnOf (f : FileContent) (r : Run) (text : List ℕ) : Type 0 where
+  pub lines : List PStep
+  pub of_run : AreOwnOrOpposite f r lines
+  pub written : IsDrawn f lines text
+  pub seen : IsSeen f (run.Process lines) written.trace

@@ -14,7 +14,7 @@ ghost use Rattle.sap_tool.specs.code.Refused.{IsAtLine, IsBackAtLine, IsLineOf, 
 
 use crate::laws::{closed_files, seen_traces_are_messages};
 use crate::task::Task;
-use crate::telling::told_run;
+use crate::telling::{drawn_run, told_run};
 use crate::verdicts::verdicts;
 use sap_back::{BackAt, rule_trace, to_process};
 use sap_formula::hide;
@@ -59,6 +59,7 @@ fn text_of_run(alloc: Global, task: Task, file: &File, run: &Run) -> Result<Text
         Task::ToProcess => converted(alloc, file, run),
         Task::Judge => judged(alloc, file, run),
         Task::Tell => told_run(alloc, file, run),
+        Task::Chart => drawn_run(alloc, file, run),
     }
 }
 

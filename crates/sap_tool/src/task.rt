@@ -15,6 +15,8 @@ pub enum Task {
     Judge,
     /// A run of either kind is told line by line, as one of the process, and the same is judged behind it.
     Tell,
+    /// A run of either kind is drawn, as one of the process.
+    Chart,
 }
 
 /// The task that the word asks for.
@@ -26,6 +28,7 @@ pub fn task_of(word: &str) -> Option<Task>
         "to-process" => Some(Task::ToProcess),
         "judge" => Some(Task::Judge),
         "tell" => Some(Task::Tell),
+        "chart" => Some(Task::Chart),
         _ => None,
     }
 }
@@ -39,5 +42,6 @@ pub fn kinds_of(task: Task) -> Kinds
         Task::ToProcess => Kinds::Rules,
         Task::Judge => Kinds::Either,
         Task::Tell => Kinds::Either,
+        Task::Chart => Kinds::Either,
     }
 }

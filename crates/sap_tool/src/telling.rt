@@ -1,4 +1,4 @@
-//! Runs that are told, or the line that refuses them.
+//! Runs that are told or drawn, or the line that refuses them.
 
 ghost use Rattle.std.specs.Prelude.{◌≡◌, ℕ, List, IfOk, IsErrOf};
 ghost use Rattle.sap_read.specs.Files.{IsRunnable, told_by};
@@ -7,12 +7,13 @@ ghost use Rattle.sap_run_texts.specs.declared.run.Run.TheVariants as runs;
 ghost use Rattle.sap_runs.specs.declared.process_step.PStep.{PStep};
 ghost use Rattle.sap_teller.specs.Telling.{IsToldAs};
 ghost use Rattle.sap_tool.specs.RunRefusals.{IsIllegal};
-ghost use Rattle.sap_tool.specs.ToldRuns.{IsTextOfLines, IsToldAndJudged};
+ghost use Rattle.sap_tool.specs.ToldRuns.{IsDrawn, IsTextOfLines, IsToldAndJudged};
 ghost use Rattle.sap_tool.specs.code.Refused.{IsLineOf, IsUntoldLine};
 
 use crate::laws::{closed_files, process_lines, seen_traces_are_messages};
 use crate::replay::process_of;
 use crate::verdicts::verdicts;
+use sap_chart::chart_run;
 use sap_locks::annotations_are_ready;
 use sap_read::File;
 use sap_refusals::{Refusal, process_line, told};
@@ -67,6 +68,36 @@ fn with_verdicts(alloc: Global, file: &File, run: ToldRun) -> Result<Text, Mem>
     text.push_bytes(b"\n")?;
     text.push_bytes(judged.as_bytes())?;
     Ok(text)
+}
+
+/// The chart of a run of the process, or of the one that a run of rules is converted to.
+pub fn drawn_run(alloc: Global, file: &File, run: &Run) -> Result<Text, Refusal>
+    requires { IsRunnable (told_by file.now) }
+    ensures given { IfOk result (λ text. IsTextOfLines (told_by file.now) (IsDrawn (told_by file.now)) run.now text) }
+    ensures refused { (line : List ℕ) → IsErrOf result (refusals.Told line)
+        → IsLineOf (IsIllegal (told_by file.now) run.now) line }
+{
+    process_lines();
+    annotations_are_ready();
+    match run {
+        Run::Process(lines) => drawn_lines(alloc, file, lines),
+        Run::Rules(steps) => drawn_lines(alloc, file, &process_of(alloc, file, steps)?),
+    }
+}
+
+/// The chart of a run of the process.
+fn drawn_lines(alloc: Global, file: &File, lines: &PSteps) -> Result<Text, Refusal>
+    requires { IsRunnable (told_by file.now) }
+    ensures given { IfOk result (λ text. IsDrawn (told_by file.now) lines.now text) }
+    ensures refused { (line : List ℕ) → IsErrOf result (refusals.Told line)
+        → IsLineOf (IsIllegal (told_by file.now) (runs.Process lines.now)) line }
+{
+    annotations_are_ready();
+    let mut text = Text::new(alloc);
+    match chart_run(alloc, &file.signature, &file.process, lines, &mut text) {
+        Ok(_) => Ok(text),
+        Err(why) => Err(told(line_untold(alloc, &why))),
+    }
 }
 
 /// The line that refuses a run that would be told. Want of memory refuses none, and so has no line.

@@ -4,8 +4,8 @@ use Rattle.sap_refusals.specs.declared.refusal.Refusal.TheVariants as refusals
 use Rattle.sap_tool.proofs.Stopped.{untold_stops}
 use Rattle.sap_tool.proofs.telling.told_lines.Goals as goal
 
-pub tell_run-requires-ready : goal.tell_run-requires-ready
-tell_run-requires-ready c = c.annotations_are_ready.ensures.ready c.args.file.now.signature c.requires.process (proc c.args.file.now.process) c.requires.ready c.requires.annotation
+pub tell_run-requires-clause-ready : goal.tell_run-requires-clause-ready
+tell_run-requires-clause-ready c = c.annotations_are_ready.ensures.ready c.args.file.now.signature c.requires.process (proc c.args.file.now.process) c.requires.ready c.requires.annotation
 
 pub returns-in-Err-clause-refused : goal.returns-in-Err-clause-refused
 returns-in-Err-clause-refused c = λ line h.
