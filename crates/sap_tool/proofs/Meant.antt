@@ -13,7 +13,7 @@ use Rattle.sap_tool.specs.Replays.{IsConvertedText, to_rules, to_process, IsOppo
 use Rattle.sap_tool.specs.declared.task.Task.{Task}
 use Rattle.sap_tool.specs.declared.task.Task.TheVariants.{ToRules, ToProcess, Judge, Tell, Chart}
 use Rattle.sap_tool.proofs.Opposites.{forward_is_opposite, back_is_opposite}
-use Rattle.sap_tool.proofs.ToldMeant as told
+use Rattle.sap_tool.proofs.ToldMeant as telling
 use Rattle.sap_tool.proofs.ToldMeant.{AreAlike, told_says, drawn_says}
 use Rattle.sap_tool.proofs.Written as written
 use Rattle.sap_tool.proofs.Written.{opposite_is_read, process_text_of_answer}
@@ -24,7 +24,7 @@ pub record Laws : Type 0 where
   pub texts : written.Laws
   pub rules : RuleLaws
   pub alike : AreAlike
-  pub told : told.Laws
+  pub told : telling.Laws
 
 -- the file can be printed, and its theory
 pub record CanBePrinted (f : FileContent) : Type 0 where

@@ -9,7 +9,7 @@ use Rattle.sap_tool.specs.declared.task.Task.TheVariants.{ToRules, ToProcess, Ju
 use Rattle.sap_tool.specs.Commands.{Command, compile, replay, fill, check, to_json, from_json, explain, Input, alone, and_run, run_alone, file_of, run_of, Accepts, RefusesRun, TakesRun, Writes, Allows}
 use Rattle.sap_tool.proofs.ShortRefused as short
 use Rattle.sap_tool.proofs.ShortRefused.{filled_is_legal}
-use Rattle.sap_tool.proofs.ToldMeant as told
+use Rattle.sap_tool.proofs.ToldMeant as telling
 use Rattle.sap_tool.proofs.ToldMeant.{told_is_seen, drawn_is_seen}
 use Rattle.sap_tool.specs.Replays.{IsConvertedText, to_rules, to_process, IsSeen, of_process, of_rules}
 
@@ -18,7 +18,7 @@ converted_is_seen : (f : FileContent) (r : Run) (text : List ℕ) → IsConverte
 converted_is_seen f _ _ (to_rules rule_lines c numbered) = (c.trace, of_process (record { config = c.config; entries = c.entries; marks = c.marks; legal = c.legal }))
 converted_is_seen f _ _ (to_process lines c numbered) = (hide c.full, of_rules c.state c.full c.counted)
 
-written_is_seen : told.Laws → (task : Task) (f : FileContent) (r : Run) (text : List ℕ) → Writes task f r text → (tr : Trace) × IsSeen f r tr
+written_is_seen : telling.Laws → (task : Task) (f : FileContent) (r : Run) (text : List ℕ) → Writes task f r text → (tr : Trace) × IsSeen f r tr
 written_is_seen law ToRules f r text w = converted_is_seen f r text w
 written_is_seen law ToProcess f r text w = converted_is_seen f r text w
 written_is_seen law Judge f r text w = (w.trace, w.seen)
@@ -26,7 +26,7 @@ written_is_seen law Tell f r text w = told_is_seen law f r text w
 written_is_seen law Chart f r text w = drawn_is_seen law f r text w
 
 -- where a text is allowed, and what could be refused is a run, that run is taken
-pub allowed_takes : short.Laws → told.Laws → (k : Command) (input : Input) (text why : List ℕ) → Allows k input text → RefusesRun k input why → TakesRun k input
+pub allowed_takes : short.Laws → telling.Laws → (k : Command) (input : Input) (text why : List ℕ) → Allows k input text → RefusesRun k input why → TakesRun k input
 allowed_takes laws law (replay task file run) (and_run bytes z) text why t r =
     let shown = written_is_seen law task t.told t.lines text t.written in
     record { told = t.told; file = t.file; lines = t.lines; read = t.read; trace = shown.0; seen = shown.1 }

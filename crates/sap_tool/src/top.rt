@@ -36,7 +36,8 @@ use std::alloc::Global;
 /// Runs the program on its words, those after its name, and answers its status.
 ///
 /// - 0: out gained the text that the words ask for, whole: the theory of a file, the run opposite to one, the run that a short one
-///   stands for, what is said of the restrictions and lemmas on one, a run as it is told, a picture of one, a run as JSON, the run that JSON is, or what is told of a sample.
+///   stands for, what is said of the restrictions and lemmas on one, a run as it is told, a picture of one, a run as JSON, the run that
+///   JSON is, or what is told of a sample.
 /// - 1: the file, or the theory, is refused.
 /// - 2: the run, or the JSON of one, is refused.
 /// - 3: the words are none of the program's.
