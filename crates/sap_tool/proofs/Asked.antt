@@ -5,7 +5,7 @@ use Rattle.std.specs.Str.{bytes_eq}
 use Rattle.sap_sample.specs.Sample.{IsSample, sample_words}
 use Rattle.sap_tool.specs.Commands.{Command, compile, replay, fill, check, to_json, from_json, explain, spelled}
 use Rattle.sap_tool.specs.declared.task.Task.{Task}
-use Rattle.sap_tool.specs.declared.task.Task.TheVariants.{ToRules, ToProcess, Judge}
+use Rattle.sap_tool.specs.declared.task.Task.TheVariants.{ToRules, ToProcess, Judge, Tell, Chart}
 use Rattle.sap_tool.specs.declared.way.Way.{Way}
 use Rattle.sap_tool.specs.declared.way.Way.TheVariants.{Plain, Inlined, Short}
 use Rattle.sap_tool.proofs.Some.{one_some}
@@ -26,6 +26,8 @@ of_three word name run =
     if bytes_eq word (codes "to-rules") then Some (replay ToRules name run)
     else if bytes_eq word (codes "to-process") then Some (replay ToProcess name run)
     else if bytes_eq word (codes "judge") then Some (replay Judge name run)
+    else if bytes_eq word (codes "tell") then Some (replay Tell name run)
+    else if bytes_eq word (codes "chart") then Some (replay Chart name run)
     else if bytes_eq word (codes "check-rules") then Some (check name run)
     else if bytes_eq word (codes "fill") then Some (fill name run)
     else None
@@ -43,6 +45,8 @@ found (compile Short file) = refl
 found (replay ToRules file run) = refl
 found (replay ToProcess file run) = refl
 found (replay Judge file run) = refl
+found (replay Tell file run) = refl
+found (replay Chart file run) = refl
 found (fill file run) = refl
 found (check theory run) = refl
 found (to_json run) = refl

@@ -134,7 +134,7 @@ never_taken laws k input why t r = absurd r
 
 -- so none is both allowed a text and refused
 pub never_run : Laws → (k : Command) (input : Input) (text why : List ℕ) → Allows k input text → RefusesRun k input why → ⊥
-never_run laws k input text why t r = never_taken laws k input why (allowed_takes laws.short k input text why t r) r
+never_run laws k input text why t r = never_taken laws k input why (allowed_takes laws.short laws.meant.told k input text why t r) r
 
 -- and they are refused for one cause
 pub one_why : Laws → (k : Command) (bytes why other : List ℕ) → Refuses k bytes why → Refuses k bytes other → why ≡ other

@@ -1,8 +1,5 @@
 -- What is written of a run means what it says.
-use Rattle.std.proofs.Common.{ℕ, List, Ok, refl, subst}
-use Rattle.std.specs.Prelude.{◌↔◌, Contains}
-use Rattle.sap_terms.specs.Tree.{Tree}
-use Rattle.sap_formula.specs.Hide.{hide}
+use Rattle.std.proofs.Common.{ℕ, List, Ok}
 use Rattle.sap_terms.specs.declared.limits.TheConstants.{MOST_FILE_NAME_BYTES, MOST_THEORY_NAME_BYTES}
 use Rattle.sap_read.specs.Files.{FileContent, IsRunnable}
 use Rattle.sap_read.specs.Printable.{IsPrintableFile}
@@ -11,17 +8,14 @@ use Rattle.sap_theory.specs.PrintableTheory.{IsPrintable}
 use Rattle.sap_gen.specs.Kept.{file_theory}
 use Rattle.sap_run_texts.specs.declared.run.Kinds.{Kinds}
 use Rattle.sap_run_texts.specs.declared.run.Run.{Run}
-use Rattle.sap_run_texts.specs.declared.run.Run.TheVariants as run
-use Rattle.sap_runs.specs.declared.process_step.PStep.{PStep}
-use Rattle.sap_runs.specs.declared.rule_step.RStep.{RStep}
-use Rattle.sap_steps.specs.Marks.{marks}
 use Rattle.sap_outside.specs.RunPieces.{IsRunAnswer}
-use Rattle.sap_forward.specs.Converted as forward
-use Rattle.sap_back.specs.Converted as back
 use Rattle.sap_tool.specs.Commands.{Writes, Says}
-use Rattle.sap_tool.specs.Replays.{IsConvertedText, to_rules, to_process, AreOpposite, IsJudgedText, IsOppositeText, rules_of_process, process_of_rules}
+use Rattle.sap_tool.specs.Replays.{IsConvertedText, to_rules, to_process, IsOppositeText, rules_of_process, process_of_rules}
 use Rattle.sap_tool.specs.declared.task.Task.{Task}
-use Rattle.sap_tool.specs.declared.task.Task.TheVariants.{ToRules, ToProcess, Judge}
+use Rattle.sap_tool.specs.declared.task.Task.TheVariants.{ToRules, ToProcess, Judge, Tell, Chart}
+use Rattle.sap_tool.proofs.Opposites.{forward_is_opposite, back_is_opposite}
+use Rattle.sap_tool.proofs.ToldMeant as telling
+use Rattle.sap_tool.proofs.ToldMeant.{AreAlike, told_says, drawn_says}
 use Rattle.sap_tool.proofs.Written as written
 use Rattle.sap_tool.proofs.Written.{opposite_is_read, process_text_of_answer}
 use Rattle.sap_tool.proofs.WrittenRules.{RuleLaws, rules_are_read}
@@ -30,50 +24,13 @@ use Rattle.sap_tool.proofs.WrittenRules.{RuleLaws, rules_are_read}
 pub record Laws : Type 0 where
   pub texts : written.Laws
   pub rules : RuleLaws
-  pub alike : (f : FileContent) (lines : List PStep) (rule_lines : List RStep) (text : List ℕ) → IsRunnable f → AreOpposite f lines rule_lines
-      → IsJudgedText f (run.Process lines) text ↔ IsJudgedText f (run.Rules rule_lines) text
+  pub alike : AreAlike
+  pub told : telling.Laws
 
 -- the file can be printed, and its theory
 pub record CanBePrinted (f : FileContent) : Type 0 where
   pub file : IsPrintableFile MOST_FILE_NAME_BYTES MOST_NEW_NAME_BYTES f
   pub theory : IsPrintable MOST_THEORY_NAME_BYTES (file_theory f)
-
--- a run of the process and the one of rules that it is converted to are opposite, and the other way about
-forward_is_opposite : (f : FileContent) (lines : List PStep) (rule_lines : List RStep) → forward.IsConverted f.signature f.process lines rule_lines → AreOpposite f lines rule_lines
-forward_is_opposite f lines rule_lines c = record {
-  theory = file_theory f;
-  compiled = refl;
-  config = c.config;
-  entries = c.entries;
-  trace = c.trace;
-  marks_of_both = c.marks;
-  legal = c.legal;
-  state = c.opposite.state;
-  full = c.opposite.full;
-  legal_rules = c.opposite.legal;
-  admitted = c.opposite.admitted;
-  shows = c.opposite.shows;
-  marked = c.opposite.marked;
-  known = λ t k. subst (λ (ts : List Tree). Contains ts t) c.opposite.entries k;
-}
-
-back_is_opposite : (f : FileContent) (rule_lines : List RStep) (lines : List PStep) → back.IsConverted f.signature f.process rule_lines lines → AreOpposite f lines rule_lines
-back_is_opposite f rule_lines lines c = record {
-  theory = file_theory f;
-  compiled = refl;
-  config = c.opposite.config;
-  entries = c.opposite.entries;
-  trace = hide c.full;
-  marks_of_both = marks c.full;
-  legal = c.opposite.legal;
-  state = c.state;
-  full = c.full;
-  legal_rules = c.counted.legal;
-  admitted = c.counted.admitted;
-  shows = refl;
-  marked = refl;
-  known = c.opposite.known;
-}
 
 module _ (laws : Laws) (k : Kinds) (z : List ℕ) (f : FileContent) (runnable : IsRunnable f) (printable : CanBePrinted f) where
   converted_is_opposite : (r : Run) (text : List ℕ) → IsRunAnswer k z (Ok r) → IsConvertedText f r text → IsOppositeText f r text
@@ -91,3 +48,5 @@ module _ (laws : Laws) (k : Kinds) (z : List ℕ) (f : FileContent) (runnable : 
   written_says ToRules r text answer w = converted_is_opposite r text answer w
   written_says ToProcess r text answer w = converted_is_opposite r text answer w
   written_says Judge r text answer w = w
+  written_says Tell r text answer w = told_says laws.told laws.alike f r text runnable w
+  written_says Chart r text answer w = drawn_says laws.told f r text w

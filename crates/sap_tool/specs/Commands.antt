@@ -7,7 +7,7 @@ use Rattle.sap_run_texts.specs.declared.run.Kinds.TheVariants.{Process, Rules, E
 use Rattle.sap_run_texts.specs.declared.run.Run.{Run}
 use Rattle.sap_outside.specs.RunPieces.{most_run_bytes, IsRunAnswer}
 use Rattle.sap_tool.specs.declared.task.Task.{Task}
-use Rattle.sap_tool.specs.declared.task.Task.TheVariants.{ToRules, ToProcess, Judge}
+use Rattle.sap_tool.specs.declared.task.Task.TheVariants.{ToRules, ToProcess, Judge, Tell, Chart}
 use Rattle.sap_tool.specs.declared.way.Way.{Way}
 use Rattle.sap_tool.specs.declared.way.Way.TheVariants.{Plain, Inlined, Short}
 use Rattle.sap_tool.specs.AcceptedFile.{most_bytes, IsAcceptedFile, IsRefusedWith, IsTheoryOf}
@@ -17,6 +17,7 @@ use Rattle.sap_tool.specs.Meaning.{IsFaithfulText}
 use Rattle.sap_tool.specs.WhyTexts.{IsWhyText, IsToldWhy}
 use Rattle.sap_tool.specs.Replays.{IsReplayed, IsChecked, IsConvertedText, IsJudgedText, IsOppositeText, IsLegalOfFile, IsLegalOfTheory}
 use Rattle.sap_tool.specs.RunRefusals.{IsIllegal, IsIllegalOfTheory, IsNeverIllegal, IsRunRefusedWith}
+use Rattle.sap_tool.specs.ToldRuns.{IsTextOfLines, IsToldAndJudged, IsToldOf, IsDrawn, IsDrawnOf}
 use Rattle.sap_tool.specs.ShortRuns.{IsShortRefusedWith, IsFilledText, IsLegalShortOfFile, IsLegalFilling}
 use Rattle.sap_sample.specs.Sample.{IsSample}
 
@@ -48,6 +49,8 @@ abbrev pub word_of_task : Task → List ℕ
 word_of_task ToRules = codes "to-rules"
 word_of_task ToProcess = codes "to-process"
 word_of_task Judge = codes "judge"
+word_of_task Tell = codes "tell"
+word_of_task Chart = codes "chart"
 
 -- the words that ask for it
 abbrev pub spelled : Command → List (List ℕ)
@@ -109,6 +112,8 @@ abbrev pub kinds_of : Task → Kinds
 kinds_of ToRules = Process
 kinds_of ToProcess = Rules
 kinds_of Judge = Either
+kinds_of Tell = Either
+kinds_of Chart = Either
 
 -- what a command reads: what it fetches, alone or with a run behind it; or a run alone
 pub data Input : Type 0 where
@@ -163,12 +168,16 @@ abbrev pub Writes : Task → FileContent → Run → List ℕ → Type 0
 Writes ToRules told r text = IsConvertedText told r text
 Writes ToProcess told r text = IsConvertedText told r text
 Writes Judge told r text = IsJudgedText told r text
+Writes Tell told r text = IsTextOfLines told (IsToldAndJudged told) r text
+Writes Chart told r text = IsTextOfLines told (IsDrawn told) r text
 
 -- what this text means
 abbrev pub Says : Task → FileContent → Run → List ℕ → Type 0
 Says ToRules told r text = IsOppositeText told r text
 Says ToProcess told r text = IsOppositeText told r text
 Says Judge told r text = IsJudgedText told r text
+Says Tell told r text = IsToldOf told r text
+Says Chart told r text = IsDrawnOf told r text
 
 -- it allows this text for what it read
 abbrev pub Allows : Command → Input → List ℕ → Type 0

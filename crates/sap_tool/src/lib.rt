@@ -15,6 +15,8 @@ mod reading;
 mod replay;
 mod sessions;
 mod task;
+mod telling;
+mod telling_laws;
 mod theory_reading;
 mod top;
 mod verdicts;
@@ -31,5 +33,6 @@ pub use sap_outside::{
     FileShelf, MemShelf, MemSink, Shelf, ShelfFault, Sink, SinkFault, StreamSink,
 };
 pub use sap_sample::{sample_file, sample_run};
+pub use telling_laws::telling_by_hand;
 pub use top::sapic;
 pub use why_laws::{one_why_text, why_by_hand};

@@ -1,6 +1,7 @@
 //! Runs of a file: what is written of them, or the line that refuses them.
 
 ghost use Rattle.std.specs.Prelude.{◌≡◌, ℕ, List, Ok, IfOk, IsErrOf};
+ghost use Rattle.sap_back.specs.Converted.{IsConverted};
 ghost use Rattle.sap_read.specs.Files.{IsRunnable, told_by};
 ghost use Rattle.sap_run_texts.specs.declared.run.Run.{Run as AnyRun};
 ghost use Rattle.sap_run_texts.specs.declared.run.Run.TheVariants as runs;
@@ -13,6 +14,7 @@ ghost use Rattle.sap_tool.specs.code.Refused.{IsAtLine, IsBackAtLine, IsLineOf, 
 
 use crate::laws::{closed_files, seen_traces_are_messages};
 use crate::task::Task;
+use crate::telling::{drawn_run, told_run};
 use crate::verdicts::verdicts;
 use sap_back::{BackAt, rule_trace, to_process};
 use sap_formula::hide;
@@ -56,6 +58,8 @@ fn text_of_run(alloc: Global, task: Task, file: &File, run: &Run) -> Result<Text
         Task::ToRules => converted(alloc, file, run),
         Task::ToProcess => converted(alloc, file, run),
         Task::Judge => judged(alloc, file, run),
+        Task::Tell => told_run(alloc, file, run),
+        Task::Chart => drawn_run(alloc, file, run),
     }
 }
 
@@ -92,8 +96,19 @@ fn text_of_process(alloc: Global, file: &File, steps: &RSteps) -> Result<Text, R
     ensures refused { (line : List ℕ) → IsErrOf result (refusals.Told line)
         → IsLineOf (IsIllegal (told_by file.now) (runs.Rules steps.now)) line }
 {
+    let lines = process_of(alloc, file, steps)?;
+    Ok(print_prun(alloc, &lines)?)
+}
+
+/// The run of the process opposite to a run of rules.
+pub fn process_of(alloc: Global, file: &File, steps: &RSteps) -> Result<PSteps, Refusal>
+    requires { IsRunnable (told_by file.now) }
+    ensures given { IfOk result (λ lines. IsConverted (told_by file.now).signature (told_by file.now).process steps.now lines) }
+    ensures refused { (line : List ℕ) → IsErrOf result (refusals.Told line)
+        → IsLineOf (IsIllegal (told_by file.now) (runs.Rules steps.now)) line }
+{
     match to_process(alloc, file, steps) {
-        Ok(lines) => Ok(print_prun(alloc, &lines)?),
+        Ok(lines) => Ok(lines),
         Err(at) => Err(told(line_back_at(alloc, &at))),
     }
 }

@@ -13,6 +13,10 @@ pub enum Task {
     ToProcess,
     /// The file's restrictions and lemmas are judged on what a run of either kind shows.
     Judge,
+    /// A run of either kind is told line by line, as one of the process, and the same is judged behind it.
+    Tell,
+    /// A run of either kind is drawn, as one of the process.
+    Chart,
 }
 
 /// The task that the word asks for.
@@ -23,6 +27,8 @@ pub fn task_of(word: &str) -> Option<Task>
         "to-rules" => Some(Task::ToRules),
         "to-process" => Some(Task::ToProcess),
         "judge" => Some(Task::Judge),
+        "tell" => Some(Task::Tell),
+        "chart" => Some(Task::Chart),
         _ => None,
     }
 }
@@ -35,5 +41,7 @@ pub fn kinds_of(task: Task) -> Kinds
         Task::ToRules => Kinds::Process,
         Task::ToProcess => Kinds::Rules,
         Task::Judge => Kinds::Either,
+        Task::Tell => Kinds::Either,
+        Task::Chart => Kinds::Either,
     }
 }

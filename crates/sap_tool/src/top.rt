@@ -16,6 +16,7 @@ use crate::laws::{
     verdicts_are_kept,
 };
 use sap_back::names_stand_in_lines;
+use sap_chart::drawn_runs_are_legal;
 use sap_compress::{one_short_theory, short_theories_are_printable, short_theories_keep_files};
 use sap_gen::{theories_are_printable, theories_keep_files};
 use sap_intruder::{filled_runs_are_legal, one_short_answer};
@@ -28,6 +29,7 @@ use sap_run_texts::{
     named_steps_can_be_written, one_run, one_short_run, printed_runs_are_read,
     read_runs_can_be_written,
 };
+use sap_tell::legal_runs_are_told;
 use sap_theory::{one_answer_of_theories, printed_theories};
 use sap_translate::rules_are_well_made;
 use std::alloc::Global;
@@ -35,7 +37,8 @@ use std::alloc::Global;
 /// Runs the program on its words, those after its name, and answers its status.
 ///
 /// - 0: out gained the text that the words ask for, whole: the theory of a file, the run opposite to one, the run that a short one
-///   stands for, what is said of the restrictions and lemmas on one, a run as JSON, the run that JSON is, or what is told of a sample.
+///   stands for, what is said of the restrictions and lemmas on one, a run as it is told, a picture of one, a run as JSON, the run that
+///   JSON is, or what is told of a sample.
 /// - 1: the file, or the theory, is refused.
 /// - 2: the run, or the JSON of one, is refused.
 /// - 3: the words are none of the program's.
@@ -81,6 +84,8 @@ pub fn sapic<S: Shelf, O: Sink, E: Sink>(
     rule_lines();
     illegal_runs_have_one_cause();
     verdicts_are_kept();
+    legal_runs_are_told();
+    drawn_runs_are_legal();
     annotations_are_ready();
     rules_are_well_made();
     one_json_run();

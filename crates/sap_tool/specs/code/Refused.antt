@@ -9,6 +9,8 @@ use Rattle.sap_tool.specs.declared.checking.Stop.TheVariants as stop
 use Rattle.sap_run_texts.specs.declared.run.Kinds.{Kinds}
 use Rattle.sap_run_texts.specs.declared.run.Run.{Run}
 use Rattle.sap_refusals.specs.Refusals.{refused_line}
+use Rattle.sap_teller.specs.declared.told_run.Untold.{Untold}
+use Rattle.sap_teller.specs.declared.told_run.Untold.TheVariants as untold
 use Rattle.sap_tool.specs.AcceptedTheory.{IsTheoryRefusedWith}
 use Rattle.sap_refusals.specs.RunFaultTexts.{at_step, broken_text, process_fault_text, rule_fault_text, run_refused_line}
 use Rattle.sap_tool.specs.RunRefusals.{IsRunRefusedWith}
@@ -27,6 +29,11 @@ IsRunRefusal kinds Is z line = IsLineOf (IsRunRefusedWith kinds Is z) line
 abbrev pub IsAtLine : At → List ℕ → Type 0
 IsAtLine forward.Mem line = ⊥
 IsAtLine (forward.Step step fault) line = line ≡ run_refused_line (at_step step (process_fault_text fault))
+
+-- the same of a run that would be told
+abbrev pub IsUntoldLine : Untold → List ℕ → Type 0
+IsUntoldLine untold.Mem line = ⊥
+IsUntoldLine (untold.Line number fault) line = line ≡ run_refused_line (at_step number (process_fault_text fault))
 
 -- the same of a run of rules
 abbrev pub IsBackAtLine : BackAt → List ℕ → Type 0

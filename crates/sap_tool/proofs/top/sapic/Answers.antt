@@ -52,6 +52,7 @@ returns g c =
           printed = c.printed_runs_are_read.ensures.rule;
         };
         alike = c.verdicts_are_kept.ensures;
+        told = record { told = c.legal_runs_are_told.ensures.legal; drawn = c.drawn_runs_are_legal.ensures.legal };
       };
       json = record {
         written = c.written_json_is_read.ensures;

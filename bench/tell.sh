@@ -1,0 +1,91 @@
+#!/bin/sh
+# Counts what telling a run costs beside what judging it does, of a file without formulas. Each family doubles the lines, up to what a
+# run may have. A line tells the instructions of `tell`, by valgrind, and their ratio to the line before, which is to be about 2, at
+# most 2.2; those of `judge` on the same run; the ratio of both; and by how many kilobytes `tell` holds more than `judge`, and how many
+# its text has.
+#
+#   known     an entry of 255 nodes that the adversary shows again and again
+#   inputs    threads that take this entry
+#   outputs   threads that take it, put it out and show it
+#   rules     the lines of rules that become those of inputs
+#   stored    threads that store a name, find it and give a lock back
+#   chain     one thread, whose place has one digit more at each line
+#
+# usage: bench/tell.sh [FAMILY..]
+set -eu
+. "$(dirname "$0")/growth.sh"
+
+# entry: the lines that make entry 7, of 255 nodes
+entry() {
+    echo "pub 'a'"
+    for k in 0 1 2 3 4 5 6; do echo "app pair $k $k"; done
+}
+
+# file PROCESS: the file of the process
+file() {
+    echo "theory B begin process: $1 end" > "$work/file"
+}
+
+# measured LINES: tells of the run what is said above
+measured() {
+    tell=$(instructions tell "$work/file" "$work/run")
+    judge=$(instructions judge "$work/file" "$work/run")
+    more=$(($(kilobytes tell "$work/file" "$work/run") - $(kilobytes judge "$work/file" "$work/run")))
+    text=$("$program" tell "$work/file" "$work/run" | wc -c)
+    told "$1" lines "$tell" '%12d instructions'
+    awk "BEGIN { printf \"%8s judge %d, ratio %.2f; %d kB more, text of %d kB\n\", \"\", $judge, $tell / $judge, $more, $text / 1024 }"
+}
+
+known() {
+    file 0
+    for count in 1250 2500 5000; do
+        { echo process-run; entry; awk -v n="$((count - 8))" 'BEGIN { for (k = 0; k < n; k++) print "know 7" }'; } > "$work/run"
+        measured "$count"
+    done
+}
+
+inputs() {
+    file '! in(x)'
+    for count in 1250 2500 5000; do
+        { echo process-run; entry; awk -v n="$(((count - 8) / 2))" 'BEGIN { for (k = 1; k <= n; k++) printf "rep 0\nin %d 7\n", k }'; } > "$work/run"
+        measured "$count"
+    done
+}
+
+outputs() {
+    file '! in(x); out(x); event Has(x)'
+    for count in 1250 2500 5000; do
+        { echo process-run; entry; awk -v n="$(((count - 8) / 4))" 'BEGIN { for (k = 1; k <= n; k++) printf "rep 0\nin %d 7\nout %d\nevent %d\n", k, k, k }'; } > "$work/run"
+        measured "$count"
+    done
+}
+
+rules() {
+    file '! in(x)'
+    for count in 1250 2500 5000; do
+        { printf 'rule-run\nrule Init\nrule RepStart_ 0\n'; entry
+          awk -v n="$(((count - 10) / 2))" 'BEGIN { for (k = 0; k < n; k++) printf "rule RepCopy_ 1\nknow 7\nrule In_1 %d %d\n", 3 * k + 2, 3 * k + 3 }'; } > "$work/run"
+        measured "$count"
+    done
+}
+
+stored() {
+    file "! (new ~k; lock 'r'; insert ~k, <~k, ~k>; lookup ~k as x in unlock 'r')"
+    for count in 1250 2500 5000; do
+        awk -v n="$((count / 6))" 'BEGIN { print "process-run"; for (k = 1; k <= n; k++) printf "rep 0\nnew %d ~%d\nlock %d\ninsert %d\nfound %d\nunlock %d\n", k, k, k, k, k, k }' > "$work/run"
+        measured "$count"
+    done
+}
+
+chain() {
+    for count in 950 1900 3800; do
+        awk -v n="$count" 'BEGIN { printf "theory B begin process: "; for (k = 0; k < n; k++) printf "event A(); "; print "0 end" }' > "$work/file"
+        awk -v n="$count" 'BEGIN { print "process-run"; for (k = 0; k < n; k++) print "event 0" }' > "$work/run"
+        measured "$count"
+    done
+}
+
+for name in ${*:-known inputs outputs rules stored chain}; do
+    family "$name" 2
+    "$name"
+done

@@ -1,0 +1,54 @@
+use Rattle.std.proofs.Common.{◌≡◌, List, [], ◌∷◌, length, refl, sym, ap, subst, ◌∙◌}
+use Rattle.sap_back.specs.Converted.{IsConverted}
+use Rattle.sap_formula.specs.Form.{LemmaForm, RestrictionForm}
+use Rattle.sap_process.specs.Configuration.{initial}
+use Rattle.sap_read.specs.Files.{FileContent}
+use Rattle.sap_run_texts.specs.declared.run.Run.{Run}
+use Rattle.sap_run_texts.specs.declared.run.Run.TheVariants as run
+use Rattle.sap_runs.specs.declared.process_step.PStep.{PStep}
+use Rattle.sap_runs.specs.declared.rule_step.RStep.{RStep}
+use Rattle.sap_tell.specs.Told.{starts}
+use Rattle.sap_translate.specs.LineCounts.{back_count}
+use Rattle.sap_tool.specs.ToldRuns.{AreLinesOf, own, converted, IsToldAndJudged}
+use Rattle.sap_tool.specs.Verdicts.{AreVerdicts, all_judged, no_line}
+use Rattle.sap_tool.proofs.Ends.{never_empty}
+use Rattle.sap_tool.proofs.telling_laws.telling_by_hand.Goals as goal
+
+pub returns-clause-empty : goal.returns-clause-empty
+returns-clause-empty c = λ f restrictions lemmas. record {
+  lines = [];
+  of_run = own [];
+  written = record {
+    trace = [];
+    told = [];
+    run = record { config = initial f.process; entries = []; marks = []; run = starts };
+    verdicts = [];
+    judged = subst (λ (rs : List RestrictionForm). AreVerdicts f.signature [] (all_judged rs f.lemmas) []) (sym restrictions)
+        (subst (λ (ls : List LemmaForm). AreVerdicts f.signature [] (all_judged [] ls) []) (sym lemmas) no_line);
+    layout = refl;
+  };
+}
+
+nothing : (lines : List PStep) → length lines ≡ 0 → lines ≡ []
+nothing [] e = refl
+nothing (x ∷ xs) e = cc
+
+none_of : (f : FileContent) (r : Run) (lines : List PStep) → AreLinesOf f r lines → r ≡ run.Rules [] → lines ≡ []
+none_of f _ _ (own lines) e = cc (e)
+none_of f _ _ (converted {rule_lines = rule_lines} lines c) e =
+    let none : rule_lines ≡ [] = cc in
+    nothing lines (c.count ∙ ap back_count none)
+
+pub returns-clause-no_lines : goal.returns-clause-no_lines
+returns-clause-no_lines c = λ f text w.
+    let none = none_of f (run.Rules []) w.lines w.of_run refl in
+    record { lines = []; of_run = own []; written = subst (λ (ls : List PStep). IsToldAndJudged f ls text) none w.written }
+
+pub returns-clause-not_bare : goal.returns-clause-not_bare
+returns-clause-not_bare c = λ f r w. never_empty w.written.told w.written.verdicts 10 w.written.layout
+
+by_conversion : (f : FileContent) (rule_lines : List RStep) (lines : List PStep) → AreLinesOf f (run.Rules rule_lines) lines → IsConverted f.signature f.process rule_lines lines
+by_conversion f rule_lines _ (converted lines c) = c
+
+pub returns-clause-converted : goal.returns-clause-converted
+returns-clause-converted c = λ f rule_lines lines a. by_conversion f rule_lines lines a
