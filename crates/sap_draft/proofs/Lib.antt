@@ -1,6 +1,7 @@
 pub mod OnRead
 pub mod Steps
 pub mod ProcessSteps
+pub mod Arguments
 pub mod Processes
 pub mod SoundProcesses
 pub mod Signatures

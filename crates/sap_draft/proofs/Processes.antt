@@ -11,15 +11,17 @@ use Rattle.sap_grammar.specs.Reading.{Read, Reader, after, given}
 use Rattle.sap_grammar.specs.TermReading.{short_term, short_fact, facts}
 use Rattle.sap_grammar.specs.TermGrammar.{IsShort}
 use Rattle.sap_process.specs.Action.{Action}
-use Rattle.sap_draft.specs.Written.{Written}
-use Rattle.sap_draft.specs.ProcessGrammar.{IsAction, IsSeq, IsPar, Ending, EndsProcess, action_acts, action_delete, action_event, action_input, action_insert, action_lock, action_new, action_new_fresh, action_out, action_receive, action_rule, action_send, action_unlock, closed, dangling, one_bar, two_bars, par_more, par_one, seq_action, seq_call, seq_if, seq_if_else, seq_lookup, seq_lookup_else, seq_nil, seq_parentheses, seq_replicated, seq_then}
+use Rattle.sap_macro.specs.Written.{Written}
+use Rattle.sap_draft.specs.ProcessGrammar.{IsAction, IsSeq, IsPar, Ending, EndsProcess, action_acts, action_delete, action_event, action_input, action_insert, action_lock, action_new, action_new_fresh, action_out, action_receive, action_rule, action_send, action_unlock, closed, dangling, one_bar, two_bars, par_more, par_one, seq_action, seq_call, seq_if, seq_if_else, seq_lookup, seq_lookup_else, seq_nil, seq_parentheses, seq_replicated, seq_then, seq_use}
 use Rattle.sap_draft.specs.code.TermLaws.{AreRead}
+use Rattle.sap_draft.proofs.Arguments.{arguments_read}
 use Rattle.sap_draft.proofs.ProcessSteps.{fits}
 use Rattle.sap_draft.specs.code.ProcessReading.{past, Levelled, going_on, seq_at, seq, par}
 
 pub seq_some : {g : Sig} {m : Limits} {n : ℕ} {e : Ending} {p : Written} {a b : List Word} → IsSeq g m e p n a b → 1 ≤ n
 seq_some seq_nil = omega arith
 seq_some seq_call = omega arith
+seq_some (seq_use r small) = omega arith
 seq_some (seq_parentheses r) = omega arith
 seq_some (seq_replicated r) = omega arith
 seq_some (seq_action r) = omega arith
@@ -104,7 +106,8 @@ module _ (laws : AreRead) where
     seq_read : {g : Sig} {m : Limits} {n : ℕ} {e : Ending} {p : Written} {a b : List Word} → IsSeq g m e p n a b → (d : ℕ) → n ≤ d → Follows e b → seq g m d a ≡ Some ((p, n), b)
     seq_read r zero le f = absurd (omega (arith, le, seq_some r))
     seq_read seq_nil (suc d) le f = refl
-    seq_read seq_call (suc d) le f = refl
+    seq_read seq_call (suc d) le f = rw f.no_parenthesis refl
+    seq_read {g = g} {m = m} (seq_use r small) (suc d) le f = rw (arguments_read laws g m r small) refl
     seq_read (seq_parentheses r) (suc d) le f = rw (par_read r d (omega (arith, le)) (at_close _)) refl
     seq_read (seq_replicated r) (suc d) le f = rw (seq_read r d (omega (arith, le)) f) refl
     seq_read {g = g} {m = m} (seq_action r) (suc d) le f =

@@ -9,9 +9,10 @@ use Rattle.sap_grammar.specs.Words.{Word}
 use Rattle.sap_grammar.specs.TermGrammar.{IsShort}
 use Rattle.sap_grammar.specs.FactGrammar.{IsShortFact, AreFacts}
 use Rattle.sap_process.specs.Action.{Action, new, out, send, input, receive, event, insert, delete, lock, unlock, embedded}
-use Rattle.sap_draft.specs.Written.{Written, nil, call, parallel, replicated, act, test, lookup}
-use Rattle.sap_draft.specs.ProcessGrammar.{var, IsAction, IsSeq, IsPar, Ending, action_acts, action_delete, action_event, action_input, action_insert, action_lock, action_new, action_new_fresh, action_out, action_receive, action_rule, action_send, action_unlock, par_more, par_one, seq_action, seq_call, seq_if, seq_if_else, seq_lookup, seq_lookup_else, seq_nil, seq_parentheses, seq_replicated, seq_then}
+use Rattle.sap_macro.specs.Written.{Written, nil, call, parallel, replicated, act, test, lookup}
+use Rattle.sap_draft.specs.ProcessGrammar.{var, IsAction, IsSeq, IsPar, Ending, action_acts, action_delete, action_event, action_input, action_insert, action_lock, action_new, action_new_fresh, action_out, action_receive, action_rule, action_send, action_unlock, par_more, par_one, seq_action, seq_call, seq_if, seq_if_else, seq_lookup, seq_lookup_else, seq_nil, seq_parentheses, seq_replicated, seq_then, seq_use}
 use Rattle.sap_draft.specs.code.TermLaws.{AreSpelled}
+use Rattle.sap_draft.proofs.Arguments.{arguments_too}
 
 module _ (laws : AreSpelled) (h : Sig) where
   short_too : {g : Sig} {m : Limits} {t : Tree} {a b : List Word} → IsShort g m t a b → (u : Tree) × IsShort h m u a b
@@ -41,7 +42,8 @@ module _ (laws : AreSpelled) (h : Sig) where
   mutual
     seq_too : {g : Sig} {m : Limits} {n : ℕ} {e : Ending} {p : Written} {a b : List Word} → IsSeq g m e p n a b → (q : Written) × IsSeq h m e q n a b
     seq_too seq_nil = (nil, seq_nil)
-    seq_too (seq_call {x = x}) = (call x, seq_call)
+    seq_too (seq_call {x = x}) = (call x [], seq_call)
+    seq_too {m = m} (seq_use {x = x} r small) = let us = arguments_too laws h {m = m} r small in (call x us.0, seq_use us.1 us.2)
     seq_too (seq_parentheses r) = let q = par_too r in (q.0, seq_parentheses q.1)
     seq_too (seq_replicated r) = let q = seq_too r in (replicated q.0, seq_replicated q.1)
     seq_too (seq_action r) = let j = action_too r in (act j.0 nil, seq_action j.1)

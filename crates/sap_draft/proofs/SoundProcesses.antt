@@ -12,9 +12,10 @@ use Rattle.sap_grammar.specs.FactGrammar.{IsShortFact, AreFacts}
 use Rattle.sap_grammar.specs.Reading.{Read, Reader, name_at, starts_zero}
 use Rattle.sap_grammar.specs.TermReading.{short_term, short_fact, facts}
 use Rattle.sap_process.specs.Action.{Action, out, send, input, receive, delete, lock, unlock, embedded}
-use Rattle.sap_draft.specs.Written.{Written, nil, call, parallel, test, lookup}
-use Rattle.sap_draft.specs.ProcessGrammar.{var, IsAction, IsSeq, IsPar, Ending, action_acts, action_delete, action_event, action_input, action_insert, action_lock, action_new, action_new_fresh, action_out, action_receive, action_rule, action_send, action_unlock, closed, dangling, one_bar, two_bars, par_more, par_one, seq_action, seq_call, seq_if, seq_if_else, seq_lookup, seq_lookup_else, seq_nil, seq_parentheses, seq_replicated, seq_then}
-use Rattle.sap_draft.specs.code.ProcessReading.{past, channel, bound, right_side, embedded_rule, shown_event, inserted, on_term, state_action, action_of, Levelled, branches, Choosing, compared, condition, looked_up, looking, going_on, call_or_action, seq_at, par_at, seq, par}
+use Rattle.sap_macro.specs.Written.{Written, nil, call, parallel, test, lookup}
+use Rattle.sap_draft.specs.ProcessGrammar.{var, IsAction, IsSeq, IsPar, Ending, action_acts, action_delete, action_event, action_input, action_insert, action_lock, action_new, action_new_fresh, action_out, action_receive, action_rule, action_send, action_unlock, closed, dangling, one_bar, two_bars, par_more, par_one, seq_action, seq_call, seq_if, seq_if_else, seq_lookup, seq_lookup_else, seq_nil, seq_parentheses, seq_replicated, seq_then, seq_use}
+use Rattle.sap_draft.specs.code.ProcessReading.{past, channel, bound, right_side, embedded_rule, shown_event, inserted, on_term, state_action, action_of, Levelled, branches, Choosing, compared, condition, looked_up, looking, going_on, arguments, used, call_or_action, seq_at, par_at, seq, par}
+use Rattle.sap_draft.proofs.Arguments.{AreArguments, arguments_sound}
 use Rattle.sap_draft.proofs.Processes.{NoElse, seq_some}
 use Rattle.sap_draft.proofs.OnRead.{Says, OnRead, on_all, after_on, given_on, if_on, starts_is, name_is, same_bytes}
 use Rattle.sap_draft.specs.code.TermLaws.{AreRead}
@@ -233,16 +234,25 @@ module _ (laws : AreRead) where
         (λ le. let some : 1 ≤ d = le_of 1 d le in record { ending = closed; spelled = seq_action h; within = omega (arith, some); no_else = tt })
         (λ le. tt))
 
+    -- behind the name of a process
+    use_sound : (x : List ℕ) (ts : List Word) → OnRead (λ w b. Spelled g m (suc d) (name x ∷ ts) w b) (used g m x ts)
+    use_sound x ts =
+        let Q : Says Levelled = λ w b. Spelled g m (suc d) (name x ∷ ts) w b in
+        if_on Q (starts (codes "(") ts) _ _
+        (λ e. after_on (λ us b. AreArguments g m us (drop 1 ts) b) Q (arguments g m (drop 1 ts)) _ (arguments_sound laws g m (drop 1 ts)) (λ us b h.
+        record {
+          ending = closed;
+          spelled = subst (λ (y : List Word). IsSeq g m closed (call x us) 1 (name x ∷ y) b) (sym (starts_is (codes "(") ts e)) (seq_use h.spelled h.small);
+          within = omega arith;
+          no_else = tt;
+        }))
+        (λ e. record { ending = closed; spelled = seq_call; within = omega arith; no_else = tt })
+
     call_sound : (ts : List Word) → OnRead (λ w b. Spelled g m (suc d) ts w b) (call_or_action g m s d (name_at ts) ts)
     call_sound ts = by_word (name_at ts) refl
       where
         by_word : (o : Option (List ℕ)) → name_at ts ≡ o → OnRead (λ w b. Spelled g m (suc d) ts w b) (call_or_action g m s d o ts)
-        by_word (Some x) e = record {
-          ending = closed;
-          spelled = subst (λ (y : List Word). IsSeq g m closed (call x) 1 y (drop 1 ts)) (sym (name_is ts x e)) seq_call;
-          within = omega arith;
-          no_else = tt;
-        }
+        by_word (Some x) e = subst (λ (y : List Word). OnRead (λ w b. Spelled g m (suc d) y w b) (used g m x (drop 1 ts))) (sym (name_is ts x e)) (use_sound x (drop 1 ts))
         by_word None e = after_on (Acts g m ts) (λ w b. Spelled g m (suc d) ts w b) (action_of g m ts) _ (action_sound g m ts) (λ k r h. going_sound ts k r h)
 
     -- what is read behind a mark, where the mark stands

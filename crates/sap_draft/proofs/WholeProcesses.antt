@@ -5,7 +5,7 @@ use Rattle.sap_terms.specs.Signature.{Sig}
 use Rattle.sap_grammar.specs.Words.{Word, words_of}
 use Rattle.sap_grammar.specs.Reading.{Read}
 use Rattle.sap_text.specs.declared.token.Token.{Token}
-use Rattle.sap_draft.specs.Written.{Written}
+use Rattle.sap_macro.specs.Written.{Written}
 use Rattle.sap_draft.specs.ProcessGrammar.{IsPar, EndsProcess}
 use Rattle.sap_draft.specs.ProcessGrammar.{IsProcess}
 use Rattle.sap_draft.specs.code.ProcessReading.{Levelled, par}

@@ -2,9 +2,7 @@ pub use Rattle.sap_process.specs.Action
 pub use Rattle.sap_grammar.specs.Words
 pub use Rattle.sap_grammar.specs.TermGrammar
 pub use Rattle.sap_grammar.specs.FactGrammar
-pub mod Written
 pub mod ProcessGrammar
 pub mod Printable
-pub mod Drafts
 pub mod ProcessExamples
 pub mod code

@@ -7,7 +7,7 @@ use Rattle.sap_grammar.specs.TermGrammar.{sorted}
 use Rattle.sap_grammar.specs.FactGrammar.{fact}
 use Rattle.sap_draft.specs.ProcessGrammar.{var}
 use Rattle.sap_process.specs.Action.{new, send, input, lock, unlock, embedded}
-use Rattle.sap_draft.specs.Written.{Written, nil, call, parallel, replicated, act, test, lookup}
+use Rattle.sap_macro.specs.Written.{Written, nil, call, parallel, replicated, act, test, lookup}
 
 -- `'a'`
 abbrev pub a : Tree
@@ -24,7 +24,7 @@ dangling_words =
 
 -- the `else` belongs to the second `if`
 abbrev pub dangling_process : Written
-dangling_process = test a a (test a a (call (codes "P")) (call (codes "Q"))) nil
+dangling_process = test a a (test a a (call (codes "P") []) (call (codes "Q") [])) nil
 
 -- `if 'a' = 'a' then ( if 'a' = 'a' then P ) else Q`
 abbrev pub parted_words : List Word
@@ -33,14 +33,14 @@ parted_words =
 
 -- the `else` belongs to the first
 abbrev pub parted_process : Written
-parted_process = test a a (test a a (call (codes "P")) nil) (call (codes "Q"))
+parted_process = test a a (test a a (call (codes "P") []) nil) (call (codes "Q") [])
 
 -- `P | Q || 0`
 abbrev pub parallel_words : List Word
 parallel_words = name (codes "P") ∷ mark (codes "|") ∷ name (codes "Q") ∷ mark (codes "||") ∷ number (codes "0") ∷ []
 
 abbrev pub parallel_process : Written
-parallel_process = parallel (call (codes "P")) (parallel (call (codes "Q")) nil)
+parallel_process = parallel (call (codes "P") []) (parallel (call (codes "Q") []) nil)
 
 -- `new ~x ; out ( ~x , 'a' ) ; ! in ( y )`
 abbrev pub action_words : List Word
@@ -70,3 +70,25 @@ lookup_words =
 
 abbrev pub lookup_process : Written
 lookup_process = lookup a (var Msg (codes "x")) (act (lock a 0) nil) (act (unlock a 0) nil)
+
+-- `A ( 'a' , ~x ) | P`
+abbrev pub use_words : List Word
+use_words =
+    name (codes "A") ∷ mark (codes "(") ∷ quoted (codes "a") ∷ mark (codes ",") ∷ mark (codes "~") ∷ name (codes "x") ∷ mark (codes ")") ∷ mark (codes "|")
+    ∷ name (codes "P") ∷ []
+
+abbrev pub use_process : Written
+use_process = parallel (call (codes "A") (a ∷ sorted Fresh (codes "x") ∷ [])) (call (codes "P") [])
+
+-- `A ( )`
+abbrev pub empty_use_words : List Word
+empty_use_words = name (codes "A") ∷ mark (codes "(") ∷ mark (codes ")") ∷ []
+
+-- `A ( 'a' , )`
+abbrev pub comma_use_words : List Word
+comma_use_words = name (codes "A") ∷ mark (codes "(") ∷ quoted (codes "a") ∷ mark (codes ",") ∷ mark (codes ")") ∷ []
+
+-- `( A ) ( 'a' )`
+abbrev pub parted_use_words : List Word
+parted_use_words =
+    mark (codes "(") ∷ name (codes "A") ∷ mark (codes ")") ∷ mark (codes "(") ∷ quoted (codes "a") ∷ mark (codes ")") ∷ []

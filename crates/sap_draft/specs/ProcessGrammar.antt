@@ -9,12 +9,13 @@ use Rattle.sap_terms.specs.Tree.{Tree}
 use Rattle.sap_terms.specs.Signature.{Sig}
 use Rattle.sap_grammar.specs.Words.{Word, mark, name, number, starts}
 use Rattle.sap_grammar.specs.declared.limits.Limits.{Limits}
-use Rattle.sap_grammar.specs.TermGrammar.{IsShort}
+use Rattle.sap_grammar.specs.Sizes.{AreSmall}
+use Rattle.sap_grammar.specs.TermGrammar.{IsShort, IsList}
 use Rattle.sap_grammar.specs.FactGrammar.{IsShortFact, AreFacts}
 use Rattle.sap_process.specs.Action.{Action, new, out, send, input, receive, event, insert, delete, lock, unlock, embedded}
 use Rattle.sap_terms.specs.declared.limits.TheConstants.{MOST_PROCESS_LEVELS}
 use Rattle.sap_draft.specs.declared.limits.TheConstants.{FILE_LIMITS}
-use Rattle.sap_draft.specs.Written.{Written, nil, call, parallel, replicated, act, test, lookup}
+use Rattle.sap_macro.specs.Written.{Written, nil, call, parallel, replicated, act, test, lookup}
 
 -- the variable of this name and sort
 abbrev pub var : Sort → List ℕ → Var
@@ -68,12 +69,14 @@ pub data IsBar : List ℕ → Type 0 where
   two_bars : IsBar (codes "||")
 
 mutual
-  -- a process that is no parallel without parentheses; what is missing behind an action or for `else` is `0`, and counts as
-  -- one level
+  -- a process that is no parallel without parentheses; the name of a process stands alone, or with terms in parentheses, one
+  -- or more; what is missing behind an action or for `else` is `0`, and counts as one level
   pub data IsSeq (g : Sig) (m : Limits)
       : Ending → Written → ℕ → List Word → List Word → Type 0 where
     seq_nil : {a : List Word} → IsSeq g m closed nil 1 (number (codes "0") ∷ a) a
-    seq_call : {x : List ℕ} {a : List Word} → IsSeq g m closed (call x) 1 (name x ∷ a) a
+    seq_call : {x : List ℕ} {a : List Word} → IsSeq g m closed (call x []) 1 (name x ∷ a) a
+    seq_use : {x : List ℕ} {ts : List Tree} {a b : List Word} → IsList g ts a b → AreSmall m ts
+        → IsSeq g m closed (call x ts) 1 (name x ∷ mark (codes "(") ∷ a) b
     seq_parentheses : {p : Written} {n : ℕ} {a b : List Word}
         → IsPar g m p n a (mark (codes ")") ∷ b)
         → IsSeq g m closed p (n + 1) (mark (codes "(") ∷ a) b

@@ -5,10 +5,10 @@ ghost use Rattle.sap_grammar.specs.Words.{Word};
 ghost use Rattle.sap_grammar.specs.ByteWords.{AreTokenWords};
 ghost use Rattle.sap_grammar.specs.declared.limits.Limits.{Limits};
 ghost use Rattle.sap_draft.specs.code.TermLaws.{AreRead, AreSpelled};
-ghost use Rattle.sap_draft.specs.Written.{Written};
+ghost use Rattle.sap_macro.specs.Written.{Written};
 ghost use Rattle.sap_draft.specs.ProcessGrammar.{IsPar, IsProcess, EndsProcess};
-ghost use Rattle.sap_draft.specs.Printable.{IsWrittenOver, IsPrintableWritten};
-ghost use Rattle.sap_draft.specs.ProcessExamples.{dangling_words, dangling_process, parted_words, parted_process, parallel_words, parallel_process, action_words, action_process, rule_words, rule_process, lookup_words, lookup_process};
+ghost use Rattle.sap_draft.specs.Printable.{IsSpelledWritten};
+ghost use Rattle.sap_draft.specs.ProcessExamples.{dangling_words, dangling_process, parted_words, parted_process, parallel_words, parallel_process, action_words, action_process, rule_words, rule_process, lookup_words, lookup_process, use_words, use_process, empty_use_words, comma_use_words, parted_use_words};
 ghost use Rattle.sap_draft.specs.declared.limits.TheConstants.{FILE_LIMITS};
 
 use sap_grammar::{facts_are_read, printed_words, same_grammar, terms_are_read};
@@ -54,17 +54,16 @@ pub fn some_process()
     term_laws();
 }
 
-/// A law: a process that words of tokens spell can be printed, where the signature holds its symbols and none of its binders is a
-/// constant.
+/// A law: whatever stands in a process that words of tokens spell can be printed, where it is over the signature. So an argument is
+/// looked at by itself, since it may be put nowhere.
 pub fn processes_are_printable()
     ensures { (most : ℕ) (g : Sig) (m : Limits) (p : Written) (n : ℕ) (a b : List Word)
-        → IsPar g m p n a b → AreTokenWords most a → IsWrittenOver g p
-        → IsPrintableWritten most g p }
+        → IsPar g m p n a b → AreTokenWords most a → IsSpelledWritten most g p }
 {
     printed_words();
 }
 
-/// A law: six worked examples of which words spell which process, with how many levels.
+/// A law: seven worked examples of which words spell which process, with how many levels, and three of words that spell none.
 pub fn processes_by_hand()
     ensures dangling { (g : Sig) → IsPar g FILE_LIMITS dangling_process 3 dangling_words [] }
     ensures parted { (g : Sig) → IsPar g FILE_LIMITS parted_process 4 parted_words [] }
@@ -72,4 +71,10 @@ pub fn processes_by_hand()
     ensures actions { IsPar pairs_alone FILE_LIMITS action_process 5 action_words [] }
     ensures rule { (g : Sig) → IsPar g FILE_LIMITS rule_process 2 rule_words [] }
     ensures lookup { (g : Sig) → IsPar g FILE_LIMITS lookup_process 3 lookup_words [] }
-{}
+    ensures uses { (g : Sig) → IsPar g FILE_LIMITS use_process 2 use_words [] }
+    ensures no_arguments { (g : Sig) (p : Written) → IsProcess g p empty_use_words → ⊥ }
+    ensures last_comma { (g : Sig) (p : Written) → IsProcess g p comma_use_words → ⊥ }
+    ensures name_apart { (g : Sig) (p : Written) → IsProcess g p parted_use_words → ⊥ }
+{
+    term_laws();
+}

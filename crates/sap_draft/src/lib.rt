@@ -1,12 +1,10 @@
 //! Processes as they are written: the grammar and its reader.
 #![tactic(auto)]
 
-mod draft;
 mod laws;
 mod limits;
 mod process;
 
-pub use draft::{Doing, Draft};
 pub use laws::{
     one_process, processes_are_printable, processes_by_hand, same_processes, some_process,
 };

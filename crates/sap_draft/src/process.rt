@@ -2,18 +2,19 @@
 ghost use Rattle.std.specs.Prelude.{IfOk, IfSome, IfNone};
 ghost use Rattle.sap_terms.specs.Signature.{Sig};
 ghost use Rattle.sap_grammar.specs.Words.{words_of};
-ghost use Rattle.sap_draft.specs.Written.{Written};
+ghost use Rattle.sap_macro.specs.Written.{Written};
 ghost use Rattle.sap_draft.specs.ProcessGrammar.{IsProcess};
-ghost use Rattle.sap_draft.specs.Drafts.{written};
+ghost use Rattle.sap_macro.specs.Sources.{written};
 
 mod actions;
 mod build;
 mod choice;
 mod grammar;
+mod uses;
 
-use crate::draft::Draft;
 use crate::laws::term_laws;
 use crate::process::grammar::read_par;
+use sap_macro::Source;
 use sap_terms::{MOST_PROCESS_LEVELS, Mem, Signature};
 use sap_text::Token;
 use std::alloc::Global;
@@ -24,7 +25,7 @@ pub fn read_process(
     sig: &Signature,
     bytes: &[u8],
     tokens: &[Token],
-) -> Result<Option<Box<Draft>>, Mem>
+) -> Result<Option<Box<Source>>, Mem>
     ensures found { IfOk result (λ o. IfSome o (λ p. IsProcess sig.now (written p.value)
         (words_of bytes.now tokens.now))) }
     ensures none { IfOk result (λ o. IfNone o ((g : Sig) (p : Written)
@@ -35,7 +36,7 @@ pub fn read_process(
         None => Ok(None),
         Some((process, rest)) => {
             if rest.is_empty() {
-                Ok(Some(process.draft))
+                Ok(Some(process.source))
             } else {
                 Ok(None)
             }

@@ -5,7 +5,7 @@ use Rattle.std.proofs.lemmas.Slice.Eq.{bytes_eq-Decides}
 use Rattle.std.specs.Str.{bytes_eq}
 use Rattle.sap_grammar.specs.Words.{Word, mark, name}
 use Rattle.sap_expect.specs.declared.wanted.Part.{Part}
-use Rattle.sap_expect.specs.declared.wanted.Part.TheVariants.{File, Items, Builtin, MoreBuiltins, Function, Privacy, MoreFunctions, Lemma, Attribute, MoreAttributes, Mode, Sequence, Then, Else, Bars, InnerBars, NewName, Message, Facts, MoreFacts, Fact, Arrow, Shown, MoreShown, Term, Application, Terms, MoreTerms, MoreParts, Formula, Joined, Second, SecondJoined, InnerFormula, InnerJoined, InnerSecond, InnerSecondJoined, Truth, Atom, UpperAtom, LowerAtom, Times, Time, Binders, MoreBinders}
+use Rattle.sap_expect.specs.declared.wanted.Part.TheVariants.{File, Items, Builtin, MoreBuiltins, Function, Privacy, MoreFunctions, Parameters, MoreParameters, Lemma, Attribute, MoreAttributes, Mode, Sequence, Arguments, Then, Else, Bars, InnerBars, NewName, Message, Facts, MoreFacts, Fact, Arrow, Shown, MoreShown, Term, Application, Terms, MoreTerms, MoreParts, Formula, Joined, Second, SecondJoined, InnerFormula, InnerJoined, InnerSecond, InnerSecondJoined, Truth, Atom, UpperAtom, LowerAtom, Times, Time, Binders, MoreBinders}
 use Rattle.sap_expect.specs.FileTable.{Reads, Wanted, any_name, arity, capital, in_quotes, nil, otherwise, part, reads_end, reads_word, sign, small, takes_word, word}
 use Rattle.sap_expect.specs.code.Steps.{part_weight, total}
 use Rattle.sap_expect.proofs.Endings as endings
@@ -20,11 +20,14 @@ ended MoreBuiltins vs = refl
 ended Function vs = refl
 ended Privacy vs = refl
 ended MoreFunctions vs = refl
+ended Parameters vs = refl
+ended MoreParameters vs = refl
 ended Lemma vs = refl
 ended Attribute vs = refl
 ended MoreAttributes vs = refl
 ended Mode vs = refl
 ended Sequence vs = refl
+ended Arguments vs = refl
 ended Then vs = refl
 ended Else vs = refl
 ended Bars vs = refl
@@ -96,11 +99,14 @@ is_lighter MoreBuiltins = refl
 is_lighter Function = refl
 is_lighter Privacy = refl
 is_lighter MoreFunctions = refl
+is_lighter Parameters = refl
+is_lighter MoreParameters = refl
 is_lighter Lemma = refl
 is_lighter Attribute = refl
 is_lighter MoreAttributes = refl
 is_lighter Mode = refl
 is_lighter Sequence = refl
+is_lighter Arguments = refl
 is_lighter Then = refl
 is_lighter Else = refl
 is_lighter Bars = refl

@@ -2,7 +2,7 @@
 use Rattle.std.specs.Prelude.{codes, List, [], ◌∷◌}
 use Rattle.sap_grammar.specs.Words.{Word, mark, name, number, quoted}
 use Rattle.sap_expect.specs.declared.wanted.Part.{Part}
-use Rattle.sap_expect.specs.declared.wanted.Part.TheVariants.{File, Items, Builtin, MoreBuiltins, Function, Privacy, MoreFunctions, Lemma, Attribute, MoreAttributes, Mode, Sequence, Then, Else, Bars, InnerBars, NewName, Message, Facts, MoreFacts, Fact, Arrow, Shown, MoreShown, Term, Application, Terms, MoreTerms, MoreParts, Formula, Joined, Second, SecondJoined, InnerFormula, InnerJoined, InnerSecond, InnerSecondJoined, Truth, Atom, UpperAtom, LowerAtom, Times, Time, Binders, MoreBinders}
+use Rattle.sap_expect.specs.declared.wanted.Part.TheVariants.{File, Items, Builtin, MoreBuiltins, Function, Privacy, MoreFunctions, Parameters, MoreParameters, Lemma, Attribute, MoreAttributes, Mode, Sequence, Arguments, Then, Else, Bars, InnerBars, NewName, Message, Facts, MoreFacts, Fact, Arrow, Shown, MoreShown, Term, Application, Terms, MoreTerms, MoreParts, Formula, Joined, Second, SecondJoined, InnerFormula, InnerJoined, InnerSecond, InnerSecondJoined, Truth, Atom, UpperAtom, LowerAtom, Times, Time, Binders, MoreBinders}
 
 abbrev pub any_name : Word
 any_name = name (97 ∷ [])
@@ -24,11 +24,14 @@ ending MoreBuiltins = mark (codes "end") ∷ []
 ending Function = any_name ∷ mark (codes "/") ∷ a_zero ∷ mark (codes "end") ∷ []
 ending Privacy = mark (codes "end") ∷ []
 ending MoreFunctions = mark (codes "end") ∷ []
+ending Parameters = mark (codes "=") ∷ []
+ending MoreParameters = mark (codes ")") ∷ []
 ending Lemma = mark (codes ":") ∷ mark (codes "\"") ∷ name (codes "T") ∷ mark (codes "\"") ∷ []
 ending Attribute = name (codes "reuse") ∷ []
 ending MoreAttributes = mark (codes "]") ∷ []
 ending Mode = mark (codes "\"") ∷ name (codes "T") ∷ mark (codes "\"") ∷ []
 ending Sequence = a_zero ∷ []
+ending Arguments = mark (codes "(") ∷ an_empty ∷ mark (codes ")") ∷ []
 ending Then = mark (codes ";") ∷ a_zero ∷ []
 ending Else = mark (codes "else") ∷ a_zero ∷ []
 ending Bars = mark (codes "end") ∷ []

@@ -20,10 +20,10 @@ use Rattle.sap_statements.specs.declared.statement.Statement.{Statement}
 use Rattle.sap_draft.specs.ProcessGrammar.{Ending, closed, dangling}
 use Rattle.sap_read.specs.Files.{IsParted}
 use Rattle.sap_read.specs.Item.{Item, Standing}
-use Rattle.sap_read.specs.ItemGrammar.{AreItems, IsItem, item_builtins, item_definition, item_functions, item_process, item_statement}
+use Rattle.sap_read.specs.ItemGrammar.{AreItems, AreParameters, HasParameters, IsItem, parameters_last, parameters_more, with_parameters, without_parameters, item_builtins, item_definition, item_functions, item_process, item_statement}
 use Rattle.sap_expect.specs.declared.wanted.Part.{Part}
-use Rattle.sap_expect.specs.declared.wanted.Part.TheVariants.{Application, Attribute, Bars, Builtin as ABuiltin, Else, File, Formula, Function, Items, Lemma, Mode as AMode, MoreAttributes, MoreBuiltins, MoreFunctions, Privacy, Then}
-use Rattle.sap_expect.specs.FileTable.{FollowsTable, Reads, Wanted, is_arity, part, reads_end, row}
+use Rattle.sap_expect.specs.declared.wanted.Part.TheVariants.{Application, Attribute, Bars, Builtin as ABuiltin, Else, File, Formula, Function, Items, Lemma, Mode as AMode, MoreAttributes, MoreBuiltins, MoreFunctions, MoreParameters, Parameters, Privacy, Then}
+use Rattle.sap_expect.specs.FileTable.{FollowsTable, Reads, Wanted, any_name, is_arity, part, reads_end, row}
 use Rattle.sap_expect.specs.FirstWrong.{IsFirstWrong}
 use Rattle.sap_expect.proofs.FollowFormula.{iff_follows, quoted}
 use Rattle.sap_expect.proofs.FollowProcess.{Behind, process_follows}
@@ -131,10 +131,19 @@ module _ (r : List Word) (n : NextItem r) where
   statement_follows (is_lemma x d q) h =
       on_row refl (on_word refl (lemma_follows x (mode_follows d (iff_follows r quoted q.spelled (record { rest = r; is = refl; reads = h })))))
 
+  parameters_follow : {xs : List (List ℕ)} {a b : List Word} {vs : List Wanted} → AreParameters xs a b → Reads vs (b ++ r) → Reads (any_name ∷ part MoreParameters ∷ vs) (a ++ r)
+  parameters_follow parameters_last h = on_word refl (on_row refl h)
+  parameters_follow (parameters_more s) h = on_word refl (on_row refl (parameters_follow s h))
+
+  -- what is behind the name of a definition, up to its `=`
+  heading_follows : {xs : List (List ℕ)} {a b : List Word} {vs : List Wanted} → HasParameters xs a b → Reads vs (b ++ r) → Reads (part Parameters ∷ vs) (a ++ r)
+  heading_follows without_parameters h = on_row refl h
+  heading_follows (with_parameters s) h = on_row refl (parameters_follow s (on_word refl h))
+
   pub item_follows : {g : Sig} {i : Item} {a : List Word} → IsItem g i a → Reads (part Items ∷ []) r → Reads (part Items ∷ []) (a ++ r)
   item_follows (item_builtins q) h = on_row refl (on_word refl (builtins_follow q h))
   item_follows (item_functions q) h = on_row refl (on_word refl (symbols_follow q h))
-  item_follows (item_definition q) h = on_row refl (on_word refl (on_word refl (process_follows r q.spelled behind (bars h))))
+  item_follows (item_definition s q) h = on_row refl (on_word refl (heading_follows s (process_follows r q.spelled behind (bars h))))
   item_follows (item_process q) h = on_row refl (on_word refl (process_follows r q.spelled behind (bars h)))
   item_follows (item_statement q) h = statement_follows q h
 

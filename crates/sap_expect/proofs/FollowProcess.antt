@@ -1,15 +1,15 @@
 -- The words of processes follow the table.
-use Rattle.std.proofs.Common.{ℕ, List, ◌∷◌, ◌++◌, refl}
-use Rattle.std.specs.Prelude.{codes}
+use Rattle.std.proofs.Common.{◌≡◌, ℕ, Bool, true, false, List, [], ◌∷◌, ◌++◌, Option, Some, None, refl}
+use Rattle.std.specs.Prelude.{codes, if◌then◌else◌}
 use Rattle.sap_terms.specs.Signature.{Sig}
-use Rattle.sap_grammar.specs.Words.{Word, mark}
+use Rattle.sap_grammar.specs.Words.{Word, is_mark, mark}
 use Rattle.sap_grammar.specs.declared.limits.Limits.{Limits}
 use Rattle.sap_process.specs.Action.{Action}
-use Rattle.sap_draft.specs.Written.{Written}
-use Rattle.sap_draft.specs.ProcessGrammar.{Ending, IsAction, IsBar, IsPar, IsSeq, action_acts, action_delete, action_event, action_input, action_insert, action_lock, action_new, action_new_fresh, action_out, action_receive, action_rule, action_send, action_unlock, closed, dangling, one_bar, par_more, par_one, seq_action, seq_call, seq_if, seq_if_else, seq_lookup, seq_lookup_else, seq_nil, seq_parentheses, seq_replicated, seq_then, two_bars}
-use Rattle.sap_expect.specs.declared.wanted.Part.TheVariants.{Application, Bars, Else, InnerBars, Sequence, Then}
+use Rattle.sap_macro.specs.Written.{Written}
+use Rattle.sap_draft.specs.ProcessGrammar.{Ending, IsAction, IsBar, IsPar, IsSeq, action_acts, action_delete, action_event, action_input, action_insert, action_lock, action_new, action_new_fresh, action_out, action_receive, action_rule, action_send, action_unlock, closed, dangling, one_bar, par_more, par_one, seq_action, seq_call, seq_if, seq_if_else, seq_lookup, seq_lookup_else, seq_nil, seq_parentheses, seq_replicated, seq_then, seq_use, two_bars}
+use Rattle.sap_expect.specs.declared.wanted.Part.TheVariants.{Application, Arguments, Bars, Else, InnerBars, Sequence, Then}
 use Rattle.sap_expect.specs.FileTable.{Reads, Wanted, part}
-use Rattle.sap_expect.proofs.FollowTerms.{IsPlain, NoRow, args_follow, facts_follow, instead, on_row, on_word, plain, plain_of, shown_follow, term_follows}
+use Rattle.sap_expect.proofs.FollowTerms.{IsPlain, NoRow, args_follow, facts_follow, instead, list_follows, on_row, on_word, plain, plain_of, shown_follow, term_follows}
 
 -- what no `else` may stand behind, where the process ends so
 abbrev pub NoElse : Ending → List Word → Type 0
@@ -21,6 +21,15 @@ pub record Behind (e : Ending) (ws : List Word) : Type 0 where
   pub no_parenthesis : NoRow Application ws
   pub no_semicolon : NoRow Then ws
   pub no_else : NoElse e ws
+
+-- where no parenthesis stands, no arguments do
+no_arguments : (ws : List Word) → NoRow Application ws → NoRow Arguments ws
+no_arguments [] n = n
+no_arguments (w ∷ ws) n = by (is_mark (codes "(") w) n
+  where
+    by : {xs ys : List Wanted} (c : Bool) → (if c then Some xs else None) ≡ None → (if c then Some ys else None) ≡ None
+    by true e = absurd (cc (e))
+    by false e = refl
 
 module _ (r : List Word) where
   event_follows : {g : Sig} {a b : List Word} {vs : List Wanted} → IsPlain g a b → Reads (part Then ∷ vs) (b ++ r) → Reads (part Sequence ∷ vs) (mark (codes "event") ∷ (a ++ r))
@@ -69,7 +78,8 @@ module _ (r : List Word) where
     pub seq_follows : {g : Sig} {m : Limits} {e : Ending} {p : Written} {n : ℕ} {a b : List Word} {vs : List Wanted} → IsSeq g m e p n a b → Behind e (b ++ r) → Reads vs (b ++ r)
         → Reads (part Sequence ∷ vs) (a ++ r)
     seq_follows seq_nil o h = on_row refl h
-    seq_follows seq_call o h = on_row refl h
+    seq_follows (seq_call {a = a}) o h = on_row refl (instead (a ++ r) refl (no_arguments (a ++ r) o.no_parenthesis) h)
+    seq_follows (seq_use s small) o h = on_row refl (on_row refl (list_follows r s h))
     seq_follows (seq_parentheses s) o h = on_row refl (par_follows s h)
     seq_follows (seq_replicated s) o h = on_row refl (seq_follows s o h)
     seq_follows (seq_action {b = b} s) o h = action_follows s o.no_parenthesis (instead (b ++ r) refl o.no_semicolon h)

@@ -93,7 +93,7 @@ module _ (r : List Word) where
     rest_follows (rest_last s) h = term_follows s refl (on_row refl h)
     rest_follows (rest_more s q) h = term_follows s refl (on_row refl (rest_follows q h))
 
-    list_follows : {g : Sig} {ts : List Tree} {a b : List Word} {vs : List Wanted} → IsList g ts a b → Reads vs (b ++ r) → Reads (part Term ∷ part MoreTerms ∷ vs) (a ++ r)
+    pub list_follows : {g : Sig} {ts : List Tree} {a b : List Word} {vs : List Wanted} → IsList g ts a b → Reads vs (b ++ r) → Reads (part Term ∷ part MoreTerms ∷ vs) (a ++ r)
     list_follows (list_last s) h = term_follows s refl (on_row refl h)
     list_follows (list_more s q) h = term_follows s refl (on_row refl (list_follows q h))
 

@@ -3,7 +3,7 @@ use Rattle.std.proofs.Common.{◌≡◌, ◌≤◌, ◌<◌, ◌+◌, ℕ, zero,
 use Rattle.std.proofs.lemmas.List.{append-nil}
 use Rattle.sap_grammar.specs.Words.{Word}
 use Rattle.sap_expect.specs.FileTable.{FollowsTable, Reads, Wanted, reads_end}
-use Rattle.sap_expect.specs.ItemExamples.{endless, large_arity, one_else, two_elses, two_equivalences, unclosed, with_comma}
+use Rattle.sap_expect.specs.ItemExamples.{empty_use, endless, large_arity, last_comma, name_apart, one_else, two_elses, two_equivalences, unclosed, with_arguments, with_comma}
 use Rattle.sap_expect.specs.FirstWrong.{GoOn, IsFirstWrong}
 use Rattle.sap_expect.proofs.FirstWrong.{end_at, start, wrong_at}
 use Rattle.sap_expect.proofs.Reaching.{Answer, next_at, next_told, reach, reach_goes, turns}
@@ -95,6 +95,19 @@ arity_wrong = computed large_arity 7 (omega arith) refl
 pub equivalence_wrong : IsFirstWrong FollowsTable two_equivalences 10
 equivalence_wrong = computed two_equivalences 10 (omega arith) refl
 
+pub empty_use_wrong : IsFirstWrong FollowsTable empty_use 7
+empty_use_wrong = computed empty_use 7 (omega arith) refl
+
+pub name_apart_wrong : IsFirstWrong FollowsTable name_apart 8
+name_apart_wrong = computed name_apart 8 (omega arith) refl
+
+pub last_comma_wrong : IsFirstWrong FollowsTable last_comma 8
+last_comma_wrong = computed last_comma 8 (omega arith) refl
+
+pub arguments_follow : FollowsTable with_arguments
+arguments_follow =
+    subst (λ (x : List Word). Reads start x) (append-nil with_arguments) ((reach_goes start with_arguments [] refl).on [] reads_end)
+
 pub one_else_follows : FollowsTable one_else
 one_else_follows = subst (λ (x : List Word). Reads start x) (append-nil one_else) ((reach_goes start one_else [] refl).on [] reads_end)
 
@@ -109,6 +122,9 @@ not_behind_the_comma h = not_at with_comma 9 10 (λ e. absurd (omega (arith, e))
 
 pub not_the_first_else : IsFirstWrong FollowsTable two_elses 11 → ⊥
 not_the_first_else h = not_at two_elses 13 11 (λ e. absurd (omega (arith, e))) else_wrong h
+
+pub not_the_first_parenthesis : IsFirstWrong FollowsTable name_apart 5 → ⊥
+not_the_first_parenthesis h = not_at name_apart 8 5 (λ e. absurd (omega (arith, e))) name_apart_wrong h
 
 pub no_word_wrong : (k : ℕ) → IsFirstWrong FollowsTable one_else k → ⊥
 no_word_wrong k h = h.isnt one_else_follows

@@ -5,7 +5,7 @@ use Rattle.sap_grammar.specs.Words.{Word, is_mark, is_lower, is_upper}
 use Rattle.sap_grammar.specs.Reading.{as_name, as_quoted, as_number, is_name, is_zero}
 use Rattle.sap_grammar.specs.Declarations.{value}
 use Rattle.sap_expect.specs.declared.wanted.Part.{Part}
-use Rattle.sap_expect.specs.declared.wanted.Part.TheVariants.{File, Items, Builtin, MoreBuiltins, Function, Privacy, MoreFunctions, Lemma, Attribute, MoreAttributes, Mode, Sequence, Then, Else, Bars, InnerBars, NewName, Message, Facts, MoreFacts, Fact, Arrow, Shown, MoreShown, Term, Application, Terms, MoreTerms, MoreParts, Formula, Joined, Second, SecondJoined, InnerFormula, InnerJoined, InnerSecond, InnerSecondJoined, Truth, Atom, UpperAtom, LowerAtom, Times, Time, Binders, MoreBinders}
+use Rattle.sap_expect.specs.declared.wanted.Part.TheVariants.{File, Items, Builtin, MoreBuiltins, Function, Privacy, MoreFunctions, Parameters, MoreParameters, Lemma, Attribute, MoreAttributes, Mode, Sequence, Arguments, Then, Else, Bars, InnerBars, NewName, Message, Facts, MoreFacts, Fact, Arrow, Shown, MoreShown, Term, Application, Terms, MoreTerms, MoreParts, Formula, Joined, Second, SecondJoined, InnerFormula, InnerJoined, InnerSecond, InnerSecondJoined, Truth, Atom, UpperAtom, LowerAtom, Times, Time, Binders, MoreBinders}
 
 -- what is wanted: this symbol or word of the grammar; this name; any name; one that begins with a small letter, or with a capital; a
 -- name in quotes; the number 0; an arity; the words of a part
@@ -51,7 +51,7 @@ rows File = (sign (codes "theory"), any_name ∷ sign (codes "begin") ∷ part I
 rows Items =
     (sign (codes "builtins"), sign (codes ":") ∷ part Builtin ∷ part MoreBuiltins ∷ [])
     ∷ (sign (codes "functions"), sign (codes ":") ∷ part Function ∷ [])
-    ∷ (sign (codes "let"), any_name ∷ sign (codes "=") ∷ part Sequence ∷ part Bars ∷ [])
+    ∷ (sign (codes "let"), any_name ∷ part Parameters ∷ part Sequence ∷ part Bars ∷ [])
     ∷ (sign (codes "process"), sign (codes ":") ∷ part Sequence ∷ part Bars ∷ [])
     ∷ (
       sign (codes "restriction"),
@@ -71,6 +71,12 @@ rows Function = (small, sign (codes "/") ∷ arity ∷ part Privacy ∷ []) ∷ 
 rows Privacy =
     (sign (codes "["), word (codes "private") ∷ sign (codes "]") ∷ part MoreFunctions ∷ []) ∷ []
 rows MoreFunctions = (sign (codes ","), part Function ∷ []) ∷ []
+rows Parameters =
+    (sign (codes "="), [])
+    ∷ (sign (codes "("), any_name ∷ part MoreParameters ∷ sign (codes "=") ∷ []) ∷ []
+rows MoreParameters =
+    (sign (codes ")"), [])
+    ∷ (sign (codes ","), any_name ∷ part MoreParameters ∷ []) ∷ []
 rows Lemma =
     (sign (codes "["), part Attribute ∷ part MoreAttributes ∷ sign (codes ":") ∷ part Mode ∷ [])
     ∷ (sign (codes ":"), part Mode ∷ []) ∷ []
@@ -95,7 +101,7 @@ rows Mode =
     ) ∷ []
 rows Sequence =
     (nil, [])
-    ∷ (any_name, [])
+    ∷ (any_name, part Arguments ∷ [])
     ∷ (sign (codes "("), part Sequence ∷ part InnerBars ∷ [])
     ∷ (sign (codes "!"), part Sequence ∷ [])
     ∷ (sign (codes "new"), part NewName ∷ part Then ∷ [])
@@ -117,6 +123,7 @@ rows Sequence =
       part Term ∷ sign (codes "as") ∷ any_name ∷ sign (codes "in")
           ∷ part Sequence ∷ part Else ∷ [],
     ) ∷ []
+rows Arguments = (sign (codes "("), part Term ∷ part MoreTerms ∷ []) ∷ []
 rows Then = (sign (codes ";"), part Sequence ∷ []) ∷ []
 rows Else = (sign (codes "else"), part Sequence ∷ []) ∷ []
 rows Bars =
@@ -242,6 +249,7 @@ otherwise MoreBuiltins = Some (part Items ∷ [])
 otherwise MoreFunctions = Some (part Items ∷ [])
 otherwise Bars = Some (part Items ∷ [])
 otherwise Privacy = Some (part MoreFunctions ∷ [])
+otherwise Arguments = Some ([])
 otherwise Then = Some ([])
 otherwise Else = Some ([])
 otherwise Application = Some ([])

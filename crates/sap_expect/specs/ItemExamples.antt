@@ -56,3 +56,32 @@ two_equivalences = headed
     ∷ name (codes "T") ∷ mark (codes "<=>")
     ∷ name (codes "T") ∷ mark (codes "<=>") ∷ name (codes "T") ∷ mark (codes "\"")
     ∷ mark (codes "end") ∷ [])
+
+-- `A ( ) end`, with no arguments in parentheses
+abbrev pub empty_use : List Word
+empty_use = running
+    (name (codes "A") ∷ mark (codes "(") ∷ mark (codes ")") ∷ mark (codes "end") ∷ [])
+
+-- `( A ) ( 'a' ) end`, where no name stands before the arguments
+abbrev pub name_apart : List Word
+name_apart = running
+    (mark (codes "(") ∷ name (codes "A") ∷ mark (codes ")") ∷ mark (codes "(")
+    ∷ quoted (codes "a")
+    ∷ mark (codes ")") ∷ mark (codes "end") ∷ [])
+
+-- `let A ( x , ) = 0 end`, with a comma too many
+abbrev pub last_comma : List Word
+last_comma = headed
+    (mark (codes "let") ∷ name (codes "A") ∷ mark (codes "(") ∷ name (codes "x")
+    ∷ mark (codes ",")
+    ∷ mark (codes ")") ∷ mark (codes "=") ∷ nil ∷ mark (codes "end") ∷ [])
+
+-- `let A ( x , y ) = out ( x ) process : A ( 'a' , B ) | A end`
+abbrev pub with_arguments : List Word
+with_arguments = headed
+    (mark (codes "let") ∷ name (codes "A") ∷ mark (codes "(") ∷ name (codes "x")
+    ∷ mark (codes ",") ∷ name (codes "y") ∷ mark (codes ")") ∷ mark (codes "=")
+    ∷ mark (codes "out") ∷ mark (codes "(") ∷ name (codes "x") ∷ mark (codes ")")
+    ∷ mark (codes "process") ∷ mark (codes ":") ∷ name (codes "A") ∷ mark (codes "(")
+    ∷ quoted (codes "a") ∷ mark (codes ",") ∷ name (codes "B") ∷ mark (codes ")")
+    ∷ mark (codes "|") ∷ name (codes "A") ∷ mark (codes "end") ∷ [])

@@ -8,12 +8,23 @@ use sap_terms::Mem;
 use sap_text::Token;
 use std::alloc::Global;
 
-// A walk through the words of a file: the part in which it is, the parts around it, and whether a process has to begin.
+// What the next word of a process is.
+#[derive(Clone, Copy, Debug, PartialEq, Eq)]
+enum Next {
+    // Its first.
+    Head,
+    // Behind its name, so a parenthesis opens its arguments.
+    Arguments,
+    // Any other.
+    Other,
+}
+
+// A walk through the words of a file: the part in which it is, the parts around it, and what the next word of a process is.
 #[derive(Drop)]
 struct Walk {
     here: Frame,
     around: Vec<Frame>,
-    wants_process: bool,
+    next: Next,
 }
 
 impl Walk {
@@ -56,7 +67,7 @@ impl Walk {
     // A word that begins an item.
     fn begin_item(&mut self, bytes: &[u8], token: Token) {
         self.leave_all(Kind::Branch);
-        self.wants_process = false;
+        self.next = Next::Other;
         let heads = is_mark(bytes, token, "let") || is_mark(bytes, token, "process");
         let kind = if heads { Kind::Heading } else { Kind::Outside };
         self.here = Frame::new(kind, 1);
@@ -73,7 +84,7 @@ impl Walk {
     fn take_heading(&mut self, bytes: &[u8], token: Token) {
         if is_mark(bytes, token, "=") || is_mark(bytes, token, ":") {
             self.here = Frame::new(Kind::Process, 1);
-            self.wants_process = true;
+            self.next = Next::Head;
         }
     }
 
@@ -94,11 +105,15 @@ impl Walk {
         if is_mark(bytes, token, "(") {
             return self.enter_below(Kind::Process);
         }
-        self.wants_process = false;
+        self.next = Next::Other;
         if is_mark(bytes, token, "if") || is_mark(bytes, token, "lookup") {
             return self.begin_choice();
         }
-        if starts_zero(bytes, &[token]) || name_at(bytes, &[token]).is_some() {
+        if name_at(bytes, &[token]).is_some() {
+            self.next = Next::Arguments;
+            return Ok(true);
+        }
+        if starts_zero(bytes, &[token]) {
             return Ok(true);
         }
         let level = self.here.at.saturating_add(1);
@@ -110,8 +125,23 @@ impl Walk {
         let level = self.here.whole;
         self.leave();
         self.here.at = level;
-        self.wants_process = true;
+        self.next = Next::Head;
         self.here.descend()
+    }
+
+    // A word behind the name of a process: its arguments are no symbol's.
+    fn go_on_use(
+        &mut self,
+        bytes: &[u8],
+        before: Option<Token>,
+        token: Token,
+    ) -> Result<bool, Mem> {
+        self.next = Next::Other;
+        if is_mark(bytes, token, "(") {
+            self.enter(Frame::terms(1))?;
+            return Ok(true);
+        }
+        self.go_on_process(bytes, before, token)
     }
 
     // A word behind the first of a process.
@@ -122,7 +152,7 @@ impl Walk {
         token: Token,
     ) -> Result<bool, Mem> {
         if goes_below(bytes, token) {
-            self.wants_process = true;
+            self.next = Next::Head;
             return Ok(self.here.descend());
         }
         if is_mark(bytes, token, "else") {
@@ -130,7 +160,7 @@ impl Walk {
         }
         if is_mark(bytes, token, "|") || is_mark(bytes, token, "||") {
             self.leave_all(Kind::Branch);
-            self.wants_process = true;
+            self.next = Next::Head;
             return Ok(self.here.group_right());
         }
         if is_mark(bytes, token, ")") {
@@ -274,10 +304,10 @@ impl Walk {
         before: Option<Token>,
         token: Token,
     ) -> Result<bool, Mem> {
-        if self.wants_process {
-            self.begin_process(bytes, token)
-        } else {
-            self.go_on_process(bytes, before, token)
+        match self.next {
+            Next::Head => self.begin_process(bytes, token),
+            Next::Arguments => self.go_on_use(bytes, before, token),
+            Next::Other => self.go_on_process(bytes, before, token),
         }
     }
 }
@@ -330,7 +360,7 @@ pub fn too_deep(alloc: Global, bytes: &[u8], tokens: &[Token]) -> Result<Option<
     let mut walk = Walk {
         here: Frame::new(Kind::Outside, 1),
         around: Vec::new(alloc),
-        wants_process: false,
+        next: Next::Other,
     };
     for k in 0..tokens.len() {
         if !walk.take(bytes, before(tokens, k), tokens[k])? {

@@ -9,7 +9,7 @@ ghost use Rattle.sap_read.specs.Item.{Standing};
 ghost use Rattle.sap_read.specs.ItemGrammar.{AreItems};
 ghost use Rattle.sap_expect.specs.FileTable.{FollowsTable, Reads, Takes, Wanted};
 ghost use Rattle.sap_expect.specs.FirstWrong.{IsFirstWrong};
-ghost use Rattle.sap_expect.specs.ItemExamples.{endless, large_arity, one_else, two_elses, two_equivalences, unclosed, with_comma};
+ghost use Rattle.sap_expect.specs.ItemExamples.{empty_use, endless, large_arity, last_comma, name_apart, one_else, two_elses, two_equivalences, unclosed, with_arguments, with_comma};
 
 /// A law: by the table of a file's words one thing at most is wanted behind a word, and whatever is wanted, some words are it. So
 /// words that were taken one by one go on to a file's words, and one that isn't taken is wrong.
@@ -30,14 +30,16 @@ pub fn files_follow_the_table()
         → take (k + 1) (words_of z ts) ≡ take (k + 1) ws → ⊥ }
 {}
 
-/// A law: small files by the table of their words: which word is the first that is wrong, and which isn't; a file in which none
-/// is.
+/// A law: small files by the table of their words: which word is the first that is wrong, and which isn't; files in which none is.
 pub fn items_by_hand()
     ensures wrong { IsFirstWrong FollowsTable unclosed 7 × IsFirstWrong FollowsTable endless 6
         × IsFirstWrong FollowsTable with_comma 9 × IsFirstWrong FollowsTable two_elses 13
-        × IsFirstWrong FollowsTable large_arity 7 × IsFirstWrong FollowsTable two_equivalences 10 }
+        × IsFirstWrong FollowsTable large_arity 7 × IsFirstWrong FollowsTable two_equivalences 10
+        × IsFirstWrong FollowsTable empty_use 7 × IsFirstWrong FollowsTable name_apart 8
+        × IsFirstWrong FollowsTable last_comma 8 }
     ensures not_there { (IsFirstWrong FollowsTable unclosed 5 → ⊥)
         × (IsFirstWrong FollowsTable with_comma 10 → ⊥)
-        × (IsFirstWrong FollowsTable two_elses 11 → ⊥) }
-    ensures right { FollowsTable one_else × ((k : ℕ) → IsFirstWrong FollowsTable one_else k → ⊥) }
+        × (IsFirstWrong FollowsTable two_elses 11 → ⊥)
+        × (IsFirstWrong FollowsTable name_apart 5 → ⊥) }
+    ensures right { FollowsTable one_else × FollowsTable with_arguments × ((k : ℕ) → IsFirstWrong FollowsTable one_else k → ⊥) }
 {}

@@ -1,10 +1,10 @@
 //! A table of the words of a file: for each part the words that it may begin with, and what has to stand behind each.
 
 use crate::wanted::Part::{
-    Application, Arrow, Atom, Attribute, Bars, Binders, Builtin, Else, Fact, Facts, Formula,
+    Application, Arguments, Arrow, Atom, Attribute, Bars, Binders, Builtin, Else, Fact, Facts, Formula,
     Function, InnerBars, InnerFormula, InnerJoined, InnerSecond, InnerSecondJoined, Items, Joined,
     Lemma, LowerAtom, Message, Mode, MoreAttributes, MoreBinders, MoreBuiltins, MoreFacts,
-    MoreFunctions, MoreParts, MoreShown, MoreTerms, NewName, Privacy, Second, SecondJoined,
+    MoreFunctions, MoreParameters, MoreParts, MoreShown, MoreTerms, NewName, Parameters, Privacy, Second, SecondJoined,
     Sequence, Shown, Term, Terms, Then, Time, Times, Truth, UpperAtom,
 };
 use crate::wanted::Wanted;
@@ -18,7 +18,7 @@ pub(crate) const FILE: &[Row] = &[(Mark("theory"), &[Name, Mark("begin"), A(Item
 pub(crate) const ITEMS: &[Row] = &[
     (Mark("builtins"), &[Mark(":"), A(Builtin), A(MoreBuiltins)]),
     (Mark("functions"), &[Mark(":"), A(Function)]),
-    (Mark("let"), &[Name, Mark("="), A(Sequence), A(Bars)]),
+    (Mark("let"), &[Name, A(Parameters), A(Sequence), A(Bars)]),
     (Mark("process"), &[Mark(":"), A(Sequence), A(Bars)]),
     (
         Mark("restriction"),
@@ -43,6 +43,14 @@ pub(crate) const FUNCTION: &[Row] = &[(Lower, &[Mark("/"), Arity, A(Privacy)])];
 pub(crate) const PRIVACY: &[Row] = &[(Mark("["), &[Named("private"), Mark("]"), A(MoreFunctions)])];
 
 pub(crate) const MORE_FUNCTIONS: &[Row] = &[(Mark(","), &[A(Function)])];
+
+pub(crate) const PARAMETERS: &[Row] = &[
+    (Mark("="), &[]),
+    (Mark("("), &[Name, A(MoreParameters), Mark("=")]),
+];
+
+pub(crate) const MORE_PARAMETERS: &[Row] =
+    &[(Mark(")"), &[]), (Mark(","), &[Name, A(MoreParameters)])];
 
 pub(crate) const LEMMA: &[Row] = &[
     (
@@ -77,7 +85,7 @@ pub(crate) const MODE: &[Row] = &[
 
 pub(crate) const SEQUENCE: &[Row] = &[
     (Zero, &[]),
-    (Name, &[]),
+    (Name, &[A(Arguments)]),
     (Mark("("), &[A(Sequence), A(InnerBars)]),
     (Mark("!"), &[A(Sequence)]),
     (Mark("new"), &[A(NewName), A(Then)]),
@@ -105,6 +113,8 @@ pub(crate) const SEQUENCE: &[Row] = &[
         &[A(Term), Mark("as"), Name, Mark("in"), A(Sequence), A(Else)],
     ),
 ];
+
+pub(crate) const ARGUMENTS: &[Row] = &[(Mark("("), &[A(Term), A(MoreTerms)])];
 
 pub(crate) const THEN: &[Row] = &[(Mark(";"), &[A(Sequence)])];
 

@@ -38,6 +38,9 @@ pub(crate) enum Part {
     /// What is behind an arity.
     Privacy,
     MoreFunctions,
+    /// What is behind the name of a definition, up to its `=`: its parameters, if any.
+    Parameters,
+    MoreParameters,
     /// A lemma's words in brackets, if any, and what is behind them.
     Lemma,
     /// One of these words.
@@ -47,6 +50,8 @@ pub(crate) enum Part {
     Mode,
     /// A process that is no parallel without parentheses.
     Sequence,
+    /// What may be behind the name of a process: its arguments.
+    Arguments,
     /// What is behind an action.
     Then,
     /// What is behind the first branch of a choice.

@@ -19,3 +19,5 @@ pub mod Built
 pub mod Forms
 pub mod Counted
 pub mod Sized
+pub mod Replacing
+pub mod SameSizes

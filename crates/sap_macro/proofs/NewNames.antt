@@ -1,6 +1,6 @@
 -- New names are the first candidates that aren't taken, and different ones for different names.
 use Rattle.std.proofs.Common.{◌≡◌, ◌==◌, ◌<◌, ◌≤◌, ℕ, zero, suc, ◌+◌, ◌^◌, Bool, true, false, List, [], ◌∷◌, ◌++◌, ◌⊎◌, inl, inr, length, refl, sym, ap, ◌∙◌, subst, ⊎_elim, arith}
-use Rattle.std.proofs.lemmas.Bool.{cases_Bool, or_cases, false≢true, eqb-true, eqb-false}
+use Rattle.std.proofs.lemmas.Bool.{cases_Bool, cases_lt, or_cases, false≢true, eqb-true, eqb-false}
 use Rattle.std.proofs.lemmas.List.{length-append}
 use Rattle.std.proofs.lemmas.Fmt.{decimal_injective}
 use Rattle.std.specs.Prelude.{if◌then◌else◌, codes, decimal}
@@ -106,3 +106,15 @@ new_is_least taken x h =
     (λ s. record { number = s.0; from_one = omega (arith, s.1); is = s.2; free = ap (is_known taken) s.2 ∙ s.3; least = λ k p q. s.4 k (omega (arith, p)) q })
     (λ s. let many = no_more (candidate x) (length taken + 1) 1 taken (λ i j p q e. candidate_one x i j (omega (arith, p, h)) (omega (arith, q, h)) e) s.1 in absurd (omega (arith, many)))
     (search (length taken + 1) 1 taken x)
+
+-- it is a candidate of a number of 64 bits
+pub new_is_short : (taken : List (List ℕ)) (x : List ℕ) → length taken + 2 ≤ 2 ^ 64 → (number : ℕ) × (0 < number) × (number < 2 ^ 64) × (new_name taken x ≡ candidate x number)
+new_is_short taken x h =
+    let new = new_is_least taken x h in
+    (new.number, new.from_one, ⊎_elim (λ l. omega (arith, l, h)) (λ l. absurd (too_many new.number new.least l)) (cases_lt new.number (length taken + 2)), new.is)
+  where
+    too_many : (n : ℕ) → ((k : ℕ) → 0 < k → k < n → is_known taken (candidate x k) ≡ true) → length taken + 2 ≤ n → ⊥
+    too_many n least l =
+        let many = no_more (candidate x) (length taken + 1) 1 taken (λ i j p q e. candidate_one x i j (omega (arith, p, h)) (omega (arith, q, h)) e)
+        (λ j p q. least j (omega (arith, p)) (omega (arith, q, l))) in
+        omega (arith, many)

@@ -22,7 +22,7 @@ use Rattle.sap_macro.proofs.NewNames.{in_cases}
 
 -- ---- a name that these don't define means what it meant before them
 
-plain_stays : (ds : List Definition) (p : Plain) (f : List ℕ) (ts : List Tree) → is_known (defined ds) f ≡ false → plain_after p ds f ts ≡ p f ts
+pub plain_stays : (ds : List Definition) (p : Plain) (f : List ℕ) (ts : List Tree) → is_known (defined ds) f ≡ false → plain_after p ds f ts ≡ p f ts
 plain_stays [] p f ts h = refl
 plain_stays (d ∷ ds) p f ts h =
     let other = not_in f d.name (defined ds) h in
@@ -32,7 +32,7 @@ plain_stays (d ∷ ds) p f ts h =
 abbrev pub with_body : Plain → Definition → Definition
 with_body p d = record d { body = with_uses p d.body }
 
-meaning_stays : (ds : List Definition) (p : Plain) (m : Meaning) (f : List ℕ) (ts : List Tree) (taken : List (List ℕ)) → is_known (defined ds) f ≡ false
+pub meaning_stays : (ds : List Definition) (p : Plain) (m : Meaning) (f : List ℕ) (ts : List Tree) (taken : List (List ℕ)) → is_known (defined ds) f ≡ false
     → meaning_after m (plain_bodies p ds) f ts taken ≡ m f ts taken
 meaning_stays [] p m f ts taken h = refl
 meaning_stays (d ∷ ds) p m f ts taken h =
@@ -47,7 +47,7 @@ cost_stays (d ∷ ds) c f h =
     cost_stays ds (with_cost c d) f other.1 ∙ ap (λ b. if b then steps c d.body else c f) other.0
 
 -- names that are defined before aren't defined again
-apart_from : (ds : List Definition) (known : List (List ℕ)) → AreInOrder known ds → (f : List ℕ) → is_known known f ≡ true → is_known (defined ds) f ≡ false
+pub apart_from : (ds : List Definition) (known : List (List ℕ)) → AreInOrder known ds → (f : List ℕ) → is_known known f ≡ true → is_known (defined ds) f ≡ false
 apart_from [] known h f k = refl
 apart_from (d ∷ ds) known h f k =
     out_of f d.name (defined ds) (apart d.name f (λ e. clash (is_known known f) k (sym (ap (is_known known) e) ∙ h.0)))
@@ -55,7 +55,7 @@ apart_from (d ∷ ds) known h f k =
 
 -- ---- what uses names alone that mean the same means the same
 
-uses_agree : (known : List (List ℕ)) (w : Written) (p q : Plain) → UsesOnly known w
+pub uses_agree : (known : List (List ℕ)) (w : Written) (p q : Plain) → UsesOnly known w
     → ((f : List ℕ) (ts : List Tree) → is_known known f ≡ true → p f ts ≡ q f ts) → with_uses p w ≡ with_uses q w
 uses_agree known nil p q h e = refl
 uses_agree known (call f ts) p q h e = e f ts h

@@ -19,7 +19,7 @@ use Rattle.sap_macro.proofs.Names.{one_name, clash, not_in}
 use Rattle.sap_macro.proofs.Resolving.{AreClosedUses, closed_more, expanded_agree, uses_known, with_body}
 
 -- the size of a process as it runs
-abbrev size_of : (ℕ → ℕ → ℕ) → Proc → ℕ
+abbrev pub size_of : (ℕ → ℕ → ℕ) → Proc → ℕ
 size_of j whole.nil = 1
 size_of j (whole.parallel p q) = j (size_of j p) (size_of j q) + 1
 size_of j (whole.replicated p) = size_of j p + 1
@@ -27,7 +27,7 @@ size_of j (whole.act a p) = size_of j p + 1
 size_of j (whole.test t u p q) = j (size_of j p) (size_of j q) + 1
 size_of j (whole.lookup t x p q) = j (size_of j p) (size_of j q) + 1
 
-nodes_are : (p : Proc) → node_count p ≡ size_of plus p
+pub nodes_are : (p : Proc) → node_count p ≡ size_of plus p
 nodes_are whole.nil = refl
 nodes_are (whole.parallel p q) = λ i. nodes_are p i + nodes_are q i + 1
 nodes_are (whole.replicated p) = ap (λ n. n + 1) (nodes_are p)
@@ -35,7 +35,7 @@ nodes_are (whole.act a p) = ap (λ n. n + 1) (nodes_are p)
 nodes_are (whole.test t u p q) = λ i. nodes_are p i + nodes_are q i + 1
 nodes_are (whole.lookup t x p q) = λ i. nodes_are p i + nodes_are q i + 1
 
-levels_are : (p : Proc) → level_count p ≡ size_of deeper p
+pub levels_are : (p : Proc) → level_count p ≡ size_of deeper p
 levels_are whole.nil = refl
 levels_are (whole.parallel p q) = λ i. max (levels_are p i) (levels_are q i) + 1
 levels_are (whole.replicated p) = ap (λ n. n + 1) (levels_are p)

@@ -181,7 +181,7 @@ all_hold ds closed =
 -- ---- the instance as a process that is written
 
 mutual
-  kept : (t : Tree) → instance unchanged t ≡ t
+  pub kept : (t : Tree) → instance unchanged t ≡ t
   kept (variable v) = refl
   kept (public n) = refl
   kept (fresh k) = refl
@@ -199,7 +199,7 @@ facts_kept : (fs : List Fact) → instance_facts unchanged fs ≡ fs
 facts_kept [] = refl
 facts_kept (f ∷ fs) = λ i. fact f.name f.persistent (each_kept f.args i) ∷ facts_kept fs i
 
-action_kept : (a : Action) → action_instance unchanged a ≡ a
+pub action_kept : (a : Action) → action_instance unchanged a ≡ a
 action_kept (new x) = refl
 action_kept (out t) = ap out (kept t)
 action_kept (send t u) = λ i. send (kept t i) (kept u i)

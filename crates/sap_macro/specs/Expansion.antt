@@ -179,6 +179,10 @@ plain_bodies m (d ∷ ds) =
 abbrev pub plain : List Definition → Written → Written
 plain ds p = with_uses (plain_after call ds) p
 
+-- the definition with such a body
+abbrev pub with_plain_body : List Definition → Definition → Definition
+with_plain_body ds d = record d { body = plain ds d.body }
+
 -- the expansion of a process, behind these definitions, where these are the names of the file
 abbrev pub expansion : List Definition → List (List ℕ) → Written → Expanded
 expansion ds identifiers p =

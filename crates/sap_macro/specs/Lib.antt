@@ -4,7 +4,9 @@ pub mod Written
 pub mod NewNames
 pub mod Expansion
 pub mod ExpansionExamples
+pub mod Replaced
 pub mod Instances
+pub mod UsesAreInstances
 pub mod Sources
 pub mod Order
 pub mod MacroCauses

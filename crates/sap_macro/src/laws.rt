@@ -1,5 +1,5 @@
 //! Laws of the definitions, as contracts of functions that do nothing.
-ghost use Rattle.std.specs.Prelude.{◌≡◌, ◌≤◌, ◌↔◌, ◌+◌, ◌^◌, ℕ, false, List, [], length, map};
+ghost use Rattle.std.specs.Prelude.{◌≡◌, ◌≤◌, ◌<◌, ◌↔◌, ◌+◌, ◌^◌, ℕ, false, List, [], Contains, length, map};
 ghost use Rattle.sap_terms.specs.Choice.{Choice, instance};
 ghost use Rattle.sap_terms.specs.Ground.{AreGround};
 ghost use Rattle.sap_terms.specs.Signature.{Sig};
@@ -7,13 +7,16 @@ ghost use Rattle.sap_terms.specs.Trace.{Trace};
 ghost use Rattle.sap_terms.specs.Tree.{Tree, trees_of};
 ghost use Rattle.sap_terms.specs.Variables.{is_known};
 ghost use Rattle.sap_process.specs.Instance.{process_instance};
-ghost use Rattle.sap_process.specs.Proc.{Proc};
+ghost use Rattle.sap_process.specs.Proc.{Proc, level_count, node_count};
 ghost use Rattle.sap_process.specs.ProcessSteps.{IsProcessTrace};
-ghost use Rattle.sap_macro.specs.Expansion.{meaning_of, entered, expanded, unchanged, same_name};
+ghost use Rattle.sap_macro.specs.Expansion.{meaning_of, entered, expanded, expansion, plain, plain_after, plain_bodies, unchanged, same_name, where_none, with_plain_body};
 ghost use Rattle.sap_macro.specs.Instances.{instance_by, IsClosed, AreClosed, Keeps, AreTaken};
-ghost use Rattle.sap_macro.specs.NewNames.{IsNewName, new_name};
+ghost use Rattle.sap_macro.specs.NewNames.{IsNewName, candidate, new_name};
+ghost use Rattle.sap_macro.specs.Order.{AreInOrder};
+ghost use Rattle.sap_macro.specs.Replaced.{AreWithoutParameters, nothing_stands, process_of};
 ghost use Rattle.sap_macro.specs.UpToNames.{AreSameUpToNames};
-ghost use Rattle.sap_macro.specs.Written.{Written, Definition};
+ghost use Rattle.sap_macro.specs.UsesAreInstances.{UsesAreInstances};
+ghost use Rattle.sap_macro.specs.Written.{Written, call, Definition};
 
 use sap_rewrite::{equality_is_kept, normal_forms_are_unique};
 
@@ -47,4 +50,42 @@ pub fn expansions_are_one()
     ensures { (ds : List Definition) (p : Written) (taken other : List (List ℕ)) → AreClosed ds → IsClosed [] p → AreTaken taken [] p
         → AreTaken other [] p → AreSameUpToNames (expanded (meaning_of ds) unchanged same_name p taken).process
         (expanded (meaning_of ds) unchanged same_name p other).process }
+{}
+
+/// A law: each use whose arguments name nothing but what is in scope is its definition's instance, up to names, which shows the same.
+pub fn uses_show_their_instances()
+    ensures { UsesAreInstances }
+{
+    same_up_to_names_show_the_same();
+    uses_are_instances();
+}
+
+/// A law: where no definition has parameters, the expansion is the process with each name replaced by what it stands for.
+pub fn plain_files_stay()
+    ensures { (ds : List Definition) (p : Written) (identifiers : List (List ℕ)) → AreInOrder [] ds → AreWithoutParameters ds
+        → (expansion ds identifiers p).process ≡ process_of nothing_stands ds p }
+{}
+
+/// A law: names without parameters stand for the definitions' bodies, in which such names are replaced themselves. Names with
+/// parameters stay, and so do those that nothing defines.
+pub fn plain_names_stand_for_bodies()
+    ensures defined { (ds : List Definition) (d : Definition) (ts : List Tree) → AreInOrder [] ds → Contains ds d
+        → plain_after call ds d.name ts ≡ where_none d.params (plain ds d.body) (call d.name ts) }
+    ensures other { (ds : List Definition) (f : List ℕ) (ts : List Tree) → is_known (map (λ (d : Definition). d.name) ds) f ≡ false
+        → plain_after call ds f ts ≡ call f ts }
+    ensures bodies { (ds : List Definition) → AreInOrder [] ds → plain_bodies call ds ≡ map (with_plain_body ds) ds }
+{}
+
+/// A law: where fewer than 2^64 - 1 names are taken, the number of a new name is one of 64 bits. So it has at most 20 digits.
+pub fn new_names_are_short()
+    ensures { (taken : List (List ℕ)) (x : List ℕ) → length taken + 2 ≤ 2 ^ 64
+        → (number : ℕ) × (0 < number) × (number < 2 ^ 64) × (new_name taken x ≡ candidate x number) }
+{}
+
+/// A law: an expansion has as many places, and as many levels, whatever names are taken.
+pub fn sizes_are_one()
+    ensures nodes { (ds : List Definition) (p : Written) (identifiers other : List (List ℕ))
+        → node_count (expansion ds identifiers p).process ≡ node_count (expansion ds other p).process }
+    ensures levels { (ds : List Definition) (p : Written) (identifiers other : List (List ℕ))
+        → level_count (expansion ds identifiers p).process ≡ level_count (expansion ds other p).process }
 {}

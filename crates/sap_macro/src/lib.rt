@@ -20,7 +20,9 @@ pub use by_hand::{equal_up_to_names_by_hand, expansions_by_hand, macro_causes_by
 pub use causes::{first_other_count, first_parameter_twice};
 pub use definition::{Definition, DefinitionList};
 pub use laws::{
-    expansions_are_one, new_names_are_least, same_up_to_names_show_the_same, uses_are_instances,
+    expansions_are_one, new_names_are_least, new_names_are_short, plain_files_stay,
+    plain_names_stand_for_bodies, same_up_to_names_show_the_same, sizes_are_one,
+    uses_are_instances, uses_show_their_instances,
 };
 pub use sizes::{Size, expanded_size};
 pub use source::{Doing, Source};

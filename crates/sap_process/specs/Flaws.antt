@@ -173,3 +173,25 @@ pub record IsFirstFlawIn (g : Sig) (scope : List Var) (p : Proc) (w : Flaw)
 -- the same where nothing is
 abbrev pub IsFirstFlaw : Sig → Proc → Flaw → List ℕ → Type 0
 IsFirstFlaw g p w path = IsFirstFlawIn g [] p w path
+
+-- the three flaws that scope alone decides
+abbrev pub IsOfScope : Flaw → Type 0
+IsOfScope Unbound = Unit {0}
+IsOfScope Rebound = Unit {0}
+IsOfScope SortClash = Unit {0}
+IsOfScope _ = ⊥
+
+-- no place has one of these three, where these variables are in scope at the root
+abbrev pub HasNoScopeFlaw : Sig → List Var → Proc → Type 0
+HasNoScopeFlaw g scope p = (w : Flaw) → IsOfScope w → (k : ℕ) → ¬ IsFlawedIn g scope p w k
+
+-- of these three the flaw counts, where these variables are in scope at the root: no place has one that counts
+-- before it, and this is the first place that has it
+pub record IsFirstScopeFlaw (g : Sig) (scope : List Var) (p : Proc) (w : Flaw) (path : List ℕ)
+    : Type 0 where
+  pub of_scope : IsOfScope w
+  pub place : ℕ
+  pub at : IsFlawedIn g scope p w place
+  pub path_is : at.site.path ≡ path
+  pub first : (k : ℕ) → k < place → ¬ IsFlawedIn g scope p w k
+  pub least : (u : Flaw) → IsOfScope u → rank u < rank w → (k : ℕ) → ¬ IsFlawedIn g scope p u k

@@ -16,6 +16,7 @@ mod places;
 mod process;
 mod replacing;
 mod scope;
+mod scope_flaw;
 mod sorting;
 mod substituting;
 mod trail;
@@ -31,5 +32,6 @@ pub use laws::{
 };
 pub use places::{HandsDown, ScopeBelow, places_are_by_path, places_are_ordered};
 pub use process::{Children, Process};
+pub use scope_flaw::first_scope_flaw;
 pub use substituting::substitute;
 pub use trail::Trail;

@@ -24,7 +24,7 @@ use Rattle.sap_grammar.specs.Items.{items_end, items_more, no_end}
 use Rattle.sap_grammar.specs.TermGrammar.{IsShort, term_message, term_quoted}
 use Rattle.sap_grammar.specs.Words.{Word, mark, name, number as number_word, quoted as quoted_word, is_mark}
 use Rattle.sap_draft.specs.ProcessGrammar.{par_one, seq_nil, seq_action, action_out, action_unlock}
-use Rattle.sap_draft.specs.Written as written
+use Rattle.sap_macro.specs.Written as written
 use Rattle.sap_draft.specs.declared.limits.TheConstants.{FILE_LIMITS}
 use Rattle.sap_formula.specs.Faults.{HasFault, HasNoFault, IsFirstFault, rank, told}
 use Rattle.sap_formula.specs.Form.{Form, earlier}
@@ -43,6 +43,7 @@ use Rattle.sap_read.specs.Files.{IsRead, IsParted, no_tokens, no_header, no_item
 use Rattle.sap_read.specs.Item.{Standing, builtins, process, statement}
 use Rattle.sap_read.specs.ItemGrammar.{item_builtins, item_process, item_statement}
 use Rattle.sap_read.specs.declared.fault.ReadFault.TheVariants.{Formula, Header, Ill, Lex as LexFault, NoProcess, Syntax}
+use Rattle.sap_read.proofs.CausesByHand.{is_expanded}
 
 -- what the law of tokens says
 pub record Longest : Type 0 where
@@ -200,7 +201,7 @@ module _ (longest : Longest) where
       accepted {is = items_of written.nil} {p = whole.nil} {q = whole.nil} whole_parted
       (items_more (item_builtins (builtins_last spells_signing))
       (items_more (item_process (record { levels = 1; spelled = par_one seq_nil; few_levels = lit≤ tt })) (items_end refl)))
-      refl refl sound alone (All-nil (λ (s : Statement). HasNoFault pairs_and_signing true (formula_of s)))
+      refl (is_expanded _ _ written.nil refl refl refl (lit≤ tt) (lit≤ tt) refl tt _) sound alone (All-nil (λ (s : Statement). HasNoFault pairs_and_signing true (formula_of s)))
 
   -- `out(x)`
   abbrev unbound_tokens : List Token
@@ -237,7 +238,7 @@ module _ (longest : Longest) where
       ill {is = items_of (written.act (out (variable x)) written.nil)} {p = whole.act (out (variable x)) whole.nil} unbound_parted
       (items_more (item_builtins (builtins_last spells_signing))
       (items_more (item_process (record { levels = 2; spelled = par_one (seq_action (action_out x_is)); few_levels = lit≤ tt })) (items_end refl)))
-      refl refl flawed
+      refl (is_expanded _ _ (written.act (out (variable x)) written.nil) refl refl refl (lit≤ tt) (lit≤ tt) refl tt _) flawed
 
   -- `unlock 's'`
   abbrev unlocking_tokens : List Token
@@ -276,7 +277,7 @@ module _ (longest : Longest) where
       locked {is = items_of (written.act (unlock (public (codes "s")) 0) written.nil)} {p = whole.act (unlock (public (codes "s")) 0) whole.nil} unlocking_parted
       (items_more (item_builtins (builtins_last spells_signing))
       (items_more (item_process (record { levels = 2; spelled = par_one (seq_action (action_unlock s_is)); few_levels = lit≤ tt })) (items_end refl)))
-      refl refl sound flaw
+      refl (is_expanded _ _ (written.act (unlock (public (codes "s")) 0) written.nil) refl refl refl (lit≤ tt) (lit≤ tt) refl tt _) sound flaw
 
   -- a lemma
   abbrev lemma_tokens : List Token
@@ -375,4 +376,4 @@ module _ (longest : Longest) where
         few_levels = lit≤ tt;
         small = tt;
       }))) (items_end refl))))
-      refl refl sound alone (this_one fault_is)
+      refl (is_expanded _ _ written.nil refl refl refl (lit≤ tt) (lit≤ tt) refl tt _) sound alone (this_one fault_is)

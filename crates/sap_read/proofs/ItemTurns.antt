@@ -11,19 +11,20 @@ use Rattle.sap_grammar.specs.Cut.{Placed, placed, words, first_line, IsCut, cut_
 use Rattle.sap_grammar.specs.Declarations.{Declaration, declares_builtins, declares_functions}
 use Rattle.sap_grammar.specs.Items.{IsEnd, items_end, items_more, no_end, bad_item, later_item}
 use Rattle.sap_grammar.specs.ItemReading.{cut, declared_in}
-use Rattle.sap_draft.specs.Written.{Written}
+use Rattle.sap_macro.specs.Written.{Written}
 use Rattle.sap_statements.specs.declared.statement.Statement.{Statement}
 use Rattle.sap_statements.specs.Statements.{IsStatement, is_restriction, is_lemma}
 use Rattle.sap_draft.specs.declared.limits.TheConstants.{FILE_LIMITS}
 use Rattle.sap_read.specs.Item.{Item, definition, process, statement, bodies, statements}
 use Rattle.sap_draft.specs.ProcessGrammar.{IsProcess}
-use Rattle.sap_read.specs.ItemGrammar.{IsItem, AreItems, IsSomeItem, IsFaultyFile, item_builtins, item_functions, item_definition, item_process, item_statement}
-use Rattle.sap_read.specs.declared.definition.Definition.{Definition}
+use Rattle.sap_read.specs.ItemGrammar.{HasParameters, IsItem, AreItems, IsSomeItem, IsFaultyFile, item_builtins, item_functions, item_definition, item_process, item_statement}
+use Rattle.sap_read.specs.declared.entry.Entry.{Entry}
 use Rattle.sap_read.specs.code.Bodies.{body}
 use Rattle.sap_read.specs.code.ItemView.{IsItemOf, IsAdded, IsAdding, IsGoodBehind, IsPushed, IsStated, SaysProcess, AreSaid}
 use Rattle.sap_read.specs.code.ItemLaws.{ItemLaws}
 use Rattle.sap_read.proofs.WordsRead.{starts_is, name_is, words-drop}
 use Rattle.sap_read.proofs.ItemsRead.{declared_sound}
+use Rattle.sap_read.proofs.ReadParameters.{one_head}
 
 pub words_placed : (z : List ℕ) (ts : List Token) → words (placed z ts) ≡ words_of z ts
 words_placed z [] = refl
@@ -47,15 +48,12 @@ cut_is laws {ps = ps} {is = is} r = laws.one_cut ps (cut ps) is (laws.is_cut ps)
 
 -- Items that say of processes.
 
-pub definition_spelled : (ws : List Word) (x : List ℕ) → starts (codes "let") ws ≡ true → name_at (drop 1 ws) ≡ Some x → starts (codes "=") (drop 2 ws) ≡ true
-    → ws ≡ mark (codes "let") ∷ name x ∷ mark (codes "=") ∷ drop 3 ws
-definition_spelled [] x s n e = absurd (cc)
-definition_spelled (w ∷ []) x s n e = absurd (cc)
-definition_spelled (w ∷ v ∷ []) x s n e = absurd (cc)
-definition_spelled (w ∷ v ∷ u ∷ ws) x s n e =
-    let first = starts_is (codes "let") (w ∷ v ∷ u ∷ ws) s in
-    let second = name_is (v ∷ u ∷ ws) x n in
-    let third = starts_is (codes "=") (u ∷ ws) e in
+pub definition_spelled : (ws : List Word) (x : List ℕ) → starts (codes "let") ws ≡ true → name_at (drop 1 ws) ≡ Some x → ws ≡ mark (codes "let") ∷ name x ∷ drop 2 ws
+definition_spelled [] x s n = absurd (cc)
+definition_spelled (w ∷ []) x s n = absurd (cc)
+definition_spelled (w ∷ v ∷ ws) x s n =
+    let first = starts_is (codes "let") (w ∷ v ∷ ws) s in
+    let second = name_is (v ∷ ws) x n in
     cc
 
 pub process_spelled : (ws : List Word) → starts (codes "process") ws ≡ true → starts (codes ":") (drop 1 ws) ≡ true → ws ≡ mark (codes "process") ∷ mark (codes ":") ∷ drop 2 ws
@@ -66,19 +64,19 @@ process_spelled (w ∷ v ∷ ws) s e =
     let second = starts_is (codes ":") (v ∷ ws) e in
     cc
 
-pub definition_read : (g : Sig) (z : List ℕ) (ts : List Token) (x : List ℕ) (p : Written) (line : ℕ) → starts (codes "let") (words_of z ts) ≡ true → name_at (drop 1 (words_of z ts)) ≡ Some x
-    → starts (codes "=") (drop 2 (words_of z ts)) ≡ true → IsProcess g p (drop 3 (words_of z ts)) → line ≡ first_line (placed z ts)
-    → IsItemOf g z ts (record { label = Some x; content = p; line = line } ∷ []) []
-definition_read g z ts x p line s n e r l = record {
-  item = definition x p;
-  spelled = subst (λ (w : List Word). IsItem g (definition x p) w) (sym (definition_spelled (words_of z ts) x s n e)) (item_definition r);
+pub definition_read : (g : Sig) (z : List ℕ) (ts : List Token) (x : List ℕ) (xs : List (List ℕ)) (p : Written) (b : List Word) (line : ℕ) → starts (codes "let") (words_of z ts) ≡ true → name_at (drop 1 (words_of z ts)) ≡ Some x
+    → HasParameters xs (drop 2 (words_of z ts)) b → IsProcess g p b → line ≡ first_line (placed z ts)
+    → IsItemOf g z ts (record { label = Some x; params = xs; content = p; line = line } ∷ []) []
+definition_read g z ts x xs p b line s n h r l = record {
+  item = definition x xs p;
+  spelled = subst (λ (w : List Word). IsItem g (definition x xs p) w) (sym (definition_spelled (words_of z ts) x s n)) (item_definition h r);
   says = rw l refl;
   states = refl;
 }
 
 pub process_read : (g : Sig) (z : List ℕ) (ts : List Token) (p : Written) (line : ℕ) → starts (codes "process") (words_of z ts) ≡ true → starts (codes ":") (drop 1 (words_of z ts)) ≡ true
     → IsProcess g p (drop 2 (words_of z ts)) → line ≡ first_line (placed z ts)
-    → IsItemOf g z ts (record { label = None; content = p; line = line } ∷ []) []
+    → IsItemOf g z ts (record { label = None; params = []; content = p; line = line } ∷ []) []
 process_read g z ts p line s e r l = record {
   item = process p;
   spelled = subst (λ (w : List Word). IsItem g (process p) w) (sym (process_spelled (words_of z ts) s e)) (item_process r);
@@ -90,37 +88,37 @@ process_read g z ts p line s e r l = record {
 pub no_name : {g : Sig} {v : Item} {a : List Word} → starts (codes "let") a ≡ true → name_at (drop 1 a) ≡ None → IsItem g v a → ⊥
 no_name s n (item_builtins r) = absurd (cc)
 no_name s n (item_functions r) = absurd (cc)
-no_name s n (item_definition r) = absurd (cc)
+no_name s n (item_definition h r) = absurd (cc)
 no_name s n (item_process r) = absurd (cc)
 no_name s n (item_statement (is_restriction r)) = absurd (cc)
 no_name s n (item_statement (is_lemma a d r)) = absurd (cc)
 
-pub no_equals : {g : Sig} {v : Item} {a : List Word} → starts (codes "let") a ≡ true → starts (codes "=") (drop 2 a) ≡ false → IsItem g v a → ⊥
-no_equals s e (item_builtins r) = absurd (cc)
-no_equals s e (item_functions r) = absurd (cc)
-no_equals s e (item_definition r) = absurd (cc)
-no_equals s e (item_process r) = absurd (cc)
-no_equals s e (item_statement (is_restriction r)) = absurd (cc)
-no_equals s e (item_statement (is_lemma a d r)) = absurd (cc)
+pub no_head : {g : Sig} {v : Item} {a : List Word} → starts (codes "let") a ≡ true → ((xs : List (List ℕ)) (b : List Word) → HasParameters xs (drop 2 a) b → ⊥) → IsItem g v a → ⊥
+no_head s e (item_builtins r) = absurd (cc)
+no_head s e (item_functions r) = absurd (cc)
+no_head s e (item_definition {xs = xs} {b = b} h r) = e xs b h
+no_head s e (item_process r) = absurd (cc)
+no_head s e (item_statement (is_restriction r)) = absurd (cc)
+no_head s e (item_statement (is_lemma a d r)) = absurd (cc)
 
 pub no_colon : {g : Sig} {v : Item} {a : List Word} → starts (codes "process") a ≡ true → starts (codes ":") (drop 1 a) ≡ false → IsItem g v a → ⊥
 no_colon s e (item_builtins r) = absurd (cc)
 no_colon s e (item_functions r) = absurd (cc)
-no_colon s e (item_definition r) = absurd (cc)
+no_colon s e (item_definition h r) = absurd (cc)
 no_colon s e (item_process r) = absurd (cc)
 no_colon s e (item_statement (is_restriction r)) = absurd (cc)
 no_colon s e (item_statement (is_lemma a d r)) = absurd (cc)
 
-pub no_definition : (ws : List Word) → starts (codes "let") ws ≡ true → ((g : Sig) (p : Written) → IsProcess g p (drop 3 ws) → ⊥) → IsSomeItem ws → ⊥
-no_definition ws s never it = go s never it.is
+pub no_definition : (ws : List Word) (ys : List (List ℕ)) (d : List Word) → starts (codes "let") ws ≡ true → HasParameters ys (drop 2 ws) d → ((g : Sig) (p : Written) → IsProcess g p d → ⊥) → IsSomeItem ws → ⊥
+no_definition ws ys d s head never it = go s head it.is
   where
-    go : {g : Sig} {v : Item} {a : List Word} → starts (codes "let") a ≡ true → ((g : Sig) (p : Written) → IsProcess g p (drop 3 a) → ⊥) → IsItem g v a → ⊥
-    go s never (item_builtins r) = absurd (cc)
-    go s never (item_functions r) = absurd (cc)
-    go {g = g} s never (item_definition {p = p} r) = never g p r
-    go s never (item_process r) = absurd (cc)
-    go s never (item_statement (is_restriction r)) = absurd (cc)
-    go s never (item_statement (is_lemma a d r)) = absurd (cc)
+    go : {g : Sig} {v : Item} {a : List Word} → starts (codes "let") a ≡ true → HasParameters ys (drop 2 a) d → IsItem g v a → ⊥
+    go s head (item_builtins r) = absurd (cc)
+    go s head (item_functions r) = absurd (cc)
+    go {g = g} s head (item_definition {p = p} h r) = never g p (subst (λ (w : List Word). IsProcess g p w) (one_head h head).1 r)
+    go s head (item_process r) = absurd (cc)
+    go s head (item_statement (is_restriction r)) = absurd (cc)
+    go s head (item_statement (is_lemma a d r)) = absurd (cc)
 
 pub no_process : (ws : List Word) → starts (codes "process") ws ≡ true → ((g : Sig) (p : Written) → IsProcess g p (drop 2 ws) → ⊥) → IsSomeItem ws → ⊥
 no_process ws s never it = go s never it.is
@@ -128,7 +126,7 @@ no_process ws s never it = go s never it.is
     go : {g : Sig} {v : Item} {a : List Word} → starts (codes "process") a ≡ true → ((g : Sig) (p : Written) → IsProcess g p (drop 2 a) → ⊥) → IsItem g v a → ⊥
     go s never (item_builtins r) = absurd (cc)
     go s never (item_functions r) = absurd (cc)
-    go s never (item_definition r) = absurd (cc)
+    go s never (item_definition h r) = absurd (cc)
     go {g = g} s never (item_process {p = p} r) = never g p r
     go s never (item_statement (is_restriction r)) = absurd (cc)
     go s never (item_statement (is_lemma a d r)) = absurd (cc)
@@ -144,12 +142,12 @@ no_other laws ws l p none never it = go l p none never it.is
     go : {g : Sig} {v : Item} {a : List Word} → starts (codes "let") a ≡ false → starts (codes "process") a ≡ false → declared_in a ≡ None → NoStatement a → IsItem g v a → ⊥
     go l p none never (item_builtins {a = a} r) = let read = laws.declared _ _ (declares_builtins r) in absurd (cc (read, none))
     go l p none never (item_functions {a = a} r) = let read = laws.declared _ _ (declares_functions r) in absurd (cc (read, none))
-    go l p none never (item_definition r) = absurd (cc)
+    go l p none never (item_definition h r) = absurd (cc)
     go l p none never (item_process r) = absurd (cc)
     go {g = g} l p none never (item_statement {s = s} r) = never g s r
 
 -- an item that says of a process, which stands last
-pub said_added : (g : Sig) (z : List ℕ) (ts : List Token) (before after : List Definition) (ss : List Statement) (b : Bool) (o : Option Definition) → SaysProcess g z ts (Ok o) → IsPushed b o before after → IsAdded g z ts before after ss ss b
+pub said_added : (g : Sig) (z : List ℕ) (ts : List Token) (before after : List Entry) (ss : List Statement) (b : Bool) (o : Option Entry) → SaysProcess g z ts (Ok o) → IsPushed b o before after → IsAdded g z ts before after ss ss b
 said_added g z ts before after ss true None none p = let no : true ≡ false = p.0 in absurd (cc)
 said_added g z ts before after ss false None none p = none
 said_added g z ts before after ss false (Some e) is p = let no : false ≡ true = p.0 in absurd (cc)
@@ -162,7 +160,7 @@ said_added g z ts before after ss true (Some e) is p = record {
 }
 
 -- an item that declares something
-pub declaration_added : ItemLaws → (g : Sig) (z : List ℕ) (ts : List Token) (es : List Definition) (ss : List Statement) → is_some (declared_in (words_of z ts)) ≡ true → IsAdded g z ts es es ss ss true
+pub declaration_added : ItemLaws → (g : Sig) (z : List ℕ) (ts : List Token) (es : List Entry) (ss : List Statement) → is_some (declared_in (words_of z ts)) ≡ true → IsAdded g z ts es es ss ss true
 declaration_added laws g z ts es ss e = go (declared_in (words_of z ts)) refl e
   where
     go : (o : Option (List Declaration)) → declared_in (words_of z ts) ≡ o → is_some o ≡ true → IsAdded g z ts es es ss ss true
@@ -178,7 +176,7 @@ declaration_added laws g z ts es ss e = go (declared_in (words_of z ts)) refl e
         }
 
 -- where the tokens declare nothing, and are asked whether they are a restriction or a lemma
-stated_added : ItemLaws → (g : Sig) (z : List ℕ) (ts : List Token) (es : List Definition) (ss after : List Statement) (b : Bool) → starts (codes "let") (words_of z ts) ≡ false
+stated_added : ItemLaws → (g : Sig) (z : List ℕ) (ts : List Token) (es : List Entry) (ss after : List Statement) (b : Bool) → starts (codes "let") (words_of z ts) ≡ false
     → starts (codes "process") (words_of z ts) ≡ false → is_some (declared_in (words_of z ts)) ≡ false → IsStated g z ts ss after b → IsAdded g z ts es es ss after b
 stated_added laws g z ts es ss after true l p none is = record {
   said = [];
@@ -194,13 +192,13 @@ stated_added laws g z ts es ss after false l p none never = no_other laws (words
     nothing (Some ds) e = absurd (cc)
 
 -- the same, where asking may fail
-pub stated_tried : ItemLaws → (g : Sig) (z : List ℕ) (ts : List Token) (es : List Definition) (ss after : List Statement) (r : Result Bool Mem) → starts (codes "let") (words_of z ts) ≡ false
+pub stated_tried : ItemLaws → (g : Sig) (z : List ℕ) (ts : List Token) (es : List Entry) (ss after : List Statement) (r : Result Bool Mem) → starts (codes "let") (words_of z ts) ≡ false
     → starts (codes "process") (words_of z ts) ≡ false → is_some (declared_in (words_of z ts)) ≡ false → IfOk r (λ b. IsStated g z ts ss after b) → IfOk r (λ b. IsAdded g z ts es es ss after b)
 stated_tried laws g z ts es ss after (Ok b) l p none is = stated_added laws g z ts es ss after b l p none is
 stated_tried laws g z ts es ss after (Err e) l p none is = tt
 
 -- Turns of the loop over items, where `entries` and `earlier` were read before the tokens `rest`.
-module _ (laws : ItemLaws) (g : Sig) (last : ℕ) (z : List ℕ) (ts rest item behind : List Token) (entries : List Definition) (earlier : List Statement)
+module _ (laws : ItemLaws) (g : Sig) (last : ℕ) (z : List ℕ) (ts rest item behind : List Token) (entries : List Entry) (earlier : List Statement)
     (good : IsGoodBehind g z ts rest entries earlier)
     (faulty : (n : ℕ) → IsFaultyFile last (cut (placed z rest)) n → IsFaultyFile last (cut (placed z ts)) n)
     (split : cut (placed z rest) ≡ placed z item ∷ cut (placed z behind)) where
@@ -222,7 +220,7 @@ module _ (laws : ItemLaws) (g : Sig) (last : ℕ) (z : List ℕ) (ts rest item b
       let there = faulty (first_line (placed z item)) (subst (λ (y : List (List Placed)). IsFaultyFile last y (first_line (placed z item))) (sym split) here) in
       rw l (subst (λ (y : List (List Placed)). IsFaultyFile last y (first_line (placed z item))) (cut_is laws r) there)
 
-  module _ (after : List Definition) (later : List Statement) (it : IsAdding g z item entries after earlier later) where
+  module _ (after : List Entry) (later : List Statement) (it : IsAdding g z item entries after earlier later) where
     pub turn_good : IsGoodBehind g z ts behind after later
     turn_good is r =
         let spelled : IsItem g it.is.item (words (placed z item)) = rw (words_placed z item) it.is.spelled in

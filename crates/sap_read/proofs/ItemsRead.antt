@@ -8,20 +8,22 @@ use Rattle.sap_grammar.specs.Declarations.{Declaration, Declares, declares_built
 use Rattle.sap_grammar.specs.Items.{IsEnd, items_end, items_more, no_end, bad_item, later_item}
 use Rattle.sap_grammar.specs.ItemReading.{declared_in, told, declared_in_all}
 use Rattle.sap_draft.specs.declared.limits.TheConstants.{FILE_LIMITS}
-use Rattle.sap_draft.specs.Written.{Written}
+use Rattle.sap_macro.specs.Written.{Written}
 use Rattle.sap_read.specs.Item.{Item, builtins, functions, definition, process, statement, Standing, declared_by, declarations, body_of, stated_by}
 use Rattle.sap_read.specs.ItemGrammar.{IsItem, AreItems, IsFaultyFile, item_builtins, item_functions, item_definition, item_process, item_statement}
 use Rattle.sap_statements.specs.declared.statement.Statement.{Statement}
 use Rattle.sap_statements.specs.Statements.{is_restriction, is_lemma}
 use Rattle.sap_read.specs.code.ItemLaws.{ItemLaws}
 use Rattle.sap_read.specs.code.ProcessLaws.{ProcessLaws}
+use Rattle.sap_draft.specs.ProcessGrammar.{IsProcess}
+use Rattle.sap_read.proofs.ReadParameters.{one_head}
 use Rattle.sap_read.specs.code.StatementLaws.{StatementLaws}
 
 -- what an item declares is read in its words
 declares : ItemLaws → {g : Sig} {v : Item} {a : List Word} → IsItem g v a → told (declared_in a) ≡ declared_by v
 declares laws (item_builtins r) = ap told (laws.declared _ _ (declares_builtins r))
 declares laws (item_functions r) = ap told (laws.declared _ _ (declares_functions r))
-declares laws (item_definition r) = refl
+declares laws (item_definition h r) = refl
 declares laws (item_process r) = refl
 declares laws (item_statement (is_restriction r)) = refl
 declares laws (item_statement (is_lemma a d r)) = refl
@@ -57,7 +59,7 @@ declared_sound laws ws ds e = go ws ds (laws.declares ws ds e)
 not_end : {g : Sig} {v : Item} {a : List Word} → IsItem g v a → starts (codes "end") a ≡ false
 not_end (item_builtins r) = refl
 not_end (item_functions r) = refl
-not_end (item_definition r) = refl
+not_end (item_definition h r) = refl
 not_end (item_process r) = refl
 not_end (item_statement (is_restriction r)) = refl
 not_end (item_statement (is_lemma a d r)) = refl
@@ -84,16 +86,19 @@ module _ (laws : ItemLaws) (stated : StatementLaws) (written : ProcessLaws) wher
   one_item : {g : Sig} {u v : Item} {a : List Word} → IsItem g u a → IsItem g v a → u ≡ v
   one_item (item_builtins {bs = bs} {a = a} r) (item_builtins {bs = cs} s) = ap builtins (laws.one_builtins bs cs a r s)
   one_item (item_functions {ss = ss} {a = a} r) (item_functions {ss = us} s) = ap functions (laws.one_symbols ss us a r s)
-  one_item {g = g} (item_definition {x = x} {p = p} {a = a} r) (item_definition {p = q} s) = ap (λ (y : Written). definition x y) (written.one g p q a r s)
+  one_item {g = g} (item_definition {x = x} {xs = xs} {p = p} {b = b} h r) (item_definition {xs = ys} {p = q} k s) =
+      let heads = one_head h k in
+      let same : p ≡ q = written.one g p q _ (subst (λ (w : List Word). IsProcess g p w) heads.1 r) s in
+      λ i. definition x (heads.0 i) (same i)
   one_item {g = g} (item_process {p = p} {a = a} r) (item_process {p = q} s) = ap (λ (y : Written). process y) (written.one g p q a r s)
   one_item {g = g} (item_statement {s = x} {a = a} r) (item_statement {s = y} s) = ap (λ (z : Statement). statement z) (stated.one g FILE_LIMITS x y a r s)
   one_item (item_builtins r) (item_statement s) = elim s [ ]
   one_item (item_functions r) (item_statement s) = elim s [ ]
-  one_item (item_definition r) (item_statement s) = elim s [ ]
+  one_item (item_definition h r) (item_statement s) = elim s [ ]
   one_item (item_process r) (item_statement s) = elim s [ ]
   one_item (item_statement r) (item_builtins s) = elim r [ ]
   one_item (item_statement r) (item_functions s) = elim r [ ]
-  one_item (item_statement r) (item_definition s) = elim r [ ]
+  one_item (item_statement r) (item_definition h s) = elim r [ ]
   one_item (item_statement r) (item_process s) = elim r [ ]
 
   pub one_items : (g : Sig) (cut : List (List Placed)) (is js : List Standing) → AreItems g cut is → AreItems g cut js → is ≡ js

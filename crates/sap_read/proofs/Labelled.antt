@@ -3,21 +3,21 @@ use Rattle.std.proofs.Common.{◌≡◌, ℕ, ◌+◌, List, ◌∷◌, ◌++◌
 use Rattle.std.specs.Prelude.{slice_get, is_none}
 use Rattle.std.specs.List.{list_any}
 use Rattle.std.specs.Str.{bytes_eq}
-use Rattle.sap_read.specs.declared.definition.Definition.{Definition}
+use Rattle.sap_read.specs.declared.entry.Entry.{Entry}
 use Rattle.sap_read.specs.Causes.{unlabelled, listed, labels, is_among, first_taken}
 use Rattle.sap_read.specs.code.Bodies.{body}
 use Rattle.sap_read.specs.code.Label.{AreSeen}
 use Rattle.sap_terms.proofs.PlainLaws.Lists.{drop_got}
 
 -- a process with a label is passed over
-pub passed : (es : List Definition) (k : ℕ) (e : Definition) → slice_get es k ≡ Some e → is_none e.label ≡ false → unlabelled (map body (drop k es)) ≡ unlabelled (map body (drop (k + 1) es))
+pub passed : (es : List Entry) (k : ℕ) (e : Entry) → slice_get es k ≡ Some e → is_none e.label ≡ false → unlabelled (map body (drop k es)) ≡ unlabelled (map body (drop (k + 1) es))
 passed es k e there labelled =
-    ap (λ (xs : List Definition). unlabelled (map body xs)) (drop_got es k e there) ∙ rw labelled refl
+    ap (λ (xs : List Entry). unlabelled (map body xs)) (drop_got es k e there) ∙ rw labelled refl
 
 -- one without a label is the first
-pub stopped : (es : List Definition) (k : ℕ) (e : Definition) → slice_get es k ≡ Some e → is_none e.label ≡ true → unlabelled (map body (drop k es)) ≡ body e ∷ unlabelled (map body (drop (k + 1) es))
+pub stopped : (es : List Entry) (k : ℕ) (e : Entry) → slice_get es k ≡ Some e → is_none e.label ≡ true → unlabelled (map body (drop k es)) ≡ body e ∷ unlabelled (map body (drop (k + 1) es))
 stopped es k e there bare =
-    ap (λ (xs : List Definition). unlabelled (map body xs)) (drop_got es k e there) ∙ rw bare refl
+    ap (λ (xs : List Entry). unlabelled (map body xs)) (drop_got es k e there) ∙ rw bare refl
 
 -- a name more is looked at, the one at index k
 module _ (is_reserved : List ℕ → Bool) (names : List (List ℕ)) (k : ℕ) (x : List ℕ) (behind after : List (List ℕ)) (found : Option ℕ) (there : slice_get names k ≡ Some x)
@@ -46,7 +46,7 @@ module _ (is_reserved : List ℕ → Bool) (names : List (List ℕ)) (k : ℕ) (
   }
 
 -- the names of processes, one process more
-pub label_more : (es : List Definition) (k : ℕ) (e : Definition) (names : List (List ℕ)) → slice_get es k ≡ Some e → labels (map body es) ≡ names ++ labels (map body (drop k es))
+pub label_more : (es : List Entry) (k : ℕ) (e : Entry) (names : List (List ℕ)) → slice_get es k ≡ Some e → labels (map body es) ≡ names ++ labels (map body (drop k es))
     → labels (map body es) ≡ (names ++ listed e.label) ++ labels (map body (drop (k + 1) es))
 label_more es k e names there is =
-    is ∙ ap (λ (xs : List Definition). names ++ labels (map body xs)) (drop_got es k e there) ∙ sym (append_assoc names (listed e.label) (labels (map body (drop (k + 1) es))))
+    is ∙ ap (λ (xs : List Entry). names ++ labels (map body xs)) (drop_got es k e there) ∙ sym (append_assoc names (listed e.label) (labels (map body (drop (k + 1) es))))

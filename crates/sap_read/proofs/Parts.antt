@@ -10,8 +10,9 @@ use Rattle.sap_read.specs.Item.{Standing, declarations, bodies, statements}
 use Rattle.sap_grammar.specs.Cut.{Placed, placed, IsCut, last_line}
 use Rattle.sap_read.specs.ItemGrammar.{AreItems}
 use Rattle.sap_read.specs.Item.{signature_of}
+use Rattle.sap_read.specs.Identifiers.{identifiers_of}
 use Rattle.sap_grammar.specs.Signatures.{clash_from, signature_from}
-use Rattle.sap_read.specs.Files.{AreTokens, IsParted, IsRead, no_item, refused, ill, locked, unchecked, accepted}
+use Rattle.sap_read.specs.Files.{AreTokens, IsParted, IsRead, no_item, refused, unexpanded, ill, locked, unchecked, accepted}
 use Rattle.sap_grammar.specs.ItemReading.{cut, declared_in_all}
 use Rattle.sap_grammar.specs.ItemReading.{header_of}
 use Rattle.sap_read.specs.code.Judged.{AreAccepted, IsAccepted, IsFlawed, IsMislocked, IsRefused, IsRefusedCut}
@@ -41,44 +42,51 @@ is_declared laws z ts g clash e f h is standing r a =
     let here : declarations standing ≡ declared_in_all (items_of z ts) = declared_are laws a ∙ ap declared_in_all (sym (cut_is laws r)) in
     (rw here e, rw here f)
 
+-- the identifiers of these tokens
+abbrev pub names_in : List ℕ → List Token → List (List ℕ)
+names_in z ts = identifiers_of (words_of z ts)
+
 -- items under their own signature that are refused
 own_refused : {z : List ℕ} {ts : List Token} {x : List ℕ} {cut : List (List Placed)} (is : List Standing) (e : ReadFault) → IsParted z ts x cut → AreItems (signature_of is) cut is
-    → IsRefused (signature_of is) (clash_from pairs_alone (declarations is)) (bodies is) (statements is) e → IsRead z (Err e)
-own_refused is e p i (inl (inl first)) = refused p i first
+    → IsRefused (signature_of is) (clash_from pairs_alone (declarations is)) (names_in z ts) (bodies is) (statements is) e → IsRead z (Err e)
+own_refused is e p i (inl (inl (inl first))) = refused p i first
+own_refused {z = z} is e p i (inl (inl (inr m))) = subst (λ (q : ReadFault). IsRead z (Err q)) (sym m.is) (unexpanded p i m.nothing m.unexpanded)
 own_refused {z = z} is e p i (inl (inr r)) = by r.unsound
   where
     by : IsFlawed (signature_of is) r.process e ⊎ IsMislocked (signature_of is) r.process e → IsRead z (Err e)
-    by (inl f) = subst (λ (q : ReadFault). IsRead z (Err q)) (sym f.is) (ill p i r.whole.nothing r.whole.whole f.flaw)
-    by (inr f) = subst (λ (q : ReadFault). IsRead z (Err q)) (sym f.is) (locked p i r.whole.nothing r.whole.whole f.well_formed f.flaw)
+    by (inl f) = subst (λ (q : ReadFault). IsRead z (Err q)) (sym f.is) (ill p i r.whole.nothing r.whole.expanded f.flaw)
+    by (inr f) = subst (λ (q : ReadFault). IsRead z (Err q)) (sym f.is) (locked p i r.whole.nothing r.whole.expanded f.well_formed f.flaw)
 own_refused {z = z} is e p i (inr u) =
     let a = u.annotated in
-    subst (λ (q : ReadFault). IsRead z (Err q)) (sym u.first.is) (unchecked p i a.whole.nothing a.whole.whole a.sound.well_formed a.sound.annotation u.first.faulty)
+    subst (λ (q : ReadFault). IsRead z (Err q)) (sym u.first.is) (unchecked p i a.whole.nothing a.whole.expanded a.sound.well_formed a.sound.annotation u.first.faulty)
 
 pub is_refused : ItemLaws → (z : List ℕ) (ts : List Token) (x : List ℕ) (g : Sig) (clash : Option (List ℕ)) (e : ReadFault) → AreTokens z ts
-    → header_of (words_of z ts) ≡ Some x → IsDeclared z ts g clash → IsRefusedCut g clash (last_line (placed z ts)) (items_of z ts) e → IsRead z (Err e)
+    → header_of (words_of z ts) ≡ Some x → IsDeclared z ts g clash → IsRefusedCut g clash (names_in z ts) (last_line (placed z ts)) (items_of z ts) e → IsRead z (Err e)
 is_refused laws z ts x g clash e t h d (inl f) = subst (λ (q : ReadFault). IsRead z (Err q)) (sym f.is) (no_item (parted laws z ts x t h) f.faulty)
 is_refused laws z ts x g clash e t h d (inr r) =
     let is = r.standing in
+    let names = names_in z ts in
     let told = d g (items_of z ts) is (items_are_cut laws z ts) r.items in
     own_refused is e (parted laws z ts x t h) (subst (λ (s : Sig). AreItems s (items_of z ts) is) told.0 r.items)
-    (subst (λ (s : Sig). IsRefused s (clash_from pairs_alone (declarations is)) (bodies is) (statements is) e) told.0
-    (subst (λ (o : Option (List ℕ)). IsRefused g o (bodies is) (statements is) e) told.1 r.refused))
+    (subst (λ (s : Sig). IsRefused s (clash_from pairs_alone (declarations is)) names (bodies is) (statements is) e) told.0
+    (subst (λ (o : Option (List ℕ)). IsRefused g o names (bodies is) (statements is) e) told.1 r.refused))
 
 -- items under their own signature that are accepted
 own_accepted : {z : List ℕ} {ts : List Token} {x : List ℕ} {cut : List (List Placed)} (is : List Standing) (q : Proc) (rs : List RestrictionForm) (ls : List LemmaForm) → IsParted z ts x cut
-    → AreItems (signature_of is) cut is → IsAccepted (signature_of is) (clash_from pairs_alone (declarations is)) (bodies is) (statements is) q rs ls
+    → AreItems (signature_of is) cut is → IsAccepted (signature_of is) (clash_from pairs_alone (declarations is)) (names_in z ts) (bodies is) (statements is) q rs ls
     → IsRead z (Ok (record { name = x; signature = signature_of is; process = q; restrictions = rs; lemmas = ls }))
 own_accepted is q rs ls p i a =
     let b = a.annotated in
-    rw (a.checked.restrictions, a.checked.lemmas) (accepted p i b.whole.nothing b.whole.whole b.sound.well_formed b.sound.annotation a.checked.faultless)
+    rw (a.checked.restrictions, a.checked.lemmas) (accepted p i b.whole.nothing b.whole.expanded b.sound.well_formed b.sound.annotation a.checked.faultless)
 
 pub is_accepted : ItemLaws → (z : List ℕ) (ts : List Token) (x : List ℕ) (g : Sig) (clash : Option (List ℕ)) (q : Proc) (rs : List RestrictionForm) (ls : List LemmaForm) → AreTokens z ts
-    → header_of (words_of z ts) ≡ Some x → IsDeclared z ts g clash → AreAccepted g clash (items_of z ts) q rs ls
+    → header_of (words_of z ts) ≡ Some x → IsDeclared z ts g clash → AreAccepted g clash (names_in z ts) (items_of z ts) q rs ls
     → IsRead z (Ok (record { name = x; signature = g; process = q; restrictions = rs; lemmas = ls }))
 is_accepted laws z ts x g clash q rs ls t h d a =
     let is = a.standing in
+    let names = names_in z ts in
     let told = d g (items_of z ts) is (items_are_cut laws z ts) a.items in
     subst (λ (s : Sig). IsRead z (Ok (record { name = x; signature = s; process = q; restrictions = rs; lemmas = ls }))) (sym told.0)
     (own_accepted is q rs ls (parted laws z ts x t h) (subst (λ (s : Sig). AreItems s (items_of z ts) is) told.0 a.items)
-    (subst (λ (s : Sig). IsAccepted s (clash_from pairs_alone (declarations is)) (bodies is) (statements is) q rs ls) told.0
-    (subst (λ (o : Option (List ℕ)). IsAccepted g o (bodies is) (statements is) q rs ls) told.1 a.accepted)))
+    (subst (λ (s : Sig). IsAccepted s (clash_from pairs_alone (declarations is)) names (bodies is) (statements is) q rs ls) told.0
+    (subst (λ (o : Option (List ℕ)). IsAccepted g o names (bodies is) (statements is) q rs ls) told.1 a.accepted)))

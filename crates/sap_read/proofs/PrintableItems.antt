@@ -19,22 +19,21 @@ use Rattle.sap_statements.specs.declared.statement.Statement.{Statement}
 use Rattle.sap_statements.specs.FormulaGrammar.{Reach, IsIff}
 use Rattle.sap_statements.specs.Statements.{IsAttribute, AreAttributes, attributes_last, attributes_more, HasAttributes, without_attributes, with_attributes, IsMode, mode_missing, mode_all, mode_exists, IsStatement, is_restriction, is_lemma}
 use Rattle.sap_statements.specs.Printable.{IsTidyForm, IsFormOver, FormHasNames}
-use Rattle.sap_draft.specs.Written.{Written}
+use Rattle.sap_macro.specs.Written.{Written}
 use Rattle.sap_draft.specs.ProcessGrammar.{IsPar}
-use Rattle.sap_draft.specs.Printable.{IsWrittenOver, IsPrintableWritten}
+use Rattle.sap_draft.specs.Printable.{IsSpelledWritten}
 use Rattle.sap_draft.specs.declared.limits.TheConstants.{FILE_LIMITS}
-use Rattle.sap_read.specs.Item.{Item, Standing, declared_by, declarations, body_of, bodies, stated_by, statements}
-use Rattle.sap_read.specs.ItemGrammar.{IsItem, AreItems, item_builtins, item_functions, item_definition, item_process, item_statement}
+use Rattle.sap_read.specs.Item.{Item, Standing, Body, declared_by, declarations, body_of, bodies, stated_by, statements}
+use Rattle.sap_read.specs.ItemGrammar.{AreParameters, parameters_last, parameters_more, HasParameters, without_parameters, with_parameters, IsItem, AreItems, item_builtins, item_functions, item_definition, item_process, item_statement}
 use Rattle.sap_read.specs.Printable.{IsDeclarable}
 use Rattle.sap_read.proofs.DeclaredSymbols.{IsDeclaredWell}
 use Rattle.sap_read.proofs.EachOf.{both}
-use Rattle.sap_read.proofs.PrintableMeaning.{AreSpelledWell, IsSpelledBody}
 use Rattle.sap_read.proofs.PrintableStatements.{IsSpelledStatement}
 
 -- what the laws of processes and formulas say of what words of tokens spell
 pub record SpelledLaws : Type 0 where
-  pub process : (most : ℕ) (g : Sig) (m : Limits) (p : Written) (n : ℕ) (a b : List Word) → IsPar g m p n a b → AreTokenWords most a → IsWrittenOver g p
-      → IsPrintableWritten most g p
+  pub process : (most : ℕ) (g : Sig) (m : Limits) (p : Written) (n : ℕ) (a b : List Word) → IsPar g m p n a b → AreTokenWords most a
+      → IsSpelledWritten most g p
   pub tidy : (g : Sig) (e : Reach) (f : Form) (n : ℕ) (a b : List Word) → IsIff g e f n a b → IsFormOver g f → IsTidyForm g f
   pub names : (most : ℕ) (g : Sig) (e : Reach) (f : Form) (n : ℕ) (a b : List Word) → IsIff g e f n a b → AreTokenWords most a
       → FormHasNames most f × AreTokenWords most b
@@ -109,31 +108,42 @@ module _ (most : ℕ) where
 
     -- Items.
 
-    item_bodies : {v : Item} {a : List Word} → IsItem g v a → AreTokenWords most a → (n : ℕ) → AreSpelledWell g most (body_of v n)
+    parameters_held : {xs : List (List ℕ)} {a b : List Word} → AreParameters xs a b → AreTokenWords most a → AreTokenWords most b
+    parameters_held parameters_last h = h.1.1
+    parameters_held (parameters_more r) h = parameters_held r h.1.1
+
+    head_held : {xs : List (List ℕ)} {a b : List Word} → HasParameters xs a b → AreTokenWords most a → AreTokenWords most b
+    head_held without_parameters h = h.1
+    head_held (with_parameters r) h = (parameters_held r h.1).1
+
+    abbrev pub IsSpelledBody : Body → Type 0
+    IsSpelledBody b = IsSpelledWritten most g b.content
+
+    item_bodies : {v : Item} {a : List Word} → IsItem g v a → AreTokenWords most a → (n : ℕ) → AllByRecursion IsSpelledBody (body_of v n)
     item_bodies (item_builtins r) h n = tt
     item_bodies (item_functions r) h n = tt
-    item_bodies (item_definition {p = p} {a = a} r) h n = (laws.process most g FILE_LIMITS p r.levels a [] r.spelled h.1.1.1, tt)
+    item_bodies (item_definition {p = p} {b = b} k r) h n = (laws.process most g FILE_LIMITS p r.levels b [] r.spelled (head_held k h.1.1), tt)
     item_bodies (item_process {p = p} {a = a} r) h n = (laws.process most g FILE_LIMITS p r.levels a [] r.spelled h.1.1, tt)
     item_bodies (item_statement r) h n = tt
 
     item_declares : {v : Item} {a : List Word} → IsItem g v a → AreTokenWords most a → AllByRecursion (IsDeclaredWell most) (declared_by v)
     item_declares (item_builtins {bs = bs} r) h = builtins_well bs
     item_declares (item_functions r) h = symbols_well r h.1.1
-    item_declares (item_definition r) h = tt
+    item_declares (item_definition k r) h = tt
     item_declares (item_process r) h = tt
     item_declares (item_statement r) h = tt
 
     item_states : {v : Item} {a : List Word} → IsItem g v a → AreTokenWords most a → AllByRecursion (IsSpelledStatement most g) (stated_by v)
     item_states (item_builtins r) h = tt
     item_states (item_functions r) h = tt
-    item_states (item_definition r) h = tt
+    item_states (item_definition k r) h = tt
     item_states (item_process r) h = tt
     item_states (item_statement r) h = (statement_spelled r h, tt)
 
-    pub all_bodies : {cut : List (List Placed)} {is : List Standing} → AreItems g cut is → AllByRecursion AreHeld cut → AreSpelledWell g most (bodies is)
+    pub all_bodies : {cut : List (List Placed)} {is : List Standing} → AreItems g cut is → AllByRecursion AreHeld cut → AllByRecursion IsSpelledBody (bodies is)
     all_bodies (items_end e) h = tt
     all_bodies (items_more {i = i} {v = v} {vs = vs} r s) h =
-        both (IsSpelledBody g most) (body_of v (first_line i)) (bodies vs) (item_bodies r h.0 (first_line i)) (all_bodies s h.1)
+        both IsSpelledBody (body_of v (first_line i)) (bodies vs) (item_bodies r h.0 (first_line i)) (all_bodies s h.1)
 
     pub all_declares : {cut : List (List Placed)} {is : List Standing} → AreItems g cut is → AllByRecursion AreHeld cut
         → AllByRecursion (IsDeclaredWell most) (declarations is)

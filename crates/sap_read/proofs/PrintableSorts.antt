@@ -27,11 +27,11 @@ use Rattle.sap_read.specs.Printable.{IsPrintableProcess}
 use Rattle.sap_read.proofs.EachOf.{both}
 use Rattle.sap_read.proofs.ProcessOver.{IsProcessOver}
 
-args_instances : (σ : Choice) (ts : List Tree) → trees_of (map (instance σ) ts) ≡ instances σ (trees_of ts)
+pub args_instances : (σ : Choice) (ts : List Tree) → trees_of (map (instance σ) ts) ≡ instances σ (trees_of ts)
 args_instances σ [] = refl
 args_instances σ (t ∷ ts) = ap (λ (us : Trees). more (instance σ t) us) (args_instances σ ts)
 
-pair_kept : (σ : Choice) (f : List ℕ) (ts : Trees) → is_pair f (instances σ ts) ≡ is_pair f ts
+pub pair_kept : (σ : Choice) (f : List ℕ) (ts : Trees) → is_pair f (instances σ ts) ≡ is_pair f ts
 pair_kept σ f none = refl
 pair_kept σ f (more t none) = refl
 pair_kept σ f (more t (more u none)) = refl

@@ -15,18 +15,23 @@ use Rattle.sap_terms.specs.declared.limits.TheConstants.{MOST_FILE_NAME_BYTES}
 use Rattle.sap_draft.specs.declared.limits.TheConstants.{FILE_LIMITS}
 use Rattle.sap_grammar.specs.Words.{Word, mark, starts, words_of}
 use Rattle.sap_grammar.specs.Reading.{name_at}
-use Rattle.sap_draft.specs.Written.{Written}
+use Rattle.sap_macro.specs.Written.{Written, Definition}
 use Rattle.sap_read.specs.Item.{Item, definition, process, statement, Standing, declarations, Body, bodies, statements}
 use Rattle.sap_grammar.specs.Declarations.{Declaration}
 use Rattle.sap_grammar.specs.Cut.{Placed, placed, words, first_line, last_line}
 use Rattle.sap_draft.specs.ProcessGrammar.{IsProcess}
-use Rattle.sap_read.specs.ItemGrammar.{IsItem, AreItems, IsSomeItem, IsFaultyFile, item_definition, item_process, item_statement}
+use Rattle.sap_read.specs.ItemGrammar.{HasParameters, IsItem, AreItems, IsSomeItem, IsFaultyFile, item_definition, item_process, item_statement}
 use Rattle.sap_grammar.specs.Items.{items_end, items_more, no_end, bad_item, later_item}
 use Rattle.sap_grammar.specs.Signatures.{signature_from, clash_from}
 use Rattle.sap_read.specs.Item.{signature_of}
-use Rattle.sap_read.specs.Replaced.{process_of, no_meaning, replaced, after_body}
-use Rattle.sap_read.specs.Causes.{cause, cause_of, lock_fault, unlabelled}
-use Rattle.sap_read.specs.Files.{FileContent, AreTokens, IsParted, IsRead, no_tokens, no_header, no_item, refused, ill, locked, unchecked, accepted}
+use Rattle.sap_macro.specs.Expansion.{expansion}
+use Rattle.sap_macro.specs.Order.{AreInOrder}
+use Rattle.sap_uses.specs.FaultCauses.{Holds, IsMacroCause}
+use Rattle.sap_uses.specs.declared.fault.MacroFault.{MacroFault}
+use Rattle.sap_read.specs.FileProcess.{definitions_of, main_of}
+use Rattle.sap_read.specs.Identifiers.{identifiers_of}
+use Rattle.sap_read.specs.Causes.{cause, cause_of, fault_of_uses, lock_fault, unlabelled}
+use Rattle.sap_read.specs.Files.{FileContent, AreTokens, IsFileProcess, IsParted, IsRead, no_tokens, no_header, no_item, refused, unexpanded, ill, locked, unchecked, accepted}
 use Rattle.sap_grammar.specs.ItemReading.{declared_in, declared_in_all}
 use Rattle.sap_grammar.specs.ItemReading.{header_of}
 use Rattle.sap_formula.specs.declared.fault.FormulaFault.{FormulaFault}
@@ -40,7 +45,10 @@ use Rattle.sap_read.proofs.WordsRead.{starts_is}
 use Rattle.sap_read.proofs.Caused as caused
 use Rattle.sap_read.proofs.Parts.{items_of, parted}
 use Rattle.sap_read.proofs.ItemsRead.{declared_are, declared_sound}
-use Rattle.sap_read.proofs.ItemTurns.{definition_spelled, process_spelled, no_name, no_equals, no_colon, no_definition, no_process, no_other}
+use Rattle.sap_read.proofs.ItemTurns.{definition_spelled, process_spelled, no_name, no_head, no_colon, no_definition, no_process, no_other}
+use Rattle.sap_read.proofs.ReadParameters.{HeadOrNone, head_or_none}
+use Rattle.sap_read.proofs.InOrder.{all_in_order}
+use Rattle.sap_read.proofs.Unrefused as unrefused
 
 -- the words are a process under the signature, or under none
 abbrev WholeOrNone : Sig → List Word → Type 0
@@ -61,17 +69,17 @@ module _ (laws : ItemLaws) (stated : StatementLaws) (written : ProcessLaws) wher
   definition_or_none : (g : Sig) (ws : List Word) → starts (codes "let") ws ≡ true → ItemOrNone g ws
   definition_or_none g ws s = by_name (name_at (drop 1 ws)) refl
     where
-      by_whole : (x : List ℕ) → name_at (drop 1 ws) ≡ Some x → starts (codes "=") (drop 2 ws) ≡ true → WholeOrNone g (drop 3 ws) → ItemOrNone g ws
-      by_whole x n e (inl r) = inl (definition x r.0, subst (λ (w : List Word). IsItem g (definition x r.0) w) (sym (definition_spelled ws x s n e)) (item_definition r.1))
-      by_whole x n e (inr never) = inr (no_definition ws s never)
+      by_whole : (x : List ℕ) (xs : List (List ℕ)) (b : List Word) → name_at (drop 1 ws) ≡ Some x → HasParameters xs (drop 2 ws) b → WholeOrNone g b → ItemOrNone g ws
+      by_whole x xs b n h (inl r) = inl (definition x xs r.0, subst (λ (w : List Word). IsItem g (definition x xs r.0) w) (sym (definition_spelled ws x s n)) (item_definition h r.1))
+      by_whole x xs b n h (inr never) = inr (no_definition ws xs b s h never)
 
-      by_equals : (x : List ℕ) → name_at (drop 1 ws) ≡ Some x → (t : Bool) → starts (codes "=") (drop 2 ws) ≡ t → ItemOrNone g ws
-      by_equals x n true e = by_whole x n e (whole_or_none g (drop 3 ws))
-      by_equals x n false e = inr (λ it. no_equals s e it.is)
+      by_head : (x : List ℕ) → name_at (drop 1 ws) ≡ Some x → HeadOrNone (drop 2 ws) → ItemOrNone g ws
+      by_head x n (inl h) = by_whole x h.0 h.1 n h.2 (whole_or_none g h.1)
+      by_head x n (inr never) = inr (λ it. no_head s never it.is)
 
       by_name : (o : Option (List ℕ)) → name_at (drop 1 ws) ≡ o → ItemOrNone g ws
       by_name None n = inr (λ it. no_name s n it.is)
-      by_name (Some x) n = by_equals x n (starts (codes "=") (drop 2 ws)) refl
+      by_name (Some x) n = by_head x n (head_or_none (drop 2 ws))
 
   process_or_none : (g : Sig) (ws : List Word) → starts (codes "process") ws ≡ true → ItemOrNone g ws
   process_or_none g ws s = by_colon (starts (codes ":") (drop 1 ws)) refl
@@ -136,20 +144,18 @@ module _ (laws : ItemLaws) (stated : StatementLaws) (written : ProcessLaws) wher
   items_or_fault g last (i ∷ is) = one_more g last i is (item_or_none g (words i)) (items_or_fault g last is)
 
 -- where one process has no label, there is the file's
-abbrev HasProcess : (List ℕ → Proc) → List Body → Type 0
-HasProcess means bs = (p : Proc) × (process_of means bs ≡ Some p)
+abbrev HasMain : List Body → Type 0
+HasMain bs = (p : Written) × (main_of bs ≡ Some p)
 
-behind_name : (means : List ℕ → Proc) (b : Body) (bs : List Body) (x : List ℕ) → b.label ≡ Some x → HasProcess (after_body means (Some x) b.content) bs → HasProcess means (b ∷ bs)
-behind_name means b bs x q r = (r.0, rw q r.1)
-
-first_or_later : (means : List ℕ → Proc) (b : Body) (bs : List Body) → ((m : List ℕ → Proc) → is_none (slice_get (unlabelled bs) 0) ≡ false → HasProcess m bs) → (o : Option (List ℕ)) → b.label ≡ o
-    → is_none (slice_get (unlabelled (b ∷ bs)) 0) ≡ false → HasProcess means (b ∷ bs)
-first_or_later means b bs later None q h = (replaced means b.content, rw q refl)
-first_or_later means b bs later (Some x) q h = behind_name means b bs x q (later (after_body means (Some x) b.content) (rw q at h))
-
-has_process : (means : List ℕ → Proc) (bs : List Body) → is_none (slice_get (unlabelled bs) 0) ≡ false → HasProcess means bs
-has_process means [] h = absurd (cc (h))
-has_process means (b ∷ bs) h = first_or_later means b bs (λ m k. has_process m bs k) b.label refl h
+has_main : (bs : List Body) → is_none (slice_get (unlabelled bs) 0) ≡ false → HasMain bs
+has_main [] h = absurd (cc (h))
+has_main (b ∷ bs) h = by (is_none b.label) refl (has_main bs) where
+  by : (t : Bool) → is_none b.label ≡ t → (is_none (slice_get (unlabelled bs) 0) ≡ false → HasMain bs) → HasMain (b ∷ bs)
+  by true q later = (b.content, rw q refl)
+  by false q later =
+      let k : is_none (slice_get (unlabelled bs) 0) ≡ false = rw q at h in
+      let r = later k in
+      (r.0, rw q r.1)
 
 no_cause : (bs : List Body) (ss : List Statement) (clash : Option (List ℕ)) → cause bs ss clash ≡ None → is_none (slice_get (unlabelled bs) 0) ≡ false
 no_cause bs ss clash h = by (unlabelled bs) refl
@@ -169,11 +175,16 @@ IsLocked p = ((q : Proc) × IsAnnotation p q) ⊎ ((w : LockFlaw) × (path : Lis
 abbrev IsReadSo : List ℕ → Type 0
 IsReadSo z = (o : Result FileContent ReadFault) × IsRead z o
 
-module _ (laws : ItemLaws) (stated : StatementLaws) (written : ProcessLaws) (faults : (g : Sig) (r : Bool) (ss : List Statement) → AreFaultless g r ss ⊎ ((x : List ℕ) × (f : FormulaFault) × IsFirstFaulty g r ss x f)) (judged : (g : Sig) (p : Proc) → IsJudged g p) (labelled : (p : Proc) → IsLocked p) (z : List ℕ) where
+-- definitions in order and a process have a cause that counts, or none that holds
+abbrev pub IsUsed : Sig → List Definition → Written → Type 0
+IsUsed g ds p = ((f : MacroFault) × IsMacroCause g ds p f) ⊎ ((f : MacroFault) → ¬ Holds g ds p f)
+
+module _ (laws : ItemLaws) (stated : StatementLaws) (written : ProcessLaws) (faults : (g : Sig) (r : Bool) (ss : List Statement) → AreFaultless g r ss ⊎ ((x : List ℕ) × (f : FormulaFault) × IsFirstFaulty g r ss x f)) (judged : (g : Sig) (p : Proc) → IsJudged g p) (labelled : (p : Proc) → IsLocked p)
+    (used : (g : Sig) (ds : List Definition) (p : Written) → AreInOrder [] ds → IsUsed g ds p) (z : List ℕ) where
   from_items : {ts : List Token} {x : List ℕ} {cut : List (List Placed)} (is : List Standing) → IsParted z ts x cut → AreItems (signature_of is) cut is → IsReadSo z
-  from_items {x = x} is p i = by_cause (cause_of is) refl
+  from_items {ts = ts} {x = x} is p i = by_cause (cause_of is) refl
     where
-      by_formulas : (q r : Proc) → cause_of is ≡ None → process_of no_meaning (bodies is) ≡ Some q → IsWellFormed (signature_of is) q → IsAnnotation (with_sorts [] q) r
+      by_formulas : (q r : Proc) → cause_of is ≡ None → IsFileProcess z ts is q → IsWellFormed (signature_of is) q → IsAnnotation (with_sorts [] q) r
           → AreFaultless (signature_of is) true (statements is) ⊎ ((y : List ℕ) × (f : FormulaFault) × IsFirstFaulty (signature_of is) true (statements is) y f) → IsReadSo z
       by_formulas q r c w good a (inl all) = (
         Ok (record { name = x; signature = signature_of is; process = r; restrictions = restrictions_of (statements is); lemmas = lemmas_of (statements is) }),
@@ -181,19 +192,27 @@ module _ (laws : ItemLaws) (stated : StatementLaws) (written : ProcessLaws) (fau
       )
       by_formulas q r c w good a (inr f) = (Err (Formula f.0 f.1), unchecked p i c w good a f.2)
 
-      by_lock : (q : Proc) → cause_of is ≡ None → process_of no_meaning (bodies is) ≡ Some q → IsWellFormed (signature_of is) q → IsLocked (with_sorts [] q) → IsReadSo z
+      by_lock : (q : Proc) → cause_of is ≡ None → IsFileProcess z ts is q → IsWellFormed (signature_of is) q → IsLocked (with_sorts [] q) → IsReadSo z
       by_lock q c w good (inl a) = by_formulas q a.0 c w good a.1 (faults (signature_of is) true (statements is))
       by_lock q c w good (inr f) = (Err (lock_fault f.0 f.1), locked p i c w good f.2)
 
-      by_flaw : (q : Proc) → cause_of is ≡ None → process_of no_meaning (bodies is) ≡ Some q → IsJudged (signature_of is) q → IsReadSo z
+      by_flaw : (q : Proc) → cause_of is ≡ None → IsFileProcess z ts is q → IsJudged (signature_of is) q → IsReadSo z
       by_flaw q c w (inl good) = by_lock q c w good (labelled (with_sorts [] q))
       by_flaw q c w (inr f) = (Err (Ill f.0 f.1), ill p i c w f.2)
+
+      by_use : (m : Written) → cause_of is ≡ None → main_of (bodies is) ≡ Some m → IsUsed (signature_of is) (definitions_of (bodies is)) m → IsReadSo z
+      by_use m c q (inl f) = (Err (fault_of_uses f.0), unexpanded p i c (record { main = m; is_main = q; cause = f.1 }))
+      by_use m c q (inr none) =
+          let whole : Proc = (expansion (definitions_of (bodies is)) (identifiers_of (words_of z ts)) m).process in
+          by_flaw whole c (record { main = m; is_main = q; no_cause = none; whole = refl }) (judged (signature_of is) whole)
 
       by_cause : (o : Option ReadFault) → cause_of is ≡ o → IsReadSo z
       by_cause (Some e) c = (Err e, refused p i c)
       by_cause None c =
-          let w = has_process no_meaning (bodies is) (no_cause (bodies is) (statements is) (clash_from pairs_alone (declarations is)) c) in
-          by_flaw w.0 c w.1 (judged (signature_of is) w.0)
+          let clash = clash_from pairs_alone (declarations is) in
+          let free = unrefused.no_cause (bodies is) (statements is) clash c in
+          let w = has_main (bodies is) (no_cause (bodies is) (statements is) clash c) in
+          by_use w.0 c w.1 (used (signature_of is) (definitions_of (bodies is)) w.0 (all_in_order (bodies is) free.known free.distinct))
 
   from_parts : (ts : List Token) (x : List ℕ) (cut : List (List Placed)) → IsParted z ts x cut → IsReadSo z
   from_parts ts x cut p = by (items_or_fault laws stated written (signature_from pairs_alone (declared_in_all cut)) (last_line (placed z ts)) cut)

@@ -1,7 +1,6 @@
 -- What holds of a file whose items no cause refuses.
 use Rattle.std.proofs.Common.{◌≡◌, ◌≤◌, ℕ, List, [], ◌∷◌, ◌++◌, map, Option, Some, None, Bool, true, false, refl, ap, sym, subst}
-use Rattle.std.specs.Prelude.{codes, nat_lt, if◌then◌else◌, is_none, is_some, option_map, slice_get}
-use Rattle.std.proofs.lemmas.Bool.{ltb-false}
+use Rattle.std.specs.Prelude.{codes, if◌then◌else◌, is_none, is_some, option_map, slice_get}
 use Rattle.std.specs.Str.{bytes_eq}
 use Rattle.sap_terms.specs.Equations.{pair_name}
 use Rattle.sap_terms.specs.declared.signature.Symbol.{Symbol}
@@ -10,15 +9,12 @@ use Rattle.sap_statements.specs.declared.statement.Statement.{Statement}
 use Rattle.sap_statements.specs.Statements.{name_of}
 use Rattle.sap_terms.specs.Laws.{BuiltinsStayHeld}
 use Rattle.sap_terms.specs.Signature.{Sig, HoldsBuiltins, HoldsSymbols, added, arity_of, builtin_symbols, declared, declared_all, find_symbol, first_clash, pairs_alone, public_symbol}
-use Rattle.sap_terms.specs.declared.limits.TheConstants.{MOST_PROCESS_LEVELS, MOST_PROCESS_PLACES}
-use Rattle.sap_process.specs.Proc.{Proc, node_count, level_count}
-use Rattle.sap_read.specs.Causes.{above, cause, first_of, first_repeated, first_taken, labels, unknown_from, unlabelled}
+use Rattle.sap_read.specs.Causes.{cause, first_of, first_repeated, first_taken, labels, unknown_from, unlabelled}
 use Rattle.sap_read.specs.Item.{Body}
 use Rattle.sap_grammar.specs.Declarations.{Declaration, of_builtin, of_symbol}
-use Rattle.sap_read.specs.Replaced.{process_of, no_meaning}
 use Rattle.sap_grammar.specs.Signatures.{clash_from, clash_with, signature_from, with_declaration}
 use Rattle.sap_read.specs.declared.fault.ReadFault.{ReadFault}
-use Rattle.sap_read.specs.declared.fault.ReadFault.TheVariants.{DuplicateName, FunctionClash, NoProcess, TooDeep, TooMany, TwoProcesses, UnknownProcess}
+use Rattle.sap_read.specs.declared.fault.ReadFault.TheVariants.{DuplicateName, FunctionClash, NoProcess, TwoProcesses, UnknownProcess}
 
 -- where the first of two is nothing, neither is anything
 neither : {A : Type 0} (o p : Option A) → (if is_some o then o else p) ≡ None → (o ≡ None) × (p ≡ None)
@@ -29,11 +25,14 @@ nothing_in : {A B : Type 0} (f : A → B) (o : Option A) → option_map f o ≡ 
 nothing_in f None h = refl
 nothing_in f (Some x) h = absurd (cc (h))
 
--- declarations don't clash, the process is neither too large nor too deep, and no name of a restriction or lemma is taken
-pub no_cause : (bs : List Body) (ss : List Statement) (clash : Option (List ℕ)) → cause bs ss clash ≡ None
-    → (clash ≡ None) × (above node_count MOST_PROCESS_PLACES TooMany (process_of no_meaning bs) ≡ None)
-    × (above level_count MOST_PROCESS_LEVELS TooDeep (process_of no_meaning bs) ≡ None)
-    × (first_taken is_generated (map name_of ss) ≡ None)
+-- declarations don't clash, names of processes are defined once and before they are used, and no name of a restriction or lemma is taken
+pub record AreFree (bs : List Body) (ss : List Statement) (clash : Option (List ℕ)) : Type 0 where
+  pub known : unknown_from [] bs ≡ None
+  pub distinct : first_repeated (labels bs) ≡ None
+  pub untaken : first_taken is_generated (map name_of ss) ≡ None
+  pub no_clash : clash ≡ None
+
+pub no_cause : (bs : List Body) (ss : List Statement) (clash : Option (List ℕ)) → cause bs ss clash ≡ None → AreFree bs ss clash
 no_cause bs ss clash h =
     let none : Option ReadFault = if is_none (slice_get (unlabelled bs) 0) then Some NoProcess else None in
     let two : Option ReadFault = option_map (λ (b : Body). TwoProcesses b.line) (slice_get (unlabelled bs) 1) in
@@ -41,27 +40,18 @@ no_cause bs ss clash h =
     let twice : Option ReadFault = option_map DuplicateName (first_repeated (labels bs)) in
     let taken : Option ReadFault = option_map DuplicateName (first_taken is_generated (map name_of ss)) in
     let clashing : Option ReadFault = option_map FunctionClash clash in
-    let large : Option ReadFault = above node_count MOST_PROCESS_PLACES TooMany (process_of no_meaning bs) in
-    let deep : Option ReadFault = above level_count MOST_PROCESS_LEVELS TooDeep (process_of no_meaning bs) in
-    let behind_none = (neither none (first_of (two ∷ unknown ∷ twice ∷ taken ∷ clashing ∷ large ∷ deep ∷ [])) h).1 in
-    let behind_two = (neither two (first_of (unknown ∷ twice ∷ taken ∷ clashing ∷ large ∷ deep ∷ [])) behind_none).1 in
-    let behind_unknown = (neither unknown (first_of (twice ∷ taken ∷ clashing ∷ large ∷ deep ∷ [])) behind_two).1 in
-    let behind_twice = (neither twice (first_of (taken ∷ clashing ∷ large ∷ deep ∷ [])) behind_unknown).1 in
-    let at_taken = neither taken (first_of (clashing ∷ large ∷ deep ∷ [])) behind_twice in
-    let at_clashing = neither clashing (first_of (large ∷ deep ∷ [])) at_taken.1 in
-    let at_large = neither large (first_of (deep ∷ [])) at_clashing.1 in (
-      nothing_in FunctionClash clash at_clashing.0,
-      at_large.0,
-      (neither deep None at_large.1).0,
-      nothing_in DuplicateName (first_taken is_generated (map name_of ss)) at_taken.0,
-    )
-
--- a process that isn't above a limit
-pub not_above : (measure : Proc → ℕ) (most : ℕ) (e : ReadFault) (p : Proc) → above measure most e (Some p) ≡ None → measure p ≤ most
-not_above measure most e p h = by (nat_lt most (measure p)) refl h where
-  by : (t : Bool) → nat_lt most (measure p) ≡ t → (if t then Some e else None) ≡ None → measure p ≤ most
-  by true q h = absurd (cc (h))
-  by false q h = ltb-false most (measure p) q
+    let behind_none = (neither none (first_of (two ∷ unknown ∷ twice ∷ taken ∷ clashing ∷ [])) h).1 in
+    let behind_two = (neither two (first_of (unknown ∷ twice ∷ taken ∷ clashing ∷ [])) behind_none).1 in
+    let at_unknown = neither unknown (first_of (twice ∷ taken ∷ clashing ∷ [])) behind_two in
+    let at_twice = neither twice (first_of (taken ∷ clashing ∷ [])) at_unknown.1 in
+    let at_taken = neither taken (first_of (clashing ∷ [])) at_twice.1 in
+    let at_clashing = neither clashing None at_taken.1 in
+    record {
+      known = nothing_in UnknownProcess (unknown_from [] bs) at_unknown.0;
+      distinct = nothing_in DuplicateName (first_repeated (labels bs)) at_twice.0;
+      untaken = nothing_in DuplicateName (first_taken is_generated (map name_of ss)) at_taken.0;
+      no_clash = nothing_in FunctionClash clash at_clashing.0;
+    }
 
 -- declarations that don't clash leave the symbols of builtins held
 module _ (laws : BuiltinsStayHeld) where

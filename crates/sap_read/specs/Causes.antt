@@ -1,9 +1,8 @@
 -- Why a file whose items are all in the grammar is refused.
-use Rattle.std.specs.Prelude.{ℕ, Bool, false, not, ◌||◌, nat_lt, List, [], ◌∷◌, ◌++◌, Option, Some, None, if◌then◌else◌, is_some, is_none, option_map, slice_get, filter, map}
+use Rattle.std.specs.Prelude.{ℕ, Bool, false, not, ◌||◌, List, [], ◌∷◌, ◌++◌, Option, Some, None, if◌then◌else◌, is_some, is_none, option_map, slice_get, filter, map}
 use Rattle.std.specs.List.{list_any, find}
 use Rattle.std.specs.Str.{bytes_eq}
 use Rattle.sap_terms.specs.Signature.{pairs_alone}
-use Rattle.sap_process.specs.Proc.{Proc, node_count, level_count}
 use Rattle.sap_locks.specs.Annotation.{LockFlaw, without, over}
 use Rattle.sap_locks.specs.declared.fault.LockFault.{LockFault}
 use Rattle.sap_locks.specs.declared.fault.LockFault.TheVariants as lock
@@ -15,11 +14,12 @@ use Rattle.sap_statements.specs.Statements.{name_of}
 use Rattle.sap_process.specs.declared.flaw.Ill as declared_ill
 use Rattle.sap_process.specs.declared.flaw.Ill.TheVariants as ill
 use Rattle.sap_read.specs.declared.fault.ReadFault.{ReadFault}
-use Rattle.sap_read.specs.declared.fault.ReadFault.TheVariants.{Mem, Ill, Lock, NoProcess, TwoProcesses, UnknownProcess, DuplicateName, FunctionClash, TooMany, TooDeep, Formula}
+use Rattle.sap_read.specs.declared.fault.ReadFault.TheVariants.{Mem, Ill, Lock, NoProcess, TwoProcesses, UnknownProcess, DuplicateName, FunctionClash, Parameters, Arguments, TooMany, TooDeep, Large, Flawed, Formula}
 use Rattle.sap_read.specs.Item.{Standing, declarations, Body, bodies, statements}
-use Rattle.sap_read.specs.Replaced.{calls, process_of, no_meaning}
+use Rattle.sap_read.specs.FileProcess.{calls}
+use Rattle.sap_uses.specs.declared.fault.MacroFault.{MacroFault}
+use Rattle.sap_uses.specs.declared.fault.MacroFault.TheVariants as uses
 use Rattle.sap_grammar.specs.Signatures.{clash_from}
-use Rattle.sap_terms.specs.declared.limits.TheConstants.{MOST_PROCESS_LEVELS, MOST_PROCESS_PLACES}
 
 -- the first of them, if there is one
 abbrev pub first_of : {A : Type 0} → List (Option A) → Option A
@@ -60,12 +60,7 @@ first_taken is_reserved (x ∷ xs) = if is_reserved x || is_among xs x then Some
 abbrev pub first_repeated : List (List ℕ) → Option (List ℕ)
 first_repeated xs = first_taken (λ x. false) xs
 
--- the fault, where there is a process and its measure is above the limit
-abbrev pub above : (Proc → ℕ) → ℕ → ReadFault → Option Proc → Option ReadFault
-above measure most fault None = None
-above measure most fault (Some p) = if nat_lt most (measure p) then Some fault else None
-
--- each cause where it holds, in the order in which they count; a clash of declarations is told. A name of a restriction or lemma is
+-- each cause that holds before uses are looked at, in the order in which they count; a clash of declarations is told. A name of a restriction or lemma is
 -- taken where a later one has it, and where a generated restriction has it.
 abbrev pub causes : List Body → List Statement → Option (List ℕ) → List (Option ReadFault)
 causes bs ss clash =
@@ -74,17 +69,25 @@ causes bs ss clash =
     ∷ option_map UnknownProcess (unknown_from [] bs)
     ∷ option_map DuplicateName (first_repeated (labels bs))
     ∷ option_map DuplicateName (first_taken is_generated (map name_of ss))
-    ∷ option_map FunctionClash clash
-    ∷ above node_count MOST_PROCESS_PLACES TooMany (process_of no_meaning bs)
-    ∷ above level_count MOST_PROCESS_LEVELS TooDeep (process_of no_meaning bs) ∷ []
+    ∷ option_map FunctionClash clash ∷ []
 
--- the first cause that holds
+-- the first of them that holds
 abbrev pub cause : List Body → List Statement → Option (List ℕ) → Option ReadFault
 cause bs ss clash = first_of (causes bs ss clash)
 
--- the first cause that holds of a file with these items
+-- the first of them that holds of a file with these items
 abbrev pub cause_of : List Standing → Option ReadFault
 cause_of is = cause (bodies is) (statements is) (clash_from pairs_alone (declarations is))
+
+-- the fault of a file whose process can't be expanded
+abbrev pub fault_of_uses : MacroFault → ReadFault
+fault_of_uses uses.Mem = Mem
+fault_of_uses (uses.Parameters x) = Parameters x
+fault_of_uses (uses.Arguments x) = Arguments x
+fault_of_uses uses.TooMany = TooMany
+fault_of_uses uses.TooDeep = TooDeep
+fault_of_uses (uses.Large x) = Large x
+fault_of_uses (uses.Flawed x w path) = Flawed x w path
 
 -- the fault of a file whose process isn't well-formed
 abbrev pub fault_of : declared_ill.Ill → ReadFault

@@ -15,15 +15,18 @@ use Rattle.sap_process.specs.Flaws.{IsFirstFlaw, IsWellFormed}
 use Rattle.sap_process.specs.Ready.{IsReady}
 use Rattle.sap_process.specs.Sorted.{with_sorts}
 use Rattle.sap_process.specs.declared.flaw.Flaw.{Flaw}
+use Rattle.sap_uses.specs.declared.fault.MacroFault.{MacroFault}
 use Rattle.sap_read.specs.declared.file.File.{File}
 use Rattle.sap_read.specs.declared.fault.ReadFault.{ReadFault}
 use Rattle.sap_read.specs.declared.fault.ReadFault.TheVariants.{Lex as LexFault, Header, Syntax, Ill, Formula}
 use Rattle.sap_read.specs.Item.{Standing, bodies, statements}
 use Rattle.sap_grammar.specs.Cut.{Placed, placed, IsCut, IsHeader, last_line}
+use Rattle.sap_grammar.specs.Words.{words_of}
 use Rattle.sap_read.specs.ItemGrammar.{AreItems, IsFaultyFile}
-use Rattle.sap_read.specs.Replaced.{process_of, no_meaning}
+use Rattle.sap_read.specs.FileProcess.{IsExpanded, IsUnexpanded}
+use Rattle.sap_read.specs.Identifiers.{identifiers_of}
 use Rattle.sap_read.specs.Item.{signature_of}
-use Rattle.sap_read.specs.Causes.{cause_of, lock_fault}
+use Rattle.sap_read.specs.Causes.{cause_of, fault_of_uses, lock_fault}
 use Rattle.sap_statements.specs.Stated.{AreFaultless, IsFirstFaulty, restrictions_of, lemmas_of}
 use Rattle.sap_terms.specs.declared.limits.TheConstants.{MOST_FILE_NAME_BYTES, MOST_PROCESS_PLACES}
 
@@ -51,6 +54,11 @@ pub record IsParted (z : List ℕ) (ts : List Token) (x : List ℕ)
   pub header : IsHeader x (placed z ts) rest
   pub items : IsCut rest cut
 
+-- this is the expansion of its process, where these are its tokens and items
+abbrev pub IsFileProcess : List ℕ → List Token → List Standing → Proc → Type 0
+IsFileProcess z ts is p =
+    IsExpanded (signature_of is) (identifiers_of (words_of z ts)) (bodies is) p
+
 -- the file it is, or why it is refused
 pub data IsRead (z : List ℕ) : Result FileContent ReadFault → Type 0 where
   no_tokens : {f : Lex} → IsLexed MOST_FILE_NAME_BYTES 0 1 z (Err f) → IsRead z (Err (LexFault f))
@@ -63,26 +71,30 @@ pub data IsRead (z : List ℕ) : Result FileContent ReadFault → Type 0 where
   refused : {ts : List Token} {x : List ℕ} {cut : List (List Placed)} {is : List Standing}
       {e : ReadFault} → IsParted z ts x cut
       → AreItems (signature_of is) cut is → cause_of is ≡ Some e → IsRead z (Err e)
+  unexpanded : {ts : List Token} {x : List ℕ} {cut : List (List Placed)} {is : List Standing}
+      {f : MacroFault} → IsParted z ts x cut
+      → AreItems (signature_of is) cut is → cause_of is ≡ None
+      → IsUnexpanded (signature_of is) (bodies is) f → IsRead z (Err (fault_of_uses f))
   ill : {ts : List Token} {x : List ℕ} {cut : List (List Placed)} {is : List Standing} {p : Proc}
       {w : Flaw} {path : List ℕ} → IsParted z ts x cut
       → AreItems (signature_of is) cut is → cause_of is ≡ None
-      → process_of no_meaning (bodies is) ≡ Some p → IsFirstFlaw (signature_of is) p w path
+      → IsFileProcess z ts is p → IsFirstFlaw (signature_of is) p w path
       → IsRead z (Err (Ill w path))
   locked : {ts : List Token} {x : List ℕ} {cut : List (List Placed)} {is : List Standing} {p : Proc}
       {w : LockFlaw} {path : List ℕ} → IsParted z ts x cut
       → AreItems (signature_of is) cut is → cause_of is ≡ None
-      → process_of no_meaning (bodies is) ≡ Some p → IsWellFormed (signature_of is) p
+      → IsFileProcess z ts is p → IsWellFormed (signature_of is) p
       → IsFirstLockFlaw (with_sorts [] p) w path → IsRead z (Err (lock_fault w path))
   unchecked : {ts : List Token} {x : List ℕ} {cut : List (List Placed)} {is : List Standing}
       {p q : Proc} {y : List ℕ} {f : FormulaFault} → IsParted z ts x cut
       → AreItems (signature_of is) cut is → cause_of is ≡ None
-      → process_of no_meaning (bodies is) ≡ Some p → IsWellFormed (signature_of is) p
+      → IsFileProcess z ts is p → IsWellFormed (signature_of is) p
       → IsAnnotation (with_sorts [] p) q → IsFirstFaulty (signature_of is) true (statements is) y f
       → IsRead z (Err (Formula y f))
   accepted : {ts : List Token} {x : List ℕ} {cut : List (List Placed)} {is : List Standing}
       {p q : Proc} → IsParted z ts x cut
       → AreItems (signature_of is) cut is → cause_of is ≡ None
-      → process_of no_meaning (bodies is) ≡ Some p → IsWellFormed (signature_of is) p
+      → IsFileProcess z ts is p → IsWellFormed (signature_of is) p
       → IsAnnotation (with_sorts [] p) q → AreFaultless (signature_of is) true (statements is)
       → IsRead z (Ok (record { name = x; signature = signature_of is; process = q; restrictions = restrictions_of (statements is); lemmas = lemmas_of (statements is) }))
 

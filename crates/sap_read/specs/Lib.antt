@@ -10,7 +10,7 @@ pub use Rattle.sap_grammar.specs.Cut
 pub use Rattle.sap_grammar.specs.Declarations
 pub use Rattle.sap_grammar.specs.Signatures
 pub use Rattle.sap_grammar.specs.Items
-pub use Rattle.sap_draft.specs.Written
+pub use Rattle.sap_macro.specs.Written
 pub use Rattle.sap_draft.specs.ProcessGrammar
 pub use Rattle.sap_draft.specs.ProcessExamples
 pub use Rattle.sap_statements.specs.FormulaGrammar
@@ -18,9 +18,11 @@ pub use Rattle.sap_statements.specs.Statements
 pub use Rattle.sap_statements.specs.Stated
 pub mod Item
 pub mod ItemGrammar
-pub mod Replaced
+pub mod Identifiers
+pub mod FileProcess
 pub mod Causes
 pub mod Files
+pub mod Occurring
 pub mod Printable
 pub mod OwnNames
 pub mod CauseExamples

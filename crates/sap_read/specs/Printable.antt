@@ -7,12 +7,13 @@ use Rattle.sap_terms.specs.Tree.{variable}
 use Rattle.sap_formula.specs.Form.{RestrictionForm, LemmaForm}
 use Rattle.sap_process.specs.Proc.{Proc, nil, parallel, replicated, act, test, lookup, level_count}
 use Rattle.sap_grammar.specs.Words.{is_lower}
-use Rattle.sap_grammar.specs.ByteWords.{IsName}
+use Rattle.sap_grammar.specs.ByteWords.{IsName, IsContent}
 use Rattle.sap_grammar.specs.Printable.{IsPrintableTerm}
 pub use Rattle.sap_draft.specs.Printable.{IsPrintableAct, IsPrintableAction}
 use Rattle.sap_statements.specs.Statements.{IsAttribute}
 use Rattle.sap_statements.specs.Printable.{IsPrintableForm}
 use Rattle.sap_read.specs.Files.{FileContent}
+use Rattle.sap_read.specs.Occurring.{Any, ProcessNamesAre}
 
 -- each action, comparison and lookup of the process can be printed
 abbrev pub IsPrintableProcess : ℕ → Sig → Proc → Type 0
@@ -42,13 +43,15 @@ pub record IsPrintableLemma (most : ℕ) (g : Sig) (l : LemmaForm) : Type 0 wher
   pub attributes : All IsAttribute l.attributes
   pub formula : IsPrintableForm most g l.formula
 
--- what the file tells can be printed with names of at most so many bytes, and its process isn't too deep
-pub record IsPrintableFile (most : ℕ) (f : FileContent) : Type 0 where
+-- what the file tells can be printed with names of at most so many bytes, but for the names of variables in its process, for which
+-- the second number is meant; and its process isn't too deep
+pub record IsPrintableFile (most wide : ℕ) (f : FileContent) : Type 0 where
   pub name : IsName most f.name
   pub is_map : IsMap f.signature.symbols
   pub pairs : HoldsSymbols f.signature.symbols pairs_alone.symbols
   pub symbols : All (IsDeclarable most) f.signature.symbols
-  pub process : IsPrintableProcess most f.signature f.process
+  pub process : IsPrintableProcess wide f.signature f.process
+  pub contents : ProcessNamesAre Any (IsContent most) f.process
   pub levels : level_count f.process ≤ MOST_PROCESS_LEVELS
   pub restrictions : All (IsPrintableRestriction most f.signature) f.restrictions
   pub lemmas : All (IsPrintableLemma most f.signature) f.lemmas

@@ -4,7 +4,7 @@ ghost use Rattle.sap_formula.specs.declared.fault.FormulaFault.TheVariants.{Unbo
 ghost use Rattle.sap_locks.specs.Annotation.{without};
 ghost use Rattle.sap_process.specs.declared.flaw.Flaw.TheVariants.{Unbound};
 ghost use Rattle.sap_text.specs.declared.fault.Lex.TheVariants.{OpenQuote};
-ghost use Rattle.sap_read.specs.CauseExamples.{AreNoProcesses, AreProcesses, AreRefused, AreUnrefused, counting_first, file_processes, near_files, other_processes, with_clash, with_repeated, with_too_deep, with_too_many, with_two, with_unknown, without_process};
+ghost use Rattle.sap_read.specs.CauseExamples.{AreNoProcesses, AreProcesses, AreRefused, AreUnexpanded, AreUnrefused, counting_first, file_processes, near_files, other_processes, unexpanded_first, with_clash, with_other_count, with_parameter_twice, with_repeated, with_too_deep, with_too_many, with_two, with_unknown, without_process};
 ghost use Rattle.sap_read.specs.Causes.{lock_fault};
 ghost use Rattle.sap_read.specs.FileExamples.{empty_file, endless_file, headless_file, quoting_file, timeless_file, told_whole, unbound_file, unlocking_file, whole_file};
 ghost use Rattle.sap_read.specs.Files.{IsRead};
@@ -14,22 +14,26 @@ use sap_locks::{annotations_by_hand, branches_by_hand};
 use sap_process::flaws_by_hand;
 use sap_text::longest_tokens;
 
-/// A law: small files, each given by its items, with each cause for which items are refused: no process, a second one by its line, a
-/// name of a process that nothing before defines, a name that stands twice, a declaration that clashes, 4,001 places, 301 levels. Near
-/// misses of each are refused for none; and of two causes the one that stands first here counts.
+/// A law: small files, each given by its items, with causes for which items are refused: no process, a second one by its line, a name
+/// of a process that nothing before defines, a name that stands twice, a declaration that clashes, a parameter that stands twice, another
+/// number of arguments, 4,001 places, 301 levels. Near misses are refused for none; and of two causes the one that stands first here
+/// counts.
 pub fn causes_by_hand()
     ensures no_process { AreRefused without_process }
     ensures two_processes { AreRefused with_two }
     ensures unknown { AreRefused with_unknown }
     ensures repeated { AreRefused with_repeated }
     ensures clash { AreRefused with_clash }
-    ensures too_many { AreRefused with_too_many }
-    ensures too_deep { AreRefused with_too_deep }
+    ensures parameters { AreUnexpanded with_parameter_twice }
+    ensures arguments { AreUnexpanded with_other_count }
+    ensures too_many { AreUnexpanded with_too_many }
+    ensures too_deep { AreUnexpanded with_too_deep }
     ensures near { AreUnrefused near_files }
     ensures order { AreRefused counting_first }
+    ensures order_of_uses { AreUnexpanded unexpanded_first }
 {}
 
-/// A law: the processes of small files, with names replaced by what they stand for, and processes that are none of theirs.
+/// A law: the processes of small files, with uses replaced by what they mean, and processes that are none of theirs.
 pub fn file_processes_by_hand()
     ensures are { AreProcesses file_processes }
     ensures are_not { AreNoProcesses other_processes }

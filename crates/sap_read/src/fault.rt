@@ -5,6 +5,7 @@ use sap_process::{Flaw, Ill};
 use sap_statements::Unchecked;
 use sap_terms::{Mem, Name, Path};
 use sap_text::Lex;
+use sap_uses::MacroFault;
 
 /// Why a file is refused. Of the causes that hold, the one that stands first here is answered; want of memory, which
 /// merges with none of them, can come before any.
@@ -30,11 +31,21 @@ pub enum ReadFault {
     DuplicateName { name: Name },
     /// The first function that is declared otherwise than before it, by its name.
     FunctionClash { name: Name },
-    /// The process, with names replaced by what they stand for, has more than `MOST_PROCESS_PLACES` nodes.
+    /// The first parameter that its definition has twice, of the first such definition.
+    Parameters { name: Name },
+    /// The definition of the first use, in the bodies in order and then in the file's process, with another number of
+    /// arguments than it has parameters.
+    Arguments { name: Name },
+    /// The process, expanded, has more than `MOST_PROCESS_PLACES` nodes.
     TooMany,
-    /// That process has more than `MOST_PROCESS_LEVELS` levels.
+    /// It has more than `MOST_PROCESS_LEVELS` levels.
     TooDeep,
-    /// That process isn't well-formed: the flaw that counts, and the path of its first place.
+    /// The definition of the first use, in preorder of the expansion, with an argument of more than `MOST_TERM_NODES` nodes.
+    Large { name: Name },
+    /// The first definition with parameters that the process leads to and whose body has one of the flaws `Unbound`, `Rebound`
+    /// and `SortClash`, where its parameters are in scope: the one of these that counts, and the path of its first place.
+    Flawed { name: Name, which: Flaw, path: Path },
+    /// The process, expanded, isn't well-formed: the flaw that counts, and the path of its first place.
     Ill { which: Flaw, path: Path },
     /// That process, with its sorts, can't be annotated: its first place that can't be, and why.
     Lock(LockFault),
@@ -51,6 +62,25 @@ impl From<Mem> for ReadFault {
 
     fn from(_e: Mem) -> ReadFault {
         ReadFault::Mem
+    }
+}
+
+impl From<MacroFault> for ReadFault {
+    ghost use Rattle.std.specs.Prelude.{◌≡◌};
+    ghost use Rattle.sap_read.specs.Causes.{fault_of_uses};
+
+    ghost from_gives = { λ f e. e ≡ fault_of_uses f };
+
+    fn from(f: MacroFault) -> ReadFault {
+        match f {
+            MacroFault::Mem => ReadFault::Mem,
+            MacroFault::Parameters { name } => ReadFault::Parameters { name },
+            MacroFault::Arguments { name } => ReadFault::Arguments { name },
+            MacroFault::TooMany => ReadFault::TooMany,
+            MacroFault::TooDeep => ReadFault::TooDeep,
+            MacroFault::Large { name } => ReadFault::Large { name },
+            MacroFault::Flawed { name, which, path } => ReadFault::Flawed { name, which, path },
+        }
     }
 }
 

@@ -4,6 +4,8 @@ ghost use Rattle.sap_text.specs.Tokens.{IsLexed};
 ghost use Rattle.sap_text.specs.declared.fault.Lex.{Lex};
 ghost use Rattle.sap_grammar.specs.Cut.{Placed, placed, IsCut};
 ghost use Rattle.sap_read.specs.code.Judged.{AreAccepted, AreChecked, IsAccepted, IsAnnotated, IsFirstUnchecked, IsFlawed, IsRefused, IsRefusedAs, IsRefusedCut, IsSound, IsUnsound};
+ghost use Rattle.sap_read.specs.Identifiers.{identifiers_of};
+ghost use Rattle.sap_grammar.specs.Words.{words_of};
 ghost use Rattle.sap_read.specs.code.Bodies.{body};
 ghost use Rattle.sap_read.specs.Files.{AreTokens};
 ghost use Rattle.sap_process.specs.Proc.{node_count, proc};
@@ -15,7 +17,9 @@ ghost use Rattle.sap_read.specs.Files.{IsRead, told_by};
 ghost use Rattle.sap_read.specs.declared.fault.ReadFault.{ReadFault};
 ghost use Rattle.sap_read.specs.declared.fault.ReadFault.TheVariants.{Mem as OutOfMemory, Lex as LexFault};
 
+use crate::entry::Entry;
 use crate::fault::ReadFault;
+use crate::identifiers::identifiers;
 use crate::items::{Contents, read_items};
 use crate::laws::item_laws;
 use crate::whole::whole_process;
@@ -24,7 +28,9 @@ use sap_grammar::{Declared, beyond, boxed, header_name, last_line, read_declarat
 use sap_locks::annotate_boxed;
 use sap_process::{Process, well_formed_boxed};
 use sap_statements::{Checked, Statement, check_statements};
-use sap_terms::{Copied, Items, MOST_FILE_NAME_BYTES, MOST_PROCESS_PLACES, Mem, Name, Signature};
+use sap_terms::{
+    Copied, Items, MOST_FILE_NAME_BYTES, MOST_PROCESS_PLACES, Mem, Name, NameList, Signature,
+};
 use sap_text::{Lex, Token, tokens};
 use std::alloc::Global;
 
@@ -78,8 +84,8 @@ fn copied_process(alloc: Global, p: &Process) -> Result<Box<Process>, Mem>
     boxed(alloc, p.copy(alloc)?)
 }
 
-/// The file of these bytes, or the first cause that refuses it, in the order of `ReadFault`. Names of processes are
-/// replaced by what they stand for; an identifier is a constant where any item of the file declares it so; each variable has
+/// The file of these bytes, or the first cause that refuses it, in the order of `ReadFault`. Uses of processes are
+/// replaced by what they mean; an identifier is a constant where any item of the file declares it so; each variable has
 /// the sort of its binder, in the process and in formulas, and each lock and unlock its label. Restrictions and lemmas stand
 /// as they do in the file.
 ///
@@ -121,7 +127,8 @@ fn read_parts(alloc: Global, bytes: &[u8], tokens: &[Token]) -> Result<Box<File>
     let title = Name::from_bytes(alloc, name)?;
     let rest = beyond(3, tokens);
     let declared = read_declarations(alloc, bytes, rest)?;
-    let content = read_content(alloc, &declared, bytes, rest, last_line(tokens))?;
+    let names = identifiers(alloc, bytes, tokens)?;
+    let content = read_content(alloc, &declared, &names, bytes, rest, last_line(tokens))?;
     Ok(file_of(alloc, title, declared, content)?)
 }
 
@@ -182,37 +189,44 @@ struct Content {
 fn read_content(
     alloc: Global,
     declared: &Declared,
+    names: &NameList,
     bytes: &[u8],
     tokens: &[Token],
     last: u64,
 ) -> Result<Content, ReadFault>
     ensures accepted { IfOk result (λ c. (cut : List (List Placed))
         → IsCut (placed bytes.now tokens.now) cut
-        → AreAccepted declared.now.signature declared.now.clash cut (proc c.process.value)
+        → AreAccepted declared.now.signature declared.now.clash names.now cut (proc c.process.value)
         c.checked.restrictions c.checked.lemmas) }
     ensures refused { (e : ReadFault) → IsErrOf result e → (e ≡ OutOfMemory → ⊥)
         → (cut : List (List Placed)) → IsCut (placed bytes.now tokens.now) cut
-        → IsRefusedCut declared.now.signature declared.now.clash last cut e }
+        → IsRefusedCut declared.now.signature declared.now.clash names.now last cut e }
 {
     let contents = read_items(alloc, &declared.signature, bytes, tokens, last)?;
-    judge_contents(alloc, declared, &contents)
+    let Contents {
+        entries,
+        statements,
+    } = contents;
+    judge_contents(alloc, declared, names, entries, &statements)
 }
 
 /// The parts of what the items say, or why they are refused: their process comes before their formulas.
 fn judge_contents(
     alloc: Global,
     declared: &Declared,
-    contents: &Contents,
+    names: &NameList,
+    entries: Items<Entry>,
+    statements: &Items<Statement>,
 ) -> Result<Content, ReadFault>
-    ensures accepted { IfOk result (λ c. IsAccepted declared.now.signature declared.now.clash
-        (map body contents.now.entries) contents.now.statements (proc c.process.value)
+    ensures accepted { IfOk result (λ c. IsAccepted declared.now.signature declared.now.clash names.now
+        (map body entries) statements.now (proc c.process.value)
         c.checked.restrictions c.checked.lemmas) }
     ensures refused { (e : ReadFault) → IsErrOf result e → (e ≡ OutOfMemory → ⊥)
-        → IsRefused declared.now.signature declared.now.clash (map body contents.now.entries)
-        contents.now.statements e }
+        → IsRefused declared.now.signature declared.now.clash names.now (map body entries)
+        statements.now e }
 {
-    let process = process_of(alloc, declared, contents)?;
-    let checked = check_formulas(alloc, &declared.signature, &contents.statements)?;
+    let process = process_of(alloc, declared, names, entries, statements)?;
+    let checked = check_formulas(alloc, &declared.signature, statements)?;
     Ok(Content { process, checked })
 }
 
@@ -234,20 +248,17 @@ fn check_formulas(
 fn process_of(
     alloc: Global,
     declared: &Declared,
-    contents: &Contents,
+    names: &NameList,
+    entries: Items<Entry>,
+    statements: &Items<Statement>,
 ) -> Result<Box<Process>, ReadFault>
-    ensures accepted { IfOk result (λ p. IsAnnotated declared.now.signature declared.now.clash
-        (map body contents.now.entries) contents.now.statements (proc p.value)) }
+    ensures accepted { IfOk result (λ p. IsAnnotated declared.now.signature declared.now.clash names.now
+        (map body entries) statements.now (proc p.value)) }
     ensures refused { (e : ReadFault) → IsErrOf result e → (e ≡ OutOfMemory → ⊥)
-        → IsRefusedAs declared.now.signature declared.now.clash (map body contents.now.entries)
-        contents.now.statements e }
+        → IsRefusedAs declared.now.signature declared.now.clash names.now (map body entries)
+        statements.now e }
 {
-    let process = whole_process(
-        alloc,
-        &contents.entries,
-        &contents.statements,
-        &declared.clash,
-    )?;
+    let process = whole_process(alloc, entries, statements, &declared.clash, names)?;
     judge(alloc, &declared.signature, &process)
 }
 

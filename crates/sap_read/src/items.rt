@@ -7,13 +7,14 @@ ghost use Rattle.sap_read.specs.code.ItemView.{AreSaid, IsAdded, IsPushed, IsSta
 ghost use Rattle.sap_read.specs.declared.fault.ReadFault.{ReadFault};
 ghost use Rattle.sap_read.specs.declared.fault.ReadFault.TheVariants.{Mem as OutOfMemory, Syntax};
 
-use crate::definition::Definition;
+use crate::entry::Entry;
 use crate::fault::ReadFault;
 use crate::laws::item_laws;
+use crate::parameters::read_head;
 use sap_draft::{FILE_LIMITS, read_process};
 use sap_grammar::{beyond, is_declaration, is_last, line_of, name_at, split_item, starts};
 use sap_statements::{Statement, read_statement};
-use sap_terms::{Items, Mem, Name, Signature};
+use sap_terms::{Items, Mem, Name, NameList, Signature};
 use sap_text::Token;
 use std::alloc::Global;
 
@@ -23,22 +24,23 @@ fn read_definition(
     sig: &Signature,
     bytes: &[u8],
     item: &[Token],
-) -> Result<Option<Definition>, Mem>
+) -> Result<Option<Entry>, Mem>
     requires { starts (codes "let") (words_of bytes.now item.now) ≡ true }
     ensures { SaysProcess sig.now bytes.now item.now result }
 {
     let Some(name) = name_at(bytes, beyond(1, item)) else {
         return Ok(None);
     };
-    if !starts(bytes, beyond(2, item), "=") {
+    let Some((params, rest)) = read_head(alloc, bytes, beyond(2, item))? else {
         return Ok(None);
-    }
+    };
     let label = Name::from_bytes(alloc, name)?;
-    match read_process(alloc, sig, bytes, beyond(3, item))? {
+    match read_process(alloc, sig, bytes, rest)? {
         None => Ok(None),
-        Some(draft) => Ok(Some(Definition {
+        Some(source) => Ok(Some(Entry {
             label: Some(label),
-            draft,
+            params,
+            source,
             line: line_of(item),
         })),
     }
@@ -50,7 +52,7 @@ fn read_main(
     sig: &Signature,
     bytes: &[u8],
     item: &[Token],
-) -> Result<Option<Definition>, Mem>
+) -> Result<Option<Entry>, Mem>
     requires { starts (codes "process") (words_of bytes.now item.now) ≡ true }
     ensures { SaysProcess sig.now bytes.now item.now result }
 {
@@ -59,16 +61,17 @@ fn read_main(
     }
     match read_process(alloc, sig, bytes, beyond(2, item))? {
         None => Ok(None),
-        Some(draft) => Ok(Some(Definition {
+        Some(source) => Ok(Some(Entry {
             label: None,
-            draft,
+            params: NameList::new(alloc),
+            source,
             line: line_of(item),
         })),
     }
 }
 
 // Puts an entry last, if there is one, and answers whether there is.
-fn push(entries: &mut Items<Definition>, entry: Option<Definition>) -> Result<bool, Mem>
+fn push(entries: &mut Items<Entry>, entry: Option<Entry>) -> Result<bool, Mem>
     ensures pushed { IfOk result (λ b. IsPushed b entry entries.old entries.new) }
 {
     match entry {
@@ -113,7 +116,7 @@ fn read_item(
     sig: &Signature,
     bytes: &[u8],
     item: &[Token],
-    entries: &mut Items<Definition>,
+    entries: &mut Items<Entry>,
     statements: &mut Items<Statement>,
 ) -> Result<bool, Mem>
     ensures { IfOk result (λ b. IsAdded sig.now bytes.now item.now entries.old entries.new
@@ -134,7 +137,7 @@ fn read_item(
 /// What the items of a file say: of processes, and of traces.
 #[derive(Drop)]
 pub(crate) struct Contents {
-    pub(crate) entries: Items<Definition>,
+    pub(crate) entries: Items<Entry>,
     pub(crate) statements: Items<Statement>,
 }
 

@@ -1,5 +1,5 @@
 //! Laws of files, as contracts of functions that do nothing but call those below.
-ghost use Rattle.std.specs.Prelude.{◌≡◌, ℕ, List, Result, Ok, Err};
+ghost use Rattle.std.specs.Prelude.{◌≡◌, ◌≤◌, ◌^◌, ℕ, List, Result, Ok, Err, length};
 ghost use Rattle.sap_terms.specs.declared.fact.Fact.{Fact};
 ghost use Rattle.sap_terms.specs.Tree.{Tree, level_count};
 ghost use Rattle.sap_terms.specs.Signature.{Sig};
@@ -9,7 +9,7 @@ ghost use Rattle.sap_grammar.specs.FactGrammar.{IsFact, fact_levels};
 ghost use Rattle.sap_read.specs.code.ItemLaws.{ItemLaws};
 ghost use Rattle.sap_read.specs.code.StatementLaws.{StatementLaws};
 ghost use Rattle.sap_read.specs.code.ProcessLaws.{ProcessLaws};
-ghost use Rattle.sap_draft.specs.Written.{Written};
+ghost use Rattle.sap_macro.specs.Written.{Written};
 ghost use Rattle.sap_draft.specs.ProcessGrammar.{IsPar};
 ghost use Rattle.sap_grammar.specs.Cut.{Placed, IsCut};
 ghost use Rattle.sap_read.specs.Item.{Standing};
@@ -19,6 +19,7 @@ ghost use Rattle.sap_read.specs.Files.{FileContent, IsRead, IsRunnable};
 ghost use Rattle.sap_read.specs.Printable.{IsPrintableFile};
 ghost use Rattle.sap_read.specs.OwnNames.{IsNamedApart};
 ghost use Rattle.sap_terms.specs.declared.limits.TheConstants.{MOST_FILE_NAME_BYTES};
+ghost use Rattle.sap_read.specs.declared.limits.TheConstants.{MOST_NEW_NAME_BYTES};
 ghost use Rattle.sap_process.specs.Ready.{IsReady};
 ghost use Rattle.sap_read.specs.declared.fault.ReadFault.{ReadFault};
 ghost use Rattle.sap_statements.specs.declared.statement.Statement.{Statement};
@@ -31,6 +32,7 @@ use sap_grammar::{
     declarations_are_read, headers_are_read, same_grammar, words_are_cut, words_of_bytes,
 };
 use sap_locks::{annotations_are_ready, annotations_of_processes};
+use sap_macro::{new_names_are_least, new_names_are_short, sizes_are_one};
 use sap_process::{one_flaw, some_flaw, sorting_keeps};
 use sap_statements::{
     faultless_formulas_keep_signs, formulas_are_printable, one_faulty_statement, one_statement,
@@ -38,6 +40,7 @@ use sap_statements::{
 };
 use sap_terms::builtins_stay_held;
 use sap_text::{one_answer, some_answer};
+use sap_uses::{one_macro_cause, some_macro_cause};
 
 /// What the laws of processes say, as the proofs on files need it.
 pub(crate) fn process_laws()
@@ -92,6 +95,7 @@ pub fn one_file()
     process_laws();
     statement_laws();
     one_answer();
+    one_macro_cause();
     one_flaw();
     one_faulty_statement();
     annotations_of_processes();
@@ -105,6 +109,7 @@ pub fn some_file()
     process_laws();
     statement_laws();
     some_answer();
+    some_macro_cause();
     some_flaw();
     one_faulty_statement();
     annotations_of_processes();
@@ -124,6 +129,7 @@ pub fn file_unless_refused()
 pub fn files_are_runnable()
     ensures { (z : List ℕ) (f : FileContent) → IsRead z (Ok f) → IsRunnable f }
 {
+    sizes_are_one();
     sorting_keeps();
     builtins_stay_held();
     faultless_formulas_are_checked();
@@ -137,12 +143,17 @@ pub fn files_are_ready()
     annotations_are_ready();
 }
 
-/// A law: what is read of a file can be printed. Its names are names of a file, no longer than those may be; no symbol stands
-/// twice in its signature, each can be declared, and those of pairs are held; its process is no deeper than one that is read may
-/// be, its terms and facts, its restrictions and its lemmas are such that words spell them, and what it shows is linear.
+/// A law: what is read of a file of at most 2^52 bytes can be printed. Its names are names of a file, no longer than those may be,
+/// but for those in its process, which may be new; no symbol stands twice in its signature, each can be declared, and those of pairs
+/// are held; its process is no deeper than one that is read may be, its terms and facts, its restrictions and its lemmas are such that
+/// words spell them, and what it shows is linear. In a file that is longer all new names for a name may be taken.
 pub fn files_are_printable()
-    ensures { (z : List ℕ) (f : FileContent) → IsRead z (Ok f) → IsPrintableFile MOST_FILE_NAME_BYTES f }
+    ensures { (z : List ℕ) (f : FileContent) → length z ≤ 2 ^ 52 → IsRead z (Ok f)
+        → IsPrintableFile MOST_FILE_NAME_BYTES MOST_NEW_NAME_BYTES f }
 {
+    new_names_are_least();
+    new_names_are_short();
+    sizes_are_one();
     words_of_bytes();
     processes_are_printable();
     formulas_are_printable();

@@ -2,14 +2,16 @@
 #![tactic(auto)]
 
 mod by_hand;
-mod definition;
-mod expansion;
+mod entry;
 mod fault;
 mod file;
+mod identifiers;
 mod items;
 mod labels;
 mod laws;
+mod limits;
 mod names;
+mod parameters;
 mod taken;
 mod terms;
 mod whole;
@@ -21,6 +23,7 @@ pub use laws::{
     file_unless_refused, files_are_named_apart, files_are_printable, files_are_ready,
     files_are_runnable, grammar_is_one, one_file, one_list_of_items, some_file,
 };
+pub use limits::MOST_NEW_NAME_BYTES;
 pub use sap_draft::{FILE_LIMITS, one_process, processes_by_hand};
 pub use sap_grammar::{one_fact, one_term};
 pub use sap_statements::{one_formula, one_statement};

@@ -1,89 +1,48 @@
-//! Names of processes: what is kept of each, and which are used before they are defined.
-ghost use Rattle.std.specs.Prelude.{◌≡◌, ℕ, List, [], map, None, Some, min, IfOk, OnOk, IsErrOf};
+//! Names of processes that are used before they are defined.
+ghost use Rattle.std.specs.Prelude.{◌≡◌, ◌||◌, ℕ, List, [], map, None, Some, IfOk, OnOk, IsErrOf};
+ghost use Rattle.std.specs.List.{list_any};
 ghost use Rattle.std.specs.Option.{option_copied, option_map};
-ghost use Rattle.sap_terms.specs.NameMap.{value_at};
+ghost use Rattle.std.specs.Str.{bytes_eq};
+ghost use Rattle.sap_macro.specs.Sources.{written};
 ghost use Rattle.sap_read.specs.declared.fault.ReadFault.{ReadFault};
 ghost use Rattle.sap_read.specs.declared.fault.ReadFault.TheVariants.{Mem as OutOfMemory, UnknownProcess as IsUnknown};
-ghost use Rattle.sap_read.specs.Replaced.{calls};
-ghost use Rattle.sap_read.specs.Causes.{unknown_from};
-ghost use Rattle.sap_draft.specs.Drafts.{written};
+ghost use Rattle.sap_read.specs.FileProcess.{calls};
+ghost use Rattle.sap_read.specs.Causes.{is_among, listed, unknown_from};
 ghost use Rattle.sap_read.specs.code.Bodies.{body};
-ghost use Rattle.sap_read.specs.code.Meaning.{nodes_in, levels_in, unknown_among, target, kept_behind, AreCounted, AreTargets, meaning_of};
+ghost use Rattle.sap_read.specs.code.Known.{unknown_among};
 
-use crate::definition::Definition;
+use crate::entry::Entry;
 use crate::fault::ReadFault;
-use sap_draft::Draft;
-use sap_terms::{Copied, Items, Mem, Name, NameMap};
+use sap_macro::Source;
+use sap_terms::{Copied, Items, Mem, Name, NameSet};
 use std::alloc::Global;
 
-/// What is kept of a name: the index of the process that it stands for, which is no name itself, and the nodes and levels
-/// of what it means; from the greatest u64 on, that number.
-#[derive(Clone, Copy)]
-pub(crate) struct Meant {
-    pub(crate) index: u64,
-    pub(crate) nodes: u64,
-    pub(crate) levels: u64,
-}
-
-/// Names of processes that are defined.
-pub(crate) type Names = NameMap<Meant>;
-
-/// The nodes of the draft, its names replaced by what they stand for; from the greatest u64 on, that number. It takes no
-/// memory, and recurses as deep as the draft.
-pub(crate) fn nodes(names: &Names, draft: &Draft) -> u64
-    ensures { result ≡ min (nodes_in names.now (written draft.now)) u64.MAX }
+// The first name in the process that isn't defined. It recurses as deep as the process.
+#[tactic(auto, using(crate::proofs::Known::unknown_laws))]
+fn first_unknown<'a>(names: &NameSet, source: &'a Source) -> Option<&'a Name>
+    ensures { option_copied result ≡ unknown_among names.now (calls (written source.now)) }
 {
-    match draft {
-        Draft::Nil => 1,
-        Draft::Call(x) => names.get(x).map_or(1, |m| m.nodes),
-        Draft::Par(p, q) | Draft::If(_, _, p, q) | Draft::Lookup(_, _, p, q) => nodes(names, p)
-            .saturating_add(nodes(names, q))
-            .saturating_add(1),
-        Draft::Rep(p) | Draft::Act(_, p) => nodes(names, p).saturating_add(1),
-    }
-}
-
-/// The levels of the draft, its names replaced by what they stand for; from the greatest u64 on, that number. It takes no
-/// memory, and recurses as deep as the draft.
-pub(crate) fn levels(names: &Names, draft: &Draft) -> u64
-    ensures { result ≡ min (levels_in names.now (written draft.now)) u64.MAX }
-{
-    match draft {
-        Draft::Nil => 1,
-        Draft::Call(x) => names.get(x).map_or(1, |m| m.levels),
-        Draft::Par(p, q) | Draft::If(_, _, p, q) | Draft::Lookup(_, _, p, q) => {
-            levels(names, p).max(levels(names, q)).saturating_add(1)
-        }
-        Draft::Rep(p) | Draft::Act(_, p) => levels(names, p).saturating_add(1),
-    }
-}
-
-// The first name in the draft that isn't defined.
-#[tactic(auto, using(crate::proofs::Kept::unknown_laws))]
-fn first_unknown<'a>(names: &Names, draft: &'a Draft) -> Option<&'a Name>
-    ensures { option_copied result ≡ unknown_among names.now (calls (written draft.now)) }
-{
-    match draft {
-        Draft::Nil => None,
-        Draft::Call(x) if names.contains_key(x) => None,
-        Draft::Call(x) => Some(x),
-        Draft::Par(p, q) | Draft::If(_, _, p, q) | Draft::Lookup(_, _, p, q) => {
+    match source {
+        Source::Nil => None,
+        Source::Call(x, _) if names.contains(x) => None,
+        Source::Call(x, _) => Some(x),
+        Source::Par(p, q) | Source::If(_, _, p, q) | Source::Lookup(_, _, p, q) => {
             match first_unknown(names, p) {
                 None => first_unknown(names, q),
                 found => found,
             }
         }
-        Draft::Rep(p) | Draft::Act(_, p) => first_unknown(names, p),
+        Source::Rep(p) | Source::Act(_, p) => first_unknown(names, p),
     }
 }
 
-// Refuses a draft with a name that isn't defined.
-fn check_known(alloc: Global, names: &Names, draft: &Draft) -> Result<(), ReadFault>
-    ensures known { OnOk result (unknown_among names.now (calls (written draft.now)) ≡ None) }
+// Refuses a process with a name that isn't defined.
+fn check_known(alloc: Global, names: &NameSet, source: &Source) -> Result<(), ReadFault>
+    ensures known { OnOk result (unknown_among names.now (calls (written source.now)) ≡ None) }
     ensures unknown { (e : ReadFault) → IsErrOf result e → (e ≡ OutOfMemory → ⊥)
-        → option_map IsUnknown (unknown_among names.now (calls (written draft.now))) ≡ Some e }
+        → option_map IsUnknown (unknown_among names.now (calls (written source.now))) ≡ Some e }
 {
-    match first_unknown(names, draft) {
+    match first_unknown(names, source) {
         None => Ok(()),
         Some(name) => Err(ReadFault::UnknownProcess {
             name: name.copy(alloc)?,
@@ -91,62 +50,42 @@ fn check_known(alloc: Global, names: &Names, draft: &Draft) -> Result<(), ReadFa
     }
 }
 
-// The index of the process that this one, at index k, is when it is a name; else k.
-fn target(names: &Names, draft: &Draft, k: u64) -> u64
-    ensures { result ≡ target names.now k (written draft.now) }
-{
-    match draft {
-        Draft::Call(x) => names.get(x).map_or(k, |m| m.index),
-        _ => k,
-    }
-}
-
-// Keeps the name of the process at index k, if it has one.
-fn keep(alloc: Global, names: &mut Names, entry: &Definition, k: u64) -> Result<(), Mem>
-    ensures { OnOk result ((x : List ℕ)
-        → value_at names.new x ≡ kept_behind names.old k entry.now.label
-        (written entry.now.draft.value) x) }
+// Keeps the name of the process, if it has one.
+fn keep(names: &mut NameSet, entry: &Entry) -> Result<(), Mem>
+    ensures { OnOk result ((x : List ℕ) → list_any (bytes_eq x) names.new
+        ≡ (is_among (listed entry.now.label) x || list_any (bytes_eq x) names.old)) }
 {
     let Some(label) = &entry.label else {
         return Ok(());
     };
-    let meant = Meant {
-        index: target(names, &entry.draft, k),
-        nodes: nodes(names, &entry.draft),
-        levels: levels(names, &entry.draft),
-    };
-    let name = label.copy(alloc)?;
-    names.insert(name, meant)?;
+    names.insert(label)?;
     Ok(())
 }
 
-// Keeps the name of the process at index k, if it has one; refuses the process where a name in it isn't defined.
-fn enter(alloc: Global, names: &mut Names, entry: &Definition, k: u64) -> Result<(), ReadFault>
+// Keeps the name of the process, if it has one; refuses the process where a name in it isn't defined.
+fn enter(alloc: Global, names: &mut NameSet, entry: &Entry) -> Result<(), ReadFault>
     ensures known { OnOk result (unknown_among names.old (calls
-        (written entry.now.draft.value)) ≡ None) }
-    ensures kept { OnOk result ((x : List ℕ)
-        → value_at names.new x ≡ kept_behind names.old k entry.now.label
-        (written entry.now.draft.value) x) }
+        (written entry.now.source.value)) ≡ None) }
+    ensures kept { OnOk result ((x : List ℕ) → list_any (bytes_eq x) names.new
+        ≡ (is_among (listed entry.now.label) x || list_any (bytes_eq x) names.old)) }
     ensures unknown { (e : ReadFault) → IsErrOf result e → (e ≡ OutOfMemory → ⊥)
         → option_map IsUnknown (unknown_among names.old (calls
-        (written entry.now.draft.value))) ≡ Some e }
+        (written entry.now.source.value))) ≡ Some e }
 {
-    check_known(alloc, names, &entry.draft)?;
-    Ok(keep(alloc, names, entry, k)?)
+    check_known(alloc, names, &entry.source)?;
+    Ok(keep(names, entry)?)
 }
 
-/// The names of the processes; an error where a process has a name that none before it defines. It takes time in proportion
-/// to the processes as they are written, where each name in them is looked for by its order.
-pub(crate) fn names_of(alloc: Global, entries: &Items<Definition>) -> Result<Names, ReadFault>
-    ensures known { IfOk result (λ names. unknown_from [] (map body entries.now) ≡ None) }
-    ensures counted { IfOk result (λ names. AreCounted names (meaning_of entries.now)) }
-    ensures targets { IfOk result (λ names. AreTargets entries.now names) }
+/// Refuses the processes where one has a name that none before it defines. It takes time in proportion to the processes as they are
+/// written, where each name in them is looked for by its order.
+pub(crate) fn check_all_known(alloc: Global, entries: &Items<Entry>) -> Result<(), ReadFault>
+    ensures known { OnOk result (unknown_from [] (map body entries.now) ≡ None) }
     ensures unknown { (e : ReadFault) → IsErrOf result e → (e ≡ OutOfMemory → ⊥)
         → option_map IsUnknown (unknown_from [] (map body entries.now)) ≡ Some e }
 {
-    let mut names = NameMap::new(alloc);
-    for (k, entry) in entries.as_slice().iter().enumerate() {
-        enter(alloc, &mut names, entry, k as u64)?;
+    let mut names = NameSet::new(alloc);
+    for entry in entries.as_slice() {
+        enter(alloc, &mut names, entry)?;
     }
-    Ok(names)
+    Ok(())
 }

@@ -8,14 +8,14 @@ ghost use Rattle.sap_read.specs.Causes.{labels, listed, first_taken, first_repea
 ghost use Rattle.sap_read.specs.code.Bodies.{body};
 ghost use Rattle.sap_read.specs.code.Label.{name_there};
 
-use crate::definition::Definition;
+use crate::entry::Entry;
 use sap_restrict::is_generated;
 use sap_statements::Statement;
 use sap_terms::{Copied, Items, Mem, Name, NameList, NameSet};
 use std::alloc::Global;
 
 // Puts the label last, if there is one.
-fn push_label(alloc: Global, names: &mut NameList, entry: &Definition) -> Result<(), Mem>
+fn push_label(alloc: Global, names: &mut NameList, entry: &Entry) -> Result<(), Mem>
     ensures { OnOk result (names.new ≡ names.old ++ listed entry.now.label) }
 {
     let Some(label) = &entry.label else {
@@ -26,7 +26,7 @@ fn push_label(alloc: Global, names: &mut NameList, entry: &Definition) -> Result
 }
 
 // The names that processes have, in order.
-fn labels(alloc: Global, entries: &Items<Definition>) -> Result<NameList, Mem>
+fn labels(alloc: Global, entries: &Items<Entry>) -> Result<NameList, Mem>
     ensures { IfOk result (λ names. names ≡ labels (map body entries.now)) }
 {
     let mut names = NameList::new(alloc);
@@ -92,10 +92,7 @@ fn first_taken(alloc: Global, names: &NameList, generated: bool) -> Result<Optio
 
 /// The first name that another process behind it has too. It takes time in proportion to the list, where each name is looked for
 /// among those behind it by its order.
-pub(crate) fn first_repeated(
-    alloc: Global,
-    entries: &Items<Definition>,
-) -> Result<Option<Name>, Mem>
+pub(crate) fn first_repeated(alloc: Global, entries: &Items<Entry>) -> Result<Option<Name>, Mem>
     ensures { IfOk result (λ name. name ≡ first_repeated (labels (map body entries.now))) }
 {
     let names = labels(alloc, entries)?;

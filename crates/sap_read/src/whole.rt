@@ -1,47 +1,36 @@
 //! From what is written to the process of the file.
-ghost use Rattle.std.specs.Prelude.{◌≡◌, ◌≤◌, [], ◌∷◌, Some, None, map, min, IfOk, OnOk, IsErrOf};
+ghost use Rattle.std.specs.Prelude.{◌≡◌, ◌≤◌, [], ◌∷◌, ◌++◌, Some, None, map, IfOk, OnOk, IsErrOf};
+ghost use Rattle.std.specs.Option.{option_or};
+ghost use Rattle.sap_terms.specs.Signature.{Sig};
 ghost use Rattle.sap_process.specs.Proc.{node_count, proc};
 ghost use Rattle.sap_restrict.specs.Restrictions.{is_generated};
 ghost use Rattle.sap_statements.specs.Statements.{name_of};
-ghost use Rattle.sap_read.specs.Replaced.{process_of, no_meaning};
+ghost use Rattle.sap_macro.specs.Sources.{definitions, written};
+ghost use Rattle.sap_read.specs.FileProcess.{definitions_of, main_of, defined_as};
 ghost use Rattle.sap_read.specs.Item.{Body};
 ghost use Rattle.sap_read.specs.Causes.{cause, unlabelled, labels, unknown_from, first_repeated, first_taken};
-ghost use Rattle.sap_draft.specs.Drafts.{written};
 ghost use Rattle.sap_read.specs.code.Bodies.{body};
-ghost use Rattle.sap_read.specs.code.Meaning.{nodes_in, levels_in, size_fault, meaning_of, AreCounted, AreTargets};
+ghost use Rattle.sap_read.specs.code.Judged.{IsRefusedBefore, IsWhole};
+ghost use Rattle.sap_read.specs.code.Parting.{written_main};
 ghost use Rattle.sap_read.specs.declared.fault.ReadFault.{ReadFault};
 ghost use Rattle.sap_read.specs.declared.fault.ReadFault.TheVariants.{Mem as OutOfMemory};
 
-use crate::definition::Definition;
-use crate::expansion::expand;
+use crate::entry::Entry;
 use crate::fault::ReadFault;
-use crate::labels::the_process;
-use crate::names::{Names, levels, names_of, nodes};
+use crate::labels::check_one_process;
+use crate::names::check_all_known;
 use crate::taken::{first_repeated, first_reused};
-use sap_draft::Draft;
+use sap_macro::{Definition, DefinitionList, Source};
 use sap_process::Process;
 use sap_statements::Statement;
-use sap_terms::{Copied, Items, MOST_PROCESS_LEVELS, MOST_PROCESS_PLACES, Name};
+use sap_terms::{Copied, Items, MOST_PROCESS_PLACES, Mem, Name, NameList};
+use sap_uses::expand;
 use std::alloc::Global;
-
-// Whether the process is too large, its names replaced by what they stand for.
-fn size_fault(names: &Names, draft: &Draft) -> Option<ReadFault>
-    ensures { result ≡ size_fault (min (nodes_in names.now (written draft.now)) u64.MAX) (min
-        (levels_in names.now (written draft.now)) u64.MAX) }
-{
-    if nodes(names, draft) > MOST_PROCESS_PLACES {
-        return Some(ReadFault::TooMany);
-    }
-    if levels(names, draft) > MOST_PROCESS_LEVELS {
-        return Some(ReadFault::TooDeep);
-    }
-    None
-}
 
 // Refuses names that are defined twice or taken, and functions that clash.
 fn check_names(
     alloc: Global,
-    entries: &Items<Definition>,
+    entries: &Items<Entry>,
     statements: &Items<Statement>,
     clash: &Option<Name>,
 ) -> Result<(), ReadFault>
@@ -68,51 +57,94 @@ fn check_names(
     }
 }
 
-// The same where each name is defined before it is used and one process is the file's, by what is kept of the names.
-fn known_process(
+// Refuses what counts before uses are looked at.
+fn check_before(
     alloc: Global,
-    entries: &Items<Definition>,
+    entries: &Items<Entry>,
     statements: &Items<Statement>,
-    names: &Names,
     clash: &Option<Name>,
-    entry: &Definition,
-) -> Result<Box<Process>, ReadFault>
-    requires one { unlabelled (map body entries.now) ≡ body entry.now ∷ [] }
-    requires known { unknown_from [] (map body entries.now) ≡ None }
-    requires counted { AreCounted names.now (meaning_of entries.now) }
-    requires targets { AreTargets entries.now names.now }
-    ensures accepted { IfOk result (λ p. (cause (map body entries.now) statements.now clash.now ≡ None)
-        × (process_of no_meaning (map body entries.now) ≡ Some (proc p.value))) }
-    ensures small { IfOk result (λ p. node_count (proc p.value) ≤ MOST_PROCESS_PLACES) }
+) -> Result<(), ReadFault>
+    ensures one { OnOk result ((e : Body) × (unlabelled (map body entries.now) ≡ e ∷ [])) }
+    ensures known { OnOk result (unknown_from [] (map body entries.now) ≡ None) }
+    ensures distinct { OnOk result (first_repeated (labels (map body entries.now)) ≡ None) }
+    ensures accepted { OnOk result (cause (map body entries.now) statements.now clash.now ≡ None) }
     ensures refused { (e : ReadFault) → IsErrOf result e → (e ≡ OutOfMemory → ⊥)
         → cause (map body entries.now) statements.now clash.now ≡ Some e }
 {
-    check_names(alloc, entries, statements, clash)?;
-    let draft: &Draft = &entry.draft;
-    match size_fault(names, draft) {
-        Some(fault) => Err(fault),
+    check_one_process(entries)?;
+    check_all_known(alloc, entries)?;
+    check_names(alloc, entries, statements, clash)
+}
+
+/// The definitions of a file, and its own process, if it has one: the first.
+#[derive(Drop)]
+pub(crate) struct FileParts {
+    pub(crate) defs: DefinitionList,
+    pub(crate) main: Option<Box<Source>>,
+}
+
+// Puts the process where it belongs.
+fn put(parts: &mut FileParts, entry: Entry) -> Result<(), Mem>
+    ensures definitions { OnOk result (definitions parts.new.defs
+        ≡ definitions parts.old.defs ++ defined_as entry.label (body entry)) }
+    ensures main { OnOk result (written_main parts.new.main
+        ≡ option_or (written_main parts.old.main) (main_of (body entry ∷ []))) }
+{
+    let Entry {
+        label,
+        params,
+        source,
+        ..
+    } = entry;
+    match label {
+        Some(name) => parts.defs.push(Definition {
+            name,
+            params,
+            body: source,
+        }),
         None => {
-            let process = expand(alloc, entries, names, MOST_PROCESS_LEVELS, draft)?;
-            Ok(process)
+            if parts.main.is_none() {
+                parts.main = Some(source);
+            }
+            Ok(())
         }
     }
 }
 
-/// The file's process, with names replaced by what they stand for, or the first cause that refuses it. It takes time in
-/// proportion to the processes as they are written and, where there is no cause, to the answer.
+// The definitions and the file's own process.
+fn parted(alloc: Global, entries: Items<Entry>) -> Result<FileParts, Mem>
+    ensures definitions { IfOk result (λ p. definitions p.defs ≡ definitions_of (map body entries)) }
+    ensures main { IfOk result (λ p. written_main p.main ≡ main_of (map body entries)) }
+{
+    let mut all = FileParts {
+        defs: DefinitionList::new(alloc),
+        main: None,
+    };
+    for entry in entries.into_vec() {
+        put(&mut all, entry)?;
+    }
+    Ok(all)
+}
+
+/// The file's process, expanded, or the first cause that refuses it. It takes time in proportion to the processes as they are written
+/// and, where there is no cause, to the answer.
 pub(crate) fn whole_process(
     alloc: Global,
-    entries: &Items<Definition>,
+    entries: Items<Entry>,
     statements: &Items<Statement>,
     clash: &Option<Name>,
+    identifiers: &NameList,
 ) -> Result<Box<Process>, ReadFault>
-    ensures accepted { IfOk result (λ p. (cause (map body entries.now) statements.now clash.now ≡ None)
-        × (process_of no_meaning (map body entries.now) ≡ Some (proc p.value))) }
+    ensures accepted { (g : Sig) → IfOk result (λ p. IsWhole g clash.now identifiers.now (map body entries)
+        statements.now (proc p.value)) }
     ensures small { IfOk result (λ p. node_count (proc p.value) ≤ MOST_PROCESS_PLACES) }
-    ensures refused { (e : ReadFault) → IsErrOf result e → (e ≡ OutOfMemory → ⊥)
-        → cause (map body entries.now) statements.now clash.now ≡ Some e }
+    ensures refused { (g : Sig) (e : ReadFault) → IsErrOf result e → (e ≡ OutOfMemory → ⊥)
+        → IsRefusedBefore g clash.now (map body entries) statements.now e }
 {
-    let index = the_process(entries)?;
-    let names = names_of(alloc, entries)?;
-    known_process(alloc, entries, statements, &names, clash, entries.at(index))
+    check_before(alloc, &entries, statements, clash)?;
+    let FileParts { defs, main } = parted(alloc, entries)?;
+    match main {
+        None => Err(ReadFault::NoProcess),
+        Some(main) => Ok(expand(alloc, &defs, &main, identifiers)?),
+    }
 }

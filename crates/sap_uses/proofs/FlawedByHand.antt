@@ -6,7 +6,7 @@ use Rattle.sap_terms.specs.Tree.{Tree}
 use Rattle.sap_terms.specs.declared.var.Sort.TheVariants.{Msg, Fresh}
 use Rattle.sap_terms.specs.declared.var.Var.{Var}
 use Rattle.sap_process.specs.Heads.{binder, head_terms, terms_vars}
-use Rattle.sap_process.specs.Flaws.{HasFlaw, IsFlawedIn, rank, unbound}
+use Rattle.sap_process.specs.Flaws.{HasFlaw, IsFirstScopeFlaw, IsFlawedIn, IsOfScope, rank, unbound}
 use Rattle.sap_process.specs.Places.{place}
 use Rattle.sap_process.specs.Proc.{Proc, nil}
 use Rattle.sap_process.specs.Sites.{Site, above_of, sites_in}
@@ -17,7 +17,7 @@ use Rattle.sap_macro.specs.Expansion.{plain, plain_bodies}
 use Rattle.sap_macro.specs.MacroCauses.{uses}
 use Rattle.sap_macro.specs.UpToNames.{named}
 use Rattle.sap_macro.specs.Written.{Written, call, Definition}
-use Rattle.sap_uses.specs.ScopeFlaws.{IsFirstFlawedBehind, IsFirstScopeFlaw, IsOfScope, LeadsTo, at_once, further, params_in_scope, seen}
+use Rattle.sap_uses.specs.ScopeFlaws.{IsFirstFlawedBehind, LeadsTo, at_once, further, params_in_scope, seen}
 use Rattle.sap_uses.specs.UseExamples.{apart, binding_again, empty_one, open_below, open_one, open_other, right_one, signing, use_of, using_c, using_open, x, y}
 
 -- ---- a process of two places

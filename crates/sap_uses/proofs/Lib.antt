@@ -7,3 +7,8 @@ pub mod Expanded
 pub mod FlawedByHand
 pub mod OneCause
 pub mod CausesByHand
+pub mod Marked
+pub mod Leading
+pub mod FirstFlawed
+pub mod Causes
+pub mod SomeCause

@@ -6,13 +6,13 @@ use Rattle.sap_terms.specs.Signature.{Sig}
 use Rattle.sap_terms.specs.declared.var.Var.{Var}
 use Rattle.sap_process.specs.declared.flaw.Flaw.{Flaw}
 use Rattle.sap_process.specs.declared.flaw.Flaw.TheVariants.{BadFunction, ReservedVar, ReservedFact, FactClash, PatternDestructor, Unbound, Rebound, SortClash, ScopeFull}
-use Rattle.sap_process.specs.Flaws.{rank}
+use Rattle.sap_process.specs.Flaws.{IsFirstScopeFlaw, rank}
 use Rattle.sap_process.specs.Proc.{Proc}
 use Rattle.sap_process.specs.Sites.{Site, sites_in}
 use Rattle.sap_macro.specs.Expansion.{plain, plain_bodies}
 use Rattle.sap_macro.specs.Written.{Written, call, Definition}
 use Rattle.sap_uses.specs.FaultCauses.{Holds, IsMacroCause, cause_rank}
-use Rattle.sap_uses.specs.ScopeFlaws.{IsFirstFlawed, IsFirstScopeFlaw, params_in_scope, seen}
+use Rattle.sap_uses.specs.ScopeFlaws.{IsFirstFlawed, params_in_scope, seen}
 use Rattle.sap_uses.specs.declared.fault.MacroFault.{MacroFault}
 use Rattle.sap_uses.specs.declared.fault.MacroFault.TheVariants.{Mem, Parameters, Arguments, TooMany, TooDeep, Large, Flawed}
 

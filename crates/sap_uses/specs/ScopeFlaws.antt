@@ -21,6 +21,10 @@ IsOfScope Rebound = Unit {0}
 IsOfScope SortClash = Unit {0}
 IsOfScope _ = ⊥
 
+-- no place has one of these three, where these variables are in scope at the root
+abbrev pub HasNoScopeFlaw : Sig → List Var → Proc → Type 0
+HasNoScopeFlaw g scope p = (w : Flaw) → IsOfScope w → (k : ℕ) → ¬ IsFlawedIn g scope p w k
+
 -- of these three the flaw counts, where these variables are in scope at the root: no place has one that counts
 -- before it, and this is the first place that has it
 pub record IsFirstScopeFlaw (g : Sig) (scope : List Var) (p : Proc) (w : Flaw) (path : List ℕ)

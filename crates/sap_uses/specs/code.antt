@@ -2,3 +2,5 @@
 pub mod Indices
 pub mod Walks
 pub mod Met
+pub mod Marks
+pub mod Checked

@@ -1,15 +1,21 @@
 //! Why uses of definitions can't be expanded: which argument is too large, and the causes in their order.
 #![tactic(auto)]
 
+mod body_flaw;
 mod by_hand;
+mod expand;
 mod fault;
+mod flawed;
 mod index;
 mod large;
 mod laws;
 mod met;
+mod reached;
 mod sizes;
 
 pub use by_hand::{causes_by_hand, flawed_by_hand, large_by_hand};
+pub use expand::expand;
 pub use fault::MacroFault;
+pub use flawed::first_flawed;
 pub use large::first_large;
 pub use laws::one_macro_cause;

@@ -1,5 +1,5 @@
 -- Reading processes from the left, within a number of levels, as the code does it.
-use Rattle.std.specs.Prelude.{ℕ, zero, suc, ◌+◌, max, Bool, true, false, ◌||◌, nat_le, if◌then◌else◌, codes, List, [], drop, Option, Some, None}
+use Rattle.std.specs.Prelude.{ℕ, zero, suc, ◌+◌, max, Bool, true, false, ◌||◌, nat_le, if◌then◌else◌, codes, List, [], length, drop, Option, Some, None}
 use Rattle.sap_terms.specs.declared.fact.Fact.{Fact}
 use Rattle.sap_terms.specs.declared.var.Sort.{Sort}
 use Rattle.sap_terms.specs.declared.var.Sort.TheVariants.{Msg, Fresh}
@@ -7,11 +7,11 @@ use Rattle.sap_terms.specs.Tree.{Tree}
 use Rattle.sap_terms.specs.Signature.{Sig}
 use Rattle.sap_grammar.specs.declared.limits.Limits.{Limits}
 use Rattle.sap_grammar.specs.Words.{Word, starts}
-use Rattle.sap_grammar.specs.Reading.{Read, Reader, after, given, name_at, starts_zero}
+use Rattle.sap_grammar.specs.Reading.{Read, Reader, after, given, list_of, name_at, starts_zero}
 use Rattle.sap_grammar.specs.TermReading.{short_term, short_fact, facts}
 use Rattle.sap_draft.specs.ProcessGrammar.{var}
 use Rattle.sap_process.specs.Action.{Action, new, out, send, input, receive, event, insert, delete, lock, unlock, embedded}
-use Rattle.sap_draft.specs.Written.{Written, nil, call, parallel, replicated, act, test, lookup}
+use Rattle.sap_macro.specs.Written.{Written, nil, call, parallel, replicated, act, test, lookup}
 
 -- goes on behind this mark
 unfoldable pub past : {B : Type 0} → List ℕ → List Word → Reader B → Read B
@@ -131,9 +131,18 @@ going_on seq d x ws =
     if starts (codes ";") ws then after (seq (drop 1 ws)) (λ p z. Some ((act x p.0, p.1 + 1), z))
     else if nat_le 1 d then Some ((act x nil, 2), ws) else None
 
+-- the arguments of a use, one or more, and the closing parenthesis
+abbrev pub arguments : Sig → Limits → Reader (List Tree)
+arguments g m ws = list_of (codes ")") (short_term g m) (length ws) ws
+
+-- behind the name of a process: its arguments, where a parenthesis opens
+abbrev pub used : Sig → Limits → List ℕ → Reader Levelled
+used g m x ws =
+    if starts (codes "(") ws then after (arguments g m (drop 1 ws)) (λ ts r. Some ((call x ts, 1), r)) else Some ((call x [], 1), ws)
+
 -- the name of a process, or what an action begins
 abbrev pub call_or_action : Sig → Limits → Reader Levelled → ℕ → Option (List ℕ) → Reader Levelled
-call_or_action g m seq d (Some x) ws = Some ((call x, 1), drop 1 ws)
+call_or_action g m seq d (Some x) ws = used g m x (drop 1 ws)
 call_or_action g m seq d None ws = after (action_of g m ws) (going_on seq d)
 
 -- behind an opening parenthesis

@@ -9,13 +9,13 @@ use Rattle.sap_draft.specs.declared.process.actions.Deed.TheVariants.{Delete, Lo
 use Rattle.sap_draft.specs.declared.process.build.Branching.{Branching}
 use Rattle.sap_draft.specs.declared.process.build.Measured.{Measured}
 use Rattle.sap_draft.specs.declared.process.build.Branching.TheVariants.{Equality, Lookup}
-use Rattle.sap_draft.specs.Written.{Written, test, lookup}
+use Rattle.sap_macro.specs.Written.{Written, test, lookup}
 use Rattle.sap_draft.specs.code.ProcessReading.{Levelled}
-use Rattle.sap_draft.specs.Drafts.{written}
+use Rattle.sap_macro.specs.Sources.{written}
 
 -- the process as it is written, and the levels of its text
 abbrev pub levelled : Measured → Levelled
-levelled m = (written m.draft.value, m.levels)
+levelled m = (written m.source.value, m.levels)
 
 -- what is done with a message that goes this way
 abbrev pub to_adversary : Way → Tree → Action

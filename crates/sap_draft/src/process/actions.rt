@@ -5,12 +5,12 @@ ghost use Rattle.sap_grammar.specs.Words.{words_of};
 ghost use Rattle.sap_grammar.specs.Reading.{Gives};
 ghost use Rattle.sap_draft.specs.code.ProcessReading.{channel, shown_facts, shown_event, second_term, bound_as, bound, right_side, embedded_rule, inserted, on_term, state_action, action_of};
 ghost use Rattle.sap_draft.specs.code.ProcessView.{to_adversary, on_channel, on_one};
-ghost use Rattle.sap_draft.specs.Drafts.{doing};
+ghost use Rattle.sap_macro.specs.Sources.{doing};
 ghost use Rattle.sap_draft.specs.declared.limits.TheConstants.{FILE_LIMITS};
 
-use crate::draft::Doing;
 use crate::limits::FILE_LIMITS;
 use sap_grammar::{beyond, boxed, name_at, read_facts, read_short_fact, read_short_term, starts};
+use sap_macro::Doing;
 use sap_terms::{FactList, Mem, Name, Signature, Sort, Term, Var};
 use sap_text::Token;
 use std::alloc::Global;

@@ -1,15 +1,15 @@
 //! Processes made of their parts.
 ghost use Rattle.std.specs.Prelude.{◌≡◌, IfOk};
-ghost use Rattle.sap_draft.specs.Written.{nil, call, act, test, lookup};
+ghost use Rattle.sap_macro.specs.Written.{nil, call, act, test, lookup};
 ghost use Rattle.sap_terms.specs.View.{tree};
 ghost use Rattle.sap_terms.specs.declared.var.Sort.TheVariants.{Msg};
 ghost use Rattle.sap_draft.specs.ProcessGrammar.{var};
 ghost use Rattle.sap_draft.specs.code.ProcessView.{chosen};
-ghost use Rattle.sap_draft.specs.Drafts.{doing, written};
+ghost use Rattle.sap_macro.specs.Sources.{doing, written};
 
-use crate::draft::{Doing, Draft};
 use sap_grammar::boxed;
-use sap_terms::{Mem, Name, Sort, Term, Var};
+use sap_macro::{Doing, Source};
+use sap_terms::{Mem, Name, Sort, Term, TermList, Var};
 use std::alloc::Global;
 
 /// By what a process chooses between two branches.
@@ -24,7 +24,7 @@ pub enum Branching {
 /// A process as it is read, and how many levels its text has.
 #[derive(Drop)]
 pub struct Measured {
-    pub draft: Box<Draft>,
+    pub source: Box<Source>,
     pub levels: u32,
 }
 
@@ -44,33 +44,34 @@ pub fn looking_up(alloc: Global, key: Term, name: &[u8]) -> Result<Box<Branching
     boxed(alloc, Branching::Lookup(key, Var { name, sort }))
 }
 
-pub fn call(alloc: Global, name: &[u8]) -> Result<Box<Draft>, Mem>
-    ensures { IfOk result (λ p. written p.value ≡ call name.now) }
+/// The use of this process with these arguments.
+pub fn call(alloc: Global, name: &[u8], arguments: TermList) -> Result<Box<Source>, Mem>
+    ensures { IfOk result (λ p. written p.value ≡ call name.now arguments) }
 {
     let name = Name::from_bytes(alloc, name)?;
-    boxed(alloc, Draft::Call(name))
+    boxed(alloc, Source::Call(name, arguments))
 }
 
 /// What does this and nothing behind it.
-pub fn acting_last(alloc: Global, first: Box<Doing>) -> Result<Box<Draft>, Mem>
+pub fn acting_last(alloc: Global, first: Box<Doing>) -> Result<Box<Source>, Mem>
     ensures { IfOk result (λ p. written p.value ≡ act (doing first.value) nil) }
 {
-    let then = boxed(alloc, Draft::Nil)?;
-    boxed(alloc, Draft::Act(first, then))
+    let then = boxed(alloc, Source::Nil)?;
+    boxed(alloc, Source::Act(first, then))
 }
 
 pub fn choosing(
     alloc: Global,
     choice: Box<Branching>,
-    yes: Box<Draft>,
-    no: Box<Draft>,
-) -> Result<Box<Draft>, Mem>
+    yes: Box<Source>,
+    no: Box<Source>,
+) -> Result<Box<Source>, Mem>
     ensures { IfOk result (λ p. written p.value ≡ chosen choice.value (written yes.value)
         (written no.value)) }
 {
     match Box::into_inner(choice) {
-        Branching::Equality(left, right) => boxed(alloc, Draft::If(left, right, yes, no)),
-        Branching::Lookup(key, var) => boxed(alloc, Draft::Lookup(key, var, yes, no)),
+        Branching::Equality(left, right) => boxed(alloc, Source::If(left, right, yes, no)),
+        Branching::Lookup(key, var) => boxed(alloc, Source::Lookup(key, var, yes, no)),
     }
 }
 
@@ -78,10 +79,10 @@ pub fn choosing(
 pub fn choosing_one(
     alloc: Global,
     choice: Box<Branching>,
-    yes: Box<Draft>,
-) -> Result<Box<Draft>, Mem>
+    yes: Box<Source>,
+) -> Result<Box<Source>, Mem>
     ensures { IfOk result (λ p. written p.value ≡ chosen choice.value (written yes.value) nil) }
 {
-    let no = boxed(alloc, Draft::Nil)?;
+    let no = boxed(alloc, Source::Nil)?;
     choosing(alloc, choice, yes, no)
 }

@@ -4,14 +4,15 @@ ghost use Rattle.sap_grammar.specs.Words.{words_of};
 ghost use Rattle.sap_grammar.specs.Reading.{Gives, name_at};
 ghost use Rattle.sap_draft.specs.code.ProcessReading.{second_branch, branches, condition, looking, going_on, call_or_action, enclosed, repeated, beside, starts_bar, seq, par};
 ghost use Rattle.sap_draft.specs.code.ProcessView.{chosen, levelled};
-ghost use Rattle.sap_draft.specs.Drafts.{doing, written};
+ghost use Rattle.sap_macro.specs.Sources.{doing, written};
 ghost use Rattle.sap_draft.specs.declared.limits.TheConstants.{FILE_LIMITS};
 
-use crate::draft::{Doing, Draft};
 use crate::process::actions::read_action;
-use crate::process::build::{Branching, Measured, acting_last, call, choosing, choosing_one};
+use crate::process::build::{Branching, Measured, acting_last, choosing, choosing_one};
 use crate::process::choice::{read_compared, read_looked_up};
+use crate::process::uses::read_use;
 use sap_grammar::{beyond, boxed, name_at, starts, starts_zero};
+use sap_macro::{Doing, Source};
 use sap_terms::{Mem, Signature};
 use sap_text::Token;
 use std::alloc::Global;
@@ -30,7 +31,7 @@ fn read_second_branch<'a>(
     bytes: &[u8],
     depth: u32,
     choice: Box<Branching>,
-    yes: Box<Draft>,
+    yes: Box<Source>,
     levels: u32,
     tokens: &'a [Token],
 ) -> Result<Option<(Measured, &'a [Token])>, Mem>
@@ -46,7 +47,7 @@ fn read_second_branch<'a>(
         Some(
             (
                 Measured {
-                    draft: no,
+                    source: no,
                     levels: more,
                 },
                 rest,
@@ -55,7 +56,7 @@ fn read_second_branch<'a>(
             let process = choosing(alloc, choice, yes, no)?;
             Ok(Some((
                 Measured {
-                    draft: process,
+                    source: process,
                     levels: levels.max(more) + 1,
                 },
                 rest,
@@ -82,7 +83,7 @@ fn read_branches<'a>(
 {
     match read_seq(alloc, sig, bytes, depth, tokens)? {
         None => Ok(None),
-        Some((Measured { draft: yes, levels }, rest)) => {
+        Some((Measured { source: yes, levels }, rest)) => {
             if starts(bytes, rest, "else") {
                 let rest = beyond(1, rest);
                 read_second_branch(alloc, sig, bytes, depth, choice, yes, levels, rest)
@@ -90,7 +91,7 @@ fn read_branches<'a>(
                 let process = choosing_one(alloc, choice, yes)?;
                 Ok(Some((
                     Measured {
-                        draft: process,
+                        source: process,
                         levels: levels.max(1) + 1,
                     },
                     rest,
@@ -165,16 +166,16 @@ fn read_on<'a>(
             Some(
                 (
                     Measured {
-                        draft: then,
+                        source: then,
                         levels,
                     },
                     rest,
                 ),
             ) => {
-                let process = boxed(alloc, Draft::Act(first, then))?;
+                let process = boxed(alloc, Source::Act(first, then))?;
                 Ok(Some((
                     Measured {
-                        draft: process,
+                        source: process,
                         levels: levels + 1,
                     },
                     rest,
@@ -185,7 +186,7 @@ fn read_on<'a>(
         let process = acting_last(alloc, first)?;
         Ok(Some((
             Measured {
-                draft: process,
+                source: process,
                 levels: 2,
             },
             tokens,
@@ -212,14 +213,7 @@ fn read_call_or_action<'a>(
         × (r.0.levels ≤ depth + 1))) }
 {
     if let Some(name) = name_at(bytes, tokens) {
-        let process = call(alloc, name)?;
-        return Ok(Some((
-            Measured {
-                draft: process,
-                levels: 1,
-            },
-            beyond(1, tokens),
-        )));
+        return read_use(alloc, sig, bytes, name, beyond(1, tokens));
     }
     match read_action(alloc, sig, bytes, tokens)? {
         None => Ok(None),
@@ -247,7 +241,7 @@ fn read_enclosed<'a>(
         Some(
             (
                 Measured {
-                    draft: process,
+                    source: process,
                     levels,
                 },
                 rest,
@@ -256,7 +250,7 @@ fn read_enclosed<'a>(
             if starts(bytes, rest, ")") {
                 Ok(Some((
                     Measured {
-                        draft: process,
+                        source: process,
                         levels: levels + 1,
                     },
                     beyond(1, rest),
@@ -288,16 +282,16 @@ fn read_replicated<'a>(
         Some(
             (
                 Measured {
-                    draft: copy,
+                    source: copy,
                     levels,
                 },
                 rest,
             ),
         ) => {
-            let process = boxed(alloc, Draft::Rep(copy))?;
+            let process = boxed(alloc, Source::Rep(copy))?;
             Ok(Some((
                 Measured {
-                    draft: process,
+                    source: process,
                     levels: levels + 1,
                 },
                 rest,
@@ -333,10 +327,10 @@ fn read_seq<'a>(
     } else if starts(bytes, tokens, "lookup") {
         read_lookup(alloc, sig, bytes, depth - 1, next)
     } else if starts_zero(bytes, tokens) {
-        let process = boxed(alloc, Draft::Nil)?;
+        let process = boxed(alloc, Source::Nil)?;
         Ok(Some((
             Measured {
-                draft: process,
+                source: process,
                 levels: 1,
             },
             next,
@@ -353,7 +347,7 @@ fn read_beside<'a>(
     sig: &Signature,
     bytes: &[u8],
     depth: u32,
-    left: Box<Draft>,
+    left: Box<Source>,
     levels: u32,
     tokens: &'a [Token],
 ) -> Result<Option<(Measured, &'a [Token])>, Mem>
@@ -369,16 +363,16 @@ fn read_beside<'a>(
         Some(
             (
                 Measured {
-                    draft: right,
+                    source: right,
                     levels: more,
                 },
                 rest,
             ),
         ) => {
-            let both = boxed(alloc, Draft::Par(left, right))?;
+            let both = boxed(alloc, Source::Par(left, right))?;
             Ok(Some((
                 Measured {
-                    draft: both,
+                    source: both,
                     levels: levels.max(more) + 1,
                 },
                 rest,
@@ -410,7 +404,7 @@ pub fn read_par<'a>(
         Some(
             (
                 Measured {
-                    draft: left,
+                    source: left,
                     levels,
                 },
                 rest,
@@ -419,7 +413,7 @@ pub fn read_par<'a>(
             if !starts_bar(bytes, rest) {
                 Ok(Some((
                     Measured {
-                        draft: left,
+                        source: left,
                         levels,
                     },
                     rest,

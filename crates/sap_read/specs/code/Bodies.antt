@@ -1,8 +1,8 @@
 -- What the program keeps of a process, as a plain value.
-use Rattle.sap_draft.specs.Drafts.{written}
-use Rattle.sap_read.specs.declared.definition.Definition.{Definition}
+use Rattle.sap_macro.specs.Sources.{written}
+use Rattle.sap_read.specs.declared.entry.Entry.{Entry}
 use Rattle.sap_read.specs.Item.{Body}
 
--- its name, if it has one, what is written, and its line
-abbrev pub body : Definition → Body
-body e = record { label = e.label; content = written e.draft.value; line = e.line }
+-- its name, if it has one, its parameters, what is written, and its line
+abbrev pub body : Entry → Body
+body e = record { label = e.label; params = e.params; content = written e.source.value; line = e.line }

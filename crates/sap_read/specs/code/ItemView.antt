@@ -3,7 +3,7 @@ use Rattle.std.specs.Prelude.{◌≡◌, ℕ, Bool, true, false, List, [], ◌�
 use Rattle.sap_terms.specs.Signature.{Sig}
 use Rattle.sap_terms.specs.declared.mem.Mem.{Mem}
 use Rattle.sap_text.specs.declared.token.Token.{Token}
-use Rattle.sap_read.specs.declared.definition.Definition.{Definition}
+use Rattle.sap_read.specs.declared.entry.Entry.{Entry}
 use Rattle.sap_grammar.specs.Words.{words_of}
 use Rattle.sap_grammar.specs.Cut.{Placed, placed, first_line}
 use Rattle.sap_grammar.specs.ItemReading.{cut}
@@ -22,13 +22,13 @@ pub record IsItemOf (g : Sig) (bytes : List ℕ) (tokens : List Token) (said : L
   pub states : stated_by item ≡ stated
 
 -- where it is an entry, the tokens are an item that says this of a process; where there is none, they are no item
-abbrev pub SaysProcess : Sig → List ℕ → List Token → Result (Option Definition) Mem → Type 0
+abbrev pub SaysProcess : Sig → List ℕ → List Token → Result (Option Entry) Mem → Type 0
 SaysProcess g bytes tokens (Err e) = ⊤
 SaysProcess g bytes tokens (Ok None) = IsSomeItem (words_of bytes tokens) → ⊥
 SaysProcess g bytes tokens (Ok (Some e)) = IsItemOf g bytes tokens (body e ∷ []) []
 
 -- the entry stands last, where there is one
-abbrev pub IsPushed : Bool → Option Definition → List Definition → List Definition → Type 0
+abbrev pub IsPushed : Bool → Option Entry → List Entry → List Entry → Type 0
 IsPushed b None before after = (b ≡ false) × (after ≡ before)
 IsPushed b (Some e) before after = (b ≡ true) × (after ≡ before ++ e ∷ [])
 
@@ -38,7 +38,7 @@ IsStated g bytes tokens before after true = (s : Statement) × IsStatement g FIL
 IsStated g bytes tokens before after false = (h : Sig) (s : Statement) → IsStatement h FILE_LIMITS s (words_of bytes tokens) → ⊥
 
 -- the tokens are an item, and what it says of a process and of traces stands last
-pub record IsAdding (g : Sig) (bytes : List ℕ) (tokens : List Token) (before after : List Definition) (earlier later : List Statement) : Type 0 where
+pub record IsAdding (g : Sig) (bytes : List ℕ) (tokens : List Token) (before after : List Entry) (earlier later : List Statement) : Type 0 where
   pub said : List Body
   pub stated : List Statement
   pub is : IsItemOf g bytes tokens said stated
@@ -46,19 +46,19 @@ pub record IsAdding (g : Sig) (bytes : List ℕ) (tokens : List Token) (before a
   pub statements_are : later ≡ earlier ++ stated
 
 -- it is so, or they are no item
-abbrev pub IsAdded : Sig → List ℕ → List Token → List Definition → List Definition → List Statement → List Statement → Bool → Type 0
+abbrev pub IsAdded : Sig → List ℕ → List Token → List Entry → List Entry → List Statement → List Statement → Bool → Type 0
 IsAdded g bytes tokens before after earlier later true = IsAdding g bytes tokens before after earlier later
 IsAdded g bytes tokens before after earlier later false = IsSomeItem (words_of bytes tokens) → ⊥
 
 -- the pieces are items that say these of processes and of traces, in order
-pub record AreSaid (g : Sig) (cut : List (List Placed)) (entries : List Definition) (stated : List Statement) : Type 0 where
+pub record AreSaid (g : Sig) (cut : List (List Placed)) (entries : List Entry) (stated : List Statement) : Type 0 where
   pub standing : List Standing
   pub items : AreItems g cut standing
   pub bodies_are : map body entries ≡ bodies standing
   pub statements_are : stated ≡ statements standing
 
 -- behind these entries and restrictions and lemmas the items of the tokens `rest` are the last of those of all tokens
-abbrev pub IsGoodBehind : Sig → List ℕ → List Token → List Token → List Definition → List Statement → Type 0
+abbrev pub IsGoodBehind : Sig → List ℕ → List Token → List Token → List Entry → List Statement → Type 0
 IsGoodBehind g bytes tokens rest entries earlier =
     (is : List Standing) → AreItems g (cut (placed bytes rest)) is
     → (js : List Standing) × AreItems g (cut (placed bytes tokens)) js × (map body entries ++ bodies is ≡ bodies js) × (earlier ++ statements is ≡ statements js)

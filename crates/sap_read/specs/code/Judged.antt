@@ -14,8 +14,9 @@ use Rattle.sap_read.specs.declared.fault.ReadFault.TheVariants.{Syntax, Ill, For
 use Rattle.sap_read.specs.Item.{Body, Standing, bodies, statements}
 use Rattle.sap_grammar.specs.Cut.{Placed}
 use Rattle.sap_read.specs.ItemGrammar.{AreItems, IsFaultyFile}
-use Rattle.sap_read.specs.Replaced.{process_of, no_meaning}
-use Rattle.sap_read.specs.Causes.{cause, lock_fault}
+use Rattle.sap_read.specs.FileProcess.{IsExpanded, IsUnexpanded}
+use Rattle.sap_uses.specs.declared.fault.MacroFault.{MacroFault}
+use Rattle.sap_read.specs.Causes.{cause, fault_of_uses, lock_fault}
 use Rattle.sap_statements.specs.Stated.{AreFaultless, IsFirstFaulty, restrictions_of, lemmas_of}
 
 -- the process has no flaw, and this is it with sorts and labels
@@ -41,21 +42,33 @@ pub record IsMislocked (g : Sig) (p : Proc) (e : ReadFault) : Type 0 where
 abbrev pub IsUnsound : Sig → Proc → ReadFault → Type 0
 IsUnsound g p e = IsFlawed g p e ⊎ IsMislocked g p e
 
--- with this clash nothing refuses them before their process is looked at, which is this one
-pub record IsWhole (clash : Option (List ℕ)) (bs : List Body) (ss : List Statement) (p : Proc) : Type 0 where
+-- with this clash nothing refuses them before their process is looked at, which can be expanded where these are the identifiers of
+-- the file, and this is its expansion
+pub record IsWhole (g : Sig) (clash : Option (List ℕ)) (names : List (List ℕ)) (bs : List Body) (ss : List Statement) (p : Proc) : Type 0 where
   pub nothing : cause bs ss clash ≡ None
-  pub whole : process_of no_meaning bs ≡ Some p
+  pub expanded : IsExpanded g names bs p
+
+-- nothing refuses them before their uses are looked at, and their process can't be expanded
+pub record IsMisused (g : Sig) (clash : Option (List ℕ)) (bs : List Body) (ss : List Statement) (e : ReadFault) : Type 0 where
+  pub nothing : cause bs ss clash ≡ None
+  pub fault : MacroFault
+  pub is : e ≡ fault_of_uses fault
+  pub unexpanded : IsUnexpanded g bs fault
+
+-- they are refused for this before their process is looked at
+abbrev pub IsRefusedBefore : Sig → Option (List ℕ) → List Body → List Statement → ReadFault → Type 0
+IsRefusedBefore g clash bs ss e = (cause bs ss clash ≡ Some e) ⊎ IsMisused g clash bs ss e
 
 -- and the process has no flaw, and this is it with sorts and labels
-pub record IsAnnotated (g : Sig) (clash : Option (List ℕ)) (bs : List Body) (ss : List Statement) (q : Proc) : Type 0 where
+pub record IsAnnotated (g : Sig) (clash : Option (List ℕ)) (names : List (List ℕ)) (bs : List Body) (ss : List Statement) (q : Proc) : Type 0 where
   pub process : Proc
-  pub whole : IsWhole clash bs ss process
+  pub whole : IsWhole g clash names bs ss process
   pub sound : IsSound g process q
 
 -- their process is refused for this
-pub record IsIll (g : Sig) (clash : Option (List ℕ)) (bs : List Body) (ss : List Statement) (e : ReadFault) : Type 0 where
+pub record IsIll (g : Sig) (clash : Option (List ℕ)) (names : List (List ℕ)) (bs : List Body) (ss : List Statement) (e : ReadFault) : Type 0 where
   pub process : Proc
-  pub whole : IsWhole clash bs ss process
+  pub whole : IsWhole g clash names bs ss process
   pub unsound : IsUnsound g process e
 
 -- the first restriction or lemma whose formula has a fault is refused for this
@@ -66,14 +79,14 @@ pub record IsFirstUnchecked (g : Sig) (ss : List Statement) (e : ReadFault) : Ty
   pub faulty : IsFirstFaulty g true ss name fault
 
 -- their process is accepted, and one of their formulas is refused for this
-pub record IsUnchecked (g : Sig) (clash : Option (List ℕ)) (bs : List Body) (ss : List Statement) (e : ReadFault) : Type 0 where
+pub record IsUnchecked (g : Sig) (clash : Option (List ℕ)) (names : List (List ℕ)) (bs : List Body) (ss : List Statement) (e : ReadFault) : Type 0 where
   pub process : Proc
-  pub annotated : IsAnnotated g clash bs ss process
+  pub annotated : IsAnnotated g clash names bs ss process
   pub first : IsFirstUnchecked g ss e
 
 -- they are refused for this
-abbrev pub IsRefusedAs : Sig → Option (List ℕ) → List Body → List Statement → ReadFault → Type 0
-IsRefusedAs g clash bs ss e = (cause bs ss clash ≡ Some e) ⊎ IsIll g clash bs ss e
+abbrev pub IsRefusedAs : Sig → Option (List ℕ) → List (List ℕ) → List Body → List Statement → ReadFault → Type 0
+IsRefusedAs g clash names bs ss e = IsRefusedBefore g clash bs ss e ⊎ IsIll g clash names bs ss e
 
 -- these are the restrictions and lemmas among them, with sorts, and none has a fault
 pub record AreChecked (g : Sig) (ss : List Statement) (rs : List RestrictionForm) (ls : List LemmaForm) : Type 0 where
@@ -82,25 +95,25 @@ pub record AreChecked (g : Sig) (ss : List Statement) (rs : List RestrictionForm
   pub lemmas : ls ≡ lemmas_of ss
 
 -- they are accepted, and these are their parts
-pub record IsAccepted (g : Sig) (clash : Option (List ℕ)) (bs : List Body) (ss : List Statement) (q : Proc) (rs : List RestrictionForm) (ls : List LemmaForm) : Type 0 where
-  pub annotated : IsAnnotated g clash bs ss q
+pub record IsAccepted (g : Sig) (clash : Option (List ℕ)) (names : List (List ℕ)) (bs : List Body) (ss : List Statement) (q : Proc) (rs : List RestrictionForm) (ls : List LemmaForm) : Type 0 where
+  pub annotated : IsAnnotated g clash names bs ss q
   pub checked : AreChecked g ss rs ls
 
 -- they are refused, for their process or for a formula
-abbrev pub IsRefused : Sig → Option (List ℕ) → List Body → List Statement → ReadFault → Type 0
-IsRefused g clash bs ss e = IsRefusedAs g clash bs ss e ⊎ IsUnchecked g clash bs ss e
+abbrev pub IsRefused : Sig → Option (List ℕ) → List (List ℕ) → List Body → List Statement → ReadFault → Type 0
+IsRefused g clash names bs ss e = IsRefusedAs g clash names bs ss e ⊎ IsUnchecked g clash names bs ss e
 
 -- these are items under the signature that are accepted
-pub record AreAccepted (g : Sig) (clash : Option (List ℕ)) (cut : List (List Placed)) (q : Proc) (rs : List RestrictionForm) (ls : List LemmaForm) : Type 0 where
+pub record AreAccepted (g : Sig) (clash : Option (List ℕ)) (names : List (List ℕ)) (cut : List (List Placed)) (q : Proc) (rs : List RestrictionForm) (ls : List LemmaForm) : Type 0 where
   pub standing : List Standing
   pub items : AreItems g cut standing
-  pub accepted : IsAccepted g clash (bodies standing) (statements standing) q rs ls
+  pub accepted : IsAccepted g clash names (bodies standing) (statements standing) q rs ls
 
 -- these are items under the signature that are refused for this
-pub record AreRefused (g : Sig) (clash : Option (List ℕ)) (cut : List (List Placed)) (e : ReadFault) : Type 0 where
+pub record AreRefused (g : Sig) (clash : Option (List ℕ)) (names : List (List ℕ)) (cut : List (List Placed)) (e : ReadFault) : Type 0 where
   pub standing : List Standing
   pub items : AreItems g cut standing
-  pub refused : IsRefused g clash (bodies standing) (statements standing) e
+  pub refused : IsRefused g clash names (bodies standing) (statements standing) e
 
 -- the first that is no item begins on this line
 pub record IsNoItem (last : ℕ) (cut : List (List Placed)) (e : ReadFault) : Type 0 where
@@ -109,5 +122,5 @@ pub record IsNoItem (last : ℕ) (cut : List (List Placed)) (e : ReadFault) : Ty
   pub faulty : IsFaultyFile last cut line
 
 -- the pieces are refused for this
-abbrev pub IsRefusedCut : Sig → Option (List ℕ) → ℕ → List (List Placed) → ReadFault → Type 0
-IsRefusedCut g clash last cut e = IsNoItem last cut e ⊎ AreRefused g clash cut e
+abbrev pub IsRefusedCut : Sig → Option (List ℕ) → List (List ℕ) → ℕ → List (List Placed) → ReadFault → Type 0
+IsRefusedCut g clash names last cut e = IsNoItem last cut e ⊎ AreRefused g clash names cut e

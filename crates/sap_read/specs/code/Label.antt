@@ -2,14 +2,14 @@
 use Rattle.std.specs.Prelude.{◌≡◌, ℕ, ◌+◌, Bool, List, ◌∷◌, Option, Some, None, map, drop, slice_get}
 use Rattle.std.specs.List.{list_any}
 use Rattle.std.specs.Str.{bytes_eq}
-use Rattle.sap_read.specs.declared.definition.Definition.{Definition}
+use Rattle.sap_read.specs.declared.entry.Entry.{Entry}
 use Rattle.sap_read.specs.Causes.{unlabelled, is_among, first_taken}
 use Rattle.sap_read.specs.code.Bodies.{body}
 
 -- at this index is the first process without a label from that index on
-abbrev pub IsProcessAt : List Definition → ℕ → ℕ → Type 0
+abbrev pub IsProcessAt : List Entry → ℕ → ℕ → Type 0
 IsProcessAt es from k =
-    (e : Definition) × (slice_get es k ≡ Some e) × (unlabelled (map body (drop from es)) ≡ body e ∷ unlabelled (map body (drop (k + 1) es)))
+    (e : Entry) × (slice_get es k ≡ Some e) × (unlabelled (map body (drop from es)) ≡ body e ∷ unlabelled (map body (drop (k + 1) es)))
 
 -- the name at this index
 abbrev pub name_there : List (List ℕ) → Option ℕ → Option (List ℕ)

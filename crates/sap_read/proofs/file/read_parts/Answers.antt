@@ -8,12 +8,12 @@ use Rattle.sap_process.specs.Proc.{proc}
 use Rattle.sap_grammar.specs.Cut.{placed, IsCut}
 use Rattle.sap_grammar.specs.Signatures.{clash_from, signature_from}
 use Rattle.sap_grammar.specs.ItemReading.{cut, declared_in_all}
-use Rattle.sap_read.specs.code.Judged.{IsRefusedCut}
+use Rattle.sap_read.specs.code.Judged.{AreAccepted, IsRefusedCut}
 use Rattle.sap_read.specs.declared.fault.ReadFault.{ReadFault}
 use Rattle.sap_read.specs.declared.fault.ReadFault.TheVariants.{Header}
 use Rattle.sap_read.specs.Files.{IsRead, no_header}
 use Rattle.sap_read.specs.code.ItemLaws.{ItemLaws}
-use Rattle.sap_read.proofs.Parts.{is_refused, is_accepted, is_declared, items_of, items_are_cut, IsDeclared}
+use Rattle.sap_read.proofs.Parts.{is_refused, is_accepted, is_declared, items_of, items_are_cut, names_in, IsDeclared}
 use Rattle.sap_read.proofs.file.read_parts.Goals as goal
 
 pub returns-in_default-clause-refused : goal.returns-in_default-clause-refused
@@ -40,7 +40,8 @@ returns-in_err-content-clause-refused c = λ e h n.
     let refusal = c.in_err-content.ensures.refused e (search (rules, p, h)) n (items_of z ts) (cut_behind c.item_laws.ensures z ts rest c.beyond-rest.ensures) in
     is_refused c.item_laws.ensures z ts c.in-Some.name.now g clash e c.requires (sym c.header_name.ensures ∙ ap option_copied c.in-Some.is)
     (told c.item_laws.ensures z ts rest g clash c.beyond-rest.ensures c.in_ok-declared.ensures.signature c.in_ok-declared.ensures.clash)
-    (subst (λ (n : ℕ). IsRefusedCut g clash n (items_of z ts) e) (c.last_line.ensures z) refusal)
+    (subst (λ (n : ℕ). IsRefusedCut g clash (names_in z ts) n (items_of z ts) e) (c.last_line.ensures z)
+    (subst (λ (names : List (List ℕ)). IsRefusedCut g clash names c.last_line.result (items_of z ts) e) c.in_ok-names.ensures refusal))
 
 pub returns-clause-accepted : goal.returns-clause-accepted
 returns-clause-accepted c =
@@ -55,4 +56,5 @@ returns-clause-accepted c =
     let content = c.in_ok-content.content in
     rw (parts.0, c.in_ok-title.ensures, parts.1, parts.2, lists.0, lists.1) (is_accepted c.item_laws.ensures z ts c.in-Some.name.now g clash (proc content.process.value) content.checked.restrictions content.checked.lemmas c.requires found
     (told c.item_laws.ensures z ts rest g clash c.beyond-rest.ensures c.in_ok-declared.ensures.signature c.in_ok-declared.ensures.clash)
-    (c.in_ok-content.ensures.accepted (items_of z ts) (cut_behind c.item_laws.ensures z ts rest c.beyond-rest.ensures)))
+    (subst (λ (names : List (List ℕ)). AreAccepted g clash names (items_of z ts) (proc content.process.value) content.checked.restrictions content.checked.lemmas) c.in_ok-names.ensures
+    (c.in_ok-content.ensures.accepted (items_of z ts) (cut_behind c.item_laws.ensures z ts rest c.beyond-rest.ensures))))

@@ -2,9 +2,9 @@ use Rattle.std.proofs.Common.{◌≡◌, drop, true}
 use Rattle.std.specs.Prelude.{codes}
 use Rattle.sap_terms.specs.Signature.{Sig}
 use Rattle.sap_grammar.specs.Words.{words_of, starts}
-use Rattle.sap_draft.specs.Written.{Written}
+use Rattle.sap_macro.specs.Written.{Written}
 use Rattle.sap_draft.specs.ProcessGrammar.{IsProcess}
-use Rattle.sap_draft.specs.Drafts.{written}
+use Rattle.sap_macro.specs.Sources.{written}
 use Rattle.sap_read.proofs.ItemTurns.{words-beyond, process_read, no_process}
 use Rattle.sap_read.proofs.items.read_main.Goals as goal
 
@@ -16,8 +16,8 @@ returns-in-None c =
 
 pub returns-in-Some : goal.returns-in-Some
 returns-in-Some c =
-    let found : IsProcess c.args.sig.now (written c.in-Some.draft.value) (words_of c.args.bytes.now c.beyond-2.result.now) = rw c.in-Some.is at c.in_ok-read_process.ensures.found in
+    let found : IsProcess c.args.sig.now (written c.in-Some.source.value) (words_of c.args.bytes.now c.beyond-2.result.now) = rw c.in-Some.is at c.in_ok-read_process.ensures.found in
     let behind = words-beyond c.args.bytes.now 2 c.args.item.now c.beyond-2.result.now c.beyond-2.ensures in
     let colon : starts (codes ":") (drop 1 (words_of c.args.bytes.now c.args.item.now)) ≡ true =
     cc (words-beyond c.args.bytes.now 1 c.args.item.now c.beyond.result.now c.beyond.ensures, c.starts.ensures, c.if-not-starts.false) in
-    process_read c.args.sig.now c.args.bytes.now c.args.item.now (written c.in-Some.draft.value) c.line_of.result c.requires colon (rw behind at found) (c.line_of.ensures c.args.bytes.now)
+    rw c.new.ensures (process_read c.args.sig.now c.args.bytes.now c.args.item.now (written c.in-Some.source.value) c.line_of.result c.requires colon (rw behind at found) (c.line_of.ensures c.args.bytes.now))

@@ -8,7 +8,7 @@ use Rattle.sap_text.specs.declared.token.Token.{Token}
 use Rattle.sap_grammar.specs.Reading.{Gives, Read, after}
 use Rattle.sap_grammar.specs.TermReading.{short_term}
 use Rattle.sap_grammar.specs.Words.{Word, starts, words_of}
-use Rattle.sap_draft.specs.Written.{Written, test}
+use Rattle.sap_macro.specs.Written.{Written, test}
 use Rattle.sap_draft.specs.code.ProcessReading.{equality, past, up_to}
 use Rattle.sap_draft.specs.code.ProcessView.{chosen}
 use Rattle.sap_draft.specs.declared.limits.TheConstants.{FILE_LIMITS}

@@ -1,0 +1,179 @@
+-- The arguments of a use: what is read as such is spelled so, and what is spelled so is read.
+use Rattle.std.proofs.Common.{◌≡◌, ◌≤◌, ◌<◌, ◌-◌, ℕ, zero, suc, Bool, List, [], ◌∷◌, ◌++◌, append_assoc, length, drop, Some, None, true, false, refl, sym, ap, subst, ◌∙◌, arith}
+use Rattle.std.specs.Prelude.{codes, All, ⊤, if◌then◌else◌}
+use Rattle.std.proofs.lemmas.List.{length-drop}
+use Rattle.std.proofs.lemmas.List.Elements.{All-nil, All-cons, All-head, All-tail}
+use Rattle.sap_terms.specs.Signature.{Sig}
+use Rattle.sap_terms.specs.Tree.{Tree}
+use Rattle.sap_text.specs.declared.token.Token.{Token}
+use Rattle.sap_grammar.specs.declared.limits.Limits.{Limits}
+use Rattle.sap_grammar.specs.Words.{Word, mark, words_of, starts}
+use Rattle.sap_grammar.specs.Sizes.{IsSmall, AreSmall, is_small}
+use Rattle.sap_grammar.specs.TermGrammar.{IsTerm, IsRest, IsList, IsArgs, IsShort, args_none, args_some, list_last, list_more, rest_last, rest_more, term_constant, term_fresh, term_message, term_pub, term_quoted, term_symbol, term_tuple}
+use Rattle.sap_grammar.specs.Reading.{Read, Reader, after, given, behind, list_of}
+use Rattle.sap_grammar.specs.TermReading.{short_term, term, rest}
+use Rattle.sap_draft.specs.code.ProcessReading.{arguments}
+use Rattle.sap_draft.specs.code.TermLaws.{AreRead, AreSpelled}
+use Rattle.sap_draft.proofs.OnRead.{Says, OnRead, on_all, after_on, if_on, starts_is}
+use Rattle.sap_draft.proofs.Steps.{words-drop, length-words}
+
+mutual
+  -- what follows a term is shorter
+  pub term_shorter : {g : Sig} {t : Tree} {a b : List Word} → IsTerm g t a b → length b < length a
+  term_shorter (term_constant is) = omega arith
+  term_shorter (term_message is) = omega arith
+  term_shorter term_fresh = omega arith
+  term_shorter term_pub = omega arith
+  term_shorter term_quoted = omega arith
+  term_shorter (term_symbol low r) = omega (arith, args_shorter r)
+  term_shorter (term_tuple r s) = omega (arith, term_shorter r, rest_shorter s)
+
+  rest_shorter : {g : Sig} {t : Tree} {a b : List Word} → IsRest g t a b → length b < length a
+  rest_shorter (rest_last r) = omega (arith, term_shorter r)
+  rest_shorter (rest_more r s) = omega (arith, term_shorter r, rest_shorter s)
+
+  list_shorter : {g : Sig} {ts : List Tree} {a b : List Word} → IsList g ts a b → length b < length a
+  list_shorter (list_last r) = omega (arith, term_shorter r)
+  list_shorter (list_more r s) = omega (arith, term_shorter r, list_shorter s)
+
+  args_shorter : {g : Sig} {ts : List Tree} {a b : List Word} → IsArgs g ts a b → length b < length a
+  args_shorter args_none = omega arith
+  args_shorter (args_some r) = list_shorter r
+
+-- terms within the limits, one or more, and the closing parenthesis
+pub record AreArguments (g : Sig) (m : Limits) (ts : List Tree) (a b : List Word) : Type 0 where
+  pub spelled : IsList g ts a b
+  pub small : AreSmall m ts
+
+last_argument : {g : Sig} {m : Limits} {t : Tree} {a b : List Word} → IsShort g m t a (mark (codes ")") ∷ b) → AreArguments g m (t ∷ []) a b
+last_argument {m = m} {t = t} r = record { spelled = list_last r.spelled; small = All-cons (IsSmall m) t [] r.small (All-nil (IsSmall m)) }
+
+one_more : {g : Sig} {m : Limits} {t : Tree} {ts : List Tree} {a b c : List Word} → IsShort g m t a (mark (codes ",") ∷ b) → AreArguments g m ts b c → AreArguments g m (t ∷ ts) a c
+one_more {m = m} {t = t} {ts = ts} r s = record { spelled = list_more r.spelled s.spelled; small = All-cons (IsSmall m) t ts r.small s.small }
+
+short_on : {g : Sig} {m : Limits} {t : Tree} {a b c : List Word} → IsShort g m t a b → b ≡ c → IsShort g m t a c
+short_on {g = g} {m = m} {t = t} {a = a} r e = subst (λ (y : List Word). IsShort g m t a y) e r
+
+module _ (laws : AreRead) (g : Sig) (m : Limits) where
+  one : Reader Tree
+  one = short_term g m
+
+  pub argument_shrinks : (ws b : List Word) (t : Tree) → short_term g m ws ≡ Some (t, b) → length b < length ws
+  argument_shrinks ws b t e = let r = laws.term_is g m t ws b e in term_shorter r.spelled
+
+  -- what is read so is spelled so
+  pub list_sound : (n : ℕ) (ws : List Word) → OnRead (λ ts b. AreArguments g m ts ws b) (list_of (codes ")") (short_term g m) n ws)
+  list_sound zero ws = tt
+  list_sound (suc n) ws =
+      let Q : Says (List Tree) = λ ts b. AreArguments g m ts ws b in
+      after_on (λ t b. IsShort g m t ws b) Q (short_term g m ws) _ (on_all (λ t b. IsShort g m t ws b) (short_term g m ws) (λ t b e. laws.term_is g m t ws b e)) (λ t r h.
+      if_on Q (starts (codes ")") r) _ _
+      (λ e. last_argument (short_on h (starts_is (codes ")") r e)))
+      (λ _. if_on Q (starts (codes ",") r) _ _
+      (λ e. put_before t r (short_on h (starts_is (codes ",") r e)) (list_of (codes ")") (short_term g m) n (drop 1 r)) (list_sound n (drop 1 r)))
+      (λ _. tt)))
+    where
+      put_before : (t : Tree) (r : List Word) → IsShort g m t ws (mark (codes ",") ∷ drop 1 r) → (o : Read (List Tree)) → OnRead (λ ts b. AreArguments g m ts (drop 1 r) b) o
+          → OnRead (λ ts b. AreArguments g m ts ws b) (behind (t ∷ []) o)
+      put_before t r h None k = tt
+      put_before t r h (Some p) k = one_more h k
+
+  pub arguments_sound : (ws : List Word) → OnRead (λ ts b. AreArguments g m ts ws b) (arguments g m ws)
+  arguments_sound ws = list_sound (length ws) ws
+
+  -- what is spelled so is read, in as many turns as there are words
+  list_read : {ts : List Tree} {a b : List Word} → IsList g ts a b → AreSmall m ts → (n : ℕ) → length a ≤ n → list_of (codes ")") (short_term g m) n a ≡ Some (ts, b)
+  unfolding after
+  list_read r small zero le = absurd (omega (arith, le, list_shorter r))
+  list_read (list_last {t = t} {a = a} {b = b} r) small (suc n) le =
+      let is : IsShort g m t a (mark (codes ")") ∷ b) = record { spelled = r; small = All-head (IsSmall m) t [] small } in
+      rw (laws.term_read g m t a (mark (codes ")") ∷ b) is refl) refl
+  list_read (list_more {t = t} {ts = ts} {a = a} {b = b} r s) small (suc n) le =
+      let is : IsShort g m t a (mark (codes ",") ∷ b) = record { spelled = r; small = All-head (IsSmall m) t ts small } in
+      rw (laws.term_read g m t a (mark (codes ",") ∷ b) is refl, list_read s (All-tail (IsSmall m) t ts small) n (omega (arith, le, term_shorter r))) refl
+
+  pub arguments_read : {ts : List Tree} {a b : List Word} → IsList g ts a b → AreSmall m ts → arguments g m a ≡ Some (ts, b)
+  arguments_read {a = a} r small = list_read r small (length a) (omega arith)
+
+-- the same words are arguments under each signature
+pub arguments_too : AreSpelled → (h : Sig) {g : Sig} {m : Limits} {ts : List Tree} {a b : List Word} → IsList g ts a b → AreSmall m ts → (us : List Tree) × IsList h us a b × AreSmall m us
+arguments_too laws h {g = g} {m = m} (list_last {t = t} {a = a} {b = b} r) small =
+    let u = laws.term_too g h m t a (mark (codes ")") ∷ b) (record { spelled = r; small = All-head (IsSmall m) t [] small }) in
+    let is = u.1 in
+    (u.0 ∷ [], list_last is.spelled, All-cons (IsSmall m) u.0 [] is.small (All-nil (IsSmall m)))
+arguments_too laws h {g = g} {m = m} (list_more {t = t} {ts = ts} {a = a} {b = b} r s) small =
+    let u = laws.term_too g h m t a (mark (codes ",") ∷ b) (record { spelled = r; small = All-head (IsSmall m) t ts small }) in
+    let is = u.1 in
+    let us = arguments_too laws h {m = m} s (All-tail (IsSmall m) t ts small) in
+    (u.0 ∷ us.0, list_more is.spelled us.1, All-cons (IsSmall m) u.0 us.0 is.small us.2)
+
+-- nothing is read where nothing is left
+pub no_argument : (g : Sig) (m : Limits) → short_term g m [] ≡ None
+unfolding short_term term rest after given
+no_argument g m = by m.term_levels
+  where
+    by : (d : ℕ) → after (term g d []) (λ t r. if is_small m t then Some (t, r) else None) ≡ None
+    by zero = refl
+    by (suc d) = refl
+
+-- one turn of the reader of arguments, where `xs` was read before the tokens `ts`, and `all` is what reading all of them gives
+module _ {A : Type 0} (closing : List ℕ) (one : Reader A) where
+  list_stop : (n : ℕ) (ws : List Word) → one ws ≡ None → list_of closing one n ws ≡ None
+  unfolding after
+  list_stop zero ws e = refl
+  list_stop (suc n) ws e = rw e refl
+
+  list_ends : (n : ℕ) (ws r : List Word) (v : A) → 0 < n → one ws ≡ Some (v, r) → starts closing r ≡ true → list_of closing one n ws ≡ Some (v ∷ [], drop 1 r)
+  unfolding after
+  list_ends zero ws r v lt e f = absurd (omega (arith, lt))
+  list_ends (suc n) ws r v lt e f = rw (e, f) refl
+
+  list_bad : (n : ℕ) (ws r : List Word) (v : A) → one ws ≡ Some (v, r) → starts closing r ≡ false → starts (codes ",") r ≡ false → list_of closing one n ws ≡ None
+  unfolding after
+  list_bad zero ws r v e f h = refl
+  list_bad (suc n) ws r v e f h = rw (e, f, h) refl
+
+  list_go : (n m : ℕ) (ws r : List Word) (v : A) → n ≡ suc m → one ws ≡ Some (v, r) → starts closing r ≡ false → starts (codes ",") r ≡ true
+      → list_of closing one n ws ≡ behind (v ∷ []) (list_of closing one m (drop 1 r))
+  unfolding after
+  list_go zero m ws r v is e f h = absurd (omega (arith, is))
+  list_go (suc n) m ws r v is e f h = let same : n ≡ m = omega (arith, is) in rw (e, f, h, same) refl
+
+behind_push : {A : Type 0} (xs : List A) (x : A) (r : Read (List A)) → behind xs (behind (x ∷ []) r) ≡ behind (xs ++ (x ∷ [])) r
+behind_push xs x None = refl
+behind_push {A = A} xs x (Some p) = ap (λ (y : List A). Some (y, p.1)) (sym (append_assoc xs (x ∷ []) p.0))
+
+-- what follows a value is shorter
+abbrev pub Shrinks : {A : Type 0} → Reader A → Type 0
+Shrinks {A = A} one = (ws b : List Word) (v : A) → one ws ≡ Some (v, b) → length b < length ws
+
+-- behind a value and one more token
+pub shorter_still : {A : Type 0} {one : Reader A} → Shrinks one → (z : List ℕ) (ts next rest : List Token) (v : A) → one (words_of z ts) ≡ Some (v, words_of z next) → rest ≡ drop 1 next → length rest < length ts
+shorter_still shrinks z ts next rest v e f =
+    let fewer : length (words_of z next) < length (words_of z ts) = shrinks (words_of z ts) (words_of z next) v e in
+    let less : length rest ≡ length next - 1 = ap (λ (y : List Token). length y) f ∙ length-drop 1 next in
+    omega (arith, less, fewer, length-words z next, length-words z ts)
+
+module _ {A : Type 0} {one : Reader A} (closing : List ℕ) (shrinks : Shrinks one) (z : List ℕ) (ts : List Token) (xs : List A) (n : ℕ) (all : Read (List A)) (long : length ts ≤ n) (so_far : all ≡ behind xs (list_of closing one n (words_of z ts))) where
+  pub turn_stop : one (words_of z ts) ≡ None → all ≡ None
+  turn_stop e = so_far ∙ ap (λ (r : Read (List A)). behind xs r) (list_stop closing one n (words_of z ts) e)
+
+  module _ (v : A) (next : List Token) (is : one (words_of z ts) ≡ Some (v, words_of z next)) where
+    some_left : 0 < n
+    some_left = let fewer : length (words_of z next) < length (words_of z ts) = shrinks (words_of z ts) (words_of z next) v is in omega (arith, long, fewer, length-words z ts)
+
+    pub turn_last : (ys : List A) (rest : List Token) → ys ≡ xs ++ (v ∷ []) → rest ≡ drop 1 next → starts closing (words_of z next) ≡ true → all ≡ Some (ys, words_of z rest)
+    turn_last ys rest f h s =
+        rw (f, h, words-drop z 1 next) (so_far ∙ ap (λ (r : Read (List A)). behind xs r) (list_ends closing one n (words_of z ts) (words_of z next) v some_left is s))
+
+    pub turn_bad : starts closing (words_of z next) ≡ false → starts (codes ",") (words_of z next) ≡ false → all ≡ None
+    turn_bad s c = so_far ∙ ap (λ (r : Read (List A)). behind xs r) (list_bad closing one n (words_of z ts) (words_of z next) v is s c)
+
+    pub turn_go : (ys : List A) (rest : List Token) → ys ≡ xs ++ (v ∷ []) → rest ≡ drop 1 next → starts closing (words_of z next) ≡ false → starts (codes ",") (words_of z next) ≡ true
+        → (m : ℕ) × (length rest ≤ m) × (all ≡ behind ys (list_of closing one m (words_of z rest)))
+    turn_go ys rest f h s c =
+        let fewer : length rest < length ts = shorter_still shrinks z ts next rest v is h in
+        let left : n ≡ suc (n - 1) = omega (arith, long, fewer) in
+        let go = list_go closing one n (n - 1) (words_of z ts) (words_of z next) v left is s c in
+        let whole = so_far ∙ (ap (λ (r : Read (List A)). behind xs r) go ∙ behind_push xs v (list_of closing one (n - 1) (drop 1 (words_of z next)))) in
+        (n - 1, omega (arith, long, fewer), rw (f, h, words-drop z 1 next) whole)

@@ -1,0 +1,14 @@
+use Rattle.std.proofs.Common.{◌≡◌, ◌++◌, map}
+use Rattle.std.specs.Vec.Iter.{into_iter_items}
+use Rattle.sap_macro.specs.Sources.{definitions}
+use Rattle.sap_read.specs.FileProcess.{definitions_of, main_of}
+use Rattle.sap_read.specs.code.Bodies.{body}
+use Rattle.sap_read.specs.code.Parting.{written_main}
+use Rattle.sap_read.proofs.whole.parted.Given as goal
+
+abbrev pub invariant-loop-entry : goal.invariant-loop-entry
+invariant-loop-entry l = record {
+  next : (goal.iterator-loop-entry).can_next l.entry-iterator × (goal.iterator-loop-entry).is_finite l.entry-iterator × (l.yielded ++ into_iter_items l.entry-iterator ≡ l.fn.entries);
+  defs : definitions l.all.defs ≡ definitions_of (map body l.yielded);
+  main : written_main l.all.main ≡ main_of (map body l.yielded);
+}

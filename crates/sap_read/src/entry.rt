@@ -1,0 +1,12 @@
+//! What a file says of its processes.
+use sap_macro::Source;
+use sap_terms::{Name, NameList};
+
+/// A process of a file: that of a name, with its parameters, or, without a label, the file's own. The line is that of its item, from 1.
+#[derive(Drop)]
+pub(crate) struct Entry {
+    pub(crate) label: Option<Name>,
+    pub(crate) params: NameList,
+    pub(crate) source: Box<Source>,
+    pub(crate) line: u64,
+}

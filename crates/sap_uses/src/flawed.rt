@@ -1,0 +1,66 @@
+//! Definitions whose bodies are flawed.
+ghost use Rattle.std.specs.Prelude.{◌≡◌, ℕ, List, [], IfOk, IfNone, IfSome};
+ghost use Rattle.sap_terms.specs.Signature.{Sig};
+ghost use Rattle.sap_process.specs.declared.flaw.Flaw.{Flaw as Flawed};
+ghost use Rattle.sap_macro.specs.Order.{AreInOrder};
+ghost use Rattle.sap_macro.specs.Sources.{definition_of, definitions, written};
+ghost use Rattle.sap_macro.specs.Written.{Written};
+ghost use Rattle.sap_uses.specs.ScopeFlaws.{IsFirstFlawedBehind};
+ghost use Rattle.sap_uses.specs.code.Indices.{AreIndexed};
+ghost use Rattle.sap_uses.specs.code.Marks.{AreReached, IsFlawedThere};
+
+use crate::body_flaw::body_flaw;
+use crate::index::{Index, index_of};
+use crate::reached::reached;
+use sap_macro::{Definition, DefinitionList, Source, plain_names_stand_for_bodies};
+use sap_process::Flaw;
+use sap_terms::{Copied, Mem, Name, NameSet, Path};
+use std::alloc::Global;
+
+// The flaw of the definition, where it has parameters and its name is one of these.
+fn flaw_of(
+    alloc: Global,
+    defs: &DefinitionList,
+    index: &Index,
+    names: &NameSet,
+    d: &Definition,
+) -> Result<Option<(Flaw, Path)>, Mem>
+    requires order { AreInOrder [] (definitions defs.now) }
+    requires index { AreIndexed (definitions defs.now) index.now }
+    ensures found { (g : Sig) (p : Written) → AreReached (definitions defs.now) p names.now
+        → IfOk result (λ o. IfSome o (λ f. IsFlawedThere g (definitions defs.now) p (definition_of d.now) f.0 f.1)) }
+    ensures none { (g : Sig) (p : Written) → AreReached (definitions defs.now) p names.now
+        → IfOk result (λ o. IfNone o ((w : Flawed) (path : List ℕ) → ¬ IsFlawedThere g (definitions defs.now) p (definition_of d.now) w path)) }
+{
+    if d.params.len() == 0 || !names.contains(&d.name) {
+        return Ok(None);
+    }
+    body_flaw(alloc, defs, index, d)
+}
+
+/// The name of the first definition with parameters that the process leads to and whose body has one of the flaws `Unbound`, `Rebound`
+/// and `SortClash`, where its parameters are in scope and names without parameters are replaced: with the one of these that counts,
+/// and the path of its first place in that body. Want of memory is the only error. It takes time in proportion to what is written
+/// and to these bodies, up to the first that is flawed.
+pub fn first_flawed(
+    alloc: Global,
+    defs: &DefinitionList,
+    main: &Source,
+) -> Result<Option<(Name, Flaw, Path)>, Mem>
+    requires { AreInOrder [] (definitions defs.now) }
+    ensures found { (g : Sig) → IfOk result (λ o. IfSome o (λ f. IsFirstFlawedBehind g (definitions defs.now) (written main.now) f.0 f.1 f.2)) }
+    ensures none { (g : Sig) → IfOk result (λ o. IfNone o ((name : List ℕ) (w : Flawed) (path : List ℕ)
+        → ¬ IsFirstFlawedBehind g (definitions defs.now) (written main.now) name w path)) }
+{
+    plain_names_stand_for_bodies();
+    let index = index_of(alloc, defs)?;
+    let names = reached(alloc, defs, main)?;
+    for k in 0..defs.len() {
+        let d = defs.at(k);
+        if let Some((which, path)) = flaw_of(alloc, defs, &index, &names, d)? {
+            let name = d.name.copy(alloc)?;
+            return Ok(Some((name, which, path)));
+        }
+    }
+    Ok(None)
+}

@@ -1,0 +1,58 @@
+//! Names that a process leads to.
+ghost use Rattle.std.specs.Prelude.{◌≡◌, [], IfOk, OnOk};
+ghost use Rattle.sap_macro.specs.Order.{AreInOrder};
+ghost use Rattle.sap_macro.specs.Sources.{definition_of, definitions, written};
+ghost use Rattle.sap_uses.specs.code.Marks.{AreReached, marked, marked_behind};
+
+use sap_macro::{Definition, DefinitionList, Source};
+use sap_terms::{Mem, NameSet};
+use std::alloc::Global;
+
+// Adds the names that the process uses. It recurses as deep as the process.
+fn add_uses(names: &mut NameSet, source: &Source) -> Result<(), Mem>
+    ensures { OnOk result (names.new ≡ marked names.old (written source.now)) }
+{
+    match source {
+        Source::Nil => Ok(()),
+        Source::Call(name, _) => {
+            names.insert(name)?;
+            Ok(())
+        }
+        Source::Rep(p) | Source::Act(_, p) => add_uses(names, p),
+        Source::Par(p, q) | Source::If(_, _, p, q) | Source::Lookup(_, _, p, q) => {
+            add_uses(names, p)?;
+            add_uses(names, q)
+        }
+    }
+}
+
+// Adds those that the definition's body uses, where the definition's name is one of them.
+fn add_body(names: &mut NameSet, d: &Definition) -> Result<(), Mem>
+    ensures { OnOk result (names.new ≡ marked_behind names.old (definition_of d.now)) }
+{
+    if names.contains(&d.name) {
+        return add_uses(names, &d.body);
+    }
+    Ok(())
+}
+
+/// The names that the process leads to: those that it uses, and those that the bodies of the definitions use that it leads to. A body
+/// uses earlier definitions alone, so they are gone through once, from the last to the first. Want of memory is the only error. It
+/// takes time in proportion to what is written, where each name is looked for by its order, and recurses as deep as that.
+pub(crate) fn reached(
+    alloc: Global,
+    defs: &DefinitionList,
+    main: &Source,
+) -> Result<NameSet, Mem>
+    requires { AreInOrder [] (definitions defs.now) }
+    ensures { IfOk result (λ names. AreReached (definitions defs.now) (written main.now) names) }
+{
+    let mut names = NameSet::new(alloc);
+    add_uses(&mut names, main)?;
+    let mut k = defs.len();
+    while 0 < k {
+        k -= 1;
+        add_body(&mut names, defs.at(k))?;
+    }
+    Ok(names)
+}
