@@ -1,5 +1,5 @@
 //! The first fact of a process that stands otherwise than before it.
-use crate::found::Found;
+use sap_found::Found;
 use crate::heads::head_of;
 use crate::preorder::{next, start};
 use crate::spot::{Form, form_at};

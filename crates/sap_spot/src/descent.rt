@@ -1,7 +1,7 @@
 //! From the path of a place to the word that a flaw or a lock names there.
 use crate::clash::clashing_fact;
 use crate::flaws::flawed_word;
-use crate::found::Found;
+use sap_found::Found;
 use crate::scope::Scope;
 use crate::spot::{Spot, below, form_at, head_word, process_at, settled};
 use crate::words::Words;

@@ -6,10 +6,7 @@ mod declarations;
 mod descent;
 mod flaws;
 mod formulas;
-mod found;
 mod heads;
-mod items;
-mod laws;
 mod layout;
 mod preorder;
 mod scope;
@@ -17,7 +14,4 @@ mod search;
 mod spot;
 mod words;
 
-pub use found::Found;
-pub use items::begins_item;
-pub use laws::words_by_hand;
 pub use search::word_of;

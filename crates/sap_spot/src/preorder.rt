@@ -1,5 +1,5 @@
 //! The places of a process in their order, names replaced by what they stand for.
-use crate::found::Found;
+use sap_found::Found;
 use crate::spot::{Spot, below, head_word, process_at, settled};
 use crate::words::Words;
 use sap_terms::{MOST_PROCESS_LEVELS, MOST_PROCESS_PLACES, Mem};

@@ -1,5 +1,5 @@
 //! Which variables the places above a place bind.
-use crate::found::Found;
+use sap_found::Found;
 use crate::heads::{Part, binder_at, head_of, one, used_and_patterns, variable_at};
 use crate::spot::{Form, Spot};
 use crate::words::Words;

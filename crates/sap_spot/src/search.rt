@@ -1,11 +1,11 @@
 //! The word of a file of which a cause speaks.
 ghost use Rattle.std.specs.Prelude.{IfOk, IfSome};
-ghost use Rattle.sap_spot.specs.Found.{IsWordOf};
+ghost use Rattle.sap_found.specs.Found.{IsWordOf};
 
 use crate::declarations::clashing_declaration;
 use crate::descent::found_at;
 use crate::formulas::faulty_word;
-use crate::found::{Found, checked};
+use sap_found::{Found, can_speak_of};
 use crate::layout::{Layout, layout_of};
 use crate::preorder::first_beyond;
 use crate::words::Words;
@@ -72,7 +72,7 @@ pub fn word_of(
         layout: &nothing,
     };
     match sought(words, fault)? {
-        Some(found) => Ok(checked(bytes, tokens, fault, found)),
-        None => Ok(None),
+        Some(found) if can_speak_of(bytes, tokens, fault, found) => Ok(Some(found)),
+        _ => Ok(None),
     }
 }

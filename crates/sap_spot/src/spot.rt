@@ -1,5 +1,5 @@
 //! Places of a process in the words that spell it.
-use crate::found::Found;
+use sap_found::Found;
 use crate::words::Words;
 use sap_grammar::{beyond, starts_zero};
 use sap_terms::Mem;

@@ -1,5 +1,5 @@
 //! The words of a file by their numbers.
-use crate::items::{begins_item, has_name};
+use sap_found::{begins_item, has_name};
 use crate::layout::Layout;
 use sap_grammar::{beyond, is_lower, name_at};
 use sap_terms::Signature;
