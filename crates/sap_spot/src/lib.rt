@@ -12,6 +12,7 @@ mod preorder;
 mod scope;
 mod search;
 mod spot;
+mod uses;
 mod words;
 
 pub use search::word_of;
