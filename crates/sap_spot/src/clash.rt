@@ -1,9 +1,9 @@
 //! The first fact of a process that stands otherwise than before it.
-use crate::found::Found;
 use crate::heads::head_of;
 use crate::preorder::{next, start};
 use crate::spot::{Form, form_at};
 use crate::words::{Words, terms_behind};
+use sap_found::Found;
 use sap_terms::{MOST_PROCESS_PLACES, Mem, Name, NameMap};
 
 /// How a fact is written: with how many terms, and whether it is persistent.

@@ -1,25 +1,66 @@
 //! From the path of a place to the word that a flaw or a lock names there.
 use crate::clash::clashing_fact;
 use crate::flaws::flawed_word;
-use crate::found::Found;
 use crate::scope::Scope;
-use crate::spot::{Spot, below, form_at, head_word, process_at, settled};
+use crate::spot::{Spot, below, called, form_at, head_word, process_at, settled};
 use crate::words::Words;
+use sap_found::Found;
 use sap_process::Flaw;
-use sap_terms::{Mem, Path};
+use sap_terms::{Mem, Name, Path};
 
-// The place of this path, and what is in its scope.
-fn descended(words: &Words, scope: &mut Scope, path: &[u8]) -> Result<Option<Spot>, Mem> {
-    let mut spot = process_at(words, words.layout.start)?;
-    for digit in path {
+// The same process where its head is written, and what is in scope there.
+fn entered(words: &Words, scope: &mut Scope, from: Spot) -> Result<Spot, Mem> {
+    let mut spot = settled(words, from)?;
+    for _ in 0..words.tokens.len() {
+        match called(words, spot)? {
+            Some(definition) => {
+                scope.call(words, spot, definition.item)?;
+                spot = definition.body.used_by(spot.at);
+            }
+            None => return Ok(spot),
+        }
+    }
+    Ok(spot)
+}
+
+// The place of this path below this process, and what is in its scope.
+fn descended(
+    words: &Words,
+    scope: &mut Scope,
+    from: Spot,
+    path: &Path,
+) -> Result<Option<Spot>, Mem> {
+    let mut spot = entered(words, scope, from)?;
+    for digit in path.as_slice() {
         scope.enter(words, form_at(words, spot), spot, *digit)?;
         let (first, second) = below(words, spot);
         match if *digit == 1 { first } else { second } {
-            Some(from) => spot = settled(words, from)?,
+            Some(next) => spot = entered(words, scope, next)?,
             None => return Ok(None),
         }
     }
     Ok(Some(spot))
+}
+
+// The word that the flaw names here: in the head, or else in the arguments of the uses around it, the innermost first; or the word with
+// which too much is in scope.
+fn flawed_here(
+    words: &Words,
+    scope: &mut Scope,
+    from: Spot,
+    flaw: Flaw,
+) -> Result<Option<Found>, Mem> {
+    let mut spot = from;
+    for _ in 0..words.tokens.len() {
+        if let Some(word) = flawed_word(words, scope, spot, flaw)? {
+            return Ok(Some(spot.found(word)));
+        }
+        match scope.leave() {
+            Some(outer) => spot = outer,
+            None => return Ok(scope.beyond),
+        }
+    }
+    Ok(scope.beyond)
 }
 
 /// The word that the flaw names at the place of this path, or with which too much is in its scope; without a flaw the word by which
@@ -33,12 +74,28 @@ pub(crate) fn found_at(
         return clashing_fact(words);
     }
     let mut scope = Scope::new(words.alloc);
-    match (descended(words, &mut scope, path.as_slice())?, flaw) {
+    let root = process_at(words, words.layout.start)?;
+    match (descended(words, &mut scope, root, path)?, flaw) {
         (None, _) => Ok(None),
         (Some(spot), None) => Ok(Some(head_word(words, spot))),
-        (Some(spot), Some(flaw)) => match flawed_word(words, &mut scope, spot, flaw)? {
-            Some(word) => Ok(Some(spot.found(word))),
-            None => Ok(scope.beyond),
-        },
+        (Some(spot), Some(flaw)) => flawed_here(words, &mut scope, spot, flaw),
+    }
+}
+
+/// The word that the flaw names at the place of this path in the process that this name is defined as.
+pub(crate) fn found_in(
+    words: &Words,
+    name: &Name,
+    flaw: Flaw,
+    path: &Path,
+) -> Result<Option<Found>, Mem> {
+    let Some(definition) = words.layout.definition(words, name.as_bytes())? else {
+        return Ok(None);
+    };
+    let mut scope = Scope::new(words.alloc);
+    scope.bind_parameters(words, definition.item)?;
+    match descended(words, &mut scope, definition.body, path)? {
+        Some(spot) => flawed_here(words, &mut scope, spot, flaw),
+        None => Ok(None),
     }
 }

@@ -117,6 +117,9 @@ pub(crate) fn flawed_word(
         Flaw::BadFunction => first_in_head(words, scope, Sought::BadSymbol, at),
         Flaw::ReservedVar => first_in_head(words, scope, Sought::ReservedVariable, at),
         Flaw::ReservedFact => first_in(words, scope, Sought::ReservedFact, head_of(words, at)),
+        Flaw::PatternDestructor if words.is_use(at) => {
+            first_in(words, scope, Sought::Destructor, head_of(words, at))
+        }
         Flaw::PatternDestructor => first_in(words, scope, Sought::Destructor, patterns),
         Flaw::Unbound => unbound(words, scope, spot),
         Flaw::Rebound => Ok(binder_at(words, at)),

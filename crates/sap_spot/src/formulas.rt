@@ -1,8 +1,8 @@
 //! Which word of a restriction or a lemma a fault names.
 use crate::heads::{Part, between, sign_of, variable_at};
-use crate::items::begins_statement;
 use crate::words::{Words, terms_behind};
 use sap_formula::FormulaFault;
+use sap_found::begins_statement;
 use sap_grammar::beyond;
 use sap_terms::{Mem, Name, Sort};
 

@@ -4,13 +4,21 @@ use crate::words::Words;
 use sap_terms::{Mem, Name, NameMap};
 use std::alloc::Global;
 
-/// The process of a file by the number of its first word; those that names are defined as, where their heads are written. The partner of
-/// an `if` or a `lookup` is its `else`; that of what stands before a parallel is the sign of the parallel. Others have the partner 0. A
-/// word of a head has the end of that.
+/// A definition: the number of its `let`, and its process where the head of that is written.
+#[derive(Clone, Copy)]
+pub(crate) struct Definition {
+    pub(crate) item: usize,
+    pub(crate) body: Spot,
+}
+
+/// The process of a file by the number of its first word; what names are defined as; the names by which processes are used, in
+/// definitions and in the file's process. The partner of an `if` or a `lookup` is its `else`; that of what stands before a parallel is the
+/// sign of the parallel. Others have the partner 0. A word of a head has the end of that.
 #[derive(Drop)]
 pub(crate) struct Layout {
     pub(crate) start: usize,
-    definitions: NameMap<Spot>,
+    definitions: NameMap<Definition>,
+    pub(crate) uses: Vec<usize>,
     partners: Vec<usize>,
     ends: Vec<usize>,
 }
@@ -21,6 +29,7 @@ impl Layout {
         Layout {
             start: 0,
             definitions: NameMap::new(alloc),
+            uses: Vec::new(alloc),
             partners: Vec::new(alloc),
             ends: Vec::new(alloc),
         }
@@ -39,8 +48,8 @@ impl Layout {
         self.ends.get(k).copied().unwrap_or(0)
     }
 
-    /// The process that this name is defined as.
-    pub(crate) fn definition(&self, words: &Words, name: &[u8]) -> Result<Option<Spot>, Mem> {
+    /// What this name is defined as.
+    pub(crate) fn definition(&self, words: &Words, name: &[u8]) -> Result<Option<Definition>, Mem> {
         let name = Name::from_bytes(words.alloc, name)?;
         Ok(self.definitions.get(&name).copied())
     }
@@ -55,9 +64,9 @@ impl Layout {
                     layout: self,
                     ..*words
                 };
-                let spot = process_at(&here, k.saturating_add(3))?;
+                let body = process_at(&here, words.next(k, "=").saturating_add(1))?;
                 let name = Name::from_bytes(words.alloc, text)?;
-                self.definitions.insert(name, spot)?;
+                self.definitions.insert(name, Definition { item: k, body })?;
             }
         }
         Ok(())
@@ -118,7 +127,7 @@ fn meet(words: &Words, k: usize, open: &mut Vec<usize>, layout: &mut Layout) -> 
             end_choices(words, open);
             let _ = open.pop();
         }
-        b"(" | b"if" | b"lookup" => open.push(k)?,
+        b"(" | b"if" | b"lookup" if !open.is_empty() => open.push(k)?,
         b":" | b"=" if open.is_empty() => open.push(k)?,
         _ => {}
     }
@@ -128,12 +137,20 @@ fn meet(words: &Words, k: usize, open: &mut Vec<usize>, layout: &mut Layout) -> 
 /// How the processes lie of a file that is made of items. The time is linear in its words, but for names, which are looked up.
 pub(crate) fn layout_of(words: &Words) -> Result<Layout, Mem> {
     let mut layout = Layout::new(words.alloc);
-    let mut open = Vec::new(words.alloc);
+    let (mut open, mut late) = (Vec::new(words.alloc), Vec::new(words.alloc));
     let (mut item, mut has_process, mut behind) = (0, false, 0);
     for k in 0..words.tokens.len() {
         let in_head = k < behind;
-        if has_process && !in_head && words.begins_head(k) {
+        let begins = has_process && !in_head && !open.is_empty();
+        if begins && words.begins_head(k) {
             behind = head_end(words, k);
+        }
+        if begins && words.name(k).is_some() && !words.is(k.saturating_sub(1), "as") {
+            if words.is(item, "let") {
+                layout.uses.push(k)?;
+            } else {
+                late.push(k)?;
+            }
         }
         layout.partners.push(0)?;
         layout.ends.push(behind)?;
@@ -147,5 +164,8 @@ pub(crate) fn layout_of(words: &Words) -> Result<Layout, Mem> {
         }
     }
     layout.enter(words, item)?;
+    for k in late {
+        layout.uses.push(k)?;
+    }
     Ok(layout)
 }

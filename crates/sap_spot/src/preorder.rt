@@ -1,7 +1,7 @@
 //! The places of a process in their order, names replaced by what they stand for.
-use crate::found::Found;
-use crate::spot::{Spot, below, head_word, process_at, settled};
+use crate::spot::{Spot, below, expanded, head_word, process_at};
 use crate::words::Words;
+use sap_found::Found;
 use sap_terms::{MOST_PROCESS_LEVELS, MOST_PROCESS_PLACES, Mem};
 
 /// A place, and on which level it stands, where the root is on level 1.
@@ -24,7 +24,7 @@ pub(crate) fn next(words: &Words, pending: &mut Vec<Visit>) -> Result<Option<Vis
     let Some(visit) = pending.pop() else {
         return Ok(None);
     };
-    let spot = settled(words, visit.spot)?;
+    let spot = expanded(words, visit.spot)?;
     let (first, second) = below(words, spot);
     let level = visit.level.saturating_add(1);
     for child in [second, first] {

@@ -1,24 +1,35 @@
 //! Which variables the places above a place bind.
-use crate::found::Found;
 use crate::heads::{Part, binder_at, head_of, one, used_and_patterns, variable_at};
 use crate::spot::{Form, Spot};
 use crate::words::Words;
+use sap_found::Found;
 use sap_terms::{MOST_SCOPE_NAMES, Mem, Name, NameMap, Sort, Var};
 use std::alloc::Global;
+use std::mem;
 
-/// The names that are bound above a place, with the sorts of their binders; how many there are, where each lock counts as one; and
+/// The names that are bound above a place in the definition in which it stands, with the sorts of their binders; the uses with arguments
+/// around it; how many names are bound, where each lock counts as one; and
 /// with which word they were more than may be.
 #[derive(Drop)]
 pub(crate) struct Scope {
     sorts: NameMap<Sort>,
+    callers: Vec<Caller>,
     size: u64,
     pub(crate) beyond: Option<Found>,
+}
+
+// A use with arguments around a place, and what is bound at it.
+#[derive(Drop)]
+struct Caller {
+    spot: Spot,
+    sorts: NameMap<Sort>,
 }
 
 impl Scope {
     pub(crate) fn new(alloc: Global) -> Scope {
         Scope {
             sorts: NameMap::new(alloc),
+            callers: Vec::new(alloc),
             size: 0,
             beyond: None,
         }
@@ -60,6 +71,31 @@ impl Scope {
             }
         }
         Ok(())
+    }
+
+    /// Binds the parameters of a definition. They don't count: what stands for them does, where it is bound.
+    pub(crate) fn bind_parameters(&mut self, words: &Words, item: usize) -> Result<(), Mem> {
+        for k in item.saturating_add(2)..words.next(item, "=") {
+            if let Some(text) = words.name(k) {
+                let name = Name::from_bytes(words.alloc, text)?;
+                self.sorts.insert(name, Sort::Msg)?;
+            }
+        }
+        Ok(())
+    }
+
+    /// Goes from a use with arguments into the definition that begins with this word: there only its parameters are bound.
+    pub(crate) fn call(&mut self, words: &Words, spot: Spot, item: usize) -> Result<(), Mem> {
+        let sorts = mem::replace(&mut self.sorts, NameMap::new(words.alloc));
+        self.callers.push(Caller { spot, sorts })?;
+        self.bind_parameters(words, item)
+    }
+
+    /// Goes back to the innermost use with arguments.
+    pub(crate) fn leave(&mut self) -> Option<Spot> {
+        let Caller { spot, sorts } = self.callers.pop()?;
+        self.sorts = sorts;
+        Some(spot)
     }
 
     // Binds what an action binds.

@@ -1,14 +1,15 @@
 //! The word of a file of which a cause speaks.
 ghost use Rattle.std.specs.Prelude.{IfOk, IfSome};
-ghost use Rattle.sap_spot.specs.Found.{IsWordOf};
+ghost use Rattle.sap_found.specs.Found.{IsWordOf};
 
 use crate::declarations::clashing_declaration;
-use crate::descent::found_at;
+use crate::descent::{found_at, found_in};
 use crate::formulas::faulty_word;
-use crate::found::{Found, checked};
 use crate::layout::{Layout, layout_of};
 use crate::preorder::first_beyond;
+use crate::uses::{other_count, second_parameter, wrong_count};
 use crate::words::Words;
+use sap_found::{Found, can_speak_of};
 use sap_grammar::read_declarations;
 use sap_locks::LockFault;
 use sap_read::ReadFault;
@@ -35,6 +36,9 @@ fn in_process(bare: Words, fault: &ReadFault) -> Result<Option<Found>, Mem> {
         ReadFault::TooMany => first_beyond(&words, false),
         ReadFault::TooDeep => first_beyond(&words, true),
         ReadFault::Ill { which, path } => found_at(&words, Some(*which), path),
+        ReadFault::Flawed { name, which, path } => found_in(&words, name, *which, path),
+        ReadFault::Arguments { name } => Ok(alone(wrong_count(&words, name.as_bytes())?)),
+        ReadFault::Large { name } => Ok(alone(other_count(&words, name.as_bytes(), 0))),
         ReadFault::Lock(LockFault::UnlockWithoutLock { path }) => found_at(&words, None, path),
         ReadFault::Lock(LockFault::LockOverParallel { path }) => found_at(&words, None, path),
         _ => Ok(None),
@@ -45,6 +49,7 @@ fn in_process(bare: Words, fault: &ReadFault) -> Result<Option<Found>, Mem> {
 fn sought(words: Words, fault: &ReadFault) -> Result<Option<Found>, Mem> {
     match fault {
         ReadFault::FunctionClash { .. } => Ok(alone(clashing_declaration(&words)?)),
+        ReadFault::Parameters { name } => Ok(alone(second_parameter(&words, name.as_bytes()))),
         ReadFault::Formula { name, fault } => Ok(alone(faulty_word(&words, name, fault)?)),
         _ => in_process(words, fault),
     }
@@ -70,9 +75,10 @@ pub fn word_of(
         tokens,
         sig: &declared.signature,
         layout: &nothing,
+        expands: !matches!(fault, ReadFault::Flawed { .. }),
     };
     match sought(words, fault)? {
-        Some(found) => Ok(checked(bytes, tokens, fault, found)),
-        None => Ok(None),
+        Some(found) if can_speak_of(bytes, tokens, fault, found) => Ok(Some(found)),
+        _ => Ok(None),
     }
 }

@@ -1,6 +1,7 @@
 //! Places of a process in the words that spell it.
-use crate::found::Found;
+use crate::layout::Definition;
 use crate::words::Words;
+use sap_found::Found;
 use sap_grammar::{beyond, starts_zero};
 use sap_terms::Mem;
 
@@ -43,6 +44,14 @@ impl Spot {
         }
     }
 
+    /// The process of a definition that is used by this name.
+    pub(crate) fn used_by(self, name: usize) -> Spot {
+        Spot {
+            used: Some(self.used.unwrap_or(name)),
+            ..self
+        }
+    }
+
     // A process of the same definition that begins here.
     fn with(self, at: usize, extent: Extent) -> Spot {
         Spot {
@@ -70,7 +79,7 @@ fn bar_of(words: &Words, spot: Spot) -> Option<usize> {
     }
 }
 
-// Behind an opening parenthesis, or in the process that a name stands for.
+// Behind an opening parenthesis, or in the process that a name without arguments stands for.
 fn further_in(words: &Words, spot: Spot) -> Result<Option<Spot>, Mem> {
     if spot.extent == Extent::Missing || bar_of(words, spot).is_some() {
         return Ok(None);
@@ -81,21 +90,45 @@ fn further_in(words: &Words, spot: Spot) -> Result<Option<Spot>, Mem> {
     let Some(name) = words.name(spot.at) else {
         return Ok(None);
     };
+    if words.is_applied(spot.at) {
+        return Ok(None);
+    }
     match words.layout.definition(words, name)? {
-        Some(inner) => Ok(Some(Spot {
-            used: Some(inner.used.unwrap_or(spot.at)),
-            ..inner
-        })),
+        Some(definition) => Ok(Some(definition.body.used_by(spot.at))),
         None => Ok(None),
     }
 }
 
-/// The same process where its head is written: neither in parentheses, nor a name that is defined.
+/// The same process where its head is written, or a use with arguments: neither in parentheses, nor another name that is defined.
 pub(crate) fn settled(words: &Words, from: Spot) -> Result<Spot, Mem> {
     let mut spot = from;
     for _ in 0..words.tokens.len() {
         match further_in(words, spot)? {
             Some(inner) => spot = inner,
+            None => return Ok(spot),
+        }
+    }
+    Ok(spot)
+}
+
+/// The definition that is used with arguments at a place that is settled, if one is.
+pub(crate) fn called(words: &Words, spot: Spot) -> Result<Option<Definition>, Mem> {
+    let here = spot.extent != Extent::Missing && bar_of(words, spot).is_none();
+    if !words.expands || !here || !words.is_applied(spot.at) {
+        return Ok(None);
+    }
+    match words.name(spot.at) {
+        Some(name) => words.layout.definition(words, name),
+        None => Ok(None),
+    }
+}
+
+/// The same process where its head is written, behind all uses.
+pub(crate) fn expanded(words: &Words, from: Spot) -> Result<Spot, Mem> {
+    let mut spot = settled(words, from)?;
+    for _ in 0..words.tokens.len() {
+        match called(words, spot)? {
+            Some(definition) => spot = definition.body.used_by(spot.at),
             None => return Ok(spot),
         }
     }
@@ -125,8 +158,8 @@ pub(crate) fn form_at(words: &Words, spot: Spot) -> Form {
         b"!" => Form::Replicated,
         b"if" => Form::If,
         b"lookup" => Form::Lookup,
-        _ if words.name(spot.at).is_some() => Form::Nil,
-        _ => Form::Action,
+        _ if words.is_applied(spot.at) || words.name(spot.at).is_none() => Form::Action,
+        _ => Form::Nil,
     }
 }
 

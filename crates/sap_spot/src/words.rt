@@ -1,6 +1,6 @@
 //! The words of a file by their numbers.
-use crate::items::{begins_item, has_name};
 use crate::layout::Layout;
+use sap_found::{begins_item, has_name};
 use sap_grammar::{beyond, is_lower, name_at};
 use sap_terms::Signature;
 use sap_text::Token;
@@ -14,6 +14,8 @@ pub(crate) struct Words<'a> {
     pub(crate) tokens: &'a [Token],
     pub(crate) sig: &'a Signature,
     pub(crate) layout: &'a Layout,
+    /// Whether uses with arguments are gone into.
+    pub(crate) expands: bool,
 }
 
 impl<'a> Words<'a> {
@@ -53,12 +55,12 @@ impl<'a> Words<'a> {
         }
     }
 
-    /// Whether it begins the head of an action or a choice: the `in` of a look-up doesn't.
+    /// Whether it begins the head of an action, a choice or a use with arguments: the `in` of a look-up doesn't.
     pub(crate) fn begins_head(&self, k: usize) -> bool {
         match self.text(k) {
             b"new" | b"out" | b"event" | b"insert" | b"delete" | b"lock" | b"unlock" | b"[" => true,
             b"in" => !self.is(k.saturating_sub(2), "as"),
-            _ => self.is_choice(k),
+            _ => self.is_choice(k) || self.is_use(k),
         }
     }
 
@@ -73,6 +75,11 @@ impl<'a> Words<'a> {
     /// Whether a parenthesis opens behind word number k.
     pub(crate) fn is_applied(&self, k: usize) -> bool {
         self.is(k.saturating_add(1), "(")
+    }
+
+    /// Whether a name stands there with a parenthesis behind it: where a process begins, a use with arguments.
+    pub(crate) fn is_use(&self, k: usize) -> bool {
+        self.is_applied(k) && self.name(k).is_some()
     }
 
     /// Whether one of the two signs of the parallel stands there.
@@ -125,11 +132,11 @@ pub(crate) fn term_end(words: &Words, from: usize) -> usize {
     words.tokens.len()
 }
 
-/// How many terms stand in the parentheses behind this word.
+/// How many terms stand in the parentheses behind this word, if any do.
 pub(crate) fn terms_behind(words: &Words, k: usize) -> u64 {
     let mut from = k.saturating_add(2);
     let mut terms: u64 = 0;
-    if words.is(from, ")") {
+    if !words.is_applied(k) || words.is(from, ")") {
         return 0;
     }
     for _ in k..words.tokens.len() {

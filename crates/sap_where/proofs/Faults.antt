@@ -9,19 +9,18 @@ use Rattle.sap_text.specs.declared.token.Token.{Token}
 use Rattle.sap_text.specs.Tokens.{IsFault, bad_byte, bad_content, open_comment, open_quote, Lexed, before, counted, IsLexed, ended, skipped, taken, long, failed}
 use Rattle.sap_grammar.specs.Words.{Word, mark, name, word_of, words_of}
 use Rattle.sap_grammar.specs.Cut.{Placed, placed, IsHeader}
-use Rattle.sap_process.specs.Proc.{Proc, level_count, node_count}
 use Rattle.sap_locks.specs.Annotation.{without, over}
 use Rattle.sap_statements.specs.declared.statement.Statement.{Statement}
 use Rattle.sap_terms.specs.declared.limits.TheConstants.{MOST_FILE_NAME_BYTES}
-use Rattle.sap_terms.specs.declared.limits.TheConstants.{MOST_PROCESS_LEVELS, MOST_PROCESS_PLACES}
 use Rattle.sap_terms.specs.Signature.{pairs_alone}
 use Rattle.sap_grammar.specs.Signatures.{clash_from}
 use Rattle.sap_read.specs.Item.{Body, bodies, declarations, statements}
-use Rattle.sap_read.specs.Replaced.{process_of, no_meaning}
-use Rattle.sap_read.specs.Causes.{above, causes, first_of}
-use Rattle.sap_read.specs.Files.{AreTokens, FileContent, IsRead, no_tokens, no_header, no_item, refused, ill, locked, unchecked, accepted}
+use Rattle.sap_uses.specs.declared.fault.MacroFault.{MacroFault}
+use Rattle.sap_uses.specs.declared.fault.MacroFault.TheVariants as uses
+use Rattle.sap_read.specs.Causes.{causes, fault_of_uses, first_of}
+use Rattle.sap_read.specs.Files.{AreTokens, FileContent, IsRead, no_tokens, no_header, no_item, refused, unexpanded, ill, locked, unchecked, accepted}
 use Rattle.sap_read.specs.declared.fault.ReadFault.{ReadFault}
-use Rattle.sap_read.specs.declared.fault.ReadFault.TheVariants.{Mem, Lex as LexFault, Header, Syntax, NoProcess, TwoProcesses, UnknownProcess, DuplicateName, FunctionClash, TooMany, TooDeep, Ill, Lock, Formula}
+use Rattle.sap_read.specs.declared.fault.ReadFault.TheVariants.{Mem, Lex as LexFault, Header, Syntax, NoProcess, TwoProcesses, UnknownProcess, DuplicateName, FunctionClash, Parameters, Arguments, TooMany, TooDeep, Large, Flawed, Ill, Lock, Formula}
 use Rattle.sap_where.specs.declared.told.Told.{Told}
 use Rattle.sap_where.specs.Told.{IsTold, at_its_place}
 use Rattle.sap_where.specs.Where.{HasPlace, StartsFile, at_byte, bytes_have, header_has, offset_of, one_byte}
@@ -127,8 +126,12 @@ is_later (TwoProcesses n) = true
 is_later (UnknownProcess x) = true
 is_later (DuplicateName x) = true
 is_later (FunctionClash x) = true
+is_later (Parameters x) = true
+is_later (Arguments x) = true
 is_later TooMany = true
 is_later TooDeep = true
+is_later (Large x) = true
+is_later (Flawed x w p) = true
 is_later (Ill w p) = true
 is_later (Lock f) = true
 is_later (Formula x f) = true
@@ -155,10 +158,6 @@ later_map : {A : Type 0} (f : A → ReadFault) (o : Option A) → ((x : A) → i
 later_map f None h = tt
 later_map f (Some x) h = h x
 
-later_above : (measure : Proc → ℕ) (most : ℕ) (e : ReadFault) (o : Option Proc) → is_later e ≡ true → IsLater (above measure most e o)
-later_above measure most e None h = tt
-later_above measure most e (Some p) h = later_if _ e h
-
 causes_later : (bs : List Body) (ss : List Statement) (o : Option (List ℕ)) → AreLater (causes bs ss o)
 causes_later bs ss o = (
   later_if _ NoProcess refl,
@@ -170,13 +169,7 @@ causes_later bs ss o = (
         later_map DuplicateName _ (λ x. refl),
         (
           later_map DuplicateName _ (λ x. refl),
-          (
-            later_map FunctionClash _ (λ x. refl),
-            (
-              later_above node_count MOST_PROCESS_PLACES TooMany (process_of no_meaning bs) refl,
-              (later_above level_count MOST_PROCESS_LEVELS TooDeep (process_of no_meaning bs) refl, tt),
-            ),
-          ),
+          (later_map FunctionClash _ (λ x. refl), tt),
         ),
       ),
     ),
@@ -195,8 +188,12 @@ Tells z (Err (TwoProcesses n)) = ⊤
 Tells z (Err (UnknownProcess x)) = ⊤
 Tells z (Err (DuplicateName x)) = ⊤
 Tells z (Err (FunctionClash x)) = ⊤
+Tells z (Err (Parameters x)) = ⊤
+Tells z (Err (Arguments x)) = ⊤
 Tells z (Err TooMany) = ⊤
 Tells z (Err TooDeep) = ⊤
+Tells z (Err (Large x)) = ⊤
+Tells z (Err (Flawed x w p)) = ⊤
 Tells z (Err (Ill w p)) = ⊤
 Tells z (Err (Lock f)) = ⊤
 Tells z (Err (Formula x f)) = ⊤
@@ -211,11 +208,24 @@ tells_later z (TwoProcesses n) h = tt
 tells_later z (UnknownProcess x) h = tt
 tells_later z (DuplicateName x) h = tt
 tells_later z (FunctionClash x) h = tt
+tells_later z (Parameters x) h = tt
+tells_later z (Arguments x) h = tt
 tells_later z TooMany h = tt
 tells_later z TooDeep h = tt
+tells_later z (Large x) h = tt
+tells_later z (Flawed x w p) h = tt
 tells_later z (Ill w p) h = tt
 tells_later z (Lock f) h = tt
 tells_later z (Formula x f) h = tt
+
+tells_uses : (z : List ℕ) (f : MacroFault) → Tells z (Err (fault_of_uses f))
+tells_uses z uses.Mem = tt
+tells_uses z (uses.Parameters x) = tt
+tells_uses z (uses.Arguments x) = tt
+tells_uses z uses.TooMany = tt
+tells_uses z uses.TooDeep = tt
+tells_uses z (uses.Large x) = tt
+tells_uses z (uses.Flawed x w p) = tt
 
 tells : {z : List ℕ} {o : Result FileContent ReadFault} → IsRead z o → Tells z o
 tells (no_tokens l) = l
@@ -225,6 +235,7 @@ tells {z = z} (refused {is = is} {e = e} p a c) =
     let os = causes (bodies is) (statements is) (clash_from pairs_alone (declarations is)) in
     tells_later z e (subst (λ (o : Option ReadFault). IsLater o) c
     (first_later os (causes_later (bodies is) (statements is) (clash_from pairs_alone (declarations is)))))
+tells {z = z} (unexpanded {f = f} p a c u) = tells_uses z f
 tells (ill p a c q f) = tt
 tells (locked {w = without} p a c q w f) = tt
 tells (locked {w = over} p a c q w f) = tt

@@ -9,12 +9,13 @@ ghost use Rattle.sap_grammar.specs.Words.{words_of};
 ghost use Rattle.sap_grammar.specs.Reading.{names};
 ghost use Rattle.sap_where.specs.Where.{IsFirst, IsWhere};
 ghost use Rattle.sap_where.specs.declared.place.Stretch.{Stretch};
-ghost use Rattle.sap_where.specs.Uses.{IsUse, ends_lookup, in_process, is_group, is_named, is_use, opens_process, stands, uses};
+ghost use Rattle.sap_where.specs.Uses.{IsUse, ends_heading, ends_lookup, is_group, is_named, is_use, opens_process, stands, uses};
+ghost use Rattle.sap_where.specs.code.Steps.{IsBefore};
 
 use crate::place::Stretch;
 use crate::walk::stretch_at;
 use sap_grammar::{beyond, name_at, starts};
-use sap_spot::begins_item;
+use sap_found::begins_item;
 use sap_terms::Name;
 use sap_text::Token;
 
@@ -48,7 +49,7 @@ fn is_group(bytes: &[u8], tokens: &[Token], k: usize) -> bool
         && (!stands(bytes, tokens, "in", before) || ends_lookup(bytes, tokens, before))
 }
 
-// Whether a process begins behind this word of an item that is one.
+// Whether a process begins behind this word of an item that is one, whose heading ended before.
 fn opens_process(bytes: &[u8], tokens: &[Token], k: usize) -> bool
     ensures { result ≡ opens_process bytes.now tokens.now k }
 {
@@ -59,43 +60,59 @@ fn opens_process(bytes: &[u8], tokens: &[Token], k: usize) -> bool
         || stands(bytes, tokens, "then", k)
         || stands(bytes, tokens, "else", k)
         || stands(bytes, tokens, ":", k)
-        || (stands(bytes, tokens, "=", k) && stands(bytes, tokens, "let", k.saturating_sub(2)))
         || ends_lookup(bytes, tokens, k)
         || is_group(bytes, tokens, k)
 }
 
-// Whether the name stands here by itself, where a process begins.
-fn uses(bytes: &[u8], tokens: &[Token], name: &[u8], k: usize) -> bool
-    requires { k < length tokens.now }
+// Whether the name stands here, where a process begins, behind the heading of a definition or not.
+fn uses(bytes: &[u8], tokens: &[Token], name: &[u8], k: usize, ended: bool) -> bool
+    requires { ended ≡ ends_heading bytes.now tokens.now k }
     ensures { result ≡ uses bytes.now tokens.now name.now k }
 {
     match name_at(bytes, beyond(k, tokens)) {
         Some(text) => text == name
-            && !stands(bytes, tokens, "(", k + 1)
-            && opens_process(bytes, tokens, k.saturating_sub(1)),
+            && (ended || opens_process(bytes, tokens, k.saturating_sub(1))),
         None => false,
     }
 }
 
-// Whether the item of a process goes on behind this word, where it does or doesn't before it.
-fn goes_on(bytes: &[u8], tokens: &[Token], k: usize, before: bool) -> bool
-    requires { before ≡ in_process bytes.now tokens.now k }
-    ensures { result ≡ in_process bytes.now tokens.now (k + 1) }
+// What is known before a word: whether the item of a process goes on there, whether the heading of a definition does, and whether such a
+// heading ended with the word before.
+#[derive(Clone, Copy)]
+struct Before {
+    item: bool,
+    heading: bool,
+    ended: bool,
+}
+
+// What is known behind this word, by what is before it.
+fn go_on(bytes: &[u8], tokens: &[Token], k: usize, before: Before) -> Before
+    requires { IsBefore bytes.now tokens.now k before }
+    ensures { IsBefore bytes.now tokens.now (k + 1) result }
 {
+    let ends = stands(bytes, tokens, "=", k);
+    let defines = stands(bytes, tokens, "let", k);
     if begins_item(bytes, beyond(k, tokens)) {
-        stands(bytes, tokens, "process", k) || stands(bytes, tokens, "let", k)
+        Before {
+            item: stands(bytes, tokens, "process", k) || defines,
+            heading: defines,
+            ended: before.heading && ends,
+        }
     } else {
-        before
+        Before {
+            item: before.item,
+            heading: before.heading && !ends,
+            ended: before.heading && ends,
+        }
     }
 }
 
-// Whether the name is used here, where the item of a process goes on or doesn't.
-fn is_use(bytes: &[u8], tokens: &[Token], name: &[u8], k: usize, item: bool) -> bool
-    requires inside { k < length tokens.now }
-    requires goes_on { item ≡ in_process bytes.now tokens.now k }
+// Whether the name is used here.
+fn is_use(bytes: &[u8], tokens: &[Token], name: &[u8], k: usize, before: Before) -> bool
+    requires { IsBefore bytes.now tokens.now k before }
     ensures { result ≡ is_use bytes.now tokens.now name.now k }
 {
-    item && uses(bytes, tokens, name, k)
+    before.item && uses(bytes, tokens, name, k, before.ended)
 }
 
 // The number of the first token that uses this name for a process.
@@ -103,13 +120,17 @@ fn first_use(bytes: &[u8], tokens: &[Token], name: &[u8]) -> Option<usize>
     ensures { MatchOption result ((i : ℕ) → IsUse bytes.now tokens.now name.now i → ⊥)
         (λ k. IsFirst (IsUse bytes.now tokens.now name.now) k) }
 {
-    let mut item = false;
+    let mut before = Before {
+        item: false,
+        heading: false,
+        ended: false,
+    };
     let mut k = 0;
     while k < tokens.len() {
-        if is_use(bytes, tokens, name, k, item) {
+        if is_use(bytes, tokens, name, k, before) {
             return Some(k);
         }
-        item = goes_on(bytes, tokens, k, item);
+        before = go_on(bytes, tokens, k, before);
         k += 1;
     }
     None

@@ -74,10 +74,16 @@ advice (fault.UnknownProcess name) =
     codes "Define the name by a let above this item, or write the action that was meant."
 advice (fault.DuplicateName name) = codes "Give this one another name."
 advice (fault.FunctionClash name) = codes "Leave this declaration out, or give it another name."
+advice (fault.Parameters name) = codes "Give one of the two parameters another name."
+advice (fault.Arguments name) =
+    codes "Write as many arguments as its let has parameters, or none where it has no parentheses."
 advice fault.TooMany =
     codes "Use a let at fewer places: each use counts in full, with all that it uses itself."
 advice fault.TooDeep =
     codes "Nest it less deep: each use of a let counts in full, with all that it uses itself."
+advice (fault.Large name) =
+    codes "Hand over less: what stands in a parameter's place has 256 nodes at most in each term."
+advice (fault.Flawed name which path) = flaw_advice which
 advice (fault.Ill which path) = flaw_advice which
 advice (fault.Lock f) = lock_advice f
 advice (fault.Formula name f) = formula_advice f

@@ -94,10 +94,16 @@ pub(crate) fn advice(fault: &ReadFault) -> &'static [u8]
             b"Define the name by a let above this item, or write the action that was meant.",
         ReadFault::DuplicateName { .. } => b"Give this one another name.",
         ReadFault::FunctionClash { .. } => b"Leave this declaration out, or give it another name.",
+        ReadFault::Parameters { .. } => b"Give one of the two parameters another name.",
+        ReadFault::Arguments { .. } =>
+            b"Write as many arguments as its let has parameters, or none where it has no parentheses.",
         ReadFault::TooMany =>
             b"Use a let at fewer places: each use counts in full, with all that it uses itself.",
         ReadFault::TooDeep =>
             b"Nest it less deep: each use of a let counts in full, with all that it uses itself.",
+        ReadFault::Large { .. } =>
+            b"Hand over less: what stands in a parameter's place has 256 nodes at most in each term.",
+        ReadFault::Flawed { which, .. } => flaw_advice(*which),
         ReadFault::Ill { which, .. } => flaw_advice(*which),
         ReadFault::Lock(fault) => lock_advice(fault),
         ReadFault::Formula { fault, .. } => formula_advice(fault),

@@ -4,7 +4,7 @@ use Rattle.sap_where.proofs.uses.first_use.Goals as goal
 
 pub loop-k-preserved : goal.loop-k-preserved
 loop-k-preserved c = record {
-  goes_on = c.goes_on-item.ensures;
+  known = c.go_on-before.ensures;
   none = none_next c.args.bytes.now c.args.tokens.now c.args.name.now c.loop-k.k
       (sym c.is_use.ensures ∙ c.if-is_use.false) c.loop-k.invariant.none;
 }

@@ -1,10 +1,11 @@
 use Rattle.std.proofs.Common.{◌≡◌, ◌<◌, ◌-◌, ℕ, length}
-use Rattle.sap_where.specs.Uses.{IsUse, in_process}
+use Rattle.sap_where.specs.Uses.{IsUse}
+use Rattle.sap_where.specs.code.Steps.{IsBefore}
 use Rattle.sap_where.proofs.uses.first_use.Given as goal
 
 abbrev pub invariant-loop-k : goal.invariant-loop-k
 invariant-loop-k l = record {
-  goes_on : l.item ≡ in_process l.bytes l.tokens l.k;
+  known : IsBefore l.bytes l.tokens l.k l.before;
   none : (i : ℕ) → i < l.k → IsUse l.bytes l.tokens l.name i → ⊥;
 }
 

@@ -1,7 +1,7 @@
 //! Laws of words of which a cause can speak, as contracts of functions that do nothing.
 ghost use Rattle.std.specs.Prelude.{◌≡◌, None, Some, codes, false, true};
-ghost use Rattle.sap_spot.specs.Found.{StandsIn, speaks};
-ghost use Rattle.sap_spot.specs.FoundExamples.{defines, full, lemma_of, lock_over, named, no_binder, no_lock, not_bound, two_items, two_items_tokens, word};
+ghost use Rattle.sap_found.specs.Found.{StandsIn, speaks};
+ghost use Rattle.sap_found.specs.FoundExamples.{defines, full, lemma_of, lock_over, named, no_binder, no_lock, not_bound, two_items, two_items_tokens, word};
 
 /// A law: of which words in small items a cause can speak, and of which it can't; and in which item a word stands.
 pub fn words_by_hand()

@@ -1,6 +1,6 @@
 use Rattle.std.proofs.Common.{refl}
-use Rattle.sap_spot.proofs.WordsByHand.{in_definition, in_other, in_process, not_behind}
-use Rattle.sap_spot.proofs.laws.words_by_hand.Goals as goal
+use Rattle.sap_found.proofs.WordsByHand.{in_definition, in_other, in_process, not_behind}
+use Rattle.sap_found.proofs.laws.words_by_hand.Goals as goal
 
 pub returns : goal.returns
 returns c = record {

@@ -1,1 +1,2 @@
 pub mod WordsByHand
+pub mod Standing

@@ -1,8 +1,8 @@
 //! A word of which a cause can speak.
-ghost use Rattle.std.specs.Prelude.{◌≡◌, IfSome, is_some, option_map, drop, ℕ};
+ghost use Rattle.std.specs.Prelude.{◌≡◌, ◌↔◌, IsTrue, is_some, option_map, drop, List, ℕ};
 ghost use Rattle.sap_grammar.specs.Words.{words_of};
 ghost use Rattle.sap_grammar.specs.Reading.{name_at};
-ghost use Rattle.sap_spot.specs.Found.{IsWordOf, begins_process, declares, flaw_fits, is_named, lock_fits, named_by, speaks};
+ghost use Rattle.sap_found.specs.Found.{IsWordOf, begins_body, begins_definition, begins_process, declares, flaw_fits, is_defined, is_named, is_used, lock_fits, named_by, speaks};
 
 use crate::items::{begins_statement, has_name, item_of};
 use sap_formula::FormulaFault;
@@ -20,6 +20,13 @@ pub struct Found {
     pub used: Option<usize>,
 }
 
+// Whether the item is the definition of this name.
+fn begins_definition(bytes: &[u8], item: &[Token], name: &[u8]) -> bool
+    ensures { result ≡ begins_definition name.now (words_of bytes.now item.now) }
+{
+    starts(bytes, item, "let") && has_name(bytes, beyond(1, item), name)
+}
+
 fn begins_process(bytes: &[u8], tokens: &[Token], used: Option<usize>, item: &[Token]) -> bool
     ensures { result ≡ begins_process (option_map (λ (k : ℕ). words_of bytes.now
         (drop k tokens.now)) used) (words_of bytes.now item.now) }
@@ -27,7 +34,7 @@ fn begins_process(bytes: &[u8], tokens: &[Token], used: Option<usize>, item: &[T
     match used {
         None => starts(bytes, item, "process"),
         Some(k) => match name_at(bytes, beyond(k, tokens)) {
-            Some(name) => starts(bytes, item, "let") && has_name(bytes, beyond(1, item), name),
+            Some(name) => begins_definition(bytes, item, name),
             None => false,
         },
     }
@@ -72,6 +79,36 @@ fn is_declared(bytes: &[u8], here: &[Token], item: &[Token], name: &[u8]) -> boo
         || (starts(bytes, item, "builtins") && name_at(bytes, here).is_some())
 }
 
+fn begins_body(
+    bytes: &[u8],
+    tokens: &[Token],
+    name: &[u8],
+    used: Option<usize>,
+    item: &[Token],
+) -> bool
+    ensures { result ≡ begins_body name.now (option_map (λ (k : ℕ). words_of bytes.now
+        (drop k tokens.now)) used) (words_of bytes.now item.now) }
+{
+    match used {
+        None => begins_definition(bytes, item, name),
+        Some(_) => begins_process(bytes, tokens, used, item),
+    }
+}
+
+// Whether the word here is this name, in a definition.
+fn is_defined(bytes: &[u8], here: &[Token], item: &[Token], name: &[u8]) -> bool
+    ensures { result ≡ is_defined name.now (words_of bytes.now here.now) (words_of bytes.now item.now) }
+{
+    starts(bytes, item, "let") && has_name(bytes, here, name)
+}
+
+// The same in a definition or the file's process.
+fn is_used(bytes: &[u8], here: &[Token], item: &[Token], name: &[u8]) -> bool
+    ensures { result ≡ is_used name.now (words_of bytes.now here.now) (words_of bytes.now item.now) }
+{
+    (starts(bytes, item, "process") || starts(bytes, item, "let")) && has_name(bytes, here, name)
+}
+
 // Whether the cause can speak of this word, which stands in the item that begins there.
 fn speaks(bytes: &[u8], tokens: &[Token], fault: &ReadFault, found: Found, item: &[Token]) -> bool
     ensures { result ≡ speaks fault.now (words_of bytes.now (drop found.word tokens.now))
@@ -82,6 +119,16 @@ fn speaks(bytes: &[u8], tokens: &[Token], fault: &ReadFault, found: Found, item:
     match fault {
         ReadFault::FunctionClash { name } => {
             found.used.is_none() && is_declared(bytes, here, item, name.as_bytes())
+        }
+        ReadFault::Parameters { name } => {
+            found.used.is_none() && is_defined(bytes, here, item, name.as_bytes())
+        }
+        ReadFault::Arguments { name } | ReadFault::Large { name } => {
+            found.used.is_none() && is_used(bytes, here, item, name.as_bytes())
+        }
+        ReadFault::Flawed { name, which, .. } => {
+            begins_body(bytes, tokens, name.as_bytes(), found.used, item)
+                && flaw_fits(bytes, here, *which)
         }
         ReadFault::TooMany | ReadFault::TooDeep => begins_process(bytes, tokens, found.used, item),
         ReadFault::Ill { which, .. } => {
@@ -99,21 +146,12 @@ fn speaks(bytes: &[u8], tokens: &[Token], fault: &ReadFault, found: Found, item:
     }
 }
 
-/// The word, if the cause can speak of it.
-pub(crate) fn checked(
-    bytes: &[u8],
-    tokens: &[Token],
-    fault: &ReadFault,
-    found: Found,
-) -> Option<Found>
-    ensures { IfSome result (λ f. IsWordOf bytes.now tokens.now fault.now f) }
+/// Whether the cause can speak of this word, in the item in which it stands. The time is linear in what stands before the word in that.
+pub fn can_speak_of(bytes: &[u8], tokens: &[Token], fault: &ReadFault, found: Found) -> bool
+    ensures { IsTrue result ↔ IsWordOf bytes.now tokens.now fault.now found }
 {
     match item_of(bytes, tokens, found.word) {
-        Some(item) => if speaks(bytes, tokens, fault, found, beyond(item, tokens)) {
-            Some(found)
-        } else {
-            None
-        },
-        None => None,
+        Some(item) => speaks(bytes, tokens, fault, found, beyond(item, tokens)),
+        None => false,
     }
 }

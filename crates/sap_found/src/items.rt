@@ -1,9 +1,9 @@
 //! In which item a word stands.
-ghost use Rattle.std.specs.Prelude.{◌≡◌, IfSome};
+ghost use Rattle.std.specs.Prelude.{◌≡◌, ℕ, MatchOption};
 ghost use Rattle.sap_grammar.specs.Reading.{names};
 ghost use Rattle.sap_grammar.specs.Words.{word_of, words_of};
 ghost use Rattle.sap_grammar.specs.Cut.{is_item_word};
-ghost use Rattle.sap_spot.specs.Found.{StandsIn, begins_item, begins_statement};
+ghost use Rattle.sap_found.specs.Found.{StandsIn, begins_item, begins_statement};
 
 use sap_grammar::{beyond, is_mark, name_at, starts};
 use sap_text::Token;
@@ -33,7 +33,7 @@ pub fn begins_item(bytes: &[u8], tokens: &[Token]) -> bool
 }
 
 /// Whether the restriction or lemma of this name begins with them.
-pub(crate) fn begins_statement(bytes: &[u8], tokens: &[Token], name: &[u8]) -> bool
+pub fn begins_statement(bytes: &[u8], tokens: &[Token], name: &[u8]) -> bool
     ensures { result ≡ begins_statement name.now (words_of bytes.now tokens.now) }
 {
     (starts(bytes, tokens, "restriction") || starts(bytes, tokens, "lemma"))
@@ -41,7 +41,7 @@ pub(crate) fn begins_statement(bytes: &[u8], tokens: &[Token], name: &[u8]) -> b
 }
 
 /// Whether this name stands first.
-pub(crate) fn has_name(bytes: &[u8], tokens: &[Token], name: &[u8]) -> bool
+pub fn has_name(bytes: &[u8], tokens: &[Token], name: &[u8]) -> bool
     ensures { result ≡ names name.now (words_of bytes.now tokens.now) }
 {
     match name_at(bytes, tokens) {
@@ -52,7 +52,8 @@ pub(crate) fn has_name(bytes: &[u8], tokens: &[Token], name: &[u8]) -> bool
 
 /// The number of the first word of the item in which this word stands, behind it.
 pub(crate) fn item_of(bytes: &[u8], tokens: &[Token], word: usize) -> Option<usize>
-    ensures { IfSome result (λ i. StandsIn bytes.now tokens.now i word) }
+    ensures { MatchOption result ((i : ℕ) → StandsIn bytes.now tokens.now i word → ⊥)
+        (λ i. StandsIn bytes.now tokens.now i word) }
 {
     if word >= tokens.len() || begins_item(bytes, beyond(word, tokens)) {
         return None;

@@ -11,8 +11,8 @@ use Rattle.sap_locks.specs.declared.fault.LockFault.TheVariants as lock
 use Rattle.sap_process.specs.declared.flaw.Flaw.{Flaw}
 use Rattle.sap_process.specs.declared.flaw.Flaw.TheVariants.{BadFunction, ReservedVar, ReservedFact, FactClash, PatternDestructor, Unbound, Rebound, SortClash, ScopeFull}
 use Rattle.sap_read.specs.declared.fault.ReadFault.{ReadFault}
-use Rattle.sap_read.specs.declared.fault.ReadFault.TheVariants.{Mem, Lex, Header, Syntax, NoProcess, TwoProcesses, UnknownProcess, DuplicateName, FunctionClash, TooMany, TooDeep, Ill, Lock, Formula}
-use Rattle.sap_spot.specs.declared.found.Found.{Found}
+use Rattle.sap_read.specs.declared.fault.ReadFault.TheVariants.{Mem, Lex, Header, Syntax, NoProcess, TwoProcesses, UnknownProcess, DuplicateName, FunctionClash, Parameters, Arguments, TooMany, TooDeep, Large, Flawed, Ill, Lock, Formula}
+use Rattle.sap_found.specs.declared.found.Found.{Found}
 
 -- an item begins with the first word
 abbrev pub begins_item : List Word → Bool
@@ -36,10 +36,19 @@ abbrev pub begins_statement : List ℕ → List Word → Bool
 begins_statement x ws = (starts (codes "restriction") ws || starts (codes "lemma") ws)
     && names x (drop 1 ws)
 
+-- they begin the definition of this name
+abbrev pub begins_definition : List ℕ → List Word → Bool
+begins_definition x ws = starts (codes "let") ws && names x (drop 1 ws)
+
 -- they begin the item of the file's process, or, where a name is used, with which these words begin, the definition of that name
 abbrev pub begins_process : Option (List Word) → List Word → Bool
 begins_process None ws = starts (codes "process") ws
 begins_process (Some us) ws = starts (codes "let") ws && is_named (name_at us) (drop 1 ws)
+
+-- the same of the process that this name is defined as
+abbrev pub begins_body : List ℕ → Option (List Word) → List Word → Bool
+begins_body x None ws = begins_definition x ws
+begins_body x (Some us) ws = begins_process (Some us) ws
 
 -- the word that stands first is one that the flaw can name: a variable, a symbol or a fact; where too much is in scope also a lock
 abbrev pub flaw_fits : Flaw → List Word → Bool
@@ -74,6 +83,13 @@ abbrev pub declares : List ℕ → (here item : List Word) → Bool
 declares x ws is = (starts (codes "functions") is && names x ws)
     || (starts (codes "builtins") is && is_some (name_at ws))
 
+-- the first word of these is this name in a definition, which begins with those; in a definition or the file's process
+abbrev pub is_defined : List ℕ → (here item : List Word) → Bool
+is_defined x ws is = starts (codes "let") is && names x ws
+
+abbrev pub is_used : List ℕ → (here item : List Word) → Bool
+is_used x ws is = (starts (codes "process") is || starts (codes "let") is) && names x ws
+
 -- the cause can speak of the first of these words, which stands in the item of those, where a process is used so, if it is
 abbrev pub speaks : ReadFault → (here item : List Word) → (used : Option (List Word)) → Bool
 speaks Mem ws is u = false
@@ -85,8 +101,12 @@ speaks (TwoProcesses n) ws is u = false
 speaks (UnknownProcess x) ws is u = false
 speaks (DuplicateName x) ws is u = false
 speaks (FunctionClash x) ws is u = is_none u && declares x ws is
+speaks (Parameters x) ws is u = is_none u && is_defined x ws is
+speaks (Arguments x) ws is u = is_none u && is_used x ws is
 speaks TooMany ws is u = begins_process u is
 speaks TooDeep ws is u = begins_process u is
+speaks (Large x) ws is u = is_none u && is_used x ws is
+speaks (Flawed x w path) ws is u = begins_body x u is && flaw_fits w ws
 speaks (Ill w path) ws is u = begins_process u is && flaw_fits w ws
 speaks (Lock f) ws is u = begins_process u is && lock_fits f ws
 speaks (Formula y f) ws is u = is_none u && begins_statement y is && is_named (named_by f) ws

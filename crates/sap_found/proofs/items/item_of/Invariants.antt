@@ -1,7 +1,7 @@
 use Rattle.std.proofs.Common.{◌≡◌, ◌≤◌, ◌<◌, ℕ, length, true, drop}
 use Rattle.sap_grammar.specs.Words.{words_of}
-use Rattle.sap_spot.specs.Found.{begins_item}
-use Rattle.sap_spot.proofs.items.item_of.Given as goal
+use Rattle.sap_found.specs.Found.{begins_item}
+use Rattle.sap_found.proofs.items.item_of.Given as goal
 
 abbrev pub invariant-loop-k : goal.invariant-loop-k
 invariant-loop-k l = record {

@@ -2,8 +2,8 @@
 use Rattle.std.proofs.Common.{◌≡◌, ◌≤◌, ◌<◌, ℕ, true, zero, suc, refl, arith}
 use Rattle.std.specs.Prelude.{drop}
 use Rattle.sap_grammar.specs.Words.{words_of}
-use Rattle.sap_spot.specs.Found.{StandsIn, begins_item}
-use Rattle.sap_spot.specs.FoundExamples.{two_items, two_items_tokens}
+use Rattle.sap_found.specs.Found.{StandsIn, begins_item}
+use Rattle.sap_found.specs.FoundExamples.{two_items, two_items_tokens}
 
 pub in_definition : StandsIn two_items two_items_tokens 0 3
 in_definition = record { behind = omega arith; inside = omega arith; begins = refl; no_other = none }
