@@ -10,13 +10,14 @@
 #   unbound   the same with a variable that isn't bound, in a definition that the process uses behind all others
 #   lock      the same with an unlock without lock
 #   nodes     definitions that the process uses twice each, up to more nodes than there may be
-#   facts     the same, where the one action has so many facts
-#   names     so many definitions, each of which is the one before, and the last of which the process uses up to more nodes than there may be
+#   facts     twelve such definitions, where the one action that they stand for has so many facts
+#   names     so many definitions, each the one before it under another name, the last of which stands where `nodes` has an event
 #   lemma     so many lemmas, of which the last has a variable that isn't guarded
 #
-# For each size it tells the instructions of both, by valgrind, their ratio, which is to be at most 2.5, and what `why` takes to the size
-# before, at most 2.2; of `nodes`, where `compile` counts and `why` walks to the first place beyond, `why` takes some 5 million more. And of each file of examples/ it tells the instructions of `compile`, and of `why` on it with a lemma that is in no
-# grammar, which are to be fewer.
+# For each size it tells the instructions of both, by valgrind, their ratio, which is to be at most 1.75, and what `why` takes to the size
+# before, at most 2.2. Where there are more nodes than there may be, `compile` counts and `why` walks to the first place beyond, which takes
+# some 3 million more: this is most of what it takes of `nodes`, and lifts the ratio of the smallest file of `names` to 2.1. And of each
+# file of examples/ it tells the instructions of `compile`, and of `why` on it with a lemma that is in no grammar, which are to be fewer.
 #
 # usage: bench/why.sh [KIND..]     `examples` is a kind too
 set -eu
