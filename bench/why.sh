@@ -10,11 +10,14 @@
 #   unbound   the same with a variable that isn't bound, in a definition that the process uses behind all others
 #   lock      the same with an unlock without lock
 #   nodes     definitions that the process uses twice each, up to more nodes than there may be
+#   facts     twelve such definitions, where the one action that they stand for has so many facts
+#   names     so many definitions, each the one before it under another name, the last of which stands where `nodes` has an event
 #   lemma     so many lemmas, of which the last has a variable that isn't guarded
 #
-# For each size it tells the instructions of both, by valgrind, their ratio, which is to be at most 2.5, and what `why` takes to the size
-# before, at most 2.2; of `nodes`, where `compile` counts and `why` walks to the first place beyond, `why` takes some 5 million more. And of each file of examples/ it tells the instructions of `compile`, and of `why` on it with a lemma that is in no
-# grammar, which are to be fewer.
+# For each size it tells the instructions of both, by valgrind, their ratio, which is to be at most 1.75, and what `why` takes to the size
+# before, at most 2.2. Where there are more nodes than there may be, `compile` counts and `why` walks to the first place beyond, which takes
+# some 3 million more: this is most of what it takes of `nodes`, and lifts the ratio of the smallest file of `names` to 2.1. And of each
+# file of examples/ it tells the instructions of `compile`, and of `why` on it with a lemma that is in no grammar, which are to be fewer.
 #
 # usage: bench/why.sh [KIND..]     `examples` is a kind too
 set -eu
@@ -43,6 +46,26 @@ nodes() {
         printf "theory Bench begin let P0 = event A()\n"
         for (k = 1; k <= n; k++) printf "let P%d = P%d | P%d\n", k, k - 1, k - 1
         printf "process: P%d end\n", n
+    }'
+}
+
+facts() {
+    awk -v n="$1" 'BEGIN {
+        printf "theory Bench begin let P0 = [ ] --[ A(\x27a\x27)"
+        for (k = 1; k <= n; k++) printf ", A(\x27a\x27)"
+        printf " ]-> [ ]\n"
+        for (k = 1; k <= 12; k++) printf "let P%d = P%d | P%d\n", k, k - 1, k - 1
+        print "process: P12 end"
+    }'
+}
+
+names() {
+    awk -v n="$1" 'BEGIN {
+        printf "theory Bench begin let P0 = event A()\n"
+        for (k = 1; k <= n; k++) printf "let P%d = P%d\n", k, k - 1
+        printf "let Q0 = P%d\n", n
+        for (k = 1; k <= 12; k++) printf "let Q%d = Q%d | Q%d\n", k, k - 1, k - 1
+        print "process: Q12 end"
     }'
 }
 
@@ -89,6 +112,8 @@ kind clash 'function f is declared otherwise' 1000 2000 4000 8000
 kind unbound 'place 21: unbound' 1000 2000 4000 8000
 kind lock 'place 11: unlock without lock' 1000 2000 4000 8000
 kind nodes 'more than 4000 nodes' 12 24 48 96
+kind facts 'more than 4000 nodes' 8000 16000 32000 64000
+kind names 'more than 4000 nodes' 1000 2000 4000 8000
 kind lemma 'last: variable x is not guarded' 1000 2000 4000 8000
 
 case $wished in *" examples "* | "  ") ;; *) exit 0 ;; esac

@@ -21,8 +21,9 @@ use Rattle.sap_read.specs.Causes.{causes, fault_of_uses, first_of}
 use Rattle.sap_read.specs.Files.{AreTokens, FileContent, IsRead, no_tokens, no_header, no_item, refused, unexpanded, ill, locked, unchecked, accepted}
 use Rattle.sap_read.specs.declared.fault.ReadFault.{ReadFault}
 use Rattle.sap_read.specs.declared.fault.ReadFault.TheVariants.{Mem, Lex as LexFault, Header, Syntax, NoProcess, TwoProcesses, UnknownProcess, DuplicateName, FunctionClash, Parameters, Arguments, TooMany, TooDeep, Large, Flawed, Ill, Lock, Formula}
-use Rattle.sap_where.specs.declared.place.Stretch.{Stretch}
-use Rattle.sap_where.specs.Where.{HasPlace, IsWhere, StartsFile, at_byte, bytes_have, header_has, offset_of, one_byte}
+use Rattle.sap_where.specs.declared.told.Told.{Told}
+use Rattle.sap_where.specs.Told.{IsTold, at_its_place}
+use Rattle.sap_where.specs.Where.{HasPlace, StartsFile, at_byte, bytes_have, header_has, offset_of, one_byte}
 
 -- the fault names an offset before this one
 abbrev pub NamesBefore : Lex → ℕ → Type 0
@@ -241,21 +242,26 @@ tells (locked {w = over} p a c q w f) = tt
 tells (unchecked p a c q w n f) = tt
 tells (accepted p a c q w n f) = tt
 
+-- what is told of a fault of bytes
+abbrev ByteTold : List ℕ → Lex → Option Told → Type 0
+ByteTold z f o = MatchOption o ((at : ℕ) → offset_of f ≡ Some at → length z ≤ at)
+    (λ t. ((at : ℕ) × (offset_of f ≡ Some at) × (at < length z) × (t.word ≡ one_byte at)) × (t.used ≡ None))
+
 -- the byte of a fault is where the fault stands
-pub byte_place : (z : List ℕ) (f : Lex) (o : Option Stretch) → MatchOption o ((at : ℕ) → offset_of f ≡ Some at → length z ≤ at) (λ s. (at : ℕ) × (offset_of f ≡ Some at) × (at < length z) × (s ≡ one_byte at)) → IfSome o (λ s. IsWhere z (LexFault f) s)
+pub byte_place : (z : List ℕ) (f : Lex) (o : Option Told) → ByteTold z f o → IfSome o (λ t. IsTold z (LexFault f) t)
 byte_place z f None m = tt
-byte_place z f (Some s) m = at_byte m.1 m.2 m.3
+byte_place z f (Some t) m = at_its_place (at_byte m.0.1 m.0.2 m.0.3) m.1
 
 -- and there is one where the bytes are refused for it
-pub byte_told : (z : List ℕ) (f : Lex) (o : Option Stretch) → MatchOption o ((at : ℕ) → offset_of f ≡ Some at → length z ≤ at) (λ s. (at : ℕ) × (offset_of f ≡ Some at) × (at < length z) × (s ≡ one_byte at)) → IsRead z (Err (LexFault f)) → o ≡ None → ⊥
+pub byte_told : (z : List ℕ) (f : Lex) (o : Option Told) → ByteTold z f o → IsRead z (Err (LexFault f)) → o ≡ None → ⊥
 byte_told z f None m r e =
     let n = fault_in_bytes MOST_FILE_NAME_BYTES z f (tells r) in
     let le = m n.0 n.1 in
     absurd (omega (arith, le, n.2))
-byte_told z f (Some s) m r e = cc
+byte_told z f (Some t) m r e = cc
 
 -- a header that is refused has a word that is wrong
-pub header_told : (z : List ℕ) (ts : List Token) (e : ReadFault) (o : Option Stretch) → ((f : Lex) → e ≡ LexFault f → ⊥)
+pub header_told : (z : List ℕ) (ts : List Token) (e : ReadFault) (o : Option Told) → ((f : Lex) → e ≡ LexFault f → ⊥)
     → ((us : List Token) → AreTokens z us → us ≡ ts) → (e ≡ Header → o ≡ None → StartsFile (words_of z ts))
     → HasPlace e → IsRead z (Err e) → o ≡ None → ⊥
 header_told z ts e o other only starts (bytes_have f) r none = other f refl

@@ -7,12 +7,14 @@ ghost use Rattle.sap_grammar.specs.Words.{words_of};
 ghost use Rattle.sap_read.specs.Files.{AreTokens};
 ghost use Rattle.sap_read.specs.declared.fault.ReadFault.TheVariants.{Syntax};
 ghost use Rattle.sap_expect.specs.FileTable.{FollowsTable};
+ghost use Rattle.sap_expect.specs.FirstWrong.{IsFirstWrong};
 ghost use Rattle.sap_where.specs.Pieces.{BeginsPiece, CanBeOf, IsOnLine, IsPieceOf, starts_item};
 ghost use Rattle.sap_where.specs.declared.place.Stretch.{Stretch};
+ghost use Rattle.sap_where.specs.Told.{IsTold};
 ghost use Rattle.sap_where.specs.Where.{IsWhere};
 ghost use Rattle.sap_where.specs.code.Steps.{IsLastBefore};
 
-use crate::place::Stretch;
+use crate::told::Told;
 use crate::walk::stretch_at;
 use sap_expect::{first_wrong, too_deep};
 use sap_grammar::{beyond, is_mark, last_line, line_of};
@@ -101,31 +103,24 @@ fn can_be_of(bytes: &[u8], tokens: &[Token], line: u64, k: usize) -> bool
     is_piece_of(bytes, tokens, line, k) || (k == tokens.len() && last_line(tokens) == line)
 }
 
-/// Where a piece is wrong of which this line is told: at the first word that is wrong by the table, where that can be the fault.
-/// The time is linear in the tokens. Want of memory is the only error.
-pub(crate) fn wrong_item(
-    alloc: Global,
-    bytes: &[u8],
-    tokens: &[Token],
-    line: u64,
-) -> Result<Option<Stretch>, Mem>
+// What is told of a piece that is no item, of which this line is told, where word k is the first that is wrong by the table.
+fn wrong_told(bytes: &[u8], tokens: &[Token], line: u64, k: usize) -> Option<Told>
     requires are { AreTokens bytes.now tokens.now }
     requires within { All (IsWithin (length bytes.now)) tokens.now }
     requires only { (ts : List Token) → AreTokens bytes.now ts → ts ≡ tokens.now }
-    ensures place { IfOk result (λ o. IfSome o (λ s. IsWhere bytes.now (Syntax line) s)) }
-    ensures inside { IfOk result (λ o. IfSome o (λ s. s.from ≤ length bytes.now)) }
-    ensures none { IfOk result (λ o. o ≡ None → (s : Stretch)
-        → IsWhere bytes.now (Syntax line) s → ⊥) }
+    requires wrong { IsFirstWrong FollowsTable (words_of bytes.now tokens.now) k }
+    ensures place { IfSome result (λ t. IsTold bytes.now (Syntax line) t) }
+    ensures inside { IfSome result (λ t. t.word.from ≤ length bytes.now) }
+    ensures unused { IfSome result (λ t. t.used ≡ None) }
+    ensures none { result ≡ None → (s : Stretch) → IsWhere bytes.now (Syntax line) s → ⊥ }
 {
-    match first_wrong(alloc, bytes, tokens)? {
-        Some(k) => {
-            if can_be_of(bytes, tokens, line, k) {
-                Ok(Some(stretch_at(tokens, k)))
-            } else {
-                Ok(None)
-            }
-        }
-        None => Ok(None),
+    if can_be_of(bytes, tokens, line, k) {
+        Some(Told {
+            word: stretch_at(tokens, k),
+            used: None,
+        })
+    } else {
+        None
     }
 }
 
@@ -151,20 +146,45 @@ fn deep_word_on(
     }
 }
 
-/// The word of a piece that is no item, though the words of the file follow the table: the one with which it is nested too deep. The time
-/// is linear in the tokens. Want of memory is the only error.
-pub(crate) fn deep_item(
+// What is told of a piece that is no item, of which this line is told, where the words of the file follow the table: the word with which
+// it is nested too deep.
+fn deep_told(alloc: Global, bytes: &[u8], tokens: &[Token], line: u64) -> Result<Option<Told>, Mem>
+    requires are { AreTokens bytes.now tokens.now }
+    requires within { All (IsWithin (length bytes.now)) tokens.now }
+    requires follows { FollowsTable (words_of bytes.now tokens.now) }
+    ensures place { IfOk result (λ o. IfSome o (λ t. IsTold bytes.now (Syntax line) t)) }
+    ensures inside { IfOk result (λ o. IfSome o (λ t. t.word.from ≤ length bytes.now)) }
+    ensures unused { IfOk result (λ o. IfSome o (λ t. t.used ≡ None)) }
+{
+    match deep_word_on(alloc, bytes, tokens, line)? {
+        Some(k) => Ok(Some(Told {
+            word: stretch_at(tokens, k),
+            used: None,
+        })),
+        None => Ok(None),
+    }
+}
+
+/// What is told of a piece that is no item, of which this line is told: the first word that is wrong by the table, where that can be the
+/// fault; or, where none is wrong, the word with which the text is nested too deep, where that can. The time is linear in the tokens.
+/// Want of memory is the only error.
+pub(crate) fn item_told(
     alloc: Global,
     bytes: &[u8],
     tokens: &[Token],
     line: u64,
-) -> Result<Option<usize>, Mem>
-    ensures follows { IfOk result (λ o. IfSome o (λ k. FollowsTable (words_of bytes.now tokens.now))) }
-    ensures inside { IfOk result (λ o. IfSome o (λ k. k < length tokens.now)) }
-    ensures can { IfOk result (λ o. IfSome o (λ k. CanBeOf bytes.now tokens.now line k)) }
+) -> Result<Option<Told>, Mem>
+    requires are { AreTokens bytes.now tokens.now }
+    requires within { All (IsWithin (length bytes.now)) tokens.now }
+    requires only { (ts : List Token) → AreTokens bytes.now ts → ts ≡ tokens.now }
+    ensures place { IfOk result (λ o. IfSome o (λ t. IsTold bytes.now (Syntax line) t)) }
+    ensures inside { IfOk result (λ o. IfSome o (λ t. t.word.from ≤ length bytes.now)) }
+    ensures unused { IfOk result (λ o. IfSome o (λ t. t.used ≡ None)) }
+    ensures none { IfOk result (λ o. o ≡ None → (s : Stretch)
+        → IsWhere bytes.now (Syntax line) s → ⊥) }
 {
     match first_wrong(alloc, bytes, tokens)? {
-        Some(_) => Ok(None),
-        None => deep_word_on(alloc, bytes, tokens, line),
+        Some(k) => Ok(wrong_told(bytes, tokens, line, k)),
+        None => deep_told(alloc, bytes, tokens, line),
     }
 }

@@ -1,21 +1,23 @@
 //! What is told of where a cause stands.
-ghost use Rattle.std.specs.Prelude.{◌≡◌, ◌≤◌, ℕ, None, Err, IfOk, IfSome, length, option_map};
+ghost use Rattle.std.specs.Prelude.{◌≡◌, ◌≤◌, ◌<◌, ℕ, None, Some, Err, IfOk, IfSome, List, MatchOption, length, option_map};
 ghost use Rattle.std.specs.List.{All};
 ghost use Rattle.sap_text.specs.Spans.{IsWithin};
 ghost use Rattle.sap_text.specs.declared.token.Token.{Token};
-ghost use Rattle.sap_read.specs.declared.fault.ReadFault.TheVariants.{Syntax};
+ghost use Rattle.sap_text.specs.declared.fault.Lex.{Lex};
+ghost use Rattle.sap_grammar.specs.Words.{words_of};
+ghost use Rattle.sap_read.specs.declared.fault.ReadFault.TheVariants.{Lex as LexFault, Header, Syntax};
 ghost use Rattle.sap_read.specs.Files.{AreTokens, IsRead};
 ghost use Rattle.sap_where.specs.Told.{IsTold};
-ghost use Rattle.sap_where.specs.Where.{HasPlace, IsWhere, stretch_at};
+ghost use Rattle.sap_where.specs.Where.{HasPlace, IsWhere, StartsFile, offset_of, one_byte, stretch_at};
 ghost use Rattle.sap_where.specs.declared.place.Stretch.{Stretch};
 
-use crate::item_place::deep_item;
+use crate::item_place::item_told;
 use crate::place::Stretch;
-use crate::walk::{file_tokens, settled_place, stretch_at};
+use crate::walk::{byte_of, file_tokens, place_in, stretch_at};
 use sap_read::ReadFault;
 use sap_spot::word_of;
 use sap_terms::Mem;
-use sap_text::Token;
+use sap_text::{Lex, Token};
 use std::alloc::Global;
 
 /// Where a cause stands, and, where that is in the definition of a process, the name as which this is used.
@@ -60,25 +62,8 @@ fn told_among(
     }
 }
 
-// A word with which a piece that begins on this line is nested too deep, if one is found among these tokens.
-fn deep_among(alloc: Global, bytes: &[u8], tokens: &[Token], line: u64) -> Result<Option<Told>, Mem>
-    requires are { AreTokens bytes.now tokens.now }
-    requires within { All (IsWithin (length bytes.now)) tokens.now }
-    ensures place { IfOk result (λ o. IfSome o (λ t. IsTold bytes.now (Syntax line) t)) }
-    ensures inside { IfOk result (λ o. IfSome o (λ t. t.word.from ≤ length bytes.now)) }
-    ensures unused { IfOk result (λ o. IfSome o (λ t. t.used ≡ None)) }
-{
-    match deep_item(alloc, bytes, tokens, line)? {
-        Some(k) => Ok(Some(Told {
-            word: stretch_at(tokens, k),
-            used: None,
-        })),
-        None => Ok(None),
-    }
-}
-
-// Either of these.
-fn told_or_deep(
+// Where the cause stands among these tokens, if its place is defined, or else the word of which it can speak.
+fn place_or_word(
     alloc: Global,
     bytes: &[u8],
     tokens: &[Token],
@@ -86,27 +71,57 @@ fn told_or_deep(
 ) -> Result<Option<Told>, Mem>
     requires are { AreTokens bytes.now tokens.now }
     requires within { All (IsWithin (length bytes.now)) tokens.now }
+    requires only { (ts : List Token) → AreTokens bytes.now ts → ts ≡ tokens.now }
+    requires no_byte { (f : Lex) → fault.now ≡ LexFault f → ⊥ }
+    requires no_item { (line : ℕ) → fault.now ≡ Syntax line → ⊥ }
     ensures place { IfOk result (λ o. IfSome o (λ t. IsTold bytes.now fault.now t)) }
     ensures inside { IfOk result (λ o. IfSome o (λ t. t.word.from ≤ length bytes.now)) }
     ensures order { IfOk result (λ o. IfSome o (λ t. IfSome t.used (λ u. u.from ≤ u.to))) }
     ensures used { IfOk result (λ o. IfSome o (λ t. IfSome t.used (λ u. u.to ≤ length bytes.now))) }
+    ensures header { IfOk result (λ o. fault.now ≡ Header → o ≡ None
+        → StartsFile (words_of bytes.now tokens.now)) }
+    ensures none { IfOk result (λ o. o ≡ None → (s : Stretch) → IsWhere bytes.now fault.now s → ⊥) }
 {
-    match fault {
-        ReadFault::Syntax { line } => deep_among(alloc, bytes, tokens, *line),
-        _ => told_among(alloc, bytes, tokens, fault),
+    match place_in(bytes, tokens, fault) {
+        Some(word) => Ok(Some(Told { word, used: None })),
+        None => told_among(alloc, bytes, tokens, fault),
     }
 }
 
-// The same among those of the bytes.
-fn word_told(alloc: Global, bytes: &[u8], fault: &ReadFault) -> Result<Option<Told>, Mem>
+// What is told of the cause among the tokens of the bytes.
+fn told_in(
+    alloc: Global,
+    bytes: &[u8],
+    tokens: &[Token],
+    fault: &ReadFault,
+) -> Result<Option<Told>, Mem>
+    requires are { AreTokens bytes.now tokens.now }
+    requires within { All (IsWithin (length bytes.now)) tokens.now }
+    requires only { (ts : List Token) → AreTokens bytes.now ts → ts ≡ tokens.now }
+    requires no_byte { (f : Lex) → fault.now ≡ LexFault f → ⊥ }
     ensures place { IfOk result (λ o. IfSome o (λ t. IsTold bytes.now fault.now t)) }
     ensures inside { IfOk result (λ o. IfSome o (λ t. t.word.from ≤ length bytes.now)) }
     ensures order { IfOk result (λ o. IfSome o (λ t. IfSome t.used (λ u. u.from ≤ u.to))) }
     ensures used { IfOk result (λ o. IfSome o (λ t. IfSome t.used (λ u. u.to ≤ length bytes.now))) }
+    ensures header { IfOk result (λ o. fault.now ≡ Header → o ≡ None
+        → StartsFile (words_of bytes.now tokens.now)) }
+    ensures none { IfOk result (λ o. o ≡ None → (s : Stretch) → IsWhere bytes.now fault.now s → ⊥) }
 {
-    match file_tokens(alloc, bytes)? {
-        Some(tokens) => told_or_deep(alloc, bytes, tokens.as_slice(), fault),
-        None => Ok(None),
+    match fault {
+        ReadFault::Syntax { line } => item_told(alloc, bytes, tokens, *line),
+        _ => place_or_word(alloc, bytes, tokens, fault),
+    }
+}
+
+// What is told of a fault of bytes, where they are so many.
+fn byte_told(lex: Lex, size: u64) -> Option<Told>
+    ensures { MatchOption result ((at : ℕ) → offset_of lex ≡ Some at → size ≤ at)
+        (λ t. ((at : ℕ) × (offset_of lex ≡ Some at) × (at < size) × (t.word ≡ one_byte at))
+        × (t.used ≡ None)) }
+{
+    match byte_of(lex, size) {
+        Some(word) => Some(Told { word, used: None }),
+        None => None,
     }
 }
 
@@ -126,8 +141,11 @@ pub fn place_of(alloc: Global, bytes: &[u8], fault: &ReadFault) -> Result<Option
     ensures told { HasPlace fault.now → IsRead bytes.now (Err fault.now)
         → IfOk result (λ o. o ≡ None → ⊥) }
 {
-    match settled_place(alloc, bytes, fault)? {
-        Some(word) => Ok(Some(Told { word, used: None })),
-        None => word_told(alloc, bytes, fault),
+    if let ReadFault::Lex(lex) = fault {
+        return Ok(byte_told(*lex, bytes.len() as u64));
+    }
+    match file_tokens(alloc, bytes)? {
+        Some(tokens) => told_in(alloc, bytes, tokens.as_slice(), fault),
+        None => Ok(None),
     }
 }

@@ -13,7 +13,6 @@ ghost use Rattle.sap_where.specs.Where.{BeginsAt, HoldsOnce, IsFirst, IsSecond, 
 ghost use Rattle.sap_expect.specs.FirstWrong.{IsFirstWrong};
 
 use crate::find::{Beginning, first, second};
-use crate::item_place::wrong_item;
 use crate::place::Stretch;
 use crate::uses::use_place;
 use sap_grammar::{beyond, name_at, starts};
@@ -35,8 +34,8 @@ fn offset_of(fault: Lex) -> Option<u64>
     }
 }
 
-// The byte of a fault of bytes, where it is one of so many.
-fn byte_of(fault: Lex, size: u64) -> Option<Stretch>
+/// The byte of a fault of bytes, where it is one of so many.
+pub(crate) fn byte_of(fault: Lex, size: u64) -> Option<Stretch>
     ensures { MatchOption result ((at : ℕ) → offset_of fault ≡ Some at → size ≤ at)
         (λ s. (at : ℕ) × (offset_of fault ≡ Some at) × (at < size) × (s ≡ one_byte at)) }
 {
@@ -164,31 +163,26 @@ fn place_among(bytes: &[u8], tokens: &[Token], fault: &ReadFault) -> Option<Stre
     }
 }
 
-// The same, and where a piece that is no item is wrong, or a name that isn't defined is used.
-fn place_in(
-    alloc: Global,
-    bytes: &[u8],
-    tokens: &[Token],
-    fault: &ReadFault,
-) -> Result<Option<Stretch>, Mem>
+/// The same, or where a name that isn't defined is used.
+pub(crate) fn place_in(bytes: &[u8], tokens: &[Token], fault: &ReadFault) -> Option<Stretch>
     requires are { AreTokens bytes.now tokens.now }
     requires within { All (IsWithin (length bytes.now)) tokens.now }
     requires only { (ts : List Token) → AreTokens bytes.now ts → ts ≡ tokens.now }
     requires no_byte { (f : Lex) → fault.now ≡ LexFault f → ⊥ }
-    ensures place { IfOk result (λ o. IfSome o (λ s. IsWhere bytes.now fault.now s)) }
-    ensures inside { IfOk result (λ o. IfSome o (λ s. s.from ≤ length bytes.now)) }
-    ensures header { IfOk result (λ o. fault.now ≡ Header → o ≡ None
-        → StartsFile (words_of bytes.now tokens.now)) }
-    ensures none { IfOk result (λ o. o ≡ None → (s : Stretch) → IsWhere bytes.now fault.now s → ⊥) }
+    requires no_item { (line : ℕ) → fault.now ≡ Syntax line → ⊥ }
+    ensures place { IfSome result (λ s. IsWhere bytes.now fault.now s) }
+    ensures inside { IfSome result (λ s. s.from ≤ length bytes.now) }
+    ensures header { fault.now ≡ Header → result ≡ None
+        → StartsFile (words_of bytes.now tokens.now) }
+    ensures none { result ≡ None → (s : Stretch) → IsWhere bytes.now fault.now s → ⊥ }
 {
     match fault {
-        ReadFault::Syntax { line } => wrong_item(alloc, bytes, tokens, *line),
-        ReadFault::UnknownProcess { name } => Ok(use_place(bytes, tokens, name)),
-        _ => Ok(place_among(bytes, tokens, fault)),
+        ReadFault::UnknownProcess { name } => use_place(bytes, tokens, name),
+        _ => place_among(bytes, tokens, fault),
     }
 }
 
-// The tokens of a file, if its bytes are tokens.
+/// The tokens of a file, if its bytes are tokens.
 pub(crate) fn file_tokens(alloc: Global, bytes: &[u8]) -> Result<Option<Vec<Token>>, Mem>
     ensures are { IfOk result (λ o. MatchOption o
         ((ts : List Token) → AreTokens bytes.now ts → ⊥)
@@ -203,26 +197,5 @@ pub(crate) fn file_tokens(alloc: Global, bytes: &[u8]) -> Result<Option<Vec<Toke
         Ok(tokens) => Ok(Some(tokens)),
         Err(Lex::Mem) => Err(Mem),
         Err(_) => Ok(None),
-    }
-}
-
-// Where the cause stands, if its place is defined: `place_of` says of which it is.
-pub(crate) fn settled_place(
-    alloc: Global,
-    bytes: &[u8],
-    fault: &ReadFault,
-) -> Result<Option<Stretch>, Mem>
-    ensures place { IfOk result (λ o. IfSome o (λ s. IsWhere bytes.now fault.now s)) }
-    ensures inside { IfOk result (λ o. IfSome o (λ s. s.from ≤ length bytes.now)) }
-    ensures none { IfOk result (λ o. o ≡ None → (s : Stretch) → IsWhere bytes.now fault.now s → ⊥) }
-    ensures told { HasPlace fault.now → IsRead bytes.now (Err fault.now)
-        → IfOk result (λ o. o ≡ None → ⊥) }
-{
-    if let ReadFault::Lex(lex) = fault {
-        return Ok(byte_of(*lex, bytes.len() as u64));
-    }
-    match file_tokens(alloc, bytes)? {
-        Some(tokens) => place_in(alloc, bytes, tokens.as_slice(), fault),
-        None => Ok(None),
     }
 }
