@@ -1,5 +1,5 @@
 //! Where a name of a process is used first.
-ghost use Rattle.std.specs.Prelude.{◌≡◌, ◌<◌, ◌≤◌, ◌+◌, ℕ, List, None, length, IfSome, MatchOption};
+ghost use Rattle.std.specs.Prelude.{◌≡◌, ◌≤◌, ◌+◌, ℕ, List, None, length, IfSome, MatchOption};
 ghost use Rattle.std.specs.List.{All};
 ghost use Rattle.sap_text.specs.Spans.{IsWithin};
 ghost use Rattle.sap_text.specs.declared.token.Token.{Token};
