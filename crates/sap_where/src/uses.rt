@@ -1,5 +1,5 @@
 //! Where a name of a process is used first.
-ghost use Rattle.std.specs.Prelude.{◌≡◌, ◌<◌, ◌≤◌, ◌+◌, ℕ, List, None, length, IfSome, MatchOption};
+ghost use Rattle.std.specs.Prelude.{◌≡◌, ◌≤◌, ◌+◌, ℕ, List, None, length, IfSome, MatchOption};
 ghost use Rattle.std.specs.List.{All};
 ghost use Rattle.sap_text.specs.Spans.{IsWithin};
 ghost use Rattle.sap_text.specs.declared.token.Token.{Token};
@@ -9,8 +9,7 @@ ghost use Rattle.sap_grammar.specs.Words.{words_of};
 ghost use Rattle.sap_grammar.specs.Reading.{names};
 ghost use Rattle.sap_where.specs.Where.{IsFirst, IsWhere};
 ghost use Rattle.sap_where.specs.declared.place.Stretch.{Stretch};
-ghost use Rattle.sap_where.specs.Uses.{IsUse, ends_heading, ends_lookup, is_group, is_named, is_use, opens_process, stands, uses};
-ghost use Rattle.sap_where.specs.code.Steps.{IsBefore};
+ghost use Rattle.sap_where.specs.Uses.{IsUse, ends_heading, ends_lookup, in_heading, in_process, is_group, is_named, is_use, opens_process, stands, uses};
 
 use crate::place::Stretch;
 use crate::walk::stretch_at;
@@ -87,8 +86,11 @@ struct Before {
 
 // What is known behind this word, by what is before it.
 fn go_on(bytes: &[u8], tokens: &[Token], k: usize, before: Before) -> Before
-    requires { IsBefore bytes.now tokens.now k before }
-    ensures { IsBefore bytes.now tokens.now (k + 1) result }
+    requires item { before.item ≡ in_process bytes.now tokens.now k }
+    requires heading { before.heading ≡ in_heading bytes.now tokens.now k }
+    ensures item { result.item ≡ in_process bytes.now tokens.now (k + 1) }
+    ensures heading { result.heading ≡ in_heading bytes.now tokens.now (k + 1) }
+    ensures ended { result.ended ≡ ends_heading bytes.now tokens.now (k + 1) }
 {
     let ends = stands(bytes, tokens, "=", k);
     let defines = stands(bytes, tokens, "let", k);
@@ -109,7 +111,8 @@ fn go_on(bytes: &[u8], tokens: &[Token], k: usize, before: Before) -> Before
 
 // Whether the name is used here.
 fn is_use(bytes: &[u8], tokens: &[Token], name: &[u8], k: usize, before: Before) -> bool
-    requires { IsBefore bytes.now tokens.now k before }
+    requires item { before.item ≡ in_process bytes.now tokens.now k }
+    requires ended { before.ended ≡ ends_heading bytes.now tokens.now k }
     ensures { result ≡ is_use bytes.now tokens.now name.now k }
 {
     before.item && uses(bytes, tokens, name, k, before.ended)
