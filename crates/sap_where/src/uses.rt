@@ -13,8 +13,8 @@ ghost use Rattle.sap_where.specs.Uses.{IsUse, ends_heading, ends_lookup, in_head
 
 use crate::place::Stretch;
 use crate::walk::stretch_at;
-use sap_grammar::{beyond, name_at, starts};
 use sap_found::begins_item;
+use sap_grammar::{beyond, name_at, starts};
 use sap_terms::Name;
 use sap_text::Token;
 
@@ -69,8 +69,7 @@ fn uses(bytes: &[u8], tokens: &[Token], name: &[u8], k: usize, ended: bool) -> b
     ensures { result ≡ uses bytes.now tokens.now name.now k }
 {
     match name_at(bytes, beyond(k, tokens)) {
-        Some(text) => text == name
-            && (ended || opens_process(bytes, tokens, k.saturating_sub(1))),
+        Some(text) => text == name && (ended || opens_process(bytes, tokens, k.saturating_sub(1))),
         None => false,
     }
 }
