@@ -100,13 +100,13 @@ names() {
 # So many definitions behind the first, each with this body, in which USE is a use of the one before it, and a use of the last.
 definitions() {
     awk -v n="$1" -v body="$2" 'BEGIN {
-        printf "theory Bench begin let D0(x) = new n; event Shown(x, n) "
+        printf "theory Bench begin let A0(x) = new n; event Shown(x, n) "
         for (k = 1; k <= n; k++) {
             one = body
-            gsub(/USE/, "D" k - 1 "(x)", one)
-            printf "let D%d(x) = %s ", k, one
+            gsub(/USE/, "A" k - 1 "(x)", one)
+            printf "let A%d(x) = %s ", k, one
         }
-        printf "process: D%d(\047a\047) end", n
+        printf "process: A%d(\047a\047) end", n
     }'
 }
 
