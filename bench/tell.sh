@@ -9,7 +9,7 @@
 #   outputs   threads that take it, put it out and show it
 #   rules     the lines of rules that become those of inputs
 #   stored    threads that store a name, find it and give a lock back
-#   chain     one thread, whose place has one digit more at each line
+#   chain     one thread, whose place has one digit more at each line, up to the levels that a process may have
 #
 # usage: bench/tell.sh [FAMILY..]
 set -eu
@@ -78,7 +78,7 @@ stored() {
 }
 
 chain() {
-    for count in 950 1900 3800; do
+    for count in 70 140 280; do
         awk -v n="$count" 'BEGIN { printf "theory B begin process: "; for (k = 0; k < n; k++) printf "event A(); "; print "0 end" }' > "$work/file"
         awk -v n="$count" 'BEGIN { print "process-run"; for (k = 0; k < n; k++) print "event 0" }' > "$work/run"
         measured "$count"
