@@ -9,7 +9,7 @@
 #   outputs   threads that take it, put it out and show it
 #   rules     the lines of rules that become those of inputs
 #   stored    threads that store a name, find it and give a lock back
-#   chain     one thread, whose place has one digit more at each line, up to the levels that a process may have
+#   chain     one thread, whose place has one digit more at each line, up to the levels that a process may have: its text grows by more
 #
 # usage: bench/tell.sh [FAMILY..]
 set -eu
