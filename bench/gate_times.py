@@ -3,8 +3,8 @@
 
 usage: bench/gate_times.py [--write] [COMMAND..]
 
-Runs the command, which is `rt ci --anew` where none is given, at the top of the checkout, and looks ten times a second which checks
-run below it and how much of the processors each has used. To be run with nothing else on the machine, in a clean clone. It prints the
+Runs the command, which is the gate from nothing where none is given (`rt ci`, or `rt ci --anew` where `rt` keeps what passed), at the
+top of the checkout, and looks ten times a second which checks run below it and how much of the processors each has used. To be run with nothing else on the machine, in a clean clone. It prints the
 table of docs/GATE.md, and with --write puts it there; what the command says goes to standard error. The status is the command's.
 
 Of each crate the table has the processor seconds of its proof, of the second proof that its edits begin with, and of the checks of
@@ -135,10 +135,16 @@ def table(total, of_crate, clock):
     return "\n".join([said, "", *lines])
 
 
+def from_nothing():
+    """The gate, with nothing taken from a run before it."""
+    told = subprocess.run(["rt", "help"], stdout=subprocess.PIPE, stderr=subprocess.STDOUT, text=True).stdout
+    return ["rt", "ci", *(["--anew"] if "--anew" in told else [])]
+
+
 def main():
     words = sys.argv[1:]
     writes = words[:1] == ["--write"]
-    status, total, of_crate, clock = watched(words[writes:] or ["rt", "ci", "--anew"])
+    status, total, of_crate, clock = watched(words[writes:] or from_nothing())
     made = table(total, of_crate, clock)
     print(made)
     if writes:
