@@ -1,5 +1,5 @@
 -- What isn't a chart, tried by hand.
-use Rattle.std.proofs.Common.{◌≡◌, ℕ, true, false, true≢false, codes, List, [], ◌∷◌, ◌++◌, length, get_or, nat_eq, refl, sym, ap, ◌∙◌, arith}
+use Rattle.std.proofs.Common.{◌≡◌, ℕ, true≢false, codes, List, [], ◌∷◌, ◌++◌, length, get_or, nat_eq, refl, sym, ap, ◌∙◌, arith}
 use Rattle.std.proofs.Common.{length-append}
 use Rattle.std.specs.Fmt.{digits}
 use Rattle.std.specs.Str.{bytes_eq}
@@ -13,7 +13,7 @@ use Rattle.sap_terms.specs.Tree.{Tree}
 use Rattle.sap_tell.specs.Escaped.{escaped_byte}
 use Rattle.sap_chart.specs.Chart as drawn
 use Rattle.sap_chart.specs.Chart.{IsChart, IsDrawnRun}
-use Rattle.sap_chart.specs.ChartExamples.{empty_chart, out_row, two_lifelines}
+use Rattle.sap_chart.specs.ChartExamples.{empty_chart, in_row, out_row, two_lifelines}
 use Rattle.sap_chart.specs.ChartText.{chart_text, row_text}
 use Rattle.sap_chart.specs.Rows.{Row}
 use Rattle.sap_chart.specs.WellFormed.{IsDocument, document}
@@ -36,11 +36,19 @@ not_nothing g p tr h =
 
 -- an arrow isn't drawn the wrong way round
 abbrev turned : List ℕ
-turned = codes "<g transform='translate(0,100)'><title>8. thread 2 at 111: out(pk(~1)) -- knows 0: pk(~1)</title><text x='10' y='4'>8. thread 2</text><text x='212' y='4' text-anchor='end'>knows 0</text><line x1='220' x2='380' stroke='black' marker-end='url(#arrow)'/><g transform='translate(220,0)'><rect x='8' y='-16' height='13' fill='white' width='85'/><text x='12' y='-5'>out(pk(~1))</text></g></g>\n"
+turned = codes "<g transform='translate(0,100)'><title>8. thread 2 at 111: out(pk(~1)) -- knows 0: pk(~1)</title><text x='10' y='4'>8. thread 2</text><text x='212' y='4' text-anchor='end'>knows 0</text><line x1='220' x2='380' stroke='black' marker-end='url(#arrow)'/><g transform='translate(220,0)'><rect x='8' y='-18' height='13' fill='white' width='85'/><text x='12' y='-7' xml:space='preserve'>out(pk(~1))</text></g></g>\n"
 
 pub not_turned : ¬ (row_text two_lifelines 1 out_row ≡ turned)
 unfolding digits escaped_byte
 not_turned e = absurd (true≢false (sym (ap (λ (t : List ℕ). bytes_eq t turned) e)))
+
+-- a title isn't written as it is told
+abbrev unescaped : List ℕ
+unescaped = codes "<g transform='translate(0,130)'><title>11. thread 1 at 2: in('hi') -- shows K('hi'), x = 'hi'</title><text x='10' y='4'>11. thread 1</text><line x1='220' x2='540' stroke='black' marker-end='url(#arrow)'/><g transform='translate(220,0)'><rect x='8' y='-18' height='13' fill='white' width='148'/><text x='12' y='-7' xml:space='preserve'>in(&apos;hi&apos;) -- x = &apos;hi&apos;</text></g></g>\n"
+
+pub not_unescaped : ¬ (row_text two_lifelines 2 in_row ≡ unescaped)
+unfolding digits escaped_byte
+not_unescaped e = absurd (true≢false (sym (ap (λ (t : List ℕ). bytes_eq t unescaped) e)))
 
 no_document : {t : List ℕ} → IsDocument t → t ≡ codes "a" → ⊥
 no_document (document name ok a c) e =

@@ -1,5 +1,5 @@
 -- Lifelines come behind those that are there, so that columns and what is drawn at them stay.
-use Rattle.std.proofs.Common.{◌≡◌, ◌+◌, ℕ, Bool, true, false, not, cond, codes, decimal, List, [], ◌∷◌, ◌++◌, ◌||◌, length, map, fold, min, nat_eq, Option, Some, None, refl, sym, ap, subst, ◌∙◌, append_assoc, arith, if◌then◌else◌}
+use Rattle.std.proofs.Common.{◌≡◌, ◌+◌, ℕ, Bool, true, false, not, cond, codes, List, [], ◌∷◌, ◌++◌, ◌||◌, length, map, fold, nat_eq, Option, Some, None, refl, sym, ap, subst, ◌∙◌, append_assoc, arith, if◌then◌else◌}
 use Rattle.std.proofs.Common.{length-append}
 use Rattle.std.specs.Cmp.{unsigned_Decides}
 use Rattle.std.specs.List.{list_any, position_or_len}
@@ -8,7 +8,7 @@ use Rattle.std.proofs.lemmas.Grind.{flat_map-append}
 use Rattle.std.proofs.lemmas.List.{append-nil, map-append}
 use Rattle.std.proofs.lemmas.List.Sums.{fold-append}
 use Rattle.sap_tell.specs.ToldText.{thread_text}
-use Rattle.sap_chart.specs.ChartText.{Lifeline, across, across_to, arrow_text, box_text, column_of, drawn_threads, figure_text, lifelines, mark_text, chart_text, named_threads, row_around, row_text, rows_text, with_lifeline}
+use Rattle.sap_chart.specs.ChartText.{Lifeline, across, across_to, arrow_text, box_text, drawn_threads, figure_text, lifelines, mark_text, chart_text, named_threads, row_around, row_text, rows_text, with_lifeline}
 use Rattle.sap_chart.specs.Rows.{Row, rows_with, shortened, threads_of}
 use Rattle.sap_chart.specs.code.Drawing.{drawn_text, threads_in}
 use Rattle.sap_chart.specs.declared.figure.Figure.{Figure}
@@ -77,9 +77,9 @@ figure_kept ls more (figure.Puts t) label h = ap (λ x. arrow_text x (across 0) 
 figure_kept ls more (figure.Takes t) label h = ap (λ x. arrow_text (across 0) x label) (column_kept ls more t h.0)
 figure_kept ls more (figure.Meets s t) label h = ap (λ x. arrow_text x (across_to (ls ++ more) t) label) (column_kept ls more s h.0) ∙ ap (λ x. arrow_text (across_to ls s) x label) (column_kept ls more t h.1.0)
 figure_kept ls more (figure.Shows t) label h = ap (λ x. box_text x label) (column_kept ls more t h.0)
-figure_kept ls more (figure.Stores t) label h = ap (λ x. mark_text x (codes "'/><rect x='-4' y='-4' width='8' height='8' fill='white' stroke='black'/><text x='12' y='4'>") label) (column_kept ls more t h.0)
-figure_kept ls more (figure.Locks t) label h = ap (λ x. mark_text x (codes "'/><rect x='-4' y='-4' width='8' height='8'/><text x='12' y='4'>") label) (column_kept ls more t h.0)
-figure_kept ls more (figure.Does t) label h = ap (λ x. mark_text x (codes "'/><circle r='4'/><text x='12' y='4'>") label) (column_kept ls more t h.0)
+figure_kept ls more (figure.Stores t) label h = ap (λ x. mark_text x (codes "'/><rect x='-4' y='-4' width='8' height='8' fill='white' stroke='black'/><text x='12' y='4' xml:space='preserve'>") label) (column_kept ls more t h.0)
+figure_kept ls more (figure.Locks t) label h = ap (λ x. mark_text x (codes "'/><rect x='-4' y='-4' width='8' height='8'/><text x='12' y='4' xml:space='preserve'>") label) (column_kept ls more t h.0)
+figure_kept ls more (figure.Does t) label h = ap (λ x. mark_text x (codes "'/><circle r='4'/><text x='12' y='4' xml:space='preserve'>") label) (column_kept ls more t h.0)
 figure_kept ls more figure.Makes label h = refl
 
 texts_kept : (ls more : List Lifeline) (k : ℕ) (rs : List Row) → AllDrawn ls rs → rows_text (ls ++ more) k rs ≡ rows_text ls k rs

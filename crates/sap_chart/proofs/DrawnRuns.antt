@@ -1,20 +1,17 @@
 -- Runs that are drawn line by line.
-use Rattle.std.proofs.Common.{◌≡◌, ◌≤◌, ◌+◌, ℕ, List, [], ◌∷◌, ◌++◌, fold, length, take, drop, Some, refl, sym, ap, subst, ◌∙◌, slice_get, zero, suc, add-one, arith}
+use Rattle.std.proofs.Common.{◌≡◌, ◌≤◌, ◌+◌, ℕ, List, [], ◌∷◌, ◌++◌, fold, length, take, drop, Some, refl, sym, ap, ◌∙◌, slice_get, zero, suc, add-one, arith}
 use Rattle.std.proofs.Common.{length-append}
-use Rattle.sap_calc.specs.Running.{Running, configuration, IsDenied}
+use Rattle.sap_calc.specs.Running.{Running, configuration}
 use Rattle.sap_deduce.specs.Entries.{terms_of}
 use Rattle.sap_lines.specs.Answers.{MatchesExactly, RunsMatchExactly}
 use Rattle.sap_lines.specs.Runs.{SmallProcessRunsAreLegal}
 use Rattle.sap_lines.specs.declared.fault.PFault.{PFault}
-use Rattle.sap_process.specs.Configuration.{Config, initial}
+use Rattle.sap_process.specs.Configuration.{initial}
 use Rattle.sap_process.specs.Proc.{Proc}
 use Rattle.sap_process.specs.Ready.{IsReady}
-use Rattle.sap_runs.specs.Limits.{HasFewNodes}
 use Rattle.sap_runs.specs.Marks.{Mark, marks_of}
 use Rattle.sap_runs.specs.declared.process_step.PStep.{PStep}
 use Rattle.sap_terms.specs.Signature.{Sig, HoldsBuiltins}
-use Rattle.sap_terms.specs.Trace.{Trace}
-use Rattle.sap_terms.specs.Tree.{Tree}
 use Rattle.sap_tell.specs.ThreadPaths.{paths_from, paths_after, thread_paths}
 use Rattle.sap_tell.specs.Told.{IsToldLine}
 use Rattle.sap_tell.specs.ToldLaws.{ToldRunsAreLegal}

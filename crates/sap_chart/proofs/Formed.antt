@@ -1,11 +1,11 @@
 -- Charts are well formed.
-use Rattle.std.proofs.Common.{◌≡◌, ◌+◌, ◌*◌, ℕ, Bool, true, false, codes, decimal, List, [], ◌∷◌, ◌++◌, length, min, Option, Some, None, refl, sym, ap, subst, ◌∙◌, append_assoc}
+use Rattle.std.proofs.Common.{◌≡◌, ◌+◌, ◌-◌, ◌*◌, ℕ, Bool, true, false, codes, decimal, List, [], ◌∷◌, ◌++◌, length, max, min, nat_lt, Option, Some, None, refl, sym, ap, subst, ◌∙◌, append_assoc, if◌then◌else◌}
 use Rattle.std.specs.List.{list_any}
 use Rattle.std.specs.Prelude.{bytes_eq}
 use Rattle.sap_tell.specs.Escaped.{escaped, has_meaning}
-use Rattle.sap_chart.specs.ChartText.{Lifeline, across, across_to, arrow_text, box_text, chart_text, down, entry_text, figure_text, head_text, heads_text, lifelines, margin_text, mark_text, row_around, row_text, rows_text, start_text, who_text}
+use Rattle.sap_chart.specs.ChartText.{Lifeline, above_text, across, across_to, again_text, arrow_text, box_text, chart_text, down, entry_text, figure_text, head_text, heads_text, lifelines, margin_text, row_text, rows_text, who_text}
 use Rattle.sap_chart.specs.Rows.{Row, shortened}
-use Rattle.sap_chart.specs.WellFormed.{AttributesThen, ContentThen, IsDocument, PlainThen, attribute, content_ends, document, element, empty, is_name, itself, no_more, number, plain, plain_ends, written}
+use Rattle.sap_chart.specs.WellFormed.{AttributesThen, ContentThen, IsDocument, PlainThen, attribute, content_ends, document, element, empty, is_attribute_name, itself, no_more, number, plain, plain_ends, written}
 use Rattle.sap_chart.specs.declared.figure.Figure.{Figure}
 use Rattle.sap_chart.specs.declared.figure.Figure.TheVariants as figure
 
@@ -41,11 +41,11 @@ joined : {s r : List ℕ} (t : List ℕ) → ContentThen s [] → ContentThen t 
 joined t h k = more_content (content_behind t h) k
 
 -- attributes: a value as it stands, a number, and how far something is moved
-as_is : {names : List (List ℕ)} {u rest : List ℕ} (name value : List ℕ) → is_name name ≡ true → list_any (bytes_eq name) names ≡ false → list_any has_meaning value ≡ false
+as_is : {names : List (List ℕ)} {u rest : List ℕ} (name value : List ℕ) → is_attribute_name name ≡ true → list_any (bytes_eq name) names ≡ false → list_any has_meaning value ≡ false
     → AttributesThen names u rest → AttributesThen (name ∷ names) (32 ∷ (name ++ (codes "='" ++ (value ++ (39 ∷ u))))) rest
 as_is {u = u} name value ok new m h = attribute name ok new (itself value m (plain_ends (39 ∷ u))) h
 
-numbered : {names : List (List ℕ)} {u rest : List ℕ} (name : List ℕ) (n : ℕ) → is_name name ≡ true → list_any (bytes_eq name) names ≡ false
+numbered : {names : List (List ℕ)} {u rest : List ℕ} (name : List ℕ) (n : ℕ) → is_attribute_name name ≡ true → list_any (bytes_eq name) names ≡ false
     → AttributesThen names u rest → AttributesThen (name ∷ names) (32 ∷ (name ++ (codes "='" ++ (decimal n ++ (39 ∷ u))))) rest
 numbered {u = u} name n ok new h = attribute name ok new (number n (plain_ends (39 ∷ u))) h
 
@@ -65,19 +65,19 @@ title : {u r : List ℕ} (z : List ℕ) → ContentThen u r → ContentThen (cod
 title {u} z h = element (codes "title") refl (no_more (62 ∷ (escaped z ++ (codes "</title>" ++ u)))) (plain (written z (plain_ends (codes "</title>" ++ u))) (content_ends (codes "</title>" ++ u))) h
 
 -- words at two places, and in a box
-words_beside : {u r : List ℕ} (z : List ℕ) → ContentThen u r → ContentThen (codes "<text x='12' y='4'>" ++ (escaped z ++ (codes "</text>" ++ u))) r
+words_beside : {u r : List ℕ} (z : List ℕ) → ContentThen u r → ContentThen (codes "<text x='12' y='4' xml:space='preserve'>" ++ (escaped z ++ (codes "</text>" ++ u))) r
 words_beside {u} z h =
-    element (codes "text") refl (as_is (codes "x") (codes "12") refl refl refl (as_is (codes "y") (codes "4") refl refl refl (no_more (62 ∷ (escaped z ++ (codes "</text>" ++ u))))))
+    element (codes "text") refl (as_is (codes "x") (codes "12") refl refl refl (as_is (codes "y") (codes "4") refl refl refl (as_is (codes "xml:space") (codes "preserve") refl refl refl (no_more (62 ∷ (escaped z ++ (codes "</text>" ++ u)))))))
     (plain (written z (plain_ends (codes "</text>" ++ u))) (content_ends (codes "</text>" ++ u))) h
 
-words_above : {u r : List ℕ} (z : List ℕ) → ContentThen u r → ContentThen (codes "<text x='12' y='-5'>" ++ (escaped z ++ (codes "</text>" ++ u))) r
+words_above : {u r : List ℕ} (z : List ℕ) → ContentThen u r → ContentThen (codes "<text x='12' y='-7' xml:space='preserve'>" ++ (escaped z ++ (codes "</text>" ++ u))) r
 words_above {u} z h =
-    element (codes "text") refl (as_is (codes "x") (codes "12") refl refl refl (as_is (codes "y") (codes "-5") refl refl refl (no_more (62 ∷ (escaped z ++ (codes "</text>" ++ u))))))
+    element (codes "text") refl (as_is (codes "x") (codes "12") refl refl refl (as_is (codes "y") (codes "-7") refl refl refl (as_is (codes "xml:space") (codes "preserve") refl refl refl (no_more (62 ∷ (escaped z ++ (codes "</text>" ++ u)))))))
     (plain (written z (plain_ends (codes "</text>" ++ u))) (content_ends (codes "</text>" ++ u))) h
 
-words_boxed : {u r : List ℕ} (z : List ℕ) → ContentThen u r → ContentThen (codes "<text y='4'>" ++ (escaped z ++ (codes "</text>" ++ u))) r
+words_boxed : {u r : List ℕ} (z : List ℕ) → ContentThen u r → ContentThen (codes "<text y='4' xml:space='preserve'>" ++ (escaped z ++ (codes "</text>" ++ u))) r
 words_boxed {u} z h =
-    element (codes "text") refl (as_is (codes "y") (codes "4") refl refl refl (no_more (62 ∷ (escaped z ++ (codes "</text>" ++ u)))))
+    element (codes "text") refl (as_is (codes "y") (codes "4") refl refl refl (as_is (codes "xml:space") (codes "preserve") refl refl refl (no_more (62 ∷ (escaped z ++ (codes "</text>" ++ u))))))
     (plain (written z (plain_ends (codes "</text>" ++ u))) (content_ends (codes "</text>" ++ u))) h
 
 -- grounds of labels
@@ -86,9 +86,9 @@ ground_beside {u} w h =
     empty (codes "rect") refl (as_is (codes "x") (codes "8") refl refl refl (as_is (codes "y") (codes "-8") refl refl refl (as_is (codes "height") (codes "16") refl refl refl (as_is (codes "fill") (codes "white") refl refl refl
     (numbered (codes "width") w refl refl (no_more (codes "/>" ++ u))))))) h
 
-ground_above : {u r : List ℕ} (w : ℕ) → ContentThen u r → ContentThen (codes "<rect x='8' y='-16' height='13' fill='white' width='" ++ (decimal w ++ (codes "'/>" ++ u))) r
+ground_above : {u r : List ℕ} (w : ℕ) → ContentThen u r → ContentThen (codes "<rect x='8' y='-18' height='13' fill='white' width='" ++ (decimal w ++ (codes "'/>" ++ u))) r
 ground_above {u} w h =
-    empty (codes "rect") refl (as_is (codes "x") (codes "8") refl refl refl (as_is (codes "y") (codes "-16") refl refl refl (as_is (codes "height") (codes "13") refl refl refl (as_is (codes "fill") (codes "white") refl refl refl
+    empty (codes "rect") refl (as_is (codes "x") (codes "8") refl refl refl (as_is (codes "y") (codes "-18") refl refl refl (as_is (codes "height") (codes "13") refl refl refl (as_is (codes "fill") (codes "white") refl refl refl
     (numbered (codes "width") w refl refl (no_more (codes "/>" ++ u))))))) h
 
 ground_boxed : {u r : List ℕ} (w : ℕ) → ContentThen u r → ContentThen (codes "<rect x='-4' y='-9' height='18' fill='white' stroke='black' width='" ++ (decimal w ++ (codes "'/>" ++ u))) r
@@ -118,11 +118,22 @@ white_circle {u} h =
 end_group : ContentThen (codes "</g>") (codes "</g>" ++ [])
 end_group = content_ends (codes "</g>")
 
+above_formed : (x : ℕ) (label : List ℕ) → ContentThen (above_text x label) []
+above_formed x label = across_group {v = []} x (ground_above (7 * length label + 8) (words_above label end_group)) (content_ends [])
+
+-- content that stands there or not
+if_formed : (b : Bool) {s : List ℕ} → ContentThen s [] → ContentThen (if b then s else []) []
+if_formed true h = h
+if_formed false h = content_ends []
+
+again_formed : (left right : ℕ) (label : List ℕ) → ContentThen (again_text left right label) []
+again_formed left right label = if_formed (nat_lt 1280 (right - left)) (above_formed (right - (7 * length label + 24)) label)
+
 arrow_formed : (from to : ℕ) (label : List ℕ) → ContentThen (arrow_text from to label) []
 arrow_formed from to label =
     empty (codes "line") refl (numbered (codes "x1") from refl refl (numbered (codes "x2") to refl refl (as_is (codes "stroke") (codes "black") refl refl refl (as_is (codes "marker-end") (codes "url(#arrow)") refl refl refl
     (no_more _)))))
-    (across_group {v = []} (min from to) (ground_above (7 * length label + 8) (words_above label end_group)) (content_ends []))
+    (joined _ (above_formed (min from to) label) (again_formed (min from to) (max from to) label))
 
 box_formed : (x : ℕ) (label : List ℕ) → ContentThen (box_text x label) []
 box_formed x label = across_group {v = []} x (ground_boxed (7 * length label + 8) (words_boxed label end_group)) (content_ends [])
@@ -202,6 +213,11 @@ arrow_head {u} h =
     (content_ends (codes "</defs>" ++ u)))
     h
 
+-- the title of the picture
+picture_title : {u r : List ℕ} → ContentThen u r → ContentThen (codes "<title>Chart of a run</title>" ++ u) r
+picture_title {u} h =
+    element {v = u} (codes "title") refl (no_more _) (plain (itself (codes "Chart of a run") refl (plain_ends (codes "</title>" ++ u))) (content_ends (codes "</title>" ++ u))) h
+
 white_ground : {u r : List ℕ} → ContentThen u r → ContentThen (codes "<rect width='100%' height='100%' fill='white'/>" ++ u) r
 white_ground {u} h = empty (codes "rect") refl (as_is (codes "width") (codes "100%") refl refl refl (as_is (codes "height") (codes "100%") refl refl refl (as_is (codes "fill") (codes "white") refl refl refl (no_more (codes "/>" ++ u))))) h
 
@@ -216,14 +232,14 @@ five a b c d e rest =
 abbrev started : ℕ → ℕ → List ℕ → List ℕ
 started width height rest =
     codes "<svg xmlns='http://www.w3.org/2000/svg' version='1.1' font-family='monospace' font-size='11' width='" ++ (decimal width ++ (codes "' height='" ++ (decimal height
-    ++ (codes "'>\n<defs><marker id='arrow' viewBox='0 0 8 8' refX='8' refY='4' markerWidth='8' markerHeight='8' orient='auto'><path d='M0,0 L8,4 L0,8 z'/></marker></defs>\n<rect width='100%' height='100%' fill='white'/>\n" ++ rest))))
+    ++ (codes "'>\n<title>Chart of a run</title>\n<defs><marker id='arrow' viewBox='0 0 8 8' refX='8' refY='4' markerWidth='8' markerHeight='8' orient='auto'><path d='M0,0 L8,4 L0,8 z'/></marker></defs>\n<rect width='100%' height='100%' fill='white'/>\n" ++ rest))))
 
 start_formed : (width height : ℕ) {rest : List ℕ} → ContentThen rest (codes "</svg>\n") → IsDocument (started width height rest)
 start_formed width height h =
     document (codes "svg") refl
     (as_is (codes "xmlns") (codes "http://www.w3.org/2000/svg") refl refl refl (as_is (codes "version") (codes "1.1") refl refl refl (as_is (codes "font-family") (codes "monospace") refl refl refl (as_is (codes "font-size") (codes "11") refl refl refl
     (numbered (codes "width") width refl refl (numbered (codes "height") height refl refl (no_more _)))))))
-    (plain_feed (arrow_head (plain_feed (white_ground (plain_feed h)))))
+    (plain_feed (picture_title (plain_feed (arrow_head (plain_feed (white_ground (plain_feed h)))))))
 
 pub chart_formed : (rows : List Row) → IsDocument (chart_text rows)
 chart_formed rows =
@@ -232,5 +248,5 @@ chart_formed rows =
     let inside : ContentThen rest (codes "</svg>\n") = joined _ (head_formed 0 (codes "adversary")) (joined _ (heads_formed 1 ls) (joined _ (rows_formed ls 0 rows) (content_ends (codes "</svg>\n")))) in
     subst IsDocument (sym (five
     (codes "<svg xmlns='http://www.w3.org/2000/svg' version='1.1' font-family='monospace' font-size='11' width='") (decimal (across (length ls) + 450)) (codes "' height='") (decimal (down (length rows)))
-    (codes "'>\n<defs><marker id='arrow' viewBox='0 0 8 8' refX='8' refY='4' markerWidth='8' markerHeight='8' orient='auto'><path d='M0,0 L8,4 L0,8 z'/></marker></defs>\n<rect width='100%' height='100%' fill='white'/>\n") rest))
+    (codes "'>\n<title>Chart of a run</title>\n<defs><marker id='arrow' viewBox='0 0 8 8' refX='8' refY='4' markerWidth='8' markerHeight='8' orient='auto'><path d='M0,0 L8,4 L0,8 z'/></marker></defs>\n<rect width='100%' height='100%' fill='white'/>\n") rest))
     (start_formed (across (length ls) + 450) (down (length rows)) inside)

@@ -1,5 +1,5 @@
 -- The text of a chart, from its rows: a picture of the format SVG 1.1. Lengths are in pixels.
-use Rattle.std.specs.Prelude.{ℕ, ◌+◌, ◌*◌, Bool, nat_eq, codes, decimal, List, [], ◌∷◌, ◌++◌, length, map, flat_map, fold, min, Option, Some, None, if◌then◌else◌}
+use Rattle.std.specs.Prelude.{ℕ, ◌+◌, ◌-◌, ◌*◌, nat_eq, nat_lt, codes, decimal, List, [], ◌∷◌, ◌++◌, length, map, flat_map, fold, min, max, Option, Some, None, if◌then◌else◌}
 use Rattle.std.specs.List.{list_any, position_or_len}
 use Rattle.sap_tell.specs.Escaped.{escaped}
 use Rattle.sap_tell.specs.ToldText.{thread_text}
@@ -77,15 +77,23 @@ abbrev pub label_text : ℕ → List ℕ → List ℕ → List ℕ → List ℕ
 label_text x backing behind label =
     codes "<g transform='translate(" ++ (decimal x ++ (backing ++ (decimal (7 * length label + 8) ++ (behind ++ (escaped label ++ codes "</text></g>")))))
 
--- an arrow from the one to the other, with a label above it
+-- a label above an arrow
+abbrev pub above_text : ℕ → List ℕ → List ℕ
+above_text x label = label_text x (codes ",0)'><rect x='8' y='-18' height='13' fill='white' width='") (codes "'/><text x='12' y='-7' xml:space='preserve'>") label
+
+-- the label of an arrow from so far left to so far right once more at the right, where the arrow goes over more than eight columns
+abbrev pub again_text : ℕ → ℕ → List ℕ → List ℕ
+again_text left right label = if nat_lt 1280 (right - left) then above_text (right - (7 * length label + 24)) label else []
+
+-- an arrow from the one to the other, with its label above it
 abbrev pub arrow_text : ℕ → ℕ → List ℕ → List ℕ
 arrow_text from to label =
     codes "<line x1='" ++ (decimal from ++ (codes "' x2='" ++ (decimal to ++ (codes "' stroke='black' marker-end='url(#arrow)'/>"
-    ++ label_text (min from to) (codes ",0)'><rect x='8' y='-16' height='13' fill='white' width='") (codes "'/><text x='12' y='-5'>") label))))
+    ++ (above_text (min from to) label ++ again_text (min from to) (max from to) label)))))
 
 -- a label in a box
 abbrev pub box_text : ℕ → List ℕ → List ℕ
-box_text x label = label_text x (codes ",0)'><rect x='-4' y='-9' height='18' fill='white' stroke='black' width='") (codes "'/><text y='4'>") label
+box_text x label = label_text x (codes ",0)'><rect x='-4' y='-9' height='18' fill='white' stroke='black' width='") (codes "'/><text y='4' xml:space='preserve'>") label
 
 -- a mark with a label on its right
 abbrev pub mark_text : ℕ → List ℕ → List ℕ → List ℕ
@@ -98,10 +106,10 @@ figure_text ls (figure.Puts t) label = arrow_text (across_to ls t) (across 0) la
 figure_text ls (figure.Takes t) label = arrow_text (across 0) (across_to ls t) label
 figure_text ls (figure.Meets s t) label = arrow_text (across_to ls s) (across_to ls t) label
 figure_text ls (figure.Shows t) label = box_text (across_to ls t) label
-figure_text ls (figure.Stores t) label = mark_text (across_to ls t) (codes "'/><rect x='-4' y='-4' width='8' height='8' fill='white' stroke='black'/><text x='12' y='4'>") label
-figure_text ls (figure.Locks t) label = mark_text (across_to ls t) (codes "'/><rect x='-4' y='-4' width='8' height='8'/><text x='12' y='4'>") label
-figure_text ls (figure.Does t) label = mark_text (across_to ls t) (codes "'/><circle r='4'/><text x='12' y='4'>") label
-figure_text ls figure.Makes label = mark_text (across 0) (codes "'/><circle r='4' fill='white' stroke='black'/><text x='12' y='4'>") label
+figure_text ls (figure.Stores t) label = mark_text (across_to ls t) (codes "'/><rect x='-4' y='-4' width='8' height='8' fill='white' stroke='black'/><text x='12' y='4' xml:space='preserve'>") label
+figure_text ls (figure.Locks t) label = mark_text (across_to ls t) (codes "'/><rect x='-4' y='-4' width='8' height='8'/><text x='12' y='4' xml:space='preserve'>") label
+figure_text ls (figure.Does t) label = mark_text (across_to ls t) (codes "'/><circle r='4'/><text x='12' y='4' xml:space='preserve'>") label
+figure_text ls figure.Makes label = mark_text (across 0) (codes "'/><circle r='4' fill='white' stroke='black'/><text x='12' y='4' xml:space='preserve'>") label
 
 -- a row round what is drawn in it, with the told line whole in its title
 abbrev pub row_around : ℕ → Row → List ℕ → List ℕ
@@ -117,11 +125,11 @@ abbrev pub rows_text : List Lifeline → ℕ → List Row → List ℕ
 rows_text ls k [] = []
 rows_text ls k (r ∷ rs) = row_text ls k r ++ rows_text ls (k + 1) rs
 
--- what stands first: how wide and high the picture is, for so many threads and rows, the head of an arrow, and a white ground
+-- what stands first: how wide and high the picture is, for so many threads and rows, its title, the head of an arrow, and a white ground
 abbrev pub start_text : ℕ → ℕ → List ℕ
 start_text threads rows =
     codes "<svg xmlns='http://www.w3.org/2000/svg' version='1.1' font-family='monospace' font-size='11' width='" ++ (decimal (across threads + 450) ++ (codes "' height='"
-    ++ (decimal (down rows) ++ codes "'>\n<defs><marker id='arrow' viewBox='0 0 8 8' refX='8' refY='4' markerWidth='8' markerHeight='8' orient='auto'><path d='M0,0 L8,4 L0,8 z'/></marker></defs>\n<rect width='100%' height='100%' fill='white'/>\n")))
+    ++ (decimal (down rows) ++ codes "'>\n<title>Chart of a run</title>\n<defs><marker id='arrow' viewBox='0 0 8 8' refX='8' refY='4' markerWidth='8' markerHeight='8' orient='auto'><path d='M0,0 L8,4 L0,8 z'/></marker></defs>\n<rect width='100%' height='100%' fill='white'/>\n")))
 
 -- the chart of rows
 abbrev pub chart_text : List Row → List ℕ

@@ -1,9 +1,8 @@
 -- What a chart shows of a line: which figure, who is in it, and which texts stand at it.
-use Rattle.std.specs.Prelude.{◌≡◌, ℕ, ◌+◌, ◌<◌, ◌≤◌, nat_le, nat_lt, codes, List, [], ◌∷◌, ◌++◌, length, take, Option, Some, None, if◌then◌else◌}
+use Rattle.std.specs.Prelude.{ℕ, ◌+◌, nat_le, nat_lt, codes, List, [], ◌∷◌, ◌++◌, length, take, Option, Some, None, if◌then◌else◌}
 use Rattle.sap_runs.specs.declared.process_step.PStep.{PStep}
 use Rattle.sap_runs.specs.declared.process_step.PStep.TheVariants as line
 use Rattle.sap_terms.specs.Tree.{Tree}
-use Rattle.sap_tell.specs.ToldText.{outcomes_text}
 use Rattle.sap_chart.specs.declared.figure.Figure.{Figure}
 use Rattle.sap_chart.specs.declared.figure.Figure.TheVariants as figure
 

@@ -15,6 +15,10 @@ abbrev pub is_name : List ℕ → Bool
 is_name [] = false
 is_name (x ∷ xs) = is_letter x && list_all is_name_byte xs
 
+-- names of attributes: these, and XML's own by which the blanks of an element are kept
+abbrev pub is_attribute_name : List ℕ → Bool
+is_attribute_name name = is_name name || bytes_eq name (codes "xml:space")
+
 -- text in which no byte has a meaning of its own: bytes that have none, numbers, and what is written for bytes
 pub data PlainThen : List ℕ → List ℕ → Type 0 where
   plain_ends : (rest : List ℕ) → PlainThen rest rest
@@ -25,7 +29,7 @@ pub data PlainThen : List ℕ → List ℕ → Type 0 where
 -- attributes with these names, no two the same, each a blank, its name, and its value between apostrophes
 pub data AttributesThen : List (List ℕ) → List ℕ → List ℕ → Type 0 where
   no_more : (rest : List ℕ) → AttributesThen [] rest rest
-  attribute : {names : List (List ℕ)} {t u rest : List ℕ} (name : List ℕ) → is_name name ≡ true → list_any (bytes_eq name) names ≡ false
+  attribute : {names : List (List ℕ)} {t u rest : List ℕ} (name : List ℕ) → is_attribute_name name ≡ true → list_any (bytes_eq name) names ≡ false
       → PlainThen t (39 ∷ u) → AttributesThen names u rest
       → AttributesThen (name ∷ names) (32 ∷ (name ++ (codes "='" ++ t))) rest
 

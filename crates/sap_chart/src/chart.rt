@@ -37,7 +37,7 @@ fn push_start(text: &mut Text, threads: u64, rows: u64) -> Result<(), Mem>
     )?;
     push_numbered(text, b"' height='", height)?;
     text.push_bytes(
-        b"'>\n<defs><marker id='arrow' viewBox='0 0 8 8' refX='8' refY='4' markerWidth='8' markerHeight='8' orient='auto'><path d='M0,0 L8,4 L0,8 z'/></marker></defs>\n<rect width='100%' height='100%' fill='white'/>\n",
+        b"'>\n<title>Chart of a run</title>\n<defs><marker id='arrow' viewBox='0 0 8 8' refX='8' refY='4' markerWidth='8' markerHeight='8' orient='auto'><path d='M0,0 L8,4 L0,8 z'/></marker></defs>\n<rect width='100%' height='100%' fill='white'/>\n",
     )
 }
 

@@ -1,7 +1,7 @@
 //! Labels and the pieces that texts are made of.
-ghost use Rattle.std.specs.Prelude.{◌≡◌, ◌≤◌, ◌*◌, ◌+◌, ◌++◌, IfOk, OnOk, decimal, length, min};
+ghost use Rattle.std.specs.Prelude.{◌≡◌, ◌≤◌, ◌*◌, ◌+◌, ◌++◌, IfOk, OnOk, decimal, length, max, min};
 ghost use Rattle.sap_tell.specs.Escaped.{escaped};
-ghost use Rattle.sap_chart.specs.ChartText.{across, down, label_text, arrow_text, box_text, mark_text};
+ghost use Rattle.sap_chart.specs.ChartText.{above_text, across, again_text, arrow_text, box_text, down, label_text, mark_text};
 ghost use Rattle.sap_chart.specs.Rows.{shortened};
 
 use sap_tell::push_escaped;
@@ -97,7 +97,40 @@ fn least(m: u64, n: u64) -> u64
     if m <= n { m } else { n }
 }
 
-/// An arrow with a label above it.
+// The greater of two numbers.
+fn greatest(m: u64, n: u64) -> u64
+    ensures { result ≡ max m n }
+{
+    if m <= n { n } else { m }
+}
+
+// A label above an arrow.
+fn push_above(text: &mut Text, x: u64, label: &[u8]) -> Result<(), Mem>
+    requires { length label.now ≤ 100 }
+    ensures { OnOk result (text.new ≡ text.old ++ above_text x label.now) }
+{
+    push_label(
+        text,
+        x,
+        b",0)'><rect x='8' y='-18' height='13' fill='white' width='",
+        b"'/><text x='12' y='-7' xml:space='preserve'>",
+        label,
+    )
+}
+
+// The label of an arrow once more at the right, where the arrow goes over more than eight columns.
+fn push_again(text: &mut Text, left: u64, right: u64, label: &[u8]) -> Result<(), Mem>
+    requires { length label.now ≤ 100 }
+    ensures { OnOk result (text.new ≡ text.old ++ again_text left right label.now) }
+{
+    if right.saturating_sub(left) > 1280 {
+        push_above(text, right.saturating_sub(wide(label) + 16), label)
+    } else {
+        Ok(())
+    }
+}
+
+/// An arrow with its label above it.
 pub(crate) fn push_arrow(text: &mut Text, from: u64, to: u64, label: &[u8]) -> Result<(), Mem>
     requires { length label.now ≤ 100 }
     ensures { OnOk result (text.new ≡ text.old ++ arrow_text from to label.now) }
@@ -105,13 +138,8 @@ pub(crate) fn push_arrow(text: &mut Text, from: u64, to: u64, label: &[u8]) -> R
     push_numbered(text, b"<line x1='", from)?;
     push_numbered(text, b"' x2='", to)?;
     text.push_bytes(b"' stroke='black' marker-end='url(#arrow)'/>")?;
-    push_label(
-        text,
-        least(from, to),
-        b",0)'><rect x='8' y='-16' height='13' fill='white' width='",
-        b"'/><text x='12' y='-5'>",
-        label,
-    )
+    push_above(text, least(from, to), label)?;
+    push_again(text, least(from, to), greatest(from, to), label)
 }
 
 /// A label in a box.
@@ -123,7 +151,7 @@ pub(crate) fn push_box(text: &mut Text, x: u64, label: &[u8]) -> Result<(), Mem>
         text,
         x,
         b",0)'><rect x='-4' y='-9' height='18' fill='white' stroke='black' width='",
-        b"'/><text y='4'>",
+        b"'/><text y='4' xml:space='preserve'>",
         label,
     )
 }

@@ -1,22 +1,17 @@
 -- How far a chart is drawn.
 use Rattle.std.specs.Prelude.{◌≡◌, ◌+◌, ℕ, codes, List, [], ◌++◌, fold, length, map, Option, Some, None, slice_get}
-use Rattle.sap_calc.specs.Running.{Running, configuration, IsDenied}
+use Rattle.sap_calc.specs.Running.{Running, IsDenied}
 use Rattle.sap_deduce.specs.Entries.{terms_of}
 use Rattle.sap_lines.specs.declared.fault.PFault.{PFault}
 use Rattle.sap_lines.specs.declared.fault.PFault.TheVariants.{Mem}
-use Rattle.sap_process.specs.Proc.{Proc}
-use Rattle.sap_runs.specs.Marks.{Mark}
 use Rattle.sap_runs.specs.declared.process_step.PStep.{PStep}
-use Rattle.sap_terms.specs.Signature.{Sig}
-use Rattle.sap_terms.specs.Trace.{Trace, shown}
+use Rattle.sap_terms.specs.Trace.{shown}
 use Rattle.sap_terms.specs.declared.fact.Fact.{Fact}
-use Rattle.sap_tell.specs.ThreadPaths.{thread_paths}
-use Rattle.sap_tell.specs.ToldText.{thread_text, outcomes_text}
+use Rattle.sap_tell.specs.ToldText.{thread_text}
 use Rattle.sap_teller.specs.Telling.{IsToldApart}
 use Rattle.sap_teller.specs.declared.telling.Along.{Along}
-use Rattle.sap_chart.specs.Chart.{IsDrawnRun}
-use Rattle.sap_chart.specs.ChartText.{Lifeline, head_text, heads_text, lifelines, rows_text, start_text, with_lifeline}
-use Rattle.sap_chart.specs.Rows.{Row, figure_of, new_entry, rows_of, rows_with, threads_of}
+use Rattle.sap_chart.specs.ChartText.{Lifeline, head_text, heads_text, rows_text, start_text, with_lifeline}
+use Rattle.sap_chart.specs.Rows.{figure_of, new_entry, rows_with, threads_of}
 use Rattle.sap_chart.specs.declared.chart.Drawing.{Drawing}
 use Rattle.sap_chart.specs.declared.figure.Figure.{Figure}
 

@@ -1,6 +1,6 @@
-use Rattle.std.proofs.Common.{◌≡◌, ◌+◌, ◌*◌, ℕ, codes, decimal, length, min, List, [], ◌∷◌, ◌++◌, ap, ◌∙◌, sym}
+use Rattle.std.proofs.Common.{codes, decimal, ◌++◌, ap, ◌∙◌}
 use Rattle.sap_tell.specs.Escaped.{escaped}
-use Rattle.sap_chart.proofs.Pushed.{ok_along, behind, behind_two}
+use Rattle.sap_chart.proofs.Pushed.{ok_along, behind_two}
 use Rattle.sap_chart.proofs.labels.push_label.Goals as goal
 
 pub returns : goal.returns

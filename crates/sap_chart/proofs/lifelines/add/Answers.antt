@@ -1,6 +1,6 @@
-use Rattle.std.proofs.Common.{◌≡◌, ℕ, List, [], ◌∷◌, ◌++◌, nat_eq, ap, sym, ◌∙◌}
+use Rattle.std.proofs.Common.{ℕ, List, [], ◌∷◌, ◌++◌, nat_eq, ap, sym, ◌∙◌}
 use Rattle.sap_tell.specs.ToldText.{thread_text}
-use Rattle.sap_chart.specs.ChartText.{Lifeline, drawn_threads, with_lifeline}
+use Rattle.sap_chart.specs.ChartText.{Lifeline, drawn_threads}
 use Rattle.sap_chart.proofs.Found.{comes_if, comes_last, none_has, some_has, stays_if}
 use Rattle.sap_chart.proofs.lifelines.add.Goals as goal
 

@@ -1,4 +1,4 @@
-use Rattle.std.proofs.Common.{◌≡◌, ◌<◌, List, length, arith}
+use Rattle.std.proofs.Common.{◌<◌, List, length, arith}
 use Rattle.sap_chart.specs.ChartText.{Lifeline}
 use Rattle.sap_chart.proofs.Heads.{heads_pushed}
 use Rattle.sap_chart.proofs.lifelines.push_heads.Goals as goal

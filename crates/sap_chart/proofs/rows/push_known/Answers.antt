@@ -1,6 +1,5 @@
-use Rattle.std.proofs.Common.{◌≡◌, ◌+◌, ◌*◌, ℕ, codes, decimal, length, min, List, [], ◌∷◌, ◌++◌, ap, ◌∙◌, sym}
-use Rattle.sap_tell.specs.Escaped.{escaped}
-use Rattle.sap_chart.proofs.Pushed.{ok_along, behind, behind_two}
+use Rattle.std.proofs.Common.{codes, decimal}
+use Rattle.sap_chart.proofs.Pushed.{ok_along, behind_two}
 use Rattle.sap_chart.proofs.rows.push_known.Goals as goal
 
 pub returns : goal.returns

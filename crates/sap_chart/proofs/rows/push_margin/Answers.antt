@@ -1,5 +1,4 @@
-use Rattle.std.proofs.Common.{◌≡◌, ◌+◌, ◌*◌, ℕ, codes, decimal, length, min, List, [], ◌∷◌, ◌++◌, ap, ◌∙◌, sym}
-use Rattle.sap_tell.specs.Escaped.{escaped}
+use Rattle.std.proofs.Common.{codes, decimal, ◌++◌, ◌∙◌}
 use Rattle.sap_chart.proofs.Pushed.{ok_along, behind, behind_two}
 use Rattle.sap_chart.specs.ChartText.{who_text}
 use Rattle.sap_chart.proofs.rows.push_margin.Goals as goal

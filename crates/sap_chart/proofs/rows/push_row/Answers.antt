@@ -1,7 +1,7 @@
-use Rattle.std.proofs.Common.{◌≡◌, ◌+◌, ◌*◌, ℕ, codes, decimal, length, min, List, [], ◌∷◌, ◌++◌, ap, ◌∙◌, sym}
+use Rattle.std.proofs.Common.{ℕ, codes, decimal, List, ◌++◌, ◌∙◌}
 use Rattle.sap_tell.specs.Escaped.{escaped}
 use Rattle.sap_chart.proofs.Pushed.{ok_along, behind, behind_two}
-use Rattle.sap_chart.specs.ChartText.{down, entry_text, figure_text, margin_text}
+use Rattle.sap_chart.specs.ChartText.{entry_text, figure_text, margin_text}
 use Rattle.sap_chart.proofs.rows.push_row.Goals as goal
 
 pub returns : goal.returns

@@ -1,5 +1,5 @@
-use Rattle.std.proofs.Common.{◌≡◌, ◌∙◌, ◌++◌, ℕ, List, codes, length}
-use Rattle.sap_chart.specs.ChartText.{Lifeline, head_text, heads_text, start_text}
+use Rattle.std.proofs.Common.{◌∙◌, ◌++◌, ℕ, List, codes}
+use Rattle.sap_chart.specs.ChartText.{head_text, heads_text, start_text}
 use Rattle.sap_chart.proofs.Pushed.{ok_along, behind}
 use Rattle.sap_chart.proofs.chart.Drawing.push.Goals as goal
 
