@@ -3,7 +3,6 @@ use Rattle.std.proofs.Common.{◌≡◌, ℕ, List, [], ◌∷◌, Option, Some,
 use Rattle.sap_restrict.specs.Restrictions.{is_generated}
 use Rattle.sap_statements.specs.declared.statement.Statement.{Statement}
 use Rattle.sap_statements.specs.Statements.{name_of}
-use Rattle.sap_read.specs.declared.fault.ReadFault.{ReadFault}
 use Rattle.sap_read.specs.declared.fault.ReadFault.TheVariants.{NoProcess, TwoProcesses, UnknownProcess, DuplicateName, FunctionClash}
 use Rattle.sap_read.specs.Item.{Body}
 use Rattle.sap_read.specs.Causes.{unlabelled, labels, unknown_from, first_repeated, first_taken, cause}

@@ -1,24 +1,25 @@
 -- The identifiers of a file are its names, and no more than its bytes; what is so of bodies is so of definitions and of the process.
-use Rattle.std.proofs.Common.{◌≡◌, ◌≤◌, ◌+◌, ℕ, Bool, true, false, ◌||◌, List, [], ◌∷◌, ◌++◌, map, length, Option, Some, None, Ok, Err, refl, sym, ap, subst, ◌∙◌, arith}
-use Rattle.std.specs.Prelude.{if◌then◌else◌, is_none, Result}
+use Rattle.std.proofs.Common.{◌≡◌, ◌≤◌, ◌+◌, ℕ, Bool, true, false, ◌||◌, List, [], ◌∷◌, ◌++◌, length, Option, Some, None, Ok, Err, refl, ap, subst, arith}
+use Rattle.std.specs.Prelude.{if◌then◌else◌, is_none}
 use Rattle.std.specs.List.{AllByRecursion}
 use Rattle.std.specs.Str.{bytes_eq}
 use Rattle.std.proofs.Common.{length-append}
 use Rattle.std.proofs.lemmas.Slice.Eq.{bytes_eq-Decides}
 use Rattle.sap_terms.specs.Variables.{is_known}
-use Rattle.sap_text.specs.declared.fault.Lex.{Lex}
 use Rattle.sap_text.specs.declared.token.Kind.{Kind}
 use Rattle.sap_text.specs.declared.token.Token.{Token}
-use Rattle.sap_text.specs.Tokens.{IsLexed, ended, skipped, taken, long, failed, IsLongest, IsToken, ident, number, quoted, symbol, Lexed, before}
+use Rattle.sap_text.specs.Tokens.{IsLexed, ended, skipped, taken, long, failed, IsLongest, IsToken, symbol, Lexed, before}
 use Rattle.sap_grammar.specs.ByteWords.{AreTokenWords, IsContent}
 use Rattle.sap_grammar.specs.Words as word
 use Rattle.sap_grammar.specs.Words.{Word, words_of}
 use Rattle.sap_macro.specs.Written.{Written, Definition}
 use Rattle.sap_read.specs.FileProcess.{defined_as, definitions_of, main_of}
 use Rattle.sap_read.specs.Identifiers.{identifiers_of}
+use Rattle.sap_read.specs.HeldVariables.{IsAmong}
 use Rattle.sap_read.specs.Item.{Body}
+use Rattle.sap_read.specs.Occurring.{OfNames, Any}
 use Rattle.sap_read.proofs.OccurringWords.{WordsNamesAre}
-use Rattle.sap_read.proofs.TakenNames.{IsAmong, Stays, or_true}
+use Rattle.sap_read.proofs.TakenNames.{Stays, or_true}
 
 -- no token is empty
 no_empty : {k : Kind} → IsToken k [] → ⊥
@@ -72,8 +73,8 @@ identifiers_few most z ts l =
 
 -- ---- the names of words are identifiers
 
-module _ (most : ℕ) (ids : List (List ℕ)) where
-  known_words : (ws : List Word) → Stays (identifiers_of ws) ids → AreTokenWords most ws → WordsNamesAre (IsAmong ids) (IsContent most) ws
+module _ (M : OfNames) (ids : List (List ℕ)) where
+  known_words : (ws : List Word) → Stays (identifiers_of ws) ids → WordsNamesAre Any M ws → WordsNamesAre (IsAmong ids) M ws
   known_words [] stays h = tt
   known_words (word.mark s ∷ ws) stays h = (tt, known_words ws stays h.1)
   known_words (word.name x ∷ ws) stays h = (
@@ -83,28 +84,38 @@ module _ (most : ℕ) (ids : List (List ℕ)) where
   known_words (word.number n ∷ ws) stays h = (tt, known_words ws stays h.1)
   known_words (word.quoted s ∷ ws) stays h = (h.0, known_words ws stays h.1)
 
-pub words_known : (most : ℕ) (ws : List Word) → AreTokenWords most ws → WordsNamesAre (IsAmong (identifiers_of ws)) (IsContent most) ws
-words_known most ws h = known_words most (identifiers_of ws) ws (λ x k. k) h
+pub words_known : (M : OfNames) (ws : List Word) → WordsNamesAre Any M ws → WordsNamesAre (IsAmong (identifiers_of ws)) M ws
+words_known M ws h = known_words M (identifiers_of ws) ws (λ x k. k) h
+
+-- of words whatever they are nothing is said, and of those of tokens what stands between quotes
+pub any_words : (ws : List Word) → WordsNamesAre Any Any ws
+any_words [] = tt
+any_words (word.mark s ∷ ws) = (tt, any_words ws)
+any_words (word.name x ∷ ws) = (tt, any_words ws)
+any_words (word.number n ∷ ws) = (tt, any_words ws)
+any_words (word.quoted s ∷ ws) = (tt, any_words ws)
+
+pub token_words : (most : ℕ) (ws : List Word) → AreTokenWords most ws → WordsNamesAre Any (IsContent most) ws
+token_words most [] h = tt
+token_words most (word.mark s ∷ ws) h = (tt, token_words most ws h.1)
+token_words most (word.name x ∷ ws) h = (tt, token_words most ws h.1)
+token_words most (word.number n ∷ ws) h = (tt, token_words most ws h.1)
+token_words most (word.quoted s ∷ ws) h = (h.0, token_words most ws h.1)
 
 -- ---- bodies
 
-module _ (P : Written → Type 0) where
-  abbrev IsBodySo : Body → Type 0
-  IsBodySo b = P b.content
-
-  abbrev IsDefinitionSo : Definition → Type 0
-  IsDefinitionSo d = P d.body
-
-  pub definitions_so : (bs : List Body) → AllByRecursion IsBodySo bs → AllByRecursion IsDefinitionSo (definitions_of bs)
-  definitions_so [] h = tt
-  definitions_so (b ∷ bs) h = by b.label (definitions_so bs h.1) where
-    by : (o : Option (List ℕ)) → AllByRecursion IsDefinitionSo (definitions_of bs) → AllByRecursion IsDefinitionSo (defined_as o b ++ definitions_of bs)
+module _ (P : Body → Type 0) where
+  pub definitions_so : (Q : Definition → Type 0) (so : (b : Body) (x : List ℕ) → P b → Q (record { name = x; params = b.params; body = b.content })) (bs : List Body)
+      → AllByRecursion P bs → AllByRecursion Q (definitions_of bs)
+  definitions_so Q so [] h = tt
+  definitions_so Q so (b ∷ bs) h = by b.label (definitions_so Q so bs h.1) where
+    by : (o : Option (List ℕ)) → AllByRecursion Q (definitions_of bs) → AllByRecursion Q (defined_as o b ++ definitions_of bs)
     by None later = later
-    by (Some x) later = (h.0, later)
+    by (Some x) later = (so b x h.0, later)
 
-  pub main_so : (bs : List Body) (p : Written) → AllByRecursion IsBodySo bs → main_of bs ≡ Some p → P p
-  main_so [] p h e = absurd (cc (e))
-  main_so (b ∷ bs) p h e = by (is_none b.label) e (main_so bs p h.1) where
-    by : (t : Bool) → (if t then Some b.content else main_of bs) ≡ Some p → (main_of bs ≡ Some p → P p) → P p
-    by true e later = let same : b.content ≡ p = cc (e) in subst P same h.0
+  pub main_so : (Q : Written → Type 0) (so : (b : Body) → P b → Q b.content) (bs : List Body) (p : Written) → AllByRecursion P bs → main_of bs ≡ Some p → Q p
+  main_so Q so [] p h e = absurd (cc (e))
+  main_so Q so (b ∷ bs) p h e = by (is_none b.label) e (main_so Q so bs p h.1) where
+    by : (t : Bool) → (if t then Some b.content else main_of bs) ≡ Some p → (main_of bs ≡ Some p → Q p) → Q p
+    by true e later = let same : b.content ≡ p = cc (e) in subst Q same (so b h.0)
     by false e later = later e

@@ -4,7 +4,7 @@ use Rattle.std.specs.Prelude.{codes}
 use Rattle.std.specs.List.{list_all}
 use Rattle.std.specs.Char.{is_ascii_digit}
 use Rattle.std.proofs.lemmas.List.Elements.{All-nil}
-use Rattle.sap_text.specs.Tokens.{IsToken, ident, number, symbol, IsLongest, IsLexed, Lexed, before, ended, skipped, taken, failed, blank, open_quote, Stops, is_word, is_content, stands_alone}
+use Rattle.sap_text.specs.Tokens.{IsToken, ident, number, IsLongest, IsLexed, Lexed, before, ended, skipped, taken, failed, blank, open_quote, Stops, is_word, is_content, stands_alone}
 use Rattle.sap_text.specs.declared.fault.Lex.TheVariants.{OpenQuote}
 use Rattle.sap_text.specs.declared.token.Kind.{Kind}
 use Rattle.sap_text.specs.declared.token.Kind.TheVariants as kind

@@ -1,6 +1,6 @@
 -- From the parts of a file's entries to its process.
 use Rattle.std.proofs.Common.{◌≡◌, ℕ, List, [], ◌∷◌, ◌++◌, Option, Some, None, inr, refl, sym, ap, subst, ◌∙◌, drop}
-use Rattle.std.specs.Prelude.{is_none, if◌then◌else◌, Bool, true, false}
+use Rattle.std.specs.Prelude.{is_none, Bool, true, false}
 use Rattle.std.specs.Option.{option_to_list}
 use Rattle.sap_terms.specs.Signature.{Sig}
 use Rattle.sap_process.specs.Proc.{Proc}
@@ -15,7 +15,7 @@ use Rattle.sap_read.specs.Causes.{cause, fault_of_uses, unlabelled}
 use Rattle.sap_read.specs.FileProcess.{definitions_of, main_of}
 use Rattle.sap_read.specs.Identifiers.{identifiers_of}
 use Rattle.sap_read.specs.Item.{Body}
-use Rattle.sap_read.specs.code.Judged.{IsMisused, IsRefusedBefore, IsWhole}
+use Rattle.sap_read.specs.code.Judged.{IsRefusedBefore, IsWhole}
 use Rattle.sap_read.specs.declared.fault.ReadFault.{ReadFault}
 
 -- a file with a process has one that is its own

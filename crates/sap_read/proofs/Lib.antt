@@ -23,6 +23,8 @@ pub mod OccurringWords
 pub mod NewNames
 pub mod TakenNames
 pub mod FewNames
+pub mod HeldVariables
+pub mod OneExpansion
 pub mod OccurringMeaning
 pub mod OccurringSorts
 pub mod PrintableMeaning

@@ -1,5 +1,5 @@
 -- The names that occur in expansions are those of what is written.
-use Rattle.std.proofs.Common.{◌≡◌, ℕ, Bool, true, false, List, [], ◌∷◌, ◌++◌, map, refl, sym, ap, subst}
+use Rattle.std.proofs.Common.{ℕ, Bool, true, false, List, [], ◌∷◌, map, sym, subst}
 use Rattle.std.specs.Prelude.{if◌then◌else◌}
 use Rattle.std.specs.List.{AllByRecursion}
 use Rattle.std.specs.Str.{bytes_eq}
@@ -10,12 +10,11 @@ use Rattle.sap_terms.specs.declared.fact.Fact.{Fact}
 use Rattle.sap_terms.specs.declared.var.Var.{Var}
 use Rattle.sap_process.specs.Action.{Action, new, out, send, input, receive, event, insert, delete, lock, unlock, embedded}
 use Rattle.sap_process.specs.Instance.{action_instance}
-use Rattle.sap_process.specs.Proc as whole
-use Rattle.sap_macro.specs.Expansion.{Expanded, Meaning, Plain, binding, by_names, entered, expanded, expansion, meaning_after, meaning_of, no_meaning, own_names, plain, plain_after, plain_bodies, put, same_name, unchanged, where_none, with_definition, with_plain, with_uses}
+use Rattle.sap_macro.specs.Expansion.{Meaning, Plain, binding, by_names, entered, expanded, expansion, meaning_after, meaning_of, no_meaning, own_names, plain, plain_after, plain_bodies, put, same_name, unchanged, where_none, with_definition, with_plain, with_uses}
 use Rattle.sap_macro.specs.NewNames.{renamed, taken_after}
 use Rattle.sap_macro.specs.Written.{Written, nil, call, parallel, replicated, act, test, lookup, Definition}
-use Rattle.sap_read.specs.Occurring.{OfNames, Any, NamesAre, AllNamesAre, FactNamesAre, FactsNamesAre, ActionNamesAre, ProcessNamesAre}
-use Rattle.sap_read.proofs.OccurringWords.{TermsNamesAre, WrittenNamesAre}
+use Rattle.sap_read.specs.Occurring.{OfNames, Any, NamesAre, AllNamesAre, FactNamesAre, FactsNamesAre, ActionNamesAre, ProcessNamesAre, WrittenNamesAre}
+use Rattle.sap_read.proofs.OccurringWords.{TermsNamesAre}
 use Rattle.sap_read.proofs.PrintableSorts.{args_instances}
 
 module _ (N K M : OfNames) where
@@ -67,7 +66,7 @@ module _ (N M : OfNames) (empty : M []) where
   module _ (m : Meaning) (means : MeansNames m) (r : Choice) (puts : PutsNames N Any M r) (b : List ℕ → List ℕ) where
     expanded_names : (p : Written) (taken : List (List ℕ)) → WrittenNamesAre N M p → ProcessNamesAre Any M (expanded m r b p taken).process
     expanded_names nil taken h = tt
-    expanded_names (call f ts) taken h = means f (map (instance r) ts) taken (args_names N Any M r puts ts h)
+    expanded_names (call f ts) taken h = means f (map (instance r) ts) taken (args_names N Any M r puts ts h.0)
     expanded_names (parallel p q) taken h = (expanded_names p taken h.0, expanded_names q (expanded m r b p taken).taken h.1)
     expanded_names (replicated p) taken h = expanded_names p taken h
     expanded_names (act a p) taken h = (action_names N Any M r puts b (λ x n. tt) a h.0, expanded_names p taken h.1)
@@ -117,7 +116,7 @@ module _ (N M : OfNames) (empty : M []) where
 
   uses_names : (m : Plain) → PlainNames m → (p : Written) → WrittenNamesAre N M p → WrittenNamesAre N M (with_uses m p)
   uses_names m plain nil h = tt
-  uses_names m plain (call f ts) h = plain f ts h
+  uses_names m plain (call f ts) h = plain f ts h.0
   uses_names m plain (parallel p q) h = (uses_names m plain p h.0, uses_names m plain q h.1)
   uses_names m plain (replicated p) h = uses_names m plain p h
   uses_names m plain (act a p) h = (h.0, uses_names m plain p h.1)
@@ -131,7 +130,7 @@ module _ (N M : OfNames) (empty : M []) where
   with_plain_names : (m : Plain) → PlainNames m → (d : Definition) → DefinitionNames d → PlainNames (with_plain m d)
   with_plain_names m plain d own f ts h = by (bytes_eq d.name f) where
     by : (t : Bool) → WrittenNamesAre N M (if t then where_none d.params (with_uses m d.body) (call f ts) else m f ts)
-    by true = none_names d.params (with_uses m d.body) (call f ts) (uses_names m plain d.body own) h
+    by true = none_names d.params (with_uses m d.body) (call f ts) (uses_names m plain d.body own) (h, tt)
     by false = plain f ts h
 
   plain_after_names : (ds : List Definition) (m : Plain) → AllByRecursion DefinitionNames ds → PlainNames m → PlainNames (plain_after m ds)
@@ -143,10 +142,10 @@ module _ (N M : OfNames) (empty : M []) where
   bodies_names (d ∷ ds) m own plain = (uses_names m plain d.body own.0, bodies_names ds (with_plain m d) own.1 (with_plain_names m plain d own.0))
 
   pub plain_bodies_names : (ds : List Definition) → AllByRecursion DefinitionNames ds → AllByRecursion DefinitionNames (plain_bodies call ds)
-  plain_bodies_names ds own = bodies_names ds call own (λ f ts h. h)
+  plain_bodies_names ds own = bodies_names ds call own (λ f ts h. (h, tt))
 
   pub plain_names : (ds : List Definition) (p : Written) → AllByRecursion DefinitionNames ds → WrittenNamesAre N M p → WrittenNamesAre N M (plain ds p)
-  plain_names ds p own h = uses_names (plain_after call ds) (plain_after_names ds call own (λ f ts k. k)) p h
+  plain_names ds p own h = uses_names (plain_after call ds) (plain_after_names ds call own (λ f ts k. (k, tt))) p h
 
   -- in the expansion
   pub expansion_names : (ds : List Definition) (identifiers : List (List ℕ)) (p : Written) → AllByRecursion DefinitionNames ds → WrittenNamesAre N M p

@@ -1,6 +1,5 @@
 -- The names that occur in what words spell are those of the words.
-use Rattle.std.proofs.Common.{◌≡◌, ℕ, Bool, List, [], ◌∷◌, ◌++◌, subst}
-use Rattle.std.specs.Prelude.{codes}
+use Rattle.std.proofs.Common.{ℕ, Bool, List, [], ◌∷◌, ◌++◌, subst}
 use Rattle.std.specs.List.{AllByRecursion}
 use Rattle.sap_text.specs.declared.token.Token.{Token}
 use Rattle.sap_terms.specs.declared.fact.Fact.{Fact}
@@ -13,15 +12,15 @@ use Rattle.sap_grammar.specs.Cut.{Placed, words, placed, IsCut, cut_none, cut_on
 use Rattle.sap_grammar.specs.Declarations.{Declaration, of_builtin, of_symbol, IsSymbol, spells_public, spells_private, AreSymbols, symbols_last, symbols_more}
 use Rattle.sap_grammar.specs.Items.{items_end, items_more}
 use Rattle.sap_grammar.specs.declared.limits.Limits.{Limits}
-use Rattle.sap_grammar.specs.TermGrammar.{IsTerm, term_constant, term_message, term_fresh, term_pub, term_quoted, term_symbol, term_tuple, IsRest, rest_last, rest_more, IsList, list_last, list_more, IsArgs, args_none, args_some, IsShort}
-use Rattle.sap_grammar.specs.FactGrammar.{IsFact, fact_linear, fact_persistent, IsShortFact, AreSomeFacts, AreFacts, facts_last, facts_more, facts_none, facts_some}
+use Rattle.sap_grammar.specs.TermGrammar.{IsTerm, term_constant, term_message, term_fresh, term_pub, term_quoted, term_symbol, term_tuple, IsRest, rest_last, rest_more, IsList, list_last, list_more, IsArgs, args_none, args_some}
+use Rattle.sap_grammar.specs.FactGrammar.{IsFact, fact_linear, fact_persistent, AreSomeFacts, AreFacts, facts_last, facts_more, facts_none, facts_some}
 use Rattle.sap_process.specs.Action.{Action}
-use Rattle.sap_macro.specs.Written.{Written, nil, call, parallel, replicated, act, test, lookup}
+use Rattle.sap_macro.specs.Written.{Written}
 use Rattle.sap_draft.specs.declared.limits.TheConstants.{FILE_LIMITS}
 use Rattle.sap_draft.specs.ProcessGrammar.{IsAction, action_new, action_new_fresh, action_out, action_send, action_input, action_receive, action_event, action_insert, action_delete, action_lock, action_unlock, action_rule, action_acts, Ending, IsSeq, seq_nil, seq_call, seq_use, seq_parentheses, seq_replicated, seq_action, seq_then, seq_if, seq_if_else, seq_lookup, seq_lookup_else, IsPar, par_one, par_more}
-use Rattle.sap_read.specs.Item.{Item, Body, Standing, builtins, functions, definition, process, statement, body_of, bodies, declared_by, declarations}
+use Rattle.sap_read.specs.Item.{Item, Body, Standing, builtins, functions, body_of, bodies, declared_by, declarations}
 use Rattle.sap_read.specs.ItemGrammar.{IsItem, AreItems, AreParameters, parameters_last, parameters_more, HasParameters, without_parameters, with_parameters, item_builtins, item_functions, item_definition, item_process, item_statement}
-use Rattle.sap_read.specs.Occurring.{OfNames, NamesAre, AllNamesAre, FactNamesAre, FactsNamesAre, ActionNamesAre}
+use Rattle.sap_read.specs.Occurring.{OfNames, NamesAre, AllNamesAre, FactNamesAre, FactsNamesAre, ActionNamesAre, WrittenNamesAre}
 use Rattle.sap_read.proofs.EachOf.{both}
 
 module _ (N M : OfNames) where
@@ -39,16 +38,6 @@ module _ (N M : OfNames) where
   -- in arguments
   abbrev pub TermsNamesAre : List Tree → Type 0
   TermsNamesAre ts = AllNamesAre N M (trees_of ts)
-
-  -- in a process as it is written
-  abbrev pub WrittenNamesAre : Written → Type 0
-  WrittenNamesAre nil = Unit {0}
-  WrittenNamesAre (call f ts) = TermsNamesAre ts
-  WrittenNamesAre (parallel p q) = WrittenNamesAre p × WrittenNamesAre q
-  WrittenNamesAre (replicated p) = WrittenNamesAre p
-  WrittenNamesAre (act a p) = ActionNamesAre N M a × WrittenNamesAre p
-  WrittenNamesAre (test t u p q) = NamesAre N M t × NamesAre N M u × WrittenNamesAre p × WrittenNamesAre q
-  WrittenNamesAre (lookup t x p q) = NamesAre N M t × N x.name × WrittenNamesAre p × WrittenNamesAre q
 
   module _ (g : Sig) where
     mutual
@@ -115,10 +104,10 @@ module _ (N M : OfNames) where
           ((l.0, e.0, k.0), k.1)
 
       mutual
-        seq_names : {e : Ending} {p : Written} {n : ℕ} {a b : List Word} → IsSeq g m e p n a b → WordsNamesAre a → WrittenNamesAre p × WordsNamesAre b
+        seq_names : {e : Ending} {p : Written} {n : ℕ} {a b : List Word} → IsSeq g m e p n a b → WordsNamesAre a → WrittenNamesAre N M p × WordsNamesAre b
         seq_names seq_nil h = (tt, h.1)
-        seq_names seq_call h = (tt, h.1)
-        seq_names (seq_use r s) h = list_names r h.1.1
+        seq_names seq_call h = ((tt, tt), h.1)
+        seq_names (seq_use r s) h = let ts = list_names r h.1.1 in ((ts.0, tt), ts.1)
         seq_names (seq_parentheses r) h = let p = par_names r h.1 in (p.0, p.1.1)
         seq_names (seq_replicated r) h = seq_names r h.1
         seq_names (seq_action r) h = let x = action_names r h in ((x.0, tt), x.1)
@@ -144,7 +133,7 @@ module _ (N M : OfNames) where
             let q = seq_names v p.1.1 in
             ((t.0, t.1.1.0, p.0, q.0), q.1)
 
-        par_names : {p : Written} {n : ℕ} {a b : List Word} → IsPar g m p n a b → WordsNamesAre a → WrittenNamesAre p × WordsNamesAre b
+        par_names : {p : Written} {n : ℕ} {a b : List Word} → IsPar g m p n a b → WordsNamesAre a → WrittenNamesAre N M p × WordsNamesAre b
         par_names (par_one r) h = seq_names r h
         par_names (par_more w r s) h = let p = seq_names r h in let q = par_names s p.1.1 in ((p.0, q.0), q.1)
 
@@ -187,24 +176,24 @@ module _ (N M : OfNames) where
   builtins_names [] = tt
   builtins_names (b ∷ bs) = (tt, builtins_names bs)
 
-  parameters_names : {xs : List (List ℕ)} {a b : List Word} → AreParameters xs a b → WordsNamesAre a → WordsNamesAre b
-  parameters_names parameters_last h = h.1.1
-  parameters_names (parameters_more r) h = parameters_names r h.1.1
+  parameters_names : {xs : List (List ℕ)} {a b : List Word} → AreParameters xs a b → WordsNamesAre a → AllByRecursion N xs × WordsNamesAre b
+  parameters_names parameters_last h = ((h.0, tt), h.1.1)
+  parameters_names (parameters_more r) h = let xs = parameters_names r h.1.1 in ((h.0, xs.0), xs.1)
 
-  head_names : {xs : List (List ℕ)} {a b : List Word} → HasParameters xs a b → WordsNamesAre a → WordsNamesAre b
-  head_names without_parameters h = h.1
-  head_names (with_parameters r) h = (parameters_names r h.1).1
+  head_names : {xs : List (List ℕ)} {a b : List Word} → HasParameters xs a b → WordsNamesAre a → AllByRecursion N xs × WordsNamesAre b
+  head_names without_parameters h = (tt, h.1)
+  head_names (with_parameters r) h = let xs = parameters_names r h.1 in (xs.0, xs.1.1)
 
-  -- in a body
+  -- in parameters and in a body
   abbrev pub BodyNamesAre : Body → Type 0
-  BodyNamesAre b = WrittenNamesAre b.content
+  BodyNamesAre b = AllByRecursion N b.params × WrittenNamesAre N M b.content
 
   module _ (g : Sig) where
     item_names : {v : Item} {a : List Word} → IsItem g v a → WordsNamesAre a → (n : ℕ) → AllByRecursion BodyNamesAre (body_of v n)
     item_names (item_builtins r) h n = tt
     item_names (item_functions r) h n = tt
-    item_names (item_definition r p) h n = ((par_names g FILE_LIMITS p.spelled (head_names r h.1.1)).0, tt)
-    item_names (item_process p) h n = ((par_names g FILE_LIMITS p.spelled h.1.1).0, tt)
+    item_names (item_definition r p) h n = let xs = head_names r h.1.1 in ((xs.0, (par_names g FILE_LIMITS p.spelled xs.1).0), tt)
+    item_names (item_process p) h n = ((tt, (par_names g FILE_LIMITS p.spelled h.1.1).0), tt)
     item_names (item_statement r) h n = tt
 
     item_declares : {v : Item} {a : List Word} → IsItem g v a → WordsNamesAre a → AllByRecursion DeclaredNameIs (declared_by v)

@@ -1,8 +1,7 @@
 -- One more entry is parted.
-use Rattle.std.proofs.Common.{◌≡◌, ℕ, List, [], ◌∷◌, ◌++◌, append_assoc, append-nil, Bool, true, false, Option, Some, None, refl, sym, ap, ◌∙◌, map}
+use Rattle.std.proofs.Common.{◌≡◌, List, [], ◌∷◌, ◌++◌, append_assoc, append-nil, Bool, true, false, Some, refl, sym, ap, ◌∙◌, map}
 use Rattle.std.specs.Prelude.{if◌then◌else◌, is_none}
 use Rattle.std.specs.Option.{option_or}
-use Rattle.sap_macro.specs.Written.{Written}
 use Rattle.sap_read.specs.declared.entry.Entry.{Entry}
 use Rattle.sap_read.specs.FileProcess.{defined_as, definitions_of, main_of}
 use Rattle.sap_read.specs.code.Bodies.{body}

@@ -1,9 +1,9 @@
 -- The expansion of a file's process can be printed, where it is over the signature.
-use Rattle.std.proofs.Common.{◌≡◌, ◌≤◌, ◌<◌, ◌^◌, ◌+◌, ℕ, suc, Bool, true, false, List, [], ◌∷◌, ◌++◌, map, length, Some, refl, sym, ap, subst, ◌∙◌, arith}
+use Rattle.std.proofs.Common.{◌≡◌, ◌≤◌, ◌^◌, ◌+◌, ℕ, suc, Bool, true, false, List, [], ◌∷◌, map, length, Some, refl, sym, ap, subst, ◌∙◌, arith}
 use Rattle.std.specs.Prelude.{All, if◌then◌else◌}
 use Rattle.std.specs.List.{AllByRecursion}
 use Rattle.std.specs.Str.{bytes_eq}
-use Rattle.std.proofs.lemmas.List.Elements.{All-nil, All-cons, All-head, All-tail, recursion_from_All}
+use Rattle.std.proofs.lemmas.List.Elements.{All-nil, All-cons, All-head, All-tail}
 use Rattle.std.proofs.lemmas.Slice.Eq.{bytes_eq-Decides}
 use Rattle.sap_terms.specs.Choice.{Choice, instance, instances}
 use Rattle.sap_terms.specs.Message.{IsOver, AreOver}
@@ -17,16 +17,13 @@ use Rattle.sap_terms.specs.declared.var.Sort.TheVariants.{Msg, Fresh, Pub}
 use Rattle.sap_terms.specs.declared.var.Var.{Var}
 use Rattle.sap_grammar.specs.ByteWords.{IsName, IsContent}
 use Rattle.sap_grammar.specs.TermGrammar.{IsConstant}
-use Rattle.sap_grammar.specs.TermText.{is_pair}
-use Rattle.sap_grammar.specs.Printable.{IsTidyVariable, IsTidyUse, IsTidy, AreTidy, HasNames, HaveNames, IsPrintableTerm, IsPrintableFact}
+use Rattle.sap_grammar.specs.Printable.{IsTidyVariable, IsTidyUse, IsTidy, AreTidy, HasNames, HaveNames, IsPrintableFact}
 use Rattle.sap_process.specs.Action.{Action, new, out, send, input, receive, event, insert, delete, lock, unlock, embedded}
 use Rattle.sap_process.specs.Instance.{action_instance}
-use Rattle.sap_process.specs.Proc.{Proc}
 use Rattle.sap_macro.specs.Expansion.{Meaning, Plain, binding, by_names, entered, expanded, expansion, meaning_after, meaning_of, no_meaning, own_names, plain, plain_after, plain_bodies, put, same_name, unchanged, where_none, with_definition, with_plain, with_uses}
 use Rattle.sap_macro.specs.NewNames.{new_name, renamed, taken_after}
 use Rattle.sap_macro.specs.Written.{Written, nil, call, parallel, replicated, act, test, lookup, Definition}
 use Rattle.sap_draft.specs.Printable.{IsFactOver, IsActionOver, IsPrintableAct, IsPrintableAction, IsSpelledTerm, IsSpelledFact, IsSpelledAct, IsSpelledAction, IsSpelledWritten}
-use Rattle.sap_read.specs.Item.{Body}
 use Rattle.sap_read.specs.Printable.{IsPrintableProcess}
 use Rattle.sap_read.proofs.PrintableSorts.{args_instances, pair_kept}
 use Rattle.sap_read.proofs.ProcessOver.{IsProcessOver}

@@ -1,5 +1,5 @@
 -- How many names are taken once a file's process is expanded.
-use Rattle.std.proofs.Common.{◌≡◌, ◌≤◌, ◌<◌, ◌^◌, ◌+◌, ◌*◌, ℕ, zero, suc, Bool, true, false, ◌||◌, ◌⊎◌, inl, inr, List, [], ◌∷◌, ◌++◌, map, length, refl, sym, ap, subst, ◌∙◌, ⊎_elim, arith}
+use Rattle.std.proofs.Common.{◌≡◌, ◌≤◌, ◌^◌, ◌+◌, ◌*◌, ℕ, zero, suc, Bool, true, false, ◌||◌, List, [], ◌∷◌, ◌++◌, map, length, refl, sym, ap, subst, ◌∙◌, arith}
 use Rattle.std.specs.Prelude.{if◌then◌else◌}
 use Rattle.std.specs.List.{AllByRecursion}
 use Rattle.std.specs.Str.{bytes_eq}
@@ -13,12 +13,12 @@ use Rattle.sap_terms.specs.declared.var.Var.{Var}
 use Rattle.sap_process.specs.Action.{Action, new, out, send, input, receive, event, insert, delete, lock, unlock, embedded}
 use Rattle.sap_process.specs.Proc as whole
 use Rattle.sap_process.specs.Proc.{Proc, node_count}
-use Rattle.sap_macro.specs.Expansion.{bound_in, binding_vars, behind, scope_behind, binders, own_names, Expanded, Meaning, by_names, expanded, entered, put, with_definition, no_meaning, meaning_after, meaning_of}
+use Rattle.sap_macro.specs.Expansion.{bound_in, binding_vars, behind, binders, own_names, Expanded, Meaning, by_names, expanded, entered, put, with_definition, no_meaning, meaning_after, meaning_of}
 use Rattle.sap_macro.specs.NewNames.{new_name, once, renamed, taken_after}
 use Rattle.sap_macro.specs.Written.{Written, nil, call, parallel, replicated, act, test, lookup, Definition}
-use Rattle.sap_read.specs.Occurring.{OfNames, NamesAre, AllNamesAre, FactNamesAre, FactsNamesAre, ActionNamesAre}
+use Rattle.sap_read.specs.HeldVariables.{IsAmong}
+use Rattle.sap_read.specs.Occurring.{OfNames, NamesAre, AllNamesAre, FactNamesAre, FactsNamesAre, ActionNamesAre, WrittenNamesAre}
 use Rattle.sap_read.proofs.EachOf.{both}
-use Rattle.sap_read.proofs.OccurringWords.{WrittenNamesAre}
 
 -- so many times so many
 abbrev pub times : ℕ → ℕ → ℕ
@@ -252,9 +252,6 @@ still_known (y ∷ ys) x z d h = by (bytes_eq y x) refl (still_known ys x z d) w
   by true e later = at (bytes_eq y z) refl h e
   by false e later = inside (bytes_eq y z) later h
 
-abbrev pub IsAmong : List (List ℕ) → OfNames
-IsAmong ids x = is_known ids x ≡ true
-
 -- of names each of which is known already or among these there are no more than these, once each
 once_few : (ns known ids : List (List ℕ)) → AllByRecursion (λ n. ¬ (is_known known n ≡ true) → is_known ids n ≡ true) ns → length (once known ns) ≤ length ids
 once_few [] known ids h = omega arith
@@ -319,7 +316,7 @@ module _ (N M : OfNames) where
     by true later = later scope
     by false later = (h.0, later (v.name ∷ scope))
 
-  binders_names : (p : Written) (scope : List (List ℕ)) → WrittenNamesAre N M p → AllByRecursion N (binders scope p)
+  pub binders_names : (p : Written) (scope : List (List ℕ)) → WrittenNamesAre N M p → AllByRecursion N (binders scope p)
   binders_names nil scope h = tt
   binders_names (call f ts) scope h = tt
   binders_names (parallel p q) scope h = both N (binders scope p) (binders scope q) (binders_names p scope h.0) (binders_names q scope h.1)

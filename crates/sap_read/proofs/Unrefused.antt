@@ -1,5 +1,5 @@
 -- What holds of a file whose items no cause refuses.
-use Rattle.std.proofs.Common.{◌≡◌, ◌≤◌, ℕ, List, [], ◌∷◌, ◌++◌, map, Option, Some, None, Bool, true, false, refl, ap, sym, subst}
+use Rattle.std.proofs.Common.{◌≡◌, ℕ, List, [], ◌∷◌, ◌++◌, map, Option, Some, None, Bool, true, false, refl, ap, sym, subst}
 use Rattle.std.specs.Prelude.{codes, if◌then◌else◌, is_none, is_some, option_map, slice_get}
 use Rattle.std.specs.Str.{bytes_eq}
 use Rattle.sap_terms.specs.Equations.{pair_name}

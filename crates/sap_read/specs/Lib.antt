@@ -23,8 +23,10 @@ pub mod FileProcess
 pub mod Causes
 pub mod Files
 pub mod Occurring
+pub mod HeldVariables
 pub mod Printable
 pub mod OwnNames
 pub mod CauseExamples
 pub mod FileExamples
+pub mod VariableExamples
 pub mod code

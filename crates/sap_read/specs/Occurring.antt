@@ -1,10 +1,12 @@
 -- Names that occur in processes.
-use Rattle.std.specs.Prelude.{ℕ, List, [], ◌∷◌}
+use Rattle.std.specs.Prelude.{ℕ, List}
 use Rattle.std.specs.List.{AllByRecursion}
 use Rattle.sap_terms.specs.declared.fact.Fact.{Fact}
 use Rattle.sap_terms.specs.Tree.{Tree, variable, public, fresh, apply, Trees, none, more, trees_of}
 use Rattle.sap_process.specs.Action.{Action, new, out, send, input, receive, event, insert, delete, lock, unlock, embedded}
 use Rattle.sap_process.specs.Proc.{Proc, nil, parallel, replicated, act, test, lookup}
+use Rattle.sap_macro.specs.Seen.{seen}
+use Rattle.sap_macro.specs.Written.{Written}
 
 -- what is so of a name
 abbrev pub OfNames : Type 1
@@ -59,3 +61,7 @@ ProcessNamesAre N M (test t u p q) =
     NamesAre N M t × NamesAre N M u × ProcessNamesAre N M p × ProcessNamesAre N M q
 ProcessNamesAre N M (lookup t x p q) =
     NamesAre N M t × N x.name × ProcessNamesAre N M p × ProcessNamesAre N M q
+
+-- in a process as it is written, in the arguments of its uses too
+abbrev pub WrittenNamesAre : OfNames → OfNames → Written → Type 0
+WrittenNamesAre N M p = ProcessNamesAre N M (seen p)

@@ -1,13 +1,17 @@
 //! Why small files are refused, and what their processes are, by hand, as contracts of functions that do nothing.
-ghost use Rattle.std.specs.Prelude.{[], Err, Ok, codes};
+ghost use Rattle.std.specs.Prelude.{◌≡◌, ℕ, false, List, [], Err, Ok, All, codes};
 ghost use Rattle.sap_formula.specs.declared.fault.FormulaFault.TheVariants.{UnboundVar};
 ghost use Rattle.sap_locks.specs.Annotation.{without};
 ghost use Rattle.sap_process.specs.declared.flaw.Flaw.TheVariants.{Unbound};
+ghost use Rattle.sap_terms.specs.Variables.{is_known};
 ghost use Rattle.sap_text.specs.declared.fault.Lex.TheVariants.{OpenQuote};
 ghost use Rattle.sap_read.specs.CauseExamples.{AreNoProcesses, AreProcesses, AreRefused, AreUnexpanded, AreUnrefused, counting_first, file_processes, near_files, other_processes, unexpanded_first, with_clash, with_other_count, with_parameter_twice, with_repeated, with_too_deep, with_too_many, with_two, with_unknown, without_process};
 ghost use Rattle.sap_read.specs.Causes.{lock_fault};
 ghost use Rattle.sap_read.specs.FileExamples.{empty_file, endless_file, headless_file, quoting_file, timeless_file, told_whole, unbound_file, unlocking_file, whole_file};
 ghost use Rattle.sap_read.specs.Files.{IsRead};
+ghost use Rattle.sap_read.specs.HeldVariables.{HoldsFileVariables};
+ghost use Rattle.sap_read.specs.Identifiers.{identifiers_of};
+ghost use Rattle.sap_read.specs.VariableExamples.{file_identifiers, file_words, names_without, other_names, small_bodies, variable_names};
 ghost use Rattle.sap_read.specs.declared.fault.ReadFault.TheVariants.{Formula, Header, Ill, Lex as LexFault, NoProcess, Syntax};
 
 use sap_locks::{annotations_by_hand, branches_by_hand};
@@ -37,6 +41,17 @@ pub fn causes_by_hand()
 pub fn file_processes_by_hand()
     ensures are { AreProcesses file_processes }
     ensures are_not { AreNoProcesses other_processes }
+{}
+
+/// A law: the identifiers of a small file, and what is none of them. Its variables' names hold those of its variables, and without
+/// any one of them they don't.
+pub fn identifiers_by_hand()
+    ensures are { identifiers_of file_words ≡ file_identifiers }
+    ensures are_not { All (λ (n : List ℕ). is_known (identifiers_of file_words) n ≡ false)
+        other_names }
+    ensures held { HoldsFileVariables variable_names small_bodies }
+    ensures wanting { All (λ (n : List ℕ). ¬ HoldsFileVariables (names_without n) small_bodies)
+        variable_names }
 {}
 
 /// A law: small files byte by byte, one that is read and seven that are refused: for what is no token, for want of a header, of `end`

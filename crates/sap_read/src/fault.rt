@@ -1,4 +1,8 @@
 //! Why a file is refused.
+ghost use Rattle.std.specs.Prelude.{◌≡◌};
+ghost use Rattle.sap_read.specs.Causes.{fault_of, fault_of_lock, fault_of_statements, fault_of_uses};
+ghost use Rattle.sap_read.specs.declared.fault.ReadFault.TheVariants.{Mem as OutOfMemory};
+
 use sap_formula::FormulaFault;
 use sap_locks::LockFault;
 use sap_process::{Flaw, Ill};
@@ -55,9 +59,6 @@ pub enum ReadFault {
 }
 
 impl From<Mem> for ReadFault {
-    ghost use Rattle.std.specs.Prelude.{◌≡◌};
-    ghost use Rattle.sap_read.specs.declared.fault.ReadFault.TheVariants.{Mem as OutOfMemory};
-
     ghost from_gives = { λ _ e. e ≡ OutOfMemory };
 
     fn from(_e: Mem) -> ReadFault {
@@ -66,9 +67,6 @@ impl From<Mem> for ReadFault {
 }
 
 impl From<MacroFault> for ReadFault {
-    ghost use Rattle.std.specs.Prelude.{◌≡◌};
-    ghost use Rattle.sap_read.specs.Causes.{fault_of_uses};
-
     ghost from_gives = { λ f e. e ≡ fault_of_uses f };
 
     fn from(f: MacroFault) -> ReadFault {
@@ -85,9 +83,6 @@ impl From<MacroFault> for ReadFault {
 }
 
 impl From<Ill> for ReadFault {
-    ghost use Rattle.std.specs.Prelude.{◌≡◌};
-    ghost use Rattle.sap_read.specs.Causes.{fault_of};
-
     ghost from_gives = { λ i e. e ≡ fault_of i };
 
     fn from(i: Ill) -> ReadFault {
@@ -99,28 +94,17 @@ impl From<Ill> for ReadFault {
 }
 
 impl From<LockFault> for ReadFault {
-    ghost use Rattle.std.specs.Prelude.{◌≡◌};
-    ghost use Rattle.sap_read.specs.Causes.{fault_of_lock};
-
     ghost from_gives = { λ f e. e ≡ fault_of_lock f };
 
     fn from(f: LockFault) -> ReadFault {
         match f {
             LockFault::Mem => ReadFault::Mem,
-            LockFault::UnlockWithoutLock { path } => ReadFault::Lock(LockFault::UnlockWithoutLock {
-                path,
-            }),
-            LockFault::LockOverParallel { path } => ReadFault::Lock(LockFault::LockOverParallel {
-                path,
-            }),
+            fault => ReadFault::Lock(fault),
         }
     }
 }
 
 impl From<Unchecked> for ReadFault {
-    ghost use Rattle.std.specs.Prelude.{◌≡◌};
-    ghost use Rattle.sap_read.specs.Causes.{fault_of_statements};
-
     ghost from_gives = { λ u e. e ≡ fault_of_statements u };
 
     fn from(u: Unchecked) -> ReadFault {

@@ -7,13 +7,12 @@ ghost use Rattle.sap_read.specs.code.Judged.{AreAccepted, AreChecked, IsAccepted
 ghost use Rattle.sap_read.specs.Identifiers.{identifiers_of};
 ghost use Rattle.sap_grammar.specs.Words.{words_of};
 ghost use Rattle.sap_read.specs.code.Bodies.{body};
-ghost use Rattle.sap_read.specs.Files.{AreTokens};
 ghost use Rattle.sap_process.specs.Proc.{node_count, proc};
 ghost use Rattle.sap_locks.specs.Annotation.{IsAnnotation, IsFirstLockFlaw, LockFlaw};
 ghost use Rattle.sap_process.specs.Flaws.{IsWellFormed};
 ghost use Rattle.sap_process.specs.Sorted.{with_sorts};
 ghost use Rattle.sap_read.specs.Causes.{lock_fault};
-ghost use Rattle.sap_read.specs.Files.{IsRead, told_by};
+ghost use Rattle.sap_read.specs.Files.{AreTokens, IsRead, told_by};
 ghost use Rattle.sap_read.specs.declared.fault.ReadFault.{ReadFault};
 ghost use Rattle.sap_read.specs.declared.fault.ReadFault.TheVariants.{Mem as OutOfMemory, Lex as LexFault};
 
@@ -96,10 +95,7 @@ pub fn read_file(alloc: Global, bytes: &[u8]) -> Result<File, ReadFault>
     ensures refused { (e : ReadFault) → IsErrOf result e → (e ≡ OutOfMemory → ⊥)
         → IsRead bytes.now (Err e) }
 {
-    match read_file_boxed(alloc, bytes) {
-        Ok(file) => Ok(Box::into_inner(file)),
-        Err(fault) => Err(fault),
-    }
+    Ok(Box::into_inner(read_file_boxed(alloc, bytes)?))
 }
 
 /// The same file in a box: a caller that lends it on holds nothing large.

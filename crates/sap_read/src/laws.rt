@@ -1,21 +1,26 @@
 //! Laws of files, as contracts of functions that do nothing but call those below.
-ghost use Rattle.std.specs.Prelude.{◌≡◌, ◌≤◌, ◌^◌, ℕ, List, Result, Ok, Err, length};
+ghost use Rattle.std.specs.Prelude.{◌≡◌, ◌≤◌, ◌^◌, ℕ, List, Some, Result, Ok, Err, length};
 ghost use Rattle.sap_terms.specs.declared.fact.Fact.{Fact};
 ghost use Rattle.sap_terms.specs.Tree.{Tree, level_count};
+ghost use Rattle.sap_text.specs.declared.token.Token.{Token};
 ghost use Rattle.sap_terms.specs.Signature.{Sig};
-ghost use Rattle.sap_grammar.specs.Words.{Word};
+ghost use Rattle.sap_grammar.specs.Words.{Word, words_of};
 ghost use Rattle.sap_grammar.specs.TermGrammar.{IsTerm};
 ghost use Rattle.sap_grammar.specs.FactGrammar.{IsFact, fact_levels};
 ghost use Rattle.sap_read.specs.code.ItemLaws.{ItemLaws};
 ghost use Rattle.sap_read.specs.code.StatementLaws.{StatementLaws};
 ghost use Rattle.sap_read.specs.code.ProcessLaws.{ProcessLaws};
+ghost use Rattle.sap_macro.specs.UpToNames.{AreSameUpToNames};
 ghost use Rattle.sap_macro.specs.Written.{Written};
+ghost use Rattle.sap_read.specs.FileProcess.{process_of};
+ghost use Rattle.sap_process.specs.Proc.{Proc};
 ghost use Rattle.sap_draft.specs.ProcessGrammar.{IsPar};
 ghost use Rattle.sap_grammar.specs.Cut.{Placed, IsCut};
-ghost use Rattle.sap_read.specs.Item.{Standing};
 ghost use Rattle.sap_read.specs.ItemGrammar.{AreItems};
-ghost use Rattle.sap_read.specs.Item.{signature_of};
-ghost use Rattle.sap_read.specs.Files.{FileContent, IsRead, IsRunnable};
+ghost use Rattle.sap_read.specs.HeldVariables.{AreClosedBodies, HoldsFileVariables};
+ghost use Rattle.sap_read.specs.Identifiers.{identifiers_of};
+ghost use Rattle.sap_read.specs.Item.{Body, Standing, bodies, signature_of};
+ghost use Rattle.sap_read.specs.Files.{FileContent, IsParted, IsRead, IsRunnable};
 ghost use Rattle.sap_read.specs.Printable.{IsPrintableFile};
 ghost use Rattle.sap_read.specs.OwnNames.{IsNamedApart};
 ghost use Rattle.sap_terms.specs.declared.limits.TheConstants.{MOST_FILE_NAME_BYTES};
@@ -32,7 +37,7 @@ use sap_grammar::{
     declarations_are_read, headers_are_read, same_grammar, words_are_cut, words_of_bytes,
 };
 use sap_locks::{annotations_are_ready, annotations_of_processes};
-use sap_macro::{new_names_are_least, new_names_are_short, sizes_are_one};
+use sap_macro::{expansions_are_one, new_names_are_least, new_names_are_short, sizes_are_one};
 use sap_process::{one_flaw, some_flaw, sorting_keeps};
 use sap_statements::{
     faultless_formulas_keep_signs, formulas_are_printable, one_faulty_statement, one_statement,
@@ -166,6 +171,23 @@ pub fn files_are_printable()
 pub fn files_are_named_apart()
     ensures { (z : List ℕ) (f : FileContent) → IsRead z (Ok f) → IsNamedApart f }
 {}
+
+/// A law: the identifiers of a file hold the name of each variable in its definitions, parameters included, and in its process.
+pub fn identifiers_hold_variables()
+    ensures { (z : List ℕ) (ts : List Token) (x : List ℕ) (cut : List (List Placed))
+        (is : List Standing) → IsParted z ts x cut → AreItems (signature_of is) cut is
+        → HoldsFileVariables (identifiers_of (words_of z ts)) (bodies is) }
+{}
+
+/// A law: the process of a file whose bodies are closed is one up to names, whatever names are taken, if they hold those of its
+/// variables; a file's identifiers do.
+pub fn file_processes_are_one()
+    ensures { (bs : List Body) (names other : List (List ℕ)) (p q : Proc) → AreClosedBodies bs
+        → HoldsFileVariables names bs → HoldsFileVariables other bs → process_of names bs ≡ Some p
+        → process_of other bs ≡ Some q → AreSameUpToNames p q }
+{
+    expansions_are_one();
+}
 
 /// A law: the words behind a header are cut into items in one way, and spell at most one list of items, under a signature and
 /// under that of the items themselves.

@@ -16,12 +16,13 @@ mod taken;
 mod terms;
 mod whole;
 
-pub use by_hand::{causes_by_hand, file_processes_by_hand, files_by_hand};
+pub use by_hand::{causes_by_hand, file_processes_by_hand, files_by_hand, identifiers_by_hand};
 pub use fault::ReadFault;
 pub use file::{File, read_file, read_file_boxed};
 pub use laws::{
-    file_unless_refused, files_are_named_apart, files_are_printable, files_are_ready,
-    files_are_runnable, grammar_is_one, one_file, one_list_of_items, some_file,
+    file_processes_are_one, file_unless_refused, files_are_named_apart, files_are_printable,
+    files_are_ready, files_are_runnable, grammar_is_one, identifiers_hold_variables, one_file,
+    one_list_of_items, some_file,
 };
 pub use limits::MOST_NEW_NAME_BYTES;
 pub use sap_draft::{FILE_LIMITS, one_process, processes_by_hand};

@@ -1,7 +1,7 @@
 -- Parameters, as they are read.
 use Rattle.std.specs.Prelude.{ℕ, codes, List, [], ◌∷◌, ◌++◌, Option, Some, None, if◌then◌else◌}
 use Rattle.std.specs.Str.{bytes_eq}
-use Rattle.sap_grammar.specs.Words.{Word, mark, name, number, quoted}
+use Rattle.sap_grammar.specs.Words.{Word, mark, name}
 
 -- parameters, and the words behind them
 abbrev pub Params : Type 0

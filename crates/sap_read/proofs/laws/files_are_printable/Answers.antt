@@ -1,4 +1,4 @@
-use Rattle.std.proofs.Common.{◌≡◌, ◌≤◌, ◌<◌, ◌+◌, ◌^◌, ℕ, true, false, List, [], ◌∷◌, length, None, Ok, refl, sym, subst, ◌∙◌, arith}
+use Rattle.std.proofs.Common.{◌≡◌, ◌≤◌, ◌<◌, ◌+◌, ◌^◌, ℕ, true, false, List, [], ◌∷◌, length, Ok, refl, sym, subst, ◌∙◌, arith}
 use Rattle.std.specs.Prelude.{Result}
 use Rattle.std.specs.List.{AllByRecursion}
 use Rattle.std.proofs.lemmas.List.Elements.{All-from_recursion}
@@ -12,7 +12,7 @@ use Rattle.sap_process.specs.Sorted.{with_sorts}
 use Rattle.sap_grammar.specs.ByteWords.{AreWords, AreTokenWords, IsContent, IsName}
 use Rattle.sap_grammar.specs.Cut.{placed}
 use Rattle.sap_grammar.specs.Declarations.{Declaration}
-use Rattle.sap_grammar.specs.Signatures.{clash_from, signature_from}
+use Rattle.sap_grammar.specs.Signatures.{signature_from}
 use Rattle.sap_grammar.specs.TermGrammar.{IsConstant}
 use Rattle.sap_grammar.specs.Words.{Word, words_of}
 use Rattle.sap_macro.specs.Expansion.{expansion, plain, plain_bodies, same_name, unchanged}
@@ -22,18 +22,20 @@ use Rattle.sap_draft.specs.Printable.{IsSpelledWritten}
 use Rattle.sap_read.specs.FileProcess.{definitions_of}
 use Rattle.sap_read.specs.Identifiers.{identifiers_of}
 use Rattle.sap_read.specs.Item.{bodies, declarations, signature_of, statements}
-use Rattle.sap_read.specs.Occurring.{OfNames, Any, ProcessNamesAre}
+use Rattle.sap_read.specs.HeldVariables.{IsAmong}
+use Rattle.sap_read.specs.Occurring.{OfNames, Any, ProcessNamesAre, WrittenNamesAre}
 use Rattle.sap_read.specs.declared.fault.ReadFault.{ReadFault}
 use Rattle.sap_read.specs.declared.limits.TheConstants.{MOST_NEW_NAME_BYTES}
 use Rattle.sap_read.specs.Files.{FileContent, IsRead, no_tokens, no_header, no_item, refused, unexpanded, ill, locked, unchecked, accepted}
 use Rattle.sap_read.specs.Printable.{IsDeclarable, IsPrintableRestriction, IsPrintableLemma, IsPrintableFile, IsPrintableProcess}
 use Rattle.sap_statements.specs.Stated.{restrictions_of, lemmas_of}
 use Rattle.sap_read.proofs.DeclaredSymbols.{declared_map, declared_can, pairs_map}
-use Rattle.sap_read.proofs.FewNames.{definitions_so, identifiers_few, main_so, words_known}
+use Rattle.sap_read.proofs.FewNames.{definitions_so, identifiers_few, main_so, token_words}
+use Rattle.sap_read.proofs.HeldVariables.{cut_known}
 use Rattle.sap_read.proofs.NewNames.{candidate_name, candidate_no_constant}
 use Rattle.sap_read.proofs.OccurringMeaning.{expansion_names, plain_bodies_names}
 use Rattle.sap_read.proofs.OccurringSorts.{annotated_names, sorted_names}
-use Rattle.sap_read.proofs.OccurringWords.{DeclaredNameIs, WrittenNamesAre, bodies_names, cut_names, declared_names, header_names, placed_names}
+use Rattle.sap_read.proofs.OccurringWords.{BodyNamesAre, DeclaredNameIs, bodies_names, declared_names}
 use Rattle.sap_read.proofs.PrintableItems.{SpelledLaws, placed_held, header_held, cut_held, all_bodies, all_declares, all_states}
 use Rattle.sap_read.proofs.PrintableLabels.{annotated_printable, annotated_levels}
 use Rattle.sap_read.proofs.PrintableMeaning.{NewNamesAre, expansion_prints}
@@ -42,7 +44,7 @@ use Rattle.sap_read.proofs.PrintableStatements.{SortLaws, restrictions_printable
 use Rattle.sap_read.proofs.ProcessOver.{IsProcessOver, well_formed_over}
 use Rattle.sap_read.proofs.Sizes.{sorts_keep_levels}
 use Rattle.sap_read.proofs.Small.{AreOneSize, few_levels, few_places}
-use Rattle.sap_read.proofs.TakenNames.{BindsFew, IsAmong, binds_few, room_left, taken_at_most}
+use Rattle.sap_read.proofs.TakenNames.{BindsFew, binds_few, room_left, taken_at_most}
 use Rattle.sap_read.proofs.Unrefused.{pairs_stay}
 use Rattle.sap_read.proofs.laws.files_are_printable.Goals as goal
 
@@ -100,13 +102,13 @@ module _ (bytes : WordLaws) (spelled : SpelledLaws) (sorts : SortLaws) (names : 
       let held = placed_held most z ts words in
       let header = header_held most x (placed z ts) l.rest l.header held in
       let pieces = cut_held most l.items header.1 in
-      let named = cut_names N M l.items (header_names N M x (placed z ts) l.rest l.header (placed_names N M z ts (words_known most (words_of z ts) words))) in
+      let named = cut_known M z ts x cut (token_words most (words_of z ts) words) l in
       let own = bodies_names N M g h named in
-      let defs_named = definitions_so (WrittenNamesAre N M) bs own in
-      let main_named = main_so (WrittenNamesAre N M) bs m.main own m.is_main in
+      let defs_named = definitions_so (BodyNamesAre N M) (λ d. WrittenNamesAre N M d.body) (λ b x so. so.1) bs own in
+      let main_named = main_so (BodyNamesAre N M) (WrittenNamesAre N M) (λ b so. so.1) bs m.main own m.is_main in
       let spell = all_bodies most spelled g h pieces in
-      let defs_spelled = definitions_so (IsSpelledWritten most g) bs spell in
-      let main_spelled = main_so (IsSpelledWritten most g) bs m.main spell m.is_main in
+      let defs_spelled = definitions_so (λ b. IsSpelledWritten most g b.content) (λ d. IsSpelledWritten most g d.body) (λ b x so. so) bs spell in
+      let main_spelled = main_so (λ b. IsSpelledWritten most g b.content) (IsSpelledWritten most g) (λ b so. so) bs m.main spell m.is_main in
       let empty : M [] = record { is = refl; short = omega arith } in
       let binds = all_few ids M (plain_bodies call ds) (plain_bodies_names N M empty ds defs_named) in
       let many = taken_at_most ids (plain_bodies call ds) unchanged same_name (plain ds m.main) binds in

@@ -1,4 +1,4 @@
-use Rattle.std.proofs.Common.{◌≡◌, ◌≤◌, List, ℕ, [], Ok, refl, sym, subst, None}
+use Rattle.std.proofs.Common.{◌≡◌, ◌≤◌, List, ℕ, [], Ok, refl, sym, subst}
 use Rattle.std.specs.Prelude.{Result}
 use Rattle.sap_terms.specs.Laws.{BuiltinsStayHeld}
 use Rattle.sap_terms.specs.Signature.{Sig, pairs_alone}

@@ -3,7 +3,7 @@ use Rattle.std.specs.Prelude.{slice_get}
 use Rattle.std.proofs.lemmas.Grind.{common_steps}
 use Rattle.std.proofs.lemmas.Option.{slice_get_read}
 use Rattle.sap_read.specs.declared.entry.Entry.{Entry}
-use Rattle.sap_read.proofs.Known.{behind_none, behind_more, behind_fault, behind_all}
+use Rattle.sap_read.proofs.Known.{behind_none, behind_more, behind_fault}
 use Rattle.sap_read.proofs.names.check_all_known.Goals as goal
 
 pub loop-entry-init : goal.loop-entry-init

@@ -1,7 +1,6 @@
-use Rattle.std.proofs.Common.{◌≡◌, List, ℕ, drop, Some, None, true, false, sym, ap, subst, ◌∙◌}
-use Rattle.std.specs.Prelude.{codes}
+use Rattle.std.proofs.Common.{◌≡◌, List, ℕ, drop, Some, None, sym, ap, subst, ◌∙◌}
 use Rattle.sap_text.specs.declared.token.Token.{Token}
-use Rattle.sap_grammar.specs.Words.{Word, words_of, starts}
+use Rattle.sap_grammar.specs.Words.{words_of}
 use Rattle.sap_read.specs.ItemGrammar.{HasParameters}
 use Rattle.sap_read.specs.code.Parameters.{params_in}
 use Rattle.sap_read.proofs.ReadParameters.{neither_opens, plain_head, unclosed, whole_head, without_equals}
