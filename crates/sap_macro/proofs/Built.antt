@@ -1,20 +1,17 @@
 -- What is built behind names and uses.
-use Rattle.std.proofs.Common.{◌≡◌, ◌<◌, ◌≤◌, ℕ, ◌+◌, List, [], ◌∷◌, map, refl, sym, ap, ◌∙◌, subst, arith}
+use Rattle.std.proofs.Common.{◌≡◌, ◌<◌, ℕ, List, [], map, refl, sym, ap, ◌∙◌, arith}
 use Rattle.std.specs.Option.{unwrap_or}
-use Rattle.sap_terms.specs.Choice.{Choice, instance}
+use Rattle.sap_terms.specs.Choice.{instance}
 use Rattle.sap_terms.specs.NameMap.{value_at}
 use Rattle.sap_terms.specs.Tree.{Tree, variable}
-use Rattle.sap_terms.specs.declared.name.Name.{Name}
-use Rattle.sap_terms.specs.declared.term.Term.{Term}
-use Rattle.sap_terms.specs.declared.var.Var.{Var}
 use Rattle.sap_process.specs.Proc.{nil}
-use Rattle.sap_macro.specs.Expansion.{by_names, expanded, expanded_as, expansion, put, same_name, unchanged, where_none, with_uses}
+use Rattle.sap_macro.specs.Expansion.{by_names, expanded, expanded_as, expansion, put, with_uses}
 use Rattle.sap_macro.specs.NewNames.{renamed, taken_after}
 use Rattle.sap_macro.specs.UpToNames.{named}
 use Rattle.sap_macro.specs.Written.{Written, call, Definition}
 use Rattle.sap_macro.specs.code.Entering.{ArePut, IsEntered, own_names_in}
 use Rattle.sap_macro.specs.code.Standings.{choice_of, name_of, tree_or}
-use Rattle.sap_macro.specs.code.Steps.{built, cost_of, meaning_in, plain_of, steps, steps_in, IsResolved, IsUnknown}
+use Rattle.sap_macro.specs.code.Steps.{built, meaning_in, plain_of, steps_in, IsResolved, IsUnknown}
 use Rattle.sap_macro.specs.declared.standing.Standing.{Standing}
 
 -- what is the same behind names without parameters is built the same

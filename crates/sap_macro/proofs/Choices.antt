@@ -1,5 +1,5 @@
 -- Names that are chosen, and what is kept of them.
-use Rattle.std.proofs.Common.{◌≡◌, ◌<◌, ◌≤◌, ℕ, zero, suc, ◌+◌, ◌^◌, Bool, true, false, List, [], ◌∷◌, ◌++◌, ◌||◌, ◌⊎◌, inl, inr, Option, Some, None, length, drop, refl, sym, ap, ◌∙◌, subst, ⊎_elim, arith}
+use Rattle.std.proofs.Common.{◌≡◌, ◌<◌, ℕ, ◌+◌, Bool, true, false, List, [], ◌∷◌, ◌++◌, ◌||◌, Option, Some, None, length, drop, refl, sym, ap, ◌∙◌, subst, ⊎_elim, arith}
 use Rattle.std.proofs.lemmas.Bool.{cases_Bool, false≢true}
 use Rattle.std.specs.List.{IsDistinct, AllByRecursion, list_any}
 use Rattle.std.specs.Option.{unwrap_or}
@@ -10,8 +10,8 @@ use Rattle.sap_terms.specs.NameSet.{with_name}
 use Rattle.sap_terms.specs.Variables.{is_known}
 use Rattle.sap_macro.specs.NewNames.{candidate, new_name, renamed, taken_after}
 use Rattle.sap_macro.specs.code.Taking.{latest_first, AreBelow, IsFirst, IsKept}
-use Rattle.sap_macro.proofs.Bound.{any_push, turned}
-use Rattle.sap_macro.proofs.Names.{one_name, own_name, clash, in_head, in_tail}
+use Rattle.sap_macro.proofs.Bound.{turned}
+use Rattle.sap_macro.proofs.Names.{one_name, clash, in_tail}
 use Rattle.sap_macro.proofs.NewNames.{candidate_one, in_cases, no_more, search}
 use Rattle.sap_macro.proofs.Scopes.{at_head}
 

@@ -1,6 +1,6 @@
 -- Definitions by their indices, and arguments by their parameters.
-use Rattle.std.proofs.Common.{◌≡◌, ◌<◌, ℕ, zero, suc, ◌+◌, ◌-◌, Bool, true, false, List, [], ◌∷◌, ◌++◌, ◌||◌, ◌⊎◌, Option, Some, None, inl, inr, length, take, drop, map, refl, sym, ap, ◌∙◌, subst, ⊎_elim, arith, is_some}
-use Rattle.std.proofs.lemmas.Bool.{cases_Bool, false≢true}
+use Rattle.std.proofs.Common.{◌≡◌, ◌<◌, ℕ, zero, suc, ◌+◌, ◌-◌, Bool, true, false, List, [], ◌∷◌, ◌++◌, ◌||◌, Option, Some, None, length, take, drop, refl, sym, ap, ◌∙◌, subst, ⊎_elim, arith, is_some}
+use Rattle.std.proofs.lemmas.Bool.{cases_Bool}
 use Rattle.std.proofs.lemmas.Option.{slice_get-map, slice_get_within}
 use Rattle.std.specs.Option.{option_map, unwrap_or}
 use Rattle.std.specs.Prelude.{if◌then◌else◌, slice_get}
@@ -18,15 +18,15 @@ use Rattle.sap_macro.specs.Order.{AreInOrder}
 use Rattle.sap_macro.specs.Sources.{definition_of, definitions, written}
 use Rattle.sap_macro.specs.Written.{Written, call, Definition}
 use Rattle.sap_macro.specs.code.Entering.{ArePut}
-use Rattle.sap_macro.specs.Indexed.{defined, IsIndex, AreIndexed}
+use Rattle.sap_macro.specs.Indexed.{defined, IsDefined, IsIndex, AreIndexed}
 use Rattle.sap_macro.specs.code.Standings.{tree_or}
-use Rattle.sap_macro.specs.code.Steps.{IsResolved, IsUnknown, plain_of, steps_in}
+use Rattle.sap_macro.specs.code.Steps.{IsResolved, plain_of, steps_in}
 use Rattle.sap_macro.specs.declared.definition.Definition as code
 use Rattle.sap_macro.specs.declared.source.Source.{Source}
 use Rattle.sap_macro.specs.declared.source.Source.TheVariants.{Call}
-use Rattle.sap_macro.proofs.Names.{one_name, clash, not_in}
+use Rattle.sap_macro.proofs.Names.{one_name}
 use Rattle.sap_macro.proofs.Built.{steps_use}
-use Rattle.sap_macro.proofs.Resolving.{resolved, unknown}
+use Rattle.sap_macro.proofs.Resolving.{resolved}
 
 -- ---- indices
 
@@ -80,16 +80,19 @@ index_within defs index f k h is =
     let same = length_of defs in
     omega (arith, below, same)
 
-pub found_none : (defs : List code.Definition) (index : List (List ℕ × ℕ)) (f : List ℕ) → AreIndexed (definitions defs) index → value_at index f ≡ None → IsUnknown (definitions defs) f
-found_none defs index f h is = unknown (definitions defs) f (subst (IsIndex (definitions defs) f) is (h f))
+pub none_named : (defs : List code.Definition) (index : List (List ℕ × ℕ)) (f : List ℕ) → AreIndexed (definitions defs) index → value_at index f ≡ None → is_known (defined (definitions defs)) f ≡ false
+none_named defs index f h is = subst (IsIndex (definitions defs) f) is (h f)
 
-pub found_one : (defs : List code.Definition) (index : List (List ℕ × ℕ)) (f : List ℕ) (k : ℕ) (d : code.Definition) → AreInOrder [] (definitions defs) → AreIndexed (definitions defs) index
-    → value_at index f ≡ Some k → slice_get defs k ≡ Some d → IsResolved (definitions defs) (definition_of d) × (d.name ≡ f)
-found_one defs index f k d order h is at =
+pub one_named : (defs : List code.Definition) (index : List (List ℕ × ℕ)) (f : List ℕ) (k : ℕ) (d : code.Definition) → AreIndexed (definitions defs) index
+    → value_at index f ≡ Some k → slice_get defs k ≡ Some d → IsDefined (definitions defs) f (definition_of d)
+one_named defs index f k d h is at =
     let it : IsIndex (definitions defs) f (Some k) = subst (IsIndex (definitions defs) f) is (h f) in
     let same : Some (definition_of d) ≡ Some it.0 = sym (there defs k d at) ∙ it.1 in
     let one : definition_of d ≡ it.0 = cc in
-    (resolved (definitions defs) k (definition_of d) order (there defs k d at), ap (λ (e : Definition). e.name) one ∙ it.2)
+    record { at = k; stands = there defs k d at; name_is = ap (λ (e : Definition). e.name) one ∙ it.2 }
+
+pub known_resolved : (ds : List Definition) (f : List ℕ) (d : Definition) → AreInOrder [] ds → IsDefined ds f d → IsResolved ds d
+known_resolved ds f d order h = resolved ds h.at d order h.stands
 
 -- ---- arguments
 

@@ -18,7 +18,6 @@ pub mod Choices
 pub mod Entries
 pub mod Built
 pub mod Forms
-pub mod Counted
 pub mod Sized
 pub mod Watched
 pub mod Replacing

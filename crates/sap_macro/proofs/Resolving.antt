@@ -1,5 +1,5 @@
 -- The name of a definition means its body, where each name means what it means behind all definitions.
-use Rattle.std.proofs.Common.{◌≡◌, ℕ, zero, suc, ◌+◌, Bool, true, false, List, [], ◌∷◌, ◌⊎◌, inl, inr, Some, refl, sym, ap, ◌∙◌, subst, ⊎_elim, arith}
+use Rattle.std.proofs.Common.{◌≡◌, ℕ, zero, suc, ◌+◌, true, false, List, [], ◌∷◌, ◌⊎◌, inl, inr, Some, refl, sym, ap, ◌∙◌, subst, ⊎_elim}
 use Rattle.std.proofs.lemmas.Bool.{cases_Bool, false≢true}
 use Rattle.std.specs.Prelude.{if◌then◌else◌, slice_get}
 use Rattle.std.specs.Str.{bytes_eq}
@@ -16,8 +16,8 @@ use Rattle.sap_macro.specs.Order.{AreInOrder, UsesOnly}
 use Rattle.sap_macro.specs.UpToNames.{named}
 use Rattle.sap_macro.specs.Written.{Written, nil, call, parallel, replicated, act, test, lookup, Definition}
 use Rattle.sap_macro.specs.Indexed.{defined}
-use Rattle.sap_macro.specs.code.Steps.{Cost, steps, with_cost, cost_after, cost_of, plain_of, meaning_in, IsResolved, IsResolvedBy, IsUnknown}
-use Rattle.sap_macro.proofs.Names.{own_name, one_name, apart, clash, in_head, in_tail, not_in, out_of}
+use Rattle.sap_macro.specs.code.Steps.{Cost, steps, with_cost, cost_after, IsResolved, IsResolvedBy, IsUnknown}
+use Rattle.sap_macro.proofs.Names.{own_name, apart, clash, in_head, in_tail, not_in, out_of}
 use Rattle.sap_macro.proofs.NewNames.{in_cases}
 
 -- ---- a name that these don't define means what it meant before them

@@ -1,7 +1,7 @@
 -- Where nothing is put in, heads stay as they are written.
 use Rattle.std.proofs.Common.{◌≡◌, ℕ, false, List, refl, sym, ap, subst, ◌∙◌}
 use Rattle.std.specs.Option.{unwrap_or}
-use Rattle.sap_terms.specs.Choice.{Choice, instance}
+use Rattle.sap_terms.specs.Choice.{instance}
 use Rattle.sap_terms.specs.NameMap.{value_at}
 use Rattle.sap_terms.specs.Tree.{Tree, variable}
 use Rattle.sap_process.specs.Action.{Action, new, out, send, input, receive, event, insert, delete, lock, unlock, embedded}

@@ -83,6 +83,14 @@ outer =
     (parallel (call (codes "B") (of_name (codes "n") ∷ []))
     (call (codes "B") (of_name (codes "x") ∷ []))))
 
+-- let A(x) = in(x)
+abbrev pub comparing : Definition
+comparing = with_x (taking (of_name (codes "x")) nil)
+
+-- let B(z) = new ~x; out(z)
+abbrev pub making_x : Definition
+making_x = record inner { body = news (codes "x") (giving (of_name (codes "z"))) }
+
 -- 'a' and 'b'
 abbrev pub a : Tree
 a = public (codes "a")

@@ -6,5 +6,4 @@ pub mod Heads
 pub mod Taking
 pub mod Names
 pub mod Entering
-pub mod Noted
 pub mod Sizes

@@ -22,7 +22,7 @@ use crate::binders::add_names;
 use crate::chosen::{Chosen, new_names};
 use crate::definition::{Definition, DefinitionList};
 use crate::heads::{ended, over_one, over_two};
-use crate::index::{Index, form_of, found, index_of};
+use crate::index::{Index, definition_named, form_of, index_of};
 use crate::source::{Below, Source};
 use crate::standing::{Standing, nothing_put, terms_in};
 use sap_process::Process;
@@ -138,6 +138,7 @@ fn passed<'a>(
 
 // Behind a use, and behind all uses that are the whole body of a definition: what stands for names there, and what is to be built.
 // None where nothing defines the name. A chain of uses is gone through in a loop.
+#[tactic(auto, using(crate::proofs::Entries::known_resolved))]
 fn reached<'a>(
     alloc: Global,
     defs: &'a DefinitionList,
@@ -157,12 +158,12 @@ fn reached<'a>(
     ensures steps { IfOk result (λ o. IfSome o (λ r. steps_in (definitions defs.now) (written r.1.now)
         < steps_in (definitions defs.now) (call name.now args.now))) }
 {
-    let Some(d) = found(defs, index, name) else {
+    let Some(d) = definition_named(defs, index, name) else {
         return Ok(None);
     };
     let (mut inner, mut at) = passed(alloc, defs, index, s, chosen, d, args)?;
     while let Source::Call(further, terms) = at {
-        match found(defs, index, further) {
+        match definition_named(defs, index, further) {
             None => return Ok(Some((inner, at))),
             Some(e) => {
                 let (next, form) = passed(alloc, defs, index, &inner, chosen, e, terms)?;

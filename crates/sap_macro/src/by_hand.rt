@@ -1,8 +1,9 @@
 //! Small processes by hand, as laws.
 ghost use Rattle.std.specs.Prelude.{◌≡◌, codes, [], ◌∷◌, None, Some};
+ghost use Rattle.sap_terms.specs.Tree.{public};
 ghost use Rattle.sap_process.specs.Proc as whole;
 ghost use Rattle.sap_macro.specs.Expansion.{expansion};
-ghost use Rattle.sap_macro.specs.ExpansionExamples.{a, b, of_name, fresh_of, news, taking, makes, takes, gives, making, making_twice, pairing, giving_y, using_plain, inner, outer, twice_two, using_wrongly};
+ghost use Rattle.sap_macro.specs.ExpansionExamples.{a, b, of_name, fresh_of, news, taking, makes, takes, gives, making, making_twice, making_x, comparing, pairing, giving_y, using_plain, inner, outer, twice_two, using_wrongly};
 ghost use Rattle.sap_macro.specs.MacroCauses.{first_other_count, first_parameter_twice};
 ghost use Rattle.sap_macro.specs.NameExamples.{both, AreAllSame, AreNoneSame, equal_pairs, other_pairs};
 ghost use Rattle.sap_macro.specs.NewNames.{new_name};
@@ -16,7 +17,8 @@ pub fn equal_up_to_names_by_hand()
 
 /// A law: expansions of small files. What a use's body binds gets new names, the first that aren't taken, one for each name and use,
 /// in the order of their first binders, and uses inside of it later ones; the names of arguments stay what they are. Parameters are
-/// replaced all at once, and names without parameters before anything else.
+/// replaced all at once, and names without parameters before anything else. A pattern that compares with a parameter binds nothing,
+/// so it takes no name; a parameter without an argument is `''`.
 pub fn expansions_by_hand()
     ensures renames { (expansion (making ∷ []) (codes "n" ∷ codes "x" ∷ []) (news (codes "n") (call (codes "A") (fresh_of (codes "n") ∷ [])))).process
         ≡ makes (codes "n") (makes (codes "n_1") (gives (both (fresh_of (codes "n")) (fresh_of (codes "n_1"))))) }
@@ -30,6 +32,9 @@ pub fn expansions_by_hand()
     ensures plain_first { (expansion (giving_y ∷ using_plain ∷ []) [] (call (codes "A") (a ∷ []))).process ≡ gives a }
     ensures inner_later { (expansion (inner ∷ outer ∷ []) (codes "n" ∷ []) (call (codes "A") (a ∷ []))).process
         ≡ takes (both a (of_name (codes "n_1"))) (whole.parallel (makes (codes "n_2") (gives (of_name (codes "n_1")))) (makes (codes "n_3") (gives a))) }
+    ensures no_new_parameter { (expansion (comparing ∷ making_x ∷ []) [] (parallel (call (codes "A") (a ∷ [])) (call (codes "B") (b ∷ [])))).process
+        ≡ whole.parallel (takes a whole.nil) (makes (codes "x_1") (gives b)) }
+    ensures no_argument { (expansion (pairing ∷ []) [] (call (codes "A") (a ∷ []))).process ≡ gives (both a (public [])) }
     ensures sapic { new_name [] (codes "sapic") ≡ codes "sapic1" }
 {}
 

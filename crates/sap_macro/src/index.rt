@@ -1,12 +1,13 @@
 //! What names of processes stand for.
-ghost use Rattle.std.specs.Prelude.{◌≡◌, ◌≤◌, ◌<◌, ℕ, List, [], IfOk, MatchOption};
+ghost use Rattle.std.specs.Prelude.{◌≡◌, ◌≤◌, ◌<◌, ℕ, false, List, [], IfOk, MatchOption};
 ghost use Rattle.sap_terms.specs.Tree.{Tree};
+ghost use Rattle.sap_terms.specs.Variables.{is_known};
 ghost use Rattle.sap_macro.specs.Expansion.{with_uses};
 ghost use Rattle.sap_macro.specs.Order.{AreInOrder};
 ghost use Rattle.sap_macro.specs.Sources.{definition_of, definitions, written};
 ghost use Rattle.sap_macro.specs.Written.{call};
-ghost use Rattle.sap_macro.specs.Indexed.{AreIndexed};
-ghost use Rattle.sap_macro.specs.code.Steps.{IsFormed, IsResolved, IsUnknown, plain_of, steps_in};
+ghost use Rattle.sap_macro.specs.Indexed.{AreIndexed, IsDefined, defined};
+ghost use Rattle.sap_macro.specs.code.Steps.{IsFormed, plain_of, steps_in};
 
 use crate::definition::{Definition, DefinitionList};
 use crate::source::Source;
@@ -28,16 +29,15 @@ pub fn index_of(alloc: Global, defs: &DefinitionList) -> Result<Index, Mem>
     Ok(index)
 }
 
-/// The definition of this name.
-pub(crate) fn found<'a>(
+/// The definition of this name, if there is one; `index` is what `index_of` gives of the definitions. It takes no memory.
+pub fn definition_named<'a>(
     defs: &'a DefinitionList,
     index: &Index,
     name: &Name,
 ) -> Option<&'a Definition>
-    requires order { AreInOrder [] (definitions defs.now) }
-    requires index { AreIndexed (definitions defs.now) index.now }
-    ensures unknown { MatchOption result (IsUnknown (definitions defs.now) name.now)
-        (λ d. IsResolved (definitions defs.now) (definition_of d.now) × (d.now.name ≡ name.now)) }
+    requires { AreIndexed (definitions defs.now) index.now }
+    ensures { MatchOption result (is_known (defined (definitions defs.now)) name.now ≡ false)
+        (λ d. IsDefined (definitions defs.now) name.now (definition_of d.now)) }
 {
     match index.get(name) {
         None => None,
@@ -56,9 +56,10 @@ fn plain_body<'a>(defs: &'a DefinitionList, index: &Index, name: &Name) -> Optio
         × (steps_in (definitions defs.now) (written p.now) < steps_in (definitions defs.now)
         (call name.now []))) }
 {
-    match found(defs, index, name) {
+    match definition_named(defs, index, name) {
+        None => None,
         Some(d) if d.params.len() == 0 => Some(&d.body),
-        _ => None,
+        Some(_) => None,
     }
 }
 

@@ -5,7 +5,6 @@ mod below;
 mod binders;
 mod building;
 mod by_hand;
-mod causes;
 mod chosen;
 mod definition;
 mod heads;
@@ -18,9 +17,8 @@ mod standing;
 
 pub use building::build;
 pub use by_hand::{equal_up_to_names_by_hand, expansions_by_hand, macro_causes_by_hand};
-pub use causes::{first_other_count, first_parameter_twice};
 pub use definition::{Definition, DefinitionList};
-pub use index::{Index, index_of};
+pub use index::{Index, definition_named, index_of};
 pub use laws::{
     expansions_are_one, new_names_are_least, new_names_are_short, plain_files_stay,
     plain_names_stand_for_bodies, same_up_to_names_show_the_same, sizes_are_one,

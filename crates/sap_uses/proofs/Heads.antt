@@ -4,6 +4,9 @@ use Rattle.std.specs.Prelude.{if◌then◌else◌}
 use Rattle.sap_process.specs.Action.{Action}
 use Rattle.sap_terms.specs.Tree.{Tree}
 use Rattle.sap_terms.specs.declared.var.Var.{Var}
+use Rattle.sap_terms.specs.Variables.{is_known}
+use Rattle.sap_macro.specs.Indexed.{defined}
+use Rattle.sap_uses.proofs.Resolving.{unknown}
 use Rattle.sap_macro.specs.Written.{Written, nil, call, parallel, replicated, act, test, lookup, Definition}
 use Rattle.sap_macro.specs.Sources.{written}
 use Rattle.sap_macro.specs.declared.source.Source.{Source}
@@ -12,7 +15,7 @@ use Rattle.sap_uses.specs.declared.large.Reached.{Reached}
 use Rattle.sap_uses.specs.declared.large.Reached.TheVariants.{Large, Body}
 use Rattle.sap_uses.specs.declared.met.Met.{Met}
 use Rattle.sap_uses.specs.declared.met.Met.TheVariants.{Nothing, Plain, Use, One, Two}
-use Rattle.sap_uses.specs.code.Walks.{Cost, Heavy, Sizes, cost_of, has_heavy, heavy, heavy_at, heavy_of, heavy_use, put_sizes, sizes_of, steps, steps_in, IsResolved, IsUnknown}
+use Rattle.sap_uses.specs.code.Walks.{Cost, Heavy, Sizes, cost_of, has_heavy, heavy, heavy_at, heavy_of, heavy_use, put_sizes, sizes_of, steps, steps_in, IsResolved}
 
 positive : (c : Cost) (w : Written) → 0 < steps c w
 positive c nil = omega arith
@@ -27,9 +30,9 @@ pub met_nil : (ds : List Definition) → IsNothing ds nil
 unfolding heavy
 met_nil ds = record { found = λ z. refl }
 
-pub met_unknown : (ds : List Definition) (f : List ℕ) (ts : List Tree) → IsUnknown ds f → IsNothing ds (call f ts)
+pub met_unknown : (ds : List Definition) (f : List ℕ) (ts : List Tree) → is_known (defined ds) f ≡ false → IsNothing ds (call f ts)
 unfolding heavy
-met_unknown ds f ts h = record { found = λ z. h.found z ts }
+met_unknown ds f ts h = record { found = λ z. (unknown ds f h).found z ts }
 
 pub met_replicated : (ds : List Definition) (p : Written) → IsOne ds (replicated p) p
 unfolding heavy steps_in

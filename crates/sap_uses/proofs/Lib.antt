@@ -1,6 +1,7 @@
 pub mod Names
 pub mod Resolving
 pub mod Entries
+pub mod Counted
 pub mod Heads
 pub mod Fitting
 pub mod Expanded

@@ -6,7 +6,7 @@ use Rattle.sap_terms.specs.Tree.{Tree}
 use Rattle.sap_terms.specs.Variables.{is_known}
 use Rattle.sap_macro.specs.Order.{AreInOrder, UsesOnly}
 use Rattle.sap_macro.specs.Written.{Written, nil, call, parallel, replicated, act, test, lookup, Definition}
-use Rattle.sap_uses.specs.code.Indices.{defined}
+use Rattle.sap_macro.specs.Indexed.{defined, IsDefined}
 use Rattle.sap_uses.specs.code.Walks.{Sizes, Heavy, heavy_in, heavy_at, with_heavy, none_heavy, heavy_after, has_heavy, put_sizes, sizes_of, Cost, steps, with_cost, cost_after, IsResolved, IsResolvedBy, IsUnknown}
 use Rattle.sap_uses.proofs.Names.{own_name, apart, clash, in_head, in_tail, not_in, out_of}
 
@@ -90,8 +90,8 @@ resolved_at (d ∷ ds) known m c h zero e is =
     subst (λ z. IsResolvedBy (heavy_after m (d ∷ ds)) (cost_after c (d ∷ ds)) z) same (here known m c d ds h)
 resolved_at (d ∷ ds) known m c h (suc k) e is = resolved_at ds (d.name ∷ known) (with_heavy m d) (with_cost c d) h.1.1 k e is
 
-pub resolved : (ds : List Definition) (k : ℕ) (d : Definition) → AreInOrder [] ds → slice_get ds k ≡ Some d → IsResolved ds d
-resolved ds k d h is = resolved_at ds [] none_heavy (λ f. 0) h k d is
+pub resolved : (ds : List Definition) (f : List ℕ) (d : Definition) → AreInOrder [] ds → IsDefined ds f d → IsResolved ds d
+resolved ds f d h is = resolved_at ds [] none_heavy (λ f. 0) h is.at d is.stands
 
 pub unknown : (ds : List Definition) (f : List ℕ) → is_known (defined ds) f ≡ false → IsUnknown ds f
 unknown ds f h = record { found = λ z ts. heavy_stays ds none_heavy f z ts h }

@@ -1,5 +1,5 @@
 -- What the code does, step by step: no public contract cites what stands below.
-pub mod Indices
+pub mod Noted
 pub mod Walks
 pub mod Met
 pub mod Marks

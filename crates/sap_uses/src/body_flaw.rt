@@ -9,10 +9,9 @@ ghost use Rattle.sap_macro.specs.Seen.{seen};
 ghost use Rattle.sap_macro.specs.Sources.{definition_of, definitions, written};
 ghost use Rattle.sap_macro.specs.UpToNames.{named};
 ghost use Rattle.sap_uses.specs.ScopeFlaws.{params_in_scope};
-ghost use Rattle.sap_uses.specs.code.Indices.{AreIndexed};
+ghost use Rattle.sap_macro.specs.Indexed.{AreIndexed};
 
-use crate::index::Index;
-use sap_macro::{Definition, DefinitionList, seen};
+use sap_macro::{Definition, DefinitionList, Index, seen};
 use sap_process::{Flaw, first_scope_flaw};
 use sap_terms::{Copied, Mem, NameList, Path, Sort, Var, Vars};
 use std::alloc::Global;

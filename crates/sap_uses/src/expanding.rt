@@ -11,12 +11,11 @@ ghost use Rattle.sap_uses.specs.code.Checked.{AreAbsent, IsCauseFrom};
 ghost use Rattle.sap_uses.specs.declared.fault.MacroFault.{MacroFault as Fault};
 ghost use Rattle.sap_uses.specs.declared.fault.MacroFault.TheVariants.{Mem as OutOfMemory};
 
+use crate::causes::{first_other_count, first_parameter_twice};
 use crate::fault::MacroFault;
 use crate::flawed::first_flawed;
 use crate::large::first_large;
-use sap_macro::{
-    DefinitionList, Source, build, expanded_size, first_other_count, first_parameter_twice,
-};
+use sap_macro::{DefinitionList, Source, build, expanded_size};
 use sap_process::Process;
 use sap_terms::{MOST_PROCESS_LEVELS, MOST_PROCESS_PLACES, NameList};
 use std::alloc::Global;

@@ -8,13 +8,12 @@ ghost use Rattle.sap_macro.specs.Order.{AreInOrder};
 ghost use Rattle.sap_macro.specs.Sources.{definition_of, definitions, written};
 ghost use Rattle.sap_macro.specs.Written.{Written};
 ghost use Rattle.sap_uses.specs.ScopeFlaws.{IsFirstFlawedBehind};
-ghost use Rattle.sap_uses.specs.code.Indices.{AreIndexed};
+ghost use Rattle.sap_macro.specs.Indexed.{AreIndexed};
 ghost use Rattle.sap_uses.specs.code.Marks.{AreReached, IsFlawedThere};
 
 use crate::body_flaw::body_flaw;
-use crate::index::{Index, index_of};
 use crate::reached::reached;
-use sap_macro::{Definition, DefinitionList, Source, plain_names_stand_for_bodies};
+use sap_macro::{Definition, DefinitionList, Index, Source, index_of, plain_names_stand_for_bodies};
 use sap_process::Flaw;
 use sap_terms::{Copied, Mem, Name, NameSet, Path};
 use std::alloc::Global;

@@ -3,14 +3,13 @@ ghost use Rattle.std.specs.Prelude.{◌≡◌, [], IfOk};
 ghost use Rattle.sap_macro.specs.Order.{AreInOrder};
 ghost use Rattle.sap_macro.specs.Sources.{definition_of, definitions, written};
 ghost use Rattle.sap_uses.specs.UseCauses.{first_large};
-ghost use Rattle.sap_uses.specs.code.Indices.{AreIndexed};
+ghost use Rattle.sap_macro.specs.Indexed.{AreIndexed};
 ghost use Rattle.sap_uses.specs.code.Met.{IsEntered, IsReached};
 ghost use Rattle.sap_uses.specs.code.Walks.{heavy, size_in};
 
-use crate::index::{Index, index_of};
 use crate::met::{Met, met_at};
 use crate::sizes::{Sizes, by_params, has_large};
-use sap_macro::{Definition, DefinitionList, Source};
+use sap_macro::{Definition, DefinitionList, Index, Source, index_of};
 use sap_terms::{Copied, Mem, Name, NameMap, TermList};
 use std::alloc::Global;
 

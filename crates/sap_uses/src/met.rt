@@ -2,11 +2,10 @@
 ghost use Rattle.std.specs.Prelude.{[]};
 ghost use Rattle.sap_macro.specs.Order.{AreInOrder};
 ghost use Rattle.sap_macro.specs.Sources.{definitions, written};
-ghost use Rattle.sap_uses.specs.code.Indices.{AreIndexed};
+ghost use Rattle.sap_macro.specs.Indexed.{AreIndexed};
 ghost use Rattle.sap_uses.specs.code.Met.{IsMet};
 
-use crate::index::{Index, found};
-use sap_macro::{Definition, DefinitionList, Source};
+use sap_macro::{Definition, DefinitionList, Index, Source, definition_named};
 use sap_terms::TermList;
 
 /// What is met at a process whose names without parameters are replaced.
@@ -33,7 +32,7 @@ fn met_first<'a>(defs: &'a DefinitionList, index: &Index, source: &'a Source) ->
 {
     match source {
         Source::Nil => Met::Nothing,
-        Source::Call(name, args) => match found(defs, index, name) {
+        Source::Call(name, args) => match definition_named(defs, index, name) {
             None => Met::Nothing,
             Some(d) if d.params.len() == 0 => Met::Plain(&d.body),
             Some(d) => Met::Use(d, args),

@@ -5,7 +5,7 @@ use Rattle.sap_terms.specs.declared.var.Var.{Var}
 use Rattle.sap_process.specs.Instance.{action_instance}
 use Rattle.sap_process.specs.Proc as whole
 use Rattle.sap_process.specs.Proc.{Proc}
-use Rattle.sap_macro.specs.Expansion.{Plain, binding, binding_vars, expanded_as, with_uses}
+use Rattle.sap_macro.specs.Expansion.{binding, binding_vars, with_uses}
 use Rattle.sap_macro.specs.Sources.{written}
 use Rattle.sap_macro.specs.Seen.{seen}
 use Rattle.sap_macro.specs.UpToNames.{named}

@@ -1,4 +1,3 @@
-use Rattle.std.proofs.Common.{ℕ, List, Bool}
 use Rattle.std.specs.Prelude.{is_some}
 use Rattle.sap_terms.specs.NameMap.{value_at}
 use Rattle.sap_macro.specs.Sources.{definitions, written}

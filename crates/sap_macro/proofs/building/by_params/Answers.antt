@@ -1,4 +1,4 @@
-use Rattle.std.proofs.Common.{◌≤◌, ◌-◌, length, arith}
+use Rattle.std.proofs.Common.{arith}
 use Rattle.sap_macro.proofs.Entries.{params_next}
 use Rattle.sap_macro.proofs.building.by_params.Goals as goal
 

@@ -1,4 +1,4 @@
-use Rattle.std.proofs.Common.{ℕ, List, Bool, ap, ◌∙◌, []}
+use Rattle.std.proofs.Common.{ℕ, List, ap, ◌∙◌, []}
 use Rattle.std.specs.Prelude.{is_some}
 use Rattle.sap_terms.specs.NameMap.{value_at}
 use Rattle.sap_macro.specs.Expansion.{with_uses}

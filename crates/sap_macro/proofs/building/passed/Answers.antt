@@ -1,7 +1,5 @@
-use Rattle.std.proofs.Common.{◌<◌, ◌≤◌, ◌≡◌, ap, sym, ◌∙◌, subst, arith, map}
-use Rattle.sap_terms.specs.Choice.{instance}
+use Rattle.std.proofs.Common.{◌≤◌, ap, ◌∙◌, subst, arith}
 use Rattle.sap_macro.specs.Sources.{definition_of, definitions, written}
-use Rattle.sap_macro.specs.code.Standings.{choice_of}
 use Rattle.sap_macro.specs.code.Steps.{built, steps_in}
 use Rattle.sap_macro.proofs.Built.{built_same, built_use, steps_use}
 use Rattle.sap_macro.proofs.building.passed.Goals as goal

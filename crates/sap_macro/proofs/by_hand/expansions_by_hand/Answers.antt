@@ -24,6 +24,13 @@ pub returns-clause-inner_later : goal.returns-clause-inner_later
 unfolding digits
 returns-clause-inner_later c = refl
 
+pub returns-clause-no_new_parameter : goal.returns-clause-no_new_parameter
+unfolding digits
+returns-clause-no_new_parameter c = refl
+
+pub returns-clause-no_argument : goal.returns-clause-no_argument
+returns-clause-no_argument c = refl
+
 pub returns-clause-sapic : goal.returns-clause-sapic
 unfolding digits
 returns-clause-sapic c = refl

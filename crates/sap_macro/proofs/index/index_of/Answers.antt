@@ -1,4 +1,4 @@
-use Rattle.std.proofs.Common.{◌≡◌, ℕ, List, Some, subst}
+use Rattle.std.proofs.Common.{ℕ, List, Some, subst}
 use Rattle.sap_terms.specs.NameMap.{Puts}
 use Rattle.sap_macro.specs.Sources.{definition_of, definitions}
 use Rattle.sap_macro.proofs.Entries.{one_indexed, there}

@@ -1,4 +1,3 @@
-use Rattle.std.proofs.Common.{ℕ, List}
 use Rattle.sap_terms.specs.NameMap.{value_at}
 use Rattle.sap_macro.specs.Sources.{definition_of, definitions}
 use Rattle.sap_macro.specs.code.Sizes.{deeper, levels_kept, levels_of, nodes_kept, nodes_of, plus}

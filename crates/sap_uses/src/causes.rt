@@ -7,10 +7,9 @@ ghost use Rattle.sap_terms.specs.NameMap.{value_at};
 ghost use Rattle.sap_terms.specs.Variables.{is_known};
 ghost use Rattle.sap_macro.specs.MacroCauses.{all_uses, first_twice, first_other, first_other_count, first_parameter_twice, parameter_count, uses};
 ghost use Rattle.sap_macro.specs.Sources.{definitions, written};
-ghost use Rattle.sap_macro.specs.code.Noted.{AreNoted};
+ghost use Rattle.sap_uses.specs.code.Noted.{AreNoted};
 
-use crate::definition::DefinitionList;
-use crate::source::Source;
+use sap_macro::{DefinitionList, Source};
 use sap_terms::{Copied, Mem, Name, NameList, NameMap, NameSet};
 use std::alloc::Global;
 

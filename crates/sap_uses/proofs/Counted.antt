@@ -10,7 +10,7 @@ use Rattle.sap_terms.specs.Variables.{is_known}
 use Rattle.sap_terms.proofs.PlainLaws.Lists.{drop_got}
 use Rattle.sap_macro.specs.MacroCauses.{Use, all_uses, first_other, first_other_count, first_parameter_twice, first_twice, parameter_count, uses}
 use Rattle.sap_macro.specs.Written.{Written, Definition}
-use Rattle.sap_macro.specs.code.Noted.{AreNoted}
+use Rattle.sap_uses.specs.code.Noted.{AreNoted}
 
 pub other_append : (count : List ℕ → ℕ) (us vs : List Use) → first_other count (us ++ vs) ≡ option_or (first_other count us) (first_other count vs)
 other_append count [] vs = refl

@@ -3,9 +3,9 @@ use Rattle.std.specs.Option.{option_copied, unwrap_or}
 use Rattle.sap_terms.specs.NameMap.{value_at}
 use Rattle.sap_macro.specs.MacroCauses.{first_other, uses}
 use Rattle.sap_macro.specs.Sources.{definition_of, definitions, written}
-use Rattle.sap_macro.proofs.Counted.{counts_found, counts_pass}
-use Rattle.sap_macro.proofs.Entries.{there}
-use Rattle.sap_macro.proofs.causes.other_count.Goals as goal
+use Rattle.sap_uses.proofs.Counted.{counts_found, counts_pass}
+use Rattle.sap_uses.proofs.Entries.{there}
+use Rattle.sap_uses.proofs.causes.other_count.Goals as goal
 
 pub returns-in-Some : goal.returns-in-Some
 returns-in-Some c =
