@@ -4,8 +4,8 @@ use Rattle.std.specs.Prelude.{codes, if◌then◌else◌}
 use Rattle.std.specs.Str.{bytes_eq}
 use Rattle.sap_sample.specs.Sample.{IsSample, sample_words}
 use Rattle.sap_tool.specs.Commands.{Command, compile, replay, fill, check, to_json, from_json, explain, spelled}
-use Rattle.sap_tool.specs.declared.task.Task.{Task}
-use Rattle.sap_tool.specs.declared.task.Task.TheVariants.{ToRules, ToProcess, Judge, Tell, Chart}
+use Rattle.sap_replay.specs.declared.task.Task.{Task}
+use Rattle.sap_replay.specs.declared.task.Task.TheVariants.{ToRules, ToProcess, Judge, Tell, Chart}
 use Rattle.sap_tool.specs.declared.way.Way.{Way}
 use Rattle.sap_tool.specs.declared.way.Way.TheVariants.{Plain, Inlined, Short}
 use Rattle.sap_tool.proofs.Some.{one_some}

@@ -18,7 +18,7 @@ use Rattle.sap_theory.specs.ReadTheory.{IsTheoryRead, accepted}
 use Rattle.sap_statements.specs.Stated.{AreFaultless, restrictions_of, lemmas_of}
 use Rattle.sap_theory.specs.TheoryCauses.{IsPlainRule}
 use Rattle.sap_theory.specs.TheoryGrammar.{signature_of, items_of, rules_in, statements_in}
-use Rattle.sap_tool.specs.code.Checked.{IsCheckable}
+use Rattle.sap_replay.specs.Replays.{IsCheckable}
 
 well_made : (g : Sig) (rs : List Rule) → All (IsRuleOver g) rs → All IsPlainRule rs → All (IsWellMade g) rs
 well_made g [] a b = All-nil (IsWellMade g)

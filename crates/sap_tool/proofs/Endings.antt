@@ -7,24 +7,23 @@ use Rattle.sap_run_texts.specs.declared.run.Kinds.TheVariants as kinds
 use Rattle.sap_run_texts.specs.declared.run.Run.{Run}
 use Rattle.sap_tool.specs.AcceptedFile.{IsAcceptedFile}
 use Rattle.sap_tool.specs.AcceptedTheory.{IsAcceptedTheory}
-use Rattle.sap_tool.specs.Replays.{IsCheckedText}
+use Rattle.sap_replay.specs.Replays.{IsCheckedText}
 use Rattle.sap_outside.specs.Outside.{Files, Rose, IsFetched}
 use Rattle.sap_outside.specs.Requests.{Request, Requested, fetch, for_run}
-use Rattle.sap_outside.specs.RunPieces.{IsJoined, may_come, WasRead, WasGivenUp, IsRunAnswer, most_run_bytes}
+use Rattle.sap_outside.specs.RunPieces.{IsJoined, may_come, WasRead, IsRunAnswer, most_run_bytes}
 use Rattle.sap_tool.specs.Call.{Call, FailedOn, AskedFor}
-use Rattle.sap_tool.specs.Commands.{Command, replay, fill, check, to_json, from_json, Input, alone, and_run, run_alone, file_of, run_of, HowRead, in_pieces, at_once, how_read, limit_of, kinds_of, Accepts, Refuses, RefusesRun, Writes}
+use Rattle.sap_tool.specs.Commands.{Command, replay, fill, check, to_json, from_json, Input, alone, and_run, run_alone, file_of, run_of, HowRead, in_pieces, at_once, how_read, limit_of, Accepts, Refuses, RefusesRun}
+use Rattle.sap_replay.specs.Tasks.{kinds_of, Writes}
 use Rattle.sap_tool.specs.Answers.{tells, IsAnswerTo, allowed, refused, run_refused, Asks, for_file, IsFileFetched, WasReadSo, WasGivenUpSo, WasRunRead, WasRunGivenUp, IsRunNext, IsAnswer, to_input, usage, unread, unread_run, asked_file, asked_run, asked_both}
 use Rattle.sap_refusals.specs.Refusals.{refused_line}
 use Rattle.sap_refusals.specs.RunFaultTexts.{run_refused_line}
-use Rattle.sap_tool.specs.JsonRuns.{IsJsonOf, IsRunOfJson, IsJsonRefusedWith}
-use Rattle.sap_tool.specs.RunRefusals.{IsIllegal, IsIllegalOfTheory, IsNeverIllegal}
+use Rattle.sap_replay.specs.JsonRuns.{IsJsonOf, IsRunOfJson, IsJsonRefusedWith}
+use Rattle.sap_replay.specs.RunRefusals.{IsIllegal, IsIllegalOfTheory, IsNeverIllegal, IsLineOf, IsRunRefusal}
 use Rattle.sap_tool.specs.code.Endings.{Ends, EndsFile, EndsBoth, HasRead, HasGivenUp, Reading, ending_of, refused_ending}
-use Rattle.sap_tool.specs.ShortRuns.{IsShortRefusedWith}
-use Rattle.sap_tool.specs.code.Filled.{IsFilledOf}
-use Rattle.sap_tool.specs.code.Refused.{IsLineOf, IsRunRefusal}
+use Rattle.sap_replay.specs.ShortRuns.{IsShortRefusedWith, IsFilledOf}
 use Rattle.sap_refusals.specs.declared.refusal.Refusal.{Refusal}
 use Rattle.sap_refusals.specs.declared.refusal.Refusal.TheVariants as refusal
-use Rattle.sap_tool.specs.declared.task.Task.{Task}
+use Rattle.sap_replay.specs.declared.task.Task.{Task}
 use Rattle.sap_tool.specs.declared.ending.Ending.{Ending}
 use Rattle.sap_tool.specs.declared.ending.Ending.TheVariants as ending
 use Rattle.sap_tool.proofs.Appending.{usage_is, read_fault_is}

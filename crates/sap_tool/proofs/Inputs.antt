@@ -1,36 +1,34 @@
 -- What a command allows, refuses and takes of what it read, and of what is held.
-use Rattle.std.proofs.Common.{◌≡◌, ◌+◌, ℕ, List, take, Option, Some, None, refl, sym, ap, subst, ◌∙◌}
+use Rattle.std.proofs.Common.{◌≡◌, ◌+◌, ℕ, List, take, Option, Some, None, sym, ap, subst, ◌∙◌}
 use Rattle.std.specs.Prelude.{Ok, All}
 use Rattle.std.specs.FinMap as files
 use Rattle.sap_terms.specs.Signature.{HoldsBuiltins}
 use Rattle.sap_macro.specs.UsesAreInstances.{UsesAreInstances}
-use Rattle.sap_read.specs.Files.{FileContent, IsRunnable}
+use Rattle.sap_read.specs.Files.{FileContent}
 use Rattle.sap_rule.specs.WellMade.{IsWellMade}
 use Rattle.sap_rule.specs.declared.theory.Theory.{Theory}
 use Rattle.sap_run_texts.specs.declared.run.Kinds.TheVariants.{Rules, Either}
-use Rattle.sap_run_texts.specs.declared.run.Run.{Run}
 use Rattle.sap_theory.specs.ReadTheory.{IsTheoryRead}
 use Rattle.sap_outside.specs.Outside.{Files, IsFetched, IsFirstPart}
 use Rattle.sap_outside.specs.RunPieces.{IsReadUp}
+use Rattle.sap_terms.specs.declared.limits.TheConstants.{MOST_FILE_NAME_BYTES}
+use Rattle.sap_read.specs.Printable.{IsPrintableFile}
+use Rattle.sap_read.specs.declared.limits.TheConstants.{MOST_NEW_NAME_BYTES}
+use Rattle.sap_intruder.specs.FilledRuns.{FilledRunsAreLegal}
+use Rattle.sap_runs.specs.Limits.{HasFewNodes}
+use Rattle.sap_replay.specs.Laws.{TextsMeanWhatTheySay, RefusedRunsHaveOneCause, LegalRunsAreNotRefused}
 use Rattle.sap_tool.specs.AcceptedFile.{IsAcceptedFile}
 use Rattle.sap_tool.specs.Call.{Holds}
 use Rattle.sap_tool.specs.declared.way.Way.{Way}
-use Rattle.sap_tool.specs.Commands.{Command, compile, replay, fill, check, to_json, from_json, explain, Input, alone, and_run, run_alone, limit_of, kinds_of, Accepts, Refuses, RefusesRun, TakesRun, Allows, Means}
-use Rattle.sap_tool.specs.ShortRuns.{IsShortRefusedWith}
-use Rattle.sap_tool.specs.RunRefusals.{IsIllegal, IsIllegalOfTheory, IsNeverIllegal, IsRunRefusedWith, no_run, illegal}
-use Rattle.sap_tool.proofs.Legal as legal
-use Rattle.sap_tool.proofs.Legal.{file_ready, seen_is_legal, never_illegal, never_illegal_of_theory}
+use Rattle.sap_tool.specs.Commands.{Command, compile, replay, fill, check, to_json, from_json, explain, Input, alone, and_run, run_alone, limit_of, Accepts, Refuses, RefusesRun, TakesRun, Allows, Means}
+use Rattle.sap_replay.specs.Tasks.{kinds_of}
+use Rattle.sap_replay.specs.ShortRuns.{IsShortRefusedWith}
+use Rattle.sap_replay.specs.RunRefusals.{IsIllegal, IsIllegalOfTheory, IsNeverIllegal, IsRunRefusedWith}
 use Rattle.sap_tool.proofs.Takes.{allowed_takes}
-use Rattle.sap_tool.proofs.Meant as meant
-use Rattle.sap_tool.proofs.Meant.{CanBePrinted, written_says}
-use Rattle.sap_tool.proofs.JsonMeant as json
 use Rattle.sap_tool.specs.Meaning.{IsWritten}
-use Rattle.sap_tool.proofs.JsonMeant.{json_is_read, run_is_read}
-use Rattle.sap_tool.proofs.ShortRefused as short
-use Rattle.sap_tool.proofs.ShortRefused.{filled_is_legal, legal_not_refused, one_short_cause, short_read_up_refused, short_refused_by_read_up}
-use Rattle.sap_tool.proofs.JsonRefused.{OneJson, one_json_cause, json_not_refused, json_part_refused, json_refused_by_part}
-use Rattle.sap_tool.proofs.OneRefusal.{one_run_cause}
-use Rattle.sap_tool.proofs.Parts.{OneRun, not_both, same_run, read_up_refused, refused_by_read_up}
+use Rattle.sap_tool.proofs.ShortRefused.{filled_is_legal, short_read_up_refused, short_refused_by_read_up}
+use Rattle.sap_tool.proofs.JsonRefused.{json_part_refused, json_refused_by_part}
+use Rattle.sap_tool.proofs.Parts.{read_up_refused, refused_by_read_up}
 use Rattle.sap_tool.proofs.Refused.{OneReading, OneCompiled, Runnable, Keeping, Writing, one_cause, one_theory, same_file, not_refused, part_refused, part_accepted, refused_by_part, accepted_by_part}
 use Rattle.sap_tool.proofs.WhyMeant.{why_means}
 use Rattle.sap_tool.proofs.TheoryRefused.{OneTheory, same_theory, one_theory_cause, theory_not_refused, theory_part_refused, theory_refused_by_part, theory_part_accepted, theory_accepted_by_part}
@@ -44,22 +42,17 @@ pub record IsRunnableTheory (t : Theory) : Type 0 where
 pub record Laws : Type 0 where
   pub keeping : Keeping
   pub runnable : Runnable
-  pub printed : (z : List ℕ) (f : FileContent) → IsAcceptedFile z f → CanBePrinted f
+  pub printed : (z : List ℕ) (f : FileContent) → IsAcceptedFile z f → IsPrintableFile MOST_FILE_NAME_BYTES MOST_NEW_NAME_BYTES f
   pub writing : Writing
   pub instances : UsesAreInstances
   pub one_compiled : OneCompiled
   pub one : OneReading
   pub one_theory : OneTheory
-  pub one_run : OneRun
   pub theories : (z : List ℕ) (t : Theory) → IsTheoryRead z (Ok t) → IsRunnableTheory t
-  pub legal : legal.Laws
-  pub meant : meant.Laws
-  pub json : json.Laws
-  pub one_json : OneJson
-  pub short : short.Laws
-  pub one_illegal : (f : FileContent) (r : Run) (why other : List ℕ) → IsRunnable f → IsIllegal f r why → IsIllegal f r other → why ≡ other
-  pub one_illegal_of_theory : (t : Theory) (r : Run) (why other : List ℕ) → HoldsBuiltins t.signature → All (IsWellMade t.signature) t.rules → IsIllegalOfTheory t r why → IsIllegalOfTheory t r other
-      → why ≡ other
+  pub meant : TextsMeanWhatTheySay
+  pub one_cause : RefusedRunsHaveOneCause
+  pub unrefused : LegalRunsAreNotRefused
+  pub filled : FilledRunsAreLegal HasFewNodes
 
 -- what an allowed text means
 pub means : Laws → (k : Command) (input : Input) (text : List ℕ) → Allows k input text → Means k input text
@@ -80,12 +73,12 @@ means laws (replay task file run) (and_run bytes z) text t =
       file = t.file;
       lines = t.lines;
       read = t.read;
-      written = written_says laws.meant (kinds_of task) z t.told (laws.runnable bytes t.told t.file.read) (laws.printed bytes t.told t.file) task t.lines text t.read t.written;
+      written = laws.meant.written task t.told (kinds_of task) z t.lines text (laws.runnable bytes t.told t.file.read) (laws.printed bytes t.told t.file) t.read t.written;
     }
-means laws (fill file run) (and_run bytes z) text t = filled_is_legal laws.short bytes z text t
+means laws (fill file run) (and_run bytes z) text t = filled_is_legal laws.filled bytes z text t
 means laws (check theory run) (and_run bytes z) text t = t
-means laws (to_json run) (run_alone z) text t = json_is_read laws.json z text t
-means laws (from_json json) (alone bytes) text t = run_is_read laws.json bytes text t
+means laws (to_json run) (run_alone z) text t = laws.meant.as_json z text t
+means laws (from_json json) (alone bytes) text t = laws.meant.of_json bytes text t
 means laws (explain file) (alone bytes) text t = why_means laws.one bytes text t
 means laws k input text t = absurd t
 
@@ -102,39 +95,25 @@ accepted_never laws (explain file) bytes why a r = absurd r
 -- no run is both taken and refused
 pub never_taken : Laws → (k : Command) (input : Input) (why : List ℕ) → TakesRun k input → RefusesRun k input why → ⊥
 never_taken laws (replay task file run) (and_run bytes z) why t r =
-    at r.0 why (same_file laws.one bytes t.told r.0 t.file.read r.1.read) r.2
-  where
-    at : (f : FileContent) (w : List ℕ) → t.told ≡ f → IsRunRefusedWith (kinds_of task) (IsIllegal f) z w → ⊥
-    at f _ same (no_run {e = e} a) = not_both laws.one_run (kinds_of task) z t.lines e t.read a
-    at f w same (illegal {r = s} a bad) =
-        let lines : t.lines ≡ s = same_run laws.one_run (kinds_of task) z t.lines s t.read a in
-        never_illegal laws.legal t.told (laws.runnable bytes t.told t.file.read) t.lines w (seen_is_legal t.told t.lines t.trace t.seen)
-        (subst (λ (x : FileContent). IsIllegal x t.lines w) (sym same) (subst (λ (x : Run). IsIllegal f x w) (sym lines) bad))
+    let same : r.0 ≡ t.told = same_file laws.one bytes r.0 t.told r.1.read t.file.read in
+    laws.unrefused.file t.told (kinds_of task) z why t.lines t.trace (laws.runnable bytes t.told t.file.read) t.read t.seen
+    (subst (λ (f : FileContent). IsRunRefusedWith (kinds_of task) (IsIllegal f) z why) same r.2)
 never_taken laws (fill file run) (and_run bytes z) why t r =
     let same : r.0 ≡ t.told = same_file laws.one bytes r.0 t.told r.1.read t.file.read in
-    let can = laws.runnable bytes t.told t.file.read in
-    legal_not_refused laws.short z t.told can.builtins (file_ready laws.legal t.told can) bytes why t refl
+    laws.unrefused.short t.told z why t.run t.config t.trace t.marks (laws.runnable bytes t.told t.file.read) t.read t.legal
     (subst (λ (f : FileContent). IsShortRefusedWith f z why) same r.2)
 never_taken laws (check theory run) (and_run bytes z) why t r =
-    at r.0 why (same_theory laws.one_theory bytes t.theory r.0 t.file r.1) r.2
-  where
-    at : (u : Theory) (w : List ℕ) → t.theory ≡ u → IsRunRefusedWith Rules (IsIllegalOfTheory u) z w → ⊥
-    at u _ same (no_run {e = e} a) = not_both laws.one_run Rules z t.lines e t.read a
-    at u w same (illegal {r = s} a bad) =
-        let lines : t.lines ≡ s = same_run laws.one_run Rules z t.lines s t.read a in
-        let can = laws.theories bytes t.theory t.file.read in
-        never_illegal_of_theory laws.legal.rules t.theory can.builtins can.made t.lines t.full w t.shown
-        (subst (λ (x : Theory). IsIllegalOfTheory x t.lines w) (sym same) (subst (λ (x : Run). IsIllegalOfTheory u x w) (sym lines) bad))
-never_taken laws (to_json run) (run_alone z) why t r = at why r where
-  at : (w : List ℕ) → IsRunRefusedWith Either IsNeverIllegal z w → ⊥
-  at _ (no_run {e = e} a) = not_both laws.one_run Either z t.0 e t.1 a
-  at w (illegal a bad) = bad
-never_taken laws (from_json json) (alone bytes) why t r = json_not_refused laws.one_json bytes why t.0 r t.1
+    let same : r.0 ≡ t.theory = same_theory laws.one_theory bytes r.0 t.theory r.1 t.file in
+    let can = laws.theories bytes t.theory t.file.read in
+    laws.unrefused.theory t.theory z why t.lines t.full can.builtins can.made t.read t.shown
+    (subst (λ (u : Theory). IsRunRefusedWith Rules (IsIllegalOfTheory u) z why) same r.2)
+never_taken laws (to_json run) (run_alone z) why t r = laws.unrefused.alone z why t.0 t.1 r
+never_taken laws (from_json json) (alone bytes) why t r = laws.unrefused.json bytes why t.0 t.1 r
 never_taken laws k input why t r = absurd r
 
 -- so none is both allowed a text and refused
 pub never_run : Laws → (k : Command) (input : Input) (text why : List ℕ) → Allows k input text → RefusesRun k input why → ⊥
-never_run laws k input text why t r = never_taken laws k input why (allowed_takes laws.short laws.meant.told k input text why t r) r
+never_run laws k input text why t r = never_taken laws k input why (allowed_takes laws.filled laws.meant k input text why t r) r
 
 -- and they are refused for one cause
 pub one_why : Laws → (k : Command) (bytes why other : List ℕ) → Refuses k bytes why → Refuses k bytes other → why ≡ other
@@ -150,20 +129,19 @@ one_why laws (explain file) bytes why other r s = absurd r
 pub one_run_why : Laws → (k : Command) (input : Input) (why other : List ℕ) → RefusesRun k input why → RefusesRun k input other → why ≡ other
 one_run_why laws (replay task file run) (and_run bytes z) why other r s =
     let same : s.0 ≡ r.0 = same_file laws.one bytes s.0 r.0 s.1.read r.1.read in
-    one_run_cause laws.one_run (kinds_of task) z (IsIllegal r.0) (λ x w v. laws.one_illegal r.0 x w v (laws.runnable bytes r.0 r.1.read)) why other r.2
+    laws.one_cause.file r.0 (kinds_of task) z why other (laws.runnable bytes r.0 r.1.read) r.2
     (subst (λ (f : FileContent). IsRunRefusedWith (kinds_of task) (IsIllegal f) z other) same s.2)
 one_run_why laws (fill file run) (and_run bytes z) why other r s =
     let same : s.0 ≡ r.0 = same_file laws.one bytes s.0 r.0 s.1.read r.1.read in
-    let can = laws.runnable bytes r.0 r.1.read in
-    one_short_cause laws.short z r.0 can.builtins (file_ready laws.legal r.0 can) why other r.2
+    laws.one_cause.short r.0 z why other (laws.runnable bytes r.0 r.1.read) r.2
     (subst (λ (f : FileContent). IsShortRefusedWith f z other) same s.2)
 one_run_why laws (check theory run) (and_run bytes z) why other r s =
     let same : s.0 ≡ r.0 = same_theory laws.one_theory bytes s.0 r.0 s.1 r.1 in
     let can = laws.theories bytes r.0 r.1.read in
-    one_run_cause laws.one_run Rules z (IsIllegalOfTheory r.0) (λ x w v. laws.one_illegal_of_theory r.0 x w v can.builtins can.made) why other r.2
+    laws.one_cause.theory r.0 z why other can.builtins can.made r.2
     (subst (λ (t : Theory). IsRunRefusedWith Rules (IsIllegalOfTheory t) z other) same s.2)
-one_run_why laws (to_json run) (run_alone z) why other r s = one_run_cause laws.one_run Either z IsNeverIllegal (λ x w v bad worse. absurd bad) why other r s
-one_run_why laws (from_json json) (alone bytes) why other r s = one_json_cause laws.one_json bytes why other r s
+one_run_why laws (to_json run) (run_alone z) why other r s = laws.one_cause.alone z why other r s
+one_run_why laws (from_json json) (alone bytes) why other r s = laws.one_cause.json bytes why other r s
 one_run_why laws k input why other r s = absurd r
 
 -- a file has one theory in a way

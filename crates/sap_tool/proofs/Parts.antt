@@ -1,40 +1,17 @@
 -- Bytes of a run that were read up, and the whole run.
-use Rattle.std.proofs.Common.{◌≡◌, ◌≤◌, ◌<◌, ℕ, zero, suc, List, [], ◌++◌, ◌+◌, length, take, drop, Option, Some, None, Result, Ok, Err, inl, inr, ◌⊎◌, refl, sym, ap, subst, ◌∙◌, arith}
+use Rattle.std.proofs.Common.{◌≡◌, ◌≤◌, ◌<◌, ℕ, zero, suc, List, [], ◌++◌, ◌+◌, length, take, drop, Option, Some, None, inl, inr, ◌⊎◌, refl, sym, ap, subst, ◌∙◌, arith}
 use Rattle.std.specs.Prelude.{IsSomeAnd}
 use Rattle.std.specs.FinMap as files
 use Rattle.std.proofs.lemmas.Grind.{common_steps}
 use Rattle.std.proofs.lemmas.List.{append-nil, take-append-drop, drop_all}
-use Rattle.sap_run_texts.specs.RunTexts.{IsRunRead}
 use Rattle.sap_run_texts.specs.declared.run.Kinds.{Kinds}
 use Rattle.sap_run_texts.specs.declared.run.Run.{Run}
-use Rattle.sap_run_texts.specs.declared.run_fault.RunFault.{RunFault}
 use Rattle.sap_tool.specs.Call.{Holds}
 use Rattle.sap_outside.specs.Outside.{Files, piece_bytes}
-use Rattle.sap_outside.specs.RunPieces.{most_run_bytes, IsReadUp, IsJoined, IsRunAnswer, is_run, too_long, bad_head, bad_line, too_many_of_process, too_many_of_rules}
+use Rattle.sap_outside.specs.RunPieces.{most_run_bytes, IsReadUp, IsJoined, is_run, too_long, bad_head, bad_line, too_many_of_process, too_many_of_rules}
 use Rattle.sap_refusals.specs.RunFaultTexts.{run_refusal_text}
-use Rattle.sap_tool.specs.RunRefusals.{IsRunRefusedWith, no_run, illegal}
-use Rattle.sap_outside.specs.declared.run_refusal.RunRefusal.{RunRefusal}
+use Rattle.sap_replay.specs.RunRefusals.{IsRunRefusedWith, no_run, illegal}
 use Rattle.sap_outside.specs.declared.run_refusal.RunRefusal.TheVariants as refusal
-
--- bytes are read as one run, or refused for one cause
-abbrev pub OneRun : Type 0
-OneRun = (k : Kinds) (z : List ℕ) (o r : Result Run RunFault) → IsRunRead k z o → IsRunRead k z r → o ≡ r
-
-module _ (one : OneRun) (k : Kinds) (z : List ℕ) where
-  clash : (r : Run) (e : RunFault) → IsRunRead k z (Ok r) → IsRunRead k z (Err e) → ⊥
-  clash r e a b = let same : ◌≡◌ {A = Result Run RunFault} (Ok r) (Err e) = one k z (Ok r) (Err e) a b in cc (same)
-
-  -- what is answered is a run, or a refusal
-  pub not_both : (r : Run) (e : RunRefusal) → IsRunAnswer k z (Ok r) → IsRunAnswer k z (Err e) → ⊥
-  not_both r e (is_run l a) (too_long m) = omega (arith, l, m)
-  not_both r e (is_run l a) (bad_head m b) = clash r _ a b
-  not_both r e (is_run l a) (bad_line m b) = clash r _ a b
-  not_both r e (is_run l a) (too_many_of_process m h b) = clash r _ a b
-  not_both r e (is_run l a) (too_many_of_rules m h b) = clash r _ a b
-
-  -- and one run
-  pub same_run : (r s : Run) → IsRunAnswer k z (Ok r) → IsRunAnswer k z (Ok s) → r ≡ s
-  same_run r s (is_run l a) (is_run m b) = let same : ◌≡◌ {A = Result Run RunFault} (Ok r) (Ok s) = one k z (Ok r) (Ok s) a b in cc
 
 pub short_or_long : (n most : ℕ) → (n ≤ most) ⊎ (most < n)
 short_or_long zero most = inl (omega arith)

@@ -1,41 +1,22 @@
 -- A run of which something is written is one that is taken.
 use Rattle.std.proofs.Common.{◌≡◌, ℕ, List, None, refl}
-use Rattle.sap_terms.specs.Trace.{Trace}
-use Rattle.sap_formula.specs.Hide.{hide}
-use Rattle.sap_read.specs.Files.{FileContent}
-use Rattle.sap_run_texts.specs.declared.run.Run.{Run}
-use Rattle.sap_tool.specs.declared.task.Task.{Task}
-use Rattle.sap_tool.specs.declared.task.Task.TheVariants.{ToRules, ToProcess, Judge, Tell, Chart}
-use Rattle.sap_tool.specs.Commands.{Command, compile, replay, fill, check, to_json, from_json, explain, Input, alone, and_run, run_alone, file_of, run_of, Accepts, RefusesRun, TakesRun, Writes, Allows}
-use Rattle.sap_tool.proofs.ShortRefused as short
+use Rattle.sap_tool.specs.Commands.{Command, compile, replay, fill, check, to_json, from_json, explain, Input, alone, and_run, run_alone, file_of, run_of, Accepts, RefusesRun, TakesRun, Allows}
+use Rattle.sap_intruder.specs.FilledRuns.{FilledRunsAreLegal}
+use Rattle.sap_runs.specs.Limits.{HasFewNodes}
+use Rattle.sap_replay.specs.Laws.{TextsMeanWhatTheySay}
 use Rattle.sap_tool.proofs.ShortRefused.{filled_is_legal}
-use Rattle.sap_tool.proofs.ToldMeant as telling
-use Rattle.sap_tool.proofs.ToldMeant.{told_is_seen, drawn_is_seen}
-use Rattle.sap_tool.specs.Replays.{IsConvertedText, to_rules, to_process, IsSeen, of_process, of_rules}
-
--- what is converted is seen
-converted_is_seen : (f : FileContent) (r : Run) (text : List ℕ) → IsConvertedText f r text → (tr : Trace) × IsSeen f r tr
-converted_is_seen f _ _ (to_rules rule_lines c numbered) = (c.trace, of_process (record { config = c.config; entries = c.entries; marks = c.marks; legal = c.legal }))
-converted_is_seen f _ _ (to_process lines c numbered) = (hide c.full, of_rules c.state c.full c.counted)
-
-written_is_seen : telling.Laws → (task : Task) (f : FileContent) (r : Run) (text : List ℕ) → Writes task f r text → (tr : Trace) × IsSeen f r tr
-written_is_seen law ToRules f r text w = converted_is_seen f r text w
-written_is_seen law ToProcess f r text w = converted_is_seen f r text w
-written_is_seen law Judge f r text w = (w.trace, w.seen)
-written_is_seen law Tell f r text w = told_is_seen law f r text w
-written_is_seen law Chart f r text w = drawn_is_seen law f r text w
 
 -- where a text is allowed, and what could be refused is a run, that run is taken
-pub allowed_takes : short.Laws → telling.Laws → (k : Command) (input : Input) (text why : List ℕ) → Allows k input text → RefusesRun k input why → TakesRun k input
-allowed_takes laws law (replay task file run) (and_run bytes z) text why t r =
-    let shown = written_is_seen law task t.told t.lines text t.written in
+pub allowed_takes : FilledRunsAreLegal HasFewNodes → TextsMeanWhatTheySay → (k : Command) (input : Input) (text why : List ℕ) → Allows k input text → RefusesRun k input why → TakesRun k input
+allowed_takes law meant (replay task file run) (and_run bytes z) text why t r =
+    let shown = meant.legal task t.told t.lines text t.written in
     record { told = t.told; file = t.file; lines = t.lines; read = t.read; trace = shown.0; seen = shown.1 }
-allowed_takes laws law (fill file run) (and_run bytes z) text why t r = (filled_is_legal laws bytes z text t).short
-allowed_takes laws law (check theory run) (and_run bytes z) text why t r =
+allowed_takes law meant (fill file run) (and_run bytes z) text why t r = (filled_is_legal law bytes z text t).short
+allowed_takes law meant (check theory run) (and_run bytes z) text why t r =
     record { theory = t.theory; file = t.file; lines = t.lines; read = t.read; full = t.written.full; shown = t.written.shown }
-allowed_takes laws law (to_json run) (run_alone z) text why t r = (t.lines, t.read)
-allowed_takes laws law (from_json json) (alone bytes) text why t r = (t.lines, t.accepted)
-allowed_takes laws law k input text why t r = absurd r
+allowed_takes law meant (to_json run) (run_alone z) text why t r = (t.lines, t.read)
+allowed_takes law meant (from_json json) (alone bytes) text why t r = (t.lines, t.accepted)
+allowed_takes law meant k input text why t r = absurd r
 
 -- What was read is what the command reads, and the file or theory in it is accepted.
 abbrev pub IsWhole : Command → Input → Type 0

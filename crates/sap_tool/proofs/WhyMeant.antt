@@ -1,13 +1,13 @@
 -- What is told of a file is one text, and means what it says.
-use Rattle.std.proofs.Common.{◌≡◌, ◌≤◌, ◌<◌, ℕ, List, [], ◌∷◌, ◌++◌, length, Result, Ok, Err, refl, sym, ap, subst, ◌∙◌, arith}
-use Rattle.std.specs.Prelude.{codes, IfOk}
+use Rattle.std.proofs.Common.{◌≡◌, ◌≤◌, ◌<◌, ℕ, List, ◌++◌, length, Result, Ok, Err, refl, sym, ap, subst, ◌∙◌, arith}
+use Rattle.std.specs.Prelude.{IfOk}
 use Rattle.sap_read.specs.Files.{FileContent, IsRead}
 use Rattle.sap_read.specs.declared.fault.ReadFault.{ReadFault}
 use Rattle.sap_refusals.specs.Refusals.{fault_text, refused_line}
 use Rattle.sap_why.specs.Explained.{IsExplanation, IsSettled}
-use Rattle.sap_tool.specs.AcceptedFile.{most_bytes, IsAcceptedFile, IsRefusedWith, too_long, unread}
+use Rattle.sap_tool.specs.AcceptedFile.{most_bytes, IsRefusedWith, too_long, unread}
 use Rattle.sap_tool.specs.WhyTexts.{IsWhyText, of_file, of_length, of_fault, IsToldWhy, told_accepted, told_refused, accepted_text, long_text}
-use Rattle.sap_tool.proofs.Refused.{OneReading, one_cause, not_refused, same_fault, not_both}
+use Rattle.sap_tool.proofs.Refused.{OneReading, one_cause, not_refused, same_fault}
 
 -- what a value has that is there
 pub on_ok : {A E : Type 0} (r : Result A E) (P Q : A → Type 0) → ((x : A) → P x → Q x) → IfOk r P → IfOk r Q

@@ -2,23 +2,22 @@
 use Rattle.std.specs.Prelude.{◌≡◌, ℕ, codes, List, [], ◌∷◌, Option, Some, None, Ok}
 use Rattle.sap_read.specs.Files.{FileContent}
 use Rattle.sap_rule.specs.declared.theory.Theory.{Theory}
-use Rattle.sap_run_texts.specs.declared.run.Kinds.{Kinds}
-use Rattle.sap_run_texts.specs.declared.run.Kinds.TheVariants.{Process, Rules, Either}
+use Rattle.sap_run_texts.specs.declared.run.Kinds.TheVariants.{Rules, Either}
 use Rattle.sap_run_texts.specs.declared.run.Run.{Run}
 use Rattle.sap_outside.specs.RunPieces.{most_run_bytes, IsRunAnswer}
-use Rattle.sap_tool.specs.declared.task.Task.{Task}
-use Rattle.sap_tool.specs.declared.task.Task.TheVariants.{ToRules, ToProcess, Judge, Tell, Chart}
+use Rattle.sap_replay.specs.declared.task.Task.{Task}
+use Rattle.sap_replay.specs.declared.task.Task.TheVariants.{ToRules, ToProcess, Judge, Tell, Chart}
 use Rattle.sap_tool.specs.declared.way.Way.{Way}
 use Rattle.sap_tool.specs.declared.way.Way.TheVariants.{Plain, Inlined, Short}
+use Rattle.sap_replay.specs.Tasks.{kinds_of, Writes, Says}
 use Rattle.sap_tool.specs.AcceptedFile.{most_bytes, IsAcceptedFile, IsRefusedWith, IsTheoryOf}
 use Rattle.sap_tool.specs.AcceptedTheory.{most_theory_bytes, IsAcceptedTheory, IsTheoryRefusedWith}
-use Rattle.sap_tool.specs.JsonRuns.{IsAcceptedJson, IsJsonRefusedWith, IsJsonOf, IsReadAsJson, IsRunOfJson, IsReadAsRun}
+use Rattle.sap_replay.specs.JsonRuns.{IsAcceptedJson, IsJsonRefusedWith, IsJsonOf, IsReadAsJson, IsRunOfJson, IsReadAsRun}
 use Rattle.sap_tool.specs.Meaning.{IsFaithfulText}
 use Rattle.sap_tool.specs.WhyTexts.{IsWhyText, IsToldWhy}
-use Rattle.sap_tool.specs.Replays.{IsReplayed, IsChecked, IsConvertedText, IsJudgedText, IsOppositeText, IsLegalOfFile, IsLegalOfTheory}
-use Rattle.sap_tool.specs.RunRefusals.{IsIllegal, IsIllegalOfTheory, IsNeverIllegal, IsRunRefusedWith}
-use Rattle.sap_tool.specs.ToldRuns.{IsTextOfLines, IsToldAndJudged, IsToldOf, IsDrawn, IsDrawnOf}
-use Rattle.sap_tool.specs.ShortRuns.{IsShortRefusedWith, IsFilledText, IsLegalShortOfFile, IsLegalFilling}
+use Rattle.sap_tool.specs.AcceptedRuns.{IsReplayed, IsChecked, IsLegalOfFile, IsLegalOfTheory, IsFilledText, IsLegalShortOfFile, IsLegalFilling}
+use Rattle.sap_replay.specs.RunRefusals.{IsIllegal, IsIllegalOfTheory, IsNeverIllegal, IsRunRefusedWith}
+use Rattle.sap_replay.specs.ShortRuns.{IsShortRefusedWith}
 use Rattle.sap_sample.specs.Sample.{IsSample}
 
 -- what words may ask for, aside from a sample, which reads nothing
@@ -107,14 +106,6 @@ limit_of (to_json run) = 0
 limit_of (from_json json) = most_run_bytes
 limit_of (explain file) = most_bytes
 
--- of which kind a run has to be for a task
-abbrev pub kinds_of : Task → Kinds
-kinds_of ToRules = Process
-kinds_of ToProcess = Rules
-kinds_of Judge = Either
-kinds_of Tell = Either
-kinds_of Chart = Either
-
 -- what a command reads: what it fetches, alone or with a run behind it; or a run alone
 pub data Input : Type 0 where
   alone : (bytes : List ℕ) → Input
@@ -162,22 +153,6 @@ TakesRun (check theory run) (and_run bytes z) = IsLegalOfTheory bytes z
 TakesRun (to_json run) (run_alone z) = (r : Run) × IsRunAnswer Either z (Ok r)
 TakesRun (from_json json) (alone bytes) = (r : Run) × IsAcceptedJson bytes r
 TakesRun k input = ⊥
-
--- the text that a task writes of a run of the file
-abbrev pub Writes : Task → FileContent → Run → List ℕ → Type 0
-Writes ToRules told r text = IsConvertedText told r text
-Writes ToProcess told r text = IsConvertedText told r text
-Writes Judge told r text = IsJudgedText told r text
-Writes Tell told r text = IsTextOfLines told (IsToldAndJudged told) r text
-Writes Chart told r text = IsTextOfLines told (IsDrawn told) r text
-
--- what this text means
-abbrev pub Says : Task → FileContent → Run → List ℕ → Type 0
-Says ToRules told r text = IsOppositeText told r text
-Says ToProcess told r text = IsOppositeText told r text
-Says Judge told r text = IsJudgedText told r text
-Says Tell told r text = IsToldOf told r text
-Says Chart told r text = IsDrawnOf told r text
 
 -- it allows this text for what it read
 abbrev pub Allows : Command → Input → List ℕ → Type 0

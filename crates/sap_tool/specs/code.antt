@@ -1,7 +1,4 @@
 -- What the code does, step by step: no public contract cites what stands below.
 pub mod Endings
-pub mod Checked
 pub mod Refused
-pub mod Filled
-pub mod Verdicts
 pub mod Sampled

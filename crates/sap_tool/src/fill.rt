@@ -1,34 +1,20 @@
-//! Short runs of a file: the run that one stands for, or the line that refuses it.
+//! The command that fills a short run of a file.
 
-ghost use Rattle.std.specs.Prelude.{◌≡◌, ◌≢◌, ◌≤◌, ℕ, List, length, All, IfOk, IsErrOf};
-ghost use Rattle.sap_outside.specs.RunPieces.{most_run_bytes};
+ghost use Rattle.std.specs.Prelude.{◌≡◌, ◌≤◌, ℕ, List};
 ghost use Rattle.sap_outside.specs.Stream.{Stream};
 ghost use Rattle.sap_read.specs.Files.{IsRunnable, told_by};
-ghost use Rattle.sap_refusals.specs.declared.refusal.Refusal.TheVariants as refusals;
-ghost use Rattle.sap_runs.specs.Short.{IsShortStep};
 ghost use Rattle.sap_tool.specs.AcceptedFile.{IsAcceptedFile};
 ghost use Rattle.sap_tool.specs.Call.{call_of};
 ghost use Rattle.sap_tool.specs.Commands.{spelled};
 ghost use Rattle.sap_tool.specs.Commands as commands;
-ghost use Rattle.sap_tool.specs.ShortRuns.{IsShortRefusedWith};
 ghost use Rattle.sap_tool.specs.code.Endings.{Ends, EndsBoth, reading};
-ghost use Rattle.sap_tool.specs.code.Filled.{IsFillLine, IsFilledOf, IsFirstRefusedWith, IsTextFilling};
-ghost use Rattle.sap_tool.specs.code.Refused.{IsLineOf};
 
 use crate::ending::{Ending, of_refused, of_run};
 use crate::reading::{MOST_BYTES, accepted_file};
-use sap_intruder::{FillAt, fill};
-use sap_outside::{RunRefusal, Shelf, ShelfFault, requests_are_joined};
+use sap_outside::{Shelf, ShelfFault, requests_are_joined};
 use sap_read::{File, files_are_runnable};
-use sap_refusals::{Refusal, fill_line, no_run_line, short_line, told};
-use sap_run_texts::{one_short_run, print_prun, read_srun};
-use sap_runs::SSteps;
-use sap_terms::Mem;
-use sap_text::Text;
+use sap_replay::{MOST_RUN_BYTES, filled};
 use std::alloc::Global;
-
-/// How many bytes a short run may have.
-pub const MOST_RUN_BYTES: u64 = 16_777_216;
 
 /// Ends with the run that a short run of a file stands for.
 pub fn end_fill<S: Shelf>(alloc: Global, shelf: &mut S, file: &str, run: &str) -> Ending
@@ -71,58 +57,5 @@ fn fill_run<S: Shelf>(alloc: Global, shelf: &mut S, told: &File, run: &str) -> E
         Ok(bytes) => of_run(filled(alloc, told, &bytes)),
         Err(ShelfFault::Failed) => Ending::Unread,
         Err(ShelfFault::Mem) => Ending::Mem,
-    }
-}
-
-/// The text of the run that the bytes stand for as a short run of the file, or the line that refuses them.
-fn filled(alloc: Global, file: &File, bytes: &[u8]) -> Result<Text, Refusal>
-    requires { IsRunnable (told_by file.now) }
-    ensures given { IfOk result (IsFilledOf (told_by file.now) bytes.now) }
-    ensures refused { (line : List ℕ) → IsErrOf result (refusals.Told line)
-        → IsLineOf (IsShortRefusedWith (told_by file.now) bytes.now) line }
-{
-    if bytes.len() as u64 > MOST_RUN_BYTES {
-        Err(told(no_run_line(alloc, RunRefusal::TooLong)))
-    } else {
-        read(alloc, file, bytes)
-    }
-}
-
-/// The text of the run that bytes stand for which aren't too many, or the line that refuses them.
-fn read(alloc: Global, file: &File, bytes: &[u8]) -> Result<Text, Refusal>
-    requires runnable { IsRunnable (told_by file.now) }
-    requires short { length bytes.now ≤ most_run_bytes }
-    ensures given { IfOk result (IsFilledOf (told_by file.now) bytes.now) }
-    ensures refused { (line : List ℕ) → IsErrOf result (refusals.Told line)
-        → IsLineOf (IsShortRefusedWith (told_by file.now) bytes.now) line }
-{
-    one_short_run();
-    match read_srun(alloc, bytes) {
-        Ok(run) => text_of_short(alloc, file, &run),
-        Err(fault) => Err(told(short_line(alloc, fault))),
-    }
-}
-
-/// The text of the run that a short run of the file stands for, or the line that refuses a step of it.
-fn text_of_short(alloc: Global, file: &File, run: &SSteps) -> Result<Text, Refusal>
-    requires runnable { IsRunnable (told_by file.now) }
-    requires stands { All IsShortStep run.now }
-    ensures given { IfOk result (IsTextFilling (told_by file.now) run.now) }
-    ensures refused { (line : List ℕ) → IsErrOf result (refusals.Told line)
-        → IsLineOf (IsFirstRefusedWith (told_by file.now) run.now) line }
-{
-    match fill(alloc, file, run) {
-        Ok(lines) => Ok(print_prun(alloc, &lines)?),
-        Err(at) => Err(told(line_at(alloc, &at))),
-    }
-}
-
-/// The line that refuses a short run. Want of memory refuses none, and so has no line.
-fn line_at(alloc: Global, at: &FillAt) -> Result<Text, Mem>
-    ensures { IfOk result (λ line. IsFillLine at.now line) }
-{
-    match at {
-        FillAt::Mem => Err(Mem),
-        FillAt::Step { step, fault } => fill_line(alloc, *step, fault),
     }
 }

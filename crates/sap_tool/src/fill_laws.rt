@@ -8,7 +8,8 @@ ghost use Rattle.sap_read.specs.Files.{FileContent};
 ghost use Rattle.sap_tool.specs.AcceptedFile.{IsAcceptedFile};
 ghost use Rattle.sap_tool.specs.Answers.{WasReadSo};
 ghost use Rattle.sap_tool.specs.Commands.{Allows, RefusesRun, alone, at_once, fill, how_read, in_pieces, run_alone, spelled, to_json};
-ghost use Rattle.sap_tool.specs.ShortRuns.{IsFilledText, IsShortRefusedWith};
+ghost use Rattle.sap_tool.specs.AcceptedRuns.{IsFilledText};
+ghost use Rattle.sap_replay.specs.ShortRuns.{IsShortRefusedWith};
 
 /// A law: the command tried by hand. What words ask for it. It reads its run at once, and `to-json` doesn't; so a run is fetched, and
 /// not opened. The short run without steps is filled by the run without lines; a text without a head is refused. It says nothing of a

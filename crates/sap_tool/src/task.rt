@@ -1,27 +1,13 @@
-//! What is done with a run of a file.
+//! The words that ask for something to be done with a run of a file.
 ghost use Rattle.std.specs.Prelude.{◌≡◌, ◌≢◌, MatchOption};
-ghost use Rattle.sap_tool.specs.Commands.{kinds_of, word_of_task};
+ghost use Rattle.sap_replay.specs.declared.task.Task.{Task as TaskOfWords};
+ghost use Rattle.sap_tool.specs.Commands.{word_of_task};
 
-use sap_run_texts::Kinds;
-
-/// What becomes of a run of a file.
-#[derive(Clone, Copy)]
-pub enum Task {
-    /// A run of the file's process is converted to one of its rules.
-    ToRules,
-    /// A run of the file's rules is converted to one of its process.
-    ToProcess,
-    /// The file's restrictions and lemmas are judged on what a run of either kind shows.
-    Judge,
-    /// A run of either kind is told line by line, as one of the process, and the same is judged behind it.
-    Tell,
-    /// A run of either kind is drawn, as one of the process.
-    Chart,
-}
+use sap_replay::Task;
 
 /// The task that the word asks for.
 pub fn task_of(word: &str) -> Option<Task>
-    ensures { MatchOption result ((task : Task) → word.now ≢ word_of_task task) (λ task. word.now ≡ word_of_task task) }
+    ensures { MatchOption result ((task : TaskOfWords) → word.now ≢ word_of_task task) (λ task. word.now ≡ word_of_task task) }
 {
     match word {
         "to-rules" => Some(Task::ToRules),
@@ -30,18 +16,5 @@ pub fn task_of(word: &str) -> Option<Task>
         "tell" => Some(Task::Tell),
         "chart" => Some(Task::Chart),
         _ => None,
-    }
-}
-
-/// Of which kind a run has to be for it.
-pub fn kinds_of(task: Task) -> Kinds
-    ensures { result ≡ kinds_of task }
-{
-    match task {
-        Task::ToRules => Kinds::Process,
-        Task::ToProcess => Kinds::Rules,
-        Task::Judge => Kinds::Either,
-        Task::Tell => Kinds::Either,
-        Task::Chart => Kinds::Either,
     }
 }

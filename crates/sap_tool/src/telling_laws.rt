@@ -8,9 +8,10 @@ ghost use Rattle.sap_run_texts.specs.declared.run.Run.{Run};
 ghost use Rattle.sap_run_texts.specs.declared.run.Run.TheVariants as runs;
 ghost use Rattle.sap_runs.specs.declared.process_step.PStep.{PStep};
 ghost use Rattle.sap_runs.specs.declared.rule_step.RStep.{RStep};
-ghost use Rattle.sap_tool.specs.Commands.{Writes, kinds_of, replay, spelled};
-ghost use Rattle.sap_tool.specs.ToldRuns.{AreLinesOf};
-ghost use Rattle.sap_tool.specs.declared.task.Task.TheVariants.{Tell};
+ghost use Rattle.sap_replay.specs.Tasks.{Writes, kinds_of};
+ghost use Rattle.sap_tool.specs.Commands.{replay, spelled};
+ghost use Rattle.sap_replay.specs.ToldRuns.{AreLinesOf};
+ghost use Rattle.sap_replay.specs.declared.task.Task.TheVariants.{Tell};
 
 /// A law: the command tried by hand. What words ask for it; it takes runs of either kind. Of a run without lines, of a file without
 /// formulas, it tells an empty line; of a run of rules without lines it tells what it tells of one of the process. The empty line is

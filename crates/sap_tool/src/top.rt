@@ -11,27 +11,17 @@ ghost use Rattle.sap_tool.specs.code.Endings.{Ends};
 
 use crate::asking::ending;
 use crate::ending::Ending;
-use crate::laws::{
-    illegal_runs_have_one_cause, process_lines, read_theories_can_run, rule_lines,
-    verdicts_are_kept,
-};
-use sap_back::names_stand_in_lines;
-use sap_chart::drawn_runs_are_legal;
+use crate::laws::read_theories_can_run;
 use sap_compress::{one_short_theory, short_theories_are_printable, short_theories_keep_files};
 use sap_gen::{theories_are_printable, theories_keep_files};
-use sap_intruder::{filled_runs_are_legal, one_short_answer};
-use sap_json::{json_runs_can_be_written, one_json_run, written_json_is_read};
-use sap_locks::annotations_are_ready;
+use sap_intruder::filled_runs_are_legal;
 use sap_macro::uses_show_their_instances;
 use sap_outside::{Shelf, Sink, SinkFault, put_pieces};
 use sap_read::{files_are_printable, files_are_runnable, one_file};
-use sap_run_texts::{
-    named_steps_can_be_written, one_run, one_short_run, printed_runs_are_read,
-    read_runs_can_be_written,
+use sap_replay::{
+    legal_runs_are_not_refused, refused_runs_have_one_cause, texts_mean_what_they_say,
 };
-use sap_tell::legal_runs_are_told;
 use sap_theory::{one_answer_of_theories, printed_theories};
-use sap_translate::rules_are_well_made;
 use std::alloc::Global;
 
 /// Runs the program on its words, those after its name, and answers its status.
@@ -74,26 +64,11 @@ pub fn sapic<S: Shelf, O: Sink, E: Sink>(
     uses_show_their_instances();
     one_file();
     one_answer_of_theories();
-    one_run();
-    read_runs_can_be_written();
-    named_steps_can_be_written();
-    printed_runs_are_read();
-    names_stand_in_lines();
     read_theories_can_run();
-    process_lines();
-    rule_lines();
-    illegal_runs_have_one_cause();
-    verdicts_are_kept();
-    legal_runs_are_told();
-    drawn_runs_are_legal();
-    annotations_are_ready();
-    rules_are_well_made();
-    one_json_run();
-    json_runs_can_be_written();
-    written_json_is_read();
-    one_short_run();
+    texts_mean_what_they_say();
+    refused_runs_have_one_cause();
+    legal_runs_are_not_refused();
     filled_runs_are_legal();
-    one_short_answer();
     run(alloc, words, shelf, out, err)
 }
 

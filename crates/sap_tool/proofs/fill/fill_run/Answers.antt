@@ -1,4 +1,3 @@
-use Rattle.std.proofs.Common.{rules, inl, inr}
 use Rattle.sap_read.specs.Files.{told_by}
 use Rattle.sap_tool.proofs.Endings.{fill_ends}
 use Rattle.sap_tool.proofs.fill.fill_run.Goals as goal

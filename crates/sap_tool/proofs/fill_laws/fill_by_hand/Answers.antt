@@ -4,7 +4,7 @@ use Rattle.sap_intruder.specs.FilledRuns.{starts}
 use Rattle.sap_process.specs.Configuration.{initial}
 use Rattle.sap_run_texts.specs.RunTexts.{headed, headless, all_steps, no_lines, IsHeaded}
 use Rattle.sap_run_texts.specs.ShortTexts.{short_head}
-use Rattle.sap_tool.specs.ShortRuns.{no_run}
+use Rattle.sap_replay.specs.ShortRuns.{no_run}
 use Rattle.sap_tool.proofs.fill_laws.fill_by_hand.Goals as goal
 
 pub returns-clause-fetched : goal.returns-clause-fetched

@@ -3,7 +3,7 @@ use Rattle.std.specs.Prelude.{ℕ, codes}
 use Rattle.sap_run_texts.specs.RunTexts.{told_rules, told_neither, headed, all_steps, no_lines, IsHeaded, process_head, rule_head}
 use Rattle.sap_run_texts.specs.declared.run.Run.TheVariants as run
 use Rattle.sap_outside.specs.RunPieces.{is_run, bad_head}
-use Rattle.sap_tool.specs.RunRefusals.{no_run}
+use Rattle.sap_replay.specs.RunRefusals.{no_run}
 use Rattle.sap_tool.proofs.json_laws.json_by_hand.Goals as goal
 
 pub returns-clause-empty : goal.returns-clause-empty

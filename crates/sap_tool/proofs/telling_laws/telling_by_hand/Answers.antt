@@ -1,4 +1,4 @@
-use Rattle.std.proofs.Common.{◌≡◌, List, [], ◌∷◌, length, refl, sym, ap, subst, ◌∙◌}
+use Rattle.std.proofs.Common.{◌≡◌, ℕ, List, [], ◌∷◌, ◌++◌, length, refl, sym, ap, subst, ◌∙◌}
 use Rattle.sap_back.specs.Converted.{IsConverted}
 use Rattle.sap_formula.specs.Form.{LemmaForm, RestrictionForm}
 use Rattle.sap_process.specs.Configuration.{initial}
@@ -9,9 +9,8 @@ use Rattle.sap_runs.specs.declared.process_step.PStep.{PStep}
 use Rattle.sap_runs.specs.declared.rule_step.RStep.{RStep}
 use Rattle.sap_tell.specs.Told.{starts}
 use Rattle.sap_translate.specs.LineCounts.{back_count}
-use Rattle.sap_tool.specs.ToldRuns.{AreLinesOf, own, converted, IsToldAndJudged}
-use Rattle.sap_tool.specs.Verdicts.{AreVerdicts, all_judged, no_line}
-use Rattle.sap_tool.proofs.Ends.{never_empty}
+use Rattle.sap_replay.specs.ToldRuns.{AreLinesOf, own, converted, IsToldAndJudged}
+use Rattle.sap_replay.specs.Verdicts.{AreVerdicts, all_judged, no_line}
 use Rattle.sap_tool.proofs.telling_laws.telling_by_hand.Goals as goal
 
 pub returns-clause-empty : goal.returns-clause-empty
@@ -44,8 +43,13 @@ returns-clause-no_lines c = λ f text w.
     let none = none_of f (run.Rules []) w.lines w.of_run refl in
     record { lines = []; of_run = own []; written = subst (λ (ls : List PStep). IsToldAndJudged f ls text) none w.written }
 
+-- what has a line feed in it isn't empty
+never_bare : (told verdicts : List ℕ) → [] ≡ told ++ 10 ∷ verdicts → ⊥
+never_bare [] verdicts e = cc
+never_bare (x ∷ told) verdicts e = cc
+
 pub returns-clause-not_bare : goal.returns-clause-not_bare
-returns-clause-not_bare c = λ f r w. never_empty w.written.told w.written.verdicts 10 w.written.layout
+returns-clause-not_bare c = λ f r w. never_bare w.written.told w.written.verdicts w.written.layout
 
 by_conversion : (f : FileContent) (rule_lines : List RStep) (lines : List PStep) → AreLinesOf f (run.Rules rule_lines) lines → IsConverted f.signature f.process rule_lines lines
 by_conversion f rule_lines _ (converted lines c) = c

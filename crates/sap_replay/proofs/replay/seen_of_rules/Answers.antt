@@ -1,0 +1,15 @@
+use Rattle.std.proofs.Common.{rules, ◌≡◌, Ok, Err, ap}
+use Rattle.sap_replay.specs.Replays.{of_rules}
+use Rattle.sap_refusals.specs.declared.refusal.Refusal.TheVariants as refusals
+use Rattle.sap_replay.proofs.Stopped.{rules_stop}
+use Rattle.sap_replay.proofs.replay.seen_of_rules.Goals as goal
+
+pub returns-in_ok-hide-in-Ok-clause-seen : goal.returns-in_ok-hide-in-Ok-clause-seen
+returns-in_ok-hide-in-Ok-clause-seen c = rw c.in_ok-hide-in-Ok.ensures (of_rules _ _ c.in-Ok.ensures.ok.1)
+
+pub returns-in-Err-clause-refused : goal.returns-in-Err-clause-refused
+returns-in-Err-clause-refused c = λ line h.
+    let same : c.told.result ≡ refusals.Told line = search (rules, h) in
+    let written : c.line_back_at.result ≡ Ok line = c.told.ensures.only line same in
+    let is = rw written at c.line_back_at.ensures in
+    rules_stop _ _ c.in-Err.at line is (λ step fault e. c.in-Err.ensures.refused step fault (ap Err e)) (λ step which e. c.in-Err.ensures.broken step which (ap Err e))

@@ -1,0 +1,12 @@
+pub use Rattle.sap_outside.specs.RunPieces
+pub use Rattle.sap_refusals.specs.RunFaultTexts
+pub use Rattle.sap_refusals.specs.ShortFaultTexts
+pub mod Verdicts
+pub mod Replays
+pub mod RunRefusals
+pub mod ToldRuns
+pub mod ShortRuns
+pub mod JsonRuns
+pub mod Tasks
+pub mod Laws
+pub mod code

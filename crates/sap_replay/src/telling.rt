@@ -1,0 +1,111 @@
+//! Runs that are told or drawn, or the line that refuses them.
+
+ghost use Rattle.std.specs.Prelude.{ℕ, List, IfOk, IsErrOf};
+ghost use Rattle.sap_read.specs.Files.{IsRunnable, told_by};
+ghost use Rattle.sap_refusals.specs.declared.refusal.Refusal.TheVariants as refusals;
+ghost use Rattle.sap_run_texts.specs.declared.run.Run.TheVariants as runs;
+ghost use Rattle.sap_runs.specs.declared.process_step.PStep.{PStep};
+ghost use Rattle.sap_teller.specs.Telling.{IsToldAs};
+ghost use Rattle.sap_replay.specs.RunRefusals.{IsIllegal, IsLineOf};
+ghost use Rattle.sap_replay.specs.ToldRuns.{IsDrawn, IsTextOfLines, IsToldAndJudged};
+ghost use Rattle.sap_replay.specs.code.Refused.{IsUntoldLine};
+
+use crate::laws::{closed_files, process_lines, seen_traces_are_messages};
+use crate::replay::process_of;
+use crate::verdicts::verdicts;
+use sap_chart::chart_run;
+use sap_locks::annotations_are_ready;
+use sap_read::File;
+use sap_refusals::{Refusal, process_line, told};
+use sap_run_texts::Run;
+use sap_runs::PSteps;
+use sap_tell::legal_runs_are_told;
+use sap_teller::{ToldRun, Untold, tell_run};
+use sap_terms::Mem;
+use sap_text::Text;
+use std::alloc::Global;
+
+/// What is told of a run of the process, or of the one that a run of rules is converted to, and the verdicts on what it shows.
+pub fn told_run(alloc: Global, file: &File, run: &Run) -> Result<Text, Refusal>
+    requires { IsRunnable (told_by file.now) }
+    ensures given { IfOk result (λ text. IsTextOfLines (told_by file.now) (IsToldAndJudged (told_by file.now)) run.now text) }
+    ensures refused { (line : List ℕ) → IsErrOf result (refusals.Told line)
+        → IsLineOf (IsIllegal (told_by file.now) run.now) line }
+{
+    process_lines();
+    annotations_are_ready();
+    match run {
+        Run::Process(lines) => told_lines(alloc, file, lines),
+        Run::Rules(steps) => told_lines(alloc, file, &process_of(alloc, file, steps)?),
+    }
+}
+
+/// What is told of a run of the process, and the verdicts on what it shows.
+fn told_lines(alloc: Global, file: &File, lines: &PSteps) -> Result<Text, Refusal>
+    requires { IsRunnable (told_by file.now) }
+    ensures given { IfOk result (λ text. IsToldAndJudged (told_by file.now) lines.now text) }
+    ensures refused { (line : List ℕ) → IsErrOf result (refusals.Told line)
+        → IsLineOf (IsIllegal (told_by file.now) (runs.Process lines.now)) line }
+{
+    annotations_are_ready();
+    match tell_run(alloc, &file.signature, &file.process, lines) {
+        Ok(run) => Ok(with_verdicts(alloc, file, run)?),
+        Err(why) => Err(told(line_untold(alloc, &why))),
+    }
+}
+
+/// What is told of a run, and behind an empty line the verdicts on what it shows.
+fn with_verdicts(alloc: Global, file: &File, run: ToldRun) -> Result<Text, Mem>
+    requires { IsRunnable (told_by file.now) }
+    ensures { (lines : List PStep) → IsToldAs (told_by file.now).signature (told_by file.now).process lines run.trace run.text
+        → IfOk result (λ text. IsToldAndJudged (told_by file.now) lines text) }
+{
+    legal_runs_are_told();
+    seen_traces_are_messages();
+    closed_files();
+    let judged = verdicts(alloc, &file.restrictions, &file.lemmas, &run.trace)?;
+    let mut text = run.text;
+    text.push_bytes(b"\n")?;
+    text.push_bytes(judged.as_bytes())?;
+    Ok(text)
+}
+
+/// The chart of a run of the process, or of the one that a run of rules is converted to.
+pub fn drawn_run(alloc: Global, file: &File, run: &Run) -> Result<Text, Refusal>
+    requires { IsRunnable (told_by file.now) }
+    ensures given { IfOk result (λ text. IsTextOfLines (told_by file.now) (IsDrawn (told_by file.now)) run.now text) }
+    ensures refused { (line : List ℕ) → IsErrOf result (refusals.Told line)
+        → IsLineOf (IsIllegal (told_by file.now) run.now) line }
+{
+    process_lines();
+    annotations_are_ready();
+    match run {
+        Run::Process(lines) => drawn_lines(alloc, file, lines),
+        Run::Rules(steps) => drawn_lines(alloc, file, &process_of(alloc, file, steps)?),
+    }
+}
+
+/// The chart of a run of the process.
+fn drawn_lines(alloc: Global, file: &File, lines: &PSteps) -> Result<Text, Refusal>
+    requires { IsRunnable (told_by file.now) }
+    ensures given { IfOk result (λ text. IsDrawn (told_by file.now) lines.now text) }
+    ensures refused { (line : List ℕ) → IsErrOf result (refusals.Told line)
+        → IsLineOf (IsIllegal (told_by file.now) (runs.Process lines.now)) line }
+{
+    annotations_are_ready();
+    let mut text = Text::new(alloc);
+    match chart_run(alloc, &file.signature, &file.process, lines, &mut text) {
+        Ok(_) => Ok(text),
+        Err(why) => Err(told(line_untold(alloc, &why))),
+    }
+}
+
+/// The line that refuses a run that would be told. Want of memory refuses none, and so has no line.
+fn line_untold(alloc: Global, why: &Untold) -> Result<Text, Mem>
+    ensures { IfOk result (λ line. IsUntoldLine why.now line) }
+{
+    match why {
+        Untold::Mem => Err(Mem),
+        Untold::Line { number, fault } => process_line(alloc, *number, fault),
+    }
+}

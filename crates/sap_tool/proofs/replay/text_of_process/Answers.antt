@@ -1,5 +1,0 @@
-use Rattle.sap_tool.specs.Replays.{to_process}
-use Rattle.sap_tool.proofs.replay.text_of_process.Goals as goal
-
-pub returns-clause-given : goal.returns-clause-given
-returns-clause-given c = rw c.in_ok-print_prun.ensures.text (to_process _ c.in_ok-lines.ensures.given c.in_ok-print_prun.ensures.numbers)
