@@ -1,26 +1,24 @@
 -- What has no flaw of scope is closed.
-use Rattle.std.proofs.Common.{◌≡◌, ◌<◌, ℕ, zero, suc, ◌+◌, Bool, true, false, ◌||◌, ◌⊎◌, inl, inr, List, [], ◌∷◌, ◌++◌, Some, Option, None, length, map, refl, sym, ap, ◌∙◌, subst, ⊎_elim, arith}
+use Rattle.std.proofs.Common.{◌≡◌, ℕ, ◌+◌, Bool, true, false, ◌||◌, List, [], ◌∷◌, ◌++◌, Some, refl, sym, ap, ◌∙◌, subst, ⊎_elim}
 use Rattle.std.proofs.lemmas.Bool.{cases_Bool, false≢true}
 use Rattle.std.proofs.lemmas.List.Elements.{Contains-append_left, Contains-append_right}
-use Rattle.std.specs.List.{filter, flat_map}
+use Rattle.std.specs.List.{filter}
 use Rattle.std.specs.Prelude.{Contains, cond, if◌then◌else◌, not, slice_get}
 use Rattle.std.specs.Str.{bytes_eq}
 use Rattle.sap_terms.specs.Signature.{Sig}
-use Rattle.sap_terms.specs.Tree.{Tree, Trees, trees_of}
+use Rattle.sap_terms.specs.Tree.{Tree, trees_of}
 use Rattle.sap_terms.specs.Variables.{facts_vars, is_known, new_vars, tree_vars, trees_vars}
-use Rattle.sap_terms.specs.declared.fact.Fact.{Fact}
 use Rattle.sap_terms.specs.declared.var.Var.{Var}
 use Rattle.sap_terms.proofs.PlainLaws.Items.{first_item, got_contained, later_item}
 use Rattle.sap_process.specs.Action.{Action, new, out, send, input, receive, event, insert, delete, lock, unlock, embedded}
 use Rattle.sap_process.specs.Flaws.{HasNoScopeFlaw, Rebinds, unbound}
 use Rattle.sap_process.specs.Heads.{binder, locks_set, terms_vars}
-use Rattle.sap_process.specs.Places.{place, places_from}
+use Rattle.sap_process.specs.Places.{place}
 use Rattle.sap_process.specs.Proc as whole
 use Rattle.sap_process.specs.Proc.{Proc}
-use Rattle.sap_process.specs.Sites.{Above, Site, above_of, bound_by, fresh_var, message_var, scope_below, sites_from, sites_in, var_names}
-use Rattle.sap_process.specs.declared.flaw.Flaw.{Flaw}
+use Rattle.sap_process.specs.Sites.{Site, above_of, bound_by, fresh_var, message_var, sites_from, sites_in, var_names}
 use Rattle.sap_process.specs.declared.flaw.Flaw.TheVariants.{Unbound, Rebound}
-use Rattle.sap_macro.specs.Expansion.{behind, binding_vars, scope_behind}
+use Rattle.sap_macro.specs.Expansion.{behind, scope_behind}
 use Rattle.sap_macro.specs.Instances.{BindsNew, IsClosed, IsOverScope, used_vars}
 use Rattle.sap_macro.specs.Seen.{seen}
 use Rattle.sap_macro.specs.Written.{Written, nil, call, parallel, replicated, act, test, lookup}

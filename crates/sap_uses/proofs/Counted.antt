@@ -1,5 +1,5 @@
 -- Uses with another number of arguments, and names that stand twice.
-use Rattle.std.proofs.Common.{◌≡◌, ◌==◌, ◌<◌, ℕ, suc, ◌+◌, ◌-◌, Bool, true, false, List, [], ◌∷◌, ◌++◌, ◌||◌, Option, None, Some, length, drop, refl, sym, ap, ◌∙◌, subst, ⊎_elim, arith}
+use Rattle.std.proofs.Common.{◌≡◌, ◌==◌, ◌<◌, ℕ, ◌+◌, ◌-◌, true, false, List, [], ◌∷◌, ◌++◌, ◌||◌, Option, None, Some, length, drop, refl, sym, ap, ◌∙◌, subst, ⊎_elim, arith}
 use Rattle.std.proofs.lemmas.Bool.{cases_Bool}
 use Rattle.std.specs.List.{list_any}
 use Rattle.std.specs.Option.{option_or, unwrap_or}
@@ -8,7 +8,7 @@ use Rattle.std.specs.Str.{bytes_eq}
 use Rattle.sap_terms.specs.NameMap.{Puts, value_at}
 use Rattle.sap_terms.specs.Variables.{is_known}
 use Rattle.sap_terms.proofs.PlainLaws.Lists.{drop_got}
-use Rattle.sap_macro.specs.MacroCauses.{Use, all_uses, first_other, first_other_count, first_parameter_twice, first_twice, parameter_count, uses}
+use Rattle.sap_macro.specs.MacroCauses.{Use, all_uses, first_other, first_parameter_twice, first_twice, parameter_count, uses}
 use Rattle.sap_macro.specs.Written.{Written, Definition}
 use Rattle.sap_uses.specs.code.Noted.{AreNoted}
 

@@ -1,5 +1,5 @@
 -- The first definition that is flawed.
-use Rattle.std.proofs.Common.{◌≡◌, ◌<◌, ◌≤◌, ℕ, zero, suc, ◌+◌, Bool, true, false, ◌⊎◌, List, [], ◌∷◌, Option, Some, None, length, map, refl, sym, ap, ◌∙◌, subst, ⊎_elim, arith}
+use Rattle.std.proofs.Common.{◌≡◌, ◌<◌, ◌≤◌, ℕ, ◌+◌, Bool, true, false, List, [], ◌∷◌, Option, Some, None, length, map, refl, sym, ap, ◌∙◌, subst, ⊎_elim, arith}
 use Rattle.std.proofs.lemmas.Bool.{and_cases, and_parts, cases_lt, false≢true, ltb-false}
 use Rattle.std.proofs.lemmas.Option.{slice_get-map, slice_get_within}
 use Rattle.std.specs.List.{list_any}
@@ -14,7 +14,7 @@ use Rattle.sap_process.specs.declared.flaw.Flaw.{Flaw}
 use Rattle.sap_macro.specs.Expansion.{plain, plain_after, plain_bodies, where_none, with_plain_body}
 use Rattle.sap_macro.specs.Seen.{seen}
 use Rattle.sap_macro.specs.Written.{Written, call, Definition}
-use Rattle.sap_uses.specs.ScopeFlaws.{IsFirstFlawed, IsFirstFlawedBehind, IsFlawed, params_in_scope}
+use Rattle.sap_uses.specs.ScopeFlaws.{IsFirstFlawedBehind, IsFlawed, params_in_scope}
 use Rattle.sap_uses.specs.code.Marks.{AreReached, IsFlawedThere}
 use Rattle.sap_uses.proofs.Leading.{plain_leads, written_leads}
 use Rattle.sap_uses.proofs.Names.{clash}

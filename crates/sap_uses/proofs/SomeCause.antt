@@ -1,5 +1,5 @@
 -- Of definitions and a process a cause counts, or none holds.
-use Rattle.std.proofs.Common.{◌≡◌, ◌<◌, ◌≤◌, ℕ, zero, suc, ◌+◌, ◌-◌, Bool, true, false, ◌⊎◌, inl, inr, List, [], ◌∷◌, Option, Some, None, length, map, get_or, refl, sym, ap, ◌∙◌, subst, ⊎_elim, arith}
+use Rattle.std.proofs.Common.{◌≡◌, ◌<◌, ◌≤◌, ℕ, zero, suc, ◌+◌, ◌-◌, true, ◌⊎◌, inl, inr, List, [], ◌∷◌, Option, Some, None, length, map, get_or, refl, sym, ap, ◌∙◌, subst, ⊎_elim, arith}
 use Rattle.std.proofs.lemmas.Bool.{cases_lt, cases_Bool}
 use Rattle.std.proofs.lemmas.Option.{slice_get-get_or}
 use Rattle.std.specs.List.{list_any}
@@ -18,9 +18,9 @@ use Rattle.sap_macro.specs.Order.{AreInOrder}
 use Rattle.sap_macro.specs.Written.{Written, nil, call, Definition}
 use Rattle.sap_uses.specs.FaultCauses.{Holds, IsMacroCause}
 use Rattle.sap_macro.specs.Seen.{seen}
-use Rattle.sap_uses.specs.ScopeFlaws.{IsFirstFlawedBehind, params_in_scope}
+use Rattle.sap_uses.specs.ScopeFlaws.{params_in_scope}
 use Rattle.sap_uses.specs.UseCauses.{first_large}
-use Rattle.sap_uses.specs.code.Checked.{AreAbsent, IsCauseFrom}
+use Rattle.sap_uses.specs.code.Checked.{AreAbsent}
 use Rattle.sap_uses.specs.code.Marks.{AreReached, IsFlawedThere, marked, marked_behind}
 use Rattle.sap_uses.specs.declared.fault.MacroFault.{MacroFault}
 use Rattle.sap_uses.proofs.Causes.{arguments_hold, cause_is, counts_absent, flawed_holds, joined, large_holds, levels_hold, none_holds, parameters_hold, places_hold, size_absent, uses_absent}

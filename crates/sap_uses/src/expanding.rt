@@ -11,7 +11,7 @@ ghost use Rattle.sap_uses.specs.code.Checked.{AreAbsent, IsCauseFrom};
 ghost use Rattle.sap_uses.specs.declared.fault.MacroFault.{MacroFault as Fault};
 ghost use Rattle.sap_uses.specs.declared.fault.MacroFault.TheVariants.{Mem as OutOfMemory};
 
-use crate::causes::{first_other_count, first_parameter_twice};
+use crate::counts::{first_other_count, first_parameter_twice};
 use crate::fault::MacroFault;
 use crate::flawed::first_flawed;
 use crate::large::first_large;

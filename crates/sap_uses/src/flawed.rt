@@ -13,7 +13,9 @@ ghost use Rattle.sap_uses.specs.code.Marks.{AreReached, IsFlawedThere};
 
 use crate::body_flaw::body_flaw;
 use crate::reached::reached;
-use sap_macro::{Definition, DefinitionList, Index, Source, index_of, plain_names_stand_for_bodies};
+use sap_macro::{
+    Definition, DefinitionList, Index, Source, index_of, plain_names_stand_for_bodies,
+};
 use sap_process::Flaw;
 use sap_terms::{Copied, Mem, Name, NameSet, Path};
 use std::alloc::Global;

@@ -3,7 +3,7 @@
 
 mod body_flaw;
 mod by_hand;
-mod causes;
+mod counts;
 mod expanding;
 mod fault;
 mod flawed;
@@ -14,7 +14,7 @@ mod reached;
 mod sizes;
 
 pub use by_hand::{causes_by_hand, flawed_by_hand, large_by_hand};
-pub use causes::{first_other_count, first_parameter_twice};
+pub use counts::{first_other_count, first_parameter_twice};
 pub use expanding::expand;
 pub use fault::MacroFault;
 pub use flawed::first_flawed;

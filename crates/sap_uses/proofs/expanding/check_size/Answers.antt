@@ -1,4 +1,4 @@
-use Rattle.std.proofs.Common.{◌≡◌, ℕ, List, arith, subst}
+use Rattle.std.proofs.Common.{◌≡◌, arith, subst}
 use Rattle.sap_macro.specs.Sources.{definitions, written}
 use Rattle.sap_uses.specs.code.Checked.{IsCauseFrom}
 use Rattle.sap_uses.specs.declared.fault.MacroFault.TheVariants.{TooDeep}

@@ -1,4 +1,4 @@
-use Rattle.std.proofs.Common.{◌≡◌, ℕ, List, Option, None, Some, sym, subst, ◌∙◌}
+use Rattle.std.proofs.Common.{◌≡◌, sym, subst, ◌∙◌}
 use Rattle.sap_macro.specs.Sources.{definitions, written}
 use Rattle.sap_uses.specs.code.Checked.{IsCauseFrom}
 use Rattle.sap_uses.specs.declared.fault.MacroFault.TheVariants.{Flawed}

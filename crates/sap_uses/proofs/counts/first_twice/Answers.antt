@@ -1,6 +1,6 @@
-use Rattle.std.proofs.Common.{◌≤◌, ◌-◌, length, arith}
+use Rattle.std.proofs.Common.{arith}
 use Rattle.sap_uses.proofs.Counted.{one_from}
-use Rattle.sap_uses.proofs.causes.first_twice.Goals as goal
+use Rattle.sap_uses.proofs.counts.first_twice.Goals as goal
 
 pub loop-k-preserved : goal.loop-k-preserved
 loop-k-preserved c =

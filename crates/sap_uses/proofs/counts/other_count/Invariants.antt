@@ -3,7 +3,7 @@ use Rattle.std.specs.Option.{unwrap_or}
 use Rattle.sap_terms.specs.NameMap.{value_at}
 use Rattle.sap_macro.specs.MacroCauses.{all_uses, first_other}
 use Rattle.sap_macro.specs.Sources.{definitions, written}
-use Rattle.sap_uses.proofs.causes.other_count.Given as goal
+use Rattle.sap_uses.proofs.counts.other_count.Given as goal
 
 abbrev pub invariant-loop-k : goal.invariant-loop-k
 invariant-loop-k l =

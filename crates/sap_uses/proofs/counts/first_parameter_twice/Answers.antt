@@ -2,7 +2,7 @@ use Rattle.std.proofs.Common.{sym, ◌∙◌}
 use Rattle.sap_macro.specs.Sources.{definition_of, definitions}
 use Rattle.sap_uses.proofs.Counted.{params_found, params_pass}
 use Rattle.sap_uses.proofs.Entries.{there}
-use Rattle.sap_uses.proofs.causes.first_parameter_twice.Goals as goal
+use Rattle.sap_uses.proofs.counts.first_parameter_twice.Goals as goal
 
 pub returns-in-Some : goal.returns-in-Some
 returns-in-Some c =

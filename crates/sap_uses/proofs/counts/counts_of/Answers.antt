@@ -1,9 +1,9 @@
-use Rattle.std.proofs.Common.{◌≤◌, ◌-◌, ℕ, List, Some, length, arith, subst}
+use Rattle.std.proofs.Common.{◌-◌, ℕ, List, Some, arith, subst}
 use Rattle.sap_terms.specs.NameMap.{Puts}
 use Rattle.sap_macro.specs.Sources.{definition_of, definitions}
 use Rattle.sap_uses.proofs.Counted.{one_counted}
 use Rattle.sap_uses.proofs.Entries.{there}
-use Rattle.sap_uses.proofs.causes.counts_of.Goals as goal
+use Rattle.sap_uses.proofs.counts.counts_of.Goals as goal
 
 pub loop-k-preserved : goal.loop-k-preserved
 loop-k-preserved c =

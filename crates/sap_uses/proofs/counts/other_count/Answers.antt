@@ -5,7 +5,7 @@ use Rattle.sap_macro.specs.MacroCauses.{first_other, uses}
 use Rattle.sap_macro.specs.Sources.{definition_of, definitions, written}
 use Rattle.sap_uses.proofs.Counted.{counts_found, counts_pass}
 use Rattle.sap_uses.proofs.Entries.{there}
-use Rattle.sap_uses.proofs.causes.other_count.Goals as goal
+use Rattle.sap_uses.proofs.counts.other_count.Goals as goal
 
 pub returns-in-Some : goal.returns-in-Some
 returns-in-Some c =
