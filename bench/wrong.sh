@@ -5,8 +5,8 @@
 #
 # Without names, those of all crates. It works on a copy of the repository, in which they stand where `rt must-fail` looks for
 # edits. A line tells each edit with the goal at which it is refused, and the last line how many were let through. The status is 0
-# where none was. What `rt check` kept on this machine is used, so after a check of the crate an edit takes a quarter of a minute,
-# and after none the crates below are proved first.
+# where none was. The libraries that are built in this checkout are used, as a check of the crate leaves them; one that isn't built,
+# or has changed since, is proved first.
 set -eu
 top=$(cd "$(dirname "$0")/.." && pwd)
 copy=$(mktemp -d)
@@ -22,6 +22,10 @@ for crate in "$top"/crates/*; do
     for part in src specs proofs; do
         [ ! -d "$crate/$part" ] || cp -R "$crate/$part" "$to"
     done
+    [ ! -d "$crate/out/rlib" ] || {
+        mkdir "$to/out"
+        cp -Rl "$crate/out/rlib" "$to/out" 2> /dev/null || cp -R "$crate/out/rlib" "$to/out"
+    }
 done
 wanted=0
 for name in "$@"; do
