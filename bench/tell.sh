@@ -1,9 +1,13 @@
 #!/bin/sh
-# Counts what telling a run costs beside what judging it does, of a file without formulas. Each family doubles the lines, up to what a
-# run may have. A line tells the instructions of `tell`, by valgrind, and their ratio to the line before, which is to be about 2, at
-# most 2.2; those of `judge` on the same run; the ratio of both; and by how many kilobytes `tell` holds more than `judge`, and how many
-# its text has.
+# Counts what telling a run costs beside what judging it does. Each family doubles the lines, up to what a run may have. A line tells
+# the instructions of `tell`, by valgrind, and their ratio to the line before, which is to be about 2, at most 2.2 (of `sessions` more,
+# as `judge` grows there); those of `judge` on the same run; the ratio of both; and by how many kilobytes `tell` holds more than
+# `judge`, and how many its text has.
 #
+# `sessions` is a file with lemmas, whose terms are small: there `tell` takes at most twice what `judge` takes, and at most 1,024 kB
+# more. The other families have no formula, so that `judge` does nothing but replay, and what telling adds stands alone.
+#
+#   sessions  examples/answer.spthy, a question and its answer in each session
 #   known     an entry of 255 nodes that the adversary shows again and again
 #   inputs    threads that take this entry
 #   outputs   threads that take it, put it out and show it
@@ -34,6 +38,20 @@ measured() {
     text=$("$program" tell "$work/file" "$work/run" | wc -c)
     told "$1" lines "$tell" '%12d instructions'
     awk "BEGIN { printf \"%8s judge %d, ratio %.2f; %d kB more, text of %d kB\n\", \"\", $judge, $tell / $judge, $more, $text / 1024 }"
+}
+
+sessions() {
+    cp "$(dirname "$0")/../examples/answer.spthy" "$work/file"
+    for count in 1250 2500 5000; do
+        awk -v n="$((count / 10))" 'BEGIN {
+            printf "process-run\nnew 0 ~0\npar 0\n"
+            for (k = 1; k < n; k++) {
+                a = 2 * k; b = a + 1; e = 2 * k - 2
+                printf "rep 0\nnew %d ~%d\nevent %d\nout %d\nrep 1\nin %d %d\nout %d\nin %d %d\nthen %d\nevent %d\n", a, k, a, a, b, e, b, a, e + 1, a, a
+            }
+        }' > "$work/run"
+        measured "$count"
+    done
 }
 
 known() {
@@ -85,7 +103,7 @@ chain() {
     done
 }
 
-for name in ${*:-known inputs outputs rules stored chain}; do
+for name in ${*:-sessions known inputs outputs rules stored chain}; do
     family "$name" 2
     "$name"
 done
