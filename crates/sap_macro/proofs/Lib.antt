@@ -13,6 +13,7 @@ pub mod Kept
 pub mod Uses
 pub mod Putting
 pub mod Resolving
+pub mod OtherDefinitions
 pub mod Bound
 pub mod Choices
 pub mod Entries

@@ -50,7 +50,7 @@ put_instance σ (y ∷ ys) (t ∷ ts) o u v h =
     ∙ sym (ap (λ z. if z then instance σ t else put ys (map (instance σ) ts) u v) e))
     (cases_Bool (bytes_eq y v.name))
 
-either_way : {A : Type 0} (P : A → Type 0) (b : Bool) (x y : A) → (b ≡ true → P x) → (b ≡ false → P y) → P (if b then x else y)
+pub either_way : {A : Type 0} (P : A → Type 0) (b : Bool) (x y : A) → (b ≡ true → P x) → (b ≡ false → P y) → P (if b then x else y)
 either_way P true x y h k = h refl
 either_way P false x y h k = k refl
 
