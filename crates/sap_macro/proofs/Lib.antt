@@ -14,6 +14,7 @@ pub mod Uses
 pub mod Putting
 pub mod Resolving
 pub mod OtherDefinitions
+pub mod PlainUses
 pub mod Bound
 pub mod Choices
 pub mod Entries

@@ -10,9 +10,10 @@ ghost use Rattle.sap_process.specs.Instance.{process_instance};
 ghost use Rattle.sap_process.specs.Proc.{Proc, level_count, node_count};
 ghost use Rattle.sap_process.specs.ProcessSteps.{IsProcessTrace};
 ghost use Rattle.sap_macro.specs.Expansion.{meaning_of, entered, expanded, expansion, plain, plain_after, plain_bodies, unchanged, same_name, where_none, with_plain_body};
+ghost use Rattle.sap_macro.specs.Indexed.{defined};
 ghost use Rattle.sap_macro.specs.Instances.{instance_by, IsClosed, AreClosed, AreClosedAmong, Keeps, AreTaken};
 ghost use Rattle.sap_macro.specs.NewNames.{IsNewName, candidate, new_name};
-ghost use Rattle.sap_macro.specs.Order.{AreInOrder, UsesOnly};
+ghost use Rattle.sap_macro.specs.Order.{AreInOrder, UsesOnly, with_parameters};
 ghost use Rattle.sap_macro.specs.Replaced.{AreWithoutParameters, nothing_stands, process_of};
 ghost use Rattle.sap_macro.specs.UpToNames.{AreSameUpToNames};
 ghost use Rattle.sap_macro.specs.UsesAreInstances.{UsesAreInstances};
@@ -74,6 +75,12 @@ pub fn plain_names_stand_for_bodies()
     ensures other { (ds : List Definition) (f : List ℕ) (ts : List Tree) → is_known (map (λ (d : Definition). d.name) ds) f ≡ false
         → plain_after call ds f ts ≡ call f ts }
     ensures bodies { (ds : List Definition) → AreInOrder [] ds → plain_bodies call ds ≡ map (with_plain_body ds) ds }
+{}
+
+/// A law: what uses names alone that are defined uses, once names without parameters are replaced, names alone that have parameters.
+pub fn plain_uses_have_parameters()
+    ensures { (ds : List Definition) (p : Written) → AreInOrder [] ds → UsesOnly (defined ds) p
+        → UsesOnly (with_parameters [] ds) (plain ds p) }
 {}
 
 /// A law: where fewer than 2^64 - 1 names are taken, the number of a new name is one of 64 bits. So it has at most 20 digits.
