@@ -8,14 +8,14 @@ use Rattle.sap_terms.specs.Tree.{Tree, trees_of}
 use Rattle.sap_terms.specs.Variables.{is_known}
 use Rattle.sap_process.specs.Instance.{process_instance}
 use Rattle.sap_macro.specs.Expansion.{Expanded, Meaning, by_names, entered, expanded, meaning_after, meaning_of, no_meaning, own_names, put, same_name, unchanged, with_definition}
-use Rattle.sap_macro.specs.Instances.{written_instance, instance_by, IsClosed, AreClosed, AreClosedAmong, Keeps, AreTaken}
+use Rattle.sap_macro.specs.Instances.{written_instance, instance_by, IsClosed, AreClosedAmong, Keeps, AreTaken}
 use Rattle.sap_macro.specs.NewNames.{renamed, taken_after}
 use Rattle.sap_macro.specs.Order.{UsesOnly}
 use Rattle.sap_macro.specs.UpToNames.{AreAlike}
 use Rattle.sap_macro.specs.Written.{Written, nil, call, parallel, replicated, act, test, lookup, Definition}
 use Rattle.sap_macro.proofs.Names.{apart, clash}
 use Rattle.sap_macro.proofs.Resolving.{expanded_agree}
-use Rattle.sap_macro.proofs.Uses.{either_way, uses_are_instances}
+use Rattle.sap_macro.proofs.Uses.{AreClosed, either_way, expansions_are_one, uses_are_instances}
 
 -- the definitions of these names
 abbrev pub of_names : List (List ℕ) → List Definition → List Definition
@@ -77,3 +77,15 @@ uses_among_are_instances names ds d ts σ taken other all uses closed g k o =
     subst (λ (e : Expanded). AreAlike [] (process_instance σ e.process) (expanded (meaning_of ds) unchanged same_name (instance_by d us) other).process) (sym left)
     (subst (λ (e : Expanded). AreAlike [] (process_instance σ (entered (meaning_of es) d ts taken).process) e.process) (sym right)
     (uses_are_instances es d ts σ taken other (closed_of names ds all) closed g k o))
+
+pub expansions_among_are_one : (names : List (List ℕ)) (ds : List Definition) (p : Written) (taken other : List (List ℕ)) → AreClosedAmong names ds → UsesOnly names p → IsClosed [] p
+    → AreTaken taken [] p → AreTaken other [] p
+    → AreAlike [] (expanded (meaning_of ds) unchanged same_name p taken).process (expanded (meaning_of ds) unchanged same_name p other).process
+expansions_among_are_one names ds p taken other all uses closed h k =
+    let es = of_names names ds in
+    let agree = agree_after ds names no_meaning no_meaning all (λ f xs z i. refl) in
+    let left = expanded_agree names p (meaning_of ds) (meaning_of es) uses agree unchanged same_name taken in
+    let right = expanded_agree names p (meaning_of ds) (meaning_of es) uses agree unchanged same_name other in
+    subst (λ (e : Expanded). AreAlike [] e.process (expanded (meaning_of ds) unchanged same_name p other).process) (sym left)
+    (subst (λ (e : Expanded). AreAlike [] (expanded (meaning_of es) unchanged same_name p taken).process e.process) (sym right)
+    (expansions_are_one es p taken other (closed_of names ds all) closed h k))

@@ -67,12 +67,7 @@ IsClosed scope (lookup t x p q) =
     IsOverScope scope (tree_vars t)
     × ((is_known scope x.name ≡ false) × (IsClosed (x.name ∷ scope) p × IsClosed scope q))
 
--- so is each of these definitions
-abbrev pub AreClosed : List Definition → Type 0
-AreClosed [] = Unit {0}
-AreClosed (d ∷ ds) = IsClosed d.params d.body × AreClosed ds
-
--- so is each of them that has one of these names, and it uses these names alone
+-- so is each of these definitions that has one of the names, and it uses these names alone
 abbrev pub AreClosedAmong : List (List ℕ) → List Definition → Type 0
 AreClosedAmong names [] = Unit {0}
 AreClosedAmong names (d ∷ ds) =

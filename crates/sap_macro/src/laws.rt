@@ -11,7 +11,7 @@ ghost use Rattle.sap_process.specs.Proc.{Proc, level_count, node_count};
 ghost use Rattle.sap_process.specs.ProcessSteps.{IsProcessTrace};
 ghost use Rattle.sap_macro.specs.Expansion.{meaning_of, entered, expanded, expansion, plain, plain_after, plain_bodies, unchanged, same_name, where_none, with_plain_body};
 ghost use Rattle.sap_macro.specs.Indexed.{defined};
-ghost use Rattle.sap_macro.specs.Instances.{instance_by, IsClosed, AreClosed, AreClosedAmong, Keeps, AreTaken};
+ghost use Rattle.sap_macro.specs.Instances.{instance_by, IsClosed, AreClosedAmong, Keeps, AreTaken};
 ghost use Rattle.sap_macro.specs.NewNames.{IsNewName, candidate, new_name};
 ghost use Rattle.sap_macro.specs.Order.{AreInOrder, UsesOnly, with_parameters};
 ghost use Rattle.sap_macro.specs.Replaced.{AreWithoutParameters, nothing_stands, process_of};
@@ -46,10 +46,11 @@ pub fn uses_are_instances()
         (expanded (meaning_of ds) unchanged same_name (instance_by d (map (instance s) ts)) other).process }
 {}
 
-/// A law: with other names taken the expansion of a process is the same up to names.
+/// A law: with other names taken the expansion of a process is the same up to names, where it uses what it binds alone, and binds
+/// nothing again, and so do the definitions that it comes to use, but for their parameters.
 pub fn expansions_are_one()
-    ensures { (ds : List Definition) (p : Written) (taken other : List (List ℕ)) → AreClosed ds → IsClosed [] p → AreTaken taken [] p
-        → AreTaken other [] p → AreSameUpToNames (expanded (meaning_of ds) unchanged same_name p taken).process
+    ensures { (names : List (List ℕ)) (ds : List Definition) (p : Written) (taken other : List (List ℕ)) → AreClosedAmong names ds → UsesOnly names p
+        → IsClosed [] p → AreTaken taken [] p → AreTaken other [] p → AreSameUpToNames (expanded (meaning_of ds) unchanged same_name p taken).process
         (expanded (meaning_of ds) unchanged same_name p other).process }
 {}
 
