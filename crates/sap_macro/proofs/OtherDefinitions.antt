@@ -73,7 +73,7 @@ uses_among_are_instances names ds d ts σ taken other all uses closed g k o =
     let agree = agree_after ds names no_meaning no_meaning all (λ f xs z i. refl) in
     let left = entered_agree names (meaning_of ds) (meaning_of es) d uses agree ts taken in
     let right =
-        expanded_agree names (instance_by d us) (meaning_of ds) (meaning_of es) (instance_uses names (put d.params us unchanged) d.body uses) agree unchanged same_name other in
+    expanded_agree names (instance_by d us) (meaning_of ds) (meaning_of es) (instance_uses names (put d.params us unchanged) d.body uses) agree unchanged same_name other in
     subst (λ (e : Expanded). AreAlike [] (process_instance σ e.process) (expanded (meaning_of ds) unchanged same_name (instance_by d us) other).process) (sym left)
     (subst (λ (e : Expanded). AreAlike [] (process_instance σ (entered (meaning_of es) d ts taken).process) e.process) (sym right)
     (uses_are_instances es d ts σ taken other (closed_of names ds all) closed g k o))
