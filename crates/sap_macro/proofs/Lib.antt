@@ -13,6 +13,8 @@ pub mod Kept
 pub mod Uses
 pub mod Putting
 pub mod Resolving
+pub mod OtherDefinitions
+pub mod PlainUses
 pub mod Bound
 pub mod Choices
 pub mod Entries

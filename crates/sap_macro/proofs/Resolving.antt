@@ -100,7 +100,7 @@ steps_agree known (lookup t x p q) c d h e = λ i. steps_agree known p c d h.0 e
 
 -- ---- which names are used behind names without parameters
 
-more_known : (x : List ℕ) (known : List (List ℕ)) (w : Written) → UsesOnly known w → UsesOnly (x ∷ known) w
+pub more_known : (x : List ℕ) (known : List (List ℕ)) (w : Written) → UsesOnly known w → UsesOnly (x ∷ known) w
 more_known x known nil h = tt
 more_known x known (call f ts) h = in_tail f x known h
 more_known x known (parallel p q) h = (more_known x known p h.0, more_known x known q h.1)
@@ -113,14 +113,15 @@ more_known x known (lookup t y p q) h = (more_known x known p h.0, more_known x 
 abbrev pub AreClosedUses : List (List ℕ) → Plain → Type 0
 AreClosedUses known p = (f : List ℕ) (ts : List Tree) → is_known known f ≡ true → UsesOnly known (p f ts)
 
-pub uses_known : (known : List (List ℕ)) (w : Written) (p : Plain) → UsesOnly known w → AreClosedUses known p → UsesOnly known (with_uses p w)
-uses_known known nil p h e = tt
-uses_known known (call f ts) p h e = e f ts h
-uses_known known (parallel a b) p h e = (uses_known known a p h.0 e, uses_known known b p h.1 e)
-uses_known known (replicated a) p h e = uses_known known a p h e
-uses_known known (act x a) p h e = uses_known known a p h e
-uses_known known (test t u a b) p h e = (uses_known known a p h.0 e, uses_known known b p h.1 e)
-uses_known known (lookup t x a b) p h e = (uses_known known a p h.0 e, uses_known known b p h.1 e)
+pub uses_known : (known other : List (List ℕ)) (w : Written) (p : Plain) → UsesOnly known w
+    → ((f : List ℕ) (ts : List Tree) → is_known known f ≡ true → UsesOnly other (p f ts)) → UsesOnly other (with_uses p w)
+uses_known known other nil p h e = tt
+uses_known known other (call f ts) p h e = e f ts h
+uses_known known other (parallel a b) p h e = (uses_known known other a p h.0 e, uses_known known other b p h.1 e)
+uses_known known other (replicated a) p h e = uses_known known other a p h e
+uses_known known other (act x a) p h e = uses_known known other a p h e
+uses_known known other (test t u a b) p h e = (uses_known known other a p h.0 e, uses_known known other b p h.1 e)
+uses_known known other (lookup t x a b) p h e = (uses_known known other a p h.0 e, uses_known known other b p h.1 e)
 
 where_none_known : (known : List (List ℕ)) (xs : List (List ℕ)) (p q : Written) → UsesOnly known p → UsesOnly known q → UsesOnly known (where_none xs p q)
 where_none_known known [] p q h k = h
@@ -130,7 +131,7 @@ pub closed_more : (known : List (List ℕ)) (p : Plain) (d : Definition) → Use
 closed_more known p d h e f ts k =
     ⊎_elim
     (λ s. subst (λ b. UsesOnly (d.name ∷ known) (if b then where_none d.params (with_uses p d.body) (call f ts) else p f ts)) (sym s)
-    (where_none_known (d.name ∷ known) d.params (with_uses p d.body) (call f ts) (more_known d.name known (with_uses p d.body) (uses_known known d.body p h e)) k))
+    (where_none_known (d.name ∷ known) d.params (with_uses p d.body) (call f ts) (more_known d.name known (with_uses p d.body) (uses_known known known d.body p h e)) k))
     (λ s. subst (λ b. UsesOnly (d.name ∷ known) (if b then where_none d.params (with_uses p d.body) (call f ts) else p f ts)) (sym s)
     (more_known d.name known (p f ts) (e f ts (not_first s (in_cases f d.name known k)))))
     (cases_Bool (bytes_eq d.name f)) where
@@ -159,7 +160,7 @@ module _ (known : List (List ℕ)) (p : Plain) (m : Meaning) (c : Cost) (d : Def
   entered_there : (ts : List Tree) (taken : List (List ℕ)) → entered m (with_body p d) ts taken ≡ entered meaning_there (with_body p d) ts taken
   entered_there ts taken =
       let own = own_names (with_body p d) in
-      expanded_agree known (with_uses p d.body) m meaning_there (uses_known known d.body p h.1.0 closed)
+      expanded_agree known (with_uses p d.body) m meaning_there (uses_known known known d.body p h.1.0 closed)
       (λ f us z k. sym (meaning_stays (d ∷ ds) p m f us z (apart_from (d ∷ ds) known h f k)))
       (put d.params ts (by_names (renamed taken own))) (renamed taken own) (taken_after taken own)
 

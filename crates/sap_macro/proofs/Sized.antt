@@ -102,7 +102,7 @@ module _ (j : ℕ → ℕ → ℕ) (keeps : KeepsCut j) where
     own_size : (xs : List (List ℕ)) (f : List ℕ) (ts : List Tree) (r : Choice) (b : List ℕ → List ℕ) (taken : List (List ℕ)) → bytes_eq d.name f ≡ true
         → SizeIs (where_none xs (with_uses p d.body) (call f ts)) (cut (sized j c d.body)) r b taken
     own_size [] f ts r b taken e =
-        ap (λ (z : Expanded). cut (size_of j z.process)) (same_in (with_uses p d.body) (uses_known known d.body p only closed) r b taken) ∙ sized_in p m c h d.body r b taken
+        ap (λ (z : Expanded). cut (size_of j z.process)) (same_in (with_uses p d.body) (uses_known known known d.body p only closed) r b taken) ∙ sized_in p m c h d.body r b taken
     own_size (x ∷ xs) f ts r b taken e =
         let us = map (instance r) ts in
         let own = own_names (with_body p d) in

@@ -12,7 +12,7 @@ use Rattle.sap_process.specs.Action.{Action}
 use Rattle.sap_process.specs.Instance.{action_instance, process_instance}
 use Rattle.sap_process.specs.Proc as whole
 use Rattle.sap_macro.specs.Expansion.{binders, own_names, Expanded, expanded_as, Meaning, same_name, by_names, unchanged, put, binding, expanded, entered, with_definition, no_meaning, meaning_after, meaning_of}
-use Rattle.sap_macro.specs.Instances.{written_instance, instance_by, IsClosed, AreClosed, Keeps, AreTaken}
+use Rattle.sap_macro.specs.Instances.{written_instance, instance_by, IsClosed, Keeps, AreTaken}
 use Rattle.sap_macro.specs.NewNames.{renamed, taken_after}
 use Rattle.sap_macro.specs.UpToNames.{Pair, lefts, rights, AreAlikeTerms, both_public, AreAlikeLists, both_more, AreAlike, both_nil}
 use Rattle.sap_macro.specs.Written.{Written, nil, call, parallel, replicated, act, test, lookup, Definition}
@@ -23,6 +23,11 @@ use Rattle.sap_macro.proofs.Scopes.{Among, binder_is_new, is_once, once_is, grow
 use Rattle.sap_macro.proofs.Commuting.{IsSteady, same_taken, taken_grows, keeps_more, Commutes, commuted}
 use Rattle.sap_macro.proofs.AlikeExpansions.{Respects, alike}
 use Rattle.sap_macro.proofs.Kept.{action_kept, each_kept, kept}
+
+-- each of these definitions is closed
+abbrev pub AreClosed : List Definition → Type 0
+AreClosed [] = Unit {0}
+AreClosed (d ∷ ds) = IsClosed d.params d.body × AreClosed ds
 
 -- a name that is no parameter
 put_other : (ys : List (List ℕ)) (ts : List Tree) (o : Choice) (v : Var) → is_known ys v.name ≡ false → put ys ts o v ≡ o v
@@ -50,7 +55,7 @@ put_instance σ (y ∷ ys) (t ∷ ts) o u v h =
     ∙ sym (ap (λ z. if z then instance σ t else put ys (map (instance σ) ts) u v) e))
     (cases_Bool (bytes_eq y v.name))
 
-either_way : {A : Type 0} (P : A → Type 0) (b : Bool) (x y : A) → (b ≡ true → P x) → (b ≡ false → P y) → P (if b then x else y)
+pub either_way : {A : Type 0} (P : A → Type 0) (b : Bool) (x y : A) → (b ≡ true → P x) → (b ≡ false → P y) → P (if b then x else y)
 either_way P true x y h k = h refl
 either_way P false x y h k = k refl
 

@@ -1,13 +1,14 @@
 -- Small files with definitions, to try expansions by hand.
 use Rattle.std.specs.Prelude.{ℕ, codes, List, [], ◌∷◌}
+use Rattle.sap_terms.specs.AdversaryFacts.{linear}
 use Rattle.sap_terms.specs.Tree.{Tree, variable, public}
-use Rattle.sap_terms.specs.declared.var.Sort.TheVariants.{Msg, Fresh}
-use Rattle.sap_process.specs.Action.{new, out, input}
+use Rattle.sap_terms.specs.declared.var.Sort.TheVariants.{Msg, Fresh, Pub}
+use Rattle.sap_process.specs.Action.{new, out, send, input, receive, event, insert, delete, lock, unlock, embedded}
 use Rattle.sap_process.specs.Proc as whole
 use Rattle.sap_process.specs.Proc.{Proc}
 use Rattle.sap_macro.specs.NameExamples.{both}
 use Rattle.sap_macro.specs.UpToNames.{named}
-use Rattle.sap_macro.specs.Written.{Written, nil, call, parallel, act, Definition}
+use Rattle.sap_macro.specs.Written.{Written, nil, call, parallel, replicated, act, test, lookup, Definition}
 
 -- a name as a variable, and as a fresh one
 abbrev pub of_name : List ℕ → Tree
@@ -98,6 +99,38 @@ a = public (codes "a")
 abbrev pub b : Tree
 b = public (codes "b")
 
+-- let A(x) = ! if x = 'a' then lookup x as y in insert x, y; delete x else lock x; unlock x
+--     else out(x, x); in(x, <x,z>); event E(z); [ L(v) ] --[ S($p) ]-> [ M(x) ]
+abbrev pub all_forms : Definition
+all_forms =
+    with_x
+    (replicated (test (of_name (codes "x")) a
+    (lookup (of_name (codes "x")) (named (codes "y") Msg)
+    (act (insert (of_name (codes "x")) (of_name (codes "y"))) (act (delete (of_name (codes "x"))) nil))
+    (act (lock (of_name (codes "x")) 0) (act (unlock (of_name (codes "x")) 0) nil)))
+    (act (send (of_name (codes "x")) (of_name (codes "x")))
+    (act (receive (of_name (codes "x")) (both (of_name (codes "x")) (of_name (codes "z"))))
+    (act (event (linear (codes "E") (of_name (codes "z") ∷ [])))
+    (act (embedded (linear (codes "L") (of_name (codes "v") ∷ []) ∷ [])
+    (linear (codes "S") (variable (named (codes "p") Pub) ∷ []) ∷ [])
+    (linear (codes "M") (of_name (codes "x") ∷ []) ∷ []))
+    nil))))))
+
+-- its body with 'b' for x, and with its new names
+abbrev pub all_forms_put : Proc
+all_forms_put =
+    whole.replicated (whole.test b a
+    (whole.lookup b (named (codes "y_1") Msg)
+    (whole.act (insert b (of_name (codes "y_1"))) (whole.act (delete b) whole.nil))
+    (whole.act (lock b 0) (whole.act (unlock b 0) whole.nil)))
+    (whole.act (send b b)
+    (whole.act (receive b (both b (of_name (codes "z_1"))))
+    (whole.act (event (linear (codes "E") (of_name (codes "z_1") ∷ [])))
+    (whole.act (embedded (linear (codes "L") (of_name (codes "v_1") ∷ []) ∷ [])
+    (linear (codes "S") (variable (named (codes "p_1") Pub) ∷ []) ∷ [])
+    (linear (codes "M") (b ∷ []) ∷ []))
+    whole.nil)))))
+
 -- let A(x,y,y,x) = out('a')
 abbrev pub twice_two : Definition
 twice_two = record {
@@ -109,3 +142,19 @@ twice_two = record {
 -- let A(x) = C('a')
 abbrev pub using_wrongly : Definition
 using_wrongly = with_x (call (codes "C") (a ∷ []))
+
+-- let B(z,z) = new ~n; out(z)
+abbrev pub twice_z : Definition
+twice_z = record inner { params = codes "z" ∷ codes "z" ∷ [] }
+
+-- let B(z) = A
+abbrev pub using_none : Definition
+using_none = record inner { body = call (codes "A") [] }
+
+-- the process below each form, in first branches, and in second ones
+abbrev pub in_first : Written → Written
+in_first p = parallel (test a a (lookup a (named (codes "y") Msg) p nil) nil) nil
+
+abbrev pub in_second : Written → Written
+in_second p =
+    replicated (act (out a) (parallel nil (test a a nil (lookup a (named (codes "y") Msg) nil p))))

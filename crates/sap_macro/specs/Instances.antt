@@ -8,6 +8,7 @@ use Rattle.sap_terms.specs.declared.var.Var.{Var}
 use Rattle.sap_process.specs.Action.{Action, new, out, send, input, receive, event, insert, delete, lock, unlock, embedded}
 use Rattle.sap_process.specs.Instance.{action_instance}
 use Rattle.sap_macro.specs.Expansion.{behind, binders, put, unchanged}
+use Rattle.sap_macro.specs.Order.{UsesOnly}
 use Rattle.sap_macro.specs.UpToNames.{named}
 use Rattle.sap_macro.specs.Written.{Written, nil, call, parallel, replicated, act, test, lookup, Definition}
 
@@ -66,10 +67,12 @@ IsClosed scope (lookup t x p q) =
     IsOverScope scope (tree_vars t)
     × ((is_known scope x.name ≡ false) × (IsClosed (x.name ∷ scope) p × IsClosed scope q))
 
--- so is each of these definitions
-abbrev pub AreClosed : List Definition → Type 0
-AreClosed [] = Unit {0}
-AreClosed (d ∷ ds) = IsClosed d.params d.body × AreClosed ds
+-- so is each of these definitions that has one of the names, and it uses these names alone
+abbrev pub AreClosedAmong : List (List ℕ) → List Definition → Type 0
+AreClosedAmong names [] = Unit {0}
+AreClosedAmong names (d ∷ ds) =
+    (is_known names d.name ≡ true → IsClosed d.params d.body × UsesOnly names d.body)
+    × AreClosedAmong names ds
 
 -- the choice replaces taken names alone
 pub record Keeps (σ : Choice) (taken : List (List ℕ)) : Type 0 where

@@ -44,18 +44,25 @@ new_x p = act (new (named (codes "x") Fresh)) p
 abbrev pub new_y : Proc → Proc
 new_y p = act (new (named (codes "y") Fresh)) p
 
+-- new x, whose sign is another
+abbrev pub new_plain : Proc → Proc
+new_plain p = act (new (named (codes "x") Msg)) p
+
 abbrev pub takes : Tree → Proc → Proc
 takes t p = act (input t) p
 
 abbrev pub gives : Tree → Proc
 gives t = act (out t) nil
 
--- lookup 'a' as x, or as y
+-- lookup 'a' as x, as y, or as ~x
 abbrev pub finds_x : Proc → Proc → Proc
 finds_x p q = lookup a (named (codes "x") Msg) p q
 
 abbrev pub finds_y : Proc → Proc → Proc
 finds_y p q = lookup a (named (codes "y") Msg) p q
+
+abbrev pub finds_fresh : Proc → Proc → Proc
+finds_fresh p q = lookup a (named (codes "x") Fresh) p q
 
 -- [ L(t) ] --[ A(u) ]-> [ M(v) ], and then p
 abbrev pub ruled : Tree → Tree → Tree → Proc → Proc
@@ -85,19 +92,25 @@ equal_pairs = (
     ∷ (ruled x x public_y (gives (both x public_y)), ruled y y public_x (gives (both y public_x)))
     ∷ (locked 1, locked 2) ∷ []
 
--- an occurrence with another binder; a name bound again, and not; two names that change places in one of both; a name compared in
--- a pattern, and bound there; a sign; a name of an outer binder, and of an inner one; a name that an embedded rule takes, and one
--- that it makes up; and a name that nothing binds
+-- an occurrence with another binder; a name bound again, and not, on either side; two names that change places in one of both; a
+-- name compared in a pattern, and bound there; a sign, at a use, at `new`, at a look-up, and of a name that a pattern compares; a
+-- name of an outer binder, and of an inner one; a name that an embedded rule takes, and one that it makes up; a name that nothing
+-- binds, with another and with itself; and two sides that change places
 abbrev pub other_pairs : List (Proc × Proc)
 other_pairs =
     (takes x (takes y (gives x)), takes x (takes y (gives y)))
     ∷ (new_x (new_y (gives fresh_x)), new_x (new_x (gives fresh_x)))
+    ∷ (new_x (new_x (gives fresh_x)), new_x (new_y (gives fresh_x)))
     ∷ (takes (both x y) (gives (both x y)), takes (both x y) (gives (both y x)))
     ∷ (takes x (takes (both x y) nil), takes x (takes (both y z) nil))
     ∷ (new_x (gives fresh_x), new_x (gives x))
+    ∷ (new_x (gives fresh_x), new_plain (gives fresh_x))
+    ∷ (finds_x (gives x) nil, finds_fresh (gives x) nil)
+    ∷ (new_x (takes fresh_x nil), new_x (takes x nil))
     ∷ (takes x (finds_y (gives x) nil), takes y (finds_y (gives y) nil))
     ∷ (ruled x x public_y nil, ruled x x public_x nil)
-    ∷ (gives x, gives y) ∷ []
+    ∷ (gives x, gives y) ∷ (gives x, gives x)
+    ∷ (parallel (gives a) nil, parallel nil (gives a)) ∷ []
 
 -- in each of these pairs both are equal up to names
 abbrev pub AreAllSame : List (Proc × Proc) → Type 0

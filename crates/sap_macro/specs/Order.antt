@@ -18,3 +18,13 @@ abbrev pub AreInOrder : List (List ℕ) → List Definition → Type 0
 AreInOrder known [] = Unit {0}
 AreInOrder known (d ∷ ds) =
     (is_known known d.name ≡ false) × (UsesOnly known d.body × AreInOrder (d.name ∷ known) ds)
+
+-- the name in front of these, where there are parameters
+abbrev pub where_some : List (List ℕ) → List ℕ → List (List ℕ) → List (List ℕ)
+where_some [] f names = names
+where_some (x ∷ xs) f names = f ∷ names
+
+-- the names of the definitions that have parameters, the last one first, in front of these
+abbrev pub with_parameters : List (List ℕ) → List Definition → List (List ℕ)
+with_parameters names [] = names
+with_parameters names (d ∷ ds) = with_parameters (where_some d.params d.name names) ds

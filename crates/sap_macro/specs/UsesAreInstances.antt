@@ -9,7 +9,8 @@ use Rattle.sap_process.specs.Instance.{process_instance}
 use Rattle.sap_process.specs.Proc.{Proc}
 use Rattle.sap_process.specs.ProcessSteps.{IsProcessTrace}
 use Rattle.sap_macro.specs.Expansion.{entered, expanded, meaning_of, same_name, unchanged}
-use Rattle.sap_macro.specs.Instances.{instance_by, IsClosed, AreClosed, Keeps, AreTaken}
+use Rattle.sap_macro.specs.Instances.{instance_by, IsClosed, AreClosedAmong, Keeps, AreTaken}
+use Rattle.sap_macro.specs.Order.{UsesOnly}
 use Rattle.sap_macro.specs.UpToNames.{AreSameUpToNames}
 use Rattle.sap_macro.specs.Written.{Definition}
 
@@ -28,11 +29,12 @@ instance_behind ds d ts taken =
     (expanded (meaning_of ds) unchanged same_name (instance_by d ts) taken).process
 
 -- each use whose arguments name nothing but what is in scope is its definition's instance, up to names, which shows the same: the
--- definitions use what they bind and their parameters alone, and bind nothing again; the choice makes the arguments ground, and
--- replaces taken names alone; for the instance what the body binds is taken
+-- definition uses what it binds and its parameters alone, and binds nothing again, and so do those that it comes to use, whatever
+-- others there are; the choice makes the arguments ground, and replaces taken names alone; for the instance what the body binds is
+-- taken
 abbrev pub UsesAreInstances : Type 0
 UsesAreInstances =
-    (ds : List Definition) (d : Definition) (ts : List Tree) (s : Choice)
-    (taken other : List (List ℕ)) → AreClosed ds → IsClosed d.params d.body
-    → AreGround (trees_of (map (instance s) ts)) → Keeps s taken → AreTaken other d.params d.body
+    (names : List (List ℕ)) (ds : List Definition) (d : Definition) (ts : List Tree) (s : Choice)
+    (taken other : List (List ℕ)) → AreClosedAmong names ds → UsesOnly names d.body
+    → IsClosed d.params d.body → AreGround (trees_of (map (instance s) ts)) → Keeps s taken → AreTaken other d.params d.body
     → ShowTheSame (use_under s ds d ts taken) (instance_behind ds d (map (instance s) ts) other)

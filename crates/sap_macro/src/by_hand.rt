@@ -3,13 +3,13 @@ ghost use Rattle.std.specs.Prelude.{◌≡◌, codes, [], ◌∷◌, None, Some}
 ghost use Rattle.sap_terms.specs.Tree.{public};
 ghost use Rattle.sap_process.specs.Proc as whole;
 ghost use Rattle.sap_macro.specs.Expansion.{expansion};
-ghost use Rattle.sap_macro.specs.ExpansionExamples.{a, b, of_name, fresh_of, news, taking, makes, takes, gives, making, making_twice, making_x, comparing, pairing, giving_y, using_plain, inner, outer, twice_two, using_wrongly};
+ghost use Rattle.sap_macro.specs.ExpansionExamples.{a, b, of_name, fresh_of, news, taking, makes, takes, gives, making, making_twice, making_x, comparing, pairing, giving_y, using_plain, inner, outer, all_forms, all_forms_put, twice_two, twice_z, using_wrongly, using_none, in_first, in_second};
 ghost use Rattle.sap_macro.specs.MacroCauses.{first_other_count, first_parameter_twice};
 ghost use Rattle.sap_macro.specs.NameExamples.{both, AreAllSame, AreNoneSame, equal_pairs, other_pairs};
 ghost use Rattle.sap_macro.specs.NewNames.{new_name};
 ghost use Rattle.sap_macro.specs.Written.{call, parallel};
 
-/// A law: eight pairs of processes that are equal up to names, and eight that aren't.
+/// A law: eight pairs of processes that are equal up to names, and fourteen that aren't.
 pub fn equal_up_to_names_by_hand()
     ensures equal { AreAllSame equal_pairs }
     ensures other { AreNoneSame other_pairs }
@@ -18,7 +18,7 @@ pub fn equal_up_to_names_by_hand()
 /// A law: expansions of small files. What a use's body binds gets new names, the first that aren't taken, one for each name and use,
 /// in the order of their first binders, and uses inside of it later ones; the names of arguments stay what they are. Parameters are
 /// replaced all at once, and names without parameters before anything else. A pattern that compares with a parameter binds nothing,
-/// so it takes no name; a parameter without an argument is `''`.
+/// so it takes no name; a parameter without an argument is `''`. Each form stays what it is, and each that binds has its new name.
 pub fn expansions_by_hand()
     ensures renames { (expansion (making ∷ []) (codes "n" ∷ codes "x" ∷ []) (news (codes "n") (call (codes "A") (fresh_of (codes "n") ∷ [])))).process
         ≡ makes (codes "n") (makes (codes "n_1") (gives (both (fresh_of (codes "n")) (fresh_of (codes "n_1"))))) }
@@ -35,17 +35,25 @@ pub fn expansions_by_hand()
     ensures no_new_parameter { (expansion (comparing ∷ making_x ∷ []) [] (parallel (call (codes "A") (a ∷ [])) (call (codes "B") (b ∷ [])))).process
         ≡ whole.parallel (takes a whole.nil) (makes (codes "x_1") (gives b)) }
     ensures no_argument { (expansion (pairing ∷ []) [] (call (codes "A") (a ∷ []))).process ≡ gives (both a (public [])) }
+    ensures each_form { (expansion (all_forms ∷ []) [] (call (codes "A") (b ∷ []))).process ≡ all_forms_put }
     ensures sapic { new_name [] (codes "sapic") ≡ codes "sapic1" }
+    ensures sapic_alone { new_name [] (codes "sapics") ≡ codes "sapics_1" }
 {}
 
-/// A law: why small definitions can't be used as they are written. Of parameters that stand twice the first in order counts; one name
-/// in two definitions is none. Uses count in the bodies first, and a definition without parameters takes no arguments.
+/// A law: why small definitions can't be used as they are written. Of parameters that stand twice the first in order counts, of
+/// definitions that have such the first; one name in two definitions is none. Uses count in the bodies first, in order, wherever they
+/// stand, and a definition without parameters takes no arguments.
 pub fn macro_causes_by_hand()
     ensures twice { first_parameter_twice (making ∷ twice_two ∷ []) ≡ Some (codes "x") }
+    ensures first_definition { first_parameter_twice (twice_z ∷ twice_two ∷ []) ≡ Some (codes "z") }
     ensures once { first_parameter_twice (making ∷ pairing ∷ []) ≡ None }
     ensures more { first_other_count (making ∷ []) (parallel (call (codes "A") (a ∷ [])) (call (codes "A") (a ∷ b ∷ []))) ≡ Some (codes "A") }
     ensures fewer { first_other_count (pairing ∷ []) (call (codes "A") (a ∷ [])) ≡ Some (codes "A") }
     ensures plain { first_other_count (giving_y ∷ []) (call (codes "C") (a ∷ [])) ≡ Some (codes "C") }
     ensures body_first { first_other_count (giving_y ∷ using_wrongly ∷ []) (call (codes "A") []) ≡ Some (codes "C") }
+    ensures bodies_in_order { first_other_count (giving_y ∷ using_wrongly ∷ using_none ∷ []) (call (codes "B") []) ≡ Some (codes "C") }
+    ensures in_order { first_other_count (giving_y ∷ pairing ∷ []) (parallel (call (codes "C") (a ∷ [])) (call (codes "A") [])) ≡ Some (codes "C") }
+    ensures in_first { first_other_count (giving_y ∷ []) (in_first (call (codes "C") (a ∷ []))) ≡ Some (codes "C") }
+    ensures in_second { first_other_count (giving_y ∷ []) (in_second (call (codes "C") (a ∷ []))) ≡ Some (codes "C") }
     ensures right { first_other_count (giving_y ∷ using_plain ∷ []) (parallel (call (codes "A") (a ∷ [])) (call (codes "C") [])) ≡ None }
 {}

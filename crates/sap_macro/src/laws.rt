@@ -10,9 +10,10 @@ ghost use Rattle.sap_process.specs.Instance.{process_instance};
 ghost use Rattle.sap_process.specs.Proc.{Proc, level_count, node_count};
 ghost use Rattle.sap_process.specs.ProcessSteps.{IsProcessTrace};
 ghost use Rattle.sap_macro.specs.Expansion.{meaning_of, entered, expanded, expansion, plain, plain_after, plain_bodies, unchanged, same_name, where_none, with_plain_body};
-ghost use Rattle.sap_macro.specs.Instances.{instance_by, IsClosed, AreClosed, Keeps, AreTaken};
+ghost use Rattle.sap_macro.specs.Indexed.{defined};
+ghost use Rattle.sap_macro.specs.Instances.{instance_by, IsClosed, AreClosedAmong, Keeps, AreTaken};
 ghost use Rattle.sap_macro.specs.NewNames.{IsNewName, candidate, new_name};
-ghost use Rattle.sap_macro.specs.Order.{AreInOrder};
+ghost use Rattle.sap_macro.specs.Order.{AreInOrder, UsesOnly, with_parameters};
 ghost use Rattle.sap_macro.specs.Replaced.{AreWithoutParameters, nothing_stands, process_of};
 ghost use Rattle.sap_macro.specs.UpToNames.{AreSameUpToNames};
 ghost use Rattle.sap_macro.specs.UsesAreInstances.{UsesAreInstances};
@@ -35,20 +36,21 @@ pub fn new_names_are_least()
     ensures free { (taken : List (List ℕ)) (x : List ℕ) → is_known taken (new_name taken x) ≡ false }
 {}
 
-/// A law: take definitions that use what they bind and their parameters alone, and bind nothing again, and a use of one more. Under a
-/// choice that makes its arguments ground and replaces taken names alone, what the use means is, up to names, the expansion of the
-/// definition's instance by these terms, whatever names are taken then.
+/// A law: take a definition that uses what it binds and its parameters alone, and binds nothing again, behind others of which those
+/// that it comes to use do so too, and a use of it. Under a choice that makes its arguments ground and replaces taken names alone, what
+/// the use means is, up to names, the expansion of the definition's instance by these terms, whatever names are taken then.
 pub fn uses_are_instances()
-    ensures { (ds : List Definition) (d : Definition) (ts : List Tree) (s : Choice) (taken other : List (List ℕ)) → AreClosed ds
-        → IsClosed d.params d.body → AreGround (trees_of (map (instance s) ts)) → Keeps s taken → AreTaken other d.params d.body
+    ensures { (names : List (List ℕ)) (ds : List Definition) (d : Definition) (ts : List Tree) (s : Choice) (taken other : List (List ℕ))
+        → AreClosedAmong names ds → UsesOnly names d.body → IsClosed d.params d.body → AreGround (trees_of (map (instance s) ts)) → Keeps s taken → AreTaken other d.params d.body
         → AreSameUpToNames (process_instance s (entered (meaning_of ds) d ts taken).process)
         (expanded (meaning_of ds) unchanged same_name (instance_by d (map (instance s) ts)) other).process }
 {}
 
-/// A law: with other names taken the expansion of a process is the same up to names.
+/// A law: with other names taken the expansion of a process is the same up to names, where it uses what it binds alone, and binds
+/// nothing again, and so do the definitions that it comes to use, but for their parameters.
 pub fn expansions_are_one()
-    ensures { (ds : List Definition) (p : Written) (taken other : List (List ℕ)) → AreClosed ds → IsClosed [] p → AreTaken taken [] p
-        → AreTaken other [] p → AreSameUpToNames (expanded (meaning_of ds) unchanged same_name p taken).process
+    ensures { (names : List (List ℕ)) (ds : List Definition) (p : Written) (taken other : List (List ℕ)) → AreClosedAmong names ds → UsesOnly names p
+        → IsClosed [] p → AreTaken taken [] p → AreTaken other [] p → AreSameUpToNames (expanded (meaning_of ds) unchanged same_name p taken).process
         (expanded (meaning_of ds) unchanged same_name p other).process }
 {}
 
@@ -74,6 +76,12 @@ pub fn plain_names_stand_for_bodies()
     ensures other { (ds : List Definition) (f : List ℕ) (ts : List Tree) → is_known (map (λ (d : Definition). d.name) ds) f ≡ false
         → plain_after call ds f ts ≡ call f ts }
     ensures bodies { (ds : List Definition) → AreInOrder [] ds → plain_bodies call ds ≡ map (with_plain_body ds) ds }
+{}
+
+/// A law: what uses names alone that are defined uses, once names without parameters are replaced, names alone that have parameters.
+pub fn plain_uses_have_parameters()
+    ensures { (ds : List Definition) (p : Written) → AreInOrder [] ds → UsesOnly (defined ds) p
+        → UsesOnly (with_parameters [] ds) (plain ds p) }
 {}
 
 /// A law: where fewer than 2^64 - 1 names are taken, the number of a new name is one of 64 bits. So it has at most 20 digits.

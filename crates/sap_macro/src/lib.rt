@@ -21,8 +21,8 @@ pub use definition::{Definition, DefinitionList};
 pub use index::{Index, definition_named, index_of};
 pub use laws::{
     expansions_are_one, new_names_are_least, new_names_are_short, plain_files_stay,
-    plain_names_stand_for_bodies, same_up_to_names_show_the_same, sizes_are_one,
-    uses_are_instances, uses_show_their_instances,
+    plain_names_stand_for_bodies, plain_uses_have_parameters, same_up_to_names_show_the_same,
+    sizes_are_one, uses_are_instances, uses_show_their_instances,
 };
 pub use seeing::seen;
 pub use sizes::{Size, expanded_size};

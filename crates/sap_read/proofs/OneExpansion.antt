@@ -8,7 +8,8 @@ use Rattle.std.proofs.lemmas.Slice.Eq.{bytes_eq-Decides}
 use Rattle.sap_terms.specs.Variables.{is_known}
 use Rattle.sap_process.specs.Proc.{Proc}
 use Rattle.sap_macro.specs.Expansion.{binders, expanded, expansion, meaning_of, plain, plain_bodies, same_name, unchanged}
-use Rattle.sap_macro.specs.Instances.{AreClosed, AreTaken, IsClosed}
+use Rattle.sap_macro.specs.Instances.{AreClosedAmong, AreTaken, IsClosed}
+use Rattle.sap_macro.specs.Order.{UsesOnly}
 use Rattle.sap_macro.specs.UpToNames.{AreSameUpToNames}
 use Rattle.sap_macro.specs.Written.{Written, call, Definition}
 use Rattle.sap_read.specs.FileProcess.{definitions_of, main_of, process_of}
@@ -21,7 +22,8 @@ use Rattle.sap_read.proofs.TakenNames.{binders_names}
 -- what the law of expansions says
 abbrev pub ExpansionsAreOne : Type 0
 ExpansionsAreOne =
-    (ds : List Definition) (p : Written) (taken other : List (List ℕ)) → AreClosed ds → IsClosed [] p → AreTaken taken [] p → AreTaken other [] p
+    (names : List (List ℕ)) (ds : List Definition) (p : Written) (taken other : List (List ℕ)) → AreClosedAmong names ds → UsesOnly names p → IsClosed [] p → AreTaken taken [] p
+    → AreTaken other [] p
     → AreSameUpToNames (expanded (meaning_of ds) unchanged same_name p taken).process (expanded (meaning_of ds) unchanged same_name p other).process
 
 module _ (names : List (List ℕ)) where
@@ -53,5 +55,5 @@ one_up_to_names one bs names other p q closed held holds e f = by (main_of bs) r
   by (Some m) is e f =
       let first : (expansion ds names m).process ≡ p = cc (e) in
       let second : (expansion ds other m).process ≡ q = cc (f) in
-      let same = one (plain_bodies call ds) (plain ds m) names other closed.definitions (closed.process m is) (bound_taken names bs m held is) (bound_taken other bs m holds is) in
+      let same = one closed.names (plain_bodies call ds) (plain ds m) names other closed.definitions (closed.uses m is) (closed.process m is) (bound_taken names bs m held is) (bound_taken other bs m holds is) in
       subst (λ (r : Proc). AreSameUpToNames r q) first (subst (AreSameUpToNames (expansion ds names m).process) second same)

@@ -2,7 +2,8 @@
 use Rattle.std.specs.Prelude.{◌≡◌, ℕ, true, List, [], Some, All}
 use Rattle.sap_terms.specs.Variables.{is_known}
 use Rattle.sap_macro.specs.Expansion.{plain, plain_bodies}
-use Rattle.sap_macro.specs.Instances.{IsClosed, AreClosed}
+use Rattle.sap_macro.specs.Instances.{IsClosed, AreClosedAmong}
+use Rattle.sap_macro.specs.Order.{UsesOnly}
 use Rattle.sap_macro.specs.Written.{Written, call, Definition}
 use Rattle.sap_read.specs.FileProcess.{definitions_of, main_of}
 use Rattle.sap_read.specs.Item.{Body}
@@ -26,8 +27,11 @@ pub record HoldsFileVariables (names : List (List ℕ)) (bs : List Body) : Type 
   pub definitions : All (HoldsDefinitionVariables names) (definitions_of bs)
   pub process : (p : Written) → main_of bs ≡ Some p → HoldsProcessVariables names p
 
--- the definitions of a file use what they bind and their parameters alone, its process what it binds, and none binds a name again,
--- where names without parameters are replaced before anything else
+-- the process of a file uses what it binds alone, the definitions that it comes to use what they bind and their parameters, and none
+-- binds a name again, where names without parameters are replaced before anything else
 pub record AreClosedBodies (bs : List Body) : Type 0 where
-  pub definitions : AreClosed (plain_bodies call (definitions_of bs))
+  -- names of these definitions
+  pub names : List (List ℕ)
+  pub uses : (p : Written) → main_of bs ≡ Some p → UsesOnly names (plain (definitions_of bs) p)
+  pub definitions : AreClosedAmong names (plain_bodies call (definitions_of bs))
   pub process : (p : Written) → main_of bs ≡ Some p → IsClosed [] (plain (definitions_of bs) p)

@@ -179,8 +179,8 @@ pub fn identifiers_hold_variables()
         → HoldsFileVariables (identifiers_of (words_of z ts)) (bodies is) }
 {}
 
-/// A law: the process of a file whose bodies are closed is one up to names, whatever names are taken, if they hold those of its
-/// variables; a file's identifiers do.
+/// A law: the process of a file is one up to names, whatever names are taken, if they hold those of its variables; a file's
+/// identifiers do. It and the bodies of the definitions that it comes to use are closed.
 pub fn file_processes_are_one()
     ensures { (bs : List Body) (names other : List (List ℕ)) (p q : Proc) → AreClosedBodies bs
         → HoldsFileVariables names bs → HoldsFileVariables other bs → process_of names bs ≡ Some p

@@ -2,7 +2,8 @@
 use Rattle.std.proofs.Common.{◌≡◌, ◌<◌, ℕ, zero, suc, List, [], ◌∷◌, Some, None, take, refl, sym, ap, ◌∙◌, subst, arith}
 use Rattle.std.specs.Prelude.{codes, slice_get, Contains}
 use Rattle.sap_terms.specs.Signature.{Sig}
-use Rattle.sap_terms.specs.Tree.{Tree}
+use Rattle.sap_terms.specs.Tree.{Tree, variable}
+use Rattle.sap_terms.specs.declared.var.Sort.{Sort}
 use Rattle.sap_terms.specs.declared.var.Sort.TheVariants.{Msg, Fresh}
 use Rattle.sap_terms.specs.declared.var.Var.{Var}
 use Rattle.sap_process.specs.Heads.{binder, head_terms, terms_vars}
@@ -12,14 +13,14 @@ use Rattle.sap_process.specs.Proc.{Proc, nil}
 use Rattle.sap_process.specs.Sites.{Site, above_of, sites_in}
 use Rattle.sap_process.specs.declared.flaw.Flaw.{Flaw}
 use Rattle.sap_process.specs.declared.flaw.Flaw.TheVariants.{BadFunction, ReservedVar, ReservedFact, FactClash, PatternDestructor, Unbound, Rebound, SortClash, ScopeFull}
-use Rattle.sap_macro.specs.ExpansionExamples.{a, fresh_of, giving, giving_y}
+use Rattle.sap_macro.specs.ExpansionExamples.{a, giving, giving_y}
 use Rattle.sap_macro.specs.Expansion.{plain, plain_bodies}
 use Rattle.sap_macro.specs.MacroCauses.{uses}
 use Rattle.sap_macro.specs.UpToNames.{named}
 use Rattle.sap_macro.specs.Written.{Written, call, Definition}
 use Rattle.sap_macro.specs.Seen.{seen}
 use Rattle.sap_uses.specs.ScopeFlaws.{IsFirstFlawedBehind, LeadsTo, at_once, further, params_in_scope}
-use Rattle.sap_uses.specs.UseExamples.{apart, binding_again, empty_one, open_below, open_one, open_other, right_one, signing, use_of, using_c, using_open, x, y}
+use Rattle.sap_uses.specs.UseExamples.{apart, binding_again, empty_one, open_below, open_one, open_other, right_one, signing_as, use_of, using_c, using_open, x, y}
 
 -- ---- a process of two places
 
@@ -158,10 +159,10 @@ rebound_root g = record {
   first = λ k h. absurd (omega (arith, h));
 }
 
-pub signed_root : (g : Sig) → IsFirstFlawedBehind g (signing ∷ []) (use_of 0 a) (codes "A") SortClash []
-signed_root g = record {
+pub signed_root : (g : Sig) (s : Sort) → ¬ (s ≡ Msg) → IsFirstFlawedBehind g (signing_as s ∷ []) (use_of 0 a) (codes "A") SortClash []
+signed_root g s sign = record {
   at = 0;
-  definition = signing;
+  definition = signing_as s;
   stands = refl;
   name_is = refl;
   flawed = record {
@@ -171,20 +172,22 @@ signed_root g = record {
       of_scope = tt;
       place = 0;
       at = record {
-        site = root_of (seen signing.body);
+        site = root_of (seen (signing_as s).body);
         stands = refl;
         flaw = record {
-          var = named (codes "x") Fresh;
+          var = named (codes "x") s;
           stands = (0, omega arith, refl);
-          signed = λ h. absurd (cc);
+          signed = sign;
           bound = named (codes "x") Msg;
           binder = refl;
-          other = λ h. absurd (cc);
+          other = λ h. sign (sym h);
         };
       };
       path_is = refl;
       first = λ k h. absurd (omega (arith, h));
-      least = before_clash g (seen signing.body) (output_unbound g (fresh_of (codes "x")) refl) (output_rebound g (fresh_of (codes "x")));
+      least =
+          before_clash g (seen (signing_as s).body) (output_unbound g (variable (named (codes "x") s)) refl)
+          (output_rebound g (variable (named (codes "x") s)));
     };
   };
   first = λ k h. absurd (omega (arith, h));

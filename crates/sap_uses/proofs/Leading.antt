@@ -88,7 +88,7 @@ mapped_item : {X Y : Type 0} (f : X → Y) (xs : List X) (y : Y) → Contains (m
 mapped_item f [] y c = absurd (none_contained c)
 mapped_item f (x ∷ xs) y c = ⊎_elim (λ e. (x, first_item x xs, e)) (λ o. let rest = mapped_item f xs y o in (rest.0, later_item x xs rest.0 rest.1, rest.2)) (cons_cases (f x) (map f xs) y c)
 
-item_mapped : {X Y : Type 0} (f : X → Y) (xs : List X) (x : X) → Contains xs x → Contains (map f xs) (f x)
+pub item_mapped : {X Y : Type 0} (f : X → Y) (xs : List X) (x : X) → Contains xs x → Contains (map f xs) (f x)
 item_mapped f [] x c = absurd (none_contained c)
 item_mapped f (z ∷ xs) x c =
     ⊎_elim (λ e. subst (λ y. Contains (f z ∷ map f xs) (f y)) e (first_item (f z) (map f xs))) (λ o. later_item (f z) (map f xs) (f x) (item_mapped f xs x o)) (cons_cases z xs x c)

@@ -14,3 +14,4 @@ pub mod FirstFlawed
 pub mod Causes
 pub mod SomeCause
 pub mod Closed
+pub mod Accepted

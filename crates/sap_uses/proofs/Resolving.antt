@@ -25,7 +25,7 @@ cost_stays (d ∷ ds) c f h =
     cost_stays ds (with_cost c d) f other.1 ∙ ap (λ b. if b then steps c d.body else c f) other.0
 
 -- names that are defined before aren't defined again
-apart_from : (ds : List Definition) (known : List (List ℕ)) → AreInOrder known ds → (f : List ℕ) → is_known known f ≡ true → is_known (defined ds) f ≡ false
+pub apart_from : (ds : List Definition) (known : List (List ℕ)) → AreInOrder known ds → (f : List ℕ) → is_known known f ≡ true → is_known (defined ds) f ≡ false
 apart_from [] known h f k = refl
 apart_from (d ∷ ds) known h f k =
     out_of f d.name (defined ds) (apart d.name f (λ e. clash (is_known known f) k (sym (ap (is_known known) e) ∙ h.0)))

@@ -47,7 +47,7 @@ reached_from ds p order (suc k) names h =
     reached_from ds p order k (marked_behind names at.0)
     (subst (λ j. AreMarked ds p j (marked_behind names at.0)) back (one_marked ds p (suc k) at.0 names order (omega arith) there h (marked_behind names at.0) refl))
 
-all_reached : (ds : List Definition) (p : Written) → AreInOrder [] ds → (all : List (List ℕ)) × AreReached ds p all
+pub all_reached : (ds : List Definition) (p : Written) → AreInOrder [] ds → (all : List (List ℕ)) × AreReached ds p all
 all_reached ds p order = reached_from ds p order (length ds) (marked [] p) (none_marked ds p (length ds) [] (marked [] p) refl refl refl)
 
 -- ---- one that is flawed, or none
@@ -75,10 +75,10 @@ module _ (g : Sig) (flaws : ScopeFlawOrNone g) (ds : List Definition) (p : Writt
         (λ missed. inl (λ w path h. clash (list_any (bytes_eq d.name) names) (reached.all d.name h.reached) missed)) (cases_Bool (list_any (bytes_eq d.name) names))
 
   -- the first of so many
-  abbrev IsFirst : Type 0
+  abbrev pub IsFirst : Type 0
   IsFirst = (k : ℕ) × (d : Definition) × (w : Flaw) × (path : List ℕ) × (slice_get ds k ≡ Some d) × IsFlawedThere g ds p d w path × NoneBefore g ds p k
 
-  first_or_none : (n : ℕ) → n ≤ length ds → NoneBefore g ds p n ⊎ IsFirst
+  pub first_or_none : (n : ℕ) → n ≤ length ds → NoneBefore g ds p n ⊎ IsFirst
   first_or_none zero l = inl (none_before g ds p)
   first_or_none (suc n) l = ⊎_elim next (λ f. inr f) (first_or_none n (omega (arith, l))) where
     next : NoneBefore g ds p n → NoneBefore g ds p (suc n) ⊎ IsFirst

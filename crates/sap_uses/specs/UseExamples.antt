@@ -1,9 +1,11 @@
 -- Small files with definitions, to try causes by hand.
 use Rattle.std.specs.Prelude.{ℕ, zero, suc, codes, List, [], ◌∷◌, ◌++◌}
 use Rattle.sap_terms.specs.Equations.{app1}
-use Rattle.sap_terms.specs.Tree.{Tree}
-use Rattle.sap_macro.specs.ExpansionExamples.{a, fresh_of, giving, news, of_name, with_x}
+use Rattle.sap_terms.specs.Tree.{Tree, variable}
+use Rattle.sap_terms.specs.declared.var.Sort.{Sort}
+use Rattle.sap_macro.specs.ExpansionExamples.{a, giving, news, of_name, with_x}
 use Rattle.sap_macro.specs.NameExamples.{both}
+use Rattle.sap_macro.specs.UpToNames.{named}
 use Rattle.sap_macro.specs.Written.{Written, nil, call, Definition}
 
 -- x and y
@@ -67,15 +69,15 @@ plain_use = record { name = codes "P"; params = []; body = use_of 0 (both y y) }
 abbrev pub through_plain : Definition
 through_plain = record swapping { body = call (codes "P") [] }
 
--- let A(x) = out(y), let A(x) = new x, let A(x) = out(~x), let A(x) = out(x)
+-- let A(x) = out(y), let A(x) = new x, let A(x) = out(~x) or out($x), let A(x) = out(x)
 abbrev pub open_one : Definition
 open_one = with_x (giving y)
 
 abbrev pub binding_again : Definition
 binding_again = with_x (news (codes "x") nil)
 
-abbrev pub signing : Definition
-signing = with_x (giving (fresh_of (codes "x")))
+abbrev pub signing_as : Sort → Definition
+signing_as s = with_x (giving (variable (named (codes "x") s)))
 
 abbrev pub right_one : Definition
 right_one = with_x (giving x)

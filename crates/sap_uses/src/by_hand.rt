@@ -1,14 +1,15 @@
 //! Causes in small files by hand, as laws.
 ghost use Rattle.std.specs.Prelude.{◌≡◌, ℕ, List, codes, [], ◌∷◌, None, Some};
 ghost use Rattle.sap_terms.specs.Signature.{Sig};
+ghost use Rattle.sap_terms.specs.declared.var.Sort.TheVariants.{Fresh, Pub};
 ghost use Rattle.sap_process.specs.declared.flaw.Flaw.{Flaw};
 ghost use Rattle.sap_process.specs.declared.flaw.Flaw.TheVariants.{Rebound, SortClash, Unbound};
-ghost use Rattle.sap_macro.specs.ExpansionExamples.{a, giving_y, pairing, twice_two};
+ghost use Rattle.sap_macro.specs.ExpansionExamples.{a, giving_y, in_first, in_second, pairing, twice_two};
 ghost use Rattle.sap_macro.specs.Written.{call, parallel};
 ghost use Rattle.sap_uses.specs.FaultCauses.{IsMacroCause};
 ghost use Rattle.sap_uses.specs.ScopeFlaws.{IsFirstFlawedBehind};
 ghost use Rattle.sap_uses.specs.UseCauses.{first_large};
-ghost use Rattle.sap_uses.specs.UseExamples.{apart, beyond, binding_again, empty_one, ladder, most, open_below, open_one, open_other, plain_use, right_one, rung, signing, swapping, through_plain, twofold, use_of, using_c, using_open};
+ghost use Rattle.sap_uses.specs.UseExamples.{apart, beyond, binding_again, empty_one, ladder, most, open_below, open_one, open_other, plain_use, right_one, rung, signing_as, swapping, through_plain, twofold, use_of, using_c, using_open};
 ghost use Rattle.sap_uses.specs.declared.fault.MacroFault.{MacroFault};
 ghost use Rattle.sap_uses.specs.declared.fault.MacroFault.TheVariants.{Arguments, Flawed, Large, Parameters};
 
@@ -23,6 +24,9 @@ pub fn large_by_hand()
     ensures doubled_again { first_large (ladder 9) (use_of 8 a) ≡ Some (codes "A") }
     ensures first { first_large (ladder 2) (parallel (use_of 1 beyond) (use_of 0 beyond)) ≡ Some (codes "AA") }
     ensures outer { first_large (swapping ∷ []) (call (codes "C") (beyond ∷ a ∷ [])) ≡ Some (codes "C") }
+    ensures second { first_large (swapping ∷ []) (call (codes "C") (a ∷ beyond ∷ [])) ≡ Some (codes "C") }
+    ensures in_first { first_large (ladder 1) (in_first (use_of 0 beyond)) ≡ Some (codes "A") }
+    ensures in_second { first_large (ladder 1) (in_second (use_of 0 beyond)) ≡ Some (codes "A") }
     ensures its_own { first_large (rung 0 ∷ rung 1 ∷ swapping ∷ []) (call (codes "C") (twofold 7 ∷ a ∷ [])) ≡ None }
     ensures handed_on { first_large (rung 0 ∷ rung 1 ∷ swapping ∷ []) (call (codes "C") (a ∷ twofold 7 ∷ [])) ≡ Some (codes "A") }
     ensures plain { first_large (giving_y ∷ []) (call (codes "C") (beyond ∷ [])) ≡ None }
@@ -30,14 +34,15 @@ pub fn large_by_hand()
     ensures unreached { first_large (ladder 2) apart ≡ None }
 {}
 
-/// A law: definitions in small files that use what nothing binds, bind a parameter again, or sign it; a use of a name that nothing
-/// binds; a flaw below the root; of two flawed definitions the first in order, to which the other one leads; names without parameters,
-/// which aren't looked at, but whose bodies count where they stand. And files without one: whose definition isn't used, and whose
-/// definition is right.
+/// A law: definitions in small files that use what nothing binds, bind a parameter again, or sign it, with either sign; a use of a
+/// name that nothing binds; a flaw below the root; of two flawed definitions the first in order, to which the other one leads; names
+/// without parameters, which aren't looked at, but whose bodies count where they stand. And files without one: whose definition isn't
+/// used, and whose definition is right.
 pub fn flawed_by_hand()
     ensures unbound { (g : Sig) → IsFirstFlawedBehind g (open_one ∷ []) (use_of 0 a) (codes "A") Unbound [] }
     ensures rebound { (g : Sig) → IsFirstFlawedBehind g (binding_again ∷ []) (use_of 0 a) (codes "A") Rebound [] }
-    ensures signed { (g : Sig) → IsFirstFlawedBehind g (signing ∷ []) (use_of 0 a) (codes "A") SortClash [] }
+    ensures signed { (g : Sig) → IsFirstFlawedBehind g (signing_as Fresh ∷ []) (use_of 0 a) (codes "A") SortClash [] }
+    ensures signed_public { (g : Sig) → IsFirstFlawedBehind g (signing_as Pub ∷ []) (use_of 0 a) (codes "A") SortClash [] }
     ensures used { (g : Sig) → IsFirstFlawedBehind g (empty_one ∷ using_open ∷ []) (use_of 0 a) (codes "A") Unbound [] }
     ensures below { (g : Sig) → IsFirstFlawedBehind g (open_below ∷ []) (use_of 0 a) (codes "A") Unbound (1 ∷ []) }
     ensures first { (g : Sig) → IsFirstFlawedBehind g (open_other ∷ using_open ∷ []) (use_of 0 a) (codes "B") Unbound [] }

@@ -1,17 +1,19 @@
 //! Laws of the causes, as contracts of functions that do nothing.
-ghost use Rattle.std.specs.Prelude.{◌≡◌, ◌⊎◌, List, []};
+ghost use Rattle.std.specs.Prelude.{◌≡◌, ◌⊎◌, ℕ, List, []};
 ghost use Rattle.sap_terms.specs.Signature.{Sig};
 ghost use Rattle.sap_terms.specs.declared.var.Var.{Var};
 ghost use Rattle.sap_process.specs.Flaws.{HasNoScopeFlaw};
 ghost use Rattle.sap_process.specs.Sites.{var_names};
-ghost use Rattle.sap_macro.specs.Instances.{IsClosed};
-ghost use Rattle.sap_macro.specs.Order.{AreInOrder};
+ghost use Rattle.sap_macro.specs.Expansion.{plain, plain_bodies};
+ghost use Rattle.sap_macro.specs.Indexed.{defined};
+ghost use Rattle.sap_macro.specs.Instances.{AreClosedAmong, IsClosed};
+ghost use Rattle.sap_macro.specs.Order.{AreInOrder, UsesOnly};
 ghost use Rattle.sap_macro.specs.Seen.{seen};
-ghost use Rattle.sap_macro.specs.Written.{Definition, Written};
+ghost use Rattle.sap_macro.specs.Written.{Definition, Written, call};
 ghost use Rattle.sap_uses.specs.FaultCauses.{Holds, IsMacroCause};
 ghost use Rattle.sap_uses.specs.declared.fault.MacroFault.{MacroFault};
 
-use sap_macro::{plain_names_stand_for_bodies, sizes_are_one};
+use sap_macro::{plain_names_stand_for_bodies, plain_uses_have_parameters, sizes_are_one};
 use sap_process::some_scope_flaw;
 
 /// A law: of definitions and a process at most one cause counts, with what it tells.
@@ -33,3 +35,16 @@ pub fn some_macro_cause()
 pub fn unflawed_bodies_are_closed()
     ensures { (g : Sig) (scope : List Var) (p : Written) → HasNoScopeFlaw g scope (seen p) → IsClosed (var_names scope) p }
 {}
+
+/// A law: where definitions are in order, the process uses none but these, and no cause holds, some names are such that the process
+/// uses them alone, once names without parameters are replaced, and each definition of one of them is closed and uses them alone, as
+/// `uses_are_instances` of `sap_macro` asks it.
+pub fn accepted_definitions_are_closed()
+    ensures { (g : Sig) (ds : List Definition) (p : Written) → AreInOrder [] ds → UsesOnly (defined ds) p
+        → ((e : MacroFault) → ¬ Holds g ds p e)
+        → ((names : List (List ℕ)) × UsesOnly names (plain ds p) × AreClosedAmong names (plain_bodies call ds)) }
+{
+    plain_names_stand_for_bodies();
+    plain_uses_have_parameters();
+    some_scope_flaw();
+}

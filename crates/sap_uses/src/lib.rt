@@ -19,4 +19,6 @@ pub use expanding::expand;
 pub use fault::MacroFault;
 pub use flawed::first_flawed;
 pub use large::first_large;
-pub use laws::{one_macro_cause, some_macro_cause, unflawed_bodies_are_closed};
+pub use laws::{
+    accepted_definitions_are_closed, one_macro_cause, some_macro_cause, unflawed_bodies_are_closed,
+};

@@ -34,3 +34,11 @@ returns-clause-no_argument c = refl
 pub returns-clause-sapic : goal.returns-clause-sapic
 unfolding digits
 returns-clause-sapic c = refl
+
+pub returns-clause-each_form : goal.returns-clause-each_form
+unfolding digits
+returns-clause-each_form c = refl
+
+pub returns-clause-sapic_alone : goal.returns-clause-sapic_alone
+unfolding digits
+returns-clause-sapic_alone c = refl

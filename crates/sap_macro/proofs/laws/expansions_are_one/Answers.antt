@@ -1,5 +1,5 @@
-use Rattle.sap_macro.proofs.Uses.{expansions_are_one}
+use Rattle.sap_macro.proofs.OtherDefinitions.{expansions_among_are_one}
 use Rattle.sap_macro.proofs.laws.expansions_are_one.Goals as goal
 
 pub returns : goal.returns
-returns c = expansions_are_one
+returns c = expansions_among_are_one

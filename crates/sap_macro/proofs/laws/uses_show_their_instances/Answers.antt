@@ -4,8 +4,8 @@ use Rattle.sap_macro.specs.UsesAreInstances.{instance_behind, use_under}
 use Rattle.sap_macro.proofs.laws.uses_show_their_instances.Goals as goal
 
 pub returns : goal.returns
-returns c = λ ds d ts s taken other all closed ground keeps own.
-    let alike = c.uses_are_instances.ensures ds d ts s taken other all closed ground keeps own in
+returns c = λ names ds d ts s taken other all uses closed ground keeps own.
+    let alike = c.uses_are_instances.ensures names ds d ts s taken other all uses closed ground keeps own in
     record {
       names = alike;
       traces = λ g tr.

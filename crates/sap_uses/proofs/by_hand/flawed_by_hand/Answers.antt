@@ -1,3 +1,4 @@
+use Rattle.sap_terms.specs.declared.var.Sort.TheVariants.{Fresh, Pub}
 use Rattle.sap_uses.proofs.FlawedByHand.{by_plain, first_in_order, unbound_below, unbound_root, rebound_root, signed_root, used_root, unreached_none, right_none}
 use Rattle.sap_uses.proofs.by_hand.flawed_by_hand.Goals as goal
 
@@ -8,7 +9,10 @@ pub returns-clause-rebound : goal.returns-clause-rebound
 returns-clause-rebound c = rebound_root
 
 pub returns-clause-signed : goal.returns-clause-signed
-returns-clause-signed c = signed_root
+returns-clause-signed c = λ g. signed_root g Fresh (λ h. absurd (cc))
+
+pub returns-clause-signed_public : goal.returns-clause-signed_public
+returns-clause-signed_public c = λ g. signed_root g Pub (λ h. absurd (cc))
 
 pub returns-clause-used : goal.returns-clause-used
 returns-clause-used c = used_root

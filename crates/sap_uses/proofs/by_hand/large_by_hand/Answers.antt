@@ -19,6 +19,15 @@ returns-clause-first c = refl
 pub returns-clause-outer : goal.returns-clause-outer
 returns-clause-outer c = refl
 
+pub returns-clause-second : goal.returns-clause-second
+returns-clause-second c = refl
+
+pub returns-clause-in_first : goal.returns-clause-in_first
+returns-clause-in_first c = refl
+
+pub returns-clause-in_second : goal.returns-clause-in_second
+returns-clause-in_second c = refl
+
 pub returns-clause-its_own : goal.returns-clause-its_own
 returns-clause-its_own c = refl
 

@@ -1,0 +1,47 @@
+-- Once names without parameters are replaced, names alone are used that have parameters.
+use Rattle.std.proofs.Common.{◌≡◌, ℕ, true, List, [], ◌∷◌, ◌⊎◌, inl, inr, ⊎_elim}
+use Rattle.std.proofs.lemmas.Bool.{false≢true}
+use Rattle.std.specs.Str.{bytes_eq}
+use Rattle.sap_terms.specs.Tree.{Tree}
+use Rattle.sap_terms.specs.Variables.{is_known}
+use Rattle.sap_macro.specs.Expansion.{Plain, plain, plain_after, where_none, with_plain, with_uses}
+use Rattle.sap_macro.specs.Indexed.{defined}
+use Rattle.sap_macro.specs.Order.{AreInOrder, UsesOnly, where_some, with_parameters}
+use Rattle.sap_macro.specs.Written.{Written, call, Definition}
+use Rattle.sap_macro.proofs.Names.{in_tail, one_name, two_names}
+use Rattle.sap_macro.proofs.NewNames.{in_cases}
+use Rattle.sap_macro.proofs.Resolving.{more_known, uses_known}
+use Rattle.sap_macro.proofs.Scopes.{at_head}
+use Rattle.sap_macro.proofs.Uses.{either_way}
+
+-- names of processes become what uses these names alone
+abbrev AreReplaced : List (List ℕ) → List (List ℕ) → Plain → Type 0
+AreReplaced known names p = (f : List ℕ) (ts : List Tree) → is_known known f ≡ true → UsesOnly names (p f ts)
+
+some_more : (xs : List (List ℕ)) (n : List ℕ) (names : List (List ℕ)) (w : Written) → UsesOnly names w → UsesOnly (where_some xs n names) w
+some_more [] n names w h = h
+some_more (x ∷ xs) n names w h = more_known n names w h
+
+stands : (xs : List (List ℕ)) (w : Written) (f : List ℕ) (ts : List Tree) (n : List ℕ) (names : List (List ℕ)) → UsesOnly names w → n ≡ f
+    → UsesOnly (where_some xs n names) (where_none xs w (call f ts))
+stands [] w f ts n names h same = h
+stands (x ∷ xs) w f ts n names h same = at_head f n names same
+
+plain_more : (d : Definition) (known names : List (List ℕ)) (p : Plain) → UsesOnly known d.body → AreReplaced known names p
+    → AreReplaced (d.name ∷ known) (where_some d.params d.name names) (with_plain p d)
+plain_more d known names p h e f ts k =
+    either_way (UsesOnly (where_some d.params d.name names)) (bytes_eq d.name f) (where_none d.params (with_uses p d.body) (call f ts)) (p f ts)
+    (λ s. stands d.params (with_uses p d.body) f ts d.name names (uses_known known names d.body p h e) (one_name d.name f s))
+    (λ s. some_more d.params d.name names (p f ts) (e f ts (⊎_elim (λ same. absurd (two_names d.name f s same)) (λ l. l) (in_cases f d.name known k))))
+
+after_plain : (ds : List Definition) (known names : List (List ℕ)) (p : Plain) → AreInOrder known ds → AreReplaced known names p
+    → (f : List ℕ) (ts : List Tree) → (is_known known f ≡ true) ⊎ (is_known (defined ds) f ≡ true) → UsesOnly (with_parameters names ds) (plain_after p ds f ts)
+after_plain [] known names p h e f ts k = ⊎_elim (λ l. e f ts l) (λ l. absurd (false≢true l)) k
+after_plain (d ∷ ds) known names p h e f ts k =
+    after_plain ds (d.name ∷ known) (where_some d.params d.name names) (with_plain p d) h.1.1 (plain_more d known names p h.1.0 e) f ts
+    (⊎_elim (λ l. inl (in_tail f d.name known l)) (λ l. ⊎_elim (λ same. inl (at_head f d.name known same)) (λ r. inr r) (in_cases f d.name (defined ds) l)) k)
+
+pub plain_uses_have_parameters : (ds : List Definition) (p : Written) → AreInOrder [] ds → UsesOnly (defined ds) p → UsesOnly (with_parameters [] ds) (plain ds p)
+plain_uses_have_parameters ds p order h =
+    uses_known (defined ds) (with_parameters [] ds) p (plain_after call ds) h
+    (λ f ts k. after_plain ds [] [] call order (λ g us l. absurd (false≢true l)) f ts (inr k))
