@@ -1,13 +1,14 @@
 -- Where each name is defined once, and used behind its definition, the definitions are in order.
-use Rattle.std.proofs.Common.{◌≡◌, ℕ, List, [], ◌∷◌, ◌++◌, Bool, true, false, not, ◌||◌, Option, Some, None, refl, sym, ap, subst, ◌∙◌}
+use Rattle.std.proofs.Common.{◌≡◌, ℕ, List, [], ◌∷◌, ◌++◌, Bool, true, false, not, ◌||◌, ◌⊎◌, inl, inr, Option, Some, None, refl, sym, ap, subst, ◌∙◌, ⊎_elim}
 use Rattle.std.specs.List.{find}
 use Rattle.std.specs.Str.{bytes_eq}
 use Rattle.std.proofs.lemmas.Slice.Eq.{bytes_eq-Decides}
 use Rattle.std.proofs.lemmas.List.Folds.{list_any-append}
 use Rattle.sap_terms.specs.Variables.{is_known}
+use Rattle.sap_macro.specs.Indexed.{defined}
 use Rattle.sap_macro.specs.Order.{AreInOrder, UsesOnly}
 use Rattle.sap_macro.specs.Written.{Written, nil, call, parallel, replicated, act, test, lookup}
-use Rattle.sap_read.specs.FileProcess.{calls, defined_as, definitions_of}
+use Rattle.sap_read.specs.FileProcess.{calls, defined_as, definitions_of, main_of}
 use Rattle.sap_read.specs.Item.{Body}
 use Rattle.sap_read.specs.Causes.{first_of, listed, labels, is_among, unknown_from, first_repeated}
 
@@ -109,3 +110,58 @@ in_order (b ∷ bs) ks ns same known distinct new = by b.label refl (in_order bs
 -- nothing is known before the first
 pub all_in_order : (bs : List Body) → unknown_from [] bs ≡ None → first_repeated (labels bs) ≡ None → AreInOrder [] (definitions_of bs)
 all_in_order bs known distinct = in_order bs [] [] (λ x. refl) known distinct (λ x h. refl)
+
+-- ---- the file's process
+
+more_names : (ks ns : List (List ℕ)) → ((x : List ℕ) → is_known ks x ≡ true → is_known ns x ≡ true) → (w : Written) → UsesOnly ks w → UsesOnly ns w
+more_names ks ns more nil h = tt
+more_names ks ns more (call x ts) h = more x h
+more_names ks ns more (parallel p q) h = (more_names ks ns more p h.0, more_names ks ns more q h.1)
+more_names ks ns more (replicated p) h = more_names ks ns more p h
+more_names ks ns more (act a p) h = more_names ks ns more p h
+more_names ks ns more (test t u p q) h = (more_names ks ns more p h.0, more_names ks ns more q h.1)
+more_names ks ns more (lookup t x p q) h = (more_names ks ns more p h.0, more_names ks ns more q h.1)
+
+same_names : (ks : List (List ℕ)) → AreSame ks ks
+same_names [] x = refl
+same_names (k ∷ ks) x = ap (λ t. bytes_eq k x || t) (same_names ks x)
+
+or_last : (s t : Bool) → t ≡ true → (s || t) ≡ true
+or_last true t h = refl
+or_last false t h = h
+
+-- a name among these, or the one behind them
+first_or_last : (ks : List (List ℕ)) (y x : List ℕ) → is_known (ks ++ y ∷ []) x ≡ true → (is_known ks x ≡ true) ⊎ (y ≡ x)
+first_or_last [] y x h = inr ((bytes_eq-Decides y x).0 (sym (false_or (bytes_eq y x)) ∙ h))
+first_or_last (k ∷ ks) y x h = by (bytes_eq k x) refl h (first_or_last ks y x) where
+  by : (t : Bool) → bytes_eq k x ≡ t → (t || is_known (ks ++ y ∷ []) x) ≡ true → (is_known (ks ++ y ∷ []) x ≡ true → (is_known ks x ≡ true) ⊎ (y ≡ x))
+      → (is_known (k ∷ ks) x ≡ true) ⊎ (y ≡ x)
+  by true e h later = inl (ap (λ t. t || is_known ks x) e)
+  by false e h later = ⊎_elim (λ r. inl (or_last (bytes_eq k x) (is_known ks x) r)) (λ s. inr s) (later h)
+
+-- it uses names alone that are defined, where no name is unknown
+pub main_known : (bs : List Body) (ks ns : List (List ℕ)) (p : Written) → unknown_from ks bs ≡ None → ((x : List ℕ) → is_known ks x ≡ true → is_known ns x ≡ true)
+    → ((x : List ℕ) → is_known (defined (definitions_of bs)) x ≡ true → is_known ns x ≡ true) → main_of bs ≡ Some p → UsesOnly ns p
+main_known [] ks ns p known more all is = absurd (cc (is))
+main_known (b ∷ bs) ks ns p known more all is = by b.label refl (main_known bs) where
+  parts : (find (λ x. not (is_among ks x)) (calls b.content) ≡ None) × (unknown_from (ks ++ listed b.label) bs ≡ None)
+  parts = both_none (find (λ x. not (is_among ks x)) (calls b.content)) (unknown_from (ks ++ listed b.label) bs) known
+
+  by : (l : Option (List ℕ)) → b.label ≡ l
+      → ((js ms : List (List ℕ)) (q : Written) → unknown_from js bs ≡ None → ((x : List ℕ) → is_known js x ≡ true → is_known ms x ≡ true)
+      → ((x : List ℕ) → is_known (defined (definitions_of bs)) x ≡ true → is_known ms x ≡ true) → main_of bs ≡ Some q → UsesOnly ms q)
+      → UsesOnly ns p
+  by None e later =
+      let own : Some b.content ≡ Some p = rw e at is in
+      let content : b.content ≡ p = cc in
+      subst (UsesOnly ns) content (more_names ks ns more b.content (uses_only ks ks (same_names ks) b.content parts.0))
+  by (Some y) e later =
+      let there : (x : List ℕ) → is_known (defined (defined_as (Some y) b ++ definitions_of bs)) x ≡ true → is_known ns x ≡ true =
+      subst (λ (l : Option (List ℕ)). (x : List ℕ) → is_known (defined (defined_as l b ++ definitions_of bs)) x ≡ true → is_known ns x ≡ true) e all in
+      let last : is_known ns y ≡ true = there y (ap (λ t. t || is_known (defined (definitions_of bs)) y) ((bytes_eq-Decides y y).1 refl)) in
+      later (ks ++ listed (Some y)) ns p (rw e at parts.1)
+      (λ x k. ⊎_elim (more x) (λ s. subst (λ z. is_known ns z ≡ true) s last) (first_or_last ks y x k))
+      (λ x k. there x (or_last (bytes_eq y x) (is_known (defined (definitions_of bs)) x) k)) (rw e at is)
+
+pub main_defined : (bs : List Body) (p : Written) → unknown_from [] bs ≡ None → main_of bs ≡ Some p → UsesOnly (defined (definitions_of bs)) p
+main_defined bs p known is = main_known bs [] (defined (definitions_of bs)) p known (λ x k. absurd (cc (k))) (λ x k. k) is

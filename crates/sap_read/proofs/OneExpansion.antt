@@ -55,5 +55,5 @@ one_up_to_names one bs names other p q closed held holds e f = by (main_of bs) r
   by (Some m) is e f =
       let first : (expansion ds names m).process ≡ p = cc (e) in
       let second : (expansion ds other m).process ≡ q = cc (f) in
-      let same = one closed.names (plain_bodies call ds) (plain ds m) names other closed.definitions (closed.uses m is) (closed.process m is) (bound_taken names bs m held is) (bound_taken other bs m holds is) in
+      let same = one closed.used.names (plain_bodies call ds) (plain ds m) names other closed.used.definitions (closed.used.uses m is) (closed.process m is) (bound_taken names bs m held is) (bound_taken other bs m holds is) in
       subst (λ (r : Proc). AreSameUpToNames r q) first (subst (AreSameUpToNames (expansion ds names m).process) second same)

@@ -27,11 +27,14 @@ pub record HoldsFileVariables (names : List (List ℕ)) (bs : List Body) : Type 
   pub definitions : All (HoldsDefinitionVariables names) (definitions_of bs)
   pub process : (p : Written) → main_of bs ≡ Some p → HoldsProcessVariables names p
 
--- the process of a file uses what it binds alone, the definitions that it comes to use what they bind and their parameters, and none
--- binds a name again, where names without parameters are replaced before anything else
-pub record AreClosedBodies (bs : List Body) : Type 0 where
-  -- names of these definitions
+-- the definitions that the process of a file comes to use, which have these names, use what they bind and their parameters alone, and
+-- bind no name again, where names without parameters are replaced before anything else
+pub record HasClosedUses (bs : List Body) : Type 0 where
   pub names : List (List ℕ)
   pub uses : (p : Written) → main_of bs ≡ Some p → UsesOnly names (plain (definitions_of bs) p)
   pub definitions : AreClosedAmong names (plain_bodies call (definitions_of bs))
+
+-- so it is, and the process uses what it binds alone, and binds no name again
+pub record AreClosedBodies (bs : List Body) : Type 0 where
+  pub used : HasClosedUses bs
   pub process : (p : Written) → main_of bs ≡ Some p → IsClosed [] (plain (definitions_of bs) p)

@@ -43,8 +43,8 @@ pub record IsPrintableLemma (most : ℕ) (g : Sig) (l : LemmaForm) : Type 0 wher
   pub attributes : All IsAttribute l.attributes
   pub formula : IsPrintableForm most g l.formula
 
--- what the file tells can be printed with names of at most so many bytes, but for the names of variables in its process, for which
--- the second number is meant; and its process isn't too deep
+-- what the file tells can be printed with names of at most so many bytes, but for the names in its process, for which the second
+-- number is meant, since those of variables may be new; and its process isn't too deep
 pub record IsPrintableFile (most wide : ℕ) (f : FileContent) : Type 0 where
   pub name : IsName most f.name
   pub is_map : IsMap f.signature.symbols

@@ -1,5 +1,5 @@
 //! Laws of files, as contracts of functions that do nothing but call those below.
-ghost use Rattle.std.specs.Prelude.{◌≡◌, ◌≤◌, ◌^◌, ℕ, List, Some, Result, Ok, Err, length};
+ghost use Rattle.std.specs.Prelude.{◌≡◌, ◌≤◌, ◌^◌, ℕ, List, None, Some, Result, Ok, Err, length};
 ghost use Rattle.sap_terms.specs.declared.fact.Fact.{Fact};
 ghost use Rattle.sap_terms.specs.Tree.{Tree, level_count};
 ghost use Rattle.sap_text.specs.declared.token.Token.{Token};
@@ -12,12 +12,13 @@ ghost use Rattle.sap_read.specs.code.StatementLaws.{StatementLaws};
 ghost use Rattle.sap_read.specs.code.ProcessLaws.{ProcessLaws};
 ghost use Rattle.sap_macro.specs.UpToNames.{AreSameUpToNames};
 ghost use Rattle.sap_macro.specs.Written.{Written};
-ghost use Rattle.sap_read.specs.FileProcess.{process_of};
+ghost use Rattle.sap_read.specs.Causes.{cause_of};
+ghost use Rattle.sap_read.specs.FileProcess.{process_of, IsExpanded};
 ghost use Rattle.sap_process.specs.Proc.{Proc};
 ghost use Rattle.sap_draft.specs.ProcessGrammar.{IsPar};
 ghost use Rattle.sap_grammar.specs.Cut.{Placed, IsCut};
 ghost use Rattle.sap_read.specs.ItemGrammar.{AreItems};
-ghost use Rattle.sap_read.specs.HeldVariables.{AreClosedBodies, HoldsFileVariables};
+ghost use Rattle.sap_read.specs.HeldVariables.{AreClosedBodies, HasClosedUses, HoldsFileVariables};
 ghost use Rattle.sap_read.specs.Identifiers.{identifiers_of};
 ghost use Rattle.sap_read.specs.Item.{Body, Standing, bodies, signature_of};
 ghost use Rattle.sap_read.specs.Files.{FileContent, IsParted, IsRead, IsRunnable};
@@ -45,7 +46,7 @@ use sap_statements::{
 };
 use sap_terms::builtins_stay_held;
 use sap_text::{one_answer, some_answer};
-use sap_uses::{one_macro_cause, some_macro_cause};
+use sap_uses::{accepted_definitions_are_closed, one_macro_cause, some_macro_cause};
 
 /// What the laws of processes say, as the proofs on files need it.
 pub(crate) fn process_laws()
@@ -149,7 +150,7 @@ pub fn files_are_ready()
 }
 
 /// A law: what is read of a file of at most 2^52 bytes can be printed. Its names are names of a file, no longer than those may be,
-/// but for those in its process, which may be new; no symbol stands twice in its signature, each can be declared, and those of pairs
+/// but for those in its process, some of which may be new; no symbol stands twice in its signature, each can be declared, and those of pairs
 /// are held; its process is no deeper than one that is read may be, its terms and facts, its restrictions and its lemmas are such that
 /// words spell them, and what it shows is linear. In a file that is longer all new names for a name may be taken.
 pub fn files_are_printable()
@@ -178,6 +179,16 @@ pub fn identifiers_hold_variables()
         (is : List Standing) → IsParted z ts x cut → AreItems (signature_of is) cut is
         → HoldsFileVariables (identifiers_of (words_of z ts)) (bodies is) }
 {}
+
+/// A law: where nothing refuses a file before its uses are looked at, and its process can be expanded, the definitions that this comes
+/// to use are closed. So each of its uses whose arguments name nothing but what is in scope is one of which `uses_are_instances` of
+/// `sap_macro` speaks.
+pub fn used_definitions_are_closed()
+    ensures { (g : Sig) (names : List (List ℕ)) (is : List Standing) (p : Proc) → cause_of is ≡ None
+        → IsExpanded g names (bodies is) p → HasClosedUses (bodies is) }
+{
+    accepted_definitions_are_closed();
+}
 
 /// A law: the process of a file is one up to names, whatever names are taken, if they hold those of its variables; a file's
 /// identifiers do. It and the bodies of the definitions that it comes to use are closed.
