@@ -1,22 +1,29 @@
 -- What isn't a chart, tried by hand.
-use Rattle.std.proofs.Common.{◌≡◌, ℕ, true≢false, codes, List, [], ◌∷◌, ◌++◌, length, get_or, nat_eq, refl, sym, ap, ◌∙◌, arith}
+use Rattle.std.proofs.Common.{◌≡◌, ℕ, true≢false, codes, List, [], ◌∷◌, ◌++◌, length, get_or, nat_eq, Some, None, refl, sym, ap, ◌∙◌, arith}
 use Rattle.std.proofs.Common.{length-append}
 use Rattle.std.specs.Fmt.{digits}
 use Rattle.std.specs.Str.{bytes_eq}
-use Rattle.sap_process.specs.Configuration.{Config}
-use Rattle.sap_process.specs.Proc.{Proc}
+use Rattle.sap_lines.specs.Lines as lines
+use Rattle.sap_process.specs.Action.{new}
+use Rattle.sap_process.specs.Configuration.{Config, becomes, initial, makes}
+use Rattle.sap_process.specs.Proc.{Proc, act, nil}
+use Rattle.sap_process.specs.ProcessSteps.{with_term}
 use Rattle.sap_runs.specs.Marks.{Mark}
 use Rattle.sap_runs.specs.declared.process_step.PStep.{PStep}
+use Rattle.sap_runs.specs.declared.process_step.PStep.TheVariants as line
 use Rattle.sap_terms.specs.Signature.{Sig}
 use Rattle.sap_terms.specs.Trace.{Trace}
-use Rattle.sap_terms.specs.Tree.{Tree}
+use Rattle.sap_terms.specs.Tree.{Tree, fresh, public}
 use Rattle.sap_tell.specs.Escaped.{escaped_byte}
+use Rattle.sap_tell.specs.Told as told
+use Rattle.sap_tell.specs.ToldExamples.{fresh_n}
 use Rattle.sap_chart.specs.Chart as drawn
 use Rattle.sap_chart.specs.Chart.{IsChart, IsDrawnRun}
-use Rattle.sap_chart.specs.ChartExamples.{empty_chart, in_row, out_row, two_lifelines}
+use Rattle.sap_chart.specs.ChartExamples.{empty_chart, in_row, out_row, two_lifelines, two_rows}
 use Rattle.sap_chart.specs.ChartText.{chart_text, row_text}
 use Rattle.sap_chart.specs.Rows.{Row}
 use Rattle.sap_chart.specs.WellFormed.{IsDocument, document}
+use Rattle.sap_chart.specs.declared.figure.Figure.TheVariants as figure
 
 -- the run with no line has no row
 no_rows : {g : Sig} {p : Proc} {lines : List PStep} {c : Config} {es : List Tree} {tr : Trace} {marks : List Mark} {rows : List Row}
@@ -57,3 +64,52 @@ no_document (document name ok a c) e =
 
 pub no_mark : ¬ IsDocument (codes "a")
 no_mark h = no_document h refl
+
+-- a run of three lines, drawn: the second has no row
+abbrev one_thread : Proc
+one_thread = act (new fresh_n) nil
+
+abbrev named : Config
+named = makes (becomes (initial one_thread) 0 (Some (with_term fresh_n (fresh 7) nil))) 7
+
+abbrev ended : Config
+ended = becomes named 0 None
+
+abbrev first_row : Row
+first_row = record {
+  number = 1;
+  paths = [] ∷ [];
+  figure = figure.Does 0;
+  entry = None;
+  told = codes "1. thread 0 at the root: new ~n -- ~n = ~7";
+  label = codes "new ~n -- ~n = ~7";
+}
+
+abbrev last_row : Row
+last_row = record {
+  number = 3;
+  paths = (1 ∷ []) ∷ [];
+  figure = figure.Makes;
+  entry = Some 0;
+  told = codes "3. adversary: 'a' -- knows 0: 'a'";
+  label = codes "'a'";
+}
+
+first_drawn : (g : Sig) → IsDrawnRun g one_thread (line.New 0 7 ∷ []) named [] [] [] (first_row ∷ [])
+unfolding digits
+first_drawn g = drawn.further (line.New 0 7) [] [] first_row.told drawn.starts (lines.makes_name 0 7 refl ((λ m. absurd (omega (arith, m.1))), (λ m. absurd (omega (arith, m.1)))))
+    (record { doing = codes "new ~n"; outcomes = codes "~n = ~7" ∷ []; done = told.makes_name 0 7 refl; written = refl })
+
+second_drawn : (g : Sig) → IsDrawnRun g one_thread (line.New 0 7 ∷ line.Nil 0 ∷ []) ended [] [] [] (first_row ∷ [])
+unfolding digits
+second_drawn g = drawn.further {lines = line.New 0 7 ∷ []} (line.Nil 0) [] [] (codes "2. thread 0 at 1: 0 -- thread 0 ends") (first_drawn g) (lines.ends 0 refl)
+    (record { doing = codes "0"; outcomes = codes "thread 0 ends" ∷ []; done = told.ends 0; written = refl })
+
+third_drawn : (g : Sig) → IsDrawnRun g one_thread (line.New 0 7 ∷ line.Nil 0 ∷ line.Public (codes "a") ∷ []) ended (public (codes "a") ∷ []) [] [] (first_row ∷ last_row ∷ [])
+unfolding digits
+third_drawn g = drawn.further {lines = line.New 0 7 ∷ line.Nil 0 ∷ []} (line.Public (codes "a")) [] [] last_row.told (second_drawn g) (lines.writes (codes "a"))
+    (record { doing = codes "'a'"; outcomes = []; done = told.writes (codes "a"); written = refl })
+
+pub three_lines : (g : Sig) → IsChart g one_thread (line.New 0 7 ∷ line.Nil 0 ∷ line.Public (codes "a") ∷ []) [] two_rows
+unfolding digits escaped_byte
+three_lines g = record { config = ended; entries = public (codes "a") ∷ []; marks = []; rows = first_row ∷ last_row ∷ []; drawn = third_drawn g; written = refl }

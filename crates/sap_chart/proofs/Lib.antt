@@ -7,3 +7,5 @@ mod DrawnRuns
 mod NextDrawn
 mod Formed
 mod ChartsByHand
+mod OneChart
+mod NoDocuments

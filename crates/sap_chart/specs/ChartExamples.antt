@@ -1,5 +1,7 @@
 -- Rows of a run of the example of the key server, to see by hand how they are drawn.
 use Rattle.std.specs.Prelude.{ℕ, codes, List, [], ◌∷◌, Some, None}
+use Rattle.sap_runs.specs.declared.process_step.PStep.TheVariants as line
+use Rattle.sap_tell.specs.ThreadPaths.{paths_after}
 use Rattle.sap_tell.specs.ToldExamples.{first_paths}
 use Rattle.sap_chart.specs.ChartText.{Lifeline}
 use Rattle.sap_chart.specs.Rows.{Row}
@@ -36,10 +38,45 @@ in_row = record {
   label = codes "in('hi') -- x = 'hi'";
 }
 
--- their lifelines
+-- thread 2 takes a lock further on, threads 1 and 2 meet, and a label has 61 bytes
+abbrev pub later_row : Row
+later_row = record {
+  number = 5;
+  paths = paths_after first_paths (line.Event 2);
+  figure = figure.Locks 2;
+  entry = None;
+  told = codes "5. thread 2 at 1111: lock 'db' -- 'db' is held";
+  label = codes "lock 'db' -- 'db' is held";
+}
+
+abbrev pub met_row : Row
+met_row = record {
+  number = 12;
+  paths = first_paths;
+  figure = figure.Meets 1 2;
+  entry = None;
+  told = codes "12. thread 1 at 2 to thread 2 at 111: out('c','m') -- x = 'm'";
+  label = codes "out('c','m') -- x = 'm'";
+}
+
+abbrev pub long_row : Row
+long_row = record {
+  number = 12;
+  paths = first_paths;
+  figure = figure.Does 2;
+  entry = None;
+  told = codes "12. thread 2 at 111: aaaaaaaaaaaaaaaaaaaaaaaaaaaaaaaaaaaaaaaaaaaaaaaaaaaaaaaaaaaaa";
+  label = codes "aaaaaaaaaaaaaaaaaaaaaaaaaaaaaaaaaaaaaaaaaaaaaaaaaaaaaaaaaaaaa";
+}
+
+-- the lifelines of the first three
 abbrev pub two_lifelines : List Lifeline
 two_lifelines = (2, codes "thread 2 at 111") ∷ (1, codes "thread 1 at 2") ∷ []
 
 -- the chart of the run with no line
 abbrev pub empty_chart : List ℕ
 empty_chart = codes "<svg xmlns='http://www.w3.org/2000/svg' version='1.1' font-family='monospace' font-size='11' width='670' height='70'>\n<title>Chart of a run</title>\n<defs><marker id='arrow' viewBox='0 0 8 8' refX='8' refY='4' markerWidth='8' markerHeight='8' orient='auto'><path d='M0,0 L8,4 L0,8 z'/></marker></defs>\n<rect width='100%' height='100%' fill='white'/>\n<g transform='translate(220,0)'><title>adversary</title><line y1='32' y2='100%' stroke='black' stroke-dasharray='2,4'/><text y='24' text-anchor='middle'>adversary</text></g>\n</svg>\n"
+
+-- the chart of a run of `new ~n; 0` whose second line has no row: ~n is ~7, the thread ends, the adversary writes 'a'
+abbrev pub two_rows : List ℕ
+two_rows = codes "<svg xmlns='http://www.w3.org/2000/svg' version='1.1' font-family='monospace' font-size='11' width='830' height='130'>\n<title>Chart of a run</title>\n<defs><marker id='arrow' viewBox='0 0 8 8' refX='8' refY='4' markerWidth='8' markerHeight='8' orient='auto'><path d='M0,0 L8,4 L0,8 z'/></marker></defs>\n<rect width='100%' height='100%' fill='white'/>\n<g transform='translate(220,0)'><title>adversary</title><line y1='32' y2='100%' stroke='black' stroke-dasharray='2,4'/><text y='24' text-anchor='middle'>adversary</text></g>\n<g transform='translate(380,0)'><title>thread 0 at the root</title><line y1='32' y2='100%' stroke='black' stroke-dasharray='2,4'/><text y='24' text-anchor='middle'>thread 0 at the root</text></g>\n<g transform='translate(0,70)'><title>1. thread 0 at the root: new ~n -- ~n = ~7</title><text x='10' y='4'>1. thread 0</text><g transform='translate(380,0)'><rect x='8' y='-8' height='16' fill='white' width='127'/><circle r='4'/><text x='12' y='4' xml:space='preserve'>new ~n -- ~n = ~7</text></g></g>\n<g transform='translate(0,100)'><title>3. adversary: &apos;a&apos; -- knows 0: &apos;a&apos;</title><text x='10' y='4'>3. adversary</text><text x='212' y='4' text-anchor='end'>knows 0</text><g transform='translate(220,0)'><rect x='8' y='-8' height='16' fill='white' width='29'/><circle r='4' fill='white' stroke='black'/><text x='12' y='4' xml:space='preserve'>&apos;a&apos;</text></g></g>\n</svg>\n"

@@ -12,5 +12,5 @@ mod run;
 
 pub use drawn_by_hand::charts_by_hand;
 pub use figure::Figure;
-pub use laws::{charts_are_well_formed, drawn_runs_are_legal};
+pub use laws::{charts_are_well_formed, drawn_runs_are_legal, one_chart};
 pub use run::chart_run;

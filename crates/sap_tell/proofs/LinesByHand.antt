@@ -1,8 +1,10 @@
 -- What isn't told of a line, tried by hand.
-use Rattle.std.proofs.Common.{◌≡◌, ℕ, true, false, codes, List, [], ◌∷◌, ◌++◌, refl, ap, ◌∙◌}
+use Rattle.std.proofs.Common.{◌≡◌, ℕ, true, false, codes, List, [], ◌∷◌, ◌++◌, length, refl, ap, ◌∙◌}
 use Rattle.std.specs.Fmt.{digits}
 use Rattle.std.specs.Str.{bytes_eq}
-use Rattle.sap_process.specs.Configuration.{Config}
+use Rattle.sap_process.specs.Configuration.{Config, initial}
+use Rattle.sap_process.specs.Proc.{Proc}
+use Rattle.sap_runs.specs.Inner.{different}
 use Rattle.sap_runs.specs.declared.process_step.PStep.TheVariants as line
 use Rattle.sap_terms.specs.Signature.{Sig}
 use Rattle.sap_terms.specs.Tree.{Tree}
@@ -11,8 +13,8 @@ use Rattle.sap_grammar.specs.FactText.{fact_text}
 use Rattle.sap_grammar.specs.TermText.{tree_text}
 use Rattle.sap_tell.specs.Told as told
 use Rattle.sap_tell.specs.Told.{IsDoing, IsToldLine}
-use Rattle.sap_tell.specs.ToldExamples.{first_paths, key, made}
-use Rattle.sap_tell.specs.ToldText.{actor_text, call_text, seen_texts, line_text}
+use Rattle.sap_tell.specs.ToldExamples.{first_paths, hi, key, made}
+use Rattle.sap_tell.specs.ToldText.{actor_text, begins_text, call_text, seen_texts, line_text}
 
 -- an event is told in one way
 event_doing : {g : Sig} {c : Config} {es fs : List Tree} {t : ℕ} {f : Fact} {doing : List ℕ} {outcomes : List (List ℕ)}
@@ -52,3 +54,34 @@ no_outcome g c l = differ refl refl (event_told l)
 
 pub other_term : (g : Sig) (c : Config) → ¬ IsToldLine g 4 first_paths c [] (line.Event 2) [] (made ∷ []) [] (codes "4. thread 2 at 111: event Made(pk(~2)) -- shows Made(pk(~1))")
 other_term g c l = differ refl refl (event_told l)
+
+-- a thread that begins has the next number
+copy_doing : {g : Sig} {c : Config} {es fs : List Tree} {t : ℕ} {doing : List ℕ} {outcomes : List (List ℕ)}
+    → IsDoing g c es (line.Rep t) [] [] fs doing outcomes → (doing ≡ codes "!") × (outcomes ≡ begins_text (length c.threads) ∷ [])
+copy_doing (told.copies t) = (refl, refl)
+
+copy_told : {g : Sig} {p : Proc} {text : List ℕ} → IsToldLine g 1 ([] ∷ []) (initial p) [] (line.Rep 0) [] [] [] text
+    → text ≡ codes "1. thread 0 at the root: ! -- thread 1 begins"
+unfolding digits
+copy_told l =
+    let d = copy_doing l.done in
+    l.written ∙ (λ i. line_text 1 (actor_text ([] ∷ []) (line.Rep 0)) (d.0 i) (seen_texts [] [] [] ++ d.1 i))
+
+pub parent : (g : Sig) (p : Proc) → ¬ IsToldLine g 1 ([] ∷ []) (initial p) [] (line.Rep 0) [] [] [] (codes "1. thread 0 at the root: ! -- thread 0 begins")
+parent g p l = differ refl refl (copy_told l)
+
+-- the other branch is told where the terms differ
+else_doing : {g : Sig} {c : Config} {es fs : List Tree} {x y : Tree} {t : ℕ} {doing : List ℕ} {outcomes : List (List ℕ)}
+    → IsDoing g c es (line.Else t) (different x y ∷ []) [] fs doing outcomes
+    → (doing ≡ codes "if " ++ (tree_text x ++ (codes " = " ++ tree_text y))) × (outcomes ≡ codes "else" ∷ [])
+else_doing (told.differs t) = (refl, refl)
+
+else_told : {g : Sig} {c : Config} {text : List ℕ} → IsToldLine g 3 first_paths c [] (line.Else 1) (different hi key ∷ []) [] [] text
+    → text ≡ codes "3. thread 1 at 2: if 'hi' = pk(~1) -- else"
+unfolding digits
+else_told l =
+    let d = else_doing l.done in
+    l.written ∙ (λ i. line_text 3 (actor_text first_paths (line.Else 1)) (d.0 i) (seen_texts [] [] [] ++ d.1 i))
+
+pub turned : (g : Sig) (c : Config) → ¬ IsToldLine g 3 first_paths c [] (line.Else 1) (different hi key ∷ []) [] [] (codes "3. thread 1 at 2: if 'hi' = pk(~1) -- then")
+turned g c l = differ refl refl (else_told l)

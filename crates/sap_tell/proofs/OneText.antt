@@ -48,7 +48,7 @@ use Rattle.sap_terms.proofs.PlainLaws.Items.{first_item, later_item, cons_cases,
 use Rattle.sap_tell.specs.ThreadPaths.{thread_paths}
 use Rattle.sap_tell.specs.Told as told
 use Rattle.sap_tell.specs.Told.{IsDoing, IsToldLine, IsToldRun, bound_texts}
-use Rattle.sap_tell.specs.ToldLaws.{RunsAreToldByOneText}
+use Rattle.sap_tell.specs.ToldLaws.{LinesDoOneThing, RunsAreToldByOneText}
 use Rattle.sap_tell.specs.ToldText.{actor_text, bound_text, call_text, seen_texts, line_text}
 use Rattle.sap_tell.proofs.LegalTold.{legal}
 
@@ -451,3 +451,7 @@ module _ (laws : Laws) (g : Sig) (p : Proc) (hold : HoldsBuiltins g) (ready : Is
 
 pub one_text : Laws → RunsAreToldByOneText
 one_text laws g p ls c d es fs tr ur ms ns text other hold ready x y = (one_run laws g p hold ready x y refl).texts
+
+pub one_thing : Laws → LinesDoOneThing
+one_thing laws g c d es fs step inner label doing other outcomes others exact line x y =
+    let r = one_doing laws g c es exact step inner label d fs fs doing other outcomes others line refl x y in (r.doing, r.outcomes)

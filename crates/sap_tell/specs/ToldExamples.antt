@@ -3,9 +3,13 @@ use Rattle.std.specs.Prelude.{ℕ, codes, List, [], ◌∷◌}
 use Rattle.sap_runs.specs.declared.process_step.PStep.{PStep}
 use Rattle.sap_runs.specs.declared.process_step.PStep.TheVariants as line
 use Rattle.sap_terms.specs.AdversaryFacts.{linear}
+use Rattle.sap_terms.specs.Choice.{Choice}
 use Rattle.sap_terms.specs.Equations.{app1, app2, pair_name}
-use Rattle.sap_terms.specs.Tree.{Tree, public, fresh}
+use Rattle.sap_terms.specs.Tree.{Tree, variable, public, fresh}
 use Rattle.sap_terms.specs.declared.fact.Fact.{Fact}
+use Rattle.sap_terms.specs.declared.var.Sort.{Sort}
+use Rattle.sap_terms.specs.declared.var.Sort.TheVariants.{Msg, Fresh, Pub}
+use Rattle.sap_terms.specs.declared.var.Var.{Var}
 
 -- the lines of the run up to its first event
 abbrev pub first_lines : List PStep
@@ -31,3 +35,39 @@ both = app2 pair_name hi signed
 -- Made(pk(~1))
 abbrev pub made : Fact
 made = linear (codes "Made") (key ∷ [])
+
+-- the variables ~n and x, and the pattern <x,x>
+abbrev pub fresh_n : Var
+fresh_n = record { name = codes "n"; sort = Fresh }
+
+abbrev pub x : Var
+x = record { name = codes "x"; sort = Msg }
+
+abbrev pub twice : Tree
+twice = app2 pair_name (variable x) (variable x)
+
+-- <'hi','hi'>, which fits it, and <pk(~1),'hi'>, which is 'hi' on the channel pk(~1)
+abbrev pub two : Tree
+two = app2 pair_name hi hi
+
+abbrev pub on_key : Tree
+on_key = app2 pair_name key hi
+
+-- each variable stands for 'hi', or for ~0 where it stands for fresh names
+abbrev pub of_sort : Sort → Tree
+of_sort Msg = hi
+of_sort Fresh = fresh 0
+of_sort Pub = hi
+
+abbrev pub greeting : Choice
+greeting v = of_sort v.sort
+
+-- F, A and G of one term
+abbrev pub f_of : Tree → Fact
+f_of t = linear (codes "F") (t ∷ [])
+
+abbrev pub a_of : Tree → Fact
+a_of t = linear (codes "A") (t ∷ [])
+
+abbrev pub g_of : Tree → Fact
+g_of t = linear (codes "G") (t ∷ [])

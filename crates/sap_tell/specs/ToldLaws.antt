@@ -1,16 +1,20 @@
 -- What is so of told runs.
 use Rattle.std.specs.Prelude.{◌≡◌, ℕ, List}
+use Rattle.sap_lines.specs.Answers.{MatchesExactly}
+use Rattle.sap_lines.specs.Lines.{IsProcessLine}
 use Rattle.sap_lines.specs.Runs.{IsLegalProcessRun}
 use Rattle.sap_process.specs.Configuration.{Config}
 use Rattle.sap_process.specs.Proc.{Proc}
 use Rattle.sap_process.specs.Ready.{IsReady}
+use Rattle.sap_runs.specs.Inner.{InnerAction}
 use Rattle.sap_runs.specs.Limits.{HasFewNodes}
 use Rattle.sap_runs.specs.Marks.{Mark}
 use Rattle.sap_runs.specs.declared.process_step.PStep.{PStep}
 use Rattle.sap_terms.specs.Signature.{Sig, HoldsBuiltins}
 use Rattle.sap_terms.specs.Trace.{Trace}
 use Rattle.sap_terms.specs.Tree.{Tree}
-use Rattle.sap_tell.specs.Told.{IsToldRun}
+use Rattle.sap_terms.specs.declared.fact.Fact.{Fact}
+use Rattle.sap_tell.specs.Told.{IsDoing, IsToldRun}
 
 -- what is told as a run of a process is a legal run of it within the limit, which leads there and shows this
 abbrev pub ToldRunsAreLegal : Type 0
@@ -33,3 +37,12 @@ RunsAreToldByOneText =
     (marks others : List Mark) (text other : List ℕ) → HoldsBuiltins g → IsReady g p
     → IsToldRun g p lines c es tr marks text → IsToldRun g p lines d fs ur others other
     → text ≡ other
+
+-- what a possible line does, and what comes of it beside what is shown and known, is one, where what lines match is matched exactly
+abbrev pub LinesDoOneThing : Type 0
+LinesDoOneThing =
+    (g : Sig) (c d : Config) (es fs : List Tree) (step : PStep) (inner : List InnerAction)
+    (label : List Fact) (doing other : List ℕ) (outcomes others : List (List ℕ))
+    → MatchesExactly g c es → IsProcessLine g HasFewNodes c es step inner label d fs
+    → IsDoing g c es step inner label fs doing outcomes
+    → IsDoing g c es step inner label fs other others → (doing ≡ other) × (outcomes ≡ others)

@@ -1,19 +1,32 @@
 //! Lines that are told by hand.
 ghost use Rattle.std.specs.Prelude.{◌≡◌, codes, List, [], ◌∷◌, ◌++◌};
-ghost use Rattle.sap_process.specs.Configuration.{Config};
-ghost use Rattle.sap_runs.specs.Inner.{equal, inserted, locked};
+ghost use Rattle.sap_process.specs.Action as action;
+ghost use Rattle.sap_process.specs.Configuration.{Config, Runs, initial};
+ghost use Rattle.sap_process.specs.Proc as whole;
+ghost use Rattle.sap_process.specs.Proc.{Proc, act};
+ghost use Rattle.sap_process.specs.ProcessSteps.{Fits};
+ghost use Rattle.sap_runs.specs.Inner.{deleted, different, equal, found, inserted, locked, missing, unlocked};
 ghost use Rattle.sap_runs.specs.declared.process_step.PStep.TheVariants as line;
+ghost use Rattle.sap_terms.specs.AdversaryFacts.{k_fact};
+ghost use Rattle.sap_terms.specs.Equal.{IsTheoryEqual};
+ghost use Rattle.sap_terms.specs.Equations.{equations};
+ghost use Rattle.sap_terms.specs.Message.{IsMessageChoice};
+ghost use Rattle.sap_terms.specs.Modulo.{AreEqualFacts, AreFormsOfFacts};
+ghost use Rattle.sap_terms.specs.Normal.{IsNormalForm};
+ghost use Rattle.sap_terms.specs.Piles.{Pile, Takes};
 ghost use Rattle.sap_terms.specs.Signature.{Sig};
-ghost use Rattle.sap_terms.specs.Tree.{public};
+ghost use Rattle.sap_terms.specs.Tree.{Tree, public, fresh, variable};
 ghost use Rattle.sap_tell.specs.ThreadPaths.{thread_paths, paths_from};
-ghost use Rattle.sap_tell.specs.Told.{IsToldLine};
-ghost use Rattle.sap_tell.specs.ToldExamples.{first_lines, first_paths, key, hi, signed, both, made};
+ghost use Rattle.sap_tell.specs.Told.{IsToldLine, IsToldRun};
+ghost use Rattle.sap_tell.specs.ToldExamples.{first_lines, first_paths, key, hi, signed, both, made, fresh_n, x, twice, two, on_key, greeting, f_of, a_of, g_of};
 
-/// Where threads stand: behind the first lines of the run of the key server, and behind a branch that isn't taken.
+/// Where threads stand: behind the first lines of the run of the key server, behind branches that aren't taken, and behind look-ups.
 pub fn paths_by_hand()
     ensures first { thread_paths first_lines ≡ first_paths }
     ensures later { paths_from first_paths (line.Event 2 ∷ line.Else 1 ∷ [])
         ≡ (1 ∷ []) ∷ (2 ∷ 2 ∷ []) ∷ (1 ∷ 1 ∷ 1 ∷ 1 ∷ []) ∷ [] }
+    ensures looked { paths_from first_paths (line.Missing 2 ∷ line.Found 1 ∷ line.Nil 0 ∷ [])
+        ≡ (1 ∷ []) ∷ (2 ∷ 1 ∷ []) ∷ (1 ∷ 1 ∷ 1 ∷ 2 ∷ []) ∷ [] }
     ensures met { paths_from first_paths (line.Sync 0 1 ∷ line.Know 0 ∷ [])
         ≡ (1 ∷ 1 ∷ []) ∷ (2 ∷ 1 ∷ []) ∷ (1 ∷ 1 ∷ 1 ∷ []) ∷ [] }
 {}
@@ -49,4 +62,84 @@ pub fn lines_told_by_hand()
     ensures other_term { (g : Sig) (c : Config)
         → ¬ IsToldLine g 4 first_paths c [] (line.Event 2) [] (made ∷ []) []
         (codes "4. thread 2 at 111: event Made(pk(~2)) -- shows Made(pk(~1))") }
+{}
+
+/// A line of each other form, told: where threads begin and end, what variables are bound, each once, what is sent on channels and
+/// met, the store, the other branch, a rule, what the adversary does. A thread that begins isn't named by its parent, nor a branch
+/// by the other.
+pub fn forms_told_by_hand()
+    ensures end { (g : Sig) (c : Config)
+        → IsToldLine g 2 first_paths c [] (line.Nil 1) [] [] []
+        (codes "2. thread 1 at 2: 0 -- thread 1 ends") }
+    ensures split { (g : Sig) (p : Proc)
+        → IsToldLine g 1 ([] ∷ []) (initial p) [] (line.Par 0) [] [] []
+        (codes "1. thread 0 at the root: | -- thread 1 begins") }
+    ensures copy { (g : Sig) (p : Proc)
+        → IsToldLine g 1 ([] ∷ []) (initial p) [] (line.Rep 0) [] [] []
+        (codes "1. thread 0 at the root: ! -- thread 1 begins") }
+    ensures parent { (g : Sig) (p : Proc)
+        → ¬ IsToldLine g 1 ([] ∷ []) (initial p) [] (line.Rep 0) [] [] []
+        (codes "1. thread 0 at the root: ! -- thread 0 begins") }
+    ensures name { (g : Sig) (c : Config) (p : Proc) → Runs c 1 (act (action.new fresh_n) p)
+        → IsToldLine g 3 first_paths c [] (line.New 1 7) [] [] []
+        (codes "3. thread 1 at 2: new ~n -- ~n = ~7") }
+    ensures send { (g : Sig) (c : Config)
+        → IsToldLine g 3 first_paths c (key ∷ []) (line.Send 1 0) [] (k_fact key ∷ []) (key ∷ hi ∷ [])
+        (codes "3. thread 1 at 2: out(pk(~1),'hi') -- shows K(pk(~1)), knows 1: 'hi'") }
+    ensures take { (g : Sig) (c : Config) (p : Proc) → Runs c 1 (act (action.input twice) p)
+        → Fits g greeting twice two
+        → IsToldLine g 3 first_paths c (two ∷ []) (line.In 1 0) [] (k_fact two ∷ []) (two ∷ [])
+        (codes "3. thread 1 at 2: in(<'hi','hi'>) -- shows K(<'hi','hi'>), x = 'hi'") }
+    ensures receive { (g : Sig) (c : Config) (p : Proc) → Runs c 1 (act (action.receive key (variable x)) p)
+        → IsMessageChoice g greeting → IsTheoryEqual (equations g) on_key on_key
+        → IsToldLine g 3 first_paths c (on_key ∷ []) (line.In 1 0) [] (k_fact on_key ∷ []) (on_key ∷ [])
+        (codes "3. thread 1 at 2: in(pk(~1),'hi') -- shows K(<pk(~1),'hi'>), x = 'hi'") }
+    ensures meet { (g : Sig) (c : Config) (p q : Proc) → Runs c 1 (act (action.send key hi) p)
+        → Runs c 2 (act (action.receive key (variable x)) q) → Fits g greeting (variable x) hi
+        → IsNormalForm (equations g) key key → IsNormalForm (equations g) hi hi
+        → IsToldLine g 3 first_paths c [] (line.Sync 1 2) [] [] []
+        (codes "3. thread 1 at 2 to thread 2 at 111: out(pk(~1),'hi') -- x = 'hi'") }
+    ensures other_branch { (g : Sig) (c : Config)
+        → IsToldLine g 3 first_paths c [] (line.Else 1) (different hi key ∷ []) [] []
+        (codes "3. thread 1 at 2: if 'hi' = pk(~1) -- else") }
+    ensures turned { (g : Sig) (c : Config)
+        → ¬ IsToldLine g 3 first_paths c [] (line.Else 1) (different hi key ∷ []) [] []
+        (codes "3. thread 1 at 2: if 'hi' = pk(~1) -- then") }
+    ensures delete { (g : Sig) (c : Config)
+        → IsToldLine g 3 first_paths c [] (line.Delete 1) (deleted key ∷ []) [] []
+        (codes "3. thread 1 at 2: delete pk(~1)") }
+    ensures find { (g : Sig) (c : Config) (m : Tree) (p q : Proc) → Runs c 1 (whole.lookup m x p q)
+        → IsToldLine g 3 first_paths c [] (line.Found 1) (found key hi ∷ []) [] []
+        (codes "3. thread 1 at 2: lookup pk(~1) as x -- x = 'hi'") }
+    ensures miss { (g : Sig) (c : Config) (m : Tree) (p q : Proc) → Runs c 1 (whole.lookup m x p q)
+        → IsToldLine g 3 first_paths c [] (line.Missing 1) (missing key ∷ []) [] []
+        (codes "3. thread 1 at 2: lookup pk(~1) as x -- nothing there") }
+    ensures unlock { (g : Sig) (c : Config)
+        → IsToldLine g 3 first_paths c [] (line.Unlock 1) (unlocked hi ∷ []) [] []
+        (codes "3. thread 1 at 2: unlock 'hi' -- 'hi' is free") }
+    ensures rule { (g : Sig) (c : Config) (p : Proc) (rest : Pile)
+        → Runs c 1 (act (action.embedded (f_of (variable x) ∷ []) (a_of (variable x) ∷ []) (g_of (variable x) ∷ [])) p)
+        → IsMessageChoice g greeting → AreEqualFacts (equations g) (f_of hi ∷ []) (f_of hi ∷ [])
+        → Takes c.facts (0 ∷ []) (f_of hi ∷ []) rest
+        → AreFormsOfFacts (equations g) (a_of hi ∷ []) (a_of hi ∷ [])
+        → AreFormsOfFacts (equations g) (g_of hi ∷ []) (g_of hi ∷ [])
+        → IsToldLine g 3 first_paths c [] (line.Embedded 1 (0 ∷ []) []) [] (a_of hi ∷ []) []
+        (codes "3. thread 1 at 2: [ F('hi') ] --[ A('hi') ]-> [ G('hi') ] -- shows A('hi'), x = 'hi'") }
+    ensures own_name { (g : Sig) (c : Config)
+        → IsToldLine g 3 first_paths c [] (line.Name 5) [] [] (fresh 5 ∷ [])
+        (codes "3. adversary: new ~5 -- knows 0: ~5") }
+    ensures write { (g : Sig) (c : Config)
+        → IsToldLine g 3 first_paths c [] (line.Public (codes "hi")) [] [] (hi ∷ [])
+        (codes "3. adversary: 'hi' -- knows 0: 'hi'") }
+    ensures know { (g : Sig) (c : Config)
+        → IsToldLine g 3 first_paths c (hi ∷ []) (line.Know 0) [] (k_fact hi ∷ []) (hi ∷ [])
+        (codes "3. adversary: 'hi' -- shows K('hi')") }
+{}
+
+/// A run of two lines of the process `0 | 0`, told: its lines in turn, numbered from 1, each with a line feed, and threads where they
+/// stand before each. By `one_told_text` no other text is told of it.
+pub fn run_told_by_hand()
+    ensures { (g : Sig) → (c : Config)
+        × IsToldRun g (whole.parallel whole.nil whole.nil) (line.Par 0 ∷ line.Nil 1 ∷ []) c [] [] []
+        (codes "1. thread 0 at the root: | -- thread 1 begins\n2. thread 1 at 2: 0 -- thread 1 ends\n") }
 {}

@@ -1,6 +1,6 @@
 //! Laws of told runs, as contracts of functions that do nothing.
 ghost use Rattle.std.specs.Prelude.{◌≡◌, codes, List, [], ◌∷◌};
-ghost use Rattle.sap_tell.specs.ToldLaws.{ToldRunsAreLegal, LegalRunsAreTold, RunsAreToldByOneText};
+ghost use Rattle.sap_tell.specs.ToldLaws.{ToldRunsAreLegal, LegalRunsAreTold, LinesDoOneThing, RunsAreToldByOneText};
 
 use sap_lines::{limit_excludes, lines_have_one_answer, runs_match_exactly};
 use sap_rewrite::{each_term_has_a_normal_form, equality_is_kept, normal_forms_are_unique};
@@ -13,10 +13,11 @@ pub fn legal_runs_are_told()
     each_term_has_a_normal_form();
 }
 
-/// A law: lines of a process that is ready are told by one text. So a reader who takes another choice for an input or an embedded rule
-/// tells the same.
+/// A law: lines of a process that is ready are told by one text, and what each does, with what comes of it, is one. So a reader who
+/// takes another choice for an input or an embedded rule tells the same.
 pub fn one_told_text()
-    ensures { RunsAreToldByOneText }
+    ensures runs { RunsAreToldByOneText }
+    ensures lines { LinesDoOneThing }
 {
     lines_have_one_answer();
     runs_match_exactly();

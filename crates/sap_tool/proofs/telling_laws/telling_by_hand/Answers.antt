@@ -1,12 +1,17 @@
-use Rattle.std.proofs.Common.{◌≡◌, ℕ, List, [], ◌∷◌, ◌++◌, length, refl, sym, ap, subst, ◌∙◌}
+use Rattle.std.proofs.Common.{◌≡◌, ℕ, codes, List, [], ◌∷◌, ◌++◌, length, None, refl, sym, ap, subst, ◌∙◌}
+use Rattle.std.specs.Fmt.{digits}
 use Rattle.sap_back.specs.Converted.{IsConverted}
 use Rattle.sap_formula.specs.Form.{LemmaForm, RestrictionForm}
-use Rattle.sap_process.specs.Configuration.{initial}
+use Rattle.sap_lines.specs.Lines as lines
+use Rattle.sap_process.specs.Configuration.{becomes, initial}
+use Rattle.sap_process.specs.Proc.{nil}
 use Rattle.sap_read.specs.Files.{FileContent}
 use Rattle.sap_run_texts.specs.declared.run.Run.{Run}
 use Rattle.sap_run_texts.specs.declared.run.Run.TheVariants as run
 use Rattle.sap_runs.specs.declared.process_step.PStep.{PStep}
+use Rattle.sap_runs.specs.declared.process_step.PStep.TheVariants as line
 use Rattle.sap_runs.specs.declared.rule_step.RStep.{RStep}
+use Rattle.sap_tell.specs.Told as told
 use Rattle.sap_tell.specs.Told.{starts}
 use Rattle.sap_translate.specs.LineCounts.{back_count}
 use Rattle.sap_replay.specs.ToldRuns.{AreLinesOf, own, converted, IsToldAndJudged}
@@ -24,6 +29,27 @@ returns-clause-empty c = λ f restrictions lemmas. record {
     verdicts = [];
     judged = subst (λ (rs : List RestrictionForm). AreVerdicts f.signature [] (all_judged rs f.lemmas) []) (sym restrictions)
         (subst (λ (ls : List LemmaForm). AreVerdicts f.signature [] (all_judged [] ls) []) (sym lemmas) no_line);
+    layout = refl;
+  };
+}
+
+pub returns-clause-one_line : goal.returns-clause-one_line
+unfolding digits
+returns-clause-one_line c = λ f verdicts ends judged. record {
+  lines = line.Nil 0 ∷ [];
+  of_run = own (line.Nil 0 ∷ []);
+  written = record {
+    trace = [];
+    told = codes "1. thread 0 at the root: 0 -- thread 0 ends\n";
+    run = rw ends (record {
+      config = becomes (initial nil) 0 None;
+      entries = [];
+      marks = [];
+      run = told.further {lines = []} (line.Nil 0) [] [] (codes "1. thread 0 at the root: 0 -- thread 0 ends") starts (lines.ends 0 refl)
+          (record { doing = codes "0"; outcomes = codes "thread 0 ends" ∷ []; done = told.ends 0; written = refl });
+    });
+    verdicts = verdicts;
+    judged = judged;
     layout = refl;
   };
 }
