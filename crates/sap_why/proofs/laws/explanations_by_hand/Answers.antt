@@ -35,7 +35,7 @@ second = record {
 no_place : (s : Stretch) → IsWhere [] NoProcess s → ⊥
 no_place s w = elim w [ ]
 
-byte : Stretch
+abbrev byte : Stretch
 byte = record { from = 0; to = 1 }
 
 begins : LineBegins one_mark 0 0
@@ -57,7 +57,7 @@ ends = record {
   no_feed = λ k le lt. no_feed_first k lt;
 }
 
-shown_text : List ℕ
+abbrev shown_text : List ℕ
 shown_text = codes "line " ++ decimal 1 ++ codes ", column " ++ decimal 1 ++ codes "\n?\n^\n"
 
 byte_text : IsPlaceText one_mark byte shown_text
@@ -71,7 +71,7 @@ byte_text = record {
   text = refl;
 }
 
-told : Told
+abbrev told : Told
 told = record { word = byte; used = None }
 
 at_first : IsWhere one_mark (Lex (BadByte 0)) byte
