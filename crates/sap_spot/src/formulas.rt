@@ -82,17 +82,17 @@ fn first_unbound(words: &Words, part: Part, name: &[u8]) -> Result<Option<usize>
 // Whether the name, of which a binder of that quantifier stands here, is in a guard: in a fact, or as its time, among the conjuncts of
 // its body, or, under `All`, of what is before its `==>`. From level `void` of parentheses on there are none; on level `guard` is one.
 fn is_guarded(words: &Words, quantifier: usize, binder: usize, name: &[u8]) -> bool {
-    let is_all = words.is(quantifier, "All");
-    let (mut level, mut void, mut guard): (usize, usize, usize) = (1, usize::MAX, 0);
+    let never = words.tokens.len().saturating_add(2);
+    let (mut level, mut void, mut guard): (usize, usize, usize) = (1, never, 0);
     let (mut in_fact, mut implied) = (false, false);
     for k in words.next(binder, ".")..words.tokens.len() {
         match words.text(k) {
             b"(" => level = level.saturating_add(1),
-            b")" | b"\"" if level <= 1 => return guard > 0 && implied == is_all,
+            b")" | b"\"" if level <= 1 => return guard > 0 && implied == words.is(quantifier, "All"),
             b")" => {
                 level = level.saturating_sub(1);
                 guard = level.min(guard);
-                void = if level < void { usize::MAX } else { void };
+                void = if level < void { never } else { void };
             }
             b"All" | b"Ex" if implied && level == 1 => return guard > 0,
             b"<=>" if implied && level == 1 => return false,
@@ -100,7 +100,7 @@ fn is_guarded(words: &Words, quantifier: usize, binder: usize, name: &[u8]) -> b
             b"not" if words.is_applied(k) => void = level.saturating_add(1).min(void),
             b"|" | b"==>" | b"<=>" if level < void => {
                 in_fact = false;
-                implied = is_all && level == 1 && words.is(k, "==>");
+                implied = level == 1 && words.is(k, "==>") && words.is(quantifier, "All");
                 guard = if implied || guard < level { guard } else { 0 };
                 void = level;
             }
