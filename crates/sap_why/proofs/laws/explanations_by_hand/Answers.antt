@@ -1,5 +1,6 @@
-use Rattle.std.proofs.Common.{◌≡◌, ◌≤◌, ◌<◌, ◌+◌, ℕ, zero, suc, [], None, refl, sym, subst, arith}
-use Rattle.std.specs.Prelude.{List, codes, decimal, ◌++◌}
+use Rattle.std.proofs.Common.{◌≡◌, ◌≤◌, ◌<◌, ◌+◌, ℕ, zero, suc, [], ◌∷◌, None, refl, sym, ap, subst, arith}
+use Rattle.std.proofs.lemmas.List.{append-nil}
+use Rattle.std.specs.Prelude.{List, ◌++◌}
 use Rattle.sap_read.specs.declared.fault.ReadFault.TheVariants.{Lex, NoProcess}
 use Rattle.sap_text.specs.declared.fault.Lex.TheVariants.{BadByte}
 use Rattle.sap_where.specs.declared.place.Stretch.{Stretch}
@@ -7,8 +8,9 @@ use Rattle.sap_where.specs.declared.told.Told.{Told}
 use Rattle.sap_where.specs.Positions.{IsFeed, IsPlaceText, IsPosition, LineBegins, LineEnds}
 use Rattle.sap_where.specs.Told.{IsTold, at_its_place}
 use Rattle.sap_where.specs.Where.{IsWhere, at_byte}
+use Rattle.sap_why.specs.Advice.{advice}
 use Rattle.sap_why.specs.Explained.{IsPlaceTold, somewhere, unused, used, nowhere}
-use Rattle.sap_why.specs.ExplainedExamples.{one_mark, uses}
+use Rattle.sap_why.specs.ExplainedExamples.{one_mark, shown_byte, uses}
 use Rattle.sap_why.proofs.laws.explanations_by_hand.Goals as goal
 
 only_one : (k : ℕ) → k + 1 ≡ 2 → k ≡ 1
@@ -57,10 +59,7 @@ ends = record {
   no_feed = λ k le lt. no_feed_first k lt;
 }
 
-abbrev shown_text : List ℕ
-shown_text = codes "line " ++ decimal 1 ++ codes ", column " ++ decimal 1 ++ codes "\n?\n^\n"
-
-byte_text : IsPlaceText one_mark byte shown_text
+byte_text : IsPlaceText one_mark byte shown_byte
 byte_text = record {
   position = record { line = 1; column = 1 };
   is_position = record { from = 0; begins = begins; line = refl; column = refl };
@@ -80,11 +79,15 @@ at_first = at_byte refl (omega arith) refl
 is_told : IsTold one_mark (Lex (BadByte 0)) told
 is_told = at_its_place at_first refl
 
-place_told : IsPlaceTold one_mark (Lex (BadByte 0)) (shown_text ++ [])
+place_told : IsPlaceTold one_mark (Lex (BadByte 0)) (shown_byte ++ [])
 place_told = somewhere is_told byte_text unused
 
 pub returns-clause-somewhere : goal.returns-clause-somewhere
-returns-clause-somewhere c = record { place = shown_text ++ []; is_place = place_told; text = refl }
+returns-clause-somewhere c = record {
+  place = shown_byte ++ [];
+  is_place = place_told;
+  text = sym (ap (λ (p : List ℕ). p ++ (advice (Lex (BadByte 0)) ++ (10 ∷ []))) (append-nil shown_byte));
+}
 
 pub returns-clause-nowhere : goal.returns-clause-nowhere
 returns-clause-nowhere c = record { place = []; is_place = nowhere no_place; text = refl }
