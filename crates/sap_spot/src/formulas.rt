@@ -88,7 +88,8 @@ fn is_guarded(words: &Words, quantifier: usize, binder: usize, name: &[u8]) -> b
     for k in words.next(binder, ".")..words.tokens.len() {
         match words.text(k) {
             b"(" => level = level.saturating_add(1),
-            b")" | b"\"" if level <= 1 => return guard > 0 && implied == words.is(quantifier, "All"),
+            b")" | b"\"" if level <= 1 => return guard > 0
+                && implied == words.is(quantifier, "All"),
             b")" => {
                 level = level.saturating_sub(1);
                 guard = level.min(guard);

@@ -104,7 +104,8 @@ pub(crate) fn advice(fault: &ReadFault) -> &'static [u8]
         ReadFault::UnknownProcess { .. } =>
             b"Define the name by a let above this item, or write the action that was meant.",
         ReadFault::DuplicateName { .. } => b"Give this one another name.",
-        ReadFault::FunctionClash { .. } => b"Leave out this declaration or the one before it, or give your own symbol another name.",
+        ReadFault::FunctionClash { .. } =>
+            b"Leave out this declaration or the one before it, or give your own symbol another name.",
         ReadFault::Parameters { .. } => b"Give one of the two parameters another name.",
         ReadFault::Arguments { .. } =>
             b"Write as many arguments as its let has parameters, or none where it has no parentheses.",
