@@ -3,7 +3,7 @@ use Rattle.std.proofs.Common.{◌≡◌, ◌≤◌, ◌<◌, ◌+◌, ℕ, zero,
 use Rattle.std.proofs.lemmas.List.{append-nil}
 use Rattle.sap_grammar.specs.Words.{Word}
 use Rattle.sap_expect.specs.FileTable.{FollowsTable, Reads, Wanted, reads_end}
-use Rattle.sap_expect.specs.ItemExamples.{empty_use, endless, large_arity, last_comma, name_apart, one_else, two_elses, two_equivalences, unclosed, with_arguments, with_comma}
+use Rattle.sap_expect.specs.ItemExamples.{another_attribute, another_builtin, another_privacy, behind_nil, capital_symbol, empty_use, endless, large_arity, last_comma, name_apart, no_binders, no_time, one_else, one_inserted, one_part, persistent_act, reserved_name, signed_entry, small_event, three_terms, two_elses, two_equivalences, two_times, unclosed, with_arguments, with_comma}
 use Rattle.sap_expect.specs.FirstWrong.{GoOn, IsFirstWrong}
 use Rattle.sap_expect.proofs.FirstWrong.{end_at, start, wrong_at}
 use Rattle.sap_expect.proofs.Reaching.{Answer, next_at, next_told, reach, reach_goes, turns}
@@ -104,6 +104,51 @@ name_apart_wrong = computed name_apart 8 (omega arith) refl
 pub last_comma_wrong : IsFirstWrong FollowsTable last_comma 8
 last_comma_wrong = computed last_comma 8 (omega arith) refl
 
+pub another_builtin_wrong : IsFirstWrong FollowsTable another_builtin 5
+another_builtin_wrong = computed another_builtin 5 (omega arith) refl
+
+pub capital_symbol_wrong : IsFirstWrong FollowsTable capital_symbol 5
+capital_symbol_wrong = computed capital_symbol 5 (omega arith) refl
+
+pub another_privacy_wrong : IsFirstWrong FollowsTable another_privacy 9
+another_privacy_wrong = computed another_privacy 9 (omega arith) refl
+
+pub small_event_wrong : IsFirstWrong FollowsTable small_event 6
+small_event_wrong = computed small_event 6 (omega arith) refl
+
+pub reserved_name_wrong : IsFirstWrong FollowsTable reserved_name 6
+reserved_name_wrong = computed reserved_name 6 (omega arith) refl
+
+pub three_terms_wrong : IsFirstWrong FollowsTable three_terms 10
+three_terms_wrong = computed three_terms 10 (omega arith) refl
+
+pub persistent_act_wrong : IsFirstWrong FollowsTable persistent_act 8
+persistent_act_wrong = computed persistent_act 8 (omega arith) refl
+
+pub signed_entry_wrong : IsFirstWrong FollowsTable signed_entry 8
+signed_entry_wrong = computed signed_entry 8 (omega arith) refl
+
+pub one_inserted_wrong : IsFirstWrong FollowsTable one_inserted 7
+one_inserted_wrong = computed one_inserted 7 (omega arith) refl
+
+pub one_part_wrong : IsFirstWrong FollowsTable one_part 9
+one_part_wrong = computed one_part 9 (omega arith) refl
+
+pub behind_nil_wrong : IsFirstWrong FollowsTable behind_nil 6
+behind_nil_wrong = computed behind_nil 6 (omega arith) refl
+
+pub another_attribute_wrong : IsFirstWrong FollowsTable another_attribute 6
+another_attribute_wrong = computed another_attribute 6 (omega arith) refl
+
+pub two_times_wrong : IsFirstWrong FollowsTable two_times 10
+two_times_wrong = computed two_times 10 (omega arith) refl
+
+pub no_time_wrong : IsFirstWrong FollowsTable no_time 10
+no_time_wrong = computed no_time 10 (omega arith) refl
+
+pub no_binders_wrong : IsFirstWrong FollowsTable no_binders 8
+no_binders_wrong = computed no_binders 8 (omega arith) refl
+
 pub arguments_follow : FollowsTable with_arguments
 arguments_follow =
     subst (λ (x : List Word). Reads start x) (append-nil with_arguments) ((reach_goes start with_arguments [] refl).on [] reads_end)
@@ -128,3 +173,6 @@ not_the_first_parenthesis h = not_at name_apart 8 5 (λ e. absurd (omega (arith,
 
 pub no_word_wrong : (k : ℕ) → IsFirstWrong FollowsTable one_else k → ⊥
 no_word_wrong k h = h.isnt one_else_follows
+
+pub not_behind_the_end : IsFirstWrong FollowsTable endless 7 → ⊥
+not_behind_the_end h = let le = h.inside in absurd (omega (arith, le))

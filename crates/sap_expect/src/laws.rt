@@ -9,7 +9,7 @@ ghost use Rattle.sap_read.specs.Item.{Standing};
 ghost use Rattle.sap_read.specs.ItemGrammar.{AreItems};
 ghost use Rattle.sap_expect.specs.FileTable.{FollowsTable, Reads, Takes, Wanted};
 ghost use Rattle.sap_expect.specs.FirstWrong.{IsFirstWrong};
-ghost use Rattle.sap_expect.specs.ItemExamples.{empty_use, endless, large_arity, last_comma, name_apart, one_else, two_elses, two_equivalences, unclosed, with_arguments, with_comma};
+ghost use Rattle.sap_expect.specs.ItemExamples.{another_attribute, another_builtin, another_privacy, behind_nil, capital_symbol, empty_use, endless, large_arity, last_comma, name_apart, no_binders, no_time, one_else, one_inserted, one_part, persistent_act, reserved_name, signed_entry, small_event, three_terms, two_elses, two_equivalences, two_times, unclosed, with_arguments, with_comma};
 
 /// A law: by the table of a file's words one thing at most is wanted behind a word, and whatever is wanted, some words are it. So
 /// words that were taken one by one go on to a file's words, and one that isn't taken is wrong.
@@ -37,9 +37,18 @@ pub fn items_by_hand()
         × IsFirstWrong FollowsTable large_arity 7 × IsFirstWrong FollowsTable two_equivalences 10
         × IsFirstWrong FollowsTable empty_use 7 × IsFirstWrong FollowsTable name_apart 8
         × IsFirstWrong FollowsTable last_comma 8 }
+    ensures wrong_words { IsFirstWrong FollowsTable another_builtin 5 × IsFirstWrong FollowsTable capital_symbol 5
+        × IsFirstWrong FollowsTable another_privacy 9 × IsFirstWrong FollowsTable small_event 6
+        × IsFirstWrong FollowsTable reserved_name 6 × IsFirstWrong FollowsTable three_terms 10
+        × IsFirstWrong FollowsTable persistent_act 8 × IsFirstWrong FollowsTable signed_entry 8
+        × IsFirstWrong FollowsTable one_inserted 7 × IsFirstWrong FollowsTable one_part 9
+        × IsFirstWrong FollowsTable behind_nil 6 × IsFirstWrong FollowsTable another_attribute 6
+        × IsFirstWrong FollowsTable two_times 10 × IsFirstWrong FollowsTable no_time 10
+        × IsFirstWrong FollowsTable no_binders 8 }
     ensures not_there { (IsFirstWrong FollowsTable unclosed 5 → ⊥)
         × (IsFirstWrong FollowsTable with_comma 10 → ⊥)
         × (IsFirstWrong FollowsTable two_elses 11 → ⊥)
-        × (IsFirstWrong FollowsTable name_apart 5 → ⊥) }
+        × (IsFirstWrong FollowsTable name_apart 5 → ⊥)
+        × (IsFirstWrong FollowsTable endless 7 → ⊥) }
     ensures right { FollowsTable one_else × FollowsTable with_arguments × ((k : ℕ) → IsFirstWrong FollowsTable one_else k → ⊥) }
 {}

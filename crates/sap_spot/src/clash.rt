@@ -71,8 +71,7 @@ impl Met {
     }
 }
 
-/// The first fact of the file's process that is written otherwise than one before it: a stored one with another number of terms or
-/// another sign, a shown one with another number.
+/// The first fact of the file's process that is written otherwise than before: with another number of terms or, if stored, another sign.
 pub(crate) fn clashing_fact(words: &Words) -> Result<Option<Found>, Mem> {
     let mut met = Met {
         stored: NameMap::new(words.alloc),

@@ -79,31 +79,41 @@ fn first_unbound(words: &Words, part: Part, name: &[u8]) -> Result<Option<usize>
     Ok(None)
 }
 
-// Whether the name, of which a binder of that quantifier stands here, is in a guard: in a fact, or as its time, before a connective
-// that is no `&`.
+// Whether the name, of which a binder of that quantifier stands here, is in a guard: in a fact, or as its time, among the conjuncts of
+// its body, or, under `All`, of what is before its `==>`. From level `void` of parentheses on there are none; on level `guard` is one.
 fn is_guarded(words: &Words, quantifier: usize, binder: usize, name: &[u8]) -> bool {
-    let (mut in_fact, mut guarded) = (false, false);
-    let mut depth: usize = 0;
+    let never = words.tokens.len().saturating_add(2);
+    let (mut level, mut void, mut guard): (usize, usize, usize) = (1, never, 0);
+    let (mut in_fact, mut implied) = (false, false);
     for k in words.next(binder, ".")..words.tokens.len() {
-        let (implies, ends) = (words.is(k, "==>"), words.is(k, ")") || words.is(k, "\""));
-        if depth == 0 && (implies || ends || words.is_bar(k) || words.is(k, "<=>")) {
-            return guarded
-                && if words.is(quantifier, "All") {
-                    implies
-                } else {
-                    ends
-                };
+        match words.text(k) {
+            b"(" => level = level.saturating_add(1),
+            b")" | b"\"" if level <= 1 => return guard > 0
+                && implied == words.is(quantifier, "All"),
+            b")" => {
+                level = level.saturating_sub(1);
+                guard = level.min(guard);
+                void = if level < void { never } else { void };
+            }
+            b"All" | b"Ex" if implied && level == 1 => return guard > 0,
+            b"<=>" if implied && level == 1 => return false,
+            b"All" | b"Ex" => void = level.min(void),
+            b"not" if words.is_applied(k) => void = level.saturating_add(1).min(void),
+            b"|" | b"==>" | b"<=>" if level < void => {
+                in_fact = false;
+                implied = level == 1 && words.is(k, "==>") && words.is(quantifier, "All");
+                guard = if implied || guard < level { guard } else { 0 };
+                void = level;
+            }
+            b"&" | b"=" => in_fact = false,
+            _ if level < void && words.applied(k, true).is_some() => {
+                in_fact = !words.is(k.saturating_sub(1), "not");
+            }
+            _ if guard == 0 && in_fact && words.has_name(k, name) && !words.is_applied(k) => {
+                guard = level;
+            }
+            _ => {}
         }
-        if words.is(k, "(") {
-            depth = depth.saturating_add(1);
-        } else if ends {
-            depth = depth.saturating_sub(1);
-        } else if words.is(k, "&") || words.is(k, "=") {
-            in_fact = false;
-        } else if words.applied(k, true).is_some() {
-            in_fact = !words.is(k.saturating_sub(1), "not");
-        }
-        guarded = guarded || (in_fact && words.has_name(k, name));
     }
     false
 }

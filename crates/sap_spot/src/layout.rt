@@ -104,7 +104,7 @@ fn end_choices(words: &Words, open: &mut Vec<usize>) {
 
 // The sign of a parallel, or an `else`: it is the partner of what is open last.
 fn join(words: &Words, k: usize, open: &mut Vec<usize>, layout: &mut Layout) -> Result<(), Mem> {
-    let is_bar = words.is_bar(k);
+    let is_bar = !words.is(k, "else");
     if is_bar {
         end_choices(words, open);
     }

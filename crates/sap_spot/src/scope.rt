@@ -8,8 +8,7 @@ use std::alloc::Global;
 use std::mem;
 
 /// The names that are bound above a place in the definition in which it stands, with the sorts of their binders; the uses with arguments
-/// around it; how many names are bound, where each lock counts as one; and
-/// with which word they were more than may be.
+/// around it; how many names are bound, where each lock counts as one; and with which word they were more than may be.
 #[derive(Drop)]
 pub(crate) struct Scope {
     sorts: NameMap<Sort>,

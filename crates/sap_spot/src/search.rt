@@ -7,7 +7,7 @@ use crate::descent::{found_at, found_in};
 use crate::formulas::faulty_word;
 use crate::layout::{Layout, layout_of};
 use crate::preorder::first_beyond;
-use crate::uses::{other_count, second_parameter, wrong_count};
+use crate::uses::{longest_use, second_parameter, wrong_count};
 use crate::words::Words;
 use sap_found::{Found, can_speak_of};
 use sap_grammar::read_declarations;
@@ -38,7 +38,7 @@ fn in_process(bare: Words, fault: &ReadFault) -> Result<Option<Found>, Mem> {
         ReadFault::Ill { which, path } => found_at(&words, Some(*which), path),
         ReadFault::Flawed { name, which, path } => found_in(&words, name, *which, path),
         ReadFault::Arguments { name } => Ok(alone(wrong_count(&words, name.as_bytes())?)),
-        ReadFault::Large { name } => Ok(alone(other_count(&words, name.as_bytes(), 0))),
+        ReadFault::Large { name } => Ok(alone(longest_use(&words, name.as_bytes()))),
         ReadFault::Lock(LockFault::UnlockWithoutLock { path }) => found_at(&words, None, path),
         ReadFault::Lock(LockFault::LockOverParallel { path }) => found_at(&words, None, path),
         _ => Ok(None),

@@ -29,23 +29,29 @@ pub(crate) fn second_parameter(words: &Words, name: &[u8]) -> Option<usize> {
     None
 }
 
-/// The first use of this name that has another number of arguments than this, in definitions or else in the file's process.
-pub(crate) fn other_count(words: &Words, name: &[u8], count: u64) -> Option<usize> {
+/// The first use of this name with another number of arguments than it has parameters, in definitions or else in the file's process.
+pub(crate) fn wrong_count(words: &Words, name: &[u8]) -> Result<Option<usize>, Mem> {
+    let Some(definition) = words.layout.definition(words, name)? else {
+        return Ok(None);
+    };
+    let count = terms_behind(words, definition.item.saturating_add(1));
     for k in &words.layout.uses {
         if words.has_name(*k, name) && terms_behind(words, *k) != count {
-            return Some(*k);
+            return Ok(Some(*k));
         }
     }
-    None
+    Ok(None)
 }
 
-/// The first use of this name that has another number of arguments than its definition has parameters.
-pub(crate) fn wrong_count(words: &Words, name: &[u8]) -> Result<Option<usize>, Mem> {
-    match words.layout.definition(words, name)? {
-        Some(definition) => {
-            let count = terms_behind(words, definition.item.saturating_add(1));
-            Ok(other_count(words, name, count))
+/// The first of the longest uses of this name.
+pub(crate) fn longest_use(words: &Words, name: &[u8]) -> Option<usize> {
+    let (mut found, mut longest) = (None, 0);
+    for k in &words.layout.uses {
+        let length = words.layout.end(*k).saturating_sub(*k);
+        if longest < length && words.has_name(*k, name) {
+            longest = length;
+            found = Some(*k);
         }
-        None => Ok(None),
     }
+    found
 }

@@ -82,11 +82,6 @@ impl<'a> Words<'a> {
         self.is_applied(k) && self.name(k).is_some()
     }
 
-    /// Whether one of the two signs of the parallel stands there.
-    pub(crate) fn is_bar(&self, k: usize) -> bool {
-        self.is(k, "|") || self.is(k, "||")
-    }
-
     /// Whether what stands there may have an `else`.
     pub(crate) fn is_choice(&self, k: usize) -> bool {
         self.is(k, "if") || self.is(k, "lookup")

@@ -1,12 +1,12 @@
 -- Where in small files is what.
 use Rattle.std.proofs.Common.{◌≡◌, ◌≤◌, ◌<◌, ◌+◌, ℕ, true, false, zero, suc, [], refl, sym, ap, subst, arith}
 use Rattle.std.specs.Prelude.{codes}
-use Rattle.sap_where.specs.declared.find.Beginning.TheVariants.{Definition}
+use Rattle.sap_where.specs.declared.find.Beginning.TheVariants.{Definition, Statement}
 use Rattle.sap_where.specs.declared.place.Position.{Position}
-use Rattle.sap_where.specs.PlaceExamples.{at, ended_header, nameless_header, second_line, stretch, three_lines, three_lines_tokens, twice, twice_tokens, two_lines}
-use Rattle.sap_where.specs.Pieces.{BeginsPiece, IsOnLine, IsPieceOf}
+use Rattle.sap_where.specs.PlaceExamples.{IsQ, at, ended_header, endless, endless_tokens, nameless_header, once_tokens, second_byte, second_line, stated, stated_tokens, stretch, three_lines, three_lines_tokens, twice, twice_tokens, two_lines}
+use Rattle.sap_where.specs.Pieces.{BeginsPiece, CanBeOf, IsOnLine, IsPieceOf, of_end, of_piece}
 use Rattle.sap_where.specs.Positions.{IsFeed, IsPlaceText, IsPosition, LineBegins, LineEnds}
-use Rattle.sap_where.specs.Where.{BeginsAt, IsTakenAt, StartsFile, second_definition}
+use Rattle.sap_where.specs.Where.{BeginsAt, IsTakenAt, StartsFile, only_statement, second_definition, second_statement}
 use Rattle.sap_expect.specs.FirstWrong.{IsFirstWrong}
 use Rattle.sap_where.proofs.Headers.{wrong_first, wrong_second, wrong_third}
 use Rattle.sap_where.proofs.OnePlace.{one_taken, one_wrong}
@@ -83,6 +83,20 @@ text_of_second = record {
   begins = begins_at 3 (omega arith) (omega arith);
   to = 5;
   ends = ends_at 3 (omega arith) (omega arith);
+  text = refl;
+}
+
+at_fourth : IsPosition two_lines 4 (at 2 2)
+at_fourth = record { from = 3; begins = begins_at 4 (omega arith) (omega arith); line = refl; column = refl }
+
+pub text_of_byte : IsPlaceText two_lines (stretch 4 5) second_byte
+text_of_byte = record {
+  position = at 2 2;
+  is_position = at_fourth;
+  from = 3;
+  begins = begins_at 4 (omega arith) (omega arith);
+  to = 5;
+  ends = ends_at 4 (omega arith) (omega arith);
   text = refl;
 }
 
@@ -173,3 +187,121 @@ at_third_or_last (suc (suc (suc (suc (suc (suc (suc (suc (suc k))))))))) le b e 
 
 pub not_of_first_line : IsPieceOf three_lines three_lines_tokens 1 8 → ⊥
 not_of_first_line h = at_third_or_last h.first h.order h.begins h.on_line
+
+first_definition : (i : ℕ) → BeginsAt twice once_tokens Definition (codes "P") i → i ≡ 0
+first_definition zero b = refl
+first_definition (suc zero) b = absurd (false_is b.is)
+first_definition (suc (suc zero)) b = absurd (false_is b.is)
+first_definition (suc (suc (suc zero))) b = absurd (false_is b.is)
+first_definition (suc (suc (suc (suc i)))) b = let lt = b.inside in absurd (omega (arith, lt))
+
+first_statement : (i : ℕ) → BeginsAt twice once_tokens Statement (codes "P") i → i ≡ 2
+first_statement zero b = absurd (false_is b.is)
+first_statement (suc zero) b = absurd (false_is b.is)
+first_statement (suc (suc zero)) b = refl
+first_statement (suc (suc (suc zero))) b = absurd (false_is b.is)
+first_statement (suc (suc (suc (suc i)))) b = let lt = b.inside in absurd (omega (arith, lt))
+
+pub alone : IsTakenAt twice once_tokens (codes "P") 2
+alone = only_statement
+    (λ i j lt a b. let e = first_definition j b in absurd (omega (arith, lt, e)))
+    (λ i j lt a b. let e = first_statement i a in let f = first_statement j b in absurd (omega (arith, lt, e, f)))
+    (record {
+      is = record { inside = omega arith; is = refl };
+      none_before = λ i lt b. let e = first_statement i b in absurd (omega (arith, lt, e));
+    })
+
+none_defined : (i : ℕ) → BeginsAt stated stated_tokens Definition (codes "P") i → ⊥
+none_defined zero b = false_is b.is
+none_defined (suc zero) b = false_is b.is
+none_defined (suc (suc zero)) b = false_is b.is
+none_defined (suc (suc (suc zero))) b = false_is b.is
+none_defined (suc (suc (suc (suc i)))) b = let lt = b.inside in absurd (omega (arith, lt))
+
+pub stated_again : IsTakenAt stated stated_tokens (codes "P") 2
+stated_again = second_statement (λ i j lt a b. none_defined j b) (record {
+  is = record { inside = omega arith; is = refl };
+  first = 0;
+  before = omega arith;
+  is_first = record { inside = omega arith; is = refl };
+  no_other = other;
+})
+  where
+    other : (i : ℕ) → i < 2 → BeginsAt stated stated_tokens Statement (codes "P") i → i ≡ 0
+    other zero lt b = refl
+    other (suc zero) lt b = absurd (false_is b.is)
+    other (suc (suc i)) lt b = absurd (omega (arith, lt))
+
+pub not_first_stated : IsTakenAt stated stated_tokens (codes "P") 0 → ⊥
+not_first_stated h =
+    let e : 2 ≡ 0 = one_taken stated stated_tokens (codes "P") 2 0 stated_again h in
+    absurd (omega (arith, e))
+
+pub of_third_line : IsPieceOf three_lines three_lines_tokens 3 8
+of_third_line = record {
+  first = 8;
+  order = omega arith;
+  begins = record { behind = omega arith; inside = omega arith; is = refl };
+  on_line = refl;
+  no_other = λ i low high b. absurd (omega (arith, low, high));
+}
+
+before_last : (k : ℕ) → k < 9 → IsOnLine three_lines three_lines_tokens 2 k → k < 8
+before_last zero lt e = omega arith
+before_last (suc zero) lt e = omega arith
+before_last (suc (suc zero)) lt e = omega arith
+before_last (suc (suc (suc zero))) lt e = omega arith
+before_last (suc (suc (suc (suc zero)))) lt e = omega arith
+before_last (suc (suc (suc (suc (suc zero))))) lt e = omega arith
+before_last (suc (suc (suc (suc (suc (suc zero)))))) lt e = omega arith
+before_last (suc (suc (suc (suc (suc (suc (suc zero))))))) lt e = omega arith
+before_last (suc (suc (suc (suc (suc (suc (suc (suc zero)))))))) lt e = absurd (omega (arith, e))
+before_last (suc (suc (suc (suc (suc (suc (suc (suc (suc k))))))))) lt e = absurd (omega (arith, lt))
+
+pub not_of_second_line : IsPieceOf three_lines three_lines_tokens 2 9 → ⊥
+not_of_second_line h =
+    let low = before_last h.first h.begins.inside h.on_line in
+    h.no_other 8 low (omega arith) (record { behind = omega arith; inside = omega arith; is = refl })
+
+pub can_be_second : CanBeOf three_lines three_lines_tokens 2 8
+can_be_second = of_piece of_second_line
+
+pub can_be_last : CanBeOf endless endless_tokens 3 7
+can_be_last = of_end refl refl
+
+on_third_line : (k : ℕ) → k ≤ 5 → IsOnLine three_lines three_lines_tokens 3 k → ⊥
+on_third_line zero le e = absurd (omega (arith, e))
+on_third_line (suc zero) le e = absurd (omega (arith, e))
+on_third_line (suc (suc zero)) le e = absurd (omega (arith, e))
+on_third_line (suc (suc (suc zero))) le e = absurd (omega (arith, e))
+on_third_line (suc (suc (suc (suc zero)))) le e = absurd (omega (arith, e))
+on_third_line (suc (suc (suc (suc (suc zero))))) le e = absurd (omega (arith, e))
+on_third_line (suc (suc (suc (suc (suc (suc k)))))) le e = absurd (omega (arith, le))
+
+pub cannot_be_third : CanBeOf three_lines three_lines_tokens 3 5 → ⊥
+cannot_be_third (of_piece p) = on_third_line p.first p.order p.on_line
+cannot_be_third (of_end is line) = absurd (omega (arith, is))
+
+pub behind_equals : IsQ 6
+behind_equals = record { inside = omega arith; is = refl }
+
+pub behind_sign : IsQ 10
+behind_sign = record { inside = omega arith; is = refl }
+
+pub behind_parenthesis : IsQ 28
+behind_parenthesis = record { inside = omega arith; is = refl }
+
+pub behind_else : IsQ 31
+behind_else = record { inside = omega arith; is = refl }
+
+pub no_parameter : IsQ 3 → ⊥
+no_parameter u = false_is u.is
+
+pub no_fact : IsQ 14 → ⊥
+no_fact u = false_is u.is
+
+pub no_value : IsQ 25 → ⊥
+no_value u = false_is u.is
+
+pub none_stated : IsQ 35 → ⊥
+none_stated u = false_is u.is

@@ -1,10 +1,11 @@
 -- Small files, and where in them is what.
 use Rattle.std.specs.Prelude.{ℕ, codes, decimal, List, [], ◌∷◌, ◌++◌}
-use Rattle.sap_text.specs.declared.token.Kind.TheVariants.{Ident}
+use Rattle.sap_text.specs.declared.token.Kind.TheVariants.{Ident, Symbol}
 use Rattle.sap_text.specs.declared.token.Token.{Token}
 use Rattle.sap_grammar.specs.Words.{Word, mark, name}
 use Rattle.sap_where.specs.declared.place.Position.{Position}
 use Rattle.sap_where.specs.declared.place.Stretch.{Stretch}
+use Rattle.sap_where.specs.Uses.{IsUse}
 
 -- two lines, the second without a line feed
 abbrev pub two_lines : List ℕ
@@ -19,6 +20,10 @@ stretch from to = record { from = from; to = to }
 -- what is shown of its second line
 abbrev pub second_line : List ℕ
 second_line = codes "line " ++ decimal 2 ++ codes ", column " ++ decimal 1 ++ codes "\n" ++ codes "cd\n^^\n"
+
+-- and of the second byte in that
+abbrev pub second_byte : List ℕ
+second_byte = codes "line " ++ decimal 2 ++ codes ", column " ++ decimal 2 ++ codes "\n" ++ codes "cd\n ^\n"
 
 -- a header with `end` where `begin` is wanted, and one without a name
 abbrev pub ended_header : List Word
@@ -37,6 +42,16 @@ word from to = record { kind = Ident; from = from; to = to; line = 1 }
 abbrev pub twice_tokens : List Token
 twice_tokens = word 0 3 ∷ word 4 5 ∷ word 6 11 ∷ word 12 13 ∷ word 14 17 ∷ word 18 19 ∷ []
 
+-- the first two of them; and items that no definition is among: a lemma P, and a restriction P
+abbrev pub once_tokens : List Token
+once_tokens = word 0 3 ∷ word 4 5 ∷ word 6 11 ∷ word 12 13 ∷ []
+
+abbrev pub stated : List ℕ
+stated = codes "lemma P restriction P"
+
+abbrev pub stated_tokens : List Token
+stated_tokens = word 0 5 ∷ word 6 7 ∷ word 8 19 ∷ word 20 21 ∷ []
+
 -- a file of three lines, `theory T begin`, `let P=(0` and `end`, and its tokens
 abbrev pub three_lines : List ℕ
 three_lines = codes "theory T begin\nlet P=(0\nend"
@@ -49,3 +64,34 @@ three_lines_tokens =
     on_line 1 0 6 ∷ on_line 1 7 8 ∷ on_line 1 9 14 ∷ on_line 2 15 18 ∷ on_line 2 19 20
     ∷ on_line 2 20 21
     ∷ on_line 2 21 22 ∷ on_line 2 22 23 ∷ on_line 3 24 27 ∷ []
+
+-- a file whose last item ends on its third line, `theory T begin`, `let P=` and `(`, and its tokens
+abbrev pub endless : List ℕ
+endless = codes "theory T begin\nlet P=\n("
+
+abbrev pub endless_tokens : List Token
+endless_tokens =
+    on_line 1 0 6 ∷ on_line 1 7 8 ∷ on_line 1 9 14 ∷ on_line 2 15 18 ∷ on_line 2 19 20
+    ∷ on_line 2 20 21
+    ∷ on_line 3 22 23 ∷ []
+
+-- words in which Q is a parameter, what is behind `=`, `!`, `(` and `else`, a fact, a value that is looked up, and what is behind the
+-- name of a lemma
+abbrev pub many : List ℕ
+many = codes "let P ( Q ) = Q process : ! Q | [ ! Q ( ) ] --> [ ] ; lookup x as Q in ( Q ) else Q lemma l : Q"
+
+abbrev pub sign : (from to : ℕ) → Token
+sign from to = record { kind = Symbol; from = from; to = to; line = 1 }
+
+abbrev pub many_tokens : List Token
+many_tokens =
+    word 0 3 ∷ word 4 5 ∷ sign 6 7 ∷ word 8 9 ∷ sign 10 11 ∷ sign 12 13 ∷ word 14 15
+    ∷ word 16 23 ∷ sign 24 25 ∷ sign 26 27 ∷ word 28 29 ∷ sign 30 31 ∷ sign 32 33
+    ∷ sign 34 35 ∷ word 36 37 ∷ sign 38 39 ∷ sign 40 41 ∷ sign 42 43 ∷ sign 44 47
+    ∷ sign 48 49 ∷ sign 50 51 ∷ sign 52 53 ∷ word 54 60 ∷ word 61 62 ∷ word 63 65
+    ∷ word 66 67 ∷ word 68 70 ∷ sign 71 72 ∷ word 73 74 ∷ sign 75 76 ∷ word 77 81
+    ∷ word 82 83 ∷ word 84 89 ∷ word 90 91 ∷ sign 92 93 ∷ word 94 95 ∷ []
+
+-- token number k of these is Q as a process
+abbrev pub IsQ : ℕ → Type 0
+IsQ k = IsUse many many_tokens (codes "Q") k

@@ -22,6 +22,11 @@ is_group z ts k = stands z ts (codes "(") k && not (is_named z ts (k - 1))
     && not (stands z ts (codes "out") (k - 1))
     && (not (stands z ts (codes "in") (k - 1)) || ends_lookup z ts (k - 1))
 
+-- the sign of a replication: that of a persistent fact stands behind `[` or a comma
+abbrev pub replicates : List ℕ → List Token → ℕ → Bool
+replicates z ts k = stands z ts (codes "!") k && not (stands z ts (codes "[") (k - 1))
+    && not (stands z ts (codes ",") (k - 1))
+
 -- before token number k the heading of a definition goes on: of what stands before it `let` began an item, and no `=` is behind that
 abbrev pub in_heading : List ℕ → List Token → ℕ → Bool
 in_heading z ts zero = false
@@ -38,7 +43,7 @@ ends_heading z ts (suc k) = in_heading z ts k && stands z ts (codes "=") k
 abbrev pub opens_process : List ℕ → List Token → ℕ → Bool
 opens_process z ts k =
     stands z ts (codes ";") k || stands z ts (codes "|") k || stands z ts (codes "||") k
-    || stands z ts (codes "!") k || stands z ts (codes "then") k || stands z ts (codes "else") k
+    || replicates z ts k || stands z ts (codes "then") k || stands z ts (codes "else") k
     || stands z ts (codes ":") k || ends_lookup z ts k || is_group z ts k
 
 -- the last item that begins before token number k is the file's process or the definition of a name

@@ -1,13 +1,13 @@
 //! Laws of places, as contracts of functions that do nothing.
 ghost use Rattle.std.specs.Prelude.{◌≡◌, ℕ, List, [], codes};
 ghost use Rattle.sap_read.specs.declared.fault.ReadFault.{ReadFault};
-ghost use Rattle.sap_where.specs.Where.{IsTakenAt, IsWhere, StartsFile};
+ghost use Rattle.sap_where.specs.Where.{IsTakenAt, IsWhere, StartsFile, one_byte, stretch_at};
 ghost use Rattle.sap_expect.specs.FirstWrong.{IsFirstWrong};
-ghost use Rattle.sap_where.specs.Positions.{IsPlaceText, IsPosition, carets, shown_from, shown_to};
-ghost use Rattle.sap_where.specs.PlaceExamples.{at, ended_header, nameless_header, second_line, stretch, three_lines, three_lines_tokens, twice, twice_tokens, two_lines};
+ghost use Rattle.sap_where.specs.Positions.{IsPlaceText, IsPosition, carets, shown, shown_from, shown_to};
+ghost use Rattle.sap_where.specs.PlaceExamples.{IsQ, at, ended_header, endless, endless_tokens, nameless_header, once_tokens, second_byte, second_line, stated, stated_tokens, stretch, three_lines, three_lines_tokens, twice, twice_tokens, two_lines};
 ghost use Rattle.sap_where.specs.declared.place.Position.{Position};
 ghost use Rattle.sap_where.specs.declared.place.Stretch.{Stretch};
-ghost use Rattle.sap_where.specs.Pieces.{IsPieceOf};
+ghost use Rattle.sap_where.specs.Pieces.{CanBeOf, IsPieceOf};
 
 use sap_text::one_answer;
 
@@ -24,20 +24,38 @@ pub fn one_place()
     one_answer();
 }
 
-/// A law: small files, where in them is what, and where it isn't: lines and columns, what is shown of a line, which word of a header
-/// is the first that is wrong, where a name is defined again, and in which piece a word stands.
+/// A law: small files, where in them is what, and where it isn't: lines and columns, what is shown of a line and of a byte, which word
+/// of a header is the first that is wrong, where a name is defined or stated again, in which piece a word stands, and where a name is
+/// used for a process.
 pub fn places_by_hand()
     ensures lines { IsPosition two_lines 3 (at 2 1) × IsPosition two_lines 2 (at 1 3)
         × IsPosition two_lines 5 (at 2 3) }
     ensures not_there { (IsPosition two_lines 3 (at 1 4) → ⊥) × (IsPosition two_lines 3 (at 2 0) → ⊥) }
-    ensures text { IsPlaceText two_lines (stretch 3 5) second_line }
+    ensures text { IsPlaceText two_lines (stretch 3 5) second_line
+        × IsPlaceText two_lines (stretch 4 5) second_byte }
     ensures long_lines { (shown_from 0 121 100 ≡ 40) × (shown_to 0 121 100 ≡ 121)
         × (shown_to 0 200 100 ≡ 160) × (shown_from 0 120 100 ≡ 0) }
-    ensures carets { (carets (stretch 3 9) 5 ≡ 2) × (carets (stretch 3 3) 5 ≡ 1) }
+    ensures ends_of_lines { (shown_from 0 121 60 ≡ 0) × (shown_from 0 121 61 ≡ 1)
+        × (shown_from 10 130 100 ≡ 10) × (shown_from 10 131 100 ≡ 40)
+        × (shown_to 10 131 70 ≡ 130) × (shown_to 10 131 71 ≡ 131) × (shown_to 10 130 11 ≡ 130) }
+    ensures bytes { (shown 9 ≡ 32) × (shown 31 ≡ 32) × (shown 33 ≡ 33) × (shown 126 ≡ 126)
+        × (shown 127 ≡ 32) × (shown 195 ≡ 32) }
+    ensures carets { (carets (stretch 3 9) 5 ≡ 2) × (carets (stretch 3 3) 5 ≡ 1)
+        × (carets (stretch 3 5) 9 ≡ 2) × (carets (stretch 5 7) 5 ≡ 1) }
+    ensures stretches { (one_byte 4 ≡ stretch 4 5) × (stretch_at three_lines_tokens 3 ≡ stretch 15 18)
+        × (stretch_at three_lines_tokens 9 ≡ stretch 27 27) × (stretch_at [] 0 ≡ stretch 0 0) }
     ensures headers { IsFirstWrong StartsFile ended_header 2 × IsFirstWrong StartsFile nameless_header 1
         × IsFirstWrong StartsFile [] 0 × (IsFirstWrong StartsFile nameless_header 2 → ⊥) }
     ensures names { IsTakenAt twice twice_tokens (codes "P") 4
-        × (IsTakenAt twice twice_tokens (codes "P") 0 → ⊥) }
+        × (IsTakenAt twice twice_tokens (codes "P") 0 → ⊥)
+        × IsTakenAt twice once_tokens (codes "P") 2 × IsTakenAt stated stated_tokens (codes "P") 2
+        × (IsTakenAt stated stated_tokens (codes "P") 0 → ⊥) }
     ensures pieces { IsPieceOf three_lines three_lines_tokens 2 8
-        × (IsPieceOf three_lines three_lines_tokens 1 8 → ⊥) }
+        × (IsPieceOf three_lines three_lines_tokens 1 8 → ⊥)
+        × IsPieceOf three_lines three_lines_tokens 3 8
+        × (IsPieceOf three_lines three_lines_tokens 2 9 → ⊥) }
+    ensures lines_told { CanBeOf three_lines three_lines_tokens 2 8 × CanBeOf endless endless_tokens 3 7
+        × (CanBeOf three_lines three_lines_tokens 3 5 → ⊥) }
+    ensures uses { IsQ 6 × IsQ 10 × IsQ 28 × IsQ 31 }
+    ensures no_uses { (IsQ 3 → ⊥) × (IsQ 14 → ⊥) × (IsQ 25 → ⊥) × (IsQ 35 → ⊥) }
 {}

@@ -9,7 +9,7 @@ ghost use Rattle.sap_grammar.specs.Words.{words_of};
 ghost use Rattle.sap_grammar.specs.Reading.{names};
 ghost use Rattle.sap_where.specs.Where.{IsFirst, IsWhere};
 ghost use Rattle.sap_where.specs.declared.place.Stretch.{Stretch};
-ghost use Rattle.sap_where.specs.Uses.{IsUse, ends_heading, ends_lookup, in_heading, in_process, is_group, is_named, is_use, opens_process, stands, uses};
+ghost use Rattle.sap_where.specs.Uses.{IsUse, ends_heading, ends_lookup, in_heading, in_process, is_group, is_named, is_use, opens_process, replicates, stands, uses};
 
 use crate::place::Stretch;
 use crate::walk::stretch_at;
@@ -48,6 +48,16 @@ fn is_group(bytes: &[u8], tokens: &[Token], k: usize) -> bool
         && (!stands(bytes, tokens, "in", before) || ends_lookup(bytes, tokens, before))
 }
 
+// Whether the sign of a replication stands here: that of a persistent fact stands behind `[` or a comma.
+fn replicates(bytes: &[u8], tokens: &[Token], k: usize) -> bool
+    ensures { result ≡ replicates bytes.now tokens.now k }
+{
+    let before = k.saturating_sub(1);
+    stands(bytes, tokens, "!", k)
+        && !stands(bytes, tokens, "[", before)
+        && !stands(bytes, tokens, ",", before)
+}
+
 // Whether a process begins behind this word of an item that is one, whose heading ended before.
 fn opens_process(bytes: &[u8], tokens: &[Token], k: usize) -> bool
     ensures { result ≡ opens_process bytes.now tokens.now k }
@@ -55,7 +65,7 @@ fn opens_process(bytes: &[u8], tokens: &[Token], k: usize) -> bool
     stands(bytes, tokens, ";", k)
         || stands(bytes, tokens, "|", k)
         || stands(bytes, tokens, "||", k)
-        || stands(bytes, tokens, "!", k)
+        || replicates(bytes, tokens, k)
         || stands(bytes, tokens, "then", k)
         || stands(bytes, tokens, "else", k)
         || stands(bytes, tokens, ":", k)

@@ -24,7 +24,7 @@ lex_advice (lex.NameLong at) =
 -- where a process isn't well-formed, by the flaw
 abbrev pub flaw_advice : Flaw → List ℕ
 flaw_advice BadFunction =
-    codes "Declare the symbol with as many arguments as stand here; new and lookup bind no constant."
+    codes "Add the builtin of this symbol, or declare it with as many arguments as here; new and lookup bind no constant."
 flaw_advice ReservedVar = codes "Begin no name of a variable with sapic_."
 flaw_advice ReservedFact = codes "Give the fact another name: rules use this one themselves."
 flaw_advice FactClash =
@@ -32,17 +32,23 @@ flaw_advice FactClash =
 flaw_advice PatternDestructor =
     codes "Write no destructor in a pattern: bind a variable there, and apply it behind."
 flaw_advice Unbound =
-    codes "Bind the name above, or put a public name in quotes, or declare a constant."
+    codes "Bind the name above, on this side of each |, or put a public name in quotes, or declare a constant."
 flaw_advice Rebound = codes "Give one of the two another name."
 flaw_advice SortClash = codes "Write the variable without its sign, or with that of its binder."
 flaw_advice ScopeFull =
     codes "Bind fewer names above: 64 are in scope at most, and each lock above counts as one."
 
+-- where the definition of a process with parameters isn't closed: what is bound where it is used isn't bound in it
+abbrev pub body_advice : Flaw → List ℕ
+body_advice Unbound =
+    codes "Make the name a parameter, or bind it in this definition, or put it in quotes, or declare a constant."
+body_advice w = flaw_advice w
+
 -- where a process can't be annotated
 abbrev pub lock_advice : LockFault → List ℕ
 lock_advice lock.Mem = []
 lock_advice (lock.UnlockWithoutLock path) =
-    codes "Write the term as the lock above writes it, and unlock each lock once on each way down."
+    codes "Lock this term above, written as here, and unlock each lock once on each way down."
 lock_advice (lock.LockOverParallel path) =
     codes "Unlock above it, or lock below it, in the thread that unlocks."
 
@@ -50,7 +56,7 @@ lock_advice (lock.LockOverParallel path) =
 abbrev pub formula_advice : FormulaFault → List ℕ
 formula_advice formula.Mem = []
 formula_advice (formula.BadFunction f) =
-    codes "Declare the symbol with as many arguments as stand here."
+    codes "Add the builtin of this symbol, or declare it with as many arguments as stand here."
 formula_advice (formula.Destructor f) =
     codes "Let an event of the process show what it gives, and speak of that."
 formula_advice (formula.Reserved fact) =
@@ -66,14 +72,14 @@ advice fault.Mem = []
 advice (fault.Lex f) = lex_advice f
 advice fault.Header = codes "Begin the file with theory, a name and begin."
 advice (fault.Syntax line) =
-    codes "A word is missing, wrong or too many there, or what stands there is nested too deep."
+    codes "A word is missing, wrong or too many there or before it, or what stands there is nested too deep."
 advice fault.NoProcess = codes "Add an item process: and the process."
 advice (fault.TwoProcesses line) =
     codes "Make one of the two a let, or both one process with | between them."
 advice (fault.UnknownProcess name) =
     codes "Define the name by a let above this item, or write the action that was meant."
 advice (fault.DuplicateName name) = codes "Give this one another name."
-advice (fault.FunctionClash name) = codes "Leave this declaration out, or give it another name."
+advice (fault.FunctionClash name) = codes "Leave out this declaration or the one before it, or give your own symbol another name."
 advice (fault.Parameters name) = codes "Give one of the two parameters another name."
 advice (fault.Arguments name) =
     codes "Write as many arguments as its let has parameters, or none where it has no parentheses."
@@ -83,7 +89,7 @@ advice fault.TooDeep =
     codes "Nest it less deep: each use of a let counts in full, with all that it uses itself."
 advice (fault.Large name) =
     codes "Hand over less: what stands in a parameter's place has 256 nodes at most in each term."
-advice (fault.Flawed name which path) = flaw_advice which
+advice (fault.Flawed name which path) = body_advice which
 advice (fault.Ill which path) = flaw_advice which
 advice (fault.Lock f) = lock_advice f
 advice (fault.Formula name f) = formula_advice f

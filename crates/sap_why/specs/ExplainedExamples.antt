@@ -12,3 +12,14 @@ used_word = record { from = 3; to = 4 }
 -- what is told of its use there
 abbrev pub second_use : List ℕ
 second_use = codes "in P, used at line " ++ decimal 2 ++ codes "\n"
+
+-- a byte that begins no token, and what is told of it
+abbrev pub one_mark : List ℕ
+one_mark = codes "?"
+
+abbrev pub shown_byte : List ℕ
+shown_byte = codes "line " ++ decimal 1 ++ codes ", column " ++ decimal 1 ++ codes "\n" ++ codes "?\n^\n"
+
+abbrev pub first_byte : List ℕ
+first_byte = shown_byte
+    ++ codes "Take this byte away: no word begins with it here, and quotes hold printable ASCII alone.\n"

@@ -1,6 +1,6 @@
 //! What to change in a file that is refused: one sentence for each cause.
 ghost use Rattle.std.specs.Prelude.{◌≡◌};
-ghost use Rattle.sap_why.specs.Advice.{advice, flaw_advice, formula_advice, length_advice, lex_advice, lock_advice};
+ghost use Rattle.sap_why.specs.Advice.{advice, body_advice, flaw_advice, formula_advice, length_advice, lex_advice, lock_advice};
 
 use sap_formula::FormulaFault;
 use sap_locks::LockFault;
@@ -29,7 +29,7 @@ fn flaw_advice(flaw: Flaw) -> &'static [u8]
 {
     match flaw {
         Flaw::BadFunction =>
-            b"Declare the symbol with as many arguments as stand here; new and lookup bind no constant.",
+            b"Add the builtin of this symbol, or declare it with as many arguments as here; new and lookup bind no constant.",
         Flaw::ReservedVar => b"Begin no name of a variable with sapic_.",
         Flaw::ReservedFact => b"Give the fact another name: rules use this one themselves.",
         Flaw::FactClash =>
@@ -37,11 +37,22 @@ fn flaw_advice(flaw: Flaw) -> &'static [u8]
         Flaw::PatternDestructor =>
             b"Write no destructor in a pattern: bind a variable there, and apply it behind.",
         Flaw::Unbound =>
-            b"Bind the name above, or put a public name in quotes, or declare a constant.",
+            b"Bind the name above, on this side of each |, or put a public name in quotes, or declare a constant.",
         Flaw::Rebound => b"Give one of the two another name.",
         Flaw::SortClash => b"Write the variable without its sign, or with that of its binder.",
         Flaw::ScopeFull =>
             b"Bind fewer names above: 64 are in scope at most, and each lock above counts as one.",
+    }
+}
+
+// What to change where the definition of a process with parameters has this flaw.
+fn body_advice(flaw: Flaw) -> &'static [u8]
+    ensures { result.now ≡ body_advice flaw }
+{
+    match flaw {
+        Flaw::Unbound =>
+            b"Make the name a parameter, or bind it in this definition, or put it in quotes, or declare a constant.",
+        _ => flaw_advice(flaw),
     }
 }
 
@@ -52,7 +63,7 @@ fn lock_advice(fault: &LockFault) -> &'static [u8]
     match fault {
         LockFault::Mem => b"",
         LockFault::UnlockWithoutLock { .. } =>
-            b"Write the term as the lock above writes it, and unlock each lock once on each way down.",
+            b"Lock this term above, written as here, and unlock each lock once on each way down.",
         LockFault::LockOverParallel { .. } =>
             b"Unlock above it, or lock below it, in the thread that unlocks.",
     }
@@ -65,7 +76,7 @@ fn formula_advice(fault: &FormulaFault) -> &'static [u8]
     match fault {
         FormulaFault::Mem => b"",
         FormulaFault::BadFunction { .. } =>
-            b"Declare the symbol with as many arguments as stand here.",
+            b"Add the builtin of this symbol, or declare it with as many arguments as stand here.",
         FormulaFault::Destructor { .. } =>
             b"Let an event of the process show what it gives, and speak of that.",
         FormulaFault::Reserved { .. } =>
@@ -86,14 +97,15 @@ pub(crate) fn advice(fault: &ReadFault) -> &'static [u8]
         ReadFault::Lex(fault) => lex_advice(*fault),
         ReadFault::Header => b"Begin the file with theory, a name and begin.",
         ReadFault::Syntax { .. } =>
-            b"A word is missing, wrong or too many there, or what stands there is nested too deep.",
+            b"A word is missing, wrong or too many there or before it, or what stands there is nested too deep.",
         ReadFault::NoProcess => b"Add an item process: and the process.",
         ReadFault::TwoProcesses { .. } =>
             b"Make one of the two a let, or both one process with | between them.",
         ReadFault::UnknownProcess { .. } =>
             b"Define the name by a let above this item, or write the action that was meant.",
         ReadFault::DuplicateName { .. } => b"Give this one another name.",
-        ReadFault::FunctionClash { .. } => b"Leave this declaration out, or give it another name.",
+        ReadFault::FunctionClash { .. } =>
+            b"Leave out this declaration or the one before it, or give your own symbol another name.",
         ReadFault::Parameters { .. } => b"Give one of the two parameters another name.",
         ReadFault::Arguments { .. } =>
             b"Write as many arguments as its let has parameters, or none where it has no parentheses.",
@@ -103,7 +115,7 @@ pub(crate) fn advice(fault: &ReadFault) -> &'static [u8]
             b"Nest it less deep: each use of a let counts in full, with all that it uses itself.",
         ReadFault::Large { .. } =>
             b"Hand over less: what stands in a parameter's place has 256 nodes at most in each term.",
-        ReadFault::Flawed { which, .. } => flaw_advice(*which),
+        ReadFault::Flawed { which, .. } => body_advice(*which),
         ReadFault::Ill { which, .. } => flaw_advice(*which),
         ReadFault::Lock(fault) => lock_advice(fault),
         ReadFault::Formula { fault, .. } => formula_advice(fault),

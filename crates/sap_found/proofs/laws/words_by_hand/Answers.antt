@@ -1,5 +1,5 @@
 use Rattle.std.proofs.Common.{refl}
-use Rattle.sap_found.proofs.WordsByHand.{in_definition, in_other, in_process, not_behind}
+use Rattle.sap_found.proofs.WordsByHand.{fits, fits_body, in_definition, in_other, in_process, not_behind, not_beyond, not_inside, not_itself}
 use Rattle.sap_found.proofs.laws.words_by_hand.Goals as goal
 
 pub returns : goal.returns
@@ -7,9 +7,22 @@ returns c = record {
   locks = (refl, refl);
   no_locks = (refl, refl, refl);
   uses = refl;
-  no_uses = (refl, refl);
+  no_uses = (refl, refl, refl);
+  signs = (refl, refl, refl);
+  flaws = fits;
+  bodies = fits_body;
+  no_bodies = λ w. (refl, refl, refl);
   scopes = (refl, refl, refl);
-  formulas = (refl, refl, refl);
+  formulas = (refl, refl, refl, refl, refl);
+  faults = (refl, refl, refl, refl);
+  no_faults = (refl, refl, refl, refl);
+  declarations = (refl, refl);
+  no_declarations = (refl, refl, refl);
+  parameters = (refl, refl, refl);
+  arguments = (refl, refl, refl, refl);
+  no_arguments = (refl, refl, refl, refl);
+  limits = (refl, refl, refl, refl);
+  silent = (refl, refl, refl, refl);
   stands = (in_definition, in_process);
-  not_there = (in_other, not_behind);
+  not_there = (in_other, not_behind, not_itself, not_inside, not_beyond);
 }
