@@ -89,7 +89,8 @@ fn copied_process(alloc: Global, p: &Process) -> Result<Box<Process>, Mem>
 /// as they do in the file.
 ///
 /// The time and the memory are linear in the bytes and in what is written of the process, but for chains of definitions that are mere
-/// uses, each of which is gone through at each place that it stands for; what is too large is counted, and never built. Names of processes, restrictions and lemmas are looked for by their order, in the logarithm of their number.
+/// uses, each of which is gone through at each place that it stands for; what is too large is counted, and never built. Names of
+/// processes, restrictions and lemmas are looked for by their order, in the logarithm of their number.
 pub fn read_file(alloc: Global, bytes: &[u8]) -> Result<File, ReadFault>
     ensures accepted { IfOk result (λ f. IsRead bytes.now (Ok (told_by f))) }
     ensures refused { (e : ReadFault) → IsErrOf result e → (e ≡ OutOfMemory → ⊥)

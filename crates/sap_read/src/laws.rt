@@ -150,9 +150,9 @@ pub fn files_are_ready()
 }
 
 /// A law: what is read of a file of at most 2^52 bytes can be printed. Its names are names of a file, no longer than those may be,
-/// but for those in its process, some of which may be new; no symbol stands twice in its signature, each can be declared, and those of pairs
-/// are held; its process is no deeper than one that is read may be, its terms and facts, its restrictions and its lemmas are such that
-/// words spell them, and what it shows is linear. In a file that is longer all new names for a name may be taken.
+/// but for those in its process, some of which may be new; no symbol stands twice in its signature, each can be declared, and those of
+/// pairs are held; its process is no deeper than one that is read may be, its terms and facts, its restrictions and its lemmas are such
+/// that words spell them, and what it shows is linear. In a file that is longer all new names for a name may be taken.
 pub fn files_are_printable()
     ensures { (z : List ℕ) (f : FileContent) → length z ≤ 2 ^ 52 → IsRead z (Ok f)
         → IsPrintableFile MOST_FILE_NAME_BYTES MOST_NEW_NAME_BYTES f }

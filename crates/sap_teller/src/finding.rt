@@ -253,17 +253,17 @@ pub(crate) fn used(
     form: &Form,
     left: &FactList,
     right: FactList,
-    open: &Bindings,
+    chosen: &Bindings,
 ) -> Result<Box<Doing>, Mem>
-    ensures { IfOk result (λ r. IsUsedBy left.now right open.now form.now r.value) }
+    ensures { IfOk result (λ r. IsUsedBy left.now right chosen.now form.now r.value) }
 {
     match form {
         Form::Embedded(l, _, _) => match bound_by(alloc, l, left)? {
             None => nothing(alloc),
             Some(b) => {
                 let left = left.copy(alloc)?;
-                let open = open.copy(alloc)?;
-                boxed(alloc, Doing::Uses(left, right, b, open))
+                let chosen = chosen.copy(alloc)?;
+                boxed(alloc, Doing::Uses(left, right, b, chosen))
             }
         },
         _ => nothing(alloc),

@@ -144,12 +144,12 @@ fn used_at(
     config: &Config,
     before: &Before,
     form: &Form,
-    open: &Bindings,
+    chosen: &Bindings,
 ) -> Result<Box<Doing>, Mem>
-    ensures { IfOk result (λ x. IsUsedAt before.now.cited config.now.facts before.now.facts open.now form.now x.value) }
+    ensures { IfOk result (λ x. IsUsedAt before.now.cited config.now.facts before.now.facts chosen.now form.now x.value) }
 {
     let right = added(alloc, config, before.facts, added_count(form))?;
-    used(alloc, form, &before.cited, right, open)
+    used(alloc, form, &before.cited, right, chosen)
 }
 
 // A value, if there is one.
@@ -213,7 +213,7 @@ pub(crate) fn found_out(
         PStep::Missing(_) => looked(alloc, sig, &before.head, None),
         PStep::Lock(_) => locked(alloc, sig, &before.head),
         PStep::Unlock(_) => unlocked(alloc, sig, &before.head),
-        PStep::Embedded(_, _, open) => used_at(alloc, config, before, &before.head, open),
+        PStep::Embedded(_, _, chosen) => used_at(alloc, config, before, &before.head, chosen),
         PStep::Name(n) => boxed(alloc, Doing::Names(*n)),
         PStep::Public(a) => written(alloc, a),
         PStep::Apply(f, numbers) => applied(alloc, config, f, numbers, before.entries),

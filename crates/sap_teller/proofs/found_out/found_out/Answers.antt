@@ -92,7 +92,7 @@ returns-in-Unlock c =
 pub returns-in-Embedded : goal.returns-in-Embedded
 returns-in-Embedded c =
     let laws : Laws = record { each = c.each_term_has_a_normal_form.ensures; one = c.normal_forms_are_unique.ensures; kept = c.equality_is_kept.ensures; leaves = c.leaves_are_normal.ensures; heads = c.destructors_head_left_sides.ensures; modulo = c.matching_is_modulo.ensures; answer = c.lines_have_one_answer.ensures.answer } in
-    rw c.in-Embedded.is (if_ok c.used_at.result _ _ (λ (x : Box Doing). found_embeds laws c.args.before.now c.args.config.now x.value _ _ c.in-Embedded.open) c.used_at.ensures)
+    rw c.in-Embedded.is (if_ok c.used_at.result _ _ (λ (x : Box Doing). found_embeds laws c.args.before.now c.args.config.now x.value _ _ c.in-Embedded.chosen) c.used_at.ensures)
 
 pub returns-in-Name : goal.returns-in-Name
 returns-in-Name c =

@@ -9,5 +9,5 @@ pub returns : goal.returns
 returns c =
     let cited = c.args.before.now.cited in
     let first = c.args.before.now.facts in
-    if_ok c.used.result (λ (x : Box Doing). IsUsedBy cited c.in_ok-right.right c.args.open.now c.args.form.now x.value) (λ (x : Box Doing). IsUsedAt cited c.args.config.now.facts first c.args.open.now c.args.form.now x.value)
-    (λ (x : Box Doing) h. used_given cited c.in_ok-right.right c.args.config.now.facts first c.added_count.result c.args.open.now c.args.form.now x.value c.in_ok-right.ensures c.added_count.ensures h) c.used.ensures
+    if_ok c.used.result (λ (x : Box Doing). IsUsedBy cited c.in_ok-right.right c.args.chosen.now c.args.form.now x.value) (λ (x : Box Doing). IsUsedAt cited c.args.config.now.facts first c.args.chosen.now c.args.form.now x.value)
+    (λ (x : Box Doing) h. used_given cited c.in_ok-right.right c.args.config.now.facts first c.added_count.result c.args.chosen.now c.args.form.now x.value c.in_ok-right.ensures c.added_count.ensures h) c.used.ensures
