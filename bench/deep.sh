@@ -58,18 +58,23 @@ both() {
 on_file() {
     both compile "$1"
     both compile-inline "$1"
+    both compile-short "$1"
+    both why "$1"
     for run in "$work/none.prun" ${2+"$2"}; do
-        both to-rules "$1" "$run"
-        both judge "$1" "$run"
+        for command in to-rules judge tell chart; do
+            both $command "$1" "$run"
+        done
     done
-    both to-process "$1" "$work/none.rrun"
-    both judge "$1" "$work/none.rrun"
+    for command in to-process judge tell chart; do
+        both $command "$1" "$work/none.rrun"
+    done
     both fill "$1" "$work/none.srun"
     (ulimit -s $large && "$program" compile "$1" > "$work/theory" 2> /dev/null) || return 0
     both check-rules "$work/theory" "$work/none.rrun"
     if [ $# -gt 1 ] && (ulimit -s $large && "$program" to-rules "$1" "$2" > "$work/opposite" 2> /dev/null); then
-        both to-process "$1" "$work/opposite"
-        both judge "$1" "$work/opposite"
+        for command in to-process judge tell chart; do
+            both $command "$1" "$work/opposite"
+        done
         both check-rules "$work/theory" "$work/opposite"
     fi
 }
@@ -426,7 +431,7 @@ lists() {
 # on_run NAME RUN: tells of every command on the run, over a file and a theory that stand there
 on_run() {
     begin "$1"
-    for command in to-rules to-process judge; do
+    for command in to-rules to-process judge tell chart; do
         both $command "$work/some.spthy" "$2"
     done
     both check-rules "$work/some_theory" "$2"
