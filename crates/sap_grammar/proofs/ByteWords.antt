@@ -7,7 +7,7 @@ use Rattle.std.proofs.lemmas.Grind.{common_steps}
 use Rattle.sap_text.specs.declared.token.Kind.{Kind}
 use Rattle.sap_text.specs.declared.token.Kind.TheVariants as kind
 use Rattle.sap_text.specs.declared.token.Token.{Token}
-use Rattle.sap_text.specs.Tokens.{is_word, is_content, line_feeds, counted, IsToken, quoted, IsLongest, IsSkip, blank, Stops, stands_alone, Lexed, before, IsLexed, ended, skipped, taken, long, failed}
+use Rattle.sap_text.specs.Tokens.{is_word, is_content, line_feeds, counted, IsToken, quoted, IsLongest, blank, Stops, stands_alone, Lexed, before, IsLexed, ended, skipped, taken, long, failed}
 use Rattle.sap_grammar.specs.Words as words
 use Rattle.sap_grammar.specs.Words.{Word, mark, name, number, word_of_text, words_of, is_grammar_word}
 use Rattle.sap_grammar.specs.ByteWords.{AreWords, words_end, words_skip, words_token, IsName, IsContent, IsWord, AreTokenWords, Ends, AreWritten}

@@ -11,7 +11,7 @@ use Rattle.sap_terms.specs.declared.var.Sort.TheVariants.{Msg, Fresh, Pub}
 use Rattle.sap_terms.specs.Tree.{Tree, variable, public, fresh, apply, Trees, none, more, trees_of}
 use Rattle.sap_grammar.specs.Words.{Word, mark, name, quoted}
 use Rattle.sap_grammar.specs.Pieces.{joined}
-use Rattle.sap_grammar.specs.TermText.{variable_text, is_pair, term_text, term_texts, tree_text, applied}
+use Rattle.sap_grammar.specs.TermText.{variable_text, term_text, term_texts, tree_text, applied}
 use Rattle.sap_grammar.specs.FactText.{fact_text}
 use Rattle.sap_grammar.specs.ByteWords.{AreWords, IsName, IsContent, Ends, AreWritten}
 use Rattle.sap_grammar.specs.Printable.{HasNames, HaveNames, FactHasNames}

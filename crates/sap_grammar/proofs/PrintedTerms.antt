@@ -10,7 +10,7 @@ use Rattle.sap_terms.specs.Equations.{pair_name}
 use Rattle.sap_terms.specs.Signature.{Sig, arity_of}
 use Rattle.sap_terms.specs.Message.{IsOver, AreOver}
 use Rattle.sap_grammar.specs.Words.{Word, mark, name, is_lower}
-use Rattle.sap_grammar.specs.Cut.{is_item_word, AreNoItemWords}
+use Rattle.sap_grammar.specs.Cut.{AreNoItemWords}
 use Rattle.sap_grammar.specs.TermGrammar.{IsTerm, IsRest, IsList, IsArgs, sorted, args_none, args_some, list_last, list_more, rest_last, rest_more, term_constant, term_fresh, term_message, term_pub, term_quoted, term_symbol, term_tuple}
 use Rattle.sap_grammar.specs.FactGrammar.{IsFact, fact_linear, fact_persistent}
 use Rattle.sap_grammar.specs.TermText.{is_pair}

@@ -1,17 +1,16 @@
 -- Bytes spell one term at most, and where some spell one, those that are printed do; so it is with facts.
-use Rattle.std.proofs.Common.{◌≡◌, ℕ, false, List, [], ◌++◌, refl, subst}
-use Rattle.std.specs.Prelude.{codes}
+use Rattle.std.proofs.Common.{◌≡◌, ℕ, false, List, [], refl, subst}
 use Rattle.std.proofs.lemmas.List.{append-nil}
 use Rattle.sap_terms.specs.declared.fact.Fact.{Fact}
 use Rattle.sap_terms.specs.Tree.{Tree, trees_of}
 use Rattle.sap_terms.specs.Signature.{Sig}
 use Rattle.sap_terms.specs.Message.{IsOver, AreOver}
-use Rattle.sap_grammar.specs.Words.{Word, starts}
+use Rattle.sap_grammar.specs.Words.{Word}
 use Rattle.sap_grammar.specs.TermGrammar.{IsTerm}
 use Rattle.sap_grammar.specs.FactGrammar.{IsFact}
 use Rattle.sap_grammar.specs.TermText.{tree_text}
 use Rattle.sap_grammar.specs.FactText.{fact_text}
-use Rattle.sap_grammar.specs.ByteWords.{AreWords, words_end, AreTokenWords, AreWritten}
+use Rattle.sap_grammar.specs.ByteWords.{AreWords, words_end, AreWritten}
 use Rattle.sap_grammar.specs.PrintedWords.{term_words, fact_words}
 use Rattle.sap_grammar.specs.TermBytes.{AreSpelledBy, SpellsTerm, SpellsFact}
 use Rattle.sap_grammar.proofs.Complete.{one_term, one_fact}

@@ -12,12 +12,12 @@ pub fn push_fact(text: &mut Text, fact: &Fact) -> Result<(), Mem>
     ensures { OnOk result (text.new ≡ text.old ++ fact_text fact.now) }
 {
     if fact.persistent {
-        text.push_bytes(b"!")?;
+        text.push_byte(b'!')?;
     }
     text.push_bytes(fact.name.as_bytes())?;
-    text.push_bytes(b"(")?;
+    text.push_byte(b'(')?;
     push_terms(text, &fact.args)?;
-    text.push_bytes(b")")
+    text.push_byte(b')')
 }
 
 fn push_each_fact(text: &mut Text, facts: &FactList) -> Result<(), Mem>

@@ -15,8 +15,8 @@ pub fn push_variable(text: &mut Text, v: &Var) -> Result<(), Mem>
 {
     match v.sort {
         Sort::Msg => {}
-        Sort::Fresh => text.push_bytes(b"~")?,
-        Sort::Pub => text.push_bytes(b"$")?,
+        Sort::Fresh => text.push_byte(b'~')?,
+        Sort::Pub => text.push_byte(b'$')?,
     }
     text.push_bytes(v.name.as_bytes())
 }
@@ -24,15 +24,15 @@ pub fn push_variable(text: &mut Text, v: &Var) -> Result<(), Mem>
 fn push_public(text: &mut Text, name: &Name) -> Result<(), Mem>
     ensures { OnOk result (text.new ≡ text.old ++ (codes "'" ++ (name.now ++ codes "'"))) }
 {
-    text.push_bytes(b"'")?;
+    text.push_byte(b'\'')?;
     text.push_bytes(name.as_bytes())?;
-    text.push_bytes(b"'")
+    text.push_byte(b'\'')
 }
 
 fn push_fresh(text: &mut Text, number: u64) -> Result<(), Mem>
     ensures { OnOk result (text.new ≡ text.old ++ (codes "~" ++ decimal number)) }
 {
-    text.push_bytes(b"~")?;
+    text.push_byte(b'~')?;
     text.push_number(number)
 }
 
@@ -77,15 +77,15 @@ fn push_pair(text: &mut Text, args: &TermList, is_open: bool) -> Result<(), Mem>
     ensures { OnOk result (text.new ≡ text.old ++ in_brackets is_open (pair_text (trees_of args.now))) }
 {
     if !is_open {
-        text.push_bytes(b"<")?;
+        text.push_byte(b'<')?;
     }
     push_term(text, args.at(0), false)?;
-    text.push_bytes(b",")?;
+    text.push_byte(b',')?;
     push_term(text, args.at(1), true)?;
     if is_open {
         Ok(())
     } else {
-        text.push_bytes(b">")
+        text.push_byte(b'>')
     }
 }
 
@@ -97,9 +97,9 @@ fn push_applied(text: &mut Text, f: &Name, args: &TermList) -> Result<(), Mem>
     if args.len() == 0 {
         return Ok(());
     }
-    text.push_bytes(b"(")?;
+    text.push_byte(b'(')?;
     push_terms(text, args)?;
-    text.push_bytes(b")")?;
+    text.push_byte(b')')?;
     Ok(())
 }
 

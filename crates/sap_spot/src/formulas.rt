@@ -33,15 +33,14 @@ fn is_time(words: &Words, k: usize) -> bool {
 // Whether the variable here is bound by the binder that stands last among those and the parentheses that are open.
 fn is_bound(words: &Words, open: &[usize], k: usize) -> bool {
     let sign = sign_of(words, k);
-    let mut bound = false;
-    for binder in open {
+    for binder in open.iter().rev() {
         if !words.is(*binder, "(") {
             let of_time = words.is(binder.saturating_sub(1), "#");
-            bound = is_time(words, k) == of_time
+            return is_time(words, k) == of_time
                 && (sign == Sort::Msg || sign == sign_of(words, *binder));
         }
     }
-    bound
+    false
 }
 
 // A parenthesis closes: what was bound behind the one that opened isn't any more.
@@ -118,7 +117,7 @@ fn is_guarded(words: &Words, quantifier: usize, binder: usize, name: &[u8]) -> b
     false
 }
 
-// The first binder of this name that has no guard.
+// The first binder of this name that has no guard. Of several binders of one quantifier each has what the first has.
 fn first_unguarded(words: &Words, part: Part, name: &[u8]) -> Option<usize> {
     let mut quantifier = part.to;
     for k in part.from..part.to {
@@ -126,11 +125,11 @@ fn first_unguarded(words: &Words, part: Part, name: &[u8]) -> Option<usize> {
             quantifier = k;
         } else if words.is(k, ".") {
             quantifier = part.to;
-        } else if quantifier < k
-            && words.has_name(k, name)
-            && !is_guarded(words, quantifier, k, name)
-        {
-            return Some(k);
+        } else if quantifier < k && words.has_name(k, name) {
+            if !is_guarded(words, quantifier, k, name) {
+                return Some(k);
+            }
+            quantifier = part.to;
         }
     }
     None

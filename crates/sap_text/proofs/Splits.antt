@@ -1,6 +1,6 @@
 -- Splitting a list at the first element that fails a test, and at the first `*/`.
 use Rattle.std.proofs.Common.{◌≡◌, ◌≤◌, ◌<◌, ◌+◌, ℕ, Bool, true, false, List, [], ◌∷◌, ◌++◌, length, drop, Option, Some, None, refl, ap, arith}
-use Rattle.std.specs.Prelude.{◌&&◌, option_map, ⊤, slice_index_or}
+use Rattle.std.specs.Prelude.{◌&&◌, option_map, slice_index_or}
 use Rattle.std.specs.List.{list_all, prefix_len}
 use Rattle.std.proofs.lemmas.Grind.{common_steps}
 use Rattle.sap_text.specs.Tokens.{starts_two, Stops}

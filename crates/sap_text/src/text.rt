@@ -1,5 +1,5 @@
 //! Texts that grow at their end.
-ghost use Rattle.std.specs.Prelude.{◌≡◌, ◌≤◌, ◌++◌, [], decimal, drop, OnOk, OnErr};
+ghost use Rattle.std.specs.Prelude.{◌≡◌, ◌≤◌, ◌∷◌, ◌++◌, [], decimal, drop, OnOk, OnErr};
 
 use sap_terms::{Copied, Mem};
 use std::alloc::Global;
@@ -38,11 +38,23 @@ impl Text {
         Ok(())
     }
 
+    /// Puts the byte last.
+    pub fn push_byte(&mut self, byte: u8) -> Result<(), Mem>
+        ensures ok { OnOk result (self.new ≡ self.old ++ byte ∷ []) }
+        ensures err { OnErr result (self.new ≡ self.old) }
+    {
+        self.bytes.push(byte)?;
+        Ok(())
+    }
+
     /// Puts the number last, in decimal and without leading zeros.
     pub fn push_number(&mut self, n: u64) -> Result<(), Mem>
         ensures ok { OnOk result (self.new ≡ self.old ++ decimal n) }
         ensures err { OnErr result (self.new ≡ self.old) }
     {
+        if n < 10 {
+            return self.push_byte(b'0' + n as u8);
+        }
         let mut digits = [b'0'; 20];
         let first = write_digits(n, &mut digits);
         self.push_bytes(&digits[first..])

@@ -11,8 +11,8 @@ use Rattle.sap_grammar.proofs.term_text.+push_term.Goals as goal
 pub push_applied-returns : goal.push_applied-returns
 push_applied-returns t c =
     let some : 0 < length c.args.args.now = omega arith in
-    let text : c.push_bytes-3.new.self ≡ (((c.args.text.now ++ c.args.f.now) ++ codes "(") ++ joined (codes ",") (map tree_text c.args.args.now)) ++ codes ")" =
-    cc (c.in_ok-push_bytes-3.ensures.ok, c.in_ok-push_terms.ensures, c.in_ok-push_bytes-2.ensures.ok, c.in_ok-push_bytes.ensures.ok, c.as_bytes.ensures) in
+    let text : c.push_byte-2.new.self ≡ (((c.args.text.now ++ c.args.f.now) ++ codes "(") ++ joined (codes ",") (map tree_text c.args.args.now)) ++ codes ")" =
+    cc (c.in_ok-push_byte-2.ensures.ok, c.in_ok-push_terms.ensures, c.in_ok-push_byte.ensures.ok, c.in_ok-push_bytes.ensures.ok, c.as_bytes.ensures) in
     text ∙ applied-behind c.args.text.now c.args.f.now c.args.args.now some
 
 pub push_terms-loop-k-preserved : goal.push_terms-loop-k-preserved
