@@ -13,6 +13,7 @@
 #   facts     twelve such definitions, where the one action that they stand for has so many facts
 #   names     so many definitions, each the one before it under another name, the last of which stands where `nodes` has an event
 #   lemma     so many lemmas, of which the last has a variable that isn't guarded
+#   binders   one lemma that binds one name so many times in one quantifier, and behind it once without a guard
 #
 # For each size it tells the instructions of both, by valgrind, their ratio, which is to be at most 1.75, and what `why` takes to the size
 # before, at most 2.2. Where there are more nodes than there may be, `compile` counts and `why` walks to the first place beyond, which takes
@@ -77,6 +78,14 @@ lemma() {
     }'
 }
 
+binders() {
+    awk -v n="$1" 'BEGIN {
+        printf "theory Bench begin process: event A(\x27a\x27)\nlemma last: \"(All"
+        for (k = 1; k <= n; k++) printf " x"
+        print " #i. A(x)@i ==> T) & (Ex x. T)\" end"
+    }'
+}
+
 wished=" $* "
 printf '%-8s %7s %14s %14s %6s %7s\n' kind size compile why ratio growth
 
@@ -115,6 +124,7 @@ kind nodes 'more than 4000 nodes' 12 24 48 96
 kind facts 'more than 4000 nodes' 8000 16000 32000 64000
 kind names 'more than 4000 nodes' 1000 2000 4000 8000
 kind lemma 'last: variable x is not guarded' 1000 2000 4000 8000
+kind binders 'last: variable x is not guarded' 8000 16000 32000 64000
 
 case $wished in *" examples "* | "  ") ;; *) exit 0 ;; esac
 for file in "$(dirname "$0")"/../examples/*.spthy; do

@@ -1,6 +1,7 @@
 -- What each line does, where it is possible.
-use Rattle.std.proofs.Common.{◌≡◌, ℕ, Bool, true, false, codes, decimal, List, [], ◌∷◌, ◌++◌, zero, suc, length, Option, Some, None, map, refl, sym, ap, subst, ◌∙◌, ◌⊎◌, inl, inr}
-use Rattle.std.specs.Prelude.{All, Contains, slice_get, MatchOption}
+use denote.Ref.{Bor}
+use Rattle.std.proofs.Common.{◌≡◌, ℕ, true, false, codes, decimal, List, [], ◌∷◌, ◌++◌, zero, suc, length, Option, Some, None, map, refl, sym, ap, subst, ◌∙◌, inl, inr}
+use Rattle.std.specs.Prelude.{Contains, slice_get, MatchOption}
 use Rattle.std.proofs.lemmas.List.Elements.{All-head, All-contains}
 use Rattle.sap_terms.proofs.PlainLaws.Items.{contains_got, first_item}
 use Rattle.sap_calc.specs.Running.{Running, configuration, WouldFind, FindsNothing}
@@ -16,9 +17,8 @@ use Rattle.sap_lines.specs.declared.form.Form.TheVariants as form
 use Rattle.sap_process.specs.Action as action
 use Rattle.sap_process.specs.Configuration.{Config, Runs}
 use Rattle.sap_process.specs.Proc.{Proc, act, test, lookup}
-use Rattle.sap_process.specs.ProcessSteps.{Fits}
 use Rattle.sap_rewrite.specs.Laws.{EachHasForm, FormIsOne, EqualityIsKept}
-use Rattle.sap_rewrite.specs.Match.{Agrees, HaveOneSort, IsOnlyMatch, Turns, bound_vars}
+use Rattle.sap_rewrite.specs.Match.{Agrees, HaveOneSort, Turns, bound_vars}
 use Rattle.sap_rewrite.specs.Pattern.{IsPattern, MatchingIsModulo}
 use Rattle.sap_runs.specs.Inner.{InnerAction, equal, different, found, missing, inserted, deleted, locked, unlocked}
 use Rattle.sap_runs.specs.Limits.{HasFewNodes}
@@ -26,24 +26,23 @@ use Rattle.sap_runs.specs.declared.process_step.PStep.{PStep}
 use Rattle.sap_runs.specs.declared.process_step.PStep.TheVariants as line
 use Rattle.sap_terms.specs.Choice.{Choice, instance}
 use Rattle.sap_terms.specs.Equal.{IsTheoryEqual}
-use Rattle.sap_terms.specs.Equations.{Equations, equations, app2, pair_name, IsDestructor}
+use Rattle.sap_terms.specs.Equations.{equations, app2, pair_name, IsDestructor}
 use Rattle.sap_terms.specs.Laws.{LeavesAreNormal, DestructorsHeadLeftSides}
 use Rattle.sap_terms.specs.Message.{IsMessageChoice}
 use Rattle.sap_terms.specs.Normal.{IsNormal, IsNormalForm}
 use Rattle.sap_terms.specs.Signature.{Sig}
-use Rattle.sap_terms.specs.Tree.{Tree, more, none, public, fresh}
+use Rattle.sap_terms.specs.Tree.{Tree, more, none, fresh}
 use Rattle.sap_terms.specs.Variables.{tree_vars, new_vars}
 use Rattle.sap_terms.specs.View.{tree}
 use Rattle.sap_terms.specs.declared.binding.Binding.{Binding}
 use Rattle.sap_terms.specs.declared.fact.Fact.{Fact}
 use Rattle.sap_terms.specs.declared.term.Term.{Term}
-use Rattle.sap_terms.specs.declared.term.Term.TheVariants as term
 use Rattle.sap_terms.specs.declared.var.Var.{Var}
 use Rattle.sap_tell.specs.Told as told
 use Rattle.sap_tell.specs.Told.{IsDoing, bound_texts}
 use Rattle.sap_tell.specs.ToldText.{bound_text, begins_text, call_text, held_text, free_text}
 use Rattle.sap_teller.specs.code.Doings.{action_of, outcomes_of, binding_texts}
-use Rattle.sap_teller.specs.code.Heads.{IsOfOne, IsOfTwo, IsMade, IsCompared, IsInserted, IsDeleted, IsLooked, IsLocked, IsUnlocked, IsFitted, IsTakenBy, IsMetBy, IsOfEntry, AreOfEntries, IsTakenAt}
+use Rattle.sap_teller.specs.code.Heads.{IsOfOne, IsOfTwo, IsMade, IsCompared, IsInserted, IsDeleted, IsLooked, IsLocked, IsUnlocked, IsFitted, IsMetBy, IsOfEntry, AreOfEntries, IsTakenAt}
 use Rattle.sap_teller.specs.declared.doing.Doing.{Doing}
 use Rattle.sap_teller.specs.declared.doing.Doing.TheVariants as does
 use Rattle.sap_teller.proofs.Inverted.{IsOne, AreTwo, new_form, in_form, recv_form, send_form, if_form, insert_form, delete_form, lookup_form, lock_form, unlock_form}
@@ -94,8 +93,8 @@ does_copies {g = g} {c = c} {es = es} t n e inner label (lines.copies _ r) = sub
 pub does_names : {g : Sig} {c d : Config} {es fs : List Tree} (n : ℕ) → DoesHere g c es d fs (line.Name n) (does.Names n)
 does_names n inner label (lines.names _ u) = told.names n
 
-pub does_writes : {g : Sig} {c d : Config} {es fs : List Tree} (a : List ℕ) → DoesHere g c es d fs (line.Public a) (does.Gives (term.Public a))
-does_writes a inner label (lines.writes _) = told.writes a
+pub does_writes : {g : Sig} {c d : Config} {es fs : List Tree} (a : Bor (List ℕ)) → DoesHere g c es d fs (line.Public a.now) (does.Writes a)
+does_writes a inner label (lines.writes _) = told.writes a.now
 
 pub does_shows : {g : Sig} {c d : Config} {es fs : List Tree} (t : ℕ) → DoesHere g c es d fs (line.Event t) does.Shows
 does_shows t inner label (lines.shows _ r f w) = told.shows t
@@ -106,10 +105,10 @@ does_sends {g = g} {c = c} {es = es} t k x at h inner label (lines.outputs {n = 
     let i = h n (ap (slice_get (es ++ n ∷ [])) at ∙ got_end es n) in
     by_is i.is (subst (λ (u : Tree). IsDoing g c es (line.Out t) [] [] (es ++ n ∷ []) (call_text (codes "out") (tree_text u ∷ [])) []) (sym i.same) (told.outputs t n))
 
-pub does_sends_on : {g : Sig} {c d : Config} {es fs : List Tree} (t k j : ℕ) (x : Doing) → j ≡ length es → AreOfEntries fs k j (λ a b. does.Meets a b []) x → DoesHere g c es d fs (line.Send t k) x
+pub does_sends_on : {g : Sig} {c d : Config} {es fs : List Tree} (t k j : ℕ) (x : Doing) → j ≡ length es → AreOfEntries fs k j does.SendsOn x → DoesHere g c es d fs (line.Send t k) x
 does_sends_on {g = g} {c = c} {es = es} t k j x at h inner label (lines.outputs_on {x = z} {u = u} _ _ r e f n w) =
     let i = h z u (got_front es u z k e) (ap (slice_get (es ++ u ∷ [])) at ∙ got_end es u) in
-    by_is i.is (subst (λ (a : Tree). IsDoing g c es (line.Send t k) [] label (es ++ u ∷ []) (call_text (codes "out") (tree_text a ∷ tree_text (tree i.right) ∷ [])) []) (sym i.left_same)
+    by_is i.is (subst (λ (a : Tree). IsDoing g c es (line.Send t k) [] label (es ++ u ∷ []) (call_text (codes "out") (tree_text a ∷ tree_text (tree i.right.now) ∷ [])) []) (sym i.left_same)
     (subst (λ (b : Tree). IsDoing g c es (line.Send t k) [] label (es ++ u ∷ []) (call_text (codes "out") (tree_text z ∷ tree_text b ∷ [])) []) (sym i.right_same) (told.outputs_on t k u e)))
 
 pub does_knows : {g : Sig} {c d : Config} {es fs : List Tree} (k : ℕ) (x : Doing) → IsOfEntry fs k does.Gives x → DoesHere g c es d fs (line.Know k) x
@@ -117,15 +116,16 @@ does_knows {g = g} {c = c} {es = es} k x h inner label (lines.knows _ z e) =
     let i = h z e in
     by_is i.is (subst (λ (u : Tree). IsDoing g c es (line.Know k) [] label es (tree_text u) []) (sym i.same) (told.knows k z e))
 
-pub does_applies : {g : Sig} {c d : Config} {es fs : List Tree} (f ks : List ℕ) (k : ℕ) (x : Doing) → k ≡ length es → IsOfEntry fs k (does.Applies f ks) x → DoesHere g c es d fs (line.Apply f ks) x
+pub does_applies : {g : Sig} {c d : Config} {es fs : List Tree} (f ks : Bor (List ℕ)) (k : ℕ) (x : Doing) → k ≡ length es → IsOfEntry fs k (does.Applies f ks) x → DoesHere g c es d fs (line.Apply f.now ks.now) x
 does_applies {g = g} {c = c} {es = es} f ks k x at h inner label (lines.applies _ _ ts z p a m n w) =
     let i = h z (ap (slice_get (es ++ z ∷ [])) at ∙ got_end es z) in
-    by_is i.is (subst (λ (u : Tree). IsDoing g c es (line.Apply f ks) [] [] (es ++ z ∷ []) (call_text f (map decimal ks) ++ (codes " = " ++ tree_text u)) []) (sym i.same) (told.applies f ks z))
+    by_is i.is (subst (λ (u : Tree). IsDoing g c es (line.Apply f.now ks.now) [] [] (es ++ z ∷ []) (call_text f.now (map decimal ks.now) ++ (codes " = " ++ tree_text u)) []) (sym i.same) (told.applies f.now ks.now z))
 
 -- lines of a thread with a head
 pub does_made : {g : Sig} {c d : Config} {es fs : List Tree} (t n : ℕ) (f : Form) (x : Doing) → HasHead c t f → IsMade n f x → DoesHere g c es d fs (line.New t n) x
-does_made {c = c} t n f x h m inner label (lines.makes_name {x = v} {p = p} _ _ r u) =
-    by_is (m v (new_form f v p h.first h.second (one_thread c t (form_proc f h.first h.second) (act (action.new v) p) h.runs r))) (told.makes_name t n r)
+does_made {g = g} {c = c} {es = es} t n f x h m inner label (lines.makes_name {x = v} {p = p} _ _ r u) =
+    let k = m v (new_form f v p h.first h.second (one_thread c t (form_proc f h.first h.second) (act (action.new v) p) h.runs r)) in
+    by_is k.2 (subst (λ (w : Var). IsDoing g c es (line.New t n) [] [] es (codes "new " ++ variable_text w) (bound_text (w, fresh n) ∷ [])) (sym k.1) (told.makes_name t n r))
 
 module _ (laws : Laws) where
   -- what is made of normal forms is made of those that the line has
@@ -181,7 +181,8 @@ module _ (laws : Laws) where
   does_misses {g = g} {c = c} {es = es} t f x h k inner label (lines.misses {m = m} {k = y} {x = v} {p = p} {q = q} _ r a b w) =
       let i = lookup_form f m v p q h.first h.second (one_thread c t (form_proc f h.first h.second) (lookup m v p q) h.runs r) in
       let o = k i.term v i.form in
-      by_is o.is (subst (λ (u : Tree). IsDoing g c es (line.Missing t) (missing y ∷ []) [] es (codes "lookup " ++ (tree_text u ++ (codes " as " ++ variable_text v))) (codes "nothing there" ∷ [])) (sym (one_same g i o a)) (told.misses t r))
+      by_is o.2.is (subst (λ (z : Var). IsDoing g c es (line.Missing t) (missing y ∷ []) [] es (codes "lookup " ++ (tree_text (tree o.2.term) ++ (codes " as " ++ variable_text z))) (codes "nothing there" ∷ [])) (sym o.1)
+      (subst (λ (u : Tree). IsDoing g c es (line.Missing t) (missing y ∷ []) [] es (codes "lookup " ++ (tree_text u ++ (codes " as " ++ variable_text v))) (codes "nothing there" ∷ [])) (sym (one_same g i o.2 a)) (told.misses t r)))
 
   -- the store has one value at the key of a lookup
   one_value : (g : Sig) (c : Config) (t : ℕ) (m x v n k u : Tree) (y z : Var) (p q a b : Proc) → Runs c t (lookup m y p q) → IsNormalForm (equations g) m x → c.store x ≡ Some v
@@ -201,14 +202,14 @@ module _ (laws : Laws) where
       there ∙ same
 
   -- what was found before the line is done is the value that the line finds
-  found_is : (r : Running) → MatchesExactly r.sig (configuration r) (terms_of r.known) → (t : ℕ) (inner : List InnerAction) (label : List Fact) (d : Config) (fs : List Tree) (m x v : Tree) (y : Var) (p q : Proc) (o : Option Term)
+  found_is : (r : Running) → MatchesExactly r.sig (configuration r) (terms_of r.known) → (t : ℕ) (inner : List InnerAction) (label : List Fact) (d : Config) (fs : List Tree) (m x v : Tree) (y : Var) (p q : Proc) (o : Option (Bor Term))
       → Runs (configuration r) t (lookup m y p q) → IsNormalForm (equations r.sig) m x → (configuration r).store x ≡ Some v
-      → IsProcessLine r.sig HasFewNodes (configuration r) (terms_of r.known) (line.Found t) inner label d fs → MatchOption o (FindsNothing r t) (λ w. WouldFind r t (tree w)) → (w : Term) × (o ≡ Some w) × (tree w ≡ v)
+      → IsProcessLine r.sig HasFewNodes (configuration r) (terms_of r.known) (line.Found t) inner label d fs → MatchOption o (FindsNothing r t) (λ w. WouldFind r t (tree w.now)) → (w : Bor Term) × (o ≡ Some w) × (tree w.now ≡ v)
   found_is r exact t inner label d fs m x v y p q None runs form held is h = absurd (h.cause (laws.answer r.sig (configuration r) d (terms_of r.known) fs (line.Found t) inner label h.fault exact is h.denied))
   found_is r exact t inner label d fs m x v y p q (Some w) runs form held is h =
-      (w, refl, sym (value_of r.sig (configuration r) (terms_of r.known) (terms_of r.known) t m x v h.key (tree w) y p q (found h.key (tree w) ∷ []) [] h.after runs form held h.line refl))
+      (w, refl, sym (value_of r.sig (configuration r) (terms_of r.known) (terms_of r.known) t m x v h.key (tree w.now) y p q (found h.key (tree w.now) ∷ []) [] h.after runs form held h.line refl))
 
-  pub does_finds : (r : Running) → MatchesExactly r.sig (configuration r) (terms_of r.known) → {d : Config} {fs : List Tree} (t : ℕ) (f : Form) (x : Doing) (o : Option Term) → MatchOption o (FindsNothing r t) (λ w. WouldFind r t (tree w))
+  pub does_finds : (r : Running) → MatchesExactly r.sig (configuration r) (terms_of r.known) → {d : Config} {fs : List Tree} (t : ℕ) (f : Form) (x : Doing) (o : Option (Bor Term)) → MatchOption o (FindsNothing r t) (λ w. WouldFind r t (tree w.now))
       → HasHead (configuration r) t f → IsLooked (equations r.sig) o f x → DoesHere r.sig (configuration r) (terms_of r.known) d fs (line.Found t) x
   does_finds r exact t f x o s h k inner label (lines.finds {m = m} {k = y} {v = v} {x = z} {p = p} {q = q} _ run a held w) =
       let c : Config = configuration r in
@@ -216,8 +217,9 @@ module _ (laws : Laws) where
       let at = found_is r exact t (found y v ∷ []) [] _ es m y v z p q o run a held (lines.finds t run a held w) s in
       let i = lookup_form f m z p q h.first h.second (one_thread c t (form_proc f h.first h.second) (lookup m z p q) h.runs run) in
       let u = k i.term z i.form in
-      by_is (u.is ∙ ap (does.Looks u.term z) at.1) (subst (λ (n : Tree). IsDoing r.sig c es (line.Found t) (found y v ∷ []) [] es (codes "lookup " ++ (tree_text n ++ (codes " as " ++ variable_text z))) (bound_text (z, tree at.0) ∷ [])) (sym (one_same r.sig i u a))
-      (subst (λ (n : Tree). IsDoing r.sig c es (line.Found t) (found y v ∷ []) [] es (codes "lookup " ++ (tree_text y ++ (codes " as " ++ variable_text z))) (bound_text (z, n) ∷ [])) (sym at.2) (told.finds t run)))
+      by_is (u.2.is ∙ ap (does.Looks u.2.term u.0) at.1) (subst (λ (n : Var). IsDoing r.sig c es (line.Found t) (found y v ∷ []) [] es (codes "lookup " ++ (tree_text (tree u.2.term) ++ (codes " as " ++ variable_text n))) (bound_text (n, tree at.0.now) ∷ [])) (sym u.1)
+      (subst (λ (n : Tree). IsDoing r.sig c es (line.Found t) (found y v ∷ []) [] es (codes "lookup " ++ (tree_text n ++ (codes " as " ++ variable_text z))) (bound_text (z, tree at.0.now) ∷ [])) (sym (one_same r.sig i u.2 a))
+      (subst (λ (n : Tree). IsDoing r.sig c es (line.Found t) (found y v ∷ []) [] es (codes "lookup " ++ (tree_text y ++ (codes " as " ++ variable_text z))) (bound_text (z, n) ∷ [])) (sym at.2) (told.finds t run))))
 
   -- a choice that fits turns the pattern into the normal term
   module _ (g : Sig) where

@@ -1,10 +1,11 @@
 -- What an embedded rule does.
-use Rattle.std.proofs.Common.{◌≡◌, ◌+◌, ℕ, Bool, true, false, ◌||◌, List, [], ◌∷◌, ◌++◌, zero, suc, length, Option, Some, None, map, refl, sym, ap, subst, ◌∙◌, ◌⊎◌, inl, inr, append_assoc, if◌then◌else◌, add-one, arith}
-use Rattle.std.specs.Prelude.{All, Contains, slice_get, slice_set, slice_index_or}
-use Rattle.std.specs.List.{AllZip, filter_map, flat_map, range_with_len}
+use denote.Ref.{Bor}
+use Rattle.std.proofs.Common.{◌≡◌, ◌+◌, ℕ, Bool, true, false, ◌||◌, List, [], ◌∷◌, ◌++◌, zero, suc, length, Option, Some, None, map, refl, sym, ap, subst, ◌∙◌, append_assoc, if◌then◌else◌, arith}
+use Rattle.std.specs.Prelude.{All, Contains, slice_get, slice_set}
+use Rattle.std.specs.List.{AllZip, range_with_len}
 use Rattle.std.specs.Str.{bytes_eq}
 use Rattle.std.proofs.lemmas.List.{map-append, append-nil}
-use Rattle.std.proofs.lemmas.List.Elements.{All-nil, All-cons, All-head, All-tail, All-contains, Contains-get_or, Contains-append_left, Contains-append_right}
+use Rattle.std.proofs.lemmas.List.Elements.{All-nil, All-cons, All-head, All-tail, Contains-append_left}
 use Rattle.std.proofs.lemmas.Slice.Eq.{bytes_eq-Decides}
 use Rattle.std.proofs.lemmas.Grind.{flat_map-append}
 use Rattle.sap_calc.specs.ThreadHeads.{HasHead}
@@ -16,13 +17,12 @@ use Rattle.sap_lines.specs.Lines as lines
 use Rattle.sap_lines.specs.Lines.{IsProcessLine, left_open}
 use Rattle.sap_lines.specs.Places.{form_proc}
 use Rattle.sap_lines.specs.declared.form.Form.{Form}
-use Rattle.sap_lines.specs.declared.form.Form.TheVariants as form
 use Rattle.sap_process.specs.Action as action
-use Rattle.sap_process.specs.Configuration.{Config, Runs}
+use Rattle.sap_process.specs.Configuration.{Config}
 use Rattle.sap_process.specs.Heads.{facts_terms}
-use Rattle.sap_process.specs.Proc.{Proc, act}
+use Rattle.sap_process.specs.Proc.{act}
 use Rattle.sap_process.specs.Sites.{var_names}
-use Rattle.sap_rewrite.specs.Match.{Agrees, HaveOneSort, Turns, bound_vars}
+use Rattle.sap_rewrite.specs.Match.{HaveOneSort, Turns, bound_vars}
 use Rattle.sap_rewrite.specs.Pattern.{IsPattern, HeadsDestructor}
 use Rattle.sap_runs.specs.declared.process_step.PStep.TheVariants as line
 use Rattle.sap_terms.specs.Choice.{Choice, instance, instances}
@@ -30,12 +30,12 @@ use Rattle.sap_terms.specs.Equal.{IsTheoryEqual}
 use Rattle.sap_terms.specs.Equations.{equations, IsDestructor}
 use Rattle.sap_terms.specs.Ground.{IsGround}
 use Rattle.sap_terms.specs.Message.{IsMessageChoice}
-use Rattle.sap_terms.specs.Modulo.{instance_fact, instance_facts, IsEqualFact, AreEqualFacts, IsFormOfFact, AreFormsOfFacts}
-use Rattle.sap_terms.specs.Normal.{IsNormal, AreNormal, IsNoLeftSide}
+use Rattle.sap_terms.specs.Modulo.{instance_facts, AreEqualFacts, AreFormsOfFacts}
+use Rattle.sap_terms.specs.Normal.{IsNormal, IsNoLeftSide}
 use Rattle.sap_terms.specs.Piles.{Pile, Takes, nothing, one, used, adds}
 use Rattle.sap_terms.specs.Signature.{Sig}
 use Rattle.sap_terms.specs.Subterms.{EachSubterm, EachSubtermWithin}
-use Rattle.sap_terms.specs.Tree.{Tree, Trees, more, none, apply, trees_of}
+use Rattle.sap_terms.specs.Tree.{Tree, more, apply, trees_of}
 use Rattle.sap_terms.specs.Variables.{tree_vars, trees_vars, facts_vars, is_known, new_vars}
 use Rattle.sap_terms.specs.declared.binding.Binding.{Binding}
 use Rattle.sap_terms.specs.declared.fact.Fact.{Fact}
@@ -239,8 +239,8 @@ module _ (laws : Laws) (g : Sig) where
       let there : (u : Var) → Contains (tree_vars (together l)) u → Contains (facts_vars (l ++ (e ++ r))) u = λ u k. subst (λ (vs : List Var). Contains vs u) (sym (facts_vars_append l (e ++ r))) (Contains-append_left (facts_vars l) (facts_vars (e ++ r)) u (subst (λ (vs : List Var). Contains vs u) (together_vars l) k)) in
       sorts v w (there v a) (there w b)
 
-pub does_embeds : (laws : Laws) {g : Sig} {c d : Config} {es fs : List Tree} → MatchesExactly g c es → (t n : ℕ) (ks : List ℕ) (b : List Binding) (f : Form) (x : Doing) → n ≡ length c.facts → HasHead c t f
-    → IsUsedAt (cited_at c.facts ks) d.facts n b f x → DoesHere g c es d fs (line.Embedded t ks b) x
+pub does_embeds : (laws : Laws) {g : Sig} {c d : Config} {es fs : List Tree} → MatchesExactly g c es → (t n : ℕ) (ks : List ℕ) (b : Bor (List Binding)) (f : Form) (x : Doing) → n ≡ length c.facts → HasHead c t f
+    → IsUsedAt (cited_at c.facts ks) d.facts n b f x → DoesHere g c es d fs (line.Embedded t ks b.now) x
 does_embeds laws {g = g} {c = c} {es = es} exact t n ks b f x count h u inner label (lines.embeds {l = l} {e = e} {r = r} {rest = rest} {p = p} _ _ _ σ left acts right run messages vars agrees same takes forms_e forms_r w) =
     let process : form_proc f h.first h.second ≡ act (action.embedded l e r) p = cc (h.runs, run) in
     let i = rule_form f l e r p h.first h.second process in
@@ -248,16 +248,19 @@ does_embeds laws {g = g} {c = c} {es = es} exact t n ks b f x count h u inner la
     let many : length r ≡ length right = sym (forms_length g (instance_facts σ r) right forms_r ∙ length_instances σ r) in
     let start : n ≡ length rest = count ∙ sym (left_length takes) in
     let added : cited_at (adds rest right) (range_with_len n (length r)) ≡ right = (λ i. cited_at (adds rest right) (range_with_len (start i) (many i))) ∙ added_cited rest right in
-    let K : List Binding → Doing = λ a. does.Uses left right a b in
+    let v = u l e r i in
+    let K : List Binding → Doing = λ a. does.Uses v.0 right a b in
     let fitted : IsFitted (together l) (together left) K x =
-    subst (λ (ys : List Fact). IsFitted (together l) (together left) (λ a. does.Uses left ys a b) x) added
-    (subst (λ (ys : List Fact). IsFitted (together l) (together ys) (λ a. does.Uses ys (cited_at (adds rest right) (range_with_len n (length r))) a b) x) (sym cited) (u l e r i)) in
+    subst (λ (ys : List Fact). IsFitted (together l) (together left) (λ a. does.Uses v.0 ys a b) x) added
+    (subst (λ (ys : List Fact). IsFitted (together l) (together ys) (λ a. does.Uses v.0 (cited_at (adds rest right) (range_with_len n (length r))) a b) x) (sym cited) v.2) in
+    let lent : v.0.now ≡ left = v.1 ∙ sym cited in
     let there = rule_turned laws g σ l left messages (exact.patterns_are t (act (action.embedded l e r) p) run) (taken_all (λ (y : Fact). All (IsNormal (equations g)) y.args) exact.facts takes) same in
     let o = bound_as laws σ (together l) (together left) K x (rule_sorts laws g l e r (exact.sorts t l e r p run)) there fitted in
-    let all_vars : new_vars [] (facts_vars (l ++ (e ++ r))) ≡ bound_vars o.bindings ++ bound_vars b =
+    let all_vars : new_vars [] (facts_vars (l ++ (e ++ r))) ≡ bound_vars o.bindings ++ bound_vars b.now =
     ap (new_vars []) (facts_vars_append l (e ++ r)) ∙ new_behind (facts_vars l) (facts_vars (e ++ r)) ∙ (λ i. (ap (new_vars []) (sym (together_vars l)) ∙ sym o.vars) i ++ sym vars i) in
     let text = λ (v : Var). bound_text (v, σ v) in
-    let texts : bound_texts σ (facts_vars (l ++ (e ++ r))) ≡ binding_texts o.bindings ++ binding_texts b =
-    ap (map text) all_vars ∙ map-append text (bound_vars o.bindings) (bound_vars b) ∙ (λ i. agree_texts laws o.bindings σ o.agrees i ++ agree_texts laws b σ agrees i) in
-    subst (λ (z : Doing). IsDoing g c es (line.Embedded t ks b) [] label es (action_of label z) (outcomes_of z)) (sym o.is)
-    (subst (λ (z : List (List ℕ)). IsDoing g c es (line.Embedded t ks b) [] label es (facts_text left ++ (arrow_text label ++ facts_text right)) z) texts (told.embeds t ks b σ left acts right run messages agrees same takes forms_e forms_r))
+    let texts : bound_texts σ (facts_vars (l ++ (e ++ r))) ≡ binding_texts o.bindings ++ binding_texts b.now =
+    ap (map text) all_vars ∙ map-append text (bound_vars o.bindings) (bound_vars b.now) ∙ (λ i. agree_texts laws o.bindings σ o.agrees i ++ agree_texts laws b.now σ agrees i) in
+    subst (λ (z : Doing). IsDoing g c es (line.Embedded t ks b.now) [] label es (action_of label z) (outcomes_of z)) (sym o.is)
+    (subst (λ (ys : List Fact). IsDoing g c es (line.Embedded t ks b.now) [] label es (facts_text ys ++ (arrow_text label ++ facts_text right)) (binding_texts o.bindings ++ binding_texts b.now)) (sym lent)
+    (subst (λ (z : List (List ℕ)). IsDoing g c es (line.Embedded t ks b.now) [] label es (facts_text left ++ (arrow_text label ++ facts_text right)) z) texts (told.embeds t ks b.now σ left acts right run messages agrees same takes forms_e forms_r)))

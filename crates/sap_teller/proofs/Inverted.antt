@@ -1,5 +1,5 @@
 -- The form of a process with a known head.
-use Rattle.std.proofs.Common.{◌≡◌, ℕ, List, refl, ap, sym}
+use Rattle.std.proofs.Common.{◌≡◌, ℕ, List, refl, ap}
 use Rattle.sap_lines.specs.Places.{form_proc}
 use Rattle.sap_lines.specs.declared.form.Form.{Form}
 use Rattle.sap_lines.specs.declared.form.Form.TheVariants as form

@@ -1,17 +1,16 @@
 -- One line that is told, from its parts.
-use Rattle.std.proofs.Common.{◌≡◌, ◌+◌, ℕ, codes, decimal, List, [], ◌∷◌, ◌++◌, length, refl, sym, ap, subst, ◌∙◌, append_assoc, true, Result, Ok, Err, OnOk}
+use Rattle.std.proofs.Common.{◌≡◌, ◌+◌, ℕ, codes, decimal, List, ◌++◌, length, sym, ap, ◌∙◌, append_assoc, true, Result, Ok, Err, OnOk}
 use Rattle.std.specs.Prelude.{slice_get}
 use Rattle.std.proofs.lemmas.List.{length-map}
-use Rattle.sap_calc.specs.Running.{Running, configuration, IsDone}
+use Rattle.sap_calc.specs.Running.{Running, IsDone}
 use Rattle.sap_deduce.specs.Entries.{Entry, terms_of}
 use Rattle.sap_runs.specs.declared.process_step.PStep.{PStep}
-use Rattle.sap_terms.specs.Tree.{Tree}
 use Rattle.sap_terms.specs.declared.fact.Fact.{Fact}
 use Rattle.sap_teller.specs.Telling.{IsDoneAndTold, IsToldApart, IsToldOn}
 use Rattle.sap_tell.specs.ThreadPaths.{paths_after}
-use Rattle.sap_tell.specs.ToldText.{actor_text, outcomes_text, seen_texts, line_text}
+use Rattle.sap_tell.specs.ToldText.{actor_text, outcomes_text, seen_texts}
 use Rattle.sap_teller.specs.code.Doings.{action_of, outcomes_of}
-use Rattle.sap_teller.specs.code.Heads.{IsBefore, Does, added_by}
+use Rattle.sap_teller.specs.code.Heads.{IsBefore, Does, added_by, form_at}
 use Rattle.sap_teller.specs.code.Lines.{apart_text, body_text, numbered_text}
 use Rattle.sap_teller.specs.code.Outcomes.{outcomes_from, shown_texts}
 use Rattle.sap_teller.specs.declared.before.Before.{Before}
@@ -48,7 +47,7 @@ module _ (r z : Running) (kept : Before) (step : PStep) (label : List Fact) (x :
   }
 
   pub told_on : (a e : Along) (before first second after : List ℕ) → first ≡ before ++ numbered_text (a.lines + 1) (actor_text a.paths step) → second ≡ first ++ body_text label kept.entries (slice_get (terms_of z.known) kept.entries) x → after ≡ second ++ codes "\n"
-      → e.paths ≡ paths_after a.paths step → e.lines ≡ a.lines + 1 → e.facts ≡ kept.facts + added_by step kept.head → IsToldOn r z a e before after step label
+      → e.paths ≡ paths_after a.paths step → e.lines ≡ a.lines + 1 → e.facts ≡ kept.facts + added_by step (form_at kept.head) → IsToldOn r z a e before after step label
   told_on a e before first second after p q s paths lines facts =
       let start = numbered_text (a.lines + 1) (actor_text a.paths step) in
       let body = body_text label kept.entries (slice_get (terms_of z.known) kept.entries) x in
@@ -58,12 +57,12 @@ module _ (r z : Running) (kept : Before) (step : PStep) (label : List Fact) (x :
         text = s ∙ ap (λ t. t ++ codes "\n") (q ∙ ap (λ t. t ++ body) p ∙ append_assoc before start body) ∙ append_assoc before (start ++ body) (codes "\n");
         paths = paths;
         lines = lines;
-        facts = facts ∙ ap (λ n. n + added_by step kept.head) b.facts ∙ sym (facts_grow kept.head b.head h.line);
+        facts = facts ∙ ap (λ n. n + added_by step (form_at kept.head)) b.facts ∙ sym (facts_grow kept.head b.head h.line);
       }
 
   -- the same where the line feed is missing and what it does is told apart
   pub apart_on : (a e : Along) (before first second apart_before apart_after : List ℕ) → first ≡ before ++ numbered_text (a.lines + 1) (actor_text a.paths step) → second ≡ first ++ body_text label kept.entries (slice_get (terms_of z.known) kept.entries) x → apart_after ≡ apart_before ++ apart_text label x
-      → e.paths ≡ paths_after a.paths step → e.lines ≡ a.lines + 1 → e.facts ≡ kept.facts + added_by step kept.head → IsToldApart r z a e before second apart_before apart_after step label
+      → e.paths ≡ paths_after a.paths step → e.lines ≡ a.lines + 1 → e.facts ≡ kept.facts + added_by step (form_at kept.head) → IsToldApart r z a e before second apart_before apart_after step label
   unfolding told_line
   apart_on a e before first second apart_before apart_after p q s paths lines facts =
       let start = numbered_text (a.lines + 1) (actor_text a.paths step) in
@@ -75,7 +74,7 @@ module _ (r z : Running) (kept : Before) (step : PStep) (label : List Fact) (x :
         apart = s ∙ ap (λ t. apart_before ++ (action_of label x ++ t)) (sym (outcomes_all (outcomes_of x)));
         paths = paths;
         lines = lines;
-        facts = facts ∙ ap (λ n. n + added_by step kept.head) b.facts ∙ sym (facts_grow kept.head b.head h.line);
+        facts = facts ∙ ap (λ n. n + added_by step (form_at kept.head)) b.facts ∙ sym (facts_grow kept.head b.head h.line);
       }
 
 -- what follows from three things that are so where all went well

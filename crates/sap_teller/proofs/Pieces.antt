@@ -1,5 +1,5 @@
 -- What comes of a line, piece by piece.
-use Rattle.std.proofs.Common.{◌≡◌, ◌+◌, ℕ, Bool, true, false, ◌&&◌, codes, List, [], ◌∷◌, ◌++◌, zero, suc, length, take, drop, map, Option, Some, None, nat_eq, refl, sym, ap, ◌∙◌, ◌⊎◌, inl, inr, append_assoc, add-one, arith}
+use Rattle.std.proofs.Common.{◌≡◌, ◌+◌, ℕ, Bool, true, false, ◌&&◌, codes, List, [], ◌∷◌, ◌++◌, zero, suc, length, take, drop, map, Option, Some, nat_eq, refl, sym, ap, ◌∙◌, ◌⊎◌, inl, inr, append_assoc, add-one, arith}
 use Rattle.std.specs.Cmp.{unsigned_Decides}
 use Rattle.std.specs.Prelude.{slice_get}
 use Rattle.std.proofs.lemmas.List.{append-nil}
@@ -13,7 +13,7 @@ use Rattle.sap_runs.specs.declared.process_step.PStep.{PStep}
 use Rattle.sap_terms.specs.Signature.{Sig}
 use Rattle.sap_terms.specs.Tree.{Tree}
 use Rattle.sap_terms.specs.declared.fact.Fact.{Fact}
-use Rattle.sap_tell.specs.ToldText.{shows_text, knows_text, known_texts, seen_texts, outcomes_text, line_text}
+use Rattle.sap_tell.specs.ToldText.{shows_text, knows_text, known_texts, seen_texts, outcomes_text}
 use Rattle.sap_teller.specs.code.Outcomes.{before_outcome, outcomes_from, still_first, known_text, shown_texts}
 
 suc_not : (k : ℕ) → nat_eq (suc k) 0 ≡ false

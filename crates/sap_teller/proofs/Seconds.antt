@@ -1,5 +1,5 @@
 -- The second part of a pair, and terms that are none.
-use Rattle.std.proofs.Common.{◌≡◌, ◌+◌, ◌<◌, ℕ, Bool, true, false, codes, List, [], ◌∷◌, ◌++◌, length, Some, refl, sym, ap, ◌∙◌, suc, zero, add-one, arith}
+use Rattle.std.proofs.Common.{◌≡◌, ◌+◌, ℕ, Bool, true, false, codes, List, [], ◌∷◌, ◌++◌, length, Some, refl, ap, ◌∙◌, suc, zero, add-one, arith}
 use Rattle.std.specs.Prelude.{slice_get}
 use Rattle.std.specs.List.{range_with_len}
 use Rattle.std.specs.Str.{bytes_eq}

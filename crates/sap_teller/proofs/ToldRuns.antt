@@ -1,8 +1,7 @@
 -- Runs that are told line by line.
-use Rattle.std.proofs.Common.{◌≡◌, ◌≤◌, ◌+◌, ℕ, List, [], ◌∷◌, ◌++◌, length, take, drop, Some, refl, sym, ap, subst, ◌∙◌, slice_get, zero, suc, add-one, arith}
+use Rattle.std.proofs.Common.{◌≡◌, ◌≤◌, ◌+◌, ℕ, List, [], ◌∷◌, ◌++◌, length, take, drop, Some, refl, sym, ap, ◌∙◌, slice_get, zero, suc, add-one, arith}
 use Rattle.std.proofs.Common.{length-append}
-use Rattle.sap_terms.proofs.PlainLaws.Lists.{take_got, drop_got}
-use Rattle.sap_calc.specs.Running.{Running, configuration, IsDenied}
+use Rattle.sap_calc.specs.Running.{Running, configuration}
 use Rattle.sap_deduce.specs.Entries.{terms_of}
 use Rattle.sap_lines.specs.Answers.{MatchesExactly, RunsMatchExactly}
 use Rattle.sap_lines.specs.Runs.{SmallProcessRunsAreLegal}
@@ -13,7 +12,6 @@ use Rattle.sap_process.specs.Ready.{IsReady}
 use Rattle.sap_runs.specs.Marks.{marks_of}
 use Rattle.sap_runs.specs.declared.process_step.PStep.{PStep}
 use Rattle.sap_terms.specs.Signature.{Sig, HoldsBuiltins}
-use Rattle.sap_terms.specs.Trace.{shown}
 use Rattle.sap_teller.specs.Telling.{IsToldAs, IsFirstRefusedLine}
 use Rattle.sap_tell.specs.ThreadPaths.{paths_from, paths_after, thread_paths}
 use Rattle.sap_tell.specs.Told as told

@@ -2,7 +2,7 @@
 ghost use Rattle.std.specs.Prelude.{◌≡◌, length, IfOk};
 ghost use Rattle.sap_calc.specs.Running.{configuration};
 ghost use Rattle.sap_facts.specs.Cited.{cited_at};
-ghost use Rattle.sap_teller.specs.code.Heads.{cited_of, head_of, sender_of, IsBefore, IsHead, IsKept, IsStored};
+ghost use Rattle.sap_teller.specs.code.Heads.{cited_of, form_at, form_of, head_of, sender_of, IsBefore, IsHead, IsKept, IsStored};
 
 use sap_calc::Config;
 use sap_lines::Form;
@@ -17,8 +17,8 @@ pub(crate) struct Before {
     pub threads: u64,
     pub entries: u64,
     pub facts: u64,
-    pub head: Form,
-    pub sender: Form,
+    pub head: Option<Box<Form>>,
+    pub sender: Option<Box<Form>>,
     pub stored: Option<Term>,
     pub cited: FactList,
 }
@@ -52,21 +52,13 @@ fn sender_of(step: &PStep) -> Option<u64>
     }
 }
 
-// What stands for the head of a thread that doesn't run.
-fn nobody(alloc: Global) -> Result<Box<Form>, Mem> {
-    Ok(Box::new(alloc, Form::Nil)?)
-}
-
-// What stands at the head of a thread, if one is asked for.
-fn head_at(alloc: Global, config: &Config, asked: Option<u64>) -> Result<Box<Form>, Mem>
-    ensures { IfOk result (λ f. IsHead (configuration config.now) asked f.value) }
+// What stands at the head of a thread, if one is asked for and it runs.
+fn head_at(alloc: Global, config: &Config, asked: Option<u64>) -> Result<Option<Box<Form>>, Mem>
+    ensures { IfOk result (IsHead (configuration config.now) asked) }
 {
     match asked {
-        Some(t) => match config.head(alloc, t)? {
-            Some(form) => Ok(form),
-            None => nobody(alloc),
-        },
-        None => nobody(alloc),
+        Some(t) => config.head(alloc, t),
+        None => Ok(None),
     }
 }
 
@@ -98,18 +90,18 @@ fn with_cited(
     facts: u64,
     step: &PStep,
     stored: Option<Term>,
-    head: Box<Form>,
-    sender: Box<Form>,
+    head: Option<Box<Form>>,
+    sender: Option<Box<Form>>,
 ) -> Result<Before, Mem>
-    ensures { IfOk result (IsKept config.now facts step.now stored head.value sender.value) }
+    ensures { IfOk result (IsKept config.now facts step.now stored head sender) }
 {
     let cited = cited_by(alloc, config, step)?;
     Ok(Before {
         threads: config.thread_count(),
         entries: config.entry_count(),
         facts,
-        head: Box::into_inner(head),
-        sender: Box::into_inner(sender),
+        head,
+        sender,
         stored,
         cited,
     })
@@ -122,11 +114,11 @@ fn with_sender(
     facts: u64,
     step: &PStep,
     stored: Option<Term>,
-    head: Box<Form>,
+    head: Option<Box<Form>>,
 ) -> Result<Before, Mem>
     requires facts { facts ≡ length config.now.facts }
     requires stored { IsStored config.now step.now stored }
-    requires head { IsHead (configuration config.now) (head_of step.now) head.value }
+    requires head { IsHead (configuration config.now) (head_of step.now) head }
     ensures { IfOk result (IsBefore config.now step.now) }
 {
     let sender = head_at(alloc, config, sender_of(step))?;
@@ -162,4 +154,14 @@ pub(crate) fn kept_before(
 {
     let stored = stored_at(alloc, config, step)?;
     with_heads(alloc, config, facts, step, stored)
+}
+
+/// What stands at a head that was kept.
+pub(crate) fn lent(head: &Option<Box<Form>>) -> Option<&Form>
+    ensures { form_of result ≡ form_at head.now }
+{
+    match head {
+        Some(form) => Some(form),
+        None => None,
+    }
 }

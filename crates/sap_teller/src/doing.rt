@@ -3,7 +3,7 @@ ghost use Rattle.std.specs.Prelude.{◌≡◌, ◌++◌, IfOk, OnOk, codes, deci
 ghost use Rattle.sap_grammar.specs.FactText.{facts_text, arrow_text};
 ghost use Rattle.sap_grammar.specs.Pieces.{joined};
 ghost use Rattle.sap_grammar.specs.TermText.{term_text, tree_text, variable_text};
-ghost use Rattle.sap_terms.specs.Tree.{fresh};
+ghost use Rattle.sap_terms.specs.Tree.{fresh, public};
 ghost use Rattle.sap_terms.specs.View.{tree};
 ghost use Rattle.sap_teller.specs.code.Doings.{action_of};
 ghost use Rattle.sap_teller.specs.declared.doing.Doing.TheVariants as does;
@@ -14,9 +14,9 @@ use sap_grammar::{
 use sap_terms::{Bindings, FactList, Mem, Name, Numbers, Term, Var};
 use sap_text::Text;
 
-/// What a line does, with its terms evaluated.
+/// What a line does, with its terms evaluated. What stands elsewhere is lent.
 #[derive(Drop)]
-pub(crate) enum Doing {
+pub(crate) enum Doing<'a> {
     /// A thread ends.
     Ends(u64),
     /// A thread begins, beside one that goes on.
@@ -24,13 +24,15 @@ pub(crate) enum Doing {
     /// A thread begins, as a copy.
     Copies(u64),
     /// A name is made for a variable.
-    Makes(Var, u64),
-    /// A term is put out.
-    Sends(Term),
+    Makes(&'a Var, u64),
+    /// An entry is put out.
+    Sends(&'a Term),
+    /// An entry is put out on the channel that another is.
+    SendsOn(&'a Term, &'a Term),
     /// A term is sent on a channel, and what another thread binds by it.
     Meets(Term, Term, Bindings),
-    /// A term is taken, whether it is a pair of a channel and what comes on it, and what is bound by it.
-    Takes(Term, bool, Bindings),
+    /// An entry is taken, whether it is a pair of a channel and what comes on it, and what is bound by it.
+    Takes(&'a Term, bool, Bindings),
     /// Terms are compared, and whether they are one.
     Compares(Term, Term, bool),
     /// A fact is shown.
@@ -40,17 +42,19 @@ pub(crate) enum Doing {
     /// A key is cleared.
     Deletes(Term),
     /// A key is looked up, for a variable, and what is found.
-    Looks(Term, Var, Option<Term>),
+    Looks(Term, &'a Var, Option<&'a Term>),
     /// A term is locked, or unlocked.
     Holds(Term, bool),
     /// A rule is used: what it takes and adds, and what its variables stand for.
-    Uses(FactList, FactList, Bindings, Bindings),
+    Uses(&'a FactList, FactList, Bindings, &'a Bindings),
     /// The adversary makes a name.
     Names(u64),
-    /// The adversary writes or shows a term.
-    Gives(Term),
+    /// The adversary writes a public name.
+    Writes(&'a Name),
+    /// The adversary shows an entry.
+    Gives(&'a Term),
     /// The adversary applies a symbol.
-    Applies(Name, Numbers, Term),
+    Applies(&'a Name, &'a Numbers, &'a Term),
 }
 
 // A word, and a term behind it.
@@ -86,7 +90,7 @@ fn push_sent(text: &mut Text, x: &Term) -> Result<(), Mem>
 {
     text.push_bytes(b"out(")?;
     push_whole_term(text, x)?;
-    text.push_bytes(b")")
+    text.push_byte(b')')
 }
 
 // What is sent on a channel.
@@ -96,9 +100,9 @@ fn push_sent_on(text: &mut Text, x: &Term, u: &Term) -> Result<(), Mem>
 {
     text.push_bytes(b"out(")?;
     push_whole_term(text, x)?;
-    text.push_bytes(b",")?;
+    text.push_byte(b',')?;
     push_whole_term(text, u)?;
-    text.push_bytes(b")")
+    text.push_byte(b')')
 }
 
 // A term without the brackets of a pair. It recurses as deep as pairs stand in second parts of pairs.
@@ -109,7 +113,7 @@ fn push_open(text: &mut Text, x: &Term) -> Result<(), Mem>
         Term::App(f, args) => {
             if f.is(b"pair") && args.len() == 2 {
                 push_whole_term(text, args.at(0))?;
-                text.push_bytes(b",")?;
+                text.push_byte(b',')?;
                 push_open(text, args.at(1))
             } else {
                 push_whole_term(text, x)
@@ -136,7 +140,7 @@ fn push_taken(text: &mut Text, x: &Term, is_open: bool) -> Result<(), Mem>
 {
     text.push_bytes(b"in(")?;
     push_either(text, x, is_open)?;
-    text.push_bytes(b")")
+    text.push_byte(b')')
 }
 
 // The fact of an event.
@@ -185,6 +189,15 @@ fn push_named(text: &mut Text, n: u64) -> Result<(), Mem>
     text.push_number(n)
 }
 
+// A public name that is written.
+fn push_written(text: &mut Text, a: &Name) -> Result<(), Mem>
+    ensures { OnOk result (text.new ≡ text.old ++ tree_text (public a.now)) }
+{
+    text.push_byte(b'\'')?;
+    text.push_bytes(a.as_bytes())?;
+    text.push_byte(b'\'')
+}
+
 // Numbers with commas between them.
 fn push_numbers(text: &mut Text, numbers: &Numbers) -> Result<(), Mem>
     ensures { OnOk result (text.new ≡ text.old ++ joined (codes ",") (map decimal numbers.now)) }
@@ -202,7 +215,7 @@ fn push_applied(text: &mut Text, f: &Name, numbers: &Numbers, x: &Term) -> Resul
         ++ (codes "(" ++ (joined (codes ",") (map decimal numbers.now) ++ (codes ") = " ++ tree_text (tree x.now)))))) }
 {
     text.push_bytes(f.as_bytes())?;
-    text.push_bytes(b"(")?;
+    text.push_byte(b'(')?;
     push_numbers(text, numbers)?;
     push_word(text, b") = ", x)
 }
@@ -212,11 +225,12 @@ pub(crate) fn push_action(text: &mut Text, label: &FactList, doing: &Doing) -> R
     ensures { OnOk result (text.new ≡ text.old ++ action_of label.now doing.now) }
 {
     match doing {
-        Doing::Ends(_) => text.push_bytes(b"0"),
-        Doing::Splits(_) => text.push_bytes(b"|"),
-        Doing::Copies(_) => text.push_bytes(b"!"),
+        Doing::Ends(_) => text.push_byte(b'0'),
+        Doing::Splits(_) => text.push_byte(b'|'),
+        Doing::Copies(_) => text.push_byte(b'!'),
         Doing::Makes(x, _) => push_made(text, x),
         Doing::Sends(x) => push_sent(text, x),
+        Doing::SendsOn(x, u) => push_sent_on(text, x, u),
         Doing::Meets(x, u, _) => push_sent_on(text, x, u),
         Doing::Takes(x, pair, _) => push_taken(text, x, *pair),
         Doing::Compares(x, y, _) => push_two(text, b"if ", x, b" = ", y),
@@ -228,6 +242,7 @@ pub(crate) fn push_action(text: &mut Text, label: &FactList, doing: &Doing) -> R
         Doing::Holds(k, false) => push_word(text, b"unlock ", k),
         Doing::Uses(left, right, _, _) => push_used(text, left, label, right),
         Doing::Names(n) => push_named(text, *n),
+        Doing::Writes(a) => push_written(text, a),
         Doing::Gives(x) => push_whole_term(text, x),
         Doing::Applies(f, numbers, x) => push_applied(text, f, numbers, x),
     }

@@ -6,7 +6,7 @@ ghost use Rattle.sap_terms.specs.Equations.{equations, app2, pair_name};
 ghost use Rattle.sap_terms.specs.Normal.{IsNormalForm};
 ghost use Rattle.sap_terms.specs.Tree.{Tree};
 ghost use Rattle.sap_terms.specs.View.{tree};
-ghost use Rattle.sap_teller.specs.code.Heads.{IsCompared, IsDeleted, IsFitted, IsInserted, IsLocked, IsLooked, IsMade, IsMetBy, IsTakenBy, IsUnlocked, IsUsedBy, together};
+ghost use Rattle.sap_teller.specs.code.Heads.{form_of, IsCompared, IsDeleted, IsFitted, IsInserted, IsLocked, IsLooked, IsMade, IsMetBy, IsTakenBy, IsUnlocked, IsUsedBy, together};
 ghost use Rattle.sap_teller.specs.declared.doing.Doing.TheVariants as does;
 
 use crate::doing::Doing;
@@ -16,14 +16,14 @@ use sap_terms::{Bindings, Copied, FactList, Mem, Name, Signature, Term, TermList
 use std::alloc::Global;
 
 // What a line does, in a box.
-pub(crate) fn boxed(alloc: Global, doing: Doing) -> Result<Box<Doing>, Mem>
-    ensures { IfOk result (λ x. x.value ≡ doing) }
+pub(crate) fn boxed<'a>(alloc: Global, doing: Doing<'a>) -> Result<Box<Doing<'a>>, Mem>
+    ensures { IfOk result (λ x. x.value ≡ doing.entry) }
 {
     Ok(Box::new(alloc, doing)?)
 }
 
 // What stands for a line that isn't possible.
-pub(crate) fn nothing(alloc: Global) -> Result<Box<Doing>, Mem> {
+pub(crate) fn nothing<'a>(alloc: Global) -> Result<Box<Doing<'a>>, Mem> {
     boxed(alloc, Doing::Shows)
 }
 
@@ -38,26 +38,26 @@ fn two_forms(alloc: Global, sig: &Signature, m: &Term, n: &Term) -> Result<(Term
 }
 
 // A name is made for the variable at the head.
-pub(crate) fn made(alloc: Global, n: u64, form: &Form) -> Result<Box<Doing>, Mem>
-    ensures { IfOk result (λ x. IsMade n form.now x.value) }
+pub(crate) fn made<'a>(alloc: Global, n: u64, form: Option<&'a Form>) -> Result<Box<Doing<'a>>, Mem>
+    ensures { IfOk result (λ x. IsMade n (form_of form.entry) x.value) }
 {
     match form {
-        Form::New(v) => boxed(alloc, Doing::Makes(v.copy(alloc)?, n)),
+        Some(Form::New(v)) => boxed(alloc, Doing::Makes(v, n)),
         _ => nothing(alloc),
     }
 }
 
 // The terms at the head are compared, and are one or aren't.
-pub(crate) fn compared(
+pub(crate) fn compared<'a>(
     alloc: Global,
     sig: &Signature,
-    form: &Form,
+    form: Option<&Form>,
     same: bool,
-) -> Result<Box<Doing>, Mem>
-    ensures { IfOk result (λ x. IsCompared (equations sig.now) same form.now x.value) }
+) -> Result<Box<Doing<'a>>, Mem>
+    ensures { IfOk result (λ x. IsCompared (equations sig.now) same (form_of form.entry) x.value) }
 {
     match form {
-        Form::If(m, n) => {
+        Some(Form::If(m, n)) => {
             let (a, b) = two_forms(alloc, sig, m, n)?;
             boxed(alloc, Doing::Compares(a, b, same))
         }
@@ -66,11 +66,15 @@ pub(crate) fn compared(
 }
 
 // The value at the head is stored at the key.
-pub(crate) fn inserted(alloc: Global, sig: &Signature, form: &Form) -> Result<Box<Doing>, Mem>
-    ensures { IfOk result (λ x. IsInserted (equations sig.now) form.now x.value) }
+pub(crate) fn inserted<'a>(
+    alloc: Global,
+    sig: &Signature,
+    form: Option<&Form>,
+) -> Result<Box<Doing<'a>>, Mem>
+    ensures { IfOk result (λ x. IsInserted (equations sig.now) (form_of form.entry) x.value) }
 {
     match form {
-        Form::Insert(m, n) => {
+        Some(Form::Insert(m, n)) => {
             let (a, b) = two_forms(alloc, sig, m, n)?;
             boxed(alloc, Doing::Inserts(a, b))
         }
@@ -79,71 +83,87 @@ pub(crate) fn inserted(alloc: Global, sig: &Signature, form: &Form) -> Result<Bo
 }
 
 // The key at the head is cleared.
-pub(crate) fn deleted(alloc: Global, sig: &Signature, form: &Form) -> Result<Box<Doing>, Mem>
-    ensures { IfOk result (λ x. IsDeleted (equations sig.now) form.now x.value) }
+pub(crate) fn deleted<'a>(
+    alloc: Global,
+    sig: &Signature,
+    form: Option<&Form>,
+) -> Result<Box<Doing<'a>>, Mem>
+    ensures { IfOk result (λ x. IsDeleted (equations sig.now) (form_of form.entry) x.value) }
 {
     match form {
-        Form::Delete(m) => boxed(alloc, Doing::Deletes(normal(alloc, sig, m)?)),
+        Some(Form::Delete(m)) => boxed(alloc, Doing::Deletes(normal(alloc, sig, m)?)),
         _ => nothing(alloc),
     }
 }
 
 // The key at the head is looked up, and this is found.
-pub(crate) fn looked(
+pub(crate) fn looked<'a>(
     alloc: Global,
     sig: &Signature,
-    form: &Form,
-    found: Option<Term>,
-) -> Result<Box<Doing>, Mem>
-    ensures { IfOk result (λ x. IsLooked (equations sig.now) found form.now x.value) }
+    form: Option<&'a Form>,
+    found: Option<&'a Term>,
+) -> Result<Box<Doing<'a>>, Mem>
+    ensures { IfOk result (λ x. IsLooked (equations sig.now) found.entry (form_of form.entry) x.value) }
 {
     match form {
-        Form::Lookup(m, v) => {
+        Some(Form::Lookup(m, v)) => {
             let key = normal(alloc, sig, m)?;
-            let var = v.copy(alloc)?;
-            boxed(alloc, Doing::Looks(key, var, found))
+            boxed(alloc, Doing::Looks(key, v, found))
         }
         _ => nothing(alloc),
     }
 }
 
 // The term at the head is locked.
-pub(crate) fn locked(alloc: Global, sig: &Signature, form: &Form) -> Result<Box<Doing>, Mem>
-    ensures { IfOk result (λ x. IsLocked (equations sig.now) form.now x.value) }
+pub(crate) fn locked<'a>(
+    alloc: Global,
+    sig: &Signature,
+    form: Option<&Form>,
+) -> Result<Box<Doing<'a>>, Mem>
+    ensures { IfOk result (λ x. IsLocked (equations sig.now) (form_of form.entry) x.value) }
 {
     match form {
-        Form::Lock(m, _) => boxed(alloc, Doing::Holds(normal(alloc, sig, m)?, true)),
+        Some(Form::Lock(m, _)) => boxed(alloc, Doing::Holds(normal(alloc, sig, m)?, true)),
         _ => nothing(alloc),
     }
 }
 
 // It is unlocked.
-pub(crate) fn unlocked(alloc: Global, sig: &Signature, form: &Form) -> Result<Box<Doing>, Mem>
-    ensures { IfOk result (λ x. IsUnlocked (equations sig.now) form.now x.value) }
+pub(crate) fn unlocked<'a>(
+    alloc: Global,
+    sig: &Signature,
+    form: Option<&Form>,
+) -> Result<Box<Doing<'a>>, Mem>
+    ensures { IfOk result (λ x. IsUnlocked (equations sig.now) (form_of form.entry) x.value) }
 {
     match form {
-        Form::Unlock(m, _) => boxed(alloc, Doing::Holds(normal(alloc, sig, m)?, false)),
+        Some(Form::Unlock(m, _)) => boxed(alloc, Doing::Holds(normal(alloc, sig, m)?, false)),
         _ => nothing(alloc),
     }
 }
 
 // An entry is taken, which fits the pattern.
-fn taken_alone(alloc: Global, n: &Term, x: &Term) -> Result<Box<Doing>, Mem>
-    ensures { IfOk result (λ r. IsFitted (tree n.now) (tree x.now) (does.Takes x.now false) r.value) }
+fn taken_alone<'a>(alloc: Global, n: &Term, x: &'a Term) -> Result<Box<Doing<'a>>, Mem>
+    ensures { IfOk result (λ r. IsFitted (tree n.now) (tree x.now) (does.Takes x.entry false) r.value) }
 {
     match match_pattern(alloc, n, x, &Bindings::new(alloc))? {
         None => nothing(alloc),
-        Some(b) => boxed(alloc, Doing::Takes(x.copy(alloc)?, false, b)),
+        Some(b) => boxed(alloc, Doing::Takes(x, false, b)),
     }
 }
 
 // A pair is taken, whose second part fits the pattern.
-fn taken_second(alloc: Global, n: &Term, x: &Term, second: &Term) -> Result<Box<Doing>, Mem>
-    ensures { IfOk result (λ r. IsFitted (tree n.now) (tree second.now) (does.Takes x.now true) r.value) }
+fn taken_second<'a>(
+    alloc: Global,
+    n: &Term,
+    x: &'a Term,
+    second: &Term,
+) -> Result<Box<Doing<'a>>, Mem>
+    ensures { IfOk result (λ r. IsFitted (tree n.now) (tree second.now) (does.Takes x.entry true) r.value) }
 {
     match match_pattern(alloc, n, second, &Bindings::new(alloc))? {
         None => nothing(alloc),
-        Some(b) => boxed(alloc, Doing::Takes(x.copy(alloc)?, true, b)),
+        Some(b) => boxed(alloc, Doing::Takes(x, true, b)),
     }
 }
 
@@ -163,12 +183,16 @@ fn second_of(x: &Term) -> Option<&Term>
 }
 
 // An entry is taken, and this is what it binds.
-pub(crate) fn taken(alloc: Global, form: &Form, x: &Term) -> Result<Box<Doing>, Mem>
-    ensures { IfOk result (λ r. IsTakenBy x.now form.now r.value) }
+pub(crate) fn taken<'a>(
+    alloc: Global,
+    form: Option<&Form>,
+    x: &'a Term,
+) -> Result<Box<Doing<'a>>, Mem>
+    ensures { IfOk result (λ r. IsTakenBy x.entry (form_of form.entry) r.value) }
 {
     match form {
-        Form::In(n) => taken_alone(alloc, n, x),
-        Form::Recv(_, n) => match second_of(x) {
+        Some(Form::In(n)) => taken_alone(alloc, n, x),
+        Some(Form::Recv(_, n)) => match second_of(x) {
             None => nothing(alloc),
             Some(second) => taken_second(alloc, n, x, second),
         },
@@ -177,7 +201,7 @@ pub(crate) fn taken(alloc: Global, form: &Form, x: &Term) -> Result<Box<Doing>, 
 }
 
 // What is sent on a channel, and what binds who takes it by the pattern.
-fn met_by(alloc: Global, p: &Term, channel: Term, message: Term) -> Result<Box<Doing>, Mem>
+fn met_by<'a>(alloc: Global, p: &Term, channel: Term, message: Term) -> Result<Box<Doing<'a>>, Mem>
     ensures { IfOk result (λ r. IsFitted (tree p.now) (tree message) (does.Meets channel message) r.value) }
 {
     match match_pattern(alloc, p, &message, &Bindings::new(alloc))? {
@@ -187,17 +211,17 @@ fn met_by(alloc: Global, p: &Term, channel: Term, message: Term) -> Result<Box<D
 }
 
 // One thread sends to another.
-pub(crate) fn met(
+pub(crate) fn met<'a>(
     alloc: Global,
     sig: &Signature,
-    sender: &Form,
-    form: &Form,
-) -> Result<Box<Doing>, Mem>
-    ensures { IfOk result (λ r. IsMetBy (equations sig.now) sender.now form.now r.value) }
+    sender: Option<&Form>,
+    form: Option<&Form>,
+) -> Result<Box<Doing<'a>>, Mem>
+    ensures { IfOk result (λ r. IsMetBy (equations sig.now) (form_of sender.entry) (form_of form.entry) r.value) }
 {
     match sender {
-        Form::Send(m, n) => match form {
-            Form::Recv(_, p) => {
+        Some(Form::Send(m, n)) => match form {
+            Some(Form::Recv(_, p)) => {
                 let (a, u) = two_forms(alloc, sig, m, n)?;
                 met_by(alloc, p, a, u)
             }
@@ -248,23 +272,19 @@ fn bound_by(alloc: Global, l: &FactList, left: &FactList) -> Result<Option<Bindi
 }
 
 // A rule is used on the facts that are cited, adds these, and leaves variables open that stand for these terms.
-pub(crate) fn used(
+pub(crate) fn used<'a>(
     alloc: Global,
-    form: &Form,
-    left: &FactList,
+    form: Option<&Form>,
+    left: &'a FactList,
     right: FactList,
-    chosen: &Bindings,
-) -> Result<Box<Doing>, Mem>
-    ensures { IfOk result (λ r. IsUsedBy left.now right chosen.now form.now r.value) }
+    chosen: &'a Bindings,
+) -> Result<Box<Doing<'a>>, Mem>
+    ensures { IfOk result (λ r. IsUsedBy left.entry right chosen.entry (form_of form.entry) r.value) }
 {
     match form {
-        Form::Embedded(l, _, _) => match bound_by(alloc, l, left)? {
+        Some(Form::Embedded(l, _, _)) => match bound_by(alloc, l, left)? {
             None => nothing(alloc),
-            Some(b) => {
-                let left = left.copy(alloc)?;
-                let chosen = chosen.copy(alloc)?;
-                boxed(alloc, Doing::Uses(left, right, b, chosen))
-            }
+            Some(b) => boxed(alloc, Doing::Uses(left, right, b, chosen)),
         },
         _ => nothing(alloc),
     }

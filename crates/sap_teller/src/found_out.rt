@@ -6,10 +6,10 @@ ghost use Rattle.sap_facts.specs.Cited.{cited_at};
 ghost use Rattle.sap_terms.specs.Equations.{equations};
 ghost use Rattle.sap_terms.specs.View.{tree};
 ghost use Rattle.sap_terms.specs.declared.term.Term.TheVariants as term;
-ghost use Rattle.sap_teller.specs.code.Heads.{count_added, AreOfEntries, IsFoundOut, IsLooked, IsMetBy, IsOfEntry, IsTakenAt, IsUsedAt};
+ghost use Rattle.sap_teller.specs.code.Heads.{count_added, form_of, AreOfEntries, IsFoundOut, IsLooked, IsOfEntry, IsTakenAt, IsUsedAt};
 ghost use Rattle.sap_teller.specs.declared.doing.Doing.TheVariants as does;
 
-use crate::before::Before;
+use crate::before::{Before, lent};
 use crate::doing::Doing;
 use crate::finding::{
     boxed, compared, deleted, inserted, locked, looked, made, met, nothing, taken, unlocked, used,
@@ -26,79 +26,63 @@ use sap_terms::{
 };
 use std::alloc::Global;
 
-// The entry of a number, or nothing.
-fn entry_of(alloc: Global, config: &Config, k: u64) -> Result<Option<Term>, Mem>
-    ensures { IfOk result (λ o. option_map tree o ≡ slice_get (terms_of config.now.known) k) }
-{
-    match config.entry(k) {
-        None => Ok(None),
-        Some(x) => Ok(Some(x.copy(alloc)?)),
-    }
-}
-
 // The last entry is put out.
-fn sent(alloc: Global, config: &Config, k: u64) -> Result<Box<Doing>, Mem>
+fn sent<'a>(alloc: Global, config: &'a Config, k: u64) -> Result<Box<Doing<'a>>, Mem>
     ensures { IfOk result (λ x. IsOfEntry (terms_of config.now.known) k does.Sends x.value) }
 {
-    match entry_of(alloc, config, k)? {
+    match config.entry(k) {
         None => nothing(alloc),
         Some(t) => boxed(alloc, Doing::Sends(t)),
     }
 }
 
 // An entry is shown.
-fn given(alloc: Global, config: &Config, k: u64) -> Result<Box<Doing>, Mem>
+fn given<'a>(alloc: Global, config: &'a Config, k: u64) -> Result<Box<Doing<'a>>, Mem>
     ensures { IfOk result (λ x. IsOfEntry (terms_of config.now.known) k does.Gives x.value) }
 {
-    match entry_of(alloc, config, k)? {
+    match config.entry(k) {
         None => nothing(alloc),
         Some(t) => boxed(alloc, Doing::Gives(t)),
     }
 }
 
-// A public name is written down.
-fn written(alloc: Global, a: &Name) -> Result<Box<Doing>, Mem>
-    ensures { IfOk result (λ x. x.value ≡ does.Gives (term.Public a.now)) }
+// The last entry is put out on the channel that another is.
+fn sent_on<'a>(alloc: Global, config: &'a Config, k: u64, last: u64) -> Result<Box<Doing<'a>>, Mem>
+    ensures { IfOk result (λ x. AreOfEntries (terms_of config.now.known) k last does.SendsOn x.value) }
 {
-    boxed(alloc, Doing::Gives(Term::Public(a.copy(alloc)?)))
-}
-
-// The last entry is sent on the channel that another is.
-fn sent_on(alloc: Global, config: &Config, k: u64, last: u64) -> Result<Box<Doing>, Mem>
-    ensures { IfOk result (λ x. AreOfEntries (terms_of config.now.known) k last (λ a b. does.Meets a b []) x.value) }
-{
-    match entry_of(alloc, config, k)? {
+    match config.entry(k) {
         None => nothing(alloc),
-        Some(channel) => match entry_of(alloc, config, last)? {
+        Some(channel) => match config.entry(last) {
             None => nothing(alloc),
-            Some(t) => boxed(alloc, Doing::Meets(channel, t, Bindings::new(alloc))),
+            Some(t) => boxed(alloc, Doing::SendsOn(channel, t)),
         },
     }
 }
 
 // A symbol on entries gives the last one.
-fn applied(
+fn applied<'a>(
     alloc: Global,
-    config: &Config,
-    f: &Name,
-    numbers: &Numbers,
+    config: &'a Config,
+    f: &'a Name,
+    numbers: &'a Numbers,
     last: u64,
-) -> Result<Box<Doing>, Mem>
-    ensures { IfOk result (λ x. IsOfEntry (terms_of config.now.known) last (does.Applies f.now numbers.now) x.value) }
+) -> Result<Box<Doing<'a>>, Mem>
+    ensures { IfOk result (λ x. IsOfEntry (terms_of config.now.known) last (does.Applies f.entry numbers.entry) x.value) }
 {
-    match entry_of(alloc, config, last)? {
+    match config.entry(last) {
         None => nothing(alloc),
-        Some(t) => {
-            let f = f.copy(alloc)?;
-            let numbers = numbers.copy(alloc)?;
-            boxed(alloc, Doing::Applies(f, numbers, t))
-        }
+        Some(t) => boxed(alloc, Doing::Applies(f, numbers, t)),
     }
 }
 
 // An entry is taken.
-fn taken_at(alloc: Global, config: &Config, form: &Form, k: u64) -> Result<Box<Doing>, Mem>
-    ensures { IfOk result (λ x. IsTakenAt (terms_of config.now.known) k form.now x.value) }
+fn taken_at<'a>(
+    alloc: Global,
+    config: &'a Config,
+    form: Option<&Form>,
+    k: u64,
+) -> Result<Box<Doing<'a>>, Mem>
+    ensures { IfOk result (λ x. IsTakenAt (terms_of config.now.known) k (form_of form.entry) x.value) }
 {
     match config.entry(k) {
         None => nothing(alloc),
@@ -121,11 +105,11 @@ fn numbers_from(alloc: Global, first: u64, count: u64) -> Result<Numbers, Mem>
 }
 
 // How many facts the rule at the head adds.
-pub(crate) fn added_count(form: &Form) -> u64
-    ensures { result ≡ count_added form.now }
+pub(crate) fn added_count(form: Option<&Form>) -> u64
+    ensures { result ≡ count_added (form_of form.entry) }
 {
     match form {
-        Form::Embedded(_, _, r) => r.len(),
+        Some(Form::Embedded(_, _, r)) => r.len(),
         _ => 0,
     }
 }
@@ -139,52 +123,27 @@ fn added(alloc: Global, config: &Config, first: u64, count: u64) -> Result<FactL
 }
 
 // A rule is used.
-fn used_at(
+fn used_at<'a>(
     alloc: Global,
     config: &Config,
-    before: &Before,
-    form: &Form,
-    chosen: &Bindings,
-) -> Result<Box<Doing>, Mem>
-    ensures { IfOk result (λ x. IsUsedAt before.now.cited config.now.facts before.now.facts chosen.now form.now x.value) }
+    before: &'a Before,
+    form: Option<&Form>,
+    chosen: &'a Bindings,
+) -> Result<Box<Doing<'a>>, Mem>
+    ensures { IfOk result (λ x. IsUsedAt before.now.cited config.now.facts before.now.facts chosen.entry (form_of form.entry) x.value) }
 {
     let right = added(alloc, config, before.facts, added_count(form))?;
     used(alloc, form, &before.cited, right, chosen)
 }
 
-// A value, if there is one.
-fn copied(alloc: Global, value: &Option<Term>) -> Result<Option<Term>, Mem>
-    ensures { IfOk result (λ o. o ≡ value.now) }
-{
-    match value {
-        None => Ok(None),
-        Some(t) => Ok(Some(t.copy(alloc)?)),
-    }
-}
-
-// Two threads meet.
-fn met_before(alloc: Global, sig: &Signature, before: &Before) -> Result<Box<Doing>, Mem>
-    ensures { IfOk result (λ x. IsMetBy (equations sig.now) before.now.sender before.now.head x.value) }
-{
-    met(alloc, sig, &before.sender, &before.head)
-}
-
-// A key is looked up, and has what was kept.
-fn looked_before(alloc: Global, sig: &Signature, before: &Before) -> Result<Box<Doing>, Mem>
-    ensures { IfOk result (λ x. IsLooked (equations sig.now) before.now.stored before.now.head x.value) }
-{
-    let found = copied(alloc, &before.stored)?;
-    looked(alloc, sig, &before.head, found)
-}
-
 /// What a line did that led here, by what was kept of it before.
-pub(crate) fn found_out(
+pub(crate) fn found_out<'a>(
     alloc: Global,
     sig: &Signature,
-    config: &Config,
-    before: &Before,
-    step: &PStep,
-) -> Result<Box<Doing>, Mem>
+    config: &'a Config,
+    before: &'a Before,
+    step: &'a PStep,
+) -> Result<Box<Doing<'a>>, Mem>
     requires { config.now.sig ≡ sig.now }
     ensures { IfOk result (λ x. IsFoundOut before.now config.now step.now x.value) }
 {
@@ -195,27 +154,28 @@ pub(crate) fn found_out(
     destructors_head_left_sides();
     matching_is_modulo();
     lines_have_one_answer();
+    let head = lent(&before.head);
     match step {
         PStep::Nil(t) => boxed(alloc, Doing::Ends(*t)),
         PStep::Par(_) => boxed(alloc, Doing::Splits(before.threads)),
         PStep::Rep(_) => boxed(alloc, Doing::Copies(before.threads)),
-        PStep::New(_, n) => made(alloc, *n, &before.head),
+        PStep::New(_, n) => made(alloc, *n, head),
         PStep::Out(_) => sent(alloc, config, before.entries),
         PStep::Send(_, k) => sent_on(alloc, config, *k, before.entries),
-        PStep::In(_, k) => taken_at(alloc, config, &before.head, *k),
-        PStep::Sync(_, _) => met_before(alloc, sig, before),
-        PStep::Then(_) => compared(alloc, sig, &before.head, true),
-        PStep::Else(_) => compared(alloc, sig, &before.head, false),
+        PStep::In(_, k) => taken_at(alloc, config, head, *k),
+        PStep::Sync(_, _) => met(alloc, sig, lent(&before.sender), head),
+        PStep::Then(_) => compared(alloc, sig, head, true),
+        PStep::Else(_) => compared(alloc, sig, head, false),
         PStep::Event(_) => boxed(alloc, Doing::Shows),
-        PStep::Insert(_) => inserted(alloc, sig, &before.head),
-        PStep::Delete(_) => deleted(alloc, sig, &before.head),
-        PStep::Found(_) => looked_before(alloc, sig, before),
-        PStep::Missing(_) => looked(alloc, sig, &before.head, None),
-        PStep::Lock(_) => locked(alloc, sig, &before.head),
-        PStep::Unlock(_) => unlocked(alloc, sig, &before.head),
-        PStep::Embedded(_, _, chosen) => used_at(alloc, config, before, &before.head, chosen),
+        PStep::Insert(_) => inserted(alloc, sig, head),
+        PStep::Delete(_) => deleted(alloc, sig, head),
+        PStep::Found(_) => looked(alloc, sig, head, before.stored.as_ref()),
+        PStep::Missing(_) => looked(alloc, sig, head, None),
+        PStep::Lock(_) => locked(alloc, sig, head),
+        PStep::Unlock(_) => unlocked(alloc, sig, head),
+        PStep::Embedded(_, _, chosen) => used_at(alloc, config, before, head, chosen),
         PStep::Name(n) => boxed(alloc, Doing::Names(*n)),
-        PStep::Public(a) => written(alloc, a),
+        PStep::Public(a) => boxed(alloc, Doing::Writes(a)),
         PStep::Apply(f, numbers) => applied(alloc, config, f, numbers, before.entries),
         PStep::Know(k) => given(alloc, config, *k),
     }

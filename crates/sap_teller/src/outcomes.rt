@@ -179,10 +179,12 @@ pub(crate) fn push_outcomes(text: &mut Text, first: bool, doing: &Doing) -> Resu
         Doing::Holds(k, false) => push_state(text, first, k, b" is free"),
         Doing::Uses(_, _, b, d) => push_all_bindings(text, first, b, d),
         Doing::Sends(_)
+        | Doing::SendsOn(_, _)
         | Doing::Shows
         | Doing::Inserts(_, _)
         | Doing::Deletes(_)
         | Doing::Names(_)
+        | Doing::Writes(_)
         | Doing::Gives(_)
         | Doing::Applies(_, _, _) => Ok(()),
     }

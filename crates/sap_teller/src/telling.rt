@@ -6,10 +6,10 @@ ghost use Rattle.sap_lines.specs.Answers.{MatchesExactly};
 ghost use Rattle.sap_teller.specs.Telling.{IsToldApart, IsToldOn};
 ghost use Rattle.sap_tell.specs.ThreadPaths.{paths_after};
 ghost use Rattle.sap_tell.specs.ToldText.{actor_text};
-ghost use Rattle.sap_teller.specs.code.Heads.{added_by};
+ghost use Rattle.sap_teller.specs.code.Heads.{added_by, form_at};
 ghost use Rattle.sap_teller.specs.code.Lines.{apart_text, body_text, numbered_text, IsToldApartFrom, IsToldFrom};
 
-use crate::before::{Before, kept_before};
+use crate::before::{Before, kept_before, lent};
 use crate::doing::{Doing, push_action};
 use crate::found_out::{added_count, found_out};
 use crate::outcomes::{push_outcomes, push_seen};
@@ -57,10 +57,10 @@ fn push_start(text: &mut Text, paths: &ThreadPaths, number: u64, step: &PStep) -
 
 // How many facts the line adds.
 fn added_by(step: &PStep, kept: &Before) -> u64
-    ensures { result ≡ added_by step.now kept.now.head }
+    ensures { result ≡ added_by step.now (form_at kept.now.head) }
 {
     match step {
-        PStep::Embedded(_, _, _) => added_count(&kept.head),
+        PStep::Embedded(_, _, _) => added_count(lent(&kept.head)),
         _ => 0,
     }
 }
@@ -85,7 +85,7 @@ impl Along {
         requires { self.old.lines < u64.MAX }
         ensures paths { OnOk result (self.new.paths ≡ paths_after self.old.paths step.now) }
         ensures lines { OnOk result (self.new.lines ≡ self.old.lines + 1) }
-        ensures facts { OnOk result (self.new.facts ≡ kept.now.facts + added_by step.now kept.now.head) }
+        ensures facts { OnOk result (self.new.facts ≡ kept.now.facts + added_by step.now (form_at kept.now.head)) }
     {
         match kept.facts.checked_add(added_by(step, kept)) {
             None => Err(Mem),
@@ -117,7 +117,7 @@ fn tell(
     let doing = found_out(alloc, sig, config, kept, step)?;
     push_start(text, &at.paths, at.lines + 1, step)?;
     push_body(text, config, kept.entries, label, &doing)?;
-    text.push_bytes(b"\n")?;
+    text.push_byte(b'\n')?;
     at.go_on(alloc, step, kept)
 }
 

@@ -1,5 +1,7 @@
 -- What is kept of a line before it is done, and what it does by that.
-use Rattle.std.specs.Prelude.{◌≡◌, ◌⊎◌, ⊤, ℕ, Bool, List, [], ◌∷◌, ◌++◌, length, Option, Some, None, MatchOption, slice_get, true, false}
+use denote.Ref.{Bor}
+use Rattle.std.specs.Prelude.{◌≡◌, ◌⊎◌, ⊤, ℕ, Bool, List, [], length, Option, Some, None, MatchOption, slice_get, true, false}
+use Rattle.std.specs.Global.{Box}
 use Rattle.std.specs.List.{range_with_len}
 use Rattle.sap_calc.specs.Running.{Running, configuration, WouldFind, FindsNothing}
 use Rattle.sap_calc.specs.ThreadHeads.{IsNobody, HasHead}
@@ -56,10 +58,20 @@ abbrev pub cited_of : PStep → List ℕ
 cited_of (line.Embedded t ks b) = ks
 cited_of _ = []
 
+-- what stands at a head that was found, where `0` stands for none
+abbrev pub form_at : Option (Box Form) → Form
+form_at None = form.Nil
+form_at (Some f) = f.value
+
+-- the same where it is lent
+abbrev pub form_of : Option (Bor Form) → Form
+form_of None = form.Nil
+form_of (Some f) = f.now
+
 -- what stands at the head of the thread, if one is asked for and it runs
-abbrev pub IsHead : Config → Option ℕ → Form → Type 0
-IsHead c None f = ⊤
-IsHead c (Some t) f = IsNobody c t ⊎ HasHead c t f
+abbrev pub IsHead : Config → Option ℕ → Option (Box Form) → Type 0
+IsHead c None o = ⊤
+IsHead c (Some t) o = MatchOption o (IsNobody c t) (λ f. HasHead c t f.value)
 
 -- what its key has, if it looks
 abbrev pub IsStored : Running → PStep → Option Term → Type 0
@@ -77,7 +89,7 @@ pub record IsBefore (r : Running) (step : PStep) (b : Before) : Type 0 where
   pub cited : b.cited ≡ cited_at r.facts (cited_of step)
 
 -- these are what is kept of it
-pub record IsKept (r : Running) (facts : ℕ) (step : PStep) (stored : Option Term) (head sender : Form) (b : Before) : Type 0 where
+pub record IsKept (r : Running) (facts : ℕ) (step : PStep) (stored : Option Term) (head sender : Option (Box Form)) (b : Before) : Type 0 where
   pub threads : b.threads ≡ length r.threads
   pub entries : b.entries ≡ length r.known
   pub same_facts : b.facts ≡ facts
@@ -112,7 +124,7 @@ pub record IsOfTwo (e : Equations) (K : Term → Term → Doing) (m n : Term) (x
 
 -- by a head of each form
 abbrev pub IsMade : ℕ → Form → Doing → Type 0
-IsMade n f x = (v : Var) → f ≡ form.New v → x ≡ does.Makes v n
+IsMade n f x = (v : Var) → f ≡ form.New v → (r : Bor Var) × (r.now ≡ v) × (x ≡ does.Makes r n)
 
 abbrev pub IsCompared : Equations → Bool → Form → Doing → Type 0
 IsCompared e same f x = (m n : Term) → f ≡ form.If m n → IsOfTwo e (λ a b. does.Compares a b same) m n x
@@ -123,8 +135,8 @@ IsInserted e f x = (m n : Term) → f ≡ form.Insert m n → IsOfTwo e does.Ins
 abbrev pub IsDeleted : Equations → Form → Doing → Type 0
 IsDeleted e f x = (m : Term) → f ≡ form.Delete m → IsOfOne e does.Deletes m x
 
-abbrev pub IsLooked : Equations → Option Term → Form → Doing → Type 0
-IsLooked e o f x = (m : Term) (v : Var) → f ≡ form.Lookup m v → IsOfOne e (λ k. does.Looks k v o) m x
+abbrev pub IsLooked : Equations → Option (Bor Term) → Form → Doing → Type 0
+IsLooked e o f x = (m : Term) (v : Var) → f ≡ form.Lookup m v → (r : Bor Var) × (r.now ≡ v) × IsOfOne e (λ k. does.Looks k r o) m x
 
 abbrev pub IsLocked : Equations → Form → Doing → Type 0
 IsLocked e f x = (m : Term) (i : ℕ) → f ≡ form.Lock m i → IsOfOne e (λ k. does.Holds k true) m x
@@ -137,9 +149,9 @@ abbrev pub IsFitted : Tree → Tree → (List Binding → Doing) → Doing → T
 IsFitted p u K x = HasNoMatch p u [] ⊎ ((b : List Binding) × (x ≡ K b) × IsOnlyMatch p u [] b)
 
 -- what an input binds by an entry: its pattern is matched with the entry, or with the second part of the pair that it is
-pub record IsTakenBy (u : Term) (f : Form) (x : Doing) : Type 0 where
-  pub alone : (n : Term) → f ≡ form.In n → IsFitted (tree n) (tree u) (does.Takes u false) x
-  pub on_channel : (m n : Term) → f ≡ form.Recv m n → (a b : Tree) → tree u ≡ app2 pair_name a b → IsFitted (tree n) b (does.Takes u true) x
+pub record IsTakenBy (u : Bor Term) (f : Form) (x : Doing) : Type 0 where
+  pub alone : (n : Term) → f ≡ form.In n → IsFitted (tree n) (tree u.now) (does.Takes u false) x
+  pub on_channel : (m n : Term) → f ≡ form.Recv m n → (a b : Tree) → tree u.now ≡ app2 pair_name a b → IsFitted (tree n) b (does.Takes u true) x
 
 -- what one that takes binds by what another sends
 abbrev pub IsMetBy : Equations → Form → Form → Doing → Type 0
@@ -149,30 +161,30 @@ IsMetBy e f h x =
 
 -- what an input binds by the entry of a number
 pub record IsTakenFrom (u : Tree) (f : Form) (x : Doing) : Type 0 where
-  pub term : Term
-  pub same : tree term ≡ u
+  pub term : Bor Term
+  pub same : tree term.now ≡ u
   pub by : IsTakenBy term f x
 
 abbrev pub IsTakenAt : List Tree → ℕ → Form → Doing → Type 0
 IsTakenAt es k f x = (u : Tree) → slice_get es k ≡ Some u → IsTakenFrom u f x
 
 -- it is made of the entry of a number, or of those of two
-pub record IsOfTree (K : Term → Doing) (u : Tree) (x : Doing) : Type 0 where
-  pub term : Term
-  pub same : tree term ≡ u
+pub record IsOfTree (K : Bor Term → Doing) (u : Tree) (x : Doing) : Type 0 where
+  pub term : Bor Term
+  pub same : tree term.now ≡ u
   pub is : x ≡ K term
 
-pub record AreOfTrees (K : Term → Term → Doing) (u v : Tree) (x : Doing) : Type 0 where
-  pub left : Term
-  pub right : Term
-  pub left_same : tree left ≡ u
-  pub right_same : tree right ≡ v
+pub record AreOfTrees (K : Bor Term → Bor Term → Doing) (u v : Tree) (x : Doing) : Type 0 where
+  pub left : Bor Term
+  pub right : Bor Term
+  pub left_same : tree left.now ≡ u
+  pub right_same : tree right.now ≡ v
   pub is : x ≡ K left right
 
-abbrev pub IsOfEntry : List Tree → ℕ → (Term → Doing) → Doing → Type 0
+abbrev pub IsOfEntry : List Tree → ℕ → (Bor Term → Doing) → Doing → Type 0
 IsOfEntry es k K x = (u : Tree) → slice_get es k ≡ Some u → IsOfTree K u x
 
-abbrev pub AreOfEntries : List Tree → ℕ → ℕ → (Term → Term → Doing) → Doing → Type 0
+abbrev pub AreOfEntries : List Tree → ℕ → ℕ → (Bor Term → Bor Term → Doing) → Doing → Type 0
 AreOfEntries es k j K x = (u v : Tree) → slice_get es k ≡ Some u → slice_get es j ≡ Some v → AreOfTrees K u v x
 
 -- the arguments of facts, as one tree
@@ -180,12 +192,12 @@ abbrev pub together : List Fact → Tree
 together fs = apply [] (trees_of (facts_terms fs))
 
 -- what a rule binds by the facts that are cited, where it adds these
-abbrev pub IsUsedBy : List Fact → List Fact → List Binding → Form → Doing → Type 0
-IsUsedBy left right d f x = (l e r : List Fact) → f ≡ form.Embedded l e r → IsFitted (together l) (together left) (λ b. does.Uses left right b d) x
+abbrev pub IsUsedBy : Bor (List Fact) → List Fact → Bor (List Binding) → Form → Doing → Type 0
+IsUsedBy left right d f x = (l e r : List Fact) → f ≡ form.Embedded l e r → IsFitted (together l) (together left.now) (λ b. does.Uses left right b d) x
 
 -- and where it adds those with the next numbers
-abbrev pub IsUsedAt : List Fact → Pile → ℕ → List Binding → Form → Doing → Type 0
-IsUsedAt left facts n d f x = (l e r : List Fact) → f ≡ form.Embedded l e r → IsFitted (together l) (together left) (λ b. does.Uses left (cited_at facts (range_with_len n (length r))) b d) x
+abbrev pub IsUsedAt : List Fact → Pile → ℕ → Bor (List Binding) → Form → Doing → Type 0
+IsUsedAt left facts n d f x = (l e r : List Fact) → f ≡ form.Embedded l e r → (s : Bor (List Fact)) × (s.now ≡ left) × IsFitted (together l) (together left) (λ b. does.Uses s (cited_at facts (range_with_len n (length r))) b d) x
 
 -- how many facts a rule adds
 abbrev pub count_added : Form → ℕ

@@ -1,5 +1,5 @@
 -- A told line, part by part.
-use Rattle.std.specs.Prelude.{◌≡◌, ℕ, codes, decimal, true, List, ◌++◌, Option}
+use Rattle.std.specs.Prelude.{ℕ, codes, decimal, true, List, ◌++◌, Option}
 use Rattle.sap_calc.specs.Running.{Running, configuration, IsDone}
 use Rattle.sap_deduce.specs.Entries.{terms_of}
 use Rattle.sap_lines.specs.Answers.{MatchesExactly}

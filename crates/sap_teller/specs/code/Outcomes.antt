@@ -1,5 +1,5 @@
 -- What comes of a line, written piece by piece.
-use Rattle.std.specs.Prelude.{ℕ, Bool, true, false, codes, List, [], ◌∷◌, ◌++◌, if◌then◌else◌, map, Option, Some, None}
+use Rattle.std.specs.Prelude.{ℕ, Bool, false, codes, List, [], ◌∷◌, ◌++◌, if◌then◌else◌, map, Option, Some, None}
 use Rattle.sap_terms.specs.Tree.{Tree}
 use Rattle.sap_terms.specs.declared.fact.Fact.{Fact}
 use Rattle.sap_tell.specs.ToldText.{shows_text, knows_text}

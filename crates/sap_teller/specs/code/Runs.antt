@@ -1,5 +1,5 @@
 -- A run that is told line by line.
-use Rattle.std.specs.Prelude.{◌≡◌, ◌+◌, ℕ, List, ◌++◌, length}
+use Rattle.std.specs.Prelude.{◌≡◌, ℕ, List, ◌++◌, length}
 use Rattle.sap_calc.specs.Running.{Running, configuration, IsDenied}
 use Rattle.sap_deduce.specs.Entries.{terms_of}
 use Rattle.sap_lines.specs.declared.fault.PFault.{PFault}
@@ -8,7 +8,7 @@ use Rattle.sap_process.specs.Proc.{Proc}
 use Rattle.sap_runs.specs.Marks.{Mark}
 use Rattle.sap_runs.specs.declared.process_step.PStep.{PStep}
 use Rattle.sap_terms.specs.Signature.{Sig}
-use Rattle.sap_terms.specs.Trace.{Trace, shown}
+use Rattle.sap_terms.specs.Trace.{shown}
 use Rattle.sap_terms.specs.declared.fact.Fact.{Fact}
 use Rattle.sap_teller.specs.Telling.{IsToldOn}
 use Rattle.sap_tell.specs.ThreadPaths.{thread_paths}

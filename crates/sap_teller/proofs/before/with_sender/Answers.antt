@@ -8,6 +8,6 @@ use Rattle.sap_teller.proofs.before.with_sender.Goals as goal
 
 pub returns : goal.returns
 returns c =
-    let there = subst (λ (o : Option ℕ). IsHead (configuration c.args.config.now) o c.in_ok-sender.sender.value) c.sender_of.ensures c.in_ok-sender.ensures in
-    if_ok c.with_cited.result (IsKept c.args.config.now c.args.facts c.args.step.now c.args.stored c.args.head.value c.in_ok-sender.sender.value) (IsBefore c.args.config.now c.args.step.now)
-    (λ (b : Before) k. is_before c.args.config.now c.args.facts c.args.step.now c.args.stored c.args.head.value c.in_ok-sender.sender.value b k c.requires.facts c.requires.stored c.requires.head there) c.with_cited.ensures
+    let there = subst (λ (o : Option ℕ). IsHead (configuration c.args.config.now) o c.in_ok-sender.sender) c.sender_of.ensures c.in_ok-sender.ensures in
+    if_ok c.with_cited.result (IsKept c.args.config.now c.args.facts c.args.step.now c.args.stored c.args.head c.in_ok-sender.sender) (IsBefore c.args.config.now c.args.step.now)
+    (λ (b : Before) k. is_before c.args.config.now c.args.facts c.args.step.now c.args.stored c.args.head c.in_ok-sender.sender b k c.requires.facts c.requires.stored c.requires.head there) c.with_cited.ensures

@@ -1,5 +1,4 @@
-use Rattle.std.proofs.Common.{◌≡◌, ◌++◌, ℕ, List, OnOk, subst, sym, ap, arith}
-use Rattle.sap_terms.specs.View.{tree}
+use Rattle.std.proofs.Common.{arith}
 use Rattle.sap_teller.proofs.Seconds.{not_open}
 use Rattle.sap_teller.proofs.doing.+push_open.Goals.{else-is-via-then-is+else-len-eq2, else-is-via-else-is}
 use Rattle.sap_teller.proofs.doing.+push_open.Goals as goal

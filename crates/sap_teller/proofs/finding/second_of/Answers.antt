@@ -1,4 +1,4 @@
-use Rattle.std.proofs.Common.{◌≡◌, ◌∙◌, sym, arith}
+use Rattle.std.proofs.Common.{arith}
 use Rattle.sap_teller.proofs.Seconds.{second_of_two, no_pair}
 use Rattle.sap_teller.proofs.finding.second_of.Goals.{else-is-via-then-is+else-len-eq2, else-is-via-else-is}
 use Rattle.sap_teller.proofs.finding.second_of.Goals as goal

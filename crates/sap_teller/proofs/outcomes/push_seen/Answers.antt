@@ -1,4 +1,4 @@
-use Rattle.std.proofs.Common.{ap, ◌∙◌, ◌++◌, nat_eq, Some, sym, true, map}
+use Rattle.std.proofs.Common.{ap, ◌∙◌, ◌++◌, nat_eq, true, map}
 use Rattle.std.specs.Prelude.{slice_get}
 use Rattle.sap_terms.specs.View.{tree}
 use Rattle.sap_deduce.specs.Entries.{terms_of}

@@ -13,5 +13,5 @@ returns c =
     let body = body_text c.args.label.now c.args.kept.now.entries (slice_get (terms_of z.known) c.args.kept.now.entries) in
     on_ok_three c.go_on.result _ _ _ _
     (λ paths lines facts r exact kept done.
-    told_on r z c.args.kept.now c.args.step.now c.args.label.now x kept done (c.in_ok-doing.ensures r done.sig exact kept) c.args.at.now c.go_on.new.self c.args.text.now c.push_start.new.text c.push_body.new.text c.push_bytes.new.self c.in_ok-push_start.ensures
-    (c.in_ok-push_body.ensures ∙ ap (λ y. c.push_start.new.text ++ body y) here) c.in_ok-push_bytes.ensures.ok paths lines facts) c.go_on.ensures.paths c.go_on.ensures.lines c.go_on.ensures.facts
+    told_on r z c.args.kept.now c.args.step.now c.args.label.now x kept done (c.in_ok-doing.ensures r done.sig exact kept) c.args.at.now c.go_on.new.self c.args.text.now c.push_start.new.text c.push_body.new.text c.push_byte.new.self c.in_ok-push_start.ensures
+    (c.in_ok-push_body.ensures ∙ ap (λ y. c.push_start.new.text ++ body y) here) c.in_ok-push_byte.ensures.ok paths lines facts) c.go_on.ensures.paths c.go_on.ensures.lines c.go_on.ensures.facts

@@ -1,4 +1,3 @@
-use Rattle.std.proofs.Common.{sym, subst}
 use Rattle.sap_lines.specs.Faults.{no_memory}
 use Rattle.sap_teller.proofs.telling.tell_line_apart.Goals as goal
 
