@@ -9,3 +9,4 @@ mod Joins
 mod Seconds
 mod OneLine
 mod ToldRuns
+mod Plain

@@ -81,3 +81,8 @@ module _ (r z : Running) (kept : Before) (step : PStep) (label : List Fact) (x :
 pub on_ok_three : {V E : Type 0} (r : Result V E) (A B C D : Type 0) → (A → B → C → D) → OnOk r A → OnOk r B → OnOk r C → OnOk r D
 on_ok_three (Ok v) A B C D f a b c = f a b c
 on_ok_three (Err e) A B C D f a b c = tt
+
+-- and from one
+pub on_ok_one : {V E : Type 0} (r : Result V E) (A B : Type 0) → (A → B) → OnOk r A → OnOk r B
+on_ok_one (Ok v) A B f a = f a
+on_ok_one (Err e) A B f a = tt

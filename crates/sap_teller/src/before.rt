@@ -42,23 +42,23 @@ fn head_of(step: &PStep) -> Option<u64>
     }
 }
 
-// The thread that sends to it.
-fn sender_of(step: &PStep) -> Option<u64>
-    ensures { result ≡ sender_of step.now }
+// What stands at the head of the thread whose head tells what the line does.
+fn head_at(alloc: Global, config: &Config, step: &PStep) -> Result<Option<Box<Form>>, Mem>
+    ensures { IfOk result (IsHead (configuration config.now) (head_of step.now)) }
 {
-    match step {
-        PStep::Sync(s, _) => Some(*s),
-        _ => None,
+    match head_of(step) {
+        Some(t) => config.head(alloc, t),
+        None => Ok(None),
     }
 }
 
-// What stands at the head of a thread, if one is asked for and it runs.
-fn head_at(alloc: Global, config: &Config, asked: Option<u64>) -> Result<Option<Box<Form>>, Mem>
-    ensures { IfOk result (IsHead (configuration config.now) asked) }
+// What stands at the head of the thread that sends to it.
+fn sender_at(alloc: Global, config: &Config, step: &PStep) -> Result<Option<Box<Form>>, Mem>
+    ensures { IfOk result (IsHead (configuration config.now) (sender_of step.now)) }
 {
-    match asked {
-        Some(t) => config.head(alloc, t),
-        None => Ok(None),
+    match step {
+        PStep::Sync(s, _) => config.head(alloc, *s),
+        _ => Ok(None),
     }
 }
 
@@ -121,7 +121,7 @@ fn with_sender(
     requires head { IsHead (configuration config.now) (head_of step.now) head }
     ensures { IfOk result (IsBefore config.now step.now) }
 {
-    let sender = head_at(alloc, config, sender_of(step))?;
+    let sender = sender_at(alloc, config, step)?;
     with_cited(alloc, config, facts, step, stored, head, sender)
 }
 
@@ -137,7 +137,7 @@ fn with_heads(
     requires stored { IsStored config.now step.now stored }
     ensures { IfOk result (IsBefore config.now step.now) }
 {
-    let head = head_at(alloc, config, head_of(step))?;
+    let head = head_at(alloc, config, step)?;
     with_sender(alloc, config, facts, step, stored, head)
 }
 

@@ -12,19 +12,28 @@ ghost use Rattle.sap_teller.specs.declared.doing.Doing.TheVariants as does;
 use crate::doing::Doing;
 use sap_lines::Form;
 use sap_rewrite::{match_pattern, normal};
-use sap_terms::{Bindings, Copied, FactList, Mem, Name, Signature, Term, TermList};
+use sap_terms::{
+    Bindings, Copied, FactList, Mem, Name, Signature, Term, TermList, destructors_head_left_sides,
+    leaves_are_normal,
+};
 use std::alloc::Global;
 
-// What a line does, in a box.
-pub(crate) fn boxed<'a>(alloc: Global, doing: Doing<'a>) -> Result<Box<Doing<'a>>, Mem>
-    ensures { IfOk result (λ x. x.value ≡ doing.entry) }
-{
-    Ok(Box::new(alloc, doing)?)
+// What stands for a line that isn't possible.
+pub(crate) fn nothing<'a>() -> Doing<'a> {
+    Doing::Shows
 }
 
-// What stands for a line that isn't possible.
-pub(crate) fn nothing<'a>(alloc: Global) -> Result<Box<Doing<'a>>, Mem> {
-    boxed(alloc, Doing::Shows)
+// The normal form of a term, which it is itself where no destructor stands in it.
+fn evaluated(alloc: Global, sig: &Signature, m: &Term) -> Result<Term, Mem>
+    ensures { IfOk result (λ r. IsNormalForm (equations sig.now) (tree m.now) (tree r)) }
+{
+    leaves_are_normal();
+    destructors_head_left_sides();
+    if sig.has_destructor(m) {
+        normal(alloc, sig, m)
+    } else {
+        m.copy(alloc)
+    }
 }
 
 // The normal forms of two terms.
@@ -32,18 +41,18 @@ fn two_forms(alloc: Global, sig: &Signature, m: &Term, n: &Term) -> Result<(Term
     ensures first { IfOk result (λ r. IsNormalForm (equations sig.now) (tree m.now) (tree r.0)) }
     ensures second { IfOk result (λ r. IsNormalForm (equations sig.now) (tree n.now) (tree r.1)) }
 {
-    let first = normal(alloc, sig, m)?;
-    let second = normal(alloc, sig, n)?;
+    let first = evaluated(alloc, sig, m)?;
+    let second = evaluated(alloc, sig, n)?;
     Ok((first, second))
 }
 
 // A name is made for the variable at the head.
-pub(crate) fn made<'a>(alloc: Global, n: u64, form: Option<&'a Form>) -> Result<Box<Doing<'a>>, Mem>
-    ensures { IfOk result (λ x. IsMade n (form_of form.entry) x.value) }
+pub(crate) fn made<'a>(n: u64, form: Option<&'a Form>) -> Doing<'a>
+    ensures { IsMade n (form_of form.entry) result }
 {
     match form {
-        Some(Form::New(v)) => boxed(alloc, Doing::Makes(v, n)),
-        _ => nothing(alloc),
+        Some(Form::New(v)) => Doing::Makes(v, n),
+        _ => nothing(),
     }
 }
 
@@ -53,15 +62,15 @@ pub(crate) fn compared<'a>(
     sig: &Signature,
     form: Option<&Form>,
     same: bool,
-) -> Result<Box<Doing<'a>>, Mem>
-    ensures { IfOk result (λ x. IsCompared (equations sig.now) same (form_of form.entry) x.value) }
+) -> Result<Doing<'a>, Mem>
+    ensures { IfOk result (λ x. IsCompared (equations sig.now) same (form_of form.entry) x) }
 {
     match form {
         Some(Form::If(m, n)) => {
             let (a, b) = two_forms(alloc, sig, m, n)?;
-            boxed(alloc, Doing::Compares(a, b, same))
+            Ok(Doing::Compares(a, b, same))
         }
-        _ => nothing(alloc),
+        _ => Ok(nothing()),
     }
 }
 
@@ -70,15 +79,15 @@ pub(crate) fn inserted<'a>(
     alloc: Global,
     sig: &Signature,
     form: Option<&Form>,
-) -> Result<Box<Doing<'a>>, Mem>
-    ensures { IfOk result (λ x. IsInserted (equations sig.now) (form_of form.entry) x.value) }
+) -> Result<Doing<'a>, Mem>
+    ensures { IfOk result (λ x. IsInserted (equations sig.now) (form_of form.entry) x) }
 {
     match form {
         Some(Form::Insert(m, n)) => {
             let (a, b) = two_forms(alloc, sig, m, n)?;
-            boxed(alloc, Doing::Inserts(a, b))
+            Ok(Doing::Inserts(a, b))
         }
-        _ => nothing(alloc),
+        _ => Ok(nothing()),
     }
 }
 
@@ -87,12 +96,12 @@ pub(crate) fn deleted<'a>(
     alloc: Global,
     sig: &Signature,
     form: Option<&Form>,
-) -> Result<Box<Doing<'a>>, Mem>
-    ensures { IfOk result (λ x. IsDeleted (equations sig.now) (form_of form.entry) x.value) }
+) -> Result<Doing<'a>, Mem>
+    ensures { IfOk result (λ x. IsDeleted (equations sig.now) (form_of form.entry) x) }
 {
     match form {
-        Some(Form::Delete(m)) => boxed(alloc, Doing::Deletes(normal(alloc, sig, m)?)),
-        _ => nothing(alloc),
+        Some(Form::Delete(m)) => Ok(Doing::Deletes(evaluated(alloc, sig, m)?)),
+        _ => Ok(nothing()),
     }
 }
 
@@ -102,15 +111,15 @@ pub(crate) fn looked<'a>(
     sig: &Signature,
     form: Option<&'a Form>,
     found: Option<&'a Term>,
-) -> Result<Box<Doing<'a>>, Mem>
-    ensures { IfOk result (λ x. IsLooked (equations sig.now) found.entry (form_of form.entry) x.value) }
+) -> Result<Doing<'a>, Mem>
+    ensures { IfOk result (λ x. IsLooked (equations sig.now) found.entry (form_of form.entry) x) }
 {
     match form {
         Some(Form::Lookup(m, v)) => {
-            let key = normal(alloc, sig, m)?;
-            boxed(alloc, Doing::Looks(key, v, found))
+            let key = evaluated(alloc, sig, m)?;
+            Ok(Doing::Looks(key, v, found))
         }
-        _ => nothing(alloc),
+        _ => Ok(nothing()),
     }
 }
 
@@ -119,12 +128,12 @@ pub(crate) fn locked<'a>(
     alloc: Global,
     sig: &Signature,
     form: Option<&Form>,
-) -> Result<Box<Doing<'a>>, Mem>
-    ensures { IfOk result (λ x. IsLocked (equations sig.now) (form_of form.entry) x.value) }
+) -> Result<Doing<'a>, Mem>
+    ensures { IfOk result (λ x. IsLocked (equations sig.now) (form_of form.entry) x) }
 {
     match form {
-        Some(Form::Lock(m, _)) => boxed(alloc, Doing::Holds(normal(alloc, sig, m)?, true)),
-        _ => nothing(alloc),
+        Some(Form::Lock(m, _)) => Ok(Doing::Holds(evaluated(alloc, sig, m)?, true)),
+        _ => Ok(nothing()),
     }
 }
 
@@ -133,37 +142,32 @@ pub(crate) fn unlocked<'a>(
     alloc: Global,
     sig: &Signature,
     form: Option<&Form>,
-) -> Result<Box<Doing<'a>>, Mem>
-    ensures { IfOk result (λ x. IsUnlocked (equations sig.now) (form_of form.entry) x.value) }
+) -> Result<Doing<'a>, Mem>
+    ensures { IfOk result (λ x. IsUnlocked (equations sig.now) (form_of form.entry) x) }
 {
     match form {
-        Some(Form::Unlock(m, _)) => boxed(alloc, Doing::Holds(normal(alloc, sig, m)?, false)),
-        _ => nothing(alloc),
+        Some(Form::Unlock(m, _)) => Ok(Doing::Holds(evaluated(alloc, sig, m)?, false)),
+        _ => Ok(nothing()),
     }
 }
 
 // An entry is taken, which fits the pattern.
-fn taken_alone<'a>(alloc: Global, n: &Term, x: &'a Term) -> Result<Box<Doing<'a>>, Mem>
-    ensures { IfOk result (λ r. IsFitted (tree n.now) (tree x.now) (does.Takes x.entry false) r.value) }
+fn taken_alone<'a>(alloc: Global, n: &Term, x: &'a Term) -> Result<Doing<'a>, Mem>
+    ensures { IfOk result (λ r. IsFitted (tree n.now) (tree x.now) (does.Takes x.entry false) r) }
 {
     match match_pattern(alloc, n, x, &Bindings::new(alloc))? {
-        None => nothing(alloc),
-        Some(b) => boxed(alloc, Doing::Takes(x, false, b)),
+        None => Ok(nothing()),
+        Some(b) => Ok(Doing::Takes(x, false, b)),
     }
 }
 
 // A pair is taken, whose second part fits the pattern.
-fn taken_second<'a>(
-    alloc: Global,
-    n: &Term,
-    x: &'a Term,
-    second: &Term,
-) -> Result<Box<Doing<'a>>, Mem>
-    ensures { IfOk result (λ r. IsFitted (tree n.now) (tree second.now) (does.Takes x.entry true) r.value) }
+fn taken_second<'a>(alloc: Global, n: &Term, x: &'a Term, second: &Term) -> Result<Doing<'a>, Mem>
+    ensures { IfOk result (λ r. IsFitted (tree n.now) (tree second.now) (does.Takes x.entry true) r) }
 {
     match match_pattern(alloc, n, second, &Bindings::new(alloc))? {
-        None => nothing(alloc),
-        Some(b) => boxed(alloc, Doing::Takes(x, true, b)),
+        None => Ok(nothing()),
+        Some(b) => Ok(Doing::Takes(x, true, b)),
     }
 }
 
@@ -183,30 +187,26 @@ fn second_of(x: &Term) -> Option<&Term>
 }
 
 // An entry is taken, and this is what it binds.
-pub(crate) fn taken<'a>(
-    alloc: Global,
-    form: Option<&Form>,
-    x: &'a Term,
-) -> Result<Box<Doing<'a>>, Mem>
-    ensures { IfOk result (λ r. IsTakenBy x.entry (form_of form.entry) r.value) }
+pub(crate) fn taken<'a>(alloc: Global, form: Option<&Form>, x: &'a Term) -> Result<Doing<'a>, Mem>
+    ensures { IfOk result (λ r. IsTakenBy x.entry (form_of form.entry) r) }
 {
     match form {
         Some(Form::In(n)) => taken_alone(alloc, n, x),
         Some(Form::Recv(_, n)) => match second_of(x) {
-            None => nothing(alloc),
+            None => Ok(nothing()),
             Some(second) => taken_second(alloc, n, x, second),
         },
-        _ => nothing(alloc),
+        _ => Ok(nothing()),
     }
 }
 
 // What is sent on a channel, and what binds who takes it by the pattern.
-fn met_by<'a>(alloc: Global, p: &Term, channel: Term, message: Term) -> Result<Box<Doing<'a>>, Mem>
-    ensures { IfOk result (λ r. IsFitted (tree p.now) (tree message) (does.Meets channel message) r.value) }
+fn met_by<'a>(alloc: Global, p: &Term, channel: Term, message: Term) -> Result<Doing<'a>, Mem>
+    ensures { IfOk result (λ r. IsFitted (tree p.now) (tree message) (does.Meets channel message) r) }
 {
     match match_pattern(alloc, p, &message, &Bindings::new(alloc))? {
-        None => nothing(alloc),
-        Some(b) => boxed(alloc, Doing::Meets(channel, message, b)),
+        None => Ok(nothing()),
+        Some(b) => Ok(Doing::Meets(channel, message, b)),
     }
 }
 
@@ -216,8 +216,8 @@ pub(crate) fn met<'a>(
     sig: &Signature,
     sender: Option<&Form>,
     form: Option<&Form>,
-) -> Result<Box<Doing<'a>>, Mem>
-    ensures { IfOk result (λ r. IsMetBy (equations sig.now) (form_of sender.entry) (form_of form.entry) r.value) }
+) -> Result<Doing<'a>, Mem>
+    ensures { IfOk result (λ r. IsMetBy (equations sig.now) (form_of sender.entry) (form_of form.entry) r) }
 {
     match sender {
         Some(Form::Send(m, n)) => match form {
@@ -225,9 +225,9 @@ pub(crate) fn met<'a>(
                 let (a, u) = two_forms(alloc, sig, m, n)?;
                 met_by(alloc, p, a, u)
             }
-            _ => nothing(alloc),
+            _ => Ok(nothing()),
         },
-        _ => nothing(alloc),
+        _ => Ok(nothing()),
     }
 }
 
@@ -278,14 +278,14 @@ pub(crate) fn used<'a>(
     left: &'a FactList,
     right: FactList,
     chosen: &'a Bindings,
-) -> Result<Box<Doing<'a>>, Mem>
-    ensures { IfOk result (λ r. IsUsedBy left.entry right chosen.entry (form_of form.entry) r.value) }
+) -> Result<Doing<'a>, Mem>
+    ensures { IfOk result (λ r. IsUsedBy left.entry right chosen.entry (form_of form.entry) r) }
 {
     match form {
         Some(Form::Embedded(l, _, _)) => match bound_by(alloc, l, left)? {
-            None => nothing(alloc),
-            Some(b) => boxed(alloc, Doing::Uses(left, right, b, chosen)),
+            None => Ok(nothing()),
+            Some(b) => Ok(Doing::Uses(left, right, b, chosen)),
         },
-        _ => nothing(alloc),
+        _ => Ok(nothing()),
     }
 }

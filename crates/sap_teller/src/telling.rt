@@ -7,7 +7,7 @@ ghost use Rattle.sap_teller.specs.Telling.{IsToldApart, IsToldOn};
 ghost use Rattle.sap_tell.specs.ThreadPaths.{paths_after};
 ghost use Rattle.sap_tell.specs.ToldText.{actor_text};
 ghost use Rattle.sap_teller.specs.code.Heads.{added_by, form_at};
-ghost use Rattle.sap_teller.specs.code.Lines.{apart_text, body_text, numbered_text, IsToldApartFrom, IsToldFrom};
+ghost use Rattle.sap_teller.specs.code.Lines.{apart_text, body_text, numbered_text, IsPushed, IsPushedTwice, IsToldApartFrom, IsToldFrom};
 
 use crate::before::{Before, kept_before, lent};
 use crate::doing::{Doing, push_action};
@@ -99,6 +99,23 @@ impl Along {
     }
 }
 
+// What the line did, and what comes of it.
+fn push_line(
+    alloc: Global,
+    sig: &Signature,
+    config: &Config,
+    kept: &Before,
+    step: &PStep,
+    label: &FactList,
+    text: &mut Text,
+) -> Result<(), Mem>
+    requires { config.now.sig ≡ sig.now }
+    ensures { OnOk result (IsPushed kept.now config.now step.now label.now text.old text.new) }
+{
+    let doing = found_out(alloc, sig, config, kept, step)?;
+    push_body(text, config, kept.entries, label, &doing)
+}
+
 // Tells a line that was done, and goes on.
 fn tell(
     alloc: Global,
@@ -114,9 +131,8 @@ fn tell(
     requires lines { at.old.lines < u64.MAX }
     ensures { OnOk result (IsToldFrom kept.now config.now step.now label.now at.old at.new text.old text.new) }
 {
-    let doing = found_out(alloc, sig, config, kept, step)?;
     push_start(text, &at.paths, at.lines + 1, step)?;
-    push_body(text, config, kept.entries, label, &doing)?;
+    push_line(alloc, sig, config, kept, step, label, text)?;
     text.push_byte(b'\n')?;
     at.go_on(alloc, step, kept)
 }
@@ -158,6 +174,25 @@ fn push_apart(text: &mut Text, label: &FactList, doing: &Doing) -> Result<(), Me
     push_outcomes(text, true, doing)
 }
 
+// What the line did and what comes of it, and apart from that what it did.
+fn push_twice(
+    alloc: Global,
+    sig: &Signature,
+    config: &Config,
+    kept: &Before,
+    step: &PStep,
+    label: &FactList,
+    text: &mut Text,
+    apart: &mut Text,
+) -> Result<(), Mem>
+    requires { config.now.sig ≡ sig.now }
+    ensures { OnOk result (IsPushedTwice kept.now config.now step.now label.now text.old text.new apart.old apart.new) }
+{
+    let doing = found_out(alloc, sig, config, kept, step)?;
+    push_body(text, config, kept.entries, label, &doing)?;
+    push_apart(apart, label, &doing)
+}
+
 // Tells a line that was done, and apart from it what it does, and goes on.
 fn tell_apart(
     alloc: Global,
@@ -174,10 +209,8 @@ fn tell_apart(
     requires lines { at.old.lines < u64.MAX }
     ensures { OnOk result (IsToldApartFrom kept.now config.now step.now label.now at.old at.new text.old text.new apart.old apart.new) }
 {
-    let doing = found_out(alloc, sig, config, kept, step)?;
     push_start(text, &at.paths, at.lines + 1, step)?;
-    push_body(text, config, kept.entries, label, &doing)?;
-    push_apart(apart, label, &doing)?;
+    push_twice(alloc, sig, config, kept, step, label, text, apart)?;
     at.go_on(alloc, step, kept)
 }
 

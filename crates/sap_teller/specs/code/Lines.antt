@@ -1,5 +1,5 @@
 -- A told line, part by part.
-use Rattle.std.specs.Prelude.{ℕ, codes, decimal, true, List, ◌++◌, Option}
+use Rattle.std.specs.Prelude.{◌≡◌, ℕ, codes, decimal, true, List, ◌++◌, Option, slice_get}
 use Rattle.sap_calc.specs.Running.{Running, configuration, IsDone}
 use Rattle.sap_deduce.specs.Entries.{terms_of}
 use Rattle.sap_lines.specs.Answers.{MatchesExactly}
@@ -8,7 +8,7 @@ use Rattle.sap_terms.specs.Tree.{Tree}
 use Rattle.sap_terms.specs.declared.fact.Fact.{Fact}
 use Rattle.sap_teller.specs.Telling.{IsToldApart, IsToldOn}
 use Rattle.sap_teller.specs.code.Doings.{action_of, outcomes_of}
-use Rattle.sap_teller.specs.code.Heads.{IsBefore}
+use Rattle.sap_teller.specs.code.Heads.{IsBefore, IsFoundOut}
 use Rattle.sap_teller.specs.code.Outcomes.{outcomes_from, shown_texts}
 use Rattle.sap_teller.specs.declared.before.Before.{Before}
 use Rattle.sap_teller.specs.declared.doing.Doing.{Doing}
@@ -22,6 +22,12 @@ numbered_text number actor = decimal number ++ (codes ". " ++ (actor ++ codes ":
 abbrev pub body_text : List Fact → ℕ → Option Tree → Doing → List ℕ
 body_text label k o x = action_of label x ++ outcomes_from true (shown_texts label k o ++ outcomes_of x)
 
+-- what the line did is put last, with what comes of it
+pub record IsPushed (kept : Before) (z : Running) (step : PStep) (label : List Fact) (before after : List ℕ) : Type 0 where
+  pub doing : Doing
+  pub does : IsFoundOut kept z step doing
+  pub text : after ≡ before ++ body_text label kept.entries (slice_get (terms_of z.known) kept.entries) doing
+
 -- from wherever this was kept and the line was done, it is told
 abbrev pub IsToldFrom : Before → Running → PStep → List Fact → Along → Along → List ℕ → List ℕ → Type 0
 IsToldFrom kept z step label a b before after =
@@ -30,6 +36,13 @@ IsToldFrom kept z step label a b before after =
 -- what is done, with what comes of it beside what is shown and known
 abbrev pub apart_text : List Fact → Doing → List ℕ
 apart_text label x = action_of label x ++ outcomes_from true (outcomes_of x)
+
+-- the same, and apart from it what the line did
+pub record IsPushedTwice (kept : Before) (z : Running) (step : PStep) (label : List Fact) (before after apart_before apart_after : List ℕ) : Type 0 where
+  pub doing : Doing
+  pub does : IsFoundOut kept z step doing
+  pub text : after ≡ before ++ body_text label kept.entries (slice_get (terms_of z.known) kept.entries) doing
+  pub apart : apart_after ≡ apart_before ++ apart_text label doing
 
 -- from wherever this was kept and the line was done, it is told, and told apart
 abbrev pub IsToldApartFrom : Before → Running → PStep → List Fact → Along → Along → List ℕ → List ℕ → List ℕ → List ℕ → Type 0

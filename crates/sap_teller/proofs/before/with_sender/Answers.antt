@@ -1,13 +1,10 @@
-use Rattle.std.proofs.Common.{ℕ, Option, subst}
-use Rattle.sap_calc.specs.Running.{configuration}
 use Rattle.sap_teller.proofs.Found.{if_ok}
 use Rattle.sap_teller.proofs.Kept.{is_before}
 use Rattle.sap_teller.specs.declared.before.Before.{Before}
-use Rattle.sap_teller.specs.code.Heads.{IsKept, IsBefore, IsHead}
+use Rattle.sap_teller.specs.code.Heads.{IsKept, IsBefore}
 use Rattle.sap_teller.proofs.before.with_sender.Goals as goal
 
 pub returns : goal.returns
 returns c =
-    let there = subst (λ (o : Option ℕ). IsHead (configuration c.args.config.now) o c.in_ok-sender.sender) c.sender_of.ensures c.in_ok-sender.ensures in
     if_ok c.with_cited.result (IsKept c.args.config.now c.args.facts c.args.step.now c.args.stored c.args.head c.in_ok-sender.sender) (IsBefore c.args.config.now c.args.step.now)
-    (λ (b : Before) k. is_before c.args.config.now c.args.facts c.args.step.now c.args.stored c.args.head c.in_ok-sender.sender b k c.requires.facts c.requires.stored c.requires.head there) c.with_cited.ensures
+    (λ (b : Before) k. is_before c.args.config.now c.args.facts c.args.step.now c.args.stored c.args.head c.in_ok-sender.sender b k c.requires.facts c.requires.stored c.requires.head c.in_ok-sender.ensures) c.with_cited.ensures
