@@ -1,30 +1,40 @@
 -- Forms with their variables replaced.
-use Rattle.std.proofs.Common.{◌≡◌, ℕ, List, ◌∷◌, [], refl, sym, ap, ◌∙◌, ◌++◌}
-use Rattle.sap_terms.specs.Choice.{Choice, instance}
+use Rattle.std.proofs.Common.{◌≡◌, ℕ, ◌+◌, List, ◌∷◌, [], map, drop, Some, true, false, if◌then◌else◌, refl, sym, ap, ◌∙◌, subst, Result, IfOk}
+use Rattle.std.specs.Prelude.{slice_get}
+use Rattle.std.specs.Str.{bytes_eq}
+use Rattle.sap_terms.specs.Choice.{Choice, instance, instances}
 use Rattle.sap_terms.specs.Modulo.{instance_fact, instance_facts}
-use Rattle.sap_terms.specs.Tree.{Tree}
-use Rattle.sap_terms.specs.View.{tree, term, term-tree}
-use Rattle.sap_terms.specs.declared.binding.Binding.{Binding}
+use Rattle.sap_terms.specs.Tree.{Tree, more, trees_of}
+use Rattle.sap_terms.specs.View.{tree}
 use Rattle.sap_terms.specs.declared.fact.Fact.{Fact}
 use Rattle.sap_terms.specs.declared.term.Term.{Term}
 use Rattle.sap_terms.specs.declared.var.Var.{Var}
+use Rattle.sap_terms.proofs.PlainLaws.Lists.{drop_got}
 use Rattle.sap_process.specs.Action as action
 use Rattle.sap_process.specs.Instance.{process_instance, without}
-use Rattle.sap_process.specs.Proc.{Proc, act, test, lookup}
+use Rattle.sap_process.specs.Proc.{act, test, lookup}
+use Rattle.sap_share.specs.Env.{given}
 use Rattle.sap_share.specs.Shared.{tree_at}
 use Rattle.sap_share.specs.declared.env.Bound.{Bound}
-use Rattle.sap_lines.specs.declared.form.Form.{Form}
 use Rattle.sap_lines.specs.declared.form.Form.TheVariants as form
 use Rattle.sap_calc.specs.code.Under.{IsFormUnder}
 
--- a number's term is bound
-abbrev pub binding : Var → Term → Binding
-binding v t = record { var = v; term = t }
+-- where one is reached that has the name, its tree is given
+pub given_here : (ts : List Tree) (env : List Bound) (k : ℕ) (e : Bound) (v : Var) → slice_get env k ≡ Some e → bytes_eq e.var.name v.name ≡ true → given ts (drop k env) v ≡ tree_at ts e.id
+given_here ts env k e v at h = ap (λ es. given ts es v) (drop_got env k e at) ∙ ap (λ b. if b then tree_at ts e.id else given ts (drop (k + 1) env) v) h
 
-pub bound_made : (ts : List Tree) (e : Bound) (v : Var) (t : Term) → v ≡ e.var → tree t ≡ tree_at ts e.id → binding v t ≡ binding e.var (term (tree_at ts e.id))
-bound_made ts e v t is same =
-    let one : t ≡ term (tree_at ts e.id) = sym (term-tree t) ∙ ap term same in
-    λ i. binding (is i) (one i)
+-- where one is reached that has another name, what those behind it give is given
+pub given_behind : (ts : List Tree) (env : List Bound) (k : ℕ) (e : Bound) (v : Var) → slice_get env k ≡ Some e → bytes_eq e.var.name v.name ≡ false → given ts (drop k env) v ≡ given ts (drop (k + 1) env) v
+given_behind ts env k e v at h = ap (λ es. given ts es v) (drop_got env k e at) ∙ ap (λ b. if b then tree_at ts e.id else given ts (drop (k + 1) env) v) h
+
+-- an answer that has the one tree has the other, where the two are the same
+pub told : {E : Type 0} (x y : Tree) (r : Result Term E) → x ≡ y → IfOk r (λ t. tree t ≡ x) → IfOk r (λ t. tree t ≡ y)
+told x y r e h = subst (λ z. IfOk r (λ t. tree t ≡ z)) e h
+
+-- an instance in each tree of a list
+pub instances_listed : (σ : Choice) (ts : List Tree) → instances σ (trees_of ts) ≡ trees_of (map (instance σ) ts)
+instances_listed σ [] = refl
+instances_listed σ (t ∷ ts) = ap (more (instance σ t)) (instances_listed σ ts)
 
 module _ (σ : Choice) where
   pub nil_under : IsFormUnder σ form.Nil form.Nil

@@ -1,6 +1,6 @@
 -- What stands at the heads of threads.
-use Rattle.std.proofs.Common.{◌≡◌, ◌<◌, ℕ, Bool, true, false, List, [], ◌∷◌, ◌++◌, length, map, Some, None, if◌then◌else◌, refl, sym, ap, subst, ◌∙◌, ◌⊎◌, inl, inr, arith}
-use Rattle.std.specs.Prelude.{All, Contains, slice_get}
+use Rattle.std.proofs.Common.{◌≡◌, ◌<◌, ℕ, Bool, true, false, List, [], ◌∷◌, length, map, Some, if◌then◌else◌, refl, ap, subst, ◌∙◌, ◌⊎◌, inl, inr, arith}
+use Rattle.std.specs.Prelude.{Contains, slice_get}
 use Rattle.std.specs.Str.{bytes_eq}
 use Rattle.std.proofs.lemmas.List.Elements.{All-head, All-tail, Contains-append_left, Contains-append_right, Contains-append_cases}
 use Rattle.sap_terms.specs.Choice.{Choice, instance, instances}
@@ -9,9 +9,9 @@ use Rattle.sap_terms.specs.Tree.{Tree, variable, public, fresh, apply, Trees, no
 use Rattle.sap_terms.specs.Variables.{tree_vars, trees_vars}
 use Rattle.sap_terms.specs.View.{tree}
 use Rattle.sap_terms.specs.declared.var.Var.{Var}
-use Rattle.sap_terms.proofs.PlainLaws.Items.{first_item, item_cases}
+use Rattle.sap_terms.proofs.PlainLaws.Items.{item_cases}
 use Rattle.sap_rewrite.specs.Match.{HaveOneSort}
-use Rattle.sap_share.specs.Env.{given, AreBound, AreSmallForms}
+use Rattle.sap_share.specs.Env.{given, AreBound}
 use Rattle.sap_share.specs.Shared.{tree_at}
 use Rattle.sap_share.specs.declared.env.Bound.{Bound}
 use Rattle.sap_lines.specs.Places.{proc_at, procs_of}

@@ -2,48 +2,63 @@
 ghost use Rattle.std.specs.Prelude.{◌≡◌, length, map, IfOk};
 ghost use Rattle.sap_terms.specs.Choice.{instance};
 ghost use Rattle.sap_terms.specs.Modulo.{instance_fact, instance_facts};
-ghost use Rattle.sap_terms.specs.Subst.{bound_to, subst_tree};
 ghost use Rattle.sap_terms.specs.View.{tree};
-ghost use Rattle.sap_share.specs.Env.{AreBound, bindings_of, given};
+ghost use Rattle.sap_share.specs.Env.{AreBound, given};
 ghost use Rattle.sap_calc.specs.code.Under.{IsFormUnder};
 
 use sap_lines::Form;
 use sap_share::{Env, Table};
-use sap_sides::numbers_give_terms;
-use sap_terms::{Binding, Bindings, Copied, Fact, FactList, Mem, Term, TermList, Var, subst};
+use sap_terms::{Copied, Fact, FactList, Mem, Term, TermList, Var};
 use std::alloc::Global;
 
-// What is bound, with terms for the numbers.
-fn bindings(alloc: Global, table: &Table, env: &Env) -> Result<Bindings, Mem>
+// The term of the first number that is bound to the variable's name, and the variable itself where there is none.
+fn given_term(alloc: Global, table: &Table, env: &Env, v: &Var) -> Result<Term, Mem>
     requires { AreBound (length table.now.trees) env.now }
-    ensures { IfOk result (λ b. b ≡ bindings_of table.now.trees env.now) }
+    ensures { IfOk result (λ r. tree r ≡ given table.now.trees env.now v.now) }
 {
-    let mut made = Bindings::new(alloc);
     for k in 0..env.len() {
         let bound = env.at(k);
-        let var = bound.var.copy(alloc)?;
-        let term = table.tree(alloc, bound.id)?;
-        made.push(Binding { var, term })?;
+        if bound.var.name.same(&v.name) {
+            return table.tree(alloc, bound.id);
+        }
     }
-    Ok(made)
+    Ok(Term::Var(v.copy(alloc)?))
+}
+
+// A term with its variables replaced.
+#[cycle(term_under)]
+#[tactic(auto, using(crate::proofs::Replaced::instances_listed))]
+fn term_under(alloc: Global, table: &Table, env: &Env, t: &Term) -> Result<Term, Mem>
+    requires { AreBound (length table.now.trees) env.now }
+    ensures { IfOk result (λ r. tree r ≡ instance (given table.now.trees env.now) (tree t.now)) }
+{
+    match t {
+        Term::Var(v) => given_term(alloc, table, env, v),
+        Term::Public(n) => Ok(Term::Public(n.copy(alloc)?)),
+        Term::Fresh(k) => Ok(Term::Fresh(*k)),
+        Term::App(f, ts) => Ok(Term::App(f.copy(alloc)?, terms_under(alloc, table, env, ts)?)),
+    }
 }
 
 // Terms with their variables replaced.
-fn terms_under(alloc: Global, ts: &TermList, b: &Bindings) -> Result<TermList, Mem>
-    ensures { IfOk result (λ us. us ≡ map (subst_tree b.now) ts.now) }
+#[cycle(term_under)]
+fn terms_under(alloc: Global, table: &Table, env: &Env, ts: &TermList) -> Result<TermList, Mem>
+    requires { AreBound (length table.now.trees) env.now }
+    ensures { IfOk result (λ us. us ≡ map (instance (given table.now.trees env.now)) ts.now) }
 {
-    let mut made = TermList::new(alloc);
+    let mut made = TermList::with_room(alloc, ts.len())?;
     for k in 0..ts.len() {
-        made.push(subst(alloc, ts.at(k), b)?)?;
+        made.push(term_under(alloc, table, env, ts.at(k))?)?;
     }
     Ok(made)
 }
 
 // A fact.
-fn fact_under(alloc: Global, f: &Fact, b: &Bindings) -> Result<Fact, Mem>
-    ensures { IfOk result (λ h. h ≡ instance_fact (bound_to b.now) f.now) }
+fn fact_under(alloc: Global, table: &Table, env: &Env, f: &Fact) -> Result<Fact, Mem>
+    requires { AreBound (length table.now.trees) env.now }
+    ensures { IfOk result (λ h. h ≡ instance_fact (given table.now.trees env.now) f.now) }
 {
-    let args = terms_under(alloc, &f.args, b)?;
+    let args = terms_under(alloc, table, env, &f.args)?;
     let name = f.name.copy(alloc)?;
     let persistent = f.persistent;
     Ok(Fact {
@@ -54,30 +69,45 @@ fn fact_under(alloc: Global, f: &Fact, b: &Bindings) -> Result<Fact, Mem>
 }
 
 // Facts.
-fn facts_under(alloc: Global, fs: &FactList, b: &Bindings) -> Result<FactList, Mem>
-    ensures { IfOk result (λ hs. hs ≡ instance_facts (bound_to b.now) fs.now) }
+fn facts_under(alloc: Global, table: &Table, env: &Env, fs: &FactList) -> Result<FactList, Mem>
+    requires { AreBound (length table.now.trees) env.now }
+    ensures { IfOk result (λ hs. hs ≡ instance_facts (given table.now.trees env.now) fs.now) }
 {
     let mut made = FactList::new(alloc);
     for k in 0..fs.len() {
-        made.push(fact_under(alloc, fs.at(k), b)?)?;
+        made.push(fact_under(alloc, table, env, fs.at(k))?)?;
     }
     Ok(made)
 }
 
 // Two terms.
-fn two_under(alloc: Global, t: &Term, u: &Term, b: &Bindings) -> Result<(Term, Term), Mem>
-    ensures { IfOk result (λ r. (tree r.0 ≡ instance (bound_to b.now) (tree t.now)) × (tree r.1 ≡ instance (bound_to b.now) (tree u.now))) }
+fn two_under(
+    alloc: Global,
+    table: &Table,
+    env: &Env,
+    t: &Term,
+    u: &Term,
+) -> Result<(Term, Term), Mem>
+    requires { AreBound (length table.now.trees) env.now }
+    ensures { IfOk result (λ r. (tree r.0 ≡ instance (given table.now.trees env.now) (tree t.now)) × (tree r.1 ≡ instance (given table.now.trees env.now) (tree u.now))) }
 {
-    let first = subst(alloc, t, b)?;
-    let second = subst(alloc, u, b)?;
+    let first = term_under(alloc, table, env, t)?;
+    let second = term_under(alloc, table, env, u)?;
     Ok((first, second))
 }
 
 // A term, and the variable beside it as it is.
-fn looked_under(alloc: Global, t: &Term, x: &Var, b: &Bindings) -> Result<(Term, Var), Mem>
-    ensures { IfOk result (λ r. (tree r.0 ≡ instance (bound_to b.now) (tree t.now)) × (r.1 ≡ x.now)) }
+fn looked_under(
+    alloc: Global,
+    table: &Table,
+    env: &Env,
+    t: &Term,
+    x: &Var,
+) -> Result<(Term, Var), Mem>
+    requires { AreBound (length table.now.trees) env.now }
+    ensures { IfOk result (λ r. (tree r.0 ≡ instance (given table.now.trees env.now) (tree t.now)) × (r.1 ≡ x.now)) }
 {
-    let term = subst(alloc, t, b)?;
+    let term = term_under(alloc, table, env, t)?;
     let var = x.copy(alloc)?;
     Ok((term, var))
 }
@@ -85,56 +115,59 @@ fn looked_under(alloc: Global, t: &Term, x: &Var, b: &Bindings) -> Result<(Term,
 // The three sides of a rule.
 fn sides_under(
     alloc: Global,
+    table: &Table,
+    env: &Env,
     l: &FactList,
     e: &FactList,
     r: &FactList,
-    b: &Bindings,
 ) -> Result<(FactList, FactList, FactList), Mem>
-    ensures { IfOk result (λ s. (s.0 ≡ instance_facts (bound_to b.now) l.now) × (s.1 ≡ instance_facts (bound_to b.now) e.now) × (s.2 ≡ instance_facts (bound_to b.now) r.now)) }
+    requires { AreBound (length table.now.trees) env.now }
+    ensures { IfOk result (λ s. (s.0 ≡ instance_facts (given table.now.trees env.now) l.now) × (s.1 ≡ instance_facts (given table.now.trees env.now) e.now) × (s.2 ≡ instance_facts (given table.now.trees env.now) r.now)) }
 {
-    let left = facts_under(alloc, l, b)?;
-    let acts = facts_under(alloc, e, b)?;
-    let right = facts_under(alloc, r, b)?;
+    let left = facts_under(alloc, table, env, l)?;
+    let acts = facts_under(alloc, table, env, e)?;
+    let right = facts_under(alloc, table, env, r)?;
     Ok((left, acts, right))
 }
 
 // A form with its variables replaced.
-fn form_under(alloc: Global, form: &Form, b: &Bindings) -> Result<Form, Mem>
-    ensures { IfOk result (IsFormUnder (bound_to b.now) form.now) }
+fn form_under(alloc: Global, table: &Table, env: &Env, form: &Form) -> Result<Form, Mem>
+    requires { AreBound (length table.now.trees) env.now }
+    ensures { IfOk result (IsFormUnder (given table.now.trees env.now) form.now) }
 {
     match form {
         Form::Nil => Ok(Form::Nil),
         Form::Par => Ok(Form::Par),
         Form::Rep => Ok(Form::Rep),
         Form::New(x) => Ok(Form::New(x.copy(alloc)?)),
-        Form::Out(t) => Ok(Form::Out(subst(alloc, t, b)?)),
+        Form::Out(t) => Ok(Form::Out(term_under(alloc, table, env, t)?)),
         Form::Send(t, u) => {
-            let (t, u) = two_under(alloc, t, u, b)?;
+            let (t, u) = two_under(alloc, table, env, t, u)?;
             Ok(Form::Send(t, u))
         }
-        Form::In(t) => Ok(Form::In(subst(alloc, t, b)?)),
+        Form::In(t) => Ok(Form::In(term_under(alloc, table, env, t)?)),
         Form::Recv(t, u) => {
-            let (t, u) = two_under(alloc, t, u, b)?;
+            let (t, u) = two_under(alloc, table, env, t, u)?;
             Ok(Form::Recv(t, u))
         }
         Form::If(t, u) => {
-            let (t, u) = two_under(alloc, t, u, b)?;
+            let (t, u) = two_under(alloc, table, env, t, u)?;
             Ok(Form::If(t, u))
         }
-        Form::Event(f) => Ok(Form::Event(fact_under(alloc, f, b)?)),
+        Form::Event(f) => Ok(Form::Event(fact_under(alloc, table, env, f)?)),
         Form::Insert(t, u) => {
-            let (t, u) = two_under(alloc, t, u, b)?;
+            let (t, u) = two_under(alloc, table, env, t, u)?;
             Ok(Form::Insert(t, u))
         }
-        Form::Delete(t) => Ok(Form::Delete(subst(alloc, t, b)?)),
+        Form::Delete(t) => Ok(Form::Delete(term_under(alloc, table, env, t)?)),
         Form::Lookup(t, x) => {
-            let (t, x) = looked_under(alloc, t, x, b)?;
+            let (t, x) = looked_under(alloc, table, env, t, x)?;
             Ok(Form::Lookup(t, x))
         }
-        Form::Lock(t, n) => Ok(Form::Lock(subst(alloc, t, b)?, *n)),
-        Form::Unlock(t, n) => Ok(Form::Unlock(subst(alloc, t, b)?, *n)),
+        Form::Lock(t, n) => Ok(Form::Lock(term_under(alloc, table, env, t)?, *n)),
+        Form::Unlock(t, n) => Ok(Form::Unlock(term_under(alloc, table, env, t)?, *n)),
         Form::Embedded(l, e, r) => {
-            let (l, e, r) = sides_under(alloc, l, e, r, b)?;
+            let (l, e, r) = sides_under(alloc, table, env, l, e, r)?;
             Ok(Form::Embedded(l, e, r))
         }
     }
@@ -150,7 +183,5 @@ pub(crate) fn boxed_under(
     requires { AreBound (length table.now.trees) env.now }
     ensures { IfOk result (λ f. IsFormUnder (given table.now.trees env.now) form.now f.value) }
 {
-    numbers_give_terms();
-    let b = bindings(alloc, table, env)?;
-    Ok(Box::new(alloc, form_under(alloc, form, &b)?)?)
+    Ok(Box::new(alloc, form_under(alloc, table, env, form)?)?)
 }
