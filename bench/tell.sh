@@ -1,19 +1,23 @@
 #!/bin/sh
 # Counts what telling a run costs beside what judging it does. Each family doubles the lines, up to what a run may have. A line tells
 # the instructions of `tell`, by valgrind, and their ratio to the line before, which is to be about 2, at most 2.2 (of `sessions` more,
-# as `judge` grows there); those of `judge` on the same run; the ratio of both; and by how many kilobytes `tell` holds more than
-# `judge`, and how many its text has.
+# as `judge` grows there); those of `judge` on the same run; the ratio of both; by how many kilobytes `tell` holds more than `judge`,
+# how many its text has, and the milliseconds of the shortest of three calls.
 #
-# `sessions` is a file with lemmas, whose terms are small: there `tell` takes at most twice what `judge` takes, and at most 1,024 kB
-# more. The other families have no formula, so that `judge` does nothing but replay, and what telling adds stands alone.
+# Where terms are small, `tell` takes at most twice what `judge` takes, and holds at most 1,024 kB more:
 #
-#   sessions  examples/answer.spthy, a question and its answer in each session
+#   sessions  examples/answer.spthy with its lemmas, a question and its answer in each session
+#   stored    threads that store a name, find it and give a lock back, in a file without a formula, so that `judge` does nothing but replay
+#   chain     one thread, whose place has one digit more at each line, up to the levels that a process may have: its text grows by more
+#   wide      threads that make thirty names each before they do that, so that much is in scope at each line
+#
+# Where terms are large, `judge` looks at each by its number and `tell` writes it out, so that no ratio is wanted: 5,000 lines are to be
+# told in less than a second.
+#
 #   known     an entry of 255 nodes that the adversary shows again and again
 #   inputs    threads that take this entry
 #   outputs   threads that take it, put it out and show it
 #   rules     the lines of rules that become those of inputs
-#   stored    threads that store a name, find it and give a lock back
-#   chain     one thread, whose place has one digit more at each line, up to the levels that a process may have: its text grows by more
 #
 # usage: bench/tell.sh [FAMILY..]
 set -eu
@@ -36,8 +40,9 @@ measured() {
     judge=$(instructions judge "$work/file" "$work/run")
     more=$(($(kilobytes tell "$work/file" "$work/run") - $(kilobytes judge "$work/file" "$work/run")))
     text=$("$program" tell "$work/file" "$work/run" | wc -c)
+    took=$(milliseconds tell "$work/file" "$work/run")
     told "$1" lines "$tell" '%12d instructions'
-    awk "BEGIN { printf \"%8s judge %d, ratio %.2f; %d kB more, text of %d kB\n\", \"\", $judge, $tell / $judge, $more, $text / 1024 }"
+    awk "BEGIN { printf \"%8s judge %d, ratio %.2f; %d kB more, text of %d kB, %.0f ms\n\", \"\", $judge, $tell / $judge, $more, $text / 1024, $took }"
 }
 
 sessions() {
@@ -95,6 +100,21 @@ stored() {
     done
 }
 
+wide() {
+    file "! ($(seq 1 30 | sed 's/.*/new ~k&; /' | tr -d '\n') lock ~k1; insert ~k1, <~k1, ~k30>; lookup ~k30 as x in 0 else unlock ~k1)"
+    for count in 1250 2500 5000; do
+        awk -v n="$((count / 35))" 'BEGIN {
+            print "process-run"
+            for (k = 1; k <= n; k++) {
+                print "rep 0"
+                for (j = 1; j <= 30; j++) printf "new %d ~%d\n", k, ++name
+                printf "lock %d\ninsert %d\nmissing %d\nunlock %d\n", k, k, k, k
+            }
+        }' > "$work/run"
+        measured "$count"
+    done
+}
+
 chain() {
     for count in 70 140 280; do
         awk -v n="$count" 'BEGIN { printf "theory B begin process: "; for (k = 0; k < n; k++) printf "event A(); "; print "0 end" }' > "$work/file"
@@ -103,7 +123,7 @@ chain() {
     done
 }
 
-for name in ${*:-sessions known inputs outputs rules stored chain}; do
+for name in ${*:-sessions stored chain wide known inputs outputs rules}; do
     family "$name" 2
     "$name"
 done
