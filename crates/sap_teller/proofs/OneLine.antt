@@ -86,3 +86,8 @@ on_ok_three (Err e) A B C D f a b c = tt
 pub on_ok_one : {V E : Type 0} (r : Result V E) (A B : Type 0) → (A → B) → OnOk r A → OnOk r B
 on_ok_one (Ok v) A B f a = f a
 on_ok_one (Err e) A B f a = tt
+
+-- and from two
+pub on_ok_two : {V E : Type 0} (r : Result V E) (A B C : Type 0) → (A → B → C) → OnOk r A → OnOk r B → OnOk r C
+on_ok_two (Ok v) A B C f a b = f a b
+on_ok_two (Err e) A B C f a b = tt

@@ -99,7 +99,7 @@ impl Along {
     }
 }
 
-// What the line did, and what comes of it.
+// What the line did, and what comes of it. What was found out is let go by `drop`, which is proved once for all types.
 fn push_line(
     alloc: Global,
     sig: &Signature,
@@ -112,8 +112,14 @@ fn push_line(
     requires { config.now.sig ≡ sig.now }
     ensures { OnOk result (IsPushed kept.now config.now step.now label.now text.old text.new) }
 {
-    let doing = found_out(alloc, sig, config, kept, step)?;
-    push_body(text, config, kept.entries, label, &doing)
+    match found_out(alloc, sig, config, kept, step) {
+        Err(_) => Err(Mem),
+        Ok(doing) => {
+            let pushed = push_body(text, config, kept.entries, label, &doing);
+            drop(doing);
+            pushed
+        }
+    }
 }
 
 // Tells a line that was done, and goes on.
@@ -174,6 +180,23 @@ fn push_apart(text: &mut Text, label: &FactList, doing: &Doing) -> Result<(), Me
     push_outcomes(text, true, doing)
 }
 
+// What is done and what comes of it, and apart from that what is done.
+fn push_both(
+    text: &mut Text,
+    apart: &mut Text,
+    config: &Config,
+    entries: u64,
+    label: &FactList,
+    doing: &Doing,
+) -> Result<(), Mem>
+    ensures text { OnOk result (text.new
+        ≡ text.old ++ body_text label.now entries (slice_get (terms_of config.now.known) entries) doing.now) }
+    ensures apart { OnOk result (apart.new ≡ apart.old ++ apart_text label.now doing.now) }
+{
+    push_body(text, config, entries, label, doing)?;
+    push_apart(apart, label, doing)
+}
+
 // What the line did and what comes of it, and apart from that what it did.
 fn push_twice(
     alloc: Global,
@@ -188,9 +211,14 @@ fn push_twice(
     requires { config.now.sig ≡ sig.now }
     ensures { OnOk result (IsPushedTwice kept.now config.now step.now label.now text.old text.new apart.old apart.new) }
 {
-    let doing = found_out(alloc, sig, config, kept, step)?;
-    push_body(text, config, kept.entries, label, &doing)?;
-    push_apart(apart, label, &doing)
+    match found_out(alloc, sig, config, kept, step) {
+        Err(_) => Err(Mem),
+        Ok(doing) => {
+            let pushed = push_both(text, apart, config, kept.entries, label, &doing);
+            drop(doing);
+            pushed
+        }
+    }
 }
 
 // Tells a line that was done, and apart from it what it does, and goes on.

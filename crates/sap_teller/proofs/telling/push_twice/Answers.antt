@@ -1,5 +1,6 @@
-use Rattle.sap_teller.proofs.OneLine.{on_ok_one}
+use Rattle.sap_teller.proofs.OneLine.{on_ok_two}
 use Rattle.sap_teller.proofs.telling.push_twice.Goals as goal
 
-pub returns : goal.returns
-returns c = on_ok_one c.push_apart.result _ _ (λ apart. record { doing = c.in_ok-doing.doing; does = c.in_ok-doing.ensures; text = c.in_ok-push_body.ensures; apart = apart }) c.push_apart.ensures
+pub returns-in-Ok : goal.returns-in-Ok
+returns-in-Ok c =
+    on_ok_two c.push_both-pushed.result _ _ _ (λ text apart. record { doing = c.in-Ok.doing; does = c.in-Ok.ensures; text = text; apart = apart }) c.push_both-pushed.ensures.text c.push_both-pushed.ensures.apart
