@@ -14,9 +14,11 @@
 #   names     so many definitions, each the one before it under another name, the last of which stands where `nodes` has an event
 #   lemma     so many lemmas, of which the last has a variable that isn't guarded
 #   binders   one lemma that binds one name so many times in one quantifier, and behind it once without a guard
+#   deep      one lemma of so many conjuncts, which are more levels than a formula may have
+#   nested    one lemma of so many facts below twenty quantifiers in one another that bind one name, and behind them one without a guard
 #
-# For each size it tells the instructions of both, by valgrind, their ratio, which is to be at most 1.75, and what `why` takes to the size
-# before, at most 2.2. Where there are more nodes than there may be, `compile` counts and `why` walks to the first place beyond, which takes
+# For each size it tells the instructions of both, by valgrind, their ratio, which is to be at most 1.75, of `deep` and `nested` 2.2, and
+# what `why` takes to the size before, at most 2.2. Where there are more nodes than there may be, `compile` counts and `why` walks to the first place beyond, which takes
 # some 3 million more: this is most of what it takes of `nodes`, and lifts the ratio of the smallest file of `names` to 2.1. And of each
 # file of examples/ it tells the instructions of `compile`, and of `why` on it with a lemma that is in no grammar, which are to be fewer.
 #
@@ -86,6 +88,25 @@ binders() {
     }'
 }
 
+deep() {
+    awk -v n="$1" 'BEGIN {
+        printf "theory Bench begin process: event A(\x27a\x27)\nlemma last: \"All x #i. A(x)@i ==> T"
+        for (k = 1; k <= n; k++) printf " & (Ex y #j. A(y)@j)"
+        print "\" end"
+    }'
+}
+
+nested() {
+    awk -v n="$1" 'function joined(m) { return m == 1 ? "A(x)@i" : "(" joined(int(m / 2)) " & " joined(m - int(m / 2)) ")" }
+        BEGIN {
+        printf "theory Bench begin process: event A(\x27a\x27)\nlemma last: \""
+        for (k = 1; k <= 20; k++) printf "(All x #i. A(x)@i ==> "
+        printf "%s & (Ex x. T)", joined(n)
+        for (k = 1; k <= 20; k++) printf ")"
+        print "\" end"
+    }'
+}
+
 wished=" $* "
 printf '%-8s %7s %14s %14s %6s %7s\n' kind size compile why ratio growth
 
@@ -125,6 +146,8 @@ kind facts 'more than 4000 nodes' 8000 16000 32000 64000
 kind names 'more than 4000 nodes' 1000 2000 4000 8000
 kind lemma 'last: variable x is not guarded' 1000 2000 4000 8000
 kind binders 'last: variable x is not guarded' 8000 16000 32000 64000
+kind deep 'line 2: not in the grammar' 1000 2000 4000 8000
+kind nested 'last: variable x is not guarded' 1000 2000 4000 8000
 
 case $wished in *" examples "* | "  ") ;; *) exit 0 ;; esac
 for file in "$(dirname "$0")"/../examples/*.spthy; do
