@@ -13,7 +13,8 @@ use Rattle.sap_terms.specs.Trace.{Trace, shown}
 use Rattle.sap_terms.specs.Tree.{Tree, trees_of, variable}
 use Rattle.sap_terms.specs.declared.fact.Fact.{Fact}
 use Rattle.sap_formula.proofs.Alike.{alike}
-use Rattle.sap_formula.proofs.Goods.{IsGoodFact, goods_at}
+use Rattle.sap_formula.proofs.Goods.{goods_at}
+use Rattle.sap_formula.specs.Messages.{HasMessages}
 use Rattle.sap_formula.proofs.Law.{AllSeen, Among, Seen, Within, each_both, law}
 use Rattle.sap_formula.proofs.Plain.{NormalLaws, leaf-normal}
 use Rattle.sap_formula.proofs.Slimmer.{hidden_binder_law, renamed, slim_checked, slim_once, weaker}
@@ -173,7 +174,7 @@ Nothing t = Unit {0}
 seen_visible : (vis : List ℕ → Bool) (g : Sig) (tr : Trace) → IsMessageTrace g tr → AllSeen g (λ n. vis n ≡ true) Nothing (λ k. IsFilled vis (facts_at tr k)) tr
 seen_visible vis g tr m k =
     let R = λ (k : ℕ). IsFilled vis (facts_at tr k) in
-    each_both (IsGoodFact g) (λ f. vis f.name ≡ true → R k) (Seen g (λ n. vis n ≡ true) Nothing R k) (facts_at tr k) (λ f d e. record { normal = d.2; terms = λ v. each_within Nothing (trees_of f.args) (λ u i. tt); time = e }) (goods_at g tr m k) (each_filled vis (R k) (facts_at tr k) (λ e. e))
+    each_both (HasMessages g) (λ f. vis f.name ≡ true → R k) (Seen g (λ n. vis n ≡ true) Nothing R k) (facts_at tr k) (λ f d e. record { normal = d.2; terms = λ v. each_within Nothing (trees_of f.args) (λ u i. tt); time = e }) (goods_at g tr m k) (each_filled vis (R k) (facts_at tr k) (λ e. e))
 
 once_law : NormalLaws → (vis : List ℕ → Bool) (g : Sig) (f : Form) (tr : Trace) → IsMessageTrace g tr → IsChecked g (λ n. vis n ≡ true) [] f → BindsOnce f → IsTrueOn g f tr ↔ IsTrueOn g f (kept_by vis tr)
 once_law w vis g f tr m c o =

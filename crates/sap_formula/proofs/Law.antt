@@ -16,8 +16,10 @@ use Rattle.sap_terms.specs.Tree.{Tree, Trees, apply, fresh, more, none, public, 
 use Rattle.sap_terms.specs.declared.fact.Fact.{Fact}
 use Rattle.sap_terms.specs.declared.var.Sort.{Sort}
 use Rattle.sap_terms.specs.declared.var.Var.{Var}
-use Rattle.sap_formula.proofs.Plain.{NormalLaws, IsNormalEnv, args-same}
-use Rattle.sap_formula.specs.Checked.{AreCheckedTerms, AreGuarded, BindsOnce, IsChecked, IsCheckedTerm, NoTwice, StandsInAtom, StandsIn, StandsInAny, binder_name, enter, find_binder}
+use Rattle.sap_formula.proofs.Plain.{NormalLaws, args-same}
+use Rattle.sap_formula.specs.Laws.{OtherBinderLaw, OwnBinderLaw}
+use Rattle.sap_formula.specs.Messages.{IsNormalEnv}
+use Rattle.sap_formula.specs.Checked.{AreCheckedTerms, AreGuarded, BindsOnce, IsApart, IsChecked, IsCheckedTerm, NoTwice, StandsInAtom, StandsIn, StandsInAny, binder_name, enter, find_binder}
 
 -- lists
 
@@ -54,9 +56,6 @@ time_here n k τ = rw (same_name n) refl
 pub time_there : (n m : List ℕ) (k : ℕ) (τ : Times) → (n ≡ m → ⊥) → (stamp n k τ) m ≡ τ m
 time_there n m k τ h = rw (other n m h) refl
 
-abbrev pub IsApart : List Binder → List ℕ → Type 0
-IsApart bs n = EachIn (λ c. binder_name c ≡ n → ⊥) bs
-
 -- environments that agree but at the names that these binders bind
 pub record Kept (bs : List Binder) (σ : Choice) (τ : Times) (σ' : Choice) (τ' : Times) : Type 0 where
   pub terms : (w : Var) → IsApart bs w.name → σ' w ≡ σ w
@@ -77,12 +76,12 @@ kept_time m j bs σ τ σ' τ' k = record {
   times = λ n a. k.times n a.1 ∙ time_there m n j τ a.0;
 }
 
-pub found_apart : (bs scope : List Binder) (n : List ℕ) → IsApart bs n → find_binder (enter bs scope) n ≡ find_binder scope n
+pub found_apart : OtherBinderLaw
 found_apart [] scope n a = refl
 found_apart (b ∷ bs) scope n a = found_apart bs (b ∷ scope) n a.1 ∙ rw (other (binder_name b) n a.0) refl
 
 -- each binder of a quantifier that binds no name twice is the innermost of its name
-pub entered : (bs scope : List Binder) → NoTwice bs → EachIn (λ b. find_binder (enter bs scope) (binder_name b) ≡ Some b) bs
+pub entered : OwnBinderLaw
 entered [] scope h = tt
 entered (b ∷ bs) scope h = (found_apart bs (b ∷ scope) (binder_name b) h.0 ∙ rw (same_name (binder_name b)) refl, entered bs (b ∷ scope) h.1)
 

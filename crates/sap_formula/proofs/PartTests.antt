@@ -15,14 +15,13 @@ use Rattle.sap_terms.specs.declared.var.Sort.TheVariants.{Msg, Fresh, Pub}
 use Rattle.sap_terms.specs.declared.var.Var.{Var}
 use Rattle.sap_formula.specs.Checked.{IsCheckedTerm, StandsInAtom, StandsIn, StandsInAny, binder_name, find_binder}
 use Rattle.sap_formula.specs.Hide.{is_hidden}
-use Rattle.sap_formula.proofs.Tests.{decides_not, decides_or}
 use Rattle.sap_formula.specs.Faults.{HasFault, IsBound}
 use Rattle.sap_formula.specs.Parts.{Part, symbol, fact_name, message, time, bound}
 use Rattle.sap_formula.specs.Sorted.{by_binder, sorted_as}
 use Rattle.sap_formula.specs.code.Tests.{has_arity, has_fault, binds_message, binds_time, stands, stands_in, stands_in_any}
 use Rattle.sap_formula.specs.declared.fault.FormulaFlaw.{FormulaFlaw}
 use Rattle.sap_formula.specs.declared.fault.FormulaFlaw.TheVariants.{BadFunction, Destructor, Reserved, UnboundVar, Unguarded}
-use Rattle.std.proofs.lemmas.Bool.Decides.{Decides-eqb}
+use Rattle.std.proofs.lemmas.Bool.Decides.{Decides-eqb, Decides-not, Decides-or}
 use Rattle.sap_terms.proofs.PlainLaws.Tests.{and_left, and_right, and_true}
 
 -- the binder that is found has the name
@@ -59,7 +58,7 @@ message_decided scope v = at (find_binder scope v.name) refl where
   at None e = (λ h. absurd (cc), λ b. let q = b.innermost in absurd (cc))
   at (Some (Time n)) e = (λ h. absurd (cc), λ b. let q = b.innermost in absurd (cc))
   at (Some (Message b)) e =
-      let d = decides_or (same_sort v.sort Msg) (same_sort v.sort b.sort) (v.sort ≡ Msg) (v.sort ≡ b.sort) (sort_decided v.sort Msg) (sort_decided v.sort b.sort) in (
+      let d = Decides-or (same_sort v.sort Msg) (same_sort v.sort b.sort) (sort_decided v.sort Msg) (sort_decided v.sort b.sort) in (
         λ h. record { binder = b; innermost = e; sign = d.0 h },
         λ x. let q = x.innermost in let same : x.binder ≡ b = cc in d.1 (subst (λ (y : Var). (v.sort ≡ Msg) ⊎ (v.sort ≡ y.sort)) same x.sign),
       )
@@ -80,12 +79,12 @@ mutual
 
   any_decided : (n : List ℕ) (ts : Trees) → Decides (stands_in_any n ts) (StandsInAny n ts)
   any_decided n none = (λ h. absurd (cc), λ h. absurd h)
-  any_decided n (more t ts) = decides_or (stands_in n t) (stands_in_any n ts) (StandsIn n t) (StandsInAny n ts) (in_decided n t) (any_decided n ts)
+  any_decided n (more t ts) = Decides-or (stands_in n t) (stands_in_any n ts) (in_decided n t) (any_decided n ts)
 
 guard_decided : (n : List ℕ) (f : Form) → Decides (stands n f) (StandsInAtom n f)
-guard_decided n (both f g) = decides_or (stands n f) (stands n g) (StandsInAtom n f) (StandsInAtom n g) (guard_decided n f) (guard_decided n g)
+guard_decided n (both f g) = Decides-or (stands n f) (stands n g) (guard_decided n f) (guard_decided n g)
 guard_decided n (action f i) =
-    decides_or (bytes_eq i n) (stands_in_any n (trees_of f.args)) (i ≡ n) (StandsInAny n (trees_of f.args)) (bytes_eq-Decides i n) (any_decided n (trees_of f.args))
+    Decides-or (bytes_eq i n) (stands_in_any n (trees_of f.args)) (bytes_eq-Decides i n) (any_decided n (trees_of f.args))
 guard_decided n truth = (λ h. absurd (cc), λ h. absurd h)
 guard_decided n falsity = (λ h. absurd (cc), λ h. absurd h)
 guard_decided n (equal s t) = (λ h. absurd (cc), λ h. absurd h)
@@ -103,7 +102,7 @@ never = (λ h. absurd (cc), λ h. absurd h)
 
 -- the test decides the fault
 pub fault_decided : (g : Sig) (r : Bool) (w : FormulaFlaw) (p : Part) → Decides (has_fault g r w p) (HasFault g r w p)
-fault_decided g r BadFunction (symbol f n) = decides_not (has_arity (arity_of g f) n) (arity_of g f ≡ Some n) (arity_decided (arity_of g f) n)
+fault_decided g r BadFunction (symbol f n) = Decides-not (has_arity (arity_of g f) n) (arity_decided (arity_of g f) n)
 fault_decided g r BadFunction (fact_name n) = never
 fault_decided g r BadFunction (message s v) = never
 fault_decided g r BadFunction (time s n) = never
@@ -120,14 +119,14 @@ fault_decided g r Reserved (time s n) = never
 fault_decided g r Reserved (bound f b) = never
 fault_decided g r UnboundVar (symbol f n) = never
 fault_decided g r UnboundVar (fact_name n) = never
-fault_decided g r UnboundVar (message s v) = decides_not (binds_message (find_binder s v.name) v.sort) (IsBound s v) (message_decided s v)
-fault_decided g r UnboundVar (time s n) = decides_not (binds_time (find_binder s n)) (find_binder s n ≡ Some (Time n)) (time_decided s n)
+fault_decided g r UnboundVar (message s v) = Decides-not (binds_message (find_binder s v.name) v.sort) (message_decided s v)
+fault_decided g r UnboundVar (time s n) = Decides-not (binds_time (find_binder s n)) (time_decided s n)
 fault_decided g r UnboundVar (bound f b) = never
 fault_decided g r Unguarded (symbol f n) = never
 fault_decided g r Unguarded (fact_name n) = never
 fault_decided g r Unguarded (message s v) = never
 fault_decided g r Unguarded (time s n) = never
-fault_decided g r Unguarded (bound f b) = decides_not (stands (binder_name b) f) (StandsInAtom (binder_name b) f) (guard_decided (binder_name b) f)
+fault_decided g r Unguarded (bound f b) = Decides-not (stands (binder_name b) f) (guard_decided (binder_name b) f)
 
 same_sorted : (n : List ℕ) (w : Var) → w.name ≡ n → record { name = n; sort = w.sort } ≡ w
 same_sorted n w e = let back = sym e in λ i. record { name = back i; sort = w.sort }

@@ -3,6 +3,8 @@ use Rattle.std.proofs.Common.{◌≡◌, ℕ, List, [], ◌∷◌, false, refl}
 use Rattle.std.specs.List.{AllZip}
 use Rattle.sap_formula.specs.Checked.{AreCheckedTerms, IsCheckedTerm}
 use Rattle.sap_formula.specs.declared.binder.Binder.{Binder}
+use Rattle.sap_formula.specs.Laws.{CheckedArgsLaw, CheckedTermLaw}
+use Rattle.sap_formula.specs.Messages.{IsNormalEnv}
 use Rattle.sap_rewrite.specs.Laws.{NormalTermsDecide}
 use Rattle.sap_terms.specs.Choice.{Choice, instance, instances}
 use Rattle.sap_terms.specs.Equal.{IsTheoryEqual}
@@ -19,10 +21,6 @@ pub record NormalLaws : Type 0 where
   pub leaves : LeavesAreNormal
   pub heads : DestructorsHeadLeftSides
 
--- each variable stands for a normal term
-abbrev pub IsNormalEnv : Equations → Choice → Type 0
-IsNormalEnv e σ = (v : Var) → IsNormal e (σ v)
-
 pub leaf-normal : NormalLaws → (e : Equations) (v : Var) → IsNormal e (variable v)
 leaf-normal w e v = w.leaves.of_variable e v
 
@@ -36,7 +34,7 @@ no_head : NormalLaws → (g : Sig) (f : List ℕ) → is_destructor_of g f ≡ f
 no_head w g f h d = let yes = (w.heads g f).1 d in cc
 
 mutual
-  pub plain-normal : NormalLaws → (g : Sig) (scope : List Binder) (σ : Choice) (p : Tree) → IsCheckedTerm g scope p → IsNormalEnv (equations g) σ → IsNormal (equations g) (instance σ p)
+  pub plain-normal : NormalLaws → CheckedTermLaw
   plain-normal w g scope σ (variable v) c n = n v
   plain-normal w g scope σ (public m) c n = public-normal w (equations g) m
   plain-normal w g scope σ (fresh k) c n = fresh-normal w (equations g) k
@@ -50,7 +48,7 @@ mutual
 pub same_from_equal : NormalLaws → (e : Equations) (t u : Tree) → IsNormal e t → IsNormal e u → IsTheoryEqual e t u → t ≡ u
 same_from_equal w e t u n m h = (w.decide e t u n m).0 h
 
-pub args-same : NormalLaws → (g : Sig) (scope : List Binder) (σ : Choice) (ss ts : List Tree) → AreCheckedTerms g scope (trees_of ss) → IsNormalEnv (equations g) σ → EachSubtermWithin (IsNoLeftSide (equations g)) (trees_of ts) → AllZip (λ s t. IsTheoryEqual (equations g) (instance σ s) t) ss ts → instances σ (trees_of ss) ≡ trees_of ts
+pub args-same : NormalLaws → CheckedArgsLaw
 args-same w g scope σ [] [] c n m h = refl
 args-same w g scope σ [] (t ∷ ts) c n m h = absurd h
 args-same w g scope σ (s ∷ ss) [] c n m h = absurd h

@@ -17,11 +17,11 @@ use Rattle.sap_terms.specs.declared.var.Sort.{Sort}
 use Rattle.sap_terms.specs.declared.var.Sort.TheVariants.{Fresh, Msg, Pub}
 use Rattle.sap_terms.specs.declared.var.Var.{Var}
 use Rattle.sap_formula.proofs.Alike.{alike}
-use Rattle.sap_formula.proofs.Law.{IsApart, each_map, other}
+use Rattle.sap_formula.proofs.Law.{each_map, other}
 use Rattle.sap_formula.proofs.Plain.{NormalLaws, fresh-normal, public-normal}
-use Rattle.sap_formula.proofs.Tests.{or_cases}
-use Rattle.sap_formula.specs.Checked.{AreCheckedTerms, AreGuarded, BindsOnce, IsChecked, IsCheckedTerm, NoTwice, StandsInAtom, binder_name, enter, find_binder, premise}
-use Rattle.sap_formula.specs.Laws.{HiddenBinderLaw}
+use Rattle.std.proofs.lemmas.Bool.{or_cases}
+use Rattle.sap_formula.specs.Checked.{AreCheckedTerms, AreGuarded, BindsOnce, IsApart, IsChecked, IsCheckedTerm, NoTwice, StandsInAtom, binder_name, enter, find_binder, premise}
+use Rattle.sap_formula.specs.Laws.{HiddenBinderLaw, SlimClosedLaw, SlimOnceLaw}
 use Rattle.sap_formula.specs.Slim.{binds, lasts, slim}
 
 not_binds : (bs : List Binder) (n : List ℕ) → binds bs n ≡ false → IsApart bs n
@@ -139,7 +139,10 @@ slim_checked g V (exists bs f) s z e c = (
   slim_checked g V f (enter bs s) (enter (lasts bs) z) (same_scope bs s z (λ n a. e n tt)) c.1,
 )
 
-pub slim_once : (f : Form) → BindsOnce (slim f)
+pub slim_closed : SlimClosedLaw
+slim_closed g f c = slim_checked g (λ n. Unit {0}) f [] [] (λ n a. refl) c
+
+pub slim_once : SlimOnceLaw
 slim_once truth = tt
 slim_once falsity = tt
 slim_once (action f i) = tt

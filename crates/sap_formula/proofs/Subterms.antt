@@ -11,13 +11,17 @@ use Rattle.sap_terms.specs.Tree.{Tree, Trees, apply, fresh, more, none, public, 
 use Rattle.sap_terms.specs.declared.fact.Fact.{Fact}
 use Rattle.sap_terms.specs.declared.var.Var.{Var}
 use Rattle.sap_formula.proofs.Alike.{alike}
-use Rattle.sap_formula.proofs.Goods.{AreGood, IsGood, IsGoodFact, each_at, goods_at}
+use Rattle.sap_formula.proofs.Goods.{each_at, goods_at}
+use Rattle.sap_formula.specs.Messages.{AreAnyMessages, HasMessages, IsAnyMessage}
 use Rattle.sap_formula.proofs.Law.{AllSeen, Among, Seen, each_both, law}
 use Rattle.sap_formula.proofs.Plain.{NormalLaws, leaf-normal}
-use Rattle.sap_formula.proofs.Tests.{IsIn}
 use Rattle.sap_formula.specs.Laws.{SubtermLaw}
 use Rattle.sap_terms.specs.Message.{IsMessageTrace}
 use Rattle.sap_formula.specs.Subterms.{IsSeenMessage, all_subterms, time_terms, subterms, trace_terms}
+
+-- one of these
+abbrev IsIn : {X : Type 0} → List X → X → Type 0
+IsIn xs x = AnyIn (λ y. y ≡ x) xs
 
 pub in_left : {X : Type 0} (xs ys : List X) (x : X) → IsIn xs x → IsIn (xs ++ ys) x
 in_left [] ys x i = absurd i
@@ -62,27 +66,27 @@ each_in_trace S (p ∷ ps) h = (
 )
 
 mutual
-  good_subterm : (g : Sig) (t : Tree) → IsGood g t → (u : Tree) → IsIn (subterms t) u → IsGood g u
+  good_subterm : (g : Sig) (t : Tree) → IsAnyMessage g t → (u : Tree) → IsIn (subterms t) u → IsAnyMessage g u
   good_subterm g (variable v) a u i = absurd a.0
-  good_subterm g (public m) a u (inl e) = subst (IsGood g) e a
+  good_subterm g (public m) a u (inl e) = subst (IsAnyMessage g) e a
   good_subterm g (public m) a u (inr i) = absurd i
-  good_subterm g (fresh k) a u (inl e) = subst (IsGood g) e a
+  good_subterm g (fresh k) a u (inl e) = subst (IsAnyMessage g) e a
   good_subterm g (fresh k) a u (inr i) = absurd i
-  good_subterm g (apply f ts) a u (inl e) = subst (IsGood g) e a
+  good_subterm g (apply f ts) a u (inl e) = subst (IsAnyMessage g) e a
   good_subterm g (apply f ts) a u (inr i) = good_within g ts (a.0, a.1.1, a.2.1) u i
 
-  good_within : (g : Sig) (ts : Trees) → AreGood g ts → (u : Tree) → IsIn (all_subterms ts) u → IsGood g u
+  good_within : (g : Sig) (ts : Trees) → AreAnyMessages g ts → (u : Tree) → IsIn (all_subterms ts) u → IsAnyMessage g u
   good_within g none a u i = absurd i
   good_within g (more t ts) a u i =
       elim (in_cases (subterms t) (all_subterms ts) u i) [ inl j ↦ good_subterm g t (a.0.0, a.1.0, a.2.0) u j | inr j ↦ good_within g ts (a.0.1, a.1.1, a.2.1) u j ]
 
-good_in_time : (g : Sig) (fs : List Fact) → EachIn (IsGoodFact g) fs → (u : Tree) → IsIn (time_terms fs) u → IsGood g u
+good_in_time : (g : Sig) (fs : List Fact) → EachIn (HasMessages g) fs → (u : Tree) → IsIn (time_terms fs) u → IsAnyMessage g u
 good_in_time g [] e u i = absurd i
 good_in_time g (f ∷ fs) e u i =
     elim (in_cases (all_subterms (trees_of f.args)) (time_terms fs) u i) [ inl j ↦ good_within g (trees_of f.args) e.0 u j | inr j ↦ good_in_time g fs e.1 u j ]
 
 -- what stands in a trace of messages is a message
-pub seen_good : (g : Sig) (tr : Trace) → EachIn (EachIn (IsGoodFact g)) tr → (u : Tree) → IsIn (trace_terms tr) u → IsGood g u
+pub seen_good : (g : Sig) (tr : Trace) → EachIn (EachIn (HasMessages g)) tr → (u : Tree) → IsIn (trace_terms tr) u → IsAnyMessage g u
 seen_good g [] e u i = absurd i
 seen_good g (p ∷ ps) e u i =
     elim (in_cases (time_terms p) (trace_terms ps) u i) [ inl j ↦ good_in_time g p e.0 u j | inr j ↦ seen_good g ps e.1 u j ]
@@ -93,7 +97,7 @@ Any n = Unit {0}
 all_seen : (g : Sig) (tr : Trace) → IsMessageTrace g tr → AllSeen g Any (IsIn (trace_terms tr)) (λ k. Unit {0}) tr
 all_seen g tr m k =
     let S = IsIn (trace_terms tr) in
-    each_both (IsGoodFact g) (HasTerms S) (Seen g Any S (λ j. Unit {0}) k) (facts_at tr k) (λ f d e. record { normal = d.2; terms = λ v. e; time = λ v. tt }) (goods_at g tr m k) (each_at (HasTerms S) tr (each_in_trace S tr (λ u i. i)) k)
+    each_both (HasMessages g) (HasTerms S) (Seen g Any S (λ j. Unit {0}) k) (facts_at tr k) (λ f d e. record { normal = d.2; terms = λ v. e; time = λ v. tt }) (goods_at g tr m k) (each_at (HasTerms S) tr (each_in_trace S tr (λ u i. i)) k)
 
 pub subterm_law : NormalLaws → SubtermLaw
 subterm_law w g f tr m c o =

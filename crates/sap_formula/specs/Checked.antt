@@ -106,10 +106,14 @@ IsChecked g V scope (equivalent f h) = IsChecked g V scope f × IsChecked g V sc
 IsChecked g V scope (every bs f) = AreGuarded bs (premise f) × IsChecked g V (enter bs scope) f
 IsChecked g V scope (exists bs f) = AreGuarded bs f × IsChecked g V (enter bs scope) f
 
+-- none of these binds the name
+abbrev pub IsApart : List Binder → List ℕ → Type 0
+IsApart bs n = EachIn (λ c. binder_name c ≡ n → ⊥) bs
+
 -- no name stands twice
 abbrev pub NoTwice : List Binder → Type 0
 NoTwice [] = Unit {0}
-NoTwice (b ∷ bs) = EachIn (λ c. binder_name c ≡ binder_name b → ⊥) bs × NoTwice bs
+NoTwice (b ∷ bs) = IsApart bs (binder_name b) × NoTwice bs
 
 -- no quantifier binds one name twice
 abbrev pub BindsOnce : Form → Type 0

@@ -1,23 +1,27 @@
 -- The laws of checked formulas.
-use Rattle.std.specs.Prelude.{◌≡◌, ℕ, Bool, true, false, ◌↔◌, ◌⊎◌, List, []}
-use Rattle.sap_formula.specs.Checked.{BindsOnce, IsChecked}
+use Rattle.std.specs.Prelude.{◌≡◌, ℕ, Bool, true, false, ◌↔◌, ◌⊎◌, List, [], Some}
+use Rattle.std.specs.List.{AllZip}
+use Rattle.sap_formula.specs.Checked.{AreCheckedTerms, BindsOnce, IsApart, IsChecked, IsCheckedTerm, NoTwice, binder_name, enter, find_binder}
 use Rattle.sap_formula.specs.Faults.{HasNoFault, IsFirstFault}
 use Rattle.sap_formula.specs.Filled.{filled}
 use Rattle.sap_formula.specs.Form.{Form}
 use Rattle.sap_formula.specs.Hide.{hide, is_hidden}
+use Rattle.sap_formula.specs.Messages.{HasMessages, IsNormalEnv}
 use Rattle.sap_formula.specs.Slim.{slim}
 use Rattle.sap_formula.specs.Sorted.{with_sorts}
 use Rattle.sap_formula.specs.Subterms.{IsSeenMessage}
 use Rattle.sap_formula.specs.Times.{IsTime}
-use Rattle.sap_formula.specs.Truth.{IsTrueOn, IsTrueUnder}
-use Rattle.sap_formula.specs.Verdict.{IsVerdict}
+use Rattle.sap_formula.specs.Truth.{EachIn, IsTrueOn, IsTrueUnder, facts_at}
+use Rattle.sap_formula.specs.declared.binder.Binder.{Binder}
 use Rattle.sap_formula.specs.declared.fault.FormulaFlaw.{FormulaFlaw}
-use Rattle.sap_formula.specs.declared.verdict.Verdict.{Verdict}
+use Rattle.sap_terms.specs.Choice.{Choice, instance, instances}
+use Rattle.sap_terms.specs.Equal.{IsTheoryEqual}
 use Rattle.sap_terms.specs.Equations.{equations}
 use Rattle.sap_terms.specs.Message.{IsMessageTrace}
+use Rattle.sap_terms.specs.Normal.{AreNormal, IsNormal}
 use Rattle.sap_terms.specs.Signature.{Sig}
 use Rattle.sap_terms.specs.Trace.{Trace}
-use Rattle.sap_terms.specs.Tree.{variable}
+use Rattle.sap_terms.specs.Tree.{Tree, trees_of, variable}
 
 -- the names of facts that a check allows: where reserved ones are looked for, those that aren't hidden
 abbrev pub Allowed : Bool → List ℕ → Type 0
@@ -74,14 +78,31 @@ NoFaultLaw = (g : Sig) (r : Bool) (f : Form) (w : FormulaFlaw) (name : List ℕ)
 abbrev pub SomeFaultLaw : Type 0
 SomeFaultLaw = (g : Sig) (r : Bool) (f : Form) → HasNoFault g r f ⊎ ((w : FormulaFlaw) × (name : List ℕ) × IsFirstFault g r f w name)
 
--- of a formula on a trace there is at most one verdict
-abbrev pub OneVerdictLaw : Type 0
-OneVerdictLaw = (g : Sig) (f : Form) (tr : Trace) (v w : Verdict) → IsVerdict g f tr v → IsVerdict g f tr w → v ≡ w
+-- a checked term is normal where its variables stand for normal terms
+abbrev pub CheckedTermLaw : Type 0
+CheckedTermLaw = (g : Sig) (scope : List Binder) (σ : Choice) (t : Tree) → IsCheckedTerm g scope t → IsNormalEnv (equations g) σ → IsNormal (equations g) (instance σ t)
 
--- of a checked closed one on a trace of messages there is some
-abbrev pub SomeVerdictLaw : Type 0
-SomeVerdictLaw = (g : Sig) (f : Form) (tr : Trace) → IsMessageTrace g tr → IsClosed g f → (v : Verdict) × IsVerdict g f tr v
+-- so checked terms that are then theory-equal to normal ones, one by one, are these
+abbrev pub CheckedArgsLaw : Type 0
+CheckedArgsLaw =
+    (g : Sig) (scope : List Binder) (σ : Choice) (ss ts : List Tree) → AreCheckedTerms g scope (trees_of ss) → IsNormalEnv (equations g) σ → AreNormal (equations g) (trees_of ts) → AllZip (λ s t. IsTheoryEqual (equations g) (instance σ s) t) ss ts → instances σ (trees_of ss) ≡ trees_of ts
 
--- of a checked closed formula it is decided on each trace of messages whether it is true, whatever judging costs
-abbrev pub DecidedLaw : Type 0
-DecidedLaw = (g : Sig) (f : Form) (tr : Trace) → IsMessageTrace g tr → IsClosed g f → IsTrueOn g f tr ⊎ (IsTrueOn g f tr → ⊥)
+-- each fact that a trace of messages shows at a time has messages
+abbrev pub MessageFactsLaw : Type 0
+MessageFactsLaw = (g : Sig) (tr : Trace) → IsMessageTrace g tr → (k : ℕ) → EachIn (HasMessages g) (facts_at tr k)
+
+-- inside a quantifier that binds no name twice each of its binders is found under its name
+abbrev pub OwnBinderLaw : Type 0
+OwnBinderLaw = (bs scope : List Binder) → NoTwice bs → EachIn (λ b. find_binder (enter bs scope) (binder_name b) ≡ Some b) bs
+
+-- and under a name that it doesn't bind what is found outside
+abbrev pub OtherBinderLaw : Type 0
+OtherBinderLaw = (bs scope : List Binder) (n : List ℕ) → IsApart bs n → find_binder (enter bs scope) n ≡ find_binder scope n
+
+-- a closed formula stays closed without the binders that later ones of their quantifier hide
+abbrev pub SlimClosedLaw : Type 0
+SlimClosedLaw = (g : Sig) (f : Form) → IsClosed g f → IsClosed g (slim f)
+
+-- and then no quantifier binds one name twice
+abbrev pub SlimOnceLaw : Type 0
+SlimOnceLaw = (f : Form) → BindsOnce (slim f)

@@ -19,10 +19,9 @@ pub mod Parts
 pub mod Faults
 pub mod Sorted
 pub mod Cost
-pub mod Verdict
+pub mod Messages
 pub mod Laws
 pub mod HoldsOf
 pub mod Examples
 pub mod CheckExamples
-pub mod JudgeExamples
 pub mod FilledExamples

@@ -1,21 +1,16 @@
 // Laws of checked formulas and worked examples of truth, as contracts of functions that do nothing.
-ghost use Rattle.std.specs.Prelude.{[], ◌∷◌, ◌≡◌, ◌^◌, ◌-◌, true, false, codes};
+ghost use Rattle.std.specs.Prelude.{[], ◌∷◌, ◌≡◌, true, false, codes};
 ghost use Rattle.sap_terms.specs.Signature.{Sig, pairs_alone};
 ghost use Rattle.sap_terms.specs.Trace.{Trace};
 ghost use Rattle.sap_formula.specs.Truth.{EachIn, IsTrueOn};
 ghost use Rattle.sap_formula.specs.HoldsOf.{HoldsOf};
 ghost use Rattle.sap_formula.specs.Examples.{a, b, x, fresh_x, public_x, fact, other_fact, trace_a, trace_aa, trace_ab, IsEither, only_a, some_time, two_times, some_b, two_binders, first_of_pair, first_is, one_time_alone, true_ones, false_ones};
 ghost use Rattle.sap_formula.specs.CheckExamples.{IsTold, bad_functions, destructors, reserved_names, unbound, unguarded, places, two_functions, two_unbound, two_unguarded, function_before, destructor_before, reserved_before, unbound_before, faultless, sdec_declared, with_symmetric, decrypted, sorted_ones};
-ghost use Rattle.sap_formula.specs.Cost.{form_cost};
 ghost use Rattle.sap_formula.specs.Faults.{HasNoFault, IsFirstFault};
-ghost use Rattle.sap_formula.specs.Form.{both, truth, negation};
-ghost use Rattle.sap_formula.specs.Hide.{hide};
-ghost use Rattle.sap_formula.specs.JudgeExamples.{two_and_three, costs, many_times, at_limit, far_beyond, hidden_ones};
+ghost use Rattle.sap_formula.specs.Form.{negation};
 ghost use Rattle.sap_formula.specs.Sorted.{with_sorts};
-ghost use Rattle.sap_formula.specs.Verdict.{IsVerdict};
 ghost use Rattle.sap_formula.specs.declared.fault.FormulaFlaw.TheVariants.{BadFunction, Destructor, Reserved, UnboundVar, Unguarded};
-ghost use Rattle.sap_formula.specs.declared.verdict.Verdict.TheVariants.{Holds, Fails, TooCostly};
-ghost use Rattle.sap_formula.specs.Laws.{OneVerdictLaw, SomeVerdictLaw, DecidedLaw, SubtermLaw, HiddenBinderLaw, HideLaw, CheckLaw, ClosedLaw, OneFaultLaw, NoFaultLaw, SomeFaultLaw};
+ghost use Rattle.sap_formula.specs.Laws.{SubtermLaw, HiddenBinderLaw, HideLaw, CheckLaw, CheckedArgsLaw, CheckedTermLaw, ClosedLaw, MessageFactsLaw, OneFaultLaw, NoFaultLaw, OtherBinderLaw, OwnBinderLaw, SlimClosedLaw, SlimOnceLaw, SomeFaultLaw};
 
 use crate::Mode;
 use sap_rewrite::normal_terms_decide;
@@ -81,29 +76,6 @@ pub fn checks_by_hand()
     ensures sorts { EachIn (λ e. with_sorts [] e.0 ≡ e.1) sorted_ones }
 {}
 
-/// What judging small formulas costs, verdicts at the limit and beyond it, and what hiding leaves of small traces.
-pub fn judging_by_hand()
-    ensures costs { EachIn (λ e. form_cost two_and_three e.0 ≡ e.1) costs }
-    ensures nothing_shown { form_cost [] at_limit ≡ 0 }
-    ensures at_limit { (g : Sig) → IsVerdict g at_limit (many_times 10) Holds }
-    ensures not_at_limit { (g : Sig) → IsVerdict g (negation at_limit) (many_times 10) Fails }
-    ensures above_limit { (g : Sig) → IsVerdict g (both at_limit truth) (many_times 10) (TooCostly 10000001) }
-    ensures far_above { (g : Sig) → IsVerdict g far_beyond (many_times 10) (TooCostly (2 ^ 64 - 1)) }
-    ensures hidden { EachIn (λ e. hide e.0 ≡ e.1) hidden_ones }
-{}
-
-/// Of a formula on a trace there is at most one verdict, and of a checked closed one on a trace of messages some. That one is
-/// true there or it isn't, also where judging costs too much.
-pub fn one_verdict()
-    ensures one { OneVerdictLaw }
-    ensures some { SomeVerdictLaw }
-    ensures decided { DecidedLaw }
-{
-    normal_terms_decide();
-    leaves_are_normal();
-    destructors_head_left_sides();
-}
-
 /// The truth of a checked formula on a trace of messages stays the same where message variables range over the subterms
 /// of the trace's facts alone, and where binders that later ones of their quantifier hide are left out.
 pub fn variables_range_over_subterms()
@@ -129,6 +101,27 @@ pub fn hiding_keeps_truth()
 pub fn faultless_formulas_are_checked()
     ensures checked { CheckLaw }
     ensures closed { ClosedLaw }
+{}
+
+/// A checked term is normal where its variables stand for normal terms, so that theory-equal is then the same; and what a trace of
+/// messages shows has messages.
+pub fn checked_terms_are_normal()
+    ensures terms { CheckedTermLaw }
+    ensures args { CheckedArgsLaw }
+    ensures facts { MessageFactsLaw }
+{
+    normal_terms_decide();
+    leaves_are_normal();
+    destructors_head_left_sides();
+}
+
+/// Inside a quantifier that binds no name twice each of its binders is found, and for other names what is found outside; and each
+/// closed formula has a closed one that binds no name twice in one quantifier.
+pub fn binders_are_found()
+    ensures own { OwnBinderLaw }
+    ensures other { OtherBinderLaw }
+    ensures closed { SlimClosedLaw }
+    ensures once { SlimOnceLaw }
 {}
 
 /// Of a formula with a fault one fault counts, with one name.

@@ -77,8 +77,8 @@ fn below(
     }
 }
 
-// Both, where both are there.
-pub(crate) fn both<T: Drop>(left: Result<T, Mem>, right: Result<T, Mem>) -> Result<(T, T), Mem>
+/// Both, where both are there.
+pub fn both<T: Drop, U: Drop>(left: Result<T, Mem>, right: Result<U, Mem>) -> Result<(T, U), Mem>
     ensures { IfOk result (λ two. (left ≡ Ok two.0) × (right ≡ Ok two.1)) }
 {
     let left = left?;

@@ -5,14 +5,14 @@ ghost use Rattle.sap_formula.specs.Cost.{time_facts, trace_facts, tuples, form_c
 ghost use Rattle.sap_formula.specs.Checked.{premise};
 ghost use Rattle.sap_terms.specs.Trace.{Trace as AnyTrace};
 
-use crate::{Formula, ReadyTrace};
+use crate::Formula;
 use sap_terms::{FactList, Name, Trace};
 
-// What can say how many facts of a name a trace has.
-pub(crate) trait CountsFacts {
+/// What can say how many facts of a name a trace has.
+pub trait CountsFacts {
     ghost counted: { Self → AnyTrace };
 
-    // How many of this name, as far as they fit.
+    /// How many of this name, as far as they fit.
     fn count(&self, name: &Name) -> u64
         ensures { result ≡ min (trace_facts name.now (counted self.now)) (2 ^ 64 - 1) };
 }
@@ -48,16 +48,6 @@ impl CountsFacts for Trace {
     }
 }
 
-// They are looked up.
-impl<'t> CountsFacts for ReadyTrace<'t> {
-    ghost counted = { λ tr. tr };
-
-    #[tactic(auto, using(crate::proofs::Rows::counted))]
-    fn count(&self, name: &Name) -> u64 {
-        self.named(name).len() as u64
-    }
-}
-
 fn guard_tuples<T: CountsFacts>(f: &Formula, trace: &T) -> u64
     ensures { result ≡ min (tuples (T.counted trace.now) (form f.now)) (2 ^ 64 - 1) }
 {
@@ -77,8 +67,9 @@ fn premise_tuples<T: CountsFacts>(f: &Formula, trace: &T) -> u64
     }
 }
 
-// The cost on what can count.
-pub(crate) fn cost_on<T: CountsFacts>(f: &Formula, trace: &T) -> u64
+/// What judging the formula on the trace costs, as `cost` says it, where something else can count its facts. It recurses as deep as
+/// the formula.
+pub fn cost_on<T: CountsFacts>(f: &Formula, trace: &T) -> u64
     ensures { result ≡ min (form_cost (T.counted trace.now) (form f.now)) (2 ^ 64 - 1) }
 {
     match f {
@@ -97,7 +88,7 @@ pub(crate) fn cost_on<T: CountsFacts>(f: &Formula, trace: &T) -> u64
 }
 
 /// What judging the formula on the trace costs; sums and products stop at the type's last value. It takes no memory. It
-/// goes over the trace once for each action that guards a quantifier, which `ReadyTrace::cost` doesn't.
+/// goes over the trace once for each action that guards a quantifier, which the cost of a trace made ready doesn't.
 /// It recurses as deep as the formula.
 pub fn cost(f: &Formula, trace: &Trace) -> u64
     ensures { result ≡ min (form_cost trace.now (form f.now)) (2 ^ 64 - 1) }

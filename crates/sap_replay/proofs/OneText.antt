@@ -6,9 +6,10 @@ use Rattle.sap_terms.specs.Signature.{Sig, HoldsBuiltins}
 use Rattle.sap_terms.specs.Trace.{Trace}
 use Rattle.sap_formula.specs.Form.{RestrictionForm, LemmaForm}
 use Rattle.sap_formula.specs.Hide.{hide}
-use Rattle.sap_formula.specs.Laws.{OneVerdictLaw, SomeVerdictLaw, IsClosed}
+use Rattle.sap_formula.specs.Laws.{IsClosed}
+use Rattle.sap_judge.specs.Laws.{OneVerdictLaw, SomeVerdictLaw}
 use Rattle.sap_formula.specs.Truth.{EachIn}
-use Rattle.sap_formula.specs.declared.verdict.Verdict.{Verdict}
+use Rattle.sap_judge.specs.declared.verdict.Verdict.{Verdict}
 use Rattle.sap_read.specs.Files.{FileContent, IsRunnable}
 use Rattle.sap_rule.specs.WellMade.{IsWellMade}
 use Rattle.sap_rule.specs.declared.theory.Theory.{Theory}

@@ -1,9 +1,9 @@
 -- What is said of restrictions and lemmas on a trace.
 use Rattle.std.specs.Prelude.{ℕ, codes, List, [], ◌∷◌, ◌++◌, map}
 use Rattle.sap_formula.specs.Form.{Form, RestrictionForm, LemmaForm}
-use Rattle.sap_formula.specs.Verdict.{IsVerdict}
-use Rattle.sap_formula.specs.declared.verdict.Verdict.{Verdict}
-use Rattle.sap_formula.specs.declared.verdict.Verdict.TheVariants.{Holds, Fails, TooCostly}
+use Rattle.sap_judge.specs.Verdict.{IsVerdict}
+use Rattle.sap_judge.specs.declared.verdict.Verdict.{Verdict}
+use Rattle.sap_judge.specs.declared.verdict.Verdict.TheVariants.{Holds, Fails, TooCostly}
 use Rattle.sap_terms.specs.Signature.{Sig}
 use Rattle.sap_terms.specs.Trace.{Trace}
 

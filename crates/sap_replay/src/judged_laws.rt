@@ -10,7 +10,7 @@ ghost use Rattle.sap_replay.specs.Replays.{IsCheckedText, IsJudgedText, IsSeen};
 ghost use Rattle.sap_replay.specs.Verdicts.{AreVerdicts, Judged};
 
 use crate::laws::{closed_files, process_lines, rule_lines, seen_traces_are_messages};
-use sap_formula::one_verdict;
+use sap_judge::one_verdict;
 use sap_locks::annotations_are_ready;
 use sap_translate::rules_are_well_made;
 

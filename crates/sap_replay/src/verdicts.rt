@@ -10,7 +10,8 @@ ghost use Rattle.sap_terms.specs.Signature.{Sig};
 ghost use Rattle.sap_replay.specs.Verdicts.{AreVerdicts, all_judged, judged_lemmas, judged_restrictions, verdict_text, verdict_line};
 ghost use Rattle.sap_replay.specs.code.Verdicts.{Adds, IsLineFor};
 
-use sap_formula::{Formula, Lemma, LemmaList, ReadyTrace, Restriction, RestrictionList, Verdict};
+use sap_formula::{Formula, Lemma, LemmaList, Restriction, RestrictionList};
+use sap_judge::{ReadyTrace, Verdict};
 use sap_terms::{Mem, Name, Trace};
 use sap_text::Text;
 use std::alloc::Global;

@@ -218,9 +218,7 @@ impl Guard {
     fn insert(&mut self, x: &Term, v: &Term) -> Result<Admit, Mem>
         ensures { Does (inserts (tree x.now) (tree v.now)) result (machine self.old) (machine self.new) }
     {
-        let key = x.copy(self.alloc)?;
-        let value = v.copy(self.alloc)?;
-        self.stored.put(key, value)?;
+        self.stored.put_copies(self.alloc, x, v)?;
         Ok(Admit::Kept)
     }
 
@@ -239,9 +237,7 @@ impl Guard {
         if self.held.get(x).is_some() {
             return Ok(Admit::Broken { which: Which::Lock });
         }
-        let key = x.copy(self.alloc)?;
-        let label = l.copy(self.alloc)?;
-        self.held.put(key, label)?;
+        self.held.put_copies(self.alloc, x, l)?;
         Ok(Admit::Kept)
     }
 

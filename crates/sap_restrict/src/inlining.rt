@@ -4,7 +4,7 @@ ghost use Rattle.sap_formula.specs.Form.{both};
 ghost use Rattle.sap_formula.specs.View.{form};
 ghost use Rattle.sap_restrict.specs.Inline.{conjunction, formulas, inlined};
 
-use crate::shape::{and, implied};
+use crate::shape::{and, boxed, implied};
 use sap_formula::{Formula, Mode, RestrictionList};
 use sap_terms::Mem;
 use std::alloc::Global;
@@ -45,7 +45,7 @@ fn conjunction(alloc: Global, restrictions: &RestrictionList) -> Result<Box<Form
     ensures { IfOk result (λ r. form r.value ≡ conjunction (formulas restrictions.now)) }
 {
     if restrictions.len() == 0 {
-        return Ok(Box::new(alloc, Formula::True)?);
+        return boxed(alloc, Formula::True);
     }
     let mut joined = copied(alloc, &restrictions.at(0).formula)?;
     for k in 1..restrictions.len() {
@@ -57,7 +57,7 @@ fn conjunction(alloc: Global, restrictions: &RestrictionList) -> Result<Box<Form
 fn copied(alloc: Global, f: &Formula) -> Result<Box<Formula>, Mem>
     ensures { IfOk result (λ r. form r.value ≡ form f.now) }
 {
-    Ok(Box::new(alloc, f.copy(alloc)?)?)
+    boxed(alloc, f.copy(alloc)?)
 }
 
 /// `f & g`, with a copy of g.

@@ -1,5 +1,5 @@
 //! The restrictions under their names.
-ghost use Rattle.std.specs.Prelude.{◌≡◌, ◌++◌, map, IfOk, OnOk};
+ghost use Rattle.std.specs.Prelude.{◌≡◌, ◌++◌, ◌∷◌, [], map, IfOk, OnOk};
 ghost use Rattle.sap_process.specs.Proc.{proc};
 ghost use Rattle.sap_restrict.specs.Restrictions.{is_generated, restriction_name, named, needed_restrictions};
 
@@ -42,9 +42,15 @@ pub fn needed_restrictions(alloc: Global, p: &Process) -> Result<RestrictionList
     let needed = needed(alloc, p)?;
     let mut all = RestrictionList::new(alloc);
     for which in needed.as_slice() {
-        all.push(restriction(alloc, *which)?)?;
+        push_restriction(alloc, *which, &mut all)?;
     }
     Ok(all)
+}
+
+fn push_restriction(alloc: Global, which: Which, all: &mut RestrictionList) -> Result<(), Mem>
+    ensures { OnOk result (all.new ≡ all.old ++ named which ∷ []) }
+{
+    all.push(restriction(alloc, which)?)
 }
 
 /// Whether it is the name of one of the seven, be it needed or not.

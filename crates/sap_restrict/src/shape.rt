@@ -1,5 +1,5 @@
 //! Formulas made after shapes.
-ghost use Rattle.std.specs.Prelude.{◌≡◌, [], ◌∷◌, map, IfOk};
+ghost use Rattle.std.specs.Prelude.{◌≡◌, ◌++◌, [], ◌∷◌, map, IfOk, OnOk};
 ghost use Rattle.sap_formula.specs.Form.{action, equal, same_time, earlier, both, either, implies, negation, every, exists};
 ghost use Rattle.sap_formula.specs.View.{form};
 ghost use Rattle.sap_terms.specs.AdversaryFacts.{linear};
@@ -8,7 +8,7 @@ ghost use Rattle.sap_terms.specs.View.{tree};
 ghost use Rattle.sap_restrict.specs.Standard.{any_message};
 ghost use Rattle.sap_restrict.specs.code.Shapes.{binder, says};
 
-use sap_formula::{Binder, Binders, Formula};
+use sap_formula::{Binder, Binders, Formula, both};
 use sap_terms::{Fact, Items, Mem, Name, Sort, Term, TermList, Var};
 use std::alloc::Global;
 
@@ -65,16 +65,22 @@ fn built_both(
 ) -> Result<(Box<Formula>, Box<Formula>), Mem>
     ensures { IfOk result (λ two. (form two.0.value ≡ says f.now) × (form two.1.value ≡ says g.now)) }
 {
-    let first = built(alloc, f)?;
-    Ok((first, built(alloc, g)?))
+    both(built(alloc, f), built(alloc, g))
+}
+
+/// The formula in a box.
+pub(crate) fn boxed(alloc: Global, f: Formula) -> Result<Box<Formula>, Mem>
+    ensures { IfOk result (λ r. form r.value ≡ form f) }
+{
+    Ok(Box::new(alloc, f)?)
 }
 
 fn shown(alloc: Global, name: &[u8], letters: &[u8], t: &[u8]) -> Result<Box<Formula>, Mem>
     ensures { IfOk result (λ f. form f.value
         ≡ action (linear name.now (map (λ v. variable (any_message (v ∷ []))) letters.now)) t.now) }
 {
-    let fact = fact_on(alloc, name, letters)?;
-    Ok(Box::new(alloc, Formula::Action(fact, Name::from_bytes(alloc, t)?))?)
+    let two = both(fact_on(alloc, name, letters), Name::from_bytes(alloc, t))?;
+    boxed(alloc, Formula::Action(two.0, two.1))
 }
 
 fn fact_on(alloc: Global, name: &[u8], letters: &[u8]) -> Result<Fact, Mem>
@@ -93,9 +99,15 @@ fn terms(alloc: Global, letters: &[u8]) -> Result<TermList, Mem>
 {
     let mut terms = TermList::new(alloc);
     for k in 0..letters.len() {
-        terms.push(term(alloc, letters[k])?)?;
+        push_term(alloc, letters[k], &mut terms)?;
     }
     Ok(terms)
+}
+
+fn push_term(alloc: Global, letter: u8, terms: &mut TermList) -> Result<(), Mem>
+    ensures { OnOk result (terms.new ≡ terms.old ++ variable (any_message (letter ∷ [])) ∷ []) }
+{
+    terms.push(term(alloc, letter)?)
 }
 
 fn term(alloc: Global, letter: u8) -> Result<Term, Mem>
@@ -117,60 +129,60 @@ fn equal(alloc: Global, v: u8, w: u8) -> Result<Box<Formula>, Mem>
     ensures { IfOk result (λ f. form f.value
         ≡ equal (variable (any_message (v ∷ []))) (variable (any_message (w ∷ [])))) }
 {
-    let first = term(alloc, v)?;
-    Ok(Box::new(alloc, Formula::Equal(first, term(alloc, w)?))?)
+    let two = both(term(alloc, v), term(alloc, w))?;
+    boxed(alloc, Formula::Equal(two.0, two.1))
 }
 
 fn same(alloc: Global, a: &[u8], b: &[u8]) -> Result<Box<Formula>, Mem>
     ensures { IfOk result (λ f. form f.value ≡ same_time a.now b.now) }
 {
-    let first = Name::from_bytes(alloc, a)?;
-    Ok(Box::new(alloc, Formula::Same(first, Name::from_bytes(alloc, b)?))?)
+    let two = both(Name::from_bytes(alloc, a), Name::from_bytes(alloc, b))?;
+    boxed(alloc, Formula::Same(two.0, two.1))
 }
 
 fn less(alloc: Global, a: &[u8], b: &[u8]) -> Result<Box<Formula>, Mem>
     ensures { IfOk result (λ f. form f.value ≡ earlier a.now b.now) }
 {
-    let first = Name::from_bytes(alloc, a)?;
-    Ok(Box::new(alloc, Formula::Less(first, Name::from_bytes(alloc, b)?))?)
+    let two = both(Name::from_bytes(alloc, a), Name::from_bytes(alloc, b))?;
+    boxed(alloc, Formula::Less(two.0, two.1))
 }
 
 fn negated(alloc: Global, f: Box<Formula>) -> Result<Box<Formula>, Mem>
     ensures { IfOk result (λ r. form r.value ≡ negation (form f.value)) }
 {
-    Ok(Box::new(alloc, Formula::Not(f))?)
+    boxed(alloc, Formula::Not(f))
 }
 
 /// `f & g`
 pub(crate) fn and(alloc: Global, two: (Box<Formula>, Box<Formula>)) -> Result<Box<Formula>, Mem>
     ensures { IfOk result (λ r. form r.value ≡ both (form two.0.value) (form two.1.value)) }
 {
-    Ok(Box::new(alloc, Formula::And(two.0, two.1))?)
+    boxed(alloc, Formula::And(two.0, two.1))
 }
 
 fn or(alloc: Global, two: (Box<Formula>, Box<Formula>)) -> Result<Box<Formula>, Mem>
     ensures { IfOk result (λ r. form r.value ≡ either (form two.0.value) (form two.1.value)) }
 {
-    Ok(Box::new(alloc, Formula::Or(two.0, two.1))?)
+    boxed(alloc, Formula::Or(two.0, two.1))
 }
 
 /// `f ==> g`
 pub(crate) fn implied(alloc: Global, two: (Box<Formula>, Box<Formula>)) -> Result<Box<Formula>, Mem>
     ensures { IfOk result (λ r. form r.value ≡ implies (form two.0.value) (form two.1.value)) }
 {
-    Ok(Box::new(alloc, Formula::Imp(two.0, two.1))?)
+    boxed(alloc, Formula::Imp(two.0, two.1))
 }
 
 fn all(alloc: Global, letters: &[u8], f: Box<Formula>) -> Result<Box<Formula>, Mem>
     ensures { IfOk result (λ r. form r.value ≡ every (map binder letters.now) (form f.value)) }
 {
-    Ok(Box::new(alloc, Formula::All(binders(alloc, letters)?, f))?)
+    boxed(alloc, Formula::All(binders(alloc, letters)?, f))
 }
 
 fn some(alloc: Global, letters: &[u8], f: Box<Formula>) -> Result<Box<Formula>, Mem>
     ensures { IfOk result (λ r. form r.value ≡ exists (map binder letters.now) (form f.value)) }
 {
-    Ok(Box::new(alloc, Formula::Ex(binders(alloc, letters)?, f))?)
+    boxed(alloc, Formula::Ex(binders(alloc, letters)?, f))
 }
 
 fn binders(alloc: Global, letters: &[u8]) -> Result<Binders, Mem>
@@ -178,9 +190,15 @@ fn binders(alloc: Global, letters: &[u8]) -> Result<Binders, Mem>
 {
     let mut binders = Items::new(alloc);
     for k in 0..letters.len() {
-        binders.push(binder(alloc, letters[k])?)?;
+        push_binder(alloc, letters[k], &mut binders)?;
     }
     Ok(binders)
+}
+
+fn push_binder(alloc: Global, letter: u8, binders: &mut Binders) -> Result<(), Mem>
+    ensures { OnOk result (binders.new ≡ binders.old ++ binder letter ∷ []) }
+{
+    binders.push(binder(alloc, letter)?)
 }
 
 fn binder(alloc: Global, letter: u8) -> Result<Binder, Mem>

@@ -6,7 +6,8 @@ ghost use Rattle.sap_restrict.specs.View.{value_at};
 ghost use Rattle.sap_restrict.specs.code.Machines.{with_at};
 
 use indexmap::IndexMap;
-use sap_terms::{Mem, Term};
+use sap_formula::both;
+use sap_terms::{Copied, Mem, Term};
 use std::alloc::Global;
 
 /// A term at each key, where there is one. A look-up takes time in the size of the key on average, however many keys there
@@ -40,6 +41,15 @@ impl TermMap {
     {
         self.terms.insert(key, value)?;
         Ok(())
+    }
+
+    /// Puts copies of the two there.
+    pub(crate) fn put_copies(&mut self, alloc: Global, key: &Term, value: &Term) -> Result<(), Mem>
+        ensures ok { OnOk result (value_at self.new ≡ with_at (value_at self.old) (tree key.now) (Some (tree value.now))) }
+        ensures err { OnErr result (value_at self.new ≡ value_at self.old) }
+    {
+        let two = both(key.copy(alloc), value.copy(alloc))?;
+        self.put(two.0, two.1)
     }
 
     /// Takes the term at the key away.

@@ -2,7 +2,8 @@
 use crate::notation::{enclosed, facts, first, name, part, tokens_of, trace};
 use crate::page::Page;
 use crate::theories::{add_lemma, add_restriction, begin, mode_of};
-use sap_formula::{Formula, FormulaFault, ReadyTrace, Verdict, check, cost, judge};
+use sap_formula::{Formula, FormulaFault, check, cost};
+use sap_judge::{ReadyTrace, Verdict, judge};
 use sap_read::read_formula;
 use sap_refusals::theory_line;
 use sap_restrict::inline;

@@ -1,8 +1,8 @@
 -- Lines of verdicts that are put one behind another.
 use Rattle.std.specs.Prelude.{◌≡◌, ◌++◌, ℕ, List}
 use Rattle.sap_formula.specs.Form.{Form}
-use Rattle.sap_formula.specs.Verdict.{IsVerdict}
-use Rattle.sap_formula.specs.declared.verdict.Verdict.{Verdict}
+use Rattle.sap_judge.specs.Verdict.{IsVerdict}
+use Rattle.sap_judge.specs.declared.verdict.Verdict.{Verdict}
 use Rattle.sap_terms.specs.Signature.{Sig}
 use Rattle.sap_terms.specs.Trace.{Trace}
 use Rattle.sap_replay.specs.Verdicts.{verdict_line}

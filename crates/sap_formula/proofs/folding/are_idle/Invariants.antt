@@ -1,7 +1,0 @@
-use Rattle.std.proofs.Common.{◌≡◌, drop, map}
-use Rattle.sap_formula.specs.code.Folded.{are_idle}
-use Rattle.sap_formula.specs.code.PlanView.{guard}
-use Rattle.sap_formula.proofs.folding.are_idle.Given as goal
-
-abbrev pub invariant-loop-k : goal.invariant-loop-k
-invariant-loop-k l = are_idle (map guard l.guards) ≡ are_idle (map guard (drop l.k l.guards))

@@ -1,5 +1,0 @@
-use Rattle.std.proofs.Common.{◌≡◌, take}
-use Rattle.sap_formula.proofs.moment.moments_of.Given as goal
-
-abbrev pub invariant-loop-facts : goal.invariant-loop-facts
-invariant-loop-facts l = l.moments ≡ take l.facts-index l.facts-items

@@ -1,7 +1,0 @@
-use Rattle.std.proofs.Common.{◌≡◌, ◌++◌, ℕ, List, drop}
-use Rattle.sap_formula.specs.code.Ready.{sights_at}
-use Rattle.sap_formula.specs.code.Rows.{row_of}
-use Rattle.sap_formula.proofs.sighted.note_facts.Given as goal
-
-abbrev pub invariant-loop-fact : goal.invariant-loop-fact
-invariant-loop-fact l = (n : List ℕ) → row_of l.initial.rows n ++ sights_at n l.time l.fact-items ≡ row_of l.rows n ++ sights_at n l.time (drop l.fact-index l.fact-items)

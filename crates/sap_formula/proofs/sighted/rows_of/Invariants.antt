@@ -1,7 +1,0 @@
-use Rattle.std.proofs.Common.{◌≡◌, ◌++◌, ℕ, List, drop}
-use Rattle.sap_formula.specs.code.Ready.{sights, sights_from}
-use Rattle.sap_formula.specs.code.Rows.{row_of}
-use Rattle.sap_formula.proofs.sighted.rows_of.Given as goal
-
-abbrev pub invariant-loop-k : goal.invariant-loop-k
-invariant-loop-k l = (n : List ℕ) → sights n l.trace ≡ row_of l.rows n ++ sights_from n l.k (drop l.k l.trace)

@@ -1,0 +1,4 @@
+pub mod Verdict
+pub mod Laws
+pub mod JudgeExamples
+pub mod code

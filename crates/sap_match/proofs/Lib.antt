@@ -1,0 +1,4 @@
+pub mod Slots
+pub mod Agreements
+pub mod ShownFacts
+pub mod Digests

@@ -1,0 +1,4 @@
+pub mod Atoms
+pub mod Matched
+pub mod View
+pub mod code

@@ -1,0 +1,4 @@
+-- Mirrors of the search, for its proofs.
+pub mod Connectives
+pub mod Chosen
+pub mod PlanSize
