@@ -1,6 +1,7 @@
 -- Pieces of text, and one more of them.
-use Rattle.std.proofs.Common.{◌≡◌, ◌+◌, ℕ, zero, suc, List, [], ◌∷◌, ◌++◌, length, take, map, Some, refl, sym, ap, ◌∙◌, append_assoc, add-one}
+use Rattle.std.proofs.Common.{◌≡◌, ◌+◌, ℕ, zero, suc, List, [], ◌∷◌, ◌++◌, length, take, drop, map, Some, refl, sym, ap, ◌∙◌, append_assoc, add-one}
 use Rattle.std.specs.Prelude.{slice_get, option_map}
+use Rattle.std.specs.List.{flat_map}
 use Rattle.std.proofs.lemmas.List.{take-map}
 use Rattle.std.proofs.lemmas.Option.{slice_get-map}
 use Rattle.sap_grammar.specs.Pieces.{joined, separator_before}
@@ -43,3 +44,11 @@ joined_texts-next f separator text xs k x h =
     let got = slice_get-map f xs k ∙ ap (option_map f) h in
     ap (λ ps. ((text ++ joined separator ps) ++ separator_before k separator) ++ f x) (sym (take-map f k xs))
     ∙ (joined-next separator text (map f xs) k (f x) got ∙ ap (λ ps. text ++ joined separator ps) (take-map f (k + 1) xs))
+
+-- the text of one more item, before the texts of those behind it
+pub flat_map-next : {A : Type 0} (f : A → List ℕ) (text : List ℕ) (xs : List A) (k : ℕ) (x : A) → slice_get xs k ≡ Some x
+    → (text ++ f x) ++ flat_map f (drop (k + 1) xs) ≡ text ++ flat_map f (drop k xs)
+flat_map-next f text [] k x h = cc
+flat_map-next f text (y ∷ ys) zero x h =
+    let e : y ≡ x = cc in append_assoc text (f x) (flat_map f ys) ∙ ap (λ z. text ++ (f z ++ flat_map f ys)) (sym e)
+flat_map-next f text (y ∷ ys) (suc k) x h = let more = rw (add-one k) at (flat_map-next f text ys k x h) in rw (add-one (suc k)) more
