@@ -13,32 +13,9 @@ use Rattle.sap_grammar.specs.TermGrammar.{IsTerm, IsRest, IsList, IsArgs, IsShor
 use Rattle.sap_grammar.specs.Reading.{Read, Reader, after, given, behind, list_of}
 use Rattle.sap_grammar.specs.TermReading.{short_term, term, rest}
 use Rattle.sap_draft.specs.code.ProcessReading.{arguments}
-use Rattle.sap_draft.specs.code.TermLaws.{AreRead, AreSpelled}
-use Rattle.sap_draft.proofs.OnRead.{Says, OnRead, on_all, after_on, if_on, starts_is}
-use Rattle.sap_draft.proofs.Steps.{words-drop, length-words}
-
-mutual
-  -- what follows a term is shorter
-  pub term_shorter : {g : Sig} {t : Tree} {a b : List Word} → IsTerm g t a b → length b < length a
-  term_shorter (term_constant is) = omega arith
-  term_shorter (term_message is) = omega arith
-  term_shorter term_fresh = omega arith
-  term_shorter term_pub = omega arith
-  term_shorter term_quoted = omega arith
-  term_shorter (term_symbol low r) = omega (arith, args_shorter r)
-  term_shorter (term_tuple r s) = omega (arith, term_shorter r, rest_shorter s)
-
-  rest_shorter : {g : Sig} {t : Tree} {a b : List Word} → IsRest g t a b → length b < length a
-  rest_shorter (rest_last r) = omega (arith, term_shorter r)
-  rest_shorter (rest_more r s) = omega (arith, term_shorter r, rest_shorter s)
-
-  list_shorter : {g : Sig} {ts : List Tree} {a b : List Word} → IsList g ts a b → length b < length a
-  list_shorter (list_last r) = omega (arith, term_shorter r)
-  list_shorter (list_more r s) = omega (arith, term_shorter r, list_shorter s)
-
-  args_shorter : {g : Sig} {ts : List Tree} {a b : List Word} → IsArgs g ts a b → length b < length a
-  args_shorter args_none = omega arith
-  args_shorter (args_some r) = list_shorter r
+use Rattle.sap_grammar.specs.TermLaws.{AreRead, AreSpelled}
+use Rattle.sap_grammar.proofs.ReadingLaws.Ends.{term_shorter, list_shorter}
+use Rattle.sap_grammar.proofs.ReadingLaws.OnRead.{Says, OnRead, on_all, after_on, if_on, starts_is}
 
 -- terms within the limits, one or more, and the closing parenthesis
 pub record AreArguments (g : Sig) (m : Limits) (ts : List Tree) (a b : List Word) : Type 0 where
@@ -115,65 +92,3 @@ no_argument g m = by m.term_levels
     by : (d : ℕ) → after (term g d []) (λ t r. if is_small m t then Some (t, r) else None) ≡ None
     by zero = refl
     by (suc d) = refl
-
--- one turn of the reader of arguments, where `xs` was read before the tokens `ts`, and `all` is what reading all of them gives
-module _ {A : Type 0} (closing : List ℕ) (one : Reader A) where
-  list_stop : (n : ℕ) (ws : List Word) → one ws ≡ None → list_of closing one n ws ≡ None
-  unfolding after
-  list_stop zero ws e = refl
-  list_stop (suc n) ws e = rw e refl
-
-  list_ends : (n : ℕ) (ws r : List Word) (v : A) → 0 < n → one ws ≡ Some (v, r) → starts closing r ≡ true → list_of closing one n ws ≡ Some (v ∷ [], drop 1 r)
-  unfolding after
-  list_ends zero ws r v lt e f = absurd (omega (arith, lt))
-  list_ends (suc n) ws r v lt e f = rw (e, f) refl
-
-  list_bad : (n : ℕ) (ws r : List Word) (v : A) → one ws ≡ Some (v, r) → starts closing r ≡ false → starts (codes ",") r ≡ false → list_of closing one n ws ≡ None
-  unfolding after
-  list_bad zero ws r v e f h = refl
-  list_bad (suc n) ws r v e f h = rw (e, f, h) refl
-
-  list_go : (n m : ℕ) (ws r : List Word) (v : A) → n ≡ suc m → one ws ≡ Some (v, r) → starts closing r ≡ false → starts (codes ",") r ≡ true
-      → list_of closing one n ws ≡ behind (v ∷ []) (list_of closing one m (drop 1 r))
-  unfolding after
-  list_go zero m ws r v is e f h = absurd (omega (arith, is))
-  list_go (suc n) m ws r v is e f h = let same : n ≡ m = omega (arith, is) in rw (e, f, h, same) refl
-
-behind_push : {A : Type 0} (xs : List A) (x : A) (r : Read (List A)) → behind xs (behind (x ∷ []) r) ≡ behind (xs ++ (x ∷ [])) r
-behind_push xs x None = refl
-behind_push {A = A} xs x (Some p) = ap (λ (y : List A). Some (y, p.1)) (sym (append_assoc xs (x ∷ []) p.0))
-
--- what follows a value is shorter
-abbrev pub Shrinks : {A : Type 0} → Reader A → Type 0
-Shrinks {A = A} one = (ws b : List Word) (v : A) → one ws ≡ Some (v, b) → length b < length ws
-
--- behind a value and one more token
-pub shorter_still : {A : Type 0} {one : Reader A} → Shrinks one → (z : List ℕ) (ts next rest : List Token) (v : A) → one (words_of z ts) ≡ Some (v, words_of z next) → rest ≡ drop 1 next → length rest < length ts
-shorter_still shrinks z ts next rest v e f =
-    let fewer : length (words_of z next) < length (words_of z ts) = shrinks (words_of z ts) (words_of z next) v e in
-    let less : length rest ≡ length next - 1 = ap (λ (y : List Token). length y) f ∙ length-drop 1 next in
-    omega (arith, less, fewer, length-words z next, length-words z ts)
-
-module _ {A : Type 0} {one : Reader A} (closing : List ℕ) (shrinks : Shrinks one) (z : List ℕ) (ts : List Token) (xs : List A) (n : ℕ) (all : Read (List A)) (long : length ts ≤ n) (so_far : all ≡ behind xs (list_of closing one n (words_of z ts))) where
-  pub turn_stop : one (words_of z ts) ≡ None → all ≡ None
-  turn_stop e = so_far ∙ ap (λ (r : Read (List A)). behind xs r) (list_stop closing one n (words_of z ts) e)
-
-  module _ (v : A) (next : List Token) (is : one (words_of z ts) ≡ Some (v, words_of z next)) where
-    some_left : 0 < n
-    some_left = let fewer : length (words_of z next) < length (words_of z ts) = shrinks (words_of z ts) (words_of z next) v is in omega (arith, long, fewer, length-words z ts)
-
-    pub turn_last : (ys : List A) (rest : List Token) → ys ≡ xs ++ (v ∷ []) → rest ≡ drop 1 next → starts closing (words_of z next) ≡ true → all ≡ Some (ys, words_of z rest)
-    turn_last ys rest f h s =
-        rw (f, h, words-drop z 1 next) (so_far ∙ ap (λ (r : Read (List A)). behind xs r) (list_ends closing one n (words_of z ts) (words_of z next) v some_left is s))
-
-    pub turn_bad : starts closing (words_of z next) ≡ false → starts (codes ",") (words_of z next) ≡ false → all ≡ None
-    turn_bad s c = so_far ∙ ap (λ (r : Read (List A)). behind xs r) (list_bad closing one n (words_of z ts) (words_of z next) v is s c)
-
-    pub turn_go : (ys : List A) (rest : List Token) → ys ≡ xs ++ (v ∷ []) → rest ≡ drop 1 next → starts closing (words_of z next) ≡ false → starts (codes ",") (words_of z next) ≡ true
-        → (m : ℕ) × (length rest ≤ m) × (all ≡ behind ys (list_of closing one m (words_of z rest)))
-    turn_go ys rest f h s c =
-        let fewer : length rest < length ts = shorter_still shrinks z ts next rest v is h in
-        let left : n ≡ suc (n - 1) = omega (arith, long, fewer) in
-        let go = list_go closing one n (n - 1) (words_of z ts) (words_of z next) v left is s c in
-        let whole = so_far ∙ (ap (λ (r : Read (List A)). behind xs r) go ∙ behind_push xs v (list_of closing one (n - 1) (drop 1 (words_of z next)))) in
-        (n - 1, omega (arith, long, fewer), rw (f, h, words-drop z 1 next) whole)

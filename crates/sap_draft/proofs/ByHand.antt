@@ -8,13 +8,13 @@ use Rattle.sap_grammar.specs.FactGrammar.{fact_linear, fact_persistent, facts_la
 use Rattle.sap_draft.specs.ProcessGrammar.{IsPar, action_acts, action_input, action_lock, action_new_fresh, action_send, action_unlock, one_bar, par_more, par_one, seq_action, seq_call, seq_if, seq_if_else, seq_lookup_else, seq_nil, seq_parentheses, seq_replicated, seq_then, seq_use, two_bars}
 use Rattle.sap_draft.specs.ProcessExamples.{a, action_process, action_words, dangling_process, dangling_words, lookup_process, lookup_words, parallel_process, parallel_words, parted_process, parted_words, rule_process, rule_words, use_process, use_words, empty_use_words, comma_use_words, parted_use_words}
 use Rattle.sap_grammar.specs.Sizes.{IsSmall, AreSmall}
-use Rattle.sap_grammar.specs.Reading.{after, given}
+use Rattle.sap_grammar.specs.Reading.{after, given, past}
 use Rattle.sap_grammar.specs.TermReading.{short_term, term}
 use Rattle.sap_terms.specs.declared.var.Sort.TheVariants.{Fresh}
 use Rattle.sap_macro.specs.Written.{Written}
 use Rattle.sap_draft.specs.ProcessGrammar.{IsProcess}
-use Rattle.sap_draft.specs.code.ProcessReading.{par, past}
-use Rattle.sap_draft.specs.code.TermLaws.{AreRead, AreSpelled}
+use Rattle.sap_draft.specs.code.ProcessReading.{par}
+use Rattle.sap_grammar.specs.TermLaws.{AreRead, AreSpelled}
 use Rattle.sap_draft.proofs.WholeProcesses.{nothing_whole, no_other_whole}
 use Rattle.sap_draft.specs.declared.limits.TheConstants.{FILE_LIMITS}
 use Rattle.std.proofs.lemmas.List.Elements.{All-nil, All-cons}

@@ -1,5 +1,3 @@
-pub mod OnRead
-pub mod Steps
 pub mod ProcessSteps
 pub mod Arguments
 pub mod Processes

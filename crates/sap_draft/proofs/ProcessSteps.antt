@@ -1,19 +1,11 @@
 -- What reading processes does at each depth.
-use Rattle.std.proofs.Common.{rules, ◌≡◌, ◌≤◌, ◌<◌, ◌-◌, ℕ, zero, suc, List, None, true, false, refl, arith}
-use Rattle.std.specs.Prelude.{nat_le}
+use Rattle.std.proofs.Common.{◌≡◌, ◌≤◌, ◌<◌, ◌-◌, ℕ, zero, suc, List, None, true, false, refl, arith}
 use Rattle.sap_terms.specs.Signature.{Sig}
 use Rattle.sap_grammar.specs.declared.limits.Limits.{Limits}
 use Rattle.sap_grammar.specs.Words.{Word}
 use Rattle.sap_draft.specs.code.ProcessReading.{seq, par, seq_at, par_at}
-use Rattle.sap_draft.proofs.Steps.{words-drop}
-
--- a number within the limit
-pub fits : (m n : ℕ) → m ≤ n → nat_le m n ≡ true
-fits m n le = search rules
-
--- a number above the limit
-pub over : (m n : ℕ) → n < m → nat_le m n ≡ false
-over m n lt = search rules
+use Rattle.sap_grammar.proofs.ReadingLaws.Limits.{fits, over}
+use Rattle.sap_grammar.proofs.ReadingLaws.Tokens.{words-drop}
 
 pub seq_zero : (g : Sig) (m : Limits) (ws : List Word) → seq g m 0 ws ≡ None
 unfolding seq par

@@ -7,16 +7,16 @@ use Rattle.sap_terms.specs.Signature.{Sig}
 use Rattle.sap_grammar.specs.declared.limits.Limits.{Limits}
 use Rattle.sap_grammar.specs.Words.{Word, mark, starts}
 use Rattle.sap_grammar.specs.FactGrammar.{IsShortFact, AreFacts}
-use Rattle.sap_grammar.specs.Reading.{Read, Reader, after, given}
+use Rattle.sap_grammar.specs.Reading.{Read, Reader, after, given, past}
 use Rattle.sap_grammar.specs.TermReading.{short_term, short_fact, facts}
 use Rattle.sap_grammar.specs.TermGrammar.{IsShort}
 use Rattle.sap_process.specs.Action.{Action}
 use Rattle.sap_macro.specs.Written.{Written}
 use Rattle.sap_draft.specs.ProcessGrammar.{IsAction, IsSeq, IsPar, Ending, EndsProcess, action_acts, action_delete, action_event, action_input, action_insert, action_lock, action_new, action_new_fresh, action_out, action_receive, action_rule, action_send, action_unlock, closed, dangling, one_bar, two_bars, par_more, par_one, seq_action, seq_call, seq_if, seq_if_else, seq_lookup, seq_lookup_else, seq_nil, seq_parentheses, seq_replicated, seq_then, seq_use}
-use Rattle.sap_draft.specs.code.TermLaws.{AreRead}
+use Rattle.sap_grammar.specs.TermLaws.{AreRead}
 use Rattle.sap_draft.proofs.Arguments.{arguments_read}
-use Rattle.sap_draft.proofs.ProcessSteps.{fits}
-use Rattle.sap_draft.specs.code.ProcessReading.{past, Levelled, going_on, seq_at, seq, par}
+use Rattle.sap_grammar.proofs.ReadingLaws.Limits.{fits}
+use Rattle.sap_draft.specs.code.ProcessReading.{Levelled, going_on, seq_at, seq, par}
 
 pub seq_some : {g : Sig} {m : Limits} {n : ℕ} {e : Ending} {p : Written} {a b : List Word} → IsSeq g m e p n a b → 1 ≤ n
 seq_some seq_nil = omega arith

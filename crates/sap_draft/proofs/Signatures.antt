@@ -11,7 +11,7 @@ use Rattle.sap_grammar.specs.FactGrammar.{IsShortFact, AreFacts}
 use Rattle.sap_process.specs.Action.{Action, new, out, send, input, receive, event, insert, delete, lock, unlock, embedded}
 use Rattle.sap_macro.specs.Written.{Written, nil, call, parallel, replicated, act, test, lookup}
 use Rattle.sap_draft.specs.ProcessGrammar.{var, IsAction, IsSeq, IsPar, Ending, action_acts, action_delete, action_event, action_input, action_insert, action_lock, action_new, action_new_fresh, action_out, action_receive, action_rule, action_send, action_unlock, par_more, par_one, seq_action, seq_call, seq_if, seq_if_else, seq_lookup, seq_lookup_else, seq_nil, seq_parentheses, seq_replicated, seq_then, seq_use}
-use Rattle.sap_draft.specs.code.TermLaws.{AreSpelled}
+use Rattle.sap_grammar.specs.TermLaws.{AreSpelled}
 use Rattle.sap_draft.proofs.Arguments.{arguments_too}
 
 module _ (laws : AreSpelled) (h : Sig) where

@@ -1,5 +1,5 @@
 -- What is read is spelled so: facts, actions and processes.
-use Rattle.std.proofs.Common.{rules, ◌≡◌, ◌≤◌, max, ℕ, zero, suc, ◌+◌, Bool, true, false, List, [], ◌∷◌, drop, Option, Some, None, refl, sym, ap, subst, ◌∙◌, arith}
+use Rattle.std.proofs.Common.{◌≡◌, ◌≤◌, max, ℕ, zero, suc, ◌+◌, Bool, true, false, List, [], ◌∷◌, drop, Option, Some, None, refl, sym, ap, subst, ◌∙◌, arith}
 use Rattle.std.specs.Prelude.{nat_le, codes, ◌||◌}
 use Rattle.sap_terms.specs.declared.fact.Fact.{Fact}
 use Rattle.sap_terms.specs.declared.var.Sort.TheVariants.{Msg}
@@ -9,24 +9,22 @@ use Rattle.sap_grammar.specs.declared.limits.Limits.{Limits}
 use Rattle.sap_grammar.specs.Words.{Word, mark, name, number, quoted, starts}
 use Rattle.sap_grammar.specs.TermGrammar.{IsShort}
 use Rattle.sap_grammar.specs.FactGrammar.{IsShortFact, AreFacts}
-use Rattle.sap_grammar.specs.Reading.{Read, Reader, name_at, starts_zero}
+use Rattle.sap_grammar.specs.Reading.{Read, Reader, name_at, starts_zero, past}
 use Rattle.sap_grammar.specs.TermReading.{short_term, short_fact, facts}
 use Rattle.sap_process.specs.Action.{Action, out, send, input, receive, delete, lock, unlock, embedded}
 use Rattle.sap_macro.specs.Written.{Written, nil, call, parallel, test, lookup}
 use Rattle.sap_draft.specs.ProcessGrammar.{var, IsAction, IsSeq, IsPar, Ending, action_acts, action_delete, action_event, action_input, action_insert, action_lock, action_new, action_new_fresh, action_out, action_receive, action_rule, action_send, action_unlock, closed, dangling, one_bar, two_bars, par_more, par_one, seq_action, seq_call, seq_if, seq_if_else, seq_lookup, seq_lookup_else, seq_nil, seq_parentheses, seq_replicated, seq_then, seq_use}
-use Rattle.sap_draft.specs.code.ProcessReading.{past, channel, bound, right_side, embedded_rule, shown_event, inserted, on_term, state_action, action_of, Levelled, branches, Choosing, compared, condition, looked_up, looking, going_on, arguments, used, call_or_action, seq_at, par_at, seq, par}
+use Rattle.sap_draft.specs.code.ProcessReading.{channel, bound, right_side, embedded_rule, shown_event, inserted, on_term, state_action, action_of, Levelled, branches, Choosing, compared, condition, looked_up, looking, going_on, arguments, used, call_or_action, seq_at, par_at, seq, par}
 use Rattle.sap_draft.proofs.Arguments.{AreArguments, arguments_sound}
 use Rattle.sap_draft.proofs.Processes.{NoElse, seq_some}
-use Rattle.sap_draft.proofs.OnRead.{Says, OnRead, on_all, after_on, given_on, if_on, starts_is, name_is, same_bytes}
-use Rattle.sap_draft.specs.code.TermLaws.{AreRead}
+use Rattle.sap_grammar.proofs.ReadingLaws.Limits.{le_of}
+use Rattle.sap_grammar.proofs.ReadingLaws.OnRead.{Says, OnRead, on_all, after_on, given_on, if_on, starts_is, name_is, same_bytes}
+use Rattle.sap_grammar.specs.TermLaws.{AreRead}
 
 -- what goes on behind a mark
 past_on : {B : Type 0} (Q : Says B) (m : List ℕ) (ts : List Word) (k : Reader B) → (ts ≡ mark m ∷ drop 1 ts → OnRead Q (k (drop 1 ts))) → OnRead Q (past m ts k)
 unfolding past
 past_on Q m ts k f = if_on Q (starts m ts) (k (drop 1 ts)) None (λ e. f (starts_is m ts e)) (λ e. tt)
-
-le_of : (m n : ℕ) → nat_le m n ≡ true → m ≤ n
-le_of m n e = search rules
 
 zero_is : (ts : List Word) → starts_zero ts ≡ true → ts ≡ number (codes "0") ∷ drop 1 ts
 zero_is [] e = absurd (cc)

@@ -12,10 +12,10 @@ use Rattle.sap_draft.specs.code.ProcessReading.{Levelled, par}
 use Rattle.sap_draft.proofs.Processes.{par_read}
 use Rattle.sap_draft.proofs.SoundProcesses.{par_sound}
 use Rattle.sap_draft.proofs.Signatures.{par_too}
-use Rattle.sap_draft.proofs.OnRead.{OnRead}
+use Rattle.sap_grammar.proofs.ReadingLaws.OnRead.{OnRead}
 use Rattle.sap_terms.specs.declared.limits.TheConstants.{MOST_PROCESS_LEVELS}
 use Rattle.sap_draft.specs.declared.limits.TheConstants.{FILE_LIMITS}
-use Rattle.sap_draft.specs.code.TermLaws.{AreRead, AreSpelled}
+use Rattle.sap_grammar.specs.TermLaws.{AreRead, AreSpelled}
 
 -- nothing goes on behind the last word
 pub at_last : EndsProcess []

@@ -4,24 +4,14 @@ ghost use Rattle.sap_terms.specs.Signature.{Sig, pairs_alone};
 ghost use Rattle.sap_grammar.specs.Words.{Word};
 ghost use Rattle.sap_grammar.specs.ByteWords.{AreTokenWords};
 ghost use Rattle.sap_grammar.specs.declared.limits.Limits.{Limits};
-ghost use Rattle.sap_draft.specs.code.TermLaws.{AreRead, AreSpelled};
+ghost use Rattle.sap_grammar.specs.TermLaws.{AreRead, AreSpelled};
 ghost use Rattle.sap_macro.specs.Written.{Written};
 ghost use Rattle.sap_draft.specs.ProcessGrammar.{IsPar, IsProcess, EndsProcess};
 ghost use Rattle.sap_draft.specs.Printable.{IsSpelledWritten};
 ghost use Rattle.sap_draft.specs.ProcessExamples.{dangling_words, dangling_process, parted_words, parted_process, parallel_words, parallel_process, action_words, action_process, rule_words, rule_process, lookup_words, lookup_process, use_words, use_process, empty_use_words, comma_use_words, parted_use_words};
 ghost use Rattle.sap_draft.specs.declared.limits.TheConstants.{FILE_LIMITS};
 
-use sap_grammar::{facts_are_read, printed_words, same_grammar, terms_are_read};
-
-/// What the laws of terms and facts say, as the proofs on processes need it.
-pub(crate) fn term_laws()
-    ensures read { AreRead }
-    ensures spelled { AreSpelled }
-{
-    terms_are_read();
-    facts_are_read();
-    same_grammar();
-}
+use sap_grammar::{printed_words, term_laws};
 
 /// A law: from one place words spell at most one process that nothing of it follows, with one number of levels, and end it
 /// at one place. So all of some words spell at most one.

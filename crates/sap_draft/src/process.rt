@@ -12,8 +12,8 @@ mod choice;
 mod grammar;
 mod uses;
 
-use crate::laws::term_laws;
 use crate::process::grammar::read_par;
+use sap_grammar::term_laws;
 use sap_macro::Source;
 use sap_terms::{MOST_PROCESS_LEVELS, Mem, Signature};
 use sap_text::Token;

@@ -11,7 +11,7 @@ use Rattle.sap_formula.specs.declared.binder.Binder.{Binder}
 use Rattle.sap_grammar.specs.Words.{Word, is_lower, is_upper, mark, name, starts}
 use Rattle.sap_grammar.specs.TermGrammar.{IsTerm, term_constant, term_fresh, term_message, term_pub, term_quoted, term_symbol, term_tuple}
 use Rattle.sap_grammar.specs.FactGrammar.{IsFact, fact_linear, fact_persistent}
-use Rattle.sap_statements.specs.FormulaGrammar.{AreBinders, IsAnd, IsAtom, IsBinder, IsIff, IsImp, IsOr, IsTime, IsUn, Reach, and_more, and_one, atom_action, atom_earlier, atom_equal, atom_false, atom_same, atom_true, begins_truth, binders_last, binders_more, binds_fresh, binds_message, binds_pub, binds_time, closed, iff_more, iff_one, imp_more, imp_one, or_more, or_one, reaching, time_plain, time_signed, un_atom, un_every, un_exists, un_not, un_parentheses}
+use Rattle.sap_formula_grammar.specs.FormulaGrammar.{AreBinders, IsAnd, IsAtom, IsBinder, IsIff, IsImp, IsOr, IsTime, IsUn, Reach, and_more, and_one, atom_action, atom_earlier, atom_equal, atom_false, atom_same, atom_true, begins_truth, binders_last, binders_more, binds_fresh, binds_message, binds_pub, binds_time, closed, iff_more, iff_one, imp_more, imp_one, or_more, or_one, reaching, time_plain, time_signed, un_atom, un_every, un_exists, un_not, un_parentheses}
 use Rattle.sap_grammar.specs.Words as words
 use Rattle.sap_expect.specs.declared.wanted.Part.{Part}
 use Rattle.sap_expect.specs.declared.wanted.Part.TheVariants.{Application, Atom, Binders, Formula, InnerFormula, InnerJoined, InnerSecond, InnerSecondJoined, Joined, LowerAtom, MoreBinders, Second, SecondJoined, Term, Time, Truth, UpperAtom}

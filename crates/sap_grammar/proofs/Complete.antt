@@ -10,34 +10,13 @@ use Rattle.sap_grammar.specs.TermGrammar.{IsTerm, IsRest, IsList, IsArgs, IsCons
 use Rattle.sap_grammar.specs.FactGrammar.{IsFact, fact_levels, fact_linear, fact_persistent}
 use Rattle.sap_grammar.specs.Reading.{Read, after, given, list_of}
 use Rattle.sap_grammar.specs.TermReading.{is_no_arity, plain, args, term, rest, fact_at}
+use Rattle.sap_grammar.proofs.ReadingLaws.Ends.{term_shorter}
 
 some_levels : (t : Tree) → 1 ≤ level_count t
 some_levels (variable v) = omega arith
 some_levels (public n) = omega arith
 some_levels (fresh k) = omega arith
 some_levels (apply f ts) = omega arith
-
-mutual
-  pub term_shorter : {g : Sig} {t : Tree} {a b : List Word} → IsTerm g t a b → length b < length a
-  term_shorter (term_constant is) = omega arith
-  term_shorter (term_message is) = omega arith
-  term_shorter term_fresh = omega arith
-  term_shorter term_pub = omega arith
-  term_shorter term_quoted = omega arith
-  term_shorter (term_symbol low r) = omega (arith, args_shorter r)
-  term_shorter (term_tuple r s) = omega (arith, term_shorter r, rest_shorter s)
-
-  rest_shorter : {g : Sig} {t : Tree} {a b : List Word} → IsRest g t a b → length b < length a
-  rest_shorter (rest_last r) = omega (arith, term_shorter r)
-  rest_shorter (rest_more r s) = omega (arith, term_shorter r, rest_shorter s)
-
-  list_shorter : {g : Sig} {ts : List Tree} {a b : List Word} → IsList g ts a b → length b < length a
-  list_shorter (list_last r) = omega (arith, term_shorter r)
-  list_shorter (list_more r s) = omega (arith, term_shorter r, list_shorter s)
-
-  pub args_shorter : {g : Sig} {ts : List Tree} {a b : List Word} → IsArgs g ts a b → length b < length a
-  args_shorter args_none = omega arith
-  args_shorter (args_some r) = list_shorter r
 
 -- no term begins with a closing parenthesis
 term_begins : {g : Sig} {t : Tree} {a b : List Word} → IsTerm g t a b → starts (codes ")") a ≡ false
@@ -111,10 +90,6 @@ pub fact_read : {g : Sig} {f : Fact} {a b : List Word} → IsFact g f a b → (d
 unfolding after given
 fact_read (fact_linear up r) d le = rw (up, args_read r d le) refl
 fact_read (fact_persistent up r) d le = rw (up, args_read r d le) refl
-
-pub fact_shorter : {g : Sig} {f : Fact} {a b : List Word} → IsFact g f a b → length b < length a
-fact_shorter (fact_linear up r) = omega (arith, args_shorter r)
-fact_shorter (fact_persistent up r) = omega (arith, args_shorter r)
 
 -- from one place words spell at most one term that no opening parenthesis follows
 pub one_term : (g : Sig) (t u : Tree) (a b c : List Word) → IsTerm g t a b → IsTerm g u a c → starts (codes "(") b ≡ false → starts (codes "(") c ≡ false → (t ≡ u) × (b ≡ c)

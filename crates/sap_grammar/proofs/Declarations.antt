@@ -12,8 +12,8 @@ use Rattle.sap_grammar.specs.Declarations.{value_from, value, IsBuiltin, IsSymbo
 use Rattle.sap_grammar.specs.ItemReading.{arity_of_digits, builtin_at, symbol_at, mapped, declaration_at, is_over, in_front, whole_list}
 use Rattle.sap_grammar.specs.declared.declaration.Declaration as code
 use Rattle.sap_grammar.specs.code.DeclarationView.{declaration}
-use Rattle.sap_grammar.proofs.Sound.{OnRead}
-use Rattle.sap_grammar.proofs.Steps.{words-drop, length-words}
+use Rattle.sap_grammar.proofs.ReadingLaws.OnRead.{OnRead}
+use Rattle.sap_grammar.proofs.ReadingLaws.Tokens.{words-drop, length-words}
 use Rattle.sap_grammar.proofs.ItemWords.{builtin_shorter, builtin_sound, symbol_shorter, symbol_sound}
 use Rattle.sap_terms.specs.declared.limits.TheConstants.{MOST_ARITY}
 

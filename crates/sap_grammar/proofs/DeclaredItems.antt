@@ -6,7 +6,7 @@ use Rattle.sap_terms.specs.declared.signature.Builtin.{Builtin}
 use Rattle.sap_grammar.specs.Words.{Word, mark, starts}
 use Rattle.sap_grammar.specs.Declarations.{Declaration, of_builtin, of_symbol, AreBuiltins, AreSymbols, Declares, declares_builtins, declares_functions}
 use Rattle.sap_grammar.specs.ItemReading.{builtin_at, symbol_at, declaration_at, whole_list, behind_colon, declared_in}
-use Rattle.sap_grammar.proofs.Sound.{starts_is}
+use Rattle.sap_grammar.proofs.ReadingLaws.OnRead.{starts_is}
 use Rattle.sap_grammar.proofs.ItemWords.{builtins_read, symbols_read, builtins_sound, symbols_sound, list_mapped}
 
 pub builtins_declared : {bs : List Builtin} {a : List Word} → AreBuiltins bs a → (n : ℕ) → length a ≤ n → whole_list (declaration_at true) n a ≡ Some (map of_builtin bs)

@@ -7,11 +7,7 @@ use Rattle.sap_grammar.specs.Words.{Word, mark, name, number, quoted, is_mark, w
 use Rattle.sap_grammar.specs.Reading.{as_name}
 use Rattle.sap_grammar.specs.Cut.{Placed, placed, words, IsHeader, last_line}
 use Rattle.sap_grammar.specs.ItemReading.{header_of}
-
--- the words of tokens, with their lines or without
-words_placed : (z : List ℕ) (ts : List Token) → words (placed z ts) ≡ words_of z ts
-words_placed z [] = refl
-words_placed z (t ∷ ts) = ap (λ (ws : List Word). word_of z t ∷ ws) (words_placed z ts)
+use Rattle.sap_grammar.proofs.ReadingLaws.Tokens.{words_placed}
 
 mark_is : (m : List ℕ) (w : Word) → is_mark m w ≡ true → w ≡ mark m
 mark_is m (mark s) e = ap mark ((bytes_eq-Decides s m).0 e)

@@ -12,12 +12,9 @@ use Rattle.sap_grammar.specs.Signatures.{clash_with, with_declaration, signature
 use Rattle.sap_grammar.specs.ItemReading.{count_on, cut, kept, declared_in, declared_in_all, told}
 use Rattle.sap_grammar.specs.declared.declaration.Declaration as code
 use Rattle.sap_grammar.specs.code.DeclarationView.{declaration}
-use Rattle.sap_grammar.proofs.Sound.{starts_is}
+use Rattle.sap_grammar.proofs.ReadingLaws.Tokens.{words_placed}
+use Rattle.sap_grammar.proofs.ReadingLaws.OnRead.{starts_is}
 use Rattle.sap_grammar.proofs.Cuts.{cut_step}
-
-pub words_placed : (z : List ℕ) (ts : List Token) → words (placed z ts) ≡ words_of z ts
-words_placed z [] = refl
-words_placed z (t ∷ ts) = ap (λ (ws : List Word). word_of z t ∷ ws) (words_placed z ts)
 
 abbrev on_line : List ℕ → Token → Placed
 on_line z t = record { word = word_of z t; line = t.line }

@@ -8,7 +8,8 @@ use Rattle.sap_grammar.specs.Words.{Word, mark, name, number, quoted, starts, is
 use Rattle.sap_grammar.specs.Reading.{Read, Reader, given, name_at, names, number_at}
 use Rattle.sap_grammar.specs.Declarations.{value, IsBuiltin, AreBuiltins, IsSymbol, AreSymbols, spells_hashing, spells_symmetric, spells_asymmetric, spells_signing, spells_revealing, builtins_last, builtins_more, spells_public, spells_private, symbols_last, symbols_more}
 use Rattle.sap_grammar.specs.ItemReading.{is_joined, builtin_at, arity_of_digits, small_value, arity_at, is_private, with_privacy, symbol_at, mapped, is_over, on_read, in_front, whole_list}
-use Rattle.sap_grammar.proofs.Sound.{Says, OnRead, given_on, if_on, same_bytes, starts_is, name_is}
+use Rattle.sap_grammar.proofs.ReadingLaws.Limits.{fits}
+use Rattle.sap_grammar.proofs.ReadingLaws.OnRead.{Says, OnRead, given_on, if_on, same_bytes, starts_is, name_is}
 use Rattle.sap_terms.specs.declared.limits.TheConstants.{MOST_ARITY}
 
 -- What is spelled so is read.
@@ -26,9 +27,6 @@ builtin_shorter spells_symmetric = omega arith
 builtin_shorter spells_asymmetric = omega arith
 builtin_shorter spells_signing = omega arith
 builtin_shorter spells_revealing = omega arith
-
-fits : (m n : ℕ) → m ≤ n → nat_le m n ≡ true
-fits m n le = search rules
 
 arity_read : (ds : List ℕ) → value ds ≤ MOST_ARITY → arity_of_digits ds ≡ Some (value ds)
 arity_read ds le = rw (fits (value ds) MOST_ARITY le) refl

@@ -1,3 +1,4 @@
+pub mod ReadingLaws
 pub mod Complete
 pub mod Sound
 pub mod Small
@@ -6,7 +7,6 @@ pub mod Places
 pub mod Steps
 pub mod Lists
 pub mod Signatures
-pub mod Pushed
 pub mod Applied
 pub mod Cuts
 pub mod Headers

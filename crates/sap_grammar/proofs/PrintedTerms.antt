@@ -16,7 +16,7 @@ use Rattle.sap_grammar.specs.FactGrammar.{IsFact, fact_linear, fact_persistent}
 use Rattle.sap_grammar.specs.TermText.{is_pair}
 use Rattle.sap_grammar.specs.Printable.{IsTidy, IsTidyVariable, IsTidyUse, AreTidy, IsTidyFact}
 use Rattle.sap_grammar.specs.PrintedWords.{Before, enclosed, variable_words, term_words, pair_words, args_words, rest_words, list_words, fact_words}
-use Rattle.sap_grammar.proofs.Sound.{same_bytes}
+use Rattle.sap_grammar.proofs.ReadingLaws.OnRead.{same_bytes}
 
 -- Terms.
 variable_spelled : {g : Sig} (s : Sort) (x : List ℕ) → IsTidyVariable g s x → (k : List Word) → IsTerm g (sorted s x) (variable_words s x k) k

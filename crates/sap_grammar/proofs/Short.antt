@@ -13,10 +13,12 @@ use Rattle.sap_grammar.specs.TermGrammar.{IsTerm, IsShort}
 use Rattle.sap_grammar.specs.FactGrammar.{IsFact, IsShortFact, AreSomeFacts, AreFacts, fact_linear, fact_persistent, facts_last, facts_more, facts_none, facts_some}
 use Rattle.sap_grammar.specs.Reading.{Read, after, given, list_of}
 use Rattle.sap_grammar.specs.TermReading.{term, fact_at, short_term, short_fact, facts}
-use Rattle.sap_grammar.proofs.Complete.{term_read, fact_read, fact_shorter}
-use Rattle.sap_grammar.proofs.Sound.{Says, OnRead, after_on, behind_on, if_on, starts_is, term_sound, fact_sound, on_read}
+use Rattle.sap_grammar.proofs.Complete.{term_read, fact_read}
+use Rattle.sap_grammar.proofs.Sound.{term_sound, fact_sound}
+use Rattle.sap_grammar.proofs.ReadingLaws.OnRead.{Says, OnRead, after_on, behind_on, if_on, starts_is, on_read}
+use Rattle.sap_grammar.proofs.ReadingLaws.Ends.{fact_shorter}
 use Rattle.sap_grammar.proofs.Small.{small_is, small_of, all_small_is, all_small_of, deep_enough}
-use Rattle.sap_grammar.proofs.Lists.{Shrinks}
+use Rattle.sap_grammar.proofs.ReadingLaws.Turns.{Shrinks}
 
 pub short_read : (g : Sig) (m : Limits) (t : Tree) (a b : List Word) → IsShort g m t a b → starts (codes "(") b ≡ false → short_term g m a ≡ Some (t, b)
 unfolding after short_term

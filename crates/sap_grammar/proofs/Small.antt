@@ -1,18 +1,12 @@
 -- Terms within the limits, and the test of it.
-use Rattle.std.proofs.Common.{rules, ◌≡◌, ◌≤◌, ◌+◌, ℕ, zero, suc, Bool, true, false, List, [], ◌∷◌, take, add-one, Option, Some, None, refl, arith}
+use Rattle.std.proofs.Common.{◌≡◌, ◌≤◌, ◌+◌, ℕ, zero, suc, Bool, true, false, List, [], ◌∷◌, take, add-one, Option, Some, None, refl, arith}
 use Rattle.std.specs.Prelude.{nat_le, ◌&&◌, slice_get}
 use Rattle.std.specs.List.{list_all}
 use Rattle.std.proofs.lemmas.List.Elements.{All-nil, All-cons, All-head, All-tail}
 use Rattle.sap_terms.specs.Tree.{Tree, trees_of, level_count, trees_levels, node_count}
 use Rattle.sap_grammar.specs.declared.limits.Limits.{Limits}
 use Rattle.sap_grammar.specs.Sizes.{AtMost, IsSmall, AreSmall, at_most, is_small, are_small}
-
--- a number within the limit
-pub fits : (m n : ℕ) → m ≤ n → nat_le m n ≡ true
-fits m n le = search rules
-
-pub le_of : (m n : ℕ) → nat_le m n ≡ true → m ≤ n
-le_of m n e = search rules
+use Rattle.sap_grammar.proofs.ReadingLaws.Limits.{fits, le_of}
 
 and_left : (a b : Bool) → (a && b) ≡ true → a ≡ true
 and_left true b e = refl

@@ -14,53 +14,7 @@ use Rattle.sap_grammar.specs.FactGrammar.{IsFact, fact, fact_linear, fact_persis
 use Rattle.sap_grammar.specs.Reading.{Read, Reader, after, given, behind, name_at, quoted_at, list_of}
 use Rattle.sap_grammar.specs.TermReading.{is_no_arity, plain, args, named, tuple, leaf, term_at, rest_at, term, rest, fact_from, fact_at}
 use Rattle.sap_grammar.proofs.Complete.{no_zero}
-
-abbrev pub Says : Type 0 → Type 1
-Says A = A → List Word → Type 0
-
--- what was read has this property
-abbrev pub OnRead : {A : Type 0} → Says A → Read A → Type 0
-OnRead P None = ⊤
-OnRead P (Some p) = P p.0 p.1
-
-pub after_on : {A B : Type 0} (P : Says A) (Q : Says B) (r : Read A) (k : A → Reader B) → OnRead P r → ((v : A) (b : List Word) → P v b → OnRead Q (k v b)) → OnRead Q (after r k)
-unfolding after
-after_on P Q None k h f = tt
-after_on P Q (Some p) k h f = f p.0 p.1 h
-
-pub given_on : {A B : Type 0} (Q : Says B) (o : Option A) (k : A → Read B) → ((x : A) → o ≡ Some x → OnRead Q (k x)) → OnRead Q (given o k)
-unfolding given
-given_on Q None k f = tt
-given_on Q (Some x) k f = f x refl
-
-pub if_on : {B : Type 0} (Q : Says B) (c : Bool) (x y : Read B) → (c ≡ true → OnRead Q x) → (c ≡ false → OnRead Q y) → OnRead Q (if c then x else y)
-if_on Q true x y t f = t refl
-if_on Q false x y t f = f refl
-
-pub behind_on : {A : Type 0} (P Q : Says (List A)) (xs : List A) (r : Read (List A)) → OnRead P r → ((us : List A) (b : List Word) → P us b → Q (xs ++ us) b) → OnRead Q (behind xs r)
-behind_on P Q xs None h f = tt
-behind_on P Q xs (Some p) h f = f p.0 p.1 h
-
--- what was read has the property
-pub on_read : {A : Type 0} (P : Says A) {r : Read A} (v : A) (b : List Word) → r ≡ Some (v, b) → OnRead P r → P v b
-on_read P v b e h = subst (OnRead P) e h
-
-pub same_bytes : (m s : List ℕ) → bytes_eq m s ≡ true → m ≡ s
-same_bytes m s e = (bytes_eq-Decides m s).0 e
-
-pub starts_is : (m : List ℕ) (ts : List Word) → starts m ts ≡ true → ts ≡ mark m ∷ drop 1 ts
-starts_is m [] e = absurd (cc)
-starts_is m (mark s ∷ ts) e = let same : s ≡ m = same_bytes s m e in cc
-starts_is m (name s ∷ ts) e = absurd (cc)
-starts_is m (number s ∷ ts) e = absurd (cc)
-starts_is m (quoted s ∷ ts) e = absurd (cc)
-
-pub name_is : (ts : List Word) (x : List ℕ) → name_at ts ≡ Some x → ts ≡ name x ∷ drop 1 ts
-name_is [] x e = absurd (cc)
-name_is (mark s ∷ ts) x e = absurd (cc)
-name_is (name s ∷ ts) x e = cc
-name_is (number s ∷ ts) x e = absurd (cc)
-name_is (quoted s ∷ ts) x e = absurd (cc)
+use Rattle.sap_grammar.proofs.ReadingLaws.OnRead.{Says, OnRead, after_on, given_on, if_on, behind_on, starts_is, name_is}
 
 quoted_is : (ts : List Word) (x : List ℕ) → quoted_at ts ≡ Some x → ts ≡ quoted x ∷ drop 1 ts
 quoted_is [] x e = absurd (cc)

@@ -1,10 +1,9 @@
 -- What reading does at each depth.
-use Rattle.std.proofs.Common.{◌≡◌, ◌<◌, ◌-◌, ℕ, zero, suc, List, None, drop, length, refl, sym, arith}
-use Rattle.std.proofs.lemmas.List.{drop-map, length-map}
+use Rattle.std.proofs.Common.{◌≡◌, ◌<◌, ◌-◌, ℕ, zero, suc, List, None, refl, arith}
 use Rattle.sap_terms.specs.Signature.{Sig}
-use Rattle.sap_text.specs.declared.token.Token.{Token}
-use Rattle.sap_grammar.specs.Words.{Word, word_of, words_of}
+use Rattle.sap_grammar.specs.Words.{Word}
 use Rattle.sap_grammar.specs.TermReading.{term, term_at, rest, rest_at}
+use Rattle.sap_grammar.proofs.ReadingLaws.Tokens.{words-drop}
 
 pub term_zero : (g : Sig) (ws : List Word) → term g 0 ws ≡ None
 unfolding term rest
@@ -24,13 +23,4 @@ unfolding term rest
 rest_step g zero ws lt = absurd (omega (arith, lt))
 rest_step g (suc d) ws lt = let e : suc d - 1 ≡ d = omega arith in rw e refl
 
--- the words of the tokens behind the first n
-pub words-drop : (z : List ℕ) (n : ℕ) (ts : List Token) → words_of z (drop n ts) ≡ drop n (words_of z ts)
-words-drop z n ts = sym (drop-map (word_of z) n ts)
-
-pub length-words : (z : List ℕ) (ts : List Token) → length (words_of z ts) ≡ length ts
-length-words z ts = length-map ts (word_of z)
-
 pub ruleset steps = (term_zero, rest_zero, term_step, rest_step, words-drop)
-
-pub ruleset word_steps = (words-drop)

@@ -20,4 +20,6 @@ pub mod Declarations
 pub mod Signatures
 pub mod Items
 pub mod ItemReading
+pub mod TermLaws
+pub mod ItemLaws
 pub mod code

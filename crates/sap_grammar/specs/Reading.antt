@@ -75,6 +75,14 @@ unfoldable pub given : {A B : Type 0} → Option A → (A → Read B) → Read B
 given None k = None
 given (Some x) k = k x
 
+-- goes on behind this mark
+unfoldable pub past : {B : Type 0} → List ℕ → List Word → Reader B → Read B
+past m ws k = if starts m ws then k (drop 1 ws) else None
+
+-- the name that stands first, and the words behind it
+abbrev pub bare : Reader (List ℕ)
+bare ws = given (name_at ws) (λ x. Some (x, drop 1 ws))
+
 -- what was read before stands in front
 abbrev pub behind : {A : Type 0} → List A → Read (List A) → Read (List A)
 behind xs None = None

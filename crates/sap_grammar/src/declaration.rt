@@ -42,7 +42,7 @@ fn arity_at(bytes: &[u8], tokens: &[Token]) -> Option<u64>
     }
 }
 
-#[tactic(auto, using(crate::proofs::Steps::word_steps))]
+#[tactic(auto, using(crate::proofs::ReadingLaws::Tokens::word_steps))]
 fn is_private(bytes: &[u8], tokens: &[Token]) -> bool
     ensures { result ≡ is_private (words_of bytes.now tokens.now) }
 {
@@ -51,14 +51,14 @@ fn is_private(bytes: &[u8], tokens: &[Token]) -> bool
         && starts(bytes, beyond(2, tokens), "]")
 }
 
-#[tactic(auto, using(crate::proofs::Steps::word_steps))]
+#[tactic(auto, using(crate::proofs::ReadingLaws::Tokens::word_steps))]
 fn is_joined(bytes: &[u8], tokens: &[Token], word: &str) -> bool
     ensures { result ≡ is_joined word.now (words_of bytes.now tokens.now) }
 {
     starts(bytes, tokens, "-") && names(bytes, beyond(1, tokens), word)
 }
 
-#[tactic(auto, using(crate::proofs::Steps::word_steps))]
+#[tactic(auto, using(crate::proofs::ReadingLaws::Tokens::word_steps))]
 fn read_builtin<'a>(bytes: &[u8], tokens: &'a [Token]) -> Option<(Builtin, &'a [Token])>
     ensures { option_map (λ p. (p.0, words_of bytes.now p.1.now)) result
         ≡ builtin_at (words_of bytes.now tokens.now) }
@@ -86,7 +86,7 @@ fn read_builtin<'a>(bytes: &[u8], tokens: &'a [Token]) -> Option<(Builtin, &'a [
     }
 }
 
-#[tactic(auto, using(crate::proofs::Steps::word_steps))]
+#[tactic(auto, using(crate::proofs::ReadingLaws::Tokens::word_steps))]
 fn read_privacy<'a>(
     alloc: Global,
     bytes: &[u8],
@@ -226,7 +226,7 @@ fn read_list(
     }
 }
 
-#[tactic(auto, using(crate::proofs::Steps::word_steps))]
+#[tactic(auto, using(crate::proofs::ReadingLaws::Tokens::word_steps))]
 fn read_behind_colon(
     alloc: Global,
     bytes: &[u8],
@@ -244,7 +244,7 @@ fn read_behind_colon(
 }
 
 /// What an item declares; None where it is no item of builtins or functions.
-#[tactic(auto, using(crate::proofs::Steps::word_steps))]
+#[tactic(auto, using(crate::proofs::ReadingLaws::Tokens::word_steps))]
 pub(crate) fn read_declared(
     alloc: Global,
     bytes: &[u8],

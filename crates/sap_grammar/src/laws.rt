@@ -21,6 +21,8 @@ ghost use Rattle.sap_grammar.specs.TermText.{tree_text};
 ghost use Rattle.sap_grammar.specs.FactText.{fact_text};
 ghost use Rattle.sap_grammar.specs.ByteWords.{AreWords, AreTokenWords, AreWritten};
 ghost use Rattle.sap_grammar.specs.Printed.{ArePrinted};
+ghost use Rattle.sap_grammar.specs.TermLaws.{AreRead, AreSpelled};
+ghost use Rattle.sap_grammar.specs.ItemLaws.{ItemLaws};
 ghost use Rattle.sap_grammar.specs.TermBytes.{SpellsTerm, SpellsFact};
 
 use sap_text::{longest_tokens, one_answer};
@@ -162,4 +164,24 @@ pub fn printed_words()
     ensures { ArePrinted }
 {
     words_are_written();
+}
+
+/// A law: what `terms_are_read`, `facts_are_read` and `same_grammar` say within limits, as one, which proofs on processes,
+/// formulas and rules build on.
+pub fn term_laws()
+    ensures read { AreRead }
+    ensures spelled { AreSpelled }
+{
+    terms_are_read();
+    facts_are_read();
+    same_grammar();
+}
+
+/// A law: what `words_are_cut`, `headers_are_read` and `declarations_are_read` say, as one, which proofs on items build on.
+pub fn item_laws()
+    ensures { ItemLaws }
+{
+    words_are_cut();
+    headers_are_read();
+    declarations_are_read();
 }

@@ -5,9 +5,11 @@ ghost use Rattle.std.specs.List.{list_any};
 ghost use Rattle.std.specs.Option.{option_copied};
 ghost use Rattle.sap_text.specs.Spans.{text_of};
 ghost use Rattle.sap_grammar.specs.Words.{is_grammar_word, is_mark, item_words, process_words, starts, word_of, words_of, is_lower, is_upper};
-ghost use Rattle.sap_grammar.specs.Reading.{as_name, as_quoted, as_number, name_at, quoted_at, number_at, names, is_zero, starts_zero};
+ghost use Rattle.sap_grammar.specs.Reading.{Gives, as_name, as_quoted, as_number, bare, name_at, quoted_at, number_at, names, is_zero, starts_zero};
 
+use sap_terms::{Mem, Name};
 use sap_text::{Kind, Token};
+use std::alloc::Global;
 
 // Whether the text is this word.
 pub(crate) fn is(text: &[u8], word: &str) -> bool
@@ -16,40 +18,48 @@ pub(crate) fn is(text: &[u8], word: &str) -> bool
     text == word.as_bytes()
 }
 
+const ITEM_WORDS: [&str; 10] = [
+    "theory",
+    "begin",
+    "end",
+    "builtins",
+    "functions",
+    "let",
+    "process",
+    "restriction",
+    "lemma",
+    "rule",
+];
+
+const PROCESS_WORDS: [&str; 16] = [
+    "new", "out", "in", "if", "then", "else", "event", "insert", "delete", "lookup", "as", "lock",
+    "unlock", "All", "Ex", "not",
+];
+
+// Whether the text is one of the words.
+fn is_one(text: &[u8], words: &[&str]) -> bool
+    ensures { result ≡ list_any (λ word. bytes_eq text.now word.now) words.now }
+{
+    for word in words {
+        if is(text, word) {
+            return true;
+        }
+    }
+    false
+}
+
 fn is_item_word(text: &[u8]) -> bool
     ensures { result ≡ list_any (λ word. bytes_eq text.now word) item_words }
 {
-    is(text, "theory")
-        || is(text, "begin")
-        || is(text, "end")
-        || is(text, "builtins")
-        || is(text, "functions")
-        || is(text, "let")
-        || is(text, "process")
-        || is(text, "restriction")
-        || is(text, "lemma")
-        || is(text, "rule")
+    let words: [&str; 10] = ITEM_WORDS;
+    is_one(text, words.as_slice())
 }
 
 fn is_process_word(text: &[u8]) -> bool
     ensures { result ≡ list_any (λ word. bytes_eq text.now word) process_words }
 {
-    is(text, "new")
-        || is(text, "out")
-        || is(text, "in")
-        || is(text, "if")
-        || is(text, "then")
-        || is(text, "else")
-        || is(text, "event")
-        || is(text, "insert")
-        || is(text, "delete")
-        || is(text, "lookup")
-        || is(text, "as")
-        || is(text, "lock")
-        || is(text, "unlock")
-        || is(text, "All")
-        || is(text, "Ex")
-        || is(text, "not")
+    let words: [&str; 16] = PROCESS_WORDS;
+    is_one(text, words.as_slice())
 }
 
 /// Whether it is a word of the grammar, which is no name.
@@ -199,6 +209,21 @@ pub fn beyond(n: usize, tokens: &[Token]) -> &[Token]
         &tokens[n..]
     } else {
         &tokens[tokens.len()..]
+    }
+}
+
+/// The name that stands first, and the tokens behind it; None where none does.
+#[tactic(auto, using(crate::proofs::ReadingLaws::Tokens::word_steps), unfolding(crate::specs::Reading::given))]
+pub fn read_name<'a>(
+    alloc: Global,
+    bytes: &[u8],
+    tokens: &'a [Token],
+) -> Result<Option<(Name, &'a [Token])>, Mem>
+    ensures { Gives bytes.now (λ x. x) result (bare (words_of bytes.now tokens.now)) }
+{
+    match name_at(bytes, tokens) {
+        None => Ok(None),
+        Some(name) => Ok(Some((Name::from_bytes(alloc, name)?, beyond(1, tokens)))),
     }
 }
 

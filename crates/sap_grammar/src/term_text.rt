@@ -21,7 +21,8 @@ pub fn push_variable(text: &mut Text, v: &Var) -> Result<(), Mem>
     text.push_bytes(v.name.as_bytes())
 }
 
-fn push_public(text: &mut Text, name: &Name) -> Result<(), Mem>
+/// A public name between its quotes.
+pub fn push_public(text: &mut Text, name: &Name) -> Result<(), Mem>
     ensures { OnOk result (text.new ≡ text.old ++ (codes "'" ++ (name.now ++ codes "'"))) }
 {
     text.push_byte(b'\'')?;

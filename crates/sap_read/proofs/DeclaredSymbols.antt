@@ -1,74 +1,17 @@
--- The symbols that declarations make: no name stands twice, and each can be declared.
-use Rattle.std.proofs.Common.{◌≡◌, ◌≤◌, ℕ, Bool, true, false, List, [], ◌∷◌, ◌++◌, length, Option, Some, None, refl, sym, arith}
+-- The symbols that declarations make can be declared, where each that is declared can.
+use Rattle.std.proofs.Common.{◌≡◌, ◌≤◌, ℕ, Bool, true, false, List, [], ◌∷◌, ◌++◌, length, refl, arith}
 use Rattle.std.specs.Prelude.{codes, is_some, if◌then◌else◌}
 use Rattle.std.specs.List.{AllByRecursion}
-use Rattle.std.specs.Str.{bytes_eq}
-use Rattle.std.proofs.lemmas.Slice.Eq.{bytes_eq-Decides}
 use Rattle.sap_terms.specs.declared.signature.Symbol.{Symbol}
 use Rattle.sap_terms.specs.declared.signature.Builtin.{Builtin}
 use Rattle.sap_terms.specs.declared.signature.Builtin.TheVariants.{Hashing, Symmetric, Asymmetric, Signing, RevealingSigning}
-use Rattle.sap_terms.specs.Signature.{Sig, find_symbol, IsMap, declared, declared_all, added, builtin_symbols, first_clash, pairs_alone, public_symbol}
+use Rattle.sap_terms.specs.Signature.{Sig, find_symbol, declared, declared_all, added, builtin_symbols, first_clash, pairs_alone, public_symbol}
 use Rattle.sap_text.specs.declared.token.Kind.TheVariants as kind
 use Rattle.sap_text.specs.Tokens.{IsToken, ident}
 use Rattle.sap_grammar.specs.Words.{is_grammar_word, is_lower}
 use Rattle.sap_grammar.specs.Declarations.{Declaration, of_builtin, of_symbol}
 use Rattle.sap_grammar.specs.Signatures.{signature_from, with_declaration}
 use Rattle.sap_read.specs.Printable.{IsDeclarable}
-
--- No name stands twice.
-
-other_name : (a b : List ℕ) → bytes_eq a b ≡ false → bytes_eq b a ≡ false
-other_name a b h = by (bytes_eq b a) refl
-  where
-    by : (c : Bool) → bytes_eq b a ≡ c → c ≡ false
-    by false e = refl
-    by true e =
-        let same : b ≡ a = (bytes_eq-Decides b a).0 e in
-        let there : bytes_eq a b ≡ true = (bytes_eq-Decides a b).1 (sym same) in
-        absurd (cc (h, there))
-
-not_last : (ss : List Symbol) (x : Symbol) (n : List ℕ) → find_symbol ss n ≡ None → bytes_eq x.name n ≡ false → find_symbol (ss ++ x ∷ []) n ≡ None
-not_last [] x n h o = rw o refl
-not_last (s ∷ ss) x n h o = by (bytes_eq s.name n) h (λ k. not_last ss x n k o)
-  where
-    by : (c : Bool) → (if c then Some s else find_symbol ss n) ≡ None → (find_symbol ss n ≡ None → find_symbol (ss ++ x ∷ []) n ≡ None)
-        → (if c then Some s else find_symbol (ss ++ x ∷ []) n) ≡ None
-    by true h more = absurd (cc (h))
-    by false h more = more h
-
-map_with : (ss : List Symbol) (x : Symbol) → IsMap ss → find_symbol ss x.name ≡ None → IsMap (ss ++ x ∷ [])
-map_with [] x m h = (refl, tt)
-map_with (s ∷ ss) x m h = by (bytes_eq s.name x.name) refl h (map_with ss x m.1)
-  where
-    by : (c : Bool) → bytes_eq s.name x.name ≡ c → (if c then Some s else find_symbol ss x.name) ≡ None → (find_symbol ss x.name ≡ None → IsMap (ss ++ x ∷ []))
-        → IsMap (s ∷ (ss ++ x ∷ []))
-    by true e h more = absurd (cc (h))
-    by false e h more = (not_last ss x s.name m.0 (other_name s.name x.name e), more h)
-
-map_declared : (ss : List Symbol) (x : Symbol) → IsMap ss → IsMap (declared ss x.name x.arity x.private)
-map_declared ss x m = by (find_symbol ss x.name) refl
-  where
-    by : (o : Option Symbol) → find_symbol ss x.name ≡ o → IsMap (if is_some o then ss else ss ++ x ∷ [])
-    by None e = map_with ss x m e
-    by (Some s) e = m
-
-map_all : (xs ss : List Symbol) → IsMap ss → IsMap (declared_all ss xs)
-map_all [] ss m = m
-map_all (x ∷ xs) ss m = map_all xs (declared ss x.name x.arity x.private) (map_declared ss x m)
-
-map_with_declaration : (g : Sig) (d : Declaration) → IsMap g.symbols → IsMap (with_declaration g d).symbols
-map_with_declaration g (of_symbol x) m = map_declared g.symbols x m
-map_with_declaration g (of_builtin b) m = by (is_some (first_clash g.symbols (builtin_symbols b)))
-  where
-    by : (c : Bool) → IsMap (if c then g else added g b).symbols
-    by true = m
-    by false = map_all (builtin_symbols b) g.symbols m
-
-pub declared_map : (ds : List Declaration) (g : Sig) → IsMap g.symbols → IsMap (signature_from g ds).symbols
-declared_map [] g m = m
-declared_map (d ∷ ds) g m = declared_map ds (with_declaration g d) (map_with_declaration g d m)
-
--- Each can be declared, where each that is declared can.
 
 module _ (most : ℕ) where
   abbrev CanBe : List Symbol → Type 0
@@ -166,7 +109,3 @@ module _ (most : ℕ) where
 
     pub declared_can : (ds : List Declaration) → AllByRecursion IsDeclaredWell ds → CanBe (signature_from pairs_alone ds).symbols
     declared_can ds k = can_from ds pairs_alone (pair_can, (fst_can, (snd_can, tt))) k
-
--- no name of pairs stands twice
-pub pairs_map : IsMap pairs_alone.symbols
-pairs_map = (refl, (refl, (refl, tt)))

@@ -32,7 +32,7 @@ use Rattle.sap_formula.specs.Parts.{Part, time, form_parts}
 use Rattle.sap_formula.specs.declared.fault.FormulaFlaw.{FormulaFlaw}
 use Rattle.sap_formula.specs.declared.fault.FormulaFlaw.TheVariants.{BadFunction, Destructor, Reserved, UnboundVar, Unguarded}
 use Rattle.sap_formula.specs.declared.lemma.Mode.TheVariants.{AllTraces}
-use Rattle.sap_statements.specs.FormulaGrammar.{closed, iff_one, imp_one, or_one, and_one, un_atom, atom_earlier, time_plain}
+use Rattle.sap_formula_grammar.specs.FormulaGrammar.{closed, iff_one, imp_one, or_one, and_one, un_atom, atom_earlier, time_plain}
 use Rattle.sap_statements.specs.Stated.{this_one}
 use Rattle.sap_statements.specs.Statements.{formula_of, is_lemma, without_attributes, mode_missing}
 use Rattle.sap_statements.specs.declared.statement.Statement.{Statement}

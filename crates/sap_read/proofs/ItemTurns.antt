@@ -12,6 +12,7 @@ use Rattle.sap_grammar.specs.Declarations.{Declaration, declares_builtins, decla
 use Rattle.sap_grammar.specs.Items.{IsEnd, items_end, items_more, no_end, bad_item, later_item}
 use Rattle.sap_grammar.specs.ItemReading.{cut, declared_in}
 use Rattle.sap_macro.specs.Written.{Written}
+use Rattle.sap_statements.specs.Added.{IsStated}
 use Rattle.sap_statements.specs.declared.statement.Statement.{Statement}
 use Rattle.sap_statements.specs.Statements.{IsStatement, is_restriction, is_lemma}
 use Rattle.sap_draft.specs.declared.limits.TheConstants.{FILE_LIMITS}
@@ -20,31 +21,17 @@ use Rattle.sap_draft.specs.ProcessGrammar.{IsProcess}
 use Rattle.sap_read.specs.ItemGrammar.{HasParameters, IsItem, AreItems, IsSomeItem, IsFaultyFile, item_builtins, item_functions, item_definition, item_process, item_statement}
 use Rattle.sap_read.specs.declared.entry.Entry.{Entry}
 use Rattle.sap_read.specs.code.Bodies.{body}
-use Rattle.sap_read.specs.code.ItemView.{IsItemOf, IsAdded, IsAdding, IsGoodBehind, IsPushed, IsStated, SaysProcess, AreSaid}
-use Rattle.sap_read.specs.code.ItemLaws.{ItemLaws}
-use Rattle.sap_read.proofs.WordsRead.{starts_is, name_is, words-drop}
+use Rattle.sap_read.specs.code.ItemView.{IsItemOf, IsAdded, IsAdding, IsGoodBehind, IsPushed, SaysProcess, AreSaid}
+use Rattle.sap_grammar.proofs.ReadingLaws.Items.{cut_is}
+use Rattle.sap_grammar.specs.ItemLaws.{ItemLaws}
+use Rattle.sap_grammar.proofs.ReadingLaws.OnRead.{starts_is, name_is}
+use Rattle.sap_grammar.proofs.ReadingLaws.Tokens.{words-drop, words_placed}
 use Rattle.sap_read.proofs.ItemsRead.{declared_sound}
 use Rattle.sap_read.proofs.ReadParameters.{one_head}
-
-pub words_placed : (z : List ℕ) (ts : List Token) → words (placed z ts) ≡ words_of z ts
-words_placed z [] = refl
-words_placed z (t ∷ ts) = ap (λ (ws : List Word). word_of z t ∷ ws) (words_placed z ts)
 
 -- the words of the tokens behind the first n
 pub words-beyond : (z : List ℕ) (n : ℕ) (ts rest : List Token) → rest ≡ drop n ts → words_of z rest ≡ drop n (words_of z ts)
 words-beyond z n ts rest e = ap (λ (y : List Token). words_of z y) e ∙ words-drop z n ts
-
--- only no words are no items
-no_cut : {p : Placed} {ps : List Placed} {is : List (List Placed)} → IsCut (p ∷ ps) is → is ≡ [] → ⊥
-no_cut (cut_one p ps rest a b r) e = absurd (cc (e))
-
-cut_nothing : ItemLaws → (z : List ℕ) (ts : List Token) → cut (placed z ts) ≡ [] → ts ≡ []
-cut_nothing laws z [] e = refl
-cut_nothing laws z (t ∷ ts) e = absurd (no_cut (laws.is_cut (placed z (t ∷ ts))) e)
-
--- the cut of words is the one that is read
-pub cut_is : ItemLaws → {ps : List Placed} {is : List (List Placed)} → IsCut ps is → cut ps ≡ is
-cut_is laws {ps = ps} {is = is} r = laws.one_cut ps (cut ps) is (laws.is_cut ps) r
 
 -- Items that say of processes.
 
@@ -177,7 +164,7 @@ declaration_added laws g z ts es ss e = go (declared_in (words_of z ts)) refl e
 
 -- where the tokens declare nothing, and are asked whether they are a restriction or a lemma
 stated_added : ItemLaws → (g : Sig) (z : List ℕ) (ts : List Token) (es : List Entry) (ss after : List Statement) (b : Bool) → starts (codes "let") (words_of z ts) ≡ false
-    → starts (codes "process") (words_of z ts) ≡ false → is_some (declared_in (words_of z ts)) ≡ false → IsStated g z ts ss after b → IsAdded g z ts es es ss after b
+    → starts (codes "process") (words_of z ts) ≡ false → is_some (declared_in (words_of z ts)) ≡ false → IsStated g FILE_LIMITS z ts ss after b → IsAdded g z ts es es ss after b
 stated_added laws g z ts es ss after true l p none is = record {
   said = [];
   stated = is.0 ∷ [];
@@ -193,14 +180,13 @@ stated_added laws g z ts es ss after false l p none never = no_other laws (words
 
 -- the same, where asking may fail
 pub stated_tried : ItemLaws → (g : Sig) (z : List ℕ) (ts : List Token) (es : List Entry) (ss after : List Statement) (r : Result Bool Mem) → starts (codes "let") (words_of z ts) ≡ false
-    → starts (codes "process") (words_of z ts) ≡ false → is_some (declared_in (words_of z ts)) ≡ false → IfOk r (λ b. IsStated g z ts ss after b) → IfOk r (λ b. IsAdded g z ts es es ss after b)
+    → starts (codes "process") (words_of z ts) ≡ false → is_some (declared_in (words_of z ts)) ≡ false → IfOk r (λ b. IsStated g FILE_LIMITS z ts ss after b) → IfOk r (λ b. IsAdded g z ts es es ss after b)
 stated_tried laws g z ts es ss after (Ok b) l p none is = stated_added laws g z ts es ss after b l p none is
 stated_tried laws g z ts es ss after (Err e) l p none is = tt
 
 -- Turns of the loop over items, where `entries` and `earlier` were read before the tokens `rest`.
-module _ (laws : ItemLaws) (g : Sig) (last : ℕ) (z : List ℕ) (ts rest item behind : List Token) (entries : List Entry) (earlier : List Statement)
+module _ (laws : ItemLaws) (g : Sig) (z : List ℕ) (ts rest item behind : List Token) (entries : List Entry) (earlier : List Statement)
     (good : IsGoodBehind g z ts rest entries earlier)
-    (faulty : (n : ℕ) → IsFaultyFile last (cut (placed z rest)) n → IsFaultyFile last (cut (placed z ts)) n)
     (split : cut (placed z rest) ≡ placed z item ∷ cut (placed z behind)) where
   pub turn_end : IsEnd (placed z item) → behind ≡ [] → (items : List (List Placed)) → IsCut (placed z ts) items → AreSaid g items entries earlier
   turn_end e none items r =
@@ -213,13 +199,6 @@ module _ (laws : ItemLaws) (g : Sig) (last : ℕ) (z : List ℕ) (ts rest item b
         statements_are = sym (append-nil earlier) ∙ all.3;
       }
 
-  pub turn_bad : (IsEnd (placed z item) × (behind ≡ []) → ⊥) → (IsSomeItem (words_of z item) → ⊥) → (line : ℕ) → line ≡ first_line (placed z item) → (items : List (List Placed)) → IsCut (placed z ts) items → IsFaultyFile last items line
-  turn_bad not_last none line l items r =
-      let bad : IsSomeItem (words (placed z item)) → ⊥ = rw (words_placed z item) none in
-      let here : IsFaultyFile last (placed z item ∷ cut (placed z behind)) (first_line (placed z item)) = bad_item bad (λ e f. not_last (e, cut_nothing laws z behind f)) in
-      let there = faulty (first_line (placed z item)) (subst (λ (y : List (List Placed)). IsFaultyFile last y (first_line (placed z item))) (sym split) here) in
-      rw l (subst (λ (y : List (List Placed)). IsFaultyFile last y (first_line (placed z item))) (cut_is laws r) there)
-
   module _ (after : List Entry) (later : List Statement) (it : IsAdding g z item entries after earlier later) where
     pub turn_good : IsGoodBehind g z ts behind after later
     turn_good is r =
@@ -231,16 +210,3 @@ module _ (laws : ItemLaws) (g : Sig) (last : ℕ) (z : List ℕ) (ts rest item b
           rw (it.bodies_are, append_assoc (map body entries) it.said (bodies is), ← it.is.says) all.2,
           rw (it.statements_are, append_assoc earlier it.stated (statements is), ← it.is.states) all.3,
         )
-
-    pub turn_later : (n : ℕ) → IsFaultyFile last (cut (placed z behind)) n → IsFaultyFile last (cut (placed z ts)) n
-    turn_later n r =
-        let spelled : IsItem g it.is.item (words (placed z item)) = rw (words_placed z item) it.is.spelled in
-        faulty n (subst (λ (y : List (List Placed)). IsFaultyFile last y n) (sym split) (later_item (record { sig = g; item = it.is.item; is = spelled }) r))
-
--- where `end` is missing
-pub turn_over : ItemLaws → (last : ℕ) (z : List ℕ) (ts rest : List Token) → ((n : ℕ) → IsFaultyFile last (cut (placed z rest)) n → IsFaultyFile last (cut (placed z ts)) n) → rest ≡ []
-    → (items : List (List Placed)) → IsCut (placed z ts) items → IsFaultyFile last items last
-turn_over laws last z ts rest faulty none items r =
-    let over : cut (placed z rest) ≡ [] = rw none refl in
-    let there = faulty last (subst (λ (y : List (List Placed)). IsFaultyFile last y last) (sym over) no_end) in
-    subst (λ (y : List (List Placed)). IsFaultyFile last y last) (cut_is laws r) there

@@ -13,11 +13,11 @@ use Rattle.sap_read.specs.Item.{Item, builtins, functions, definition, process, 
 use Rattle.sap_read.specs.ItemGrammar.{IsItem, AreItems, IsFaultyFile, item_builtins, item_functions, item_definition, item_process, item_statement}
 use Rattle.sap_statements.specs.declared.statement.Statement.{Statement}
 use Rattle.sap_statements.specs.Statements.{is_restriction, is_lemma}
-use Rattle.sap_read.specs.code.ItemLaws.{ItemLaws}
+use Rattle.sap_grammar.specs.ItemLaws.{ItemLaws}
 use Rattle.sap_read.specs.code.ProcessLaws.{ProcessLaws}
 use Rattle.sap_draft.specs.ProcessGrammar.{IsProcess}
 use Rattle.sap_read.proofs.ReadParameters.{one_head}
-use Rattle.sap_read.specs.code.StatementLaws.{StatementLaws}
+use Rattle.sap_statements.specs.StatementLaws.{StatementLaws}
 
 -- what an item declares is read in its words
 declares : ItemLaws → {g : Sig} {v : Item} {a : List Word} → IsItem g v a → told (declared_in a) ≡ declared_by v

@@ -1,4 +1,3 @@
-pub mod WordsRead
 pub mod Parts
 pub mod Known
 pub mod InOrder

@@ -30,8 +30,8 @@ use Rattle.sap_read.specs.Item.{signature_of}
 use Rattle.sap_read.specs.Causes.{cause_of, fault_of_uses, lock_fault}
 use Rattle.sap_read.specs.Files.{FileContent, AreTokens, IsParted, IsRead, no_tokens, no_header, no_item, refused, unexpanded, ill, locked, unchecked, accepted}
 use Rattle.sap_read.proofs.ItemsRead.{same_declarations, good_or_faulty, one_fault, one_items}
-use Rattle.sap_read.specs.code.ItemLaws.{ItemLaws}
-use Rattle.sap_read.specs.code.StatementLaws.{StatementLaws}
+use Rattle.sap_grammar.specs.ItemLaws.{ItemLaws}
+use Rattle.sap_statements.specs.StatementLaws.{StatementLaws}
 use Rattle.sap_read.specs.code.ProcessLaws.{ProcessLaws}
 use Rattle.sap_terms.specs.declared.limits.TheConstants.{MOST_FILE_NAME_BYTES}
 

@@ -16,8 +16,8 @@ use Rattle.sap_read.specs.Files.{AreTokens, IsParted, IsRead, no_item, refused, 
 use Rattle.sap_grammar.specs.ItemReading.{cut, declared_in_all}
 use Rattle.sap_grammar.specs.ItemReading.{header_of}
 use Rattle.sap_read.specs.code.Judged.{AreAccepted, IsAccepted, IsFlawed, IsMislocked, IsRefused, IsRefusedCut}
-use Rattle.sap_read.specs.code.ItemLaws.{ItemLaws}
-use Rattle.sap_read.proofs.ItemTurns.{cut_is}
+use Rattle.sap_grammar.specs.ItemLaws.{ItemLaws}
+use Rattle.sap_grammar.proofs.ReadingLaws.Items.{cut_is}
 use Rattle.sap_read.proofs.ItemsRead.{declared_are}
 
 -- the items of tokens with a header

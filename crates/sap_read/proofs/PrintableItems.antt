@@ -16,7 +16,7 @@ use Rattle.sap_grammar.specs.ByteWords.{IsName, AreTokenWords}
 use Rattle.sap_grammar.specs.Declarations.{of_builtin, of_symbol, IsSymbol, spells_public, spells_private, AreSymbols, symbols_last, symbols_more}
 use Rattle.sap_grammar.specs.Items.{items_end, items_more}
 use Rattle.sap_statements.specs.declared.statement.Statement.{Statement}
-use Rattle.sap_statements.specs.FormulaGrammar.{Reach, IsIff}
+use Rattle.sap_formula_grammar.specs.FormulaGrammar.{Reach, IsIff}
 use Rattle.sap_statements.specs.Statements.{IsAttribute, AreAttributes, attributes_last, attributes_more, HasAttributes, without_attributes, with_attributes, IsMode, mode_missing, mode_all, mode_exists, IsStatement, is_restriction, is_lemma}
 use Rattle.sap_statements.specs.Printable.{IsTidyForm, IsFormOver, FormHasNames}
 use Rattle.sap_macro.specs.Written.{Written}

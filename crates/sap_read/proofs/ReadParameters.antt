@@ -8,7 +8,8 @@ use Rattle.sap_grammar.specs.Words.{Word, mark, name, number, quoted, starts, wo
 use Rattle.sap_grammar.specs.Reading.{name_at}
 use Rattle.sap_read.specs.ItemGrammar.{AreParameters, parameters_last, parameters_more, HasParameters, without_parameters, with_parameters}
 use Rattle.sap_read.specs.code.Parameters.{Params, in_front, params_in}
-use Rattle.sap_read.proofs.WordsRead.{starts_is, name_is, words-drop}
+use Rattle.sap_grammar.proofs.ReadingLaws.OnRead.{starts_is, name_is}
+use Rattle.sap_grammar.proofs.ReadingLaws.Tokens.{words-drop}
 
 -- ---- what is read is spelled, and what is spelled is read
 

@@ -38,10 +38,10 @@ use Rattle.sap_formula.specs.declared.fault.FormulaFault.{FormulaFault}
 use Rattle.sap_statements.specs.declared.statement.Statement.{Statement}
 use Rattle.sap_statements.specs.Statements.{IsStatement}
 use Rattle.sap_statements.specs.Stated.{AreFaultless, IsFirstFaulty, restrictions_of, lemmas_of}
-use Rattle.sap_read.specs.code.StatementLaws.{StatementLaws}
-use Rattle.sap_read.specs.code.ItemLaws.{ItemLaws}
+use Rattle.sap_statements.specs.StatementLaws.{StatementLaws}
+use Rattle.sap_grammar.specs.ItemLaws.{ItemLaws}
 use Rattle.sap_read.specs.code.ProcessLaws.{ProcessLaws}
-use Rattle.sap_read.proofs.WordsRead.{starts_is}
+use Rattle.sap_grammar.proofs.ReadingLaws.Items.{ItemOrNone, ItemsOrFault, items_or_fault}
 use Rattle.sap_read.proofs.Caused as caused
 use Rattle.sap_read.proofs.Parts.{items_of, parted}
 use Rattle.sap_read.proofs.ItemsRead.{declared_are, declared_sound}
@@ -63,85 +63,61 @@ module _ (laws : ItemLaws) (stated : StatementLaws) (written : ProcessLaws) wher
       by (inr never) = inr (λ h p r. let q = written.too h g p ws r in never q.0 q.1)
 
   -- the words are an item under the signature, or under none
-  abbrev ItemOrNone : Sig → List Word → Type 0
-  ItemOrNone g ws = ((v : Item) × IsItem g v ws) ⊎ (IsSomeItem ws → ⊥)
+  abbrev OrNone : Sig → List Word → Type 0
+  OrNone g ws = ItemOrNone (IsItem g) IsSomeItem ws
 
-  definition_or_none : (g : Sig) (ws : List Word) → starts (codes "let") ws ≡ true → ItemOrNone g ws
+  definition_or_none : (g : Sig) (ws : List Word) → starts (codes "let") ws ≡ true → OrNone g ws
   definition_or_none g ws s = by_name (name_at (drop 1 ws)) refl
     where
-      by_whole : (x : List ℕ) (xs : List (List ℕ)) (b : List Word) → name_at (drop 1 ws) ≡ Some x → HasParameters xs (drop 2 ws) b → WholeOrNone g b → ItemOrNone g ws
+      by_whole : (x : List ℕ) (xs : List (List ℕ)) (b : List Word) → name_at (drop 1 ws) ≡ Some x → HasParameters xs (drop 2 ws) b → WholeOrNone g b → OrNone g ws
       by_whole x xs b n h (inl r) = inl (definition x xs r.0, subst (λ (w : List Word). IsItem g (definition x xs r.0) w) (sym (definition_spelled ws x s n)) (item_definition h r.1))
       by_whole x xs b n h (inr never) = inr (no_definition ws xs b s h never)
 
-      by_head : (x : List ℕ) → name_at (drop 1 ws) ≡ Some x → HeadOrNone (drop 2 ws) → ItemOrNone g ws
+      by_head : (x : List ℕ) → name_at (drop 1 ws) ≡ Some x → HeadOrNone (drop 2 ws) → OrNone g ws
       by_head x n (inl h) = by_whole x h.0 h.1 n h.2 (whole_or_none g h.1)
       by_head x n (inr never) = inr (λ it. no_head s never it.is)
 
-      by_name : (o : Option (List ℕ)) → name_at (drop 1 ws) ≡ o → ItemOrNone g ws
+      by_name : (o : Option (List ℕ)) → name_at (drop 1 ws) ≡ o → OrNone g ws
       by_name None n = inr (λ it. no_name s n it.is)
       by_name (Some x) n = by_head x n (head_or_none (drop 2 ws))
 
-  process_or_none : (g : Sig) (ws : List Word) → starts (codes "process") ws ≡ true → ItemOrNone g ws
+  process_or_none : (g : Sig) (ws : List Word) → starts (codes "process") ws ≡ true → OrNone g ws
   process_or_none g ws s = by_colon (starts (codes ":") (drop 1 ws)) refl
     where
-      by_whole : starts (codes ":") (drop 1 ws) ≡ true → WholeOrNone g (drop 2 ws) → ItemOrNone g ws
+      by_whole : starts (codes ":") (drop 1 ws) ≡ true → WholeOrNone g (drop 2 ws) → OrNone g ws
       by_whole e (inl r) = inl (process r.0, subst (λ (w : List Word). IsItem g (process r.0) w) (sym (process_spelled ws s e)) (item_process r.1))
       by_whole e (inr never) = inr (no_process ws s never)
 
-      by_colon : (t : Bool) → starts (codes ":") (drop 1 ws) ≡ t → ItemOrNone g ws
+      by_colon : (t : Bool) → starts (codes ":") (drop 1 ws) ≡ t → OrNone g ws
       by_colon true e = by_whole e (whole_or_none g (drop 2 ws))
       by_colon false e = inr (λ it. no_colon s e it.is)
 
-  item_or_none : (g : Sig) (ws : List Word) → ItemOrNone g ws
+  item_or_none : (g : Sig) (ws : List Word) → OrNone g ws
   item_or_none g ws = by_let (starts (codes "let") ws) refl
     where
       by_stated : starts (codes "let") ws ≡ false → starts (codes "process") ws ≡ false → declared_in ws ≡ None → ((s : Statement) × IsStatement g FILE_LIMITS s ws) ⊎ ((s : Statement) → IsStatement g FILE_LIMITS s ws → ⊥)
-          → ItemOrNone g ws
+          → OrNone g ws
       by_stated l p e (inl r) = inl (statement r.0, item_statement r.1)
       by_stated l p e (inr never) = inr (no_other laws ws l p e (λ h s r. let t = stated.too h g FILE_LIMITS s ws r in never t.0 t.1))
 
-      by_declared : starts (codes "let") ws ≡ false → starts (codes "process") ws ≡ false → (o : Option (List Declaration)) → declared_in ws ≡ o → ItemOrNone g ws
+      by_declared : starts (codes "let") ws ≡ false → starts (codes "process") ws ≡ false → (o : Option (List Declaration)) → declared_in ws ≡ o → OrNone g ws
       by_declared l p None e = by_stated l p e (stated.some g FILE_LIMITS ws)
       by_declared l p (Some ds) e = let alone = declared_sound laws ws ds e in inl (alone.item, alone.spelled g)
 
-      by_process : starts (codes "let") ws ≡ false → (t : Bool) → starts (codes "process") ws ≡ t → ItemOrNone g ws
+      by_process : starts (codes "let") ws ≡ false → (t : Bool) → starts (codes "process") ws ≡ t → OrNone g ws
       by_process l true p = process_or_none g ws p
       by_process l false p = by_declared l p (declared_in ws) refl
 
-      by_let : (t : Bool) → starts (codes "let") ws ≡ t → ItemOrNone g ws
+      by_let : (t : Bool) → starts (codes "let") ws ≡ t → OrNone g ws
       by_let true l = definition_or_none g ws l
       by_let false l = by_process l (starts (codes "process") ws) refl
 
-  -- the words are `end` alone, or not
-  end_or_not : (ws : List Word) → (ws ≡ mark (codes "end") ∷ []) ⊎ (ws ≡ mark (codes "end") ∷ [] → ⊥)
-  end_or_not [] = inr (λ e. absurd (cc (e)))
-  end_or_not (w ∷ v ∷ ws) = inr (λ e. absurd (cc (e)))
-  end_or_not (w ∷ []) = by (starts (codes "end") (w ∷ [])) refl
-    where
-      by : (t : Bool) → starts (codes "end") (w ∷ []) ≡ t → (w ∷ [] ≡ mark (codes "end") ∷ []) ⊎ (w ∷ [] ≡ mark (codes "end") ∷ [] → ⊥)
-      by true s = inl (starts_is (codes "end") (w ∷ []) s)
-      by false s = inr (λ e. let there : starts (codes "end") (w ∷ []) ≡ true = ap (starts (codes "end")) e in absurd (cc (s, there)))
-
   -- the pieces are items, or the first fault is on some line
-  abbrev ItemsOrFault : Sig → ℕ → List (List Placed) → Type 0
-  ItemsOrFault g last cut = ((is : List Standing) × AreItems g cut is) ⊎ ((n : ℕ) × IsFaultyFile last cut n)
+  abbrev AreOrFault : Sig → ℕ → List (List Placed) → Type 0
+  AreOrFault g last cut = ItemsOrFault (IsItem g) IsSomeItem last cut
 
-  last_or_fault : (g : Sig) (last : ℕ) (i : List Placed) (is : List (List Placed)) → (IsSomeItem (words i) → ⊥) → ItemsOrFault g last (i ∷ is)
-  last_or_fault g last i (j ∷ is) never = inr (first_line i, bad_item never (λ e none. absurd (cc (none))))
-  last_or_fault g last i [] never = by (end_or_not (words i))
-    where
-      by : (words i ≡ mark (codes "end") ∷ []) ⊎ (words i ≡ mark (codes "end") ∷ [] → ⊥) → ItemsOrFault g last (i ∷ [])
-      by (inl e) = inl ([], items_end e)
-      by (inr more) = inr (first_line i, bad_item never (λ e none. more e))
-
-  one_more : (g : Sig) (last : ℕ) (i : List Placed) (is : List (List Placed)) → ItemOrNone g (words i) → ItemsOrFault g last is → ItemsOrFault g last (i ∷ is)
-  one_more g last i is (inl r) (inl s) = inl (record { item = r.0; line = first_line i } ∷ s.0, items_more r.1 s.1)
-  one_more g last i is (inl r) (inr f) = inr (f.0, later_item (record { sig = g; item = r.0; is = r.1 }) f.1)
-  one_more g last i is (inr never) o = last_or_fault g last i is never
-
-  items_or_fault : (g : Sig) (last : ℕ) (cut : List (List Placed)) → ItemsOrFault g last cut
-  items_or_fault g last [] = inr (last, no_end)
-  items_or_fault g last (i ∷ is) = one_more g last i is (item_or_none g (words i)) (items_or_fault g last is)
+  written_or_fault : (g : Sig) (last : ℕ) (cut : List (List Placed)) → AreOrFault g last cut
+  written_or_fault g last cut = items_or_fault (IsItem g) IsSomeItem last (λ v ws r. record { sig = g; item = v; is = r }) (item_or_none g) cut
 
 -- where one process has no label, there is the file's
 abbrev HasMain : List Body → Type 0
@@ -215,9 +191,9 @@ module _ (laws : ItemLaws) (stated : StatementLaws) (written : ProcessLaws) (fau
           by_use w.0 c w.1 (used (signature_of is) (definitions_of (bodies is)) w.0 (all_in_order (bodies is) free.known free.distinct))
 
   from_parts : (ts : List Token) (x : List ℕ) (cut : List (List Placed)) → IsParted z ts x cut → IsReadSo z
-  from_parts ts x cut p = by (items_or_fault laws stated written (signature_from pairs_alone (declared_in_all cut)) (last_line (placed z ts)) cut)
+  from_parts ts x cut p = by (written_or_fault laws stated written (signature_from pairs_alone (declared_in_all cut)) (last_line (placed z ts)) cut)
     where
-      by : ItemsOrFault laws stated written (signature_from pairs_alone (declared_in_all cut)) (last_line (placed z ts)) cut → IsReadSo z
+      by : AreOrFault laws stated written (signature_from pairs_alone (declared_in_all cut)) (last_line (placed z ts)) cut → IsReadSo z
       by (inl r) = from_items r.0 p (subst (λ (g : Sig). AreItems g cut r.0) (ap (signature_from pairs_alone) (sym (declared_are laws r.1))) r.1)
       by (inr f) = (Err (Syntax f.0), no_item p f.1)
 

@@ -13,7 +13,7 @@ pub use Rattle.sap_grammar.specs.Items
 pub use Rattle.sap_macro.specs.Written
 pub use Rattle.sap_draft.specs.ProcessGrammar
 pub use Rattle.sap_draft.specs.ProcessExamples
-pub use Rattle.sap_statements.specs.FormulaGrammar
+pub use Rattle.sap_formula_grammar.specs.FormulaGrammar
 pub use Rattle.sap_statements.specs.Statements
 pub use Rattle.sap_statements.specs.Stated
 pub mod Item

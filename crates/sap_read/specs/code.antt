@@ -1,11 +1,9 @@
 -- What the code does, step by step: no public contract cites what stands below.
 pub mod Parameters
 pub mod ItemView
-pub mod ItemLaws
 pub mod Bodies
 pub mod Known
 pub mod Parting
 pub mod Judged
 pub mod Label
 pub mod ProcessLaws
-pub mod StatementLaws

@@ -1,19 +1,20 @@
 //! Reads the items of a file.
-ghost use Rattle.std.specs.Prelude.{◌≡◌, ℕ, true, codes, List, [], ◌∷◌, ◌++◌, IfOk, OnOk, IsErrOf};
+ghost use Rattle.std.specs.Prelude.{◌≡◌, ℕ, true, codes, List, IfOk, IsErrOf};
 ghost use Rattle.sap_grammar.specs.Words.{starts, words_of};
 ghost use Rattle.sap_grammar.specs.Cut.{Placed, placed, IsCut};
 ghost use Rattle.sap_read.specs.ItemGrammar.{IsFaultyFile};
-ghost use Rattle.sap_read.specs.code.ItemView.{AreSaid, IsAdded, IsPushed, IsStated, SaysProcess};
+ghost use Rattle.sap_read.specs.code.ItemView.{AreSaid, IsAdded, IsPushed, SaysProcess};
 ghost use Rattle.sap_read.specs.declared.fault.ReadFault.{ReadFault};
 ghost use Rattle.sap_read.specs.declared.fault.ReadFault.TheVariants.{Mem as OutOfMemory, Syntax};
 
 use crate::entry::Entry;
 use crate::fault::ReadFault;
-use crate::laws::item_laws;
 use crate::parameters::read_head;
 use sap_draft::{FILE_LIMITS, read_process};
-use sap_grammar::{beyond, is_declaration, is_last, line_of, name_at, split_item, starts};
-use sap_statements::{Statement, read_statement};
+use sap_grammar::{
+    beyond, is_declaration, is_last, item_laws, line_of, name_at, split_item, starts,
+};
+use sap_statements::{Statement, read_stated};
 use sap_terms::{Items, Mem, Name, NameList, Signature};
 use sap_text::Token;
 use std::alloc::Global;
@@ -83,33 +84,6 @@ fn push(entries: &mut Items<Entry>, entry: Option<Entry>) -> Result<bool, Mem>
     }
 }
 
-// Puts what is boxed last.
-fn put<T: Drop>(list: &mut Items<T>, one: Box<T>) -> Result<(), Mem>
-    ensures { OnOk result (list.new ≡ list.old ++ one.value ∷ []) }
-{
-    list.push(Box::into_inner(one))
-}
-
-// Reads a restriction or a lemma, and puts it last; false where the tokens are none.
-fn read_stated(
-    alloc: Global,
-    sig: &Signature,
-    bytes: &[u8],
-    item: &[Token],
-    statements: &mut Items<Statement>,
-) -> Result<bool, Mem>
-    ensures { IfOk result (λ b. IsStated sig.now bytes.now item.now
-        statements.old statements.new b) }
-{
-    match read_statement(alloc, sig, FILE_LIMITS, bytes, item)? {
-        None => Ok(false),
-        Some(statement) => {
-            put(statements, statement)?;
-            Ok(true)
-        }
-    }
-}
-
 // Reads an item, and puts last what it says of a process and of traces; false where the tokens are no item.
 fn read_item(
     alloc: Global,
@@ -130,7 +104,7 @@ fn read_item(
     } else if is_declaration(alloc, bytes, item)? {
         Ok(true)
     } else {
-        read_stated(alloc, sig, bytes, item, statements)
+        read_stated(alloc, sig, FILE_LIMITS, bytes, item, statements)
     }
 }
 

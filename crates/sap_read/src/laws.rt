@@ -7,8 +7,6 @@ ghost use Rattle.sap_terms.specs.Signature.{Sig};
 ghost use Rattle.sap_grammar.specs.Words.{Word, words_of};
 ghost use Rattle.sap_grammar.specs.TermGrammar.{IsTerm};
 ghost use Rattle.sap_grammar.specs.FactGrammar.{IsFact, fact_levels};
-ghost use Rattle.sap_read.specs.code.ItemLaws.{ItemLaws};
-ghost use Rattle.sap_read.specs.code.StatementLaws.{StatementLaws};
 ghost use Rattle.sap_read.specs.code.ProcessLaws.{ProcessLaws};
 ghost use Rattle.sap_macro.specs.UpToNames.{AreSameUpToNames};
 ghost use Rattle.sap_macro.specs.Written.{Written};
@@ -34,15 +32,13 @@ ghost use Rattle.sap_grammar.specs.declared.limits.Limits.{Limits};
 
 use sap_draft::{one_process, processes_are_printable, same_processes, some_process};
 use sap_formula::faultless_formulas_are_checked;
-use sap_grammar::{
-    declarations_are_read, headers_are_read, same_grammar, words_are_cut, words_of_bytes,
-};
+use sap_grammar::{item_laws, same_grammar, words_of_bytes};
 use sap_locks::{annotations_are_ready, annotations_of_processes};
 use sap_macro::{expansions_are_one, new_names_are_least, new_names_are_short, sizes_are_one};
 use sap_process::{one_flaw, some_flaw, sorting_keeps};
 use sap_statements::{
-    faultless_formulas_keep_signs, formulas_are_printable, one_faulty_statement, one_statement,
-    same_statements, some_statement, sorts_are_kept,
+    faultless_formulas_keep_signs, formulas_are_printable, one_faulty_statement, sorts_are_kept,
+    statement_laws,
 };
 use sap_terms::builtins_stay_held;
 use sap_text::{one_answer, some_answer};
@@ -55,24 +51,6 @@ pub(crate) fn process_laws()
     one_process();
     same_processes();
     some_process();
-}
-
-/// What the laws of headers, cuts and declarations say, as the proofs on files need it.
-pub(crate) fn item_laws()
-    ensures { ItemLaws }
-{
-    words_are_cut();
-    headers_are_read();
-    declarations_are_read();
-}
-
-/// What the laws of restrictions and lemmas say, as the proofs on files need it.
-pub(crate) fn statement_laws()
-    ensures { StatementLaws }
-{
-    one_statement();
-    same_statements();
-    some_statement();
 }
 
 /// A law: which words are a term, a fact or a process, and of how many levels, is the same under each signature, and which are

@@ -26,6 +26,7 @@ pub use laws::{
 };
 pub use limits::MOST_NEW_NAME_BYTES;
 pub use sap_draft::{FILE_LIMITS, one_process, processes_by_hand};
+pub use sap_formula_grammar::one_formula;
 pub use sap_grammar::{one_fact, one_term};
-pub use sap_statements::{one_formula, one_statement};
+pub use sap_statements::one_statement;
 pub use terms::{read_fact, read_formula, read_term};

@@ -7,7 +7,7 @@ ghost use Rattle.sap_grammar.specs.Words.{words_of};
 ghost use Rattle.sap_grammar.specs.Places.{IsTermAt, IsFactAt};
 ghost use Rattle.sap_formula.specs.Form.{Form};
 ghost use Rattle.sap_formula.specs.View.{form};
-ghost use Rattle.sap_statements.specs.FormulaGrammar.{IsFormulaAt};
+ghost use Rattle.sap_formula_grammar.specs.FormulaGrammar.{IsFormulaAt};
 ghost use Rattle.sap_draft.specs.declared.limits.TheConstants.{FILE_LIMITS};
 
 use sap_draft::FILE_LIMITS;
@@ -67,5 +67,5 @@ pub fn read_formula(
     ensures none { IfOk result (λ o. IfNone o ((f : Form) (e : ℕ)
         → IsFormulaAt FILE_LIMITS sig.now (words_of bytes.now tokens.now.items) at f e → ⊥)) }
 {
-    sap_statements::read_formula(alloc, sig, FILE_LIMITS, bytes, tokens, at)
+    sap_formula_grammar::read_formula(alloc, sig, FILE_LIMITS, bytes, tokens, at)
 }

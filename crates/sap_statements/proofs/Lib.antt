@@ -1,11 +1,4 @@
-pub mod OnRead
-pub mod Steps
-pub mod FormulaSteps
 pub mod Lists
-pub mod Ends
-pub mod Formulas
-pub mod SoundFormulas
-pub mod FormulaPlaces
 pub mod Signatures
 pub mod Statements
 pub mod ByHand

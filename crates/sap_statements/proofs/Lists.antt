@@ -1,22 +1,11 @@
 -- How lists are read, turn by turn.
-use Rattle.std.proofs.Common.{◌≡◌, ◌<◌, ◌-◌, ℕ, zero, suc, List, [], ◌∷◌, ◌++◌, drop, Some, None, if◌then◌else◌, refl, arith}
+use Rattle.std.proofs.Common.{◌≡◌, ◌<◌, ◌-◌, ℕ, zero, suc, List, [], ◌∷◌, drop, Some, None, if◌then◌else◌, refl, arith}
 use Rattle.std.specs.Prelude.{codes}
 use Rattle.sap_grammar.specs.Words.{Word, starts}
-use Rattle.sap_grammar.specs.Reading.{Read, after, behind, list_of}
-use Rattle.sap_statements.specs.code.FormulaReading.{binder, binders}
+use Rattle.sap_grammar.specs.Reading.{after, behind, list_of}
 use Rattle.sap_statements.specs.code.StatementReading.{attribute}
-use Rattle.sap_statements.proofs.Steps.{words-drop}
-use Rattle.std.proofs.lemmas.List.{append_assoc}
-
--- what was read before stands in front, in two steps or in one
-pub behind_behind : {A : Type 0} (xs ys : List A) (r : Read (List A)) → behind xs (behind ys r) ≡ behind (xs ++ ys) r
-behind_behind xs ys None = refl
-behind_behind xs ys (Some p) = rw append_assoc refl
-
-pub binders_step : (n : ℕ) (ws : List Word) → 0 < n
-    → binders n ws ≡ after (binder ws) (λ v r. if starts (codes ".") r then Some (v ∷ [], drop 1 r) else behind (v ∷ []) (binders (n - 1) r))
-binders_step zero ws lt = absurd (omega (arith, lt))
-binders_step (suc n) ws lt = let same : suc n - 1 ≡ n = omega arith in rw same refl
+use Rattle.sap_grammar.proofs.ReadingLaws.Tokens.{words-drop}
+use Rattle.sap_grammar.proofs.ReadingLaws.Turns.{behind_behind}
 
 pub attributes_step : (n : ℕ) (ws : List Word) → 0 < n
     → list_of (codes "]") attribute n ws ≡ after (attribute ws) (λ v r.
@@ -27,5 +16,3 @@ attributes_step zero ws lt = absurd (omega (arith, lt))
 attributes_step (suc n) ws lt = let same : suc n - 1 ≡ n = omega arith in rw same refl
 
 pub ruleset attribute_turns = (words-drop, behind_behind, attributes_step)
-
-pub ruleset binder_turns = (words-drop, behind_behind, binders_step)

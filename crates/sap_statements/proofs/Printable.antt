@@ -12,7 +12,7 @@ use Rattle.sap_grammar.specs.Cut.{AreNoItemWords}
 use Rattle.sap_grammar.specs.TermGrammar.{IsTerm, term_constant, term_fresh, term_message, term_pub, term_quoted, term_symbol, term_tuple}
 use Rattle.sap_grammar.specs.ByteWords.{IsName, AreTokenWords}
 use Rattle.sap_grammar.specs.Printed.{ArePrinted}
-use Rattle.sap_statements.specs.FormulaGrammar.{is_truth_name, begins_truth, IsTime, time_signed, time_plain, IsAtom, atom_true, atom_false, atom_action, atom_equal, atom_same, atom_earlier, IsBinder, binds_message, binds_fresh, binds_pub, binds_time, AreBinders, binders_last, binders_more, Reach, IsUn, IsAnd, IsOr, IsImp, IsIff, un_atom, un_not, un_every, un_exists, un_parentheses, and_one, and_more, or_one, or_more, imp_one, imp_more, iff_one, iff_more}
+use Rattle.sap_formula_grammar.specs.FormulaGrammar.{is_truth_name, begins_truth, IsTime, time_signed, time_plain, IsAtom, atom_true, atom_false, atom_action, atom_equal, atom_same, atom_earlier, IsBinder, binds_message, binds_fresh, binds_pub, binds_time, AreBinders, binders_last, binders_more, Reach, IsUn, IsAnd, IsOr, IsImp, IsIff, un_atom, un_not, un_every, un_exists, un_parentheses, and_one, and_more, or_one, or_more, imp_one, imp_more, iff_one, iff_more}
 use Rattle.sap_statements.specs.Printable.{is_written_as_truth, AreSome, IsTidyForm, IsFormOver, BinderHasName, BindersHaveNames, FormHasNames}
 
 -- what begins with a small letter is no name of a truth value

@@ -4,9 +4,9 @@ use Rattle.sap_terms.specs.Signature.{Sig}
 use Rattle.sap_formula.specs.Form.{Form, truth, falsity, action, equal, same_time, earlier, negation, both, either, implies, equivalent, every, exists}
 use Rattle.sap_grammar.specs.declared.limits.Limits.{Limits}
 use Rattle.sap_grammar.specs.Words.{Word}
-use Rattle.sap_statements.specs.FormulaGrammar.{IsAtom, atom_true, atom_false, atom_action, atom_equal, atom_same, atom_earlier, Reach, IsUn, IsAnd, IsOr, IsImp, IsIff, un_atom, un_not, un_every, un_exists, un_parentheses, and_one, and_more, or_one, or_more, imp_one, imp_more, iff_one, iff_more, IsSmallForm, IsShortFormula}
+use Rattle.sap_formula_grammar.specs.FormulaGrammar.{IsAtom, atom_true, atom_false, atom_action, atom_equal, atom_same, atom_earlier, Reach, IsUn, IsAnd, IsOr, IsImp, IsIff, un_atom, un_not, un_every, un_exists, un_parentheses, and_one, and_more, or_one, or_more, imp_one, imp_more, iff_one, iff_more, IsSmallForm, IsShortFormula}
 use Rattle.sap_statements.specs.Statements.{Statement, restriction, lemma, IsStatement, is_restriction, is_lemma}
-use Rattle.sap_statements.specs.code.TermLaws.{AreSpelled}
+use Rattle.sap_grammar.specs.TermLaws.{AreSpelled}
 
 module _ (laws : AreSpelled) (g h : Sig) (m : Limits) where
   atom_too : {f : Form} {a b : List Word} → IsAtom g f a b → IsSmallForm m f → (u : Form) × IsAtom h u a b × IsSmallForm m u

@@ -14,7 +14,7 @@ use Rattle.sap_formula.specs.declared.binder.Binder.TheVariants.{Message, Time}
 use Rattle.sap_grammar.specs.TermGrammar.{sorted}
 use Rattle.sap_grammar.specs.TermText.{is_pair}
 use Rattle.sap_grammar.specs.Printable.{IsTidy, IsTidyVariable, IsTidyUse, AreTidy, HasNames, HaveNames}
-use Rattle.sap_statements.specs.FormulaGrammar.{is_truth_name}
+use Rattle.sap_formula_grammar.specs.FormulaGrammar.{is_truth_name}
 use Rattle.sap_statements.specs.Sorted.{sort_under, by_plain_binder, plainly_sorted}
 use Rattle.sap_statements.specs.Printable.{is_written_as_truth, IsTidyForm, IsFormOver, FormHasNames}
 

@@ -7,17 +7,15 @@ use Rattle.sap_formula.specs.Form.{Form}
 use Rattle.sap_formula.specs.declared.lemma.Mode.{Mode}
 use Rattle.sap_grammar.specs.declared.limits.Limits.{Limits}
 use Rattle.sap_grammar.specs.Words.{Word, mark, name, starts}
-use Rattle.sap_grammar.specs.Reading.{Read, after, given, names, list_of}
-use Rattle.sap_statements.specs.FormulaGrammar.{IsIff}
+use Rattle.sap_grammar.specs.Reading.{Read, after, bare, given, names, list_of, past}
+use Rattle.sap_grammar.specs.TermLaws.{AreSpelled}
+use Rattle.sap_formula_grammar.specs.FormulaGrammar.{IsShortFormula, EndsFormula}
+use Rattle.sap_formula_grammar.specs.FormulaReading.{short_formula}
 use Rattle.sap_statements.specs.Statements.{Statement, lemma, IsAttribute, is_reuse, is_use_induction, is_sources, AreAttributes, attributes_last, attributes_more, HasAttributes, without_attributes, with_attributes, IsMode, mode_missing, mode_all, mode_exists, IsQuoted, IsStatement, is_restriction, is_lemma}
-use Rattle.sap_statements.specs.code.FormulaReading.{past, bare, formula}
+use Rattle.sap_statements.specs.code.FormulaLaws.{FormulaLaws}
 use Rattle.sap_statements.specs.code.StatementReading.{starts_attribute, attribute, some_attributes, attributes, dashed, mode, quotation, claimed, a_restriction, a_lemma, statement}
-use Rattle.sap_statements.specs.code.TermLaws.{AreRead, AreSpelled}
-use Rattle.sap_statements.proofs.Formulas.{formula_read}
-use Rattle.sap_statements.proofs.FormulaPlaces.{at_quote}
-use Rattle.sap_statements.proofs.OnRead.{Says, OnRead, on_read, after_on, behind_on, if_on, past_on, starts_is, named_is}
+use Rattle.sap_grammar.proofs.ReadingLaws.OnRead.{Says, OnRead, on_all, on_read, after_on, bare_sound, behind_on, if_on, past_on, starts_is, named_is}
 use Rattle.sap_statements.proofs.Signatures.{statement_too}
-use Rattle.sap_statements.proofs.SoundFormulas.{AfterIff, Stands, bare_sound, formula_sound}
 
 -- What is written so is read.
 attribute_read : {x : List ℕ} → IsAttribute x → (a : List Word) → attribute (name x ∷ a) ≡ Some (x, a)
@@ -45,10 +43,12 @@ mode_read mode_missing = refl
 mode_read mode_all = refl
 mode_read mode_exists = refl
 
-module _ (laws : AreRead) (g : Sig) (m : Limits) where
+module _ (laws : FormulaLaws) (g : Sig) (m : Limits) where
   quotation_read : {f : Form} {a : List Word} → IsQuoted g m f a → quotation g m (mark (codes "\"") ∷ a) ≡ Some (f, [])
   unfolding after past
-  quotation_read r = rw (formula_read laws g m r.spelled m.formula_levels r.few_levels r.small (at_quote (mark (codes "\"") ∷ []) refl)) refl
+  quotation_read {f = f} {a = a} r =
+      let ends : EndsFormula (mark (codes "\"") ∷ []) = record { no_parenthesis = refl; no_and = refl; no_or = refl; no_imp = refl; no_iff = refl } in
+      rw (laws.read g m f a (mark (codes "\"") ∷ []) r ends) refl
 
   claimed_read : (x : List ℕ) (xs : List (List ℕ)) {d : Mode} {f : Form} {b c : List Word} → IsMode d b (mark (codes "\"") ∷ c) → IsQuoted g m f c
       → claimed g m x xs (mark (codes ":") ∷ b) ≡ Some (lemma (record { name = x; attributes = xs; mode = d; formula = f }), [])
@@ -133,24 +133,16 @@ Between g m ws f b = (a : List Word) × (ws ≡ mark (codes "\"") ∷ a) × (b �
 abbrev Whole : Sig → Limits → List Word → Says Statement
 Whole g m ws s b = b ≡ [] → IsStatement g m s ws
 
-module _ (laws : AreRead) (g : Sig) (m : Limits) where
+module _ (laws : FormulaLaws) (g : Sig) (m : Limits) where
   quotation_sound : (ws : List Word) → OnRead (Between g m ws) (quotation g m ws)
   quotation_sound ws =
       let Q : Says Form = Between g m ws in
       let a : List Word = drop 1 ws in
       past_on Q (codes "\"") ws _ (λ e.
-      after_on (Stands (IsIff g) AfterIff m.formula_levels m a) Q (formula g m m.formula_levels a) _ (formula_sound laws g m m.formula_levels a) (λ f z h.
-      past_on Q (codes "\"") z _ (λ q. (
-        a,
-        e,
-        λ none. record {
-          reach = h.0;
-          levels = f.1;
-          spelled = subst (λ (y : List Word). IsIff g h.0 f.0 f.1 a y) (q ∙ ap (λ (y : List Word). mark (codes "\"") ∷ y) none) h.1;
-          few_levels = h.3;
-          small = h.4;
-        },
-      ))))
+      let P : Says Form = λ f b. IsShortFormula g m f a b in
+      after_on P Q (short_formula g m a) _ (on_all P (short_formula g m a) (λ f b r. laws.is g m f a b r)) (λ f z h.
+      past_on Q (codes "\"") z _ (λ q.
+      (a, e, λ none. subst (λ (y : List Word). IsShortFormula g m f a y) (q ∙ ap (λ (y : List Word). mark (codes "\"") ∷ y) none) h))))
 
   statement_from : {s : Statement} {a c : List Word} → IsStatement g m s a → c ≡ a → IsStatement g m s c
   statement_from {s = s} r e = subst (λ (y : List Word). IsStatement g m s y) (sym e) r
@@ -207,7 +199,7 @@ module _ (laws : AreRead) (g : Sig) (m : Limits) where
           absurd (cc))
 
 -- what reading says of each signature
-module _ (read : AreRead) (spelled : AreSpelled) (g : Sig) (m : Limits) (ws : List Word) where
+module _ (read : FormulaLaws) (spelled : AreSpelled) (g : Sig) (m : Limits) (ws : List Word) where
   nowhere : ((s : Statement) → IsStatement g m s ws → ⊥) → (h : Sig) (s : Statement) → IsStatement h m s ws → ⊥
   nowhere none h s r = let t = statement_too spelled h g m r in none t.0 t.1
 

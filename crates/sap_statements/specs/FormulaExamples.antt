@@ -6,7 +6,7 @@ use Rattle.sap_formula.specs.declared.binder.Binder.TheVariants.{Message, Time}
 use Rattle.sap_formula.specs.declared.lemma.Mode.TheVariants.{ExistsTrace}
 use Rattle.sap_grammar.specs.TermGrammar.{sorted}
 use Rattle.sap_grammar.specs.Words.{Word, mark, name}
-use Rattle.sap_statements.specs.FormulaGrammar.{var}
+use Rattle.sap_formula_grammar.specs.FormulaGrammar.{var}
 use Rattle.sap_statements.specs.Statements.{Statement, lemma}
 
 -- a closing quotation mark and nothing behind it

@@ -2,9 +2,11 @@ pub use Rattle.sap_formula.specs.Form
 pub use Rattle.sap_grammar.specs.Words
 pub use Rattle.sap_grammar.specs.TermGrammar
 pub use Rattle.sap_grammar.specs.FactGrammar
-pub mod FormulaGrammar
+pub use Rattle.sap_formula_grammar.specs.FormulaGrammar
 pub mod Statements
 pub mod Stated
+pub mod StatementLaws
+pub mod Added
 pub mod FormulaExamples
 pub mod Sorted
 pub mod Printable

@@ -10,7 +10,7 @@ use Rattle.sap_formula.specs.declared.binder.Binder.{Binder}
 use Rattle.sap_formula.specs.declared.binder.Binder.TheVariants.{Message, Time}
 use Rattle.sap_grammar.specs.ByteWords.{IsName}
 use Rattle.sap_grammar.specs.Printable.{IsTidy, IsTidyFact, HasNames, FactHasNames}
-use Rattle.sap_statements.specs.FormulaGrammar.{is_truth_name}
+use Rattle.sap_formula_grammar.specs.FormulaGrammar.{is_truth_name}
 use Rattle.sap_statements.specs.Sorted.{plainly_sorted}
 
 -- it is written as the name of a truth value

@@ -6,7 +6,7 @@ use Rattle.sap_formula.specs.declared.lemma.Mode.{Mode}
 use Rattle.sap_formula.specs.declared.lemma.Mode.TheVariants.{AllTraces, ExistsTrace}
 use Rattle.sap_grammar.specs.Words.{Word, mark, name}
 use Rattle.sap_grammar.specs.declared.limits.Limits.{Limits}
-use Rattle.sap_statements.specs.FormulaGrammar.{IsShortFormula}
+use Rattle.sap_formula_grammar.specs.FormulaGrammar.{IsShortFormula}
 -- what is said of traces: that those count on which a formula is true, or that a formula holds of those that count
 pub use Rattle.sap_statements.specs.declared.statement.Statement.{Statement}
 pub use Rattle.sap_statements.specs.declared.statement.Statement.TheVariants.{Restriction as restriction, Lemma as lemma}

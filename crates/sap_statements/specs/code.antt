@@ -1,6 +1,4 @@
 -- What the code does, step by step: no public contract cites what stands below.
-pub mod TermLaws
-pub mod FormulaReading
-pub mod FormulaView
+pub mod FormulaLaws
 pub mod StatementReading
 pub mod Judged

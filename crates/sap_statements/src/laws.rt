@@ -1,4 +1,4 @@
-//! What is so of formulas, restrictions and lemmas as text.
+//! What is so of restrictions and lemmas as text, and of their formulas.
 ghost use Rattle.std.specs.Prelude.{◌≡◌, ◌≤◌, ◌⊎◌, ℕ, Bool, List, []};
 ghost use Rattle.sap_terms.specs.Signature.{Sig, pairs_alone};
 ghost use Rattle.sap_formula.specs.Faults.{HasNoFault};
@@ -10,36 +10,23 @@ ghost use Rattle.sap_grammar.specs.Words.{Word};
 ghost use Rattle.sap_grammar.specs.Cut.{AreNoItemWords};
 ghost use Rattle.sap_grammar.specs.ByteWords.{AreTokenWords};
 ghost use Rattle.sap_statements.specs.FormulaExamples.{closing, precedence_words, precedence_formula, left_words, left_formula, right_words, right_formula, body_words, body_formula, chain_words, enclosed_words, enclosed_formula, name_words, name_formula, truth_words, lemma_words, lemma_statement};
-ghost use Rattle.sap_statements.specs.FormulaGrammar.{IsIff, IsShortFormula, Reach, closed, reaching, EndsFormula, IsFormulaAt};
+ghost use Rattle.sap_formula_grammar.specs.FormulaGrammar.{IsIff, IsShortFormula, Reach, closed, reaching, EndsFormula, IsFormulaAt};
 ghost use Rattle.sap_statements.specs.Statements.{Statement, IsStatement};
 ghost use Rattle.sap_statements.specs.Stated.{AreFaultless, IsFirstFaulty};
 ghost use Rattle.sap_statements.specs.Sorted.{plainly_sorted};
 ghost use Rattle.sap_statements.specs.Printable.{IsTidyForm, IsFormOver, FormHasNames};
-ghost use Rattle.sap_statements.specs.code.TermLaws.{AreRead, AreSpelled};
+ghost use Rattle.sap_statements.specs.StatementLaws.{StatementLaws};
+ghost use Rattle.sap_statements.specs.code.FormulaLaws.{FormulaLaws};
 
 use sap_formula::{faultless_formulas_are_checked, one_fault, some_fault};
-use sap_grammar::{facts_are_read, printed_words, same_grammar, terms_are_read};
+use sap_formula_grammar::{formulas_are_read, one_formula};
+use sap_grammar::{printed_words, term_laws};
 
-/// What the laws of terms and facts say, as the proofs on formulas need it.
-pub(crate) fn term_laws()
-    ensures read { AreRead }
-    ensures spelled { AreSpelled }
+/// What the law of formulas says, as the proofs on restrictions and lemmas need it.
+pub(crate) fn formula_laws()
+    ensures { FormulaLaws }
 {
-    terms_are_read();
-    facts_are_read();
-    same_grammar();
-}
-
-/// A law: from one place words spell at most one formula that nothing goes on with, in one number of levels, and end it at one
-/// place.
-pub fn one_formula()
-    ensures words { (g : Sig) (d e : Reach) (n k : ℕ) (f h : Form) (a b c : List Word)
-        → IsIff g d f n a b → IsIff g e h k a c → EndsFormula b → EndsFormula c
-        → (f ≡ h) × (n ≡ k) × (b ≡ c) }
-    ensures places { (m : Limits) (g : Sig) (ws : List Word) (at e k : ℕ) (f h : Form)
-        → IsFormulaAt m g ws at f e → IsFormulaAt m g ws at h k → (f ≡ h) × (e ≡ k) }
-{
-    term_laws();
+    formulas_are_read();
 }
 
 /// A law: all of some words are one restriction or lemma at most.
@@ -47,7 +34,7 @@ pub fn one_statement()
     ensures { (g : Sig) (m : Limits) (s t : Statement) (a : List Word) → IsStatement g m s a
         → IsStatement g m t a → s ≡ t }
 {
-    term_laws();
+    formula_laws();
 }
 
 /// A law: which words are a restriction or lemma within the limits is the same under each signature. The signature says only
@@ -64,7 +51,7 @@ pub fn some_statement()
     ensures { (g : Sig) (m : Limits) (a : List Word) → ((s : Statement) × IsStatement g m s a)
         ⊎ ((s : Statement) → IsStatement g m s a → ⊥) }
 {
-    term_laws();
+    formula_laws();
 }
 
 /// A law: worked examples of which words are a formula or a lemma, and of two lists of words that are none: a `<=>` behind a
@@ -85,7 +72,8 @@ pub fn formulas_by_hand()
     ensures said { (g : Sig) (m : Limits) → 1 ≤ m.formula_levels
         → IsStatement g m lemma_statement lemma_words }
 {
-    term_laws();
+    formula_laws();
+    one_formula();
 }
 
 /// A law: a formula that words of tokens spell has names for names, no item begins among its words, and over the signature it is
@@ -135,4 +123,13 @@ pub fn one_faulty_statement()
 {
     one_fault();
     some_fault();
+}
+
+/// A law: what `one_statement`, `same_statements` and `some_statement` say, as one, which proofs on files and theories build on.
+pub fn statement_laws()
+    ensures { StatementLaws }
+{
+    one_statement();
+    same_statements();
+    some_statement();
 }

@@ -5,14 +5,17 @@ ghost use Rattle.sap_formula.specs.View.{form};
 ghost use Rattle.sap_grammar.specs.Words.{words_of};
 ghost use Rattle.sap_grammar.specs.Reading.{Gives, list_of};
 ghost use Rattle.sap_statements.specs.Statements.{Statement, restriction, lemma, IsStatement};
+ghost use Rattle.sap_statements.specs.Added.{IsStated};
 ghost use Rattle.sap_statements.specs.code.StatementReading.{attribute, attributes, dashed, mode, quotation, claimed, a_restriction, a_lemma, statement};
 
-use crate::formula::{read_bare, read_iff};
-use crate::laws::term_laws;
+use crate::laws::formula_laws;
 use crate::statement::Statement;
 use sap_formula::{Formula, Lemma, Mode, Restriction};
-use sap_grammar::{Limits, beyond, boxed, name_at, names, starts};
-use sap_terms::{Mem, Name, NameList, Signature};
+use sap_formula_grammar::read_short_formula;
+use sap_grammar::{
+    Limits, beyond, boxed, name_at, names, push_boxed, read_name, starts, term_laws,
+};
+use sap_terms::{Items, Mem, Name, NameList, Signature};
 use sap_text::Token;
 use std::alloc::Global;
 
@@ -27,7 +30,7 @@ fn read_attribute<'a>(
         || names(bytes, tokens, "use_induction")
         || names(bytes, tokens, "sources")
     {
-        read_bare(alloc, bytes, tokens)
+        read_name(alloc, bytes, tokens)
     } else {
         Ok(None)
     }
@@ -62,7 +65,7 @@ fn read_some_attributes<'a>(
     Ok(None)
 }
 
-#[tactic(auto, using(crate::proofs::Steps::steps))]
+#[tactic(auto, using(sap_grammar::proofs::ReadingLaws::Tokens::word_steps))]
 fn read_attributes<'a>(
     alloc: Global,
     bytes: &[u8],
@@ -78,7 +81,7 @@ fn read_attributes<'a>(
 }
 
 // Whether these names stand first, with `-` between them.
-#[tactic(auto, using(crate::proofs::Steps::steps))]
+#[tactic(auto, using(sap_grammar::proofs::ReadingLaws::Tokens::word_steps))]
 fn is_dashed(bytes: &[u8], tokens: &[Token], first: &str, second: &str) -> bool
     ensures { result ≡ dashed first.now second.now (words_of bytes.now tokens.now) }
 {
@@ -87,7 +90,7 @@ fn is_dashed(bytes: &[u8], tokens: &[Token], first: &str, second: &str) -> bool
         && names(bytes, beyond(2, tokens), second)
 }
 
-#[tactic(auto, using(crate::proofs::Steps::steps))]
+#[tactic(auto, using(sap_grammar::proofs::ReadingLaws::Tokens::word_steps))]
 fn read_mode<'a>(bytes: &[u8], tokens: &'a [Token]) -> (Mode, &'a [Token])
     ensures mode { result.0 ≡ (mode (words_of bytes.now tokens.now)).0 }
     ensures rest { words_of bytes.now result.1.now ≡ (mode (words_of bytes.now tokens.now)).1 }
@@ -101,7 +104,7 @@ fn read_mode<'a>(bytes: &[u8], tokens: &'a [Token]) -> (Mode, &'a [Token])
     }
 }
 
-#[tactic(auto, using(crate::proofs::Steps::steps), unfolding(sap_grammar::specs::Reading::after, crate::specs::code::FormulaReading::past))]
+#[tactic(auto, using(sap_grammar::proofs::ReadingLaws::Tokens::word_steps), unfolding(sap_grammar::specs::Reading::after, sap_grammar::specs::Reading::past))]
 fn read_quotation<'a>(
     alloc: Global,
     sig: &Signature,
@@ -115,12 +118,11 @@ fn read_quotation<'a>(
     if !starts(bytes, tokens, "\"") {
         return Ok(None);
     }
-    let depth = limits.formula_levels as u64;
-    match read_iff(alloc, sig, limits, bytes, depth, beyond(1, tokens))? {
+    match read_short_formula(alloc, sig, limits, bytes, beyond(1, tokens))? {
         None => Ok(None),
-        Some((measured, rest)) => {
+        Some((formula, rest)) => {
             if starts(bytes, rest, "\"") {
-                Ok(Some((measured.formula, beyond(1, rest))))
+                Ok(Some((formula, beyond(1, rest))))
             } else {
                 Ok(None)
             }
@@ -162,7 +164,7 @@ fn lemma(
     )
 }
 
-#[tactic(auto, using(crate::proofs::Steps::steps), unfolding(sap_grammar::specs::Reading::after, sap_grammar::specs::Reading::given, crate::specs::code::FormulaReading::past))]
+#[tactic(auto, using(sap_grammar::proofs::ReadingLaws::Tokens::word_steps), unfolding(sap_grammar::specs::Reading::after, sap_grammar::specs::Reading::given, sap_grammar::specs::Reading::past))]
 fn read_restriction<'a>(
     alloc: Global,
     sig: &Signature,
@@ -189,7 +191,7 @@ fn read_restriction<'a>(
     }
 }
 
-#[tactic(auto, using(crate::proofs::Steps::steps), unfolding(sap_grammar::specs::Reading::after, crate::specs::code::FormulaReading::past))]
+#[tactic(auto, using(sap_grammar::proofs::ReadingLaws::Tokens::word_steps), unfolding(sap_grammar::specs::Reading::after, sap_grammar::specs::Reading::past))]
 fn read_claimed<'a>(
     alloc: Global,
     sig: &Signature,
@@ -215,7 +217,7 @@ fn read_claimed<'a>(
     }
 }
 
-#[tactic(auto, using(crate::proofs::Steps::steps), unfolding(sap_grammar::specs::Reading::after, sap_grammar::specs::Reading::given))]
+#[tactic(auto, using(sap_grammar::proofs::ReadingLaws::Tokens::word_steps), unfolding(sap_grammar::specs::Reading::after, sap_grammar::specs::Reading::given))]
 fn read_lemma<'a>(
     alloc: Global,
     sig: &Signature,
@@ -237,7 +239,7 @@ fn read_lemma<'a>(
     }
 }
 
-#[tactic(auto, using(crate::proofs::Steps::steps))]
+#[tactic(auto, using(sap_grammar::proofs::ReadingLaws::Tokens::word_steps))]
 fn read_any<'a>(
     alloc: Global,
     sig: &Signature,
@@ -273,6 +275,7 @@ pub fn read_statement(
         → IsStatement h limits s (words_of bytes.now item.now) → ⊥)) }
 {
     term_laws();
+    formula_laws();
     match read_any(alloc, sig, limits, bytes, item)? {
         None => Ok(None),
         Some((statement, rest)) => {
@@ -281,6 +284,27 @@ pub fn read_statement(
             } else {
                 Ok(None)
             }
+        }
+    }
+}
+
+/// Reads a restriction or a lemma, as `read_statement`, and puts it last; false where the tokens are none.
+pub fn read_stated(
+    alloc: Global,
+    sig: &Signature,
+    limits: Limits,
+    bytes: &[u8],
+    item: &[Token],
+    statements: &mut Items<Statement>,
+) -> Result<bool, Mem>
+    ensures { IfOk result (λ b. IsStated sig.now limits bytes.now item.now
+        statements.old statements.new b) }
+{
+    match read_statement(alloc, sig, limits, bytes, item)? {
+        None => Ok(false),
+        Some(statement) => {
+            push_boxed(statements, statement)?;
+            Ok(true)
         }
     }
 }

@@ -7,7 +7,7 @@ use Rattle.sap_statements.specs.declared.statement.Statement.TheVariants.{Restri
 use Rattle.sap_theory.specs.TheoryGrammar.{TheoryItem, builtins, functions, rule, statement, statements_in, restrictions_in, lemmas_in}
 use Rattle.sap_theory.specs.TheoryCauses.{first_repeated, statement_names}
 use Rattle.sap_theory.specs.ReadAgain.{names_of}
-use Rattle.sap_theory.proofs.Held.{other_name}
+use Rattle.sap_grammar.proofs.ReadingLaws.Signatures.{other_name}
 use Rattle.sap_theory.proofs.ReadSpelled.{sorted_item}
 
 -- the name stands among these

@@ -15,7 +15,7 @@ use Rattle.sap_grammar.specs.ByteWords.{AreWords, IsName, Ends, AreWritten}
 use Rattle.sap_grammar.specs.Printed.{ArePrinted}
 use Rattle.sap_grammar.specs.PrintedWords.{Before, variable_words, term_words, fact_words}
 use Rattle.sap_statements.specs.Printable.{BinderHasName, BindersHaveNames, FormHasNames}
-use Rattle.sap_theory.specs.FormulaText.{strength, in_place, binder_text, binders_text, places_text, formula_text}
+use Rattle.sap_formula_text.specs.FormulaText.{strength, in_place, binder_text, binders_text, places_text, formula_text}
 use Rattle.sap_theory.proofs.FormulaWords.{binder_words, binders_words, placed_words, form_words}
 use Rattle.sap_theory.proofs.Added.{add_name, add_word, add_symbol, add_blank}
 use Rattle.sap_theory.proofs.Alone.{alone_open, alone_close, alone_dot, alone_at, alone_hash, alone_less, alone_equals, alone_bar, alone_and, arrow_implies, arrow_both}

@@ -5,7 +5,7 @@ use Rattle.sap_formula.specs.declared.binder.Binder.{Binder}
 use Rattle.sap_formula.specs.declared.binder.Binder.TheVariants.{Message, Time}
 use Rattle.sap_grammar.specs.Words.{mark, name}
 use Rattle.sap_grammar.specs.PrintedWords.{Before, enclosed, variable_words, term_words, fact_words}
-use Rattle.sap_theory.specs.FormulaText.{strength}
+use Rattle.sap_formula_text.specs.FormulaText.{strength}
 
 abbrev pub binder_words : Binder → Before
 binder_words (Message v) k = variable_words v.sort v.name k

@@ -12,7 +12,7 @@ use Rattle.sap_grammar.specs.Cut.{is_item_word, AreNoItemWords}
 use Rattle.sap_grammar.specs.FactGrammar.{AreSomeFacts, AreFacts, facts_last, facts_more, facts_none, facts_some}
 use Rattle.sap_grammar.specs.Declarations.{IsBuiltin, spells_hashing, spells_symmetric, spells_asymmetric, spells_signing, spells_revealing, AreBuiltins, builtins_last, builtins_more, IsSymbol, spells_public, spells_private, AreSymbols, symbols_last, symbols_more}
 use Rattle.sap_grammar.specs.Printed.{ArePrinted}
-use Rattle.sap_statements.specs.FormulaGrammar.{Reach, IsIff}
+use Rattle.sap_formula_grammar.specs.FormulaGrammar.{Reach, IsIff}
 use Rattle.sap_statements.specs.Statements.{AreAttributes, attributes_last, attributes_more, HasAttributes, without_attributes, with_attributes, IsMode, mode_missing, mode_all, mode_exists, is_restriction, is_lemma}
 use Rattle.sap_theory.specs.TheoryGrammar.{TheoryItem, IsRuleBody, body_silent, body_acts, IsTheoryItem, item_builtins, item_functions, item_rule, item_statement}
 

@@ -28,7 +28,7 @@ use Rattle.sap_statements.specs.Statements.{IsAttribute, is_reuse, is_use_induct
 use Rattle.sap_statements.specs.Printable.{FormHasNames}
 use Rattle.sap_theory.specs.Pieces.{line_of}
 use Rattle.sap_theory.specs.RuleText.{rule_text, rules_text}
-use Rattle.sap_theory.specs.FormulaText.{formula_text}
+use Rattle.sap_formula_text.specs.FormulaText.{formula_text}
 use Rattle.sap_theory.specs.StatementText.{quoted, restriction_text, restrictions_text, attributes_text, mode_text, lemma_text, lemmas_text}
 use Rattle.sap_theory.specs.SignatureText.{spelling, builtins_of, functions_of, symbol_text, builtins_text, functions_text}
 use Rattle.sap_theory.specs.TheoryText.{items_text, theory_text}

@@ -10,29 +10,16 @@ use Rattle.sap_grammar.specs.Cut.{Placed, placed, words, first_line, IsCut, cut_
 use Rattle.sap_grammar.specs.Declarations.{Declaration, Declares, declares_builtins, declares_functions}
 use Rattle.sap_grammar.specs.Items.{Standing, IsEnd, items_end, items_more, no_end, bad_item, later_item}
 use Rattle.sap_grammar.specs.ItemReading.{cut, declared_in}
+use Rattle.sap_statements.specs.Added.{IsStated}
 use Rattle.sap_statements.specs.declared.statement.Statement.{Statement}
 use Rattle.sap_statements.specs.Statements.{IsStatement, is_restriction, is_lemma}
 use Rattle.sap_theory.specs.declared.limits.TheConstants.{THEORY_LIMITS}
 use Rattle.sap_theory.specs.TheoryGrammar.{TheoryItem, builtins, functions, rule, statement, IsWrittenItem, item_builtins, item_functions, item_rule, item_statement, items_of, rules_in, statements_in}
 use Rattle.sap_theory.specs.WrittenItems.{AreWrittenItems, IsSomeWrittenItem, IsFaultyTheory}
-use Rattle.sap_theory.specs.code.ItemLaws.{ItemLaws}
-use Rattle.sap_theory.specs.code.ItemView.{IsRuled, IsStated, IsAdding, IsAdded, AreSaid, IsGoodBehind}
-
-words_placed : (z : List ℕ) (ts : List Token) → words (placed z ts) ≡ words_of z ts
-words_placed z [] = refl
-words_placed z (t ∷ ts) = ap (λ (ws : List Word). word_of z t ∷ ws) (words_placed z ts)
-
--- only no words are no items
-no_cut : {p : Placed} {ps : List Placed} {is : List (List Placed)} → IsCut (p ∷ ps) is → is ≡ [] → ⊥
-no_cut (cut_one p ps rest a b r) e = absurd (cc (e))
-
-cut_nothing : ItemLaws → (z : List ℕ) (ts : List Token) → cut (placed z ts) ≡ [] → ts ≡ []
-cut_nothing laws z [] e = refl
-cut_nothing laws z (t ∷ ts) e = absurd (no_cut (laws.is_cut (placed z (t ∷ ts))) e)
-
--- the cut of words is the one that is read
-pub cut_is : ItemLaws → {ps : List Placed} {is : List (List Placed)} → IsCut ps is → cut ps ≡ is
-cut_is laws {ps = ps} {is = is} r = laws.one_cut ps (cut ps) is (laws.is_cut ps) r
+use Rattle.sap_grammar.proofs.ReadingLaws.Items.{cut_is}
+use Rattle.sap_grammar.proofs.ReadingLaws.Tokens.{words_placed}
+use Rattle.sap_grammar.specs.ItemLaws.{ItemLaws}
+use Rattle.sap_theory.specs.code.ItemView.{IsRuled, IsAdding, IsAdded, AreSaid, IsGoodBehind}
 
 -- the item that stands first, and those behind it
 rules_behind : (v : TheoryItem) (vs : List TheoryItem) → rules_in (v ∷ vs) ≡ rules_in (v ∷ []) ++ rules_in vs
@@ -108,7 +95,7 @@ declaration_added laws g z ts rs ss e = go (declared_in (words_of z ts)) refl e
 
 -- they do neither, and are asked whether they are a restriction or a lemma
 stated_added : ItemLaws → (g : Sig) (z : List ℕ) (ts : List Token) (rs : List Rule) (ss after : List Statement) (b : Bool) → starts (codes "rule") (words_of z ts) ≡ false
-    → is_some (declared_in (words_of z ts)) ≡ false → IsStated g z ts ss after b → IsAdded g z ts rs rs ss after b
+    → is_some (declared_in (words_of z ts)) ≡ false → IsStated g THEORY_LIMITS z ts ss after b → IsAdded g z ts rs rs ss after b
 stated_added laws g z ts rs ss after true s none is = record { item = statement is.0; spelled = item_statement is.1; rules_are = sym (append-nil rs); statements_are = is.2 }
 stated_added laws g z ts rs ss after false s none never = λ it. no_other laws s (nothing (declared_in (words_of z ts)) none) never it.is
   where
@@ -118,14 +105,13 @@ stated_added laws g z ts rs ss after false s none never = λ it. no_other laws s
 
 -- the same, where asking may fail
 pub stated_tried : ItemLaws → (g : Sig) (z : List ℕ) (ts : List Token) (rs : List Rule) (ss after : List Statement) (o : Result Bool Mem) → starts (codes "rule") (words_of z ts) ≡ false
-    → is_some (declared_in (words_of z ts)) ≡ false → IfOk o (λ b. IsStated g z ts ss after b) → IfOk o (λ b. IsAdded g z ts rs rs ss after b)
+    → is_some (declared_in (words_of z ts)) ≡ false → IfOk o (λ b. IsStated g THEORY_LIMITS z ts ss after b) → IfOk o (λ b. IsAdded g z ts rs rs ss after b)
 stated_tried laws g z ts rs ss after (Ok b) s none is = stated_added laws g z ts rs ss after b s none is
 stated_tried laws g z ts rs ss after (Err e) s none is = tt
 
 -- Turns of the loop over items, where `rules` and `statements` were read before the tokens `rest`.
-module _ (laws : ItemLaws) (g : Sig) (last : ℕ) (z : List ℕ) (ts rest item behind : List Token) (rules : List Rule) (statements : List Statement)
+module _ (laws : ItemLaws) (g : Sig) (z : List ℕ) (ts rest item behind : List Token) (rules : List Rule) (statements : List Statement)
     (good : IsGoodBehind g z ts rest rules statements)
-    (faulty : (n : ℕ) → IsFaultyTheory last (cut (placed z rest)) n → IsFaultyTheory last (cut (placed z ts)) n)
     (split : cut (placed z rest) ≡ placed z item ∷ cut (placed z behind)) where
   pub turn_end : IsEnd (placed z item) → behind ≡ [] → (pieces : List (List Placed)) → IsCut (placed z ts) pieces → AreSaid g pieces rules statements
   turn_end e none pieces r =
@@ -137,14 +123,6 @@ module _ (laws : ItemLaws) (g : Sig) (last : ℕ) (z : List ℕ) (ts rest item b
         rules_are = sym (append-nil rules) ∙ all.2;
         statements_are = sym (append-nil statements) ∙ all.3;
       }
-
-  pub turn_bad : (IsEnd (placed z item) × (behind ≡ []) → ⊥) → (IsSomeWrittenItem (words_of z item) → ⊥) → (line : ℕ) → line ≡ first_line (placed z item)
-      → (pieces : List (List Placed)) → IsCut (placed z ts) pieces → IsFaultyTheory last pieces line
-  turn_bad not_last none line l pieces r =
-      let bad : IsSomeWrittenItem (words (placed z item)) → ⊥ = rw (words_placed z item) none in
-      let here : IsFaultyTheory last (placed z item ∷ cut (placed z behind)) (first_line (placed z item)) = bad_item bad (λ e f. not_last (e, cut_nothing laws z behind f)) in
-      let there = faulty (first_line (placed z item)) (subst (λ (y : List (List Placed)). IsFaultyTheory last y (first_line (placed z item))) (sym split) here) in
-      rw l (subst (λ (y : List (List Placed)). IsFaultyTheory last y (first_line (placed z item))) (cut_is laws r) there)
 
   module _ (after : List Rule) (later : List Statement) (it : IsAdding g z item rules after statements later) where
     spelled_here : IsWrittenItem g THEORY_LIMITS it.item (words (placed z item))
@@ -160,14 +138,3 @@ module _ (laws : ItemLaws) (g : Sig) (last : ℕ) (z : List ℕ) (ts rest item b
           joined_behind after rules (rules_in (it.item ∷ [])) (rules_in (items_of is)) (rules_in (it.item ∷ items_of is)) (rules_in (items_of all.0)) it.rules_are (rules_behind it.item (items_of is)) all.2,
           joined_behind later statements (statements_in (it.item ∷ [])) (statements_in (items_of is)) (statements_in (it.item ∷ items_of is)) (statements_in (items_of all.0)) it.statements_are (statements_behind it.item (items_of is)) all.3,
         )
-
-    pub turn_later : (n : ℕ) → IsFaultyTheory last (cut (placed z behind)) n → IsFaultyTheory last (cut (placed z ts)) n
-    turn_later n r = faulty n (subst (λ (y : List (List Placed)). IsFaultyTheory last y n) (sym split) (later_item (record { sig = g; item = it.item; is = spelled_here }) r))
-
--- where `end` is missing
-pub turn_over : ItemLaws → (last : ℕ) (z : List ℕ) (ts rest : List Token) → ((n : ℕ) → IsFaultyTheory last (cut (placed z rest)) n → IsFaultyTheory last (cut (placed z ts)) n) → rest ≡ []
-    → (pieces : List (List Placed)) → IsCut (placed z ts) pieces → IsFaultyTheory last pieces last
-turn_over laws last z ts rest faulty none pieces r =
-    let over : cut (placed z rest) ≡ [] = rw none refl in
-    let there = faulty last (subst (λ (y : List (List Placed)). IsFaultyTheory last y last) (sym over) no_end) in
-    subst (λ (y : List (List Placed)). IsFaultyTheory last y last) (cut_is laws r) there

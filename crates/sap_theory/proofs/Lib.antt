@@ -1,8 +1,6 @@
-pub mod Pushed
 pub mod Listing
 pub mod Functions
 pub mod Lines
-pub mod Sizes
 pub mod ReadLaws
 pub mod Wider
 pub mod DeclaredItems
@@ -24,7 +22,6 @@ pub mod SpelledTheories
 pub mod PrintedTheories
 pub mod Named
 pub mod Checked
-pub mod OnRead
 pub mod Steps
 pub mod RulesRead
 pub mod ItemTurns
@@ -32,7 +29,6 @@ pub mod Parts
 pub mod OneReading
 pub mod Held
 pub mod ReadSpelled
-pub mod Chains
 pub mod WrittenFaults
 pub mod DistinctNames
 pub mod ReadWithin

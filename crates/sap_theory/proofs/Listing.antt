@@ -5,7 +5,7 @@ use Rattle.std.proofs.lemmas.List.{map-append, append-nil}
 use Rattle.std.proofs.lemmas.List.Elements.{filter-append}
 use Rattle.sap_grammar.specs.Pieces.{joined}
 use Rattle.sap_theory.specs.Pieces.{line_of, lead}
-use Rattle.sap_theory.proofs.Pushed.{joined-push, take-next}
+use Rattle.sap_grammar.proofs.ReadingLaws.Pushed.{joined-push, take-next}
 
 -- a line without its end
 abbrev pub begun : List ℕ → List (List ℕ) → List ℕ

@@ -15,9 +15,9 @@ use Rattle.sap_theory.specs.WrittenItems.{AreWrittenItems}
 use Rattle.sap_statements.specs.Stated.{restrictions_of, lemmas_of}
 use Rattle.sap_theory.specs.TheoryCauses.{IsRefused, AreAccepted}
 use Rattle.sap_theory.specs.ReadTheory.{AreTokens, IsParted, IsTheoryRead, theory_of, no_item, refused, accepted}
-use Rattle.sap_theory.specs.code.ItemLaws.{ItemLaws}
+use Rattle.sap_grammar.specs.ItemLaws.{ItemLaws}
 use Rattle.sap_theory.specs.code.Judged.{AreGood, IsRefusedCut}
-use Rattle.sap_theory.proofs.ItemTurns.{cut_is}
+use Rattle.sap_grammar.proofs.ReadingLaws.Items.{cut_is}
 use Rattle.sap_theory.proofs.DeclaredItems.{written_declare}
 
 -- the items of tokens with a header

@@ -14,9 +14,9 @@ use Rattle.sap_grammar.specs.TermGrammar.{sorted}
 use Rattle.sap_grammar.specs.Printable.{IsTidy}
 use Rattle.sap_grammar.specs.Printed.{ArePrinted}
 use Rattle.sap_grammar.specs.PrintedWords.{Before, enclosed, variable_words, term_words, fact_words}
-use Rattle.sap_statements.specs.FormulaGrammar.{is_truth_name, begins_truth, time_signed, time_plain, atom_true, atom_false, atom_action, atom_equal, atom_same, atom_earlier, IsBinder, binds_message, binds_fresh, binds_pub, binds_time, AreBinders, binders_last, binders_more, Reach, closed, reaching, IsUn, IsAnd, IsOr, IsImp, IsIff, un_atom, un_not, un_every, un_exists, un_parentheses, and_one, and_more, or_one, or_more, imp_one, imp_more, iff_one, iff_more}
+use Rattle.sap_formula_grammar.specs.FormulaGrammar.{is_truth_name, begins_truth, time_signed, time_plain, atom_true, atom_false, atom_action, atom_equal, atom_same, atom_earlier, IsBinder, binds_message, binds_fresh, binds_pub, binds_time, AreBinders, binders_last, binders_more, Reach, closed, reaching, IsUn, IsAnd, IsOr, IsImp, IsIff, un_atom, un_not, un_every, un_exists, un_parentheses, and_one, and_more, or_one, or_more, imp_one, imp_more, iff_one, iff_more}
 use Rattle.sap_statements.specs.Printable.{is_written_as_truth, AreSome, IsTidyForm}
-use Rattle.sap_theory.specs.FormulaText.{strength}
+use Rattle.sap_formula_text.specs.FormulaText.{strength}
 use Rattle.sap_theory.specs.FormulaLevels.{levels_in_place, text_levels}
 use Rattle.sap_theory.proofs.FormulaWords.{binder_words, binders_words, placed_words, form_words}
 

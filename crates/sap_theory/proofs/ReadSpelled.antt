@@ -28,7 +28,8 @@ use Rattle.sap_statements.specs.Stated.{AreFaultless, restrictions_of, lemmas_of
 use Rattle.sap_theory.specs.TheoryCauses.{AreAccepted}
 use Rattle.sap_theory.specs.ReadTheory.{IsParted, IsTheoryRead, theory_of, no_tokens, no_header, no_item, refused, accepted}
 use Rattle.sap_theory.specs.ReadAgain.{SpellsWithin}
-use Rattle.sap_theory.proofs.Held.{map_held, builtins_held}
+use Rattle.sap_grammar.proofs.ReadingLaws.Signatures.{map_held}
+use Rattle.sap_theory.proofs.Held.{builtins_held}
 
 -- what the laws of formulas without a fault say
 abbrev pub SortsAgree : Type 0

@@ -6,25 +6,38 @@ use Rattle.sap_terms.specs.Signature.{Sig}
 use Rattle.sap_rule.specs.declared.rule.Rule.{Rule}
 use Rattle.sap_grammar.specs.declared.limits.Limits.{Limits}
 use Rattle.sap_grammar.specs.Words.{Word, mark, name, starts}
-use Rattle.sap_grammar.specs.Reading.{Read, after, given, name_at}
+use Rattle.sap_grammar.specs.Reading.{Read, after, given, name_at, past}
 use Rattle.sap_grammar.specs.FactGrammar.{AreFacts}
 use Rattle.sap_grammar.specs.TermReading.{facts}
+use Rattle.sap_grammar.specs.TermLaws.{AreRead, AreSpelled}
 use Rattle.sap_theory.specs.TheoryGrammar.{rule, IsRuleBody, body_silent, body_acts, IsWrittenItem, item_rule}
-use Rattle.sap_theory.specs.code.FactLaws.{FactLaws}
-use Rattle.sap_theory.specs.code.RuleReading.{past, right_side, left_side, a_rule}
-use Rattle.sap_theory.proofs.OnRead.{Says, OnRead, on_all, on_read, after_on, given_on, if_on, past_on, starts_is, name_is}
+use Rattle.sap_theory.specs.code.RuleReading.{right_side, left_side, a_rule}
+use Rattle.sap_grammar.proofs.ReadingLaws.OnRead.{Says, OnRead, on_all, on_read, after_on, given_on, if_on, past_on, starts_is, name_is}
 
 -- all of the words
 abbrev Whole : Sig → Limits → List Word → Says Rule
 Whole g m ws r b = b ≡ [] → IsWrittenItem g m (rule r) ws
 
-module _ (laws : FactLaws) where
+-- the same words are the facts of a rule under each signature
+body_too : AreSpelled → (g h : Sig) (m : Limits) {l e r : List Fact} {a : List Word} → IsRuleBody g m l e r a
+    → (k : List Fact) × (d : List Fact) × (s : List Fact) × IsRuleBody h m k d s a
+body_too laws g h m (body_silent {l = l} {r = r} p q) =
+    let u = laws.facts_too g h m true (codes "]") l _ _ p in
+    let v = laws.facts_too g h m true (codes "]") r _ _ q in
+    (u.0, [], v.0, body_silent u.1 v.1)
+body_too laws g h m (body_acts {l = l} {e = e} {r = r} p q s) =
+    let u = laws.facts_too g h m true (codes "]") l _ _ p in
+    let v = laws.facts_too g h m true (codes "]->") e _ _ q in
+    let w = laws.facts_too g h m true (codes "]") r _ _ s in
+    (u.0, v.0, w.0, body_acts u.1 v.1 w.1)
+
+module _ (laws : AreRead) where
   -- What is written so is read: a closing mark is neither a comma nor `!`.
   square_read : {g : Sig} {m : Limits} {fs : List Fact} {a b : List Word} → AreFacts g m true (codes "]") fs a b → facts g m true (codes "]") a ≡ Some (fs, b)
-  square_read {g = g} {m = m} {fs = fs} {a = a} {b = b} r = laws.read g m true (codes "]") fs a b (λ e. absurd (cc (e))) (λ e. absurd (cc (e))) r
+  square_read {g = g} {m = m} {fs = fs} {a = a} {b = b} r = laws.facts_read g m true (codes "]") fs a b (λ e. absurd (cc (e))) (λ e. absurd (cc (e))) r
 
   acts_read : {g : Sig} {m : Limits} {fs : List Fact} {a b : List Word} → AreFacts g m true (codes "]->") fs a b → facts g m true (codes "]->") a ≡ Some (fs, b)
-  acts_read {g = g} {m = m} {fs = fs} {a = a} {b = b} r = laws.read g m true (codes "]->") fs a b (λ e. absurd (cc (e))) (λ e. absurd (cc (e))) r
+  acts_read {g = g} {m = m} {fs = fs} {a = a} {b = b} r = laws.facts_read g m true (codes "]->") fs a b (λ e. absurd (cc (e))) (λ e. absurd (cc (e))) r
 
   body_read : {g : Sig} {m : Limits} {x : List ℕ} {l e r : List Fact} {a : List Word} → IsRuleBody g m l e r a
       → a_rule g m (mark (codes "rule") ∷ name x ∷ mark (codes ":") ∷ a) ≡ Some (record { name = x; left = l; acts = e; right = r }, [])
@@ -34,7 +47,7 @@ module _ (laws : FactLaws) where
 
   -- What is read is written so.
   facts_sound : (g : Sig) (m : Limits) (w : List ℕ) (ts : List Word) → OnRead (λ fs b. AreFacts g m true w fs ts b) (facts g m true w ts)
-  facts_sound g m w ts = on_all (λ fs b. AreFacts g m true w fs ts b) (facts g m true w ts) (λ fs b e. laws.are g m true w fs ts b e)
+  facts_sound g m w ts = on_all (λ fs b. AreFacts g m true w fs ts b) (facts g m true w ts) (λ fs b e. laws.facts_are g m true w fs ts b e)
 
   module _ (g : Sig) (m : Limits) (x : List ℕ) (a : List Word) where
     abbrev Q : Says Rule
@@ -80,30 +93,19 @@ module _ (laws : FactLaws) where
     pub rule_is : (r : Rule) (ws : List Word) → a_rule g m ws ≡ Some (r, []) → IsWrittenItem g m (rule r) ws
     rule_is r ws e = on_read (Whole g m ws) r [] e (rule_sound ws) refl
 
-  body_too : (g h : Sig) (m : Limits) {l e r : List Fact} {a : List Word} → IsRuleBody g m l e r a
-      → (k : List Fact) × (d : List Fact) × (s : List Fact) × IsRuleBody h m k d s a
-  body_too g h m (body_silent {l = l} {r = r} p q) =
-      let u = laws.too g h m true (codes "]") l _ _ p in
-      let v = laws.too g h m true (codes "]") r _ _ q in
-      (u.0, [], v.0, body_silent u.1 v.1)
-  body_too g h m (body_acts {l = l} {e = e} {r = r} p q s) =
-      let u = laws.too g h m true (codes "]") l _ _ p in
-      let v = laws.too g h m true (codes "]->") e _ _ q in
-      let w = laws.too g h m true (codes "]") r _ _ s in
-      (u.0, v.0, w.0, body_acts u.1 v.1 w.1)
+  module _ (spelled : AreSpelled) where
+    -- words that are a rule under some signature are read to the last word under each
+    whole_read : (g h : Sig) (m : Limits) {r : Rule} {ws : List Word} → IsWrittenItem h m (rule r) ws → (s : Rule) × (a_rule g m ws ≡ Some (s, []))
+    whole_read g h m (item_rule b) = let t = body_too spelled h g m b in (record { name = _; left = t.0; acts = t.1; right = t.2 }, body_read t.3)
 
-  -- words that are a rule under some signature are read to the last word under each
-  whole_read : (g h : Sig) (m : Limits) {r : Rule} {ws : List Word} → IsWrittenItem h m (rule r) ws → (s : Rule) × (a_rule g m ws ≡ Some (s, []))
-  whole_read g h m (item_rule b) = let t = body_too h g m b in (record { name = _; left = t.0; acts = t.1; right = t.2 }, body_read t.3)
+    -- what reading says of each signature
+    module _ (g : Sig) (m : Limits) (ws : List Word) where
+      pub no_rule : a_rule g m ws ≡ None → (h : Sig) (r : Rule) → IsWrittenItem h m (rule r) ws → ⊥
+      no_rule e h r k = let other = whole_read g h m k in let found = other.1 in absurd (cc (e, found))
 
-  -- what reading says of each signature
-  module _ (g : Sig) (m : Limits) (ws : List Word) where
-    pub no_rule : a_rule g m ws ≡ None → (h : Sig) (r : Rule) → IsWrittenItem h m (rule r) ws → ⊥
-    no_rule e h r k = let other = whole_read g h m k in let found = other.1 in absurd (cc (e, found))
-
-    pub no_other_rule : (v : Rule) (b : List Word) → a_rule g m ws ≡ Some (v, b) → (b ≡ [] → ⊥) → (h : Sig) (r : Rule) → IsWrittenItem h m (rule r) ws → ⊥
-    no_other_rule v b e more h r k =
-        let other = whole_read g h m k in
-        let same : ◌≡◌ {A = Read Rule} (Some (v, b)) (Some (other.0, [])) = sym e ∙ other.1 in
-        let both : ◌≡◌ {A = Rule × List Word} (v, b) (other.0, []) = cc in
-        more (ap (λ (y : Rule × List Word). y.1) both)
+      pub no_other_rule : (v : Rule) (b : List Word) → a_rule g m ws ≡ Some (v, b) → (b ≡ [] → ⊥) → (h : Sig) (r : Rule) → IsWrittenItem h m (rule r) ws → ⊥
+      no_other_rule v b e more h r k =
+          let other = whole_read g h m k in
+          let same : ◌≡◌ {A = Read Rule} (Some (v, b)) (Some (other.0, [])) = sym e ∙ other.1 in
+          let both : ◌≡◌ {A = Rule × List Word} (v, b) (other.0, []) = cc in
+          more (ap (λ (y : Rule × List Word). y.1) both)

@@ -14,12 +14,12 @@ use Rattle.sap_statements.specs.Statements.{IsStatement}
 use Rattle.sap_theory.specs.declared.limits.TheConstants.{THEORY_LIMITS}
 use Rattle.sap_theory.specs.TheoryGrammar.{TheoryItem, builtins, functions, rule, statement, IsWrittenItem, item_builtins, item_functions, item_statement}
 use Rattle.sap_theory.specs.WrittenItems.{AreWrittenItems, IsSomeWrittenItem, IsFaultyTheory}
-use Rattle.sap_theory.specs.code.FactLaws.{FactLaws}
-use Rattle.sap_theory.specs.code.ItemLaws.{ItemLaws}
-use Rattle.sap_theory.specs.code.StatementLaws.{StatementLaws}
+use Rattle.sap_grammar.specs.TermLaws.{AreRead, AreSpelled}
+use Rattle.sap_grammar.specs.ItemLaws.{ItemLaws}
+use Rattle.sap_statements.specs.StatementLaws.{StatementLaws}
 use Rattle.sap_theory.specs.code.RuleReading.{a_rule}
 use Rattle.sap_theory.proofs.ItemTurns.{no_ruled, no_other}
-use Rattle.sap_theory.proofs.OnRead.{starts_is}
+use Rattle.sap_grammar.proofs.ReadingLaws.Items.{ItemOrNone, ItemsOrFault, items_or_fault}
 use Rattle.sap_theory.proofs.RulesRead.{rule_is, no_rule, no_other_rule}
 
 -- what declares something is an item
@@ -27,62 +27,38 @@ declared_item : (g : Sig) {ws : List Word} {ds : List Declaration} → Declares 
 declared_item g (declares_builtins {bs = bs} r) = (builtins bs, item_builtins r)
 declared_item g (declares_functions {ss = ss} r) = (functions ss, item_functions r)
 
--- the words are `end` alone, or not
-end_or_not : (ws : List Word) → (ws ≡ mark (codes "end") ∷ []) ⊎ (ws ≡ mark (codes "end") ∷ [] → ⊥)
-end_or_not [] = inr (λ e. absurd (cc (e)))
-end_or_not (w ∷ v ∷ ws) = inr (λ e. absurd (cc (e)))
-end_or_not (w ∷ []) = by (starts (codes "end") (w ∷ [])) refl
-  where
-    by : (t : Bool) → starts (codes "end") (w ∷ []) ≡ t → (w ∷ [] ≡ mark (codes "end") ∷ []) ⊎ (w ∷ [] ≡ mark (codes "end") ∷ [] → ⊥)
-    by true s = inl (starts_is (codes "end") (w ∷ []) s)
-    by false s = inr (λ e. let there : starts (codes "end") (w ∷ []) ≡ true = ap (starts (codes "end")) e in absurd (cc (s, there)))
-
-module _ (facts : FactLaws) (laws : ItemLaws) (stated : StatementLaws) where
+module _ (facts : AreRead) (too : AreSpelled) (laws : ItemLaws) (stated : StatementLaws) where
   -- the words are an item under the signature, or under none
-  abbrev ItemOrNone : Sig → List Word → Type 0
-  ItemOrNone g ws = ((v : TheoryItem) × IsWrittenItem g THEORY_LIMITS v ws) ⊎ (IsSomeWrittenItem ws → ⊥)
+  abbrev OrNone : Sig → List Word → Type 0
+  OrNone g ws = ItemOrNone (IsWrittenItem g THEORY_LIMITS) IsSomeWrittenItem ws
 
-  rule_or_none : (g : Sig) (ws : List Word) → starts (codes "rule") ws ≡ true → ItemOrNone g ws
+  rule_or_none : (g : Sig) (ws : List Word) → starts (codes "rule") ws ≡ true → OrNone g ws
   rule_or_none g ws s = by (a_rule g THEORY_LIMITS ws) refl
     where
-      by : (o : Read Rule) → a_rule g THEORY_LIMITS ws ≡ o → ItemOrNone g ws
-      by None e = inr (λ it. no_ruled s (no_rule facts g THEORY_LIMITS ws e) it.is)
+      by : (o : Read Rule) → a_rule g THEORY_LIMITS ws ≡ o → OrNone g ws
+      by None e = inr (λ it. no_ruled s (no_rule facts too g THEORY_LIMITS ws e) it.is)
       by (Some (r, [])) e = inl (rule r, rule_is facts g THEORY_LIMITS r ws e)
-      by (Some (r, w ∷ b)) e = inr (λ it. no_ruled s (no_other_rule facts g THEORY_LIMITS ws r (w ∷ b) e (λ none. absurd (cc (none)))) it.is)
+      by (Some (r, w ∷ b)) e = inr (λ it. no_ruled s (no_other_rule facts too g THEORY_LIMITS ws r (w ∷ b) e (λ none. absurd (cc (none)))) it.is)
 
-  item_or_none : (g : Sig) (ws : List Word) → ItemOrNone g ws
+  item_or_none : (g : Sig) (ws : List Word) → OrNone g ws
   item_or_none g ws = by_rule (starts (codes "rule") ws) refl
     where
       by_stated : starts (codes "rule") ws ≡ false → declared_in ws ≡ None
-          → ((s : Statement) × IsStatement g THEORY_LIMITS s ws) ⊎ ((s : Statement) → IsStatement g THEORY_LIMITS s ws → ⊥) → ItemOrNone g ws
+          → ((s : Statement) × IsStatement g THEORY_LIMITS s ws) ⊎ ((s : Statement) → IsStatement g THEORY_LIMITS s ws → ⊥) → OrNone g ws
       by_stated b e (inl r) = inl (statement r.0, item_statement r.1)
       by_stated b e (inr never) = inr (λ it. no_other laws b e (λ h s r. let t = stated.too h g THEORY_LIMITS s ws r in never t.0 t.1) it.is)
 
-      by_declared : starts (codes "rule") ws ≡ false → (o : Option (List Declaration)) → declared_in ws ≡ o → ItemOrNone g ws
+      by_declared : starts (codes "rule") ws ≡ false → (o : Option (List Declaration)) → declared_in ws ≡ o → OrNone g ws
       by_declared b None e = by_stated b e (stated.some g THEORY_LIMITS ws)
       by_declared b (Some ds) e = inl (declared_item g (laws.declares ws ds e))
 
-      by_rule : (t : Bool) → starts (codes "rule") ws ≡ t → ItemOrNone g ws
+      by_rule : (t : Bool) → starts (codes "rule") ws ≡ t → OrNone g ws
       by_rule true b = rule_or_none g ws b
       by_rule false b = by_declared b (declared_in ws) refl
 
   -- the pieces are items, or the first fault is on some line
-  abbrev pub ItemsOrFault : Sig → ℕ → List (List Placed) → Type 0
-  ItemsOrFault g last cut = ((is : List (Standing TheoryItem)) × AreWrittenItems g cut is) ⊎ ((n : ℕ) × IsFaultyTheory last cut n)
+  abbrev pub AreOrFault : Sig → ℕ → List (List Placed) → Type 0
+  AreOrFault g last cut = ItemsOrFault (IsWrittenItem g THEORY_LIMITS) IsSomeWrittenItem last cut
 
-  last_or_fault : (g : Sig) (last : ℕ) (i : List Placed) (is : List (List Placed)) → (IsSomeWrittenItem (words i) → ⊥) → ItemsOrFault g last (i ∷ is)
-  last_or_fault g last i (j ∷ is) never = inr (first_line i, bad_item never (λ e none. absurd (cc (none))))
-  last_or_fault g last i [] never = by (end_or_not (words i))
-    where
-      by : (words i ≡ mark (codes "end") ∷ []) ⊎ (words i ≡ mark (codes "end") ∷ [] → ⊥) → ItemsOrFault g last (i ∷ [])
-      by (inl e) = inl ([], items_end e)
-      by (inr more) = inr (first_line i, bad_item never (λ e none. more e))
-
-  one_more : (g : Sig) (last : ℕ) (i : List Placed) (is : List (List Placed)) → ItemOrNone g (words i) → ItemsOrFault g last is → ItemsOrFault g last (i ∷ is)
-  one_more g last i is (inl r) (inl s) = inl (record { item = r.0; line = first_line i } ∷ s.0, items_more r.1 s.1)
-  one_more g last i is (inl r) (inr f) = inr (f.0, later_item (record { sig = g; item = r.0; is = r.1 }) f.1)
-  one_more g last i is (inr never) o = last_or_fault g last i is never
-
-  pub items_or_fault : (g : Sig) (last : ℕ) (cut : List (List Placed)) → ItemsOrFault g last cut
-  items_or_fault g last [] = inr (last, no_end)
-  items_or_fault g last (i ∷ is) = one_more g last i is (item_or_none g (words i)) (items_or_fault g last is)
+  pub written_or_fault : (g : Sig) (last : ℕ) (cut : List (List Placed)) → AreOrFault g last cut
+  written_or_fault g last cut = items_or_fault (IsWrittenItem g THEORY_LIMITS) IsSomeWrittenItem last (λ v ws r. record { sig = g; item = v; is = r }) (item_or_none g) cut

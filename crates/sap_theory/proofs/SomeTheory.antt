@@ -23,13 +23,13 @@ use Rattle.sap_theory.specs.WrittenItems.{AreWrittenItems}
 use Rattle.sap_statements.specs.Stated.{AreFaultless, IsFirstFaulty}
 use Rattle.sap_theory.specs.TheoryCauses.{shared, IsPlainRule, IsFirstWrong, this_rule, later_rule, IsRefused, of_names, of_clash, of_symbols, of_shapes, of_formulas, AreAccepted}
 use Rattle.sap_theory.specs.ReadTheory.{AreTokens, IsParted, theory_of, IsTheoryRead, no_tokens, no_header, no_item, refused, accepted}
-use Rattle.sap_theory.specs.code.FactLaws.{FactLaws}
-use Rattle.sap_theory.specs.code.ItemLaws.{ItemLaws}
-use Rattle.sap_theory.specs.code.StatementLaws.{StatementLaws}
+use Rattle.sap_grammar.specs.TermLaws.{AreRead, AreSpelled}
+use Rattle.sap_grammar.specs.ItemLaws.{ItemLaws}
+use Rattle.sap_statements.specs.StatementLaws.{StatementLaws}
 use Rattle.sap_theory.proofs.DecidedRules.{Decided, rule_over, plain_rule}
 use Rattle.sap_theory.proofs.DeclaredItems.{written_declare}
 use Rattle.sap_theory.proofs.Parts.{HeaderFound, pieces_of, parted}
-use Rattle.sap_theory.proofs.SomeItems.{ItemsOrFault, items_or_fault}
+use Rattle.sap_theory.proofs.SomeItems.{AreOrFault, written_or_fault}
 
 -- no rule is wrong, or a first one
 wrong_or_not : (Is : Rule → Type 0) (fault : List ℕ → TheoryFault) → ((r : Rule) → Decided (Is r)) → (rs : List Rule) → All Is rs ⊎ ((e : TheoryFault) × IsFirstWrong Is fault rs e)
@@ -75,7 +75,7 @@ judged some g clash rs ss = by_names (shared rs ss) refl
 abbrev IsReadSo : List ℕ → Type 0
 IsReadSo z = (o : Result Theory TheoryFault) × IsTheoryRead z o
 
-module _ (facts : FactLaws) (laws : ItemLaws) (stated : StatementLaws) (faults : SomeFaultyLaw) (found : HeaderFound)
+module _ (facts : AreRead) (too : AreSpelled) (laws : ItemLaws) (stated : StatementLaws) (faults : SomeFaultyLaw) (found : HeaderFound)
     (not_found : (z : List ℕ) (ts : List Token) → header_of (words_of z ts) ≡ None → (x : List ℕ) (rest : List Placed) → IsHeader x (placed z ts) rest → ⊥) (z : List ℕ) where
   from_items : {ts : List Token} {x : List ℕ} {cut : List (List Placed)} (is : List (Standing TheoryItem)) → IsParted z ts x cut → AreWrittenItems (signature_of is) cut is → IsReadSo z
   from_items {x = x} is p i = by (judged faults (signature_of is) (clash_from pairs_alone (declarations is)) (rules_in (items_of is)) (statements_in (items_of is)))
@@ -85,9 +85,9 @@ module _ (facts : FactLaws) (laws : ItemLaws) (stated : StatementLaws) (faults :
       by (inr f) = (Err f.0, refused p i f.1)
 
   from_parts : (ts : List Token) (x : List ℕ) (cut : List (List Placed)) → IsParted z ts x cut → IsReadSo z
-  from_parts ts x cut p = by (items_or_fault facts laws stated (signature_from pairs_alone (declared_in_all cut)) (last_line (placed z ts)) cut)
+  from_parts ts x cut p = by (written_or_fault facts too laws stated (signature_from pairs_alone (declared_in_all cut)) (last_line (placed z ts)) cut)
     where
-      by : ItemsOrFault facts laws stated (signature_from pairs_alone (declared_in_all cut)) (last_line (placed z ts)) cut → IsReadSo z
+      by : AreOrFault facts too laws stated (signature_from pairs_alone (declared_in_all cut)) (last_line (placed z ts)) cut → IsReadSo z
       by (inl r) = from_items r.0 p (subst (λ (g : Sig). AreWrittenItems g cut r.0) (ap (signature_from pairs_alone) (sym (written_declare laws.declared r.1))) r.1)
       by (inr f) = (Err (Syntax f.0), no_item p f.1)
 

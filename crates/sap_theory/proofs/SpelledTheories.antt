@@ -26,7 +26,7 @@ use Rattle.sap_grammar.specs.Items.{Standing, AreItems, items_end, items_more}
 use Rattle.sap_grammar.specs.ByteWords.{IsName, AreTokenWords}
 use Rattle.sap_grammar.specs.Printable.{IsPrintableFact}
 use Rattle.sap_grammar.specs.Printed.{ArePrinted}
-use Rattle.sap_statements.specs.FormulaGrammar.{Reach, IsIff}
+use Rattle.sap_formula_grammar.specs.FormulaGrammar.{Reach, IsIff}
 use Rattle.sap_statements.specs.declared.statement.Statement.TheVariants.{Restriction as restriction, Lemma as lemma}
 use Rattle.sap_statements.specs.Statements.{IsAttribute, AreAttributes, attributes_last, attributes_more, HasAttributes, without_attributes, with_attributes, IsMode, mode_missing, mode_all, mode_exists, IsQuoted, is_restriction, is_lemma}
 use Rattle.sap_statements.specs.Sorted.{plainly_sorted}

@@ -9,7 +9,7 @@ use Rattle.sap_grammar.specs.declared.limits.Limits.{Limits}
 use Rattle.sap_grammar.specs.Words.{Word}
 use Rattle.sap_grammar.specs.Sizes.{AtMost, IsSmall, AreSmall}
 use Rattle.sap_grammar.specs.FactGrammar.{IsShortFact, AreSomeFacts, AreFacts, facts_last, facts_more, facts_none, facts_some}
-use Rattle.sap_statements.specs.FormulaGrammar.{IsSmallForm, IsShortFormula}
+use Rattle.sap_formula_grammar.specs.FormulaGrammar.{IsSmallForm, IsShortFormula}
 use Rattle.sap_statements.specs.declared.statement.Statement.{Statement}
 use Rattle.sap_statements.specs.Statements.{IsStatement, is_restriction, is_lemma}
 

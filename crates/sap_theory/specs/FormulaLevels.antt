@@ -1,7 +1,7 @@
 -- How many levels the printed text of a formula has.
 use Rattle.std.specs.Prelude.{ℕ, ◌+◌, max, nat_lt, if◌then◌else◌}
 use Rattle.sap_formula.specs.Form.{Form, truth, falsity, action, equal, same_time, earlier, negation, both, either, implies, equivalent, every, exists}
-use Rattle.sap_theory.specs.FormulaText.{strength}
+use Rattle.sap_formula_text.specs.FormulaText.{strength}
 
 -- one level more where parentheses stand, since the place asks for more strength than the formula has
 abbrev pub levels_in_place : ℕ → Form → ℕ → ℕ

@@ -4,10 +4,10 @@ pub use Rattle.sap_grammar.specs.Items
 pub use Rattle.sap_statements.specs.Statements
 pub use Rattle.sap_statements.specs.Stated
 pub use Rattle.sap_grammar.specs.TermText
+pub use Rattle.sap_formula_text.specs.FormulaText
 pub use Rattle.sap_grammar.specs.FactText
 pub mod Pieces
 pub mod RuleText
-pub mod FormulaText
 pub mod FormulaLevels
 pub mod StatementText
 pub mod SignatureText

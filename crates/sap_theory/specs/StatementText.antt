@@ -5,7 +5,7 @@ use Rattle.sap_formula.specs.Form.{Form, RestrictionForm, LemmaForm}
 use Rattle.sap_formula.specs.declared.lemma.Mode.{Mode}
 use Rattle.sap_formula.specs.declared.lemma.Mode.TheVariants.{AllTraces, ExistsTrace}
 use Rattle.sap_grammar.specs.Pieces.{joined}
-use Rattle.sap_theory.specs.FormulaText.{formula_text}
+use Rattle.sap_formula_text.specs.FormulaText.{formula_text}
 
 -- a line of the whole formula
 abbrev pub quoted : Form → List ℕ

@@ -5,7 +5,7 @@ use Rattle.sap_formula.specs.Form.{Form, RestrictionForm, LemmaForm}
 use Rattle.sap_rule.specs.declared.rule.Rule.{Rule}
 use Rattle.sap_rule.specs.declared.theory.Theory.{Theory}
 use Rattle.sap_grammar.specs.Sizes.{AreSmall}
-use Rattle.sap_statements.specs.FormulaGrammar.{IsSmallForm}
+use Rattle.sap_formula_grammar.specs.FormulaGrammar.{IsSmallForm}
 use Rattle.sap_theory.specs.declared.limits.TheConstants.{THEORY_LIMITS}
 use Rattle.sap_theory.specs.FormulaLevels.{text_levels}
 

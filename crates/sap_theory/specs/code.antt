@@ -2,8 +2,4 @@
 pub mod Named
 pub mod Judged
 pub mod RuleReading
-pub mod FactLaws
-pub mod ItemLaws
 pub mod ItemView
-pub mod Chains
-pub mod StatementLaws

@@ -11,14 +11,13 @@ ghost use Rattle.sap_theory.specs.WithinLimits.{IsShallow};
 ghost use Rattle.sap_theory.specs.ReadTheory.{IsTheoryRead};
 ghost use Rattle.sap_theory.specs.declared.fault.TheoryFault.{TheoryFault};
 
-use crate::reading::laws::{fact_laws, item_laws, statement_laws};
 use sap_grammar::{
-    declarations_are_read, facts_are_read, headers_are_read, printed_words, words_are_cut,
-    words_are_written, words_of_bytes,
+    declarations_are_read, facts_are_read, headers_are_read, item_laws, printed_words, term_laws,
+    words_are_cut, words_are_written, words_of_bytes,
 };
 use sap_statements::{
     faultless_formulas_keep_signs, formulas_are_printable, one_faulty_statement, one_statement,
-    sorts_are_kept,
+    sorts_are_kept, statement_laws,
 };
 use sap_terms::builtins_stay_held;
 use sap_text::{one_answer, some_answer};
@@ -72,7 +71,7 @@ pub fn one_answer_of_theories()
 pub fn some_theory()
     ensures { (z : List ℕ) → ((o : Result Theory TheoryFault) × IsTheoryRead z o) }
 {
-    fact_laws();
+    term_laws();
     item_laws();
     statement_laws();
     headers_are_read();

@@ -3,7 +3,6 @@
 
 mod checking;
 mod fault;
-mod formulas;
 mod laws;
 mod limits;
 mod pieces;

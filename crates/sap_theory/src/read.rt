@@ -12,8 +12,9 @@ ghost use Rattle.sap_theory.specs.declared.fault.TheoryFault.TheVariants.{Mem as
 use crate::checking::check;
 use crate::fault::TheoryFault;
 use crate::reading::items::{Contents, read_items};
-use crate::reading::laws::item_laws;
-use sap_grammar::{Declared, beyond, header_name, headers_are_read, last_line, read_declarations};
+use sap_grammar::{
+    Declared, beyond, header_name, headers_are_read, item_laws, last_line, read_declarations,
+};
 use sap_rule::{RuleList, Theory};
 use sap_statements::Checked;
 use sap_terms::{MOST_THEORY_NAME_BYTES, Name};

@@ -1,4 +1,3 @@
 //! Reads the items of a theory.
 pub(crate) mod items;
-pub(crate) mod laws;
 mod rule;

@@ -4,8 +4,8 @@ ghost use Rattle.sap_formula.specs.View.{form};
 ghost use Rattle.sap_grammar.specs.Pieces.{joined};
 ghost use Rattle.sap_theory.specs.StatementText.{quoted, restriction_text, restrictions_text, attributes_text, mode_text, lemma_text, lemmas_text};
 
-use crate::formulas::push_formula;
 use sap_formula::{Formula, Lemma, LemmaList, Mode, Restriction, RestrictionList};
+use sap_formula_text::push_formula;
 use sap_grammar::push_separator;
 use sap_terms::{Mem, NameList};
 use sap_text::Text;

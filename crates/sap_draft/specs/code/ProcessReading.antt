@@ -7,15 +7,11 @@ use Rattle.sap_terms.specs.Tree.{Tree}
 use Rattle.sap_terms.specs.Signature.{Sig}
 use Rattle.sap_grammar.specs.declared.limits.Limits.{Limits}
 use Rattle.sap_grammar.specs.Words.{Word, starts}
-use Rattle.sap_grammar.specs.Reading.{Read, Reader, after, given, list_of, name_at, starts_zero}
+use Rattle.sap_grammar.specs.Reading.{Reader, after, given, list_of, name_at, past, starts_zero}
 use Rattle.sap_grammar.specs.TermReading.{short_term, short_fact, facts}
 use Rattle.sap_draft.specs.ProcessGrammar.{var}
 use Rattle.sap_process.specs.Action.{Action, new, out, send, input, receive, event, insert, delete, lock, unlock, embedded}
 use Rattle.sap_macro.specs.Written.{Written, nil, call, parallel, replicated, act, test, lookup}
-
--- goes on behind this mark
-unfoldable pub past : {B : Type 0} → List ℕ → List Word → Reader B → Read B
-past m ws k = if starts m ws then k (drop 1 ws) else None
 
 -- this mark behind what is read already
 abbrev pub up_to : {A : Type 0} → List ℕ → A → Reader A

@@ -58,7 +58,7 @@ fn on_one(alloc: Global, deed: Deed, term: Term) -> Result<Box<Doing>, Mem>
     }
 }
 
-#[tactic(auto, using(crate::proofs::Steps::steps), unfolding(sap_grammar::specs::Reading::after, crate::specs::code::ProcessReading::past))]
+#[tactic(auto, using(sap_grammar::proofs::ReadingLaws::Tokens::word_steps), unfolding(sap_grammar::specs::Reading::after, sap_grammar::specs::Reading::past))]
 fn read_message<'a>(
     alloc: Global,
     sig: &Signature,
@@ -85,7 +85,7 @@ fn read_message<'a>(
     }
 }
 
-#[tactic(auto, using(crate::proofs::Steps::steps), unfolding(sap_grammar::specs::Reading::after, crate::specs::code::ProcessReading::past))]
+#[tactic(auto, using(sap_grammar::proofs::ReadingLaws::Tokens::word_steps), unfolding(sap_grammar::specs::Reading::after, sap_grammar::specs::Reading::past))]
 fn read_channel<'a>(
     alloc: Global,
     sig: &Signature,
@@ -112,7 +112,7 @@ fn read_channel<'a>(
     }
 }
 
-#[tactic(auto, using(crate::proofs::Steps::steps), unfolding(sap_grammar::specs::Reading::given))]
+#[tactic(auto, using(sap_grammar::proofs::ReadingLaws::Tokens::word_steps), unfolding(sap_grammar::specs::Reading::given))]
 fn read_bound_as<'a>(
     alloc: Global,
     bytes: &[u8],
@@ -131,7 +131,7 @@ fn read_bound_as<'a>(
     }
 }
 
-#[tactic(auto, using(crate::proofs::Steps::steps))]
+#[tactic(auto, using(sap_grammar::proofs::ReadingLaws::Tokens::word_steps))]
 fn read_bound<'a>(
     alloc: Global,
     bytes: &[u8],
@@ -146,7 +146,7 @@ fn read_bound<'a>(
     }
 }
 
-#[tactic(auto, using(crate::proofs::Steps::steps), unfolding(sap_grammar::specs::Reading::after, crate::specs::code::ProcessReading::past))]
+#[tactic(auto, using(sap_grammar::proofs::ReadingLaws::Tokens::word_steps), unfolding(sap_grammar::specs::Reading::after, sap_grammar::specs::Reading::past))]
 fn read_right_side<'a>(
     alloc: Global,
     sig: &Signature,
@@ -170,7 +170,7 @@ fn read_right_side<'a>(
     }
 }
 
-#[tactic(auto, using(crate::proofs::Steps::steps), unfolding(sap_grammar::specs::Reading::after, crate::specs::code::ProcessReading::past))]
+#[tactic(auto, using(sap_grammar::proofs::ReadingLaws::Tokens::word_steps), unfolding(sap_grammar::specs::Reading::after, sap_grammar::specs::Reading::past))]
 fn read_shown<'a>(
     alloc: Global,
     sig: &Signature,
@@ -198,7 +198,7 @@ fn read_shown<'a>(
     }
 }
 
-#[tactic(auto, using(crate::proofs::Steps::steps), unfolding(sap_grammar::specs::Reading::after, crate::specs::code::ProcessReading::past))]
+#[tactic(auto, using(sap_grammar::proofs::ReadingLaws::Tokens::word_steps), unfolding(sap_grammar::specs::Reading::after, sap_grammar::specs::Reading::past))]
 fn read_rule<'a>(
     alloc: Global,
     sig: &Signature,
@@ -225,7 +225,7 @@ fn read_rule<'a>(
     }
 }
 
-#[tactic(auto, using(crate::proofs::Steps::steps), unfolding(sap_grammar::specs::Reading::after))]
+#[tactic(auto, using(sap_grammar::proofs::ReadingLaws::Tokens::word_steps), unfolding(sap_grammar::specs::Reading::after))]
 fn read_event<'a>(
     alloc: Global,
     sig: &Signature,
@@ -244,7 +244,7 @@ fn read_event<'a>(
     }
 }
 
-#[tactic(auto, using(crate::proofs::Steps::steps), unfolding(sap_grammar::specs::Reading::after, crate::specs::code::ProcessReading::past))]
+#[tactic(auto, using(sap_grammar::proofs::ReadingLaws::Tokens::word_steps), unfolding(sap_grammar::specs::Reading::after, sap_grammar::specs::Reading::past))]
 fn read_insert<'a>(
     alloc: Global,
     sig: &Signature,
@@ -271,7 +271,7 @@ fn read_insert<'a>(
     }
 }
 
-#[tactic(auto, using(crate::proofs::Steps::steps), unfolding(sap_grammar::specs::Reading::after))]
+#[tactic(auto, using(sap_grammar::proofs::ReadingLaws::Tokens::word_steps), unfolding(sap_grammar::specs::Reading::after))]
 fn read_deed<'a>(
     alloc: Global,
     sig: &Signature,
@@ -291,7 +291,7 @@ fn read_deed<'a>(
     }
 }
 
-#[tactic(auto, using(crate::proofs::Steps::steps), unfolding(crate::specs::code::ProcessReading::past))]
+#[tactic(auto, using(sap_grammar::proofs::ReadingLaws::Tokens::word_steps), unfolding(sap_grammar::specs::Reading::past))]
 fn read_state_action<'a>(
     alloc: Global,
     sig: &Signature,
@@ -318,7 +318,7 @@ fn read_state_action<'a>(
 }
 
 /// What the tokens begin with that a process does before it goes on, and the tokens behind it.
-#[tactic(auto, using(crate::proofs::Steps::steps))]
+#[tactic(auto, using(sap_grammar::proofs::ReadingLaws::Tokens::word_steps))]
 pub fn read_action<'a>(
     alloc: Global,
     sig: &Signature,

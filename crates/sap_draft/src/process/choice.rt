@@ -14,7 +14,7 @@ use sap_text::Token;
 use std::alloc::Global;
 
 // By what a process chooses, where this word stands first.
-#[tactic(auto, using(crate::proofs::Steps::steps), unfolding(crate::specs::code::ProcessReading::past))]
+#[tactic(auto, using(sap_grammar::proofs::ReadingLaws::Tokens::word_steps), unfolding(sap_grammar::specs::Reading::past))]
 fn read_up_to<'a>(
     bytes: &[u8],
     choice: Box<Branching>,
@@ -31,7 +31,7 @@ fn read_up_to<'a>(
     }
 }
 
-#[tactic(auto, using(crate::proofs::Steps::steps), unfolding(sap_grammar::specs::Reading::after, crate::specs::code::ProcessReading::past))]
+#[tactic(auto, using(sap_grammar::proofs::ReadingLaws::Tokens::word_steps), unfolding(sap_grammar::specs::Reading::after, sap_grammar::specs::Reading::past))]
 fn read_equality<'a>(
     alloc: Global,
     sig: &Signature,
@@ -55,7 +55,7 @@ fn read_equality<'a>(
 }
 
 /// The two terms that are compared behind `if`, and the tokens behind `then`.
-#[tactic(auto, using(crate::proofs::Steps::steps), unfolding(sap_grammar::specs::Reading::after))]
+#[tactic(auto, using(sap_grammar::proofs::ReadingLaws::Tokens::word_steps), unfolding(sap_grammar::specs::Reading::after))]
 pub fn read_compared<'a>(
     alloc: Global,
     sig: &Signature,
@@ -85,7 +85,7 @@ fn read_found<'a>(
     read_up_to(bytes, choice, "in", tokens)
 }
 
-#[tactic(auto, using(crate::proofs::Steps::steps), unfolding(sap_grammar::specs::Reading::given, crate::specs::code::ProcessReading::past))]
+#[tactic(auto, using(sap_grammar::proofs::ReadingLaws::Tokens::word_steps), unfolding(sap_grammar::specs::Reading::given, sap_grammar::specs::Reading::past))]
 fn read_entry<'a>(
     alloc: Global,
     bytes: &[u8],
@@ -105,7 +105,7 @@ fn read_entry<'a>(
 }
 
 /// The term that is looked up behind `lookup` and the variable for what is found, and the tokens behind `in`.
-#[tactic(auto, using(crate::proofs::Steps::steps), unfolding(sap_grammar::specs::Reading::after))]
+#[tactic(auto, using(sap_grammar::proofs::ReadingLaws::Tokens::word_steps), unfolding(sap_grammar::specs::Reading::after))]
 pub fn read_looked_up<'a>(
     alloc: Global,
     sig: &Signature,

@@ -230,7 +230,7 @@ fn read_call_or_action<'a>(
 }
 
 #[cycle(read)]
-#[tactic(auto, using(crate::proofs::ProcessSteps::tokens), unfolding(sap_grammar::specs::Reading::after, crate::specs::code::ProcessReading::past))]
+#[tactic(auto, using(crate::proofs::ProcessSteps::tokens), unfolding(sap_grammar::specs::Reading::after, sap_grammar::specs::Reading::past))]
 fn read_enclosed<'a>(
     alloc: Global,
     sig: &Signature,

@@ -8,16 +8,15 @@ ghost use Rattle.sap_draft.specs.code.ProcessReading.{used};
 ghost use Rattle.sap_draft.specs.code.ProcessView.{levelled};
 ghost use Rattle.sap_draft.specs.declared.limits.TheConstants.{FILE_LIMITS};
 
-use crate::laws::term_laws;
 use crate::limits::FILE_LIMITS;
 use crate::process::build::{Measured, call};
-use sap_grammar::{beyond, read_short_term, starts};
+use sap_grammar::{beyond, read_short_term, starts, term_laws};
 use sap_terms::{Mem, Signature, TermList};
 use sap_text::Token;
 use std::alloc::Global;
 
 // Terms, one or more, with commas between them, up to the closing parenthesis, and the tokens behind it.
-#[tactic(auto, using(crate::proofs::Steps::steps), unfolding(sap_grammar::specs::Reading::after))]
+#[tactic(auto, using(sap_grammar::proofs::ReadingLaws::Tokens::word_steps), unfolding(sap_grammar::specs::Reading::after))]
 fn read_arguments<'a>(
     alloc: Global,
     sig: &Signature,
@@ -58,7 +57,7 @@ fn use_of(alloc: Global, name: &[u8], arguments: TermList) -> Result<Measured, M
 
 /// The use of a process of this name, with the arguments that stand behind it, where a parenthesis opens there, and the tokens
 /// behind it.
-#[tactic(auto, using(crate::proofs::Steps::steps), unfolding(sap_grammar::specs::Reading::after))]
+#[tactic(auto, using(sap_grammar::proofs::ReadingLaws::Tokens::word_steps), unfolding(sap_grammar::specs::Reading::after))]
 pub fn read_use<'a>(
     alloc: Global,
     sig: &Signature,

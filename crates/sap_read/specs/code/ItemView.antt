@@ -32,11 +32,6 @@ abbrev pub IsPushed : Bool → Option Entry → List Entry → List Entry → Ty
 IsPushed b None before after = (b ≡ false) × (after ≡ before)
 IsPushed b (Some e) before after = (b ≡ true) × (after ≡ before ++ e ∷ [])
 
--- the tokens are a restriction or a lemma, which stands last; or they are none, under any signature
-abbrev pub IsStated : Sig → List ℕ → List Token → List Statement → List Statement → Bool → Type 0
-IsStated g bytes tokens before after true = (s : Statement) × IsStatement g FILE_LIMITS s (words_of bytes tokens) × (after ≡ before ++ s ∷ [])
-IsStated g bytes tokens before after false = (h : Sig) (s : Statement) → IsStatement h FILE_LIMITS s (words_of bytes tokens) → ⊥
-
 -- the tokens are an item, and what it says of a process and of traces stands last
 pub record IsAdding (g : Sig) (bytes : List ℕ) (tokens : List Token) (before after : List Entry) (earlier later : List Statement) : Type 0 where
   pub said : List Body

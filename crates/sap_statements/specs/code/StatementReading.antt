@@ -6,9 +6,9 @@ use Rattle.sap_formula.specs.declared.lemma.Mode.{Mode}
 use Rattle.sap_formula.specs.declared.lemma.Mode.TheVariants.{AllTraces, ExistsTrace}
 use Rattle.sap_grammar.specs.declared.limits.Limits.{Limits}
 use Rattle.sap_grammar.specs.Words.{Word, starts}
-use Rattle.sap_grammar.specs.Reading.{Reader, after, names, list_of}
+use Rattle.sap_grammar.specs.Reading.{Reader, after, bare, names, list_of, past}
 use Rattle.sap_statements.specs.Statements.{Statement, restriction, lemma}
-use Rattle.sap_statements.specs.code.FormulaReading.{past, bare, formula}
+use Rattle.sap_formula_grammar.specs.FormulaReading.{short_formula}
 
 -- one of the words for the prover stands first
 abbrev pub starts_attribute : List Word → Bool
@@ -37,7 +37,7 @@ mode ws =
 
 -- a formula within the limits, between quotation marks
 abbrev pub quotation : Sig → Limits → Reader Form
-quotation g m ws = past (codes "\"") ws (λ r. after (formula g m m.formula_levels r) (λ f z. past (codes "\"") z (λ y. Some (f.0, y))))
+quotation g m ws = past (codes "\"") ws (λ r. after (short_formula g m r) (λ f z. past (codes "\"") z (λ y. Some (f, y))))
 
 -- behind the name of a restriction
 abbrev pub restricted : Sig → Limits → List ℕ → Reader Statement

@@ -18,11 +18,6 @@ abbrev pub IsRuled : Sig → List ℕ → List Token → List Rule → List Rule
 IsRuled g bytes tokens before after true = (r : Rule) × IsWrittenItem g THEORY_LIMITS (rule r) (words_of bytes tokens) × (after ≡ before ++ r ∷ [])
 IsRuled g bytes tokens before after false = (h : Sig) (r : Rule) → IsWrittenItem h THEORY_LIMITS (rule r) (words_of bytes tokens) → ⊥
 
--- the tokens are a restriction or a lemma, which stands last; or they are none, under any signature
-abbrev pub IsStated : Sig → List ℕ → List Token → List Statement → List Statement → Bool → Type 0
-IsStated g bytes tokens before after true = (s : Statement) × IsStatement g THEORY_LIMITS s (words_of bytes tokens) × (after ≡ before ++ s ∷ [])
-IsStated g bytes tokens before after false = (h : Sig) (s : Statement) → IsStatement h THEORY_LIMITS s (words_of bytes tokens) → ⊥
-
 -- the tokens are an item, and where it is a rule, a restriction or a lemma, it stands last
 pub record IsAdding (g : Sig) (bytes : List ℕ) (tokens : List Token) (before after : List Rule) (earlier later : List Statement) : Type 0 where
   pub item : TheoryItem

@@ -5,12 +5,8 @@ use Rattle.sap_terms.specs.Signature.{Sig}
 use Rattle.sap_rule.specs.declared.rule.Rule.{Rule}
 use Rattle.sap_grammar.specs.declared.limits.Limits.{Limits}
 use Rattle.sap_grammar.specs.Words.{Word, starts}
-use Rattle.sap_grammar.specs.Reading.{Read, Reader, after, given, name_at}
+use Rattle.sap_grammar.specs.Reading.{Reader, after, given, name_at, past}
 use Rattle.sap_grammar.specs.TermReading.{facts}
-
--- goes on behind this mark
-unfoldable pub past : {B : Type 0} → List ℕ → List Word → Reader B → Read B
-past m ws k = if starts m ws then k (drop 1 ws) else None
 
 -- behind what is shown: the right side, and the rule
 abbrev pub right_side : Sig → Limits → List ℕ → List Fact → List Fact → Reader Rule

@@ -1,28 +1,20 @@
 //! Reads the items of a theory.
-ghost use Rattle.std.specs.Prelude.{◌≡◌, ℕ, List, [], ◌∷◌, ◌++◌, IfOk, OnOk, IsErrOf};
+ghost use Rattle.std.specs.Prelude.{◌≡◌, ℕ, List, IfOk, IsErrOf};
 ghost use Rattle.sap_grammar.specs.Cut.{Placed, placed, IsCut};
 ghost use Rattle.sap_theory.specs.WrittenItems.{IsFaultyTheory};
-ghost use Rattle.sap_theory.specs.code.ItemView.{AreSaid, IsAdded, IsRuled, IsStated};
+ghost use Rattle.sap_theory.specs.code.ItemView.{AreSaid, IsAdded, IsRuled};
 ghost use Rattle.sap_theory.specs.declared.fault.TheoryFault.{TheoryFault};
 ghost use Rattle.sap_theory.specs.declared.fault.TheoryFault.TheVariants.{Mem as OutOfMemory, Syntax};
 
 use crate::fault::TheoryFault;
 use crate::limits::THEORY_LIMITS;
-use crate::reading::laws::item_laws;
 use crate::reading::rule::read_rule;
-use sap_grammar::{is_declaration, is_last, line_of, split_item, starts};
+use sap_grammar::{is_declaration, is_last, item_laws, line_of, push_boxed, split_item, starts};
 use sap_rule::{Rule, RuleList};
-use sap_statements::{Statement, read_statement};
+use sap_statements::{Statement, read_stated};
 use sap_terms::{Items, Mem, Signature};
 use sap_text::Token;
 use std::alloc::Global;
-
-// Puts what is boxed last.
-fn put<T: Drop>(list: &mut Items<T>, one: Box<T>) -> Result<(), Mem>
-    ensures { OnOk result (list.new ≡ list.old ++ one.value ∷ []) }
-{
-    list.push(Box::into_inner(one))
-}
 
 // Reads a rule, and puts it last; false where the tokens are none.
 fn read_ruled(
@@ -37,27 +29,7 @@ fn read_ruled(
     match read_rule(alloc, sig, THEORY_LIMITS, bytes, item)? {
         None => Ok(false),
         Some(rule) => {
-            put(rules, rule)?;
-            Ok(true)
-        }
-    }
-}
-
-// Reads a restriction or a lemma, and puts it last; false where the tokens are none.
-fn read_stated(
-    alloc: Global,
-    sig: &Signature,
-    bytes: &[u8],
-    item: &[Token],
-    statements: &mut Items<Statement>,
-) -> Result<bool, Mem>
-    ensures { IfOk result (λ b. IsStated sig.now bytes.now item.now
-        statements.old statements.new b) }
-{
-    match read_statement(alloc, sig, THEORY_LIMITS, bytes, item)? {
-        None => Ok(false),
-        Some(statement) => {
-            put(statements, statement)?;
+            push_boxed(rules, rule)?;
             Ok(true)
         }
     }
@@ -80,7 +52,14 @@ fn read_item(
     } else if is_declaration(alloc, bytes, item)? {
         Ok(true)
     } else {
-        read_stated(alloc, sig, bytes, item, &mut contents.statements)
+        read_stated(
+            alloc,
+            sig,
+            THEORY_LIMITS,
+            bytes,
+            item,
+            &mut contents.statements,
+        )
     }
 }
 

@@ -7,8 +7,7 @@ ghost use Rattle.sap_grammar.specs.Reading.{Gives};
 ghost use Rattle.sap_theory.specs.TheoryGrammar.{rule, IsWrittenItem};
 ghost use Rattle.sap_theory.specs.code.RuleReading.{right_side, shown_facts, left_side, a_rule};
 
-use crate::reading::laws::fact_laws;
-use sap_grammar::{Limits, beyond, boxed, name_at, read_facts, starts};
+use sap_grammar::{Limits, beyond, boxed, name_at, read_facts, starts, term_laws};
 use sap_rule::Rule;
 use sap_terms::{FactList, Mem, Name, Signature};
 use sap_text::Token;
@@ -35,7 +34,7 @@ fn made(
     )
 }
 
-#[tactic(auto, using(crate::proofs::Steps::steps), unfolding(sap_grammar::specs::Reading::after, crate::specs::code::RuleReading::past))]
+#[tactic(auto, using(crate::proofs::Steps::steps), unfolding(sap_grammar::specs::Reading::after, sap_grammar::specs::Reading::past))]
 fn read_right_side<'a>(
     alloc: Global,
     sig: &Signature,
@@ -61,7 +60,7 @@ fn read_right_side<'a>(
     }
 }
 
-#[tactic(auto, using(crate::proofs::Steps::steps), unfolding(sap_grammar::specs::Reading::after, crate::specs::code::RuleReading::past))]
+#[tactic(auto, using(crate::proofs::Steps::steps), unfolding(sap_grammar::specs::Reading::after, sap_grammar::specs::Reading::past))]
 fn read_shown<'a>(
     alloc: Global,
     sig: &Signature,
@@ -110,7 +109,7 @@ fn read_left_side<'a>(
 }
 
 // A rule, and the tokens behind it.
-#[tactic(auto, using(crate::proofs::Steps::steps), unfolding(sap_grammar::specs::Reading::given, crate::specs::code::RuleReading::past))]
+#[tactic(auto, using(crate::proofs::Steps::steps), unfolding(sap_grammar::specs::Reading::given, sap_grammar::specs::Reading::past))]
 fn read_any<'a>(
     alloc: Global,
     sig: &Signature,
@@ -153,7 +152,7 @@ pub(crate) fn read_rule(
     ensures none { IfOk result (λ o. IfNone o ((h : Sig) (r : Rule)
         → IsWrittenItem h limits (rule r) (words_of bytes.now item.now) → ⊥)) }
 {
-    fact_laws();
+    term_laws();
     match read_any(alloc, sig, limits, bytes, item)? {
         None => Ok(None),
         Some((rule, rest)) => {

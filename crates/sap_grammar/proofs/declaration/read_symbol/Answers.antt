@@ -3,7 +3,7 @@ use Rattle.std.specs.Prelude.{codes}
 use Rattle.sap_grammar.specs.Words.{Word, is_lower, starts}
 use Rattle.sap_grammar.specs.Reading.{given, name_at}
 use Rattle.sap_grammar.specs.ItemReading.{arity_at, symbol_at, with_privacy}
-use Rattle.sap_grammar.proofs.Steps.{words-drop}
+use Rattle.sap_grammar.proofs.ReadingLaws.Tokens.{words-drop}
 use Rattle.sap_grammar.proofs.declaration.read_symbol.Goals as goal
 use Rattle.sap_grammar.proofs.declaration.read_symbol.Goals.{else-is_lower-via-then-is_lower+else-starts, else-is_lower-via-else-is_lower}
 

@@ -2,7 +2,7 @@ use Rattle.std.proofs.Common.{◌≡◌, [], ◌∷◌, ◌++◌, Some, None, ar
 use Rattle.std.proofs.lemmas.Grind.{common_steps}
 use Rattle.sap_grammar.specs.Words.{words_of}
 use Rattle.sap_grammar.specs.TermReading.{short_fact}
-use Rattle.sap_grammar.proofs.Lists.{shorter_still, turn_bad, turn_go, turn_last, turn_stop}
+use Rattle.sap_grammar.proofs.ReadingLaws.Turns.{shorter_still, turn_bad, turn_go, turn_last, turn_stop}
 use Rattle.sap_grammar.proofs.Short.{short_fact_nothing, short_fact_shrinks}
 use Rattle.sap_grammar.proofs.fact.read_fact_list.Goals as goal
 

@@ -3,7 +3,7 @@ use Rattle.std.specs.Prelude.{codes}
 use Rattle.std.proofs.lemmas.Option.{slice_get_read}
 use Rattle.sap_grammar.specs.FactText.{fact_text}
 use Rattle.sap_grammar.specs.Pieces.{separator_before}
-use Rattle.sap_grammar.proofs.Pushed.{joined_texts-next}
+use Rattle.sap_grammar.proofs.ReadingLaws.Pushed.{joined_texts-next}
 use Rattle.sap_grammar.proofs.fact_text.push_each_fact.Goals as goal
 
 pub loop-k-preserved : goal.loop-k-preserved

@@ -8,8 +8,10 @@ use Rattle.sap_terms.specs.View.{tree}
 use Rattle.sap_grammar.specs.Words.{Word, starts, words_of}
 use Rattle.sap_grammar.specs.Reading.{after, quoted_at}
 use Rattle.sap_grammar.specs.TermReading.{leaf, paired, rest, signed, term, tuple}
-use Rattle.sap_grammar.proofs.Lists.{shorter_still, term_shrinks, turn_go, turn_stop, term_nothing}
-use Rattle.sap_grammar.proofs.Steps.{term_zero, rest_zero, term_step, rest_step, words-drop}
+use Rattle.sap_grammar.proofs.Lists.{term_shrinks, term_nothing}
+use Rattle.sap_grammar.proofs.ReadingLaws.Turns.{shorter_still, turn_go, turn_stop}
+use Rattle.sap_grammar.proofs.Steps.{term_zero, rest_zero, term_step, rest_step}
+use Rattle.sap_grammar.proofs.ReadingLaws.Tokens.{words-drop}
 use Rattle.sap_grammar.proofs.term.+read.Goals as goal
 
 module _ (g : Sig) (d : ℕ) (ws : List Word) (deep : 0 < d) where

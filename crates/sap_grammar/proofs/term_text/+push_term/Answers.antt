@@ -4,7 +4,7 @@ use Rattle.sap_terms.specs.View.{tree}
 use Rattle.sap_grammar.specs.Pieces.{joined}
 use Rattle.sap_grammar.specs.TermText.{tree_text}
 use Rattle.sap_grammar.specs.Pieces.{separator_before}
-use Rattle.sap_grammar.proofs.Pushed.{joined_texts-next}
+use Rattle.sap_grammar.proofs.ReadingLaws.Pushed.{joined_texts-next}
 use Rattle.sap_grammar.proofs.Applied.{applied-behind}
 use Rattle.sap_grammar.proofs.term_text.+push_term.Goals as goal
 

@@ -12,7 +12,7 @@ use Rattle.sap_read.specs.code.Judged.{AreAccepted, IsRefusedCut}
 use Rattle.sap_read.specs.declared.fault.ReadFault.{ReadFault}
 use Rattle.sap_read.specs.declared.fault.ReadFault.TheVariants.{Header}
 use Rattle.sap_read.specs.Files.{IsRead, no_header}
-use Rattle.sap_read.specs.code.ItemLaws.{ItemLaws}
+use Rattle.sap_grammar.specs.ItemLaws.{ItemLaws}
 use Rattle.sap_read.proofs.Parts.{is_refused, is_accepted, is_declared, items_of, items_are_cut, names_in, IsDeclared}
 use Rattle.sap_read.proofs.file.read_parts.Goals as goal
 

@@ -6,7 +6,7 @@ use Rattle.sap_grammar.specs.Reading.{name_at}
 use Rattle.sap_grammar.specs.Words.{words_of}
 use Rattle.sap_read.specs.Identifiers.{identifiers_of}
 use Rattle.sap_read.proofs.FromParts.{identifiers_turn}
-use Rattle.sap_read.proofs.WordsRead.{words-drop}
+use Rattle.sap_grammar.proofs.ReadingLaws.Tokens.{words-drop}
 use Rattle.sap_read.proofs.identifiers.identifiers.Goals as goal
 
 turned : (z : List ℕ) (rest next : List Token) (all names more : List (List ℕ)) → all ≡ names ++ identifiers_of (words_of z rest) → more ≡ names ++ option_to_list (name_at (words_of z rest)) → next ≡ drop 1 rest

@@ -29,7 +29,8 @@ use Rattle.sap_read.specs.declared.limits.TheConstants.{MOST_NEW_NAME_BYTES}
 use Rattle.sap_read.specs.Files.{FileContent, IsRead, no_tokens, no_header, no_item, refused, unexpanded, ill, locked, unchecked, accepted}
 use Rattle.sap_read.specs.Printable.{IsDeclarable, IsPrintableRestriction, IsPrintableLemma, IsPrintableFile, IsPrintableProcess}
 use Rattle.sap_statements.specs.Stated.{restrictions_of, lemmas_of}
-use Rattle.sap_read.proofs.DeclaredSymbols.{declared_map, declared_can, pairs_map}
+use Rattle.sap_grammar.proofs.ReadingLaws.Signatures.{map_held}
+use Rattle.sap_read.proofs.DeclaredSymbols.{declared_can}
 use Rattle.sap_read.proofs.FewNames.{definitions_so, identifiers_few, main_so, token_words}
 use Rattle.sap_read.proofs.HeldVariables.{cut_known}
 use Rattle.sap_read.proofs.NewNames.{candidate_name, candidate_no_constant}
@@ -124,7 +125,7 @@ module _ (bytes : WordLaws) (spelled : SpelledLaws) (sorts : SortLaws) (names : 
       let said = all_states most spelled g h pieces in
       subst (IsPrintableFile most wide) (same _ f e) (record {
         name = header.0;
-        is_map = declared_map (declarations items) pairs_alone pairs_map;
+        is_map = map_held (declarations items);
         pairs = pairs_stay (declarations items);
         symbols = All-from_recursion (IsDeclarable most) g.symbols (declared_can most (omega arith) (declarations items) (all_declares most spelled g h pieces));
         process = annotated_printable wide g (with_sorts [] p) q a (sorted_printable wide g p [] tt over printed);

@@ -4,7 +4,7 @@ use Rattle.sap_grammar.specs.Words.{words_of}
 use Rattle.sap_read.specs.ItemGrammar.{HasParameters}
 use Rattle.sap_read.specs.code.Parameters.{params_in}
 use Rattle.sap_read.proofs.ReadParameters.{neither_opens, plain_head, unclosed, whole_head, without_equals}
-use Rattle.sap_read.proofs.WordsRead.{words-drop}
+use Rattle.sap_grammar.proofs.ReadingLaws.Tokens.{words-drop}
 use Rattle.sap_read.proofs.parameters.read_head.Goals as goal
 
 -- the words of the tokens behind the first

@@ -3,23 +3,23 @@ use Rattle.std.proofs.lemmas.Grind.{common_steps}
 use Rattle.sap_grammar.specs.Words.{words_of}
 use Rattle.sap_statements.specs.code.StatementReading.{statement}
 use Rattle.sap_statements.proofs.Statements.{no_statement, no_other_statement, statement_is}
-use Rattle.sap_statements.proofs.Steps.{no_words}
+use Rattle.sap_grammar.proofs.ReadingLaws.Tokens.{no_words}
 use Rattle.sap_statements.proofs.reading.read_statement.Goals as goal
 
 pub returns-in-None-clause-none : goal.returns-in-None-clause-none
 returns-in-None-clause-none c =
     let none : statement c.args.sig.now c.args.limits (words_of c.args.bytes.now c.args.item.now) ≡ None = rw c.in-None.is at c.in_ok-read_any.ensures in
-    no_statement c.term_laws.ensures.read c.term_laws.ensures.spelled c.args.sig.now c.args.limits _ none
+    no_statement c.formula_laws.ensures c.term_laws.ensures.spelled c.args.sig.now c.args.limits _ none
 
 pub returns-then-is_empty-clause-found : goal.returns-then-is_empty-clause-found
 returns-then-is_empty-clause-found c =
     let is : statement c.args.sig.now c.args.limits (words_of c.args.bytes.now c.args.item.now) ≡ Some (c.in-Some.statement.value, words_of c.args.bytes.now c.in-Some.rest.now) = rw c.in-Some.is at c.in_ok-read_any.ensures in
     let last : c.in-Some.rest.now ≡ [] = grind (arith, common_steps) in
     let whole : statement c.args.sig.now c.args.limits (words_of c.args.bytes.now c.args.item.now) ≡ Some (c.in-Some.statement.value, []) = rw last at is in
-    statement_is c.term_laws.ensures.read c.args.sig.now c.args.limits _ _ whole
+    statement_is c.formula_laws.ensures c.args.sig.now c.args.limits _ _ whole
 
 pub returns-else-is_empty-clause-none : goal.returns-else-is_empty-clause-none
 returns-else-is_empty-clause-none c =
     let is : statement c.args.sig.now c.args.limits (words_of c.args.bytes.now c.args.item.now) ≡ Some (c.in-Some.statement.value, words_of c.args.bytes.now c.in-Some.rest.now) = rw c.in-Some.is at c.in_ok-read_any.ensures in
     let more : c.in-Some.rest.now ≡ [] → ⊥ = λ e. absurd (grind (arith, common_steps)) in
-    no_other_statement c.term_laws.ensures.read c.term_laws.ensures.spelled c.args.sig.now c.args.limits _ _ _ is (λ e. more (no_words c.args.bytes.now c.in-Some.rest.now e))
+    no_other_statement c.formula_laws.ensures c.term_laws.ensures.spelled c.args.sig.now c.args.limits _ _ _ is (λ e. more (no_words c.args.bytes.now c.in-Some.rest.now e))

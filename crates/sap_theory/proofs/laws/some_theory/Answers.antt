@@ -5,4 +5,4 @@ use Rattle.sap_theory.proofs.laws.some_theory.Goals as goal
 pub returns : goal.returns
 returns c = λ z.
     let tokens = c.some_answer.ensures MOST_THEORY_NAME_BYTES z in
-    some_theory c.fact_laws.ensures c.item_laws.ensures c.statement_laws.ensures c.one_faulty_statement.ensures.some c.headers_are_read.ensures.found c.headers_are_read.ensures.none z tokens.0 tokens.1
+    some_theory c.term_laws.ensures.read c.term_laws.ensures.spelled c.item_laws.ensures c.statement_laws.ensures c.one_faulty_statement.ensures.some c.headers_are_read.ensures.found c.headers_are_read.ensures.none z tokens.0 tokens.1

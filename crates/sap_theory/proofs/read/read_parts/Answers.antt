@@ -6,7 +6,7 @@ use Rattle.sap_terms.specs.Signature.{Sig, pairs_alone}
 use Rattle.sap_grammar.specs.Cut.{placed, IsCut}
 use Rattle.sap_grammar.specs.Signatures.{clash_from, signature_from}
 use Rattle.sap_grammar.specs.ItemReading.{cut, declared_in_all}
-use Rattle.sap_theory.specs.code.ItemLaws.{ItemLaws}
+use Rattle.sap_grammar.specs.ItemLaws.{ItemLaws}
 use Rattle.sap_theory.specs.code.Judged.{IsRefusedCut}
 use Rattle.sap_theory.specs.declared.fault.TheoryFault.{TheoryFault}
 use Rattle.sap_theory.specs.declared.fault.TheoryFault.TheVariants.{Header}

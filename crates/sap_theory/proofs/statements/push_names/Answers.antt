@@ -2,7 +2,7 @@ use Rattle.std.proofs.Common.{◌≡◌, ◌<◌, ◌++◌, length, refl, ap, �
 use Rattle.std.specs.Prelude.{codes}
 use Rattle.std.proofs.lemmas.Option.{slice_get_read}
 use Rattle.sap_grammar.specs.Pieces.{separator_before}
-use Rattle.sap_theory.proofs.Pushed.{joined-next}
+use Rattle.sap_grammar.proofs.ReadingLaws.Pushed.{joined-next}
 use Rattle.sap_theory.proofs.statements.push_names.Goals as goal
 
 pub loop-k-preserved : goal.loop-k-preserved

@@ -2,7 +2,7 @@ use Rattle.std.proofs.Common.{◌<◌, ◌+◌, ◌++◌, length, drop, refl, ap
 use Rattle.std.specs.List.{flat_map}
 use Rattle.std.proofs.lemmas.Option.{slice_get_read}
 use Rattle.sap_theory.specs.StatementText.{restriction_text}
-use Rattle.sap_theory.proofs.Pushed.{flat_map-next}
+use Rattle.sap_grammar.proofs.ReadingLaws.Pushed.{flat_map-next}
 use Rattle.sap_theory.proofs.statements.push_restrictions.Goals as goal
 
 pub loop-restriction-preserved : goal.loop-restriction-preserved

@@ -5,14 +5,14 @@ use Rattle.sap_terms.specs.Tree.{Tree}
 use Rattle.sap_terms.specs.declared.mem.Mem.{Mem}
 use Rattle.sap_terms.specs.View.{tree}
 use Rattle.sap_text.specs.declared.token.Token.{Token}
-use Rattle.sap_grammar.specs.Reading.{Gives, Read, after}
+use Rattle.sap_grammar.specs.Reading.{Gives, Read, after, past}
 use Rattle.sap_grammar.specs.TermReading.{short_term}
 use Rattle.sap_grammar.specs.Words.{Word, starts, words_of}
 use Rattle.sap_macro.specs.Written.{Written, test}
-use Rattle.sap_draft.specs.code.ProcessReading.{equality, past, up_to}
+use Rattle.sap_draft.specs.code.ProcessReading.{equality, up_to}
 use Rattle.sap_draft.specs.code.ProcessView.{chosen}
 use Rattle.sap_draft.specs.declared.limits.TheConstants.{FILE_LIMITS}
-use Rattle.sap_draft.proofs.Steps.{words-drop}
+use Rattle.sap_grammar.proofs.ReadingLaws.Tokens.{words-drop}
 use Rattle.sap_draft.proofs.process.choice.read_equality.Goals as goal
 
 -- behind the mark and a term, up to `then`

@@ -4,7 +4,8 @@ use Rattle.sap_terms.specs.View.{tree}
 use Rattle.sap_grammar.specs.Words.{words_of}
 use Rattle.sap_grammar.specs.TermReading.{short_term}
 use Rattle.sap_draft.specs.declared.limits.TheConstants.{FILE_LIMITS}
-use Rattle.sap_draft.proofs.Arguments.{argument_shrinks, no_argument, shorter_still, turn_bad, turn_go, turn_last, turn_stop}
+use Rattle.sap_grammar.proofs.ReadingLaws.Turns.{shorter_still, turn_bad, turn_go, turn_last, turn_stop}
+use Rattle.sap_draft.proofs.Arguments.{argument_shrinks, no_argument}
 use Rattle.sap_draft.proofs.process.uses.read_arguments.Goals as goal
 
 pub returns-then-starts : goal.returns-then-starts

@@ -1,0 +1,6 @@
+//! Formulas as they are printed.
+#![tactic(auto)]
+
+mod formulas;
+
+pub use formulas::push_formula;

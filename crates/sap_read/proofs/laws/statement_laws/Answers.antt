@@ -1,4 +1,0 @@
-use Rattle.sap_read.proofs.laws.statement_laws.Goals as goal
-
-pub returns : goal.returns
-returns c = record { one = c.one_statement.ensures; too = c.same_statements.ensures; some = c.some_statement.ensures }

@@ -1,6 +1,0 @@
-use Rattle.std.proofs.Common.{◌≡◌, ◌++◌, drop}
-use Rattle.sap_theory.specs.FormulaText.{binders_text}
-use Rattle.sap_theory.proofs.formulas.push_binders.Given as goal
-
-abbrev pub invariant-loop-binder : goal.invariant-loop-binder
-invariant-loop-binder l = l.text ++ binders_text (drop l.binder-index l.binder-items) ≡ l.initial.text ++ binders_text l.binder-items
