@@ -1,9 +1,10 @@
 //! The step with a first word and what stands behind it.
 ghost use Rattle.std.specs.Prelude.{◌≡◌};
 ghost use Rattle.std.specs.Str.{bytes_eq};
-ghost use Rattle.sap_json.specs.code.Operands.{process_one, process_two, process_of, rule_one, rule_of};
+ghost use Rattle.sap_json.specs.code.Operands.{process_of, rule_of};
 
 use crate::operands::Operands;
+use sap_run_lines::{process_one, process_two, rule_one};
 use sap_runs::{PStep, RStep};
 
 /// Whether the text is this word.
@@ -11,56 +12,6 @@ pub(crate) fn is(text: &[u8], word: &[u8]) -> bool
     ensures { result ≡ bytes_eq text.now word.now }
 {
     text == word
-}
-
-fn process_one(word: &[u8], t: u64) -> Option<PStep>
-    ensures { result ≡ process_one word.now t }
-{
-    if is(word, b"nil") {
-        Some(PStep::Nil(t))
-    } else if is(word, b"par") {
-        Some(PStep::Par(t))
-    } else if is(word, b"rep") {
-        Some(PStep::Rep(t))
-    } else if is(word, b"out") {
-        Some(PStep::Out(t))
-    } else if is(word, b"then") {
-        Some(PStep::Then(t))
-    } else if is(word, b"else") {
-        Some(PStep::Else(t))
-    } else if is(word, b"event") {
-        Some(PStep::Event(t))
-    } else if is(word, b"insert") {
-        Some(PStep::Insert(t))
-    } else if is(word, b"delete") {
-        Some(PStep::Delete(t))
-    } else if is(word, b"found") {
-        Some(PStep::Found(t))
-    } else if is(word, b"missing") {
-        Some(PStep::Missing(t))
-    } else if is(word, b"lock") {
-        Some(PStep::Lock(t))
-    } else if is(word, b"unlock") {
-        Some(PStep::Unlock(t))
-    } else if is(word, b"know") {
-        Some(PStep::Know(t))
-    } else {
-        None
-    }
-}
-
-fn process_two(word: &[u8], a: u64, b: u64) -> Option<PStep>
-    ensures { result ≡ process_two word.now a b }
-{
-    if is(word, b"send") {
-        Some(PStep::Send(a, b))
-    } else if is(word, b"in") {
-        Some(PStep::In(a, b))
-    } else if is(word, b"sync") {
-        Some(PStep::Sync(a, b))
-    } else {
-        None
-    }
 }
 
 /// The step of a process with this first word and these operands.
@@ -96,20 +47,6 @@ pub(crate) fn process_of(word: &[u8], operands: Operands) -> Option<PStep>
             None
         },
         Operands::Named(_, _, _) => None,
-    }
-}
-
-fn rule_one(word: &[u8], t: u64) -> Option<RStep>
-    ensures { result ≡ rule_one word.now t }
-{
-    if is(word, b"learn") {
-        Some(RStep::Learn(t))
-    } else if is(word, b"own") {
-        Some(RStep::Own(t))
-    } else if is(word, b"know") {
-        Some(RStep::Know(t))
-    } else {
-        None
     }
 }
 

@@ -18,7 +18,8 @@ use Rattle.sap_run_lines.specs.RunTerms.{IsRunName}
 use Rattle.sap_run_lines.specs.LineWords.{LineWord, identifier, number, fresh_name, public_name, bound, word_identifier, AreLineWords, words_last, words_more}
 use Rattle.sap_run_lines.specs.StepLines.{bound_word, with_words, use_words, plain, process_words, rule_words, NamesSymbol, NamesRule}
 use Rattle.sap_run_lines.specs.code.Taking.{given, is_run_name}
-use Rattle.sap_run_lines.specs.code.StepTaking.{as_identifier, as_number, as_fresh, as_public, as_bound, as_name, only, numbers_first, behind_numbers, where_none, numbers_of, bindings_onto, bindings_of, some_bindings, with_of, uses_of, word_first, name_first, number_first, applied_of, named_of, public_of, fresh_of, number_of, process_one, process_two, process_behind, process_numbered, new_of, embedded_of, process_named, process_step_of, rule_named, rule_step_of}
+use Rattle.sap_run_lines.specs.code.StepTaking.{as_identifier, as_number, as_fresh, as_public, as_bound, as_name, only, numbers_first, behind_numbers, where_none, numbers_of, bindings_onto, bindings_of, some_bindings, with_of, uses_of, word_first, name_first, number_first, applied_of, named_of, public_of, fresh_of, number_of, process_behind, process_numbered, new_of, embedded_of, process_named, process_step_of, rule_named, rule_step_of}
+use Rattle.sap_run_lines.specs.NumberedSteps.{process_one, process_two}
 use Rattle.sap_run_lines.proofs.OnTaken.{OnSome, given_on, if_on, some_on, onward}
 
 same_bytes : {x y : List ℕ} → bytes_eq x y ≡ true → x ≡ y

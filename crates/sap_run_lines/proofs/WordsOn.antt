@@ -17,7 +17,8 @@ use Rattle.sap_run_lines.specs.LineWords.{LineWord, identifier, number, bound, I
 use Rattle.sap_run_lines.specs.code.Taking.{Taken, after, given, starts, starts_letter, is_run_name, identifier_at, name_at, number_at, content_at}
 use Rattle.sap_run_lines.specs.code.TermTaking.{small_term}
 use Rattle.sap_run_lines.specs.code.WordTaking.{bound_at, number_word_at, tilde_at, public_word_at, letter_at, word_at, next_words, words_in, words_of, more_words, on_words, behind_blank}
-use Rattle.sap_run_lines.specs.code.StepTaking.{as_identifier, as_number, as_fresh, as_public, as_bound, as_name, only, numbers_first, behind_numbers, where_none, numbers_of, bindings_onto, bindings_of, some_bindings, is_with, with_of, uses_of, first_of, word_first, name_first, number_first, applied_of, named_of, public_of, fresh_of, number_of, process_one, process_two, process_behind, process_numbered, new_of, embedded_of, process_named, process_step_of, rule_one, rule_numbered, rule_named, rule_step_of, number_behind, name_behind, binding_behind, behind_with, numbers_apart, AreNumbersFirst, process_named_at, rule_named_at, process_line_of, rule_line_of}
+use Rattle.sap_run_lines.specs.code.StepTaking.{as_identifier, as_number, as_fresh, as_public, as_bound, as_name, only, numbers_first, behind_numbers, where_none, numbers_of, bindings_onto, bindings_of, some_bindings, is_with, with_of, uses_of, first_of, word_first, name_first, number_first, applied_of, named_of, public_of, fresh_of, number_of, process_behind, process_numbered, new_of, embedded_of, process_named, process_step_of, rule_numbered, rule_named, rule_step_of, number_behind, name_behind, binding_behind, behind_with, numbers_apart, AreNumbersFirst, process_named_at, rule_named_at, process_line_of, rule_line_of}
+use Rattle.sap_run_lines.specs.NumberedSteps.{process_one, process_two, rule_one}
 use Rattle.sap_run_lines.proofs.OnTaken.{OnTaken, both, after_on, if_on, some_on, taken_on}
 use Rattle.sap_run_lines.proofs.Digits.{number_on}
 use Rattle.sap_run_lines.proofs.StepsTaken.{number_is}

@@ -1,5 +1,6 @@
 pub mod RunTerms
 pub mod LineWords
+pub mod NumberedSteps
 pub mod StepLines
 pub mod LineText
 pub mod Spellable

@@ -2,6 +2,7 @@
 #![tactic(auto)]
 
 mod laws;
+mod numbered_steps;
 mod process_line;
 mod rule_line;
 mod short_laws;
@@ -15,6 +16,7 @@ mod whole_words;
 mod written_word;
 
 pub use laws::{lines_are_one, step_lines_are_lines, written_lines_are_read};
+pub use numbered_steps::{process_one, process_two, rule_one};
 pub use process_line::read_process_line;
 pub use rule_line::read_rule_line;
 pub use short_laws::{short_lines_are_one, short_lines_by_hand};

@@ -6,8 +6,9 @@ ghost use Rattle.sap_runs.specs.declared.process_step.PStep.TheVariants as proce
 ghost use Rattle.sap_runs.specs.declared.rule_step.RStep.TheVariants as rule;
 ghost use Rattle.sap_run_lines.specs.code.Taking.{given, Takes, Finds};
 ghost use Rattle.sap_run_lines.specs.code.WordTaking.{line_word, word_at, on_words, behind_blank};
-ghost use Rattle.sap_run_lines.specs.code.StepTaking.{as_number, as_fresh, as_public, as_bound, only, number_behind, name_behind, binding_behind, behind_with, AreNumbersFirst, numbers_of, bindings_of, some_bindings, with_of, uses_of, applied_of, named_of, public_of, fresh_of, number_of, process_one, process_two, process_behind, process_numbered, new_of, embedded_of, process_named_at, rule_one, rule_numbered, rule_named_at};
+ghost use Rattle.sap_run_lines.specs.code.StepTaking.{as_number, as_fresh, as_public, as_bound, only, number_behind, name_behind, binding_behind, behind_with, AreNumbersFirst, numbers_of, bindings_of, some_bindings, with_of, uses_of, applied_of, named_of, public_of, fresh_of, number_of, process_behind, process_numbered, new_of, embedded_of, process_named_at, rule_numbered, rule_named_at};
 
+use crate::numbered_steps::{process_one, process_two, rule_one};
 use crate::take::{behind, identifier_at, name_at, number_at, starts};
 use crate::take_word::take_word;
 use crate::written_word::WrittenWord;
@@ -265,56 +266,6 @@ pub(crate) fn is(text: &[u8], word: &[u8]) -> bool
     text == word
 }
 
-fn process_one(word: &[u8], t: u64) -> Option<PStep>
-    ensures { result ≡ process_one word.now t }
-{
-    if is(word, b"nil") {
-        Some(PStep::Nil(t))
-    } else if is(word, b"par") {
-        Some(PStep::Par(t))
-    } else if is(word, b"rep") {
-        Some(PStep::Rep(t))
-    } else if is(word, b"out") {
-        Some(PStep::Out(t))
-    } else if is(word, b"then") {
-        Some(PStep::Then(t))
-    } else if is(word, b"else") {
-        Some(PStep::Else(t))
-    } else if is(word, b"event") {
-        Some(PStep::Event(t))
-    } else if is(word, b"insert") {
-        Some(PStep::Insert(t))
-    } else if is(word, b"delete") {
-        Some(PStep::Delete(t))
-    } else if is(word, b"found") {
-        Some(PStep::Found(t))
-    } else if is(word, b"missing") {
-        Some(PStep::Missing(t))
-    } else if is(word, b"lock") {
-        Some(PStep::Lock(t))
-    } else if is(word, b"unlock") {
-        Some(PStep::Unlock(t))
-    } else if is(word, b"know") {
-        Some(PStep::Know(t))
-    } else {
-        None
-    }
-}
-
-fn process_two(word: &[u8], a: u64, b: u64) -> Option<PStep>
-    ensures { result ≡ process_two word.now a b }
-{
-    if is(word, b"send") {
-        Some(PStep::Send(a, b))
-    } else if is(word, b"in") {
-        Some(PStep::In(a, b))
-    } else if is(word, b"sync") {
-        Some(PStep::Sync(a, b))
-    } else {
-        None
-    }
-}
-
 fn process_behind(alloc: Global, word: &[u8], t: u64, bytes: &[u8]) -> Result<Option<PStep>, Mem>
     ensures { IfOk result (λ o. o ≡ on_words (process_behind word.now t) bytes.now) }
 {
@@ -412,20 +363,6 @@ pub(crate) fn process_named(alloc: Global, word: &[u8], bytes: &[u8]) -> Result<
         new_of(alloc, bytes)
     } else {
         process_numbered(alloc, word, bytes)
-    }
-}
-
-fn rule_one(word: &[u8], f: u64) -> Option<RStep>
-    ensures { result ≡ rule_one word.now f }
-{
-    if is(word, b"learn") {
-        Some(RStep::Learn(f))
-    } else if is(word, b"own") {
-        Some(RStep::Own(f))
-    } else if is(word, b"know") {
-        Some(RStep::Know(f))
-    } else {
-        None
     }
 }
 

@@ -10,6 +10,7 @@ use Rattle.sap_runs.specs.declared.rule_step.RStep.TheVariants as rstep
 use Rattle.sap_run_lines.specs.RunTerms.{IsRunName}
 use Rattle.sap_run_lines.specs.LineWords.{identifier, number, fresh_name, public_name}
 use Rattle.sap_run_lines.specs.StepLines.{bound_word}
+use Rattle.sap_run_lines.specs.NumberedSteps.{process_one, process_two, rule_one}
 use Rattle.sap_json.specs.declared.operands.Operands.{Operands}
 use Rattle.sap_json.specs.declared.operands.Operands.TheVariants as op
 use Rattle.sap_json.specs.Arrays.{Cell, one, many, AreEach, IsCellData}
@@ -97,33 +98,6 @@ process_operands (step.Public s) = op.Public s
 process_operands (step.Apply f ks) = op.Applied f ks
 process_operands (step.Know t) = op.Number t
 
--- with this number
-abbrev pub process_one : List ℕ → ℕ → Option PStep
-process_one x t =
-    if bytes_eq x (codes "nil") then Some (step.Nil t)
-    else if bytes_eq x (codes "par") then Some (step.Par t)
-    else if bytes_eq x (codes "rep") then Some (step.Rep t)
-    else if bytes_eq x (codes "out") then Some (step.Out t)
-    else if bytes_eq x (codes "then") then Some (step.Then t)
-    else if bytes_eq x (codes "else") then Some (step.Else t)
-    else if bytes_eq x (codes "event") then Some (step.Event t)
-    else if bytes_eq x (codes "insert") then Some (step.Insert t)
-    else if bytes_eq x (codes "delete") then Some (step.Delete t)
-    else if bytes_eq x (codes "found") then Some (step.Found t)
-    else if bytes_eq x (codes "missing") then Some (step.Missing t)
-    else if bytes_eq x (codes "lock") then Some (step.Lock t)
-    else if bytes_eq x (codes "unlock") then Some (step.Unlock t)
-    else if bytes_eq x (codes "know") then Some (step.Know t)
-    else None
-
--- with these two numbers
-abbrev pub process_two : List ℕ → ℕ → ℕ → Option PStep
-process_two x a b =
-    if bytes_eq x (codes "send") then Some (step.Send a b)
-    else if bytes_eq x (codes "in") then Some (step.In a b)
-    else if bytes_eq x (codes "sync") then Some (step.Sync a b)
-    else None
-
 -- the step with this word and these operands
 abbrev pub process_of : List ℕ → Operands → Option PStep
 process_of x (op.Number t) = process_one x t
@@ -153,14 +127,6 @@ rule_operands (rstep.Public s) = op.Public s
 rule_operands (rstep.Apply f ks) = op.Applied f ks
 rule_operands (rstep.Know t) = op.Number t
 rule_operands (rstep.Rule name facts bindings) = op.Named name facts bindings
-
--- with this number
-abbrev pub rule_one : List ℕ → ℕ → Option RStep
-rule_one x t =
-    if bytes_eq x (codes "learn") then Some (rstep.Learn t)
-    else if bytes_eq x (codes "own") then Some (rstep.Own t)
-    else if bytes_eq x (codes "know") then Some (rstep.Know t)
-    else None
 
 -- the step with this word and these operands
 abbrev pub rule_of : List ℕ → Operands → Option RStep

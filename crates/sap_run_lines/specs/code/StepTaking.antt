@@ -7,6 +7,7 @@ use Rattle.sap_runs.specs.declared.process_step.PStep.{PStep}
 use Rattle.sap_runs.specs.declared.process_step.PStep.TheVariants as step
 use Rattle.sap_runs.specs.declared.rule_step.RStep.{RStep}
 use Rattle.sap_runs.specs.declared.rule_step.RStep.TheVariants as rstep
+use Rattle.sap_run_lines.specs.NumberedSteps.{process_one, process_two, rule_one}
 use Rattle.sap_run_lines.specs.LineWords.{LineWord, identifier, number, fresh_name, public_name, bound}
 use Rattle.sap_run_lines.specs.code.Taking.{after, given, is_run_name, identifier_at, name_at, number_at}
 use Rattle.sap_run_lines.specs.code.TermTaking.{Taker}
@@ -141,33 +142,6 @@ fresh_of ws = given (only ws) as_fresh
 abbrev pub number_of : List LineWord → Option ℕ
 number_of ws = given (only ws) as_number
 
--- the step with this word and this number
-abbrev pub process_one : List ℕ → ℕ → Option PStep
-process_one x t =
-    if bytes_eq x (codes "nil") then Some (step.Nil t)
-    else if bytes_eq x (codes "par") then Some (step.Par t)
-    else if bytes_eq x (codes "rep") then Some (step.Rep t)
-    else if bytes_eq x (codes "out") then Some (step.Out t)
-    else if bytes_eq x (codes "then") then Some (step.Then t)
-    else if bytes_eq x (codes "else") then Some (step.Else t)
-    else if bytes_eq x (codes "event") then Some (step.Event t)
-    else if bytes_eq x (codes "insert") then Some (step.Insert t)
-    else if bytes_eq x (codes "delete") then Some (step.Delete t)
-    else if bytes_eq x (codes "found") then Some (step.Found t)
-    else if bytes_eq x (codes "missing") then Some (step.Missing t)
-    else if bytes_eq x (codes "lock") then Some (step.Lock t)
-    else if bytes_eq x (codes "unlock") then Some (step.Unlock t)
-    else if bytes_eq x (codes "know") then Some (step.Know t)
-    else None
-
--- with these two numbers
-abbrev pub process_two : List ℕ → ℕ → ℕ → Option PStep
-process_two x a b =
-    if bytes_eq x (codes "send") then Some (step.Send a b)
-    else if bytes_eq x (codes "in") then Some (step.In a b)
-    else if bytes_eq x (codes "sync") then Some (step.Sync a b)
-    else None
-
 -- with this number, and a second one if it stands behind
 abbrev pub process_behind : List ℕ → ℕ → List LineWord → Option PStep
 process_behind x t [] = process_one x t
@@ -195,13 +169,6 @@ process_named x ws =
 -- the step of a process with these words
 unfoldable pub process_step_of : List LineWord → Option PStep
 process_step_of ws = given (word_first ws) (λ p. process_named p.0 p.1)
-
-abbrev pub rule_one : List ℕ → ℕ → Option RStep
-rule_one x f =
-    if bytes_eq x (codes "learn") then Some (rstep.Learn f)
-    else if bytes_eq x (codes "own") then Some (rstep.Own f)
-    else if bytes_eq x (codes "know") then Some (rstep.Know f)
-    else None
 
 abbrev pub rule_numbered : List ℕ → List LineWord → Option RStep
 rule_numbered x ws = given (number_of ws) (λ f. rule_one x f)

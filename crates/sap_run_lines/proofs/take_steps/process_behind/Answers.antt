@@ -2,7 +2,8 @@ use Rattle.std.proofs.Common.{◌≡◌, ◌<◌, [], length, Option, Some, None
 use Rattle.std.proofs.lemmas.Grind.{common_steps}
 use Rattle.sap_run_lines.specs.code.Taking.{given}
 use Rattle.sap_run_lines.specs.code.WordTaking.{on_words}
-use Rattle.sap_run_lines.specs.code.StepTaking.{number_of, process_two}
+use Rattle.sap_run_lines.specs.code.StepTaking.{number_of}
+use Rattle.sap_run_lines.specs.NumberedSteps.{process_one, process_two}
 use Rattle.sap_run_lines.proofs.WordsOn.{behind_none, behind_some}
 use Rattle.sap_run_lines.proofs.take_steps.process_behind.Goals as goal
 
