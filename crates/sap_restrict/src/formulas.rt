@@ -2,6 +2,7 @@
 ghost use Rattle.std.specs.Prelude.{◌≡◌, IfOk};
 ghost use Rattle.sap_formula.specs.View.{form};
 ghost use Rattle.sap_restrict.specs.Standard.{standard};
+ghost use Rattle.sap_restrict.specs.code.Shapes.{says};
 
 use crate::Which;
 use crate::shape::{Shape, built};
@@ -182,13 +183,21 @@ pub fn standard(alloc: Global, which: Which) -> Result<Formula, Mem>
 fn boxed_standard(alloc: Global, which: Which) -> Result<Box<Formula>, Mem>
     ensures { IfOk result (λ f. form f.value ≡ standard which) }
 {
+    let shape = shape_of(which);
+    built(alloc, &shape)
+}
+
+/// What it says.
+fn shape_of(which: Which) -> Shape<'static>
+    ensures { says result ≡ standard which }
+{
     match which {
-        Which::Init => built(alloc, &ONE_START),
-        Which::Eq => built(alloc, &EACH_EQUAL),
-        Which::NotEq => built(alloc, &EACH_UNEQUAL),
-        Which::In => built(alloc, &EACH_FOUND),
-        Which::NotIn => built(alloc, &EACH_MISSED),
-        Which::Lock => built(alloc, &EACH_LOCK),
-        Which::InEv => built(alloc, &EACH_SERVED),
+        Which::Init => ONE_START,
+        Which::Eq => EACH_EQUAL,
+        Which::NotEq => EACH_UNEQUAL,
+        Which::In => EACH_FOUND,
+        Which::NotIn => EACH_MISSED,
+        Which::Lock => EACH_LOCK,
+        Which::InEv => EACH_SERVED,
     }
 }

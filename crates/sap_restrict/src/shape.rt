@@ -1,12 +1,12 @@
 //! Formulas made after shapes.
 ghost use Rattle.std.specs.Prelude.{◌≡◌, ◌++◌, [], ◌∷◌, map, IfOk, OnOk};
-ghost use Rattle.sap_formula.specs.Form.{action, equal, same_time, earlier, both, either, implies, negation, every, exists};
+ghost use Rattle.sap_formula.specs.Form.{action, equal, same_time, earlier, both, implies, negation};
 ghost use Rattle.sap_formula.specs.View.{form};
 ghost use Rattle.sap_terms.specs.AdversaryFacts.{linear};
 ghost use Rattle.sap_terms.specs.Tree.{variable};
 ghost use Rattle.sap_terms.specs.View.{tree};
 ghost use Rattle.sap_restrict.specs.Standard.{any_message};
-ghost use Rattle.sap_restrict.specs.code.Shapes.{binder, says};
+ghost use Rattle.sap_restrict.specs.code.Shapes.{binder, joined, quantified, says};
 
 use sap_formula::{Binder, Binders, Formula, both};
 use sap_terms::{Fact, Items, Mem, Name, Sort, Term, TermList, Var};
@@ -49,11 +49,12 @@ pub(crate) fn built(alloc: Global, shape: &Shape<'_>) -> Result<Box<Formula>, Me
         Shape::Same(a, b) => same(alloc, a, b),
         Shape::Less(a, b) => less(alloc, a, b),
         Shape::Not(f) => negated(alloc, built(alloc, f)?),
-        Shape::And(f, g) => and(alloc, built_both(alloc, f, g)?),
-        Shape::Or(f, g) => or(alloc, built_both(alloc, f, g)?),
-        Shape::Imp(f, g) => implied(alloc, built_both(alloc, f, g)?),
-        Shape::All(letters, f) => all(alloc, letters, built(alloc, f)?),
-        Shape::Ex(letters, f) => some(alloc, letters, built(alloc, f)?),
+        Shape::And(f, g) | Shape::Or(f, g) | Shape::Imp(f, g) => {
+            joined(alloc, shape, built_both(alloc, f, g)?)
+        }
+        Shape::All(letters, f) | Shape::Ex(letters, f) => {
+            quantified(alloc, shape, letters, built(alloc, f)?)
+        }
     }
 }
 
@@ -160,12 +161,6 @@ pub(crate) fn and(alloc: Global, two: (Box<Formula>, Box<Formula>)) -> Result<Bo
     boxed(alloc, Formula::And(two.0, two.1))
 }
 
-fn or(alloc: Global, two: (Box<Formula>, Box<Formula>)) -> Result<Box<Formula>, Mem>
-    ensures { IfOk result (λ r. form r.value ≡ either (form two.0.value) (form two.1.value)) }
-{
-    boxed(alloc, Formula::Or(two.0, two.1))
-}
-
 /// `f ==> g`
 pub(crate) fn implied(alloc: Global, two: (Box<Formula>, Box<Formula>)) -> Result<Box<Formula>, Mem>
     ensures { IfOk result (λ r. form r.value ≡ implies (form two.0.value) (form two.1.value)) }
@@ -173,16 +168,35 @@ pub(crate) fn implied(alloc: Global, two: (Box<Formula>, Box<Formula>)) -> Resul
     boxed(alloc, Formula::Imp(two.0, two.1))
 }
 
-fn all(alloc: Global, letters: &[u8], f: Box<Formula>) -> Result<Box<Formula>, Mem>
-    ensures { IfOk result (λ r. form r.value ≡ every (map binder letters.now) (form f.value)) }
+/// The connective of this shape between the two.
+fn joined(
+    alloc: Global,
+    like: &Shape<'_>,
+    two: (Box<Formula>, Box<Formula>),
+) -> Result<Box<Formula>, Mem>
+    ensures { IfOk result (λ r. form r.value ≡ joined like.now (form two.0.value) (form two.1.value)) }
 {
-    boxed(alloc, Formula::All(binders(alloc, letters)?, f))
+    match like {
+        Shape::And(_, _) => and(alloc, two),
+        Shape::Or(_, _) => boxed(alloc, Formula::Or(two.0, two.1)),
+        _ => implied(alloc, two),
+    }
 }
 
-fn some(alloc: Global, letters: &[u8], f: Box<Formula>) -> Result<Box<Formula>, Mem>
-    ensures { IfOk result (λ r. form r.value ≡ exists (map binder letters.now) (form f.value)) }
+/// Its quantifier over this body.
+fn quantified(
+    alloc: Global,
+    like: &Shape<'_>,
+    letters: &[u8],
+    f: Box<Formula>,
+) -> Result<Box<Formula>, Mem>
+    ensures { IfOk result (λ r. form r.value ≡ quantified like.now (map binder letters.now) (form f.value)) }
 {
-    boxed(alloc, Formula::Ex(binders(alloc, letters)?, f))
+    let bs = binders(alloc, letters)?;
+    match like {
+        Shape::All(_, _) => boxed(alloc, Formula::All(bs, f)),
+        _ => boxed(alloc, Formula::Ex(bs, f)),
+    }
 }
 
 fn binders(alloc: Global, letters: &[u8]) -> Result<Binders, Mem>

@@ -1,5 +1,5 @@
 -- What shapes of formulas say.
-use Rattle.std.specs.Prelude.{ℕ, ◌+◌, [], ◌∷◌, map, cond, ltb}
+use Rattle.std.specs.Prelude.{ℕ, ◌+◌, List, [], ◌∷◌, map, cond, ltb}
 use Rattle.sap_formula.specs.Form.{Form, action, both, earlier, either, equal, every, exists, implies, negation, same_time}
 use Rattle.sap_formula.specs.declared.binder.Binder.{Binder}
 use Rattle.sap_formula.specs.declared.binder.Binder.TheVariants.{Message, Time}
@@ -25,6 +25,17 @@ says (Or' a f b g) = either (says f) (says g)
 says (Imp' a f b g) = implies (says f) (says g)
 says (All' letters a f) = every (map binder letters.now) (says f)
 says (Ex' letters a f) = exists (map binder letters.now) (says f)
+
+-- the connective of a shape between two formulas
+abbrev pub joined : Shape → Form → Form → Form
+joined (And' a f b g) p q = both p q
+joined (Or' a f b g) p q = either p q
+joined _ p q = implies p q
+
+-- its quantifier over a formula
+abbrev pub quantified : Shape → List Binder → Form → Form
+quantified (All' letters a f) bs p = every bs p
+quantified _ bs p = exists bs p
 
 -- how much it says
 abbrev pub size : Shape → ℕ
