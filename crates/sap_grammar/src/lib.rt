@@ -2,7 +2,6 @@
 //! the header, where they are cut into items, and what these declare.
 #![tactic(auto)]
 
-mod boxes;
 mod declaration;
 mod declared;
 mod fact;
@@ -15,7 +14,6 @@ mod pieces;
 mod term;
 mod term_text;
 
-pub use boxes::{boxed, push_boxed};
 pub use declared::{Declared, is_declaration, read_declarations};
 pub use fact::{read_fact, read_facts, read_short_fact};
 pub use fact_text::{push_arrow, push_fact, push_facts};

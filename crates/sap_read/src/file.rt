@@ -22,12 +22,12 @@ use crate::identifiers::identifiers;
 use crate::items::{Contents, read_items};
 use crate::whole::whole_process;
 use sap_formula::{LemmaList, RestrictionList};
-use sap_grammar::{Declared, beyond, boxed, header_name, item_laws, last_line, read_declarations};
+use sap_grammar::{Declared, beyond, header_name, item_laws, last_line, read_declarations};
 use sap_locks::annotate_boxed;
 use sap_process::{Process, well_formed_boxed};
 use sap_statements::{Checked, Statement, check_statements};
 use sap_terms::{
-    Copied, Items, MOST_FILE_NAME_BYTES, MOST_PROCESS_PLACES, Mem, Name, NameList, Signature,
+    Copied, Items, MOST_FILE_NAME_BYTES, MOST_PROCESS_PLACES, Mem, Name, NameList, Signature, boxed,
 };
 use sap_text::{Lex, Token, tokens};
 use std::alloc::Global;

@@ -13,8 +13,7 @@ ghost use Rattle.sap_statements.specs.declared.checking.Unchecked.TheVariants.{M
 
 use crate::statement::Statement;
 use sap_formula::{Formula, FormulaFault, Lemma, LemmaList, Restriction, RestrictionList, check};
-use sap_grammar::boxed;
-use sap_terms::{Copied, Items, Mem, Name, Signature};
+use sap_terms::{Copied, Items, Mem, Name, Signature, boxed};
 use std::alloc::Global;
 
 /// Restrictions and lemmas whose formulas have no fault, each variable with the sort of its binder.

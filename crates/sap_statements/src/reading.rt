@@ -12,10 +12,8 @@ use crate::laws::formula_laws;
 use crate::statement::Statement;
 use sap_formula::{Formula, Lemma, Mode, Restriction};
 use sap_formula_grammar::read_short_formula;
-use sap_grammar::{
-    Limits, beyond, boxed, name_at, names, push_boxed, read_name, starts, term_laws,
-};
-use sap_terms::{Items, Mem, Name, NameList, Signature};
+use sap_grammar::{Limits, beyond, name_at, names, read_name, starts, term_laws};
+use sap_terms::{Items, Mem, Name, NameList, Signature, boxed, push_boxed};
 use sap_text::Token;
 use std::alloc::Global;
 

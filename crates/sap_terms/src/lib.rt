@@ -2,6 +2,7 @@
 #![tactic(auto)]
 
 mod binding;
+mod boxes;
 mod builtins;
 mod fact;
 mod items;
@@ -22,6 +23,7 @@ mod term_tests;
 mod var;
 
 pub use binding::{Binding, Bindings};
+pub use boxes::{boxed, push_boxed};
 pub use builtins::Builtins;
 pub use fact::{Fact, FactList, Trace};
 pub use items::{Copied, Items, Numbers};

@@ -1,5 +1,5 @@
 //! Paths of places.
-ghost use Rattle.std.specs.Prelude.{◌≡◌, ◌<◌, [], ◌∷◌, ◌++◌, length, OnOk, OnErr, slice_get};
+ghost use Rattle.std.specs.Prelude.{◌≡◌, ◌<◌, [], ◌∷◌, ◌++◌, ◌-◌, length, take, OnOk, OnErr, slice_get};
 ghost use Rattle.std.specs.Option.{option_copied};
 
 use crate::{Copied, Mem};
@@ -44,6 +44,13 @@ impl Path {
     {
         self.digits.push(digit)?;
         Ok(())
+    }
+
+    /// Goes back to the parent, where there is one.
+    pub fn pop(&mut self)
+        ensures { self.new ≡ take (length self.old - 1) self.old }
+    {
+        self.digits.pop();
     }
 
     /// The number of digits.

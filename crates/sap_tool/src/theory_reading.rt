@@ -5,9 +5,9 @@ ghost use Rattle.sap_refusals.specs.declared.refusal.Refusal.TheVariants as refu
 ghost use Rattle.sap_tool.specs.AcceptedTheory.{most_theory_bytes, IsAcceptedTheory};
 ghost use Rattle.sap_tool.specs.code.Refused.{IsTheoryRefusal};
 
-use sap_grammar::boxed;
 use sap_refusals::{Refusal, long_theory_line, theory_line, told};
 use sap_rule::Theory;
+use sap_terms::boxed;
 use sap_theory::read_theory;
 use std::alloc::Global;
 

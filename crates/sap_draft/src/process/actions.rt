@@ -9,9 +9,9 @@ ghost use Rattle.sap_macro.specs.Sources.{doing};
 ghost use Rattle.sap_draft.specs.declared.limits.TheConstants.{FILE_LIMITS};
 
 use crate::limits::FILE_LIMITS;
-use sap_grammar::{beyond, boxed, name_at, read_facts, read_short_fact, read_short_term, starts};
+use sap_grammar::{beyond, name_at, read_facts, read_short_fact, read_short_term, starts};
 use sap_macro::Doing;
-use sap_terms::{FactList, Mem, Name, Signature, Sort, Term, Var};
+use sap_terms::{FactList, Mem, Name, Signature, Sort, Term, Var, boxed};
 use sap_text::Token;
 use std::alloc::Global;
 

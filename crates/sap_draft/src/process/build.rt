@@ -7,9 +7,8 @@ ghost use Rattle.sap_draft.specs.ProcessGrammar.{var};
 ghost use Rattle.sap_draft.specs.code.ProcessView.{chosen};
 ghost use Rattle.sap_macro.specs.Sources.{doing, written};
 
-use sap_grammar::boxed;
 use sap_macro::{Doing, Source};
-use sap_terms::{Mem, Name, Sort, Term, TermList, Var};
+use sap_terms::{Mem, Name, Sort, Term, TermList, Var, boxed};
 use std::alloc::Global;
 
 /// By what a process chooses between two branches.

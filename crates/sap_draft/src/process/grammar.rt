@@ -11,9 +11,9 @@ use crate::process::actions::read_action;
 use crate::process::build::{Branching, Measured, acting_last, choosing, choosing_one};
 use crate::process::choice::{read_compared, read_looked_up};
 use crate::process::uses::read_use;
-use sap_grammar::{beyond, boxed, name_at, starts, starts_zero};
+use sap_grammar::{beyond, name_at, starts, starts_zero};
 use sap_macro::{Doing, Source};
-use sap_terms::{Mem, Signature};
+use sap_terms::{Mem, Signature, boxed};
 use sap_text::Token;
 use std::alloc::Global;
 

@@ -11,10 +11,9 @@ ghost use Rattle.sap_formula_grammar.specs.FormulaReading.{time, at_time, placed
 use crate::formula::build::same;
 use sap_formula::Formula;
 use sap_grammar::{
-    Limits, beyond, boxed, is_upper, name_at, names, read_name, read_short_fact, read_short_term,
-    starts,
+    Limits, beyond, is_upper, name_at, names, read_name, read_short_fact, read_short_term, starts,
 };
-use sap_terms::{Fact, Mem, Name, Signature, Term};
+use sap_terms::{Fact, Mem, Name, Signature, Term, boxed};
 use sap_text::Token;
 use std::alloc::Global;
 

@@ -5,8 +5,7 @@ ghost use Rattle.sap_formula.specs.View.{form};
 ghost use Rattle.sap_formula_grammar.specs.code.FormulaView.{made, bound, levelled};
 
 use sap_formula::{Binders, Formula};
-use sap_grammar::boxed;
-use sap_terms::{Mem, Name};
+use sap_terms::{Mem, Name, boxed};
 use std::alloc::Global;
 
 /// What joins two formulas.

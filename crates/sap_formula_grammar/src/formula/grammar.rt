@@ -10,8 +10,8 @@ use crate::formula::atom::read_atom;
 use crate::formula::binders::read_binders;
 use crate::formula::build::{Connective, Measured, Quantifier, join, quantified};
 use sap_formula::Formula;
-use sap_grammar::{Limits, beyond, boxed, starts};
-use sap_terms::{Mem, Signature};
+use sap_grammar::{Limits, beyond, starts};
+use sap_terms::{Mem, Signature, boxed};
 use sap_text::Token;
 use std::alloc::Global;
 

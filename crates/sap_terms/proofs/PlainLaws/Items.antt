@@ -10,6 +10,10 @@ first_item x xs = Contains-append_left (x ∷ []) xs x (Contains-push [] x)
 pub later_item : {X : Type 0} (x : X) (xs : List X) (y : X) → Contains xs y → Contains (x ∷ xs) y
 later_item x xs y m = Contains-append_right (x ∷ []) xs y m
 
+-- an empty list has none
+pub none_contained : {X : Type 0} {x : X} → Contains [] x → ⊥
+none_contained c = let few = c.1 in omega (arith, few)
+
 -- the only item
 pub item_cases : {X : Type 0} (v w : X) → Contains (v ∷ []) w → v ≡ w
 item_cases v w (zero, below, e) = e

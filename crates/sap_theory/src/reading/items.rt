@@ -9,10 +9,10 @@ ghost use Rattle.sap_theory.specs.declared.fault.TheoryFault.TheVariants.{Mem as
 use crate::fault::TheoryFault;
 use crate::limits::THEORY_LIMITS;
 use crate::reading::rule::read_rule;
-use sap_grammar::{is_declaration, is_last, item_laws, line_of, push_boxed, split_item, starts};
+use sap_grammar::{is_declaration, is_last, item_laws, line_of, split_item, starts};
 use sap_rule::{Rule, RuleList};
 use sap_statements::{Statement, read_stated};
-use sap_terms::{Items, Mem, Signature};
+use sap_terms::{Items, Mem, Signature, push_boxed};
 use sap_text::Token;
 use std::alloc::Global;
 

@@ -7,9 +7,9 @@ ghost use Rattle.sap_grammar.specs.Reading.{Gives};
 ghost use Rattle.sap_theory.specs.TheoryGrammar.{rule, IsWrittenItem};
 ghost use Rattle.sap_theory.specs.code.RuleReading.{right_side, shown_facts, left_side, a_rule};
 
-use sap_grammar::{Limits, beyond, boxed, name_at, read_facts, starts, term_laws};
+use sap_grammar::{Limits, beyond, name_at, read_facts, starts, term_laws};
 use sap_rule::Rule;
-use sap_terms::{FactList, Mem, Name, Signature};
+use sap_terms::{FactList, Mem, Name, Signature, boxed};
 use sap_text::Token;
 use std::alloc::Global;
 

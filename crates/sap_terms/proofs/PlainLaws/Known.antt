@@ -1,4 +1,4 @@
--- Names and lists of names.
+-- Names that are one, and names that stand in lists of names.
 use Rattle.std.proofs.Common.{◌≡◌, ◌||◌, ◌⊎◌, inl, inr, ℕ, Bool, true, false, List, ◌∷◌, refl, sym, ap, ◌∙◌, ⊎_elim}
 use Rattle.std.proofs.lemmas.Bool.{cases_Bool, true≢false}
 use Rattle.std.proofs.lemmas.Slice.Eq.{bytes_eq-Decides}
@@ -14,6 +14,9 @@ own_name x = (bytes_eq-Decides x x).1 refl
 -- one of both can't be
 pub clash : {A : Type 0} (b : Bool) → b ≡ true → b ≡ false → A
 clash b e f = absurd (true≢false (sym e ∙ f))
+
+pub two_names : (x y : List ℕ) → bytes_eq x y ≡ false → ¬ (x ≡ y)
+two_names x y h e = clash (bytes_eq x y) ((bytes_eq-Decides x y).1 e) h
 
 pub apart : (x y : List ℕ) → ¬ (x ≡ y) → bytes_eq x y ≡ false
 apart x y h = ⊎_elim (λ e. absurd (h (one_name x y e))) (λ e. e) (cases_Bool (bytes_eq x y))

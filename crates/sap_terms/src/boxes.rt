@@ -1,7 +1,7 @@
-//! Boxes for what is read, and what is put out of them.
+//! Boxes for large values.
 ghost use Rattle.std.specs.Prelude.{◌≡◌, [], ◌∷◌, ◌++◌, IfOk, OnOk};
 
-use sap_terms::{Items, Mem};
+use crate::{Items, Mem};
 use std::alloc::Global;
 
 /// The value in a box. A large value stands in one as soon as it is made. Want of memory is the only error.
