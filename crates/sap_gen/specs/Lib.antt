@@ -2,3 +2,12 @@ pub mod Theories
 pub mod Kept
 pub mod LemmaExamples
 pub mod KeptExamples
+pub mod Silent
+pub mod Settled
+pub mod Short
+pub mod ShortTheories
+pub mod Carried
+pub mod Moves
+pub mod ShortExamples
+pub mod TraceExamples
+pub mod code

@@ -51,13 +51,12 @@ fn theory_with(
       lemmas = lemmas;
     }) }
 {
-    let rules = generate(alloc, &f.signature, &f.process)?;
     let name = f.name.copy(alloc)?;
     let signature = f.signature.copy(alloc)?;
     Ok(Theory {
         name,
         signature,
-        rules,
+        rules: generate(alloc, &f.signature, &f.process)?,
         restrictions,
         lemmas,
     })

@@ -71,8 +71,8 @@ put_whole before after asked_before asked_after text at put done =
     (subst (λ (y : List ℕ). Appends before after y) same put.gained, put.asked ∙ ap (λ n. more n asked_before) count)
 
 -- the put of the next piece was cut short
-pub put_part : (s : Stream) (now : Option (List ℕ)) (asked_now : Option ℕ) (text : List ℕ) (at n : ℕ) → IsPutUpTo s.before now s.asked_before asked_now text at
-    → at < length text → n ≤ piece_bytes → Appends now s.after (take n (drop at text)) → s.asked_after ≡ one_more asked_now
+pub put_part : (s : Stream) (now : Option (List ℕ)) (asked_now : Option ℕ) (text : List ℕ) (at n : ℕ) → IsPutUpTo s.before.written now s.before.asked asked_now text at
+    → at < length text → n ≤ piece_bytes → Appends now s.after.written (take n (drop at text)) → s.after.asked ≡ one_more asked_now
     → ((taken : ℕ) × GainedPart s taken text)
 put_part s now asked_now text at n put more_left small appends asked =
     let full : at ≡ put.puts * piece_bytes = put.whole more_left in
@@ -84,8 +84,8 @@ put_part s now asked_now text at n put more_left small appends asked =
         behind = omega arith;
         within = omega arith;
         gained = (
-          subst (λ (y : List ℕ). Appends s.before s.after y) (take_more at n text)
-              (Appends-trans s.before now s.after (take at text) (take n (drop at text)) put.gained appends),
+          subst (λ (y : List ℕ). Appends s.before.written s.after.written y) (take_more at n text)
+              (Appends-trans s.before.written now s.after.written (take at text) (take n (drop at text)) put.gained appends),
           asked ∙ ap one_more put.asked,
         );
       },

@@ -1,6 +1,7 @@
 pub use Rattle.sap_run_texts.specs.RunTexts
 pub mod Outside
 pub mod Requests
+pub mod Seen
 pub mod Asked
 pub mod Stream
 pub mod Pieces

@@ -12,7 +12,7 @@ use Rattle.sap_outside.specs.declared.run_refusal.RunRefusal.TheVariants as refu
 use Rattle.sap_outside.specs.Outside.{Files, piece_bytes}
 use Rattle.sap_outside.specs.Requests.{Request, Requested, for_run}
 
--- how many bytes a run may have
+-- how many bytes a run may have, and most of all that may be fetched
 abbrev pub most_run_bytes : ℕ
 most_run_bytes = 16777216
 

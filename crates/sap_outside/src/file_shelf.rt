@@ -1,6 +1,8 @@
 //! The files of the system, as a shelf.
 ghost use Rattle.std.specs.Prelude.{◌≡◌, ◌≢◌, ◌≤◌, ◌+◌, ◌-◌, ◌^◌, ℕ, List, [], min, length, IfOk, OnOk, OnErr, IsErrOf, IsSomeAnd, Option, None, Some, option_map, string_bytes};
 ghost use Rattle.sap_outside.specs.Outside.{Rose, IsWholeFile, IsNextPart};
+ghost use Rattle.sap_outside.specs.RunPieces.{most_run_bytes};
+ghost use Rattle.sap_outside.specs.Seen.{seen_shelf};
 
 use crate::{Shelf, ShelfFault};
 use std::alloc::Global;
@@ -63,7 +65,7 @@ fn open<R: Files>(rt: &R, name: &str) -> Result<R::File, ShelfFault> {
 
 // The first bytes of the file of this name. They are read into the buffer itself, which doubles as it fills up.
 fn read_up_to<R: Files>(alloc: Global, rt: &R, name: &str, most: u64) -> Result<Vec<u8>, ShelfFault>
-    requires { most ≤ 16777217 }
+    requires { most ≤ most_run_bytes + 1 }
     ensures { IfOk result (λ v. length v.items ≤ most) }
 {
     let mut bytes = Vec::with_capacity(alloc, FIRST_ROOM)?;
@@ -108,19 +110,11 @@ fn fault_of(kind: ErrorKind) -> ShelfFault
 }
 
 impl<'a, R: Files> Shelf for FileShelf<'a, R> {
-    ghost holds = { λ _. None };
-
-    ghost faults = { λ s _. s.count };
-
-    ghost asked = { λ _. None };
-
-    ghost opened = { λ s. option_map string_bytes s.name };
-
-    ghost rest = { λ _. None };
+    ghost seen = { λ s. seen_shelf None (λ _. s.count) None (option_map string_bytes s.name) None };
 
     // The count rises exactly where it fails.
     fn fetch(&mut self, alloc: Global, name: &str, limit: u64) -> Result<Vec<u8>, ShelfFault>
-        requires { limit ≤ 16777216 }
+        requires { limit ≤ most_run_bytes }
         ensures most { IfOk result (λ v. length v.items ≤ limit + 1) }
         ensures kept { (option_map string_bytes self.new.name ≡ option_map string_bytes self.old.name)
             × (let rest : Option (List ℕ) = None in rest ≡ rest) }

@@ -20,7 +20,7 @@ pub use laws::{calls_by_hand, requests_are_joined};
 pub use mem_shelf::MemShelf;
 pub use mem_sink::MemSink;
 pub use pieces::put_pieces;
-pub use run_reading::read_run;
+pub use run_reading::{MOST_RUN_BYTES, read_run};
 pub use run_refusal::RunRefusal;
 pub use shelf::{Shelf, ShelfFault};
 pub use sink::{Sink, SinkFault};

@@ -6,6 +6,8 @@ ghost use Rattle.sap_outside.specs.Outside.{Rose, IsFetched, IsWholeFile, IsNext
 ghost use Rattle.sap_outside.specs.Requests.{Request, Requested};
 ghost use Rattle.sap_outside.specs.Requests as request;
 ghost use Rattle.sap_outside.specs.Asked.{request_of, told_of};
+ghost use Rattle.sap_outside.specs.RunPieces.{most_run_bytes};
+ghost use Rattle.sap_outside.specs.Seen.{seen_shelf};
 
 use crate::asked::{Asked, noted};
 use crate::{Shelf, ShelfFault};
@@ -111,7 +113,7 @@ fn copies(alloc: Global, name: &str, bytes: &[u8]) -> Result<(String, Vec<u8>), 
 
 // The first bytes of a file, one more than the limit at most.
 fn first_bytes(alloc: Global, bytes: &[u8], limit: u64) -> Result<Vec<u8>, ShelfFault>
-    requires { limit ≤ 16777216 }
+    requires { limit ≤ most_run_bytes }
     ensures bytes { IfOk result (λ v. v.items ≡ take (limit + 1) bytes.now) }
     ensures only { IfErr result (λ e. e ≡ ShelfFault.Mem) }
 {
@@ -141,19 +143,12 @@ fn file_of_call<'a>(
 }
 
 impl Shelf for MemShelf {
-    ghost holds = { λ s. Some (files_of s.files) };
-
-    ghost faults = { λ s _. s.count };
-
-    ghost asked = { λ s. told_of s.requests };
-
-    ghost opened = { λ s. option_map string_bytes s.name };
-
-    ghost rest = { λ s. Some s.rest.items };
+    ghost seen = { λ s. seen_shelf (Some (files_of s.files)) (λ _. s.count) (told_of s.requests)
+        (option_map string_bytes s.name) (Some s.rest.items) };
 
     // It fails exactly where the call is one of `fail_on`, or the name isn't held.
     fn fetch(&mut self, alloc: Global, name: &str, limit: u64) -> Result<Vec<u8>, ShelfFault>
-        requires { limit ≤ 16777216 }
+        requires { limit ≤ most_run_bytes }
         ensures most { IfOk result (λ v. length v.items ≤ limit + 1) }
         ensures told { IfOk result (λ v. IsFetched (Some (files_of self.old.files)) name.now limit v.items) }
         ensures same { self.new.files ≡ self.old.files }

@@ -1,6 +1,7 @@
 //! Memory, as a sink that fails when it is told to.
 ghost use Rattle.std.specs.Prelude.{◌≡◌, ◌≢◌, ◌≤◌, ◌+◌, ◌-◌, ◌^◌, ◌++◌, ℕ, [], take, min, IsOk, OnOk, OnErr, IfErr, IsErrOf, IfSome, None, Some};
 ghost use Rattle.sap_outside.specs.Outside.{Rose, one_more, taken_at};
+ghost use Rattle.sap_outside.specs.Seen.{seen_sink};
 
 use crate::{Sink, SinkFault};
 
@@ -56,13 +57,7 @@ fn taken_before_failure(fail_on: &[(u64, u64)], call: u64) -> Option<u64>
 }
 
 impl Sink for MemSink {
-    ghost written = { λ s. Some s.bytes.items };
-
-    ghost faults = { λ s. s.count };
-
-    ghost wants = { λ s. s.wants };
-
-    ghost asked = { λ s. Some s.calls };
+    ghost seen = { λ s. seen_sink (Some s.bytes.items) s.count s.wants (Some s.calls) };
 
     // It fails exactly where a pair has the number of the call.
     fn put(&mut self, bytes: &[u8]) -> Result<(), SinkFault>

@@ -12,18 +12,14 @@ pub const PIECE_BYTES: usize = 4096;
 
 /// Puts the text in pieces. An empty one has none.
 pub fn put_pieces<O: Sink>(out: &mut O, text: &[u8]) -> Result<(), SinkFault>
-    ensures whole { OnOk result (Gained
-        (stream (O.written out.old) (O.written out.new) (O.faults out.old) (O.faults out.new)
-        (O.wants out.old) (O.wants out.new) (O.asked out.old) (O.asked out.new))
+    ensures whole { OnOk result (Gained (stream (O.seen out.old) (O.seen out.new))
         (pieces text.now) text.now) }
-    ensures part { OnErr result ((taken : ℕ) × GainedPart
-        (stream (O.written out.old) (O.written out.new) (O.faults out.old) (O.faults out.new)
-        (O.wants out.old) (O.wants out.new) (O.asked out.old) (O.asked out.new))
+    ensures part { OnErr result ((taken : ℕ) × GainedPart (stream (O.seen out.old) (O.seen out.new))
         taken text.now) }
-    ensures later { O.faults out.old ≤ O.faults out.new }
-    ensures cause { IsErrOf result SinkFault.Failed → Rose (O.faults out.old) (O.faults out.new) }
-    ensures later_wants { O.wants out.old ≤ O.wants out.new }
-    ensures want { IsErrOf result SinkFault.Mem → Rose (O.wants out.old) (O.wants out.new) }
+    ensures later { (O.seen out.old).faults ≤ (O.seen out.new).faults }
+    ensures cause { IsErrOf result SinkFault.Failed → Rose (O.seen out.old).faults (O.seen out.new).faults }
+    ensures later_wants { (O.seen out.old).wants ≤ (O.seen out.new).wants }
+    ensures want { IsErrOf result SinkFault.Mem → Rose (O.seen out.old).wants (O.seen out.new).wants }
 {
     let mut at = 0;
     while at < text.len() {
@@ -36,14 +32,14 @@ pub fn put_pieces<O: Sink>(out: &mut O, text: &[u8]) -> Result<(), SinkFault>
 fn put_piece<O: Sink>(out: &mut O, text: &[u8], at: usize) -> Result<usize, SinkFault>
     requires { at < length text.now }
     ensures end { IfOk result (λ end. end ≡ min (length text.now) (at + piece_bytes)) }
-    ensures whole { IfOk result (λ end. Appends (O.written out.old) (O.written out.new) (take (end - at) (drop at text.now))) }
+    ensures whole { IfOk result (λ end. Appends (O.seen out.old).written (O.seen out.new).written (take (end - at) (drop at text.now))) }
     ensures part { OnErr result ((n : ℕ) × (n ≤ piece_bytes)
-        × Appends (O.written out.old) (O.written out.new) (take n (drop at text.now))) }
-    ensures asked { O.asked out.new ≡ one_more (O.asked out.old) }
-    ensures later { O.faults out.old ≤ O.faults out.new }
-    ensures cause { IsErrOf result SinkFault.Failed → Rose (O.faults out.old) (O.faults out.new) }
-    ensures later_wants { O.wants out.old ≤ O.wants out.new }
-    ensures want { IsErrOf result SinkFault.Mem → Rose (O.wants out.old) (O.wants out.new) }
+        × Appends (O.seen out.old).written (O.seen out.new).written (take n (drop at text.now))) }
+    ensures asked { (O.seen out.new).asked ≡ one_more (O.seen out.old).asked }
+    ensures later { (O.seen out.old).faults ≤ (O.seen out.new).faults }
+    ensures cause { IsErrOf result SinkFault.Failed → Rose (O.seen out.old).faults (O.seen out.new).faults }
+    ensures later_wants { (O.seen out.old).wants ≤ (O.seen out.new).wants }
+    ensures want { IsErrOf result SinkFault.Mem → Rose (O.seen out.old).wants (O.seen out.new).wants }
 {
     let end = text.len().min(at.saturating_add(PIECE_BYTES));
     out.put(&text[at..end])?;

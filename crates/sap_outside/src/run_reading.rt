@@ -16,7 +16,7 @@ use crate::{Shelf, ShelfFault};
 use sap_run_texts::{Kinds, MOST_PROCESS_STEPS, MOST_RULE_STEPS, Run, RunFault, RunReader};
 use std::alloc::Global;
 
-/// How many bytes a run may have.
+/// How many bytes a run may have, and most of all that may be fetched.
 pub const MOST_RUN_BYTES: u64 = 16_777_216;
 
 /// How many bytes are asked for at once.
@@ -31,15 +31,15 @@ pub fn read_run<S: Shelf>(
     kinds: Kinds,
 ) -> Result<Result<Run, RunRefusal>, ShelfFault>
     ensures told { IfOk result (λ answer. (z : List ℕ)
-        × WasRead (S.holds shelf.old) name.now [] (S.asked shelf.old) (S.asked shelf.new) z
+        × WasRead (S.seen shelf.old).holds name.now [] (S.seen shelf.old).asked (S.seen shelf.new).asked z
         × IsRunAnswer kinds z answer) }
     ensures given_up { OnErr result
-        (WasGivenUp (S.holds shelf.old) name.now [] (S.asked shelf.old) (S.asked shelf.new)) }
-    ensures opened { OnOk result (S.opened shelf.new ≡ Some name.now) }
-    ensures same { S.holds shelf.new ≡ S.holds shelf.old }
-    ensures later { (n : List ℕ) → S.faults shelf.old n ≤ S.faults shelf.new n }
+        (WasGivenUp (S.seen shelf.old).holds name.now [] (S.seen shelf.old).asked (S.seen shelf.new).asked) }
+    ensures opened { OnOk result ((S.seen shelf.new).opened ≡ Some name.now) }
+    ensures same { (S.seen shelf.new).holds ≡ (S.seen shelf.old).holds }
+    ensures later { (n : List ℕ) → (S.seen shelf.old).faults n ≤ (S.seen shelf.new).faults n }
     ensures cause { IsErrOf result ShelfFault.Failed
-        → Rose (S.faults shelf.old name.now) (S.faults shelf.new name.now) }
+        → Rose ((S.seen shelf.old).faults name.now) ((S.seen shelf.new).faults name.now) }
 {
     shelf.begin(alloc, name)?;
     read_open(alloc, shelf, kinds)
@@ -52,19 +52,19 @@ fn read_open<S: Shelf>(
     kinds: Kinds,
 ) -> Result<Result<Run, RunRefusal>, ShelfFault>
     ensures told { (holds : Option Files) → (name : List ℕ) → (before : Option (List Request))
-        → IsWholeFile holds name (S.rest shelf.old)
-        → Requested (request.begin name ∷ []) before (S.asked shelf.old)
+        → IsWholeFile holds name (S.seen shelf.old).rest
+        → Requested (request.begin name ∷ []) before (S.seen shelf.old).asked
         → IfOk result (λ answer. (z : List ℕ)
-        × WasRead holds name [] before (S.asked shelf.new) z × IsRunAnswer kinds z answer) }
+        × WasRead holds name [] before (S.seen shelf.new).asked z × IsRunAnswer kinds z answer) }
     ensures given_up { (holds : Option Files) → (name : List ℕ) → (before : Option (List Request))
-        → IsWholeFile holds name (S.rest shelf.old)
-        → Requested (request.begin name ∷ []) before (S.asked shelf.old)
-        → OnErr result (WasGivenUp holds name [] before (S.asked shelf.new)) }
-    ensures opened { OnOk result (S.opened shelf.new ≡ S.opened shelf.old) }
-    ensures same { S.holds shelf.new ≡ S.holds shelf.old }
-    ensures later { (n : List ℕ) → S.faults shelf.old n ≤ S.faults shelf.new n }
+        → IsWholeFile holds name (S.seen shelf.old).rest
+        → Requested (request.begin name ∷ []) before (S.seen shelf.old).asked
+        → OnErr result (WasGivenUp holds name [] before (S.seen shelf.new).asked) }
+    ensures opened { OnOk result ((S.seen shelf.new).opened ≡ (S.seen shelf.old).opened) }
+    ensures same { (S.seen shelf.new).holds ≡ (S.seen shelf.old).holds }
+    ensures later { (n : List ℕ) → (S.seen shelf.old).faults n ≤ (S.seen shelf.new).faults n }
     ensures cause { IsErrOf result ShelfFault.Failed
-        → IsSomeAnd (S.opened shelf.old) (λ name. Rose (S.faults shelf.old name) (S.faults shelf.new name)) }
+        → IsSomeAnd (S.seen shelf.old).opened (λ name. Rose ((S.seen shelf.old).faults name) ((S.seen shelf.new).faults name)) }
 {
     let mut reader = RunReader::new(alloc, kinds);
     let tally = feed_pieces(alloc, shelf, &mut reader)?;
@@ -78,15 +78,15 @@ fn feed_pieces<S: Shelf>(
     shelf: &mut S,
     reader: &mut RunReader,
 ) -> Result<Tally, ShelfFault>
-    ensures fed { IfOk result (λ t. IsRunFed (S.rest shelf.old) reader.old reader.new
-        t.given t.first (S.asked shelf.old) (S.asked shelf.new)) }
+    ensures fed { IfOk result (λ t. IsRunFed (S.seen shelf.old).rest reader.old reader.new
+        t.given t.first (S.seen shelf.old).asked (S.seen shelf.new).asked) }
     ensures given_up { OnErr result
-        (WasAsked (may_come_of (S.rest shelf.old) + 1) (S.asked shelf.old) (S.asked shelf.new)) }
-    ensures opened { OnOk result (S.opened shelf.new ≡ S.opened shelf.old) }
-    ensures same { S.holds shelf.new ≡ S.holds shelf.old }
-    ensures later { (n : List ℕ) → S.faults shelf.old n ≤ S.faults shelf.new n }
+        (WasAsked (may_come_of (S.seen shelf.old).rest + 1) (S.seen shelf.old).asked (S.seen shelf.new).asked) }
+    ensures opened { OnOk result ((S.seen shelf.new).opened ≡ (S.seen shelf.old).opened) }
+    ensures same { (S.seen shelf.new).holds ≡ (S.seen shelf.old).holds }
+    ensures later { (n : List ℕ) → (S.seen shelf.old).faults n ≤ (S.seen shelf.new).faults n }
     ensures cause { IsErrOf result ShelfFault.Failed
-        → IsSomeAnd (S.opened shelf.old) (λ name. Rose (S.faults shelf.old name) (S.faults shelf.new name)) }
+        → IsSomeAnd (S.seen shelf.old).opened (λ name. Rose ((S.seen shelf.old).faults name) ((S.seen shelf.new).faults name)) }
 {
     let mut tally = Tally::new();
     while tally.given <= MOST_RUN_BYTES {
@@ -107,15 +107,15 @@ fn feed_piece<S: Shelf>(
     tally: Tally,
 ) -> Result<Tally, ShelfFault>
     requires { tally.given ≤ most_run_bytes }
-    ensures fed { IfOk result (λ next. IsPieceFed (S.rest shelf.old) (S.rest shelf.new) reader.old reader.new
+    ensures fed { IfOk result (λ next. IsPieceFed (S.seen shelf.old).rest (S.seen shelf.new).rest reader.old reader.new
         tally.given tally.first next.given next.first) }
-    ensures opened { OnOk result (S.opened shelf.new ≡ S.opened shelf.old) }
-    ensures same { S.holds shelf.new ≡ S.holds shelf.old }
+    ensures opened { OnOk result ((S.seen shelf.new).opened ≡ (S.seen shelf.old).opened) }
+    ensures same { (S.seen shelf.new).holds ≡ (S.seen shelf.old).holds }
     ensures asked { Requested (request.next piece_bytes ∷ [])
-        (S.asked shelf.old) (S.asked shelf.new) }
-    ensures later { (n : List ℕ) → S.faults shelf.old n ≤ S.faults shelf.new n }
+        (S.seen shelf.old).asked (S.seen shelf.new).asked }
+    ensures later { (n : List ℕ) → (S.seen shelf.old).faults n ≤ (S.seen shelf.new).faults n }
     ensures cause { IsErrOf result ShelfFault.Failed
-        → IsSomeAnd (S.opened shelf.old) (λ name. Rose (S.faults shelf.old name) (S.faults shelf.new name)) }
+        → IsSomeAnd (S.seen shelf.old).opened (λ name. Rose ((S.seen shelf.old).faults name) ((S.seen shelf.new).faults name)) }
 {
     let piece = shelf.next(alloc, PIECE_BYTES)?;
     reader.feed(piece.as_slice())?;

@@ -3,6 +3,7 @@ ghost use Rattle.std.specs.Prelude.{◌≡◌, ◌≢◌, ◌≤◌, ℕ, List, 
 ghost use Rattle.std.specs.Io.KnownBytes.{Appends};
 ghost use Rattle.sap_outside.specs.declared.sink.SinkFault.TheVariants.{Mem};
 ghost use Rattle.sap_outside.specs.Outside.{Rose, AppendsSome, one_more};
+ghost use Rattle.sap_outside.specs.Seen.{SeenSink};
 
 use std::alloc::AllocError;
 
@@ -25,28 +26,19 @@ impl From<AllocError> for SinkFault {
 
 /// Where bytes go to.
 pub trait Sink {
-    /// What was written, where it tells.
-    ghost written: { Self → Option (List ℕ) };
-
-    /// A count that rises each time it fails, and may rise otherwise; it stops at the greatest u64.
-    ghost faults: { Self → ℕ };
-
-    /// A count that rises each time it finds no memory, and may rise otherwise; it stops at the greatest u64.
-    ghost wants: { Self → ℕ };
-
-    /// How many puts of some bytes there were, where it tells; it stops at the greatest u64.
-    ghost asked: { Self → Option ℕ };
+    /// What is seen of it.
+    ghost seen: { Self → SeenSink };
 
     /// Appends the bytes; after a fault or a want of memory, some first ones of them. No bytes at all are always taken, and
     /// nothing is asked for them.
     fn put(&mut self, bytes: &[u8]) -> Result<(), SinkFault>
-        ensures whole { OnOk result (Appends (written self.old) (written self.new) bytes.now) }
-        ensures part { OnErr result (AppendsSome (written self.old) (written self.new) bytes.now) }
-        ensures later { faults self.old ≤ faults self.new }
-        ensures cause { IsErrOf result SinkFault.Failed → Rose (faults self.old) (faults self.new) }
-        ensures later_wants { wants self.old ≤ wants self.new }
-        ensures want { IsErrOf result SinkFault.Mem → Rose (wants self.old) (wants self.new) }
+        ensures whole { OnOk result (Appends (seen self.old).written (seen self.new).written bytes.now) }
+        ensures part { OnErr result (AppendsSome (seen self.old).written (seen self.new).written bytes.now) }
+        ensures later { (seen self.old).faults ≤ (seen self.new).faults }
+        ensures cause { IsErrOf result SinkFault.Failed → Rose (seen self.old).faults (seen self.new).faults }
+        ensures later_wants { (seen self.old).wants ≤ (seen self.new).wants }
+        ensures want { IsErrOf result SinkFault.Mem → Rose (seen self.old).wants (seen self.new).wants }
         ensures empty { bytes.now ≡ [] → IsOk result }
-        ensures asked { bytes.now ≢ [] → asked self.new ≡ one_more (asked self.old) }
-        ensures idle { bytes.now ≡ [] → asked self.new ≡ asked self.old };
+        ensures asked { bytes.now ≢ [] → (seen self.new).asked ≡ one_more (seen self.old).asked }
+        ensures idle { bytes.now ≡ [] → (seen self.new).asked ≡ (seen self.old).asked };
 }

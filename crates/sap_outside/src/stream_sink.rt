@@ -1,6 +1,7 @@
 //! The streams of the system, as sinks.
 ghost use Rattle.std.specs.Prelude.{◌≡◌, ◌≤◌, ◌+◌, ◌-◌, ◌^◌, [], min, IsOk, OnOk, IfErr, IsErrOf, None};
 ghost use Rattle.sap_outside.specs.Outside.{Rose};
+ghost use Rattle.sap_outside.specs.Seen.{seen_sink};
 
 use crate::{Sink, SinkFault};
 use std::io::Write;
@@ -15,13 +16,7 @@ pub struct StreamSink<W: Write> {
 }
 
 impl<W: Write> Sink for StreamSink<W> {
-    ghost written = { λ _. None };
-
-    ghost faults = { λ s. s.count };
-
-    ghost wants = { λ _. 0 };
-
-    ghost asked = { λ _. None };
+    ghost seen = { λ s. seen_sink None s.count 0 None };
 
     // It wants no memory, and the count rises exactly where it fails. A write that takes nothing is a fault. Each turn writes at
     // least one byte.

@@ -21,3 +21,13 @@ pub mod ToldMeant
 pub mod Meant
 pub mod JsonMeant
 pub mod OneText
+pub mod Checkable
+pub mod PieceTokens
+pub mod SampleCounts
+pub mod SampleLabelled
+pub mod SampleLegal
+pub mod SampleRead
+pub mod SampleShown
+pub mod SampleSound
+pub mod SampleTold
+pub mod SessionWords

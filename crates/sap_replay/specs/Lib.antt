@@ -9,4 +9,7 @@ pub mod ShortRuns
 pub mod JsonRuns
 pub mod Tasks
 pub mod Laws
+pub mod AcceptedFile
+pub mod AcceptedTheory
+pub mod Sample
 pub mod code

@@ -10,7 +10,7 @@ ghost use Rattle.sap_replay.specs.code.Filled.{IsFillLine, IsFirstRefusedWith};
 ghost use Rattle.sap_replay.specs.RunRefusals.{IsLineOf};
 
 use sap_intruder::{FillAt, fill};
-use sap_outside::RunRefusal;
+use sap_outside::{MOST_RUN_BYTES, RunRefusal};
 use sap_read::File;
 use sap_refusals::{Refusal, fill_line, no_run_line, short_line, told};
 use sap_run_texts::{one_short_run, print_prun, read_srun};
@@ -18,9 +18,6 @@ use sap_runs::SSteps;
 use sap_terms::Mem;
 use sap_text::Text;
 use std::alloc::Global;
-
-/// How many bytes a short run may have.
-pub const MOST_RUN_BYTES: u64 = 16_777_216;
 
 /// The text of the run that the bytes stand for as a short run of the file, or the line that refuses them.
 pub fn filled(alloc: Global, file: &File, bytes: &[u8]) -> Result<Text, Refusal>

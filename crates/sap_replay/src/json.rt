@@ -9,15 +9,12 @@ ghost use Rattle.sap_replay.specs.JsonRuns.{IsJsonOf, IsJsonRefusedWith, IsRunOf
 ghost use Rattle.sap_replay.specs.RunRefusals.{IsNeverIllegal, IsLineOf, IsRunRefusal};
 
 use sap_json::{read_json, write_json};
-use sap_outside::RunRefusal;
+use sap_outside::{MOST_RUN_BYTES, RunRefusal};
 use sap_refusals::{Refusal, json_line, no_run_line, told};
 use sap_run_texts::{Run, print_prun, print_rrun};
 use sap_terms::Mem;
 use sap_text::Text;
 use std::alloc::Global;
-
-/// How many bytes the JSON of a run may have.
-pub const MOST_JSON_BYTES: u64 = 16_777_216;
 
 /// What bytes are read as, as JSON, or the line that refuses them.
 pub fn json_of(alloc: Global, answer: &Result<Run, RunRefusal>) -> Result<Text, Refusal>
@@ -46,7 +43,7 @@ pub fn run_of_json(alloc: Global, bytes: &[u8]) -> Result<Text, Refusal>
     ensures refused { (line : List ℕ) → IsErrOf result (refusals.Told line)
         → IsLineOf (IsJsonRefusedWith bytes.now) line }
 {
-    if bytes.len() as u64 > MOST_JSON_BYTES {
+    if bytes.len() as u64 > MOST_RUN_BYTES {
         Err(told(no_run_line(alloc, RunRefusal::TooLong)))
     } else {
         read(alloc, bytes)

@@ -1,13 +1,17 @@
 -- The command that words ask for.
-use Rattle.std.proofs.Common.{◌≡◌, ◌≢◌, ℕ, List, [], ◌∷◌, Option, None, Some, refl, sym, ap, ◌∙◌}
+use Rattle.std.proofs.Common.{◌≡◌, ℕ, List, [], ◌∷◌, length, Option, None, Some, refl, sym, ap, ◌∙◌, arith, decimal}
 use Rattle.std.specs.Prelude.{codes, if◌then◌else◌}
 use Rattle.std.specs.Str.{bytes_eq}
-use Rattle.sap_sample.specs.Sample.{IsSample, sample_words}
-use Rattle.sap_tool.specs.Commands.{Command, compile, replay, fill, check, to_json, from_json, explain, spelled}
+use Rattle.sap_replay.specs.Sample.{IsSample, sample_words}
+use Rattle.sap_tool.specs.Commands.{Command, compile, replay, fill, check, to_json, from_json, explain, spelled, file_of, run_of, word_of_way, word_of_task, IsUnknown}
+use Rattle.sap_tool.specs.code.Asked.{AsksNothing, on_file, on_run}
+use Rattle.sap_tool.specs.declared.command.OnFile.{OnFile}
+use Rattle.sap_tool.specs.declared.command.OnFile.TheVariants.{Compile, FromJson, Explain}
+use Rattle.sap_tool.specs.declared.command.OnRun.{OnRun}
+use Rattle.sap_tool.specs.declared.command.OnRun.TheVariants.{Replay, Fill, Check}
 use Rattle.sap_replay.specs.declared.task.Task.{Task}
 use Rattle.sap_replay.specs.declared.task.Task.TheVariants.{ToRules, ToProcess, Judge, Tell, Chart}
-use Rattle.sap_tool.specs.declared.way.Way.{Way}
-use Rattle.sap_tool.specs.declared.way.Way.TheVariants.{Plain, Inlined, Short}
+use Rattle.sap_replay.specs.declared.way.Way.TheVariants.{Plain, Inlined, Short}
 use Rattle.sap_tool.proofs.Some.{one_some}
 
 -- the command that these words ask for, found by the first of them
@@ -68,14 +72,92 @@ pub no_command_is_sample : (words : List (List ℕ)) (k : Command) (n : ℕ) →
 no_command_is_sample words k n asks sample =
     none_is k (sym (found k) ∙ ap command_of (sym asks ∙ sample.spelled) ∙ none_sampled n)
 
--- no command is asked for, where none of each kind is
-pub no_command_of : (words : List (List ℕ)) → ((way : Way) (file : List ℕ) → words ≢ spelled (compile way file)) → ((task : Task) (file run : List ℕ) → words ≢ spelled (replay task file run))
-    → ((theory run : List ℕ) → words ≢ spelled (check theory run)) → ((file run : List ℕ) → words ≢ spelled (fill file run)) → ((run : List ℕ) → words ≢ spelled (to_json run)) → ((json : List ℕ) → words ≢ spelled (from_json json))
-    → ((file : List ℕ) → words ≢ spelled (explain file)) → (k : Command) → words ≡ spelled k → ⊥
-no_command_of words f r t s j i w (compile way file) e = f way file e
-no_command_of words f r t s j i w (replay task file run) e = r task file run e
-no_command_of words f r t s j i w (fill file run) e = s file run e
-no_command_of words f r t s j i w (check theory run) e = t theory run e
-no_command_of words f r t s j i w (to_json run) e = j run e
-no_command_of words f r t s j i w (from_json json) e = i json e
-no_command_of words f r t s j i w (explain file) e = w file e
+-- nor do words that begin as if they did
+none_begins : (word : List ℕ) → command_of (codes "sample" ∷ word ∷ []) ≡ None
+none_begins word = refl
+
+pub no_sample_word : (k : Command) (word : List ℕ) → codes "sample" ∷ word ∷ [] ≡ spelled k → ⊥
+no_sample_word k word e = none_is k (sym (found k) ∙ ap command_of (sym e) ∙ none_begins word)
+
+-- words that are not two, and not three, ask for nothing
+not_two : (words : List (List ℕ)) (a b : List ℕ) → (length words ≡ 2 → ⊥) → words ≡ a ∷ b ∷ [] → ⊥
+not_two words a b other e = other (ap (λ (ws : List (List ℕ)). length ws) e)
+
+not_three : (words : List (List ℕ)) (a b c : List ℕ) → (length words ≡ 3 → ⊥) → words ≡ a ∷ b ∷ c ∷ [] → ⊥
+not_three words a b c other e = other (ap (λ (ws : List (List ℕ)). length ws) e)
+
+pub nothing_else : (words : List (List ℕ)) → (length words ≡ 2 → ⊥) → (length words ≡ 3 → ⊥) → AsksNothing words
+nothing_else words two three = record { no_command = none; no_sample = λ word e. not_two words (codes "sample") word two e } where
+  none : (k : Command) → words ≡ spelled k → ⊥
+  none (compile way file) e = not_two words (word_of_way way) file two e
+  none (replay task file run) e = not_three words (word_of_task task) file run three e
+  none (fill file run) e = not_three words (codes "fill") file run three e
+  none (check theory run) e = not_three words (codes "check-rules") theory run three e
+  none (to_json run) e = not_two words (codes "to-json") run two e
+  none (from_json json) e = not_two words (codes "from-json") json two e
+  none (explain file) e = not_two words (codes "why") file two e
+
+-- the first of words
+abbrev first_of : List (List ℕ) → List ℕ
+first_of [] = []
+first_of (word ∷ words) = word
+
+-- two words, the first of which is none of these, ask for nothing
+pub nothing_of_two : (word name : List ℕ) → (word ≡ codes "compile" → ⊥) → (word ≡ codes "compile-inline" → ⊥) → (word ≡ codes "compile-short" → ⊥)
+    → (word ≡ codes "from-json" → ⊥) → (word ≡ codes "why" → ⊥) → (word ≡ codes "to-json" → ⊥) → (word ≡ codes "sample" → ⊥)
+    → AsksNothing (word ∷ name ∷ [])
+nothing_of_two word name plain inlined short json why to_run sample = record { no_command = none; no_sample = λ other e. sample (ap first_of e) } where
+  three : (a b c : List ℕ) → word ∷ name ∷ [] ≡ a ∷ b ∷ c ∷ [] → ⊥
+  three a b c e = let l : 2 ≡ 3 = ap (λ (ws : List (List ℕ)). length ws) e in omega (arith, l)
+
+  none : (k : Command) → word ∷ name ∷ [] ≡ spelled k → ⊥
+  none (compile Plain file) e = plain (ap first_of e)
+  none (compile Inlined file) e = inlined (ap first_of e)
+  none (compile Short file) e = short (ap first_of e)
+  none (replay task file run) e = three (word_of_task task) file run e
+  none (fill file run) e = three (codes "fill") file run e
+  none (check theory run) e = three (codes "check-rules") theory run e
+  none (to_json run) e = to_run (ap first_of e)
+  none (from_json file) e = json (ap first_of e)
+  none (explain file) e = why (ap first_of e)
+
+-- so it is with three
+pub nothing_of_three : (word name run : List ℕ) → (word ≡ codes "to-rules" → ⊥) → (word ≡ codes "to-process" → ⊥) → (word ≡ codes "judge" → ⊥)
+    → (word ≡ codes "tell" → ⊥) → (word ≡ codes "chart" → ⊥) → (word ≡ codes "fill" → ⊥) → (word ≡ codes "check-rules" → ⊥)
+    → AsksNothing (word ∷ name ∷ run ∷ [])
+nothing_of_three word name run rules process judge tell chart fills checks = record { no_command = none; no_sample = λ other e. two (codes "sample") other e } where
+  two : (a b : List ℕ) → word ∷ name ∷ run ∷ [] ≡ a ∷ b ∷ [] → ⊥
+  two a b e = let l : 3 ≡ 2 = ap (λ (ws : List (List ℕ)). length ws) e in omega (arith, l)
+
+  none : (k : Command) → word ∷ name ∷ run ∷ [] ≡ spelled k → ⊥
+  none (compile way file) e = two (word_of_way way) file e
+  none (replay ToRules file z) e = rules (ap first_of e)
+  none (replay ToProcess file z) e = process (ap first_of e)
+  none (replay Judge file z) e = judge (ap first_of e)
+  none (replay Tell file z) e = tell (ap first_of e)
+  none (replay Chart file z) e = chart (ap first_of e)
+  none (fill file z) e = fills (ap first_of e)
+  none (check theory z) e = checks (ap first_of e)
+  none (to_json z) e = two (codes "to-json") z e
+  none (from_json file) e = two (codes "from-json") file e
+  none (explain file) e = two (codes "why") file e
+
+-- words that ask for nothing are unknown
+pub unknown_of : (words : List (List ℕ)) → AsksNothing words → IsUnknown words
+unknown_of words none = record { no_command = none.no_command; no_sample = λ n sample. none.no_sample (decimal n) sample.spelled }
+
+-- what is fetched first, and the run that is read then
+pub file_named : (which : OnFile) (name : List ℕ) → file_of (on_file which name) ≡ Some name
+file_named (Compile way) name = refl
+file_named FromJson name = refl
+file_named Explain name = refl
+
+pub file_of_run : (which : OnRun) (name run : List ℕ) → file_of (on_run which name run) ≡ Some name
+file_of_run (Replay task) name run = refl
+file_of_run Fill name run = refl
+file_of_run Check name run = refl
+
+pub run_named : (which : OnRun) (name run : List ℕ) → run_of (on_run which name run) ≡ Some run
+run_named (Replay task) name run = refl
+run_named Fill name run = refl
+run_named Check name run = refl

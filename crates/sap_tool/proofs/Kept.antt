@@ -7,18 +7,18 @@ use Rattle.sap_outside.specs.RunPieces.{most_run_bytes, IsReadUp}
 use Rattle.sap_outside.specs.Stream.{Gained, Failed, CutShort}
 use Rattle.sap_refusals.specs.Refusals.{refused_line}
 use Rattle.sap_refusals.specs.RunFaultTexts.{run_refused_line}
-use Rattle.sap_sample.specs.Sample.{IsSample, sample_text}
+use Rattle.sap_replay.specs.Sample.{IsSample, sample_text}
 use Rattle.sap_tool.specs.Call.{Call, FailedOn, Holds}
-use Rattle.sap_tool.specs.declared.way.Way.{Way}
-use Rattle.sap_tool.specs.Commands.{Command, compile, Input, alone, and_run, run_alone, file_of, run_of, HowRead, in_pieces, at_once, how_read, limit_of, IsUnknown, Accepts, Refuses, RefusesRun, TakesRun, Allows}
+use Rattle.sap_replay.specs.declared.way.Way.{Way}
+use Rattle.sap_tool.specs.Commands.{Command, compile, Input, alone, and_run, run_alone, file_of, run_of, HowRead, in_pieces, at_once, how_read, limit_of, IsUnknown, deed_of, Accepts, Refuses, RefusesRun, TakesRun, Allows}
 use Rattle.sap_tool.specs.Answers.{Answer, gives, tells, status_of, IsAnswerTo, allowed, refused, run_refused, Asks, for_file, IsFileFetched, WasReadSo, WasRunRead, Fetched, IsRunNext, FailedOnFile, FailedOnRun, IsAnswer, IsBegun, to_input, sampled, usage, unread, unread_run, read_fault_text, IsPut, whole, broken, wanting, IsLast, complete, cut, write_fault_text, memory_text, Ended, answered, unanswered}
 use Rattle.sap_tool.specs.Promises as promised
 use Rattle.sap_tool.proofs.Asked.{one_command, no_command_is_sample}
-use Rattle.sap_tool.proofs.Inputs.{Laws, means, accepted_never, never_taken, never_run, one_why, one_run_why, one_allowed, fetched_part, part_is_refused, is_refused_by_part, part_is_accepted, part_allows, IsPartOf, refused_as_read, refused_as_held}
+use Rattle.sap_tool.proofs.Inputs.{Laws, is_sound, never_run, one_allowed, fetched_part, part_allows}
 use Rattle.sap_tool.proofs.Parts.{fetched_is_up, joined_part}
 use Rattle.sap_tool.proofs.SampleWords.{one_sample}
 use Rattle.sap_tool.proofs.Some.{of_both_some, none_has}
-use Rattle.sap_tool.proofs.Takes.{IsWhole, allowed_is_whole, refused_is_whole, taken_is_whole}
+use Rattle.sap_tool.proofs.Sound.{IsWhole, IsPartOf}
 
 -- a word whose put wasn't cut short is there whole
 whole_word : {Cut : Type 0} (word last : List ℕ) → (Cut → ⊥) → IsLast Cut word last → last ≡ word
@@ -72,7 +72,7 @@ module _ (laws : Laws) (c : Call) where
     asked = asks;
     fetched = fetched;
     allowed = t;
-    means = means laws k input text t;
+    means = (is_sound laws k).means input text t;
     out = w.0;
     err = w.1;
   })
@@ -157,24 +157,24 @@ module _ (laws : Laws) (c : Call) where
     -- what was fetched is the first part of what is held
     fetched_is : (bytes x : List ℕ) → promised.HoldsFile c k bytes → IsFileFetched c k x → x ≡ take (limit_of k + 1) bytes
     fetched_is bytes x held fetched =
-        of_both_some (file_of k) (λ (name : List ℕ). Holds c.holds name bytes) (λ (name : List ℕ). IsFetched c.holds name (limit_of k) x)
-        (λ (name : List ℕ) (h : Holds c.holds name bytes) (f : IsFetched c.holds name (limit_of k) x). fetched_part c.holds (limit_of k) name bytes x h f)
+        of_both_some (file_of k) (λ (name : List ℕ). Holds c.before.holds name bytes) (λ (name : List ℕ). IsFetched c.before.holds name (limit_of k) x)
+        (λ (name : List ℕ) (h : Holds c.before.holds name bytes) (f : IsFetched c.before.holds name (limit_of k) x). fetched_part c.before.holds (limit_of k) name bytes x h f)
         held fetched
 
     -- and the run that was read is what is held, read up
-    read_is_up : (way : HowRead) (run z y : List ℕ) → Holds c.holds run z → WasReadSo way c.holds run (for_file k) c.asked_before c.asked_after y → IsReadUp z y
-    read_is_up in_pieces run z y h w = joined_part c.holds run z y h w.joined
-    read_is_up at_once run z y h w = fetched_is_up z y (fetched_part c.holds most_run_bytes run z y h w.0)
+    read_is_up : (way : HowRead) (run z y : List ℕ) → Holds c.before.holds run z → WasReadSo way c.before.holds run (for_file k) c.before.asked c.after.asked y → IsReadUp z y
+    read_is_up in_pieces run z y h w = joined_part c.before.holds run z y h w.joined
+    read_is_up at_once run z y h w = fetched_is_up z y (fetched_part c.before.holds most_run_bytes run z y h w.0)
 
     run_is_up : (z y : List ℕ) → promised.HoldsRun c k z → WasRunRead c k y → IsReadUp z y
     run_is_up z y held was =
-        of_both_some (run_of k) (λ (run : List ℕ). Holds c.holds run z) (λ (run : List ℕ). WasReadSo (how_read k) c.holds run (for_file k) c.asked_before c.asked_after y)
-        (λ (run : List ℕ) (h : Holds c.holds run z) (w : WasReadSo (how_read k) c.holds run (for_file k) c.asked_before c.asked_after y).
+        of_both_some (run_of k) (λ (run : List ℕ). Holds c.before.holds run z) (λ (run : List ℕ). WasReadSo (how_read k) c.before.holds run (for_file k) c.before.asked c.after.asked y)
+        (λ (run : List ℕ) (h : Holds c.before.holds run z) (w : WasReadSo (how_read k) c.before.holds run (for_file k) c.before.asked c.after.asked y).
         read_is_up (how_read k) run z y h w)
         held was
 
     -- so what was read, where it is whole, is a part of what is held
-    part_of : (held read : Input) → promised.HoldsInput c k held → Fetched c k read → IsWhole k read → IsPartOf k held read
+    part_of : (held read : Input) → promised.HoldsInput c k held → Fetched c k read → IsWhole (deed_of k) read → IsPartOf (limit_of k) held read
     part_of (alone bytes) (alone x) h f w = fetched_is bytes x h.0 f.0
     part_of (alone bytes) (and_run x y) h f w = absurd (none_has (run_of k) _ h.1 f.1)
     part_of (alone bytes) (run_alone y) h f w = absurd (none_has (file_of k) _ w h.0)
@@ -187,13 +187,13 @@ module _ (laws : Laws) (c : Call) where
 
     -- bytes that were fetched are accepted where those that are held are, and refused likewise
     fetched_is_accepted : (bytes x : List ℕ) → promised.HoldsFile c k bytes → IsFileFetched c k x → Accepts k bytes → Accepts k x
-    fetched_is_accepted bytes x h f a = subst (λ (y : List ℕ). Accepts k y) (sym (fetched_is bytes x h f)) (part_is_accepted k bytes a)
+    fetched_is_accepted bytes x h f a = subst (λ (y : List ℕ). Accepts k y) (sym (fetched_is bytes x h f)) ((is_sound laws k).fetched.part_accepted bytes a)
 
     fetched_is_refused : (bytes x why : List ℕ) → promised.HoldsFile c k bytes → IsFileFetched c k x → Refuses k bytes why → Refuses k x why
-    fetched_is_refused bytes x why h f r = subst (λ (y : List ℕ). Refuses k y why) (sym (fetched_is bytes x h f)) (part_is_refused k bytes why r)
+    fetched_is_refused bytes x why h f r = subst (λ (y : List ℕ). Refuses k y why) (sym (fetched_is bytes x h f)) ((is_sound laws k).fetched.part_refused bytes why r)
 
     held_is_refused : (bytes x why : List ℕ) → promised.HoldsFile c k bytes → IsFileFetched c k x → Refuses k x why → Refuses k bytes why
-    held_is_refused bytes x why h f r = is_refused_by_part k bytes why (subst (λ (y : List ℕ). Refuses k y why) (fetched_is bytes x h f) r)
+    held_is_refused bytes x why h f r = (is_sound laws k).fetched.by_part bytes why (subst (λ (y : List ℕ). Refuses k y why) (fetched_is bytes x h f) r)
 
     -- of what is held a cause refuses the file that was fetched
     file_is_refused : (held : Input) (x why : List ℕ) → promised.HoldsInput c k held → IsFileFetched c k x → Refuses k x why → promised.RefusesFile k held why
@@ -202,26 +202,26 @@ module _ (laws : Laws) (c : Call) where
     file_is_refused (run_alone z) x why h f r = absurd (none_has (file_of k) _ h.0 f)
 
     -- what is whole has no such file
-    whole_never : (input : Input) (why : List ℕ) → IsWhole k input → promised.RefusesFile k input why → ⊥
-    whole_never (alone bytes) why w r = accepted_never laws k bytes why w.0 r
-    whole_never (and_run bytes z) why w r = accepted_never laws k bytes why w r
+    whole_never : (input : Input) (why : List ℕ) → IsWhole (deed_of k) input → promised.RefusesFile k input why → ⊥
+    whole_never (alone bytes) why w r = (is_sound laws k).fetched.never bytes why w.0 r
+    whole_never (and_run bytes z) why w r = (is_sound laws k).fetched.never bytes why w r
     whole_never (run_alone z) why w r = r
 
     -- where a file is held that a cause refuses, what was read isn't whole, and it isn't the run's turn
     module _ (bytes why : List ℕ) (held : promised.HoldsFile c k bytes) (r : Refuses k bytes why) where
-      not_whole : (read : Input) → Fetched c k read → IsWhole k read → ⊥
-      not_whole (alone x) f w = accepted_never laws k x why w.0 (fetched_is_refused bytes x why held f.0 r)
-      not_whole (and_run x y) f w = accepted_never laws k x why w (fetched_is_refused bytes x why held f.0 r)
+      not_whole : (read : Input) → Fetched c k read → IsWhole (deed_of k) read → ⊥
+      not_whole (alone x) f w = (is_sound laws k).fetched.never x why w.0 (fetched_is_refused bytes x why held f.0 r)
+      not_whole (and_run x y) f w = (is_sound laws k).fetched.never x why w (fetched_is_refused bytes x why held f.0 r)
       not_whole (run_alone y) f w = none_has (file_of k) _ w held
 
       not_next : IsRunNext c k → ⊥
       not_next next = at (file_of k) held next where
-        at : (o : Option (List ℕ)) → IsSomeAnd o (λ name. Holds c.holds name bytes)
-            → IfSome o (λ name. (x : List ℕ) × IsFetched c.holds name (limit_of k) x × Accepts k x) → ⊥
+        at : (o : Option (List ℕ)) → IsSomeAnd o (λ name. Holds c.before.holds name bytes)
+            → IfSome o (λ name. (x : List ℕ) × IsFetched c.before.holds name (limit_of k) x × Accepts k x) → ⊥
         at None h n = h
         at (Some name) h n =
-            accepted_never laws k n.0 why n.2
-            (subst (λ (y : List ℕ). Refuses k y why) (sym (fetched_part c.holds (limit_of k) name bytes n.0 h n.1)) (part_is_refused k bytes why r))
+            (is_sound laws k).fetched.never n.0 why n.2
+            (subst (λ (y : List ℕ). Refuses k y why) (sym (fetched_part c.before.holds (limit_of k) name bytes n.0 h n.1)) ((is_sound laws k).fetched.part_refused bytes why r))
 
       abbrev IsFileRefused : ℕ → Type 0
       IsFileRefused s = ((s ≡ 1) × Gained c.err 1 (refused_line why)) ⊎ ((s ≡ 4) × FailedOnFile c k) ⊎ ((s ≡ 5) × Failed c.err) ⊎ (s ≡ 6)
@@ -229,7 +229,7 @@ module _ (laws : Laws) (c : Call) where
       refused_gives : (text : List ℕ) → IsAnswer c (gives text) → ⊥
       refused_gives text is = at (gives text) (answers_asked c k asked (gives text) is) refl where
         at : (a : Answer) → AnswersAsked c k a → a ≡ gives text → ⊥
-        at _ (of_input read f (allowed {text = other} t)) e = not_whole read f (allowed_is_whole k read other t)
+        at _ (of_input read f (allowed {text = other} t)) e = not_whole read f ((is_sound laws k).allowed_is_whole read other t)
         at _ (of_input read f (refused other o)) e = cc (e)
         at _ (of_input read f (run_refused other o)) e = cc (e)
         at _ (of_file_fault f) e = cc (e)
@@ -239,29 +239,29 @@ module _ (laws : Laws) (c : Call) where
       must_refuse s (unanswered begun last e none word l) = inr (inr (inr e))
       must_refuse s (answered a is put) = at a (answers_asked c k asked a is) put where
         at : (b : Answer) → AnswersAsked c k b → IsPut b c.out c.err s → IsFileRefused s
-        at _ (of_input read f (allowed {text = other} t)) p = absurd (not_whole read f (allowed_is_whole k read other t))
+        at _ (of_input read f (allowed {text = other} t)) p = absurd (not_whole read f ((is_sound laws k).allowed_is_whole read other t))
         at _ (of_input _ f (refused {bytes = x} other o)) p =
-            let same : other ≡ why = one_why laws k x other why o (fetched_is_refused bytes x why held f.0 r) in
+            let same : other ≡ why = (is_sound laws k).fetched.one x other why o (fetched_is_refused bytes x why held f.0 r) in
             elim (told_ends s 1 (refused_line other) p) [
               | inl h ↦ inl (h.0, subst (λ (y : List ℕ). Gained c.err 1 (refused_line y)) same h.1)
               | inr h ↦ inr (inr h)
             ]
-        at _ (of_input read f (run_refused other o)) p = absurd (not_whole read f (refused_is_whole k read other o))
+        at _ (of_input read f (run_refused other o)) p = absurd (not_whole read f ((is_sound laws k).refused_is_whole read other o))
         at _ (of_file_fault f) p = elim (told_ends s 4 _ p) [ inl h ↦ inr (inl (h.0, f)) | inr h ↦ inr (inr h) ]
         at _ (of_run_fault next f) p = absurd (not_next next)
 
     -- where the shelf holds what the command reads
     module _ (held : Input) (holds : promised.HoldsInput c k held) where
       -- what was read of it
-      read_part : (read : Input) → Fetched c k read → IsWhole k read → IsPartOf k held read
+      read_part : (read : Input) → Fetched c k read → IsWhole (deed_of k) read → IsPartOf (limit_of k) held read
       read_part read f w = part_of held read holds f w
 
       module _ (why : List ℕ) (r : RefusesRun k held why) where
-        refused_run : (read : Input) → Fetched c k read → IsWhole k read → RefusesRun k read why
-        refused_run read f w = refused_as_read k held read why (read_part read f w) r
+        refused_run : (read : Input) → Fetched c k read → IsWhole (deed_of k) read → RefusesRun k read why
+        refused_run read f w = (is_sound laws k).refused_as_read held read why (read_part read f w) r
 
         not_allowed : (read : Input) (text : List ℕ) → Fetched c k read → Allows k read text → ⊥
-        not_allowed read text f t = never_run laws k read text why t (refused_run read f (allowed_is_whole k read text t))
+        not_allowed read text f t = never_run laws k read text why t (refused_run read f ((is_sound laws k).allowed_is_whole read text t))
 
         abbrev IsRunRefused : ℕ → Type 0
         IsRunRefused s = ((s ≡ 2) × Gained c.err 1 (run_refused_line why)) ⊎ ((s ≡ 4) × promised.FailedOnNamed c k) ⊎ ((s ≡ 5) × Failed c.err) ⊎ (s ≡ 6)
@@ -281,9 +281,9 @@ module _ (laws : Laws) (c : Call) where
           at : (b : Answer) → AnswersAsked c k b → IsPut b c.out c.err s → IsRunRefused s
           at _ (of_input read f (allowed {text = other} t)) p = absurd (not_allowed read other f t)
           at _ (of_input _ f (refused {bytes = x} other o)) p =
-              absurd (whole_never held other (refused_is_whole k held why r) (file_is_refused held x other holds f.0 o))
+              absurd (whole_never held other ((is_sound laws k).refused_is_whole held why r) (file_is_refused held x other holds f.0 o))
           at _ (of_input read f (run_refused other o)) p =
-              let same : other ≡ why = one_run_why laws k read other why o (refused_run read f (refused_is_whole k read other o)) in
+              let same : other ≡ why = (is_sound laws k).one_run_why read other why o (refused_run read f ((is_sound laws k).refused_is_whole read other o)) in
               elim (told_ends s 2 (run_refused_line other) p) [
                 | inl h ↦ inl (h.0, subst (λ (w : List ℕ). Gained c.err 1 (run_refused_line w)) same h.1)
                 | inr h ↦ inr (inr h)
@@ -302,7 +302,7 @@ module _ (laws : Laws) (c : Call) where
           at _ (of_input read f (allowed t)) (wanting taken last e b p w) = inr e
           at _ (of_input _ f (refused {bytes = x} other o)) p = absurd (unrefused other (inl (file_is_refused held x other holds f.0 o)))
           at _ (of_input read f (run_refused other o)) p =
-              let back = refused_as_held k held read other (read_part read f (refused_is_whole k read other o)) o in
+              let back = (is_sound laws k).refused_as_held held read other (read_part read f ((is_sound laws k).refused_is_whole read other o)) o in
               absurd (unrefused back.0 (inr back.1))
           at _ (of_file_fault f) p = absurd (sound (inl f))
           at _ (of_run_fault next f) p = absurd (sound (inr f))
@@ -311,8 +311,8 @@ module _ (laws : Laws) (c : Call) where
       must_take : TakesRun k held → (promised.FailedOnNamed c k → ⊥) → (Failed c.out → ⊥) → (s : ℕ) → Ended (IsAnswer c) (IsBegun c) c.out c.err s → (s ≡ 0) ⊎ (s ≡ 6)
       must_take takes sound open_out = must_answer unrefused sound open_out where
         unrefused : (why : List ℕ) → promised.RefusesInput k held why → ⊥
-        unrefused why (inl r) = whole_never held why (taken_is_whole k held takes) r
-        unrefused why (inr r) = never_taken laws k held why takes r
+        unrefused why (inl r) = whole_never held why ((is_sound laws k).taken_is_whole held takes) r
+        unrefused why (inr r) = (is_sound laws k).never_taken held why takes r
 
   given_text : (s : ℕ) (text other : List ℕ) → other ≡ text → (Failed c.out → ⊥) → IsPut (gives other) c.out c.err s → ((s ≡ 0) × Gained c.out (pieces text) text) ⊎ (s ≡ 6)
   given_text s text other same open_out (whole e w) = inl (e, subst (λ (y : List ℕ). Gained c.out (pieces y) y) same w.0)
@@ -329,7 +329,7 @@ module _ (laws : Laws) (c : Call) where
     must_tell_sample s (answered _ (unread_run k asks next f none) put) open_out = absurd (no_command_is_sample c.words k n asks asked)
     must_tell_sample s (unanswered begun last e none word l) open_out = inr e
 
-  module _ (way : Way) (file bytes : List ℕ) (asked : Asks c (compile way file)) (held : Holds c.holds file bytes) where
+  module _ (way : Way) (file bytes : List ℕ) (asked : Asks c (compile way file)) (held : Holds c.before.holds file bytes) where
     abbrev k : Command
     k = compile way file
 
@@ -337,14 +337,14 @@ module _ (laws : Laws) (c : Call) where
         → ((s ≡ 0) × Gained c.out (pieces text) text) ⊎ (s ≡ 6)
     must_give s (unanswered begun last e none word l) text t sound open_out = inr e
     must_give s (answered a is put) text t sound open_out = at a (answers_asked c k asked a is) put where
-      part : (x : List ℕ) → IsFetched c.holds file (limit_of k) x → Allows k (alone x) text
+      part : (x : List ℕ) → IsFetched c.before.holds file (limit_of k) x → Allows k (alone x) text
       part x f = subst (λ (y : List ℕ). Allows k (alone y) text) (sym (fetched_is k asked bytes x held f)) (part_allows way file bytes text t)
 
       at : (b : Answer) → AnswersAsked c k b → IsPut b c.out c.err s → ((s ≡ 0) × Gained c.out (pieces text) text) ⊎ (s ≡ 6)
       at _ (of_input (alone x) f (allowed {text = other} u)) p = given_text s text other (one_allowed laws way file x other text u (part x f.0)) open_out p
       at _ (of_input (and_run x y) f (allowed u)) p = absurd u
       at _ (of_input (run_alone y) f (allowed u)) p = absurd u
-      at _ (of_input _ f (refused {bytes = x} why o)) p = absurd (accepted_never laws k x why ((part x f.0).told, (part x f.0).file) o)
+      at _ (of_input _ f (refused {bytes = x} why o)) p = absurd ((is_sound laws k).fetched.never x why ((part x f.0).told, (part x f.0).file) o)
       at _ (of_input (alone x) f (run_refused why o)) p = absurd o
       at _ (of_input (and_run x y) f (run_refused why o)) p = absurd o
       at _ (of_input (run_alone y) f (run_refused why o)) p = absurd o

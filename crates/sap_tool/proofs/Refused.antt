@@ -4,11 +4,11 @@ use Rattle.std.specs.Prelude.{◌+◌}
 use Rattle.std.proofs.lemmas.Grind.{common_steps}
 use Rattle.sap_read.specs.Files.{FileContent, IsRead, IsRunnable}
 use Rattle.sap_read.specs.declared.fault.ReadFault.{ReadFault}
-use Rattle.sap_tool.specs.declared.way.Way.{Way}
-use Rattle.sap_tool.specs.declared.way.Way.TheVariants.{Plain, Inlined, Short}
-use Rattle.sap_tool.specs.AcceptedFile.{most_bytes, IsAcceptedFile, IsRefusedWith, too_long, unread, IsCompiledTheory, IsTheoryOf}
+use Rattle.sap_replay.specs.declared.way.Way.{Way}
+use Rattle.sap_replay.specs.declared.way.Way.TheVariants.{Plain, Inlined, Short}
+use Rattle.sap_replay.specs.AcceptedFile.{most_bytes, IsAcceptedFile, IsRefusedWith, too_long, unread, IsCompiledTheory, IsTheoryOf}
 use Rattle.sap_tool.specs.Meaning.{Keeps, IsWritten}
-use Rattle.sap_compress.specs.ShortTheories.{IsShortTheory}
+use Rattle.sap_gen.specs.ShortTheories.{IsShortTheory}
 use Rattle.sap_gen.specs.Kept.{KeepsFile, KeepsFileInlined, file_theory, inlined_file_theory}
 use Rattle.sap_read.specs.Printable.{IsPrintableFile}
 use Rattle.sap_read.specs.declared.limits.TheConstants.{MOST_NEW_NAME_BYTES}

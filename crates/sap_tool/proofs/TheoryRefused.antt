@@ -5,7 +5,7 @@ use Rattle.std.proofs.lemmas.Grind.{common_steps}
 use Rattle.sap_rule.specs.declared.theory.Theory.{Theory}
 use Rattle.sap_theory.specs.ReadTheory.{IsTheoryRead}
 use Rattle.sap_theory.specs.declared.fault.TheoryFault.{TheoryFault}
-use Rattle.sap_tool.specs.AcceptedTheory.{most_theory_bytes, IsAcceptedTheory, IsTheoryRefusedWith, too_long, unread}
+use Rattle.sap_replay.specs.AcceptedTheory.{most_theory_bytes, IsAcceptedTheory, IsTheoryRefusedWith, too_long, unread}
 use Rattle.sap_refusals.specs.TheoryRefusals.{theory_fault_text}
 
 -- bytes are read as one theory, or refused for one cause

@@ -15,8 +15,8 @@ use Rattle.sap_terms.specs.Trace.{Trace}
 use Rattle.sap_terms.specs.Tree.{Tree}
 use Rattle.sap_replay.specs.Replays.{IsSeen, IsFullOf, IsCheckedText}
 use Rattle.sap_replay.specs.ShortRuns.{IsAcceptedShort}
-use Rattle.sap_tool.specs.AcceptedFile.{IsAcceptedFile}
-use Rattle.sap_tool.specs.AcceptedTheory.{IsAcceptedTheory}
+use Rattle.sap_replay.specs.AcceptedFile.{IsAcceptedFile}
+use Rattle.sap_replay.specs.AcceptedTheory.{IsAcceptedTheory}
 use Rattle.sap_outside.specs.RunPieces.{IsRunAnswer}
 use Rattle.sap_intruder.specs.FilledRuns.{IsFilled, IsFilledRun}
 use Rattle.sap_intruder.specs.ShortRuns.{IsLegalShortRun}

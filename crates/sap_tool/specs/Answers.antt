@@ -9,7 +9,7 @@ use Rattle.sap_outside.specs.Pieces.{pieces, GainedPart}
 use Rattle.sap_refusals.specs.Refusals.{refused_line}
 use Rattle.sap_outside.specs.RunPieces.{most_run_bytes, WasRead, WasGivenUp}
 use Rattle.sap_refusals.specs.RunFaultTexts.{run_refused_line}
-use Rattle.sap_sample.specs.Sample.{IsSample, sample_text}
+use Rattle.sap_replay.specs.Sample.{IsSample, sample_text}
 
 -- a text for out, which is status 0, or a status and a text for err
 pub data Answer : Type 0 where
@@ -45,7 +45,7 @@ for_file k = for_name (file_of k) (limit_of k)
 
 -- the command fetches, and these are bytes that this may give, by what the shelf tells
 abbrev pub IsFileFetched : Call → Command → List ℕ → Type 0
-IsFileFetched c k bytes = IsSomeAnd (file_of k) (λ name. IsFetched c.holds name (limit_of k) bytes)
+IsFileFetched c k bytes = IsSomeAnd (file_of k) (λ name. IsFetched c.before.holds name (limit_of k) bytes)
 
 -- reading the run of this name so may give these bytes, by what the shelf tells, and behind the first of these requests the shelf was
 -- asked for it, and for nothing else
@@ -68,7 +68,7 @@ WasGivenUpSo at_once holds run first before after =
 abbrev pub WasRunRead : Call → Command → List ℕ → Type 0
 WasRunRead c k z =
     IsSomeAnd (run_of k) (λ run.
-    WasReadSo (how_read k) c.holds run (for_file k) c.asked_before c.asked_after z)
+    WasReadSo (how_read k) c.before.holds run (for_file k) c.before.asked c.after.asked z)
 
 -- this is what the command may have read, by what the shelf tells, and the shelf was asked for nothing else
 abbrev pub Fetched : Call → Command → Input → Type 0
@@ -80,7 +80,7 @@ Fetched c k (run_alone z) = WasRunRead c k z
 abbrev pub IsRunNext : Call → Command → Type 0
 IsRunNext c k =
     IfSome (file_of k) (λ name.
-    (bytes : List ℕ) × IsFetched c.holds name (limit_of k) bytes × Accepts k bytes)
+    (bytes : List ℕ) × IsFetched c.before.holds name (limit_of k) bytes × Accepts k bytes)
 
 -- the count of faults of what the command fetches rose
 abbrev pub FailedOnFile : Call → Command → Type 0
@@ -95,7 +95,7 @@ FailedOnRun c k = IsSomeAnd (run_of k) (λ run. FailedOn c run)
 abbrev pub WasRunGivenUp : Call → Command → Type 0
 WasRunGivenUp c k =
     IsSomeAnd (run_of k) (λ run.
-    WasGivenUpSo (how_read k) c.holds run (for_file k) c.asked_before c.asked_after)
+    WasGivenUpSo (how_read k) c.before.holds run (for_file k) c.before.asked c.after.asked)
 
 -- what is told where words ask for nothing
 abbrev pub usage_text : List ℕ
@@ -117,9 +117,9 @@ memory_text = codes "out of memory\n"
 pub data IsAnswer (c : Call) : Answer → Type 0 where
   to_input : {a : Answer} (k : Command) (input : Input) → Asks c k → Fetched c k input
       → IsAnswerTo k input a → IsAnswer c a
-  sampled : (n : ℕ) → IsSample c.words n → c.asked_after ≡ c.asked_before
+  sampled : (n : ℕ) → IsSample c.words n → c.after.asked ≡ c.before.asked
       → IsAnswer c (gives (sample_text n))
-  usage : IsUnknown c.words → c.asked_after ≡ c.asked_before → IsAnswer c (tells 3 usage_text)
+  usage : IsUnknown c.words → c.after.asked ≡ c.before.asked → IsAnswer c (tells 3 usage_text)
   unread : (k : Command) → Asks c k → FailedOnFile c k → AskedFor c (for_file k)
       → IsAnswer c (tells 4 read_fault_text)
   unread_run : (k : Command) → Asks c k → IsRunNext c k → FailedOnRun c k → WasRunGivenUp c k
@@ -128,7 +128,7 @@ pub data IsAnswer (c : Call) : Answer → Type 0 where
 -- what the shelf was asked for where memory was wanting before there was an answer: nothing; or the file that the words ask for alone;
 -- or, behind a file that is accepted, where there is one, the run, up to where that was given up, or whole
 pub data IsBegun (c : Call) : Type 0 where
-  asked_nothing : c.asked_after ≡ c.asked_before → IsBegun c
+  asked_nothing : c.after.asked ≡ c.before.asked → IsBegun c
   asked_file : (k : Command) → Asks c k → AskedFor c (for_file k) → IsBegun c
   asked_run : (k : Command) → Asks c k → IsRunNext c k → WasRunGivenUp c k → IsBegun c
   asked_both : (k : Command) (z : List ℕ) → Asks c k → IsRunNext c k → WasRunRead c k z → IsBegun c

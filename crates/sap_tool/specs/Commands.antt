@@ -7,18 +7,18 @@ use Rattle.sap_run_texts.specs.declared.run.Run.{Run}
 use Rattle.sap_outside.specs.RunPieces.{most_run_bytes, IsRunAnswer}
 use Rattle.sap_replay.specs.declared.task.Task.{Task}
 use Rattle.sap_replay.specs.declared.task.Task.TheVariants.{ToRules, ToProcess, Judge, Tell, Chart}
-use Rattle.sap_tool.specs.declared.way.Way.{Way}
-use Rattle.sap_tool.specs.declared.way.Way.TheVariants.{Plain, Inlined, Short}
+use Rattle.sap_replay.specs.declared.way.Way.{Way}
+use Rattle.sap_replay.specs.declared.way.Way.TheVariants.{Plain, Inlined, Short}
 use Rattle.sap_replay.specs.Tasks.{kinds_of, Writes, Says}
-use Rattle.sap_tool.specs.AcceptedFile.{most_bytes, IsAcceptedFile, IsRefusedWith, IsTheoryOf}
-use Rattle.sap_tool.specs.AcceptedTheory.{most_theory_bytes, IsAcceptedTheory, IsTheoryRefusedWith}
+use Rattle.sap_replay.specs.AcceptedFile.{most_bytes, IsAcceptedFile, IsRefusedWith, IsTheoryOf}
+use Rattle.sap_replay.specs.AcceptedTheory.{most_theory_bytes, IsAcceptedTheory, IsTheoryRefusedWith}
 use Rattle.sap_replay.specs.JsonRuns.{IsAcceptedJson, IsJsonRefusedWith, IsJsonOf, IsReadAsJson, IsRunOfJson, IsReadAsRun}
 use Rattle.sap_tool.specs.Meaning.{IsFaithfulText}
 use Rattle.sap_tool.specs.WhyTexts.{IsWhyText, IsToldWhy}
 use Rattle.sap_tool.specs.AcceptedRuns.{IsReplayed, IsChecked, IsLegalOfFile, IsLegalOfTheory, IsFilledText, IsLegalShortOfFile, IsLegalFilling}
 use Rattle.sap_replay.specs.RunRefusals.{IsIllegal, IsIllegalOfTheory, IsNeverIllegal, IsRunRefusedWith}
 use Rattle.sap_replay.specs.ShortRuns.{IsShortRefusedWith}
-use Rattle.sap_sample.specs.Sample.{IsSample}
+use Rattle.sap_replay.specs.Sample.{IsSample}
 
 -- what words may ask for, aside from a sample, which reads nothing
 pub data Command : Type 0 where
@@ -51,60 +51,10 @@ word_of_task Judge = codes "judge"
 word_of_task Tell = codes "tell"
 word_of_task Chart = codes "chart"
 
--- the words that ask for it
-abbrev pub spelled : Command → List (List ℕ)
-spelled (compile way file) = word_of_way way ∷ file ∷ []
-spelled (replay task file run) = word_of_task task ∷ file ∷ run ∷ []
-spelled (fill file run) = codes "fill" ∷ file ∷ run ∷ []
-spelled (check theory run) = codes "check-rules" ∷ theory ∷ run ∷ []
-spelled (to_json run) = codes "to-json" ∷ run ∷ []
-spelled (from_json json) = codes "from-json" ∷ json ∷ []
-spelled (explain file) = codes "why" ∷ file ∷ []
-
--- the words ask for nothing that the program does
-pub record IsUnknown (words : List (List ℕ)) : Type 0 where
-  pub no_command : (k : Command) → words ≡ spelled k → ⊥
-  pub no_sample : (n : ℕ) → IsSample words n → ⊥
-
--- what it fetches first, where it does so: a file, a theory, or JSON
-abbrev pub file_of : Command → Option (List ℕ)
-file_of (compile way file) = Some file
-file_of (replay task file run) = Some file
-file_of (fill file run) = Some file
-file_of (check theory run) = Some theory
-file_of (to_json run) = None
-file_of (from_json json) = Some json
-file_of (explain file) = Some file
-
--- the run that it reads then
-abbrev pub run_of : Command → Option (List ℕ)
-run_of (compile way file) = None
-run_of (replay task file run) = Some run
-run_of (fill file run) = Some run
-run_of (check theory run) = Some run
-run_of (to_json run) = Some run
-run_of (from_json json) = None
-run_of (explain file) = None
-
 -- how a run is read: piece by piece; or fetched at once, as a file is
 pub data HowRead : Type 0 where
   in_pieces : HowRead
   at_once : HowRead
-
--- how it reads its run, where it has one: a short run at once, any other in pieces
-abbrev pub how_read : Command → HowRead
-how_read (fill file run) = at_once
-how_read k = in_pieces
-
--- how many bytes what it fetches first may have
-abbrev pub limit_of : Command → ℕ
-limit_of (compile way file) = most_bytes
-limit_of (replay task file run) = most_bytes
-limit_of (fill file run) = most_bytes
-limit_of (check theory run) = most_theory_bytes
-limit_of (to_json run) = 0
-limit_of (from_json json) = most_run_bytes
-limit_of (explain file) = most_bytes
 
 -- what a command reads: what it fetches, alone or with a run behind it; or a run alone
 pub data Input : Type 0 where
@@ -112,68 +62,229 @@ pub data Input : Type 0 where
   and_run : (bytes z : List ℕ) → Input
   run_alone : (z : List ℕ) → Input
 
--- it refuses a file or theory of these bytes for this cause; what has neither refuses none, nor does what says why a file is refused
+-- it is what is fetched alone, and this is so of it
+abbrev pub IsAlone : (List ℕ → Type 0) → Input → Type 0
+IsAlone P (alone bytes) = P bytes
+IsAlone P (and_run bytes z) = ⊥
+IsAlone P (run_alone z) = ⊥
+
+-- it is what is fetched with a run behind it, and this is so of both
+abbrev pub IsWithRun : (List ℕ → List ℕ → Type 0) → Input → Type 0
+IsWithRun P (alone bytes) = ⊥
+IsWithRun P (and_run bytes z) = P bytes z
+IsWithRun P (run_alone z) = ⊥
+
+-- it is a run alone, and this is so of it
+abbrev pub IsRunAlone : (List ℕ → Type 0) → Input → Type 0
+IsRunAlone P (alone bytes) = ⊥
+IsRunAlone P (and_run bytes z) = ⊥
+IsRunAlone P (run_alone z) = P z
+
+-- what a command does
+pub record Deed : Type 1 where
+  -- the words that ask for it
+  pub words : List (List ℕ)
+  -- what it fetches first, where it does so: a file, a theory, or JSON
+  pub file : Option (List ℕ)
+  -- how many bytes this may have
+  pub limit : ℕ
+  -- the run that it reads then
+  pub run : Option (List ℕ)
+  -- how it reads its run, where it has one: a short run at once, any other in pieces
+  pub how : HowRead
+  -- it refuses a file or theory of these bytes for this cause; what has neither refuses none, nor does what says why a file is refused
+  pub Refuses : List ℕ → List ℕ → Type 0
+  -- it accepts them
+  pub Accepts : List ℕ → Type 0
+  -- it accepts the file or theory that it read, where it has one, and refuses the run for this cause
+  pub RefusesRun : Input → List ℕ → Type 0
+  -- it takes the run: it accepts the file or theory that it read, where it has one, and the run is legal
+  pub TakesRun : Input → Type 0
+  -- it allows this text for what it read
+  pub Allows : Input → List ℕ → Type 0
+  -- what such a text means
+  pub Means : Input → List ℕ → Type 0
+
+-- what refuses nothing, accepts all, and has no run
+abbrev pub no_cause : List ℕ → List ℕ → Type 0
+no_cause bytes why = ⊥
+
+abbrev pub each : List ℕ → Type 0
+each bytes = Unit {0}
+
+abbrev pub no_run_cause : Input → List ℕ → Type 0
+no_run_cause input why = ⊥
+
+abbrev pub no_run : Input → Type 0
+no_run input = ⊥
+
+-- the bytes are an accepted file, or theory
+abbrev pub AcceptsFile : List ℕ → Type 0
+AcceptsFile bytes = (told : FileContent) × IsAcceptedFile bytes told
+
+abbrev pub AcceptsTheory : List ℕ → Type 0
+AcceptsTheory bytes = (t : Theory) × IsAcceptedTheory bytes t
+
+-- the theory of a file
+abbrev pub compiling : Way → List ℕ → Deed
+compiling way file = record {
+  words = word_of_way way ∷ file ∷ [];
+  file = Some file;
+  limit = most_bytes;
+  run = None;
+  how = in_pieces;
+  Refuses = IsRefusedWith;
+  Accepts = AcceptsFile;
+  RefusesRun = no_run_cause;
+  TakesRun = no_run;
+  Allows = λ input text. IsAlone (λ bytes. IsTheoryOf way bytes text) input;
+  Means = λ input text. IsAlone (λ bytes. IsFaithfulText way bytes text) input;
+}
+
+-- a task on a run of a file
+abbrev pub replaying : Task → List ℕ → List ℕ → Deed
+replaying task file run = record {
+  words = word_of_task task ∷ file ∷ run ∷ [];
+  file = Some file;
+  limit = most_bytes;
+  run = Some run;
+  how = in_pieces;
+  Refuses = IsRefusedWith;
+  Accepts = AcceptsFile;
+  RefusesRun = λ input why. IsWithRun (λ bytes z. (told : FileContent) × IsAcceptedFile bytes told
+      × IsRunRefusedWith (kinds_of task) (IsIllegal told) z why) input;
+  TakesRun = λ input. IsWithRun (λ bytes z. IsLegalOfFile (kinds_of task) bytes z) input;
+  Allows = λ input text. IsWithRun (λ bytes z. IsReplayed (kinds_of task) (Writes task) bytes z text) input;
+  Means = λ input text. IsWithRun (λ bytes z. IsReplayed (kinds_of task) (Says task) bytes z text) input;
+}
+
+-- the run of a file that a short run stands for
+abbrev pub filling : List ℕ → List ℕ → Deed
+filling file run = record {
+  words = codes "fill" ∷ file ∷ run ∷ [];
+  file = Some file;
+  limit = most_bytes;
+  run = Some run;
+  how = at_once;
+  Refuses = IsRefusedWith;
+  Accepts = AcceptsFile;
+  RefusesRun = λ input why. IsWithRun (λ bytes z. (told : FileContent) × IsAcceptedFile bytes told
+      × IsShortRefusedWith told z why) input;
+  TakesRun = λ input. IsWithRun (λ bytes z. IsLegalShortOfFile bytes z) input;
+  Allows = λ input text. IsWithRun (λ bytes z. IsFilledText bytes z text) input;
+  Means = λ input text. IsWithRun (λ bytes z. IsLegalFilling bytes z text) input;
+}
+
+-- what a theory says of a run of its rules
+abbrev pub checking : List ℕ → List ℕ → Deed
+checking theory run = record {
+  words = codes "check-rules" ∷ theory ∷ run ∷ [];
+  file = Some theory;
+  limit = most_theory_bytes;
+  run = Some run;
+  how = in_pieces;
+  Refuses = IsTheoryRefusedWith;
+  Accepts = AcceptsTheory;
+  RefusesRun = λ input why. IsWithRun (λ bytes z. (t : Theory) × IsAcceptedTheory bytes t
+      × IsRunRefusedWith Rules (IsIllegalOfTheory t) z why) input;
+  TakesRun = λ input. IsWithRun (λ bytes z. IsLegalOfTheory bytes z) input;
+  Allows = λ input text. IsWithRun (λ bytes z. IsChecked bytes z text) input;
+  Means = λ input text. IsWithRun (λ bytes z. IsChecked bytes z text) input;
+}
+
+-- a run as JSON
+abbrev pub writing_json : List ℕ → Deed
+writing_json run = record {
+  words = codes "to-json" ∷ run ∷ [];
+  file = None;
+  limit = 0;
+  run = Some run;
+  how = in_pieces;
+  Refuses = no_cause;
+  Accepts = each;
+  RefusesRun = λ input why. IsRunAlone (λ z. IsRunRefusedWith Either IsNeverIllegal z why) input;
+  TakesRun = λ input. IsRunAlone (λ z. (r : Run) × IsRunAnswer Either z (Ok r)) input;
+  Allows = λ input text. IsRunAlone (λ z. IsJsonOf z text) input;
+  Means = λ input text. IsRunAlone (λ z. IsReadAsJson z text) input;
+}
+
+-- the run that JSON is
+abbrev pub reading_json : List ℕ → Deed
+reading_json json = record {
+  words = codes "from-json" ∷ json ∷ [];
+  file = Some json;
+  limit = most_run_bytes;
+  run = None;
+  how = in_pieces;
+  Refuses = no_cause;
+  Accepts = each;
+  RefusesRun = λ input why. IsAlone (λ bytes. IsJsonRefusedWith bytes why) input;
+  TakesRun = λ input. IsAlone (λ bytes. (r : Run) × IsAcceptedJson bytes r) input;
+  Allows = λ input text. IsAlone (λ bytes. IsRunOfJson bytes text) input;
+  Means = λ input text. IsAlone (λ bytes. IsReadAsRun bytes text) input;
+}
+
+-- whether a file is accepted, or why not
+abbrev pub explaining : List ℕ → Deed
+explaining file = record {
+  words = codes "why" ∷ file ∷ [];
+  file = Some file;
+  limit = most_bytes;
+  run = None;
+  how = in_pieces;
+  Refuses = no_cause;
+  Accepts = each;
+  RefusesRun = no_run_cause;
+  TakesRun = no_run;
+  Allows = λ input text. IsAlone (λ bytes. IsWhyText bytes text) input;
+  Means = λ input text. IsAlone (λ bytes. IsToldWhy bytes text) input;
+}
+
+-- what each does
+abbrev pub deed_of : Command → Deed
+deed_of (compile way file) = compiling way file
+deed_of (replay task file run) = replaying task file run
+deed_of (fill file run) = filling file run
+deed_of (check theory run) = checking theory run
+deed_of (to_json run) = writing_json run
+deed_of (from_json json) = reading_json json
+deed_of (explain file) = explaining file
+
+-- in a word each
+abbrev pub spelled : Command → List (List ℕ)
+spelled k = (deed_of k).words
+
+abbrev pub file_of : Command → Option (List ℕ)
+file_of k = (deed_of k).file
+
+abbrev pub limit_of : Command → ℕ
+limit_of k = (deed_of k).limit
+
+abbrev pub run_of : Command → Option (List ℕ)
+run_of k = (deed_of k).run
+
+abbrev pub how_read : Command → HowRead
+how_read k = (deed_of k).how
+
 abbrev pub Refuses : Command → List ℕ → List ℕ → Type 0
-Refuses (compile way file) bytes why = IsRefusedWith bytes why
-Refuses (replay task file run) bytes why = IsRefusedWith bytes why
-Refuses (fill file run) bytes why = IsRefusedWith bytes why
-Refuses (check theory run) bytes why = IsTheoryRefusedWith bytes why
-Refuses (to_json run) bytes why = ⊥
-Refuses (from_json json) bytes why = ⊥
-Refuses (explain file) bytes why = ⊥
+Refuses k = (deed_of k).Refuses
 
--- it accepts them
 abbrev pub Accepts : Command → List ℕ → Type 0
-Accepts (compile way file) bytes = (told : FileContent) × IsAcceptedFile bytes told
-Accepts (replay task file run) bytes = (told : FileContent) × IsAcceptedFile bytes told
-Accepts (fill file run) bytes = (told : FileContent) × IsAcceptedFile bytes told
-Accepts (check theory run) bytes = (t : Theory) × IsAcceptedTheory bytes t
-Accepts (to_json run) bytes = Unit {0}
-Accepts (from_json json) bytes = Unit {0}
-Accepts (explain file) bytes = Unit {0}
+Accepts k = (deed_of k).Accepts
 
--- it accepts the file or theory that it read, where it has one, and refuses the run for this cause
 abbrev pub RefusesRun : Command → Input → List ℕ → Type 0
-RefusesRun (replay task file run) (and_run bytes z) why =
-    (told : FileContent) × IsAcceptedFile bytes told
-    × IsRunRefusedWith (kinds_of task) (IsIllegal told) z why
-RefusesRun (fill file run) (and_run bytes z) why =
-    (told : FileContent) × IsAcceptedFile bytes told × IsShortRefusedWith told z why
-RefusesRun (check theory run) (and_run bytes z) why =
-    (t : Theory) × IsAcceptedTheory bytes t × IsRunRefusedWith Rules (IsIllegalOfTheory t) z why
-RefusesRun (to_json run) (run_alone z) why = IsRunRefusedWith Either IsNeverIllegal z why
-RefusesRun (from_json json) (alone bytes) why = IsJsonRefusedWith bytes why
-RefusesRun k input why = ⊥
+RefusesRun k = (deed_of k).RefusesRun
 
--- it takes the run: it accepts the file or theory that it read, where it has one, and the run is legal
 abbrev pub TakesRun : Command → Input → Type 0
-TakesRun (replay task file run) (and_run bytes z) = IsLegalOfFile (kinds_of task) bytes z
-TakesRun (fill file run) (and_run bytes z) = IsLegalShortOfFile bytes z
-TakesRun (check theory run) (and_run bytes z) = IsLegalOfTheory bytes z
-TakesRun (to_json run) (run_alone z) = (r : Run) × IsRunAnswer Either z (Ok r)
-TakesRun (from_json json) (alone bytes) = (r : Run) × IsAcceptedJson bytes r
-TakesRun k input = ⊥
+TakesRun k = (deed_of k).TakesRun
 
--- it allows this text for what it read
 abbrev pub Allows : Command → Input → List ℕ → Type 0
-Allows (compile way file) (alone bytes) text = IsTheoryOf way bytes text
-Allows (replay task file run) (and_run bytes z) text =
-    IsReplayed (kinds_of task) (Writes task) bytes z text
-Allows (fill file run) (and_run bytes z) text = IsFilledText bytes z text
-Allows (check theory run) (and_run bytes z) text = IsChecked bytes z text
-Allows (to_json run) (run_alone z) text = IsJsonOf z text
-Allows (from_json json) (alone bytes) text = IsRunOfJson bytes text
-Allows (explain file) (alone bytes) text = IsWhyText bytes text
-Allows k input text = ⊥
+Allows k = (deed_of k).Allows
 
--- what such a text means
 abbrev pub Means : Command → Input → List ℕ → Type 0
-Means (compile way file) (alone bytes) text = IsFaithfulText way bytes text
-Means (replay task file run) (and_run bytes z) text =
-    IsReplayed (kinds_of task) (Says task) bytes z text
-Means (fill file run) (and_run bytes z) text = IsLegalFilling bytes z text
-Means (check theory run) (and_run bytes z) text = IsChecked bytes z text
-Means (to_json run) (run_alone z) text = IsReadAsJson z text
-Means (from_json json) (alone bytes) text = IsReadAsRun bytes text
-Means (explain file) (alone bytes) text = IsToldWhy bytes text
-Means k input text = ⊥
+Means k = (deed_of k).Means
+
+-- the words ask for nothing that the program does
+pub record IsUnknown (words : List (List ℕ)) : Type 0 where
+  pub no_command : (k : Command) → words ≡ spelled k → ⊥
+  pub no_sample : (n : ℕ) → IsSample words n → ⊥

@@ -4,11 +4,11 @@ use Rattle.sap_gen.specs.Kept.{KeepsFile, KeepsFileInlined}
 use Rattle.sap_macro.specs.UsesAreInstances.{UsesAreInstances}
 use Rattle.sap_read.specs.Files.{FileContent}
 use Rattle.sap_rule.specs.declared.theory.Theory.{Theory}
-use Rattle.sap_tool.specs.declared.way.Way.{Way}
-use Rattle.sap_tool.specs.declared.way.Way.TheVariants.{Plain, Inlined, Short}
+use Rattle.sap_replay.specs.declared.way.Way.{Way}
+use Rattle.sap_replay.specs.declared.way.Way.TheVariants.{Plain, Inlined, Short}
 use Rattle.sap_theory.specs.TheoryGrammar.{SpellsTheory, AreSameTheories}
 use Rattle.sap_theory.specs.TheoryText.{theory_text}
-use Rattle.sap_tool.specs.AcceptedFile.{IsAcceptedFile, IsCompiledTheory}
+use Rattle.sap_replay.specs.AcceptedFile.{IsAcceptedFile, IsCompiledTheory}
 
 -- what a theory that is written in this way keeps of its file
 abbrev pub Keeps : Way → FileContent → Theory → Type 0

@@ -7,16 +7,16 @@ use Rattle.sap_tool.specs.Answers.{Answer, tells, IsAnswer, Asks, Fetched, Faile
 use Rattle.sap_outside.specs.Pieces.{pieces}
 use Rattle.sap_refusals.specs.Refusals.{refused_line}
 use Rattle.sap_refusals.specs.RunFaultTexts.{run_refused_line}
-use Rattle.sap_sample.specs.Sample.{IsSample, sample_text}
-use Rattle.sap_tool.specs.declared.way.Way.{Way}
+use Rattle.sap_replay.specs.Sample.{IsSample, sample_text}
+use Rattle.sap_replay.specs.declared.way.Way.{Way}
 
 -- the shelf tells that it holds these bytes as what the command fetches
 abbrev pub HoldsFile : Call → Command → List ℕ → Type 0
-HoldsFile c k bytes = IsSomeAnd (file_of k) (λ name. Holds c.holds name bytes)
+HoldsFile c k bytes = IsSomeAnd (file_of k) (λ name. Holds c.before.holds name bytes)
 
 -- it tells that it holds these as the run
 abbrev pub HoldsRun : Call → Command → List ℕ → Type 0
-HoldsRun c k z = IsSomeAnd (run_of k) (λ run. Holds c.holds run z)
+HoldsRun c k z = IsSomeAnd (run_of k) (λ run. Holds c.before.holds run z)
 
 -- the shelf tells that it holds what the command reads
 abbrev pub HoldsInput : Call → Command → Input → Type 0
@@ -54,7 +54,7 @@ pub record Given (c : Call) : Type 0 where
 pub record GivenSample (c : Call) : Type 0 where
   pub sessions : ℕ
   pub asked : IsSample c.words sessions
-  pub fetched : c.asked_after ≡ c.asked_before
+  pub fetched : c.after.asked ≡ c.before.asked
   pub out : Gained c.out (pieces (sample_text sessions)) (sample_text sessions)
   pub err : Gained c.err 0 []
 
@@ -131,7 +131,7 @@ pub record Promises (c : Call) (status : ℕ) : Type 0 where
       → (FailedOnNamed c k → ⊥) → (Failed c.out → ⊥) → (status ≡ 0) ⊎ (status ≡ 6)
   -- for a file with a theory: it is its text
   pub must_give : (way : Way) (file bytes text : List ℕ) → Asks c (compile way file)
-      → Holds c.holds file bytes → Allows (compile way file) (alone bytes) text
+      → Holds c.before.holds file bytes → Allows (compile way file) (alone bytes) text
       → (FailedOn c file → ⊥) → (Failed c.out → ⊥)
       → ((status ≡ 0) × Gained c.out (pieces text) text) ⊎ (status ≡ 6)
   -- for a sample: it is what is told of it

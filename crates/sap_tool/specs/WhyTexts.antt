@@ -5,7 +5,7 @@ use Rattle.sap_read.specs.declared.fault.ReadFault.{ReadFault}
 use Rattle.sap_refusals.specs.Refusals.{fault_text, refused_line}
 use Rattle.sap_where.specs.Advice.{length_advice}
 use Rattle.sap_where.specs.Explained.{IsExplanation}
-use Rattle.sap_tool.specs.AcceptedFile.{most_bytes, IsAcceptedFile, IsRefusedWith}
+use Rattle.sap_replay.specs.AcceptedFile.{most_bytes, IsAcceptedFile, IsRefusedWith}
 
 -- what is told of an accepted file
 abbrev pub accepted_text : List ℕ

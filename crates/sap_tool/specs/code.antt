@@ -1,4 +1,4 @@
 -- What the code does, step by step: no public contract cites what stands below.
+pub mod Asked
 pub mod Endings
-pub mod Refused
 pub mod Sampled

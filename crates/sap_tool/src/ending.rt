@@ -1,8 +1,10 @@
 //! What a call ends with.
 ghost use Rattle.std.specs.Prelude.{◌≡◌};
-ghost use Rattle.sap_tool.specs.code.Endings.{ending_of, refused_ending};
+ghost use Rattle.sap_tool.specs.code.Endings.{ending_of, file_ending_of, refused_ending, unread_ending, written_ending};
 
+use sap_outside::ShelfFault;
 use sap_refusals::Refusal;
+use sap_terms::Mem;
 use sap_text::Text;
 
 /// What is said at the end of a call.
@@ -22,6 +24,36 @@ pub enum Ending {
     Mem,
 }
 
+/// Ends as a failed fetch, or a failed read of a run, does.
+pub fn of_fault(fault: ShelfFault) -> Ending
+    ensures { result ≡ unread_ending fault }
+{
+    match fault {
+        ShelfFault::Failed => Ending::Unread,
+        ShelfFault::Mem => Ending::Mem,
+    }
+}
+
+/// Ends with this text, which refuses nothing.
+pub fn of_text(text: Result<Text, Mem>) -> Ending
+    ensures { result ≡ written_ending text }
+{
+    match text {
+        Ok(text) => Ending::Given(text),
+        Err(_) => Ending::Mem,
+    }
+}
+
+/// Ends with this text, or with the line that refuses a file.
+pub fn of_file(text: Result<Text, Refusal>) -> Ending
+    ensures { result ≡ file_ending_of text }
+{
+    match text {
+        Ok(theory) => Ending::Given(theory),
+        Err(refusal) => of_refused(refusal),
+    }
+}
+
 /// Ends with the line that refuses a file or theory.
 pub fn of_refused(refusal: Refusal) -> Ending
     ensures { result ≡ refused_ending refusal }
@@ -37,7 +69,7 @@ pub fn of_run(text: Result<Text, Refusal>) -> Ending
     ensures { result ≡ ending_of text }
 {
     match text {
-        Ok(text) => Ending::Given(text),
+        Ok(written) => Ending::Given(written),
         Err(Refusal::Told(line)) => Ending::Run(line),
         Err(Refusal::Mem) => Ending::Mem,
     }

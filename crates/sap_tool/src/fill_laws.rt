@@ -5,7 +5,7 @@ ghost use Rattle.sap_outside.specs.Outside.{Files};
 ghost use Rattle.sap_outside.specs.RunPieces.{most_run_bytes};
 ghost use Rattle.sap_outside.specs.Requests.{Request, begin, fetch};
 ghost use Rattle.sap_read.specs.Files.{FileContent};
-ghost use Rattle.sap_tool.specs.AcceptedFile.{IsAcceptedFile};
+ghost use Rattle.sap_replay.specs.AcceptedFile.{IsAcceptedFile};
 ghost use Rattle.sap_tool.specs.Answers.{WasReadSo};
 ghost use Rattle.sap_tool.specs.Commands.{Allows, RefusesRun, alone, at_once, fill, how_read, in_pieces, run_alone, spelled, to_json};
 ghost use Rattle.sap_tool.specs.AcceptedRuns.{IsFilledText};

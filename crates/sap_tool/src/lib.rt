@@ -2,23 +2,20 @@
 #![tactic(auto)]
 
 mod asking;
-mod compile;
+mod command;
 mod ending;
+mod fetching;
 mod fill;
 mod fill_laws;
 mod json;
 mod json_laws;
 mod laws;
-mod reading;
+mod runs;
 mod sessions;
-mod task;
 mod telling_laws;
-mod theory_reading;
 mod top;
-mod way;
 mod why;
 mod why_laws;
-mod words;
 
 pub use fill_laws::fill_by_hand;
 pub use json_laws::json_by_hand;
@@ -27,9 +24,9 @@ pub use sap_outside::{
     FileShelf, MemShelf, MemSink, Shelf, ShelfFault, Sink, SinkFault, StreamSink,
 };
 pub use sap_replay::{
-    json_comes_back, one_judged_text, verdicts_are_kept, written_runs_are_judged_alike,
+    json_comes_back, one_judged_text, sample_file, sample_run, verdicts_are_kept,
+    written_runs_are_judged_alike,
 };
-pub use sap_sample::{sample_file, sample_run};
 pub use telling_laws::telling_by_hand;
 pub use top::sapic;
 pub use why_laws::{one_why_text, why_by_hand};

@@ -11,15 +11,17 @@ ghost use Rattle.sap_tool.specs.code.Endings.{Ends};
 
 use crate::asking::ending;
 use crate::ending::Ending;
-use crate::laws::read_theories_can_run;
-use sap_compress::{one_short_theory, short_theories_are_printable, short_theories_keep_files};
-use sap_gen::{theories_are_printable, theories_keep_files};
+use sap_gen::{
+    one_short_theory, short_theories_are_printable, short_theories_keep_files,
+    theories_are_printable, theories_keep_files,
+};
 use sap_intruder::filled_runs_are_legal;
 use sap_macro::uses_show_their_instances;
 use sap_outside::{Shelf, Sink, SinkFault, put_pieces};
 use sap_read::{files_are_printable, files_are_runnable, one_file};
 use sap_replay::{
-    legal_runs_are_not_refused, refused_runs_have_one_cause, texts_mean_what_they_say,
+    legal_runs_are_not_refused, read_theories_can_run, refused_runs_have_one_cause,
+    texts_mean_what_they_say,
 };
 use sap_theory::{one_answer_of_theories, printed_theories};
 use std::alloc::Global;
@@ -45,12 +47,8 @@ pub fn sapic<S: Shelf, O: Sink, E: Sink>(
     err: &mut E,
 ) -> u8
     ensures { Promises
-        (call words.now.items (S.holds shelf.old) (S.faults shelf.old) (S.faults shelf.new)
-        (S.asked shelf.old) (S.asked shelf.new)
-        (stream (O.written out.old) (O.written out.new) (O.faults out.old) (O.faults out.new)
-        (O.wants out.old) (O.wants out.new) (O.asked out.old) (O.asked out.new))
-        (stream (E.written err.old) (E.written err.new) (E.faults err.old) (E.faults err.new)
-        (E.wants err.old) (E.wants err.new) (E.asked err.old) (E.asked err.new)))
+        (call words.now.items (S.seen shelf.old) (S.seen shelf.new)
+        (O.seen out.old) (O.seen out.new) (E.seen err.old) (E.seen err.new))
         result }
 {
     theories_keep_files();
@@ -80,23 +78,13 @@ fn run<S: Shelf, O: Sink, E: Sink>(
     err: &mut E,
 ) -> u8
     ensures { Ended (IsAnswer
-        (call words.now.items (S.holds shelf.old) (S.faults shelf.old) (S.faults shelf.new)
-        (S.asked shelf.old) (S.asked shelf.new)
-        (stream (O.written out.old) (O.written out.new) (O.faults out.old) (O.faults out.new)
-        (O.wants out.old) (O.wants out.new) (O.asked out.old) (O.asked out.new))
-        (stream (E.written err.old) (E.written err.new) (E.faults err.old) (E.faults err.new)
-        (E.wants err.old) (E.wants err.new) (E.asked err.old) (E.asked err.new))))
+        (call words.now.items (S.seen shelf.old) (S.seen shelf.new)
+        (O.seen out.old) (O.seen out.new) (E.seen err.old) (E.seen err.new)))
         (IsBegun
-        (call words.now.items (S.holds shelf.old) (S.faults shelf.old) (S.faults shelf.new)
-        (S.asked shelf.old) (S.asked shelf.new)
-        (stream (O.written out.old) (O.written out.new) (O.faults out.old) (O.faults out.new)
-        (O.wants out.old) (O.wants out.new) (O.asked out.old) (O.asked out.new))
-        (stream (E.written err.old) (E.written err.new) (E.faults err.old) (E.faults err.new)
-        (E.wants err.old) (E.wants err.new) (E.asked err.old) (E.asked err.new))))
-        (stream (O.written out.old) (O.written out.new) (O.faults out.old) (O.faults out.new)
-        (O.wants out.old) (O.wants out.new) (O.asked out.old) (O.asked out.new))
-        (stream (E.written err.old) (E.written err.new) (E.faults err.old) (E.faults err.new)
-        (E.wants err.old) (E.wants err.new) (E.asked err.old) (E.asked err.new))
+        (call words.now.items (S.seen shelf.old) (S.seen shelf.new)
+        (O.seen out.old) (O.seen out.new) (E.seen err.old) (E.seen err.new)))
+        (stream (O.seen out.old) (O.seen out.new))
+        (stream (E.seen err.old) (E.seen err.new))
         result }
 {
     let ending = ending(alloc, words, shelf);
@@ -106,10 +94,8 @@ fn run<S: Shelf, O: Sink, E: Sink>(
 // Puts on out or on err what is said at the end.
 fn deliver<O: Sink, E: Sink>(ending: &Ending, out: &mut O, err: &mut E) -> u8
     ensures { (c : Call) → Ends c ending.now → Ended (IsAnswer c) (IsBegun c)
-        (stream (O.written out.old) (O.written out.new) (O.faults out.old) (O.faults out.new)
-        (O.wants out.old) (O.wants out.new) (O.asked out.old) (O.asked out.new))
-        (stream (E.written err.old) (E.written err.new) (E.faults err.old) (E.faults err.new)
-        (E.wants err.old) (E.wants err.new) (E.asked err.old) (E.asked err.new))
+        (stream (O.seen out.old) (O.seen out.new))
+        (stream (E.seen err.old) (E.seen err.new))
         result }
 {
     match ending {
@@ -125,10 +111,8 @@ fn deliver<O: Sink, E: Sink>(ending: &Ending, out: &mut O, err: &mut E) -> u8
 // Puts a text on out, in pieces.
 fn give<O: Sink, E: Sink>(out: &mut O, err: &mut E, text: &[u8]) -> u8
     ensures { IsPut (gives text.now)
-        (stream (O.written out.old) (O.written out.new) (O.faults out.old) (O.faults out.new)
-        (O.wants out.old) (O.wants out.new) (O.asked out.old) (O.asked out.new))
-        (stream (E.written err.old) (E.written err.new) (E.faults err.old) (E.faults err.new)
-        (E.wants err.old) (E.wants err.new) (E.asked err.old) (E.asked err.new))
+        (stream (O.seen out.old) (O.seen out.new))
+        (stream (E.seen err.old) (E.seen err.new))
         result }
 {
     match put_pieces(out, text) {
@@ -141,8 +125,7 @@ fn give<O: Sink, E: Sink>(out: &mut O, err: &mut E, text: &[u8]) -> u8
 // Puts the text of a status on err, and nothing on out.
 fn tell<E: Sink>(err: &mut E, status: u8, text: &[u8]) -> u8
     ensures { (out : Stream) → Gained out 0 [] → text.now ≢ [] → IsPut (tells status text.now) out
-        (stream (E.written err.old) (E.written err.new) (E.faults err.old) (E.faults err.new)
-        (E.wants err.old) (E.wants err.new) (E.asked err.old) (E.asked err.new))
+        (stream (E.seen err.old) (E.seen err.new))
         result }
 {
     match err.put(text) {
@@ -155,11 +138,11 @@ fn tell<E: Sink>(err: &mut E, status: u8, text: &[u8]) -> u8
 // Puts the last word on err, where err still takes it.
 fn last_word<E: Sink>(err: &mut E, status: u8, word: &[u8]) -> u8
     ensures status { result ≡ status }
-    ensures faults { E.faults err.old ≤ E.faults err.new }
-    ensures wants { E.wants err.old ≤ E.wants err.new }
-    ensures asked { word.now ≢ [] → E.asked err.new ≡ one_more (E.asked err.old) }
-    ensures ends { (last : List ℕ) × Appends (E.written err.old) (E.written err.new) last
-        × IsLast (Rose (E.faults err.old) (E.faults err.new) ⊎ Rose (E.wants err.old) (E.wants err.new)) word.now last }
+    ensures faults { (E.seen err.old).faults ≤ (E.seen err.new).faults }
+    ensures wants { (E.seen err.old).wants ≤ (E.seen err.new).wants }
+    ensures asked { word.now ≢ [] → (E.seen err.new).asked ≡ one_more (E.seen err.old).asked }
+    ensures ends { (last : List ℕ) × Appends (E.seen err.old).written (E.seen err.new).written last
+        × IsLast (Rose (E.seen err.old).faults (E.seen err.new).faults ⊎ Rose (E.seen err.old).wants (E.seen err.new).wants) word.now last }
 {
     match err.put(word) {
         Ok(()) => status,

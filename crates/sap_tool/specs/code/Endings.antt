@@ -1,7 +1,10 @@
 -- What a call ends with, step by step.
-use Rattle.std.specs.Prelude.{◌≡◌, ◌⊎◌, ℕ, List, [], Option, Result, Ok, Err}
-use Rattle.sap_outside.specs.Outside.{Files, Rose}
-use Rattle.sap_outside.specs.Requests.{Request}
+use Rattle.std.specs.Prelude.{◌≡◌, ◌⊎◌, ℕ, List, [], Result, Ok, Err}
+use Rattle.sap_terms.specs.declared.mem.Mem.{Mem}
+use Rattle.sap_outside.specs.Outside.{Rose}
+use Rattle.sap_outside.specs.Seen.{SeenShelf}
+use Rattle.sap_outside.specs.declared.shelf.ShelfFault.{ShelfFault}
+use Rattle.sap_outside.specs.declared.shelf.ShelfFault.TheVariants as faults
 use Rattle.sap_tool.specs.Call.{Call}
 use Rattle.sap_tool.specs.Commands.{Command, alone, and_run, how_read, Accepts, Allows}
 use Rattle.sap_tool.specs.Answers.{gives, tells, IsAnswer, IsAnswerTo, IsBegun, WasReadSo, WasGivenUpSo, usage_text, read_fault_text}
@@ -30,53 +33,58 @@ abbrev pub refused_ending : Refusal → Ending
 refused_ending (refusal.Told line) = ending.File line
 refused_ending refusal.Mem = ending.Mem
 
--- what the bytes of a file or theory alone end with: a text, a refusal, or that memory was wanting
+-- what a text of a file, or the line that refuses it, ends with
+abbrev pub file_ending_of : Result (List ℕ) Refusal → Ending
+file_ending_of (Ok text) = ending.Given text
+file_ending_of (Err r) = refused_ending r
+
+-- what a text that refuses nothing ends with
+abbrev pub written_ending : Result (List ℕ) Mem → Ending
+written_ending (Ok text) = ending.Given text
+written_ending (Err e) = ending.Mem
+
+-- what a fault of the shelf ends with
+abbrev pub unread_ending : ShelfFault → Ending
+unread_ending faults.Failed = ending.Unread
+unread_ending faults.Mem = ending.Mem
+
+-- what bytes that were fetched alone end with: a text, a refusal, or that memory was wanting
 abbrev pub EndsFile : Command → List ℕ → Ending → Type 0
 EndsFile k bytes (ending.Given text) = Allows k (alone bytes) text
 EndsFile k bytes ending.Usage = ⊥
 EndsFile k bytes ending.Unread = ⊥
 EndsFile k bytes (ending.File line) = IsAnswerTo k (alone bytes) (tells 1 line)
-EndsFile k bytes (ending.Run line) = ⊥
+EndsFile k bytes (ending.Run line) = IsAnswerTo k (alone bytes) (tells 2 line)
 EndsFile k bytes ending.Mem = Unit {0}
 
--- what the shelf tells of a run: what it holds, this name's count of faults before and after, and what it was asked for
+-- a run's name, and the shelf before and after it was read
 pub record Reading : Type 0 where
-  pub holds : Option Files
   pub run : List ℕ
-  pub faults_before : ℕ
-  pub faults_after : ℕ
-  pub asked_before : Option (List Request)
-  pub asked_after : Option (List Request)
+  pub before : SeenShelf
+  pub after : SeenShelf
 
 -- with these
-abbrev pub reading : Option Files → List ℕ → ℕ → ℕ → Option (List Request) → Option (List Request) → Reading
-reading holds run faults_before faults_after asked_before asked_after = record {
-  holds = holds;
-  run = run;
-  faults_before = faults_before;
-  faults_after = faults_after;
-  asked_before = asked_before;
-  asked_after = asked_after;
-}
+abbrev pub reading : List ℕ → SeenShelf → SeenShelf → Reading
+reading run before after = record { run = run; before = before; after = after }
 
 -- the run was read to these bytes, in the way of this command
 abbrev pub HasRead : Command → Reading → List ℕ → Type 0
-HasRead k r z = WasReadSo (how_read k) r.holds r.run [] r.asked_before r.asked_after z
+HasRead k r z = WasReadSo (how_read k) r.before.holds r.run [] r.before.asked r.after.asked z
 
 -- reading it was given up
 abbrev pub HasGivenUp : Command → Reading → Type 0
-HasGivenUp k r = WasGivenUpSo (how_read k) r.holds r.run [] r.asked_before r.asked_after
+HasGivenUp k r = WasGivenUpSo (how_read k) r.before.holds r.run [] r.before.asked r.after.asked
 
 -- nothing was asked for it
 abbrev pub HasNotAsked : Reading → Type 0
-HasNotAsked r = r.asked_after ≡ r.asked_before
+HasNotAsked r = r.after.asked ≡ r.before.asked
 
 -- What the bytes of a file or theory end with, where a run is read behind them, unless they are refused: with what they and the run end
 -- with, or with a fault of the run.
 abbrev pub EndsBoth : Command → List ℕ → Reading → Ending → Type 0
 EndsBoth k bytes r (ending.Given text) = (z : List ℕ) × HasRead k r z × Allows k (and_run bytes z) text
 EndsBoth k bytes r ending.Usage = ⊥
-EndsBoth k bytes r ending.Unread = Accepts k bytes × Rose r.faults_before r.faults_after × HasGivenUp k r
+EndsBoth k bytes r ending.Unread = Accepts k bytes × Rose (r.before.faults r.run) (r.after.faults r.run) × HasGivenUp k r
 EndsBoth k bytes r (ending.File line) = IsAnswerTo k (alone bytes) (tells 1 line) × HasNotAsked r
 EndsBoth k bytes r (ending.Run line) = (z : List ℕ) × HasRead k r z × IsAnswerTo k (and_run bytes z) (tells 2 line)
 EndsBoth k bytes r ending.Mem = HasNotAsked r ⊎ (Accepts k bytes × (HasGivenUp k r ⊎ ((z : List ℕ) × HasRead k r z)))

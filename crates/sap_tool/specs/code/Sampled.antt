@@ -1,6 +1,6 @@
 -- What a call ends with that asks for a sample, or for nothing.
 use Rattle.std.specs.Prelude.{◌≡◌, ℕ, List}
-use Rattle.sap_sample.specs.Sample.{IsSample, sample_text}
+use Rattle.sap_replay.specs.Sample.{IsSample, sample_text}
 use Rattle.sap_tool.specs.declared.ending.Ending.{Ending}
 use Rattle.sap_tool.specs.declared.ending.Ending.TheVariants as ending
 

@@ -4,9 +4,9 @@ use Rattle.sap_outside.proofs.pieces.put_pieces.Given as goal
 
 abbrev pub invariant-loop-at : goal.invariant-loop-at
 invariant-loop-at g l = record {
-  put : IsPutUpTo (g.O.Sink.written l.initial.out) (g.O.Sink.written l.out) (g.O.Sink.asked l.initial.out) (g.O.Sink.asked l.out) l.text l.at;
-  faults : g.O.Sink.faults l.initial.out ≤ g.O.Sink.faults l.out;
-  wants : g.O.Sink.wants l.initial.out ≤ g.O.Sink.wants l.out;
+  put : IsPutUpTo (g.O.Sink.seen l.initial.out).written (g.O.Sink.seen l.out).written (g.O.Sink.seen l.initial.out).asked (g.O.Sink.seen l.out).asked l.text l.at;
+  faults : (g.O.Sink.seen l.initial.out).faults ≤ (g.O.Sink.seen l.out).faults;
+  wants : (g.O.Sink.seen l.initial.out).wants ≤ (g.O.Sink.seen l.out).wants;
 }
 
 abbrev pub decreases-loop-at : goal.decreases-loop-at

@@ -1,7 +1,5 @@
-use Rattle.std.proofs.Common.{rules}
-use Rattle.sap_tool.specs.Answers.{unread_run, asked_run}
-use Rattle.sap_tool.specs.Commands.{to_json}
-use Rattle.sap_tool.proofs.Endings.{to_json_ends}
+use Rattle.std.proofs.Common.{ap, Err}
+use Rattle.sap_tool.proofs.Endings.{to_json_ends, to_json_unread}
 use Rattle.sap_tool.proofs.json.end_to_json.Goals as goal
 
 pub returns-in-Ok : goal.returns-in-Ok
@@ -10,9 +8,7 @@ returns-in-Ok g c = λ words out err asks.
     rw c.of_run.ensures
     (to_json_ends _ c.args.run.now told.0 _ asks told.1 (c.json_of.ensures.given told.0 told.2) (λ line h. c.json_of.ensures.refused told.0 line told.2 h))
 
-pub returns-in-Err-Failed : goal.returns-in-Err-Failed
-returns-in-Err-Failed g c = λ words out err asks.
-    unread_run (to_json c.args.run.now) asks tt (c.read_run.ensures.cause (search rules)) c.in-Err-Failed.ensures.given_up
-
-pub returns-in-Err-Mem : goal.returns-in-Err-Mem
-returns-in-Err-Mem g c = λ words out err asks. asked_run (to_json c.args.run.now) asks tt c.in-Err-Mem.ensures.given_up
+pub returns-in-Err : goal.returns-in-Err
+returns-in-Err g c = λ words out err asks.
+    rw c.of_fault.ensures
+    (to_json_unread _ c.args.run.now c.in-Err.fault asks (λ is. c.in-Err.ensures.cause (ap Err is)) c.in-Err.ensures.given_up)

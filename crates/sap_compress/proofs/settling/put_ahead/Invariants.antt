@@ -1,6 +1,0 @@
-use Rattle.std.proofs.Common.{◌≡◌, ◌++◌, drop}
-use Rattle.sap_compress.specs.code.Walks.{ahead_of}
-use Rattle.sap_compress.proofs.settling.put_ahead.Given as goal
-
-abbrev pub invariant-loop-k : goal.invariant-loop-k
-invariant-loop-k l = ahead_of l.ahead.items ≡ drop l.k l.facts ++ ahead_of l.initial.ahead.items

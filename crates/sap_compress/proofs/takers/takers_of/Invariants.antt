@@ -1,5 +1,0 @@
-use Rattle.sap_compress.specs.code.Takers.{AreTakers}
-use Rattle.sap_compress.proofs.takers.takers_of.Given as goal
-
-abbrev pub invariant-loop-k : goal.invariant-loop-k
-invariant-loop-k l = AreTakers l.rules l.k l.takers

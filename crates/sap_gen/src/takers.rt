@@ -1,0 +1,42 @@
+// The silent rules, found by the names of the facts that they take.
+ghost use Rattle.std.specs.Prelude.{◌≡◌, IfOk, OnOk, length};
+ghost use Rattle.sap_gen.specs.code.Takers.{AreTakers, Notes, is_silent_name};
+
+use sap_rule::{Rule, RuleList};
+use sap_terms::{Copied, Mem, Name, NameMap};
+use std::alloc::Global;
+
+// Whether the name is that of a silent rule.
+pub(crate) fn is_silent(name: &Name) -> bool
+    ensures { result ≡ is_silent_name name.now }
+{
+    let name = name.as_bytes();
+    name.starts_with(b"Nil_")
+        || name.starts_with(b"Par_")
+        || name.starts_with(b"Out_")
+        || name.starts_with(b"RepStart_")
+}
+
+// Notes the rule at this index by the name of what it takes, if it is silent.
+fn note(alloc: Global, r: &Rule, k: u64, takers: &mut NameMap<u64>) -> Result<(), Mem>
+    ensures { OnOk result (Notes takers.old takers.new r.now k) }
+{
+    if !is_silent(&r.name) {
+        return Ok(());
+    }
+    match r.left.get(0) {
+        Some(f) => takers.insert(f.name.copy(alloc)?, k),
+        None => Ok(()),
+    }
+}
+
+// The indexes of the silent rules, by the names of what they take.
+pub(crate) fn takers_of(alloc: Global, rules: &RuleList) -> Result<NameMap<u64>, Mem>
+    ensures { IfOk result (λ takers. AreTakers rules.now (length rules.now) takers) }
+{
+    let mut takers = NameMap::new(alloc);
+    for k in 0..rules.len() {
+        note(alloc, rules.at(k), k, &mut takers)?;
+    }
+    Ok(takers)
+}

@@ -1,9 +1,0 @@
-pub mod PieceTokens
-pub mod SampleCounts
-pub mod SampleLabelled
-pub mod SampleLegal
-pub mod SampleRead
-pub mod SampleShown
-pub mod SampleSound
-pub mod SampleTold
-pub mod SessionWords
